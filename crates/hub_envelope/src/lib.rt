@@ -1,0 +1,19 @@
+//! Message bodies and envelopes: the values that the hub carries.
+//!
+//! A body is a JSON value in the hub's profile, kept as its compact text. An envelope is a body
+//! under its name: the end, the queue and the line that it was put on, and how many came before it.
+//! Nothing here knows of queues or of agents beyond their numbers.
+#![tactic(auto)]
+
+mod body;
+mod envelope;
+mod ids;
+mod limits;
+mod ports;
+mod profile;
+
+pub use body::{Body, BodyError};
+pub use envelope::{Draft, Envelope};
+pub use ids::{AgentId, EndId, LineId};
+pub use limits::{MAX_BODY_BYTES, MAX_NESTING, MAX_PORTS};
+pub use ports::Ports;

@@ -1,0 +1,8 @@
+/// How deep the arrays and objects of a body may nest.
+pub const MAX_NESTING: usize = 64;
+
+/// How long the compact text of a body may be, in bytes.
+pub const MAX_BODY_BYTES: usize = 65_536;
+
+/// How many ports an envelope may carry.
+pub const MAX_PORTS: usize = 16;
