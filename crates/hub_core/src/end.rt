@@ -1,0 +1,116 @@
+ghost use Rattle.std.specs.Prelude.{◌<◌, ◌≡◌, length, IfSome, Some, slice_get};
+
+use crate::limits::MAX_IN_QUEUE;
+use crate::line::{Line, Lines, Phase};
+use crate::outcome::{OutOfMemory, Outcome};
+use crate::queues::Queues;
+use hub_envelope::{AgentId, EndId, Envelope, LineId};
+use std::alloc::{AllocError, Global};
+
+/// Where an end is (WHATWG HTML, "Transferable objects": a port that travels is with no agent).
+#[derive(Clone, Copy, Debug, PartialEq, Eq)]
+pub enum Place {
+    /// An agent has it.
+    With(AgentId),
+    /// An accepted envelope that waits names it.
+    InFlight,
+    /// The envelope that named it was taken by the agent, which hasn't adopted it yet.
+    Arrived(AgentId),
+}
+
+/// What the core keeps of an end.
+#[derive(Debug, Drop)]
+pub struct End {
+    /// The port that it is entangled with.
+    pub(crate) peer: EndId,
+    pub(crate) place: Place,
+    pub(crate) is_closed: bool,
+    pub(crate) is_enabled: bool,
+    /// The queue at which takes are made.
+    pub(crate) taker_epoch: u32,
+    pub(crate) lines: Lines,
+    pub(crate) queues: Queues,
+}
+
+impl End {
+    /// A port that the agent has just made.
+    pub(crate) fn port(alloc: Global, agent: AgentId, peer: EndId) -> Result<End, AllocError> {
+        Ok(End {
+            peer,
+            place: Place::With(agent),
+            is_closed: false,
+            is_enabled: false,
+            taker_epoch: 0,
+            lines: Lines::one(alloc)?,
+            queues: Queues::one(alloc)?,
+        })
+    }
+
+    /// A poster that is out passes the gate of its line's queue, or is turned back there.
+    pub(crate) fn enter(&mut self, line: LineId) -> Outcome {
+        let Some(found) = self.lines.get(line) else {
+            return Outcome::NotNow;
+        };
+        if found.phase != Phase::Out {
+            return Outcome::NotNow;
+        }
+        let (phase, outcome) = if (found.epoch as usize) + 1 < self.queues.count() {
+            (Phase::Turned, Outcome::Moved)
+        } else if self.is_closed {
+            (Phase::Turned, Outcome::Closed)
+        } else {
+            (Phase::Inside, Outcome::In)
+        };
+        self.lines.set(line, Line { phase, ..found });
+        outcome
+    }
+
+    /// A poster that is inside or being turned back is out.
+    pub(crate) fn leave(&mut self, line: LineId) -> Outcome {
+        let Some(found) = self.lines.get(line) else {
+            return Outcome::NotNow;
+        };
+        if found.phase == Phase::Out {
+            return Outcome::NotNow;
+        }
+        let phase = Phase::Out;
+        self.lines.set(line, Line { phase, ..found });
+        Outcome::Left
+    }
+
+    /// The line, where its poster is inside.
+    pub(crate) fn line_inside(&self, line: LineId) -> Option<Line>
+        ensures { IfSome result (λ found. (slice_get self.now.lines line.0 ≡ Some found) × (found.epoch < length self.now.queues)) }
+    {
+        let found = self.lines.get(line)?;
+        let has_queue = (found.epoch as usize) < self.queues.count();
+        if found.phase == Phase::Inside && has_queue {
+            Some(found)
+        } else {
+            None
+        }
+    }
+
+    /// Puts an envelope last in the queue at which its line stands. An `Err` changes nothing.
+    pub(crate) fn put(&mut self, found: Line, envelope: Envelope) -> Result<(), OutOfMemory>
+        requires { found.epoch < length self.old.queues }
+    {
+        if found.put >= MAX_IN_QUEUE {
+            return Err(OutOfMemory);
+        }
+        let line = envelope.line;
+        self.queues.put(found.epoch, envelope)?;
+        let put = found.put + 1;
+        self.lines.set(line, Line { put, ..found });
+        Ok(())
+    }
+
+    /// Takes the first envelope of the taker's queue.
+    pub(crate) fn take(&mut self) -> Option<Envelope> {
+        if (self.taker_epoch as usize) < self.queues.count() {
+            self.queues.take(self.taker_epoch)
+        } else {
+            None
+        }
+    }
+}

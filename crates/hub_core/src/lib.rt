@@ -1,0 +1,27 @@
+//! The machine of the hub: every event of every agent, one after another, with no thread.
+//!
+//! A `Core` answers steps. The definitions that say what a step may answer, and what each end took
+//! from each sender over any list of steps, stand in `specs/`.
+#![tactic(auto)]
+
+mod agent;
+mod end;
+mod limits;
+mod line;
+mod machine;
+mod making;
+mod outcome;
+mod posting;
+mod queues;
+mod runs;
+mod sender;
+mod step;
+mod taking;
+
+pub use hub_envelope::MAX_PORTS;
+pub use limits::{MAX_AGENTS, MAX_ENDS};
+pub use machine::Core;
+pub use outcome::{Accepted, OutOfMemory, Outcome};
+pub use runs::run;
+pub use sender::Sender;
+pub use step::{Action, Step};

@@ -1,0 +1,8 @@
+/// How many agents a hub has at most.
+pub const MAX_AGENTS: usize = 16;
+
+/// How many ends a hub has at most.
+pub const MAX_ENDS: usize = 65_536;
+
+/// How many envelopes a line puts in one queue at most.
+pub const MAX_IN_QUEUE: u64 = 1 << 62;

@@ -1,0 +1,77 @@
+use crate::agent::Agent;
+use crate::end::{End, Place};
+use crate::outcome::{OutOfMemory, Outcome};
+use crate::sender::Sender;
+use crate::step::{Action, Step};
+use hub_envelope::{AgentId, EndId, LineId};
+use std::alloc::Global;
+
+/// The hub as a machine: its agents and ends, changed one step at a time.
+#[derive(Drop)]
+pub struct Core {
+    pub(crate) alloc: Global,
+    pub(crate) agents: Vec<Agent>,
+    pub(crate) ends: Vec<End>,
+}
+
+impl Core {
+    /// A hub with no agent and no end. It takes no memory.
+    pub fn new(alloc: Global) -> Core {
+        Core {
+            alloc,
+            agents: Vec::new(alloc),
+            ends: Vec::new(alloc),
+        }
+    }
+
+    /// Takes a step, in time that doesn't grow with the number of ends, lines and waiting envelopes
+    /// beyond what a growing list costs. After an `Err` the core is unchanged.
+    pub fn step(&mut self, step: Step) -> Result<Outcome, OutOfMemory> {
+        let Step {
+            action,
+            memory_refused,
+        } = step;
+        match action {
+            Action::Agent => self.make_agent(memory_refused),
+            Action::Channel(agent) => self.make_channel(agent, memory_refused),
+            Action::Enter(sender) => Ok(self.enter(sender)),
+            Action::Push(sender, ports, body) => self.push(sender, ports, body, memory_refused),
+            Action::Leave(sender) => Ok(self.leave(sender)),
+            Action::Start(end) => Ok(self.start(end)),
+            Action::Take(end) => Ok(self.take(end)),
+        }
+    }
+
+    /// The line that a port posts on: line 0 of the port that it is entangled with. `None` where
+    /// the number names no port.
+    pub fn sender_of(&self, port: EndId) -> Option<Sender> {
+        let end = self.ends.get(port.0 as usize)?;
+        Some(Sender {
+            end: end.peer,
+            line: LineId(0),
+        })
+    }
+
+    pub(crate) fn is_running(&self, agent: AgentId) -> bool {
+        match self.agents.get(agent.0 as usize) {
+            Some(agent) => agent.is_running,
+            None => false,
+        }
+    }
+
+    /// The running agent that has the end, where one has it.
+    pub(crate) fn running_holder(&self, end: EndId) -> Option<AgentId> {
+        match self.ends.get(end.0 as usize)?.place {
+            Place::With(agent) if self.is_running(agent) => Some(agent),
+            _ => None,
+        }
+    }
+
+    /// The running agent that holds a line, where one does: for a port's line the agent that has
+    /// the port at the other side.
+    pub(crate) fn poster_of(&self, sender: Sender) -> Option<AgentId> {
+        let end = self.ends.get(sender.end.0 as usize)?;
+        end.lines.get(sender.line)?;
+        self.running_holder(end.peer)
+    }
+}

@@ -1,0 +1,68 @@
+use hub_envelope::{AgentId, EndId, Envelope};
+use std::alloc::{AllocError, AllocFailed};
+use thiserror::Error;
+
+/// The part of an accepted envelope's name that its `Push` doesn't say.
+#[derive(Clone, Copy, Debug, PartialEq, Eq)]
+pub struct Accepted {
+    /// The agent that posted.
+    pub agent: AgentId,
+    /// The queue of the end.
+    pub epoch: u32,
+    /// How many envelopes of the line stood in that queue before.
+    pub number: u64,
+}
+
+/// What a step is answered.
+#[derive(Debug, Drop)]
+pub enum Outcome {
+    /// The step can't be taken now. Nothing changed.
+    NotNow,
+    /// Memory was refused in the step. Nothing changed.
+    NoMemory,
+    /// The new agent.
+    Agent(AgentId),
+    /// There are `MAX_AGENTS` agents. Nothing changed.
+    TooManyAgents,
+    /// The two new ports, entangled with each other.
+    Ends(EndId, EndId),
+    /// There is no number left for a new end. Nothing changed.
+    TooManyEnds,
+    /// The poster is inside.
+    In,
+    /// The end, or the line's queue, is closed. A poster that enters is being turned back.
+    Closed,
+    /// The line's queue is retired. The poster is being turned back.
+    Moved,
+    /// The envelope is the last of its queue.
+    Accepted(Accepted),
+    /// The list has more than `MAX_PORTS` ports. Nothing changed.
+    TooManyPorts,
+    /// The poster is out.
+    Left,
+    /// The queue is enabled.
+    Started,
+    /// The envelope, which is in its queue no more.
+    Got(Envelope),
+    /// Nothing is left to take. Nothing changed.
+    Empty,
+    /// The queue isn't enabled. Nothing changed.
+    Disabled,
+}
+
+/// Memory was really refused; what was asked for is as it was before.
+#[derive(Clone, Copy, Debug, PartialEq, Eq, Drop, Error)]
+#[error("out of memory")]
+pub struct OutOfMemory;
+
+impl From<AllocError> for OutOfMemory {
+    fn from(_error: AllocError) -> OutOfMemory {
+        OutOfMemory
+    }
+}
+
+impl<T: Drop> From<AllocFailed<T>> for OutOfMemory {
+    fn from(_error: AllocFailed<T>) -> OutOfMemory {
+        OutOfMemory
+    }
+}
