@@ -1,0 +1,96 @@
+//! The engine of `messagehub steps`.
+
+mod line;
+mod number;
+mod parse;
+mod perform;
+mod text;
+
+use crate::device::Device;
+use crate::input::{InputError, read_input};
+use crate::output::{PIECE, flush, write_kept, write_whole};
+use crate::status::ExitStatus;
+use hub_core::{Core, OutOfMemory};
+use line::StepLine;
+use parse::{ParseError, parse};
+use perform::perform;
+use std::alloc::Global;
+use std::io::{Read, Write};
+use text::{write_fault, write_outcome};
+
+const OUT_OF_MEMORY: &[u8; 14] = b"out of memory\n";
+
+/// Reads step lines to the end of the input, runs them, and writes one outcome line for each.
+///
+/// The whole input is read and parsed before anything is run. Bad input writes one line alone, for
+/// the first bad line. Where memory runs out, the outcome lines so far are followed by
+/// `out of memory`. `Device` comes where a read or a write failed in this call: nothing was run or
+/// written after a failed read, and how much had gone out at a failed write isn't said.
+pub fn run_steps<R: Read, W: Write>(
+    alloc: Global,
+    reader: &mut R,
+    writer: &mut W,
+) -> Result<ExitStatus, Device> {
+    let input = match read_input(alloc, reader) {
+        Ok(input) => input,
+        Err(InputError::Device) => return Err(Device),
+        Err(InputError::OutOfMemory) => return end_out_of_memory(writer),
+    };
+    match parse(alloc, &input) {
+        Ok(lines) => {
+            drop(input);
+            run_lines(alloc, lines, writer)
+        }
+        Err(ParseError::Bad(fault)) => {
+            let mut text = String::new(alloc);
+            if write_fault(&mut text, fault).is_err() {
+                return end_out_of_memory(writer);
+            }
+            write_whole(writer, text.as_bytes())?;
+            flush(writer)?;
+            Ok(ExitStatus::BadInput)
+        }
+        Err(ParseError::OutOfMemory) => end_out_of_memory(writer),
+    }
+}
+
+fn run_lines<W: Write>(
+    alloc: Global,
+    lines: Vec<StepLine>,
+    writer: &mut W,
+) -> Result<ExitStatus, Device> {
+    let mut core = Core::new(alloc);
+    let mut kept = Vec::new(alloc);
+    for line in lines {
+        if answer_line(alloc, &mut core, line, &mut kept).is_err() {
+            write_kept(writer, &mut kept)?;
+            return end_out_of_memory(writer);
+        }
+        if kept.len() >= PIECE {
+            write_kept(writer, &mut kept)?;
+        }
+    }
+    write_kept(writer, &mut kept)?;
+    flush(writer)?;
+    Ok(ExitStatus::Success)
+}
+
+/// Runs a line and keeps its outcome line. An `Err` keeps nothing.
+fn answer_line(
+    alloc: Global,
+    core: &mut Core,
+    line: StepLine,
+    kept: &mut Vec<u8>,
+) -> Result<(), OutOfMemory> {
+    let outcome = perform(core, line)?;
+    let mut text = String::new(alloc);
+    write_outcome(&mut text, &outcome)?;
+    kept.extend_from_slice(text.as_bytes())?;
+    Ok(())
+}
+
+fn end_out_of_memory<W: Write>(writer: &mut W) -> Result<ExitStatus, Device> {
+    write_whole(writer, OUT_OF_MEMORY)?;
+    flush(writer)?;
+    Ok(ExitStatus::OutOfMemory)
+}
