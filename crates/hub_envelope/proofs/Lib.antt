@@ -1,0 +1,4 @@
+pub mod ReadNumbers
+pub mod ReadValues
+pub mod Answers
+pub mod Equalities

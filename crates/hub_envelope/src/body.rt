@@ -1,9 +1,13 @@
-ghost use Rattle.std.specs.Prelude.{◌≡◌};
+ghost use Rattle.std.specs.Prelude.{◌≡◌, ◌⊎◌, ◌↔◌, ◌<◌, length, IfOk, IfErr, IsErrOf, IsTrue, bytes_eq};
+ghost use Rattle.std.specs.Cmp.{partial_equiv_from_equiv};
+ghost use Rattle.std.specs.Cmp.Lexicographic.{nat_list_eq_equiv};
+ghost use Rattle.hub_envelope.specs.Answer.{answer_of, IsAnswerTo};
+ghost use Rattle.hub_envelope.specs.BodyText.{IsBodyText};
 
 use crate::limits::{MAX_BODY_BYTES, MAX_NESTING};
 use crate::profile::{is_whole, nests_within};
 use serde_json::Value;
-use std::alloc::Global;
+use std::alloc::{AllocError, Global};
 use std::marker::Model;
 use thiserror::Error;
 
@@ -18,19 +22,23 @@ pub struct Body {
 
 impl Model for Body {
     ghost use Rattle.std.specs.Prelude.{List, ℕ, string_bytes};
+    ghost use Rattle.hub_envelope.specs.BodyText.{IsBodyText};
 
     ghost Value = { List ℕ };
 
     ghost view = { λ b. string_bytes b.text };
+
+    ghost invariant = { λ b. IsBodyText (string_bytes b.text) };
 }
 
 /// Why a text is no body. The refusals are tested in this order; memory may fail at any point.
 #[derive(Clone, Copy, Debug, PartialEq, Eq, Drop, Error)]
 pub enum BodyError {
-    /// The text isn't JSON, or nests deeper than the reader goes (127).
+    /// The text isn't JSON, or it is JSON that the reader doesn't take: nested more than 127 deep,
+    /// a number too large for a float (`1e400`), or half of a surrogate pair.
     #[error("not JSON")]
     NotJson,
-    /// A number has a fraction or an exponent, or doesn't fit 64 bits.
+    /// A number has a fraction or an exponent, doesn't fit in `i64` or `u64`, or is `-0`.
     #[error("a number that is not whole")]
     NotWhole,
     /// The value nests deeper than `MAX_NESTING`.
@@ -39,17 +47,34 @@ pub enum BodyError {
     /// The compact text is longer than `MAX_BODY_BYTES`.
     #[error("too long")]
     TooLong,
+    /// An allocation failed. The text may stand for a body or not.
     #[error("out of memory")]
     OutOfMemory,
 }
 
 impl Body {
-    /// The body that a text stands for.
-    pub fn read(alloc: Global, text: &str) -> Result<Body, BodyError> {
+    /// The body that a text stands for, or why it stands for none.
+    ///
+    /// The refusals are tested in the order of `BodyError`, and the first that applies is named. A
+    /// value that an equal key overwrote isn't tested. Want of memory may be answered for any text
+    /// that isn't empty. Time and memory are linear in the length of the text, but for the sorting
+    /// of an object's members.
+    pub fn read(alloc: Global, text: &str) -> Result<Body, BodyError>
+        ensures ok { IfOk result (λ body. answer_of text.now ≡ Ok body) }
+        ensures err { IfErr result
+            (λ e. (e ≡ BodyError.OutOfMemory) ⊎ (answer_of text.now ≡ Err e)) }
+        ensures cases { IsAnswerTo text.now result }
+        ensures memory { IsErrOf result BodyError.OutOfMemory → 0 < length text.now }
+    {
         let value = match Value::from_str(alloc, text) {
             Ok(value) => value,
-            Err(error) if error.is_memory() => return Err(BodyError::OutOfMemory),
-            Err(_) => return Err(BodyError::NotJson),
+            Err(error) => {
+                return Err(if error.is_memory() {
+                    BodyError::OutOfMemory
+                } else {
+                    BodyError::NotJson
+                });
+            }
         };
         if !is_whole(&value) {
             return Err(BodyError::NotWhole);
@@ -57,7 +82,9 @@ impl Body {
         if !nests_within(&value, MAX_NESTING) {
             return Err(BodyError::TooDeep);
         }
-        let text = value.to_string(alloc).map_err(|_| BodyError::OutOfMemory)?;
+        let Ok(text) = value.to_string(alloc) else {
+            return Err(BodyError::OutOfMemory);
+        };
         if text.len() > MAX_BODY_BYTES {
             return Err(BodyError::TooLong);
         }
@@ -66,8 +93,39 @@ impl Body {
 
     /// The compact text.
     pub fn text(&self) -> &str
-        ensures { result.now ≡ self.now }
+        ensures text { result.now ≡ self.now }
+        ensures body { IsBodyText self.now }
+        ensures reads_back { answer_of self.now ≡ Ok self.now }
     {
         self.text.as_str()
     }
+}
+
+/// The clone has the same text.
+impl Clone for Body {
+    ghost is_clone = { λ body copy. copy ≡ body };
+
+    fn clone(&self) -> Result<Body, AllocError> {
+        Ok(Body {
+            text: self.text.clone()?,
+        })
+    }
+}
+
+/// Two bodies are equal where their texts are, and so where their values are.
+impl PartialEq for Body {
+    ghost eq = { bytes_eq };
+
+    ghost laws = { partial_equiv_from_equiv nat_list_eq_equiv };
+
+    fn eq(&self, other: &Body) -> bool
+        ensures value { result ≡ bytes_eq self.now other.now }
+        ensures same { IsTrue result ↔ (self.now ≡ other.now) }
+    {
+        self.text == other.text
+    }
+}
+
+impl Eq for Body {
+    ghost laws = { nat_list_eq_equiv };
 }

@@ -1,8 +1,11 @@
-ghost use Rattle.std.specs.Prelude.{◌≡◌, ◌≤◌, ◌<◌, ◌↔◌, [], length, IsOk, IfOk, IfErr};
+ghost use Rattle.std.specs.Prelude.{◌≡◌, ◌≤◌, ◌↔◌, [], length, IsOk, IfOk, IfErr, IsTrue};
+ghost use Rattle.std.specs.Cmp.Rules.{comparing};
+ghost use Rattle.std.proofs.Common.{rules};
+ghost use Rattle.hub_envelope.specs.SameEnds.{are_same_ends};
 
 use crate::ids::EndId;
 use crate::limits::MAX_PORTS;
-use std::alloc::Global;
+use std::alloc::{AllocError, Global};
 use std::marker::Model;
 
 /// The ports that travel with an envelope, in the order of the transfer list (WHATWG HTML,
@@ -62,4 +65,33 @@ impl Ports {
         let Ports { ends } = self;
         ends
     }
+}
+
+/// The clone is the same list.
+impl Clone for Ports {
+    ghost is_clone = { λ ports copy. copy ≡ ports };
+
+    fn clone(&self) -> Result<Ports, AllocError> {
+        Ok(Ports {
+            ends: self.ends.clone()?,
+        })
+    }
+}
+
+/// Equal lists hold the same numbers in the same order.
+impl PartialEq for Ports {
+    ghost eq = { are_same_ends };
+
+    ghost laws = { Prim.search (comparing, rules) };
+
+    fn eq(&self, other: &Ports) -> bool
+        ensures value { result ≡ are_same_ends self.now other.now }
+        ensures same { IsTrue result ↔ (self.now ≡ other.now) }
+    {
+        self.as_slice() == other.as_slice()
+    }
+}
+
+impl Eq for Ports {
+    ghost laws = { Prim.search (comparing, rules) };
 }

@@ -1,49 +1,80 @@
+ghost use Rattle.std.specs.Prelude.{◌≡◌, ◌≤◌, ◌↔◌, not, IsTrue};
+ghost use Rattle.serde_json.specs.Data.{depth, items_depth, members_depth};
+ghost use Rattle.serde_json.specs.View.{view, items_view, members_view};
+ghost use Rattle.serde_json.specs.Written.{has_float, items_have_float, members_have_float};
+
 use serde_json::Value;
+use serde_json::value::Map;
 
 /// Whether each number in the value is whole and fits 64 bits.
-pub(crate) fn is_whole(value: &Value) -> bool {
+#[cycle(is_whole)]
+pub(crate) fn is_whole(value: &Value) -> bool
+    ensures { result ≡ not (has_float (view value.now)) }
+{
     match value {
         Value::Null | Value::Bool(_) | Value::String(_) => true,
         Value::Number(number) => !number.is_f64(),
-        Value::Array(items) => {
-            for item in items {
-                if !is_whole(item) {
-                    return false;
-                }
-            }
-            true
-        }
-        Value::Object(members) => {
-            for member in members.values() {
-                if !is_whole(member) {
-                    return false;
-                }
-            }
-            true
-        }
+        Value::Array(items) => items_are_whole(items),
+        Value::Object(members) => members_are_whole(members),
     }
 }
 
-/// Whether arrays and objects nest at most `levels` deep in the value.
-pub(crate) fn nests_within(value: &Value, levels: usize) -> bool {
-    match value {
-        Value::Null | Value::Bool(_) | Value::Number(_) | Value::String(_) => true,
-        Value::Array(_) | Value::Object(_) if levels == 0 => false,
-        Value::Array(items) => {
-            for item in items {
-                if !nests_within(item, levels - 1) {
-                    return false;
-                }
-            }
-            true
-        }
-        Value::Object(members) => {
-            for member in members.values() {
-                if !nests_within(member, levels - 1) {
-                    return false;
-                }
-            }
-            true
+#[cycle(is_whole)]
+fn items_are_whole(items: &[Value]) -> bool
+    ensures { result ≡ not (items_have_float (items_view items.now)) }
+{
+    for item in items {
+        if !is_whole(item) {
+            return false;
         }
     }
+    true
+}
+
+#[cycle(is_whole)]
+fn members_are_whole(members: &Map<String, Value>) -> bool
+    ensures { result ≡ not (members_have_float (members_view members.now.entries)) }
+{
+    for (_, member) in members.iter() {
+        if !is_whole(member) {
+            return false;
+        }
+    }
+    true
+}
+
+/// Whether arrays and objects nest at most `levels` deep in the value.
+#[cycle(nests_within)]
+pub(crate) fn nests_within(value: &Value, levels: usize) -> bool
+    ensures { IsTrue result ↔ (depth (view value.now) ≤ levels) }
+{
+    match value {
+        Value::Null | Value::Bool(_) | Value::Number(_) | Value::String(_) => true,
+        Value::Array(items) => levels > 0 && items_nest_within(items, levels - 1),
+        Value::Object(members) => levels > 0 && members_nest_within(members, levels - 1),
+    }
+}
+
+#[cycle(nests_within)]
+fn items_nest_within(items: &[Value], levels: usize) -> bool
+    ensures { IsTrue result ↔ (items_depth (items_view items.now) ≤ levels) }
+{
+    for item in items {
+        if !nests_within(item, levels) {
+            return false;
+        }
+    }
+    true
+}
+
+#[cycle(nests_within)]
+fn members_nest_within(members: &Map<String, Value>, levels: usize) -> bool
+    ensures { IsTrue result ↔ (members_depth (members_view members.now.entries) ≤ levels) }
+{
+    for (_, member) in members.iter() {
+        if !nests_within(member, levels) {
+            return false;
+        }
+    }
+    true
 }

@@ -1,0 +1,279 @@
+// The texts that `Body::read` takes and refuses, and the clones and comparisons once each. The
+// compact texts are those that Node's `JSON.stringify` writes of the same values with the members
+// sorted.
+use crate::{
+    AgentId, Body, BodyError, Draft, EndId, Envelope, LineId, MAX_BODY_BYTES, MAX_NESTING,
+    MAX_PORTS, Ports,
+};
+use std::alloc::{AllocError, Global};
+use std::process::Abort;
+use std::test::Fail;
+
+/// The text of the body that a text stands for.
+fn compact(alloc: Global, text: &str) -> Result<String, BodyError> {
+    let body = Body::read(alloc, text)?;
+    String::from_str(alloc, body.text()).map_err(|_| BodyError::OutOfMemory)
+}
+
+/// A string in quotes, of that many letters `a`.
+fn quoted(alloc: Global, letters: usize) -> Result<String, AllocError> {
+    let mut text = String::from_str(alloc, "\"")?;
+    for _ in 0..letters {
+        text.push('a')?;
+    }
+    text.push('"')?;
+    Ok(text)
+}
+
+/// Arrays inside each other, with a text in the innermost.
+fn nested(alloc: Global, levels: usize, inner: &str) -> Result<String, AllocError> {
+    let mut text = String::new(alloc);
+    for _ in 0..levels {
+        text.push('[')?;
+    }
+    text.push_str(inner)?;
+    for _ in 0..levels {
+        text.push(']')?;
+    }
+    Ok(text)
+}
+
+fn assert_reads(rt: &(impl Abort + AllocGlobal), text: &str, want: Result<&str, BodyError>) {
+    match (compact(rt.alloc(), text), want) {
+        (Ok(found), Ok(want)) => assert_eq!(rt; found.as_str(), want, "of {text}"),
+        (Err(found), Err(want)) => assert_eq!(rt; found, want, "of {text}"),
+        (Ok(found), Err(want)) => panic!(rt; "{text}: {found} in place of {want}"),
+        (Err(found), Ok(want)) => panic!(rt; "{text}: {found} in place of {want}"),
+    }
+}
+
+#[test]
+fn reads_whole_numbers(rt: HostRuntime) {
+    for (text, want) in [
+        ("0", Ok("0")),
+        ("18446744073709551615", Ok("18446744073709551615")),
+        ("18446744073709551616", Err(BodyError::NotWhole)),
+        ("-9223372036854775808", Ok("-9223372036854775808")),
+        ("-9223372036854775809", Err(BodyError::NotWhole)),
+        ("1.5", Err(BodyError::NotWhole)),
+        ("1.0", Err(BodyError::NotWhole)),
+        ("1e2", Err(BodyError::NotWhole)),
+        ("[1,{\"a\":[2.5]}]", Err(BodyError::NotWhole)),
+        ("1e400", Err(BodyError::NotJson)),
+    ] {
+        assert_reads(&rt, text, want);
+    }
+}
+
+#[test]
+fn sorts_members_and_keeps_the_last_of_equal_keys(rt: HostRuntime) {
+    for (text, want) in [
+        ("{\"b\":1,\"a\":2}", "{\"a\":2,\"b\":1}"),
+        ("{\"a\":1,\"a\":2}", "{\"a\":2}"),
+        // A value that was overwritten isn't tested.
+        ("{\"a\":1.5,\"a\":1}", "{\"a\":1}"),
+        (
+            "{\"aa\":1,\"a\":2,\"\":3,\"B\":4}",
+            "{\"\":3,\"B\":4,\"a\":2,\"aa\":1}",
+        ),
+        // In bytes U+FF61 comes before U+1F600, and in UTF-16 behind it.
+        ("{\"\\ud83d\\ude00\":1,\"\\uff61\":2}", "{\"｡\":2,\"😀\":1}"),
+        ("\t{ \"b\" : [ ] , \"a\" : { } }\n", "{\"a\":{},\"b\":[]}"),
+    ] {
+        assert_reads(&rt, text, Ok(want));
+    }
+}
+
+#[test]
+fn writes_text_with_short_escapes(rt: HostRuntime) {
+    for (text, want) in [
+        (
+            " [ 1 , -2 , true , false , null ] ",
+            "[1,-2,true,false,null]",
+        ),
+        (
+            "\"\\u0041\\n\\/\\u001f\\u00e9\\\"\\\\\\b\\f\\r\\t\"",
+            "\"A\\n/\\u001fé\\\"\\\\\\b\\f\\r\\t\"",
+        ),
+        ("\"żółw 🐢\"", "\"żółw 🐢\""),
+        ("\"\\ud83d\\udc22\"", "\"🐢\""),
+    ] {
+        assert_reads(&rt, text, Ok(want));
+    }
+}
+
+#[test]
+fn refuses_what_is_no_json(rt: HostRuntime) {
+    for text in [
+        "",
+        " ",
+        "[1,",
+        "[1,]",
+        "1 2",
+        "01",
+        "nul",
+        "{'a':1}",
+        "{\"a\":1,}",
+        "\"",
+        "\"\\x\"",
+        "\"\\ud800\"",
+        "NaN",
+    ] {
+        assert_reads(&rt, text, Err(BodyError::NotJson));
+    }
+}
+
+#[test]
+fn limits_nesting_and_length(rt: HostRuntime) -> Result<(), Fail> {
+    let alloc = rt.alloc();
+    assert_eq!(rt; (MAX_NESTING, MAX_BODY_BYTES, MAX_PORTS), (64, 65_536, 16));
+    let deepest = nested(alloc, 64, "")?;
+    assert_reads(&rt, deepest.as_str(), Ok(deepest.as_str()));
+    let filled = nested(alloc, 64, "7")?;
+    assert_reads(&rt, filled.as_str(), Ok(filled.as_str()));
+    for levels in [65, 127] {
+        assert_reads(
+            &rt,
+            nested(alloc, levels, "")?.as_str(),
+            Err(BodyError::TooDeep),
+        );
+    }
+    assert_reads(
+        &rt,
+        nested(alloc, 128, "")?.as_str(),
+        Err(BodyError::NotJson),
+    );
+    assert_reads(
+        &rt,
+        nested(alloc, 63, "{}")?.as_str(),
+        Ok(nested(alloc, 63, "{}")?.as_str()),
+    );
+    assert_reads(
+        &rt,
+        nested(alloc, 64, "{}")?.as_str(),
+        Err(BodyError::TooDeep),
+    );
+
+    let longest = quoted(alloc, 65_534)?;
+    assert_eq!(rt; longest.len(), 65_536);
+    assert_reads(&rt, longest.as_str(), Ok(longest.as_str()));
+    let longer = quoted(alloc, 65_535)?;
+    assert_reads(&rt, longer.as_str(), Err(BodyError::TooLong));
+    // The limit is on the compact text and not on what was read.
+    let spaced = format!(in alloc; "    {longest}    ")?;
+    assert_reads(&rt, spaced.as_str(), Ok(longest.as_str()));
+
+    // Of two faults the first in the order of the tests is named.
+    assert_reads(
+        &rt,
+        nested(alloc, 65, longer.as_str())?.as_str(),
+        Err(BodyError::TooDeep),
+    );
+    assert_reads(
+        &rt,
+        nested(alloc, 65, "1.5")?.as_str(),
+        Err(BodyError::NotWhole),
+    );
+    assert_reads(
+        &rt,
+        format!(in alloc; "[1.5,{longer}]")?.as_str(),
+        Err(BodyError::NotWhole),
+    );
+    Ok(())
+}
+
+/// With every allocation at hand the answer is the text's own; `rt try --test --fail-alloc N`
+/// refuses the Nth, and then no other answer but want of memory is right.
+#[test]
+fn answers_right_or_out_of_memory(rt: HostRuntime) {
+    for (text, want) in [
+        (
+            "{\"b\":[\"x\",-1,{\"c\":null}],\"a\":\"\\u00e9\"}",
+            Ok("{\"a\":\"é\",\"b\":[\"x\",-1,{\"c\":null}]}"),
+        ),
+        (
+            "[\"long enough for a buffer\",1.5]",
+            Err(BodyError::NotWhole),
+        ),
+        ("[1,", Err(BodyError::NotJson)),
+    ] {
+        match (Body::read(rt.alloc(), text), want) {
+            (Ok(body), Ok(want)) => assert_eq!(rt; body.text(), want),
+            (Err(BodyError::OutOfMemory), _) => (),
+            (Err(error), Err(want)) => assert_eq!(rt; error, want),
+            (found, _) => panic!(rt; "{found:?} of {text}"),
+        }
+    }
+}
+
+#[test]
+fn refusals_have_a_message(rt: HostRuntime) -> Result<(), Fail> {
+    for (error, want) in [
+        (BodyError::NotJson, "not JSON"),
+        (BodyError::NotWhole, "a number that is not whole"),
+        (BodyError::TooDeep, "nested too deep"),
+        (BodyError::TooLong, "too long"),
+        (BodyError::OutOfMemory, "out of memory"),
+    ] {
+        assert_eq!(rt; error.to_string(rt.alloc())?.as_str(), want);
+    }
+    Ok(())
+}
+
+/// The ports of these many numbers, from 0.
+fn ports(alloc: Global, count: u32) -> Result<Result<Ports, Vec<EndId>>, AllocError> {
+    let mut ends = Vec::new(alloc);
+    for number in 0..count {
+        ends.push(EndId(number))?;
+    }
+    Ok(Ports::of_list(ends))
+}
+
+#[test]
+fn lists_at_most_sixteen_ports(rt: HostRuntime) -> Result<(), Fail> {
+    let alloc = rt.alloc();
+    assert!(rt; Ports::none(alloc).as_slice().is_empty());
+    let most = ports(alloc, 16)?.map_err(|_| "refused")?;
+    assert_eq!(rt; most.as_slice().len(), 16);
+    let last = most.as_slice().last().copied().ok_or("empty")?;
+    assert_eq!(rt; last, EndId(15));
+    let refused = ports(alloc, 17)?.err().ok_or("taken")?;
+    assert_eq!(rt; refused.len(), 17);
+    assert_eq!(rt; most.into_list().len(), 16);
+    Ok(())
+}
+
+#[test]
+fn clones_are_equal(rt: HostRuntime) -> Result<(), Fail> {
+    let alloc = rt.alloc();
+    let draft = Draft {
+        agent: AgentId(1),
+        body: Body::read(alloc, "{\"a\":[1,2]}")?,
+        ports: ports(alloc, 2)?.map_err(|_| "refused")?,
+    };
+    assert!(rt; draft.clone()? == draft);
+    let other = Draft {
+        body: Body::read(alloc, "{\"a\":[1,3]}")?,
+        agent: draft.agent,
+        ports: draft.ports.clone()?,
+    };
+    assert!(rt; other != draft);
+    assert!(rt; other.body != draft.body);
+    assert!(rt; other.ports == draft.ports);
+    assert!(rt; ports(alloc, 1)?.map_err(|_| "refused")? != draft.ports);
+
+    let envelope = Envelope {
+        end: EndId(3),
+        epoch: 0,
+        line: LineId(0),
+        number: 7,
+        agent: draft.agent,
+        body: draft.body.clone()?,
+        ports: draft.ports.clone()?,
+    };
+    let mut later = envelope.clone()?;
+    assert!(rt; later == envelope);
+    later.number = 8;
+    assert!(rt; later != envelope);
+    Ok(())
+}
