@@ -1,4 +1,7 @@
-ghost use Rattle.std.specs.Prelude.{◌<◌, ◌≡◌, length, IfSome, Some, slice_get};
+ghost use Rattle.std.specs.Prelude.{◌≡◌, ◌<◌, ◌+◌, ◌∷◌, [], length, slice_get, slice_set, slice_index_or, IfOk, OnOk, OnErr, Some, None, MatchOption, false, true, List};
+ghost use Rattle.hub_envelope.specs.declared.envelope.Envelope.{Envelope as EnvelopeValue};
+ghost use Rattle.hub_core.specs.Posting.{is_inside};
+ghost use Rattle.hub_core.specs.Kept.{enter_outcome, enter_end, leave_outcome, leave_end, put_end};
 
 use crate::limits::MAX_IN_QUEUE;
 use crate::line::{Line, Lines, Phase};
@@ -34,7 +37,17 @@ pub struct End {
 
 impl End {
     /// A port that the agent has just made.
-    pub(crate) fn port(alloc: Global, agent: AgentId, peer: EndId) -> Result<End, AllocError> {
+    pub(crate) fn port(alloc: Global, agent: AgentId, peer: EndId) -> Result<End, AllocError>
+        ensures { IfOk result (λ x. x ≡ record {
+          peer = peer;
+          place = Place.With agent;
+          is_closed = false;
+          is_enabled = false;
+          taker_epoch = 0;
+          lines = Line.FIRST ∷ [];
+          queues = [] ∷ [];
+        }) }
+    {
         Ok(End {
             peer,
             place: Place::With(agent),
@@ -47,7 +60,10 @@ impl End {
     }
 
     /// A poster that is out passes the gate of its line's queue, or is turned back there.
-    pub(crate) fn enter(&mut self, line: LineId) -> Outcome {
+    pub(crate) fn enter(&mut self, line: LineId) -> Outcome
+        ensures outcome { result ≡ enter_outcome self.old (slice_get self.old.lines line.0) }
+        ensures after { self.new ≡ enter_end self.old line.0 (slice_get self.old.lines line.0) }
+    {
         let Some(found) = self.lines.get(line) else {
             return Outcome::NotNow;
         };
@@ -66,7 +82,10 @@ impl End {
     }
 
     /// A poster that is inside or being turned back is out.
-    pub(crate) fn leave(&mut self, line: LineId) -> Outcome {
+    pub(crate) fn leave(&mut self, line: LineId) -> Outcome
+        ensures outcome { result ≡ leave_outcome (slice_get self.old.lines line.0) }
+        ensures after { self.new ≡ leave_end self.old line.0 (slice_get self.old.lines line.0) }
+    {
         let Some(found) = self.lines.get(line) else {
             return Outcome::NotNow;
         };
@@ -78,9 +97,12 @@ impl End {
         Outcome::Left
     }
 
-    /// The line, where its poster is inside.
+    /// The line, where its poster is inside a queue of the end.
     pub(crate) fn line_inside(&self, line: LineId) -> Option<Line>
-        ensures { IfSome result (λ found. (slice_get self.now.lines line.0 ≡ Some found) × (found.epoch < length self.now.queues)) }
+        ensures { MatchOption result
+            (MatchOption (slice_get self.now.lines line.0) (Unit {0})
+            (λ y. y.epoch < length self.now.queues → is_inside y.phase ≡ false))
+            (λ y. (slice_get self.now.lines line.0 ≡ Some y) × (is_inside y.phase ≡ true) × (y.epoch < length self.now.queues)) }
     {
         let found = self.lines.get(line)?;
         let has_queue = (found.epoch as usize) < self.queues.count();
@@ -94,6 +116,8 @@ impl End {
     /// Puts an envelope last in the queue at which its line stands. An `Err` changes nothing.
     pub(crate) fn put(&mut self, found: Line, envelope: Envelope) -> Result<(), OutOfMemory>
         requires { found.epoch < length self.old.queues }
+        ensures ok { OnOk result (self.new ≡ put_end self.old found envelope) }
+        ensures err { OnErr result (self.new ≡ self.old) }
     {
         if found.put >= MAX_IN_QUEUE {
             return Err(OutOfMemory);
@@ -106,7 +130,13 @@ impl End {
     }
 
     /// Takes the first envelope of the taker's queue.
-    pub(crate) fn take(&mut self) -> Option<Envelope> {
+    pub(crate) fn take(&mut self) -> Option<Envelope>
+        ensures { MatchOption result
+            ((self.old.taker_epoch < length self.old.queues → slice_index_or self.old.queues self.old.taker_epoch [] ≡ [])
+            × (self.new ≡ self.old))
+            (λ v. (rest : List EnvelopeValue) × (slice_index_or self.old.queues self.old.taker_epoch [] ≡ v ∷ rest)
+            × (self.new ≡ record self.old { queues = slice_set self.old.queues self.old.taker_epoch rest })) }
+    {
         if (self.taker_epoch as usize) < self.queues.count() {
             self.queues.take(self.taker_epoch)
         } else {

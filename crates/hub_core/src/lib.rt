@@ -6,6 +6,7 @@
 
 mod agent;
 mod end;
+mod laws;
 mod limits;
 mod line;
 mod machine;
@@ -17,8 +18,11 @@ mod runs;
 mod sender;
 mod step;
 mod taking;
+#[cfg(test)]
+mod tests;
 
 pub use hub_envelope::MAX_PORTS;
+pub use laws::{history_laws, queue_laws};
 pub use limits::{MAX_AGENTS, MAX_ENDS};
 pub use machine::Core;
 pub use outcome::{Accepted, OutOfMemory, Outcome};

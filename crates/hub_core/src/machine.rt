@@ -1,3 +1,11 @@
+ghost use Rattle.std.specs.Prelude.{◌≡◌, [], ◌∷◌, ◌++◌, true, slice_get, option_map, IfOk, OnErr};
+ghost use Rattle.hub_core.specs.Kept.{kept_running, kept_holder, kept_poster};
+ghost use Rattle.hub_core.specs.History.{History};
+ghost use Rattle.hub_core.specs.Made.{line_of_port};
+ghost use Rattle.hub_core.specs.Fits.{Fits};
+ghost use Rattle.hub_core.specs.Shows.{Shows};
+ghost use Rattle.hub_core.specs.Unchanged.{changes_nothing, SameContent};
+
 use crate::agent::Agent;
 use crate::end::{End, Place};
 use crate::outcome::{OutOfMemory, Outcome};
@@ -16,7 +24,9 @@ pub struct Core {
 
 impl Core {
     /// A hub with no agent and no end. It takes no memory.
-    pub fn new(alloc: Global) -> Core {
+    pub fn new(alloc: Global) -> Core
+        ensures { Shows result [] }
+    {
         Core {
             alloc,
             agents: Vec::new(alloc),
@@ -26,7 +36,12 @@ impl Core {
 
     /// Takes a step, in time that doesn't grow with the number of ends, lines and waiting envelopes
     /// beyond what a growing list costs. After an `Err` the core is unchanged.
-    pub fn step(&mut self, step: Step) -> Result<Outcome, OutOfMemory> {
+    pub fn step(&mut self, step: Step) -> Result<Outcome, OutOfMemory>
+        // After every history that the core shows the outcome fits, and the core shows the longer one.
+        ensures fits { IfOk result (λ o. (h : History) → Shows self.old h → Fits h (step, o) × Shows self.new (h ++ (step, o) ∷ [])) }
+        ensures unchanged { IfOk result (λ o. changes_nothing step.action o ≡ true → SameContent self.old self.new) }
+        ensures err { OnErr result (SameContent self.old self.new) }
+    {
         let Step {
             action,
             memory_refused,
@@ -44,7 +59,15 @@ impl Core {
 
     /// The line that a port posts on: line 0 of the port that it is entangled with. `None` where
     /// the number names no port.
-    pub fn sender_of(&self, port: EndId) -> Option<Sender> {
+    pub fn sender_of(&self, port: EndId) -> Option<Sender>
+        ensures { (h : History) → Shows self.now h → result ≡ line_of_port h port.0 }
+    {
+        self.line_held_by(port)
+    }
+
+    fn line_held_by(&self, port: EndId) -> Option<Sender>
+        ensures { result ≡ option_map (λ x. record { end = x.peer; line = record { 0 = 0 } }) (slice_get self.now.ends.items port.0) }
+    {
         let end = self.ends.get(port.0 as usize)?;
         Some(Sender {
             end: end.peer,
@@ -52,7 +75,9 @@ impl Core {
         })
     }
 
-    pub(crate) fn is_running(&self, agent: AgentId) -> bool {
+    pub(crate) fn is_running(&self, agent: AgentId) -> bool
+        ensures { result ≡ kept_running self.now.agents.items agent.0 }
+    {
         match self.agents.get(agent.0 as usize) {
             Some(agent) => agent.is_running,
             None => false,
@@ -60,7 +85,9 @@ impl Core {
     }
 
     /// The running agent that has the end, where one has it.
-    pub(crate) fn running_holder(&self, end: EndId) -> Option<AgentId> {
+    pub(crate) fn running_holder(&self, end: EndId) -> Option<AgentId>
+        ensures { result ≡ kept_holder self.now.agents.items self.now.ends.items end.0 }
+    {
         match self.ends.get(end.0 as usize)?.place {
             Place::With(agent) if self.is_running(agent) => Some(agent),
             _ => None,
@@ -69,7 +96,9 @@ impl Core {
 
     /// The running agent that holds a line, where one does: for a port's line the agent that has
     /// the port at the other side.
-    pub(crate) fn poster_of(&self, sender: Sender) -> Option<AgentId> {
+    pub(crate) fn poster_of(&self, sender: Sender) -> Option<AgentId>
+        ensures { result ≡ kept_poster self.now.agents.items self.now.ends.items sender }
+    {
         let end = self.ends.get(sender.end.0 as usize)?;
         end.lines.get(sender.line)?;
         self.running_holder(end.peer)

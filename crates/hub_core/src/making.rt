@@ -1,3 +1,6 @@
+ghost use Rattle.std.specs.Prelude.{◌≡◌, length, IfOk, OnErr};
+ghost use Rattle.hub_core.specs.Kept.{kept_running, kept_agent_answer, agents_made, kept_channel_answer, ends_made};
+
 use crate::agent::Agent;
 use crate::end::End;
 use crate::limits::{MAX_AGENTS, MAX_ENDS};
@@ -6,7 +9,12 @@ use crate::outcome::{OutOfMemory, Outcome};
 use hub_envelope::{AgentId, EndId};
 
 impl Core {
-    pub(crate) fn make_agent(&mut self, memory_refused: bool) -> Result<Outcome, OutOfMemory> {
+    pub(crate) fn make_agent(&mut self, memory_refused: bool) -> Result<Outcome, OutOfMemory>
+        ensures outcome { IfOk result (λ o. o ≡ kept_agent_answer (length self.old.agents.items) memory_refused) }
+        ensures agents { IfOk result (λ o. self.new.agents.items ≡ agents_made self.old.agents.items o) }
+        ensures err { OnErr result (self.new.agents.items ≡ self.old.agents.items) }
+        ensures ends { self.new.ends ≡ self.old.ends }
+    {
         if memory_refused {
             return Ok(Outcome::NoMemory);
         }
@@ -22,7 +30,13 @@ impl Core {
         &mut self,
         agent: AgentId,
         memory_refused: bool,
-    ) -> Result<Outcome, OutOfMemory> {
+    ) -> Result<Outcome, OutOfMemory>
+        ensures outcome { IfOk result (λ o. o ≡ kept_channel_answer
+            (kept_running self.old.agents.items agent.0) (length self.old.ends.items) memory_refused) }
+        ensures ends { IfOk result (λ o. self.new.ends.items ≡ ends_made agent self.old.ends.items o) }
+        ensures err { OnErr result (self.new.ends.items ≡ self.old.ends.items) }
+        ensures agents { self.new.agents ≡ self.old.agents }
+    {
         if !self.is_running(agent) {
             return Ok(Outcome::NotNow);
         }
@@ -37,9 +51,10 @@ impl Core {
         let second = EndId(number as u32 + 1);
         let first_end = End::port(self.alloc, agent, second)?;
         let second_end = End::port(self.alloc, agent, first)?;
+        // With room for both no end is left alone.
         self.ends.reserve(2)?;
-        self.ends.push(first_end)?;
-        self.ends.push(second_end)?;
+        self.ends.push(first_end).unwrap();
+        self.ends.push(second_end).unwrap();
         Ok(Outcome::Ends(first, second))
     }
 }

@@ -1,3 +1,8 @@
+ghost use Rattle.std.specs.Prelude.{◌≡◌, length, IfOk};
+ghost use Rattle.std.specs.List.{zip};
+ghost use Rattle.hub_core.specs.Legal.{Legal};
+ghost use Rattle.hub_core.specs.Headline.{Headline};
+
 use crate::machine::Core;
 use crate::outcome::{OutOfMemory, Outcome};
 use crate::step::Step;
@@ -5,11 +10,17 @@ use std::alloc::Global;
 
 /// Takes the steps in order, from a hub with no agent and no end. Answered `Ok` there is one outcome
 /// for each step.
-pub fn run(alloc: Global, steps: Vec<Step>) -> Result<Vec<Outcome>, OutOfMemory> {
+pub fn run(alloc: Global, steps: Vec<Step>) -> Result<Vec<Outcome>, OutOfMemory>
+    ensures each { IfOk result (λ outcomes. length outcomes.items ≡ length steps.items) }
+    ensures legal { IfOk result (λ outcomes. Legal (zip steps.items outcomes.items)) }
+    // So it keeps what every legal history keeps.
+    ensures headline { IfOk result (λ outcomes. Headline (zip steps.items outcomes.items)) }
+{
     let mut core = Core::new(alloc);
     let mut outcomes = Vec::with_capacity(alloc, steps.len())?;
     for step in steps {
-        outcomes.push(core.step(step)?)?;
+        let outcome = core.step(step)?;
+        outcomes.push(outcome)?;
     }
     Ok(outcomes)
 }

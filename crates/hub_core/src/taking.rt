@@ -1,10 +1,19 @@
+ghost use Rattle.std.specs.Prelude.{◌≡◌, slice_get};
+ghost use Rattle.hub_core.specs.Kept.{kept_holder, start_outcome, start_ends, TakeLeaves};
+
 use crate::end::Place;
 use crate::machine::Core;
 use crate::outcome::Outcome;
 use hub_envelope::EndId;
 
 impl Core {
-    pub(crate) fn start(&mut self, end: EndId) -> Outcome {
+    pub(crate) fn start(&mut self, end: EndId) -> Outcome
+        ensures outcome { let ends = self.old.ends.items in
+            result ≡ start_outcome (kept_holder self.old.agents.items ends end.0) (slice_get ends end.0) }
+        ensures ends { let ends = self.old.ends.items in
+            self.new.ends.items ≡ start_ends (kept_holder self.old.agents.items ends end.0) end.0 ends (slice_get ends end.0) }
+        ensures agents { self.new.agents ≡ self.old.agents }
+    {
         let at = end.0 as usize;
         if at >= self.ends.len() {
             return Outcome::NotNow;
@@ -19,7 +28,11 @@ impl Core {
         Outcome::Started
     }
 
-    pub(crate) fn take(&mut self, end: EndId) -> Outcome {
+    pub(crate) fn take(&mut self, end: EndId) -> Outcome
+        ensures ends { let ends = self.old.ends.items in
+            TakeLeaves (kept_holder self.old.agents.items ends end.0) end.0 ends (slice_get ends end.0) result self.new.ends.items }
+        ensures agents { self.new.agents ≡ self.old.agents }
+    {
         let at = end.0 as usize;
         if at >= self.ends.len() {
             return Outcome::NotNow;

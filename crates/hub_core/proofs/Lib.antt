@@ -1,0 +1,14 @@
+pub mod Lists
+pub mod Frames
+pub mod Nexts
+pub mod Holders
+pub mod Entering
+pub mod Moving
+pub mod Takes
+pub mod Pushes
+pub mod Makes
+pub mod Stepping
+pub mod Legals
+pub mod Prefixes
+pub mod Sames
+pub mod Queueing

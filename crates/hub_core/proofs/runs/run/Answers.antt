@@ -1,0 +1,25 @@
+-- A step more makes the history one pair longer.
+use Rattle.std.proofs.Common.{◌≡◌, ◌+◌, [], ◌∷◌, ◌++◌, sym, ap, subst, ◌∙◌, length, length-append}
+use Rattle.std.specs.List.{zip}
+use Rattle.hub_core.specs.History.{History}
+use Rattle.hub_core.specs.Legal.{Legal}
+use Rattle.hub_core.specs.Shows.{Shows}
+use Rattle.hub_core.specs.Headline.{Headline}
+use Rattle.hub_core.proofs.Legals.{zip_one, legal_one}
+use Rattle.hub_core.proofs.Prefixes.{headline}
+use Rattle.hub_core.proofs.runs.run.Goals as goal
+
+pub loop-step-preserved : goal.loop-step-preserved
+loop-step-preserved c =
+    let past : History = zip c.loop-step.yielded c.loop-step.outcomes.items in
+    let both = c.in_ok-outcome.ensures.fits past c.loop-step.invariant.shows in
+    let items : c.push.new.self.items ≡ c.loop-step.outcomes.items ++ c.in_ok-outcome.outcome ∷ [] = c.in_ok-push.ensures.items in
+    let longer : zip (c.loop-step.yielded ++ c.in-Some.step ∷ []) c.push.new.self.items ≡ past ++ (c.in-Some.step, c.in_ok-outcome.outcome) ∷ [] =
+    ap (zip (c.loop-step.yielded ++ c.in-Some.step ∷ [])) items ∙ zip_one c.loop-step.yielded c.loop-step.outcomes.items c.in-Some.step c.in_ok-outcome.outcome c.loop-step.invariant.each in
+    let legal = legal_one past (c.in-Some.step, c.in_ok-outcome.outcome) c.loop-step.invariant.legal both.0 in
+    record {
+      each = ap length items ∙ length-append c.loop-step.outcomes.items (c.in_ok-outcome.outcome ∷ []) ∙ ap (λ n. n + 1) c.loop-step.invariant.each ∙ sym (length-append c.loop-step.yielded (c.in-Some.step ∷ []));
+      legal = subst Legal (sym longer) legal;
+      headline = subst Headline (sym longer) (headline _ legal);
+      shows = subst (Shows c.step.new.self) (sym longer) both.1;
+    }

@@ -1,0 +1,27 @@
+-- What was accepted for an end: the tasks queued on a port message queue (WHATWG HTML, "Message ports").
+use Rattle.std.specs.Prelude.{ℕ, ◌==◌, if◌then◌else◌, List, [], ◌∷◌}
+use Rattle.std.specs.List.{flat_map}
+use Rattle.hub_envelope.specs.declared.envelope.Envelope.{Envelope}
+use Rattle.hub_envelope.specs.declared.ids.EndId.{EndId}
+use Rattle.hub_core.specs.declared.sender.Sender.{Sender}
+use Rattle.hub_core.specs.declared.outcome.Accepted.{Accepted}
+use Rattle.hub_core.specs.declared.step.Action.{Action}
+use Rattle.hub_core.specs.declared.step.Action.TheVariants as action
+use Rattle.hub_core.specs.declared.outcome.Outcome.{Outcome}
+use Rattle.hub_core.specs.declared.outcome.Outcome.TheVariants as outcome
+use Rattle.hub_core.specs.History.{History}
+
+-- what was accepted on a line, under its name
+abbrev pub named_envelope : Sender → Accepted → List ℕ → List EndId → Envelope
+named_envelope s a body ports =
+    record { end = s.end; epoch = a.epoch; line = s.line; number = a.number; agent = a.agent; body = body; ports = ports }
+
+-- what an answered step puts at the end: the envelope of a Push answered Accepted
+abbrev pub accepted_by : ℕ → Action → Outcome → List Envelope
+accepted_by e (action.Push s ports body) (outcome.Accepted a) =
+    if e == s.end.0 then named_envelope s a body ports.items ∷ [] else []
+accepted_by e _ _ = []
+
+-- the envelopes of the Push steps to the end that were answered Accepted, in order
+abbrev pub accepted : History → ℕ → List Envelope
+accepted h e = flat_map (λ p. accepted_by e p.0.action p.1) h

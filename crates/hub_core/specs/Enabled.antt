@@ -1,0 +1,18 @@
+-- Whether an end's queue is enabled (WHATWG HTML, "Message ports": a port message queue is disabled
+-- when it is made, and `start()` enables it).
+use Rattle.std.specs.Prelude.{ℕ, ◌==◌, ◌||◌, if◌then◌else◌, Bool, true, false}
+use Rattle.std.specs.List.{fold}
+use Rattle.hub_core.specs.declared.step.Action.{Action}
+use Rattle.hub_core.specs.declared.step.Action.TheVariants as action
+use Rattle.hub_core.specs.declared.outcome.Outcome.{Outcome}
+use Rattle.hub_core.specs.declared.outcome.Outcome.TheVariants as outcome
+use Rattle.hub_core.specs.History.{History}
+
+abbrev pub enabled_after : ℕ → Bool → Action → Outcome → Bool
+enabled_after x enabled (action.Channel a) (outcome.Ends e f) = if x == e.0 || x == f.0 then false else enabled
+enabled_after x enabled (action.Start e) outcome.Started = if x == e.0 then true else enabled
+enabled_after x enabled _ _ = enabled
+
+-- a Start of the end was answered Started after its making
+abbrev pub enabled : History → ℕ → Bool
+enabled h x = fold (λ q p. enabled_after x q p.0.action p.1) false h

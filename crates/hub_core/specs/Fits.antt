@@ -1,0 +1,24 @@
+-- What a step may be answered after a history. Pairs that no case allows never come.
+use Rattle.std.specs.Prelude.{◌≡◌, Bool}
+use Rattle.hub_core.specs.declared.step.Action.{Action}
+use Rattle.hub_core.specs.declared.step.Action.TheVariants as action
+use Rattle.hub_core.specs.declared.outcome.Outcome.{Outcome}
+use Rattle.hub_core.specs.History.{Pair, History}
+use Rattle.hub_core.specs.Facts.{Facts, facts}
+use Rattle.hub_core.specs.Making.{agent_answer, channel_answer}
+use Rattle.hub_core.specs.Posting.{enter_answer, leave_answer, push_answer}
+use Rattle.hub_core.specs.Taking.{start_answer, FitsTake}
+
+-- the last but one argument says whether memory is refused in the step
+abbrev pub Answers : Facts → Action → Bool → Outcome → Type 0
+Answers f action.Agent refused o = o ≡ agent_answer f refused
+Answers f (action.Channel a) refused o = o ≡ channel_answer f a refused
+Answers f (action.Enter s) refused o = o ≡ enter_answer f s
+Answers f (action.Push s ports body) refused o = o ≡ push_answer f s ports.items refused
+Answers f (action.Leave s) refused o = o ≡ leave_answer f s
+Answers f (action.Start e) refused o = o ≡ start_answer f e
+Answers f (action.Take e) refused o = FitsTake f e o
+
+-- the pair fits the history
+abbrev pub Fits : History → Pair → Type 0
+Fits h p = Answers (facts h) p.0.action p.0.memory_refused p.1

@@ -1,0 +1,12 @@
+-- What was asked of a hub, and what it answered.
+use Rattle.std.specs.Prelude.{List}
+use Rattle.hub_core.specs.declared.step.Step.{Step}
+use Rattle.hub_core.specs.declared.outcome.Outcome.{Outcome}
+
+-- a step, and its outcome
+abbrev pub Pair : Type 0
+Pair = Step × Outcome
+
+-- the pairs, oldest first. There is no state: everything else is read off this list.
+abbrev pub History : Type 0
+History = List (Step × Outcome)

@@ -1,0 +1,16 @@
+-- What one sender posts at an end goes by one line: order is stated line by line.
+use Rattle.std.specs.Prelude.{◌≡◌, ℕ, ◌==◌, ◌&&◌, List, ◌++◌, length}
+use Rattle.std.specs.List.{filter}
+use Rattle.hub_envelope.specs.declared.envelope.Envelope.{Envelope}
+
+-- the envelopes of a line, in order
+abbrev pub by : ℕ → List Envelope → List Envelope
+by line vs = filter (λ v. v.line.0 == line) vs
+
+-- the second list is the first, followed by some list
+abbrev pub Prefix : List Envelope → List Envelope → Type 0
+Prefix front whole = (rest : List Envelope) × (whole ≡ front ++ rest)
+
+-- how many of the envelopes are of this line and this queue
+abbrev pub count_in_queue : ℕ → ℕ → List Envelope → ℕ
+count_in_queue line epoch vs = length (filter (λ v. v.line.0 == line && v.epoch == epoch) vs)

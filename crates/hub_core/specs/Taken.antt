@@ -1,0 +1,18 @@
+-- What was taken at an end: the tasks that its event loop ran (WHATWG HTML, "Message ports").
+use Rattle.std.specs.Prelude.{ℕ, ◌==◌, if◌then◌else◌, List, [], ◌∷◌}
+use Rattle.std.specs.List.{flat_map}
+use Rattle.hub_envelope.specs.declared.envelope.Envelope.{Envelope}
+use Rattle.hub_core.specs.declared.step.Action.{Action}
+use Rattle.hub_core.specs.declared.step.Action.TheVariants as action
+use Rattle.hub_core.specs.declared.outcome.Outcome.{Outcome}
+use Rattle.hub_core.specs.declared.outcome.Outcome.TheVariants as outcome
+use Rattle.hub_core.specs.History.{History}
+
+-- what an answered step takes at the end: the envelope of a Take answered Got
+abbrev pub taken_by : ℕ → Action → Outcome → List Envelope
+taken_by e (action.Take t) (outcome.Got v) = if e == t.0 then v ∷ [] else []
+taken_by e _ _ = []
+
+-- the envelopes of the Take steps at the end that were answered Got, in order
+abbrev pub taken : History → ℕ → List Envelope
+taken h e = flat_map (λ p. taken_by e p.0.action p.1) h

@@ -1,0 +1,41 @@
+-- What the steps of a taker are answered.
+use Rattle.std.specs.Prelude.{◌≡◌, ℕ, if◌then◌else◌, is_some, [], ◌∷◌, ◌++◌}
+use Rattle.std.specs.Bool.{MatchBool}
+use Rattle.hub_envelope.specs.declared.ids.EndId.{EndId}
+use Rattle.hub_envelope.specs.declared.envelope.Envelope.{Envelope}
+use Rattle.hub_core.specs.declared.outcome.Outcome.{Outcome}
+use Rattle.hub_core.specs.declared.outcome.Outcome.TheVariants as outcome
+use Rattle.hub_core.specs.Facts.{Facts}
+use Rattle.hub_core.specs.Sender.{by, Prefix}
+use Rattle.hub_core.specs.Posting.{holder}
+
+abbrev pub start_answer : Facts → EndId → Outcome
+start_answer f e =
+    if f.closed e.0 then outcome.Closed
+    else (if is_some (holder f e.0) then outcome.Started
+    else outcome.NotNow)
+
+-- The envelope is of the taker's queue, and the next of its line. Between two lines the choice is free.
+pub record IsNext (f : Facts) (e : EndId) (v : Envelope) : Type 0 where
+  pub end : v.end.0 ≡ e.0
+  pub epoch : v.epoch ≡ f.taker_stand e.0
+  pub order : Prefix (by v.line.0 (f.taken e.0 ++ v ∷ [])) (by v.line.0 (f.accepted e.0))
+
+-- the newest queue, and everything that was accepted was taken
+pub record IsDrained (f : Facts) (e : EndId) : Type 0 where
+  pub newest : f.taker_stand e.0 ≡ f.newest e.0
+  pub all : (line : ℕ) → by line (f.taken e.0) ≡ by line (f.accepted e.0)
+
+-- what an open, enabled end with a running agent answers
+abbrev pub Serves : Facts → EndId → Outcome → Type 0
+Serves f e (outcome.Got v) = IsNext f e v
+Serves f e outcome.Empty = IsDrained f e
+Serves f e _ = ⊥
+
+-- closed, then with a running agent, then enabled
+abbrev pub FitsTake : Facts → EndId → Outcome → Type 0
+FitsTake f e o =
+    MatchBool (f.closed e.0) (o ≡ outcome.Closed)
+    (MatchBool (is_some (holder f e.0))
+    (MatchBool (f.enabled e.0) (Serves f e o) (o ≡ outcome.Disabled))
+    (o ≡ outcome.NotNow))
