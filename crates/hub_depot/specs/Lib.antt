@@ -1,0 +1,3 @@
+pub mod DepotError
+pub mod Key
+pub mod Named

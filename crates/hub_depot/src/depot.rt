@@ -1,0 +1,58 @@
+ghost use Rattle.std.specs.Prelude.{◌≡◌, IfSome, IfErr};
+ghost use Rattle.hub_depot.specs.DepotError.{refused_value};
+
+use crate::depot_error::DepotError;
+use crate::kept::Kept;
+use crate::key::Key;
+use crate::named::Named;
+use std::alloc::Global;
+use std::sync::{Mutex, Wait};
+
+/// Values under their names, which threads share.
+///
+/// Each call is the call of that name on the `Kept` behind the lock, under one taking of the lock.
+/// Which values are kept at that moment no contract of these calls can say, since another thread may
+/// act between any two of them.
+#[derive(Drop)]
+pub struct Depot<V: Named> {
+    kept: Mutex<Kept<V>>,
+}
+
+impl<V: Named> Depot<V> {
+    /// Nothing is kept. It takes no memory.
+    pub fn new(alloc: Global) -> Depot<V> {
+        Depot {
+            kept: Mutex::new(Kept::new(alloc)),
+        }
+    }
+
+    /// Keeps a value under its name: `Kept::put` under the lock.
+    ///
+    /// `Taken` where a value of that name was kept, else `OutOfMemory` where there was no memory. After
+    /// either what is kept is as it was.
+    pub fn put(&self, rt: &impl Wait, value: V) -> Result<(), DepotError<V>>
+        ensures { IfErr result (λ e. refused_value e ≡ value) }
+    {
+        self.kept.lock(rt).put(value)
+    }
+
+    /// Takes out the value of that name: `Kept::take` under the lock. `None` where none was kept.
+    /// It takes no memory.
+    pub fn take(&self, rt: &impl Wait, key: Key) -> Option<V>
+        ensures { IfSome result (λ v. V.name v ≡ key) }
+    {
+        self.kept.lock(rt).take(key)
+    }
+
+    /// Takes out some value: `Kept::take_any` under the lock. `None` where nothing was kept.
+    /// It takes no memory.
+    pub fn take_any(&self, rt: &impl Wait) -> Option<V> {
+        self.kept.lock(rt).take_any()
+    }
+
+    /// What is kept, once no thread shares the depot.
+    pub fn into_kept(self) -> Kept<V> {
+        let Depot { kept } = self;
+        kept.into_inner()
+    }
+}

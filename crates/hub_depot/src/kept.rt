@@ -1,0 +1,96 @@
+ghost use Rattle.std.specs.Prelude.{◌≡◌, ◌+◌, ◌↔◌, OnSome, IsSome, IsNone, IfSome, IfNone, OnOk, OnErr, IfErr, IsErrOf};
+ghost use Rattle.std.specs.FinMap as map;
+ghost use Rattle.hub_depot.specs.DepotError.{refused_value};
+
+use crate::depot_error::DepotError;
+use crate::key::Key;
+use crate::named::Named;
+use std::alloc::{AllocFailed, Global};
+use std::collections::BTreeMap;
+use std::marker::Model;
+
+/// Values under their names, at most one under each: the map that a `Depot` holds behind its lock.
+///
+/// Contracts see it as the finite map from the names to the values. Each call takes time that is
+/// logarithmic in the number of values kept.
+#[derive(Drop)]
+pub struct Kept<V: Named> {
+    values: BTreeMap<Key, V>,
+}
+
+impl<V: Named> Model for Kept<V> {
+    ghost use Rattle.std.specs.FinMap as map;
+    ghost use Rattle.hub_depot.specs.Key.{key_cmp, coded_key};
+    ghost use Rattle.hub_depot.specs.Named.{EachUnderItsName};
+
+    ghost Value = { map.FinMap key_cmp V };
+
+    ghost coded = { map.code coded_key V.code };
+
+    ghost view = { λ k. map.from_entries k.values.entries };
+
+    ghost invariant = { λ k. EachUnderItsName V.name (map.from_entries k.values.entries) };
+}
+
+impl<V: Named> Kept<V> {
+    /// Nothing is kept. It takes no memory.
+    pub fn new(alloc: Global) -> Kept<V>
+        ensures { result ≡ map.empty }
+    {
+        Kept {
+            values: BTreeMap::new(alloc),
+        }
+    }
+
+    /// Keeps a value under its name.
+    ///
+    /// `Taken` comes before `OutOfMemory`, also where there is no memory. After either the map is
+    /// as it was.
+    pub fn put(&mut self, value: V) -> Result<(), DepotError<V>>
+        ensures ok { OnOk result (self.new ≡ map.insert self.old (V.name value) value) }
+        ensures free { OnOk result (IsNone (map.get self.old (V.name value))) }
+        ensures taken { IsErrOf result (DepotError.Taken value) ↔ IsSome (map.get self.old (V.name value)) }
+        ensures given_back { IfErr result (λ e. refused_value e ≡ value) }
+        ensures err { OnErr result (self.new ≡ self.old) }
+    {
+        let key = value.name();
+        if self.values.contains_key(&key) {
+            return Err(DepotError::Taken(value));
+        }
+        match self.values.insert(key, value) {
+            Ok(None) => Ok(()),
+            Ok(Some(_replaced)) => unreachable!(),
+            Err(AllocFailed { value: (_, value) }) => Err(DepotError::OutOfMemory(value)),
+        }
+    }
+
+    /// Takes out the value of that name. It takes no memory.
+    pub fn take(&mut self, key: Key) -> Option<V>
+        ensures value { result ≡ map.get self.old key }
+        ensures named { IfSome result (λ v. V.name v ≡ key) }
+        ensures rest { self.new ≡ map.remove self.old key }
+        ensures none { IfNone result (self.new ≡ self.old) }
+    {
+        self.values.remove(&key)
+    }
+
+    /// Takes out some value, which one is left open. It takes no memory.
+    pub fn take_any(&mut self) -> Option<V>
+        ensures kept { IfSome result (λ v. map.get self.old (V.name v) ≡ Some v) }
+        ensures rest { IfSome result (λ v. self.new ≡ map.remove self.old (V.name v)) }
+        ensures fewer { OnSome result (map.len self.new + 1 ≡ map.len self.old) }
+        ensures empty { IsNone result ↔ (self.old ≡ map.empty) }
+        ensures none { IfNone result (self.new ≡ self.old) }
+    {
+        let (_, value) = self.values.pop_first()?;
+        Some(value)
+    }
+
+    /// Frees the map where nothing is kept, for values that may not be dropped.
+    pub fn destroy_empty(self)
+        requires { self ≡ map.empty }
+    {
+        let Kept { values } = self;
+        values.destroy_empty();
+    }
+}

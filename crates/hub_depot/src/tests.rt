@@ -1,0 +1,183 @@
+ghost use Rattle.std.specs.Prelude.{◌<◌};
+
+use crate::{Depot, DepotError, Kept, Key, Named};
+use hub_envelope::{EndId, LineId};
+use std::process::Abort;
+use std::sync::Wait;
+use std::test::Fail;
+use std::thread;
+
+const THREADS: u32 = 4;
+
+const EACH: u32 = 250;
+
+#[derive(Debug, Drop, PartialEq)]
+struct Ticket {
+    name: Key,
+    number: u32,
+}
+
+impl Ticket {
+    fn numbered(number: u32) -> Ticket {
+        Ticket {
+            name: key(number),
+            number,
+        }
+    }
+}
+
+impl Named for Ticket {
+    ghost name = { λ t. t.name };
+
+    fn name(&self) -> Key {
+        self.name
+    }
+}
+
+/// Below 1,000 no two names agree, and some differ in the end, the epoch or the line alone.
+fn key(number: u32) -> Key {
+    Key {
+        end: EndId(number / 100),
+        epoch: number / 10 % 10,
+        line: LineId((number % 10) as u8),
+    }
+}
+
+/// Puts one thread's tickets, every `THREADS`th one. Whether all were kept.
+fn put_share<R: Wait>(rt: &R, depot: &Depot<Ticket>, share: usize) -> bool
+    requires { share < 4 }
+{
+    for i in 0..EACH {
+        let number = i * THREADS + share as u32;
+        if depot.put(rt, Ticket::numbered(number)).is_err() {
+            return false;
+        }
+    }
+    true
+}
+
+#[test]
+fn depot_keeps(rt: HostRuntime) -> Result<(), Fail> {
+    let depot = Depot::new(rt.alloc());
+    let shared = &depot;
+    let handle = &rt;
+    let kept = thread::map_indices(
+        handle,
+        rt.alloc(),
+        4,
+        &|share| { put_share(handle, shared, share) },
+    )?;
+    assert_eq!(rt; kept.as_slice(), [true; 4].as_slice());
+    for number in 0..THREADS * EACH {
+        assert_eq!(rt;
+            depot.take(&rt, key(number)),
+            Some(Ticket::numbered(number))
+        );
+        assert_eq!(rt; depot.take(&rt, key(number)), None, "{number} again");
+    }
+    assert_eq!(rt; depot.take_any(&rt), None);
+    Ok(())
+}
+
+#[test]
+fn one_value_a_name(rt: HostRuntime) -> Result<(), Fail> {
+    let depot = Depot::new(rt.alloc());
+    let second = Ticket {
+        name: key(7),
+        number: 8,
+    };
+    assert!(rt; depot.put(&rt, Ticket::numbered(7)).is_ok());
+    match depot.put(&rt, second) {
+        Err(DepotError::Taken(back)) => assert_eq!(rt; back.number, 8),
+        _ => panic!(rt; "the name is taken"),
+    }
+    assert_eq!(rt; depot.take_any(&rt), Some(Ticket::numbered(7)));
+    Ok(())
+}
+
+/// With `rt try --test --fail-alloc N` the Nth allocation is refused: the put that asked for it gives
+/// its value back, and what was kept before it and after it is there.
+#[test]
+fn refused_put_changes_nothing(rt: HostRuntime) -> Result<(), Fail> {
+    let mut kept = Kept::new(rt.alloc());
+    let mut refused = None;
+    for number in 0..60 {
+        match kept.put(Ticket::numbered(number)) {
+            Ok(()) => {}
+            Err(DepotError::OutOfMemory(back)) => {
+                assert_eq!(rt; back, Ticket::numbered(number));
+                assert_eq!(rt; refused, None);
+                refused = Some(number);
+            }
+            Err(DepotError::Taken(_)) => panic!(rt; "the name is free"),
+        }
+    }
+    for number in 0..60 {
+        let expected = if refused == Some(number) {
+            None
+        } else {
+            Some(Ticket::numbered(number))
+        };
+        assert_eq!(rt; kept.take(key(number)), expected);
+    }
+    assert_eq!(rt; kept.take_any(), None);
+    Ok(())
+}
+
+/// A value that may not be dropped: it has to be taken out again, and taken apart.
+struct Passport {
+    name: Key,
+}
+
+impl Named for Passport {
+    ghost name = { λ p. p.name };
+
+    fn name(&self) -> Key {
+        self.name
+    }
+}
+
+fn put_passport(rt: &(impl Wait + Abort), depot: &Depot<Passport>, name: Key) {
+    match depot.put(rt, Passport { name }) {
+        Ok(()) => {}
+        Err(DepotError::Taken(_back) | DepotError::OutOfMemory(_back)) => {
+            panic!(rt; "{name:?} was refused")
+        }
+    }
+}
+
+/// Takes every value out of a map, and frees the map. How many there were.
+fn take_all(mut kept: Kept<Passport>) -> u32 {
+    let mut taken = 0u32;
+    while let Some(passport) = kept.take_any() {
+        let Passport { name: _ } = passport;
+        taken = taken.saturating_add(1);
+    }
+    kept.destroy_empty();
+    taken
+}
+
+#[test]
+fn keeps_what_may_not_be_dropped(rt: HostRuntime) {
+    let depot = Depot::new(rt.alloc());
+    for number in 0..10 {
+        put_passport(&rt, &depot, key(number));
+    }
+    match depot.take(&rt, key(3)) {
+        Some(Passport { name }) => assert_eq!(rt; name, key(3)),
+        None => panic!(rt; "it was put"),
+    }
+    assert_eq!(rt; take_all(depot.into_kept()), 9);
+}
+
+#[test]
+fn says_why(rt: HostRuntime) -> Result<(), Fail> {
+    let taken = DepotError::Taken(Ticket::numbered(0));
+    let refused = DepotError::OutOfMemory(Ticket::numbered(0));
+    let told = format!(in rt.alloc(); "{taken}; {refused}")?;
+    assert_eq!(rt;
+        told.as_str(),
+        "a value of that name is kept already; out of memory"
+    );
+    Ok(())
+}

@@ -1,0 +1,4 @@
+pub mod Course
+pub mod Lifecycle
+pub mod Order
+pub mod OrderSeat

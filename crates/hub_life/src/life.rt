@@ -1,0 +1,154 @@
+ghost use Rattle.std.specs.Prelude.{◌≡◌, IfOk, IfErr, OnOk};
+
+use crate::event::Event;
+use crate::life_error::LifeError;
+use crate::limits::MAX_EXTENSIONS;
+use crate::state::State;
+use std::marker::Model;
+
+/// The life of one service worker: its state and, while it is installing or activating, whether its
+/// handler still runs, how many extensions are open, and whether one has failed.
+#[derive(Debug, Drop)]
+pub struct Life {
+    state: State,
+    handling: bool,
+    open_extensions: u8,
+    failed: bool,
+}
+
+impl Model for Life {
+    ghost use Rattle.hub_life.specs.Lifecycle.{Progress};
+
+    ghost Value = { Progress };
+
+    ghost view = { λ l. record {
+      state = l.state;
+      handling = l.handling;
+      open_extensions = l.open_extensions;
+      failed = l.failed;
+    } };
+}
+
+impl Life {
+    ghost use Rattle.hub_life.specs.Lifecycle.{start, entered, answer, open_more, close_one, finish_handler, settled};
+
+    /// The life of a worker that is just parsed.
+    pub fn new() -> Life
+        ensures { result ≡ start }
+    {
+        Life {
+            state: State::Parsed,
+            handling: false,
+            open_extensions: 0,
+            failed: false,
+        }
+    }
+
+    pub fn state(&self) -> State
+        ensures { result ≡ self.now.state }
+    {
+        self.state
+    }
+
+    /// How many extensions of the event that is being handled are open.
+    pub fn open_extensions(&self) -> u8
+        ensures { result ≡ self.now.open_extensions }
+    {
+        self.open_extensions
+    }
+
+    /// Whether the handler of the install or activate event still runs.
+    pub fn is_handling(&self) -> bool
+        ensures { result ≡ self.now.handling }
+    {
+        self.handling
+    }
+
+    /// Whether an extension of the event that is being handled has failed.
+    pub fn has_failed(&self) -> bool
+        ensures { result ≡ self.now.failed }
+    {
+        self.failed
+    }
+
+    /// Takes an event by the table, and answers the state that it leaves.
+    pub fn event(&mut self, event: Event) -> Result<State, LifeError>
+        ensures ok { IfOk result (λ state. (answer self.old event ≡ Ok self.new) × (state ≡ self.new.state)) }
+        ensures err { IfErr result (λ e. (answer self.old event ≡ Err e) × (self.new ≡ self.old)) }
+    {
+        match (self.state, event) {
+            (State::Parsed, Event::Install) => self.enter(State::Installing),
+            (State::Installed, Event::Activate) => self.enter(State::Activating),
+            (State::Installing | State::Activating, Event::Extend) => self.open_extension()?,
+            (State::Installing | State::Activating, Event::Settle) => self.close_extension(false)?,
+            (State::Installing | State::Activating, Event::Fail) => self.close_extension(true)?,
+            (State::Installing | State::Activating, Event::Returned) => self.finish_handler()?,
+            (State::Installed | State::Activated, Event::Discard) => self.enter(State::Redundant),
+            (State::Installing, Event::Terminate) => self.enter(State::Redundant),
+            (State::Activating, Event::Terminate) => self.enter(State::Activated),
+            (state, Event::Terminate) => self.enter(state),
+            _ => return Err(LifeError::WrongState),
+        }
+        Ok(self.state)
+    }
+
+    fn enter(&mut self, state: State)
+        ensures { self.new ≡ entered state }
+    {
+        self.state = state;
+        self.handling = matches!(state, State::Installing | State::Activating);
+        self.open_extensions = 0;
+        self.failed = false;
+    }
+
+    fn open_extension(&mut self) -> Result<(), LifeError>
+        ensures ok { OnOk result (open_more self.old ≡ Ok self.new) }
+        ensures err { IfErr result (λ e. (open_more self.old ≡ Err e) × (self.new ≡ self.old)) }
+    {
+        if self.open_extensions >= MAX_EXTENSIONS {
+            return Err(LifeError::TooManyExtensions);
+        }
+        self.open_extensions += 1;
+        Ok(())
+    }
+
+    fn close_extension(&mut self, fails: bool) -> Result<(), LifeError>
+        ensures ok { OnOk result (close_one self.old fails ≡ Ok self.new) }
+        ensures err { IfErr result (λ e. (close_one self.old fails ≡ Err e) × (self.new ≡ self.old)) }
+    {
+        if self.open_extensions == 0 {
+            return Err(LifeError::NoExtension);
+        }
+        self.open_extensions -= 1;
+        self.failed |= fails;
+        self.settle();
+        Ok(())
+    }
+
+    fn finish_handler(&mut self) -> Result<(), LifeError>
+        ensures ok { OnOk result (finish_handler self.old ≡ Ok self.new) }
+        ensures err { IfErr result (λ e. (finish_handler self.old ≡ Err e) × (self.new ≡ self.old)) }
+    {
+        if !self.handling {
+            return Err(LifeError::WrongState);
+        }
+        self.handling = false;
+        self.settle();
+        Ok(())
+    }
+
+    // Enters the next state once nothing of the event is left to wait for.
+    fn settle(&mut self)
+        ensures { self.new ≡ settled self.old }
+    {
+        if self.handling || self.open_extensions > 0 {
+            return;
+        }
+        match self.state {
+            State::Installing if self.failed => self.enter(State::Redundant),
+            State::Installing => self.enter(State::Installed),
+            State::Activating => self.enter(State::Activated),
+            state => self.enter(state),
+        }
+    }
+}

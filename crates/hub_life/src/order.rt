@@ -1,0 +1,67 @@
+ghost use Rattle.std.specs.Prelude.{◌≡◌, ◌+◌, IfOk, IsTrue, replicate};
+ghost use Rattle.std.specs.Arc.{arc_value};
+ghost use Rattle.atomic_table.specs.Seated.{TableId};
+
+use crate::order_view::OrderView;
+use crate::order_word::{Give, Look, OneMore, OrderWord};
+use crate::out_of_memory::OutOfMemory;
+use atomic_table::Seat;
+use std::alloc::Global;
+use std::marker::Model;
+use std::sync::Arc;
+
+/// A seat at the word of one order. Seats of one word may lie on different threads.
+#[derive(Drop)]
+pub struct Order {
+    word: Arc<OrderWord>,
+    seat: Seat<(), OrderView>,
+}
+
+impl Model for Order {
+    ghost use Rattle.std.specs.Prelude.{◌≡◌};
+    ghost use Rattle.std.specs.Arc.{arc_value};
+    ghost use Rattle.hub_life.specs.OrderSeat.{OrderSeat, seat_of};
+
+    ghost Value = { OrderSeat };
+
+    ghost view = { λ o. seat_of o.seat.table_id o.seat.me.0 };
+
+    ghost invariant = { λ o. ((arc_value o.word).shared.table_id.words ≡ 1)
+        × (o.seat.table_id ≡ (arc_value o.word).shared.table_id) };
+}
+
+impl Order {
+    ghost use Rattle.hub_life.specs.OrderSeat.{OrderSeat, new_seat, knows};
+
+    /// A new word, at which the order isn't given, and so many seats there.
+    pub fn open(alloc: Global, seats: usize) -> Result<Vec<Order>, OutOfMemory>
+        ensures { IfOk result (λ orders. (word : TableId) × (orders.items ≡ replicate seats (new_seat word))) }
+    {
+        let mut orders = Vec::with_capacity(alloc, seats)?;
+        let (table, mut first) = OrderWord::of_words(alloc, &[0], &())?;
+        let word = Arc::new(alloc, table)?;
+        for _ in 0..seats {
+            let seat = word.shared.split_seat::<OneMore>(&mut first);
+            let word = Arc::try_clone(&word)?;
+            orders.push(Order { word, seat })?;
+        }
+        Ok(orders)
+    }
+
+    /// Gives the order, once and for good. It is one step on the word, and needs no memory.
+    pub fn give(&mut self)
+        ensures { self.new ≡ record self.old { gives = self.old.gives + 1 } }
+    {
+        self.word.shared.fetch_or::<Give>(&mut self.seat, 0, 1);
+    }
+
+    /// Whether the order was given at this seat, or is found by this look. True stays true.
+    /// It is one step on the word, and needs no memory.
+    pub fn seen(&mut self) -> bool
+        ensures exactly { result ≡ knows self.new }
+        ensures looked { self.new ≡ record self.old { looks = self.old.looks + 1; found = result } }
+        ensures stays { IsTrue (knows self.old) → IsTrue result }
+    {
+        self.word.shared.load::<Look>(&mut self.seat, 0) == 1
+    }
+}

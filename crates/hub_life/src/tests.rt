@@ -1,0 +1,247 @@
+use crate::{Event, Life, LifeError, MAX_EXTENSIONS, Order, OutOfMemory, State};
+use std::alloc::Global;
+use std::process::Abort;
+use std::test::Fail;
+use std::thread;
+
+type Answer = Result<State, LifeError>;
+
+const WRONG: Answer = Err(LifeError::WrongState);
+
+const NONE_OPEN: Answer = Err(LifeError::NoExtension);
+
+// The life of a worker after these events, none of which is refused.
+fn life_after(rt: &impl Abort, events: &[Event]) -> Life {
+    let mut life = Life::new();
+    for event in events {
+        assert!(rt; life.event(*event).is_ok(), "{event:?}");
+    }
+    life
+}
+
+fn expect_answers(rt: &impl Abort, steps: &[(Event, Answer)]) {
+    let mut life = Life::new();
+    for (event, answer) in steps {
+        assert_eq!(rt; life.event(*event), *answer, "{event:?}");
+    }
+}
+
+#[test]
+fn a_failed_install_makes_the_worker_redundant(rt: HostRuntime) {
+    expect_answers(
+        &rt,
+        &[
+            (Event::Install, Ok(State::Installing)),
+            (Event::Extend, Ok(State::Installing)),
+            (Event::Returned, Ok(State::Installing)),
+            (Event::Fail, Ok(State::Redundant)),
+            (Event::Activate, WRONG),
+        ],
+    );
+}
+
+#[test]
+fn a_failed_activation_is_activated(rt: HostRuntime) {
+    expect_answers(
+        &rt,
+        &[
+            (Event::Install, Ok(State::Installing)),
+            (Event::Returned, Ok(State::Installed)),
+            (Event::Activate, Ok(State::Activating)),
+            (Event::Settle, NONE_OPEN),
+            (Event::Extend, Ok(State::Activating)),
+            (Event::Fail, Ok(State::Activating)),
+            (Event::Returned, Ok(State::Activated)),
+            (Event::Settle, WRONG),
+        ],
+    );
+}
+
+#[test]
+fn the_65th_extension_is_refused(rt: HostRuntime) {
+    let mut life = life_after(&rt, &[Event::Install]);
+    for _ in 0..64 {
+        assert_eq!(rt; life.event(Event::Extend), Ok(State::Installing));
+    }
+    assert_eq!(rt;
+        life.event(Event::Extend),
+        Err(LifeError::TooManyExtensions)
+    );
+    assert_eq!(rt; life.open_extensions(), MAX_EXTENSIONS);
+    assert_eq!(rt; life.event(Event::Terminate), Ok(State::Redundant));
+    assert_eq!(rt; life.event(Event::Install), WRONG);
+}
+
+#[test]
+fn a_life_shows_what_it_waits_for(rt: HostRuntime) {
+    let life = life_after(
+        &rt,
+        &[Event::Install, Event::Extend, Event::Extend, Event::Fail],
+    );
+    assert_eq!(rt; life.state(), State::Installing);
+    assert_eq!(rt; life.open_extensions(), 1);
+    assert!(rt; life.is_handling() && life.has_failed());
+}
+
+// Each row is a way into a state, and the answers there to the events in the order of the columns.
+#[test]
+fn each_cell_of_the_table(rt: HostRuntime) {
+    use Event::*;
+    use State::*;
+    let columns = [
+        Install, Activate, Extend, Settle, Fail, Returned, Discard, Terminate,
+    ];
+    let install: &[Event] = &[Install];
+    let installed: &[Event] = &[Install, Returned];
+    let activate: &[Event] = &[Install, Returned, Activate];
+    let activated: &[Event] = &[Install, Returned, Activate, Returned];
+    let discarded: &[Event] = &[Install, Returned, Discard];
+    let parsed: &[Event] = &[];
+    let table = [
+        (
+            parsed,
+            [
+                Ok(Installing),
+                WRONG,
+                WRONG,
+                WRONG,
+                WRONG,
+                WRONG,
+                WRONG,
+                Ok(Parsed),
+            ],
+        ),
+        (
+            install,
+            [
+                WRONG,
+                WRONG,
+                Ok(Installing),
+                NONE_OPEN,
+                NONE_OPEN,
+                Ok(Installed),
+                WRONG,
+                Ok(Redundant),
+            ],
+        ),
+        (
+            installed,
+            [
+                WRONG,
+                Ok(Activating),
+                WRONG,
+                WRONG,
+                WRONG,
+                WRONG,
+                Ok(Redundant),
+                Ok(Installed),
+            ],
+        ),
+        (
+            activate,
+            [
+                WRONG,
+                WRONG,
+                Ok(Activating),
+                NONE_OPEN,
+                NONE_OPEN,
+                Ok(Activated),
+                WRONG,
+                Ok(Activated),
+            ],
+        ),
+        (
+            activated,
+            [
+                WRONG,
+                WRONG,
+                WRONG,
+                WRONG,
+                WRONG,
+                WRONG,
+                Ok(Redundant),
+                Ok(Activated),
+            ],
+        ),
+        (
+            discarded,
+            [
+                WRONG,
+                WRONG,
+                WRONG,
+                WRONG,
+                WRONG,
+                WRONG,
+                WRONG,
+                Ok(Redundant),
+            ],
+        ),
+    ];
+    for (way, answers) in &table {
+        for (event, answer) in columns.iter().zip(answers) {
+            let mut life = life_after(&rt, way);
+            assert_eq!(rt; life.event(*event), *answer, "{event:?} after {way:?}");
+        }
+    }
+}
+
+// Two seats of one order.
+fn two_seats(alloc: Global) -> Result<(Order, Order), Fail> {
+    let mut orders = Order::open(alloc, 2)?;
+    let one = orders.pop().ok_or("no seat")?;
+    let other = orders.pop().ok_or("one seat")?;
+    Ok((one, other))
+}
+
+#[test]
+fn an_order_is_found_at_another_seat(rt: HostRuntime) -> Result<(), Fail> {
+    let (mut one, mut other) = two_seats(rt.alloc())?;
+    assert!(rt; !one.seen() && !other.seen());
+    one.give();
+    assert!(rt; other.seen() && one.seen());
+    other.give();
+    assert!(rt; other.seen() && one.seen());
+    Ok(())
+}
+
+#[test]
+fn an_order_of_another_word_is_not_found(rt: HostRuntime) -> Result<(), Fail> {
+    let (mut one, _other) = two_seats(rt.alloc())?;
+    let (mut stranger, _other) = two_seats(rt.alloc())?;
+    stranger.give();
+    assert!(rt; !one.seen());
+    Ok(())
+}
+
+#[test]
+fn an_order_crosses_threads(rt: HostRuntime) -> Result<(), Fail> {
+    let (mut giver, mut looker) = two_seats(rt.alloc())?;
+    let (giver_saw, _) = thread::join(
+        &rt,
+        move || {
+            giver.give();
+            giver.seen()
+        },
+        || looker.seen(),
+    );
+    assert!(rt; giver_saw && looker.seen());
+    Ok(())
+}
+
+#[test]
+fn no_seat_is_made_without_memory(rt: HostRuntime) -> Result<(), Fail> {
+    assert!(rt; matches!(Order::open(rt.alloc(), usize::MAX), Err(OutOfMemory)));
+    assert_eq!(rt; Order::open(rt.alloc(), 0)?.len(), 0);
+    Ok(())
+}
+
+// It passes whichever allocation is refused: the next call has the memory.
+#[test]
+fn a_refusal_leaves_nothing_behind(rt: HostRuntime) -> Result<(), Fail> {
+    let orders = match Order::open(rt.alloc(), 3) {
+        Err(OutOfMemory) => Order::open(rt.alloc(), 3)?,
+        Ok(orders) => orders,
+    };
+    assert_eq!(rt; orders.len(), 3);
+    Ok(())
+}
