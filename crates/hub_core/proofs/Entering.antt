@@ -20,16 +20,13 @@ use Rattle.hub_core.specs.Lines.{on_line}
 use Rattle.hub_core.specs.Posting.{is_out, poster, enter_answer, leave_answer}
 use Rattle.hub_core.specs.Shows.{ShowsLine, Waits, ShowsEnd, IsUnmade, ShowsAt, ShowsFacts}
 use Rattle.hub_core.specs.Kept.{gate, phase_of, enter_outcome, enter_end, enter_outcome_at, enter_ends_at, leave_outcome, leave_end, leave_outcome_at, leave_ends_at, kept_poster}
-use Rattle.hub_core.proofs.Lists.{slice_get-set_same, slice_get-set_other, set_again, AllByRecursion-weaker}
+use Rattle.hub_core.proofs.Lists.{eqb_same, slice_get-set_same, slice_get-set_other, set_again, AllByRecursion-weaker}
 use Rattle.hub_core.proofs.Frames.{SameAt, waits_framed, shows_set, unchanged, shows_unchanged}
 use Rattle.hub_core.proofs.Holders.{poster_kept}
 
 -- a step on a line that changes nothing but its phase
 abbrev pub with_phase : Facts → Sender → Phase → Facts
 with_phase f s p = record f { phase = λ x l. on_line x l s p (f.phase x l); accepted = λ x. f.accepted x ++ []; taken = λ x. f.taken x ++ [] }
-
-eqb_same : (n : ℕ) → eqb n n ≡ true
-eqb_same n = search (rules, nat_tests)
 
 on_line_here : (s : Sender) (p q : Phase) → on_line s.end.0 s.line.0 s p q ≡ p
 on_line_here s p q = rw (eqb_same s.end.0, eqb_same s.line.0) refl

@@ -12,3 +12,4 @@ pub mod Legals
 pub mod Prefixes
 pub mod Sames
 pub mod Queueing
+pub mod Mailboxes

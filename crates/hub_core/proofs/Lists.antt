@@ -1,5 +1,9 @@
 -- Lists of ends, agents, lines and envelopes: what a write leaves at each number.
-use Rattle.std.proofs.Common.{◌≡◌, ℕ, ◌<◌, ◌+◌, List, [], ◌∷◌, ◌++◌, length, set, Some, zero, suc, refl, sym, ap, arith}
+use Rattle.std.proofs.Common.{◌≡◌, ℕ, ◌<◌, ◌+◌, Bool, true, false, eqb, List, [], ◌∷◌, ◌++◌, length, get_or, set, Some, zero, suc, refl, sym, ap, arith, rules}
+use Rattle.std.specs.Prelude.{◌&&◌}
+use Rattle.std.proofs.lemmas.Bool.{false≢true}
+use Rattle.std.proofs.lemmas.Bool.Decides.{nat_tests}
+use Rattle.hub_envelope.specs.declared.envelope.Envelope.{Envelope}
 use Rattle.std.specs.List.{slice_get, AllByRecursion}
 
 pub slice_get-set_same : {A : Type 0} (xs : List A) (i : ℕ) (x : A) → i < length xs → slice_get (set xs i x) i ≡ Some x
@@ -37,3 +41,15 @@ pub slice_get-append_back : {A : Type 0} (xs ys : List A) (i k : ℕ) → i ≡ 
 slice_get-append_back [] ys i k h = let same : i ≡ k = omega arith in ap (slice_get ys) same
 slice_get-append_back (x ∷ xs) ys zero k h = absurd (omega arith)
 slice_get-append_back (x ∷ xs) ys (suc i) k h = slice_get-append_back xs ys i k (omega arith)
+
+pub eqb_same : (n : ℕ) → eqb n n ≡ true
+eqb_same n = search (rules, nat_tests)
+
+pub both_of : (a b : Bool) → (a && b) ≡ true → (a ≡ true) × (b ≡ true)
+both_of true b h = (refl, h)
+both_of false b h = absurd (false≢true h)
+
+-- the one queue of an end, written
+pub written : (queues : List (List Envelope)) (q : List Envelope) → length queues ≡ 1 → get_or (set queues 0 q) 0 [] ≡ q
+written [] q one = absurd (omega (arith, one))
+written (r ∷ rs) q one = refl

@@ -20,7 +20,7 @@ use Rattle.hub_core.specs.Sender.{count_in_queue}
 use Rattle.hub_core.specs.Making.{agent_answer, channel_answer}
 use Rattle.hub_core.specs.Shows.{ShowsLine, ShowsEnd, IsUnmade, ShowsAt, ShowsFacts}
 use Rattle.hub_core.specs.Kept.{kept_running, kept_agent_answer, agents_made, kept_channel_answer, ends_made, port_end}
-use Rattle.hub_core.proofs.Lists.{slice_get-append_front, slice_get-append_back}
+use Rattle.hub_core.proofs.Lists.{eqb_same, slice_get-append_front, slice_get-append_back}
 use Rattle.hub_core.proofs.Frames.{SameAt, at_framed, unchanged, shows_unchanged}
 use Rattle.hub_core.proofs.Holders.{runs_kept}
 
@@ -136,9 +136,6 @@ unmade_after f a n d after h =
       phase = λ l. rw (first, second) (h.phase l);
       stand = h.stand;
     }
-
-eqb_same : (n : ℕ) → eqb n n ≡ true
-eqb_same n = search (rules, nat_tests)
 
 -- the line of a new port
 new_line : (g : Facts) (d : ℕ) → ((l : ℕ) → g.phase d l ≡ Out) → ((l : ℕ) → g.stand d l ≡ 0) → g.accepted d ≡ [] → (l : ℕ) → ShowsLine g d l (slice_get (record { phase = Out; epoch = 0; put = 0 } ∷ []) l)

@@ -6,7 +6,6 @@ use Rattle.std.specs.List.{filter}
 use Rattle.std.proofs.lemmas.Bool.Decides.{nat_tests}
 use Rattle.std.proofs.lemmas.List.Elements.{filter-append}
 use Rattle.std.proofs.lemmas.List.{length-map, map-append, get_or_append_left, ext_get_or}
-use Rattle.std.proofs.lemmas.Bool.{false≢true}
 use Rattle.std.proofs.Math.Seq.{get_or-append_seam}
 use Rattle.hub_envelope.specs.declared.ids.AgentId.{AgentId}
 use Rattle.hub_envelope.specs.declared.limits.TheConstants.{MAX_PORTS}
@@ -29,6 +28,7 @@ use Rattle.hub_core.specs.Sender.{by, Prefix, count_in_queue}
 use Rattle.hub_core.specs.Posting.{holder, poster, is_inside, is_good, push_answer_of, push_answer}
 use Rattle.hub_core.specs.Taking.{IsNext, Serves, FitsTake}
 use Rattle.hub_core.specs.Headline.{up_to, numbers, Headline}
+use Rattle.hub_core.proofs.Lists.{both_of}
 use Rattle.hub_core.proofs.Nexts.{facts_next}
 use Rattle.hub_core.proofs.Legals.{by_pairs}
 
@@ -139,10 +139,6 @@ named_of f s ports refused n (Some a) h =
 push_named : (f : Facts) (s : Sender) (ports : List EndId) (refused : Bool) (n : Accepted) → outcome.Accepted n ≡ push_answer f s ports refused → n.number ≡ count_in_queue s.line.0 n.epoch (f.accepted s.end.0)
 push_named f s ports refused n h =
     named_of f s ports refused n (poster f s) (passed (is_inside (f.phase s.end.0 s.line.0)) (nat_lt MAX_PORTS (length ports)) n (push_answer_of f s ports refused (poster f s)) h)
-
-both_of : (a b : Bool) → (a && b) ≡ true → (a ≡ true) × (b ≡ true)
-both_of true b h = (refl, h)
-both_of false b h = absurd (false≢true h)
 
 numbered_end : (f : Facts) (v : Envelope) (line epoch : ℕ) (vs : List Envelope) → Numbered (numbers line epoch vs) → v.number ≡ count_in_queue v.line.0 v.epoch vs → (b : Bool) → (eqb v.line.0 line && eqb v.epoch epoch) ≡ b → Numbered (numbers line epoch (vs ++ v ∷ []))
 numbered_end f v line epoch vs old named true is =

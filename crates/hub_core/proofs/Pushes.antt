@@ -29,7 +29,7 @@ use Rattle.hub_core.specs.Place.{names}
 use Rattle.hub_core.specs.Posting.{is_out, is_inside, is_with, is_at, poster, own_poster_out, may_travel, is_distinct, is_good, push_answer_of, push_answer}
 use Rattle.hub_core.specs.Shows.{ShowsLine, Waits, ShowsEnd, ShowsAt, ShowsFacts}
 use Rattle.hub_core.specs.Kept.{kept_holder, line_is_out, kept_own_out, kept_end_may_travel, kept_may_travel, kept_good, kept_posting_by, kept_posting_line, kept_posting_at, kept_posting, push_outcome, put_end, PushLeaves, Moves}
-use Rattle.hub_core.proofs.Lists.{slice_get-set_same, slice_get-set_other, AllByRecursion-append, AllByRecursion-weaker}
+use Rattle.hub_core.proofs.Lists.{eqb_same, both_of, written, slice_get-set_same, slice_get-set_other, AllByRecursion-append, AllByRecursion-weaker}
 use Rattle.hub_core.proofs.Frames.{SameAt, waits_framed, shows_set, unchanged, shows_unchanged}
 use Rattle.hub_core.proofs.Holders.{holder_kept}
 use Rattle.hub_core.proofs.Moving.{with_place, shows_moved}
@@ -78,19 +78,11 @@ travels_at : (agents : List Agent) (ends : List End) (f : Facts) (a : AgentId) (
 travels_at agents ends f a s p h t None is at = absurd (let no : may_travel f a s p ≡ false = rw at.place refl in search (rules, false≢true, sym no ∙ t))
 travels_at agents ends f a s p h t (Some x) is at = let within : p.0 < length ends = slice_get_within ends p.0 x is in let count : f.ends ≡ length ends = h.ends in omega arith
 
-and_left : (a b : Bool) → (a && b) ≡ true → a ≡ true
-and_left true b h = refl
-and_left false b h = h
-
-and_right : (a b : Bool) → (a && b) ≡ true → b ≡ true
-and_right true b h = h
-and_right false b h = absurd (false≢true h)
-
 all_made : (agents : List Agent) (ends : List End) (f : Facts) (a : AgentId) (s : Sender) → ShowsFacts agents ends f → (ports : List EndId) → list_all (may_travel f a s) ports ≡ true → AllByRecursion (λ p. p.0 < f.ends) ports
 all_made agents ends f a s h [] t = tt
 all_made agents ends f a s h (p ∷ ps) t = (
-  travels_at agents ends f a s p h (and_left (may_travel f a s p) (list_all (may_travel f a s) ps) t) (slice_get ends p.0) refl (h.each p.0),
-  all_made agents ends f a s h ps (and_right (may_travel f a s p) (list_all (may_travel f a s) ps) t),
+  travels_at agents ends f a s p h ((both_of (may_travel f a s p) (list_all (may_travel f a s) ps) t).0) (slice_get ends p.0) refl (h.each p.0),
+  all_made agents ends f a s h ps ((both_of (may_travel f a s p) (list_all (may_travel f a s) ps) t).1),
 )
 
 -- ---- an envelope put on a line
@@ -98,9 +90,6 @@ all_made agents ends f a s h (p ∷ ps) t = (
 -- the facts with an envelope accepted at the end
 abbrev pub with_accepted : Facts → ℕ → Envelope → Facts
 with_accepted f e v = record f { accepted = λ x. f.accepted x ++ cond (eqb x e) (v ∷ []) []; taken = λ x. f.taken x ++ [] }
-
-eqb_same : (n : ℕ) → eqb n n ≡ true
-eqb_same n = search (rules, nat_tests)
 
 accepted_here : (f : Facts) (e : ℕ) (v : Envelope) → (with_accepted f e v).accepted e ≡ f.accepted e ++ v ∷ []
 accepted_here f e v = ap (λ b. f.accepted e ++ cond b (v ∷ []) []) (eqb_same e)
@@ -127,11 +116,6 @@ count_more l k vs v line epoch =
     ap length (filter-append (λ (u : Envelope). eqb u.line.0 l && eqb u.epoch k) vs (v ∷ []))
     ∙ length-append (filter (λ (u : Envelope). eqb u.line.0 l && eqb u.epoch k) vs) (filter (λ u. eqb u.line.0 l && eqb u.epoch k) (v ∷ []))
     ∙ ap (λ b. count_in_queue l k vs + length (cond b (v ∷ []) [])) mine
-
--- the queue that is written
-written : (queues : List (List Envelope)) (q : List Envelope) → length queues ≡ 1 → get_or (set queues 0 q) 0 [] ≡ q
-written [] q one = absurd (omega (arith, one))
-written (r ∷ rs) q one = refl
 
 queue_written : (queues : List (List Envelope)) (k : ℕ) (v : Envelope) → k ≡ 0 → length queues ≡ 1 → get_or (set queues k (get_or queues k [] ++ v ∷ [])) 0 [] ≡ get_or queues 0 [] ++ v ∷ []
 queue_written queues k v first one = rw first (written queues (get_or queues 0 [] ++ v ∷ []) one)
@@ -243,7 +227,7 @@ push_good agents ends new f s ports body true x y a o h at is line fine falls an
 push_good agents ends new f s ports body false x y a o h at is line fine falls answer leaves =
     let name : Accepted = record { agent = a; epoch = y.epoch; number = y.put } in
     let v : Envelope = named_envelope s name body ports.items in
-    let made = all_made agents ends f a s h ports.items (and_right (is_distinct ports.items) (list_all (may_travel f a s) ports.items) fine) in
+    let made = all_made agents ends f a s h ports.items (both_of (is_distinct ports.items) (list_all (may_travel f a s) ports.items) fine).1 in
     let moves : Moves ports.items InFlight (set ends s.end.0 (put_end x y v)) new = subst (λ q. IfSome q (λ z. Moves ports.items InFlight (set ends s.end.0 (put_end z y v)) new)) at leaves in
     record {
       answer = answer ∙ ap outcome.Accepted (name_kept f s a y line) ∙ sym (falls ∙ good f s ports.items false a fine);

@@ -16,6 +16,7 @@ use Rattle.hub_core.specs.Fits.{Answers, Fits}
 use Rattle.hub_core.specs.Legal.{LegalAfter, Same}
 use Rattle.hub_core.specs.Posting.{is_out, poster}
 use Rattle.hub_core.specs.Unchanged.{changes_nothing}
+use Rattle.hub_core.proofs.Lists.{both_of}
 use Rattle.hub_core.proofs.Nexts.{facts_next}
 use Rattle.hub_core.proofs.Frames.{unchanged, unchanged_same}
 
@@ -99,10 +100,6 @@ out_of Turned h = absurd (false≢true h)
 line_again : (s : Sender) (p q : Phase) (x l : ℕ) → (b : Bool) → (b ≡ true → q ≡ Out) → cond b Out (cond b p q) ≡ q
 line_again s p q x l true h = sym (h refl)
 line_again s p q x l false h = refl
-
-both_of : (a b : Bool) → (a && b) ≡ true → (a ≡ true) × (b ≡ true)
-both_of true b h = (refl, h)
-both_of false b h = absurd (false≢true h)
 
 line_was_out : (f : Facts) (s : Sender) (x l : ℕ) → f.phase s.end.0 s.line.0 ≡ Out → (eqb x s.end.0 && eqb l s.line.0) ≡ true → f.phase x l ≡ Out
 line_was_out f s x l out h =

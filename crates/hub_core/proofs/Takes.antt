@@ -26,7 +26,7 @@ use Rattle.hub_core.specs.Posting.{holder, running_at}
 use Rattle.hub_core.specs.Taking.{start_answer, IsNext, IsDrained, Serves, FitsTake}
 use Rattle.hub_core.specs.Shows.{ShowsLine, Waits, ShowsEnd, ShowsAt, ShowsFacts}
 use Rattle.hub_core.specs.Kept.{kept_holder, start_outcome, start_ends, TakeServes, TakeHeld, TakeLeaves, Moves}
-use Rattle.hub_core.proofs.Lists.{set_again, AllByRecursion-weaker}
+use Rattle.hub_core.proofs.Lists.{eqb_same, written, set_again, AllByRecursion-weaker}
 use Rattle.hub_core.proofs.Frames.{SameAt, waits_framed, shows_set, unchanged, shows_unchanged}
 use Rattle.hub_core.proofs.Holders.{holder_kept}
 use Rattle.hub_core.proofs.Moving.{with_place, shows_moved}
@@ -42,9 +42,6 @@ start_refused agents ends f e h opened none = record { answer = rw (opened, none
 -- the facts with the end enabled
 abbrev pub with_enabled : Facts → ℕ → Facts
 with_enabled f e = record f { enabled = λ x. cond (eqb x e) true (f.enabled x); accepted = λ x. f.accepted x ++ []; taken = λ x. f.taken x ++ [] }
-
-eqb_same : (n : ℕ) → eqb n n ≡ true
-eqb_same n = search (rules, nat_tests)
 
 -- a line of which nothing has changed but how its end's list is written
 at_line : (f g : Facts) (e l : ℕ) → g.accepted e ≡ f.accepted e → g.phase e l ≡ f.phase e l → g.stand e l ≡ f.stand e l → (o : Option Line) → ShowsLine f e l o → ShowsLine g e l o
@@ -105,10 +102,6 @@ pub record TakeShown (agents : List Agent) (f : Facts) (e : EndId) (o : Outcome)
 -- the facts with an envelope taken at the end
 abbrev pub with_taken : Facts → EndId → Envelope → Facts
 with_taken f e v = record f { accepted = λ x. f.accepted x ++ []; taken = λ x. f.taken x ++ cond (eqb x e.0) (v ∷ []) [] }
-
-written : (queues : List (List Envelope)) (rest : List Envelope) → length queues ≡ 1 → get_or (set queues 0 rest) 0 [] ≡ rest
-written [] rest one = absurd (omega (arith, one))
-written (q ∷ qs) rest one = refl
 
 -- the queue that is written
 queue_written : (queues : List (List Envelope)) (k : ℕ) (rest : List Envelope) → k ≡ 0 → length queues ≡ 1 → get_or (set queues k rest) 0 [] ≡ rest

@@ -20,3 +20,5 @@ pub mod Unchanged
 pub mod Headline
 pub mod Laws
 pub mod QueueMachine
+pub mod GateMachine
+pub mod MailboxMachine

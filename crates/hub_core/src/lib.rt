@@ -22,7 +22,7 @@ mod taking;
 mod tests;
 
 pub use hub_envelope::MAX_PORTS;
-pub use laws::{history_laws, queue_laws};
+pub use laws::{history_laws, mailbox_laws, queue_laws};
 pub use limits::{MAX_AGENTS, MAX_ENDS};
 pub use machine::Core;
 pub use outcome::{Accepted, OutOfMemory, Outcome};
