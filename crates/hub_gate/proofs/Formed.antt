@@ -1,0 +1,82 @@
+-- What holds of each state that the gate machine reaches.
+use Rattle.std.proofs.Common.{◌≡◌, ℕ, ◌||◌, Bool, true, false, true≢false, List, length, set, refl, sym, ap, ◌∙◌, subst, ⊎_elim, arith, length-set, Option, Some, None}
+use Rattle.std.specs.Prelude.{slice_get}
+use Rattle.hub_core.specs.declared.line.Phase.{Phase}
+use Rattle.hub_core.specs.declared.line.Phase.TheVariants.{Out, Inside, Turned}
+use Rattle.hub_core.specs.GateMachine.{Gate, opened, is_shut, Steps, finds_moved, finds_closed, goes_in, goes_out, turns_back, enables, retires, closes, gave, is_open, is_busy, gives, Reached, opens, goes_on}
+use Rattle.hub_gate.proofs.Got.{got_within, got_there, got_set, got_here, got_else, got-map, got_of-map, len-map}
+
+abbrev pub is_inside : Phase → Bool
+is_inside Out = false
+is_inside Inside = true
+is_inside Turned = false
+
+-- a line that isn't inside has its right at home until all are collected, which they are only in a gate that is moved or closed
+pub record IsFormed {R : Type 0} (owns : ℕ → R → Type 0) (g : Gate R) : Type 0 where
+  pub same : length g.homes ≡ length g.phases
+  pub home : g.collected ≡ false → (l : ℕ) (p : Phase) → slice_get g.phases l ≡ Some p → is_inside p ≡ false → (r : R) × (slice_get g.homes l ≡ Some (Some r)) × owns l r
+  pub shut : g.collected ≡ true → is_shut g ≡ true
+
+or_right : (a : Bool) → (a || true) ≡ true
+or_right true = refl
+or_right false = refl
+
+module _ {R : Type 0} (owns : ℕ → R → Type 0) where
+  at_first : (rights : List R) → ((l : ℕ) (r : R) → slice_get rights l ≡ Some r → owns l r) → IsFormed owns (opened rights)
+  at_first rights own = record {
+    same = len-map Some rights ∙ sym (len-map (λ (r : R). Out) rights);
+    home = λ c l p there out. let was = got_of-map (λ (r : R). Out) rights l p there in (was.0, got-map Some rights l was.0 was.1, own l was.0 was.1);
+    shut = λ c. absurd (true≢false (sym c));
+  }
+
+  module _ (g : Gate R) (formed : IsFormed owns g) where
+    -- the line goes from a phase to another, and isn't inside in either
+    stays_out : (l : ℕ) (q w : Phase) → slice_get g.phases l ≡ Some q → is_inside q ≡ false → g.collected ≡ false → (k : ℕ) (p : Phase) → slice_get (set g.phases l w) k ≡ Some p → is_inside p ≡ false → (r : R) × (slice_get g.homes k ≡ Some (Some r)) × owns k r
+    stays_out l q w at not_in c k p there out = ⊎_elim
+        (λ mine. formed.home c k q (subst (λ (i : ℕ). slice_get g.phases i ≡ Some q) (sym mine.0) at) not_in)
+        (λ other. formed.home c k p other.1 out)
+        (got_set g.phases l k w p there)
+
+    -- the slot of a line is there
+    there_again : (l : ℕ) (r : R) → slice_get g.phases l ≡ Some Inside → slice_get (set g.homes l (Some r)) l ≡ Some (Some r)
+    there_again l r at =
+        let low = got_within g.phases l Inside at in
+        let same = formed.same in
+        let was = got_there g.homes l (omega arith) in
+        got_here g.homes l (Some r) was.0 was.1
+
+    steps : (g' : Gate R) {event : _} {answer : _} → Steps owns g event answer g' → IsFormed owns g'
+    steps g' (finds_moved l at m) = record { same = formed.same ∙ sym (length-set g.phases l Turned); home = stays_out l Out Turned at refl; shut = formed.shut }
+    steps g' (finds_closed l at m c) = record { same = formed.same ∙ sym (length-set g.phases l Turned); home = stays_out l Out Turned at refl; shut = formed.shut }
+    steps g' (goes_in l r at m c there) = record {
+      same = length-set g.homes l None ∙ formed.same ∙ sym (length-set g.phases l Inside);
+      home = λ open_yet k p now out. ⊎_elim
+          (λ mine. absurd (true≢false (ap is_inside mine.1 ∙ out)))
+          (λ other. let was = formed.home open_yet k p other.1 out in (was.0, got_else g.homes l k None other.0 ∙ was.1, was.2))
+          (got_set g.phases l k Inside p now);
+      shut = formed.shut;
+    }
+    steps g' (goes_out l r at own) = record {
+      same = length-set g.homes l (Some r) ∙ formed.same ∙ sym (length-set g.phases l Out);
+      home = λ c k p now out. ⊎_elim
+          (λ mine. (r, subst (λ (i : ℕ). slice_get (set g.homes l (Some r)) i ≡ Some (Some r)) (sym mine.0) (there_again l r at), subst (λ (i : ℕ). owns i r) (sym mine.0) own))
+          (λ other. let was = formed.home c k p other.1 out in (was.0, got_else g.homes l k (Some r) other.0 ∙ was.1, was.2))
+          (got_set g.phases l k Out p now);
+      shut = formed.shut;
+    }
+    steps g' (turns_back l at) = record { same = formed.same ∙ sym (length-set g.phases l Out); home = stays_out l Turned Out at refl; shut = formed.shut }
+    steps g' enables = record { same = formed.same; home = formed.home; shut = formed.shut }
+    steps g' retires = record { same = formed.same; home = formed.home; shut = λ c. refl }
+    steps g' closes = record { same = formed.same; home = formed.home; shut = λ c. or_right g.moved }
+    steps g' (gave c) = formed
+    steps g' (is_open c s) = formed
+    steps g' (is_busy c s b) = formed
+    steps g' (gives rights c s b h) = record {
+      same = len-map (λ (h : Option R). None) g.homes ∙ formed.same;
+      home = λ c' l p there out. absurd (true≢false c');
+      shut = λ c'. s;
+    }
+
+  pub formed : (g : Gate R) → Reached owns g → IsFormed owns g
+  formed g (opens rights own) = at_first rights own
+  formed g (goes_on before g' event answer reached step) = steps before (formed before reached) g' step

@@ -1,0 +1,11 @@
+pub mod Emptying
+pub mod Filling
+pub mod Flags
+pub mod Formed
+pub mod Got
+pub mod Lines
+pub mod Looking
+pub mod Opening
+pub mod Seats
+pub mod Takings
+pub mod Words

@@ -1,0 +1,80 @@
+-- What the other seats know stays so while one seat makes a step.
+use Rattle.std.proofs.Common.{◌≡◌, ◌≢◌, ◌⊎◌, ℕ, zero, suc, ◌+◌, ◌<◌, Bool, true, false, true≢false, List, [], ◌∷◌, ◌++◌, length, set, refl, sym, ap, ◌∙◌, inl, inr, ⊎_elim, arith, Option}
+use Rattle.std.specs.Prelude.{slice_get}
+use mathlib.Core.Option.{some, some-injective, some-ne-none}
+use lib.ListN.{get_elem?}
+use Rattle.atomic_table.specs.Table.{State}
+use Rattle.hub_core.specs.declared.line.Phase.{Phase}
+use Rattle.hub_core.specs.GateMachine as machine
+use Rattle.hub_gate.specs.declared.view.View.{View}
+use Rattle.hub_gate.specs.declared.view.View.TheVariants.{Fresh, Filling, Keeping, LineOut, LineInside, LineTurned}
+use Rattle.hub_gate.specs.GateRule.{Tags, Knows, Shows, IsGate}
+use Rattle.hub_gate.proofs.Got.{got_else}
+
+abbrev pub is_opening : View → Bool
+is_opening (Fresh t) = true
+is_opening (Filling t) = true
+is_opening (Keeping k) = false
+is_opening (LineOut v) = false
+is_opening (LineInside v) = false
+is_opening (LineTurned v) = false
+
+-- who is at the only seat
+pub one_seat : (a v : View) (l : List View) (id : ℕ) → l ≡ a ∷ [] → get_elem? l id ≡ some v → (id ≡ 0) × (a ≡ v)
+one_seat a v l id is at = only id (sym (ap (λ (k : List View). get_elem? k id) is) ∙ at)
+  where
+    only : (id : ℕ) → get_elem? (a ∷ []) id ≡ some v → (id ≡ 0) × (a ≡ v)
+    only zero e = (refl, some-injective a v e)
+    only (suc id) e = absurd (some-ne-none v (sym e))
+
+pub at_within : {A : Type 0} (l : List A) (i : ℕ) (a : A) → get_elem? l i ≡ some a → i < length l
+at_within [] i a e = absurd (some-ne-none a (sym e))
+at_within (x ∷ xs) zero a e = omega arith
+at_within (x ∷ xs) (suc i) a e = let h = at_within xs i a e in omega arith
+
+-- what stands in a list with one more at its end
+pub at_end : {A : Type 0} (l : List A) (a b : A) (j : ℕ) → get_elem? (l ++ a ∷ []) j ≡ some b → (get_elem? l j ≡ some b) ⊎ ((j ≡ length l) × (a ≡ b))
+at_end [] a b zero e = inr (refl, some-injective a b e)
+at_end [] a b (suc j) e = absurd (some-ne-none b (sym e))
+at_end (x ∷ xs) a b zero e = inl e
+at_end (x ∷ xs) a b (suc j) e = ⊎_elim (λ t. inl t) (λ t. inr (ap suc t.0, t.1)) (at_end xs a b j e)
+
+module _ {T : Type 0} where
+  -- a gate at which a line or the keeper has a seat is open
+  pub shown_where : (tag : T → List ℕ) (s : State (Option T) View) (id : ℕ) (v : View) → is_opening v ≡ false → get_elem? s.views id ≡ some v → IsGate tag s → Shows tag s
+  shown_where tag s id v not_new at (inr shown) = shown
+  shown_where tag s id v not_new at (inl new) = ⊎_elim
+      (λ here. let other = (one_seat (Fresh new.0) v s.views id here.0 at).1 in absurd (true≢false (ap is_opening other ∙ not_new)))
+      (λ filled. let other = (one_seat (Filling new.0) v s.views id filled at).1 in absurd (true≢false (ap is_opening other ∙ not_new)))
+      new.2
+
+  -- a line's seat doesn't look at the keeper's flags, nor at how many seats there are
+  pub lines_stay : (tags : Tags) (g : machine.Gate T) (g' : machine.Gate T) → g'.phases ≡ g.phases → (seats seats' seat : ℕ) (v : View) → seat ≢ 0 → Knows tags g seats seat v → Knows tags g' seats' seat v
+  lines_stay tags g g' same seats seats' seat (Fresh t) ne k = k
+  lines_stay tags g g' same seats seats' seat (Filling t) ne k = k
+  lines_stay tags g g' same seats seats' seat (Keeping u) ne k = let z = k.stands in absurd (ne z)
+  lines_stay tags g g' same seats seats' seat (LineOut u) ne k = record { stands = k.stands; at = ap (λ (p : List Phase). slice_get p u.line) same ∙ k.at; tag = k.tag }
+  lines_stay tags g g' same seats seats' seat (LineInside u) ne k = record { stands = k.stands; at = ap (λ (p : List Phase). slice_get p u.line) same ∙ k.at; tag = k.tag }
+  lines_stay tags g g' same seats seats' seat (LineTurned u) ne k = record { stands = k.stands; at = ap (λ (p : List Phase). slice_get p u.line) same ∙ k.at; tag = k.tag }
+
+  -- the gate after a step of the line l
+  abbrev pub after : machine.Gate T → ℕ → Phase → List (Option T) → machine.Gate T
+  after g l p homes = record { enabled = g.enabled; moved = g.moved; closed = g.closed; phases = set g.phases l p; homes = homes; collected = g.collected }
+
+  -- another line's seat, and the keeper's, know what they knew
+  pub others_stay : (tags : Tags) (g : machine.Gate T) (l : ℕ) (p : Phase) (homes : List (Option T)) (seats seat : ℕ) (v : View) → seat ≢ l + 1 → l + 1 < seats → Knows tags g seats seat v → Knows tags (after g l p homes) seats seat v
+  others_stay tags g l p homes seats seat (Fresh t) ne low k = k
+  others_stay tags g l p homes seats seat (Filling t) ne low k = k
+  others_stay tags g l p homes seats seat (Keeping u) ne low k = record {
+    stands = k.stands;
+    tags = k.tags;
+    next = k.next;
+    later = λ m from to. got_else g.phases l m p (λ e. let n = k.next in absurd (omega arith)) ∙ k.later m from to;
+    enabled = k.enabled;
+    moved = k.moved;
+    closed = k.closed;
+    collected = k.collected;
+  }
+  others_stay tags g l p homes seats seat (LineOut u) ne low k = record { stands = k.stands; at = got_else g.phases l u.line p (λ e. let z = k.stands in ne (z ∙ ap (λ (i : ℕ). i + 1) e)) ∙ k.at; tag = k.tag }
+  others_stay tags g l p homes seats seat (LineInside u) ne low k = record { stands = k.stands; at = got_else g.phases l u.line p (λ e. let z = k.stands in ne (z ∙ ap (λ (i : ℕ). i + 1) e)) ∙ k.at; tag = k.tag }
+  others_stay tags g l p homes seats seat (LineTurned u) ne low k = record { stands = k.stands; at = got_else g.phases l u.line p (λ e. let z = k.stands in ne (z ∙ ap (λ (i : ℕ). i + 1) e)) ∙ k.at; tag = k.tag }

@@ -1,0 +1,119 @@
+-- What each step on a gate's word tells the seat that makes it.
+use Rattle.std.specs.Prelude.{◌≡◌, ℕ, ◌+◌, ◌<◌, ◌≤◌, ◌==◌, ◌||◌, Bool, true, List, [], ◌∷◌, map, replicate, length, Option, Some, None, MatchBool}
+use Rattle.atomic_table.specs.Table.{Me, Step}
+use Rattle.hub_gate.specs.declared.view.View.{View}
+use Rattle.hub_gate.specs.declared.view.View.TheVariants.{Fresh, Filling, Keeping, LineOut, LineInside, LineTurned}
+use Rattle.hub_gate.specs.declared.view.LineView.{LineView}
+use Rattle.hub_gate.specs.declared.view.KeeperView.{KeeperView}
+use Rattle.hub_gate.specs.declared.entered.Refusal.{Refusal}
+use Rattle.hub_gate.specs.declared.entered.Refusal.TheVariants.{Moved, Closed}
+use Rattle.hub_core.specs.GateMachine as machine
+use Rattle.hub_gate.specs.GateRule.{Tags, keeper_at, Owns}
+use Rattle.hub_gate.specs.GateSeats.{line_in, keeper_in}
+use Rattle.hub_gate.specs.Taking.{numbered}
+
+-- the tags of a gate that is not open yet
+abbrev pub tags_in : View → Tags
+tags_in (Fresh tags) = tags
+tags_in (Filling tags) = tags
+tags_in (Keeping k) = []
+tags_in (LineOut v) = []
+tags_in (LineInside v) = []
+tags_in (LineTurned v) = []
+
+module _ {T : Type 0} where
+  -- the first seat has all slots, with no right in any
+  abbrev pub Gathers : Step (Option T) → Me (Option T) View → ℕ → Me (Option T) View → Type 0
+  Gathers step before found after = after ≡ (Filling (tags_in before.0), numbered 0 (replicate (length (tags_in before.0)) None))
+
+  -- it is the keeper's, and has no slot in hand
+  abbrev pub Opens : Step (Option T) → Me (Option T) View → ℕ → Me (Option T) View → Type 0
+  Opens step before found after = after ≡ (Keeping (keeper_at (tags_in before.0) 0), [])
+
+-- the view of a line that has added itself to the word, and the flag that turned it
+abbrev pub entered_line : LineView → Option Refusal → LineView
+entered_line v refusal = record { line = v.line; tag = v.tag; enters = v.enters + 1; leaves = v.leaves; refusal = refusal; enabled = v.enabled }
+
+-- the view of a line that has taken itself off the word and found this flag ENABLED
+abbrev pub left_line : LineView → Bool → LineView
+left_line v enabled = record { line = v.line; tag = v.tag; enters = v.enters; leaves = v.leaves + 1; refusal = v.refusal; enabled = enabled }
+
+-- the view of a line that has turned back
+abbrev pub turned_line : LineView → LineView
+turned_line v = left_line v v.enabled
+
+-- at one moment the gate's word was this one, and the gate machine took this one step
+pub record Happens {T : Type 0} (tag : T → List ℕ) (word : ℕ) (event : machine.Event T) (answer : machine.Answer T) : Type 0 where
+  pub tags : Tags
+  pub before : machine.Gate T
+  pub after : machine.Gate T
+  pub reached : machine.Reached (Owns tag tags) before
+  pub found : word ≡ machine.word before
+  pub step : machine.Steps (Owns tag tags) before event answer after
+
+module _ {T : Type 0} (tag : T → List ℕ) where
+  -- the line is being turned back, by this flag
+  abbrev pub IsTurned : LineView → Refusal → machine.Answer T → ℕ → Me (Option T) View → Type 0
+  IsTurned v refusal answer found after = Happens tag found (machine.enter v.line) answer × (after ≡ (LineTurned (entered_line v (Some refusal)), []))
+
+  -- the line is inside, with its right
+  abbrev pub IsIn : LineView → ℕ → Me (Option T) View → Type 0
+  IsIn v found after = (right : T) × Happens tag found (machine.enter v.line) (machine.lets_in right) × (tag right ≡ v.tag) × (after ≡ (LineInside (entered_line v None), (v.line, Some right) ∷ []))
+
+  -- moved comes before closed, and where the word has neither flag the line is inside
+  abbrev pub Enters : Step (Option T) → Me (Option T) View → ℕ → Me (Option T) View → Type 0
+  Enters step before found after = MatchBool (machine.moved_in found) (IsTurned (line_in before.0) Moved machine.says_moved found after)
+      (MatchBool (machine.closed_in found) (IsTurned (line_in before.0) Closed machine.says_closed found after) (IsIn (line_in before.0) found after))
+
+  -- the line is out, and its right is at home
+  abbrev pub Leaves : Step (Option T) → Me (Option T) View → ℕ → Me (Option T) View → Type 0
+  Leaves step before found after = (after ≡ (LineOut (left_line (line_in before.0) (machine.enabled_in found)), []))
+      × ((right : T) → before.1 ≡ ((line_in before.0).line, Some right) ∷ [] → Happens tag found (machine.leave (line_in before.0).line right) (machine.lets_out (machine.enabled_in found)))
+
+  -- the line is out again
+  abbrev pub TurnsBack : Step (Option T) → Me (Option T) View → ℕ → Me (Option T) View → Type 0
+  TurnsBack step before found after = (after ≡ (LineOut (turned_line (line_in before.0)), [])) × Happens tag found (machine.turn_back (line_in before.0).line) machine.says_done
+
+-- the keeper's view after it has set a flag once more
+abbrev pub enabled_keeper : KeeperView → KeeperView
+enabled_keeper k = record { tags = k.tags; next = k.next; enables = k.enables + 1; retires = k.retires; closes = k.closes; looks = k.looks; found = k.found; collected = k.collected }
+
+abbrev pub retired_keeper : KeeperView → KeeperView
+retired_keeper k = record { tags = k.tags; next = k.next; enables = k.enables; retires = k.retires + 1; closes = k.closes; looks = k.looks; found = k.found; collected = k.collected }
+
+abbrev pub closed_keeper : KeeperView → KeeperView
+closed_keeper k = record { tags = k.tags; next = k.next; enables = k.enables; retires = k.retires; closes = k.closes + 1; looks = k.looks; found = k.found; collected = k.collected }
+
+module _ {T : Type 0} (tag : T → List ℕ) where
+  -- the keeper's flag is set once more
+  abbrev pub Enables : Step (Option T) → Me (Option T) View → ℕ → Me (Option T) View → Type 0
+  Enables step before found after = (after ≡ (Keeping (enabled_keeper (keeper_in before.0)), before.1)) × Happens tag found machine.enable machine.says_done
+
+  abbrev pub Retires : Step (Option T) → Me (Option T) View → ℕ → Me (Option T) View → Type 0
+  Retires step before found after = (after ≡ (Keeping (retired_keeper (keeper_in before.0)), before.1)) × Happens tag found machine.retire machine.says_done
+
+  abbrev pub Closes : Step (Option T) → Me (Option T) View → ℕ → Me (Option T) View → Type 0
+  Closes step before found after = (after ≡ (Keeping (closed_keeper (keeper_in before.0)), before.1)) × Happens tag found machine.close machine.says_done
+
+-- the keeper's view after a look that found this word
+abbrev pub looked_keeper : KeeperView → ℕ → Bool → KeeperView
+looked_keeper k found collected = record { tags = k.tags; next = k.next; enables = k.enables; retires = k.retires; closes = k.closes; looks = k.looks + 1; found = machine.count_in found; collected = collected }
+
+module _ {T : Type 0} (tag : T → List ℕ) where
+  -- the look gives no right
+  abbrev pub IsSeen : KeeperView → List (ℕ × Option T) → machine.Answer T → ℕ → Me (Option T) View → Type 0
+  IsSeen k carried answer found after = Happens tag found machine.look answer × (after ≡ (Keeping (looked_keeper k found k.collected), carried))
+
+  -- the keeper has all rights, in the order of the lines
+  abbrev pub IsGiven : KeeperView → ℕ → Me (Option T) View → Type 0
+  IsGiven k found after = (rights : List T) × Happens tag found machine.look (machine.gives_rights rights) × (map tag rights ≡ k.tags) × (after ≡ (Keeping (looked_keeper k found true), numbered 0 (map Some rights)))
+
+  -- the look of a keeper that has no right yet
+  abbrev pub LooksAt : KeeperView → List (ℕ × Option T) → ℕ → Me (Option T) View → Type 0
+  LooksAt k carried found after = MatchBool (machine.moved_in found || machine.closed_in found)
+      (MatchBool (machine.count_in found == 0) (IsGiven k found after) ((0 < machine.count_in found) × (machine.count_in found ≤ 16) × IsSeen k carried (machine.says_inside (machine.count_in found)) found after))
+      (IsSeen k carried machine.says_open found after)
+
+  -- where the rights were given the look says so; else it says that the gate is neither moved nor closed, or how many lines are inside or being turned back, or gives all rights
+  abbrev pub Looks : Step (Option T) → Me (Option T) View → ℕ → Me (Option T) View → Type 0
+  Looks step before found after = MatchBool (keeper_in before.0).collected (IsSeen (keeper_in before.0) before.1 machine.says_given found after) (LooksAt (keeper_in before.0) before.1 found after)

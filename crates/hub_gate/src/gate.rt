@@ -1,0 +1,151 @@
+ghost use Rattle.std.specs.Prelude.{◌≡◌, ◌≤◌, ◌<◌, [], None, Some, map, replicate, length, vec_capacity, nat_lt, nat_le, ◌&&◌, if◌then◌else◌, IfOk, IfErr};
+ghost use Rattle.std.specs.Arc.{arc_value};
+ghost use Rattle.hub_gate.specs.declared.view.View.TheVariants.{Fresh, Keeping};
+ghost use Rattle.hub_gate.specs.GateRule.{keeper_at};
+ghost use Rattle.hub_gate.specs.GateSeats.{AllSame, IsOpened, first_entries, keeper_in};
+ghost use Rattle.hub_gate.specs.Taking.{numbered};
+
+use crate::entry::Entry;
+use crate::gate_error::GateError;
+use crate::gate_table::{GateSeat, GateSteps, GateTable, NextLine};
+use crate::keeper::Keeper;
+use crate::limits::MAX_LINES;
+use crate::plays::{Gather, Open};
+use crate::right::Right;
+use std::alloc::{AllocError, Global};
+use std::marker::PhantomData;
+use std::snapshot::Snapshot;
+use std::sync::Arc;
+
+/// A gate for rights of one type. `Gate::<T>::open` makes one; its parts are the keeper and the entries.
+pub struct Gate<T: Right> {
+    rights: PhantomData<T>,
+}
+
+// All the memory of a gate, and its first seat.
+struct Reserved<T: Right> {
+    table: Arc<GateTable<T>>,
+    seat: GateSeat<T>,
+    shares: Vec<Arc<GateTable<T>>>,
+    entries: Vec<Entry<T>>,
+    rights: Vec<T>,
+}
+
+// Asks for all the memory that a gate with these rights needs.
+fn reserve_for<T: Right>(alloc: Global, rights: &Vec<T>) -> Result<Reserved<T>, AllocError>
+    ensures table { IfOk result (λ g. ((arc_value g.table).shared.table_id.words ≡ 1) × ((arc_value g.table).shared.table_id.slots ≡ length rights.now.items)) }
+    ensures seat { IfOk result (λ g. (g.seat.table_id ≡ (arc_value g.table).shared.table_id) × (g.seat.me ≡ (Fresh (map T.tag rights.now.items), []))) }
+    ensures shares { IfOk result (λ g. (length g.shares.items ≡ length rights.now.items) × AllSame arc_value (arc_value g.table) g.shares.items) }
+    ensures lists { IfOk result (λ g. (g.entries.items ≡ []) × (g.rights.items ≡ []) × (length rights.now.items ≤ vec_capacity g.entries) × (length rights.now.items ≤ vec_capacity g.rights)) }
+{
+    let count = rights.len();
+    let about = Snapshot::of(rights);
+    let entries = Vec::with_capacity(alloc, count)?;
+    let room = Vec::with_capacity(alloc, count)?;
+    let mut shares = Vec::with_capacity(alloc, count)?;
+    let (table, seat) = GateTable::<T>::vacant(alloc, &[0], count, &about)?;
+    let table = Arc::new(alloc, table)?;
+    for _ in 0..count {
+        shares.push(Arc::try_clone(&table)?)?;
+    }
+    Ok(Reserved {
+        table,
+        seat,
+        shares,
+        entries,
+        rights: room,
+    })
+}
+
+// Puts each right in the slot of its line. The seat has all slots in hand, in order.
+fn fill<T: Right>(slots: &GateSteps<T>, seat: &mut GateSeat<T>, mut rights: Vec<T>)
+    requires here { seat.old.table_id ≡ slots.now.table_id }
+    requires held { seat.old.me.1 ≡ numbered 0 (replicate (length rights.items) None) }
+    ensures stays { (seat.new.table_id ≡ seat.old.table_id) × (seat.new.id ≡ seat.old.id) }
+    ensures filled { seat.new.me ≡ (seat.old.me.0, numbered 0 (map Some rights.items)) }
+{
+    rights.reverse();
+    for line in 0..rights.len() {
+        let right = rights.pop().unwrap();
+        slots.exchange(seat, line, Some(right));
+        seat.turn();
+    }
+}
+
+// The first seat of a table puts each right in its slot, and is the keeper's.
+fn put_home<T: Right>(slots: &GateSteps<T>, seat: &mut GateSeat<T>, rights: Vec<T>)
+    requires table { (slots.now.table_id.words ≡ 1) × (slots.now.table_id.slots ≡ length rights.items) × (seat.old.table_id ≡ slots.now.table_id) }
+    requires fresh { seat.old.me ≡ (Fresh (map T.tag rights.items), []) }
+    requires few { length rights.items ≤ 16 }
+    ensures keeper { seat.new.me ≡ (Keeping (keeper_at (map T.tag rights.items) 0), []) }
+    ensures stays { seat.new.table_id ≡ seat.old.table_id }
+{
+    slots.load::<Gather>(seat, 0);
+    fill(slots, seat, rights);
+    slots.load::<Open>(seat, 0);
+}
+
+// Cuts off a seat for each line, in order.
+fn seat_lines<T: Right>(
+    table: &Arc<GateTable<T>>,
+    seat: &mut GateSeat<T>,
+    mut shares: Vec<Arc<GateTable<T>>>,
+    entries: &mut Vec<Entry<T>>,
+)
+    requires table { ((arc_value table.now).shared.table_id.words ≡ 1) × (seat.old.table_id ≡ (arc_value table.now).shared.table_id) × (length shares.items ≡ length (keeper_in seat.old.me.0).tags) }
+    requires keeper { seat.old.me ≡ (Keeping (keeper_at (keeper_in seat.old.me.0).tags 0), []) }
+    requires same { AllSame arc_value (arc_value table.now) shares.items }
+    requires room { (entries.old.items ≡ []) × (length shares.items ≤ vec_capacity entries.old) }
+    ensures keeper { let tags = (keeper_in seat.old.me.0).tags in seat.new.me ≡ (Keeping (keeper_at tags (length tags)), []) }
+    ensures entries { let tags = (keeper_in seat.old.me.0).tags in entries.new.items ≡ first_entries seat.old.table_id tags (length tags) }
+    ensures stays { seat.new.table_id ≡ seat.old.table_id }
+{
+    for line in 0..shares.len() {
+        let share = shares.pop().unwrap();
+        let own = table.shared.split_seat::<NextLine>(seat);
+        entries.push_reserved(Entry {
+            table: share,
+            seat: own,
+            line,
+        });
+    }
+}
+
+impl<T: Right> Gate<T> {
+    /// Opens a gate with a line for each right, from 1 to `MAX_LINES`: no flag is set, nobody is
+    /// inside, and each right is at home. After an error the rights are as they were: `BadCount`
+    /// where there are too few or too many, else `OutOfMemory` where memory was refused.
+    pub fn open(
+        alloc: Global,
+        rights: Vec<T>,
+    ) -> Result<(Keeper<T>, Vec<Entry<T>>), (GateError, Vec<T>)>
+        ensures opened { IfOk result (λ gate. IsOpened (map T.tag rights.items) gate.0 gate.1.items) }
+        ensures given_back { IfErr result (λ e. e.1.items ≡ rights.items) }
+        ensures refused { IfErr result (λ e. e.0 ≡ (if nat_lt 0 (length rights.items) && nat_le (length rights.items) MAX_LINES then GateError.OutOfMemory else GateError.BadCount)) }
+        ensures count { IfOk result (λ _. (0 < length rights.items) × (length rights.items ≤ MAX_LINES)) }
+    {
+        let count = rights.len();
+        if count == 0 || count > MAX_LINES {
+            return Err((GateError::BadCount, rights));
+        }
+        let Ok(reserved) = reserve_for(alloc, &rights) else {
+            return Err((GateError::OutOfMemory, rights));
+        };
+        let Reserved {
+            table,
+            mut seat,
+            shares,
+            mut entries,
+            rights: room,
+        } = reserved;
+        put_home(&table.shared, &mut seat, rights);
+        seat_lines(&table, &mut seat, shares, &mut entries);
+        let keeper = Keeper {
+            table,
+            seat,
+            enabled: false,
+            rights: Some(room),
+        };
+        Ok((keeper, entries))
+    }
+}

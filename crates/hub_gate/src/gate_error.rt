@@ -1,0 +1,12 @@
+use thiserror::Error;
+
+/// Why no gate was opened. The rights come back with it.
+#[derive(Clone, Copy, Debug, PartialEq, Eq, Hash, Drop, Error)]
+pub enum GateError {
+    /// There was no right, or more than `MAX_LINES`.
+    #[error("a gate has 1 to 16 lines")]
+    BadCount,
+    /// Memory was really refused.
+    #[error("out of memory")]
+    OutOfMemory,
+}

@@ -1,0 +1,66 @@
+ghost use Rattle.std.specs.Prelude.{◌≡◌, ℕ};
+
+use crate::entry::Entry;
+use crate::gate_table::{GateSeat, GateTable};
+use crate::plays::Leave;
+use crate::right::Right;
+use crate::word::{ONE_LINE, enabled_in};
+use std::marker::Model;
+use std::sync::Arc;
+
+/// A line that is inside its gate, with its right. It can't be dropped: it has to leave.
+pub struct Inside<T: Right> {
+    pub(crate) table: Arc<GateTable<T>>,
+    pub(crate) seat: GateSeat<T>,
+    pub(crate) line: usize,
+    pub(crate) right: T,
+}
+
+impl<T: Right> Model for Inside<T> {
+    ghost use Rattle.std.specs.Prelude.{◌≡◌, [], ◌∷◌, None};
+    ghost use Rattle.std.specs.Arc.{arc_value};
+    ghost use Rattle.hub_gate.specs.declared.view.View.TheVariants.{LineInside};
+    ghost use Rattle.hub_gate.specs.GateSeats.{InsideSeat, line_in};
+
+    ghost Value = { InsideSeat T };
+
+    ghost view = { λ e. record { gate = e.seat.table_id; at = line_in e.seat.me.0; right = e.right } };
+
+    ghost invariant = { λ e. ((arc_value e.table).shared.table_id.words ≡ 1)
+        × (e.seat.table_id ≡ (arc_value e.table).shared.table_id)
+        × (e.seat.me ≡ (LineInside (line_in e.seat.me.0), (e.line, None) ∷ []))
+        × (e.line ≡ (line_in e.seat.me.0).line) };
+}
+
+impl<T: Right> Inside<T> {
+    ghost use Rattle.hub_core.specs.GateMachine as machine;
+    ghost use Rattle.std.specs.Borrow.{Lends, sem};
+    ghost use Rattle.hub_gate.specs.contracts.inside.Inside.{the_row};
+    ghost use Rattle.hub_gate.specs.GatePlays.{Happens, left_line};
+
+    /// The right. It is to keep its tag until the line leaves.
+    pub fn right_mut(&mut self) -> &mut T
+        ensures* lends { sem 𝓛 (Lends (the_row T.row ⟦<T as Right>⟧) T.row self.entry result (λ right. record { gate = self.old.gate; at = self.old.at; right = right })) }
+        ensures value { result.now ≡ self.old.right }
+    {
+        &mut self.right
+    }
+
+    /// Leaves with the right, which must have its tag, and says whether the word that was found
+    /// had the flag ENABLED. It is one step on the word.
+    pub fn leave(self) -> (Entry<T>, bool)
+        requires { T.tag self.right ≡ self.at.tag }
+        ensures entry { result.0 ≡ record { gate = self.gate; at = left_line self.at result.1 } }
+        ensures step { (word : ℕ) × Happens T.tag word (machine.leave self.at.line self.right) (machine.lets_out result.1) }
+    {
+        let Inside {
+            table,
+            mut seat,
+            line,
+            right,
+        } = self;
+        table.shared.exchange(&mut seat, line, Some(right));
+        let word = table.shared.fetch_sub::<Leave<T>>(&mut seat, 0, ONE_LINE);
+        (Entry { table, seat, line }, enabled_in(word))
+    }
+}

@@ -1,0 +1,128 @@
+ghost use Rattle.std.specs.Prelude.{◌≡◌, ℕ, ◌≤◌, [], Some, map, length, nat_lt, vec_capacity};
+ghost use Rattle.hub_gate.specs.Taking.{numbered, values_in};
+
+use crate::gate_table::{GateSeat, GateSteps, GateTable};
+use crate::looked::Looked;
+use crate::plays::{Close, Enable, Look, Retire};
+use crate::right::Right;
+use crate::word::{CLOSED, ENABLED, MOVED, count_in, shut_in};
+use std::marker::Model;
+use std::sync::Arc;
+
+/// Whoever has it sets the gate's flags, and gets the rights of all lines in the end.
+#[derive(Drop)]
+pub struct Keeper<T: Right> {
+    pub(crate) table: Arc<GateTable<T>>,
+    pub(crate) seat: GateSeat<T>,
+    /// `enable` was called.
+    pub(crate) enabled: bool,
+    /// Empty, with room for all rights, until a look gives it.
+    pub(crate) rights: Option<Vec<T>>,
+}
+
+impl<T: Right> Model for Keeper<T> {
+    ghost use Rattle.std.specs.Prelude.{◌≡◌, ◌≤◌, [], length, nat_lt, true, false, MatchOption, vec_capacity};
+    ghost use Rattle.std.specs.Arc.{arc_value};
+    ghost use Rattle.hub_gate.specs.declared.view.View.TheVariants.{Keeping};
+    ghost use Rattle.hub_gate.specs.GateSeats.{KeeperSeat, keeper_in};
+
+    ghost Value = { KeeperSeat };
+
+    ghost view = { λ k. record { gate = k.seat.table_id; at = keeper_in k.seat.me.0 } };
+
+    ghost invariant = { λ k. ((arc_value k.table).shared.table_id.words ≡ 1)
+        × (k.seat.table_id ≡ (arc_value k.table).shared.table_id)
+        × (k.seat.table_id.slots ≡ length (keeper_in k.seat.me.0).tags)
+        × (k.seat.me.0 ≡ Keeping (keeper_in k.seat.me.0))
+        × (k.enabled ≡ nat_lt 0 (keeper_in k.seat.me.0).enables)
+        × MatchOption k.rights ((keeper_in k.seat.me.0).collected ≡ true) (λ list.
+        ((keeper_in k.seat.me.0).collected ≡ false)
+        × (list.items ≡ []) × (length (keeper_in k.seat.me.0).tags ≤ vec_capacity list)
+        × (k.seat.me.1 ≡ [])) };
+}
+
+// Takes the right out of each slot. The seat has all slots in hand, in order.
+fn take_out<T: Right>(
+    slots: &GateSteps<T>,
+    seat: &mut GateSeat<T>,
+    rights: &mut Vec<T>,
+    count: usize,
+)
+    requires here { seat.old.table_id ≡ slots.now.table_id }
+    requires held { seat.old.me.1 ≡ numbered 0 (map Some (values_in seat.old.me.1)) }
+    requires room { (rights.old.items ≡ []) × (count ≤ vec_capacity rights.old) × (count ≡ length (values_in seat.old.me.1)) }
+    ensures stays { (seat.new.table_id ≡ seat.old.table_id) × (seat.new.me.0 ≡ seat.old.me.0) }
+    ensures taken { rights.new.items ≡ values_in seat.old.me.1 }
+{
+    for line in 0..count {
+        let right = slots.exchange(seat, line, None).unwrap();
+        rights.push_reserved(right);
+        seat.turn();
+    }
+}
+
+impl<T: Right> Keeper<T> {
+    ghost use Rattle.hub_core.specs.GateMachine as machine;
+    ghost use Rattle.hub_gate.specs.GatePlays.{Happens, enabled_keeper, retired_keeper, closed_keeper};
+    ghost use Rattle.hub_gate.specs.Looking.{IsLooked};
+
+    /// Sets the flag ENABLED. It is one step on the word.
+    pub fn enable(&mut self)
+        ensures keeper { self.new ≡ record { gate = self.old.gate; at = enabled_keeper self.old.at } }
+        ensures step { (word : ℕ) × Happens T.tag word machine.enable machine.says_done }
+    {
+        let table = &self.table;
+        table
+            .shared
+            .fetch_or::<Enable<T>>(&mut self.seat, 0, ENABLED);
+        self.enabled = true;
+    }
+
+    /// Sets the flag MOVED: every later entry is turned with `Moved`. It is one step on the word.
+    pub fn retire(&mut self)
+        ensures keeper { self.new ≡ record { gate = self.old.gate; at = retired_keeper self.old.at } }
+        ensures step { (word : ℕ) × Happens T.tag word machine.retire machine.says_done }
+    {
+        let table = &self.table;
+        table.shared.fetch_or::<Retire<T>>(&mut self.seat, 0, MOVED);
+    }
+
+    /// Sets the flag CLOSED: every later entry is turned. It is one step on the word.
+    pub fn close(&mut self)
+        ensures keeper { self.new ≡ record { gate = self.old.gate; at = closed_keeper self.old.at } }
+        ensures step { (word : ℕ) × Happens T.tag word machine.close machine.says_done }
+    {
+        let table = &self.table;
+        table.shared.fetch_or::<Close<T>>(&mut self.seat, 0, CLOSED);
+    }
+
+    /// Whether `enable` was called. It is no step on the word.
+    pub fn enabled(&self) -> bool
+        ensures { result ≡ nat_lt 0 self.now.at.enables }
+    {
+        self.enabled
+    }
+
+    /// Looks at the word, which is one step. Where the gate was retired or closed, and nobody is
+    /// inside or being turned back, it gives the rights of all lines, once.
+    pub fn look(&mut self) -> Looked<T>
+        ensures { IsLooked T.tag self.old self.new result }
+    {
+        let table = &self.table;
+        let word = table.shared.load::<Look<T>>(&mut self.seat, 0);
+        if self.rights.is_none() {
+            return Looked::Given;
+        }
+        if !shut_in(word) {
+            return Looked::Open;
+        }
+        let count = count_in(word);
+        if count > 0 {
+            return Looked::StillInside(count as u8);
+        }
+        let mut rights = self.rights.take().unwrap();
+        let lines = table.slot_count();
+        take_out(&table.shared, &mut self.seat, &mut rights, lines);
+        Looked::Rights(rights)
+    }
+}

@@ -1,0 +1,2 @@
+/// How many lines a gate has at most.
+pub const MAX_LINES: usize = 16;

@@ -1,0 +1,47 @@
+//! What the seats at a gate's word know. It stands in proofs alone: no value of it is made, so its
+//! numbers have no bound, and an array is a list of any length.
+use crate::entered::Refusal;
+
+/// What the seat of one line knows.
+pub struct LineView {
+    pub line: u64,
+    /// The tag of the line's right.
+    pub tag: [u64; 0],
+    /// How often it has added itself to the word.
+    pub enters: u64,
+    /// How often it has taken itself off the word, leaving or turning back.
+    pub leaves: u64,
+    /// The flag that its last entry found, if it was turned.
+    pub refusal: Option<Refusal>,
+    /// The flag ENABLED in the word that it found when it last left.
+    pub enabled: bool,
+}
+
+/// What the keeper's seat knows.
+pub struct KeeperView {
+    /// The tags of the rights, in the order of the lines.
+    pub tags: [[u64; 0]; 0],
+    /// The lines below it have seats of their own.
+    pub next: u64,
+    /// How often it has set each flag.
+    pub enables: u64,
+    pub retires: u64,
+    pub closes: u64,
+    /// How often it has looked, and the count that it found last.
+    pub looks: u64,
+    pub found: u64,
+    /// It has all rights.
+    pub collected: bool,
+}
+
+/// What a seat knows: a line's seat by where the line is.
+pub enum View {
+    /// The first seat, of a gate with rights of these tags, which has put none of them in its slot.
+    Fresh([[u64; 0]; 0]),
+    /// The same seat while it has all slots in hand.
+    Filling([[u64; 0]; 0]),
+    Keeping(KeeperView),
+    LineOut(LineView),
+    LineInside(LineView),
+    LineTurned(LineView),
+}
