@@ -1,0 +1,165 @@
+-- What was got of one line, against what was accepted there.
+use Rattle.std.proofs.Common.{◌≡◌, ℕ, suc, zero, ◌<◌, ◌≤◌, ◌+◌, ◌⊎◌, inl, inr, Bool, true, false, ◌&&◌, ◌||◌, List, [], ◌∷◌, ◌++◌, Some, None, map, length, get_or, refl, ap, sym, ◌∙◌, subst, slice_get, arith, ◌==◌, nat_lt, option_map}
+use Rattle.std.specs.List.{filter, list_any, AllByRecursion as Each}
+use Rattle.std.proofs.lemmas.Bool.Decides.{nat_tests}
+use Rattle.std.proofs.lemmas.List.Elements.{All-nil, All-cons, All-head, All-tail, filter-append, recursion_from_All}
+use Rattle.hub_trace.specs.declared.entry.Delivery.{Delivery}
+use Rattle.hub_trace.specs.declared.accepted.Accepted.{Accepted}
+use Rattle.hub_trace.specs.declared.received.Arrival.{Arrival}
+use Rattle.hub_trace.specs.Accepted.{is_of}
+use Rattle.hub_trace.specs.Got.{Receipt}
+use Rattle.hub_trace.specs.Clean.{IsCleanLine}
+use Rattle.hub_trace.specs.Fault.{IsRight, IsFirstFault}
+use Rattle.hub_trace.specs.Verdict.{IsLineBefore}
+use Rattle.hub_trace.specs.Views.{RisesByLine, accepted_in, got_in, receipt_of, is_before}
+use Rattle.hub_trace.proofs.Cases.{by_test}
+use Rattle.hub_trace.proofs.Order.{Each-passes, Each-weaker}
+use Rattle.hub_trace.proofs.Lines.{filter_none, filter_all}
+use Rattle.std.proofs.lemmas.List.{get_or_default, length-map}
+use Rattle.std.proofs.lemmas.Option.{slice_get-map, slice_get-get_or, slice_get_past}
+use Rattle.std.proofs.lemmas.Map.Views.{exact_unsigned_eq}
+
+abbrev pub AllRight : List Delivery → List Receipt → Type 0
+AllRight put rs = (k : ℕ) (r : Receipt) → slice_get rs k ≡ Some r → IsRight put k r
+
+pub clean_from_right : (put : List Delivery) (rs : List Receipt) → AllRight put rs → IsCleanLine put rs
+clean_from_right put [] h = ((put, refl), All-nil (λ r. r.late ≡ false))
+clean_from_right [] (r ∷ rs) h = let e : None ≡ Some r.delivery = (h 0 r refl).1 in cc
+clean_from_right (d ∷ put) (r ∷ rs) h =
+    let first = h 0 r refl in
+    let same : Some d ≡ Some r.delivery = first.1 in
+    let one : d ≡ r.delivery = cc in
+    let rest = clean_from_right put rs (λ k q e. h (suc k) q e) in
+    ((rest.0.0, (λ i. one i ∷ rest.0.1 i)), All-cons (λ q. q.late ≡ false) r rs first.0 rest.1)
+
+pub right_from_clean : (put : List Delivery) (rs : List Receipt) → IsCleanLine put rs → AllRight put rs
+right_from_clean put [] h k r e = let x : None ≡ Some r = e in cc
+right_from_clean put (q ∷ rs) h zero r e =
+    let same : Some q ≡ Some r = e in
+    let one : q ≡ r = cc in
+    let P = λ (x : Receipt). IsRight put 0 x in
+    subst P one (All-head (λ x. x.late ≡ false) q rs h.1, ap (λ l. slice_get l 0) h.0.1)
+right_from_clean [] (q ∷ rs) h (suc k) r e = let x : [] ≡ q.delivery ∷ (map (λ r. r.delivery) rs ++ h.0.0) = h.0.1 in cc
+right_from_clean (d ∷ put) (q ∷ rs) h (suc k) r e =
+    let whole : d ∷ put ≡ q.delivery ∷ (map (λ r. r.delivery) rs ++ h.0.0) = h.0.1 in
+    let tails : put ≡ map (λ r. r.delivery) rs ++ h.0.0 = cc in
+    right_from_clean put rs ((h.0.0, tails), All-tail (λ x. x.late ≡ false) q rs h.1) k r e
+
+pub fault_is_not_clean : {put : List Delivery} {rs : List Receipt} {place : ℕ} {kind : _} → IsFirstFault put rs place kind → IsCleanLine put rs → ⊥
+fault_is_not_clean {put} {rs} {place} f clean = f.wrong (right_from_clean put rs clean place f.receipt f.at)
+
+pub nothing_is_clean : (put : List Delivery) (rs : List Receipt) → rs ≡ [] → IsCleanLine put rs
+nothing_is_clean put rs e = subst (IsCleanLine put) (sym e) ((put, refl), All-nil (λ r. r.late ≡ false))
+
+-- of a line either all is left, or nothing, and then it is clean
+abbrev pub IsLeft : List Accepted → List Arrival → List Arrival → ℕ → ℕ → Type 0
+IsLeft accepted arrivals rest end line =
+    (got_in rest end line ≡ got_in arrivals end line)
+    ⊎ (IsCleanLine (accepted_in accepted end line) (got_in arrivals end line) × (filter (λ a. is_of end line a.label) rest ≡ []))
+
+other_line : (a b e l x y : ℕ) → ((a == e) && (b == l)) ≡ true → ((e == x) && (l == y)) ≡ false → ((a == x) && (b == y)) ≡ false
+other_line a b e l x y h k = grind (arith, nat_tests)
+
+same_line : (e l x y : ℕ) → ((e == x) && (l == y)) ≡ true → (e ≡ x) × (l ≡ y)
+same_line e l x y h = grind (arith, nat_tests)
+
+append_nil_right : {X : Type 0} (xs ys : List X) → xs ++ ys ≡ [] → ys ≡ []
+append_nil_right [] ys h = h
+append_nil_right (x ∷ xs) ys h = cc
+
+self_append : {X : Type 0} (xs ys : List X) → xs ≡ xs ++ ys → ys ≡ []
+self_append [] ys h = sym h
+self_append (x ∷ xs) ys h = let whole : x ∷ xs ≡ x ∷ (xs ++ ys) = h in let tails : xs ≡ xs ++ ys = cc in self_append xs ys tails
+
+-- a front of the rest that is one line, and is clean, is done with
+step_by : (accepted : List Accepted) (arrivals rest front after : List Arrival) (end line : ℕ)
+    → front ≡ filter (λ a. is_of end line a.label) rest
+    → IsCleanLine (accepted_in accepted end line) (map receipt_of front)
+    → (x y : ℕ) → filter (λ a. is_of x y a.label) rest ≡ filter (λ a. is_of x y a.label) front ++ filter (λ a. is_of x y a.label) after
+    → (t : Bool) → ((end == x) && (line == y)) ≡ t
+    → IsLeft accepted arrivals rest x y → IsLeft accepted arrivals after x y
+step_by accepted arrivals rest front after end line picked clean x y split t test (inr done) =
+    inr (done.0, append_nil_right (filter (λ a. is_of x y a.label) front) (filter (λ a. is_of x y a.label) after) (sym split ∙ done.1))
+step_by accepted arrivals rest front after end line picked clean x y split false test (inl same) =
+    let at_end_line : Each (λ a. is_of end line a.label ≡ true) front = subst (Each (λ a. is_of end line a.label ≡ true)) (sym picked) (Each-passes (λ a. is_of end line a.label) rest) in
+    let none = filter_none (λ a. is_of x y a.label) front (Each-weaker (λ a. is_of end line a.label ≡ true) (λ a. is_of x y a.label ≡ false) (λ a h. other_line a.label.end.0 a.label.line.0 end line x y h test) front at_end_line) in
+    inl (ap (map receipt_of) (sym (split ∙ ap (λ l. l ++ filter (λ a. is_of x y a.label) after) none)) ∙ same)
+step_by accepted arrivals rest front after end line picked clean x y split true test (inl same) =
+    let at = same_line end line x y test in
+    let here : front ≡ filter (λ a. is_of x y a.label) rest = picked ∙ (λ i. filter (λ a. is_of (at.0 i) (at.1 i) a.label) rest) in
+    let at_end_line : Each (λ a. is_of x y a.label ≡ true) front = subst (Each (λ a. is_of x y a.label ≡ true)) (sym here) (Each-passes (λ a. is_of x y a.label) rest) in
+    let now : IsCleanLine (accepted_in accepted x y) (map receipt_of front) = subst (λ (e : ℕ). IsCleanLine (accepted_in accepted e y) (map receipt_of front)) at.0 (subst (λ (l : ℕ). IsCleanLine (accepted_in accepted end l) (map receipt_of front)) at.1 clean) in
+    inr (
+      subst (IsCleanLine (accepted_in accepted x y)) (ap (map receipt_of) here ∙ same) now,
+      self_append front (filter (λ a. is_of x y a.label) after) (here ∙ split ∙ ap (λ l. l ++ filter (λ a. is_of x y a.label) after) (filter_all (λ a. is_of x y a.label) front at_end_line)),
+    )
+
+pub step_left : (accepted : List Accepted) (arrivals rest front after : List Arrival) (end line : ℕ)
+    → rest ≡ front ++ after → front ≡ filter (λ a. is_of end line a.label) rest
+    → IsCleanLine (accepted_in accepted end line) (map receipt_of front)
+    → ((x y : ℕ) → IsLeft accepted arrivals rest x y) → (x y : ℕ) → IsLeft accepted arrivals after x y
+step_left accepted arrivals rest front after end line cut picked clean left x y =
+    step_by accepted arrivals rest front after end line picked clean x y
+    (ap (filter (λ a. is_of x y a.label)) cut ∙ filter-append (λ a. is_of x y a.label) front after)
+    ((end == x) && (line == y)) refl (left x y)
+
+-- nothing is left of a line of which nothing is in the rest
+pub gone_is_clean : (accepted : List Accepted) (arrivals rest : List Arrival) (x y : ℕ) → filter (λ a. is_of x y a.label) rest ≡ []
+    → IsLeft accepted arrivals rest x y → IsCleanLine (accepted_in accepted x y) (got_in arrivals x y)
+gone_is_clean accepted arrivals rest x y none (inr done) = done.0
+gone_is_clean accepted arrivals rest x y none (inl same) = nothing_is_clean (accepted_in accepted x y) (got_in arrivals x y) (sym same ∙ ap (map receipt_of) none)
+
+-- of a line of which something is in the rest all is
+pub whole_line : (accepted : List Accepted) (arrivals rest front : List Arrival) (x y : ℕ) → front ≡ filter (λ a. is_of x y a.label) rest → 0 < length front
+    → IsLeft accepted arrivals rest x y → map receipt_of front ≡ got_in arrivals x y
+whole_line accepted arrivals rest front x y picked some (inl same) = ap (map receipt_of) picked ∙ same
+whole_line accepted arrivals rest front x y picked some (inr done) =
+    let none : length front ≡ 0 = ap length (picked ∙ done.1) in absurd (omega arith)
+
+before_is_before : (a b c d x y : ℕ) → (nat_lt a c || ((a == c) && nat_lt b d)) ≡ false → (x < c) ⊎ ((x ≡ c) × (y < d)) → ((a == x) && (b == y)) ≡ false
+before_is_before a b c d x y h (inl k) = grind (arith, nat_tests)
+before_is_before a b c d x y h (inr k) = grind (arith, nat_tests)
+
+-- nothing is of a line before that of the first
+pub earlier_line_gone : (rest : List Arrival) (x y : ℕ) (first : Arrival) → 0 < length rest → first ≡ get_or rest 0 first → RisesByLine (λ a. a.label) rest
+    → IsLineBefore x y first.label.end.0 first.label.line.0 → filter (λ a. is_of x y a.label) rest ≡ []
+earlier_line_gone rest x y first some is rises before =
+    filter_none (λ a. is_of x y a.label) rest (recursion_from_All (λ a. is_of x y a.label ≡ false) rest (λ k d lt.
+    let a = get_or rest k d in
+    let front : get_or rest 0 d ≡ first = get_or_default rest 0 d first some ∙ sym is in
+    let not_before = subst (λ (f : Arrival). is_before f.label.end.0 f.label.line.0 a.label ≡ false) front (rises 0 k d (omega arith) lt) in
+    before_is_before a.label.end.0 a.label.line.0 first.label.end.0 first.label.line.0 x y not_before before))
+
+pub receipt_at : (got : List Arrival) (place : ℕ) (a : Arrival) → place < length got → a ≡ get_or got place a → slice_get (map receipt_of got) place ≡ Some (receipt_of a)
+receipt_at got place a lt is = slice_get-map receipt_of got place ∙ ap (option_map receipt_of) (slice_get-get_or got place a lt) ∙ ap (λ x. Some (receipt_of x)) (sym is)
+
+-- one more receipt is right
+pub right_more : (put : List Delivery) (got : List Arrival) (place : ℕ) (a : Arrival) → place < length got → a ≡ get_or got place a
+    → ((k : ℕ) (r : Receipt) → k < place → slice_get (map receipt_of got) k ≡ Some r → IsRight put k r)
+    → IsRight put place (receipt_of a)
+    → (k : ℕ) (r : Receipt) → k < place + 1 → slice_get (map receipt_of got) k ≡ Some r → IsRight put k r
+right_more put got place a lt is before here k r under at =
+    by_test (λ b. (k == place) ≡ b → IsRight put k r) (k == place)
+    (λ _ t. let same = exact_unsigned_eq k place t in
+    let found : Some (receipt_of a) ≡ Some r = sym (receipt_at got place a lt is) ∙ ap (slice_get (map receipt_of got)) (sym same) ∙ at in
+    let one : receipt_of a ≡ r = cc in
+    subst (λ (n : ℕ). IsRight put n r) (sym same) (subst (IsRight put place) one here))
+    (λ _ t. let less : k < place = grind (arith, nat_tests) in before k r less at)
+    refl
+
+pub all_right : (put : List Delivery) (got : List Arrival) (place : ℕ) → length got ≤ place
+    → ((k : ℕ) (r : Receipt) → k < place → slice_get (map receipt_of got) k ≡ Some r → IsRight put k r) → AllRight put (map receipt_of got)
+all_right put got place le h k r at =
+    by_test (λ b. nat_lt k place ≡ b → IsRight put k r) (nat_lt k place)
+    (λ _ t. let less : k < place = grind (arith, nat_tests) in h k r less at)
+    (λ _ t. let past : length (map receipt_of got) ≤ k = grind (arith, nat_tests, length-map got receipt_of) in
+    let none : None ≡ Some r = sym (slice_get_past (map receipt_of got) k past) ∙ at in cc)
+    refl
+
+pub list_any-map : {X Y : Type 0} (f : X → Y) (p : Y → Bool) (xs : List X) → list_any (λ x. p (f x)) xs ≡ list_any p (map f xs)
+list_any-map f p [] = refl
+list_any-map f p (x ∷ xs) = ap (λ b. p (f x) || b) (list_any-map f p xs)
+
+pub empty_gone : (rest : List Arrival) (x y : ℕ) → length rest ≤ 0 → filter (λ a. is_of x y a.label) rest ≡ []
+empty_gone [] x y h = refl
+empty_gone (a ∷ rest) x y h = absurd (omega arith)

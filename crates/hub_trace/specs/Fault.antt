@@ -1,0 +1,36 @@
+-- What is wrong in what was got of one line.
+use Rattle.std.specs.Prelude.{◌≡◌, ℕ, Bool, false, List, ◌<◌, ◌==◌, ◌&&◌, Option, Some, None, if◌then◌else◌, slice_get, take}
+use Rattle.std.specs.List.{list_any}
+use Rattle.hub_trace.specs.declared.entry.Delivery.{Delivery}
+use Rattle.hub_trace.specs.declared.label.Label.{Label}
+use Rattle.hub_trace.specs.declared.verdict.FaultKind.{FaultKind}
+use Rattle.hub_trace.specs.declared.verdict.FaultKind.TheVariants.{AfterClose, Changed, Twice, Gap, Foreign}
+use Rattle.hub_trace.specs.Got.{Receipt}
+
+-- what was got in time, and is what was accepted at its place
+abbrev pub IsRight : List Delivery → ℕ → Receipt → Type 0
+IsRight put place r = (r.late ≡ false) × (slice_get put place ≡ Some r.delivery)
+
+abbrev pub has_name : Label → Label → Bool
+has_name a b = (a.epoch == b.epoch) && (a.number == b.number)
+
+abbrev pub is_named : Option Delivery → Label → Bool
+is_named None label = false
+is_named (Some d) label = has_name d.label label
+
+-- what is wrong with a receipt that is not right, by what was accepted and what was got earlier: the first kind that fits
+abbrev pub kind_at : List Delivery → List Receipt → ℕ → Receipt → FaultKind
+kind_at put earlier place r =
+    if r.late then AfterClose
+    else (if is_named (slice_get put place) r.delivery.label then Changed
+    else (if list_any (λ e. has_name e.delivery.label r.delivery.label) earlier then Twice
+    else (if list_any (λ d. has_name d.label r.delivery.label) put then Gap
+    else Foreign)))
+
+-- the receipt at the place is wrong, all before it are right, and this kind is the first that fits
+pub record IsFirstFault (put : List Delivery) (receipts : List Receipt) (place : ℕ) (kind : FaultKind) : Type 0 where
+  pub receipt : Receipt
+  pub at : slice_get receipts place ≡ Some receipt
+  pub wrong : ¬ (IsRight put place receipt)
+  pub first : (k : ℕ) (r : Receipt) → k < place → slice_get receipts k ≡ Some r → IsRight put k r
+  pub kind_is : kind ≡ kind_at put (take place receipts) place receipt

@@ -1,0 +1,74 @@
+ghost use Rattle.std.specs.Prelude.{◌≡◌, ℕ, map, IfOk, OnOk, ◌++◌};
+ghost use Rattle.std.specs.List.{filter};
+ghost use Rattle.hub_trace.specs.Accepted.{accepted, all_puts, is_of, puts};
+ghost use Rattle.hub_trace.specs.Views.{RisesByLine, accepted_in, delivery_of};
+
+use crate::entry::Entry;
+use crate::label::Label;
+use crate::log::Log;
+use crate::message::Message;
+use crate::out_of_memory::OutOfMemory;
+use hub_envelope::{EndId, LineId};
+use std::alloc::Global;
+
+/// An envelope that was accepted.
+#[derive(Clone, Copy, Debug)]
+pub(crate) struct Accepted<'a> {
+    pub(crate) label: Label,
+    pub(crate) message: &'a Message,
+}
+
+/// The accepted envelopes of all logs, by end, line, epoch and number, and those of equal names in the
+/// order of the logs.
+pub(crate) fn accepted_in_order(
+    alloc: Global,
+    logs: &[Log],
+) -> Result<Vec<Accepted<'_>>, OutOfMemory>
+    ensures lines { IfOk result (λ v. (end line : ℕ) → accepted_in v.items end line ≡ accepted logs.now end line) }
+    ensures order { IfOk result (λ v. RisesByLine (λ a. a.label) v.items) }
+{
+    let mut found = all_accepted(alloc, logs)?;
+    found.sort_by_key(|a| (a.label.end.0, a.label.line.0, a.label.epoch, a.label.number))?;
+    Ok(found)
+}
+
+/// The accepted envelopes in the order of the logs.
+fn all_accepted(alloc: Global, logs: &[Log]) -> Result<Vec<Accepted<'_>>, OutOfMemory>
+    ensures { IfOk result (λ v. map delivery_of v.items ≡ all_puts logs.now) }
+{
+    let mut found = Vec::new(alloc);
+    for log in logs {
+        add_accepted(log.entries(), &mut found)?;
+    }
+    Ok(found)
+}
+
+/// Adds those of one log.
+fn add_accepted<'a>(entries: &'a [Entry], found: &mut Vec<Accepted<'a>>) -> Result<(), OutOfMemory>
+    ensures { OnOk result (map delivery_of found.new.items ≡ map delivery_of found.old.items ++ puts entries.now) }
+{
+    for entry in entries {
+        if let Entry::Put(delivery) = entry {
+            found.push(Accepted {
+                label: delivery.label,
+                message: &delivery.message,
+            })?;
+        }
+    }
+    Ok(())
+}
+
+/// Those of one line.
+pub(crate) fn accepted_of<'s, 'a>(
+    accepted: &'s [Accepted<'a>],
+    end: EndId,
+    line: LineId,
+) -> &'s [Accepted<'a>]
+    requires { RisesByLine (λ a. a.label) accepted.now }
+    ensures { result.now ≡ filter (λ a. is_of end.0 line.0 a.label) accepted.now }
+{
+    let from = accepted.partition_point(|a| a.label.is_before(end, line));
+    let rest = &accepted[from..];
+    let count = rest.partition_point(|a| !a.label.is_after(end, line));
+    &rest[..count]
+}

@@ -1,0 +1,130 @@
+ghost use Rattle.std.specs.Prelude.{◌≡◌, ◌↔◌, ℕ, map, IfOk, IsTrue, MatchOption, slice_get, take, Some, ◌<◌, length};
+ghost use Rattle.std.specs.List.{list_any};
+ghost use Rattle.hub_trace.specs.Accepted.{accepted};
+ghost use Rattle.hub_trace.specs.Got.{got};
+ghost use Rattle.hub_trace.specs.Clean.{IsClean, IsCleanLine};
+ghost use Rattle.hub_trace.specs.Fault.{IsFirstFault, IsRight, has_name, is_named, kind_at};
+ghost use Rattle.hub_trace.specs.Verdict.{IsVerdict};
+ghost use Rattle.hub_trace.specs.declared.verdict.Verdict.TheVariants.{Clean};
+ghost use Rattle.hub_trace.specs.Views.{RisesByLine, accepted_in, delivery_of, got_in, receipt_of};
+
+use crate::accepted::{Accepted, accepted_in_order, accepted_of};
+use crate::label::Label;
+use crate::log::Log;
+use crate::out_of_memory::OutOfMemory;
+use crate::received::{Arrival, arrivals_in_order, front_of_line};
+use crate::verdict::{FaultKind, Verdict};
+use std::alloc::Global;
+
+/// Reads the logs of one run together, and says whether what was got of each line is the beginning of
+/// what was accepted there, and nothing was got at an end after it was closed. Else it tells the fault
+/// of the least end, then line, then place.
+pub fn check(alloc: Global, logs: &[Log]) -> Result<Verdict, OutOfMemory>
+    ensures clean { IfOk result (λ verdict. (verdict ≡ Clean) ↔ IsClean logs.now) }
+    ensures verdict { IfOk result (λ verdict. IsVerdict (accepted logs.now) (got logs.now) verdict) }
+{
+    let accepted = accepted_in_order(alloc, logs)?;
+    let arrivals = arrivals_in_order(alloc, logs)?;
+    Ok(first_fault(&accepted, &arrivals))
+}
+
+/// The fault of the least end, then line, then place.
+fn first_fault(accepted: &[Accepted<'_>], arrivals: &[Arrival<'_>]) -> Verdict
+    requires accepted { RisesByLine (λ a. a.label) accepted.now }
+    requires arrivals { RisesByLine (λ a. a.label) arrivals.now }
+    ensures { IsVerdict (accepted_in accepted.now) (got_in arrivals.now) result }
+{
+    let mut rest = arrivals;
+    while let Some(first) = rest.first() {
+        let end = first.label.end;
+        let line = first.label.line;
+        let put = accepted_of(accepted, end, line);
+        let got = front_of_line(rest, end, line);
+        if let Some((place, kind)) = fault_of_line(put, got) {
+            return Verdict::Fault {
+                end,
+                line,
+                place,
+                kind,
+            };
+        }
+        rest = &rest[got.len()..];
+    }
+    Verdict::Clean
+}
+
+/// The first fault in what was got of one line.
+fn fault_of_line(accepted: &[Accepted<'_>], got: &[Arrival<'_>]) -> Option<(usize, FaultKind)>
+    ensures { MatchOption result
+        (IsCleanLine (map delivery_of accepted.now) (map receipt_of got.now))
+        (λ fault. IsFirstFault (map delivery_of accepted.now) (map receipt_of got.now) fault.0 fault.1) }
+{
+    for (place, arrival) in got.iter().enumerate() {
+        if !is_right(accepted, place, arrival) {
+            return Some((place, kind_of(accepted, &got[..place], place, arrival)));
+        }
+    }
+    None
+}
+
+/// Whether it was got in time and is what was accepted at its place.
+fn is_right(accepted: &[Accepted<'_>], place: usize, arrival: &Arrival<'_>) -> bool
+    ensures { IsTrue result ↔ IsRight (map delivery_of accepted.now) place (receipt_of arrival.now) }
+{
+    match accepted.get(place) {
+        Some(expected) => {
+            !arrival.late
+                && expected.label == arrival.label
+                && expected.message.is_same(arrival.message)
+        }
+        None => false,
+    }
+}
+
+/// What is wrong with it, where it isn't right.
+fn kind_of(
+    accepted: &[Accepted<'_>],
+    earlier: &[Arrival<'_>],
+    place: usize,
+    arrival: &Arrival<'_>,
+) -> FaultKind
+    ensures { result ≡ kind_at (map delivery_of accepted.now) (map receipt_of earlier.now) place (receipt_of arrival.now) }
+{
+    if arrival.late {
+        return FaultKind::AfterClose;
+    }
+    if is_named_at(accepted, place, &arrival.label) {
+        return FaultKind::Changed;
+    }
+    if is_among_got(earlier, &arrival.label) {
+        return FaultKind::Twice;
+    }
+    if is_among_accepted(accepted, &arrival.label) {
+        return FaultKind::Gap;
+    }
+    FaultKind::Foreign
+}
+
+/// Whether the accepted envelope at the place has this name.
+fn is_named_at(accepted: &[Accepted<'_>], place: usize, label: &Label) -> bool
+    ensures { result ≡ is_named (slice_get (map delivery_of accepted.now) place) label.now }
+{
+    match accepted.get(place) {
+        Some(expected) => expected.label.has_name_of(label),
+        None => false,
+    }
+}
+
+/// Whether an accepted envelope has this name.
+fn is_among_accepted(accepted: &[Accepted<'_>], label: &Label) -> bool
+    ensures { result ≡ list_any (λ d. has_name d.label label.now) (map delivery_of accepted.now) }
+{
+    accepted.iter().any(|a| a.label.has_name_of(label))
+}
+
+/// Whether an envelope that was got has this name.
+fn is_among_got(got: &[Arrival<'_>], label: &Label) -> bool
+    ensures { result ≡ list_any (λ r. has_name r.delivery.label label.now) (map receipt_of got.now) }
+{
+    got.iter().any(|a| a.label.has_name_of(label))
+}

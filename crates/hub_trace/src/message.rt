@@ -1,0 +1,55 @@
+ghost use Rattle.std.specs.Prelude.{◌≡◌, ◌↔◌, IsTrue, IfOk};
+
+use crate::out_of_memory::OutOfMemory;
+use hub_envelope::{Body, EndId};
+use std::alloc::Global;
+use std::marker::Model;
+
+/// What an envelope carries: the ends of the ports that travel with it, in list order, and its body,
+/// kept as its compact text.
+#[derive(Debug, Drop)]
+pub struct Message {
+    ports: Vec<EndId>,
+    body: String,
+}
+
+impl Model for Message {
+    ghost use Rattle.std.specs.Prelude.{List, ℕ, string_bytes};
+    ghost use Rattle.hub_envelope.specs.declared.ids.EndId.{EndId};
+
+    ghost Value = { List EndId × List ℕ };
+
+    ghost view = { λ m. (m.ports.items, string_bytes m.body) };
+}
+
+impl Message {
+    /// A copy of the ports and the body.
+    pub fn copy_of(alloc: Global, ports: &[EndId], body: &Body) -> Result<Message, OutOfMemory>
+        ensures { IfOk result (λ message. message ≡ (ports.now, body.now)) }
+    {
+        let ports = Vec::from_slice(alloc, ports)?;
+        let body = String::from_str(alloc, body.text())?;
+        Ok(Message { ports, body })
+    }
+
+    /// The ends of the ports, in list order.
+    pub fn ports(&self) -> &[EndId]
+        ensures { result.now ≡ self.now.0 }
+    {
+        self.ports.as_slice()
+    }
+
+    /// The compact text of the body.
+    pub fn body(&self) -> &str
+        ensures { result.now ≡ self.now.1 }
+    {
+        self.body.as_str()
+    }
+
+    /// Whether both carry the same ports and the same body.
+    pub fn is_same(&self, other: &Message) -> bool
+        ensures { IsTrue result ↔ (self.now ≡ other.now) }
+    {
+        self.ports() == other.ports() && self.body() == other.body()
+    }
+}

@@ -1,0 +1,155 @@
+ghost use Rattle.std.specs.Prelude.{◌≡◌, ◌<◌, ◌≤◌, ℕ, false, true, map, drop, length, slice_index_or, IfOk, OnOk, ◌++◌, ◌==◌};
+ghost use Rattle.std.specs.List.{filter, All};
+ghost use Rattle.hub_trace.specs.Accepted.{is_of};
+ghost use Rattle.hub_trace.specs.Got.{all_events, events, got, joined, receipts};
+ghost use Rattle.hub_trace.specs.declared.received.Arrival.{Arrival};
+ghost use Rattle.hub_trace.specs.Views.{IsOwn, RisesByLine, RisesByEnd, events_in, got_in, receipts_in};
+
+use crate::entry::{Delivery, Entry};
+use crate::label::Label;
+use crate::log::Log;
+use crate::message::Message;
+use crate::out_of_memory::OutOfMemory;
+use hub_envelope::{EndId, LineId};
+use std::alloc::Global;
+use std::collections::BTreeMap;
+
+/// What happened at an end: an envelope was got there, or, where there is none, the end was closed.
+#[derive(Clone, Copy, Debug)]
+pub(crate) struct Happening<'a> {
+    pub(crate) end: EndId,
+    /// The epoch at which the log's agent last adopted the end, 0 where it never did.
+    pub(crate) stretch: u32,
+    pub(crate) got: Option<&'a Delivery>,
+}
+
+/// An envelope that was got.
+#[derive(Clone, Copy, Debug)]
+pub(crate) struct Arrival<'a> {
+    pub(crate) label: Label,
+    pub(crate) message: &'a Message,
+    /// Whether the end had been closed before.
+    pub(crate) late: bool,
+}
+
+/// What was got, by end and line, and within a line by stretch, those of equal stretches in the order
+/// of the logs.
+pub(crate) fn arrivals_in_order(
+    alloc: Global,
+    logs: &[Log],
+) -> Result<Vec<Arrival<'_>>, OutOfMemory>
+    ensures lines { IfOk result (λ v. (end line : ℕ) → got_in v.items end line ≡ got logs.now end line) }
+    ensures order { IfOk result (λ v. RisesByLine (λ a. a.label) v.items) }
+{
+    let happenings = happenings_in_order(alloc, logs)?;
+    let mut arrivals = arrivals_of(alloc, &happenings)?;
+    arrivals.sort_by_key(|a| (a.label.end.0, a.label.line.0))?;
+    Ok(arrivals)
+}
+
+/// What happened at all ends, by end and stretch, that of equal stretches in the order of the logs.
+fn happenings_in_order(alloc: Global, logs: &[Log]) -> Result<Vec<Happening<'_>>, OutOfMemory>
+    ensures ends { IfOk result (λ v. (end : ℕ) → events_in v.items end ≡ joined logs.now end) }
+    ensures order { IfOk result (λ v. RisesByEnd v.items) }
+    ensures own { IfOk result (λ v. All IsOwn v.items) }
+{
+    let mut happenings = all_happenings(alloc, logs)?;
+    happenings.sort_by_key(|h| (h.end.0, h.stretch))?;
+    Ok(happenings)
+}
+
+/// What happened at all ends, in the order of the logs.
+fn all_happenings(alloc: Global, logs: &[Log]) -> Result<Vec<Happening<'_>>, OutOfMemory>
+    ensures ends { IfOk result (λ v. (end : ℕ) → events_in v.items end ≡ all_events logs.now end) }
+    ensures own { IfOk result (λ v. All IsOwn v.items) }
+{
+    let mut happenings = Vec::new(alloc);
+    for log in logs {
+        add_happenings(alloc, log.entries(), &mut happenings)?;
+    }
+    Ok(happenings)
+}
+
+/// Adds what the entries of one log say.
+fn add_happenings<'a>(
+    alloc: Global,
+    entries: &'a [Entry],
+    happenings: &mut Vec<Happening<'a>>,
+) -> Result<(), OutOfMemory>
+    requires { All IsOwn happenings.old.items }
+    ensures ends { OnOk result ((end : ℕ) → events_in happenings.new.items end ≡ events_in happenings.old.items end ++ events end 0 entries.now) }
+    ensures own { OnOk result (All IsOwn happenings.new.items) }
+{
+    let mut stretches = BTreeMap::new(alloc);
+    for entry in entries {
+        match entry {
+            Entry::Put(_) => {}
+            Entry::Adopted { end, epoch } => {
+                stretches.insert(end.0, *epoch)?;
+            }
+            Entry::Got(delivery) => {
+                let end = delivery.label.end;
+                let stretch = stretches.get(&end.0).copied().unwrap_or(0);
+                happenings.push(Happening {
+                    end,
+                    stretch,
+                    got: Some(delivery),
+                })?;
+            }
+            Entry::Closed { end } => {
+                let stretch = stretches.get(&end.0).copied().unwrap_or(0);
+                happenings.push(Happening {
+                    end: *end,
+                    stretch,
+                    got: None,
+                })?;
+            }
+        }
+    }
+    Ok(())
+}
+
+/// The envelopes among what happened, which stands by ends.
+fn arrivals_of<'a>(
+    alloc: Global,
+    happenings: &[Happening<'a>],
+) -> Result<Vec<Arrival<'a>>, OutOfMemory>
+    requires order { RisesByEnd happenings.now }
+    requires own { All IsOwn happenings.now }
+    ensures { IfOk result (λ v. (end : ℕ) → receipts_in v.items end ≡ receipts false (events_in happenings.now end)) }
+{
+    let mut arrivals = Vec::new(alloc);
+    let mut closed: Option<u32> = None;
+    for happening in happenings {
+        match happening.got {
+            None => closed = Some(happening.end.0),
+            Some(delivery) => {
+                let late = closed == Some(happening.end.0);
+                arrivals.push(Arrival {
+                    label: delivery.label,
+                    message: &delivery.message,
+                    late,
+                })?;
+            }
+        }
+    }
+    Ok(arrivals)
+}
+
+/// Those of one line, of which the first is.
+pub(crate) fn front_of_line<'s, 'a>(
+    arrivals: &'s [Arrival<'a>],
+    end: EndId,
+    line: LineId,
+) -> &'s [Arrival<'a>]
+    requires order { RisesByLine (λ a. a.label) arrivals.now }
+    requires some { 0 < length arrivals.now }
+    requires first { (d : Arrival) → is_of end.0 line.0 (slice_index_or arrivals.now 0 d).label ≡ true }
+    ensures some { 0 < length result.now }
+    ensures within { length result.now ≤ length arrivals.now }
+    ensures front { arrivals.now ≡ result.now ++ drop (length result.now) arrivals.now }
+    ensures line { result.now ≡ filter (λ a. is_of end.0 line.0 a.label) arrivals.now }
+{
+    let count = arrivals.partition_point(|a| !a.label.is_after(end, line));
+    &arrivals[..count]
+}
