@@ -1,6 +1,8 @@
-//! The program `messagehub`: it runs step lines through the core and prints what each is answered.
+//! The program `messagehub`: it runs step lines through the core and prints what each is answered,
+//! or checks the logs of a run.
 #![tactic(auto)]
 
+mod check;
 mod device;
 mod input;
 mod mode;
@@ -27,6 +29,7 @@ fn main(rt: HostRuntime) -> ExitCode {
     let mut writer = io::writer(&rt);
     let answer = match mode {
         Mode::Steps => steps::run_steps(rt.alloc(), &mut rt.stdin(), &mut writer),
+        Mode::Check => check::run_check(rt.alloc(), &mut rt.stdin(), &mut writer),
     };
     match answer {
         Ok(status) => status.code(),

@@ -1,9 +1,14 @@
+ghost use Rattle.std.specs.Prelude.{◌≡◌};
+ghost use Rattle.messagehub.specs.Status.{status_number};
+
 use std::process::ExitCode;
 
 /// How the program ended.
 #[derive(Clone, Copy, Debug, PartialEq, Eq)]
 pub enum ExitStatus {
     Success,
+    /// The checker found a fault, and told it.
+    Fault,
     /// The arguments weren't understood, and the usage line was printed.
     Usage,
     /// The input was bad, and one line says where.
@@ -16,9 +21,12 @@ pub enum ExitStatus {
 
 impl ExitStatus {
     /// The status that the process ends with.
-    pub fn number(self) -> u8 {
+    pub fn number(self) -> u8
+        ensures { result ≡ status_number self }
+    {
         match self {
             ExitStatus::Success => 0,
+            ExitStatus::Fault => 1,
             ExitStatus::Usage | ExitStatus::BadInput => 2,
             ExitStatus::OutOfMemory => 3,
             ExitStatus::Device => 4,

@@ -1,10 +1,25 @@
 //! The engine of `messagehub steps`.
 
+ghost use Rattle.std.specs.Prelude.{◌≡◌, ◌++◌, ℕ, List, IfOk, OnOk, OnErr};
+ghost use Rattle.std.specs.Io.KnownBytes.{Appends};
+ghost use Rattle.hub_core.specs.declared.outcome.Outcome.{Outcome};
+ghost use Rattle.messagehub.specs.declared.status.ExitStatus.{ExitStatus};
+ghost use Rattle.messagehub.specs.declared.status.ExitStatus.TheVariants as status;
+ghost use Rattle.messagehub.specs.Beginning.{AppendsBeginning};
+ghost use Rattle.messagehub.specs.IsInput.{IsInput};
+ghost use Rattle.messagehub.specs.OutcomeText.{outcome_line};
+ghost use Rattle.messagehub.specs.Performed.{PerformsAt};
+ghost use Rattle.messagehub.specs.Output.{IsOutput, IsRunOutput, out_of_memory};
+
+mod end_list;
 mod line;
 mod number;
 mod parse;
 mod perform;
+mod read_line;
+mod refusal;
 mod text;
+mod word;
 
 use crate::device::Device;
 use crate::input::{InputError, read_input};
@@ -30,7 +45,15 @@ pub fn run_steps<R: Read, W: Write>(
     alloc: Global,
     reader: &mut R,
     writer: &mut W,
-) -> Result<ExitStatus, Device> {
+) -> Result<ExitStatus, Device>
+    // What is written is what the status says of the input, and nothing else.
+    ensures ok { IfOk result (λ answered. (input : List ℕ) × (text : List ℕ) × IsInput (R.remaining reader.old) input
+        × IsOutput input answered text × Appends (W.contents writer.old) (W.contents writer.new) text) }
+    // What had gone out is a beginning of that.
+    ensures err { OnErr result ((input : List ℕ) × (answered : ExitStatus) × (text : List ℕ)
+        × IsInput (R.remaining reader.old) input × IsOutput input answered text
+        × AppendsBeginning (W.contents writer.old) (W.contents writer.new) text) }
+{
     let input = match read_input(alloc, reader) {
         Ok(input) => input,
         Err(InputError::Device) => return Err(Device),
@@ -58,7 +81,12 @@ fn run_lines<W: Write>(
     alloc: Global,
     lines: Vec<StepLine>,
     writer: &mut W,
-) -> Result<ExitStatus, Device> {
+) -> Result<ExitStatus, Device>
+    ensures ok { IfOk result (λ answered. (text : List ℕ) × IsRunOutput lines.items answered text
+        × Appends (W.contents writer.old) (W.contents writer.new) text) }
+    ensures err { OnErr result ((text : List ℕ) × IsRunOutput lines.items status.OutOfMemory text
+        × AppendsBeginning (W.contents writer.old) (W.contents writer.new) text) }
+{
     let mut core = Core::new(alloc);
     let mut kept = Vec::new(alloc);
     for line in lines {
@@ -81,7 +109,11 @@ fn answer_line(
     core: &mut Core,
     line: StepLine,
     kept: &mut Vec<u8>,
-) -> Result<(), OutOfMemory> {
+) -> Result<(), OutOfMemory>
+    ensures ok { OnOk result ((shown : Outcome) × PerformsAt core.old core.new line shown
+        × (kept.new.items ≡ kept.old.items ++ outcome_line shown)) }
+    ensures err { OnErr result (kept.new.items ≡ kept.old.items) }
+{
     let outcome = perform(core, line)?;
     let mut text = String::new(alloc);
     write_outcome(&mut text, &outcome)?;
@@ -89,7 +121,11 @@ fn answer_line(
     Ok(())
 }
 
-fn end_out_of_memory<W: Write>(writer: &mut W) -> Result<ExitStatus, Device> {
+pub(crate) fn end_out_of_memory<W: Write>(writer: &mut W) -> Result<ExitStatus, Device>
+    ensures ok { IfOk result (λ answered. (answered ≡ status.OutOfMemory)
+        × Appends (W.contents writer.old) (W.contents writer.new) out_of_memory) }
+    ensures err { OnErr result (AppendsBeginning (W.contents writer.old) (W.contents writer.new) out_of_memory) }
+{
     write_whole(writer, OUT_OF_MEMORY)?;
     flush(writer)?;
     Ok(ExitStatus::OutOfMemory)

@@ -1,3 +1,4 @@
+use crate::check::run_check;
 use crate::device::Device;
 use crate::mode::{Mode, mode_of};
 use crate::status::ExitStatus;
@@ -181,5 +182,210 @@ fn reads_its_arguments(rt: HostRuntime) -> Result<(), Fail> {
     let two = [steps.clone()?, steps.clone()?];
     assert_eq!(rt; mode_of(&two), None);
     assert_eq!(rt; mode_of(&[steps]), Some(Mode::Steps));
+    Ok(())
+}
+
+/// Gives one byte at a time, and fails at a place.
+#[derive(Drop)]
+struct SlowReader {
+    input: Vec<u8>,
+    at: usize,
+    fails_at: usize,
+}
+
+impl Read for SlowReader {
+    fn read(&mut self, piece: &mut [u8]) -> io::Result<usize> {
+        if self.at == self.fails_at {
+            return Err(Error::from(ErrorKind::BrokenPipe));
+        }
+        if piece.is_empty() || self.at >= self.input.len() {
+            return Ok(0);
+        }
+        piece[0] = self.input[self.at];
+        self.at += 1;
+        Ok(1)
+    }
+}
+
+/// Gives a byte at each read and never ends, or is interrupted at each.
+#[derive(Drop)]
+struct EndlessReader {
+    is_interrupted: bool,
+}
+
+impl Read for EndlessReader {
+    fn read(&mut self, piece: &mut [u8]) -> io::Result<usize> {
+        if self.is_interrupted || piece.is_empty() {
+            return Err(Error::from(ErrorKind::Interrupted));
+        }
+        piece[0] = b'\n';
+        Ok(1)
+    }
+}
+
+/// Takes one byte at a time.
+#[derive(Drop)]
+struct SlowWriter {
+    taken: Vec<u8>,
+}
+
+impl Write for SlowWriter {
+    fn write(&mut self, bytes: &[u8]) -> io::Result<usize> {
+        if bytes.is_empty() {
+            return Ok(0);
+        }
+        match self.taken.push(bytes[0]) {
+            Ok(()) => Ok(1),
+            Err(_) => Err(Error::from(ErrorKind::OutOfMemory)),
+        }
+    }
+
+    fn flush(&mut self) -> io::Result<()> {
+        Ok(())
+    }
+}
+
+/// Takes no byte, or is interrupted.
+#[derive(Drop)]
+struct StuckWriter {
+    is_interrupted: bool,
+}
+
+impl Write for StuckWriter {
+    fn write(&mut self, _bytes: &[u8]) -> io::Result<usize> {
+        if self.is_interrupted {
+            Err(Error::from(ErrorKind::Interrupted))
+        } else {
+            Ok(0)
+        }
+    }
+
+    fn flush(&mut self) -> io::Result<()> {
+        Ok(())
+    }
+}
+
+#[test]
+fn reads_and_writes_a_byte_at_a_time(rt: HostRuntime) -> Result<(), Fail> {
+    let bytes: &[u8] = b"agent -\nchannel 0\nfly";
+    let mut reader = SlowReader {
+        input: Vec::from_slice(rt.alloc(), bytes)?,
+        at: 0,
+        fails_at: usize::MAX,
+    };
+    let mut writer = SlowWriter {
+        taken: Vec::new(rt.alloc()),
+    };
+    let answer = run_steps(rt.alloc(), &mut reader, &mut writer);
+    assert_eq!(rt; answer, Ok(ExitStatus::BadInput));
+    let line: &[u8] = b"line 3: UnknownStep\n";
+    assert_eq!(rt; writer.taken.as_slice(), line);
+    Ok(())
+}
+
+#[test]
+fn writes_nothing_after_a_failed_read(rt: HostRuntime) -> Result<(), Fail> {
+    let bytes: &[u8] = b"agent -\nchannel 0\n";
+    for fails_at in [0usize, 8, 18] {
+        let mut reader = SlowReader {
+            input: Vec::from_slice(rt.alloc(), bytes)?,
+            at: 0,
+            fails_at,
+        };
+        let mut writer = Vec::new(rt.alloc());
+        let answer = run_steps(rt.alloc(), &mut reader, &mut writer);
+        assert_eq!(rt; answer, Err(Device));
+        assert_eq!(rt; writer.len(), 0);
+    }
+    Ok(())
+}
+
+#[test]
+fn an_input_that_never_ends_is_a_failed_read(rt: HostRuntime) {
+    for is_interrupted in [false, true] {
+        let mut writer = Vec::new(rt.alloc());
+        let mut reader = EndlessReader { is_interrupted };
+        let answer = run_steps(rt.alloc(), &mut reader, &mut writer);
+        assert_eq!(rt; answer, Err(Device));
+        assert_eq!(rt; writer.len(), 0);
+    }
+}
+
+#[test]
+fn a_write_that_takes_nothing_has_failed(rt: HostRuntime) {
+    for is_interrupted in [false, true] {
+        let mut input: &[u8] = b"agent -\n";
+        let answer = run_steps(rt.alloc(), &mut input, &mut StuckWriter { is_interrupted });
+        assert_eq!(rt; answer, Err(Device));
+    }
+}
+
+/// What the checker writes for logs, and its exit status.
+fn expect_checked(rt: &impl Abort, alloc: Global, logs: &[u8], output: &[u8], status: u8) {
+    let mut reader = logs;
+    let mut writer = Vec::new(alloc);
+    let answer = run_check(alloc, &mut reader, &mut writer);
+    assert_eq!(rt; writer.as_slice(), output);
+    let number = answer
+        .expect(rt, "memory never fails to be read or written")
+        .number();
+    assert_eq!(rt; number, status);
+}
+
+#[test]
+fn checks_logs(rt: HostRuntime) -> Result<(), Fail> {
+    let rows: [(&[u8], &[u8], u8); 9] = [
+        (b"", b"clean\n", 0),
+        (b"got 1 0 0:0 - 1\n", b"clean\n", 0),
+        (
+            b"got 1 0 0:0 - 1\ngot 1 0 0:0 - 1\n",
+            b"fault 1 0 1 Twice\n",
+            1,
+        ),
+        (
+            b"got 1 0 0:0 - 1\ngot 1 0 0:2 - 3\n",
+            b"fault 1 0 1 Gap\n",
+            1,
+        ),
+        (
+            b"got 1 0 0:0 - 1\nclosed 1\ngot 1 0 0:1 - 2\n",
+            b"fault 1 0 1 AfterClose\n",
+            1,
+        ),
+        (
+            b"got 1 0 0:0 - 1\ngot 1 0 0:1 - 9\n",
+            b"fault 1 0 1 Changed\n",
+            1,
+        ),
+        (
+            b"got 1 0 0:0 - 1\ngot 1 0 0:5 - 1\n",
+            b"fault 1 0 1 Foreign\n",
+            1,
+        ),
+        (b"got 1 0 0:\n", b"line 7: BadLine\n", 2),
+        (
+            b"got 1 0 0:0 - 1\ndeliveries\nend 1 line 0 0:0\n",
+            b"clean\n",
+            0,
+        ),
+    ];
+    for (more, output, status) in rows {
+        let head =
+            b"hublog 1\nagent 0\nput 1 0 0:0 - 1\nput 1 0 0:1 - 2\nput 1 0 0:2 - 3\nagent 1\n";
+        let mut logs = Vec::new(rt.alloc());
+        if !more.is_empty() {
+            logs.extend_from_slice(head)?;
+            logs.extend_from_slice(more)?;
+        }
+        expect_checked(&rt, rt.alloc(), logs.as_slice(), output, status);
+    }
+    expect_checked(&rt, rt.alloc(), b"hublog 9\n", b"line 1: BadHeader\n", 2);
+    expect_checked(
+        &rt,
+        rt.alloc(),
+        b"hublog 1\nclosed 0\n",
+        b"line 2: BadLine\n",
+        2,
+    );
     Ok(())
 }

@@ -1,3 +1,4 @@
+use super::end_list::EndList;
 use hub_envelope::{AgentId, Body, EndId};
 
 /// Whose poster a line speaks of.
@@ -13,10 +14,10 @@ pub enum Command {
     Agent,
     Channel(AgentId),
     Enter(Poster),
-    Push(Poster, Vec<EndId>, Body),
+    Push(Poster, EndList, Body),
     Leave(Poster),
     /// Enter, push and leave in one line.
-    Post(Poster, Vec<EndId>, Body),
+    Post(Poster, EndList, Body),
     Start(EndId),
     Take(EndId),
 }

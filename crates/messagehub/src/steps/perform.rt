@@ -1,9 +1,18 @@
+ghost use Rattle.std.specs.Prelude.{◌≡◌, IfOk};
+ghost use Rattle.hub_core.specs.History.{History};
+ghost use Rattle.hub_core.specs.Shows.{Shows};
+ghost use Rattle.hub_core.specs.declared.step.Action.TheVariants as action;
+ghost use Rattle.messagehub.specs.Unfolding.{sender_of, pair};
+ghost use Rattle.messagehub.specs.Performed.{PerformsAt, PostsAt, StepsAt};
+
 use super::line::{Command, Poster, StepLine};
 use hub_core::{Action, Core, OutOfMemory, Outcome, Sender, Step};
 use hub_envelope::{Body, EndId};
 
 /// Takes the core's steps of a line, and gives the outcome that the line shows.
-pub fn perform(core: &mut Core, line: StepLine) -> Result<Outcome, OutOfMemory> {
+pub fn perform(core: &mut Core, line: StepLine) -> Result<Outcome, OutOfMemory>
+    ensures { IfOk result (λ shown. PerformsAt core.old core.new line shown) }
+{
     let StepLine {
         command,
         memory_refused,
@@ -20,11 +29,11 @@ pub fn perform(core: &mut Core, line: StepLine) -> Result<Outcome, OutOfMemory> 
             None => return Ok(Outcome::NotNow),
         },
         Command::Push(poster, ports, body) => match sender_of(core, poster) {
-            Some(sender) => Action::Push(sender, ports, body),
+            Some(sender) => Action::Push(sender, ports.into_ends(), body),
             None => return Ok(Outcome::NotNow),
         },
         Command::Post(poster, ports, body) => match sender_of(core, poster) {
-            Some(sender) => return post(core, sender, ports, body, memory_refused),
+            Some(sender) => return post(core, sender, ports.into_ends(), body, memory_refused),
             None => return Ok(Outcome::NotNow),
         },
         Command::Start(end) => Action::Start(end),
@@ -36,7 +45,9 @@ pub fn perform(core: &mut Core, line: StepLine) -> Result<Outcome, OutOfMemory> 
     })
 }
 
-fn sender_of(core: &Core, poster: Poster) -> Option<Sender> {
+fn sender_of(core: &Core, poster: Poster) -> Option<Sender>
+    ensures { (h : History) → Shows core.now h → result ≡ sender_of h poster }
+{
     match poster {
         Poster::Port(port) => core.sender_of(port),
     }
@@ -49,22 +60,37 @@ fn post(
     ports: Vec<EndId>,
     body: Body,
     memory_refused: bool,
-) -> Result<Outcome, OutOfMemory> {
+) -> Result<Outcome, OutOfMemory>
+    ensures { IfOk result (λ shown.
+        PostsAt core.old core.new memory_refused ports.items body sender shown) }
+{
     let entered = core.step(Step {
         action: Action::Enter(sender),
         memory_refused,
     })?;
-    let answer = match entered {
-        Outcome::In => core.step(Step {
-            action: Action::Push(sender, ports, body),
-            memory_refused,
-        })?,
-        Outcome::Closed => Outcome::Closed,
-        _ => return Ok(Outcome::NotNow),
-    };
-    let _left = core.step(Step {
+    match entered {
+        Outcome::In => {
+            let answer = core.step(Step {
+                action: Action::Push(sender, ports, body),
+                memory_refused,
+            })?;
+            leave(core, sender, memory_refused)?; // whatever the push was answered
+            Ok(answer)
+        }
+        Outcome::Closed => {
+            leave(core, sender, memory_refused)?;
+            Ok(Outcome::Closed)
+        }
+        // The poster isn't usable or isn't out. No queue is retired yet, so it isn't turned back.
+        _ => Ok(Outcome::NotNow),
+    }
+}
+
+fn leave(core: &mut Core, sender: Sender, memory_refused: bool) -> Result<Outcome, OutOfMemory>
+    ensures { IfOk result (λ left. StepsAt core.old core.new (pair memory_refused (action.Leave sender) left)) }
+{
+    core.step(Step {
         action: Action::Leave(sender),
         memory_refused,
-    })?;
-    Ok(answer)
+    })
 }

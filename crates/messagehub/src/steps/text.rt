@@ -1,11 +1,18 @@
+ghost use Rattle.std.specs.Prelude.{◌≡◌, ◌++◌, OnOk, string_bytes};
+ghost use Rattle.messagehub.specs.OutcomeText.{outcome_line, delivery_text, ports_text};
+ghost use Rattle.messagehub.specs.FaultText.{fault_line};
+
 use super::line::LineError;
 use super::parse::Fault;
 use hub_core::Outcome;
-use hub_envelope::Envelope;
+use hub_envelope::{EndId, Envelope};
 use std::alloc::AllocError;
 
 /// Writes the line of an outcome, with its LF.
-pub fn write_outcome(text: &mut String, outcome: &Outcome) -> Result<(), AllocError> {
+#[tactic(auto, unfolding(crate::specs::OutcomeText::outcome_line))]
+pub fn write_outcome(text: &mut String, outcome: &Outcome) -> Result<(), AllocError>
+    ensures { OnOk result (string_bytes text.new ≡ string_bytes text.old ++ outcome_line outcome.now) }
+{
     match outcome {
         Outcome::NotNow => text.push_str("not-now\n"),
         Outcome::NoMemory => text.push_str("no-memory\n"),
@@ -26,25 +33,37 @@ pub fn write_outcome(text: &mut String, outcome: &Outcome) -> Result<(), AllocEr
     }
 }
 
-fn write_delivery(text: &mut String, envelope: &Envelope) -> Result<(), AllocError> {
+fn write_delivery(text: &mut String, envelope: &Envelope) -> Result<(), AllocError>
+    ensures { OnOk result (string_bytes text.new ≡ string_bytes text.old ++ delivery_text envelope.now) }
+{
     let epoch = envelope.epoch;
     let number = envelope.number;
     let line = envelope.line.0;
     write!(text, "got {epoch}:{number} from {line} ")?;
-    let mut word = "with ";
-    for port in envelope.ports.as_slice() {
-        write!(text, "{word}{}", port.0)?;
-        word = ",";
-    }
-    if !envelope.ports.as_slice().is_empty() {
-        text.push_str(" ")?;
-    }
+    write_ports(text, envelope.ports.as_slice())?;
     text.push_str(envelope.body.text())?;
     text.push_str("\n")
 }
 
+/// Writes the ports of a delivery, where there are some.
+fn write_ports(text: &mut String, ports: &[EndId]) -> Result<(), AllocError>
+    ensures { OnOk result (string_bytes text.new ≡ string_bytes text.old ++ ports_text ports.now) }
+{
+    let [first, others @ ..] = ports else {
+        return Ok(());
+    };
+    write!(text, "with {}", first.0)?;
+    for port in others {
+        write!(text, ",{}", port.0)?;
+    }
+    text.push_str(" ")
+}
+
 /// Writes the one line of bad input.
-pub fn write_fault(text: &mut String, fault: Fault) -> Result<(), AllocError> {
+#[tactic(auto, unfolding(crate::specs::FaultText::fault_line))]
+pub fn write_fault(text: &mut String, fault: Fault) -> Result<(), AllocError>
+    ensures { OnOk result (string_bytes text.new ≡ string_bytes text.old ++ fault_line fault) }
+{
     let line = fault.line;
     let kind = match fault.kind {
         LineError::BadUtf8 => "BadUtf8",

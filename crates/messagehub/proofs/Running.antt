@@ -1,0 +1,114 @@
+-- Lines that were run, and what has gone out of their text.
+use Rattle.std.proofs.Common.{◌≡◌, ℕ, List, [], ◌∷◌, ◌++◌, length, Bool, true, false, Option, Result, Ok, Err, refl, sym, ap, subst, ◌∙◌, append_assoc, append-nil, arith}
+use Rattle.std.specs.Result.{is_err, OnOk, OnErr}
+use Rattle.std.specs.Io.KnownBytes.{Appends, Keeps}
+use Rattle.hub_core.specs.declared.machine.Core.{Core}
+use Rattle.hub_core.specs.declared.outcome.Outcome.{Outcome}
+use Rattle.hub_core.specs.History.{History}
+use Rattle.hub_core.specs.Legal.{Legal, LegalAfter}
+use Rattle.hub_core.specs.Shows.{Shows}
+use Rattle.messagehub.specs.declared.steps.line.StepLine.{StepLine}
+use Rattle.messagehub.specs.Beginning.{AppendsBeginning}
+use Rattle.messagehub.specs.OutcomeText.{outcome_line}
+use Rattle.messagehub.specs.Performed.{Performs, PerformsAt}
+use Rattle.messagehub.specs.StepText.{Runs, IsStepText}
+use Rattle.messagehub.specs.Output.{IsCutShort, out_of_memory}
+use Rattle.messagehub.proofs.Bytes.{appends_nothing, appends_more, appends_kept, begins_after, begins_kept, begins_longer}
+
+runs_more : (past : History) (lines : List StepLine) (text : List ℕ) (h : History) (line : StepLine) (more : History) (shown : Outcome) → Runs past lines text h → Performs h line more shown
+    → Runs past (lines ++ line ∷ []) (text ++ outcome_line shown) (h ++ more)
+runs_more past [] text h line more shown r p =
+    (more, shown, [], subst (λ k. Performs k line more shown) r.1 p, ap (λ t. t ++ outcome_line shown) r.0 ∙ sym (append-nil (outcome_line shown)), (refl, ap (λ k. k ++ more) r.1))
+runs_more past (l ∷ lines) text h line more shown r p =
+    (r.0, r.1, r.2 ++ outcome_line shown, r.3, ap (λ t. t ++ outcome_line shown) r.4 ∙ append_assoc (outcome_line r.1) r.2 (outcome_line shown), runs_more (past ++ r.0) lines r.2 h line more shown r.5 p)
+
+legal_append : (past a b : History) → LegalAfter past a → LegalAfter (past ++ a) b → LegalAfter past (a ++ b)
+legal_append past [] b l m = subst (λ k. LegalAfter k b) (append-nil past) m
+legal_append past (p ∷ a) b l m = (l.0, legal_append (past ++ p ∷ []) a b l.1 (subst (λ k. LegalAfter k b) (sym (append_assoc past (p ∷ []) a)) m))
+
+-- the lines were run by a legal history that the core shows; of their text a front has gone out, and
+-- the rest is kept
+pub record IsAnswered (old now : Option (List ℕ)) (core : Core) (kept : List ℕ) (lines : List StepLine) : Type 0 where
+  pub h : History
+  pub sent : List ℕ
+  pub runs : Runs [] lines (sent ++ kept) h
+  pub legal : Legal h
+  pub shows : Shows core h
+  pub out : Appends old now sent
+
+pub starts : (old : Option (List ℕ)) (core : Core) (kept : List ℕ) → kept ≡ [] → Shows core [] → IsAnswered old old core kept []
+starts old core kept none shows = record { h = []; sent = []; runs = (none, refl); legal = tt; shows = shows; out = appends_nothing old }
+
+pub answers : (old now : Option (List ℕ)) (core next : Core) (kept longer : List ℕ) (lines : List StepLine) (line : StepLine) (shown : Outcome) → IsAnswered old now core kept lines → PerformsAt core next line shown → longer ≡ kept ++ outcome_line shown
+    → IsAnswered old now next longer (lines ++ line ∷ [])
+answers old now core next kept longer lines line shown a performs e =
+    let x = performs a.h a.shows in
+    let text : (a.sent ++ kept) ++ outcome_line shown ≡ a.sent ++ longer = append_assoc a.sent kept (outcome_line shown) ∙ ap (λ t. a.sent ++ t) (sym e) in
+    record {
+      h = a.h ++ x.0;
+      sent = a.sent;
+      runs = subst (λ t. Runs [] (lines ++ line ∷ []) t (a.h ++ x.0)) text (runs_more [] lines (a.sent ++ kept) a.h line x.0 shown a.runs x.1);
+      legal = legal_append [] a.h x.0 a.legal x.1.legal;
+      shows = x.2;
+      out = a.out;
+    }
+
+pub sends : (old now next : Option (List ℕ)) (core : Core) (kept none : List ℕ) (lines : List StepLine) → IsAnswered old now core kept lines → Appends now next kept → none ≡ [] → IsAnswered old next core none lines
+sends old now next core kept none lines a out e =
+    let text : a.sent ++ kept ≡ (a.sent ++ kept) ++ none = sym (append-nil (a.sent ++ kept)) ∙ ap (λ t. (a.sent ++ kept) ++ t) (sym e) in
+    record { h = a.h; sent = a.sent ++ kept; runs = subst (λ t. Runs [] lines t a.h) text a.runs; legal = a.legal; shows = a.shows; out = appends_more old now next a.sent kept a.out out }
+
+pub ends : (old now next : Option (List ℕ)) (core : Core) (kept : List ℕ) (lines : List StepLine) → IsAnswered old now core kept lines → kept ≡ [] → Keeps now next → (text : List ℕ) × IsStepText lines text × Appends old next text
+ends old now next core kept lines a e keeps =
+    let text : a.sent ++ kept ≡ a.sent = ap (λ t. a.sent ++ t) e ∙ append-nil a.sent in
+    (a.sent, (a.h, subst (λ t. Runs [] lines t a.h) text a.runs, a.legal), appends_kept old now next a.sent a.out keeps)
+
+-- the text of the first lines, and out of memory
+pub cut_short : (old now : Option (List ℕ)) (core : Core) (kept : List ℕ) (front back lines : List StepLine) → IsAnswered old now core kept front → lines ≡ front ++ back
+    → (said : List ℕ) × IsCutShort lines (said ++ out_of_memory) × (now_sent : List ℕ) × (said ≡ now_sent ++ kept) × Appends old now now_sent
+cut_short old now core kept front back lines a e = (a.sent ++ kept, (front, back, a.sent ++ kept, e, (a.h, a.runs, a.legal), refl), a.sent, refl, a.out)
+
+pub cut_begun : (old now next : Option (List ℕ)) (core : Core) (kept : List ℕ) (front back lines : List StepLine) → IsAnswered old now core kept front → lines ≡ front ++ back → AppendsBeginning now next kept
+    → (text : List ℕ) × IsCutShort lines text × AppendsBeginning old next text
+cut_begun old now next core kept front back lines a e b =
+    ((a.sent ++ kept) ++ out_of_memory, (front, back, a.sent ++ kept, e, (a.h, a.runs, a.legal), refl), begins_longer old next (a.sent ++ kept) out_of_memory (begins_after old now next a.sent kept a.out b))
+
+pub cut_ended : (old now next : Option (List ℕ)) (core : Core) (kept : List ℕ) (front back lines : List StepLine) → IsAnswered old now core kept front → lines ≡ front ++ back → kept ≡ [] → Appends now next out_of_memory
+    → (text : List ℕ) × IsCutShort lines text × Appends old next text
+cut_ended old now next core kept front back lines a e none b =
+    let text : a.sent ++ kept ≡ a.sent = ap (λ t. a.sent ++ t) none ∙ append-nil a.sent in
+    (a.sent ++ out_of_memory, (front, back, a.sent, e, (a.h, subst (λ t. Runs [] front t a.h) text a.runs, a.legal), refl), appends_more old now next a.sent out_of_memory a.out b)
+
+pub cut_ending : (old now next : Option (List ℕ)) (core : Core) (kept : List ℕ) (front back lines : List StepLine) → IsAnswered old now core kept front → lines ≡ front ++ back → kept ≡ [] → AppendsBeginning now next out_of_memory
+    → (text : List ℕ) × IsCutShort lines text × AppendsBeginning old next text
+cut_ending old now next core kept front back lines a e none b =
+    let text : a.sent ++ kept ≡ a.sent = ap (λ t. a.sent ++ t) none ∙ append-nil a.sent in
+    (a.sent ++ out_of_memory, (front, back, a.sent, e, (a.h, subst (λ t. Runs [] front t a.h) text a.runs, a.legal), refl), begins_after old now next a.sent out_of_memory a.out b)
+
+pub flush_failed : (old now next : Option (List ℕ)) (core : Core) (kept : List ℕ) (front back lines : List StepLine) → IsAnswered old now core kept front → lines ≡ front ++ back → kept ≡ [] → Keeps now next
+    → (text : List ℕ) × IsCutShort lines text × AppendsBeginning old next text
+flush_failed old now next core kept front back lines a e none keeps =
+    let text : a.sent ++ kept ≡ a.sent = ap (λ t. a.sent ++ t) none ∙ append-nil a.sent in
+    (a.sent ++ out_of_memory, (front, back, a.sent, e, (a.h, subst (λ t. Runs [] front t a.h) text a.runs, a.legal), refl), begins_kept old now next a.sent out_of_memory a.out keeps)
+
+pub one_less : (lines done rest after : List StepLine) (line : StepLine) → lines ≡ done ++ rest → rest ≡ line ∷ after → lines ≡ (done ++ line ∷ []) ++ after
+one_less lines done rest after line e f = e ∙ ap (λ xs. done ++ xs) f ∙ sym (append_assoc done (line ∷ []) after)
+
+none_left : (rest : List StepLine) → length rest ≡ 0 → rest ≡ []
+none_left [] h = refl
+none_left (l ∷ rest) h = absurd (omega (arith, h))
+
+pub all_done : (lines done rest : List StepLine) (len : ℕ) → lines ≡ done ++ rest → len ≡ length rest → len ≡ 0 → done ≡ lines
+all_done lines done rest len e f g = sym (e ∙ ap (λ xs. done ++ xs) (none_left rest (sym f ∙ g)) ∙ append-nil done)
+
+pub err_says : {T E : Type 0} (r : Result T E) (P : Type 0) (b : Bool) → b ≡ is_err r → b ≡ true → OnErr r P → P
+err_says (Ok x) P b e f h = cc
+err_says (Err x) P b e f h = h
+
+pub ok_says : {T E : Type 0} (r : Result T E) (P : Type 0) (b : Bool) → b ≡ is_err r → b ≡ false → OnOk r P → P
+ok_says (Ok x) P b e f h = h
+ok_says (Err x) P b e f h = cc
+
+pub whenever : {T E : Type 0} (r : Result T E) (P : Type 0) → P → OnErr r P
+whenever (Ok x) P h = tt
+whenever (Err e) P h = h

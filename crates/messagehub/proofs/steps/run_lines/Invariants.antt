@@ -1,0 +1,11 @@
+use Rattle.std.proofs.Common.{◌≡◌, ◌++◌}
+use Rattle.std.specs.Vec.Iter.{into_iter_items}
+use Rattle.messagehub.proofs.Running.{IsAnswered}
+use Rattle.messagehub.proofs.steps.run_lines.Given as goal
+
+-- the lines so far were answered
+abbrev pub invariant-loop-line : goal.invariant-loop-line
+invariant-loop-line g l = record {
+  answered : IsAnswered (g.W.Write.contents l.fn.writer) (g.W.Write.contents l.writer) l.core l.kept.items l.yielded;
+  left : l.fn.lines.items ≡ l.yielded ++ into_iter_items l.line-iterator;
+}
