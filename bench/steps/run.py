@@ -20,6 +20,8 @@ MOST_TO_NODE = 1.0
 MOST_BYTES_A_LINE = 400
 MOST_GROWTH = 2.3
 HEADER = "agent -\nchannel 0\nstart 1\n"
+# Files in memory where there is such a folder, so that no disk is timed.
+FOLDER = "/dev/shm" if os.access("/dev/shm", os.W_OK) else None
 
 
 def post(number):
@@ -62,7 +64,7 @@ def main():
     repeats = int(sys.argv[2]) if len(sys.argv) > 2 else 3
     reference = os.path.join(os.path.dirname(os.path.abspath(__file__)), "reference.mjs")
     missed = []
-    with tempfile.TemporaryDirectory() as folder:
+    with tempfile.TemporaryDirectory(dir=FOLDER) as folder:
         paths = [os.path.join(folder, name) for name in ("input", "ours", "theirs")]
         source, ours, theirs = paths
         for name, shape in (("alternating", alternating), ("posts first", posts_first)):

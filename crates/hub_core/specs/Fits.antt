@@ -1,4 +1,4 @@
--- What a step may be answered after a history. Pairs that no case allows never come.
+-- What a step may be answered after a history (this project's own). Pairs that no case allows never come.
 use Rattle.std.specs.Prelude.{◌≡◌, Bool}
 use Rattle.hub_core.specs.declared.step.Action.{Action}
 use Rattle.hub_core.specs.declared.step.Action.TheVariants as action

@@ -1,4 +1,5 @@
--- The gate of one queue as a machine: what its flags, its lines and the rights of its lines are, what one event makes of them, and the one word that shows flags and count.
+-- The gate of one queue as a machine (this project's own): what its flags, its lines and the rights of its lines
+-- are, what one event makes of them, and the one word that shows flags and count.
 use Rattle.std.specs.Prelude.{◌≡◌, ℕ, ◌+◌, ◌*◌, ◌/◌, ◌<◌, ◌==◌, ◌||◌, Bool, true, false, not, List, map, sum_by, bit_and, slice_get, slice_set, Option, Some, None}
 use Rattle.hub_core.specs.declared.line.Phase.{Phase}
 use Rattle.hub_core.specs.declared.line.Phase.TheVariants.{Out, Inside, Turned}

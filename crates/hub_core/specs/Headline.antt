@@ -1,4 +1,5 @@
--- What every legal history keeps, in the words of the subject.
+-- What every legal history keeps, in the words of the subject (WHATWG HTML, "Message ports": the tasks of a
+-- port message queue are run in order, each once).
 use Rattle.std.specs.Prelude.{◌≡◌, ℕ, zero, suc, ◌==◌, ◌&&◌, List, [], ◌∷◌, ◌++◌, length, map}
 use Rattle.std.specs.List.{filter}
 use Rattle.hub_envelope.specs.declared.envelope.Envelope.{Envelope}

@@ -1,4 +1,4 @@
--- What was asked of a hub, and what it answered.
+-- What was asked of a hub, and what it answered (this project's own).
 use Rattle.std.specs.Prelude.{List}
 use Rattle.hub_core.specs.declared.step.Step.{Step}
 use Rattle.hub_core.specs.declared.outcome.Outcome.{Outcome}

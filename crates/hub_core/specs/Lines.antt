@@ -1,4 +1,5 @@
--- Where the posters of an end's lines are, and at which queues its lines and its taker stand.
+-- Where the posters of an end's lines are, and at which queues its lines and its taker stand (this project's
+-- own; WHATWG HTML, "Message ports", moves the tasks of a transferred port to the new port's queue).
 use Rattle.std.specs.Prelude.{ℕ, ◌==◌, ◌||◌, ◌&&◌, if◌then◌else◌}
 use Rattle.std.specs.List.{fold}
 use Rattle.hub_core.specs.declared.line.Phase.{Phase}

@@ -1,5 +1,5 @@
--- A mailbox, the queues of one end, as a machine: queue by queue its gate and what it holds, and where the
--- lines and the taker stand. The ends of the core are mailboxes, and so are those of running threads.
+-- A mailbox, the queues of one end, as a machine (this project's own): queue by queue its gate and what it holds,
+-- and where the lines and the taker stand. The ends of the core are mailboxes, and so are those of running threads.
 use Rattle.std.specs.Prelude.{◌≡◌, ℕ, ◌+◌, true, false, List, [], ◌∷◌, ◌++◌, length, map, slice_get, Some}
 use Rattle.std.specs.List.{flat_map}
 use Rattle.hub_core.specs.declared.end.End.{End}

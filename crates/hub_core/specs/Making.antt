@@ -1,4 +1,5 @@
--- What the steps that make agents and ends are answered.
+-- What the steps that make agents and ends are answered (WHATWG HTML, "Message channels": a new channel is
+-- two entangled ports; the limits are this project's own).
 use Rattle.std.specs.Prelude.{◌+◌, if◌then◌else◌, nat_le, nat_lt, Bool, not}
 use Rattle.hub_envelope.specs.declared.ids.AgentId.{AgentId}
 use Rattle.hub_core.specs.declared.limits.TheConstants.{MAX_AGENTS, MAX_ENDS}

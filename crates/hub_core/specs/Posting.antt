@@ -1,4 +1,5 @@
--- What the steps of a poster are answered.
+-- What the steps of a poster are answered (WHATWG HTML, "Message ports", the message port post message steps
+-- with their transfer list; entering and leaving a gate are this project's own).
 use Rattle.std.specs.Prelude.{ℕ, ◌==◌, ◌&&◌, if◌then◌else◌, nat_lt, Bool, true, false, not, is_some, List, [], ◌∷◌, length, Option, Some, None, option_and_then}
 use Rattle.std.specs.List.{list_all}
 use Rattle.hub_envelope.specs.declared.ids.AgentId.{AgentId}

@@ -1,5 +1,6 @@
--- One queue of an end as a machine: what each line put there, what waits and what was taken. The core's
--- queues are such machines, and so are the queues of running threads.
+-- One queue of an end as a machine (WHATWG HTML, "Message ports": a port message queue): what each line put
+-- there, what waits and what was taken. The core's queues are such machines, and so are the queues of running
+-- threads.
 use Rattle.std.specs.Prelude.{◌≡◌, ℕ, ◌<◌, ◌==◌, if◌then◌else◌, List, [], ◌∷◌, ◌++◌, length, Option, Some, None}
 use Rattle.std.specs.List.{AllByRecursion}
 use Rattle.hub_envelope.specs.declared.envelope.Envelope.{Envelope}

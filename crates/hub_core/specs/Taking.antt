@@ -1,4 +1,5 @@
--- What the steps of a taker are answered.
+-- What the steps of a taker are answered (WHATWG HTML, "Message ports": `start()`, and an enabled queue as
+-- a task source).
 use Rattle.std.specs.Prelude.{◌≡◌, ℕ, if◌then◌else◌, is_some, [], ◌∷◌, ◌++◌}
 use Rattle.std.specs.Bool.{MatchBool}
 use Rattle.hub_envelope.specs.declared.ids.EndId.{EndId}
