@@ -14,7 +14,7 @@ use Rattle.hub_gate.specs.declared.view.KeeperView.{KeeperView}
 use Rattle.hub_gate.specs.GateRule.{slot_of, Owns, IsKeeper, Knows, Shows, IsGate}
 use Rattle.hub_gate.specs.GateSeats.{keeper_in}
 use Rattle.hub_gate.specs.GatePlays.{enabled_keeper, retired_keeper, closed_keeper, Enables, Retires, Closes}
-use Rattle.hub_gate.proofs.Seats.{shown_where, lines_stay}
+use Rattle.hub_gate.proofs.Seats.{shown_where, lines_stay, shown_by}
 use Rattle.hub_gate.proofs.Lines.{new_word}
 use Rattle.hub_gate.proofs.Words.{or_enabled, or_moved, or_closed}
 
@@ -54,8 +54,8 @@ enables {T = T} tag slots id k c s kept fits at small = (
       (machine.goes_on shown.gate next machine.enable machine.says_done shown.reached machine.enables)
       (new_word s.words (machine.word shown.gate) _ (λ n. bit_or n 1) shown.word (or_enabled shown.gate.enabled shown.gate.moved shown.gate.closed (machine.busy shown.gate)))
       shown.homes
-      (record { stands = own.stands; tags = own.tags; next = own.next; later = own.later; enabled = one_more k.enables; moved = own.moved; closed = own.closed; collected = own.collected })),
-  (refl, record { tags = shown.tags; before = shown.gate; after = next; reached = shown.reached; found = ap (λ (w : List ℕ). get_or w 0 0) shown.word; step = machine.enables }),
+      mine),
+  (refl, record { happens = record { tags = shown.tags; before = shown.gate; after = next; reached = shown.reached; found = ap (λ (w : List ℕ). get_or w 0 0) shown.word; step = machine.enables }; before = shown_by shown.tags shown.gate (length s.views) id k own; after = shown_by shown.tags next (length s.views) id (enabled_keeper k) mine }),
 )
   where
     shown : Shows tag s
@@ -69,6 +69,9 @@ enables {T = T} tag slots id k c s kept fits at small = (
 
     next : machine.Gate T
     next = machine.with_flags shown.gate true shown.gate.moved shown.gate.closed
+
+    mine : IsKeeper shown.tags next (length s.views) id (enabled_keeper k)
+    mine = record { stands = own.stands; tags = own.tags; next = own.next; later = own.later; enabled = one_more k.enables; moved = own.moved; closed = own.closed; collected = own.collected }
 
 pub enables_at : {T : Type 0} (tag : T → List ℕ) (slots id : ℕ) (me : Me (Option T) View) → me.0 ≡ Keeping (keeper_in me.0) → Allows (IsGate tag) slots id me 0 (λ n. bit_or n 1) (Enables tag (step slots 0 1 0 maybe.none) me)
 enables_at {T = T} tag slots id me is =
@@ -85,8 +88,8 @@ retires {T = T} tag slots id k c s kept fits at small = (
       (machine.goes_on shown.gate next machine.retire machine.says_done shown.reached machine.retires)
       (new_word s.words (machine.word shown.gate) _ (λ n. bit_or n 2) shown.word (or_moved shown.gate.enabled shown.gate.moved shown.gate.closed (machine.busy shown.gate)))
       shown.homes
-      (record { stands = own.stands; tags = own.tags; next = own.next; later = own.later; enabled = own.enabled; moved = one_more k.retires; closed = own.closed; collected = own.collected })),
-  (refl, record { tags = shown.tags; before = shown.gate; after = next; reached = shown.reached; found = ap (λ (w : List ℕ). get_or w 0 0) shown.word; step = machine.retires }),
+      mine),
+  (refl, record { happens = record { tags = shown.tags; before = shown.gate; after = next; reached = shown.reached; found = ap (λ (w : List ℕ). get_or w 0 0) shown.word; step = machine.retires }; before = shown_by shown.tags shown.gate (length s.views) id k own; after = shown_by shown.tags next (length s.views) id (retired_keeper k) mine }),
 )
   where
     shown : Shows tag s
@@ -100,6 +103,9 @@ retires {T = T} tag slots id k c s kept fits at small = (
 
     next : machine.Gate T
     next = machine.with_flags shown.gate shown.gate.enabled true shown.gate.closed
+
+    mine : IsKeeper shown.tags next (length s.views) id (retired_keeper k)
+    mine = record { stands = own.stands; tags = own.tags; next = own.next; later = own.later; enabled = own.enabled; moved = one_more k.retires; closed = own.closed; collected = own.collected }
 
 pub retires_at : {T : Type 0} (tag : T → List ℕ) (slots id : ℕ) (me : Me (Option T) View) → me.0 ≡ Keeping (keeper_in me.0) → Allows (IsGate tag) slots id me 0 (λ n. bit_or n 2) (Retires tag (step slots 0 2 0 maybe.none) me)
 retires_at {T = T} tag slots id me is =
@@ -116,8 +122,8 @@ closes {T = T} tag slots id k c s kept fits at small = (
       (machine.goes_on shown.gate next machine.close machine.says_done shown.reached machine.closes)
       (new_word s.words (machine.word shown.gate) _ (λ n. bit_or n 4) shown.word (or_closed shown.gate.enabled shown.gate.moved shown.gate.closed (machine.busy shown.gate)))
       shown.homes
-      (record { stands = own.stands; tags = own.tags; next = own.next; later = own.later; enabled = own.enabled; moved = own.moved; closed = one_more k.closes; collected = own.collected })),
-  (refl, record { tags = shown.tags; before = shown.gate; after = next; reached = shown.reached; found = ap (λ (w : List ℕ). get_or w 0 0) shown.word; step = machine.closes }),
+      mine),
+  (refl, record { happens = record { tags = shown.tags; before = shown.gate; after = next; reached = shown.reached; found = ap (λ (w : List ℕ). get_or w 0 0) shown.word; step = machine.closes }; before = shown_by shown.tags shown.gate (length s.views) id k own; after = shown_by shown.tags next (length s.views) id (closed_keeper k) mine }),
 )
   where
     shown : Shows tag s
@@ -131,6 +137,9 @@ closes {T = T} tag slots id k c s kept fits at small = (
 
     next : machine.Gate T
     next = machine.with_flags shown.gate shown.gate.enabled shown.gate.moved true
+
+    mine : IsKeeper shown.tags next (length s.views) id (closed_keeper k)
+    mine = record { stands = own.stands; tags = own.tags; next = own.next; later = own.later; enabled = own.enabled; moved = own.moved; closed = one_more k.closes; collected = own.collected }
 
 pub closes_at : {T : Type 0} (tag : T → List ℕ) (slots id : ℕ) (me : Me (Option T) View) → me.0 ≡ Keeping (keeper_in me.0) → Allows (IsGate tag) slots id me 0 (λ n. bit_or n 4) (Closes tag (step slots 0 4 0 maybe.none) me)
 closes_at {T = T} tag slots id me is =

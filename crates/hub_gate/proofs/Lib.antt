@@ -1,4 +1,6 @@
+pub mod AfterRights
 pub mod Emptying
+pub mod EveryGate
 pub mod Filling
 pub mod Flags
 pub mod Formed

@@ -16,10 +16,13 @@ use Rattle.hub_gate.specs.declared.view.View.{View}
 use Rattle.hub_gate.specs.declared.view.View.TheVariants.{LineOut, LineInside, LineTurned}
 use Rattle.hub_gate.specs.declared.view.LineView.{LineView}
 use Rattle.hub_gate.specs.GateRule.{slot_of, Owns, IsLine, Knows, Shows, IsGate}
-use Rattle.hub_gate.specs.GateSeats.{line_in}
+use Rattle.atomic_table.specs.Seated.{TableId}
+use Rattle.hub_gate.specs.GateSeats.{EntrySeat, line_in}
+use Rattle.hub_gate.specs.Entering.{IsLetIn}
 use Rattle.hub_gate.specs.GatePlays.{entered_line, left_line, turned_line, Happens, IsTurned, IsIn, Enters, Leaves, TurnsBack}
 use Rattle.hub_gate.proofs.Got.{none_got, some_is, got_here, set-map, sum_by-got_set}
 use Rattle.hub_gate.proofs.Formed.{formed}
+use Rattle.hub_gate.proofs.AfterRights.{let_in_before}
 use Rattle.hub_gate.proofs.Seats.{shown_where, at_within, after, others_stay}
 use Rattle.hub_gate.proofs.Words.{reads_enabled, reads_moved, reads_closed, counts_up, counts_down}
 
@@ -279,6 +282,25 @@ module _ {T : Type 0} (tag : T → List ℕ) (v : LineView) (word : ℕ) (after 
 
   pub told_in : machine.moved_in word ≡ false → machine.closed_in word ≡ false → IsIn tag v word after
   told_in m c = subst (λ (b : Bool). MatchBool b (IsTurned tag v Closed machine.says_closed word after) (IsIn tag v word after)) c (told_open m)
+
+-- the entry that let its line in, as callers see it
+pub entered_in : {T : Type 0} (tag : T → List ℕ) (entry : EntrySeat) (gate gate1 : TableId) (v : LineView) (word line : ℕ) (me me1 : Me (Option T) View) (right : T) (taken : Option T) → record { gate = gate; at = v } ≡ entry → IsIn tag v word me → machine.moved_in word ≡ false → machine.closed_in word ≡ false
+    → me.1 ≡ (line, taken) ∷ rest me.1 → taken ≡ Some right → me1 ≡ (me.0, (line, None) ∷ rest me.1) → gate1 ≡ gate → (gate1 ≡ entry.gate) × (line_in me1.0 ≡ entered_line entry.at None) × (tag right ≡ entry.at.tag) × IsLetIn tag entry.at.line right
+entered_in {T = T} tag entry gate gate1 v word line me me1 right taken was told not_moved not_closed front got is1 stays =
+    let same : told.0 ≡ right = ap (carried_right told.0) (sym (ap (λ (m : Me (Option T) View). m.1) told.3) ∙ front) ∙ ap (λ (o : Option T). unwrap_or o told.0) got in
+    let happens : Happens tag word (machine.enter v.line) (machine.lets_in right) = subst (λ (r : T). Happens tag word (machine.enter v.line) (machine.lets_in r)) same told.1 in
+    subst (λ (e : EntrySeat). (gate1 ≡ e.gate) × (line_in me1.0 ≡ entered_line e.at None) × (tag right ≡ e.at.tag) × IsLetIn tag e.at.line right) was (
+      stays,
+      ap (λ (m : Me (Option T) View). line_in m.0) is1 ∙ ap (λ (m : Me (Option T) View). line_in m.0) told.3,
+      ap tag (sym same) ∙ told.2,
+      record {
+        word = word;
+        happens = happens;
+        not_moved = not_moved;
+        not_closed = not_closed;
+        before_rights = let_in_before (Owns tag happens.tags) happens.before happens.after right happens.reached happens.step;
+      },
+    )
 
 -- the seat of a line that is inside, with its right back in the slot
 pub holding : {T : Type 0} (me me1 : Me (Option T) View) (line : ℕ) (right : T) → me ≡ (LineInside (line_in me.0), (line, None) ∷ []) → line ≡ (line_in me.0).line → me1 ≡ (me.0, (line, Some right) ∷ rest me.1)

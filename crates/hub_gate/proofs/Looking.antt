@@ -1,14 +1,11 @@
 -- The keeper's look keeps the rule of its gate, and gives all rights where nobody is inside a shut one.
-use Rattle.std.proofs.Common.{◌≡◌, ℕ, zero, suc, ◌<◌, ◌≤◌, ◌||◌, Bool, true, false, eqb, List, [], ◌∷◌, map, length, set, get_or, refl, sym, ap, ◌∙◌, subst, inr, arith, Option, Some, None}
-use Rattle.std.specs.Prelude.{slice_get, sum_by, MatchBool}
-use Rattle.std.proofs.lemmas.List.Sums.{sum_by-cons}
+use Rattle.std.proofs.Common.{◌≡◌, ℕ, suc, ◌<◌, ◌≤◌, ◌||◌, Bool, true, false, eqb, List, [], ◌∷◌, map, length, set, get_or, refl, sym, ap, ◌∙◌, subst, inr, arith, Option, Some, None}
+use Rattle.std.specs.Prelude.{slice_get, MatchBool}
 use Rattle.std.proofs.lemmas.Bool.Decides.{nat_tests}
 use mathlib.Core.Option.{some, none}
 use mathlib.Core.Option as maybe
 use lib.ListN.{get_elem?}
 use Rattle.atomic_table.specs.Table.{State, Me, Act, Valid, step, keeps, stepped, carried_after, homes_after, Allows}
-use Rattle.hub_core.specs.declared.line.Phase.{Phase}
-use Rattle.hub_core.specs.declared.line.Phase.TheVariants as phase
 use Rattle.hub_core.specs.GateMachine as machine
 use Rattle.hub_gate.specs.declared.view.View.{View}
 use Rattle.hub_gate.specs.declared.view.View.TheVariants.{Keeping}
@@ -17,32 +14,17 @@ use Rattle.hub_gate.specs.GateRule.{Tags, slot_of, Owns, IsKeeper, Shows, IsGate
 use Rattle.atomic_table.specs.Seated.{TableId}
 use Rattle.hub_gate.specs.GateSeats.{KeeperSeat, keeper_in}
 use Rattle.hub_gate.specs.Looking.{IsLast}
-use Rattle.hub_gate.specs.GatePlays.{looked_keeper, Happens, IsSeen, IsGiven, LooksAt, Looks}
+use Rattle.hub_gate.specs.GatePlays.{looked_keeper, has_shut, KeeperStep, IsSeen, IsGiven, LooksAt, Looks}
 use Rattle.hub_gate.specs.Taking.{take_from, all_out}
-use Rattle.hub_gate.proofs.Got.{none_got, some_is, got_there}
-use Rattle.hub_gate.proofs.Formed.{formed, is_inside}
+use Rattle.hub_gate.proofs.Got.{some_is, got_there}
+use Rattle.hub_gate.proofs.Formed.{formed, weight_le, not_inside}
+use Rattle.hub_gate.proofs.AfterRights.{over_from}
 use Rattle.hub_gate.proofs.Flags.{kept_by}
 use Rattle.hub_gate.proofs.Lines.{match_true, match_false, new_word, busy_le}
 use Rattle.hub_gate.proofs.Opening.{slots-opened}
-use Rattle.hub_gate.proofs.Seats.{shown_where}
+use Rattle.hub_gate.proofs.Seats.{shown_where, shown_by}
 use Rattle.hub_gate.proofs.Takings.{carried-take_from, homes-take_from, valid-take_from}
 use Rattle.hub_gate.proofs.Words.{reads_moved, reads_closed, reads_count}
-
--- no line weighs more than all
-weight_le : (ps : List Phase) (l : ℕ) (p : Phase) → slice_get ps l ≡ Some p → machine.weight p ≤ sum_by machine.weight ps
-weight_le [] l p e = none_got p e
-weight_le (q ∷ ps) zero p e =
-    let is : machine.weight q ≡ machine.weight p = ap machine.weight (some_is q p e) in
-    omega (arith, sum_by-cons machine.weight q ps)
-weight_le (q ∷ ps) (suc l) p e =
-    let r = weight_le ps l p e in
-    omega (arith, sum_by-cons machine.weight q ps)
-
--- where none is busy, none is inside
-not_inside : (p : Phase) → machine.weight p ≤ 0 → is_inside p ≡ false
-not_inside phase.Out h = refl
-not_inside phase.Inside h = absurd (omega arith)
-not_inside phase.Turned h = refl
 
 -- rights that are all at home, in order
 all_there : {T : Type 0} (tag : T → List ℕ) (homes : List (Option T)) (tags : Tags) → length homes ≡ length tags
@@ -90,6 +72,10 @@ module _ {T : Type 0} (tag : T → List ℕ) (slots id : ℕ) (k : KeeperView) (
   shut_is : (machine.moved_in word_now || machine.closed_in word_now) ≡ machine.is_shut shown.gate
   shut_is = (λ i. (ap machine.moved_in word_is ∙ reads_moved shown.gate.enabled shown.gate.moved shown.gate.closed (machine.busy shown.gate)) i || (ap machine.closed_in word_is ∙ reads_closed shown.gate.enabled shown.gate.moved shown.gate.closed (machine.busy shown.gate)) i)
 
+  -- the keeper's view shows whether the gate is shut
+  set_is : has_shut k ≡ machine.is_shut shown.gate
+  set_is = λ i. own.moved i || own.closed i
+
   same_word : set s.words 0 word_now ≡ machine.word shown.gate ∷ []
   same_word = new_word s.words (machine.word shown.gate) _ (λ n. n) shown.word refl
 
@@ -98,14 +84,22 @@ module _ {T : Type 0} (tag : T → List ℕ) (slots id : ℕ) (k : KeeperView) (
 
   -- the look gives no right
   sees : (answer : machine.Answer T) → machine.Steps (Owns tag shown.tags) shown.gate machine.look answer shown.gate → Result (IsSeen tag k c answer)
-  sees answer takes_step = (
-    Keeping (looked_keeper k word_now k.collected),
-    keeps,
-    tt,
-    inr (kept_by tag s shown id own.stands shown.gate refl (looked_keeper k word_now k.collected) word_now s.homes shown.reached same_word shown.homes
-        (record { stands = own.stands; tags = own.tags; next = own.next; later = own.later; enabled = own.enabled; moved = own.moved; closed = own.closed; collected = own.collected })),
-    (record { tags = shown.tags; before = shown.gate; after = shown.gate; reached = shown.reached; found = word_is; step = takes_step }, refl),
-  )
+  sees answer takes_step =
+      let mine : IsKeeper shown.tags shown.gate (length s.views) id (looked_keeper k word_now k.collected) =
+      record { stands = own.stands; tags = own.tags; next = own.next; later = own.later; enabled = own.enabled; moved = own.moved; closed = own.closed; collected = own.collected } in (
+        Keeping (looked_keeper k word_now k.collected),
+        keeps,
+        tt,
+        inr (kept_by tag s shown id own.stands shown.gate refl (looked_keeper k word_now k.collected) word_now s.homes shown.reached same_word shown.homes mine),
+        (
+          record {
+            happens = record { tags = shown.tags; before = shown.gate; after = shown.gate; reached = shown.reached; found = word_is; step = takes_step };
+            before = shown_by shown.tags shown.gate (length s.views) id k own;
+            after = shown_by shown.tags shown.gate (length s.views) id (looked_keeper k word_now k.collected) mine;
+          },
+          refl,
+        ),
+      )
 
   -- where none is busy and the rights were not given, all are at home
   rights_there : machine.busy shown.gate ≡ 0 → shown.gate.collected ≡ false → (rights : List T) × (shown.gate.homes ≡ map Some rights) × (map tag rights ≡ shown.tags)
@@ -125,6 +119,8 @@ module _ {T : Type 0} (tag : T → List ℕ) (slots id : ℕ) (k : KeeperView) (
       let rights : List T = there.0 in
       let next : machine.Gate T = machine.with_none shown.gate in
       let takes_step : machine.Steps (Owns tag shown.tags) shown.gate machine.look (machine.gives_rights rights) next = machine.gives rights open_yet shut none_busy there.1 in
+      let mine : IsKeeper shown.tags next (length s.views) id (looked_keeper k word_now true) =
+      record { stands = own.stands; tags = own.tags; next = own.next; later = own.later; enabled = own.enabled; moved = own.moved; closed = own.closed; collected = refl } in
       let homes : s.homes ≡ map some (map Some rights) = shown.homes ∙ ap (map slot_of) there.1 ∙ slots-opened rights in
       let away : homes_after s.homes c (take_from 0 (map Some rights)) ≡ map slot_of next.homes =
       (λ i. homes_after (homes i) c (take_from 0 (map Some rights))) ∙ homes-take_from [] (map Some rights) c 0 refl ∙ all_none rights ∙ ap (λ (h : List (Option T)). map slot_of (map no_right h)) (sym there.1) in (
@@ -133,9 +129,17 @@ module _ {T : Type 0} (tag : T → List ℕ) (slots id : ℕ) (k : KeeperView) (
         subst (λ (h : List (maybe.Option (Option T))). Valid h c (take_from 0 (map Some rights))) (sym homes) (valid-take_from [] (map Some rights) c 0 refl),
         inr (kept_by tag s shown id own.stands next refl (looked_keeper k word_now true) word_now (homes_after s.homes c (take_from 0 (map Some rights)))
             (machine.goes_on shown.gate next machine.look (machine.gives_rights rights) shown.reached takes_step)
-            same_word away
-            (record { stands = own.stands; tags = own.tags; next = own.next; later = own.later; enabled = own.enabled; moved = own.moved; closed = own.closed; collected = refl })),
-        (rights, record { tags = shown.tags; before = shown.gate; after = next; reached = shown.reached; found = word_is; step = takes_step }, there.2 ∙ sym own.tags, ap (λ (d : List (ℕ × Option T)). (Keeping (looked_keeper k word_now true), d)) (ap (λ (d : List (ℕ × Option T)). carried_after d (take_from 0 (map Some rights))) none_out ∙ carried-take_from 0 (map Some rights))),
+            same_word away mine),
+        (
+          rights,
+          record {
+            happens = record { tags = shown.tags; before = shown.gate; after = next; reached = shown.reached; found = word_is; step = takes_step };
+            before = shown_by shown.tags shown.gate (length s.views) id k own;
+            after = shown_by shown.tags next (length s.views) id (looked_keeper k word_now true) mine;
+          },
+          there.2 ∙ sym own.tags,
+          ap (λ (d : List (ℕ × Option T)). (Keeping (looked_keeper k word_now true), d)) (ap (λ (d : List (ℕ × Option T)). carried_after d (take_from 0 (map Some rights))) none_out ∙ carried-take_from 0 (map Some rights)),
+        ),
       )
 
   -- what is told under another name
@@ -148,12 +152,18 @@ module _ {T : Type 0} (tag : T → List ℕ) (slots id : ℕ) (k : KeeperView) (
   abbrev IsBusy : ℕ → Me (Option T) View → Type 0
   IsBusy found after = (0 < machine.count_in found) × (machine.count_in found ≤ 16) × IsSeen tag k c (machine.says_inside (machine.count_in found)) found after
 
+  abbrev IsShut : ℕ → Me (Option T) View → Type 0
+  IsShut found after = (has_shut k ≡ true) × MatchBool (eqb (machine.count_in found) 0) (IsGiven tag k found after) (IsBusy found after)
+
+  abbrev IsOpen : ℕ → Me (Option T) View → Type 0
+  IsOpen found after = (has_shut k ≡ false) × IsSeen tag k c machine.says_open found after
+
   -- of a gate that is moved or closed
   shut_told : (b : Bool) → k.collected ≡ false → machine.is_shut shown.gate ≡ true → eqb (machine.busy shown.gate) 0 ≡ b → (after : Me (Option T) View) → MatchBool b (IsGiven tag k word_now after) (IsBusy word_now after) → Told word_now after
   shut_told b is_collected is_shut is_none after t =
       match_false k.collected (IsSeen tag k c machine.says_given word_now after) (LooksAt tag k c word_now after) is_collected
-      (match_true (machine.moved_in word_now || machine.closed_in word_now) (MatchBool (eqb (machine.count_in word_now) 0) (IsGiven tag k word_now after) (IsBusy word_now after)) (IsSeen tag k c machine.says_open word_now after) (shut_is ∙ is_shut)
-      (subst (λ (x : Bool). MatchBool x (IsGiven tag k word_now after) (IsBusy word_now after)) (sym (ap (λ (n : ℕ). eqb n 0) count_is ∙ is_none)) t))
+      (match_true (machine.moved_in word_now || machine.closed_in word_now) (IsShut word_now after) (IsOpen word_now after) (shut_is ∙ is_shut)
+      (set_is ∙ is_shut, subst (λ (x : Bool). MatchBool x (IsGiven tag k word_now after) (IsBusy word_now after)) (sym (ap (λ (n : ℕ). eqb n 0) count_is ∙ is_none)) t))
 
   few_busy : machine.busy shown.gate ≤ 16
   few_busy = let b = busy_le shown.gate.phases in let n = shown.lines in let f = shown.few in omega arith
@@ -168,7 +178,7 @@ module _ {T : Type 0} (tag : T → List ℕ) (slots id : ℕ) (k : KeeperView) (
   looks_by false false none_busy is_collected is_shut is_none free =
       retold (IsSeen tag k c machine.says_open) Told
       (λ after t. match_false k.collected (IsSeen tag k c machine.says_given word_now after) (LooksAt tag k c word_now after) is_collected
-      (match_false (machine.moved_in word_now || machine.closed_in word_now) (MatchBool (eqb (machine.count_in word_now) 0) (IsGiven tag k word_now after) (IsBusy word_now after)) (IsSeen tag k c machine.says_open word_now after) (shut_is ∙ is_shut) t))
+      (match_false (machine.moved_in word_now || machine.closed_in word_now) (IsShut word_now after) (IsOpen word_now after) (shut_is ∙ is_shut) (set_is ∙ is_shut, t)))
       (sees machine.says_open (machine.is_open (sym own.collected ∙ is_collected) is_shut))
   looks_by false true false is_collected is_shut is_none free =
       let some_busy = not_zero (machine.busy shown.gate) is_none in
@@ -199,25 +209,43 @@ module _ {T : Type 0} (tag : T → List ℕ) (k : KeeperView) (c : List (ℕ × 
   abbrev BusyCase : Type 0
   BusyCase = (0 < machine.count_in word) × (machine.count_in word ≤ 16) × IsSeen tag k c (machine.says_inside (machine.count_in word)) word after
 
-  pub told_open : k.collected ≡ false → (machine.moved_in word || machine.closed_in word) ≡ false → IsSeen tag k c machine.says_open word after
-  told_open e f = subst (λ (b : Bool). MatchBool b (MatchBool (eqb (machine.count_in word) 0) (IsGiven tag k word after) BusyCase) (IsSeen tag k c machine.says_open word after)) f (told_more e)
+  abbrev ShutCase : Type 0
+  ShutCase = (has_shut k ≡ true) × MatchBool (eqb (machine.count_in word) 0) (IsGiven tag k word after) BusyCase
 
-  told_shut : k.collected ≡ false → (machine.moved_in word || machine.closed_in word) ≡ true → MatchBool (eqb (machine.count_in word) 0) (IsGiven tag k word after) BusyCase
-  told_shut e f = subst (λ (b : Bool). MatchBool b (MatchBool (eqb (machine.count_in word) 0) (IsGiven tag k word after) BusyCase) (IsSeen tag k c machine.says_open word after)) f (told_more e)
+  abbrev OpenCase : Type 0
+  OpenCase = (has_shut k ≡ false) × IsSeen tag k c machine.says_open word after
 
-  pub told_busy : k.collected ≡ false → (machine.moved_in word || machine.closed_in word) ≡ true → 0 < machine.count_in word → BusyCase
-  told_busy e f h = subst (λ (b : Bool). MatchBool b (IsGiven tag k word after) BusyCase) (is_positive (machine.count_in word) h) (told_shut e f)
+  pub told_open : k.collected ≡ false → (machine.moved_in word || machine.closed_in word) ≡ false → OpenCase
+  told_open e f = subst (λ (b : Bool). MatchBool b ShutCase OpenCase) f (told_more e)
+
+  told_shut : k.collected ≡ false → (machine.moved_in word || machine.closed_in word) ≡ true → ShutCase
+  told_shut e f = subst (λ (b : Bool). MatchBool b ShutCase OpenCase) f (told_more e)
+
+  pub told_busy : k.collected ≡ false → (machine.moved_in word || machine.closed_in word) ≡ true → 0 < machine.count_in word → (has_shut k ≡ true) × BusyCase
+  told_busy e f h = let shut = told_shut e f in (shut.0, subst (λ (b : Bool). MatchBool b (IsGiven tag k word after) BusyCase) (is_positive (machine.count_in word) h) shut.1)
 
   pub told_rights : k.collected ≡ false → (machine.moved_in word || machine.closed_in word) ≡ true → machine.count_in word ≡ 0 → IsGiven tag k word after
-  told_rights e f h = subst (λ (b : Bool). MatchBool b (IsGiven tag k word after) BusyCase) (ap (λ (n : ℕ). eqb n 0) h) (told_shut e f)
+  told_rights e f h = subst (λ (b : Bool). MatchBool b (IsGiven tag k word after) BusyCase) (ap (λ (n : ℕ). eqb n 0) h) (told_shut e f).1
+
+  -- the keeper's view shows what the word shows
+  pub told_set : k.collected ≡ false → (machine.moved_in word || machine.closed_in word) ≡ true → has_shut k ≡ true
+  told_set e f = (told_shut e f).0
 
 -- the look that gave the rights, as the keeper's callers see it
-pub last_look : {T : Type 0} (tag : T → List ℕ) (old new : KeeperSeat) (gate : TableId) (k : KeeperView) (word : ℕ) (rights given : List T) → record { gate = gate; at = k } ≡ old → k.collected ≡ false
-    → Happens tag word machine.look (machine.gives_rights given) → map tag given ≡ k.tags → rights ≡ given → new ≡ record { gate = gate; at = looked_keeper k word true } → IsLast tag old new rights
-last_look {T = T} tag old new gate k word rights given was first happens tags same now = subst (λ (o : KeeperSeat). IsLast tag o new rights) was (record {
-  word = word;
-  happens = subst (λ (l : List T). Happens tag word machine.look (machine.gives_rights l)) (sym same) happens;
-  tags = ap (map tag) same ∙ tags;
-  first = first;
-  keeper = now;
-})
+pub last_look : {T : Type 0} (tag : T → List ℕ) (old new : KeeperSeat) (gate : TableId) (k : KeeperView) (word : ℕ) (rights given : List T) → record { gate = gate; at = k } ≡ old → k.collected ≡ false → has_shut k ≡ true → machine.count_in word ≡ 0
+    → KeeperStep tag k (looked_keeper k word true) word machine.look (machine.gives_rights given) → map tag given ≡ k.tags → rights ≡ given → new ≡ record { gate = gate; at = looked_keeper k word true } → IsLast tag old new rights
+last_look {T = T} tag old new gate k word rights given was first shut empty one_step tags same now =
+    let then : KeeperSeat = record { gate = gate; at = looked_keeper k word true } in
+    let before : KeeperSeat = record { gate = gate; at = k } in
+    let told : KeeperStep tag k (looked_keeper k word true) word machine.look (machine.gives_rights rights) = subst (λ (l : List T). KeeperStep tag k (looked_keeper k word true) word machine.look (machine.gives_rights l)) (sym same) one_step in
+    let last : IsLast tag before then rights = record {
+      word = word;
+      step = told;
+      tags = ap (map tag) same ∙ tags;
+      first = first;
+      shut = shut;
+      nobody = empty;
+      over = over_from (Owns tag told.happens.tags) told.happens.after (machine.goes_on told.happens.before told.happens.after machine.look (machine.gives_rights rights) told.happens.reached told.happens.step) (sym told.after.collected);
+      keeper = refl;
+    } in
+    subst (λ (n : KeeperSeat). IsLast tag old n rights) (sym now) (subst (λ (o : KeeperSeat). IsLast tag o then rights) was last)

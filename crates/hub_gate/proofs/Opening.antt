@@ -1,6 +1,6 @@
 -- How a gate comes into being: each step of its opening keeps the rule.
 use Rattle.std.proofs.Common.{◌≡◌, ℕ, zero, suc, ◌+◌, ◌<◌, ◌≤◌, Bool, true, false, true≢false, List, [], ◌∷◌, ◌++◌, map, length, set, get_or, replicate, refl, sym, ap, ◌∙◌, subst, inl, inr, ⊎_elim, arith, length-set, length-append, Option, Some, None}
-use Rattle.std.specs.Prelude.{slice_get}
+use Rattle.std.specs.Prelude.{slice_get, nat_lt}
 use Rattle.std.proofs.lemmas.List.Sums.{sum_by-cons}
 use mathlib.Core.Option.{some, none, some-injective, some-ne-none}
 use mathlib.Core.Option as maybe
@@ -15,7 +15,7 @@ use Rattle.hub_gate.specs.declared.view.View.TheVariants.{Fresh, Filling, Keepin
 use Rattle.hub_gate.specs.declared.view.LineView.{LineView}
 use Rattle.hub_gate.specs.declared.view.KeeperView.{KeeperView}
 use Rattle.hub_gate.specs.GateRule.{Tags, keeper_at, new_line, cut_off, next_line, keeper_left, line_right, slot_of, IsKeeper, Knows, Shows, IsNew, IsGate}
-use Rattle.hub_gate.specs.GateSeats.{line_in, first_entries}
+use Rattle.hub_gate.specs.GateSeats.{EntrySeat, line_in, keeper_in, first_entries, IsOpened}
 use Rattle.hub_gate.specs.GatePlays.{tags_in, Gathers, Opens}
 use Rattle.hub_gate.specs.Taking.{take_from, give_each, numbered}
 use Rattle.hub_gate.proofs.Got.{got-map, got_or, got_there, len-map}
@@ -203,3 +203,22 @@ filled_with {T = T} tag rights me1 me2 is1 is2 = is2 ∙ ap (λ (m : Me (Option 
 -- and after it has opened the gate
 pub open_at : {T : Type 0} (tag : T → List ℕ) (rights : List T) (me2 me3 : Me (Option T) View) → me2 ≡ (Filling (map tag rights), numbered 0 (map Some rights)) → me3 ≡ (Keeping (keeper_at (tags_in me2.0) 0), []) → me3 ≡ (Keeping (keeper_at (map tag rights) 0), [])
 open_at {T = T} tag rights me2 me3 is2 is3 = is3 ∙ ap (λ (m : Me (Option T) View). (Keeping (keeper_at (tags_in m.0) 0), [])) is2
+
+-- the gate that was opened, as its caller sees it
+pub just_opened : {T : Type 0} (tag : T → List ℕ) (rights : List T) (me me1 : Me (Option T) View) (gate gate1 : TableId) (entries : List EntrySeat) → me ≡ (Keeping (keeper_at (map tag rights) 0), []) → me1 ≡ (Keeping (keeper_at (keeper_in me.0).tags (length (keeper_in me.0).tags)), [])
+    → entries ≡ first_entries gate (keeper_in me.0).tags (length (keeper_in me.0).tags) → gate1 ≡ gate → IsOpened tag rights (record { gate = gate1; at = keeper_in me1.0 }) entries
+just_opened {T = T} tag rights me me1 gate gate1 entries is is1 entries_are stays =
+    let same : (keeper_in me.0).tags ≡ map tag rights = ap (λ (m : Me (Option T) View). (keeper_in m.0).tags) is in
+    let many : length (keeper_in me.0).tags ≡ length rights = ap length same ∙ len-map tag rights in
+    let keeper : keeper_in me1.0 ≡ keeper_at (map tag rights) (length rights) = ap (λ (m : Me (Option T) View). keeper_in m.0) is1 ∙ (λ i. keeper_at (same i) (many i)) in record {
+      keeper_is = keeper;
+      entries_are = entries_are ∙ (λ i. first_entries (sym stays i) (same i) (many i));
+      shows = record {
+        tags = ap (λ (k : KeeperView). k.tags) keeper;
+        enabled = ap (λ (k : KeeperView). nat_lt 0 k.enables) keeper;
+        moved = ap (λ (k : KeeperView). nat_lt 0 k.retires) keeper;
+        closed = ap (λ (k : KeeperView). nat_lt 0 k.closes) keeper;
+        collected = ap (λ (k : KeeperView). k.collected) keeper;
+      };
+      reached = machine.opens rights (λ line right there. got-map tag rights line right there);
+    }

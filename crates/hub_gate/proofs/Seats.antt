@@ -8,7 +8,8 @@ use Rattle.hub_core.specs.declared.line.Phase.{Phase}
 use Rattle.hub_core.specs.GateMachine as machine
 use Rattle.hub_gate.specs.declared.view.View.{View}
 use Rattle.hub_gate.specs.declared.view.View.TheVariants.{Fresh, Filling, Keeping, LineOut, LineInside, LineTurned}
-use Rattle.hub_gate.specs.GateRule.{Tags, Knows, Shows, IsGate}
+use Rattle.hub_gate.specs.declared.view.KeeperView.{KeeperView}
+use Rattle.hub_gate.specs.GateRule.{Tags, IsShownBy, IsKeeper, Knows, Shows, IsGate}
 use Rattle.hub_gate.proofs.Got.{got_else}
 
 abbrev pub is_opening : View → Bool
@@ -78,3 +79,7 @@ module _ {T : Type 0} where
   others_stay tags g l p homes seats seat (LineOut u) ne low k = record { stands = k.stands; at = got_else g.phases l u.line p (λ e. let z = k.stands in ne (z ∙ ap (λ (i : ℕ). i + 1) e)) ∙ k.at; tag = k.tag }
   others_stay tags g l p homes seats seat (LineInside u) ne low k = record { stands = k.stands; at = got_else g.phases l u.line p (λ e. let z = k.stands in ne (z ∙ ap (λ (i : ℕ). i + 1) e)) ∙ k.at; tag = k.tag }
   others_stay tags g l p homes seats seat (LineTurned u) ne low k = record { stands = k.stands; at = got_else g.phases l u.line p (λ e. let z = k.stands in ne (z ∙ ap (λ (i : ℕ). i + 1) e)) ∙ k.at; tag = k.tag }
+
+-- what the keeper's seat knows, as its steps tell it
+pub shown_by : {T : Type 0} (tags : Tags) (g : machine.Gate T) (seats seat : ℕ) (k : KeeperView) → IsKeeper tags g seats seat k → IsShownBy k tags g
+shown_by tags g seats seat k own = record { tags = own.tags; enabled = own.enabled; moved = own.moved; closed = own.closed; collected = own.collected }

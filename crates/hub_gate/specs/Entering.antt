@@ -1,5 +1,5 @@
 -- What an entry at a gate comes to.
-use Rattle.std.specs.Prelude.{◌≡◌, ℕ, List, Some, None}
+use Rattle.std.specs.Prelude.{◌≡◌, ℕ, true, false, List, Some, None}
 use Rattle.hub_core.specs.GateMachine as machine
 use Rattle.hub_gate.specs.declared.entered.Refusal.{Refusal}
 use Rattle.hub_gate.specs.declared.entered.Refusal.TheVariants.{Moved, Closed}
@@ -13,9 +13,28 @@ abbrev pub refused : {T : Type 0} → Refusal → machine.Answer T
 refused Moved = machine.says_moved
 refused Closed = machine.says_closed
 
+-- the word that was found has this flag: moved comes before closed
+abbrev pub HasFlag : Refusal → ℕ → Type 0
+HasFlag Moved word = machine.moved_in word ≡ true
+HasFlag Closed word = (machine.moved_in word ≡ false) × (machine.closed_in word ≡ true)
+
+-- the step of a line that was let in: the word that was found has neither flag, and the rights were not given
+pub record IsLetIn {T : Type 0} (tag : T → List ℕ) (line : ℕ) (right : T) : Type 0 where
+  pub word : ℕ
+  pub happens : Happens tag word (machine.enter line) (machine.lets_in right)
+  pub not_moved : machine.moved_in word ≡ false
+  pub not_closed : machine.closed_in word ≡ false
+  pub before_rights : happens.before.collected ≡ false
+
+-- the two steps of a line that was turned
+pub record IsTurnedBack {T : Type 0} (tag : T → List ℕ) (line : ℕ) (refusal : Refusal) : Type 0 where
+  pub word : ℕ
+  pub happens : Happens tag word (machine.enter line) (refused refusal)
+  pub flag : HasFlag refusal word
+  pub word_back : ℕ
+  pub back : Happens tag word_back (machine.turn_back line) machine.says_done
+
 -- let in: one step, and the right is the line's. Turned: two steps, the line is out again, and the entry's view keeps the flag that was found.
 abbrev pub IsEntered : {T : Type 0} → (T → List ℕ) → EntrySeat → Entered T → Type 0
-IsEntered tag entry (In inside) = (inside.gate ≡ entry.gate) × (inside.at ≡ entered_line entry.at None) × (tag inside.right ≡ entry.at.tag)
-    × ((word : ℕ) × Happens tag word (machine.enter entry.at.line) (machine.lets_in inside.right))
-IsEntered tag entry (Turned back refusal) = (back ≡ record { gate = entry.gate; at = turned_line (entered_line entry.at (Some refusal)) })
-    × ((word : ℕ) × Happens tag word (machine.enter entry.at.line) (refused refusal))
+IsEntered tag entry (In inside) = (inside.gate ≡ entry.gate) × (inside.at ≡ entered_line entry.at None) × (tag inside.right ≡ entry.at.tag) × IsLetIn tag entry.at.line inside.right
+IsEntered tag entry (Turned back refusal) = (back ≡ record { gate = entry.gate; at = turned_line (entered_line entry.at (Some refusal)) }) × IsTurnedBack tag entry.at.line refusal

@@ -1,5 +1,5 @@
 -- What each step on a gate's word tells the seat that makes it.
-use Rattle.std.specs.Prelude.{◌≡◌, ℕ, ◌+◌, ◌<◌, ◌≤◌, ◌==◌, ◌||◌, Bool, true, List, [], ◌∷◌, map, replicate, length, Option, Some, None, MatchBool}
+use Rattle.std.specs.Prelude.{◌≡◌, ℕ, ◌+◌, ◌<◌, ◌≤◌, ◌==◌, ◌||◌, Bool, true, false, List, [], ◌∷◌, map, replicate, length, nat_lt, Option, Some, None, MatchBool}
 use Rattle.atomic_table.specs.Table.{Me, Step}
 use Rattle.hub_gate.specs.declared.view.View.{View}
 use Rattle.hub_gate.specs.declared.view.View.TheVariants.{Fresh, Filling, Keeping, LineOut, LineInside, LineTurned}
@@ -8,7 +8,7 @@ use Rattle.hub_gate.specs.declared.view.KeeperView.{KeeperView}
 use Rattle.hub_gate.specs.declared.entered.Refusal.{Refusal}
 use Rattle.hub_gate.specs.declared.entered.Refusal.TheVariants.{Moved, Closed}
 use Rattle.hub_core.specs.GateMachine as machine
-use Rattle.hub_gate.specs.GateRule.{Tags, keeper_at, Owns}
+use Rattle.hub_gate.specs.GateRule.{Tags, keeper_at, Owns, IsShownBy}
 use Rattle.hub_gate.specs.GateSeats.{line_in, keeper_in}
 use Rattle.hub_gate.specs.Taking.{numbered}
 
@@ -51,6 +51,12 @@ pub record Happens {T : Type 0} (tag : T → List ℕ) (word : ℕ) (event : mac
   pub found : word ≡ machine.word before
   pub step : machine.Steps (Owns tag tags) before event answer after
 
+-- one step of the keeper: its view shows the gate as it was found, and its new view the gate after the step
+pub record KeeperStep {T : Type 0} (tag : T → List ℕ) (old new : KeeperView) (word : ℕ) (event : machine.Event T) (answer : machine.Answer T) : Type 0 where
+  pub happens : Happens tag word event answer
+  pub before : IsShownBy old happens.tags happens.before
+  pub after : IsShownBy new happens.tags happens.after
+
 module _ {T : Type 0} (tag : T → List ℕ) where
   -- the line is being turned back, by this flag
   abbrev pub IsTurned : LineView → Refusal → machine.Answer T → ℕ → Me (Option T) View → Type 0
@@ -87,32 +93,36 @@ closed_keeper k = record { tags = k.tags; next = k.next; enables = k.enables; re
 module _ {T : Type 0} (tag : T → List ℕ) where
   -- the keeper's flag is set once more
   abbrev pub Enables : Step (Option T) → Me (Option T) View → ℕ → Me (Option T) View → Type 0
-  Enables step before found after = (after ≡ (Keeping (enabled_keeper (keeper_in before.0)), before.1)) × Happens tag found machine.enable machine.says_done
+  Enables step before found after = (after ≡ (Keeping (enabled_keeper (keeper_in before.0)), before.1)) × KeeperStep tag (keeper_in before.0) (enabled_keeper (keeper_in before.0)) found machine.enable machine.says_done
 
   abbrev pub Retires : Step (Option T) → Me (Option T) View → ℕ → Me (Option T) View → Type 0
-  Retires step before found after = (after ≡ (Keeping (retired_keeper (keeper_in before.0)), before.1)) × Happens tag found machine.retire machine.says_done
+  Retires step before found after = (after ≡ (Keeping (retired_keeper (keeper_in before.0)), before.1)) × KeeperStep tag (keeper_in before.0) (retired_keeper (keeper_in before.0)) found machine.retire machine.says_done
 
   abbrev pub Closes : Step (Option T) → Me (Option T) View → ℕ → Me (Option T) View → Type 0
-  Closes step before found after = (after ≡ (Keeping (closed_keeper (keeper_in before.0)), before.1)) × Happens tag found machine.close machine.says_done
+  Closes step before found after = (after ≡ (Keeping (closed_keeper (keeper_in before.0)), before.1)) × KeeperStep tag (keeper_in before.0) (closed_keeper (keeper_in before.0)) found machine.close machine.says_done
 
 -- the keeper's view after a look that found this word
 abbrev pub looked_keeper : KeeperView → ℕ → Bool → KeeperView
 looked_keeper k found collected = record { tags = k.tags; next = k.next; enables = k.enables; retires = k.retires; closes = k.closes; looks = k.looks + 1; found = machine.count_in found; collected = collected }
 
+-- the keeper has set one of the flags moved and closed
+abbrev pub has_shut : KeeperView → Bool
+has_shut k = nat_lt 0 k.retires || nat_lt 0 k.closes
+
 module _ {T : Type 0} (tag : T → List ℕ) where
   -- the look gives no right
   abbrev pub IsSeen : KeeperView → List (ℕ × Option T) → machine.Answer T → ℕ → Me (Option T) View → Type 0
-  IsSeen k carried answer found after = Happens tag found machine.look answer × (after ≡ (Keeping (looked_keeper k found k.collected), carried))
+  IsSeen k carried answer found after = KeeperStep tag k (looked_keeper k found k.collected) found machine.look answer × (after ≡ (Keeping (looked_keeper k found k.collected), carried))
 
   -- the keeper has all rights, in the order of the lines
   abbrev pub IsGiven : KeeperView → ℕ → Me (Option T) View → Type 0
-  IsGiven k found after = (rights : List T) × Happens tag found machine.look (machine.gives_rights rights) × (map tag rights ≡ k.tags) × (after ≡ (Keeping (looked_keeper k found true), numbered 0 (map Some rights)))
+  IsGiven k found after = (rights : List T) × KeeperStep tag k (looked_keeper k found true) found machine.look (machine.gives_rights rights) × (map tag rights ≡ k.tags) × (after ≡ (Keeping (looked_keeper k found true), numbered 0 (map Some rights)))
 
   -- the look of a keeper that has no right yet
   abbrev pub LooksAt : KeeperView → List (ℕ × Option T) → ℕ → Me (Option T) View → Type 0
   LooksAt k carried found after = MatchBool (machine.moved_in found || machine.closed_in found)
-      (MatchBool (machine.count_in found == 0) (IsGiven k found after) ((0 < machine.count_in found) × (machine.count_in found ≤ 16) × IsSeen k carried (machine.says_inside (machine.count_in found)) found after))
-      (IsSeen k carried machine.says_open found after)
+      ((has_shut k ≡ true) × MatchBool (machine.count_in found == 0) (IsGiven k found after) ((0 < machine.count_in found) × (machine.count_in found ≤ 16) × IsSeen k carried (machine.says_inside (machine.count_in found)) found after))
+      ((has_shut k ≡ false) × IsSeen k carried machine.says_open found after)
 
   -- where the rights were given the look says so; else it says that the gate is neither moved nor closed, or how many lines are inside or being turned back, or gives all rights
   abbrev pub Looks : Step (Option T) → Me (Option T) View → ℕ → Me (Option T) View → Type 0

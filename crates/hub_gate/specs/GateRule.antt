@@ -72,6 +72,14 @@ pub record IsKeeper {T : Type 0} (all : Tags) (g : machine.Gate T) (seats seat :
   pub closed : nat_lt 0 k.closes ≡ g.closed
   pub collected : k.collected ≡ g.collected
 
+-- what the keeper's view shows of a gate with rights of these tags is so
+pub record IsShownBy {T : Type 0} (k : KeeperView) (all : Tags) (g : machine.Gate T) : Type 0 where
+  pub tags : k.tags ≡ all
+  pub enabled : nat_lt 0 k.enables ≡ g.enabled
+  pub moved : nat_lt 0 k.retires ≡ g.moved
+  pub closed : nat_lt 0 k.closes ≡ g.closed
+  pub collected : k.collected ≡ g.collected
+
 -- what a seat's view shows is so in the gate
 abbrev pub Knows : {T : Type 0} → Tags → machine.Gate T → ℕ → ℕ → View → Type 0
 Knows tags g seats seat (Fresh t) = ⊥

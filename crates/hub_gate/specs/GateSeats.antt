@@ -1,11 +1,12 @@
 -- The seats of a gate, as callers see them.
-use Rattle.std.specs.Prelude.{◌≡◌, ℕ, zero, suc, List, [], ◌∷◌, ◌++◌, length, slice_index_or}
+use Rattle.std.specs.Prelude.{◌≡◌, ℕ, zero, suc, List, [], ◌∷◌, ◌++◌, map, length, slice_index_or}
 use Rattle.atomic_table.specs.Seated.{TableId}
 use Rattle.hub_gate.specs.declared.view.View.{View}
 use Rattle.hub_gate.specs.declared.view.View.TheVariants.{Fresh, Filling, Keeping, LineOut, LineInside, LineTurned}
 use Rattle.hub_gate.specs.declared.view.LineView.{LineView}
 use Rattle.hub_gate.specs.declared.view.KeeperView.{KeeperView}
-use Rattle.hub_gate.specs.GateRule.{Tags, keeper_at, new_line}
+use Rattle.hub_core.specs.GateMachine as machine
+use Rattle.hub_gate.specs.GateRule.{Tags, Owns, IsShownBy, keeper_at, new_line}
 
 -- which gate it is, and what the seat of the line knows
 pub record EntrySeat : Type 0 where
@@ -46,10 +47,12 @@ abbrev pub first_entries : TableId → Tags → ℕ → List EntrySeat
 first_entries gate tags zero = []
 first_entries gate tags (suc line) = first_entries gate tags line ++ record { gate = gate; at = new_line line (slice_index_or tags line []) } ∷ []
 
--- a gate with rights of these tags has just been opened: the keeper and an entry for each line are of that gate, and have done nothing yet
-pub record IsOpened (tags : Tags) (keeper : KeeperSeat) (entries : List EntrySeat) : Type 0 where
-  pub keeper_is : keeper.at ≡ keeper_at tags (length tags)
-  pub entries_are : entries ≡ first_entries keeper.gate tags (length tags)
+-- a gate with these rights has just been opened: the keeper and an entry for each line are of that gate, and have done nothing yet; no flag is set, nobody is inside and the rights are at home
+pub record IsOpened {T : Type 0} (tag : T → List ℕ) (rights : List T) (keeper : KeeperSeat) (entries : List EntrySeat) : Type 0 where
+  pub keeper_is : keeper.at ≡ keeper_at (map tag rights) (length rights)
+  pub entries_are : entries ≡ first_entries keeper.gate (map tag rights) (length rights)
+  pub shows : IsShownBy keeper.at (map tag rights) (machine.opened rights)
+  pub reached : machine.Reached (Owns tag (map tag rights)) (machine.opened rights)
 
 -- by f each of the list is b
 abbrev pub AllSame : {A B : Type 0} → (A → B) → B → List A → Type 0

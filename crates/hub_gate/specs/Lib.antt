@@ -1,4 +1,6 @@
+pub mod AfterRights
 pub mod Entering
+pub mod GateLaws
 pub mod GatePlays
 pub mod GateRule
 pub mod GateSeats

@@ -1,7 +1,8 @@
-ghost use Rattle.std.specs.Prelude.{◌≡◌, []};
+ghost use Rattle.std.specs.Prelude.{◌≡◌, ℕ, []};
 ghost use Rattle.std.specs.Arc.{arc_value};
 ghost use Rattle.hub_gate.specs.declared.view.View.TheVariants.{LineTurned};
-ghost use Rattle.hub_gate.specs.GatePlays.{turned_line};
+ghost use Rattle.hub_core.specs.GateMachine as machine;
+ghost use Rattle.hub_gate.specs.GatePlays.{Happens, turned_line};
 ghost use Rattle.hub_gate.specs.GateSeats.{line_in};
 
 use crate::entered::{Entered, Refusal};
@@ -41,7 +42,8 @@ impl<T: Right> Model for Entry<T> {
 fn turn_back<T: Right>(table: Arc<GateTable<T>>, mut seat: GateSeat<T>, line: usize) -> Entry<T>
     requires table { ((arc_value table).shared.table_id.words ≡ 1) × (seat.table_id ≡ (arc_value table).shared.table_id) }
     requires turned { (seat.me ≡ (LineTurned (line_in seat.me.0), [])) × (line ≡ (line_in seat.me.0).line) }
-    ensures { result ≡ record { gate = seat.table_id; at = turned_line (line_in seat.me.0) } }
+    ensures entry { result ≡ record { gate = seat.table_id; at = turned_line (line_in seat.me.0) } }
+    ensures step { (word : ℕ) × Happens T.tag word (machine.turn_back line) machine.says_done }
 {
     table
         .shared

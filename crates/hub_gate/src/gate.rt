@@ -119,7 +119,7 @@ impl<T: Right> Gate<T> {
         alloc: Global,
         rights: Vec<T>,
     ) -> Result<(Keeper<T>, Vec<Entry<T>>), (GateError, Vec<T>)>
-        ensures opened { IfOk result (λ gate. IsOpened (map T.tag rights.items) gate.0 gate.1.items) }
+        ensures opened { IfOk result (λ gate. IsOpened T.tag rights.items gate.0 gate.1.items) }
         ensures given_back { IfErr result (λ e. e.1.items ≡ rights.items) }
         ensures refused { IfErr result (λ e. e.0 ≡ (if nat_lt 0 (length rights.items) && nat_le (length rights.items) MAX_LINES then GateError.OutOfMemory else GateError.BadCount)) }
         ensures count { IfOk result (λ _. (0 < length rights.items) × (length rights.items ≤ MAX_LINES)) }

@@ -51,7 +51,7 @@ impl<T: Right> Inside<T> {
     pub fn leave(self) -> (Entry<T>, bool)
         requires { T.tag self.right ≡ self.at.tag }
         ensures entry { result.0 ≡ record { gate = self.gate; at = left_line self.at result.1 } }
-        ensures step { (word : ℕ) × Happens T.tag word (machine.leave self.at.line self.right) (machine.lets_out result.1) }
+        ensures step { (word : ℕ) × Happens T.tag word (machine.leave self.at.line self.right) (machine.lets_out result.1) × (result.1 ≡ machine.enabled_in word) }
     {
         let Inside {
             table,

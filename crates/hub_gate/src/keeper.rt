@@ -63,13 +63,13 @@ fn take_out<T: Right>(
 
 impl<T: Right> Keeper<T> {
     ghost use Rattle.hub_core.specs.GateMachine as machine;
-    ghost use Rattle.hub_gate.specs.GatePlays.{Happens, enabled_keeper, retired_keeper, closed_keeper};
+    ghost use Rattle.hub_gate.specs.GatePlays.{KeeperStep, enabled_keeper, retired_keeper, closed_keeper};
     ghost use Rattle.hub_gate.specs.Looking.{IsLooked};
 
     /// Sets the flag ENABLED. It is one step on the word.
     pub fn enable(&mut self)
         ensures keeper { self.new ≡ record { gate = self.old.gate; at = enabled_keeper self.old.at } }
-        ensures step { (word : ℕ) × Happens T.tag word machine.enable machine.says_done }
+        ensures step { (word : ℕ) × KeeperStep T.tag self.old.at self.new.at word machine.enable machine.says_done }
     {
         let table = &self.table;
         table
@@ -81,7 +81,7 @@ impl<T: Right> Keeper<T> {
     /// Sets the flag MOVED: every later entry is turned with `Moved`. It is one step on the word.
     pub fn retire(&mut self)
         ensures keeper { self.new ≡ record { gate = self.old.gate; at = retired_keeper self.old.at } }
-        ensures step { (word : ℕ) × Happens T.tag word machine.retire machine.says_done }
+        ensures step { (word : ℕ) × KeeperStep T.tag self.old.at self.new.at word machine.retire machine.says_done }
     {
         let table = &self.table;
         table.shared.fetch_or::<Retire<T>>(&mut self.seat, 0, MOVED);
@@ -90,7 +90,7 @@ impl<T: Right> Keeper<T> {
     /// Sets the flag CLOSED: every later entry is turned. It is one step on the word.
     pub fn close(&mut self)
         ensures keeper { self.new ≡ record { gate = self.old.gate; at = closed_keeper self.old.at } }
-        ensures step { (word : ℕ) × Happens T.tag word machine.close machine.says_done }
+        ensures step { (word : ℕ) × KeeperStep T.tag self.old.at self.new.at word machine.close machine.says_done }
     {
         let table = &self.table;
         table.shared.fetch_or::<Close<T>>(&mut self.seat, 0, CLOSED);

@@ -1,6 +1,6 @@
 use Rattle.std.proofs.Common.{rules, sym, ◌∙◌, Some}
 use Rattle.hub_gate.specs.GateSeats.{line_in}
-use Rattle.hub_gate.proofs.Lines.{enters_at, told_in, in_front}
+use Rattle.hub_gate.proofs.Lines.{enters_at, told_in, in_front, entered_in}
 use Rattle.hub_gate.proofs.entry.Entry.enter.Goals as goal
 
 pub fetch_add-word-requires : goal.fetch_add-word-requires
@@ -11,3 +11,11 @@ exchange-requires g c =
     let kept = c.self.invariant in
     let told = told_in g.T.Right.tag (line_in c.self.inside.seat.me.0) c.fetch_add-word.result c.fetch_add-word.new.seat.me c.fetch_add-word.ensures.2 (sym c.moved_in.ensures.exactly ∙ c.if-moved_in.false) (sym c.closed_in.ensures.exactly ∙ c.if-closed_in.false) in
     (search rules, (Some told.0, in_front _ _ _ _ _ told.3 kept.3))
+
+pub returns : goal.returns
+returns g c =
+    let kept = c.self.invariant in
+    let not_moved = sym c.moved_in.ensures.exactly ∙ c.if-moved_in.false in
+    let not_closed = sym c.closed_in.ensures.exactly ∙ c.if-closed_in.false in
+    let told = told_in g.T.Right.tag (line_in c.self.inside.seat.me.0) c.fetch_add-word.result c.fetch_add-word.new.seat.me c.fetch_add-word.ensures.2 not_moved not_closed in
+    entered_in g.T.Right.tag _ _ _ (line_in c.self.inside.seat.me.0) c.fetch_add-word.result _ c.fetch_add-word.new.seat.me _ c.unwrap-right.result _ c.self.view_is told not_moved not_closed c.exchange.ensures.2 c.unwrap-right.ensures c.exchange.ensures.3 (c.exchange.ensures.0 ∙ c.fetch_add-word.ensures.0)

@@ -2,7 +2,7 @@ use Rattle.std.proofs.Common.{rules, arith, ◌≡◌, sym, ap, ◌∙◌, lengt
 use Rattle.hub_core.specs.GateMachine as machine
 use Rattle.hub_gate.specs.GateSeats.{keeper_in}
 use Rattle.hub_gate.proofs.Got.{len-map}
-use Rattle.hub_gate.proofs.Looking.{looks_at, told_rights, last_look}
+use Rattle.hub_gate.proofs.Looking.{looks_at, told_rights, told_set, last_look}
 use Rattle.hub_gate.proofs.Emptying.{none_out, ready, holds_values}
 use Rattle.hub_gate.proofs.keeper.Keeper.look.Goals as goal
 
@@ -37,6 +37,7 @@ returns g c =
     let fresh = ready _ _ _ _ _ _ (sym c.take.ensures.value ∙ c.unwrap-rights.ensures) kept.5 in
     let none : machine.count_in c.load-word.result ≡ 0 = sym c.count_in-count.ensures.exactly ∙ omega arith in
     let told = told_rights g.T.Right.tag (keeper_in c.self.inside.seat.me.0) c.self.inside.seat.me.1 c.load-word.result c.load-word.new.seat.me c.load-word.ensures.2 fresh.0 (sym c.shut_in.ensures ∙ c.if-not-shut_in.false) none in
+    let set = told_set g.T.Right.tag (keeper_in c.self.inside.seat.me.0) c.self.inside.seat.me.1 c.load-word.result c.load-word.new.seat.me c.load-word.ensures.2 fresh.0 (sym c.shut_in.ensures ∙ c.if-not-shut_in.false) in
     let values = (holds_values c.load-word.new.seat.me.1 told.0 (ap (λ m. m.1) told.3)).1 in
-    last_look g.T.Right.tag _ _ c.self.inside.seat.table_id (keeper_in c.self.inside.seat.me.0) c.load-word.result _ told.0 c.self.view_is fresh.0 told.1 told.2 (c.take_out.ensures.taken ∙ values)
+    last_look g.T.Right.tag _ _ c.self.inside.seat.table_id (keeper_in c.self.inside.seat.me.0) c.load-word.result _ told.0 c.self.view_is fresh.0 set none told.1 told.2 (c.take_out.ensures.taken ∙ values)
     (λ i. record { gate = (c.take_out.ensures.stays.0 ∙ c.load-word.ensures.0) i; at = (ap keeper_in (c.take_out.ensures.stays.1 ∙ ap (λ m. m.0) told.3)) i })
