@@ -5,21 +5,20 @@ use hub_envelope::{Body, EndId};
 use std::alloc::Global;
 use std::marker::Model;
 
-/// What an envelope carries: the ends of the ports that travel with it, in list order, and its body,
-/// kept as its compact text.
+/// What an envelope carries: the ends of the ports that travel with it, in list order, and its body.
 #[derive(Debug, Drop)]
 pub struct Message {
     ports: Vec<EndId>,
-    body: String,
+    body: Body,
 }
 
 impl Model for Message {
-    ghost use Rattle.std.specs.Prelude.{List, ℕ, string_bytes};
+    ghost use Rattle.std.specs.Prelude.{List, ℕ};
     ghost use Rattle.hub_envelope.specs.declared.ids.EndId.{EndId};
 
     ghost Value = { List EndId × List ℕ };
 
-    ghost view = { λ m. (m.ports.items, string_bytes m.body) };
+    ghost view = { λ m. (m.ports.items, m.body) };
 }
 
 impl Message {
@@ -28,8 +27,15 @@ impl Message {
         ensures { IfOk result (λ message. message ≡ (ports.now, body.now)) }
     {
         let ports = Vec::from_slice(alloc, ports)?;
-        let body = String::from_str(alloc, body.text())?;
+        let body = body.clone()?;
         Ok(Message { ports, body })
+    }
+
+    /// The message of these ports and this body. It takes no memory.
+    pub(crate) fn of(ports: Vec<EndId>, body: Body) -> Message
+        ensures { result ≡ (ports.items, body) }
+    {
+        Message { ports, body }
     }
 
     /// The ends of the ports, in list order.
@@ -43,7 +49,7 @@ impl Message {
     pub fn body(&self) -> &str
         ensures { result.now ≡ self.now.1 }
     {
-        self.body.as_str()
+        self.body.text()
     }
 
     /// Whether both carry the same ports and the same body.

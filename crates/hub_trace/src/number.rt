@@ -1,21 +1,30 @@
-ghost use Rattle.std.specs.Prelude.{◌≤◌, IfSome};
+ghost use Rattle.std.specs.Prelude.{◌≡◌, ◌≤◌, ℕ, Some};
+ghost use Rattle.std.specs.Fmt.{decimal};
+ghost use Rattle.std.specs.List.{list_all};
+ghost use Rattle.hub_trace.specs.Number.{number_of, is_numeral, is_digit};
 
 /// A number of a log: decimal digits without leading zeros, at most `max`.
 pub(crate) fn number_of(word: &str, max: u64) -> Option<u64>
-    ensures { IfSome result (λ n. n ≤ max) }
+    ensures number { result ≡ number_of max word.now }
+    // Each number within the limit is read where it is written.
+    ensures written { (n : ℕ) → n ≤ max → word.now ≡ decimal n → result ≡ Some n }
 {
-    let digits = word.as_bytes();
-    if let [] | [b'0', _, ..] = digits {
+    if !is_numeral(word.as_bytes()) {
         return None;
     }
-    let mut value = 0u64;
-    for digit in digits {
-        if !digit.is_ascii_digit() {
-            return None;
-        }
-        value = value
-            .checked_mul(10)?
-            .checked_add(u64::from(*digit - b'0'))?;
-    }
-    (value <= max).then_some(value)
+    let number = word.parse::<u64>().ok()?;
+    (number <= max).then_some(number)
+}
+
+/// One digit, or more of which the first isn't 0.
+fn is_numeral(word: &[u8]) -> bool
+    ensures { result ≡ is_numeral word.now }
+{
+    !word.is_empty() && (word.len() < 2 || word[0] != b'0') && are_digits(word)
+}
+
+fn are_digits(word: &[u8]) -> bool
+    ensures { result ≡ list_all is_digit word.now }
+{
+    word.iter().all(|byte| byte.is_ascii_digit())
 }

@@ -1,11 +1,17 @@
-ghost use Rattle.std.specs.Prelude.{◌≡◌, ◌<◌, [], length, take, OnOk, IfErr, IsOkAnd};
+ghost use Rattle.std.specs.Prelude.{◌≡◌, ◌<◌, ◌==◌, ◌||◌, false, ℕ, [], ◌∷◌, Some, length, take, OnOk, IfErr, IfOk, IsErrOf, IsOkAnd};
+ghost use Rattle.std.specs.BTreeSet.{contains};
+ghost use Rattle.std.specs.Ordering.{nat_cmp};
+ghost use Rattle.hub_trace.specs.declared.line.Line.TheVariants as line;
+ghost use Rattle.hub_trace.specs.Limits.{AreWithin};
+ghost use Rattle.hub_trace.specs.Lines.{lines_of};
+ghost use Rattle.hub_trace.specs.Read.{ComesAt, HasOtherHeader, IsClosingError, IsLineError, Reads, closes_one, is_closed_in, line_added, with_line};
 
 use crate::entry::Entry;
 use crate::line::{Line, LineError, line_of};
 use crate::log::{LOG_HEADER, Log};
-use hub_envelope::EndId;
+use crate::out_of_memory::OutOfMemory;
 use memchr::memchr;
-use std::alloc::{AllocError, AllocFailed, Global};
+use std::alloc::{AllocFailed, Global};
 use std::collections::BTreeSet;
 use thiserror::Error;
 
@@ -26,34 +32,40 @@ pub enum LogError {
     OutOfMemory,
 }
 
-impl From<AllocError> for LogError {
-    fn from(_error: AllocError) -> LogError {
-        LogError::OutOfMemory
-    }
-}
-
 impl<T: Drop> From<AllocFailed<T>> for LogError {
+    ghost use Rattle.std.specs.Prelude.{◌≡◌};
+    ghost use Rattle.hub_trace.specs.declared.read.LogError.TheVariants.{OutOfMemory};
+
+    ghost from_gives = { λ _ e. e ≡ OutOfMemory };
+
     fn from(_error: AllocFailed<T>) -> LogError {
         LogError::OutOfMemory
     }
 }
 
-impl From<LineError> for LogError {
-    fn from(error: LineError) -> LogError {
-        match error {
-            LineError::Malformed => LogError::BadLine,
-            LineError::OutOfMemory => LogError::OutOfMemory,
-        }
+impl From<OutOfMemory> for LogError {
+    ghost use Rattle.std.specs.Prelude.{◌≡◌};
+    ghost use Rattle.hub_trace.specs.declared.read.LogError.TheVariants.{OutOfMemory};
+
+    ghost from_gives = { λ _ e. e ≡ OutOfMemory };
+
+    fn from(_error: OutOfMemory) -> LogError {
+        LogError::OutOfMemory
     }
 }
 
 /// The logs that the bytes spell, up to a line `deliveries` or the end. Lines end at LF; the last LF
 /// may be missing. No bytes at all are no logs. An error comes with the number of its line, from 1;
-/// of several bad lines the first is told.
+/// of several bad lines the first is told. Memory may run out at any line below the header.
 pub fn read_logs(alloc: Global, bytes: &[u8]) -> Result<Vec<Log>, (usize, LogError)>
     ensures empty { length bytes.now ≡ 0 → IsOkAnd result (λ logs. logs.items ≡ []) }
     ensures header { OnOk result (0 < length bytes.now → take (length LOG_HEADER.now) bytes.now ≡ LOG_HEADER.now) }
     ensures numbered { IfErr result (λ error. 0 < error.0) }
+    ensures bad_header { HasOtherHeader bytes.now → IsErrOf result (1, LogError.BadHeader) }
+    ensures errors { IfErr result (λ error. ComesAt bytes.now error.0 error.1) }
+    ensures within { IfOk result (λ logs. AreWithin logs.items) }
+    // The logs, or the first bad line and its kind, are those of `logs_of`.
+    ensures reads { Reads (λ logs. logs.items) bytes.now result }
 {
     let mut logs = Vec::new(alloc);
     if bytes.is_empty() {
@@ -64,13 +76,13 @@ pub fn read_logs(alloc: Global, bytes: &[u8]) -> Result<Vec<Log>, (usize, LogErr
         return Err((1, LogError::BadHeader));
     }
     let mut closed = BTreeSet::new(alloc);
-    let mut number = 1usize;
+    let mut number = 1;
     while !rest.is_empty() {
         let (line, after) = split_line(rest);
         if line == LOGS_END.as_bytes() {
-            break;
+            return Ok(logs);
         }
-        number = number.saturating_add(1);
+        number += 1;
         if let Err(error) = add_line(alloc, line, &mut logs, &mut closed) {
             return Err((number, error));
         }
@@ -81,8 +93,10 @@ pub fn read_logs(alloc: Global, bytes: &[u8]) -> Result<Vec<Log>, (usize, LogErr
 
 /// The first line without its LF, and what comes after it.
 fn split_line(bytes: &[u8]) -> (&[u8], &[u8])
-    ensures line { result.0.now ≡ take (length result.0.now) bytes.now }
-    ensures rest { 0 < length bytes.now → length result.1.now < length bytes.now }
+    requires { 0 < length bytes.now }
+    ensures line { lines_of bytes.now ≡ result.0.now ∷ lines_of result.1.now }
+    ensures front { result.0.now ≡ take (length result.0.now) bytes.now }
+    ensures shorter { length result.1.now < length bytes.now }
 {
     match memchr(b'\n', bytes) {
         Some(end) => (&bytes[..end], &bytes[end + 1..]),
@@ -90,25 +104,55 @@ fn split_line(bytes: &[u8]) -> (&[u8], &[u8])
     }
 }
 
-/// Begins a log or adds an entry to the newest. `closed` has the ends that earlier lines closed.
+/// Begins a log or adds an entry to the newest. `closed` has the ends that the logs close.
 fn add_line(
     alloc: Global,
     line: &[u8],
     logs: &mut Vec<Log>,
-    closed: &mut BTreeSet<EndId>,
-) -> Result<(), LogError> {
-    match line_of(alloc, line)? {
-        Line::Agent(agent) => logs.push(Log::new(alloc, agent))?,
-        Line::Entry(entry) => {
-            let Some(log) = logs.last_mut() else {
-                return Err(LogError::BadLine);
-            };
-            if let Entry::Closed { end } = entry {
-                if !closed.insert(end)? {
-                    return Err(LogError::BadLine);
-                }
-            }
-            log.append(entry).map_err(|_| LogError::OutOfMemory)?;
+    closed: &mut BTreeSet<u32>,
+) -> Result<(), LogError>
+    requires { (end : ℕ) → contains nat_cmp closed.old end ≡ is_closed_in logs.old.items end }
+    ensures ok { OnOk result (line_added logs.old.items line.now ≡ Some logs.new.items) }
+    ensures closed { OnOk result ((end : ℕ) → contains nat_cmp closed.new end ≡ is_closed_in logs.new.items end) }
+    ensures within { OnOk result (AreWithin logs.old.items → AreWithin logs.new.items) }
+    ensures err { IfErr result (λ error. IsLineError error (line_added logs.old.items line.now)) }
+{
+    match line_of(alloc, line) {
+        Ok(Line::Agent(agent)) => {
+            logs.push(Log::new(alloc, agent))?;
+            Ok(())
+        }
+        Ok(Line::Entry(entry)) => add_entry(entry, logs, closed),
+        Err(LineError::Malformed) => Err(LogError::BadLine),
+        Err(LineError::OutOfMemory) => Err(LogError::OutOfMemory),
+    }
+}
+
+/// Adds an entry to the newest log.
+fn add_entry(entry: Entry, logs: &mut Vec<Log>, closed: &mut BTreeSet<u32>) -> Result<(), LogError>
+    requires { (end : ℕ) → contains nat_cmp closed.old end ≡ is_closed_in logs.old.items end }
+    ensures ok { OnOk result (with_line logs.old.items (line.Entry entry) ≡ Some logs.new.items) }
+    ensures closed { OnOk result ((end : ℕ) → contains nat_cmp closed.new end ≡ is_closed_in logs.new.items end) }
+    ensures err { IfErr result (λ error. IsLineError error (with_line logs.old.items (line.Entry entry))) }
+{
+    let Some(log) = logs.last_mut() else {
+        return Err(LogError::BadLine);
+    };
+    note_closing(&entry, closed)?;
+    log.append(entry)?;
+    Ok(())
+}
+
+/// Adds the end that the entry closes, if it closes one.
+fn note_closing(entry: &Entry, closed: &mut BTreeSet<u32>) -> Result<(), LogError>
+    ensures once { OnOk result (closes_one (contains nat_cmp closed.old) entry.now ≡ false) }
+    ensures closed { OnOk result ((end : ℕ) →
+        contains nat_cmp closed.new end ≡ (contains nat_cmp closed.old end || closes_one (λ e. e == end) entry.now)) }
+    ensures err { IfErr result (λ error. IsClosingError error (closes_one (contains nat_cmp closed.old) entry.now)) }
+{
+    if let Entry::Closed { end } = entry {
+        if !closed.insert(end.0)? {
+            return Err(LogError::BadLine);
         }
     }
     Ok(())

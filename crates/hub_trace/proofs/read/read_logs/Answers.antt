@@ -1,0 +1,45 @@
+use Rattle.std.proofs.Common.{◌≡◌, List, length, true, false, bytes_eq, Ok, sym, ap, ◌∙◌, arith}
+use Rattle.std.proofs.lemmas.Bool.{eqb-true}
+use Rattle.hub_trace.specs.declared.read.TheConstants.{LOGS_END}
+use Rattle.hub_trace.specs.Accepted.{AgentLog}
+use Rattle.hub_trace.proofs.Reading.{nothing_read, none_other, at_end, bad_line, one_more, all_read}
+use Rattle.hub_trace.proofs.read.read_logs.Goals as goal
+
+pub returns-then-is_empty-clause-bad_header : goal.returns-then-is_empty-clause-bad_header
+returns-then-is_empty-clause-bad_header c = λ other.
+    let empty : length c.args.bytes.now ≡ 0 = eqb-true (length c.args.bytes.now) 0 (sym c.is_empty.ensures ∙ c.if-is_empty.true) in
+    absurd (none_other c.args.bytes.now empty other)
+
+pub returns-then-is_empty-clause-reads : goal.returns-then-is_empty-clause-reads
+returns-then-is_empty-clause-reads c =
+    let empty : length c.args.bytes.now ≡ 0 = eqb-true (length c.args.bytes.now) 0 (sym c.is_empty.ensures ∙ c.if-is_empty.true) in
+    nothing_read c.args.bytes.now empty ∙ ap (λ (logs : List AgentLog). Ok logs) (sym c.new-logs.ensures.items)
+
+pub returns-then-eq-clause-reads : goal.returns-then-eq-clause-reads
+returns-then-eq-clause-reads c =
+    let line = c.split_line-in-loop-rest.result.0.now in
+    let ends : bytes_eq line LOGS_END.now ≡ true = sym (ap (bytes_eq line) c.as_bytes-in-loop-rest.ensures.value) ∙ sym c.eq.ensures ∙ c.if-eq.true in
+    at_end c.args.bytes.now c.loop-rest.number c.loop-rest.logs.items c.loop-rest.rest.now line c.split_line-in-loop-rest.result.1.now c.loop-rest.invariant.so_far c.split_line-in-loop-rest.ensures.line ends
+
+pub returns-in-Err-clause-reads : goal.returns-in-Err-clause-reads
+returns-in-Err-clause-reads c =
+    let line = c.split_line-in-loop-rest.result.0.now in
+    let goes_on : bytes_eq line LOGS_END.now ≡ false = sym (ap (bytes_eq line) c.as_bytes-in-loop-rest.ensures.value) ∙ sym c.eq.ensures ∙ c.if-eq.false in
+    bad_line c.in-Err.error c.args.bytes.now c.loop-rest.number c.loop-rest.logs.items c.loop-rest.rest.now line c.split_line-in-loop-rest.result.1.now c.loop-rest.invariant.so_far c.split_line-in-loop-rest.ensures.line goes_on c.in-Err.ensures.err
+
+pub loop-rest-preserved : goal.loop-rest-preserved
+loop-rest-preserved c =
+    let line = c.split_line-in-loop-rest.result.0.now in
+    let goes_on : bytes_eq line LOGS_END.now ≡ false = sym (ap (bytes_eq line) c.as_bytes-in-loop-rest.ensures.value) ∙ sym c.eq.ensures ∙ c.if-eq.false in
+    record {
+      some = omega arith;
+      room = omega (arith, c.split_line-in-loop-rest.ensures.shorter);
+      closed = c.in_default.ensures.closed;
+      within = c.in_default.ensures.within c.loop-rest.invariant.within;
+      so_far = one_more c.args.bytes.now c.loop-rest.number c.loop-rest.logs.items c.add_line.new.logs.items c.loop-rest.rest.now line c.split_line-in-loop-rest.result.1.now c.loop-rest.invariant.so_far c.split_line-in-loop-rest.ensures.line goes_on c.in_default.ensures.ok;
+    }
+
+pub returns-clause-reads : goal.returns-clause-reads
+returns-clause-reads c =
+    let empty : length c.loop-rest.rest.now ≡ 0 = eqb-true (length c.loop-rest.rest.now) 0 (sym c.is_empty-in-loop-rest.ensures ∙ c.loop-rest-test.false) in
+    all_read c.args.bytes.now c.loop-rest.number c.loop-rest.logs.items c.loop-rest.rest.now c.loop-rest.invariant.so_far empty
