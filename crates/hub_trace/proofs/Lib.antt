@@ -5,8 +5,6 @@ pub mod Lines
 pub mod Faults
 pub mod Closing
 pub mod Verdicts
-pub mod Numbers
-pub mod SplitLines
 pub mod Ports
 pub mod LineText
 pub mod Adding

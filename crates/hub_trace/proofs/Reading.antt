@@ -5,7 +5,7 @@ use Rattle.hub_trace.specs.declared.read.TheConstants.{LOGS_END}
 use Rattle.hub_trace.specs.declared.read.LogError.{LogError}
 use Rattle.hub_trace.specs.declared.read.LogError.TheVariants as error
 use Rattle.hub_trace.specs.Accepted.{AgentLog}
-use Rattle.hub_trace.specs.Lines.{lines_of}
+use Rattle.hub_text.specs.Lines.{lines_of}
 use Rattle.hub_trace.specs.Read.{ComesAt, FailsAt, HasHeader, HasOtherHeader, IsLineError, after_line, below_header, line_added, logs_from, logs_of}
 
 -- what is read of the rest, after the logs so far and a line of that number, is what is read of all

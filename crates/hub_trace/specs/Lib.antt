@@ -6,9 +6,7 @@ pub mod Fault
 pub mod Verdict
 pub mod Views
 pub mod Text
-pub mod Number
 pub mod Words
-pub mod Lines
 pub mod Line
 pub mod Read
 pub mod Limits

@@ -15,7 +15,7 @@ use Rattle.hub_trace.specs.declared.line.Line.{Line}
 use Rattle.hub_trace.specs.declared.line.Line.TheVariants as line
 use Rattle.hub_trace.specs.declared.line.LineWord.{LineWord}
 use Rattle.hub_trace.specs.declared.line.LineWord.TheVariants as word
-use Rattle.hub_trace.specs.Number.{number_of}
+use Rattle.hub_text.specs.Number.{number_of}
 use Rattle.hub_trace.specs.Words.{◌>>=◌, cut}
 
 abbrev pub end_of : List ℕ → Option EndId

@@ -12,7 +12,7 @@ use Rattle.hub_trace.specs.declared.read.LogError.{LogError}
 use Rattle.hub_trace.specs.declared.read.LogError.TheVariants as error
 use Rattle.hub_trace.specs.Accepted.{AgentLog}
 use Rattle.hub_trace.specs.Line.{line_of}
-use Rattle.hub_trace.specs.Lines.{lines_of}
+use Rattle.hub_text.specs.Lines.{lines_of}
 use Rattle.hub_trace.specs.Words.{◌>>=◌}
 
 -- the ends that the entries close

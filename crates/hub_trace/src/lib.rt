@@ -13,7 +13,6 @@ mod limits;
 mod line;
 mod log;
 mod message;
-mod number;
 mod out_of_memory;
 mod port_list;
 mod read;

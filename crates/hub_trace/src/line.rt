@@ -2,15 +2,15 @@ ghost use Rattle.std.specs.Prelude.{◌≡◌, ◌≤◌, IfOk, IfErr, OnOk, Som
 ghost use Rattle.hub_envelope.specs.BodyText.{IsBodyText};
 ghost use Rattle.hub_trace.specs.Limits.{IsDeliveryWithin, IsEntryWithin, IsLabelWithin, IsLineWithin, IsMessageWithin, IsPortList};
 ghost use Rattle.hub_trace.specs.Line.{adoption_of, body_of, delivery_said, end_of, epoch_of, label_of, line_of, line_word, message_of, ports_of, said, text_said, with_port};
-ghost use Rattle.hub_trace.specs.Number.{number_of};
+ghost use Rattle.hub_text.specs.Number.{number_of};
 ghost use Rattle.hub_trace.specs.Words.{Gives, Refuses, cut};
 
 use crate::entry::{Delivery, Entry};
 use crate::label::Label;
 use crate::limits::{MAX_AGENT, MAX_END, MAX_EPOCH, MAX_LINE, MAX_NUMBER};
 use crate::message::Message;
-use crate::number::number_of;
 use hub_envelope::{AgentId, Body, BodyError, EndId, LineId, MAX_PORTS};
+use hub_text::number_of;
 use std::alloc::{AllocError, AllocFailed, Global};
 
 /// What a line below the header says.
@@ -176,7 +176,7 @@ fn name_parts(name: &str) -> Result<(&str, &str), LineError>
     }
 }
 
-#[tactic(auto, unfolding(crate::specs::Number::number_of))]
+#[tactic(auto, unfolding(hub_text::specs::Number::number_of))]
 fn number_in(word: &str, max: u64) -> Result<u64, LineError>
     ensures says { Gives (λ x. x) result (number_of max word.now) }
     ensures within { IfOk result (λ n. n ≤ max) }

@@ -3,14 +3,14 @@ ghost use Rattle.std.specs.BTreeSet.{contains};
 ghost use Rattle.std.specs.Ordering.{nat_cmp};
 ghost use Rattle.hub_trace.specs.declared.line.Line.TheVariants as line;
 ghost use Rattle.hub_trace.specs.Limits.{AreWithin};
-ghost use Rattle.hub_trace.specs.Lines.{lines_of};
+ghost use Rattle.hub_text.specs.Lines.{lines_of};
 ghost use Rattle.hub_trace.specs.Read.{ComesAt, HasOtherHeader, IsClosingError, IsLineError, Reads, closes_one, is_closed_in, line_added, with_line};
 
 use crate::entry::Entry;
 use crate::line::{Line, LineError, line_of};
 use crate::log::{LOG_HEADER, Log};
 use crate::out_of_memory::OutOfMemory;
-use memchr::memchr;
+use hub_text::split_line;
 use std::alloc::{AllocFailed, Global};
 use std::collections::BTreeSet;
 use thiserror::Error;
@@ -89,19 +89,6 @@ pub fn read_logs(alloc: Global, bytes: &[u8]) -> Result<Vec<Log>, (usize, LogErr
         rest = after;
     }
     Ok(logs)
-}
-
-/// The first line without its LF, and what comes after it.
-fn split_line(bytes: &[u8]) -> (&[u8], &[u8])
-    requires { 0 < length bytes.now }
-    ensures line { lines_of bytes.now ≡ result.0.now ∷ lines_of result.1.now }
-    ensures front { result.0.now ≡ take (length result.0.now) bytes.now }
-    ensures shorter { length result.1.now < length bytes.now }
-{
-    match memchr(b'\n', bytes) {
-        Some(end) => (&bytes[..end], &bytes[end + 1..]),
-        None => (bytes, &bytes[bytes.len()..]),
-    }
 }
 
 /// Begins a log or adds an entry to the newest. `closed` has the ends that the logs close.

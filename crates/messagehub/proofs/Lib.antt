@@ -1,8 +1,7 @@
-pub mod Numbers
-pub mod SplitLines
 pub mod Marks
 pub mod Numbered
 pub mod Bytes
 pub mod Posts
 pub mod Running
 pub mod Outputs
+pub mod Verdicts

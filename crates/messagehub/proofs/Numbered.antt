@@ -1,7 +1,7 @@
 -- Reading lines one after the other, as a loop does.
 use Rattle.std.proofs.Common.{◌≡◌, ℕ, ◌+◌, List, [], ◌∷◌, ◌++◌, length, true, eqb, Result, Ok, Err, refl, sym, ap, subst, ◌∙◌, append_assoc, arith}
 use Rattle.std.proofs.lemmas.Bool.{eqb-true}
-use Rattle.messagehub.specs.Lines.{lines_of}
+use Rattle.hub_text.specs.Lines.{lines_of}
 use Rattle.std.proofs.lemmas.List.{append-nil}
 use Rattle.messagehub.specs.declared.steps.line.StepLine.{StepLine}
 use Rattle.messagehub.specs.declared.steps.line.LineError.{LineError}

@@ -12,7 +12,8 @@ use Rattle.messagehub.specs.Beginning.{AppendsBeginning}
 use Rattle.messagehub.specs.OutcomeText.{outcome_line}
 use Rattle.messagehub.specs.Performed.{Performs, PerformsAt}
 use Rattle.messagehub.specs.StepText.{Runs, IsStepText}
-use Rattle.messagehub.specs.Output.{IsCutShort, out_of_memory}
+use Rattle.messagehub.specs.OutOfMemory.{out_of_memory}
+use Rattle.messagehub.specs.Output.{IsCutShort}
 use Rattle.messagehub.proofs.Bytes.{appends_nothing, appends_more, appends_kept, begins_after, begins_kept, begins_longer}
 
 runs_more : (past : History) (lines : List StepLine) (text : List ℕ) (h : History) (line : StepLine) (more : History) (shown : Outcome) → Runs past lines text h → Performs h line more shown

@@ -5,7 +5,7 @@ use Rattle.messagehub.specs.declared.steps.line.LineError.{LineError}
 use Rattle.messagehub.specs.declared.steps.parse.Fault.{Fault}
 use Rattle.messagehub.specs.declared.steps.parse.ParseError.{ParseError}
 use Rattle.messagehub.specs.declared.steps.parse.ParseError.TheVariants as errors
-use Rattle.messagehub.specs.Lines.{lines_of}
+use Rattle.hub_text.specs.Lines.{lines_of}
 use Rattle.messagehub.specs.StepLine.{line_of}
 
 -- What parsing returned is what the definition reads, unless memory ran out.

@@ -1,6 +1,6 @@
 -- What a reader gives from some moment on, where it tells.
-use Rattle.std.specs.Prelude.{◌≡◌, ℕ, List, ◌++◌, Bool, IsTrue, Option, Some, None}
-use Rattle.std.specs.Io.KnownBytes.{Consumes, IsAtEnd}
+use Rattle.std.specs.Prelude.{◌≡◌, ℕ, ◌<◌, List, ◌++◌, length, take, Bool, IsTrue, Option, Some, None, Result, Ok, Err}
+use Rattle.std.specs.Io.KnownBytes.{Consumes, IsAtEnd, Keeps}
 
 -- the bytes are all that the reader had left
 abbrev pub IsInput : Option (List ℕ) → List ℕ → Type 0
@@ -11,3 +11,10 @@ IsInput (Some bytes) input = bytes ≡ input
 abbrev pub ReadsMore : Option (List ℕ) → Option (List ℕ) → List ℕ → List ℕ → Bool → Type 0
 ReadsMore old new kept longer has_ended =
     (got : List ℕ) × (longer ≡ kept ++ got) × Consumes old new got × (IsTrue has_ended → IsAtEnd new)
+
+-- a read consumed the bytes that it gave, none only at the end or with no room; it gave none where it was
+-- interrupted or failed
+abbrev pub GivesBytes : {E : Type 0} → Option (List ℕ) → Option (List ℕ) → Result (Option ℕ) E → List ℕ → Type 0
+GivesBytes old new (Ok (Some count)) piece = Consumes old new (take count piece) × (count ≡ 0 → 0 < length piece → IsAtEnd new)
+GivesBytes old new (Ok None) piece = Keeps old new
+GivesBytes old new (Err e) piece = Keeps old new

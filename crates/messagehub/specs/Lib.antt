@@ -1,6 +1,5 @@
 pub mod Mode
 pub mod Status
-pub mod Lines
 pub mod Words
 pub mod Number
 pub mod Poster
@@ -10,10 +9,14 @@ pub mod StepWord
 pub mod StepLine
 pub mod Input
 pub mod IsInput
+pub mod Failures
+pub mod Counted
 pub mod Beginning
+pub mod OutOfMemory
 pub mod OutcomeText
 pub mod FaultText
 pub mod Unfolding
 pub mod Performed
 pub mod StepText
 pub mod Output
+pub mod CheckOutput

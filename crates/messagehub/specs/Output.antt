@@ -1,5 +1,5 @@
--- What the engine writes for an input, by the exit status that it answers.
-use Rattle.std.specs.Prelude.{◌≡◌, ℕ, ◌⊎◌, List, ◌++◌, Ok, Err, codes}
+-- What the engine of `steps` writes for an input, by the exit status that it answers.
+use Rattle.std.specs.Prelude.{◌≡◌, ℕ, ◌⊎◌, List, ◌++◌, Ok, Err}
 use Rattle.messagehub.specs.declared.status.ExitStatus.{ExitStatus}
 use Rattle.messagehub.specs.declared.status.ExitStatus.TheVariants as status
 use Rattle.messagehub.specs.declared.steps.line.StepLine.{StepLine}
@@ -7,9 +7,7 @@ use Rattle.messagehub.specs.declared.steps.parse.Fault.{Fault}
 use Rattle.messagehub.specs.Input.{input_of}
 use Rattle.messagehub.specs.StepText.{IsStepText}
 use Rattle.messagehub.specs.FaultText.{fault_line}
-
-abbrev pub out_of_memory : List ℕ
-out_of_memory = codes "out of memory\n"
+use Rattle.messagehub.specs.OutOfMemory.{out_of_memory}
 
 -- the text of the first of the lines, and `out of memory` as the last line
 abbrev pub IsCutShort : List StepLine → List ℕ → Type 0

@@ -3,6 +3,8 @@
 #![tactic(auto)]
 
 mod check;
+mod counted_reader;
+mod counted_writer;
 mod device;
 mod input;
 mod mode;
@@ -12,24 +14,33 @@ mod steps;
 #[cfg(test)]
 mod tests;
 
+use check::run_check;
+use counted_reader::CountedReader;
+use counted_writer::CountedWriter;
 use mode::{Mode, mode_of};
+use output::end_out_of_memory;
 use status::ExitStatus;
+use std::alloc::AllocError;
+use std::io::ErrorKind;
 use std::process::ExitCode;
 use std::{env, io};
+use steps::run_steps;
 
 const USAGE: &str = "usage: messagehub steps|run|check";
 
 const DEVICE_FAILED: &str = "input or output failed";
 
 fn main(rt: HostRuntime) -> ExitCode {
-    let Some(mode) = mode_asked_for(&rt) else {
-        let _ = rt.eprintln(USAGE);
-        return ExitStatus::Usage.code();
-    };
-    let mut writer = io::writer(&rt);
-    let answer = match mode {
-        Mode::Steps => steps::run_steps(rt.alloc(), &mut rt.stdin(), &mut writer),
-        Mode::Check => check::run_check(rt.alloc(), &mut rt.stdin(), &mut writer),
+    let mut reader = CountedReader::new(rt.stdin());
+    let mut writer = CountedWriter::new(io::writer(&rt));
+    let answer = match mode_asked_for(&rt) {
+        Ok(Some(Mode::Steps)) => run_steps(rt.alloc(), &mut reader, &mut writer),
+        Ok(Some(Mode::Check)) => run_check(rt.alloc(), &mut reader, &mut writer),
+        Ok(None) => {
+            let _ = rt.eprintln(USAGE);
+            Ok(ExitStatus::Usage)
+        }
+        Err(AllocError) => end_out_of_memory(&mut writer),
     };
     match answer {
         Ok(status) => status.code(),
@@ -41,11 +52,12 @@ fn main(rt: HostRuntime) -> ExitCode {
 }
 
 /// What the arguments ask for. Arguments that are no text ask for nothing.
-fn mode_asked_for(rt: &HostRuntime) -> Option<Mode> {
-    let words = env::args(rt)
-        .ok()?
-        .skip(1)
-        .collect::<Vec<String>>(rt.alloc())
-        .ok()?;
-    mode_of(&words)
+fn mode_asked_for(rt: &HostRuntime) -> Result<Option<Mode>, AllocError> {
+    let args = match env::args(rt) {
+        Ok(args) => args,
+        Err(error) if error.kind() == ErrorKind::OutOfMemory => return Err(AllocError),
+        Err(_) => return Ok(None),
+    };
+    let words = args.skip(1).collect::<Vec<String>>(rt.alloc())?;
+    Ok(mode_of(&words))
 }

@@ -1,4 +1,5 @@
 ghost use Rattle.std.specs.Prelude.{◌≡◌};
+ghost use Rattle.std.specs.Process.{exit_status};
 ghost use Rattle.messagehub.specs.Status.{status_number};
 
 use std::process::ExitCode;
@@ -33,7 +34,9 @@ impl ExitStatus {
         }
     }
 
-    pub fn code(self) -> ExitCode {
+    pub fn code(self) -> ExitCode
+        ensures { exit_status result ≡ status_number self }
+    {
         ExitCode::from(self.number())
     }
 }

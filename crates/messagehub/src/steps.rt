@@ -4,12 +4,14 @@ ghost use Rattle.std.specs.Prelude.{◌≡◌, ◌++◌, ℕ, List, IfOk, OnOk, 
 ghost use Rattle.std.specs.Io.KnownBytes.{Appends};
 ghost use Rattle.hub_core.specs.declared.outcome.Outcome.{Outcome};
 ghost use Rattle.messagehub.specs.declared.status.ExitStatus.{ExitStatus};
-ghost use Rattle.messagehub.specs.declared.status.ExitStatus.TheVariants as status;
+ghost use Rattle.messagehub.specs.declared.status.ExitStatus.TheVariants as exit;
 ghost use Rattle.messagehub.specs.Beginning.{AppendsBeginning};
+ghost use Rattle.messagehub.specs.Counted.{inner_reader, inner_writer, failed_writes, NoneFails, OneFails};
+ghost use Rattle.messagehub.specs.Failures.{CountsFailure};
 ghost use Rattle.messagehub.specs.IsInput.{IsInput};
 ghost use Rattle.messagehub.specs.OutcomeText.{outcome_line};
 ghost use Rattle.messagehub.specs.Performed.{PerformsAt};
-ghost use Rattle.messagehub.specs.Output.{IsOutput, IsRunOutput, out_of_memory};
+ghost use Rattle.messagehub.specs.Output.{IsOutput, IsRunOutput};
 
 mod end_list;
 mod line;
@@ -21,9 +23,11 @@ mod refusal;
 mod text;
 mod word;
 
+use crate::counted_reader::CountedReader;
+use crate::counted_writer::CountedWriter;
 use crate::device::Device;
 use crate::input::{InputError, read_input};
-use crate::output::{PIECE, flush, write_kept, write_whole};
+use crate::output::{PIECE, end_out_of_memory, end_with, write_kept};
 use crate::status::ExitStatus;
 use hub_core::{Core, OutOfMemory};
 use line::StepLine;
@@ -33,8 +37,6 @@ use std::alloc::Global;
 use std::io::{Read, Write};
 use text::{write_fault, write_outcome};
 
-const OUT_OF_MEMORY: &[u8; 14] = b"out of memory\n";
-
 /// Reads step lines to the end of the input, runs them, and writes one outcome line for each.
 ///
 /// The whole input is read and parsed before anything is run. Bad input writes one line alone, for
@@ -43,16 +45,22 @@ const OUT_OF_MEMORY: &[u8; 14] = b"out of memory\n";
 /// written after a failed read, and how much had gone out at a failed write isn't said.
 pub fn run_steps<R: Read, W: Write>(
     alloc: Global,
-    reader: &mut R,
-    writer: &mut W,
+    reader: &mut CountedReader<R>,
+    writer: &mut CountedWriter<W>,
 ) -> Result<ExitStatus, Device>
     // What is written is what the status says of the input, and nothing else.
-    ensures ok { IfOk result (λ answered. (input : List ℕ) × (text : List ℕ) × IsInput (R.remaining reader.old) input
-        × IsOutput input answered text × Appends (W.contents writer.old) (W.contents writer.new) text) }
+    ensures ok { IfOk result (λ answered. (input : List ℕ) × (text : List ℕ)
+        × IsInput (R.remaining (inner_reader reader.old)) input × IsOutput input answered text
+        × Appends (W.contents (inner_writer writer.old))
+        (W.contents (inner_writer writer.new)) text) }
     // What had gone out is a beginning of that.
     ensures err { OnErr result ((input : List ℕ) × (answered : ExitStatus) × (text : List ℕ)
-        × IsInput (R.remaining reader.old) input × IsOutput input answered text
-        × AppendsBeginning (W.contents writer.old) (W.contents writer.new) text) }
+        × IsInput (R.remaining (inner_reader reader.old)) input × IsOutput input answered text
+        × AppendsBeginning (W.contents (inner_writer writer.old))
+        (W.contents (inner_writer writer.new)) text) }
+    // `Device` comes only where a read or a write failed in this call, and then it comes.
+    ensures none_failed { OnOk result (NoneFails reader.old reader.new writer.old writer.new) }
+    ensures one_failed { OnErr result (OneFails reader.old reader.new writer.old writer.new) }
 {
     let input = match read_input(alloc, reader) {
         Ok(input) => input,
@@ -69,9 +77,7 @@ pub fn run_steps<R: Read, W: Write>(
             if write_fault(&mut text, fault).is_err() {
                 return end_out_of_memory(writer);
             }
-            write_whole(writer, text.as_bytes())?;
-            flush(writer)?;
-            Ok(ExitStatus::BadInput)
+            end_with(writer, text.as_bytes(), ExitStatus::BadInput)
         }
         Err(ParseError::OutOfMemory) => end_out_of_memory(writer),
     }
@@ -80,12 +86,15 @@ pub fn run_steps<R: Read, W: Write>(
 fn run_lines<W: Write>(
     alloc: Global,
     lines: Vec<StepLine>,
-    writer: &mut W,
+    writer: &mut CountedWriter<W>,
 ) -> Result<ExitStatus, Device>
     ensures ok { IfOk result (λ answered. (text : List ℕ) × IsRunOutput lines.items answered text
-        × Appends (W.contents writer.old) (W.contents writer.new) text) }
-    ensures err { OnErr result ((text : List ℕ) × IsRunOutput lines.items status.OutOfMemory text
-        × AppendsBeginning (W.contents writer.old) (W.contents writer.new) text) }
+        × Appends (W.contents (inner_writer writer.old))
+        (W.contents (inner_writer writer.new)) text) }
+    ensures err { OnErr result ((text : List ℕ) × IsRunOutput lines.items exit.OutOfMemory text
+        × AppendsBeginning (W.contents (inner_writer writer.old))
+        (W.contents (inner_writer writer.new)) text) }
+    ensures failures { CountsFailure result (failed_writes writer.old) (failed_writes writer.new) }
 {
     let mut core = Core::new(alloc);
     let mut kept = Vec::new(alloc);
@@ -99,7 +108,7 @@ fn run_lines<W: Write>(
         }
     }
     write_kept(writer, &mut kept)?;
-    flush(writer)?;
+    writer.flush()?;
     Ok(ExitStatus::Success)
 }
 
@@ -119,14 +128,4 @@ fn answer_line(
     write_outcome(&mut text, &outcome)?;
     kept.extend_from_slice(text.as_bytes())?;
     Ok(())
-}
-
-pub(crate) fn end_out_of_memory<W: Write>(writer: &mut W) -> Result<ExitStatus, Device>
-    ensures ok { IfOk result (λ answered. (answered ≡ status.OutOfMemory)
-        × Appends (W.contents writer.old) (W.contents writer.new) out_of_memory) }
-    ensures err { OnErr result (AppendsBeginning (W.contents writer.old) (W.contents writer.new) out_of_memory) }
-{
-    write_whole(writer, OUT_OF_MEMORY)?;
-    flush(writer)?;
-    Ok(ExitStatus::OutOfMemory)
 }

@@ -1,11 +1,11 @@
 ghost use Rattle.std.specs.Prelude.{◌≡◌, ◌<◌, ◌∷◌, length};
-ghost use Rattle.messagehub.specs.Lines.{lines_of};
+ghost use Rattle.hub_text.specs.Lines.{lines_of};
 ghost use Rattle.messagehub.specs.Input.{Reads, input_of};
 
 use super::line::{LineError, StepLine};
 use super::read_line::read_line;
 use super::refusal::Refusal;
-use memchr::memchr;
+use hub_text::split_line;
 use std::alloc::{AllocFailed, Global};
 
 /// The first bad line of an input, counted from 1, and what is wrong with it.
@@ -53,16 +53,4 @@ pub fn parse(alloc: Global, input: &[u8]) -> Result<Vec<StepLine>, ParseError>
         rest = after;
     }
     Ok(lines)
-}
-
-/// The first line without its LF, and what comes after it.
-fn split_line(bytes: &[u8]) -> (&[u8], &[u8])
-    requires { 0 < length bytes.now }
-    ensures line { lines_of bytes.now ≡ result.0.now ∷ lines_of result.1.now }
-    ensures shorter { length result.1.now < length bytes.now }
-{
-    match memchr(b'\n', bytes) {
-        Some(end) => (&bytes[..end], &bytes[end + 1..]),
-        None => (bytes, &bytes[bytes.len()..]),
-    }
 }

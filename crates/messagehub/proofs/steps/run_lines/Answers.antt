@@ -1,4 +1,4 @@
-use Rattle.std.proofs.Common.{◌++◌, ◌∷◌, [], sym, subst}
+use Rattle.std.proofs.Common.{◌++◌, ◌∷◌, [], sym, subst, ◌∙◌}
 use Rattle.std.specs.Io.KnownBytes.{Appends}
 use Rattle.std.specs.Vec.Iter.{into_iter_items}
 use Rattle.std.proofs.lemmas.Result.{IfOk-weaker, on_err_weaker}
@@ -12,32 +12,33 @@ pub returns-in_err-write_kept-clause-err : goal.returns-in_err-write_kept-clause
 returns-in_err-write_kept-clause-err g c =
     let contents = g.W.Write.contents in
     let same = err_says c.answer_line.result _ c.is_err.result c.is_err.ensures.value c.if-is_err.true c.answer_line.ensures.err in
-    whenever _ _ (cut_begun (contents c.args.writer.now) (contents c.loop-line.writer) (contents c.write_kept.new.writer) c.loop-line.core c.loop-line.kept.items c.loop-line.yielded (into_iter_items c.loop-line.line-iterator) c.args.lines.items c.loop-line.invariant.answered c.loop-line.invariant.left
-    (subst (AppendsBeginning (contents c.loop-line.writer) (contents c.write_kept.new.writer)) same c.in_err-write_kept.ensures.err))
+    whenever _ _ (cut_begun (contents c.args.writer.now.writer) (contents c.loop-line.writer.writer) (contents c.write_kept.new.writer.writer) c.loop-line.core c.loop-line.kept.items c.loop-line.yielded (into_iter_items c.loop-line.line-iterator) c.args.lines.items c.loop-line.invariant.answered c.loop-line.invariant.left
+    (subst (AppendsBeginning (contents c.loop-line.writer.writer) (contents c.write_kept.new.writer.writer)) same c.in_err-write_kept.ensures.err))
 
 pub returns-then-is_err-clause-ok : goal.returns-then-is_err-clause-ok
 returns-then-is_err-clause-ok g c =
     let contents = g.W.Write.contents in
     let same = err_says c.answer_line.result _ c.is_err.result c.is_err.ensures.value c.if-is_err.true c.answer_line.ensures.err in
-    let a = sends (contents c.args.writer.now) (contents c.loop-line.writer) (contents c.write_kept.new.writer) c.loop-line.core c.loop-line.kept.items c.write_kept.new.kept.items c.loop-line.yielded c.loop-line.invariant.answered (subst (Appends (contents c.loop-line.writer) (contents c.write_kept.new.writer)) same c.in_ok-write_kept.ensures.ok) c.in_ok-write_kept.ensures.kept in
+    let a = sends (contents c.args.writer.now.writer) (contents c.loop-line.writer.writer) (contents c.write_kept.new.writer.writer) c.loop-line.core c.loop-line.kept.items c.write_kept.new.kept.items c.loop-line.yielded c.loop-line.invariant.answered (subst (Appends (contents c.loop-line.writer.writer) (contents c.write_kept.new.writer.writer)) same c.in_ok-write_kept.ensures.ok) c.in_ok-write_kept.ensures.kept in
     IfOk-weaker c.end_out_of_memory.result _ _ (λ answered h.
-    let t = cut_ended (contents c.args.writer.now) (contents c.write_kept.new.writer) (contents c.end_out_of_memory.new.writer) c.loop-line.core c.write_kept.new.kept.items c.loop-line.yielded (into_iter_items c.loop-line.line-iterator) c.args.lines.items a c.loop-line.invariant.left c.in_ok-write_kept.ensures.kept h.1 in
+    let t = cut_ended (contents c.args.writer.now.writer) (contents c.write_kept.new.writer.writer) (contents c.end_out_of_memory.new.writer.writer) c.loop-line.core c.write_kept.new.kept.items c.loop-line.yielded (into_iter_items c.loop-line.line-iterator) c.args.lines.items a c.loop-line.invariant.left c.in_ok-write_kept.ensures.kept h.1 in
     (t.0, subst (λ s. IsRunOutput c.args.lines.items s t.0) (sym h.0) t.1, t.2)) c.end_out_of_memory.ensures.ok
 
 pub returns-then-is_err-clause-err : goal.returns-then-is_err-clause-err
 returns-then-is_err-clause-err g c =
     let contents = g.W.Write.contents in
     let same = err_says c.answer_line.result _ c.is_err.result c.is_err.ensures.value c.if-is_err.true c.answer_line.ensures.err in
-    let a = sends (contents c.args.writer.now) (contents c.loop-line.writer) (contents c.write_kept.new.writer) c.loop-line.core c.loop-line.kept.items c.write_kept.new.kept.items c.loop-line.yielded c.loop-line.invariant.answered (subst (Appends (contents c.loop-line.writer) (contents c.write_kept.new.writer)) same c.in_ok-write_kept.ensures.ok) c.in_ok-write_kept.ensures.kept in
-    on_err_weaker c.end_out_of_memory.result (λ h. cut_ending (contents c.args.writer.now) (contents c.write_kept.new.writer) (contents c.end_out_of_memory.new.writer) c.loop-line.core c.write_kept.new.kept.items c.loop-line.yielded (into_iter_items c.loop-line.line-iterator) c.args.lines.items a c.loop-line.invariant.left c.in_ok-write_kept.ensures.kept h) c.end_out_of_memory.ensures.err
+    let a = sends (contents c.args.writer.now.writer) (contents c.loop-line.writer.writer) (contents c.write_kept.new.writer.writer) c.loop-line.core c.loop-line.kept.items c.write_kept.new.kept.items c.loop-line.yielded c.loop-line.invariant.answered (subst (Appends (contents c.loop-line.writer.writer) (contents c.write_kept.new.writer.writer)) same c.in_ok-write_kept.ensures.ok) c.in_ok-write_kept.ensures.kept in
+    on_err_weaker c.end_out_of_memory.result (λ h. cut_ending (contents c.args.writer.now.writer) (contents c.write_kept.new.writer.writer) (contents c.end_out_of_memory.new.writer.writer) c.loop-line.core c.write_kept.new.kept.items c.loop-line.yielded (into_iter_items c.loop-line.line-iterator) c.args.lines.items a c.loop-line.invariant.left c.in_ok-write_kept.ensures.kept h) c.end_out_of_memory.ensures.err
 
 pub loop-line-preserved-in-Continue-branch-2 : goal.loop-line-preserved-in-Continue-branch-2
 loop-line-preserved-in-Continue-branch-2 g c =
     let contents = g.W.Write.contents in
     let x = ok_says c.answer_line.result _ c.is_err.result c.is_err.ensures.value c.if-is_err.false c.answer_line.ensures.ok in
-    let a = answers (contents c.args.writer.now) (contents c.loop-line.writer) c.loop-line.core c.answer_line.new.core c.loop-line.kept.items c.answer_line.new.kept.items c.loop-line.yielded c.in-Some.line x.0 c.loop-line.invariant.answered x.1 x.2 in
+    let a = answers (contents c.args.writer.now.writer) (contents c.loop-line.writer.writer) c.loop-line.core c.answer_line.new.core c.loop-line.kept.items c.answer_line.new.kept.items c.loop-line.yielded c.in-Some.line x.0 c.loop-line.invariant.answered x.1 x.2 in
     record {
-      answered = sends (contents c.args.writer.now) (contents c.loop-line.writer) (contents c.write_kept-then-len-ge-PIECE.new.writer) c.answer_line.new.core c.answer_line.new.kept.items c.write_kept-then-len-ge-PIECE.new.kept.items (c.loop-line.yielded ++ c.in-Some.line ∷ []) a c.in_ok-write_kept-2.ensures.ok c.in_ok-write_kept-2.ensures.kept;
+      answered = sends (contents c.args.writer.now.writer) (contents c.loop-line.writer.writer) (contents c.write_kept-then-len-ge-PIECE.new.writer.writer) c.answer_line.new.core c.answer_line.new.kept.items c.write_kept-then-len-ge-PIECE.new.kept.items (c.loop-line.yielded ++ c.in-Some.line ∷ []) a c.in_ok-write_kept-2.ensures.ok c.in_ok-write_kept-2.ensures.kept;
+      failures = c.in_ok-write_kept-2.ensures.failures ∙ c.loop-line.invariant.failures;
       left = one_less c.args.lines.items c.loop-line.yielded (into_iter_items c.loop-line.line-iterator) (into_iter_items c.next.new.self) c.in-Some.line c.loop-line.invariant.left c.in-Some.ensures.steps.0;
     }
 
@@ -45,34 +46,35 @@ pub returns-in_err-write_kept-2-clause-err : goal.returns-in_err-write_kept-2-cl
 returns-in_err-write_kept-2-clause-err g c =
     let contents = g.W.Write.contents in
     let x = ok_says c.answer_line.result _ c.is_err.result c.is_err.ensures.value c.if-is_err.false c.answer_line.ensures.ok in
-    let a = answers (contents c.args.writer.now) (contents c.loop-line.writer) c.loop-line.core c.answer_line.new.core c.loop-line.kept.items c.answer_line.new.kept.items c.loop-line.yielded c.in-Some.line x.0 c.loop-line.invariant.answered x.1 x.2 in
+    let a = answers (contents c.args.writer.now.writer) (contents c.loop-line.writer.writer) c.loop-line.core c.answer_line.new.core c.loop-line.kept.items c.answer_line.new.kept.items c.loop-line.yielded c.in-Some.line x.0 c.loop-line.invariant.answered x.1 x.2 in
     let left = one_less c.args.lines.items c.loop-line.yielded (into_iter_items c.loop-line.line-iterator) (into_iter_items c.next.new.self) c.in-Some.line c.loop-line.invariant.left c.in-Some.ensures.steps.0 in
-    whenever _ _ (cut_begun (contents c.args.writer.now) (contents c.loop-line.writer) (contents c.write_kept-then-len-ge-PIECE.new.writer) c.answer_line.new.core c.answer_line.new.kept.items (c.loop-line.yielded ++ c.in-Some.line ∷ []) (into_iter_items c.next.new.self) c.args.lines.items a left c.in_err-write_kept-2.ensures.err)
+    whenever _ _ (cut_begun (contents c.args.writer.now.writer) (contents c.loop-line.writer.writer) (contents c.write_kept-then-len-ge-PIECE.new.writer.writer) c.answer_line.new.core c.answer_line.new.kept.items (c.loop-line.yielded ++ c.in-Some.line ∷ []) (into_iter_items c.next.new.self) c.args.lines.items a left c.in_err-write_kept-2.ensures.err)
 
 pub loop-line-preserved : goal.loop-line-preserved
 loop-line-preserved g c =
     let contents = g.W.Write.contents in
     let x = ok_says c.answer_line.result _ c.is_err.result c.is_err.ensures.value c.if-is_err.false c.answer_line.ensures.ok in
     record {
-      answered = answers (contents c.args.writer.now) (contents c.loop-line.writer) c.loop-line.core c.answer_line.new.core c.loop-line.kept.items c.answer_line.new.kept.items c.loop-line.yielded c.in-Some.line x.0 c.loop-line.invariant.answered x.1 x.2;
+      answered = answers (contents c.args.writer.now.writer) (contents c.loop-line.writer.writer) c.loop-line.core c.answer_line.new.core c.loop-line.kept.items c.answer_line.new.kept.items c.loop-line.yielded c.in-Some.line x.0 c.loop-line.invariant.answered x.1 x.2;
+      failures = c.loop-line.invariant.failures;
       left = one_less c.args.lines.items c.loop-line.yielded (into_iter_items c.loop-line.line-iterator) (into_iter_items c.next.new.self) c.in-Some.line c.loop-line.invariant.left c.in-Some.ensures.steps.0;
     }
 
 pub returns-in_err-write_kept-3-clause-err : goal.returns-in_err-write_kept-3-clause-err
 returns-in_err-write_kept-3-clause-err g c =
     let contents = g.W.Write.contents in
-    whenever _ _ (cut_begun (contents c.args.writer.now) (contents c.loop-line.writer) (contents c.write_kept-2.new.writer) c.loop-line.core c.loop-line.kept.items c.loop-line.yielded (into_iter_items c.loop-line.line-iterator) c.args.lines.items c.loop-line.invariant.answered c.loop-line.invariant.left c.in_err-write_kept-3.ensures.err)
+    whenever _ _ (cut_begun (contents c.args.writer.now.writer) (contents c.loop-line.writer.writer) (contents c.write_kept-2.new.writer.writer) c.loop-line.core c.loop-line.kept.items c.loop-line.yielded (into_iter_items c.loop-line.line-iterator) c.args.lines.items c.loop-line.invariant.answered c.loop-line.invariant.left c.in_err-write_kept-3.ensures.err)
 
 pub returns-in_err-flush-clause-err : goal.returns-in_err-flush-clause-err
 returns-in_err-flush-clause-err g c =
     let contents = g.W.Write.contents in
-    let a = sends (contents c.args.writer.now) (contents c.loop-line.writer) (contents c.write_kept-2.new.writer) c.loop-line.core c.loop-line.kept.items c.write_kept-2.new.kept.items c.loop-line.yielded c.loop-line.invariant.answered c.in_ok-write_kept-3.ensures.ok c.in_ok-write_kept-3.ensures.kept in
-    whenever _ _ (flush_failed (contents c.args.writer.now) (contents c.write_kept-2.new.writer) (contents c.flush.new.writer) c.loop-line.core c.write_kept-2.new.kept.items c.loop-line.yielded (into_iter_items c.loop-line.line-iterator) c.args.lines.items a c.loop-line.invariant.left c.in_ok-write_kept-3.ensures.kept c.flush.ensures)
+    let a = sends (contents c.args.writer.now.writer) (contents c.loop-line.writer.writer) (contents c.write_kept-2.new.writer.writer) c.loop-line.core c.loop-line.kept.items c.write_kept-2.new.kept.items c.loop-line.yielded c.loop-line.invariant.answered c.in_ok-write_kept-3.ensures.ok c.in_ok-write_kept-3.ensures.kept in
+    whenever _ _ (flush_failed (contents c.args.writer.now.writer) (contents c.write_kept-2.new.writer.writer) (contents c.flush.new.self.writer) c.loop-line.core c.write_kept-2.new.kept.items c.loop-line.yielded (into_iter_items c.loop-line.line-iterator) c.args.lines.items a c.loop-line.invariant.left c.in_ok-write_kept-3.ensures.kept c.flush.ensures.kept)
 
 pub returns-clause-ok : goal.returns-clause-ok
 returns-clause-ok g c =
     let contents = g.W.Write.contents in
-    let a = sends (contents c.args.writer.now) (contents c.loop-line.writer) (contents c.write_kept-2.new.writer) c.loop-line.core c.loop-line.kept.items c.write_kept-2.new.kept.items c.loop-line.yielded c.loop-line.invariant.answered c.in_ok-write_kept-3.ensures.ok c.in_ok-write_kept-3.ensures.kept in
-    let t = ends (contents c.args.writer.now) (contents c.write_kept-2.new.writer) (contents c.flush.new.writer) c.loop-line.core c.write_kept-2.new.kept.items c.loop-line.yielded a c.in_ok-write_kept-3.ensures.kept c.flush.ensures in
+    let a = sends (contents c.args.writer.now.writer) (contents c.loop-line.writer.writer) (contents c.write_kept-2.new.writer.writer) c.loop-line.core c.loop-line.kept.items c.write_kept-2.new.kept.items c.loop-line.yielded c.loop-line.invariant.answered c.in_ok-write_kept-3.ensures.ok c.in_ok-write_kept-3.ensures.kept in
+    let t = ends (contents c.args.writer.now.writer) (contents c.write_kept-2.new.writer.writer) (contents c.flush.new.self.writer) c.loop-line.core c.write_kept-2.new.kept.items c.loop-line.yielded a c.in_ok-write_kept-3.ensures.kept c.flush.ensures.kept in
     let all = all_done c.args.lines.items c.loop-line.yielded (into_iter_items c.loop-line.line-iterator) c.loop-line.line-iterator.rest.len c.loop-line.invariant.left c.loop-line.line-iterator.rest.ok.0 c.in-None.ensures.steps.0 in
     (t.0, subst (λ ls. IsStepText ls t.0) all t.1, t.2)

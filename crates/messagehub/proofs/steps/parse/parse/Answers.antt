@@ -1,5 +1,5 @@
 use Rattle.std.proofs.Common.{◌≡◌, ◌+◌, ◌∷◌, [], ◌++◌, length, Err, sym, ap, subst, ◌∙◌, arith, length-append}
-use Rattle.messagehub.specs.Lines.{lines_of}
+use Rattle.hub_text.specs.Lines.{lines_of}
 use Rattle.messagehub.specs.StepLine.{line_of, Refuses}
 use Rattle.messagehub.specs.Input.{numbered, input_of}
 use Rattle.messagehub.proofs.Numbered.{with_front, goes_on, is_bad, is_done, fault_at, one_more, no_lines}

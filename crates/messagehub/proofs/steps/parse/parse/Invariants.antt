@@ -1,5 +1,5 @@
 use Rattle.std.proofs.Common.{◌≡◌, ◌+◌, ◌≤◌, length}
-use Rattle.messagehub.specs.Lines.{lines_of}
+use Rattle.hub_text.specs.Lines.{lines_of}
 use Rattle.messagehub.specs.Input.{numbered, input_of}
 use Rattle.messagehub.proofs.Numbered.{with_front}
 use Rattle.messagehub.proofs.steps.parse.parse.Given as goal

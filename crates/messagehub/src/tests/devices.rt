@@ -1,0 +1,144 @@
+use std::alloc::{AllocError, Global};
+use std::io;
+use std::io::{Error, ErrorKind, Read, Write};
+
+/// Takes whole writes while there is room, and then fails.
+#[derive(Drop)]
+pub struct FailingWriter {
+    pub room: usize,
+    /// How many writes were taken.
+    pub writes: usize,
+}
+
+impl FailingWriter {
+    pub fn with_room(room: usize) -> FailingWriter {
+        FailingWriter { room, writes: 0 }
+    }
+}
+
+impl Write for FailingWriter {
+    fn write(&mut self, bytes: &[u8]) -> io::Result<usize> {
+        if self.room < bytes.len() {
+            return Err(Error::from(ErrorKind::BrokenPipe));
+        }
+        self.room -= bytes.len();
+        self.writes = self.writes.saturating_add(1);
+        Ok(bytes.len())
+    }
+
+    fn flush(&mut self) -> io::Result<()> {
+        Ok(())
+    }
+}
+
+/// Takes all, and fails to see that it has gone out.
+#[derive(Drop)]
+pub struct UnflushedWriter;
+
+impl Write for UnflushedWriter {
+    fn write(&mut self, bytes: &[u8]) -> io::Result<usize> {
+        Ok(bytes.len())
+    }
+
+    fn flush(&mut self) -> io::Result<()> {
+        Err(Error::from(ErrorKind::BrokenPipe))
+    }
+}
+
+/// Takes one byte at a time.
+#[derive(Drop)]
+pub struct SlowWriter {
+    pub taken: Vec<u8>,
+}
+
+impl Write for SlowWriter {
+    fn write(&mut self, bytes: &[u8]) -> io::Result<usize> {
+        if bytes.is_empty() {
+            return Ok(0);
+        }
+        match self.taken.push(bytes[0]) {
+            Ok(()) => Ok(1),
+            Err(_) => Err(Error::from(ErrorKind::OutOfMemory)),
+        }
+    }
+
+    fn flush(&mut self) -> io::Result<()> {
+        Ok(())
+    }
+}
+
+/// Takes no byte, or is interrupted.
+#[derive(Drop)]
+pub struct StuckWriter {
+    pub is_interrupted: bool,
+}
+
+impl Write for StuckWriter {
+    fn write(&mut self, _bytes: &[u8]) -> io::Result<usize> {
+        if self.is_interrupted {
+            Err(Error::from(ErrorKind::Interrupted))
+        } else {
+            Ok(0)
+        }
+    }
+
+    fn flush(&mut self) -> io::Result<()> {
+        Ok(())
+    }
+}
+
+/// Gives one byte at a time, and fails at a place.
+#[derive(Drop)]
+pub struct SlowReader {
+    input: Vec<u8>,
+    at: usize,
+    fails_at: usize,
+}
+
+impl SlowReader {
+    pub fn new(alloc: Global, input: &[u8]) -> Result<SlowReader, AllocError> {
+        SlowReader::failing_at(alloc, input, usize::MAX)
+    }
+
+    pub fn failing_at(
+        alloc: Global,
+        input: &[u8],
+        fails_at: usize,
+    ) -> Result<SlowReader, AllocError> {
+        Ok(SlowReader {
+            input: Vec::from_slice(alloc, input)?,
+            at: 0,
+            fails_at,
+        })
+    }
+}
+
+impl Read for SlowReader {
+    fn read(&mut self, piece: &mut [u8]) -> io::Result<usize> {
+        if self.at == self.fails_at {
+            return Err(Error::from(ErrorKind::BrokenPipe));
+        }
+        if piece.is_empty() || self.at >= self.input.len() {
+            return Ok(0);
+        }
+        piece[0] = self.input[self.at];
+        self.at += 1;
+        Ok(1)
+    }
+}
+
+/// Gives a byte at each read and never ends, or is interrupted at each.
+#[derive(Drop)]
+pub struct EndlessReader {
+    pub is_interrupted: bool,
+}
+
+impl Read for EndlessReader {
+    fn read(&mut self, piece: &mut [u8]) -> io::Result<usize> {
+        if self.is_interrupted || piece.is_empty() {
+            return Err(Error::from(ErrorKind::Interrupted));
+        }
+        piece[0] = b'\n';
+        Ok(1)
+    }
+}
