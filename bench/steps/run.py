@@ -5,9 +5,8 @@ Usage: run.py BINARY [REPEATS]
 
 Two shapes, each with 1,000,000 and 2,000,000 lines of `post` and `take` with bodies of about 20
 bytes: takes that follow their posts, and all the posts before all the takes. It prints seconds (the
-least of the repeats), ratios, processor seconds (by which growth is judged, since other work on the
-machine bends them less), and peak memory a line. It ends with 1 where a bound is missed or the
-two programs write different bytes.
+least of the repeats), ratios, processor seconds, and peak memory a line. Growth is judged by wall
+time. It ends with 1 where a bound is missed or the two programs write different bytes.
 """
 
 import os
@@ -74,7 +73,7 @@ def main():
                     file.write(HEADER + shape(count))
                 seconds, processor, peak = least([binary, "steps"], source, ours, repeats)
                 node, _, node_peak = least(["node", reference], source, theirs, repeats)
-                growth = processor / before if before else None
+                growth = seconds / before if before else None
                 print(
                     f"{name}, {count} lines: {seconds:.2f} s, node {node:.2f} s, "
                     f"ratio {seconds / node:.2f}; {processor:.2f} processor s; {peak / count:.0f} bytes a line, "
@@ -89,7 +88,7 @@ def main():
                     missed.append(f"{name} {count}: memory")
                 if growth and growth > MOST_GROWTH:
                     missed.append(f"{name} {count}: growth")
-                before = processor
+                before = seconds
     for line in missed:
         print("missed:", line)
     sys.exit(1 if missed else 0)
