@@ -1,5 +1,5 @@
 -- The answer that a text has, test by test, and what it says.
-use Rattle.std.proofs.Common.{◌≡◌, ℕ, ◌<◌, ◌≤◌, List, [], ◌∷◌, length, Bool, true, false, cond, not, nat_lt, Option, Some, None, Result, Ok, Err, refl, ap, ◌∙◌, sym, subst, arith, true≢false, lt-ltb, le-ltb, ltb-true, ltb-false}
+use Rattle.std.proofs.Common.{◌≡◌, ℕ, ◌<◌, ◌≤◌, List, [], ◌∷◌, length, Bool, true, false, cond, not, nat_lt, Option, Some, None, Result, Ok, Err, IfOk, IfErr, refl, ap, ◌∙◌, sym, subst, arith, true≢false, lt-ltb, le-ltb, ltb-true, ltb-false}
 use Rattle.serde_json.specs.Data.{Data, depth}
 use Rattle.serde_json.specs.Read.{read}
 use Rattle.serde_json.specs.Written.{has_float, compact_text}
@@ -8,7 +8,7 @@ use Rattle.hub_envelope.specs.Profile.{IsInProfile}
 use Rattle.hub_envelope.specs.BodyText.{IsBodyText}
 use Rattle.hub_envelope.specs.Answer.{answer_to, answer_of, IsAnswerTo}
 use Rattle.hub_envelope.specs.declared.body.BodyError.{BodyError}
-use Rattle.hub_envelope.specs.declared.body.BodyError.TheVariants.{NotJson, NotWhole, TooDeep, TooLong}
+use Rattle.hub_envelope.specs.declared.body.BodyError.TheVariants.{NotJson, NotWhole, TooDeep, TooLong, OutOfMemory}
 use Rattle.hub_envelope.specs.declared.limits.TheConstants.{MAX_NESTING, MAX_BODY_BYTES}
 use Rattle.hub_envelope.proofs.ReadValues.{IsWhole-read, IsKeyOrdered-read, has_float-whole}
 
@@ -93,3 +93,8 @@ from_not_false false r e f = absurd (true≢false (sym e ∙ f))
 pub from_not_true : (b r : Bool) → r ≡ not b → r ≡ true → b ≡ false
 from_not_true true r e f = absurd (true≢false (sym f ∙ e))
 from_not_true false r e f = refl
+
+-- what was answered is true, where it is the body or want of memory
+pub IsAnswerTo-copy : (text : List ℕ) (r : Result (List ℕ) BodyError) → IfOk r (λ body. answer_of text ≡ Ok body) → IfErr r (λ e. e ≡ OutOfMemory) → IsAnswerTo text r
+IsAnswerTo-copy text (Ok body) is err = IsAnswerTo-equal text (Ok body) is
+IsAnswerTo-copy text (Err e) ok is = subst (λ f. IsAnswerTo text (Err f)) (sym is) tt

@@ -1,4 +1,6 @@
 pub mod ReadNumbers
 pub mod ReadValues
+mod ReadCompact
+mod Fronts
 pub mod Answers
 pub mod Equalities

@@ -17,16 +17,16 @@ use Rattle.hub_envelope.proofs.ReadNumbers.{number_of-fits, is_float-fits}
 
 -- ---- keys in byte order
 
-abbrev compare_keys : List ℕ → List ℕ → Ordering
+abbrev pub compare_keys : List ℕ → List ℕ → Ordering
 compare_keys = slice_cmp nat_cmp
 
-abbrev IsSorted : Members → Type 0
+abbrev pub IsSorted : Members → Type 0
 IsSorted ms = IsStrictlySortedBy compare_keys (keys_of ms)
 
-abbrev IsBelowKeys : List ℕ → Members → Type 0
+abbrev pub IsBelowKeys : List ℕ → Members → Type 0
 IsBelowKeys k ms = AllByRecursion (λ l. compare_keys k l ≡ Less) (keys_of ms)
 
-below_more : (k l : List ℕ) (ms : Members) → compare_keys k l ≡ Less → IsBelowKeys l ms → IsBelowKeys k ms
+pub below_more : (k l : List ℕ) (ms : Members) → compare_keys k l ≡ Less → IsBelowKeys l ms → IsBelowKeys k ms
 below_more k l no_members below h = tt
 below_more k l (member m d ms) below h = (nat_list_cmp_total.trans k l m below h.0, below_more k l ms below h.1)
 

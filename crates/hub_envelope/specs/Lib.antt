@@ -4,5 +4,6 @@ pub mod KeyOrder
 pub mod Profile
 pub mod BodyText
 pub mod Answer
+pub mod Compact
 pub mod SameEnds
 pub mod Same

@@ -1,9 +1,11 @@
-ghost use Rattle.std.specs.Prelude.{◌≡◌, ◌⊎◌, ◌↔◌, ◌<◌, length, IfOk, IfErr, IsErrOf, IsTrue, bytes_eq};
+ghost use Rattle.std.specs.Prelude.{◌≡◌, ◌⊎◌, ◌↔◌, ◌<◌, ◌≤◌, length, IfOk, IfErr, IsErrOf, IsTrue, bytes_eq};
 ghost use Rattle.std.specs.Cmp.{partial_equiv_from_equiv};
 ghost use Rattle.std.specs.Cmp.Lexicographic.{nat_list_eq_equiv};
 ghost use Rattle.hub_envelope.specs.Answer.{answer_of, IsAnswerTo};
 ghost use Rattle.hub_envelope.specs.BodyText.{IsBodyText};
+ghost use Rattle.hub_envelope.specs.Compact.{IsCompact};
 
+use crate::compact::is_compact;
 use crate::limits::{MAX_BODY_BYTES, MAX_NESTING};
 use crate::profile::{is_whole, nests_within};
 use serde_json::Value;
@@ -60,6 +62,35 @@ impl Body {
     /// that isn't empty. Time and memory are linear in the length of the text, but for the sorting
     /// of an object's members.
     pub fn read(alloc: Global, text: &str) -> Result<Body, BodyError>
+        ensures ok { IfOk result (λ body. answer_of text.now ≡ Ok body) }
+        ensures err { IfErr result
+            (λ e. (e ≡ BodyError.OutOfMemory) ⊎ (answer_of text.now ≡ Err e)) }
+        ensures cases { IsAnswerTo text.now result }
+        ensures memory { IsErrOf result BodyError.OutOfMemory → 0 < length text.now }
+    {
+        // Most texts were compact when they were sent, and needn't be taken apart.
+        if text.len() <= MAX_BODY_BYTES && is_compact(text.as_bytes()) {
+            Body::copy_of(alloc, text)
+        } else {
+            Body::read_value(alloc, text)
+        }
+    }
+
+    /// The body of a compact text.
+    fn copy_of(alloc: Global, text: &str) -> Result<Body, BodyError>
+        requires { IsCompact text.now × (length text.now ≤ MAX_BODY_BYTES) }
+        ensures ok { IfOk result (λ body. answer_of text.now ≡ Ok body) }
+        ensures some { 0 < length text.now }
+        ensures err { IfErr result (λ e. e ≡ BodyError.OutOfMemory) }
+    {
+        match String::from_str(alloc, text) {
+            Ok(copy) => Ok(Body { text: copy }),
+            Err(_) => Err(BodyError::OutOfMemory),
+        }
+    }
+
+    /// The body of the value that the text reads to.
+    fn read_value(alloc: Global, text: &str) -> Result<Body, BodyError>
         ensures ok { IfOk result (λ body. answer_of text.now ≡ Ok body) }
         ensures err { IfErr result
             (λ e. (e ≡ BodyError.OutOfMemory) ⊎ (answer_of text.now ≡ Err e)) }

@@ -6,6 +6,7 @@
 #![tactic(auto)]
 
 mod body;
+mod compact;
 mod envelope;
 mod ids;
 mod limits;

@@ -1,6 +1,7 @@
 // The texts that `Body::read` takes and refuses, and the clones and comparisons once each. The
 // compact texts are those that Node's `JSON.stringify` writes of the same values with the members
 // sorted.
+use crate::compact::is_compact;
 use crate::{
     AgentId, Body, BodyError, Draft, EndId, Envelope, LineId, MAX_BODY_BYTES, MAX_NESTING,
     MAX_PORTS, Ports,
@@ -62,6 +63,21 @@ fn reads_whole_numbers(rt: HostRuntime) {
         ("1e400", Err(BodyError::NotJson)),
     ] {
         assert_reads(&rt, text, want);
+    }
+}
+
+// The clause says only that what is recognised is compact.
+#[test]
+fn recognises_compact_texts(rt: HostRuntime) {
+    for text in [
+        "null",
+        "[true,false]",
+        "[0,-12,123456789012345678]",
+        "\"é 😀\"",
+        "[[],{},[1,{\"a\":[2]}]]",
+        "{\"\":\"x\",\"a\":{\"b\":null},\"aa\":1}",
+    ] {
+        assert!(rt; is_compact(text.as_bytes()), "of {text}");
     }
 }
 

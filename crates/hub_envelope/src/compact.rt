@@ -1,0 +1,162 @@
+ghost use Rattle.std.specs.Prelude.{◌≡◌, ℕ, ◌+◌, ◌<◌, ◌≤◌, ◌∷◌, ◌++◌, true, length, slice_index, option_map, IfSome, IsTrue};
+ghost use Rattle.std.specs.Char.{is_ascii_digit};
+ghost use Rattle.json.specs.Print.{quoted};
+ghost use Rattle.json.specs.Run.{is_stop};
+ghost use Rattle.hub_envelope.specs.Compact.{IsAbove, IsCompact, IsFront, IsNumberBefore};
+
+use crate::limits::MAX_NESTING;
+
+/// A whole number of so many digits fits in `i64`.
+const MAX_DIGITS: usize = 18;
+
+/// Whether the text is recognised as the compact text of a value of the profile, its length aside. No
+/// says nothing: texts with an escape or a longer number, among others, aren't recognised.
+pub(crate) fn is_compact(text: &[u8]) -> bool
+    ensures { IsTrue result → IsCompact text.now }
+{
+    match after_value(text, MAX_NESTING) {
+        Some(rest) => rest.is_empty(),
+        None => false,
+    }
+}
+
+/// What stands behind the value at the front, in which arrays and objects nest at most `levels` deep.
+/// Here and below, None says that no such thing was recognised.
+#[cycle(after_value)]
+fn after_value(text: &[u8], levels: usize) -> Option<&[u8]>
+    ensures { IfSome result (λ rest. IsFront levels text.now rest.now) }
+{
+    let (first, rest) = text.split_first()?;
+    match *first {
+        b'"' => Some(plain_string(text)?.1),
+        b'[' if levels > 0 => after_items(rest, levels - 1),
+        b'{' if levels > 0 => after_members(rest, levels - 1),
+        b'n' => rest.strip_prefix(b"ull"),
+        b't' => rest.strip_prefix(b"rue"),
+        b'f' => rest.strip_prefix(b"alse"),
+        _ => after_number(text),
+    }
+}
+
+/// What stands behind the array of which the bracket stands before the text.
+#[cycle(after_value)]
+fn after_items(text: &[u8], levels: usize) -> Option<&[u8]>
+    ensures { IfSome result (λ rest. IsFront (levels + 1) (91 ∷ text.now) rest.now) }
+{
+    let (first, after) = text.split_first()?;
+    if *first == b']' {
+        return Some(after);
+    }
+    let mut rest = text;
+    loop {
+        let (mark, after) = after_value(rest, levels)?.split_first()?;
+        match *mark {
+            b',' => rest = after,
+            b']' => return Some(after),
+            _ => return None,
+        }
+    }
+}
+
+/// What stands behind the object of which the brace stands before the text.
+#[cycle(after_value)]
+fn after_members(text: &[u8], levels: usize) -> Option<&[u8]>
+    ensures { IfSome result (λ rest. IsFront (levels + 1) (123 ∷ text.now) rest.now) }
+{
+    let (first, after) = text.split_first()?;
+    if *first == b'}' {
+        return Some(after);
+    }
+    let mut rest = text;
+    let mut before: Option<&[u8]> = None;
+    loop {
+        let (key, value) = member_key(rest)?;
+        if !may_follow(before, key) {
+            return None;
+        }
+        before = Some(key);
+        let (mark, after) = after_value(value, levels)?.split_first()?;
+        match *mark {
+            b',' => rest = after,
+            b'}' => return Some(after),
+            _ => return None,
+        }
+    }
+}
+
+/// Whether a member may have the key, which stands behind the one before it in byte order.
+fn may_follow(before: Option<&[u8]>, key: &[u8]) -> bool
+    ensures { IsTrue result → IsAbove (option_map (λ k. k.now) before.entry) key.now }
+{
+    match before {
+        Some(before) => before.cmp(key).is_lt(),
+        None => true,
+    }
+}
+
+/// The bytes of the key at the front, and what stands behind its colon.
+fn member_key(text: &[u8]) -> Option<(&[u8], &[u8])>
+    ensures { IfSome result (λ key. text.now ≡ quoted key.0.now ++ 58 ∷ key.1.now) }
+{
+    let (key, rest) = plain_string(text)?;
+    let (colon, value) = rest.split_first()?;
+    if *colon != b':' {
+        return None;
+    }
+    Some((key, value))
+}
+
+/// The bytes of the string at the front, which need no escape, and what stands behind it.
+fn plain_string(text: &[u8]) -> Option<(&[u8], &[u8])>
+    ensures { IfSome result (λ string. text.now ≡ quoted string.0.now ++ string.1.now) }
+{
+    let (quote, inside) = text.split_first()?;
+    if *quote != b'"' {
+        return None;
+    }
+    let end = inside.iter().position(|byte| is_stop(*byte))?;
+    if inside[end] != b'"' {
+        return None;
+    }
+    Some((&inside[..end], &inside[end + 1..]))
+}
+
+/// Whether a string has no such byte without an escape, but for the quote that ends it.
+fn is_stop(byte: u8) -> bool
+    ensures { result ≡ is_stop byte }
+{
+    byte == b'"' || byte == b'\\' || byte < b' '
+}
+
+/// What stands behind the whole number at the front.
+fn after_number(text: &[u8]) -> Option<&[u8]>
+    ensures { IfSome result (λ rest. IsFront 0 text.now rest.now) }
+{
+    let (first, rest) = text.split_first()?;
+    match *first {
+        b'0' => Some(rest),
+        b'-' => after_digits(rest),
+        _ => after_digits(text),
+    }
+}
+
+/// What stands behind the decimal digits at the front, of which the first isn't 0.
+fn after_digits(text: &[u8]) -> Option<&[u8]>
+    ensures { IfSome result (λ rest. IsNumberBefore text.now rest.now) }
+{
+    let count = digit_count(text);
+    if count == 0 || count > MAX_DIGITS || text[0] == b'0' {
+        return None;
+    }
+    Some(&text[count..])
+}
+
+/// How many decimal digits stand at the front.
+fn digit_count(text: &[u8]) -> usize
+    ensures within { result ≤ length text.now }
+    ensures digits { (k : ℕ) → k < result → is_ascii_digit (slice_index text.now k) ≡ true }
+{
+    text.iter()
+        .position(|byte| !byte.is_ascii_digit())
+        .unwrap_or(text.len())
+}
