@@ -4,3 +4,4 @@ mod ReadCompact
 mod Fronts
 pub mod Answers
 pub mod Equalities
+pub mod BodyBytes

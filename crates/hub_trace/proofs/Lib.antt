@@ -10,3 +10,7 @@ pub mod LineText
 pub mod Adding
 pub mod Reading
 pub mod Within
+pub mod Bytes
+pub mod PortTexts
+pub mod EntryLines
+pub mod WrittenLogs

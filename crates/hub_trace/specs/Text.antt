@@ -11,6 +11,7 @@ use Rattle.hub_trace.specs.declared.verdict.FaultKind.{FaultKind}
 use Rattle.hub_trace.specs.declared.verdict.FaultKind.TheVariants.{AfterClose, Changed, Twice, Gap, Foreign}
 use Rattle.hub_trace.specs.declared.verdict.Verdict.{Verdict}
 use Rattle.hub_trace.specs.declared.verdict.Verdict.TheVariants.{Clean, Fault}
+use Rattle.hub_trace.specs.declared.log.TheConstants.{LOG_HEADER}
 use Rattle.hub_trace.specs.Accepted.{AgentLog}
 
 -- `E L EP:N`
@@ -39,6 +40,10 @@ entry_text (Closed e) = codes "closed " ++ decimal e.0
 -- the lines of a log, without the header
 abbrev pub log_text : AgentLog → List ℕ
 log_text log = codes "agent " ++ decimal log.0.0 ++ codes "\n" ++ flat_map (λ e. entry_text e ++ codes "\n") log.1
+
+-- a file of logs: the header's line, and the lines of each log
+abbrev pub file_text : List AgentLog → List ℕ
+file_text logs = LOG_HEADER.now ++ codes "\n" ++ flat_map log_text logs
 
 abbrev pub kind_text : FaultKind → List ℕ
 kind_text AfterClose = codes "AfterClose"

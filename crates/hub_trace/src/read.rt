@@ -1,8 +1,10 @@
-ghost use Rattle.std.specs.Prelude.{◌≡◌, ◌<◌, ◌==◌, ◌||◌, false, ℕ, [], ◌∷◌, Some, length, take, OnOk, IfErr, IfOk, IsErrOf, IsOkAnd};
+ghost use Rattle.std.specs.Prelude.{◌≡◌, ◌<◌, ◌==◌, ◌||◌, ◌⊎◌, ◌++◌, false, ℕ, List, [], ◌∷◌, Some, length, take, codes, IsUtf8, MatchResult, OnOk, IfErr, IfOk, IsErrOf, IsOkAnd};
 ghost use Rattle.std.specs.BTreeSet.{contains};
 ghost use Rattle.std.specs.Ordering.{nat_cmp};
 ghost use Rattle.hub_trace.specs.declared.line.Line.TheVariants as line;
 ghost use Rattle.hub_trace.specs.Limits.{AreWithin};
+ghost use Rattle.hub_trace.specs.Accepted.{AgentLog};
+ghost use Rattle.hub_trace.specs.Text.{file_text};
 ghost use Rattle.hub_text.specs.Lines.{lines_of};
 ghost use Rattle.hub_trace.specs.Read.{ComesAt, HasOtherHeader, IsClosingError, IsLineError, Reads, closes_one, is_closed_in, line_added, with_line};
 
@@ -66,6 +68,10 @@ pub fn read_logs(alloc: Global, bytes: &[u8]) -> Result<Vec<Log>, (usize, LogErr
     ensures within { IfOk result (λ logs. AreWithin logs.items) }
     // The logs, or the first bad line and its kind, are those of `logs_of`.
     ensures reads { Reads (λ logs. logs.items) bytes.now result }
+    // What logs write below the header reads back to them, also where a line `deliveries` comes next.
+    ensures written { (logs : List AgentLog) (more : List ℕ) → AreWithin logs → IsUtf8 (file_text logs)
+        → (bytes.now ≡ file_text logs) ⊎ (bytes.now ≡ file_text logs ++ codes "deliveries\n" ++ more)
+        → MatchResult result (λ read. read.items ≡ logs) (λ error. error.1 ≡ LogError.OutOfMemory) }
 {
     let mut logs = Vec::new(alloc);
     if bytes.is_empty() {

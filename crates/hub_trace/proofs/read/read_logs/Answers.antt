@@ -1,8 +1,12 @@
-use Rattle.std.proofs.Common.{◌≡◌, List, length, true, false, bytes_eq, Ok, sym, ap, ◌∙◌, arith}
+use Rattle.std.proofs.Common.{◌≡◌, ◌+◌, List, length, true, false, bytes_eq, Ok, Err, sym, ap, ◌∙◌, arith}
 use Rattle.std.proofs.lemmas.Bool.{eqb-true}
 use Rattle.hub_trace.specs.declared.read.TheConstants.{LOGS_END}
+use Rattle.hub_trace.specs.declared.log.TheConstants.{LOG_HEADER}
+use Rattle.hub_trace.specs.declared.read.LogError.TheVariants as error
 use Rattle.hub_trace.specs.Accepted.{AgentLog}
-use Rattle.hub_trace.proofs.Reading.{nothing_read, none_other, at_end, bad_line, one_more, all_read}
+use Rattle.hub_trace.proofs.Bytes.{not_true}
+use Rattle.hub_trace.proofs.Reading.{nothing_read, none_other, other_header, at_end, bad_line, one_more, all_read}
+use Rattle.hub_trace.proofs.WrittenLogs.{read_back}
 use Rattle.hub_trace.proofs.read.read_logs.Goals as goal
 
 pub returns-then-is_empty-clause-bad_header : goal.returns-then-is_empty-clause-bad_header
@@ -43,3 +47,18 @@ pub returns-clause-reads : goal.returns-clause-reads
 returns-clause-reads c =
     let empty : length c.loop-rest.rest.now ≡ 0 = eqb-true (length c.loop-rest.rest.now) 0 (sym c.is_empty-in-loop-rest.ensures ∙ c.loop-rest-test.false) in
     all_read c.args.bytes.now c.loop-rest.number c.loop-rest.logs.items c.loop-rest.rest.now c.loop-rest.invariant.so_far empty
+
+pub returns-then-ne-clause-written : goal.returns-then-ne-clause-written
+returns-then-ne-clause-written c =
+    let header = c.split_line.result.0.now in
+    let other : bytes_eq header LOG_HEADER.now ≡ false = sym (ap (bytes_eq header) c.as_bytes.ensures.value) ∙ not_true (bytes_eq header c.as_bytes.result.now) (sym c.ne.ensures ∙ c.if-ne.true) in
+    read_back (λ (v : List AgentLog). v) c.args.bytes.now (Err (1, error.BadHeader)) (other_header c.args.bytes.now header c.split_line.result.1.now c.split_line.ensures.line other)
+
+pub returns-then-eq-clause-written : goal.returns-then-eq-clause-written
+returns-then-eq-clause-written c = read_back (λ (v : List AgentLog). v) c.args.bytes.now (Ok c.loop-rest.logs.items) (returns-then-eq-clause-reads c)
+
+pub returns-in-Err-clause-written : goal.returns-in-Err-clause-written
+returns-in-Err-clause-written c = read_back (λ (v : List AgentLog). v) c.args.bytes.now (Err (c.loop-rest.number + 1, c.in-Err.error)) (returns-in-Err-clause-reads c)
+
+pub returns-clause-written : goal.returns-clause-written
+returns-clause-written c = read_back (λ (v : List AgentLog). v) c.args.bytes.now (Ok c.loop-rest.logs.items) (returns-clause-reads c)
