@@ -1,13 +1,12 @@
 -- The compact text of a body has no control character and doesn't begin with a space.
-use Rattle.std.proofs.Common.{◌≡◌, ◌≢◌, ℕ, suc, ◌+◌, ◌-◌, ◌*◌, get_or, true≢false, rules, ◌<◌, ◌≤◌, ◌^◌, ◌/◌, ◌%◌, List, [], ◌∷◌, ◌++◌, Bool, true, false, cond, nat_lt, nat_le, ◌&&◌, ◌||◌, pos, negsuc, refl, sym, ap, subst, ◌∙◌, arith}
+use Rattle.std.proofs.Common.{◌≡◌, ◌≢◌, ℕ, suc, ◌+◌, get_or, true≢false, ◌<◌, ◌≤◌, ◌^◌, ◌/◌, ◌%◌, List, [], ◌∷◌, ◌++◌, Bool, true, false, cond, nat_lt, nat_le, ◌&&◌, ◌||◌, pos, negsuc, refl, sym, subst, ◌∙◌, arith}
 use Rattle.std.specs.Prelude.{◌==◌}
-use Rattle.std.specs.Char.{digit_char}
+use Rattle.std.specs.Char.{digit_char, is_ascii_digit}
 use Rattle.std.specs.Fmt.{decimal}
 use Rattle.std.specs.List.{list_all}
 use Rattle.std.proofs.lemmas.Bool.Decides.{nat_tests}
 use Rattle.std.proofs.lemmas.Fmt.{digits_decimal}
 use Rattle.std.proofs.lemmas.List.Folds.{list_all-append}
-use Rattle.std.proofs.lemmas.Str.Parse.{IsNumeralModel, numerals_by_fold}
 use Rattle.std.proofs.lemmas.Int.{ints}
 use Rattle.json.specs.Print.{escape, escape_byte, escape_letter, quoted}
 use Rattle.serde_json.specs.Data.{Num, unsigned, negative, float, Data, null, boolean, number, string, array, object, Items, no_items, item, Members, no_members, member}
@@ -15,6 +14,7 @@ use Rattle.serde_json.specs.Written.{comma_if, compact_text, items_text, members
 use Rattle.hub_envelope.specs.BodyText.{IsBodyText}
 use Rattle.hub_envelope.specs.Everywhere.{InEachItem, InEachMember}
 use Rattle.hub_envelope.specs.Whole.{FitsInteger, IsWhole, IsWholeNumber}
+use Rattle.hub_envelope.proofs.Digits.{are_digits, own, both_true}
 
 -- ---- every byte passes a test
 
@@ -32,34 +32,21 @@ right_of : (a b : Bool) → (a && b) ≡ true → b ≡ true
 right_of true b h = h
 right_of false b h = absurd (true≢false (sym h))
 
-both : (a b : Bool) → a ≡ true → b ≡ true → (a && b) ≡ true
-both a b h k = ap (λ x. x && b) h ∙ k
-
 by_test : (C : Bool → Type 0) (b : Bool) → (b ≡ true → C true) → (b ≡ false → C false) → C b
 by_test C true f g = f refl
 by_test C false f g = g refl
 
 IsVisible-append : (xs ys : List ℕ) → IsVisible xs → IsVisible ys → IsVisible (xs ++ ys)
-IsVisible-append xs ys h k = list_all-append is_visible xs ys ∙ both (list_all is_visible xs) (list_all is_visible ys) h k
+IsVisible-append xs ys h k = list_all-append is_visible xs ys ∙ both_true (list_all is_visible xs) (list_all is_visible ys) h k
 
 -- ---- digits
 
-abbrev is_digit : ℕ → Bool
-is_digit b = nat_le 48 b && nat_le b 57
-
-abbrev value_after : ℕ → List ℕ → ℕ
-value_after n [] = n
-value_after n (b ∷ bytes) = value_after (n * 10 + (b - 48)) bytes
-
-own : IsNumeralModel (λ ds. list_all is_digit ds ≡ true) (value_after 0)
-own = numerals_by_fold _ (search rules) value_after (search rules)
-
-digits_visible : (text : List ℕ) → list_all is_digit text ≡ true → IsVisible text
+digits_visible : (text : List ℕ) → are_digits text → IsVisible text
 digits_visible [] only = refl
 digits_visible (b ∷ text) only =
-    let digit : is_digit b ≡ true = left_of (is_digit b) (list_all is_digit text) only in
+    let digit : is_ascii_digit b ≡ true = left_of (is_ascii_digit b) (list_all is_ascii_digit text) only in
     let here : is_visible b ≡ true = grind (arith, nat_tests) in
-    both (is_visible b) (list_all is_visible text) here (digits_visible text (right_of (is_digit b) (list_all is_digit text) only))
+    both_true (is_visible b) (list_all is_visible text) here (digits_visible text (right_of (is_ascii_digit b) (list_all is_ascii_digit text) only))
 
 decimal-visible : (n : ℕ) → n < 2 ^ 64 → IsVisible (decimal n)
 decimal-visible n small = digits_visible (decimal n) (digits_decimal own n small)
@@ -93,10 +80,10 @@ byte_visible : (x : ℕ) → IsVisible (escape_byte x)
 unfolding escape_byte
 byte_visible x =
     by_test (λ b. IsVisible (cond b (92 ∷ escape_letter x ∷ []) (cond (nat_lt x 32) (92 ∷ 117 ∷ 48 ∷ 48 ∷ digit_char (x / 16) ∷ digit_char (x % 16) ∷ []) (x ∷ [])))) (nat_lt 0 (escape_letter x))
-    (λ some. both (is_visible (escape_letter x)) true (visible_from (escape_letter x) (letter_visible x some)) refl)
+    (λ some. both_true (is_visible (escape_letter x)) true (visible_from (escape_letter x) (letter_visible x some)) refl)
     (λ _. by_test (λ b. IsVisible (cond b (92 ∷ 117 ∷ 48 ∷ 48 ∷ digit_char (x / 16) ∷ digit_char (x % 16) ∷ []) (x ∷ []))) (nat_lt x 32)
-    (λ _. both (is_visible (digit_char (x / 16))) (is_visible (digit_char (x % 16)) && true) (digit_visible (x / 16)) (both (is_visible (digit_char (x % 16))) true (digit_visible (x % 16)) refl))
-    (λ high. both (is_visible x) true (grind (arith, nat_tests)) refl))
+    (λ _. both_true (is_visible (digit_char (x / 16))) (is_visible (digit_char (x % 16)) && true) (digit_visible (x / 16)) (both_true (is_visible (digit_char (x % 16))) true (digit_visible (x % 16)) refl))
+    (λ high. both_true (is_visible x) true (grind (arith, nat_tests)) refl))
 
 escape_visible : (s : List ℕ) → IsVisible (escape s)
 escape_visible [] = refl
@@ -147,10 +134,10 @@ mutual
 abbrev BeginsElse : List ℕ → Type 0
 BeginsElse text = get_or text 0 0 ≢ 32
 
-digits_first : (text : List ℕ) → list_all is_digit text ≡ true → BeginsElse text
+digits_first : (text : List ℕ) → are_digits text → BeginsElse text
 digits_first [] digits e = omega arith
 digits_first (b ∷ text) digits e =
-    let digit : is_digit b ≡ true = left_of (is_digit b) (list_all is_digit text) digits in
+    let digit : is_ascii_digit b ≡ true = left_of (is_ascii_digit b) (list_all is_ascii_digit text) digits in
     let same : b ≡ 32 = e in
     grind (arith, nat_tests)
 

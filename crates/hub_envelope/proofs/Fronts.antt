@@ -1,23 +1,23 @@
 -- What stands at the front of a text, piece by piece.
-use Rattle.std.proofs.Common.{◌≡◌, ℕ, zero, suc, ◌+◌, ◌-◌, ◌^◌, ◌<◌, ◌≤◌, ◌&&◌, negsuc, List, [], ◌∷◌, ◌++◌, length, take, drop, get_or, Bool, true, false, not, Option, Some, None, IfSome, MatchOption, bytes_eq, refl, sym, ap, ◌∙◌, subst, arith, rules, append_assoc}
+use Rattle.std.proofs.Common.{◌≡◌, ℕ, zero, suc, ◌+◌, ◌-◌, ◌^◌, ◌<◌, ◌≤◌, negsuc, List, [], ◌∷◌, ◌++◌, length, take, drop, get_or, true, false, not, Option, Some, None, IfSome, MatchOption, bytes_eq, refl, sym, ap, ◌∙◌, subst, arith, append_assoc}
 use Rattle.std.proofs.lemmas.Fmt.{decimal_digit, decimal-digits_value}
-use Rattle.std.proofs.lemmas.Grind.{common_steps}
+use Rattle.std.proofs.lemmas.Grind.{common_steps, flat_map-append}
 use Rattle.std.proofs.lemmas.List.{take-append-drop, get_or-take, length-take}
-use Rattle.std.proofs.lemmas.Str.Parse.{IsNumeralModel, numerals_by_value, digits_value_short}
+use Rattle.std.proofs.lemmas.Str.Parse.{digits_value_short}
 use Rattle.std.proofs.lemmas.Slice.Eq.{bytes_eq-Decides}
 use Rattle.std.proofs.Math.Seq.{drop-cons}
 use Rattle.std.specs.Char.{is_ascii_digit}
 use Rattle.std.specs.Fmt.{decimal}
-use Rattle.std.specs.List.{list_all}
 use Rattle.std.specs.List.Sorted.{IsStrictlySortedBy}
 use Rattle.std.specs.Str.Parse.{digits_value}
-use Rattle.json.specs.Print.{quoted, escape}
+use Rattle.json.specs.Print.{quoted, escape, escape_byte}
 use Rattle.json.specs.Run.{is_stop}
 use Rattle.json.proofs.Printed.Plain.{escape_on_plain}
 use Rattle.serde_json.specs.Data.{unsigned, negative, Data, null, boolean, number, string, array, object, Items, no_items, item, Members, no_members, member, items_depth, members_depth}
 use Rattle.serde_json.specs.Written.{compact_text, items_text, members_text}
 use Rattle.hub_envelope.specs.Everywhere.{InEachItem, InEachMember}
-use Rattle.hub_envelope.specs.Compact.{IsSimple, IsFront, IsNumberBefore, IsAbove}
+use Rattle.hub_envelope.specs.Compact.{IsSimple, IsFront, IsEscapeBefore, IsNumberBefore, IsAbove}
+use Rattle.hub_envelope.proofs.Digits.{are_digits, own, both_true}
 use Rattle.hub_envelope.proofs.ReadValues.{IsSorted, below_more}
 
 pub weaker : {A : Type 0} (P Q : A → Type 0) (o : Option A) → ((a : A) → P a → Q a) → IfSome o P → IfSome o Q
@@ -40,26 +40,56 @@ cut_at xs k b lt at =
     let next : suc k ≡ k + 1 = omega arith in
     sym (take-append-drop k xs) ∙ ap (λ ys. take k xs ++ ys) (drop-cons xs k 0 lt ∙ ap (λ c. c ∷ drop (suc k) xs) at ∙ ap (λ n. b ∷ drop n xs) next)
 
-pub string_at : (text inside : List ℕ) (end : ℕ) → text ≡ 34 ∷ inside → end < length inside → get_or inside end 0 ≡ 34 → ((k : ℕ) → k < end → is_stop (get_or inside k 0) ≡ false) → text ≡ quoted (take end inside) ++ drop (end + 1) inside
+abbrev pub ArePlain : List ℕ → ℕ → Type 0
+ArePlain text end = (k : ℕ) → k < end → is_stop (get_or text k 0) ≡ false
+
+escape-plain : (text : List ℕ) (end : ℕ) → end < length text → ArePlain text end → escape (take end text) ≡ take end text
+escape-plain text end lt plain =
+    let long : length (take end text) ≡ end = omega (arith, length-take end text) in
+    escape_on_plain true (take end text) (λ k from to. ap not (ap is_stop (get_or-take end text k 0 (omega (arith, long))) ∙ plain k (omega (arith, long))))
+
+pub string_at : (text inside : List ℕ) (end : ℕ) → text ≡ 34 ∷ inside → end < length inside → get_or inside end 0 ≡ 34 → ArePlain inside end → text ≡ quoted (take end inside) ++ drop (end + 1) inside
 string_at text inside end is lt quote plain =
     let s = take end inside in
-    let long : length s ≡ end = omega (arith, length-take end inside) in
-    let kept : escape s ≡ s = escape_on_plain true s (λ k from to. ap not (ap is_stop (get_or-take end inside k 0 (omega (arith, long))) ∙ plain k (omega (arith, long)))) in
-    is ∙ ap (λ ys. 34 ∷ ys) (cut_at inside end 34 lt quote ∙ ap (λ t. t ++ 34 ∷ drop (end + 1) inside) (sym kept) ∙ sym (append_assoc (escape s) (34 ∷ []) (drop (end + 1) inside)))
+    is
+    ∙ ap (λ ys. 34 ∷ ys)
+    (cut_at inside end 34 lt quote ∙ ap (λ t. t ++ 34 ∷ drop (end + 1) inside) (sym (escape-plain inside end lt plain)) ∙ sym (append_assoc (escape s) (34 ∷ []) (drop (end + 1) inside)))
 
-pub front-string : (levels : ℕ) (text s rest : List ℕ) → text ≡ quoted s ++ rest → IsFront levels text rest
-front-string levels text s rest is = record { value = string s; stands = is; simple = (tt, tt); nested = omega arith }
+-- the text is the rest of a string with its quote, and what stands behind that
+pub record IsStringBefore (text rest : List ℕ) : Type 0 where
+  pub bytes : List ℕ
+  pub stands : text ≡ escape bytes ++ 34 ∷ rest
+
+pub string_ends : (text : List ℕ) (end : ℕ) → end < length text → get_or text end 0 ≡ 34 → ArePlain text end → IsStringBefore text (drop (end + 1) text)
+string_ends text end lt quote plain = record {
+  bytes = take end text;
+  stands = cut_at text end 34 lt quote ∙ ap (λ t. t ++ 34 ∷ drop (end + 1) text) (sym (escape-plain text end lt plain));
+}
+
+pub string_goes_on : (text after rest : List ℕ) (end : ℕ) → end < length text → get_or text end 0 ≡ 92 → ArePlain text end → IsEscapeBefore (92 ∷ drop (end + 1) text) after → IsStringBefore after rest → IsStringBefore text rest
+string_goes_on text after rest end lt backslash plain escaped more =
+    let before = take end text in
+    let byte = escaped.0 in
+    let one : escape (before ++ byte ∷ more.bytes) ≡ before ++ (escape_byte byte ++ escape more.bytes) =
+    flat_map-append escape_byte before (byte ∷ more.bytes) ∙ ap (λ t. t ++ (escape_byte byte ++ escape more.bytes)) (escape-plain text end lt plain) in
+    record {
+      bytes = before ++ byte ∷ more.bytes;
+      stands =
+          cut_at text end 92 lt backslash
+          ∙ ap (λ t. before ++ t) (escaped.1 ∙ ap (λ t. escape_byte byte ++ t) more.stands ∙ sym (append_assoc (escape_byte byte) (escape more.bytes) (34 ∷ rest)))
+          ∙ sym (append_assoc before (escape_byte byte ++ escape more.bytes) (34 ∷ rest))
+          ∙ ap (λ t. t ++ 34 ∷ rest) (sym one);
+    }
+
+pub front-string : (text rest : List ℕ) → IsStringBefore text rest → IsFront 0 (34 ∷ text) rest
+front-string text rest string_is = record {
+  value = string string_is.bytes;
+  stands = ap (λ t. 34 ∷ t) (string_is.stands ∙ sym (append_assoc (escape string_is.bytes) (34 ∷ []) rest));
+  simple = (tt, tt);
+  nested = omega arith;
+}
 
 -- ---- numbers
-
-abbrev are_digits : List ℕ → Type 0
-are_digits ds = list_all is_ascii_digit ds ≡ true
-
-own : IsNumeralModel are_digits (digits_value 10)
-own = numerals_by_value are_digits (search rules)
-
-both_true : (a b : Bool) → a ≡ true → b ≡ true → (a && b) ≡ true
-both_true a b h k = ap (λ x. x && b) h ∙ k
 
 digits_from : (ds : List ℕ) → ((k : ℕ) → k < length ds → is_ascii_digit (get_or ds k 0) ≡ true) → are_digits ds
 digits_from [] h = refl

@@ -1,5 +1,6 @@
 pub mod ReadNumbers
 pub mod ReadValues
+mod Digits
 mod ReadCompact
 mod Fronts
 pub mod Answers

@@ -1,5 +1,5 @@
 -- The compact text of a simple value reads as that value.
-use Rattle.std.proofs.Common.{◌≡◌, ℕ, suc, max, pos, negsuc, ◌^◌, ◌<◌, ◌≤◌, List, [], ◌++◌, length, Option, Some, option_map, option_and_then, Less, Greater, refl, sym, ap, ap₂, ◌∙◌, subst, arith, append-nil}
+use Rattle.std.proofs.Common.{◌≡◌, ℕ, suc, max, pos, negsuc, ◌^◌, ◌<◌, ◌≤◌, List, [], ◌++◌, length, IsUtf8, Option, Some, option_map, option_and_then, Less, Greater, refl, sym, ap, ap₂, ◌∙◌, subst, arith, append-nil}
 use Rattle.std.proofs.lemmas.Cmp.{nat_list_cmp_total}
 use Rattle.std.proofs.lemmas.Int.{ints}
 use Rattle.std.specs.List.Sorted.{IsStrictlySortedBy}
@@ -165,8 +165,8 @@ whole-simple (string s) h = tt
 whole-simple (array ds) h = tt
 whole-simple (object ms) h = tt
 
-pub IsBodyText-compact : (text : List ℕ) → IsCompact text → length text ≤ MAX_BODY_BYTES → IsBodyText text
-IsBodyText-compact text front short =
+pub IsBodyText-compact : (text : List ℕ) → IsUtf8 text → IsCompact text → length text ≤ MAX_BODY_BYTES → IsBodyText text
+IsBodyText-compact text utf8 front short =
     let d = front.value in
     let compact : text ≡ compact_text d = front.stands ∙ append-nil (compact_text d) in
     record {
@@ -179,4 +179,5 @@ IsBodyText-compact text front short =
         ordered = Everywhere-map IsSimple HasSortedKeys (λ e h. h.1) d front.simple;
       };
       compact = compact;
+      utf8 = utf8;
     }

@@ -4,6 +4,7 @@ use Rattle.std.specs.Fmt.{decimal}
 use Rattle.std.specs.Ordering.{nat_cmp}
 use Rattle.std.specs.declared.cmp.Ordering.TheVariants.{Less}
 use Rattle.std.specs.Prelude.{◌≡◌, ℕ, pos, negsuc, ◌+◌, ◌^◌, ◌<◌, ◌≤◌, List, [], ◌++◌, Option, Some, None}
+use Rattle.json.specs.Print.{escape_byte}
 use Rattle.serde_json.specs.Data.{Num, unsigned, negative, float, Data, null, boolean, number, string, array, object, depth}
 use Rattle.serde_json.specs.Written.{compact_text}
 use Rattle.hub_envelope.specs.Everywhere.{Everywhere}
@@ -39,6 +40,10 @@ pub record IsFront (levels : ℕ) (text rest : List ℕ) : Type 0 where
 -- at the front of the text stand the digits of such a number, which isn't 0
 abbrev pub IsNumberBefore : List ℕ → List ℕ → Type 0
 IsNumberBefore text rest = (n : ℕ) × (0 < n) × (n < 10 ^ 18) × (text ≡ decimal n ++ rest)
+
+-- at the front of the text stands the escape of a byte
+abbrev pub IsEscapeBefore : List ℕ → List ℕ → Type 0
+IsEscapeBefore text rest = (byte : ℕ) × (text ≡ escape_byte byte ++ rest)
 
 -- the key is above the one before it in byte order, if there is one
 abbrev pub IsAbove : Option (List ℕ) → List ℕ → Type 0

@@ -1,8 +1,8 @@
-ghost use Rattle.std.specs.Prelude.{◌≡◌, ℕ, ◌+◌, ◌<◌, ◌≤◌, ◌∷◌, ◌++◌, true, length, slice_index, option_map, IfSome, IsTrue};
+ghost use Rattle.std.specs.Prelude.{◌≡◌, ℕ, ◌+◌, ◌<◌, ◌≤◌, [], ◌∷◌, ◌++◌, true, length, slice_index, option_map, IfSome, IsTrue};
 ghost use Rattle.std.specs.Char.{is_ascii_digit};
-ghost use Rattle.json.specs.Print.{quoted};
+ghost use Rattle.json.specs.Print.{escape_byte, quoted};
 ghost use Rattle.json.specs.Run.{is_stop};
-ghost use Rattle.hub_envelope.specs.Compact.{IsAbove, IsCompact, IsFront, IsNumberBefore};
+ghost use Rattle.hub_envelope.specs.Compact.{IsAbove, IsCompact, IsEscapeBefore, IsFront, IsNumberBefore};
 
 use crate::limits::MAX_NESTING;
 
@@ -10,7 +10,7 @@ use crate::limits::MAX_NESTING;
 const MAX_DIGITS: usize = 18;
 
 /// Whether the text is recognised as the compact text of a value of the profile, its length aside. No
-/// says nothing: texts with an escape or a longer number, among others, aren't recognised.
+/// says nothing: texts with an escape in a key or with a longer number, among others, aren't recognised.
 pub(crate) fn is_compact(text: &[u8]) -> bool
     ensures { IsTrue result → IsCompact text.now }
 {
@@ -28,7 +28,7 @@ fn after_value(text: &[u8], levels: usize) -> Option<&[u8]>
 {
     let (first, rest) = text.split_first()?;
     match *first {
-        b'"' => Some(plain_string(text)?.1),
+        b'"' => after_string(rest),
         b'[' if levels > 0 => after_items(rest, levels - 1),
         b'{' if levels > 0 => after_members(rest, levels - 1),
         b'n' => rest.strip_prefix(b"ull"),
@@ -104,6 +104,50 @@ fn member_key(text: &[u8]) -> Option<(&[u8], &[u8])>
         return None;
     }
     Some((key, value))
+}
+
+/// What stands behind the string of which the first quote stands before the text. Bytes that need an
+/// escape have their short one.
+fn after_string(text: &[u8]) -> Option<&[u8]>
+    ensures { IfSome result (λ rest. IsFront 0 (34 ∷ text.now) rest.now) }
+{
+    let mut rest = text;
+    loop {
+        let end = rest.iter().position(|byte| is_stop(*byte))?;
+        let after = &rest[end + 1..];
+        match rest[end] {
+            b'"' => return Some(after),
+            b'\\' => rest = after_letter(after)?,
+            _ => return None,
+        }
+    }
+}
+
+/// What stands behind the letter of a short escape, before which the backslash stands.
+fn after_letter(text: &[u8]) -> Option<&[u8]>
+    ensures escape { IfSome result (λ rest. IsEscapeBefore (92 ∷ text.now) rest.now) }
+    ensures shorter { IfSome result (λ rest. length rest.now < length text.now) }
+{
+    let (letter, rest) = text.split_first()?;
+    escaped_byte(*letter)?;
+    Some(rest)
+}
+
+/// The byte of which this is the letter in its short escape.
+#[tactic(auto, unfolding(json::specs::Print::escape_byte))]
+fn escaped_byte(letter: u8) -> Option<u8>
+    ensures { IfSome result (λ byte. escape_byte byte ≡ 92 ∷ letter ∷ []) }
+{
+    match letter {
+        b'"' => Some(b'"'),
+        b'\\' => Some(b'\\'),
+        b'b' => Some(8),
+        b't' => Some(b'\t'),
+        b'n' => Some(b'\n'),
+        b'f' => Some(12),
+        b'r' => Some(b'\r'),
+        _ => None,
+    }
 }
 
 /// The bytes of the string at the front, which need no escape, and what stands behind it.

@@ -1,12 +1,11 @@
 -- Which bytes stand in a text, and where it may be cut.
-use Rattle.std.proofs.Common.{◌≡◌, ℕ, zero, suc, ◌+◌, ◌<◌, ◌^◌, List, [], ◌∷◌, ◌++◌, length, get_or, take, drop, Bool, true, false, cond, not, nat_lt, nat_le, ◌&&◌, Some, None, IsUtf8, All, refl, ap, subst, ◌∙◌, arith, length-append}
+use Rattle.std.proofs.Common.{◌≡◌, ℕ, zero, suc, ◌+◌, ◌<◌, ◌^◌, List, [], ◌∷◌, ◌++◌, length, get_or, take, drop, Bool, true, false, cond, not, nat_lt, nat_le, ◌&&◌, Some, None, All, refl, ap, ◌∙◌, arith, length-append}
 use Rattle.std.specs.Prelude.{◌==◌}
 use Rattle.std.specs.Fmt.{decimal}
 use Rattle.std.specs.List.{list_all, position_or_len}
 use Rattle.std.proofs.lemmas.Bool.Decides.{nat_tests}
 use Rattle.std.proofs.lemmas.Fmt.{digits_decimal}
 use Rattle.std.proofs.lemmas.List.Folds.{list_all-append}
-use Rattle.std.proofs.lemmas.Str.{IsUtf8-take, IsUtf8-drop, IsCharBoundary-before_ascii, IsCharBoundary-after_ascii}
 use Rattle.hub_text.specs.Number.{is_digit}
 use Rattle.hub_text.proofs.Numbers.{own}
 use Rattle.hub_trace.specs.Words.{cut}
@@ -111,15 +110,3 @@ cut_at c n text at lt =
 pub cut-here : (c : ℕ) (a rest : List ℕ) → Lacks c a → cut c (a ++ c ∷ rest) ≡ Some (a, rest)
 cut-here c a rest h = cut_at c (length a) (a ++ c ∷ rest) (first_place c a rest h) (omega (arith, length-append a (c ∷ rest)))
     ∙ (λ i. Some (take_front a (c ∷ rest) i, drop_front c a rest i))
-
--- ---- UTF-8 may be cut at an ASCII byte
-
-pub IsUtf8-before : (c : ℕ) (a rest : List ℕ) → c < 128 → IsUtf8 (a ++ c ∷ rest) → IsUtf8 a
-IsUtf8-before c a rest small valid =
-    let ascii : get_or (a ++ c ∷ rest) (length a) 0 < 128 = omega (arith, get_front c a rest) in
-    subst IsUtf8 (take_front a (c ∷ rest)) (IsUtf8-take (a ++ c ∷ rest) (length a) valid (IsCharBoundary-before_ascii (a ++ c ∷ rest) (length a) (omega (arith, length-append a (c ∷ rest))) ascii))
-
-pub IsUtf8-after : (c : ℕ) (a rest : List ℕ) → c < 128 → IsUtf8 (a ++ c ∷ rest) → IsUtf8 rest
-IsUtf8-after c a rest small valid =
-    let ascii : get_or (a ++ c ∷ rest) (length a) 0 < 128 = omega (arith, get_front c a rest) in
-    subst IsUtf8 (drop_front c a rest) (IsUtf8-drop (a ++ c ∷ rest) (length a + 1) valid (IsCharBoundary-after_ascii (a ++ c ∷ rest) (length a) valid (omega (arith, length-append a (c ∷ rest))) ascii))

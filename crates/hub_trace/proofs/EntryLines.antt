@@ -1,5 +1,5 @@
 -- The line of an agent or an entry that was written reads back.
-use Rattle.std.proofs.Common.{◌≡◌, ◌≢◌, get_or, ℕ, ◌≤◌, List, [], ◌∷◌, ◌++◌, Bool, true, false, cond, bytes_eq, codes, IsUtf8, Option, Some, None, refl, sym, ap, subst, ◌∙◌, arith, append_assoc}
+use Rattle.std.proofs.Common.{◌≡◌, ◌≢◌, get_or, ℕ, ◌≤◌, List, [], ◌∷◌, ◌++◌, Bool, true, false, cond, bytes_eq, codes, Option, Some, None, refl, sym, ap, subst, ◌∙◌, arith, append_assoc}
 use Rattle.std.specs.Fmt.{decimal}
 use Rattle.std.specs.List.{All, list_all}
 use Rattle.std.proofs.lemmas.Bool.{ne_eqb}
@@ -28,6 +28,7 @@ use Rattle.hub_trace.specs.Words.{◌>>=◌, cut}
 use Rattle.hub_trace.proofs.Bytes.{HasOnly, HasOnly-append, HasOnly-weaker, Lacks, Lacks-decimal, both, cut-here, decimal-visible, other_than-digit, is_visible-digit, is_visible, other_than}
 use Rattle.hub_trace.proofs.LineText.{text_line}
 use Rattle.hub_trace.proofs.PortTexts.{end_back, ports-back, small_end}
+use Rattle.hub_trace.proofs.Utf8.{delivery_words, adopted_words, entry-utf8, agent-utf8}
 
 -- ---- which bytes stand in a list of ports
 
@@ -108,10 +109,6 @@ message_back ports text few body =
 
 -- ---- deliveries
 
-delivery_words : (end line epoch number ports body : List ℕ) → end ++ codes " " ++ line ++ codes " " ++ epoch ++ codes ":" ++ number ++ codes " " ++ ports ++ codes " " ++ body
-    ≡ end ++ (32 ∷ (line ++ (32 ∷ ((epoch ++ (58 ∷ number)) ++ (32 ∷ (ports ++ (32 ∷ body)))))))
-delivery_words end line epoch number ports body = simp append_assoc
-
 delivery_back : (d : Delivery) → IsDeliveryWithin d → delivery_said (delivery_text d) ≡ Some d
 unfolding delivery_said
 delivery_back d h =
@@ -157,9 +154,6 @@ said_after w name rest lacks is =
     let e1 : cut 32 (name ++ 32 ∷ rest) ≡ Some (name, rest) = cut-here 32 name rest lacks in
     rw (e1, is) refl
 
-adopted_words : (end epoch : List ℕ) → codes "adopted " ++ end ++ codes " " ++ epoch ≡ codes "adopted" ++ (32 ∷ (end ++ (32 ∷ epoch)))
-adopted_words end epoch = simp append_assoc
-
 entry_said : (e : Entry) → IsEntryWithin e → text_said (entry_text e) ≡ Some (line.Entry e)
 unfolding said
 entry_said (Put d) h =
@@ -176,8 +170,8 @@ entry_said (Closed e) h =
     said_after word.Closed (codes "closed") (decimal e.0) refl refl
     ∙ ap (λ (r : Option EndId). r >>= λ (x : EndId). Some (line.Entry (Closed x))) (end_back e h)
 
-pub entry-back : (e : Entry) → IsEntryWithin e → IsUtf8 (entry_text e) → line_of (entry_text e) ≡ Some (line.Entry e)
-entry-back e h valid = text_line (entry_text e) valid ∙ entry_said e h
+pub entry-back : (e : Entry) → IsEntryWithin e → line_of (entry_text e) ≡ Some (line.Entry e)
+entry-back e h = text_line (entry_text e) (entry-utf8 e h) ∙ entry_said e h
 
 pub entry-visible : (e : Entry) → IsEntryWithin e → HasOnly is_visible (entry_text e)
 entry-visible (Put d) h = delivery_visible d h
@@ -193,8 +187,8 @@ agent_said a le =
     said_after word.Agent (codes "agent") (decimal a.0) refl refl
     ∙ ap (λ (r : Option ℕ). r >>= λ (n : ℕ). Some (line.Agent (record { 0 = n }))) (written_is 15 a.0 (decimal a.0) le (omega arith) refl)
 
-pub agent-back : (a : AgentId) → a.0 ≤ 15 → IsUtf8 (codes "agent " ++ decimal a.0) → line_of (codes "agent " ++ decimal a.0) ≡ Some (line.Agent a)
-agent-back a le valid = text_line (codes "agent " ++ decimal a.0) valid ∙ agent_said a le
+pub agent-back : (a : AgentId) → a.0 ≤ 15 → line_of (codes "agent " ++ decimal a.0) ≡ Some (line.Agent a)
+agent-back a le = text_line (codes "agent " ++ decimal a.0) (agent-utf8 a le) ∙ agent_said a le
 
 pub agent-visible : (a : AgentId) → a.0 ≤ 15 → HasOnly is_visible (codes "agent " ++ decimal a.0)
 agent-visible a le = decimal-visible a.0 (omega arith)

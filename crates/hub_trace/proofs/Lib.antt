@@ -12,5 +12,6 @@ pub mod Reading
 pub mod Within
 pub mod Bytes
 pub mod PortTexts
+pub mod Utf8
 pub mod EntryLines
 pub mod WrittenLogs

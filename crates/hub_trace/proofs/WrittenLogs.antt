@@ -1,5 +1,5 @@
 -- A file of logs that was written reads back.
-use Rattle.std.proofs.Common.{◌≡◌, ◌≢◌, ℕ, ◌+◌, ◌≤◌, ◌⊎◌, List, [], ◌∷◌, ◌++◌, get_or, true, false, cond, bytes_eq, codes, IsUtf8, Option, Some, Result, Ok, Err, MatchResult, ⊎_elim, refl, sym, ap, subst, ◌∙◌, arith, length-append, append_assoc}
+use Rattle.std.proofs.Common.{◌≡◌, ◌≢◌, ℕ, ◌+◌, ◌≤◌, ◌⊎◌, List, [], ◌∷◌, ◌++◌, get_or, true, false, cond, bytes_eq, codes, Option, Some, Result, Ok, Err, MatchResult, ⊎_elim, refl, sym, ap, subst, ◌∙◌, arith, length-append, append_assoc}
 use Rattle.std.specs.Prelude.{◌==◌}
 use Rattle.std.specs.Fmt.{decimal}
 use Rattle.std.specs.List.{All, AllPairs, flat_map}
@@ -23,7 +23,7 @@ use Rattle.hub_trace.specs.Read.{Reads, after_line, all_closings, below_header, 
 use Rattle.hub_trace.specs.Text.{entry_text, file_text, log_text}
 use Rattle.hub_trace.specs.Words.{◌>>=◌}
 use Rattle.hub_trace.proofs.Adding.{may_add}
-use Rattle.hub_trace.proofs.Bytes.{All-from_Lacks, HasOnly, IsUtf8-after, IsUtf8-before, Lacks-visible, is_visible}
+use Rattle.hub_trace.proofs.Bytes.{All-from_Lacks, HasOnly, Lacks-visible, is_visible}
 use Rattle.hub_trace.proofs.EntryLines.{agent-back, agent-not_end, agent-visible, entry-back, entry-not_end, entry-visible}
 use Rattle.hub_trace.proofs.PortTexts.{none_before}
 
@@ -97,65 +97,50 @@ entry_first first lines text = simp append_assoc
 log_words : (first lines others tail : List ℕ) → (first ++ codes "\n" ++ lines ++ others) ++ tail ≡ first ++ (10 ∷ (lines ++ (others ++ tail)))
 log_words first lines others tail = simp append_assoc
 
-entry_added : (done : List AgentLog) (a : AgentId) (past : List Entry) (e : Entry) → IsEntryWithin e → IsUtf8 (entry_text e) → closes_again (done ++ ((a, past) ∷ [])) e ≡ false
+entry_added : (done : List AgentLog) (a : AgentId) (past : List Entry) (e : Entry) → IsEntryWithin e → closes_again (done ++ ((a, past) ∷ [])) e ≡ false
     → line_added (done ++ ((a, past) ∷ [])) (entry_text e) ≡ Some (done ++ ((a, past ++ (e ∷ [])) ∷ []))
-entry_added done a past e within valid once =
+entry_added done a past e within once =
     let logs = done ++ ((a, past) ∷ []) in
-    ap (λ (r : Option Line). r >>= with_line logs) (entry-back e within valid)
+    ap (λ (r : Option Line). r >>= with_line logs) (entry-back e within)
     ∙ may_add logs e (omega (arith, length-append done ((a, past) ∷ []))) once
     ∙ ap (λ (xs : List AgentLog). Some xs) (in_newest done a past e)
 
-entries_more : (all done : List AgentLog) (a : AgentId) (past es : List Entry) (others : List AgentLog) (text tail : List ℕ) → All IsEntryWithin es
-    → AreDistinct (all_closings (done ++ ((a, past ++ es) ∷ others))) → IsUtf8 (entry_lines es ++ text)
-    → (IsUtf8 text → GivesAll all (done ++ ((a, past ++ es) ∷ [])) (text ++ tail)) → GivesAll all (done ++ ((a, past) ∷ [])) (entry_lines es ++ (text ++ tail))
-entries_more all done a past [] others text tail within distinct valid gives =
-    subst (λ (xs : List Entry). GivesAll all (done ++ ((a, xs) ∷ [])) (text ++ tail)) (append-nil past) (gives valid)
-entries_more all done a past (e ∷ es) others text tail within distinct valid gives =
+entries_more : (all done : List AgentLog) (a : AgentId) (past es : List Entry) (others : List AgentLog) (rest : List ℕ) → All IsEntryWithin es → AreDistinct (all_closings (done ++ ((a, past ++ es) ∷ others)))
+    → GivesAll all (done ++ ((a, past ++ es) ∷ [])) rest → GivesAll all (done ++ ((a, past) ∷ [])) (entry_lines es ++ rest)
+entries_more all done a past [] others rest within distinct gives = subst (λ (xs : List Entry). GivesAll all (done ++ ((a, xs) ∷ [])) rest) (append-nil past) gives
+entries_more all done a past (e ∷ es) others rest within distinct gives =
     let here = All-head IsEntryWithin e es within in
     let more : (past ++ (e ∷ [])) ++ es ≡ past ++ (e ∷ es) = append_assoc past (e ∷ []) es in
-    let whole : IsUtf8 (entry_text e ++ (10 ∷ (entry_lines es ++ text))) = subst IsUtf8 (entry_first (entry_text e) (entry_lines es) text) valid in
-    let valid_here : IsUtf8 (entry_text e) = IsUtf8-before 10 (entry_text e) (entry_lines es ++ text) (omega arith) whole in
-    let valid_more : IsUtf8 (entry_lines es ++ text) = IsUtf8-after 10 (entry_text e) (entry_lines es ++ text) (omega arith) whole in
-    subst (GivesAll all (done ++ ((a, past) ∷ []))) (sym (entry_first (entry_text e) (entry_lines es) (text ++ tail)))
-    (line_more all (done ++ ((a, past) ∷ [])) (done ++ ((a, past ++ (e ∷ [])) ∷ [])) (entry_text e) (entry_lines es ++ (text ++ tail))
-    (entry-visible e here) (entry-not_end e)
-    (entry_added done a past e here valid_here (closes_new done a past es others e distinct))
-    (entries_more all done a (past ++ (e ∷ [])) es others text tail (All-tail IsEntryWithin e es within)
+    subst (GivesAll all (done ++ ((a, past) ∷ []))) (sym (entry_first (entry_text e) (entry_lines es) rest))
+    (line_more all (done ++ ((a, past) ∷ [])) (done ++ ((a, past ++ (e ∷ [])) ∷ [])) (entry_text e) (entry_lines es ++ rest) (entry-visible e here) (entry-not_end e)
+    (entry_added done a past e here (closes_new done a past es others e distinct))
+    (entries_more all done a (past ++ (e ∷ [])) es others rest (All-tail IsEntryWithin e es within)
     (subst (λ (xs : List Entry). AreDistinct (all_closings (done ++ ((a, xs) ∷ others)))) (sym more) distinct)
-    valid_more
-    (λ v. subst (λ (xs : List Entry). GivesAll all (done ++ ((a, xs) ∷ [])) (text ++ tail)) (sym more) (gives v))))
+    (subst (λ (xs : List Entry). GivesAll all (done ++ ((a, xs) ∷ [])) rest) (sym more) gives)))
 
 -- ---- logs
 
-agent_added : (done : List AgentLog) (a : AgentId) → a.0 ≤ 15 → IsUtf8 (codes "agent " ++ decimal a.0) → line_added done (codes "agent " ++ decimal a.0) ≡ Some (done ++ ((a, []) ∷ []))
-agent_added done a le valid = ap (λ (r : Option Line). r >>= with_line done) (agent-back a le valid)
+agent_added : (done : List AgentLog) (a : AgentId) → a.0 ≤ 15 → line_added done (codes "agent " ++ decimal a.0) ≡ Some (done ++ ((a, []) ∷ []))
+agent_added done a le = ap (λ (r : Option Line). r >>= with_line done) (agent-back a le)
 
-logs_more : (all done logs : List AgentLog) (tail : List ℕ) → All IsLogWithin logs → AreDistinct (all_closings (done ++ logs)) → IsUtf8 (logs_text logs)
-    → GivesAll all (done ++ logs) tail → GivesAll all done (logs_text logs ++ tail)
-logs_more all done [] tail within distinct valid gives = subst (λ (xs : List AgentLog). GivesAll all xs tail) (append-nil done) gives
-logs_more all done (l ∷ logs) tail within distinct valid gives =
+logs_more : (all done logs : List AgentLog) (tail : List ℕ) → All IsLogWithin logs → AreDistinct (all_closings (done ++ logs)) → GivesAll all (done ++ logs) tail → GivesAll all done (logs_text logs ++ tail)
+logs_more all done [] tail within distinct gives = subst (λ (xs : List AgentLog). GivesAll all xs tail) (append-nil done) gives
+logs_more all done (l ∷ logs) tail within distinct gives =
     let agent = codes "agent " ++ decimal l.0.0 in
     let here = All-head IsLogWithin l logs within in
     let one_more : (done ++ (l ∷ [])) ++ logs ≡ done ++ (l ∷ logs) = append_assoc done (l ∷ []) logs in
-    let whole : IsUtf8 (agent ++ (10 ∷ (entry_lines l.1 ++ logs_text logs))) = subst IsUtf8 (entry_first agent (entry_lines l.1) (logs_text logs)) valid in
-    let valid_here : IsUtf8 agent = IsUtf8-before 10 agent (entry_lines l.1 ++ logs_text logs) (omega arith) whole in
-    let valid_more : IsUtf8 (entry_lines l.1 ++ logs_text logs) = IsUtf8-after 10 agent (entry_lines l.1 ++ logs_text logs) (omega arith) whole in
     subst (GivesAll all done) (sym (log_words agent (entry_lines l.1) (logs_text logs) tail))
-    (line_more all done (done ++ ((l.0, []) ∷ [])) agent (entry_lines l.1 ++ (logs_text logs ++ tail))
-    (agent-visible l.0 here.agent) (agent-not_end l.0)
-    (agent_added done l.0 here.agent valid_here)
-    (entries_more all done l.0 [] l.1 logs (logs_text logs) tail here.entries distinct valid_more
-    (λ v. logs_more all (done ++ (l ∷ [])) logs tail (All-tail IsLogWithin l logs within)
-    (subst (λ (xs : List AgentLog). AreDistinct (all_closings xs)) (sym one_more) distinct) v
+    (line_more all done (done ++ ((l.0, []) ∷ [])) agent (entry_lines l.1 ++ (logs_text logs ++ tail)) (agent-visible l.0 here.agent) (agent-not_end l.0) (agent_added done l.0 here.agent)
+    (entries_more all done l.0 [] l.1 logs (logs_text logs ++ tail) here.entries distinct
+    (logs_more all (done ++ (l ∷ [])) logs tail (All-tail IsLogWithin l logs within) (subst (λ (xs : List AgentLog). AreDistinct (all_closings xs)) (sym one_more) distinct)
     (subst (λ (xs : List AgentLog). GivesAll all xs tail) (sym one_more) gives))))
 
 -- ---- files
 
-below : (logs : List AgentLog) (tail : List ℕ) → AreWithin logs → IsUtf8 (file_text logs) → GivesAll logs logs tail → logs_of (file_text logs ++ tail) ≡ Ok logs
-below logs tail h valid gives =
-    let lines_valid : IsUtf8 (logs_text logs) = IsUtf8-after 10 LOG_HEADER.now (logs_text logs) (omega arith) valid in
+below : (logs : List AgentLog) (tail : List ℕ) → AreWithin logs → GivesAll logs logs tail → logs_of (file_text logs ++ tail) ≡ Ok logs
+below logs tail h gives =
     ap below_header (line_before LOG_HEADER.now (logs_text logs ++ tail) (no_end LOG_HEADER.now refl))
-    ∙ logs_more logs [] logs tail h.each h.closed_once lines_valid gives 2
+    ∙ logs_more logs [] logs tail h.each h.closed_once gives 2
 
 no_more : (logs : List AgentLog) → GivesAll logs logs []
 unfolding lines_of logs_from
@@ -175,19 +160,19 @@ not_both {X} {E} r e x p q =
     let wrong : ◌≡◌ {A = Result X E} (Err e) (Ok x) = sym p ∙ q in
     cc
 
-file_back : (bytes : List ℕ) (logs : List AgentLog) (more : List ℕ) → AreWithin logs → IsUtf8 (file_text logs)
+file_back : (bytes : List ℕ) (logs : List AgentLog) (more : List ℕ) → AreWithin logs
     → (bytes ≡ file_text logs) ⊎ (bytes ≡ file_text logs ++ codes "deliveries\n" ++ more) → logs_of bytes ≡ Ok logs
-file_back bytes logs more h valid is =
+file_back bytes logs more h is =
     ⊎_elim
-    (λ (whole : bytes ≡ file_text logs). ap logs_of (whole ∙ sym (append-nil (file_text logs))) ∙ below logs [] h valid (no_more logs))
+    (λ (whole : bytes ≡ file_text logs). ap logs_of (whole ∙ sym (append-nil (file_text logs))) ∙ below logs [] h (no_more logs))
     (λ (front : bytes ≡ file_text logs ++ codes "deliveries\n" ++ more).
-    ap logs_of (front ∙ append_assoc (file_text logs) (codes "deliveries\n") more) ∙ below logs (codes "deliveries\n" ++ more) h valid (deliveries_follow logs more))
+    ap logs_of (front ∙ append_assoc (file_text logs) (codes "deliveries\n") more) ∙ below logs (codes "deliveries\n" ++ more) h (deliveries_follow logs more))
     is
 
 -- what is returned where it is what the definition reads
-pub read_back : {X : Type 0} (view : X → List AgentLog) (bytes : List ℕ) (r : Result X (ℕ × LogError)) → Reads view bytes r → (logs : List AgentLog) (more : List ℕ) → AreWithin logs → IsUtf8 (file_text logs)
+pub read_back : {X : Type 0} (view : X → List AgentLog) (bytes : List ℕ) (r : Result X (ℕ × LogError)) → Reads view bytes r → (logs : List AgentLog) (more : List ℕ) → AreWithin logs
     → (bytes ≡ file_text logs) ⊎ (bytes ≡ file_text logs ++ codes "deliveries\n" ++ more) → MatchResult r (λ x. view x ≡ logs) (λ e. e.1 ≡ error.OutOfMemory)
-read_back view bytes (Ok x) reads logs more h valid is = same_value (logs_of bytes) (view x) logs reads (file_back bytes logs more h valid is)
-read_back view bytes (Err (n, error.OutOfMemory)) reads logs more h valid is = refl
-read_back view bytes (Err (n, error.BadHeader)) reads logs more h valid is = absurd (not_both (logs_of bytes) (n, error.BadHeader) logs reads (file_back bytes logs more h valid is))
-read_back view bytes (Err (n, error.BadLine)) reads logs more h valid is = absurd (not_both (logs_of bytes) (n, error.BadLine) logs reads (file_back bytes logs more h valid is))
+read_back view bytes (Ok x) reads logs more h is = same_value (logs_of bytes) (view x) logs reads (file_back bytes logs more h is)
+read_back view bytes (Err (n, error.OutOfMemory)) reads logs more h is = refl
+read_back view bytes (Err (n, error.BadHeader)) reads logs more h is = absurd (not_both (logs_of bytes) (n, error.BadHeader) logs reads (file_back bytes logs more h is))
+read_back view bytes (Err (n, error.BadLine)) reads logs more h is = absurd (not_both (logs_of bytes) (n, error.BadLine) logs reads (file_back bytes logs more h is))

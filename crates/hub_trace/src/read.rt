@@ -1,4 +1,4 @@
-ghost use Rattle.std.specs.Prelude.{◌≡◌, ◌<◌, ◌==◌, ◌||◌, ◌⊎◌, ◌++◌, false, ℕ, List, [], ◌∷◌, Some, length, take, codes, IsUtf8, MatchResult, OnOk, IfErr, IfOk, IsErrOf, IsOkAnd};
+ghost use Rattle.std.specs.Prelude.{◌≡◌, ◌<◌, ◌==◌, ◌||◌, ◌⊎◌, ◌++◌, false, ℕ, List, [], ◌∷◌, Some, length, take, codes, MatchResult, OnOk, IfErr, IfOk, IsErrOf, IsOkAnd};
 ghost use Rattle.std.specs.BTreeSet.{contains};
 ghost use Rattle.std.specs.Ordering.{nat_cmp};
 ghost use Rattle.hub_trace.specs.declared.line.Line.TheVariants as line;
@@ -69,7 +69,7 @@ pub fn read_logs(alloc: Global, bytes: &[u8]) -> Result<Vec<Log>, (usize, LogErr
     // The logs, or the first bad line and its kind, are those of `logs_of`.
     ensures reads { Reads (λ logs. logs.items) bytes.now result }
     // What logs write below the header reads back to them, also where a line `deliveries` comes next.
-    ensures written { (logs : List AgentLog) (more : List ℕ) → AreWithin logs → IsUtf8 (file_text logs)
+    ensures written { (logs : List AgentLog) (more : List ℕ) → AreWithin logs
         → (bytes.now ≡ file_text logs) ⊎ (bytes.now ≡ file_text logs ++ codes "deliveries\n" ++ more)
         → MatchResult result (λ read. read.items ≡ logs) (λ error. error.1 ≡ LogError.OutOfMemory) }
 {

@@ -1,6 +1,6 @@
 use Rattle.std.proofs.Common.{ℕ, ◌∷◌, List, [], Option, option_map, ap, sym, ◌∙◌, subst}
 use Rattle.hub_envelope.specs.Compact.{IsFront}
-use Rattle.hub_envelope.proofs.Fronts.{front-string, front-null, front-true, front-false, word_at, from_match, last_item, one_more_item, front-no_items, front-items, last_member, one_more_member, front-no_members, front-members}
+use Rattle.hub_envelope.proofs.Fronts.{front-null, front-true, front-false, word_at, from_match, last_item, one_more_item, front-no_items, front-items, last_member, one_more_member, front-no_members, front-members}
 use Rattle.hub_envelope.proofs.compact.+after_value.Goals as goal
 
 pub after_items-returns-then-first-eq93 : goal.after_items-returns-then-first-eq93
@@ -45,10 +45,6 @@ after_members-returns-in-125 t c =
     let front = subst (λ l. IsFront c.args.levels value l) left c.in_ok-after_value.ensures in
     front-members c.args.levels c.args.text.now rest
     (c.loop-key.invariant rest (last_member c.args.levels before c.loop-key.rest.now c.in_ok-key.key.now value rest c.in_ok-key.ensures front (c.may_follow.ensures c.if-not-may_follow.false)))
-
-pub after_value-returns-in_ok-plain_string-in-34 : goal.after_value-returns-in_ok-plain_string-in-34
-after_value-returns-in_ok-plain_string-in-34 t c =
-    front-string c.args.levels c.args.text.now c.in_ok-plain_string-in-34.field-0.0.now c.in_ok-plain_string-in-34.field-0.1.now c.in_ok-plain_string-in-34.ensures
 
 pub after_value-returns-in-110 : goal.after_value-returns-in-110
 after_value-returns-in-110 t c =

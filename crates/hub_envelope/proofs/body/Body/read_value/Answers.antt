@@ -1,3 +1,4 @@
+use Rattle.std.proofs.lemmas.Str.{IsUtf8-string_bytes}
 use Rattle.std.proofs.Common.{◌<◌, ◌≤◌, length, Ok, Err, ap, sym, ◌∙◌, inl, inr, arith, true≢false}
 use Rattle.serde_json.specs.Data.{depth}
 use Rattle.serde_json.specs.View.{view}
@@ -66,7 +67,7 @@ invariant_of-result c =
     let nested : depth d ≤ MAX_NESTING = grind arith in
     let text = c.in-Ok-to_string.ensures.text whole in
     let short : length (compact_text d) ≤ MAX_BODY_BYTES = grind (arith, ap length text) in
-    record { value = d; reads = c.in-Ok-to_string.ensures.reads_back (omega arith); profile = IsInProfile-read c.args.text.now d c.in-Ok.ensures.ok whole nested short; compact = text }
+    record { value = d; reads = c.in-Ok-to_string.ensures.reads_back (omega arith); profile = IsInProfile-read c.args.text.now d c.in-Ok.ensures.ok whole nested short; compact = text; utf8 = IsUtf8-string_bytes c.in-Ok-to_string.text }
 
 pub returns-clause-ok : goal.returns-clause-ok
 returns-clause-ok c =

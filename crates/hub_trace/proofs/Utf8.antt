@@ -1,0 +1,94 @@
+-- The lines of logs are UTF-8.
+use Rattle.std.proofs.Common.{◌≡◌, ℕ, zero, suc, ◌<◌, ◌≤◌, ◌^◌, List, [], ◌∷◌, ◌++◌, get_or, codes, IsUtf8, All, sym, subst, arith, append_assoc, rules}
+use Rattle.std.specs.Fmt.{decimal}
+use Rattle.std.proofs.lemmas.Fmt.{IsAscii-decimal}
+use Rattle.std.proofs.lemmas.List.Elements.{All-head, All-tail}
+use Rattle.std.proofs.lemmas.Str.{IsUtf8-append, IsUtf8-from_ascii, IsUtf8-nil}
+use Rattle.hub_envelope.specs.declared.ids.AgentId.{AgentId}
+use Rattle.hub_envelope.specs.declared.ids.EndId.{EndId}
+use Rattle.hub_trace.specs.declared.entry.Delivery.{Delivery}
+use Rattle.hub_trace.specs.declared.entry.Entry.{Entry}
+use Rattle.hub_trace.specs.declared.entry.Entry.TheVariants.{Put, Got, Adopted, Closed}
+use Rattle.hub_trace.specs.Limits.{IsDeliveryWithin, IsEntryWithin, IsPortList}
+use Rattle.hub_trace.specs.Text.{delivery_text, entry_text, more_ports_text, ports_text}
+use Rattle.hub_trace.proofs.PortTexts.{small_end}
+
+-- ---- bytes and numbers
+
+one_ascii : (b i : ℕ) → b < 128 → get_or (b ∷ []) i 0 < 128
+one_ascii b zero h = h
+one_ascii b (suc i) h = omega arith
+
+one : (b : ℕ) → b < 128 → IsUtf8 (b ∷ [])
+one b small = IsUtf8-from_ascii (b ∷ []) (λ i. one_ascii b i small)
+
+number : (n : ℕ) → n < 2 ^ 64 → IsUtf8 (decimal n)
+number n small = IsUtf8-from_ascii (decimal n) (IsAscii-decimal n small)
+
+-- a text, an ASCII byte and another text
+pair : (before after : List ℕ) (b : ℕ) → IsUtf8 before → b < 128 → IsUtf8 after → IsUtf8 (before ++ b ∷ after)
+pair before after b first small last = IsUtf8-append before (b ∷ after) first (IsUtf8-append (b ∷ []) after (one b small) last)
+
+-- ---- the pieces of a line
+
+pub delivery_words : (end line epoch number ports body : List ℕ) → end ++ codes " " ++ line ++ codes " " ++ epoch ++ codes ":" ++ number ++ codes " " ++ ports ++ codes " " ++ body
+    ≡ end ++ (32 ∷ (line ++ (32 ∷ ((epoch ++ (58 ∷ number)) ++ (32 ∷ (ports ++ (32 ∷ body)))))))
+delivery_words end line epoch number ports body = simp append_assoc
+
+more_ports_utf8 : (ends : List EndId) → All (λ e. e.0 ≤ 65535) ends → IsUtf8 (more_ports_text ends)
+more_ports_utf8 [] known = IsUtf8-nil
+more_ports_utf8 (e ∷ ends) known =
+    IsUtf8-append (44 ∷ decimal e.0) (more_ports_text ends)
+    (IsUtf8-append (44 ∷ []) (decimal e.0) (one 44 (omega arith)) (number e.0 (small_end e.0 (All-head (λ (x : EndId). x.0 ≤ 65535) e ends known))))
+    (more_ports_utf8 ends (All-tail (λ (x : EndId). x.0 ≤ 65535) e ends known))
+
+ports_utf8 : (ends : List EndId) → IsPortList ends → IsUtf8 (ports_text ends)
+ports_utf8 [] h = one 45 (omega arith)
+ports_utf8 (e ∷ ends) h =
+    IsUtf8-append (decimal e.0) (more_ports_text ends) (number e.0 (small_end e.0 (All-head (λ (x : EndId). x.0 ≤ 65535) e ends h.known)))
+    (more_ports_utf8 ends (All-tail (λ (x : EndId). x.0 ≤ 65535) e ends h.known))
+
+delivery_utf8 : (d : Delivery) → IsDeliveryWithin d → IsUtf8 (delivery_text d)
+delivery_utf8 d h =
+    let l = d.label in
+    let end = h.label.end in
+    let line = h.label.line in
+    let epoch = h.label.epoch in
+    let number_le = h.label.number in
+    let ports = ports_text d.message.0 in
+    let message = pair ports d.message.1 32 (ports_utf8 d.message.0 h.message.ports) (omega arith) h.message.body.utf8 in
+    let name = pair (decimal l.epoch) (decimal l.number) 58 (number l.epoch (omega arith)) (omega arith) (number l.number (omega arith)) in
+    subst IsUtf8 (sym (delivery_words (decimal l.end.0) (decimal l.line.0) (decimal l.epoch) (decimal l.number) ports d.message.1))
+    (pair (decimal l.end.0) _ 32 (number l.end.0 (omega arith)) (omega arith)
+    (pair (decimal l.line.0) _ 32 (number l.line.0 (omega arith)) (omega arith) (pair (decimal l.epoch ++ 58 ∷ decimal l.number) _ 32 name (omega arith) message)))
+
+pub adopted_words : (end epoch : List ℕ) → codes "adopted " ++ end ++ codes " " ++ epoch ≡ codes "adopted" ++ (32 ∷ (end ++ (32 ∷ epoch)))
+adopted_words end epoch = simp append_assoc
+
+-- ---- lines
+
+put_utf8 : IsUtf8 (codes "put ")
+put_utf8 = search rules
+
+got_utf8 : IsUtf8 (codes "got ")
+got_utf8 = search rules
+
+adopted_utf8 : IsUtf8 (codes "adopted")
+adopted_utf8 = search rules
+
+closed_utf8 : IsUtf8 (codes "closed ")
+closed_utf8 = search rules
+
+agent_word_utf8 : IsUtf8 (codes "agent ")
+agent_word_utf8 = search rules
+
+pub entry-utf8 : (e : Entry) → IsEntryWithin e → IsUtf8 (entry_text e)
+entry-utf8 (Put d) h = IsUtf8-append (codes "put ") (delivery_text d) put_utf8 (delivery_utf8 d h)
+entry-utf8 (Got d) h = IsUtf8-append (codes "got ") (delivery_text d) got_utf8 (delivery_utf8 d h)
+entry-utf8 (Adopted e epoch) h =
+    subst IsUtf8 (sym (adopted_words (decimal e.0) (decimal epoch)))
+    (pair (codes "adopted") _ 32 adopted_utf8 (omega arith) (pair (decimal e.0) (decimal epoch) 32 (number e.0 (small_end e.0 h.0)) (omega arith) (number epoch (small_end epoch h.1))))
+entry-utf8 (Closed e) h = IsUtf8-append (codes "closed ") (decimal e.0) closed_utf8 (number e.0 (small_end e.0 h))
+
+pub agent-utf8 : (a : AgentId) → a.0 ≤ 15 → IsUtf8 (codes "agent " ++ decimal a.0)
+agent-utf8 a le = IsUtf8-append (codes "agent ") (decimal a.0) agent_word_utf8 (number a.0 (omega arith))
