@@ -54,6 +54,12 @@ def least(command, source, target, repeats):
     return min(seconds), min(processor), max(peaks)
 
 
+def row(figure, value, bound, is_met):
+    """A row of the table of bench/all."""
+    script = os.path.join(os.path.dirname(os.path.abspath(__file__)), "..", "row")
+    subprocess.run([script, figure, value, bound, "yes" if is_met else "no"], check=True)
+
+
 def same(first, second):
     return subprocess.run(["cmp", "-s", first, second]).returncode == 0
 
@@ -80,6 +86,10 @@ def main():
                     f"node {node_peak / count:.0f}"
                     + (f"; {growth:.2f} times the half" if growth else "")
                 )
+                row(f"steps, {name}, {count} lines", f"{seconds / node:.2f} of node", "1", seconds <= MOST_TO_NODE * node)
+                row(f"steps, {name}, {count} lines", f"{peak / count:.0f} bytes a line", "400", peak <= MOST_BYTES_A_LINE * count)
+                if growth:
+                    row(f"steps, {name}, {count} lines", f"{growth:.2f}x the half", "2.3", growth <= MOST_GROWTH)
                 if not same(ours, theirs):
                     missed.append(f"{name} {count}: different output")
                 if seconds > MOST_TO_NODE * node:

@@ -19,14 +19,14 @@ use Rattle.hub_core.specs.Next.{next}
 use Rattle.hub_core.specs.Lines.{on_line}
 use Rattle.hub_core.specs.Posting.{is_out, poster, enter_answer, leave_answer}
 use Rattle.hub_core.specs.Shows.{ShowsLine, Waits, ShowsEnd, IsUnmade, ShowsAt, ShowsFacts}
-use Rattle.hub_core.specs.Kept.{gate, phase_of, enter_outcome, enter_end, enter_outcome_at, enter_ends_at, leave_outcome, leave_end, leave_outcome_at, leave_ends_at, kept_poster}
+use Rattle.hub_core.specs.Kept.{gate_answer, phase_of, enter_outcome, enter_end, enter_outcome_at, enter_ends_at, leave_outcome, leave_end, leave_outcome_at, leave_ends_at, kept_poster}
 use Rattle.hub_core.proofs.Lists.{eqb_same, slice_get-set_same, slice_get-set_other, set_again, AllByRecursion-weaker}
 use Rattle.hub_core.proofs.Frames.{SameAt, waits_framed, shows_set, unchanged, shows_unchanged}
 use Rattle.hub_core.proofs.Holders.{poster_kept}
 
 -- a step on a line that changes nothing but its phase
-abbrev pub with_phase : Facts → Sender → Phase → Facts
-with_phase f s p = record f { phase = λ x l. on_line x l s p (f.phase x l); accepted = λ x. f.accepted x ++ []; taken = λ x. f.taken x ++ [] }
+abbrev pub with_line_phase : Facts → Sender → Phase → Facts
+with_line_phase f s p = record f { phase = λ x l. on_line x l s p (f.phase x l); accepted = λ x. f.accepted x ++ []; taken = λ x. f.taken x ++ [] }
 
 on_line_here : (s : Sender) (p q : Phase) → on_line s.end.0 s.line.0 s p q ≡ p
 on_line_here s p q = rw (eqb_same s.end.0, eqb_same s.line.0) refl
@@ -37,28 +37,28 @@ on_line_there s l p q h = let other : eqb l s.line.0 ≡ false = search (rules, 
 on_line_away : (s : Sender) (x l : ℕ) (p q : Phase) → (x ≡ s.end.0 → ⊥) → on_line x l s p q ≡ q
 on_line_away s x l p q h = let other : eqb x s.end.0 ≡ false = search (rules, nat_tests) in rw other refl
 
-line_kept : (f : Facts) (s : Sender) (p : Phase) (l : ℕ) → (l ≡ s.line.0 → ⊥) → (o : Option Line) → ShowsLine f s.end.0 l o → ShowsLine (with_phase f s p) s.end.0 l o
-line_kept f s p l other None h = (on_line_there s l p (f.phase s.end.0 l) other ∙ h.0, h.1)
-line_kept f s p l other (Some y) h = (on_line_there s l p (f.phase s.end.0 l) other ∙ h.0, h.1, h.2, h.3, rw append-nil h.4)
+other_line_shown : (f : Facts) (s : Sender) (p : Phase) (l : ℕ) → (l ≡ s.line.0 → ⊥) → (o : Option Line) → ShowsLine f s.end.0 l o → ShowsLine (with_line_phase f s p) s.end.0 l o
+other_line_shown f s p l other None h = (on_line_there s l p (f.phase s.end.0 l) other ∙ h.0, h.1)
+other_line_shown f s p l other (Some y) h = (on_line_there s l p (f.phase s.end.0 l) other ∙ h.0, h.1, h.2, h.3, rw append-nil h.4)
 
 -- the lines of the end, one of them in a new phase
-line_phased : (f : Facts) (s : Sender) (p : Phase) (ls : List Line) (y : Line) → slice_get ls s.line.0 ≡ Some y → ((l : ℕ) → ShowsLine f s.end.0 l (slice_get ls l)) → (l : ℕ) → ShowsLine (with_phase f s p) s.end.0 l (slice_get (set ls s.line.0 (record y { phase = p })) l)
+line_phased : (f : Facts) (s : Sender) (p : Phase) (ls : List Line) (y : Line) → slice_get ls s.line.0 ≡ Some y → ((l : ℕ) → ShowsLine f s.end.0 l (slice_get ls l)) → (l : ℕ) → ShowsLine (with_line_phase f s p) s.end.0 l (slice_get (set ls s.line.0 (record y { phase = p })) l)
 line_phased f s p ls y is h l =
-    elim (eqb l s.line.0) as (λ b. eqb l s.line.0 ≡ b → ShowsLine (with_phase f s p) s.end.0 l (slice_get (set ls s.line.0 (record y { phase = p })) l)) [
+    elim (eqb l s.line.0) as (λ b. eqb l s.line.0 ≡ b → ShowsLine (with_line_phase f s p) s.end.0 l (slice_get (set ls s.line.0 (record y { phase = p })) l)) [
       | true ↦ λ t.
           let same : l ≡ s.line.0 = search (rules, t) in
           let within : s.line.0 < length ls = slice_get_within ls s.line.0 y is in
           let old : ShowsLine f s.end.0 s.line.0 (Some y) = subst (ShowsLine f s.end.0 s.line.0) is (h s.line.0) in
-          let here : ShowsLine (with_phase f s p) s.end.0 s.line.0 (Some (record y { phase = p })) = (on_line_here s p (f.phase s.end.0 s.line.0), old.1, old.2, old.3, rw append-nil old.4) in
-          subst (λ k. ShowsLine (with_phase f s p) s.end.0 k (slice_get (set ls s.line.0 (record y { phase = p })) k)) (sym same)
-          (subst (ShowsLine (with_phase f s p) s.end.0 s.line.0) (sym (slice_get-set_same ls s.line.0 (record y { phase = p }) within)) here)
+          let here : ShowsLine (with_line_phase f s p) s.end.0 s.line.0 (Some (record y { phase = p })) = (on_line_here s p (f.phase s.end.0 s.line.0), old.1, old.2, old.3, rw append-nil old.4) in
+          subst (λ k. ShowsLine (with_line_phase f s p) s.end.0 k (slice_get (set ls s.line.0 (record y { phase = p })) k)) (sym same)
+          (subst (ShowsLine (with_line_phase f s p) s.end.0 s.line.0) (sym (slice_get-set_same ls s.line.0 (record y { phase = p }) within)) here)
       | false ↦ λ t.
           let other : l ≡ s.line.0 → ⊥ = search (rules, t) in
-          subst (ShowsLine (with_phase f s p) s.end.0 l) (sym (slice_get-set_other ls s.line.0 l (record y { phase = p }) other)) (line_kept f s p l other (slice_get ls l) (h l))
+          subst (ShowsLine (with_line_phase f s p) s.end.0 l) (sym (slice_get-set_other ls s.line.0 l (record y { phase = p }) other)) (other_line_shown f s p l other (slice_get ls l) (h l))
     ] refl
 
 -- the end, one of its lines in a new phase
-end_phased : (f : Facts) (s : Sender) (p : Phase) (x : End) (y : Line) → slice_get x.lines s.line.0 ≡ Some y → ShowsEnd f s.end.0 x → ShowsEnd (with_phase f s p) s.end.0 (record x { lines = set x.lines s.line.0 (record y { phase = p }) })
+end_phased : (f : Facts) (s : Sender) (p : Phase) (x : End) (y : Line) → slice_get x.lines s.line.0 ≡ Some y → ShowsEnd f s.end.0 x → ShowsEnd (with_line_phase f s p) s.end.0 (record x { lines = set x.lines s.line.0 (record y { phase = p }) })
 end_phased f s p x y is h = record {
   peer = h.peer;
   peer_made = h.peer_made;
@@ -70,11 +70,11 @@ end_phased f s p x y is h = record {
   taker_epoch = h.taker_epoch;
   queues = h.queues;
   waiting = append-nil (f.accepted s.end.0) ∙ h.waiting ∙ ap (λ vs. vs ++ get_or x.queues 0 []) (sym (append-nil (f.taken s.end.0)));
-  named = AllByRecursion-weaker (Waits f s.end.0) (Waits (with_phase f s p) s.end.0) (waits_framed f (with_phase f s p) s.end.0 (omega arith)) (get_or x.queues 0 []) h.named;
+  named = AllByRecursion-weaker (Waits f s.end.0) (Waits (with_line_phase f s p) s.end.0) (waits_framed f (with_line_phase f s p) s.end.0 (omega arith)) (get_or x.queues 0 []) h.named;
   lines = line_phased f s p x.lines y is h.lines;
 }
 
-same_away : (f : Facts) (s : Sender) (p : Phase) (d : ℕ) → (d ≡ s.end.0 → ⊥) → SameAt f (with_phase f s p) d
+same_away : (f : Facts) (s : Sender) (p : Phase) (d : ℕ) → (d ≡ s.end.0 → ⊥) → SameAt f (with_line_phase f s p) d
 same_away f s p d h = record {
   ends = omega arith;
   peer = refl;
@@ -90,9 +90,9 @@ same_away f s p d h = record {
 }
 
 -- the core with one line in a new phase
-pub shows_phased : (agents : List Agent) (ends : List End) (f : Facts) (s : Sender) (p : Phase) (x : End) (y : Line) → ShowsFacts agents ends f → slice_get ends s.end.0 ≡ Some x → slice_get x.lines s.line.0 ≡ Some y → ShowsFacts agents (set ends s.end.0 (record x { lines = set x.lines s.line.0 (record y { phase = p }) })) (with_phase f s p)
+pub shows_phased : (agents : List Agent) (ends : List End) (f : Facts) (s : Sender) (p : Phase) (x : End) (y : Line) → ShowsFacts agents ends f → slice_get ends s.end.0 ≡ Some x → slice_get x.lines s.line.0 ≡ Some y → ShowsFacts agents (set ends s.end.0 (record x { lines = set x.lines s.line.0 (record y { phase = p }) })) (with_line_phase f s p)
 shows_phased agents ends f s p x y h at is =
-    shows_set agents ends f (with_phase f s p) s.end.0 (record x { lines = set x.lines s.line.0 (record y { phase = p }) }) h
+    shows_set agents ends f (with_line_phase f s p) s.end.0 (record x { lines = set x.lines s.line.0 (record y { phase = p }) }) h
     (slice_get_within ends s.end.0 x at)
     (record { agents = refl; runs = λ a. refl; ends = refl })
     (same_away f s p)
@@ -108,12 +108,12 @@ enter_open : (f : Facts) (s : Sender) (closed : Bool) → is_some (poster f s) �
 enter_open f s closed usable out stand newest is = rw (usable, out, stand, newest, is) refl
 
 -- what a gate answers a line of an end that is shown
-gate_open : (x : End) (y : Line) → y.epoch ≡ 0 → length x.queues ≡ 1 → gate x y ≡ cond x.is_closed outcome.Closed outcome.In
+gate_open : (x : End) (y : Line) → y.epoch ≡ 0 → length x.queues ≡ 1 → gate_answer x y ≡ cond x.is_closed outcome.Closed outcome.In
 gate_open x y epoch queues = rw (epoch, queues) refl
 
-none_either : (b : Bool) → (let n : Option AgentId = None in is_some (cond b n n) ≡ false)
-none_either true = refl
-none_either false = refl
+is_some_none : (b : Bool) → (let n : Option AgentId = None in is_some (cond b n n) ≡ false)
+is_some_none true = refl
+is_some_none false = refl
 
 enter_refused : (f : Facts) (s : Sender) → is_some (poster f s) ≡ false → enter_answer f s ≡ outcome.NotNow
 enter_refused f s none = rw none refl
@@ -130,7 +130,7 @@ enter_phase agents ends f s x y false h at is = shows_phased agents ends f s Ins
 
 -- a line of an end that isn't there has no poster
 unmade_poster : (f : Facts) (s : Sender) → f.peer s.end.0 ≡ None → is_some (poster f s) ≡ false
-unmade_poster f s none = rw none (none_either (eqb s.line.0 0))
+unmade_poster f s none = rw none (is_some_none (eqb s.line.0 0))
 
 -- a line that isn't there has no poster
 no_poster : (f : Facts) (s : Sender) → 0 < s.line.0 → is_some (poster f s) ≡ true → ⊥
@@ -146,7 +146,7 @@ enter_line agents ends f s x h at usable None is =
 enter_line agents ends f s x h at usable (Some y) is =
     let shown : ShowsEnd f s.end.0 x = subst (ShowsAt f s.end.0) at (h.each s.end.0) in
     let line : ShowsLine f s.end.0 s.line.0 (Some y) = subst (ShowsLine f s.end.0 s.line.0) is (shown.lines s.line.0) in
-    elim (is_out y.phase) as (λ b. is_out y.phase ≡ b → GateShown agents ends f s (cond b (gate x y) outcome.NotNow) (set ends s.end.0 (cond b (record x { lines = set x.lines s.line.0 (record y { phase = phase_of (gate x y) }) }) x))) [
+    elim (is_out y.phase) as (λ b. is_out y.phase ≡ b → GateShown agents ends f s (cond b (gate_answer x y) outcome.NotNow) (set ends s.end.0 (cond b (record x { lines = set x.lines s.line.0 (record y { phase = phase_of (gate_answer x y) }) }) x))) [
       | true ↦ λ e.
           let opens = gate_open x y line.2 shown.queues in
           record {

@@ -22,7 +22,7 @@ use Rattle.hub_core.specs.Next.{next}
 use Rattle.hub_core.specs.Fits.{Answers}
 use Rattle.hub_core.specs.Legal.{LegalAfter, Legal}
 use Rattle.hub_core.specs.declared.sender.Sender.{Sender}
-use Rattle.hub_core.specs.declared.outcome.Accepted.{Accepted}
+use Rattle.hub_core.specs.declared.outcome.Acceptance.{Acceptance}
 use Rattle.hub_core.specs.Accepted.{accepted_by, accepted, named_envelope}
 use Rattle.hub_core.specs.Sender.{by, Prefix, count_in_queue}
 use Rattle.hub_core.specs.Posting.{holder, poster, is_inside, is_good, push_answer_of, push_answer}
@@ -109,34 +109,34 @@ numbers_more line epoch vs v b is =
     ∙ ap (λ us. numbers line epoch vs ++ us) (map_cond v b)
 
 -- the tests of a push that was accepted
-accepted_not_now : (n : Accepted) → outcome.Accepted n ≡ outcome.NotNow → ⊥
+accepted_not_now : (n : Acceptance) → outcome.Accepted n ≡ outcome.NotNow → ⊥
 accepted_not_now n h = cc
 
-accepted_not_many : (n : Accepted) → outcome.Accepted n ≡ outcome.TooManyPorts → ⊥
+accepted_not_many : (n : Acceptance) → outcome.Accepted n ≡ outcome.TooManyPorts → ⊥
 accepted_not_many n h = cc
 
-accepted_no_memory : (n : Accepted) → outcome.Accepted n ≡ outcome.NoMemory → ⊥
+accepted_no_memory : (n : Acceptance) → outcome.Accepted n ≡ outcome.NoMemory → ⊥
 accepted_no_memory n h = cc
 
-passed : (inside many : Bool) (n : Accepted) (o : Outcome) → outcome.Accepted n ≡ cond (not inside) outcome.NotNow (cond many outcome.TooManyPorts o) → outcome.Accepted n ≡ o
+passed : (inside many : Bool) (n : Acceptance) (o : Outcome) → outcome.Accepted n ≡ cond (not inside) outcome.NotNow (cond many outcome.TooManyPorts o) → outcome.Accepted n ≡ o
 passed false many n o h = absurd (accepted_not_now n h)
 passed true true n o h = absurd (accepted_not_many n h)
 passed true false n o h = h
 
-granted : (good refused : Bool) (n m : Accepted) → outcome.Accepted n ≡ cond (not good) outcome.NotNow (cond refused outcome.NoMemory (outcome.Accepted m)) → n ≡ m
+granted : (good refused : Bool) (n m : Acceptance) → outcome.Accepted n ≡ cond (not good) outcome.NotNow (cond refused outcome.NoMemory (outcome.Accepted m)) → n ≡ m
 granted false refused n m h = absurd (accepted_not_now n h)
 granted true true n m h = absurd (accepted_no_memory n h)
 granted true false n m h = cc
 
-named_of : (f : Facts) (s : Sender) (ports : List EndId) (refused : Bool) (n : Accepted) (q : Option AgentId) → outcome.Accepted n ≡ push_answer_of f s ports refused q → n.number ≡ count_in_queue s.line.0 n.epoch (f.accepted s.end.0)
+named_of : (f : Facts) (s : Sender) (ports : List EndId) (refused : Bool) (n : Acceptance) (q : Option AgentId) → outcome.Accepted n ≡ push_answer_of f s ports refused q → n.number ≡ count_in_queue s.line.0 n.epoch (f.accepted s.end.0)
 named_of f s ports refused n None h = absurd (accepted_not_now n h)
 named_of f s ports refused n (Some a) h =
-    let m : Accepted = record { agent = a; epoch = f.stand s.end.0 s.line.0; number = count_in_queue s.line.0 (f.stand s.end.0 s.line.0) (f.accepted s.end.0) } in
+    let m : Acceptance = record { agent = a; epoch = f.stand s.end.0 s.line.0; number = count_in_queue s.line.0 (f.stand s.end.0 s.line.0) (f.accepted s.end.0) } in
     let same : n ≡ m = granted (is_good f a s ports) refused n m h in
-    ap (λ (k : Accepted). k.number) same ∙ ap (λ (k : Accepted). count_in_queue s.line.0 k.epoch (f.accepted s.end.0)) (sym same)
+    ap (λ (k : Acceptance). k.number) same ∙ ap (λ (k : Acceptance). count_in_queue s.line.0 k.epoch (f.accepted s.end.0)) (sym same)
 
 -- the number that a push that fits gives
-push_named : (f : Facts) (s : Sender) (ports : List EndId) (refused : Bool) (n : Accepted) → outcome.Accepted n ≡ push_answer f s ports refused → n.number ≡ count_in_queue s.line.0 n.epoch (f.accepted s.end.0)
+push_named : (f : Facts) (s : Sender) (ports : List EndId) (refused : Bool) (n : Acceptance) → outcome.Accepted n ≡ push_answer f s ports refused → n.number ≡ count_in_queue s.line.0 n.epoch (f.accepted s.end.0)
 push_named f s ports refused n h =
     named_of f s ports refused n (poster f s) (passed (is_inside (f.phase s.end.0 s.line.0)) (nat_lt MAX_PORTS (length ports)) n (push_answer_of f s ports refused (poster f s)) h)
 

@@ -18,7 +18,7 @@ use Rattle.hub_core.specs.declared.sender.Sender.{Sender}
 use Rattle.hub_core.specs.declared.end.End.{End}
 use Rattle.hub_core.specs.declared.end.Place.TheVariants.{InFlight}
 use Rattle.hub_core.specs.declared.step.Action.TheVariants as action
-use Rattle.hub_core.specs.declared.outcome.Accepted.{Accepted}
+use Rattle.hub_core.specs.declared.outcome.Acceptance.{Acceptance}
 use Rattle.hub_core.specs.declared.outcome.Outcome.{Outcome}
 use Rattle.hub_core.specs.declared.outcome.Outcome.TheVariants as outcome
 use Rattle.hub_core.specs.Facts.{Facts}
@@ -117,8 +117,8 @@ count_more l k vs v line epoch =
     ∙ length-append (filter (λ (u : Envelope). eqb u.line.0 l && eqb u.epoch k) vs) (filter (λ u. eqb u.line.0 l && eqb u.epoch k) (v ∷ []))
     ∙ ap (λ b. count_in_queue l k vs + length (cond b (v ∷ []) [])) mine
 
-queue_written : (queues : List (List Envelope)) (k : ℕ) (v : Envelope) → k ≡ 0 → length queues ≡ 1 → get_or (set queues k (get_or queues k [] ++ v ∷ [])) 0 [] ≡ get_or queues 0 [] ++ v ∷ []
-queue_written queues k v first one = rw first (written queues (get_or queues 0 [] ++ v ∷ []) one)
+put_written : (queues : List (List Envelope)) (k : ℕ) (v : Envelope) → k ≡ 0 → length queues ≡ 1 → get_or (set queues k (get_or queues k [] ++ v ∷ [])) 0 [] ≡ get_or queues 0 [] ++ v ∷ []
+put_written queues k v first one = rw first (written queues (get_or queues 0 [] ++ v ∷ []) one)
 
 -- each line of the end, the one with an envelope more
 line_other : (f : Facts) (e : ℕ) (v : Envelope) (l : ℕ) → (l ≡ 0 → ⊥) → (o : Option Line) → ShowsLine f e l o → ShowsLine (with_accepted f e v) e l o
@@ -163,8 +163,8 @@ end_put f e x y v h is first epoch here made =
       queues = length-set x.queues y.epoch (get_or x.queues y.epoch [] ++ v ∷ []) ∙ h.queues;
       waiting = accepted_here f e v ∙ ap (λ vs. vs ++ v ∷ []) h.waiting ∙ append_assoc (f.taken e) (get_or x.queues 0 []) (v ∷ [])
           ∙ ap (λ vs. vs ++ (get_or x.queues 0 [] ++ v ∷ [])) (sym (append-nil (f.taken e)))
-          ∙ ap (λ q. (f.taken e ++ []) ++ q) (sym (queue_written x.queues y.epoch v first h.queues));
-      named = subst (AllByRecursion (Waits (with_accepted f e v) e)) (sym (queue_written x.queues y.epoch v first h.queues))
+          ∙ ap (λ q. (f.taken e ++ []) ++ q) (sym (put_written x.queues y.epoch v first h.queues));
+      named = subst (AllByRecursion (Waits (with_accepted f e v) e)) (sym (put_written x.queues y.epoch v first h.queues))
           (AllByRecursion-weaker (Waits f e) (Waits (with_accepted f e v) e) (waits_framed f (with_accepted f e v) e (omega arith)) (get_or x.queues 0 [] ++ v ∷ [])
           (AllByRecursion-append (Waits f e) (get_or x.queues 0 []) (v ∷ []) h.named (wait, tt)));
       lines = line_put f e v x.lines y is epoch h.lines;
@@ -187,8 +187,8 @@ pub record PushShown (agents : List Agent) (f : Facts) (s : Sender) (ports : Vec
   pub shows : ShowsFacts agents after (next f (action.Push s ports body) o)
 
 -- an answer that changes nothing
-refuses : (agents : List Agent) (ends new : List End) (f : Facts) (s : Sender) (ports : Vec EndId Global) (body : List ℕ) (refused : Bool) (o p : Outcome) → ShowsFacts agents ends f → next f (action.Push s ports body) p ≡ unchanged f → o ≡ p → new ≡ ends → p ≡ push_answer f s ports.items refused → PushShown agents f s ports body refused o new
-refuses agents ends new f s ports body refused o p h nothing is same fits = record {
+push_refused : (agents : List Agent) (ends new : List End) (f : Facts) (s : Sender) (ports : Vec EndId Global) (body : List ℕ) (refused : Bool) (o p : Outcome) → ShowsFacts agents ends f → next f (action.Push s ports body) p ≡ unchanged f → o ≡ p → new ≡ ends → p ≡ push_answer f s ports.items refused → PushShown agents f s ports body refused o new
+push_refused agents ends new f s ports body refused o p h nothing is same fits = record {
   answer = is ∙ fits;
   shows = subst (λ q. ShowsFacts agents new (next f (action.Push s ports body) q)) (sym is)
       (subst (ShowsFacts agents new) (sym nothing) (subst (λ es. ShowsFacts agents es (unchanged f)) (sym same) (shows_unchanged agents ends f h)));
@@ -210,7 +210,7 @@ good : (f : Facts) (s : Sender) (ports : List EndId) (refused : Bool) (a : Agent
 good f s ports refused a h = rw h refl
 
 -- the name that the line keeps is the one that the facts give
-name_kept : (f : Facts) (s : Sender) (a : AgentId) (y : Line) → ShowsLine f s.end.0 s.line.0 (Some y) → (let n : Accepted = record { agent = a; epoch = y.epoch; number = y.put } in n ≡ record { agent = a; epoch = f.stand s.end.0 s.line.0; number = count_in_queue s.line.0 (f.stand s.end.0 s.line.0) (f.accepted s.end.0) })
+name_kept : (f : Facts) (s : Sender) (a : AgentId) (y : Line) → ShowsLine f s.end.0 s.line.0 (Some y) → (let n : Acceptance = record { agent = a; epoch = y.epoch; number = y.put } in n ≡ record { agent = a; epoch = f.stand s.end.0 s.line.0; number = count_in_queue s.line.0 (f.stand s.end.0 s.line.0) (f.accepted s.end.0) })
 name_kept f s a y h = λ i. record {
   agent = a;
   epoch = sym h.1 i;
@@ -223,9 +223,9 @@ poster_here agents ends f s x y h shown line = rw (line.3, shown.peer) (sym (hol
 
 push_good : (agents : List Agent) (ends new : List End) (f : Facts) (s : Sender) (ports : Vec EndId Global) (body : List ℕ) (refused : Bool) (x : End) (y : Line) (a : AgentId) (o : Outcome) → ShowsFacts agents ends f → slice_get ends s.end.0 ≡ Some x → slice_get x.lines s.line.0 ≡ Some y → ShowsLine f s.end.0 s.line.0 (Some y) → is_good f a s ports.items ≡ true → push_answer f s ports.items refused ≡ push_answer_of f s ports.items refused (Some a) → o ≡ push_outcome (cond refused (Err outcome.NoMemory) (Ok (y, a))) → PushLeaves s ports.items body ends (cond refused (Err outcome.NoMemory) (Ok (y, a))) new → PushShown agents f s ports body refused o new
 push_good agents ends new f s ports body true x y a o h at is line fine falls answer leaves =
-    refuses agents ends new f s ports body true o outcome.NoMemory h refl answer leaves (sym (falls ∙ good f s ports.items true a fine))
+    push_refused agents ends new f s ports body true o outcome.NoMemory h refl answer leaves (sym (falls ∙ good f s ports.items true a fine))
 push_good agents ends new f s ports body false x y a o h at is line fine falls answer leaves =
-    let name : Accepted = record { agent = a; epoch = y.epoch; number = y.put } in
+    let name : Acceptance = record { agent = a; epoch = y.epoch; number = y.put } in
     let v : Envelope = named_envelope s name body ports.items in
     let made = all_made agents ends f a s h ports.items (both_of (is_distinct ports.items) (list_all (may_travel f a s) ports.items) fine).1 in
     let moves : Moves ports.items InFlight (set ends s.end.0 (put_end x y v)) new = subst (λ q. IfSome q (λ z. Moves ports.items InFlight (set ends s.end.0 (put_end z y v)) new)) at leaves in
@@ -236,24 +236,24 @@ push_good agents ends new f s ports body false x y a o h at is line fine falls a
 
 push_held : (agents : List Agent) (ends new : List End) (f : Facts) (s : Sender) (ports : Vec EndId Global) (body : List ℕ) (refused : Bool) (x : End) (y : Line) (o : Outcome) → ShowsFacts agents ends f → slice_get ends s.end.0 ≡ Some x → slice_get x.lines s.line.0 ≡ Some y → ShowsEnd f s.end.0 x → ShowsLine f s.end.0 s.line.0 (Some y) → (q : Option AgentId) → push_answer f s ports.items refused ≡ push_answer_of f s ports.items refused q → o ≡ push_outcome (kept_posting_by ends x.peer s.end ports.items refused y q) → PushLeaves s ports.items body ends (kept_posting_by ends x.peer s.end ports.items refused y q) new → PushShown agents f s ports body refused o new
 push_held agents ends new f s ports body refused x y o h at is shown line None falls answer leaves =
-    refuses agents ends new f s ports body refused o outcome.NotNow h refl answer leaves (sym falls)
+    push_refused agents ends new f s ports body refused o outcome.NotNow h refl answer leaves (sym falls)
 push_held agents ends new f s ports body refused x y o h at is shown line (Some a) falls answer leaves =
     let same : kept_good ends a x.peer s.end ports.items ≡ is_good f a s ports.items = good_kept agents ends f a s x.peer h shown.peer ports.items in
     elim (kept_good ends a x.peer s.end ports.items) as (λ b. kept_good ends a x.peer s.end ports.items ≡ b → o ≡ push_outcome (cond b (cond refused (Err outcome.NoMemory) (Ok (y, a))) (Err outcome.NotNow)) → PushLeaves s ports.items body ends (cond b (cond refused (Err outcome.NoMemory) (Ok (y, a))) (Err outcome.NotNow)) new → PushShown agents f s ports body refused o new) [
       | true ↦ λ fine answer leaves. push_good agents ends new f s ports body refused x y a o h at is line (sym same ∙ fine) falls answer leaves
-      | false ↦ λ bad answer leaves. refuses agents ends new f s ports body refused o outcome.NotNow h refl answer leaves (sym (falls ∙ not_good f s ports.items refused a (sym same ∙ bad)))
+      | false ↦ λ bad answer leaves. push_refused agents ends new f s ports body refused o outcome.NotNow h refl answer leaves (sym (falls ∙ not_good f s ports.items refused a (sym same ∙ bad)))
     ] refl answer leaves
 
 push_inside : (agents : List Agent) (ends new : List End) (f : Facts) (s : Sender) (ports : Vec EndId Global) (body : List ℕ) (refused : Bool) (x : End) (y : Line) (o : Outcome) → ShowsFacts agents ends f → slice_get ends s.end.0 ≡ Some x → slice_get x.lines s.line.0 ≡ Some y → ShowsEnd f s.end.0 x → ShowsLine f s.end.0 s.line.0 (Some y) → is_inside (f.phase s.end.0 s.line.0) ≡ true → (many : Bool) → nat_lt MAX_PORTS (length ports.items) ≡ many → o ≡ push_outcome (cond many (Err outcome.TooManyPorts) (kept_posting_by ends x.peer s.end ports.items refused y (kept_holder agents ends x.peer.0))) → PushLeaves s ports.items body ends (cond many (Err outcome.TooManyPorts) (kept_posting_by ends x.peer s.end ports.items refused y (kept_holder agents ends x.peer.0))) new → PushShown agents f s ports body refused o new
 push_inside agents ends new f s ports body refused x y o h at is shown line inside true many answer leaves =
-    refuses agents ends new f s ports body refused o outcome.TooManyPorts h refl answer leaves (sym (too_many f s ports.items refused inside many))
+    push_refused agents ends new f s ports body refused o outcome.TooManyPorts h refl answer leaves (sym (too_many f s ports.items refused inside many))
 push_inside agents ends new f s ports body refused x y o h at is shown line inside false small answer leaves =
     push_held agents ends new f s ports body refused x y o h at is shown line (kept_holder agents ends x.peer.0)
     (few f s ports.items refused (kept_holder agents ends x.peer.0) inside small (poster_here agents ends f s x y h shown line)) answer leaves
 
 push_line : (agents : List Agent) (ends new : List End) (f : Facts) (s : Sender) (ports : Vec EndId Global) (body : List ℕ) (refused : Bool) (x : End) (o : Outcome) → ShowsFacts agents ends f → slice_get ends s.end.0 ≡ Some x → ShowsEnd f s.end.0 x → (q : Option Line) → slice_get x.lines s.line.0 ≡ q → ShowsLine f s.end.0 s.line.0 q → o ≡ push_outcome (kept_posting_line agents ends s ports.items refused x q) → PushLeaves s ports.items body ends (kept_posting_line agents ends s ports.items refused x q) new → PushShown agents f s ports body refused o new
 push_line agents ends new f s ports body refused x o h at shown None is line answer leaves =
-    refuses agents ends new f s ports body refused o outcome.NotNow h refl answer leaves (sym (not_inside f s ports.items refused (ap is_inside line.0)))
+    push_refused agents ends new f s ports body refused o outcome.NotNow h refl answer leaves (sym (not_inside f s ports.items refused (ap is_inside line.0)))
 push_line agents ends new f s ports body refused x o h at shown (Some y) is line answer leaves =
     let queue : nat_lt y.epoch (length x.queues) ≡ true = rw (line.2, shown.queues) refl in
     let posting = kept_posting_by ends x.peer s.end ports.items refused y (kept_holder agents ends x.peer.0) in
@@ -262,12 +262,12 @@ push_line agents ends new f s ports body refused x o h at shown (Some y) is line
       | true ↦ λ inside answer leaves. push_inside agents ends new f s ports body refused x y o h at is shown line (ap is_inside line.0 ∙ inside) (nat_lt MAX_PORTS (length ports.items)) refl
           (answer ∙ ap (λ c. push_outcome (cond c many (Err outcome.NotNow))) queue)
           (subst (λ c. PushLeaves s ports.items body ends (cond c many (Err outcome.NotNow)) new) queue leaves)
-      | false ↦ λ outside answer leaves. refuses agents ends new f s ports body refused o outcome.NotNow h refl answer leaves (sym (not_inside f s ports.items refused (ap is_inside line.0 ∙ outside)))
+      | false ↦ λ outside answer leaves. push_refused agents ends new f s ports body refused o outcome.NotNow h refl answer leaves (sym (not_inside f s ports.items refused (ap is_inside line.0 ∙ outside)))
     ] refl answer leaves
 
 push_at : (agents : List Agent) (ends new : List End) (f : Facts) (s : Sender) (ports : Vec EndId Global) (body : List ℕ) (refused : Bool) (o : Outcome) → ShowsFacts agents ends f → (q : Option End) → slice_get ends s.end.0 ≡ q → ShowsAt f s.end.0 q → o ≡ push_outcome (kept_posting_at agents ends s ports.items refused q) → PushLeaves s ports.items body ends (kept_posting_at agents ends s ports.items refused q) new → PushShown agents f s ports body refused o new
 push_at agents ends new f s ports body refused o h None at unmade answer leaves =
-    refuses agents ends new f s ports body refused o outcome.NotNow h refl answer leaves (sym (not_inside f s ports.items refused (ap is_inside (unmade.phase s.line.0))))
+    push_refused agents ends new f s ports body refused o outcome.NotNow h refl answer leaves (sym (not_inside f s ports.items refused (ap is_inside (unmade.phase s.line.0))))
 push_at agents ends new f s ports body refused o h (Some x) at shown answer leaves =
     push_line agents ends new f s ports body refused x o h at shown (slice_get x.lines s.line.0) refl (shown.lines s.line.0) answer leaves
 

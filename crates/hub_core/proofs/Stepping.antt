@@ -14,7 +14,6 @@ use Rattle.hub_core.specs.declared.end.End.{End}
 use Rattle.hub_core.specs.declared.step.Step.{Step}
 use Rattle.hub_core.specs.declared.step.Action.{Action}
 use Rattle.hub_core.specs.declared.step.Action.TheVariants as action
-use Rattle.hub_core.specs.declared.outcome.OutOfMemory.{OutOfMemory}
 use Rattle.hub_core.specs.declared.outcome.Outcome.{Outcome}
 use Rattle.hub_core.specs.declared.outcome.Outcome.TheVariants as outcome
 use Rattle.hub_core.specs.History.{History}
@@ -24,7 +23,7 @@ use Rattle.hub_core.specs.Fits.{Answers, Fits}
 use Rattle.hub_core.specs.Posting.{is_out}
 use Rattle.hub_core.specs.Shows.{ShowsFacts}
 use Rattle.hub_core.specs.Unchanged.{changes_nothing}
-use Rattle.hub_core.specs.Kept.{gate, phase_of, enter_outcome, enter_end, enter_outcome_at, enter_ends_at, leave_outcome, leave_end, leave_outcome_at, leave_ends_at, TakeServes, TakeHeld, TakeLeaves}
+use Rattle.hub_core.specs.Kept.{gate_answer, phase_of, enter_outcome, enter_end, enter_outcome_at, enter_ends_at, leave_outcome, leave_end, leave_outcome_at, leave_ends_at, TakeServes, TakeHeld, TakeLeaves}
 use Rattle.hub_core.proofs.Lists.{set_again}
 use Rattle.hub_core.proofs.Nexts.{facts_next}
 
@@ -37,21 +36,21 @@ stepped agents after_agents ends after_ends step o a is k h s =
     )
 
 -- two facts of what was answered Ok give a third
-pub ok_both : (r : Result Outcome OutOfMemory) (P Q R : Outcome → Type 0) → IfOk r P → IfOk r Q → ((o : Outcome) → P o → Q o → R o) → IfOk r R
+pub ok_both : {E : Type 0} (r : Result Outcome E) (P Q R : Outcome → Type 0) → IfOk r P → IfOk r Q → ((o : Outcome) → P o → Q o → R o) → IfOk r R
 ok_both (Ok o) P Q R p q f = f o p q
 ok_both (Err e) P Q R p q f = tt
 
 -- ---- what changes nothing leaves the ends
 
-opens : (closed retired : Bool) (s : Sender) → changes_nothing (action.Enter s) (cond retired outcome.Moved (cond closed outcome.Closed outcome.In)) ≡ false
-opens closed true s = refl
-opens true false s = refl
-opens false false s = refl
+gate_changes : (closed retired : Bool) (s : Sender) → changes_nothing (action.Enter s) (cond retired outcome.Moved (cond closed outcome.Closed outcome.In)) ≡ false
+gate_changes closed true s = refl
+gate_changes true false s = refl
+gate_changes false false s = refl
 
 enter_line_same : (ends : List End) (s : Sender) (x : End) → slice_get ends s.end.0 ≡ Some x → (q : Option Line) → changes_nothing (action.Enter s) (enter_outcome x q) ≡ true → set ends s.end.0 (enter_end x s.line.0 q) ≡ ends
 enter_line_same ends s x at None h = set_again ends s.end.0 x at
-enter_line_same ends s x at (Some y) h = elim (is_out y.phase) as (λ b. changes_nothing (action.Enter s) (cond b (gate x y) outcome.NotNow) ≡ true → set ends s.end.0 (cond b (record x { lines = set x.lines s.line.0 (record y { phase = phase_of (gate x y) }) }) x) ≡ ends) [
-  | true ↦ λ open_gate. absurd (false≢true (sym (opens x.is_closed (nat_lt (y.epoch + 1) (length x.queues)) s) ∙ open_gate))
+enter_line_same ends s x at (Some y) h = elim (is_out y.phase) as (λ b. changes_nothing (action.Enter s) (cond b (gate_answer x y) outcome.NotNow) ≡ true → set ends s.end.0 (cond b (record x { lines = set x.lines s.line.0 (record y { phase = phase_of (gate_answer x y) }) }) x) ≡ ends) [
+  | true ↦ λ open_gate. absurd (false≢true (sym (gate_changes x.is_closed (nat_lt (y.epoch + 1) (length x.queues)) s) ∙ open_gate))
   | false ↦ λ _. set_again ends s.end.0 x at
 ] h
 

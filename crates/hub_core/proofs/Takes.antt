@@ -104,8 +104,8 @@ abbrev pub with_taken : Facts → EndId → Envelope → Facts
 with_taken f e v = record f { accepted = λ x. f.accepted x ++ []; taken = λ x. f.taken x ++ cond (eqb x e.0) (v ∷ []) [] }
 
 -- the queue that is written
-queue_written : (queues : List (List Envelope)) (k : ℕ) (rest : List Envelope) → k ≡ 0 → length queues ≡ 1 → get_or (set queues k rest) 0 [] ≡ rest
-queue_written queues k rest first one = rw first (written queues rest one)
+rest_written : (queues : List (List Envelope)) (k : ℕ) (rest : List Envelope) → k ≡ 0 → length queues ≡ 1 → get_or (set queues k rest) 0 [] ≡ rest
+rest_written queues k rest first one = rw first (written queues rest one)
 
 all_of : (f : Facts) (e : EndId) (x : End) (v : Envelope) (rest : List Envelope) → ShowsEnd f e.0 x → get_or x.queues 0 [] ≡ v ∷ rest → AllByRecursion (Waits f e.0) (v ∷ rest)
 all_of f e x v rest h front = subst (AllByRecursion (Waits f e.0)) front h.named
@@ -123,8 +123,8 @@ end_taken f e x v rest h front = record {
   queues = length-set x.queues x.taker_epoch rest ∙ h.queues;
   waiting = append-nil (f.accepted e.0) ∙ h.waiting ∙ ap (λ q. f.taken e.0 ++ q) front ∙ sym (append_assoc (f.taken e.0) (v ∷ []) rest)
       ∙ ap (λ b. (f.taken e.0 ++ cond b (v ∷ []) []) ++ rest) (sym (eqb_same e.0))
-      ∙ ap (λ q. (f.taken e.0 ++ cond (eqb e.0 e.0) (v ∷ []) []) ++ q) (sym (queue_written x.queues x.taker_epoch rest h.taker_epoch h.queues));
-  named = subst (AllByRecursion (Waits (with_taken f e v) e.0)) (sym (queue_written x.queues x.taker_epoch rest h.taker_epoch h.queues))
+      ∙ ap (λ q. (f.taken e.0 ++ cond (eqb e.0 e.0) (v ∷ []) []) ++ q) (sym (rest_written x.queues x.taker_epoch rest h.taker_epoch h.queues));
+  named = subst (AllByRecursion (Waits (with_taken f e v) e.0)) (sym (rest_written x.queues x.taker_epoch rest h.taker_epoch h.queues))
       (AllByRecursion-weaker (Waits f e.0) (Waits (with_taken f e v) e.0) (waits_framed f (with_taken f e v) e.0 (omega arith)) rest (all_of f e x v rest h front).1);
   lines = λ l. at_line f (with_taken f e v) e.0 l (append-nil (f.accepted e.0)) refl refl (slice_get x.lines l) (h.lines l);
 }
@@ -192,8 +192,8 @@ take_served agents ends new f e x a h at held outcome.Empty served =
     (drained_of f e x shown empty, subst (λ es. ShowsFacts agents es (unchanged f)) (sym (served.1 ∙ set_again ends e.0 x at)) (shows_unchanged agents ends f h))
 take_served agents ends new f e x a h at held _ served = absurd served
 
-refuses : (agents : List Agent) (ends new : List End) (f : Facts) (e : EndId) (o p : Outcome) → ShowsFacts agents ends f → next f (action.Take e) p ≡ unchanged f → o ≡ p → new ≡ ends → FitsTake f e p → TakeShown agents f e o new
-refuses agents ends new f e o p h nothing is same fits =
+take_refused : (agents : List Agent) (ends new : List End) (f : Facts) (e : EndId) (o p : Outcome) → ShowsFacts agents ends f → next f (action.Take e) p ≡ unchanged f → o ≡ p → new ≡ ends → FitsTake f e p → TakeShown agents f e o new
+take_refused agents ends new f e o p h nothing is same fits =
     let at : TakeShown agents f e p ends = record { answer = fits; shows = subst (ShowsFacts agents ends) (sym nothing) (shows_unchanged agents ends f h) } in
     subst (λ q. TakeShown agents f e q new) (sym is) (subst (TakeShown agents f e p) (sym same) at)
 
@@ -211,22 +211,22 @@ fits_served : (f : Facts) (e : EndId) (o : Outcome) → f.closed e.0 ≡ false �
 fits_served f e o opened held enabled served = rw (opened, held, enabled) served
 
 take_enabled : (agents : List Agent) (ends new : List End) (f : Facts) (e : EndId) (x : End) (o : Outcome) (a : AgentId) → ShowsFacts agents ends f → slice_get ends e.0 ≡ Some x → f.closed e.0 ≡ false → holder f e.0 ≡ Some a → (b : Bool) → f.enabled e.0 ≡ b → MatchBool b (TakeServes a e.0 ends x o new) ((o ≡ outcome.Disabled) × (new ≡ ends)) → TakeShown agents f e o new
-take_enabled agents ends new f e x o a h at opened is false disabled t = refuses agents ends new f e o outcome.Disabled h refl t.0 t.1 (fits_disabled f e opened (ap is_some is) disabled)
+take_enabled agents ends new f e x o a h at opened is false disabled t = take_refused agents ends new f e o outcome.Disabled h refl t.0 t.1 (fits_disabled f e opened (ap is_some is) disabled)
 take_enabled agents ends new f e x o a h at opened is true enabled t =
     let served = take_served agents ends new f e x a h at is o t in
     record { answer = fits_served f e o opened (ap is_some is) enabled served.0; shows = served.1 }
 
 take_held : (agents : List Agent) (ends new : List End) (f : Facts) (e : EndId) (x : End) (o : Outcome) → ShowsFacts agents ends f → slice_get ends e.0 ≡ Some x → f.closed e.0 ≡ false → (P : Option AgentId) → holder f e.0 ≡ P → TakeHeld P e.0 ends x o new → TakeShown agents f e o new
-take_held agents ends new f e x o h at opened None is t = refuses agents ends new f e o outcome.NotNow h refl t.0 t.1 (fits_unheld f e opened (ap is_some is))
+take_held agents ends new f e x o h at opened None is t = take_refused agents ends new f e o outcome.NotNow h refl t.0 t.1 (fits_unheld f e opened (ap is_some is))
 take_held agents ends new f e x o h at opened (Some a) is t =
     let shown : ShowsEnd f e.0 x = subst (ShowsAt f e.0) at (h.each e.0) in
     take_enabled agents ends new f e x o a h at opened is x.is_enabled shown.enabled t
 
 take_at : (agents : List Agent) (ends new : List End) (f : Facts) (e : EndId) (o : Outcome) (P : Option AgentId) → holder f e.0 ≡ P → ShowsFacts agents ends f → (q : Option End) → slice_get ends e.0 ≡ q → ShowsAt f e.0 q → TakeLeaves P e.0 ends q o new → TakeShown agents f e o new
 take_at agents ends new f e o P is h None at unmade t =
-    refuses agents ends new f e o outcome.NotNow h refl t.0 t.1 (fits_unheld f e unmade.closed (ap (λ p. is_some (running_at f.runs p)) unmade.place))
+    take_refused agents ends new f e o outcome.NotNow h refl t.0 t.1 (fits_unheld f e unmade.closed (ap (λ p. is_some (running_at f.runs p)) unmade.place))
 take_at agents ends new f e o P is h (Some x) at shown t = elim x.is_closed as (λ b. f.closed e.0 ≡ b → MatchBool b ((o ≡ outcome.Closed) × (new ≡ ends)) (TakeHeld P e.0 ends x o new) → TakeShown agents f e o new) [
-  | true ↦ λ closed both. refuses agents ends new f e o outcome.Closed h refl both.0 both.1 (fits_closed f e closed)
+  | true ↦ λ closed both. take_refused agents ends new f e o outcome.Closed h refl both.0 both.1 (fits_closed f e closed)
   | false ↦ λ opened held. take_held agents ends new f e x o h at opened P is held
 ] shown.closed t
 

@@ -8,7 +8,7 @@ use Rattle.hub_core.specs.Accepted.{accepted}
 use Rattle.hub_core.specs.Taken.{taken}
 use Rattle.hub_core.specs.Sender.{by, Prefix}
 
--- 0, 1, 2 and so on, n of them
+-- the first n numbers: 0, 1, 2 and so on
 abbrev pub up_to : ℕ → List ℕ
 up_to zero = []
 up_to (suc n) = up_to n ++ n ∷ []

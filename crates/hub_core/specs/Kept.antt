@@ -15,27 +15,28 @@ use Rattle.hub_core.specs.declared.line.Phase.{Phase}
 use Rattle.hub_core.specs.declared.line.Phase.TheVariants.{Out, Inside, Turned}
 use Rattle.hub_core.specs.declared.end.End.{End}
 use Rattle.hub_core.specs.declared.end.Place.{Place}
+use Rattle.hub_core.specs.declared.outcome.Acceptance.{Acceptance}
 use Rattle.hub_core.specs.declared.outcome.Outcome.{Outcome}
 use Rattle.hub_core.specs.declared.outcome.Outcome.TheVariants as outcome
 use Rattle.hub_core.specs.Place.{names}
 use Rattle.hub_core.specs.Posting.{is_out, is_inside, is_with, running_at}
 
 -- what the gate of an end answers a line
-abbrev pub gate : End → Line → Outcome
-gate x y = if nat_lt (y.epoch + 1) (length x.queues) then outcome.Moved else (if x.is_closed then outcome.Closed else outcome.In)
+abbrev pub gate_answer : End → Line → Outcome
+gate_answer x y = if nat_lt (y.epoch + 1) (length x.queues) then outcome.Moved else (if x.is_closed then outcome.Closed else outcome.In)
 
--- the phase of a line that was answered so
+-- the phase of a line whose Enter got this answer
 abbrev pub phase_of : Outcome → Phase
 phase_of outcome.In = Inside
 phase_of _ = Turned
 
 abbrev pub enter_outcome : End → Option Line → Outcome
 enter_outcome x None = outcome.NotNow
-enter_outcome x (Some y) = if is_out y.phase then gate x y else outcome.NotNow
+enter_outcome x (Some y) = if is_out y.phase then gate_answer x y else outcome.NotNow
 
 abbrev pub enter_end : End → ℕ → Option Line → End
 enter_end x l None = x
-enter_end x l (Some y) = if is_out y.phase then record x { lines = slice_set x.lines l (record y { phase = phase_of (gate x y) }) } else x
+enter_end x l (Some y) = if is_out y.phase then record x { lines = slice_set x.lines l (record y { phase = phase_of (gate_answer x y) }) } else x
 
 abbrev pub leave_outcome : Option Line → Outcome
 leave_outcome None = outcome.NotNow
@@ -51,6 +52,14 @@ put_end x y v = record x {
   lines = slice_set x.lines v.line.0 (record y { put = y.put + 1 });
   queues = slice_set x.queues y.epoch (slice_index_or x.queues y.epoch [] ++ v ∷ []);
 }
+
+-- what the taker's queue holds
+abbrev pub taker_queue : End → List Envelope
+taker_queue x = slice_index_or x.queues x.taker_epoch []
+
+-- the end with another content of the taker's queue
+abbrev pub with_taker_queue : End → List Envelope → End
+with_taker_queue x rest = record x { queues = slice_set x.queues x.taker_epoch rest }
 
 -- an end whose place is another where the list names it
 abbrev pub moved_end : List EndId → Place → ℕ → End → End
@@ -121,6 +130,10 @@ kept_good ends a source target [] = true
 kept_good ends a source target (p ∷ ps) =
     if names ps p.0 || not (kept_may_travel ends a source target p) then false else kept_good ends a source target ps
 
+-- the end of the sender has the queue at which the line stands
+abbrev pub HasQueue : List End → Sender → Line → Type 0
+HasQueue ends s y = IfSome (slice_get ends s.end.0) (λ x. y.epoch < length x.queues)
+
 -- a line that may push, and the agent that posts, or why it may not
 abbrev pub kept_posting_by : List End → EndId → EndId → List EndId → Bool → Line → Option AgentId → Result (Line × AgentId) Outcome
 kept_posting_by ends source target ports refused y None = Err outcome.NotNow
@@ -146,13 +159,16 @@ abbrev pub push_outcome : Result (Line × AgentId) Outcome → Outcome
 push_outcome (Ok p) = outcome.Accepted (record { agent = p.1; epoch = p.0.epoch; number = p.0.put })
 push_outcome (Err o) = o
 
--- the ends after a push: an envelope more at the end and its ports in flight, or no change
+-- the ends after an accepted push of a line: an envelope more at the end, and its ports in flight
+abbrev pub AcceptLeaves : Sender → List EndId → List ℕ → List End → Line → Acceptance → List End → Type 0
+AcceptLeaves s ports body old y a new =
+    IfSome (slice_get old s.end.0)
+    (λ x. Moves ports InFlight (slice_set old s.end.0 (put_end x y (named_envelope s a body ports))) new)
+
+-- the ends after a push: those after it was accepted, or no change
 abbrev pub PushLeaves : Sender → List EndId → List ℕ → List End → Result (Line × AgentId) Outcome → List End → Type 0
 PushLeaves s ports body old (Ok p) new =
-    IfSome (slice_get old s.end.0)
-    (λ x. Moves ports InFlight
-    (slice_set old s.end.0 (put_end x p.0 (named_envelope s (record { agent = p.1; epoch = p.0.epoch; number = p.0.put }) body ports)))
-    new)
+    AcceptLeaves s ports body old p.0 (record { agent = p.1; epoch = p.0.epoch; number = p.0.put }) new
 PushLeaves s ports body old (Err o) new = new ≡ old
 
 abbrev pub start_outcome : Option AgentId → Option End → Outcome
@@ -168,10 +184,10 @@ start_ends holder e old (Some x) =
 -- what a take at an open, enabled end of an agent gives and leaves
 abbrev pub TakeServes : AgentId → ℕ → List End → End → Outcome → List End → Type 0
 TakeServes a e old x (outcome.Got v) new =
-    (rest : List Envelope) × (slice_index_or x.queues x.taker_epoch [] ≡ v ∷ rest)
-    × Moves v.ports (Arrived a) (slice_set old e (record x { queues = slice_set x.queues x.taker_epoch rest })) new
+    (rest : List Envelope) × (taker_queue x ≡ v ∷ rest)
+    × Moves v.ports (Arrived a) (slice_set old e (with_taker_queue x rest)) new
 TakeServes a e old x outcome.Empty new =
-    (x.taker_epoch < length x.queues → slice_index_or x.queues x.taker_epoch [] ≡ []) × (new ≡ slice_set old e x)
+    (x.taker_epoch < length x.queues → taker_queue x ≡ []) × (new ≡ slice_set old e x)
 TakeServes a e old x _ new = ⊥
 
 abbrev pub TakeHeld : Option AgentId → ℕ → List End → End → Outcome → List End → Type 0

@@ -3,7 +3,7 @@ use Rattle.std.specs.Prelude.{[], ◌∷◌, ◌++◌, ◌↔◌}
 use Rattle.hub_core.specs.History.{History}
 use Rattle.hub_core.specs.Fits.{Fits}
 
--- each pair fits those before it: the ones of the first list, and then those on its left
+-- each pair of the second list fits the pairs before it: those of the first list, and then those on its left
 abbrev pub LegalAfter : History → History → Type 0
 LegalAfter past [] = Unit {0}
 LegalAfter past (p ∷ rest) = Fits past p × LegalAfter (past ++ p ∷ []) rest
@@ -12,6 +12,6 @@ LegalAfter past (p ∷ rest) = Fits past p × LegalAfter (past ++ p ∷ []) rest
 abbrev pub Legal : History → Type 0
 Legal h = LegalAfter [] h
 
--- whatever comes, it is legal after the one exactly where it is legal after the other
+-- whatever comes is legal after the one history exactly where it is legal after the other
 abbrev pub Same : History → History → Type 0
 Same h k = (more : History) → LegalAfter h more ↔ LegalAfter k more

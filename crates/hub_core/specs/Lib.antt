@@ -11,6 +11,7 @@ pub mod Facts
 pub mod Making
 pub mod Posting
 pub mod Taking
+pub mod Memory
 pub mod Fits
 pub mod Legal
 pub mod Next

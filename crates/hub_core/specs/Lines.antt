@@ -23,8 +23,8 @@ phase_after x l phase (action.Enter s) outcome.Closed = on_line x l s Turned pha
 phase_after x l phase (action.Leave s) outcome.Left = on_line x l s Out phase
 phase_after x l phase _ _ = phase
 
--- out; inside, where the last Enter was answered In; or turned, where it was answered Moved or
--- Closed; in both with no Leave since
+-- A line is out before its first Enter and after each Leave. An Enter answered In puts it inside, and an Enter
+-- answered Moved or Closed makes it turned.
 abbrev pub phase : History → ℕ → ℕ → Phase
 phase h x l = fold (λ q p. phase_after x l q p.0.action p.1) Out h
 

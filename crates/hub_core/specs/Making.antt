@@ -7,14 +7,15 @@ use Rattle.hub_core.specs.declared.outcome.Outcome.{Outcome}
 use Rattle.hub_core.specs.declared.outcome.Outcome.TheVariants as outcome
 use Rattle.hub_core.specs.Facts.{Facts}
 
--- memory, then the limit; else the least number not given
+-- An Agent tests memory and then the limit. A new agent gets the least number not given.
 abbrev pub agent_answer : Facts → Bool → Outcome
 agent_answer f refused =
     if refused then outcome.NoMemory
     else (if nat_le MAX_AGENTS f.agents then outcome.TooManyAgents
     else outcome.Agent (record { 0 = f.agents }))
 
--- the agent runs, then the limit, then memory; else the two least numbers not given
+-- A Channel tests that its agent runs, then the limit, then memory. The new ends get the two least numbers not
+-- given.
 abbrev pub channel_answer : Facts → AgentId → Bool → Outcome
 channel_answer f a refused =
     if not (f.runs a.0) then outcome.NotNow

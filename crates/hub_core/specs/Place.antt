@@ -14,7 +14,7 @@ use Rattle.hub_core.specs.History.{History}
 abbrev pub names : List EndId → ℕ → Bool
 names ports x = list_any (λ p. p.0 == x) ports
 
--- the place of what arrives where an end is
+-- the place of a port that arrives at an end of this place
 abbrev pub arrived : Option Place → Option Place
 arrived (Some (With a)) = Some (Arrived a)
 arrived (Some InFlight) = None

@@ -26,7 +26,7 @@ is_inside Out = false
 is_inside Inside = true
 is_inside Turned = false
 
--- the agent that has what is there, where it runs
+-- the agent that has an end of this place, where the agent runs
 abbrev pub running_at : (ℕ → Bool) → Option Place → Option AgentId
 running_at runs (Some (With a)) = if runs a.0 then Some a else None
 running_at runs (Some InFlight) = None
@@ -42,7 +42,8 @@ holder f e = running_at f.runs (f.place e)
 abbrev pub poster : Facts → Sender → Option AgentId
 poster f s = if s.line.0 == 0 then option_and_then (holder f) (f.peer s.end.0) else None
 
--- usable and out; then a retired queue, then a closed end
+-- An Enter tests that a running agent holds the line and that its poster is out; then it looks for a retired queue
+-- and for a closed end.
 abbrev pub enter_answer : Facts → Sender → Outcome
 enter_answer f s =
     if not (is_some (poster f s) && is_out (f.phase s.end.0 s.line.0)) then outcome.NotNow
@@ -63,7 +64,7 @@ is_with a (Some InFlight) = false
 is_with a (Some (Arrived b)) = false
 is_with a None = false
 
--- whether the poster that a port holds is out
+-- whether the poster of the line that a port holds is out
 abbrev pub own_poster_out : Facts → Option ℕ → Bool
 own_poster_out f None = false
 own_poster_out f (Some q) = is_out (f.phase q 0)
@@ -92,7 +93,8 @@ push_answer_of f s ports refused (Some a) =
       number = count_in_queue s.line.0 (f.stand s.end.0 s.line.0) (f.accepted s.end.0);
     }))
 
--- inside, then the number of ports, then a good list of the agent that holds the poster, then memory
+-- A Push tests that its poster is inside, then the number of ports, then that the agent that holds the line may send
+-- them, then memory.
 abbrev pub push_answer : Facts → Sender → List EndId → Bool → Outcome
 push_answer f s ports refused =
     if not (is_inside (f.phase s.end.0 s.line.0)) then outcome.NotNow

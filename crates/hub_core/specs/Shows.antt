@@ -1,5 +1,5 @@
 -- What it means that the core shows a history: end by end what it keeps are the facts of that end.
-use Rattle.std.specs.Prelude.{◌≡◌, ℕ, ◌<◌, nat_lt, true, false, List, [], ◌++◌, length, slice_get, slice_index_or, Option, Some, None}
+use Rattle.std.specs.Prelude.{◌≡◌, ℕ, ◌<◌, nat_lt, true, false, List, [], ◌∷◌, ◌++◌, length, slice_get, slice_index_or, Option, Some, None}
 use Rattle.std.specs.List.{AllByRecursion}
 use Rattle.hub_envelope.specs.declared.envelope.Envelope.{Envelope}
 use Rattle.hub_core.specs.declared.agent.Agent.{Agent}
@@ -7,8 +7,11 @@ use Rattle.hub_core.specs.declared.line.Line.{Line}
 use Rattle.hub_core.specs.declared.line.Phase.TheVariants.{Out}
 use Rattle.hub_core.specs.declared.end.End.{End}
 use Rattle.hub_core.specs.declared.machine.Core.{Core}
+use Rattle.hub_core.specs.declared.step.Step.{Step}
+use Rattle.hub_core.specs.declared.outcome.Outcome.{Outcome}
 use Rattle.hub_core.specs.History.{History}
 use Rattle.hub_core.specs.Facts.{Facts, facts}
+use Rattle.hub_core.specs.Fits.{Fits}
 use Rattle.hub_core.specs.Sender.{count_in_queue}
 
 -- what is kept of a line; an end has the lines that it keeps and no other
@@ -66,3 +69,7 @@ pub record ShowsFacts (kept_agents : List Agent) (kept_ends : List End) (f : Fac
 -- the core's agents and ends are those of the history
 abbrev pub Shows : Core → History → Type 0
 Shows core h = ShowsFacts core.agents.items core.ends.items (facts h)
+
+-- After every history that the old core shows the outcome of the step fits, and the new core shows the longer history.
+abbrev pub FitsAndShows : Core → Core → Step → Outcome → Type 0
+FitsAndShows old new step o = (h : History) → Shows old h → Fits h (step, o) × Shows new (h ++ (step, o) ∷ [])

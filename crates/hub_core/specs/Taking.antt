@@ -22,7 +22,7 @@ pub record IsNext (f : Facts) (e : EndId) (v : Envelope) : Type 0 where
   pub epoch : v.epoch ≡ f.taker_stand e.0
   pub order : Prefix (by v.line.0 (f.taken e.0 ++ v ∷ [])) (by v.line.0 (f.accepted e.0))
 
--- the newest queue, and everything that was accepted was taken
+-- the taker stands at the newest queue, and everything that was accepted was taken
 pub record IsDrained (f : Facts) (e : EndId) : Type 0 where
   pub newest : f.taker_stand e.0 ≡ f.newest e.0
   pub all : (line : ℕ) → by line (f.taken e.0) ≡ by line (f.accepted e.0)
@@ -33,7 +33,7 @@ Serves f e (outcome.Got v) = IsNext f e v
 Serves f e outcome.Empty = IsDrained f e
 Serves f e _ = ⊥
 
--- closed, then with a running agent, then enabled
+-- A Take looks for a closed end, then for a running agent that has the end, then for an enabled queue.
 abbrev pub FitsTake : Facts → EndId → Outcome → Type 0
 FitsTake f e o =
     MatchBool (f.closed e.0) (o ≡ outcome.Closed)

@@ -6,7 +6,8 @@ use Rattle.hub_core.specs.declared.outcome.Outcome.{Outcome}
 use Rattle.hub_core.specs.declared.outcome.Outcome.TheVariants as outcome
 use Rattle.hub_core.specs.declared.machine.Core.{Core}
 
--- refusals, Empty, and Closed of a Start or a Take. An Enter that was turned back changes where its poster is.
+-- Refusals, Empty, and Closed of a Start or a Take change nothing. An Enter that was turned back changes where its
+-- poster is.
 abbrev pub changes_nothing : Action → Outcome → Bool
 changes_nothing a outcome.NotNow = true
 changes_nothing a outcome.NoMemory = true

@@ -1,30 +1,30 @@
 ghost use Rattle.std.specs.Prelude.{◌≡◌, ◌<◌, ◌+◌, ◌∷◌, [], length, slice_get, slice_set, slice_index_or, IfOk, OnOk, OnErr, Some, None, MatchOption, false, true, List};
 ghost use Rattle.hub_envelope.specs.declared.envelope.Envelope.{Envelope as EnvelopeValue};
 ghost use Rattle.hub_core.specs.Posting.{is_inside};
-ghost use Rattle.hub_core.specs.Kept.{enter_outcome, enter_end, leave_outcome, leave_end, put_end};
+ghost use Rattle.hub_core.specs.Kept.{enter_outcome, enter_end, leave_outcome, leave_end, put_end, taker_queue, with_taker_queue};
 
 use crate::limits::MAX_IN_QUEUE;
 use crate::line::{Line, Lines, Phase};
-use crate::outcome::{OutOfMemory, Outcome};
+use crate::outcome::Outcome;
 use crate::queues::Queues;
-use hub_envelope::{AgentId, EndId, Envelope, LineId};
+use hub_envelope::{AgentId, EndId, Envelope, LineId, OutOfMemory};
 use std::alloc::{AllocError, Global};
 
 /// Where an end is (WHATWG HTML, "Transferable objects": a port that travels is with no agent).
 #[derive(Clone, Copy, Debug, PartialEq, Eq)]
 pub enum Place {
-    /// An agent has it.
+    /// An agent has the end.
     With(AgentId),
-    /// An accepted envelope that waits names it.
+    /// An accepted envelope that waits names the end.
     InFlight,
-    /// The envelope that named it was taken by the agent, which hasn't adopted it yet.
+    /// The envelope that named the end was taken by the agent, which hasn't adopted the end yet.
     Arrived(AgentId),
 }
 
 /// What the core keeps of an end.
 #[derive(Debug, Drop)]
 pub struct End {
-    /// The port that it is entangled with.
+    /// The port with which the end is entangled.
     pub(crate) peer: EndId,
     pub(crate) place: Place,
     pub(crate) is_closed: bool,
@@ -102,7 +102,8 @@ impl End {
         ensures { MatchOption result
             (MatchOption (slice_get self.now.lines line.0) (Unit {0})
             (λ y. y.epoch < length self.now.queues → is_inside y.phase ≡ false))
-            (λ y. (slice_get self.now.lines line.0 ≡ Some y) × (is_inside y.phase ≡ true) × (y.epoch < length self.now.queues)) }
+            (λ y. (slice_get self.now.lines line.0 ≡ Some y) × (is_inside y.phase ≡ true)
+            × (y.epoch < length self.now.queues)) }
     {
         let found = self.lines.get(line)?;
         let has_queue = (found.epoch as usize) < self.queues.count();
@@ -113,7 +114,7 @@ impl End {
         }
     }
 
-    /// Puts an envelope last in the queue at which its line stands. An `Err` changes nothing.
+    /// Puts an envelope last in the queue at which its line stands.
     pub(crate) fn put(&mut self, found: Line, envelope: Envelope) -> Result<(), OutOfMemory>
         requires { found.epoch < length self.old.queues }
         ensures ok { OnOk result (self.new ≡ put_end self.old found envelope) }
@@ -132,10 +133,10 @@ impl End {
     /// Takes the first envelope of the taker's queue.
     pub(crate) fn take(&mut self) -> Option<Envelope>
         ensures { MatchOption result
-            ((self.old.taker_epoch < length self.old.queues → slice_index_or self.old.queues self.old.taker_epoch [] ≡ [])
+            ((self.old.taker_epoch < length self.old.queues → taker_queue self.old ≡ [])
             × (self.new ≡ self.old))
-            (λ v. (rest : List EnvelopeValue) × (slice_index_or self.old.queues self.old.taker_epoch [] ≡ v ∷ rest)
-            × (self.new ≡ record self.old { queues = slice_set self.old.queues self.old.taker_epoch rest })) }
+            (λ v. (rest : List EnvelopeValue) × (taker_queue self.old ≡ v ∷ rest)
+            × (self.new ≡ with_taker_queue self.old rest)) }
     {
         if (self.taker_epoch as usize) < self.queues.count() {
             self.queues.take(self.taker_epoch)

@@ -21,11 +21,11 @@ mod taking;
 #[cfg(test)]
 mod tests;
 
-pub use hub_envelope::MAX_PORTS;
+pub use hub_envelope::{MAX_PORTS, OutOfMemory};
 pub use laws::{history_laws, mailbox_laws, queue_laws};
-pub use limits::{MAX_AGENTS, MAX_ENDS};
+pub use limits::{MAX_AGENTS, MAX_ENDS, MAX_LINES};
 pub use machine::Core;
-pub use outcome::{Accepted, OutOfMemory, Outcome};
+pub use outcome::{Acceptance, Outcome};
 pub use runs::run;
 pub use sender::Sender;
 pub use step::{Action, Step};

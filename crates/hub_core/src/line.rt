@@ -9,7 +9,7 @@ use std::marker::Model;
 pub enum Phase {
     Out,
     Inside,
-    /// It found a flag at the gate and hasn't left yet.
+    /// The poster found a flag at the gate and hasn't left yet.
     Turned,
 }
 
@@ -67,9 +67,8 @@ impl Lines {
     pub(crate) fn set(&mut self, line: LineId, value: Line)
         ensures { self.new ≡ slice_set self.old line.0 value }
     {
-        let at = line.0 as usize;
-        if at < self.lines.len() {
-            self.lines[at] = value;
+        if let Some(kept) = self.lines.get_mut(line.0 as usize) {
+            *kept = value;
         }
     }
 }

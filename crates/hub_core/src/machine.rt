@@ -1,17 +1,17 @@
-ghost use Rattle.std.specs.Prelude.{◌≡◌, [], ◌∷◌, ◌++◌, true, slice_get, option_map, IfOk, OnErr};
+ghost use Rattle.std.specs.Prelude.{◌≡◌, [], true, slice_get, option_map, IfOk, OnErr};
 ghost use Rattle.hub_core.specs.Kept.{kept_running, kept_holder, kept_poster};
 ghost use Rattle.hub_core.specs.History.{History};
 ghost use Rattle.hub_core.specs.Made.{line_of_port};
-ghost use Rattle.hub_core.specs.Fits.{Fits};
-ghost use Rattle.hub_core.specs.Shows.{Shows};
+ghost use Rattle.hub_core.specs.Memory.{takes_memory};
+ghost use Rattle.hub_core.specs.Shows.{Shows, FitsAndShows};
 ghost use Rattle.hub_core.specs.Unchanged.{changes_nothing, SameContent};
 
 use crate::agent::Agent;
 use crate::end::{End, Place};
-use crate::outcome::{OutOfMemory, Outcome};
+use crate::outcome::Outcome;
 use crate::sender::Sender;
 use crate::step::{Action, Step};
-use hub_envelope::{AgentId, EndId, LineId};
+use hub_envelope::{AgentId, EndId, LineId, OutOfMemory};
 use std::alloc::Global;
 
 /// The hub as a machine: its agents and ends, changed one step at a time.
@@ -23,7 +23,7 @@ pub struct Core {
 }
 
 impl Core {
-    /// A hub with no agent and no end. It takes no memory.
+    /// A hub with no agent and no end, which takes no memory.
     pub fn new(alloc: Global) -> Core
         ensures { Shows result [] }
     {
@@ -35,12 +35,14 @@ impl Core {
     }
 
     /// Takes a step, in time that doesn't grow with the number of ends, lines and waiting envelopes
-    /// beyond what a growing list costs. After an `Err` the core is unchanged.
+    /// beyond what a growing list costs. An `Err` says that memory can't be had, or that a line
+    /// has put 2^62 envelopes in its queue.
     pub fn step(&mut self, step: Step) -> Result<Outcome, OutOfMemory>
-        // After every history that the core shows the outcome fits, and the core shows the longer one.
-        ensures fits { IfOk result (λ o. (h : History) → Shows self.old h → Fits h (step, o) × Shows self.new (h ++ (step, o) ∷ [])) }
-        ensures unchanged { IfOk result (λ o. changes_nothing step.action o ≡ true → SameContent self.old self.new) }
+        ensures fits { IfOk result (λ o. FitsAndShows self.old self.new step o) }
+        ensures unchanged { IfOk result (λ o. changes_nothing step.action o ≡ true
+            → SameContent self.old self.new) }
         ensures err { OnErr result (SameContent self.old self.new) }
+        ensures memory { OnErr result (takes_memory step.action ≡ true) }
     {
         let Step {
             action,
@@ -66,7 +68,8 @@ impl Core {
     }
 
     fn line_held_by(&self, port: EndId) -> Option<Sender>
-        ensures { result ≡ option_map (λ x. record { end = x.peer; line = record { 0 = 0 } }) (slice_get self.now.ends.items port.0) }
+        ensures { result ≡ option_map (λ x. record { end = x.peer; line = record { 0 = 0 } })
+            (slice_get self.now.ends.items port.0) }
     {
         let end = self.ends.get(port.0 as usize)?;
         Some(Sender {

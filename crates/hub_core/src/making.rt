@@ -5,13 +5,15 @@ use crate::agent::Agent;
 use crate::end::End;
 use crate::limits::{MAX_AGENTS, MAX_ENDS};
 use crate::machine::Core;
-use crate::outcome::{OutOfMemory, Outcome};
-use hub_envelope::{AgentId, EndId};
+use crate::outcome::Outcome;
+use hub_envelope::{AgentId, EndId, OutOfMemory};
 
 impl Core {
     pub(crate) fn make_agent(&mut self, memory_refused: bool) -> Result<Outcome, OutOfMemory>
-        ensures outcome { IfOk result (λ o. o ≡ kept_agent_answer (length self.old.agents.items) memory_refused) }
-        ensures agents { IfOk result (λ o. self.new.agents.items ≡ agents_made self.old.agents.items o) }
+        ensures outcome { IfOk result (λ o. o
+            ≡ kept_agent_answer (length self.old.agents.items) memory_refused) }
+        ensures agents { IfOk result (λ o. self.new.agents.items
+            ≡ agents_made self.old.agents.items o) }
         ensures err { OnErr result (self.new.agents.items ≡ self.old.agents.items) }
         ensures ends { self.new.ends ≡ self.old.ends }
     {
@@ -31,9 +33,11 @@ impl Core {
         agent: AgentId,
         memory_refused: bool,
     ) -> Result<Outcome, OutOfMemory>
-        ensures outcome { IfOk result (λ o. o ≡ kept_channel_answer
-            (kept_running self.old.agents.items agent.0) (length self.old.ends.items) memory_refused) }
-        ensures ends { IfOk result (λ o. self.new.ends.items ≡ ends_made agent self.old.ends.items o) }
+        ensures outcome { let runs = kept_running self.old.agents.items agent.0 in
+            let count = length self.old.ends.items in
+            IfOk result (λ o. o ≡ kept_channel_answer runs count memory_refused) }
+        ensures ends { IfOk result (λ o. self.new.ends.items
+            ≡ ends_made agent self.old.ends.items o) }
         ensures err { OnErr result (self.new.ends.items ≡ self.old.ends.items) }
         ensures agents { self.new.agents ≡ self.old.agents }
     {

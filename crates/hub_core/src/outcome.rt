@@ -1,10 +1,8 @@
 use hub_envelope::{AgentId, EndId, Envelope};
-use std::alloc::{AllocError, AllocFailed};
-use thiserror::Error;
 
 /// The part of an accepted envelope's name that its `Push` doesn't say.
 #[derive(Clone, Copy, Debug, PartialEq, Eq)]
-pub struct Accepted {
+pub struct Acceptance {
     /// The agent that posted.
     pub agent: AgentId,
     /// The queue of the end.
@@ -35,7 +33,7 @@ pub enum Outcome {
     /// The line's queue is retired. The poster is being turned back.
     Moved,
     /// The envelope is the last of its queue.
-    Accepted(Accepted),
+    Accepted(Acceptance),
     /// The list has more than `MAX_PORTS` ports. Nothing changed.
     TooManyPorts,
     /// The poster is out.
@@ -48,21 +46,4 @@ pub enum Outcome {
     Empty,
     /// The queue isn't enabled. Nothing changed.
     Disabled,
-}
-
-/// Memory was really refused; what was asked for is as it was before.
-#[derive(Clone, Copy, Debug, PartialEq, Eq, Drop, Error)]
-#[error("out of memory")]
-pub struct OutOfMemory;
-
-impl From<AllocError> for OutOfMemory {
-    fn from(_error: AllocError) -> OutOfMemory {
-        OutOfMemory
-    }
-}
-
-impl<T: Drop> From<AllocFailed<T>> for OutOfMemory {
-    fn from(_error: AllocFailed<T>) -> OutOfMemory {
-        OutOfMemory
-    }
 }

@@ -1,40 +1,42 @@
-ghost use Rattle.std.specs.Prelude.{◌≡◌, ◌<◌, ◌≤◌, ◌∷◌, [], length, slice_get, slice_set, IfOk, OnOk, OnErr, IfSome};
-ghost use Rattle.hub_core.specs.Kept.{kept_poster, enter_outcome_at, enter_ends_at, leave_outcome_at, leave_ends_at, kept_posting, kept_good, kept_may_travel, put_end, push_outcome, PushLeaves, Moves};
-ghost use Rattle.hub_core.specs.Accepted.{named_envelope};
+ghost use Rattle.std.specs.Prelude.{◌≡◌, ◌<◌, ◌≤◌, ◌∷◌, [], length, slice_get, IfOk, OnOk, OnErr};
+ghost use Rattle.hub_core.specs.Kept.{kept_poster, enter_outcome_at, enter_ends_at, leave_outcome_at, leave_ends_at, kept_posting, kept_good, kept_may_travel, push_outcome, HasQueue, AcceptLeaves, PushLeaves, Moves};
 
 use crate::end::Place;
 use crate::line::{Line, Phase};
 use crate::machine::Core;
-use crate::outcome::{Accepted, OutOfMemory, Outcome};
+use crate::outcome::{Acceptance, Outcome};
 use crate::sender::Sender;
-use hub_envelope::{AgentId, Body, EndId, Envelope, LineId, MAX_PORTS, Ports};
+use hub_envelope::{AgentId, Body, EndId, Envelope, LineId, MAX_PORTS, OutOfMemory, Ports};
 
 impl Core {
     pub(crate) fn enter(&mut self, sender: Sender) -> Outcome
         ensures outcome { let ends = self.old.ends.items in
-            result ≡ enter_outcome_at (kept_poster self.old.agents.items ends sender) sender.line.0 (slice_get ends sender.end.0) }
+            let poster = kept_poster self.old.agents.items ends sender in
+            result ≡ enter_outcome_at poster sender.line.0 (slice_get ends sender.end.0) }
         ensures ends { let ends = self.old.ends.items in
-            self.new.ends.items ≡ enter_ends_at (kept_poster self.old.agents.items ends sender) sender ends (slice_get ends sender.end.0) }
+            let poster = kept_poster self.old.agents.items ends sender in
+            self.new.ends.items ≡ enter_ends_at poster sender ends (slice_get ends sender.end.0) }
         ensures agents { self.new.agents ≡ self.old.agents }
     {
-        let at = sender.end.0 as usize;
-        if at >= self.ends.len() || self.poster_of(sender).is_none() {
+        if self.poster_of(sender).is_none() {
             return Outcome::NotNow;
         }
-        let end = &mut self.ends[at];
+        let Some(end) = self.ends.get_mut(sender.end.0 as usize) else {
+            return Outcome::NotNow;
+        };
         end.enter(sender.line)
     }
 
     pub(crate) fn leave(&mut self, sender: Sender) -> Outcome
-        ensures outcome { result ≡ leave_outcome_at sender.line.0 (slice_get self.old.ends.items sender.end.0) }
-        ensures ends { self.new.ends.items ≡ leave_ends_at sender self.old.ends.items (slice_get self.old.ends.items sender.end.0) }
+        ensures outcome { let ends = self.old.ends.items in
+            result ≡ leave_outcome_at sender.line.0 (slice_get ends sender.end.0) }
+        ensures ends { let ends = self.old.ends.items in
+            self.new.ends.items ≡ leave_ends_at sender ends (slice_get ends sender.end.0) }
         ensures agents { self.new.agents ≡ self.old.agents }
     {
-        let at = sender.end.0 as usize;
-        if at >= self.ends.len() {
+        let Some(end) = self.ends.get_mut(sender.end.0 as usize) else {
             return Outcome::NotNow;
-        }
-        let end = &mut self.ends[at];
+        };
         end.leave(sender.line)
     }
 
@@ -45,18 +47,21 @@ impl Core {
         body: Body,
         memory_refused: bool,
     ) -> Result<Outcome, OutOfMemory>
-        ensures outcome { IfOk result (λ o. o ≡ push_outcome
-            (kept_posting self.old.agents.items self.old.ends.items sender ports.items memory_refused)) }
-        ensures ends { OnOk result (PushLeaves sender ports.items body self.old.ends.items
-            (kept_posting self.old.agents.items self.old.ends.items sender ports.items memory_refused)
-            self.new.ends.items) }
+        ensures outcome { let agents = self.old.agents.items in
+            let ends = self.old.ends.items in
+            let posting = kept_posting agents ends sender ports.items memory_refused in
+            IfOk result (λ o. o ≡ push_outcome posting) }
+        ensures ends { let agents = self.old.agents.items in
+            let ends = self.old.ends.items in
+            let posting = kept_posting agents ends sender ports.items memory_refused in
+            OnOk result (PushLeaves sender ports.items body ends posting self.new.ends.items) }
         ensures err { OnErr result (self.new.ends.items ≡ self.old.ends.items) }
         ensures agents { self.new.agents ≡ self.old.agents }
     {
         match self.posting(sender, &ports, memory_refused) {
             Ok((line, agent)) => {
                 let ports = Ports::of_list(ports).unwrap();
-                let accepted = Accepted {
+                let accepted = Acceptance {
                     agent,
                     epoch: line.epoch,
                     number: line.put,
@@ -76,16 +81,15 @@ impl Core {
         ports: &[EndId],
         memory_refused: bool,
     ) -> Result<(Line, AgentId), Outcome>
-        ensures answer { result ≡ kept_posting self.now.agents.items self.now.ends.items sender ports.now memory_refused }
+        ensures answer { let ends = self.now.ends.items in
+            result ≡ kept_posting self.now.agents.items ends sender ports.now memory_refused }
         ensures few { OnOk result (length ports.now ≤ MAX_PORTS) }
         ensures there { IfOk result (λ p. (sender.end.0 < length self.now.ends.items)
-            × IfSome (slice_get self.now.ends.items sender.end.0) (λ x. p.0.epoch < length x.queues)) }
+            × HasQueue self.now.ends.items sender p.0) }
     {
-        let at = sender.end.0 as usize;
-        if at >= self.ends.len() {
+        let Some(end) = self.ends.get(sender.end.0 as usize) else {
             return Err(Outcome::NotNow);
-        }
-        let end = &self.ends[at];
+        };
         let Some(line) = end.line_inside(sender.line) else {
             return Err(Outcome::NotNow);
         };
@@ -104,21 +108,19 @@ impl Core {
         Ok((line, agent))
     }
 
-    /// Puts an envelope on a line, and its ports in flight. An `Err` changes nothing.
+    /// Puts an envelope on a line, and its ports in flight.
     fn accept(
         &mut self,
         sender: Sender,
         line: Line,
-        accepted: Accepted,
+        accepted: Acceptance,
         ports: Ports,
         body: Body,
     ) -> Result<(), OutOfMemory>
         requires there { sender.end.0 < length self.old.ends.items }
-        requires queue { IfSome (slice_get self.old.ends.items sender.end.0) (λ x. line.epoch < length x.queues) }
-        ensures ok { OnOk result (IfSome (slice_get self.old.ends.items sender.end.0) (λ x.
-            Moves ports Place.InFlight
-            (slice_set self.old.ends.items sender.end.0 (put_end x line (named_envelope sender accepted body ports)))
-            self.new.ends.items)) }
+        requires queue { HasQueue self.old.ends.items sender line }
+        ensures ok { OnOk result (AcceptLeaves sender ports body self.old.ends.items line accepted
+            self.new.ends.items) }
         ensures err { OnErr result (self.new.ends.items ≡ self.old.ends.items) }
         ensures agents { self.new.agents ≡ self.old.agents }
     {
@@ -185,9 +187,8 @@ impl Core {
         ensures ends { Moves (port ∷ []) place self.old.ends.items self.new.ends.items }
         ensures agents { self.new.agents ≡ self.old.agents }
     {
-        let at = port.0 as usize;
-        if at < self.ends.len() {
-            self.ends[at].place = place;
+        if let Some(end) = self.ends.get_mut(port.0 as usize) {
+            end.place = place;
         }
     }
 }

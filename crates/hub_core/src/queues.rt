@@ -7,25 +7,25 @@ use std::marker::Model;
 
 /// The waiting envelopes of a queue, in order of acceptance.
 #[derive(Debug, Drop)]
-struct Queue {
-    waiting: VecDeque<Envelope>,
+struct Waiting {
+    envelopes: VecDeque<Envelope>,
 }
 
-impl Model for Queue {
+impl Model for Waiting {
     ghost use Rattle.std.specs.Prelude.{List};
     ghost use Rattle.hub_envelope.specs.declared.envelope.Envelope.{Envelope};
 
     ghost Value = { List Envelope };
 
-    ghost view = { λ q. q.waiting.items };
+    ghost view = { λ w. w.envelopes.items };
 }
 
-impl Queue {
-    fn new(alloc: Global) -> Queue
+impl Waiting {
+    fn none(alloc: Global) -> Waiting
         ensures { result ≡ [] }
     {
-        Queue {
-            waiting: VecDeque::new(alloc),
+        Waiting {
+            envelopes: VecDeque::new(alloc),
         }
     }
 
@@ -33,21 +33,22 @@ impl Queue {
         ensures ok { OnOk result (self.new ≡ self.old ++ envelope ∷ []) }
         ensures err { OnErr result (self.new ≡ self.old) }
     {
-        self.waiting.push_back(envelope)?;
+        self.envelopes.push_back(envelope)?;
         Ok(())
     }
 
     fn take(&mut self) -> Option<Envelope>
-        ensures { MatchOption result ((self.old ≡ []) × (self.new ≡ [])) (λ envelope. self.old ≡ envelope ∷ self.new) }
+        ensures { MatchOption result ((self.old ≡ []) × (self.new ≡ []))
+            (λ envelope. self.old ≡ envelope ∷ self.new) }
     {
-        self.waiting.pop_front()
+        self.envelopes.pop_front()
     }
 }
 
 /// The queues of an end, by epoch.
 #[derive(Debug, Drop)]
 pub struct Queues {
-    queues: Vec<Queue>,
+    queues: Vec<Waiting>,
 }
 
 impl Model for Queues {
@@ -65,7 +66,7 @@ impl Queues {
         ensures { IfOk result (λ queues. queues ≡ [] ∷ []) }
     {
         let mut queues = Vec::with_capacity(alloc, 1)?;
-        queues.push(Queue::new(alloc))?;
+        queues.push(Waiting::none(alloc))?;
         Ok(Queues { queues })
     }
 
@@ -92,8 +93,9 @@ impl Queues {
         requires { epoch < length self.old }
         ensures { MatchOption result
             ((slice_index_or self.old epoch [] ≡ []) × (self.new ≡ self.old))
-            (λ envelope. (slice_index_or self.old epoch [] ≡ envelope ∷ slice_index_or self.new epoch [])
-            × (self.new ≡ slice_set self.old epoch (slice_index_or self.new epoch []))) }
+            (λ envelope. let rest = slice_index_or self.new epoch [] in
+            (slice_index_or self.old epoch [] ≡ envelope ∷ rest)
+            × (self.new ≡ slice_set self.old epoch rest)) }
     {
         let queue = &mut self.queues[epoch as usize];
         queue.take()

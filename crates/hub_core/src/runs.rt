@@ -4,16 +4,17 @@ ghost use Rattle.hub_core.specs.Legal.{Legal};
 ghost use Rattle.hub_core.specs.Headline.{Headline};
 
 use crate::machine::Core;
-use crate::outcome::{OutOfMemory, Outcome};
+use crate::outcome::Outcome;
 use crate::step::Step;
+use hub_envelope::OutOfMemory;
 use std::alloc::Global;
 
-/// Takes the steps in order, from a hub with no agent and no end. Answered `Ok` there is one outcome
-/// for each step.
+/// Takes the steps in order, from a hub with no agent and no end, and stops at the first that is
+/// answered `Err`.
 pub fn run(alloc: Global, steps: Vec<Step>) -> Result<Vec<Outcome>, OutOfMemory>
     ensures each { IfOk result (λ outcomes. length outcomes.items ≡ length steps.items) }
     ensures legal { IfOk result (λ outcomes. Legal (zip steps.items outcomes.items)) }
-    // So it keeps what every legal history keeps.
+    // Every legal history keeps the headline.
     ensures headline { IfOk result (λ outcomes. Headline (zip steps.items outcomes.items)) }
 {
     let mut core = Core::new(alloc);

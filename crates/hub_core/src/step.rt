@@ -10,7 +10,7 @@ pub enum Action {
     Channel(AgentId),
     /// A poster passes the gate of its line's queue, or is turned back there.
     Enter(Sender),
-    /// A poster that is inside puts a body there, with the ports that travel along.
+    /// A poster that is inside a queue puts a body in it, with the ports that travel along.
     Push(Sender, Vec<EndId>, Body),
     /// A poster leaves, or has turned back.
     Leave(Sender),

@@ -9,16 +9,18 @@ use hub_envelope::EndId;
 impl Core {
     pub(crate) fn start(&mut self, end: EndId) -> Outcome
         ensures outcome { let ends = self.old.ends.items in
-            result ≡ start_outcome (kept_holder self.old.agents.items ends end.0) (slice_get ends end.0) }
+            let holder = kept_holder self.old.agents.items ends end.0 in
+            result ≡ start_outcome holder (slice_get ends end.0) }
         ensures ends { let ends = self.old.ends.items in
-            self.new.ends.items ≡ start_ends (kept_holder self.old.agents.items ends end.0) end.0 ends (slice_get ends end.0) }
+            let holder = kept_holder self.old.agents.items ends end.0 in
+            self.new.ends.items ≡ start_ends holder end.0 ends (slice_get ends end.0) }
         ensures agents { self.new.agents ≡ self.old.agents }
     {
         let at = end.0 as usize;
-        if at >= self.ends.len() {
+        let Some(found) = self.ends.get(at) else {
             return Outcome::NotNow;
-        }
-        if self.ends[at].is_closed {
+        };
+        if found.is_closed {
             return Outcome::Closed;
         }
         if self.running_holder(end).is_none() {
@@ -30,20 +32,21 @@ impl Core {
 
     pub(crate) fn take(&mut self, end: EndId) -> Outcome
         ensures ends { let ends = self.old.ends.items in
-            TakeLeaves (kept_holder self.old.agents.items ends end.0) end.0 ends (slice_get ends end.0) result self.new.ends.items }
+            let holder = kept_holder self.old.agents.items ends end.0 in
+            TakeLeaves holder end.0 ends (slice_get ends end.0) result self.new.ends.items }
         ensures agents { self.new.agents ≡ self.old.agents }
     {
         let at = end.0 as usize;
-        if at >= self.ends.len() {
+        let Some(found) = self.ends.get(at) else {
             return Outcome::NotNow;
-        }
-        if self.ends[at].is_closed {
+        };
+        if found.is_closed {
             return Outcome::Closed;
         }
         let Some(agent) = self.running_holder(end) else {
             return Outcome::NotNow;
         };
-        if !self.ends[at].is_enabled {
+        if !found.is_enabled {
             return Outcome::Disabled;
         }
         let served = &mut self.ends[at];

@@ -81,7 +81,9 @@ fn runs_posts_and_takes(rt: HostRuntime) -> Result<(), Fail> {
     let words = outcomes_of(&rt, alloc, steps)?;
     assert_eq!(rt;
         words.as_str(),
-        "Agent(AgentId(0)); Ends(EndId(0), EndId(1)); In; NoMemory; Accepted(Accepted { agent: AgentId(0), epoch: 0, number: 0 }); Left; Disabled; Started; Got 0 7 with; Empty; "
+        "Agent(AgentId(0)); Ends(EndId(0), EndId(1)); In; NoMemory; \
+         Accepted(Acceptance { agent: AgentId(0), epoch: 0, number: 0 }); Left; Disabled; \
+         Started; Got 0 7 with; Empty; "
     );
     Ok(())
 }
@@ -108,7 +110,10 @@ fn sends_ports(rt: HostRuntime) -> Result<(), Fail> {
     let words = outcomes_of(&rt, alloc, steps)?;
     assert_eq!(rt;
         words.as_str(),
-        "Agent(AgentId(0)); Ends(EndId(0), EndId(1)); Ends(EndId(2), EndId(3)); Started; In; NotNow; NotNow; NotNow; NotNow; TooManyPorts; Accepted(Accepted { agent: AgentId(0), epoch: 0, number: 0 }); NotNow; Got 0 7 with 3 2; NotNow; "
+        "Agent(AgentId(0)); Ends(EndId(0), EndId(1)); Ends(EndId(2), EndId(3)); Started; In; \
+         NotNow; NotNow; NotNow; NotNow; TooManyPorts; \
+         Accepted(Acceptance { agent: AgentId(0), epoch: 0, number: 0 }); NotNow; \
+         Got 0 7 with 3 2; NotNow; "
     );
     Ok(())
 }

@@ -11,8 +11,8 @@ use std::sync::{Mutex, Wait};
 /// Values under their names, which threads share.
 ///
 /// Each call is the call of that name on the `Kept` behind the lock, under one taking of the lock.
-/// Which values are kept at that moment no contract of these calls can say, since another thread may
-/// act between any two of them.
+/// Which values are kept at that moment no contract of these calls can say, since another thread
+/// may act between any two of them.
 #[derive(Drop)]
 pub struct Depot<V: Named> {
     kept: Mutex<Kept<V>>,
@@ -28,8 +28,8 @@ impl<V: Named> Depot<V> {
 
     /// Keeps a value under its name: `Kept::put` under the lock.
     ///
-    /// `Taken` where a value of that name was kept, else `OutOfMemory` where there was no memory. After
-    /// either what is kept is as it was.
+    /// `Taken` where a value of that name was kept, else `OutOfMemory` where there was no memory.
+    /// After either what is kept is as it was.
     pub fn put(&self, rt: &impl Wait, value: V) -> Result<(), DepotError<V>>
         ensures { IfErr result (λ e. refused_value e ≡ value) }
     {

@@ -49,7 +49,8 @@ impl<V: Named> Kept<V> {
     pub fn put(&mut self, value: V) -> Result<(), DepotError<V>>
         ensures ok { OnOk result (self.new ≡ map.insert self.old (V.name value) value) }
         ensures free { OnOk result (IsNone (map.get self.old (V.name value))) }
-        ensures taken { IsErrOf result (DepotError.Taken value) ↔ IsSome (map.get self.old (V.name value)) }
+        ensures taken { IsErrOf result (DepotError.Taken value)
+            ↔ IsSome (map.get self.old (V.name value)) }
         ensures given_back { IfErr result (λ e. refused_value e ≡ value) }
         ensures err { OnErr result (self.new ≡ self.old) }
     {

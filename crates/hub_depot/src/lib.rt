@@ -1,8 +1,8 @@
 //! Values kept under their names, behind a lock.
 //!
-//! A value that has left one place of the hub and has not yet reached the next waits in a depot under
-//! the name that it bears: the number of an end, of a queue of that end and of a line. `Kept` is the
-//! map itself, and `Depot` the same calls on a map that threads share.
+//! A value that has left one place of the hub and has not yet reached the next waits in a depot
+//! under the name that it bears: the number of an end, of a queue of that end and of a line. `Kept`
+//! is the map itself, and `Depot` the same calls on a map that threads share.
 #![tactic(auto)]
 
 mod depot;

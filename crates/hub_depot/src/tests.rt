@@ -95,10 +95,63 @@ fn one_value_a_name(rt: HostRuntime) -> Result<(), Fail> {
     Ok(())
 }
 
-/// With `rt try --test --fail-alloc N` the Nth allocation is refused: the put that asked for it gives
-/// its value back, and what was kept before it and after it is there.
+/// Names with the least and the greatest numbers.
 #[test]
-fn refused_put_changes_nothing(rt: HostRuntime) -> Result<(), Fail> {
+fn keeps_names_at_the_ends_of_their_ranges(rt: HostRuntime) {
+    let depot = Depot::new(rt.alloc());
+    let numbers = [
+        (0, 0, 0),
+        (0, 0, 255),
+        (0, u32::MAX, 0),
+        (u32::MAX, 0, 0),
+        (u32::MAX, u32::MAX, 255),
+    ];
+    for (number, (end, epoch, line)) in (0u32..).zip(numbers) {
+        let name = Key {
+            end: EndId(end),
+            epoch,
+            line: LineId(line),
+        };
+        assert!(rt; depot.put(&rt, Ticket { name, number }).is_ok());
+    }
+    for (number, (end, epoch, line)) in (0u32..).zip(numbers) {
+        let name = Key {
+            end: EndId(end),
+            epoch,
+            line: LineId(line),
+        };
+        assert_eq!(rt; depot.take(&rt, name), Some(Ticket { name, number }));
+    }
+}
+
+/// It passes whichever allocation is refused: that put gives its value back as `OutOfMemory`, and
+/// what was put before and after it is found.
+#[test]
+fn depot_keeps_whichever_allocation_is_refused(rt: HostRuntime) {
+    let depot = Depot::new(rt.alloc());
+    for number in 0..60 {
+        match depot.put(&rt, Ticket::numbered(number)) {
+            Ok(()) => {}
+            Err(DepotError::OutOfMemory(back)) => {
+                assert_eq!(rt; back, Ticket::numbered(number));
+                assert!(rt; depot.put(&rt, back).is_ok());
+            }
+            Err(DepotError::Taken(_)) => panic!(rt; "the name is free"),
+        }
+    }
+    for number in 0..60 {
+        assert_eq!(rt;
+            depot.take(&rt, key(number)),
+            Some(Ticket::numbered(number))
+        );
+    }
+    assert_eq!(rt; depot.take_any(&rt), None);
+}
+
+/// It passes whichever allocation is refused: the put that asked for it gives its value back, and
+/// what was kept before it and after it is there.
+#[test]
+fn kept_changes_nothing_whichever_allocation_is_refused(rt: HostRuntime) -> Result<(), Fail> {
     let mut kept = Kept::new(rt.alloc());
     let mut refused = None;
     for number in 0..60 {

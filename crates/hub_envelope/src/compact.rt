@@ -9,8 +9,9 @@ use crate::limits::MAX_NESTING;
 /// A whole number of so many digits fits in `i64`.
 const MAX_DIGITS: usize = 18;
 
-/// Whether the text is recognised as the compact text of a value of the profile, its length aside. No
-/// says nothing: texts with an escape in a key or with a longer number, among others, aren't recognised.
+/// Whether the text is recognised as the compact text of a value of the profile, its length aside.
+/// No says nothing: texts with an escape in a key or with a longer number, among others, aren't
+/// recognised.
 pub(crate) fn is_compact(text: &[u8]) -> bool
     ensures { IsTrue result → IsCompact text.now }
 {
@@ -20,8 +21,8 @@ pub(crate) fn is_compact(text: &[u8]) -> bool
     }
 }
 
-/// What stands behind the value at the front, in which arrays and objects nest at most `levels` deep.
-/// Here and below, None says that no such thing was recognised.
+/// What stands behind the value at the front, in which arrays and objects nest at most `levels`
+/// deep. Here and below, None says that no such thing was recognised.
 #[cycle(after_value)]
 fn after_value(text: &[u8], levels: usize) -> Option<&[u8]>
     ensures { IfSome result (λ rest. IsFront levels text.now rest.now) }
@@ -106,8 +107,8 @@ fn member_key(text: &[u8]) -> Option<(&[u8], &[u8])>
     Some((key, value))
 }
 
-/// What stands behind the string of which the first quote stands before the text. Bytes that need an
-/// escape have their short one.
+/// What stands behind the string of which the first quote stands before the text. Bytes that need
+/// an escape have their short one.
 fn after_string(text: &[u8]) -> Option<&[u8]>
     ensures { IfSome result (λ rest. IsFront 0 (34 ∷ text.now) rest.now) }
 {

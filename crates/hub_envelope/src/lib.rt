@@ -20,3 +20,4 @@ pub use envelope::{Draft, Envelope};
 pub use ids::{AgentId, EndId, LineId};
 pub use limits::{MAX_BODY_BYTES, MAX_NESTING, MAX_PORTS};
 pub use ports::Ports;
+pub use std::alloc::AllocError as OutOfMemory;

@@ -199,10 +199,9 @@ fn limits_nesting_and_length(rt: HostRuntime) -> Result<(), Fail> {
     Ok(())
 }
 
-/// With every allocation at hand the answer is the text's own; `rt try --test --fail-alloc N`
-/// refuses the Nth, and then no other answer but want of memory is right.
+/// It passes whichever allocation is refused: then no other answer but want of memory is right.
 #[test]
-fn answers_right_or_out_of_memory(rt: HostRuntime) {
+fn answers_right_whichever_allocation_is_refused(rt: HostRuntime) {
     for (text, want) in [
         (
             "{\"b\":[\"x\",-1,{\"c\":null}],\"a\":\"\\u00e9\"}",

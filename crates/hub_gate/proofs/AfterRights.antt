@@ -1,7 +1,7 @@
 -- Once the rights of a gate were given, no line is inside it and none is let in.
 use Rattle.std.proofs.Common.{◌≡◌, ℕ, ◌||◌, Bool, true, false, true≢false, refl, sym, ◌∙◌}
 use Rattle.hub_core.specs.declared.line.Phase.TheVariants.{Inside}
-use Rattle.hub_core.specs.GateMachine.{Gate, is_shut, Answer, lets_in, Steps, finds_moved, finds_closed, goes_in, goes_out, turns_back, enables, retires, closes, gave, is_open, is_busy, gives, Reached, goes_on}
+use Rattle.hub_core.specs.GateMachine.{Gate, is_shut, Answer, lets_in, Steps, goes_in, gives, Reached, goes_on}
 use Rattle.hub_gate.specs.AfterRights.{Follows, stays, goes_further, IsOver, IsOverFrom}
 use Rattle.hub_gate.proofs.Formed.{formed}
 
@@ -12,33 +12,13 @@ module _ {R : Type 0} (owns : ℕ → R → Type 0) where
   Admits g _ = Unit {0}
 
   admits : (g g' : Gate R) {event : _} {answer : _} → Steps owns g event answer g' → Admits g answer
-  admits g g' (finds_moved l at m) = tt
-  admits g g' (finds_closed l at m c) = tt
   admits g g' (goes_in l r at m c there) = λ i. m i || c i
-  admits g g' (goes_out l r at own) = tt
-  admits g g' (turns_back l at) = tt
-  admits g g' enables = tt
-  admits g g' retires = tt
-  admits g g' closes = tt
-  admits g g' (gave c) = tt
-  admits g g' (is_open c s) = tt
-  admits g g' (is_busy c s b) = tt
-  admits g g' (gives rights c s b h) = tt
+  admits g g' _ = tt
 
   -- rights that were given stay so
   stay_given : (g g' : Gate R) {event : _} {answer : _} → Steps owns g event answer g' → g.collected ≡ true → g'.collected ≡ true
-  stay_given g g' (finds_moved l at m) is = is
-  stay_given g g' (finds_closed l at m c) is = is
-  stay_given g g' (goes_in l r at m c there) is = is
-  stay_given g g' (goes_out l r at own) is = is
-  stay_given g g' (turns_back l at) is = is
-  stay_given g g' enables is = is
-  stay_given g g' retires is = is
-  stay_given g g' closes is = is
-  stay_given g g' (gave c) is = is
-  stay_given g g' (is_open c s) is = is
-  stay_given g g' (is_busy c s b) is = is
   stay_given g g' (gives rights c s b h) is = refl
+  stay_given g g' _ is = is
 
   pub over : (g : Gate R) → Reached owns g → g.collected ≡ true → IsOver owns g
   over g reached given =

@@ -3,15 +3,16 @@ use Rattle.std.proofs.Common.{◌≡◌, ℕ, ◌+◌, ◌*◌, List, sym, ◌�
 use Rattle.hub_core.specs.declared.line.Phase.{Phase}
 use Rattle.hub_core.specs.declared.line.Phase.TheVariants.{Out, Inside, Turned}
 use Rattle.hub_core.specs.GateMachine as machine
-use Rattle.hub_core.specs.GateMachine.{Gate, Steps, finds_moved, finds_closed, goes_in, goes_out, turns_back, enables, retires, closes, gave, is_open, is_busy, gives}
+use Rattle.hub_core.specs.GateMachine.{Gate, Steps, finds_moved, finds_closed, goes_in, goes_out, turns_back, enables, retires, closes}
+use Rattle.hub_gate.specs.declared.word.Flag.TheVariants as flag
 use Rattle.hub_gate.specs.declared.view.View.TheVariants.{Keeping, LineInside}
 use Rattle.hub_gate.specs.GateRule.{Owns}
 use Rattle.hub_gate.specs.GateLaws.{NoneInAfterRights, NoSeatInAfterRights, ChangesWord, EachStepChangesTheWord, TheWordShowsTheGate}
 use Rattle.hub_gate.proofs.AfterRights.{over, over_from}
+use Rattle.hub_gate.proofs.Found.{busy_le}
 use Rattle.hub_gate.proofs.Got.{sum_by-got_set}
-use Rattle.hub_gate.proofs.Lines.{busy_le}
 use Rattle.hub_gate.proofs.Seats.{shown_where}
-use Rattle.hub_gate.proofs.Words.{or_enabled, or_moved, or_closed, reads_enabled, reads_moved, reads_closed, reads_count}
+use Rattle.hub_gate.proofs.Words.{or_flag, reads_flag, reads_count}
 
 pub none_in : {T : Type 0} (tag : T → List ℕ) → NoneInAfterRights tag
 none_in tag tags g later reached given follows = over_from (Owns tag tags) g reached given later follows
@@ -21,7 +22,7 @@ no_seat_in tag s kept keeper seat k v at given there =
     let shown = shown_where tag s keeper (Keeping k) refl at kept in
     let own = shown.seats keeper (Keeping k) at in
     let line = shown.seats seat (LineInside v) there in
-    (over (Owns tag shown.tags) shown.gate shown.reached (sym own.collected ∙ given)).nobody v.line line.at
+    (over (Owns tag shown.tags) shown.gate shown.reached (sym own.shows.collected ∙ given)).nobody v.line line.at
 
 -- one line more or less in the word
 one_more : (F n m : ℕ) → m ≡ n + 1 → F + 256 * m ≡ F + 256 * n + 256
@@ -47,22 +48,19 @@ module _ {R : Type 0} (owns : ℕ → R → Type 0) (g : Gate R) where
   changes_word g' (goes_in l r at m c there) = word_up l Inside at refl
   changes_word g' (goes_out l r at own) = word_down l Inside at refl
   changes_word g' (turns_back l at) = word_down l Turned at refl
-  changes_word g' enables = sym (or_enabled g.enabled g.moved g.closed (machine.busy g))
-  changes_word g' retires = sym (or_moved g.enabled g.moved g.closed (machine.busy g))
-  changes_word g' closes = sym (or_closed g.enabled g.moved g.closed (machine.busy g))
-  changes_word g' (gave c) = refl
-  changes_word g' (is_open c s) = refl
-  changes_word g' (is_busy c s b) = refl
-  changes_word g' (gives rights c s b h) = refl
+  changes_word g' enables = sym (or_flag flag.Enabled g)
+  changes_word g' retires = sym (or_flag flag.Moved g)
+  changes_word g' closes = sym (or_flag flag.Closed g)
+  changes_word g' _ = refl
 
 pub each_step : {T : Type 0} (tag : T → List ℕ) → EachStepChangesTheWord tag
 each_step tag tags g after event answer step = changes_word (Owns tag tags) g after step
 
 pub word_shows : {T : Type 0} (tag : T → List ℕ) → TheWordShowsTheGate tag
 word_shows tag g = record {
-  enabled = reads_enabled g.enabled g.moved g.closed (machine.busy g);
-  moved = reads_moved g.enabled g.moved g.closed (machine.busy g);
-  closed = reads_closed g.enabled g.moved g.closed (machine.busy g);
+  enabled = reads_flag flag.Enabled g.enabled g.moved g.closed (machine.busy g);
+  moved = reads_flag flag.Moved g.enabled g.moved g.closed (machine.busy g);
+  closed = reads_flag flag.Closed g.enabled g.moved g.closed (machine.busy g);
   count = reads_count g.enabled g.moved g.closed (machine.busy g);
   at_most = busy_le g.phases;
 }

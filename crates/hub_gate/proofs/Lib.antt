@@ -1,10 +1,13 @@
 pub mod AfterRights
+pub mod Cases
 pub mod Emptying
 pub mod EveryGate
 pub mod Filling
 pub mod Flags
 pub mod Formed
+pub mod Found
 pub mod Got
+pub mod KeeperSteps
 pub mod Lines
 pub mod Looking
 pub mod Opening

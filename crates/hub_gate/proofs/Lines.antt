@@ -1,7 +1,6 @@
 -- Each step of a line keeps the rule of its gate.
-use Rattle.std.proofs.Common.{◌≡◌, ℕ, zero, suc, ◌+◌, ◌-◌, ◌%◌, ◌^◌, ◌<◌, ◌≤◌, ◌||◌, Bool, true, false, true≢false, List, [], ◌∷◌, map, length, set, get_or, refl, sym, ap, ◌∙◌, subst, inr, ⊎_elim, arith, length-set, Option, Some, None}
+use Rattle.std.proofs.Common.{◌≡◌, ℕ, zero, suc, ◌+◌, ◌-◌, ◌%◌, ◌^◌, ◌<◌, ◌||◌, Bool, true, false, true≢false, List, [], ◌∷◌, map, length, set, get_or, refl, sym, ap, ◌∙◌, subst, inr, ⊎_elim, arith, length-set, Option, Some, None}
 use Rattle.std.specs.Prelude.{slice_get, sum_by, unwrap_or, MatchBool}
-use Rattle.std.proofs.lemmas.List.Sums.{sum_by-cons}
 use mathlib.Core.Option.{some, none, some-injective, some-ne-none}
 use mathlib.Core.Option as maybe
 use lib.ListN.{get_elem?}
@@ -12,151 +11,134 @@ use Rattle.hub_core.specs.declared.line.Phase.TheVariants as phase
 use Rattle.hub_core.specs.GateMachine as machine
 use Rattle.hub_gate.specs.declared.entered.Refusal.{Refusal}
 use Rattle.hub_gate.specs.declared.entered.Refusal.TheVariants.{Moved, Closed}
+use Rattle.hub_gate.specs.declared.word.Flag.TheVariants as flag
 use Rattle.hub_gate.specs.declared.view.View.{View}
 use Rattle.hub_gate.specs.declared.view.View.TheVariants.{LineOut, LineInside, LineTurned}
 use Rattle.hub_gate.specs.declared.view.LineView.{LineView}
-use Rattle.hub_gate.specs.GateRule.{slot_of, Owns, IsLine, Knows, Shows, IsGate}
+use Rattle.hub_gate.specs.GateRule.{slot_of, Owns, IsLine, Knows, ShowsGate, IsGate}
 use Rattle.atomic_table.specs.Seated.{TableId}
 use Rattle.hub_gate.specs.GateSeats.{EntrySeat, line_in}
 use Rattle.hub_gate.specs.Entering.{IsLetIn}
 use Rattle.hub_gate.specs.GatePlays.{entered_line, left_line, turned_line, Happens, IsTurned, IsIn, Enters, Leaves, TurnsBack}
+use Rattle.hub_gate.proofs.Cases.{match_true, match_false, case_true, case_false}
+use Rattle.hub_gate.proofs.Found.{new_word, found_flag, few_busy, happens_now}
 use Rattle.hub_gate.proofs.Got.{none_got, some_is, got_here, set-map, sum_by-got_set}
 use Rattle.hub_gate.proofs.Formed.{formed}
 use Rattle.hub_gate.proofs.AfterRights.{let_in_before}
 use Rattle.hub_gate.proofs.Seats.{shown_where, at_within, after, others_stay}
-use Rattle.hub_gate.proofs.Words.{reads_enabled, reads_moved, reads_closed, counts_up, counts_down}
-
-pub match_true : (b : Bool) (P Q : Type 0) → b ≡ true → P → MatchBool b P Q
-match_true b P Q e p = subst (λ (x : Bool). MatchBool x P Q) (sym e) p
-
-pub match_false : (b : Bool) (P Q : Type 0) → b ≡ false → Q → MatchBool b P Q
-match_false b P Q e q = subst (λ (x : Bool). MatchBool x P Q) (sym e) q
-
-pub busy_le : (ps : List Phase) → sum_by machine.weight ps ≤ length ps
-busy_le [] = omega arith
-busy_le (p ∷ ps) = let r = busy_le ps in let h = light p in omega (arith, sum_by-cons machine.weight p ps)
-  where
-    light : (p : Phase) → machine.weight p ≤ 1
-    light phase.Out = omega arith
-    light phase.Inside = omega arith
-    light phase.Turned = omega arith
-
--- the one word becomes another
-pub new_word : (words : List ℕ) (n n' : ℕ) (f : ℕ → ℕ) → words ≡ n ∷ [] → f n ≡ n' → set words 0 (f (get_or words 0 0)) ≡ n' ∷ []
-new_word words n n' f is e = ap (λ (w : List ℕ). set w 0 (f (get_or w 0 0))) is ∙ ap (λ (k : ℕ). k ∷ []) e
+use Rattle.hub_gate.proofs.Words.{counts_up, counts_down}
 
 home_there : {T : Type 0} (homes : List (Option T)) (l : ℕ) (r : T) → slice_get homes l ≡ Some (Some r) → get_elem? (map slot_of homes) l ≡ some (some (Some r))
 home_there [] l r e = none_got (Some r) e
 home_there (h ∷ homes) zero r e = ap (λ (o : Option _). some (slot_of o)) (some_is h (Some r) e)
 home_there (h ∷ homes) (suc l) r e = home_there homes l r e
 
-module _ {T : Type 0} (tag : T → List ℕ) (s : State (Option T) View) (shown : Shows tag s) (id l : ℕ) (stands : id ≡ l + 1) (low : id < length s.views) where
+-- a line makes a step: it goes from one phase to another
+module _ {T : Type 0} (tag : T → List ℕ) (s : State (Option T) View) (shown : ShowsGate tag s) (id : ℕ) (v : LineView) (p : Phase) (own : IsLine shown.tags shown.gate id v p) (low : id < length s.views) where
   -- how many are busy after the line went to another phase
-  busy_after : (p q : Phase) → machine.IsAt shown.gate l p → sum_by machine.weight (set shown.gate.phases l q) + machine.weight p ≡ machine.busy shown.gate + machine.weight q
-  busy_after p q at = sum_by-got_set machine.weight shown.gate.phases l p q at
+  busy_after : (q : Phase) → sum_by machine.weight (set shown.gate.phases v.line q) + machine.weight p ≡ machine.busy shown.gate + machine.weight q
+  busy_after q = sum_by-got_set machine.weight shown.gate.phases v.line p q own.at
 
-  few_busy : machine.busy shown.gate < 2 ^ 32
-  few_busy = let b = busy_le shown.gate.phases in let n = shown.lines in let f = shown.few in omega arith
+  no_wrap : machine.busy shown.gate < 2 ^ 32
+  no_wrap = let few = few_busy tag s shown in omega arith
 
-  found : get_or s.words 0 0 ≡ machine.word shown.gate
-  found = ap (λ (w : List ℕ). get_or w 0 0) shown.word
+  abbrev word_now : ℕ
+  word_now = get_or s.words 0 0
 
   -- one more is busy
-  up : (p : Phase) → machine.IsAt shown.gate l phase.Out → machine.weight p ≡ 1 → (homes : List (Option T)) → set s.words 0 ((get_or s.words 0 0 + 256) % 2 ^ 64) ≡ machine.word (after shown.gate l p homes) ∷ []
-  up p at one homes =
-      let b = busy_after phase.Out p at in
-      let more : machine.busy shown.gate + 1 ≡ sum_by machine.weight (set shown.gate.phases l p) = omega arith in
+  pub up : (q : Phase) → machine.weight p ≡ 0 → machine.weight q ≡ 1 → (homes : List (Option T)) → set s.words 0 ((word_now + 256) % 2 ^ 64) ≡ machine.word (after shown.gate v.line q homes) ∷ []
+  up q was one homes =
+      let b = busy_after q in
+      let more : machine.busy shown.gate + 1 ≡ sum_by machine.weight (set shown.gate.phases v.line q) = omega arith in
       new_word s.words (machine.word shown.gate) _ (λ n. (n + 256) % 2 ^ 64) shown.word
-      (counts_up shown.gate.enabled shown.gate.moved shown.gate.closed (machine.busy shown.gate) few_busy ∙ ap (machine.word_of shown.gate.enabled shown.gate.moved shown.gate.closed) more)
+      (counts_up shown.gate.enabled shown.gate.moved shown.gate.closed (machine.busy shown.gate) no_wrap ∙ ap (machine.word_of shown.gate.enabled shown.gate.moved shown.gate.closed) more)
 
   -- one less is busy
-  down : (p : Phase) → machine.IsAt shown.gate l p → machine.weight p ≡ 1 → (homes : List (Option T)) → set s.words 0 ((get_or s.words 0 0 + (2 ^ 64 - 256)) % 2 ^ 64) ≡ machine.word (after shown.gate l phase.Out homes) ∷ []
-  down p at one homes =
-      let b = busy_after p phase.Out at in
-      let f = few_busy in
-      let less : machine.busy shown.gate ≡ sum_by machine.weight (set shown.gate.phases l phase.Out) + 1 = omega arith in
+  pub down : machine.weight p ≡ 1 → (homes : List (Option T)) → set s.words 0 ((word_now + (2 ^ 64 - 256)) % 2 ^ 64) ≡ machine.word (after shown.gate v.line phase.Out homes) ∷ []
+  down one homes =
+      let b = busy_after phase.Out in
+      let room = no_wrap in
+      let less : machine.busy shown.gate ≡ sum_by machine.weight (set shown.gate.phases v.line phase.Out) + 1 = omega arith in
       new_word s.words (machine.word shown.gate) _ (λ n. (n + (2 ^ 64 - 256)) % 2 ^ 64) shown.word
       (ap (λ (k : ℕ). (machine.word_of shown.gate.enabled shown.gate.moved shown.gate.closed k + (2 ^ 64 - 256)) % 2 ^ 64) less
-      ∙ counts_down shown.gate.enabled shown.gate.moved shown.gate.closed (sum_by machine.weight (set shown.gate.phases l phase.Out)) (omega arith))
+      ∙ counts_down shown.gate.enabled shown.gate.moved shown.gate.closed (sum_by machine.weight (set shown.gate.phases v.line phase.Out)) (omega arith))
 
-  -- what all seats know after this one's step
-  seats_after : (p : Phase) (homes : List (Option T)) (w : View) → Knows shown.tags (after shown.gate l p homes) (length s.views) id w
-      → (seat : ℕ) (u : View) → get_elem? (set s.views id w) seat ≡ some u → Knows shown.tags (after shown.gate l p homes) (length (set s.views id w)) seat u
-  seats_after p homes w mine seat u there =
-      subst (λ (n : ℕ). Knows shown.tags (after shown.gate l p homes) n seat u) (sym (length-set s.views id w))
-      (⊎_elim
-      (λ me. subst (λ (x : View). Knows shown.tags (after shown.gate l p homes) (length s.views) seat x) me.1 (subst (λ (i : ℕ). Knows shown.tags (after shown.gate l p homes) (length s.views) i w) (sym me.0) mine))
-      (λ other. others_stay shown.tags shown.gate l p homes (length s.views) seat u (λ z. other.0 (z ∙ sym stands)) (omega arith) (shown.seats seat u other.1))
-      (at_set s.views id seat w u there))
-
-  -- the rule after a step of the line
-  placed : (p : Phase) (homes : List (Option T)) (table_homes : List (maybe.Option (Option T))) (n : ℕ) (w : View) → machine.Reached (Owns tag shown.tags) (after shown.gate l p homes) → set s.words 0 n ≡ machine.word (after shown.gate l p homes) ∷ []
-      → table_homes ≡ map slot_of homes → Knows shown.tags (after shown.gate l p homes) (length s.views) id w
-      → Shows tag record { words = set s.words 0 n; homes = table_homes; views = set s.views id w }
-  placed p homes table_homes n w reached word homes_are mine = record {
-    gate = after shown.gate l p homes;
-    tags = shown.tags;
-    reached = reached;
-    lines = length-set shown.gate.phases l p ∙ shown.lines;
-    few = shown.few;
-    word = word;
-    homes = homes_are;
-    seats = seats_after p homes w mine;
+  -- the line is in the phase q, whatever else its view shows
+  pub in_phase : (q : Phase) (homes : List (Option T)) (v' : LineView) → v'.line ≡ v.line → v'.tag ≡ v.tag → IsLine shown.tags (after shown.gate v.line q homes) id v' q
+  in_phase q homes v' line_is tag_is = record {
+    stands = own.stands ∙ ap (λ (l : ℕ). l + 1) (sym line_is);
+    at = ap (slice_get (set shown.gate.phases v.line q)) line_is ∙ got_here shown.gate.phases v.line q p own.at;
+    tag = ap (slice_get shown.tags) line_is ∙ own.tag ∙ ap Some (sym tag_is);
   }
 
+  -- what all seats know after the step
+  seats_after : (q : Phase) (homes : List (Option T)) (w : View) → Knows shown.tags (after shown.gate v.line q homes) (length s.views) id w
+      → (seat : ℕ) (u : View) → get_elem? (set s.views id w) seat ≡ some u → Knows shown.tags (after shown.gate v.line q homes) (length (set s.views id w)) seat u
+  seats_after q homes w mine seat u there =
+      subst (λ (n : ℕ). Knows shown.tags (after shown.gate v.line q homes) n seat u) (sym (length-set s.views id w))
+      (⊎_elim
+      (λ me. subst (λ (x : View). Knows shown.tags (after shown.gate v.line q homes) (length s.views) seat x) me.1 (subst (λ (i : ℕ). Knows shown.tags (after shown.gate v.line q homes) (length s.views) i w) (sym me.0) mine))
+      (λ other. let stands = own.stands in others_stay shown.tags shown.gate v.line q homes (length s.views) seat u (λ z. other.0 (z ∙ sym stands)) (omega arith) (shown.seats seat u other.1))
+      (at_set s.views id seat w u there))
+
+  -- the rule after the step, and what it tells
+  pub goes : (q : Phase) (homes : List (Option T)) (event : machine.Event T) (answer : machine.Answer T) (table_homes : List (maybe.Option (Option T))) (n : ℕ) (w : View) → machine.Steps (Owns tag shown.tags) shown.gate event answer (after shown.gate v.line q homes)
+      → set s.words 0 n ≡ machine.word (after shown.gate v.line q homes) ∷ [] → table_homes ≡ map slot_of homes → Knows shown.tags (after shown.gate v.line q homes) (length s.views) id w
+      → IsGate tag record { words = set s.words 0 n; homes = table_homes; views = set s.views id w } × Happens tag word_now event answer
+  goes q homes event answer table_homes n w takes_step word homes_are mine = (
+    inr (record {
+      gate = after shown.gate v.line q homes;
+      tags = shown.tags;
+      reached = machine.goes_on shown.gate (after shown.gate v.line q homes) event answer shown.reached takes_step;
+      lines = length-set shown.gate.phases v.line q ∙ shown.lines;
+      few = shown.few;
+      word = word;
+      homes = homes_are;
+      seats = seats_after q homes w mine;
+    }),
+    happens_now tag s shown event answer (after shown.gate v.line q homes) takes_step,
+  )
+
 -- the line enters
-module _ {T : Type 0} (tag : T → List ℕ) (slots id : ℕ) (v : LineView) (s : State (Option T) View) (shown : Shows tag s) (at : get_elem? s.views id ≡ some (LineOut v)) where
+module _ {T : Type 0} (tag : T → List ℕ) (slots id : ℕ) (v : LineView) (s : State (Option T) View) (shown : ShowsGate tag s) (at : get_elem? s.views id ≡ some (LineOut v)) where
   abbrev own : IsLine shown.tags shown.gate id v phase.Out
   own = shown.seats id (LineOut v) at
 
   abbrev low : id < length s.views
   low = at_within s.views id (LineOut v) at
 
-  abbrev word_now : ℕ
-  word_now = get_or s.words 0 0
+  abbrev found : ℕ
+  found = get_or s.words 0 0
 
   abbrev word_then : ℕ
   word_then = (get_or s.words 0 0 + 256) % 2 ^ 64
 
-  word_is : word_now ≡ machine.word shown.gate
-  word_is = found tag s shown id v.line own.stands low
-
   -- the line is being turned back
   turns : (refusal : Refusal) (answer : machine.Answer T) → machine.Steps (Owns tag shown.tags) shown.gate (machine.enter v.line) answer (machine.with_phase shown.gate v.line phase.Turned)
-      → IsGate tag (stepped s 0 word_then id [] (LineTurned (entered_line v (Some refusal))) keeps) × IsTurned tag v refusal answer word_now (LineTurned (entered_line v (Some refusal)), [])
+      → IsGate tag (stepped s 0 word_then id [] (LineTurned (entered_line v (Some refusal))) keeps) × IsTurned tag v refusal answer found (LineTurned (entered_line v (Some refusal)), [])
   turns refusal answer takes_step =
-      let next = machine.with_phase shown.gate v.line phase.Turned in (
-        inr (placed tag s shown id v.line own.stands low phase.Turned shown.gate.homes s.homes word_then (LineTurned (entered_line v (Some refusal)))
-            (machine.goes_on shown.gate next (machine.enter v.line) answer shown.reached takes_step)
-            (up tag s shown id v.line own.stands low phase.Turned own.at refl shown.gate.homes)
-            shown.homes
-            (record { stands = own.stands; at = got_here shown.gate.phases v.line phase.Turned phase.Out own.at; tag = own.tag })),
-        (record { tags = shown.tags; before = shown.gate; after = next; reached = shown.reached; found = word_is; step = takes_step }, refl),
-      )
+      let went = goes tag s shown id v phase.Out own low phase.Turned shown.gate.homes (machine.enter v.line) answer s.homes word_then (LineTurned (entered_line v (Some refusal))) takes_step
+      (up tag s shown id v phase.Out own low phase.Turned refl refl shown.gate.homes)
+      shown.homes
+      (in_phase tag s shown id v phase.Out own low phase.Turned shown.gate.homes (entered_line v (Some refusal)) refl refl) in
+      (went.0, (went.1, refl))
 
   -- the line is inside, and has its right
   passes : (r : T) → slice_get shown.gate.homes v.line ≡ Some (Some r) → Owns tag shown.tags v.line r → shown.gate.moved ≡ false → shown.gate.closed ≡ false
-      → Valid s.homes [] (takes v.line (Some r)) × IsGate tag (stepped s 0 word_then id [] (LineInside (entered_line v None)) (takes v.line (Some r))) × IsIn tag v word_now (LineInside (entered_line v None), (v.line, Some r) ∷ [])
+      → Valid s.homes [] (takes v.line (Some r)) × IsGate tag (stepped s 0 word_then id [] (LineInside (entered_line v None)) (takes v.line (Some r))) × IsIn tag v found (LineInside (entered_line v None), (v.line, Some r) ∷ [])
   passes r home owns not_moved not_closed =
-      let next = machine.with_home (machine.with_phase shown.gate v.line phase.Inside) v.line None in
-      let takes_step : machine.Steps (Owns tag shown.tags) shown.gate (machine.enter v.line) (machine.lets_in r) next = machine.goes_in v.line r own.at not_moved not_closed home in (
+      let went = goes tag s shown id v phase.Out own low phase.Inside (set shown.gate.homes v.line None) (machine.enter v.line) (machine.lets_in r) (set s.homes v.line none) word_then (LineInside (entered_line v None))
+      (machine.goes_in v.line r own.at not_moved not_closed home)
+      (up tag s shown id v phase.Out own low phase.Inside refl refl (set shown.gate.homes v.line None))
+      (ap (λ (h : List (maybe.Option (Option T))). set h v.line none) shown.homes ∙ set-map slot_of shown.gate.homes v.line None)
+      (in_phase tag s shown id v phase.Out own low phase.Inside (set shown.gate.homes v.line None) (entered_line v None) refl refl) in (
         ap (λ (h : List (maybe.Option (Option T))). get_elem? h v.line) shown.homes ∙ home_there shown.gate.homes v.line r home,
-        inr (placed tag s shown id v.line own.stands low phase.Inside (set shown.gate.homes v.line None) (set s.homes v.line none) word_then (LineInside (entered_line v None))
-            (machine.goes_on shown.gate next (machine.enter v.line) (machine.lets_in r) shown.reached takes_step)
-            (up tag s shown id v.line own.stands low phase.Inside own.at refl (set shown.gate.homes v.line None))
-            (ap (λ (h : List (maybe.Option (Option T))). set h v.line none) shown.homes ∙ set-map slot_of shown.gate.homes v.line None)
-            (record { stands = own.stands; at = got_here shown.gate.phases v.line phase.Inside phase.Out own.at; tag = own.tag })),
-        (r, record { tags = shown.tags; before = shown.gate; after = next; reached = shown.reached; found = word_is; step = takes_step }, some_is (tag r) v.tag (sym owns ∙ own.tag), refl),
+        went.0,
+        (r, went.1, some_is (tag r) v.tag (sym owns ∙ own.tag), refl),
       )
 
   abbrev Result : Type 0
-  Result = (w : View) × (a : Act (Option T)) × Valid s.homes [] a × IsGate tag (stepped s 0 word_then id [] w a) × Enters tag (step slots 0 256 0 none) (LineOut v, []) word_now (w, carried_after [] a)
-
-  moved_is : machine.moved_in word_now ≡ shown.gate.moved
-  moved_is = ap machine.moved_in word_is ∙ reads_moved shown.gate.enabled shown.gate.moved shown.gate.closed (machine.busy shown.gate)
-
-  closed_is : machine.closed_in word_now ≡ shown.gate.closed
-  closed_is = ap machine.closed_in word_is ∙ reads_closed shown.gate.enabled shown.gate.moved shown.gate.closed (machine.busy shown.gate)
+  Result = (w : View) × (a : Act (Option T)) × Valid s.homes [] a × IsGate tag (stepped s 0 word_then id [] w a) × Enters tag (step slots 0 256 0 none) (LineOut v, []) found (w, carried_after [] a)
 
   -- a right is at home in a gate that is neither moved nor closed
   right_home : shown.gate.moved ≡ false → shown.gate.closed ≡ false → (r : T) × (slice_get shown.gate.homes v.line ≡ Some (Some r)) × Owns tag shown.tags v.line r
@@ -169,14 +151,14 @@ module _ {T : Type 0} (tag : T → List ℕ) (slots id : ℕ) (v : LineView) (s 
   enters_by : (m c : Bool) → shown.gate.moved ≡ m → shown.gate.closed ≡ c → Result
   enters_by true c is_m is_c =
       let t = turns Moved machine.says_moved (machine.finds_moved v.line own.at is_m) in
-      (LineTurned (entered_line v (Some Moved)), keeps, tt, t.0, match_true (machine.moved_in word_now) _ _ (moved_is ∙ is_m) t.1)
+      (LineTurned (entered_line v (Some Moved)), keeps, tt, t.0, match_true (machine.moved_in found) _ _ (found_flag tag s shown flag.Moved ∙ is_m) t.1)
   enters_by false true is_m is_c =
       let t = turns Closed machine.says_closed (machine.finds_closed v.line own.at is_m is_c) in
-      (LineTurned (entered_line v (Some Closed)), keeps, tt, t.0, match_false (machine.moved_in word_now) _ _ (moved_is ∙ is_m) (match_true (machine.closed_in word_now) _ _ (closed_is ∙ is_c) t.1))
+      (LineTurned (entered_line v (Some Closed)), keeps, tt, t.0, match_false (machine.moved_in found) _ _ (found_flag tag s shown flag.Moved ∙ is_m) (match_true (machine.closed_in found) _ _ (found_flag tag s shown flag.Closed ∙ is_c) t.1))
   enters_by false false is_m is_c =
       let r = right_home is_m is_c in
       let p = passes r.0 r.1 r.2 is_m is_c in
-      (LineInside (entered_line v None), takes v.line (Some r.0), p.0, p.1, match_false (machine.moved_in word_now) _ _ (moved_is ∙ is_m) (match_false (machine.closed_in word_now) _ _ (closed_is ∙ is_c) p.2))
+      (LineInside (entered_line v None), takes v.line (Some r.0), p.0, p.1, match_false (machine.moved_in found) _ _ (found_flag tag s shown flag.Moved ∙ is_m) (match_false (machine.closed_in found) _ _ (found_flag tag s shown flag.Closed ∙ is_c) p.2))
 
 pub enters : {T : Type 0} (tag : T → List ℕ) (slots id : ℕ) (v : LineView) → Allows (IsGate tag) slots id (LineOut v, []) 0 (λ n. (n + 256) % 2 ^ 64) (Enters tag (step slots 0 256 0 none) (LineOut v, []))
 enters tag slots id v s kept fits at small =
@@ -193,43 +175,21 @@ carried_right d (x ∷ xs) = unwrap_or x.1 d
 -- the line leaves with its right
 pub leaves : {T : Type 0} (tag : T → List ℕ) (slots id : ℕ) (v : LineView) (r : T) → tag r ≡ v.tag
     → Allows (IsGate tag) slots id (LineInside v, (v.line, Some r) ∷ []) 0 (λ n. (n + (2 ^ 64 - 256)) % 2 ^ 64) (Leaves tag (step slots 0 256 0 none) (LineInside v, (v.line, Some r) ∷ []))
-leaves {T = T} tag slots id v r same_tag s kept fits at small = (
-  LineOut (left_line v (machine.enabled_in word_now)),
-  gives,
-  tt,
-  inr (placed tag s shown id v.line own.stands low phase.Out (set shown.gate.homes v.line (Some r)) (set s.homes v.line (some (Some r))) ((word_now + (2 ^ 64 - 256)) % 2 ^ 64) (LineOut (left_line v (machine.enabled_in word_now)))
-      (machine.goes_on shown.gate next (machine.leave v.line r) (machine.lets_out shown.gate.enabled) shown.reached takes_step)
-      (down tag s shown id v.line own.stands low phase.Inside own.at refl (set shown.gate.homes v.line (Some r)))
-      (ap (λ (h : List (maybe.Option (Option T))). set h v.line (some (Some r))) shown.homes ∙ set-map slot_of shown.gate.homes v.line (Some r))
-      (record { stands = own.stands; at = got_here shown.gate.phases v.line phase.Out phase.Inside own.at; tag = own.tag })),
-  (refl, λ right is. subst (λ (x : T). Happens tag word_now (machine.leave v.line x) (machine.lets_out (machine.enabled_in word_now))) (one_right right is) happens),
-)
+leaves {T = T} tag slots id v r same_tag s kept fits at small =
+    let shown = shown_where tag s id (LineInside v) refl at kept in
+    let own = shown.seats id (LineInside v) at in
+    let low = at_within s.views id (LineInside v) at in
+    let found : ℕ = get_or s.words 0 0 in
+    let then : LineView = left_line v (machine.enabled_in found) in
+    let enabled_is : machine.enabled_in found ≡ shown.gate.enabled = found_flag tag s shown flag.Enabled in
+    let went = goes tag s shown id v phase.Inside own low phase.Out (set shown.gate.homes v.line (Some r)) (machine.leave v.line r) (machine.lets_out shown.gate.enabled) (set s.homes v.line (some (Some r))) ((found + (2 ^ 64 - 256)) % 2 ^ 64) (LineOut then)
+    (machine.goes_out v.line r own.at (own.tag ∙ ap Some (sym same_tag)))
+    (down tag s shown id v phase.Inside own low refl (set shown.gate.homes v.line (Some r)))
+    (ap (λ (h : List (maybe.Option (Option T))). set h v.line (some (Some r))) shown.homes ∙ set-map slot_of shown.gate.homes v.line (Some r))
+    (in_phase tag s shown id v phase.Inside own low phase.Out (set shown.gate.homes v.line (Some r)) then refl refl) in
+    let happens = subst (λ (e : Bool). Happens tag found (machine.leave v.line r) (machine.lets_out e)) (sym enabled_is) went.1 in
+    (LineOut then, gives, tt, went.0, (refl, λ right is. subst (λ (x : T). Happens tag found (machine.leave v.line x) (machine.lets_out (machine.enabled_in found))) (one_right right is) happens))
   where
-    shown : Shows tag s
-    shown = shown_where tag s id (LineInside v) refl at kept
-
-    own : IsLine shown.tags shown.gate id v phase.Inside
-    own = shown.seats id (LineInside v) at
-
-    low : id < length s.views
-    low = at_within s.views id (LineInside v) at
-
-    word_now : ℕ
-    word_now = get_or s.words 0 0
-
-    next : machine.Gate T
-    next = machine.with_home (machine.with_phase shown.gate v.line phase.Out) v.line (Some r)
-
-    takes_step : machine.Steps (Owns tag shown.tags) shown.gate (machine.leave v.line r) (machine.lets_out shown.gate.enabled) next
-    takes_step = machine.goes_out v.line r own.at (own.tag ∙ ap Some (sym same_tag))
-
-    enabled_is : machine.enabled_in word_now ≡ shown.gate.enabled
-    enabled_is = ap machine.enabled_in (found tag s shown id v.line own.stands low) ∙ reads_enabled shown.gate.enabled shown.gate.moved shown.gate.closed (machine.busy shown.gate)
-
-    happens : Happens tag word_now (machine.leave v.line r) (machine.lets_out (machine.enabled_in word_now))
-    happens = subst (λ (e : Bool). Happens tag word_now (machine.leave v.line r) (machine.lets_out e)) (sym enabled_is)
-        (record { tags = shown.tags; before = shown.gate; after = next; reached = shown.reached; found = found tag s shown id v.line own.stands low; step = takes_step })
-
     one_right : (right : T) → ◌≡◌ {A = List (ℕ × Option T)} ((v.line, Some r) ∷ []) ((v.line, Some right) ∷ []) → r ≡ right
     one_right right is = ap (carried_right r) is
 
@@ -239,32 +199,16 @@ leaves_at {T = T} tag slots id me r is same_tag = subst (λ (m : Me (Option T) V
 
 -- the line turns back
 pub turns_back : {T : Type 0} (tag : T → List ℕ) (slots id : ℕ) (v : LineView) → Allows (IsGate tag) slots id (LineTurned v, []) 0 (λ n. (n + (2 ^ 64 - 256)) % 2 ^ 64) (TurnsBack tag (step slots 0 256 0 none) (LineTurned v, []))
-turns_back {T = T} tag slots id v s kept fits at small = (
-  LineOut (turned_line v),
-  keeps,
-  tt,
-  inr (placed tag s shown id v.line own.stands low phase.Out shown.gate.homes s.homes ((word_now + (2 ^ 64 - 256)) % 2 ^ 64) (LineOut (turned_line v))
-      (machine.goes_on shown.gate next (machine.turn_back v.line) machine.says_done shown.reached (machine.turns_back v.line own.at))
-      (down tag s shown id v.line own.stands low phase.Turned own.at refl shown.gate.homes)
-      shown.homes
-      (record { stands = own.stands; at = got_here shown.gate.phases v.line phase.Out phase.Turned own.at; tag = own.tag })),
-  (refl, record { tags = shown.tags; before = shown.gate; after = next; reached = shown.reached; found = found tag s shown id v.line own.stands low; step = machine.turns_back v.line own.at }),
-)
-  where
-    shown : Shows tag s
-    shown = shown_where tag s id (LineTurned v) refl at kept
-
-    own : IsLine shown.tags shown.gate id v phase.Turned
-    own = shown.seats id (LineTurned v) at
-
-    low : id < length s.views
-    low = at_within s.views id (LineTurned v) at
-
-    word_now : ℕ
-    word_now = get_or s.words 0 0
-
-    next : machine.Gate T
-    next = machine.with_phase shown.gate v.line phase.Out
+turns_back {T = T} tag slots id v s kept fits at small =
+    let shown = shown_where tag s id (LineTurned v) refl at kept in
+    let own = shown.seats id (LineTurned v) at in
+    let low = at_within s.views id (LineTurned v) at in
+    let went = goes tag s shown id v phase.Turned own low phase.Out shown.gate.homes (machine.turn_back v.line) machine.says_done s.homes ((get_or s.words 0 0 + (2 ^ 64 - 256)) % 2 ^ 64) (LineOut (turned_line v))
+    (machine.turns_back v.line own.at)
+    (down tag s shown id v phase.Turned own low refl shown.gate.homes)
+    shown.homes
+    (in_phase tag s shown id v phase.Turned own low phase.Out shown.gate.homes (turned_line v) refl refl) in
+    (LineOut (turned_line v), keeps, tt, went.0, (refl, went.1))
 
 pub turns_back_at : {T : Type 0} (tag : T → List ℕ) (slots id : ℕ) (me : Me (Option T) View) (v : LineView) → me ≡ (LineTurned v, []) → Allows (IsGate tag) slots id me 0 (λ n. (n + (2 ^ 64 - 256)) % 2 ^ 64) (TurnsBack tag (step slots 0 256 0 none) me)
 turns_back_at {T = T} tag slots id me v is = subst (λ (m : Me (Option T) View). Allows (IsGate tag) slots id m 0 (λ n. (n + (2 ^ 64 - 256)) % 2 ^ 64) (TurnsBack tag (step slots 0 256 0 none) m)) (sym is) (turns_back tag slots id v)
@@ -272,16 +216,16 @@ turns_back_at {T = T} tag slots id me v is = subst (λ (m : Me (Option T) View).
 -- what an entry that found no flag, or one, is told
 module _ {T : Type 0} (tag : T → List ℕ) (v : LineView) (word : ℕ) (after : Me (Option T) View) (told : MatchBool (machine.moved_in word) (IsTurned tag v Moved machine.says_moved word after) (MatchBool (machine.closed_in word) (IsTurned tag v Closed machine.says_closed word after) (IsIn tag v word after))) where
   pub told_moved : machine.moved_in word ≡ true → IsTurned tag v Moved machine.says_moved word after
-  told_moved m = subst (λ (b : Bool). MatchBool b (IsTurned tag v Moved machine.says_moved word after) (MatchBool (machine.closed_in word) (IsTurned tag v Closed machine.says_closed word after) (IsIn tag v word after))) m told
+  told_moved m = case_true (machine.moved_in word) _ _ m told
 
   told_open : machine.moved_in word ≡ false → MatchBool (machine.closed_in word) (IsTurned tag v Closed machine.says_closed word after) (IsIn tag v word after)
-  told_open m = subst (λ (b : Bool). MatchBool b (IsTurned tag v Moved machine.says_moved word after) (MatchBool (machine.closed_in word) (IsTurned tag v Closed machine.says_closed word after) (IsIn tag v word after))) m told
+  told_open m = case_false (machine.moved_in word) _ _ m told
 
   pub told_closed : machine.moved_in word ≡ false → machine.closed_in word ≡ true → IsTurned tag v Closed machine.says_closed word after
-  told_closed m c = subst (λ (b : Bool). MatchBool b (IsTurned tag v Closed machine.says_closed word after) (IsIn tag v word after)) c (told_open m)
+  told_closed m c = case_true (machine.closed_in word) _ _ c (told_open m)
 
   pub told_in : machine.moved_in word ≡ false → machine.closed_in word ≡ false → IsIn tag v word after
-  told_in m c = subst (λ (b : Bool). MatchBool b (IsTurned tag v Closed machine.says_closed word after) (IsIn tag v word after)) c (told_open m)
+  told_in m c = case_false (machine.closed_in word) _ _ c (told_open m)
 
 -- the entry that let its line in, as callers see it
 pub entered_in : {T : Type 0} (tag : T → List ℕ) (entry : EntrySeat) (gate gate1 : TableId) (v : LineView) (word line : ℕ) (me me1 : Me (Option T) View) (right : T) (taken : Option T) → record { gate = gate; at = v } ≡ entry → IsIn tag v word me → machine.moved_in word ≡ false → machine.closed_in word ≡ false

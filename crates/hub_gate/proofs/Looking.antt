@@ -1,5 +1,5 @@
 -- The keeper's look keeps the rule of its gate, and gives all rights where nobody is inside a shut one.
-use Rattle.std.proofs.Common.{◌≡◌, ℕ, suc, ◌<◌, ◌≤◌, ◌||◌, Bool, true, false, eqb, List, [], ◌∷◌, map, length, set, get_or, refl, sym, ap, ◌∙◌, subst, inr, arith, Option, Some, None}
+use Rattle.std.proofs.Common.{◌≡◌, ℕ, suc, ◌<◌, ◌≤◌, ◌||◌, Bool, true, false, eqb, List, [], ◌∷◌, map, length, set, get_or, refl, sym, ap, ◌∙◌, subst, arith, Option, Some, None}
 use Rattle.std.specs.Prelude.{slice_get, MatchBool}
 use Rattle.std.proofs.lemmas.Bool.Decides.{nat_tests}
 use mathlib.Core.Option.{some, none}
@@ -7,24 +7,26 @@ use mathlib.Core.Option as maybe
 use lib.ListN.{get_elem?}
 use Rattle.atomic_table.specs.Table.{State, Me, Act, Valid, step, keeps, stepped, carried_after, homes_after, Allows}
 use Rattle.hub_core.specs.GateMachine as machine
+use Rattle.hub_gate.specs.declared.limits.TheConstants.{MAX_LINES}
+use Rattle.hub_gate.specs.declared.word.Flag.TheVariants.{Moved, Closed}
 use Rattle.hub_gate.specs.declared.view.View.{View}
 use Rattle.hub_gate.specs.declared.view.View.TheVariants.{Keeping}
 use Rattle.hub_gate.specs.declared.view.KeeperView.{KeeperView}
-use Rattle.hub_gate.specs.GateRule.{Tags, slot_of, Owns, IsKeeper, Shows, IsGate}
+use Rattle.hub_gate.specs.GateRule.{Tags, slot_of, Owns, IsShownBy, IsKeeper, ShowsGate, IsGate}
 use Rattle.atomic_table.specs.Seated.{TableId}
 use Rattle.hub_gate.specs.GateSeats.{KeeperSeat, keeper_in}
 use Rattle.hub_gate.specs.Looking.{IsLast}
-use Rattle.hub_gate.specs.GatePlays.{looked_keeper, has_shut, KeeperStep, IsSeen, IsGiven, LooksAt, Looks}
+use Rattle.hub_gate.specs.GatePlays.{looked_keeper, has_shut, KeeperStep, IsSeen, IsGiven, SeesOpen, SeesBusy, SeesShut, LooksAt, Looks}
 use Rattle.hub_gate.specs.Taking.{take_from, all_out}
 use Rattle.hub_gate.proofs.Got.{some_is, got_there}
 use Rattle.hub_gate.proofs.Formed.{formed, weight_le, not_inside}
 use Rattle.hub_gate.proofs.AfterRights.{over_from}
-use Rattle.hub_gate.proofs.Flags.{kept_by}
-use Rattle.hub_gate.proofs.Lines.{match_true, match_false, new_word, busy_le}
+use Rattle.hub_gate.proofs.Cases.{match_true, match_false, case_true, case_false}
+use Rattle.hub_gate.proofs.Found.{new_word, found_flag, found_count, few_busy}
+use Rattle.hub_gate.proofs.KeeperSteps.{steps, at_keeper}
 use Rattle.hub_gate.proofs.Opening.{slots-opened}
-use Rattle.hub_gate.proofs.Seats.{shown_where, shown_by}
+use Rattle.hub_gate.proofs.Seats.{shown_where}
 use Rattle.hub_gate.proofs.Takings.{carried-take_from, homes-take_from, valid-take_from}
-use Rattle.hub_gate.proofs.Words.{reads_moved, reads_closed, reads_count}
 
 -- rights that are all at home, in order
 all_there : {T : Type 0} (tag : T → List ℕ) (homes : List (Option T)) (tags : Tags) → length homes ≡ length tags
@@ -56,25 +58,19 @@ is_positive n h = grind (arith, nat_tests)
 not_zero : (n : ℕ) → eqb n 0 ≡ false → 0 < n
 not_zero n e = grind (arith, nat_tests)
 
-module _ {T : Type 0} (tag : T → List ℕ) (slots id : ℕ) (k : KeeperView) (c : List (ℕ × Option T)) (s : State (Option T) View) (shown : Shows tag s) (at : get_elem? s.views id ≡ some (Keeping k)) where
+module _ {T : Type 0} (tag : T → List ℕ) (slots id : ℕ) (k : KeeperView) (c : List (ℕ × Option T)) (s : State (Option T) View) (shown : ShowsGate tag s) (at : get_elem? s.views id ≡ some (Keeping k)) where
   abbrev own : IsKeeper shown.tags shown.gate (length s.views) id k
   own = shown.seats id (Keeping k) at
 
   abbrev word_now : ℕ
   word_now = get_or s.words 0 0
 
-  word_is : word_now ≡ machine.word shown.gate
-  word_is = ap (λ (w : List ℕ). get_or w 0 0) shown.word
-
-  count_is : machine.count_in word_now ≡ machine.busy shown.gate
-  count_is = ap machine.count_in word_is ∙ reads_count shown.gate.enabled shown.gate.moved shown.gate.closed (machine.busy shown.gate)
-
   shut_is : (machine.moved_in word_now || machine.closed_in word_now) ≡ machine.is_shut shown.gate
-  shut_is = (λ i. (ap machine.moved_in word_is ∙ reads_moved shown.gate.enabled shown.gate.moved shown.gate.closed (machine.busy shown.gate)) i || (ap machine.closed_in word_is ∙ reads_closed shown.gate.enabled shown.gate.moved shown.gate.closed (machine.busy shown.gate)) i)
+  shut_is = λ i. found_flag tag s shown Moved i || found_flag tag s shown Closed i
 
   -- the keeper's view shows whether the gate is shut
   set_is : has_shut k ≡ machine.is_shut shown.gate
-  set_is = λ i. own.moved i || own.closed i
+  set_is = λ i. own.shows.moved i || own.shows.closed i
 
   same_word : set s.words 0 word_now ≡ machine.word shown.gate ∷ []
   same_word = new_word s.words (machine.word shown.gate) _ (λ n. n) shown.word refl
@@ -85,21 +81,10 @@ module _ {T : Type 0} (tag : T → List ℕ) (slots id : ℕ) (k : KeeperView) (
   -- the look gives no right
   sees : (answer : machine.Answer T) → machine.Steps (Owns tag shown.tags) shown.gate machine.look answer shown.gate → Result (IsSeen tag k c answer)
   sees answer takes_step =
-      let mine : IsKeeper shown.tags shown.gate (length s.views) id (looked_keeper k word_now k.collected) =
-      record { stands = own.stands; tags = own.tags; next = own.next; later = own.later; enabled = own.enabled; moved = own.moved; closed = own.closed; collected = own.collected } in (
-        Keeping (looked_keeper k word_now k.collected),
-        keeps,
-        tt,
-        inr (kept_by tag s shown id own.stands shown.gate refl (looked_keeper k word_now k.collected) word_now s.homes shown.reached same_word shown.homes mine),
-        (
-          record {
-            happens = record { tags = shown.tags; before = shown.gate; after = shown.gate; reached = shown.reached; found = word_is; step = takes_step };
-            before = shown_by shown.tags shown.gate (length s.views) id k own;
-            after = shown_by shown.tags shown.gate (length s.views) id (looked_keeper k word_now k.collected) mine;
-          },
-          refl,
-        ),
-      )
+      let then : KeeperView = looked_keeper k word_now k.collected in
+      let shows : IsShownBy then shown.tags shown.gate = record { tags = own.shows.tags; enabled = own.shows.enabled; moved = own.shows.moved; closed = own.shows.closed; collected = own.shows.collected } in
+      let taken = steps tag s shown id k own then shown.gate refl refl shows machine.look answer word_now s.homes takes_step same_word shown.homes in
+      (Keeping then, keeps, tt, taken.0, (taken.1, refl))
 
   -- where none is busy and the rights were not given, all are at home
   rights_there : machine.busy shown.gate ≡ 0 → shown.gate.collected ≡ false → (rights : List T) × (shown.gate.homes ≡ map Some rights) × (map tag rights ≡ shown.tags)
@@ -112,33 +97,28 @@ module _ {T : Type 0} (tag : T → List ℕ) (slots id : ℕ) (k : KeeperView) (
       let h = weight_le shown.gate.phases l p.0 p.1 in
       well.home open_yet l p.0 p.1 (not_inside p.0 (omega arith)))
 
-  -- the look gives them
+  -- the look gives all rights
   gets : c ≡ [] → machine.is_shut shown.gate ≡ true → machine.busy shown.gate ≡ 0 → shown.gate.collected ≡ false → Result (IsGiven tag k)
   gets none_out shut none_busy open_yet =
       let there = rights_there none_busy open_yet in
       let rights : List T = there.0 in
       let next : machine.Gate T = machine.with_none shown.gate in
-      let takes_step : machine.Steps (Owns tag shown.tags) shown.gate machine.look (machine.gives_rights rights) next = machine.gives rights open_yet shut none_busy there.1 in
-      let mine : IsKeeper shown.tags next (length s.views) id (looked_keeper k word_now true) =
-      record { stands = own.stands; tags = own.tags; next = own.next; later = own.later; enabled = own.enabled; moved = own.moved; closed = own.closed; collected = refl } in
+      let then : KeeperView = looked_keeper k word_now true in
+      let shows : IsShownBy then shown.tags next = record { tags = own.shows.tags; enabled = own.shows.enabled; moved = own.shows.moved; closed = own.shows.closed; collected = refl } in
       let homes : s.homes ≡ map some (map Some rights) = shown.homes ∙ ap (map slot_of) there.1 ∙ slots-opened rights in
       let away : homes_after s.homes c (take_from 0 (map Some rights)) ≡ map slot_of next.homes =
-      (λ i. homes_after (homes i) c (take_from 0 (map Some rights))) ∙ homes-take_from [] (map Some rights) c 0 refl ∙ all_none rights ∙ ap (λ (h : List (Option T)). map slot_of (map no_right h)) (sym there.1) in (
-        Keeping (looked_keeper k word_now true),
+      (λ i. homes_after (homes i) c (take_from 0 (map Some rights))) ∙ homes-take_from [] (map Some rights) c 0 refl ∙ all_none rights ∙ ap (λ (h : List (Option T)). map slot_of (map no_right h)) (sym there.1) in
+      let taken = steps tag s shown id k own then next refl refl shows machine.look (machine.gives_rights rights) word_now (homes_after s.homes c (take_from 0 (map Some rights)))
+      (machine.gives rights open_yet shut none_busy there.1) same_word away in (
+        Keeping then,
         take_from 0 (map Some rights),
         subst (λ (h : List (maybe.Option (Option T))). Valid h c (take_from 0 (map Some rights))) (sym homes) (valid-take_from [] (map Some rights) c 0 refl),
-        inr (kept_by tag s shown id own.stands next refl (looked_keeper k word_now true) word_now (homes_after s.homes c (take_from 0 (map Some rights)))
-            (machine.goes_on shown.gate next machine.look (machine.gives_rights rights) shown.reached takes_step)
-            same_word away mine),
+        taken.0,
         (
           rights,
-          record {
-            happens = record { tags = shown.tags; before = shown.gate; after = next; reached = shown.reached; found = word_is; step = takes_step };
-            before = shown_by shown.tags shown.gate (length s.views) id k own;
-            after = shown_by shown.tags next (length s.views) id (looked_keeper k word_now true) mine;
-          },
-          there.2 ∙ sym own.tags,
-          ap (λ (d : List (ℕ × Option T)). (Keeping (looked_keeper k word_now true), d)) (ap (λ (d : List (ℕ × Option T)). carried_after d (take_from 0 (map Some rights))) none_out ∙ carried-take_from 0 (map Some rights)),
+          taken.1,
+          there.2 ∙ sym own.shows.tags,
+          ap (λ (d : List (ℕ × Option T)). (Keeping then, d)) (ap (λ (d : List (ℕ × Option T)). carried_after d (take_from 0 (map Some rights))) none_out ∙ carried-take_from 0 (map Some rights)),
         ),
       )
 
@@ -149,44 +129,32 @@ module _ {T : Type 0} (tag : T → List ℕ) (slots id : ℕ) (k : KeeperView) (
   abbrev Told : ℕ → Me (Option T) View → Type 0
   Told found after = MatchBool k.collected (IsSeen tag k c machine.says_given found after) (LooksAt tag k c found after)
 
-  abbrev IsBusy : ℕ → Me (Option T) View → Type 0
-  IsBusy found after = (0 < machine.count_in found) × (machine.count_in found ≤ 16) × IsSeen tag k c (machine.says_inside (machine.count_in found)) found after
-
-  abbrev IsShut : ℕ → Me (Option T) View → Type 0
-  IsShut found after = (has_shut k ≡ true) × MatchBool (eqb (machine.count_in found) 0) (IsGiven tag k found after) (IsBusy found after)
-
-  abbrev IsOpen : ℕ → Me (Option T) View → Type 0
-  IsOpen found after = (has_shut k ≡ false) × IsSeen tag k c machine.says_open found after
-
-  -- of a gate that is moved or closed
-  shut_told : (b : Bool) → k.collected ≡ false → machine.is_shut shown.gate ≡ true → eqb (machine.busy shown.gate) 0 ≡ b → (after : Me (Option T) View) → MatchBool b (IsGiven tag k word_now after) (IsBusy word_now after) → Told word_now after
+  -- what is told of a gate that is moved or closed
+  shut_told : (b : Bool) → k.collected ≡ false → machine.is_shut shown.gate ≡ true → eqb (machine.busy shown.gate) 0 ≡ b → (after : Me (Option T) View) → MatchBool b (IsGiven tag k word_now after) (SeesBusy tag k c word_now after) → Told word_now after
   shut_told b is_collected is_shut is_none after t =
       match_false k.collected (IsSeen tag k c machine.says_given word_now after) (LooksAt tag k c word_now after) is_collected
-      (match_true (machine.moved_in word_now || machine.closed_in word_now) (IsShut word_now after) (IsOpen word_now after) (shut_is ∙ is_shut)
-      (set_is ∙ is_shut, subst (λ (x : Bool). MatchBool x (IsGiven tag k word_now after) (IsBusy word_now after)) (sym (ap (λ (n : ℕ). eqb n 0) count_is ∙ is_none)) t))
+      (match_true (machine.moved_in word_now || machine.closed_in word_now) (SeesShut tag k c word_now after) (SeesOpen tag k c word_now after) (shut_is ∙ is_shut)
+      (set_is ∙ is_shut, subst (λ (x : Bool). MatchBool x (IsGiven tag k word_now after) (SeesBusy tag k c word_now after)) (sym (ap (λ (n : ℕ). eqb n 0) (found_count tag s shown) ∙ is_none)) t))
 
-  few_busy : machine.busy shown.gate ≤ 16
-  few_busy = let b = busy_le shown.gate.phases in let n = shown.lines in let f = shown.few in omega arith
-
-  busy_told : 0 < machine.busy shown.gate → (after : Me (Option T) View) → IsSeen tag k c (machine.says_inside (machine.busy shown.gate)) word_now after → IsBusy word_now after
-  busy_told some_busy after t = (subst (λ (n : ℕ). 0 < n) (sym count_is) some_busy, subst (λ (n : ℕ). n ≤ 16) (sym count_is) few_busy, subst (λ (n : ℕ). IsSeen tag k c (machine.says_inside n) word_now after) (sym count_is) t)
+  busy_told : 0 < machine.busy shown.gate → (after : Me (Option T) View) → IsSeen tag k c (machine.says_inside (machine.busy shown.gate)) word_now after → SeesBusy tag k c word_now after
+  busy_told some_busy after t = (subst (λ (n : ℕ). 0 < n) (sym (found_count tag s shown)) some_busy, subst (λ (n : ℕ). n ≤ MAX_LINES) (sym (found_count tag s shown)) (few_busy tag s shown), subst (λ (n : ℕ). IsSeen tag k c (machine.says_inside n) word_now after) (sym (found_count tag s shown)) t)
 
   looks_by : (collected shut none_busy : Bool) → k.collected ≡ collected → machine.is_shut shown.gate ≡ shut → eqb (machine.busy shown.gate) 0 ≡ none_busy → (k.collected ≡ false → c ≡ []) → Result Told
   looks_by true shut none_busy is_collected is_shut is_none free =
       retold (IsSeen tag k c machine.says_given) Told (λ after t. match_true k.collected (IsSeen tag k c machine.says_given word_now after) (LooksAt tag k c word_now after) is_collected t)
-      (sees machine.says_given (machine.gave (sym own.collected ∙ is_collected)))
+      (sees machine.says_given (machine.gave (sym own.shows.collected ∙ is_collected)))
   looks_by false false none_busy is_collected is_shut is_none free =
       retold (IsSeen tag k c machine.says_open) Told
       (λ after t. match_false k.collected (IsSeen tag k c machine.says_given word_now after) (LooksAt tag k c word_now after) is_collected
-      (match_false (machine.moved_in word_now || machine.closed_in word_now) (IsShut word_now after) (IsOpen word_now after) (shut_is ∙ is_shut) (set_is ∙ is_shut, t)))
-      (sees machine.says_open (machine.is_open (sym own.collected ∙ is_collected) is_shut))
+      (match_false (machine.moved_in word_now || machine.closed_in word_now) (SeesShut tag k c word_now after) (SeesOpen tag k c word_now after) (shut_is ∙ is_shut) (set_is ∙ is_shut, t)))
+      (sees machine.says_open (machine.is_open (sym own.shows.collected ∙ is_collected) is_shut))
   looks_by false true false is_collected is_shut is_none free =
       let some_busy = not_zero (machine.busy shown.gate) is_none in
       retold (IsSeen tag k c (machine.says_inside (machine.busy shown.gate))) Told (λ after t. shut_told false is_collected is_shut is_none after (busy_told some_busy after t))
-      (sees (machine.says_inside (machine.busy shown.gate)) (machine.is_busy (sym own.collected ∙ is_collected) is_shut some_busy))
+      (sees (machine.says_inside (machine.busy shown.gate)) (machine.is_busy (sym own.shows.collected ∙ is_collected) is_shut some_busy))
   looks_by false true true is_collected is_shut is_none free =
       retold (IsGiven tag k) Told (λ after t. shut_told true is_collected is_shut is_none after t)
-      (gets (free is_collected) is_shut (equal_zero (machine.busy shown.gate) is_none) (sym own.collected ∙ is_collected))
+      (gets (free is_collected) is_shut (equal_zero (machine.busy shown.gate) is_none) (sym own.shows.collected ∙ is_collected))
 
 pub looks : {T : Type 0} (tag : T → List ℕ) (slots id : ℕ) (k : KeeperView) (c : List (ℕ × Option T)) → (k.collected ≡ false → c ≡ []) → Allows (IsGate tag) slots id (Keeping k, c) 0 (λ n. n) (Looks tag (step slots 0 0 0 none) (Keeping k, c))
 looks tag slots id k c free s kept fits at small =
@@ -194,42 +162,27 @@ looks tag slots id k c free s kept fits at small =
     looks_by tag slots id k c s shown at k.collected (machine.is_shut shown.gate) (eqb (machine.busy shown.gate) 0) refl refl refl free
 
 pub looks_at : {T : Type 0} (tag : T → List ℕ) (slots id : ℕ) (me : Me (Option T) View) → me.0 ≡ Keeping (keeper_in me.0) → ((keeper_in me.0).collected ≡ false → me.1 ≡ []) → Allows (IsGate tag) slots id me 0 (λ n. n) (Looks tag (step slots 0 0 0 none) me)
-looks_at {T = T} tag slots id me is free =
-    let whole : me ≡ (Keeping (keeper_in me.0), me.1) = (λ i. (is i, me.1)) in
-    subst (λ (m : Me (Option T) View). Allows (IsGate tag) slots id m 0 (λ n. n) (Looks tag (step slots 0 0 0 none) m)) (sym whole) (looks tag slots id (keeper_in me.0) me.1 free)
+looks_at tag slots id me is free = at_keeper (IsGate tag) slots id (λ n. n) (Looks tag (step slots 0 0 0 none)) me is (looks tag slots id (keeper_in me.0) me.1 free)
 
 -- what a keeper's look is told, by its cases
 module _ {T : Type 0} (tag : T → List ℕ) (k : KeeperView) (c : List (ℕ × Option T)) (word : ℕ) (after : Me (Option T) View) (told : MatchBool k.collected (IsSeen tag k c machine.says_given word after) (LooksAt tag k c word after)) where
   pub told_given : k.collected ≡ true → IsSeen tag k c machine.says_given word after
-  told_given e = subst (λ (b : Bool). MatchBool b (IsSeen tag k c machine.says_given word after) (LooksAt tag k c word after)) e told
+  told_given e = case_true k.collected _ _ e told
 
   pub told_more : k.collected ≡ false → LooksAt tag k c word after
-  told_more e = subst (λ (b : Bool). MatchBool b (IsSeen tag k c machine.says_given word after) (LooksAt tag k c word after)) e told
+  told_more e = case_false k.collected _ _ e told
 
-  abbrev BusyCase : Type 0
-  BusyCase = (0 < machine.count_in word) × (machine.count_in word ≤ 16) × IsSeen tag k c (machine.says_inside (machine.count_in word)) word after
+  pub told_open : k.collected ≡ false → (machine.moved_in word || machine.closed_in word) ≡ false → SeesOpen tag k c word after
+  told_open e f = case_false (machine.moved_in word || machine.closed_in word) _ _ f (told_more e)
 
-  abbrev ShutCase : Type 0
-  ShutCase = (has_shut k ≡ true) × MatchBool (eqb (machine.count_in word) 0) (IsGiven tag k word after) BusyCase
+  told_shut : k.collected ≡ false → (machine.moved_in word || machine.closed_in word) ≡ true → SeesShut tag k c word after
+  told_shut e f = case_true (machine.moved_in word || machine.closed_in word) _ _ f (told_more e)
 
-  abbrev OpenCase : Type 0
-  OpenCase = (has_shut k ≡ false) × IsSeen tag k c machine.says_open word after
+  pub told_busy : k.collected ≡ false → (machine.moved_in word || machine.closed_in word) ≡ true → 0 < machine.count_in word → (has_shut k ≡ true) × SeesBusy tag k c word after
+  told_busy e f h = let shut = told_shut e f in (shut.0, case_false (eqb (machine.count_in word) 0) _ _ (is_positive (machine.count_in word) h) shut.1)
 
-  pub told_open : k.collected ≡ false → (machine.moved_in word || machine.closed_in word) ≡ false → OpenCase
-  told_open e f = subst (λ (b : Bool). MatchBool b ShutCase OpenCase) f (told_more e)
-
-  told_shut : k.collected ≡ false → (machine.moved_in word || machine.closed_in word) ≡ true → ShutCase
-  told_shut e f = subst (λ (b : Bool). MatchBool b ShutCase OpenCase) f (told_more e)
-
-  pub told_busy : k.collected ≡ false → (machine.moved_in word || machine.closed_in word) ≡ true → 0 < machine.count_in word → (has_shut k ≡ true) × BusyCase
-  told_busy e f h = let shut = told_shut e f in (shut.0, subst (λ (b : Bool). MatchBool b (IsGiven tag k word after) BusyCase) (is_positive (machine.count_in word) h) shut.1)
-
-  pub told_rights : k.collected ≡ false → (machine.moved_in word || machine.closed_in word) ≡ true → machine.count_in word ≡ 0 → IsGiven tag k word after
-  told_rights e f h = subst (λ (b : Bool). MatchBool b (IsGiven tag k word after) BusyCase) (ap (λ (n : ℕ). eqb n 0) h) (told_shut e f).1
-
-  -- the keeper's view shows what the word shows
-  pub told_set : k.collected ≡ false → (machine.moved_in word || machine.closed_in word) ≡ true → has_shut k ≡ true
-  told_set e f = (told_shut e f).0
+  pub told_rights : k.collected ≡ false → (machine.moved_in word || machine.closed_in word) ≡ true → machine.count_in word ≡ 0 → (has_shut k ≡ true) × IsGiven tag k word after
+  told_rights e f h = let shut = told_shut e f in (shut.0, case_true (eqb (machine.count_in word) 0) _ _ (ap (λ (n : ℕ). eqb n 0) h) shut.1)
 
 -- the look that gave the rights, as the keeper's callers see it
 pub last_look : {T : Type 0} (tag : T → List ℕ) (old new : KeeperSeat) (gate : TableId) (k : KeeperView) (word : ℕ) (rights given : List T) → record { gate = gate; at = k } ≡ old → k.collected ≡ false → has_shut k ≡ true → machine.count_in word ≡ 0

@@ -10,11 +10,12 @@ use Rattle.atomic_table.specs.Seated.{TableId}
 use Rattle.atomic_table.proofs.Lists.{at_set}
 use Rattle.hub_core.specs.declared.line.Phase.TheVariants as phase
 use Rattle.hub_core.specs.GateMachine as machine
+use Rattle.hub_gate.specs.declared.limits.TheConstants.{MAX_LINES}
 use Rattle.hub_gate.specs.declared.view.View.{View}
-use Rattle.hub_gate.specs.declared.view.View.TheVariants.{Fresh, Filling, Keeping, LineOut, LineInside, LineTurned}
+use Rattle.hub_gate.specs.declared.view.View.TheVariants.{Fresh, Filling, Keeping, LineOut}
 use Rattle.hub_gate.specs.declared.view.LineView.{LineView}
 use Rattle.hub_gate.specs.declared.view.KeeperView.{KeeperView}
-use Rattle.hub_gate.specs.GateRule.{Tags, keeper_at, new_line, cut_off, next_line, keeper_left, line_right, slot_of, IsKeeper, Knows, Shows, IsNew, IsGate}
+use Rattle.hub_gate.specs.GateRule.{Tags, keeper_at, new_line, cut_off, next_line, keeper_left, line_right, slot_of, IsKeeper, Knows, ShowsGate, IsNew, IsGate}
 use Rattle.hub_gate.specs.GateSeats.{EntrySeat, line_in, keeper_in, first_entries, IsOpened}
 use Rattle.hub_gate.specs.GatePlays.{tags_in, Gathers, Opens}
 use Rattle.hub_gate.specs.Taking.{take_from, give_each, numbered}
@@ -41,12 +42,8 @@ filling_is : (t u : Tags) → Filling t ≡ Filling u → t ≡ u
 filling_is t u e = ap tags_in e
 
 abbrev is_filling : View → Bool
-is_filling (Fresh t) = false
 is_filling (Filling t) = true
-is_filling (Keeping k) = false
-is_filling (LineOut v) = false
-is_filling (LineInside v) = false
-is_filling (LineTurned v) = false
+is_filling _ = false
 
 module _ {T : Type 0} (tag : T → List ℕ) where
   pub begins : (tags : Tags) (n : ℕ) → n ≡ length tags → IsGate tag (opening (0 ∷ []) (replicate n None) (Fresh tags))
@@ -71,7 +68,7 @@ module _ {T : Type 0} (tag : T → List ℕ) where
       (λ shown. absurd (shown.seats id (Fresh tags) at)) kept
 
   -- the seat has all slots in hand, each with the right of its line
-  pub opens : (slots id : ℕ) (tags : Tags) (rights : List T) → map tag rights ≡ tags → length rights ≤ 16 → slots ≡ length rights
+  pub opens : (slots id : ℕ) (tags : Tags) (rights : List T) → map tag rights ≡ tags → length rights ≤ MAX_LINES → slots ≡ length rights
       → Allows (IsGate tag) slots id (Filling tags, numbered 0 (map Some rights)) 0 (λ n. n) (Opens (step slots 0 0 0 none) (Filling tags, numbered 0 (map Some rights)))
   opens slots id tags rights tags_are few many s kept fits at small = ⊎_elim
       (λ (new : IsNew s). ⊎_elim
@@ -101,18 +98,14 @@ module _ {T : Type 0} (tag : T → List ℕ) where
       seated : (tags : Tags) (rights : List T) → map tag rights ≡ tags → (seat : ℕ) (v : View) → get_elem? (Keeping (keeper_at tags 0) ∷ []) seat ≡ some v → Knows tags (machine.opened rights) 1 seat v
       seated tags rights tags_are zero v there = subst (λ (w : View). Knows tags (machine.opened rights) 1 0 w) (some-injective (Keeping (keeper_at tags 0)) v there) (record {
         stands = refl;
-        tags = refl;
         next = omega arith;
         later = λ l low high. let e = len-map tag rights in let e' = ap length tags_are in let t = got_there rights l (omega arith) in got-map (λ _. phase.Out) rights l t.0 t.1;
-        enabled = refl;
-        moved = refl;
-        closed = refl;
-        collected = refl;
+        shows = record { tags = refl; enabled = refl; moved = refl; closed = refl; collected = refl };
       })
       seated tags rights tags_are (suc seat) v there = absurd (some-ne-none v (sym there))
 
   -- the keeper's seat cuts off the seat of the next line
-  module _ (id : ℕ) (k : KeeperView) (lt : k.next < length k.tags) (s : State (Option T) View) (shown : Shows tag s) (mine : IsKeeper shown.tags shown.gate (length s.views) id k) where
+  module _ (id : ℕ) (k : KeeperView) (lt : k.next < length k.tags) (s : State (Option T) View) (shown : ShowsGate tag s) (mine : IsKeeper shown.tags shown.gate (length s.views) id k) where
     abbrev cut_views : List View
     cut_views = set s.views id (Keeping (cut_off k))
 
@@ -125,20 +118,16 @@ module _ {T : Type 0} (tag : T → List ℕ) where
     keeper_cut : KnowsNow id (Keeping (cut_off k))
     keeper_cut = record {
       stands = mine.stands;
-      tags = mine.tags;
       next = let n = mine.next in omega (arith, more);
       later = λ l low high. mine.later l (omega arith) high;
-      enabled = mine.enabled;
-      moved = mine.moved;
-      closed = mine.closed;
-      collected = mine.collected;
+      shows = record { tags = mine.shows.tags; enabled = mine.shows.enabled; moved = mine.shows.moved; closed = mine.shows.closed; collected = mine.shows.collected };
     }
 
     line_cut : KnowsNow (length cut_views) (LineOut (next_line k))
     line_cut = record {
       stands = length-set s.views id (Keeping (cut_off k)) ∙ sym mine.next;
-      at = let many = ap length mine.tags in mine.later k.next (omega arith) (omega arith);
-      tag = ap (λ (t : Tags). slice_get t k.next) (sym mine.tags) ∙ got_or k.tags k.next [] lt;
+      at = let many = ap length mine.shows.tags in mine.later k.next (omega arith) (omega arith);
+      tag = ap (λ (t : Tags). slice_get t k.next) (sym mine.shows.tags) ∙ got_or k.tags k.next [] lt;
     }
 
     seated_now : (seat : ℕ) (v : View) → get_elem? (cut_views ++ LineOut (next_line k) ∷ []) seat ≡ some v → KnowsNow seat v
@@ -164,14 +153,14 @@ module _ {T : Type 0} (tag : T → List ℕ) where
         seats = seated_now id k lt s shown (shown.seats id (Keeping k) at);
       })
 
-  -- the same for a seat whose view is given by an equation
+  -- the keeper's seat may be cut where its view is given by an equation
   pub cuts_at : (id : ℕ) (v : View) (k : KeeperView) → v ≡ Keeping k → k.next < length k.tags → Splits (IsGate tag) id v (keeper_left v) (line_right v)
   cuts_at id v k is lt = subst (λ (u : View). Splits (IsGate tag) id u (keeper_left u) (line_right u)) (sym is) (cuts id k lt)
 
   pub gathers_at : (slots id : ℕ) (me : Me (Option T) View) (tags : Tags) → me ≡ (Fresh tags, []) → Allows (IsGate tag) slots id me 0 (λ n. n) (Gathers (step slots 0 0 0 none) me)
   gathers_at slots id me tags is = subst (λ (m : Me (Option T) View). Allows (IsGate tag) slots id m 0 (λ n. n) (Gathers (step slots 0 0 0 none) m)) (sym is) (gathers slots id tags)
 
-  pub opens_at : (slots id : ℕ) (me : Me (Option T) View) (tags : Tags) (rights : List T) → me ≡ (Filling tags, numbered 0 (map Some rights)) → map tag rights ≡ tags → length rights ≤ 16 → slots ≡ length rights
+  pub opens_at : (slots id : ℕ) (me : Me (Option T) View) (tags : Tags) (rights : List T) → me ≡ (Filling tags, numbered 0 (map Some rights)) → map tag rights ≡ tags → length rights ≤ MAX_LINES → slots ≡ length rights
       → Allows (IsGate tag) slots id me 0 (λ n. n) (Opens (step slots 0 0 0 none) me)
   opens_at slots id me tags rights is tags_are few many = subst (λ (m : Me (Option T) View). Allows (IsGate tag) slots id m 0 (λ n. n) (Opens (step slots 0 0 0 none) m)) (sym is) (opens slots id tags rights tags_are few many)
 
@@ -196,11 +185,11 @@ gathered {T = T} tag rights me me1 is is1 =
     is1 ∙ ap (λ (m : Me (Option T) View). (Filling (tags_in m.0), numbered 0 (replicate (length (tags_in m.0)) None))) is
     ∙ ap (λ (n : ℕ). (Filling (map tag rights), numbered 0 (replicate n None))) (len-map tag rights)
 
--- and after it has put the rights there
+-- the seat after it has put the rights there
 pub filled_with : {T : Type 0} (tag : T → List ℕ) (rights : List T) (me1 me2 : Me (Option T) View) → me1 ≡ (Filling (map tag rights), numbered 0 (replicate (length rights) None)) → me2 ≡ (me1.0, numbered 0 (map Some rights)) → me2 ≡ (Filling (map tag rights), numbered 0 (map Some rights))
 filled_with {T = T} tag rights me1 me2 is1 is2 = is2 ∙ ap (λ (m : Me (Option T) View). (m.0, numbered 0 (map Some rights))) is1
 
--- and after it has opened the gate
+-- the seat after it has opened the gate
 pub open_at : {T : Type 0} (tag : T → List ℕ) (rights : List T) (me2 me3 : Me (Option T) View) → me2 ≡ (Filling (map tag rights), numbered 0 (map Some rights)) → me3 ≡ (Keeping (keeper_at (tags_in me2.0) 0), []) → me3 ≡ (Keeping (keeper_at (map tag rights) 0), [])
 open_at {T = T} tag rights me2 me3 is2 is3 = is3 ∙ ap (λ (m : Me (Option T) View). (Keeping (keeper_at (tags_in m.0) 0), [])) is2
 

@@ -8,19 +8,15 @@ use Rattle.hub_core.specs.declared.line.Phase.{Phase}
 use Rattle.hub_core.specs.GateMachine as machine
 use Rattle.hub_gate.specs.declared.view.View.{View}
 use Rattle.hub_gate.specs.declared.view.View.TheVariants.{Fresh, Filling, Keeping, LineOut, LineInside, LineTurned}
-use Rattle.hub_gate.specs.declared.view.KeeperView.{KeeperView}
-use Rattle.hub_gate.specs.GateRule.{Tags, IsShownBy, IsKeeper, Knows, Shows, IsGate}
+use Rattle.hub_gate.specs.GateRule.{Tags, Knows, ShowsGate, IsGate}
 use Rattle.hub_gate.proofs.Got.{got_else}
 
 abbrev pub is_opening : View → Bool
 is_opening (Fresh t) = true
 is_opening (Filling t) = true
-is_opening (Keeping k) = false
-is_opening (LineOut v) = false
-is_opening (LineInside v) = false
-is_opening (LineTurned v) = false
+is_opening _ = false
 
--- who is at the only seat
+-- the only seat is at the front
 pub one_seat : (a v : View) (l : List View) (id : ℕ) → l ≡ a ∷ [] → get_elem? l id ≡ some v → (id ≡ 0) × (a ≡ v)
 one_seat a v l id is at = only id (sym (ap (λ (k : List View). get_elem? k id) is) ∙ at)
   where
@@ -42,7 +38,7 @@ at_end (x ∷ xs) a b (suc j) e = ⊎_elim (λ t. inl t) (λ t. inr (ap suc t.0,
 
 module _ {T : Type 0} where
   -- a gate at which a line or the keeper has a seat is open
-  pub shown_where : (tag : T → List ℕ) (s : State (Option T) View) (id : ℕ) (v : View) → is_opening v ≡ false → get_elem? s.views id ≡ some v → IsGate tag s → Shows tag s
+  pub shown_where : (tag : T → List ℕ) (s : State (Option T) View) (id : ℕ) (v : View) → is_opening v ≡ false → get_elem? s.views id ≡ some v → IsGate tag s → ShowsGate tag s
   shown_where tag s id v not_new at (inr shown) = shown
   shown_where tag s id v not_new at (inl new) = ⊎_elim
       (λ here. let other = (one_seat (Fresh new.0) v s.views id here.0 at).1 in absurd (true≢false (ap is_opening other ∙ not_new)))
@@ -68,18 +64,10 @@ module _ {T : Type 0} where
   others_stay tags g l p homes seats seat (Filling t) ne low k = k
   others_stay tags g l p homes seats seat (Keeping u) ne low k = record {
     stands = k.stands;
-    tags = k.tags;
     next = k.next;
     later = λ m from to. got_else g.phases l m p (λ e. let n = k.next in absurd (omega arith)) ∙ k.later m from to;
-    enabled = k.enabled;
-    moved = k.moved;
-    closed = k.closed;
-    collected = k.collected;
+    shows = record { tags = k.shows.tags; enabled = k.shows.enabled; moved = k.shows.moved; closed = k.shows.closed; collected = k.shows.collected };
   }
   others_stay tags g l p homes seats seat (LineOut u) ne low k = record { stands = k.stands; at = got_else g.phases l u.line p (λ e. let z = k.stands in ne (z ∙ ap (λ (i : ℕ). i + 1) e)) ∙ k.at; tag = k.tag }
   others_stay tags g l p homes seats seat (LineInside u) ne low k = record { stands = k.stands; at = got_else g.phases l u.line p (λ e. let z = k.stands in ne (z ∙ ap (λ (i : ℕ). i + 1) e)) ∙ k.at; tag = k.tag }
   others_stay tags g l p homes seats seat (LineTurned u) ne low k = record { stands = k.stands; at = got_else g.phases l u.line p (λ e. let z = k.stands in ne (z ∙ ap (λ (i : ℕ). i + 1) e)) ∙ k.at; tag = k.tag }
-
--- what the keeper's seat knows, as its steps tell it
-pub shown_by : {T : Type 0} (tags : Tags) (g : machine.Gate T) (seats seat : ℕ) (k : KeeperView) → IsKeeper tags g seats seat k → IsShownBy k tags g
-shown_by tags g seats seat k own = record { tags = own.tags; enabled = own.enabled; moved = own.moved; closed = own.closed; collected = own.collected }

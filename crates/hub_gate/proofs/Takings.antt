@@ -29,7 +29,7 @@ module _ {S : Type 0} where
   rest_out pre x xs c k is ih =
       ap (λ h. homes_after h c (take_from (suc k) xs)) (sym (append_assoc pre (some x ∷ []) (map some xs))) ∙ ih ∙ append_assoc pre (some x ∷ []) (all_out xs)
 
-  -- then no slot is at home
+  -- once all slots are taken, none is at home
   pub homes-take_from : (pre : List (Option S)) (xs : List S) (c : List (ℕ × S)) (k : ℕ) → length pre ≡ k
       → homes_after (pre ++ map some xs) c (take_from k xs) ≡ pre ++ all_out xs
   homes-take_from pre [] c k is = refl

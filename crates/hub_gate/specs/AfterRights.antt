@@ -13,6 +13,6 @@ pub record IsOver {R : Type 0} (owns : ℕ → R → Type 0) (g : Gate R) : Type
   pub nobody : (line : ℕ) → ¬ IsAt g line phase.Inside
   pub turns_all : (line : ℕ) (right : R) (after : Gate R) → ¬ Steps owns g (enter line) (lets_in right) after
 
--- so it is in this state, and in each that the gate comes to from here
+-- in this state, and in each that the gate comes to from it, no line is inside and none is let in
 abbrev pub IsOverFrom : {R : Type 0} → (ℕ → R → Type 0) → Gate R → Type 0
 IsOverFrom owns g = (later : Gate _) → Follows owns g later → IsOver owns later

@@ -1,11 +1,11 @@
--- What an entry at a gate comes to.
-use Rattle.std.specs.Prelude.{◌≡◌, ℕ, true, false, List, Some, None}
+-- What an entry at a gate comes to, and what a leave does.
+use Rattle.std.specs.Prelude.{◌≡◌, ℕ, Bool, true, false, List, Some, None}
 use Rattle.hub_core.specs.GateMachine as machine
 use Rattle.hub_gate.specs.declared.entered.Refusal.{Refusal}
 use Rattle.hub_gate.specs.declared.entered.Refusal.TheVariants.{Moved, Closed}
 use Rattle.hub_gate.specs.declared.entered.Entered.{Entered}
 use Rattle.hub_gate.specs.declared.entered.Entered.TheVariants.{In, Turned}
-use Rattle.hub_gate.specs.GateSeats.{EntrySeat}
+use Rattle.hub_gate.specs.GateSeats.{EntrySeat, InsideSeat}
 use Rattle.hub_gate.specs.GatePlays.{Happens, entered_line, turned_line}
 
 -- what the gate machine answers where an entry was turned
@@ -34,7 +34,11 @@ pub record IsTurnedBack {T : Type 0} (tag : T → List ℕ) (line : ℕ) (refusa
   pub word_back : ℕ
   pub back : Happens tag word_back (machine.turn_back line) machine.says_done
 
--- let in: one step, and the right is the line's. Turned: two steps, the line is out again, and the entry's view keeps the flag that was found.
+-- a line that is let in makes one step, and the right is the line's. A line that is turned makes two steps and is out again, and the entry's view keeps the flag that was found.
 abbrev pub IsEntered : {T : Type 0} → (T → List ℕ) → EntrySeat → Entered T → Type 0
 IsEntered tag entry (In inside) = (inside.gate ≡ entry.gate) × (inside.at ≡ entered_line entry.at None) × (tag inside.right ≡ entry.at.tag) × IsLetIn tag entry.at.line inside.right
 IsEntered tag entry (Turned back refusal) = (back ≡ record { gate = entry.gate; at = turned_line (entered_line entry.at (Some refusal)) }) × IsTurnedBack tag entry.at.line refusal
+
+-- the step of a line that left with its right, and found this flag ENABLED
+abbrev pub IsLetOut : {T : Type 0} → (T → List ℕ) → InsideSeat T → Bool → Type 0
+IsLetOut tag inside enabled = (word : ℕ) × Happens tag word (machine.leave inside.at.line inside.right) (machine.lets_out enabled) × (enabled ≡ machine.enabled_in word)

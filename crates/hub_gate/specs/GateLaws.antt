@@ -15,7 +15,7 @@ use Rattle.hub_gate.specs.AfterRights.{Follows, IsOver}
 abbrev pub NoneInAfterRights : {T : Type 0} → (T → List ℕ) → Type 0
 NoneInAfterRights {T = T} tag = (tags : Tags) (g later : machine.Gate T) → machine.Reached (Owns tag tags) g → g.collected ≡ true → Follows (Owns tag tags) g later → IsOver (Owns tag tags) later
 
--- the same of the seats: at no moment is one line inside while the keeper has the rights
+-- at no moment has a seat a line inside while the keeper has the rights
 abbrev pub NoSeatInAfterRights : {T : Type 0} → (T → List ℕ) → Type 0
 NoSeatInAfterRights {T = T} tag = (s : State (Option T) View) → IsGate tag s → (keeper seat : ℕ) (k : KeeperView) (v : LineView) → get_elem? s.views keeper ≡ some (Keeping k) → k.collected ≡ true → ¬ (get_elem? s.views seat ≡ some (LineInside v))
 

@@ -1,6 +1,8 @@
 -- What each step on a gate's word tells the seat that makes it.
 use Rattle.std.specs.Prelude.{◌≡◌, ℕ, ◌+◌, ◌<◌, ◌≤◌, ◌==◌, ◌||◌, Bool, true, false, List, [], ◌∷◌, map, replicate, length, nat_lt, Option, Some, None, MatchBool}
 use Rattle.atomic_table.specs.Table.{Me, Step}
+use Rattle.hub_gate.specs.declared.limits.TheConstants.{MAX_LINES}
+use Rattle.hub_gate.specs.declared.word.Flag.{Flag}
 use Rattle.hub_gate.specs.declared.view.View.{View}
 use Rattle.hub_gate.specs.declared.view.View.TheVariants.{Fresh, Filling, Keeping, LineOut, LineInside, LineTurned}
 use Rattle.hub_gate.specs.declared.view.LineView.{LineView}
@@ -9,34 +11,32 @@ use Rattle.hub_gate.specs.declared.entered.Refusal.{Refusal}
 use Rattle.hub_gate.specs.declared.entered.Refusal.TheVariants.{Moved, Closed}
 use Rattle.hub_core.specs.GateMachine as machine
 use Rattle.hub_gate.specs.GateRule.{Tags, keeper_at, Owns, IsShownBy}
-use Rattle.hub_gate.specs.GateSeats.{line_in, keeper_in}
+use Rattle.hub_gate.specs.GateSeats.{KeeperSeat, line_in, keeper_in}
+use Rattle.hub_gate.specs.Flags.{flag_bit, flag_event, flagged_keeper}
 use Rattle.hub_gate.specs.Taking.{numbered}
 
 -- the tags of a gate that is not open yet
 abbrev pub tags_in : View → Tags
 tags_in (Fresh tags) = tags
 tags_in (Filling tags) = tags
-tags_in (Keeping k) = []
-tags_in (LineOut v) = []
-tags_in (LineInside v) = []
-tags_in (LineTurned v) = []
+tags_in _ = []
 
 module _ {T : Type 0} where
   -- the first seat has all slots, with no right in any
   abbrev pub Gathers : Step (Option T) → Me (Option T) View → ℕ → Me (Option T) View → Type 0
   Gathers step before found after = after ≡ (Filling (tags_in before.0), numbered 0 (replicate (length (tags_in before.0)) None))
 
-  -- it is the keeper's, and has no slot in hand
+  -- the first seat is the keeper's, and has no slot in hand
   abbrev pub Opens : Step (Option T) → Me (Option T) View → ℕ → Me (Option T) View → Type 0
   Opens step before found after = after ≡ (Keeping (keeper_at (tags_in before.0) 0), [])
 
 -- the view of a line that has added itself to the word, and the flag that turned it
 abbrev pub entered_line : LineView → Option Refusal → LineView
-entered_line v refusal = record { line = v.line; tag = v.tag; enters = v.enters + 1; leaves = v.leaves; refusal = refusal; enabled = v.enabled }
+entered_line v refusal = record v { enters = v.enters + 1; refusal = refusal }
 
 -- the view of a line that has taken itself off the word and found this flag ENABLED
 abbrev pub left_line : LineView → Bool → LineView
-left_line v enabled = record { line = v.line; tag = v.tag; enters = v.enters; leaves = v.leaves + 1; refusal = v.refusal; enabled = enabled }
+left_line v enabled = record v { leaves = v.leaves + 1; enabled = enabled }
 
 -- the view of a line that has turned back
 abbrev pub turned_line : LineView → LineView
@@ -50,6 +50,10 @@ pub record Happens {T : Type 0} (tag : T → List ℕ) (word : ℕ) (event : mac
   pub reached : machine.Reached (Owns tag tags) before
   pub found : word ≡ machine.word before
   pub step : machine.Steps (Owns tag tags) before event answer after
+
+-- at one moment the line that was turned took itself off the word
+abbrev pub HappensBack : {T : Type 0} → (T → List ℕ) → ℕ → Type 0
+HappensBack tag line = (word : ℕ) × Happens tag word (machine.turn_back line) machine.says_done
 
 -- one step of the keeper: its view shows the gate as it was found, and its new view the gate after the step
 pub record KeeperStep {T : Type 0} (tag : T → List ℕ) (old new : KeeperView) (word : ℕ) (event : machine.Event T) (answer : machine.Answer T) : Type 0 where
@@ -76,34 +80,26 @@ module _ {T : Type 0} (tag : T → List ℕ) where
   Leaves step before found after = (after ≡ (LineOut (left_line (line_in before.0) (machine.enabled_in found)), []))
       × ((right : T) → before.1 ≡ ((line_in before.0).line, Some right) ∷ [] → Happens tag found (machine.leave (line_in before.0).line right) (machine.lets_out (machine.enabled_in found)))
 
-  -- the line is out again
+  -- the line that was turned is out again
   abbrev pub TurnsBack : Step (Option T) → Me (Option T) View → ℕ → Me (Option T) View → Type 0
   TurnsBack step before found after = (after ≡ (LineOut (turned_line (line_in before.0)), [])) × Happens tag found (machine.turn_back (line_in before.0).line) machine.says_done
 
--- the keeper's view after it has set a flag once more
-abbrev pub enabled_keeper : KeeperView → KeeperView
-enabled_keeper k = record { tags = k.tags; next = k.next; enables = k.enables + 1; retires = k.retires; closes = k.closes; looks = k.looks; found = k.found; collected = k.collected }
-
-abbrev pub retired_keeper : KeeperView → KeeperView
-retired_keeper k = record { tags = k.tags; next = k.next; enables = k.enables; retires = k.retires + 1; closes = k.closes; looks = k.looks; found = k.found; collected = k.collected }
-
-abbrev pub closed_keeper : KeeperView → KeeperView
-closed_keeper k = record { tags = k.tags; next = k.next; enables = k.enables; retires = k.retires; closes = k.closes + 1; looks = k.looks; found = k.found; collected = k.collected }
-
 module _ {T : Type 0} (tag : T → List ℕ) where
-  -- the keeper's flag is set once more
-  abbrev pub Enables : Step (Option T) → Me (Option T) View → ℕ → Me (Option T) View → Type 0
-  Enables step before found after = (after ≡ (Keeping (enabled_keeper (keeper_in before.0)), before.1)) × KeeperStep tag (keeper_in before.0) (enabled_keeper (keeper_in before.0)) found machine.enable machine.says_done
+  -- at one moment the keeper took this one step
+  abbrev pub TakesStep : KeeperSeat → KeeperSeat → machine.Event T → machine.Answer T → Type 0
+  TakesStep old new event answer = (word : ℕ) × KeeperStep tag old.at new.at word event answer
 
-  abbrev pub Retires : Step (Option T) → Me (Option T) View → ℕ → Me (Option T) View → Type 0
-  Retires step before found after = (after ≡ (Keeping (retired_keeper (keeper_in before.0)), before.1)) × KeeperStep tag (keeper_in before.0) (retired_keeper (keeper_in before.0)) found machine.retire machine.says_done
+  -- the keeper has set this flag once more
+  abbrev pub SetsFlag : Flag → Me (Option T) View → ℕ → Me (Option T) View → Type 0
+  SetsFlag flag before found after = (after ≡ (Keeping (flagged_keeper flag (keeper_in before.0)), before.1)) × KeeperStep tag (keeper_in before.0) (flagged_keeper flag (keeper_in before.0)) found (flag_event flag) machine.says_done
 
-  abbrev pub Closes : Step (Option T) → Me (Option T) View → ℕ → Me (Option T) View → Type 0
-  Closes step before found after = (after ≡ (Keeping (closed_keeper (keeper_in before.0)), before.1)) × KeeperStep tag (keeper_in before.0) (closed_keeper (keeper_in before.0)) found machine.close machine.says_done
+  -- the flag is the one whose bit the step sets
+  abbrev pub Sets : Step (Option T) → Me (Option T) View → ℕ → Me (Option T) View → Type 0
+  Sets step before found after = (flag : Flag) → step.first ≡ flag_bit flag → SetsFlag flag before found after
 
 -- the keeper's view after a look that found this word
 abbrev pub looked_keeper : KeeperView → ℕ → Bool → KeeperView
-looked_keeper k found collected = record { tags = k.tags; next = k.next; enables = k.enables; retires = k.retires; closes = k.closes; looks = k.looks + 1; found = machine.count_in found; collected = collected }
+looked_keeper k found collected = record k { looks = k.looks + 1; found = machine.count_in found; collected = collected }
 
 -- the keeper has set one of the flags moved and closed
 abbrev pub has_shut : KeeperView → Bool
@@ -118,11 +114,21 @@ module _ {T : Type 0} (tag : T → List ℕ) where
   abbrev pub IsGiven : KeeperView → ℕ → Me (Option T) View → Type 0
   IsGiven k found after = (rights : List T) × KeeperStep tag k (looked_keeper k found true) found machine.look (machine.gives_rights rights) × (map tag rights ≡ k.tags) × (after ≡ (Keeping (looked_keeper k found true), numbered 0 (map Some rights)))
 
+  -- the look of a gate that is neither moved nor closed
+  abbrev pub SeesOpen : KeeperView → List (ℕ × Option T) → ℕ → Me (Option T) View → Type 0
+  SeesOpen k carried found after = (has_shut k ≡ false) × IsSeen k carried machine.says_open found after
+
+  -- the look that finds lines inside or being turned back
+  abbrev pub SeesBusy : KeeperView → List (ℕ × Option T) → ℕ → Me (Option T) View → Type 0
+  SeesBusy k carried found after = (0 < machine.count_in found) × (machine.count_in found ≤ MAX_LINES) × IsSeen k carried (machine.says_inside (machine.count_in found)) found after
+
+  -- the look of a gate that is moved or closed
+  abbrev pub SeesShut : KeeperView → List (ℕ × Option T) → ℕ → Me (Option T) View → Type 0
+  SeesShut k carried found after = (has_shut k ≡ true) × MatchBool (machine.count_in found == 0) (IsGiven k found after) (SeesBusy k carried found after)
+
   -- the look of a keeper that has no right yet
   abbrev pub LooksAt : KeeperView → List (ℕ × Option T) → ℕ → Me (Option T) View → Type 0
-  LooksAt k carried found after = MatchBool (machine.moved_in found || machine.closed_in found)
-      ((has_shut k ≡ true) × MatchBool (machine.count_in found == 0) (IsGiven k found after) ((0 < machine.count_in found) × (machine.count_in found ≤ 16) × IsSeen k carried (machine.says_inside (machine.count_in found)) found after))
-      ((has_shut k ≡ false) × IsSeen k carried machine.says_open found after)
+  LooksAt k carried found after = MatchBool (machine.moved_in found || machine.closed_in found) (SeesShut k carried found after) (SeesOpen k carried found after)
 
   -- where the rights were given the look says so; else it says that the gate is neither moved nor closed, or how many lines are inside or being turned back, or gives all rights
   abbrev pub Looks : Step (Option T) → Me (Option T) View → ℕ → Me (Option T) View → Type 0

@@ -6,6 +6,7 @@ use Rattle.atomic_table.specs.Table.{State}
 use Rattle.hub_core.specs.declared.line.Phase.{Phase}
 use Rattle.hub_core.specs.declared.line.Phase.TheVariants as phase
 use Rattle.hub_core.specs.GateMachine as machine
+use Rattle.hub_gate.specs.declared.limits.TheConstants.{MAX_LINES}
 use Rattle.hub_gate.specs.declared.view.View.{View}
 use Rattle.hub_gate.specs.declared.view.View.TheVariants.{Fresh, Filling, Keeping, LineOut, LineInside, LineTurned}
 use Rattle.hub_gate.specs.declared.view.LineView.{LineView}
@@ -24,27 +25,19 @@ new_line line tag = record { line = line; tag = tag; enters = 0; leaves = 0; ref
 
 -- the keeper's view after it has cut off the seat of the next line
 abbrev pub cut_off : KeeperView → KeeperView
-cut_off k = record { tags = k.tags; next = k.next + 1; enables = k.enables; retires = k.retires; closes = k.closes; looks = k.looks; found = k.found; collected = k.collected }
+cut_off k = record k { next = k.next + 1 }
 
--- the view of that line
+-- the view of the next line, whose seat the keeper's cuts off
 abbrev pub next_line : KeeperView → LineView
 next_line k = new_line k.next (slice_index_or k.tags k.next [])
 
 abbrev pub keeper_left : View → View
 keeper_left (Keeping k) = Keeping (cut_off k)
-keeper_left (Fresh t) = Fresh t
-keeper_left (Filling t) = Filling t
-keeper_left (LineOut v) = LineOut v
-keeper_left (LineInside v) = LineInside v
-keeper_left (LineTurned v) = LineTurned v
+keeper_left other = other
 
 abbrev pub line_right : View → View
 line_right (Keeping k) = LineOut (next_line k)
-line_right (Fresh t) = Fresh t
-line_right (Filling t) = Filling t
-line_right (LineOut v) = LineOut v
-line_right (LineInside v) = LineInside v
-line_right (LineTurned v) = LineTurned v
+line_right other = other
 
 -- a slot of the table: a right at home, or nothing
 abbrev pub slot_of : {T : Type 0} → Option T → maybe.Option (Option T)
@@ -55,30 +48,26 @@ slot_of None = maybe.none
 abbrev pub Owns : {T : Type 0} → (T → List ℕ) → Tags → ℕ → T → Type 0
 Owns tag tags line right = slice_get tags line ≡ Some (tag right)
 
--- the seat of a line: it stands behind the keeper's, and the line is in this phase
+-- the seat of a line stands behind the keeper's, and the line is in this phase
 pub record IsLine {T : Type 0} (tags : Tags) (g : machine.Gate T) (seat : ℕ) (v : LineView) (p : Phase) : Type 0 where
   pub stands : seat ≡ v.line + 1
   pub at : machine.IsAt g v.line p
   pub tag : slice_get tags v.line ≡ Some v.tag
 
--- the keeper's seat: the first of so many. It has set the flags that are set, and the rights are collected where it has them.
-pub record IsKeeper {T : Type 0} (all : Tags) (g : machine.Gate T) (seats seat : ℕ) (k : KeeperView) : Type 0 where
-  pub stands : seat ≡ 0
-  pub tags : k.tags ≡ all
-  pub next : k.next + 1 ≡ seats
-  pub later : (l : ℕ) → k.next ≤ l → l < length all → machine.IsAt g l phase.Out
-  pub enabled : nat_lt 0 k.enables ≡ g.enabled
-  pub moved : nat_lt 0 k.retires ≡ g.moved
-  pub closed : nat_lt 0 k.closes ≡ g.closed
-  pub collected : k.collected ≡ g.collected
-
--- what the keeper's view shows of a gate with rights of these tags is so
+-- what the keeper's view shows of a gate with rights of these tags is so: the keeper has set the flags that are set, and the rights are collected where it has them
 pub record IsShownBy {T : Type 0} (k : KeeperView) (all : Tags) (g : machine.Gate T) : Type 0 where
   pub tags : k.tags ≡ all
   pub enabled : nat_lt 0 k.enables ≡ g.enabled
   pub moved : nat_lt 0 k.retires ≡ g.moved
   pub closed : nat_lt 0 k.closes ≡ g.closed
   pub collected : k.collected ≡ g.collected
+
+-- the keeper's seat is the first of so many. The lines that have no seat yet are out.
+pub record IsKeeper {T : Type 0} (all : Tags) (g : machine.Gate T) (seats seat : ℕ) (k : KeeperView) : Type 0 where
+  pub stands : seat ≡ 0
+  pub next : k.next + 1 ≡ seats
+  pub later : (l : ℕ) → k.next ≤ l → l < length all → machine.IsAt g l phase.Out
+  pub shows : IsShownBy k all g
 
 -- what a seat's view shows is so in the gate
 abbrev pub Knows : {T : Type 0} → Tags → machine.Gate T → ℕ → ℕ → View → Type 0
@@ -90,12 +79,12 @@ Knows tags g seats seat (LineInside v) = IsLine tags g seat v phase.Inside
 Knows tags g seats seat (LineTurned v) = IsLine tags g seat v phase.Turned
 
 -- the gate is open or has been: word, slots and seats show a state that the gate machine reaches from its opening, with rights of these tags
-pub record Shows {T : Type 0} (tag : T → List ℕ) (s : State (Option T) View) : Type 0 where
+pub record ShowsGate {T : Type 0} (tag : T → List ℕ) (s : State (Option T) View) : Type 0 where
   pub gate : machine.Gate T
   pub tags : Tags
   pub reached : machine.Reached (Owns tag tags) gate
   pub lines : length gate.phases ≡ length tags
-  pub few : length tags ≤ 16
+  pub few : length tags ≤ MAX_LINES
   pub word : s.words ≡ machine.word gate ∷ []
   pub homes : s.homes ≡ map slot_of gate.homes
   pub seats : (seat : ℕ) (v : View) → get_elem? s.views seat ≡ maybe.some v → Knows tags gate (length s.views) seat v
@@ -104,6 +93,6 @@ pub record Shows {T : Type 0} (tag : T → List ℕ) (s : State (Option T) View)
 abbrev pub IsNew : {T : Type 0} → State (Option T) View → Type 0
 IsNew s = (tags : Tags) × (s.words ≡ 0 ∷ []) × (((s.views ≡ Fresh tags ∷ []) × (s.homes ≡ map maybe.some (replicate (length tags) None))) ⊎ (s.views ≡ Filling tags ∷ []))
 
--- the rule
+-- the rule of a gate: it is not open yet, or word, slots and seats show a state of the gate machine
 abbrev pub IsGate : {T : Type 0} → (T → List ℕ) → State (Option T) View → Type 0
-IsGate tag s = IsNew s ⊎ Shows tag s
+IsGate tag s = IsNew s ⊎ ShowsGate tag s

@@ -1,8 +1,10 @@
 pub mod AfterRights
 pub mod Entering
+pub mod Flags
 pub mod GateLaws
 pub mod GatePlays
 pub mod GateRule
 pub mod GateSeats
 pub mod Looking
+pub mod Opening
 pub mod Taking

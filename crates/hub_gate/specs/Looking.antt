@@ -8,7 +8,7 @@ use Rattle.hub_gate.specs.GateRule.{Owns}
 use Rattle.hub_gate.specs.GatePlays.{KeeperStep, looked_keeper, has_shut}
 use Rattle.hub_gate.specs.AfterRights.{IsOverFrom}
 
--- one look, which gave no right: one more is counted, with the count that was found
+-- one look, which gave no right: one more look is counted, with the count of lines that was found
 pub record IsLook {T : Type 0} (tag : T → List ℕ) (old new : KeeperSeat) (answer : machine.Answer T) : Type 0 where
   pub word : ℕ
   pub step : KeeperStep tag old.at new.at word machine.look answer

@@ -13,7 +13,8 @@ pub enum Refusal {
 
 /// What became of an entry.
 pub enum Entered<T: Right> {
+    /// The line is inside, with its right.
     In(Inside<T>),
-    /// The flag was set in the word that was found. The line is out again.
+    /// The line is out again, since the word that was found had this flag.
     Turned(Entry<T>, Refusal),
 }

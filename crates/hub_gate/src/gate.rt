@@ -1,8 +1,8 @@
-ghost use Rattle.std.specs.Prelude.{◌≡◌, ◌≤◌, ◌<◌, [], None, Some, map, replicate, length, vec_capacity, nat_lt, nat_le, ◌&&◌, if◌then◌else◌, IfOk, IfErr};
+ghost use Rattle.std.specs.Prelude.{◌≡◌, ◌≤◌, [], None, Some, map, replicate, length, vec_capacity, IfOk, IfErr};
 ghost use Rattle.std.specs.Arc.{arc_value};
-ghost use Rattle.hub_gate.specs.declared.view.View.TheVariants.{Fresh, Keeping};
-ghost use Rattle.hub_gate.specs.GateRule.{keeper_at};
-ghost use Rattle.hub_gate.specs.GateSeats.{AllSame, IsOpened, first_entries, keeper_in};
+ghost use Rattle.hub_gate.specs.declared.view.View.TheVariants.{Fresh};
+ghost use Rattle.hub_gate.specs.GateSeats.{AllSame, IsOpened, IsSeatOf, all_entries, keeper_tags};
+ghost use Rattle.hub_gate.specs.Opening.{IsCount, HasTable, HasFreshSeat, HasShares, HasRoom, error_for, keeper_me, all_seated};
 ghost use Rattle.hub_gate.specs.Taking.{numbered};
 
 use crate::entry::Entry;
@@ -17,7 +17,8 @@ use std::marker::PhantomData;
 use std::snapshot::Snapshot;
 use std::sync::Arc;
 
-/// A gate for rights of one type. `Gate::<T>::open` makes one; its parts are the keeper and the entries.
+/// A gate for rights of one type. `Gate::<T>::open` makes one; its parts are the keeper and the
+/// entries.
 pub struct Gate<T: Right> {
     rights: PhantomData<T>,
 }
@@ -33,10 +34,10 @@ struct Reserved<T: Right> {
 
 // Asks for all the memory that a gate with these rights needs.
 fn reserve_for<T: Right>(alloc: Global, rights: &Vec<T>) -> Result<Reserved<T>, AllocError>
-    ensures table { IfOk result (λ g. ((arc_value g.table).shared.table_id.words ≡ 1) × ((arc_value g.table).shared.table_id.slots ≡ length rights.now.items)) }
-    ensures seat { IfOk result (λ g. (g.seat.table_id ≡ (arc_value g.table).shared.table_id) × (g.seat.me ≡ (Fresh (map T.tag rights.now.items), []))) }
-    ensures shares { IfOk result (λ g. (length g.shares.items ≡ length rights.now.items) × AllSame arc_value (arc_value g.table) g.shares.items) }
-    ensures lists { IfOk result (λ g. (g.entries.items ≡ []) × (g.rights.items ≡ []) × (length rights.now.items ≤ vec_capacity g.entries) × (length rights.now.items ≤ vec_capacity g.rights)) }
+    ensures table { IfOk result (HasTable T.tag rights.now.items) }
+    ensures seat { IfOk result (HasFreshSeat T.tag rights.now.items) }
+    ensures shares { IfOk result (HasShares T.tag rights.now.items) }
+    ensures lists { IfOk result (HasRoom T.tag rights.now.items) }
 {
     let count = rights.len();
     let about = Snapshot::of(rights);
@@ -57,7 +58,7 @@ fn reserve_for<T: Right>(alloc: Global, rights: &Vec<T>) -> Result<Reserved<T>, 
     })
 }
 
-// Puts each right in the slot of its line. The seat has all slots in hand, in order.
+// Puts each right in the slot of its line, where the seat has all slots in hand, in order.
 fn fill<T: Right>(slots: &GateSteps<T>, seat: &mut GateSeat<T>, mut rights: Vec<T>)
     requires here { seat.old.table_id ≡ slots.now.table_id }
     requires held { seat.old.me.1 ≡ numbered 0 (replicate (length rights.items) None) }
@@ -72,12 +73,13 @@ fn fill<T: Right>(slots: &GateSteps<T>, seat: &mut GateSeat<T>, mut rights: Vec<
     }
 }
 
-// The first seat of a table puts each right in its slot, and is the keeper's.
+// Puts each right in its slot, and makes the first seat the keeper's.
 fn put_home<T: Right>(slots: &GateSteps<T>, seat: &mut GateSeat<T>, rights: Vec<T>)
-    requires table { (slots.now.table_id.words ≡ 1) × (slots.now.table_id.slots ≡ length rights.items) × (seat.old.table_id ≡ slots.now.table_id) }
+    requires table { IsSeatOf slots.now.table_id seat.old.table_id }
+    requires slots { slots.now.table_id.slots ≡ length rights.items }
     requires fresh { seat.old.me ≡ (Fresh (map T.tag rights.items), []) }
-    requires few { length rights.items ≤ 16 }
-    ensures keeper { seat.new.me ≡ (Keeping (keeper_at (map T.tag rights.items) 0), []) }
+    requires few { length rights.items ≤ MAX_LINES }
+    ensures keeper { seat.new.me ≡ keeper_me (map T.tag rights.items) 0 }
     ensures stays { seat.new.table_id ≡ seat.old.table_id }
 {
     slots.load::<Gather>(seat, 0);
@@ -85,19 +87,21 @@ fn put_home<T: Right>(slots: &GateSteps<T>, seat: &mut GateSeat<T>, rights: Vec<
     slots.load::<Open>(seat, 0);
 }
 
-// Cuts off a seat for each line, in order.
+// Cuts a seat for each line off the keeper's, in order.
 fn seat_lines<T: Right>(
     table: &Arc<GateTable<T>>,
     seat: &mut GateSeat<T>,
     mut shares: Vec<Arc<GateTable<T>>>,
     entries: &mut Vec<Entry<T>>,
 )
-    requires table { ((arc_value table.now).shared.table_id.words ≡ 1) × (seat.old.table_id ≡ (arc_value table.now).shared.table_id) × (length shares.items ≡ length (keeper_in seat.old.me.0).tags) }
-    requires keeper { seat.old.me ≡ (Keeping (keeper_at (keeper_in seat.old.me.0).tags 0), []) }
+    requires table { IsSeatOf (arc_value table.now).shared.table_id seat.old.table_id }
+    requires keeper { seat.old.me ≡ keeper_me (keeper_tags seat.old.me.0) 0 }
+    requires count { length shares.items ≡ length (keeper_tags seat.old.me.0) }
     requires same { AllSame arc_value (arc_value table.now) shares.items }
     requires room { (entries.old.items ≡ []) × (length shares.items ≤ vec_capacity entries.old) }
-    ensures keeper { let tags = (keeper_in seat.old.me.0).tags in seat.new.me ≡ (Keeping (keeper_at tags (length tags)), []) }
-    ensures entries { let tags = (keeper_in seat.old.me.0).tags in entries.new.items ≡ first_entries seat.old.table_id tags (length tags) }
+    ensures keeper { seat.new.me ≡ all_seated (keeper_tags seat.old.me.0) }
+    ensures entries { entries.new.items
+        ≡ all_entries seat.old.table_id (keeper_tags seat.old.me.0) }
     ensures stays { seat.new.table_id ≡ seat.old.table_id }
 {
     for line in 0..shares.len() {
@@ -121,8 +125,8 @@ impl<T: Right> Gate<T> {
     ) -> Result<(Keeper<T>, Vec<Entry<T>>), (GateError, Vec<T>)>
         ensures opened { IfOk result (λ gate. IsOpened T.tag rights.items gate.0 gate.1.items) }
         ensures given_back { IfErr result (λ e. e.1.items ≡ rights.items) }
-        ensures refused { IfErr result (λ e. e.0 ≡ (if nat_lt 0 (length rights.items) && nat_le (length rights.items) MAX_LINES then GateError.OutOfMemory else GateError.BadCount)) }
-        ensures count { IfOk result (λ _. (0 < length rights.items) × (length rights.items ≤ MAX_LINES)) }
+        ensures refused { IfErr result (λ e. e.0 ≡ error_for (length rights.items)) }
+        ensures count { IfOk result (λ _. IsCount (length rights.items)) }
     {
         let count = rights.len();
         if count == 0 || count > MAX_LINES {

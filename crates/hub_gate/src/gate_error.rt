@@ -6,7 +6,7 @@ pub enum GateError {
     /// There was no right, or more than `MAX_LINES`.
     #[error("a gate has 1 to 16 lines")]
     BadCount,
-    /// Memory was really refused.
+    /// The allocator refused memory.
     #[error("out of memory")]
     OutOfMemory,
 }

@@ -9,11 +9,13 @@ use std::snapshot::Snapshot;
 /// One word, and a slot for the right of each line. The key is the rights that the gate opens with.
 pub type GateTable<T> = Table<Option<T>, View, Snapshot<Vec<T>>, GateRule<T>, Global>;
 
-/// The steps on the table.
+/// The steps on a gate's table.
 pub type GateSteps<T> = Shared<Option<T>, View, Snapshot<Vec<T>>, GateRule<T>>;
 
+/// What a thread steps with at a gate's table: a line's seat, or the keeper's.
 pub type GateSeat<T> = Seat<Option<T>, View>;
 
+/// The rule that `IsGate` states, for rights of one type.
 pub struct GateRule<T> {
     rights: PhantomData<T>,
 }

@@ -1,4 +1,4 @@
-ghost use Rattle.std.specs.Prelude.{◌≡◌, ℕ};
+ghost use Rattle.std.specs.Prelude.{◌≡◌};
 
 use crate::entry::Entry;
 use crate::gate_table::{GateSeat, GateTable};
@@ -8,7 +8,7 @@ use crate::word::{ONE_LINE, enabled_in};
 use std::marker::Model;
 use std::sync::Arc;
 
-/// A line that is inside its gate, with its right. It can't be dropped: it has to leave.
+/// A line that is inside its gate, with its right. The value isn't `Drop`: the line has to leave.
 pub struct Inside<T: Right> {
     pub(crate) table: Arc<GateTable<T>>,
     pub(crate) seat: GateSeat<T>,
@@ -20,27 +20,29 @@ impl<T: Right> Model for Inside<T> {
     ghost use Rattle.std.specs.Prelude.{◌≡◌, [], ◌∷◌, None};
     ghost use Rattle.std.specs.Arc.{arc_value};
     ghost use Rattle.hub_gate.specs.declared.view.View.TheVariants.{LineInside};
-    ghost use Rattle.hub_gate.specs.GateSeats.{InsideSeat, line_in};
+    ghost use Rattle.hub_gate.specs.GateSeats.{InsideSeat, IsSeatOf, line_in};
 
     ghost Value = { InsideSeat T };
 
-    ghost view = { λ e. record { gate = e.seat.table_id; at = line_in e.seat.me.0; right = e.right } };
+    ghost view = { λ e.
+        record { gate = e.seat.table_id; at = line_in e.seat.me.0; right = e.right } };
 
-    ghost invariant = { λ e. ((arc_value e.table).shared.table_id.words ≡ 1)
-        × (e.seat.table_id ≡ (arc_value e.table).shared.table_id)
+    ghost invariant = { λ e. IsSeatOf (arc_value e.table).shared.table_id e.seat.table_id
         × (e.seat.me ≡ (LineInside (line_in e.seat.me.0), (e.line, None) ∷ []))
         × (e.line ≡ (line_in e.seat.me.0).line) };
 }
 
 impl<T: Right> Inside<T> {
-    ghost use Rattle.hub_core.specs.GateMachine as machine;
     ghost use Rattle.std.specs.Borrow.{Lends, sem};
     ghost use Rattle.hub_gate.specs.contracts.inside.Inside.{the_row};
-    ghost use Rattle.hub_gate.specs.GatePlays.{Happens, left_line};
+    ghost use Rattle.hub_gate.specs.Entering.{IsLetOut};
+    ghost use Rattle.hub_gate.specs.GatePlays.{left_line};
+    ghost use Rattle.hub_gate.specs.GateSeats.{with_right};
 
-    /// The right. It is to keep its tag until the line leaves.
+    /// Lends the right, which is to have its tag again when the line leaves.
     pub fn right_mut(&mut self) -> &mut T
-        ensures* lends { sem 𝓛 (Lends (the_row T.row ⟦<T as Right>⟧) T.row self.entry result (λ right. record { gate = self.old.gate; at = self.old.at; right = right })) }
+        ensures* lends { sem 𝓛
+            (Lends (the_row T.row ⟦<T as Right>⟧) T.row self.entry result (with_right self.old)) }
         ensures value { result.now ≡ self.old.right }
     {
         &mut self.right
@@ -51,7 +53,7 @@ impl<T: Right> Inside<T> {
     pub fn leave(self) -> (Entry<T>, bool)
         requires { T.tag self.right ≡ self.at.tag }
         ensures entry { result.0 ≡ record { gate = self.gate; at = left_line self.at result.1 } }
-        ensures step { (word : ℕ) × Happens T.tag word (machine.leave self.at.line self.right) (machine.lets_out result.1) × (result.1 ≡ machine.enabled_in word) }
+        ensures step { IsLetOut T.tag self result.1 }
     {
         let Inside {
             table,

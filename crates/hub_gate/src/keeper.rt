@@ -1,22 +1,25 @@
 ghost use Rattle.std.specs.Prelude.{◌≡◌, ℕ, ◌≤◌, [], Some, map, length, nat_lt, vec_capacity};
+ghost use Rattle.hub_gate.specs.declared.view.View.TheVariants.{Keeping};
+ghost use Rattle.hub_gate.specs.GatePlays.{SetsFlag};
+ghost use Rattle.hub_gate.specs.GateSeats.{IsSeatOf, keeper_in};
 ghost use Rattle.hub_gate.specs.Taking.{numbered, values_in};
 
 use crate::gate_table::{GateSeat, GateSteps, GateTable};
 use crate::looked::Looked;
-use crate::plays::{Close, Enable, Look, Retire};
+use crate::plays::{Look, SetFlag};
 use crate::right::Right;
-use crate::word::{CLOSED, ENABLED, MOVED, count_in, shut_in};
+use crate::word::{Flag, count_in, shut_in};
 use std::marker::Model;
 use std::sync::Arc;
 
-/// Whoever has it sets the gate's flags, and gets the rights of all lines in the end.
+/// Whoever has the keeper sets the gate's flags, and gets the rights of all lines in the end.
 #[derive(Drop)]
 pub struct Keeper<T: Right> {
     pub(crate) table: Arc<GateTable<T>>,
     pub(crate) seat: GateSeat<T>,
-    /// `enable` was called.
+    /// Whether `enable` was called.
     pub(crate) enabled: bool,
-    /// Empty, with room for all rights, until a look gives it.
+    /// An empty list with room for all rights, until a look gives the rights in it.
     pub(crate) rights: Option<Vec<T>>,
 }
 
@@ -24,14 +27,13 @@ impl<T: Right> Model for Keeper<T> {
     ghost use Rattle.std.specs.Prelude.{◌≡◌, ◌≤◌, [], length, nat_lt, true, false, MatchOption, vec_capacity};
     ghost use Rattle.std.specs.Arc.{arc_value};
     ghost use Rattle.hub_gate.specs.declared.view.View.TheVariants.{Keeping};
-    ghost use Rattle.hub_gate.specs.GateSeats.{KeeperSeat, keeper_in};
+    ghost use Rattle.hub_gate.specs.GateSeats.{IsSeatOf, KeeperSeat, keeper_in};
 
     ghost Value = { KeeperSeat };
 
     ghost view = { λ k. record { gate = k.seat.table_id; at = keeper_in k.seat.me.0 } };
 
-    ghost invariant = { λ k. ((arc_value k.table).shared.table_id.words ≡ 1)
-        × (k.seat.table_id ≡ (arc_value k.table).shared.table_id)
+    ghost invariant = { λ k. IsSeatOf (arc_value k.table).shared.table_id k.seat.table_id
         × (k.seat.table_id.slots ≡ length (keeper_in k.seat.me.0).tags)
         × (k.seat.me.0 ≡ Keeping (keeper_in k.seat.me.0))
         × (k.enabled ≡ nat_lt 0 (keeper_in k.seat.me.0).enables)
@@ -41,7 +43,7 @@ impl<T: Right> Model for Keeper<T> {
         × (k.seat.me.1 ≡ [])) };
 }
 
-// Takes the right out of each slot. The seat has all slots in hand, in order.
+// Takes the right out of each slot, where the seat has all slots in hand, in order.
 fn take_out<T: Right>(
     slots: &GateSteps<T>,
     seat: &mut GateSeat<T>,
@@ -50,7 +52,8 @@ fn take_out<T: Right>(
 )
     requires here { seat.old.table_id ≡ slots.now.table_id }
     requires held { seat.old.me.1 ≡ numbered 0 (map Some (values_in seat.old.me.1)) }
-    requires room { (rights.old.items ≡ []) × (count ≤ vec_capacity rights.old) × (count ≡ length (values_in seat.old.me.1)) }
+    requires room { (rights.old.items ≡ []) × (count ≤ vec_capacity rights.old) }
+    requires count { count ≡ length (values_in seat.old.me.1) }
     ensures stays { (seat.new.table_id ≡ seat.old.table_id) × (seat.new.me.0 ≡ seat.old.me.0) }
     ensures taken { rights.new.items ≡ values_in seat.old.me.1 }
 {
@@ -61,39 +64,45 @@ fn take_out<T: Right>(
     }
 }
 
+// Sets a flag of the word, which is one step of the keeper's seat.
+fn set_flag<T: Right>(steps: &GateSteps<T>, seat: &mut GateSeat<T>, flag: Flag)
+    requires table { IsSeatOf steps.now.table_id seat.old.table_id }
+    requires keeper { seat.old.me.0 ≡ Keeping (keeper_in seat.old.me.0) }
+    ensures stays { seat.new.table_id ≡ seat.old.table_id }
+    ensures set { (word : ℕ) × SetsFlag T.tag flag seat.old.me word seat.new.me }
+{
+    steps.fetch_or::<SetFlag<T>>(seat, 0, flag.bit());
+}
+
 impl<T: Right> Keeper<T> {
     ghost use Rattle.hub_core.specs.GateMachine as machine;
-    ghost use Rattle.hub_gate.specs.GatePlays.{KeeperStep, enabled_keeper, retired_keeper, closed_keeper};
+    ghost use Rattle.hub_gate.specs.GatePlays.{TakesStep};
+    ghost use Rattle.hub_gate.specs.GateSeats.{flagged_seat};
     ghost use Rattle.hub_gate.specs.Looking.{IsLooked};
 
     /// Sets the flag ENABLED. It is one step on the word.
     pub fn enable(&mut self)
-        ensures keeper { self.new ≡ record { gate = self.old.gate; at = enabled_keeper self.old.at } }
-        ensures step { (word : ℕ) × KeeperStep T.tag self.old.at self.new.at word machine.enable machine.says_done }
+        ensures keeper { self.new ≡ flagged_seat Flag.Enabled self.old }
+        ensures step { TakesStep T.tag self.old self.new machine.enable machine.says_done }
     {
-        let table = &self.table;
-        table
-            .shared
-            .fetch_or::<Enable<T>>(&mut self.seat, 0, ENABLED);
+        set_flag(&self.table.shared, &mut self.seat, Flag::Enabled);
         self.enabled = true;
     }
 
     /// Sets the flag MOVED: every later entry is turned with `Moved`. It is one step on the word.
     pub fn retire(&mut self)
-        ensures keeper { self.new ≡ record { gate = self.old.gate; at = retired_keeper self.old.at } }
-        ensures step { (word : ℕ) × KeeperStep T.tag self.old.at self.new.at word machine.retire machine.says_done }
+        ensures keeper { self.new ≡ flagged_seat Flag.Moved self.old }
+        ensures step { TakesStep T.tag self.old self.new machine.retire machine.says_done }
     {
-        let table = &self.table;
-        table.shared.fetch_or::<Retire<T>>(&mut self.seat, 0, MOVED);
+        set_flag(&self.table.shared, &mut self.seat, Flag::Moved);
     }
 
     /// Sets the flag CLOSED: every later entry is turned. It is one step on the word.
     pub fn close(&mut self)
-        ensures keeper { self.new ≡ record { gate = self.old.gate; at = closed_keeper self.old.at } }
-        ensures step { (word : ℕ) × KeeperStep T.tag self.old.at self.new.at word machine.close machine.says_done }
+        ensures keeper { self.new ≡ flagged_seat Flag.Closed self.old }
+        ensures step { TakesStep T.tag self.old self.new machine.close machine.says_done }
     {
-        let table = &self.table;
-        table.shared.fetch_or::<Close<T>>(&mut self.seat, 0, CLOSED);
+        set_flag(&self.table.shared, &mut self.seat, Flag::Closed);
     }
 
     /// Whether `enable` was called. It is no step on the word.

@@ -2,7 +2,8 @@
 //!
 //! Whoever holds an `Entry` may go in, unless the gate was retired or closed, and has the right of
 //! its line while it is inside. The `Keeper` sets the gate's flags, and gets all rights, once, when
-//! the gate is retired or closed and nobody is inside. Each call is one step on the word, or two.
+//! the gate is retired or closed and nobody is inside. A call on an entry, on a line inside or on
+//! the keeper makes at most two steps on the word.
 #![tactic(auto)]
 
 mod entered;

@@ -5,7 +5,7 @@ pub enum Looked<T> {
     Open,
     /// So many lines are inside or being turned back.
     StillInside(u8),
-    /// The rights of all lines, in the order of the lines. It comes once.
+    /// The rights of all lines, in the order of the lines. A keeper gets them once.
     Rights(Vec<T>),
     /// The rights were given before.
     Given,

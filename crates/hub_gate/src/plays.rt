@@ -4,7 +4,7 @@ use crate::view::View;
 use atomic_table::Play;
 use std::marker::PhantomData;
 
-/// The first seat takes all slots.
+/// The first seat takes all slots in hand.
 pub struct Gather;
 
 impl<T> Play<Option<T>, View> for Gather {
@@ -13,7 +13,7 @@ impl<T> Play<Option<T>, View> for Gather {
     ghost then = { Gathers };
 }
 
-/// It gives them back, each with its right, and is the keeper's.
+/// The first seat gives all slots back, each with its right, and is the keeper's.
 pub struct Open;
 
 impl<T> Play<Option<T>, View> for Open {
@@ -23,9 +23,7 @@ impl<T> Play<Option<T>, View> for Open {
 }
 
 /// A line enters.
-pub struct Enter<T> {
-    rights: PhantomData<T>,
-}
+pub struct Enter<T>(PhantomData<T>);
 
 impl<T: Right> Play<Option<T>, View> for Enter<T> {
     ghost use Rattle.hub_gate.specs.GatePlays.{Enters};
@@ -34,9 +32,7 @@ impl<T: Right> Play<Option<T>, View> for Enter<T> {
 }
 
 /// A line leaves, with its right.
-pub struct Leave<T> {
-    rights: PhantomData<T>,
-}
+pub struct Leave<T>(PhantomData<T>);
 
 impl<T: Right> Play<Option<T>, View> for Leave<T> {
     ghost use Rattle.hub_gate.specs.GatePlays.{Leaves};
@@ -45,9 +41,7 @@ impl<T: Right> Play<Option<T>, View> for Leave<T> {
 }
 
 /// A line turns back.
-pub struct TurnBack<T> {
-    rights: PhantomData<T>,
-}
+pub struct TurnBack<T>(PhantomData<T>);
 
 impl<T: Right> Play<Option<T>, View> for TurnBack<T> {
     ghost use Rattle.hub_gate.specs.GatePlays.{TurnsBack};
@@ -55,43 +49,17 @@ impl<T: Right> Play<Option<T>, View> for TurnBack<T> {
     ghost then = { TurnsBack T.tag };
 }
 
-/// The keeper sets ENABLED.
-pub struct Enable<T> {
-    rights: PhantomData<T>,
-}
+/// The keeper sets the flag whose bit the step sets.
+pub struct SetFlag<T>(PhantomData<T>);
 
-impl<T: Right> Play<Option<T>, View> for Enable<T> {
-    ghost use Rattle.hub_gate.specs.GatePlays.{Enables};
+impl<T: Right> Play<Option<T>, View> for SetFlag<T> {
+    ghost use Rattle.hub_gate.specs.GatePlays.{Sets};
 
-    ghost then = { Enables T.tag };
-}
-
-/// The keeper sets MOVED.
-pub struct Retire<T> {
-    rights: PhantomData<T>,
-}
-
-impl<T: Right> Play<Option<T>, View> for Retire<T> {
-    ghost use Rattle.hub_gate.specs.GatePlays.{Retires};
-
-    ghost then = { Retires T.tag };
-}
-
-/// The keeper sets CLOSED.
-pub struct Close<T> {
-    rights: PhantomData<T>,
-}
-
-impl<T: Right> Play<Option<T>, View> for Close<T> {
-    ghost use Rattle.hub_gate.specs.GatePlays.{Closes};
-
-    ghost then = { Closes T.tag };
+    ghost then = { Sets T.tag };
 }
 
 /// The keeper looks.
-pub struct Look<T> {
-    rights: PhantomData<T>,
-}
+pub struct Look<T>(PhantomData<T>);
 
 impl<T: Right> Play<Option<T>, View> for Look<T> {
     ghost use Rattle.hub_gate.specs.GatePlays.{Looks};

@@ -5,7 +5,7 @@ use std::alloc::{AllocError, Global};
 use std::test::Fail;
 use std::thread;
 
-// So many rights, the first of them this number, each further one more.
+// So many rights: the first is this number, and each further one is one more.
 fn rights(alloc: Global, count: usize, first: u64) -> Result<Vec<u64>, AllocError> {
     let mut rights = Vec::with_capacity(alloc, count)?;
     let mut next = first;
@@ -16,7 +16,7 @@ fn rights(alloc: Global, count: usize, first: u64) -> Result<Vec<u64>, AllocErro
     Ok(rights)
 }
 
-// The gate's word. A look would tell the keeper, and this tells nobody.
+// The gate's word, which nobody is told of, as the keeper would be by a look.
 fn word(keeper: &Keeper<u64>) -> u64 {
     keeper.table.shared.peek(0)
 }
@@ -36,6 +36,17 @@ fn both_in(one: Entry<u64>, other: Entry<u64>) -> Option<(Inside<u64>, Inside<u6
             None
         }
         (Entered::Turned(_, _), Entered::Turned(_, _)) => None,
+    }
+}
+
+// Why the gate lets the line in no more, where it doesn't.
+fn refusal_of(entry: Entry<u64>) -> Option<Refusal> {
+    match entry.enter() {
+        Entered::In(inside) => {
+            inside.leave();
+            None
+        }
+        Entered::Turned(_back, refusal) => Some(refusal),
     }
 }
 
@@ -71,14 +82,7 @@ fn gate_words(rt: HostRuntime) -> Result<(), Fail> {
     assert!(rt; matches!(keeper.look(), Looked::Given));
     keeper.close();
     assert_eq!(rt; word(&keeper), 7);
-    let refusal = match one.enter() {
-        Entered::In(inside) => {
-            inside.leave();
-            None
-        }
-        Entered::Turned(_back, refusal) => Some(refusal),
-    };
-    assert_eq!(rt; refusal, Some(Refusal::Moved));
+    assert_eq!(rt; refusal_of(one), Some(Refusal::Moved));
     assert_eq!(rt; word(&keeper), 7);
     assert_eq!(rt; word_of(true, true, true, 16), 4103);
     Ok(())
@@ -92,14 +96,7 @@ fn a_closed_gate_turns_its_entries(rt: HostRuntime) -> Result<(), Fail> {
     };
     keeper.close();
     let entry = entries.pop().ok_or("no entry")?;
-    let refusal = match entry.enter() {
-        Entered::In(inside) => {
-            inside.leave();
-            None
-        }
-        Entered::Turned(_back, refusal) => Some(refusal),
-    };
-    assert_eq!(rt; refusal, Some(Refusal::Closed));
+    assert_eq!(rt; refusal_of(entry), Some(Refusal::Closed));
     assert_eq!(rt; word(&keeper), 4);
     Ok(())
 }

@@ -7,13 +7,13 @@ pub struct LineView {
     pub line: u64,
     /// The tag of the line's right.
     pub tag: [u64; 0],
-    /// How often it has added itself to the word.
+    /// How often the line has added itself to the word.
     pub enters: u64,
-    /// How often it has taken itself off the word, leaving or turning back.
+    /// How often the line has taken itself off the word, leaving or turning back.
     pub leaves: u64,
-    /// The flag that its last entry found, if it was turned.
+    /// The flag that the line's last entry found, if it was turned.
     pub refusal: Option<Refusal>,
-    /// The flag ENABLED in the word that it found when it last left.
+    /// The flag ENABLED in the word that the line found when it last left.
     pub enabled: bool,
 }
 
@@ -21,16 +21,16 @@ pub struct LineView {
 pub struct KeeperView {
     /// The tags of the rights, in the order of the lines.
     pub tags: [[u64; 0]; 0],
-    /// The lines below it have seats of their own.
+    /// The next line to get a seat: the lines below this number have theirs.
     pub next: u64,
-    /// How often it has set each flag.
+    /// How often the keeper has set each flag.
     pub enables: u64,
     pub retires: u64,
     pub closes: u64,
-    /// How often it has looked, and the count that it found last.
+    /// How often the keeper has looked, and the count of lines that it found last.
     pub looks: u64,
     pub found: u64,
-    /// It has all rights.
+    /// Whether the keeper has all rights.
     pub collected: bool,
 }
 
@@ -38,7 +38,7 @@ pub struct KeeperView {
 pub enum View {
     /// The first seat, of a gate with rights of these tags, which has put none of them in its slot.
     Fresh([[u64; 0]; 0]),
-    /// The same seat while it has all slots in hand.
+    /// The first seat while it has all slots in hand.
     Filling([[u64; 0]; 0]),
     Keeping(KeeperView),
     LineOut(LineView),

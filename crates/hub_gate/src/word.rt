@@ -1,23 +1,55 @@
-//! The word of a gate: three flags, and from bit 8 on how many lines are inside or being turned back.
-ghost use Rattle.std.specs.Prelude.{◌≡◌, ℕ, ◌≤◌, ◌||◌, Bool};
+//! The word of a gate: three flags, and from bit 8 on how many lines are inside or turning back.
+ghost use Rattle.std.specs.Prelude.{◌≡◌, ℕ, ◌*◌, ◌≤◌, ◌||◌, Bool};
 ghost use Rattle.hub_core.specs.GateMachine as machine;
+ghost use Rattle.hub_gate.specs.Flags.{flag_bit};
 
-/// The bit of each flag, and what a line adds.
-pub(crate) const ENABLED: u64 = 1;
+/// A flag of the word.
+#[derive(Clone, Copy)]
+pub(crate) enum Flag {
+    Enabled,
+    Moved,
+    Closed,
+}
 
-pub(crate) const MOVED: u64 = 2;
+impl Flag {
+    /// The flag's one bit.
+    pub(crate) fn bit(self) -> u64
+        ensures { result ≡ flag_bit self }
+    {
+        match self {
+            Flag::Enabled => 1,
+            Flag::Moved => 2,
+            Flag::Closed => 4,
+        }
+    }
+}
 
-pub(crate) const CLOSED: u64 = 4;
-
+/// What each line that is inside or turning back adds to the word.
 pub(crate) const ONE_LINE: u64 = 256;
+
+// What the flag adds to a word in which it is set, or not.
+fn value_of(flag: Flag, is_set: bool) -> u64
+    ensures { result ≡ flag_bit flag * machine.bit_of is_set }
+{
+    if is_set { flag.bit() } else { 0 }
+}
 
 /// The word with these flags and this count.
 pub fn word_of(enabled: bool, moved: bool, closed: bool, count: u8) -> u64
     ensures exactly { result ≡ machine.word_of enabled moved closed count }
     ensures greatest { count ≤ 16 → result ≤ 4103 }
 {
-    let flags = enabled as u64 * ENABLED + moved as u64 * MOVED + closed as u64 * CLOSED;
+    let flags = value_of(Flag::Enabled, enabled)
+        + value_of(Flag::Moved, moved)
+        + value_of(Flag::Closed, closed);
     flags + count as u64 * ONE_LINE
+}
+
+// Whether the word has the flag.
+fn has_flag(word: u64, flag: Flag) -> bool
+    ensures { result ≡ machine.has_bit word (flag_bit flag) }
+{
+    word & flag.bit() != 0
 }
 
 /// Whether the word has the flag ENABLED.
@@ -25,7 +57,7 @@ pub fn enabled_in(word: u64) -> bool
     ensures exactly { result ≡ machine.enabled_in word }
     ensures part { (e m c : Bool) (k : ℕ) → word ≡ machine.word_of e m c k → result ≡ e }
 {
-    word & ENABLED != 0
+    has_flag(word, Flag::Enabled)
 }
 
 /// Whether the word has the flag MOVED.
@@ -33,7 +65,7 @@ pub fn moved_in(word: u64) -> bool
     ensures exactly { result ≡ machine.moved_in word }
     ensures part { (e m c : Bool) (k : ℕ) → word ≡ machine.word_of e m c k → result ≡ m }
 {
-    word & MOVED != 0
+    has_flag(word, Flag::Moved)
 }
 
 /// Whether the word has the flag CLOSED.
@@ -41,7 +73,7 @@ pub fn closed_in(word: u64) -> bool
     ensures exactly { result ≡ machine.closed_in word }
     ensures part { (e m c : Bool) (k : ℕ) → word ≡ machine.word_of e m c k → result ≡ c }
 {
-    word & CLOSED != 0
+    has_flag(word, Flag::Closed)
 }
 
 /// Whether the word has one of the flags MOVED and CLOSED.

@@ -8,7 +8,7 @@ use lib.ListN.{get_elem?}
 use Rattle.atomic_table.specs.Table.{State, Me, step, keeps, stepped, opening, Allows, Splits}
 use Rattle.atomic_table.proofs.Lists.{at_set, at_snoc, set_again}
 use Rattle.hub_life.specs.declared.order_view.OrderView.{OrderView}
-use Rattle.hub_life.specs.Order.{unaware, gives_in, word_of, IsKept, Gives, Looks}
+use Rattle.hub_life.specs.Order.{unaware, gives_in, order_word, IsKept, Gives, Looks}
 
 -- a sum after a change of one item
 sum_by-at_set : {A : Type 0} (f : A → ℕ) (l : List A) (i : ℕ) (v w : A) → get_elem? l i ≡ some v → sum_by f (set l i w) + f v ≡ sum_by f l + f w
@@ -35,15 +35,15 @@ or_cases true b e = inl refl
 or_cases false b e = inr e
 
 -- a word that is 1 says that the order was given, and the other way round
-given_where_one : (gives n : ℕ) → n ≡ word_of gives → eqb n 1 ≡ true → 0 < gives
+given_where_one : (gives n : ℕ) → n ≡ order_word gives → eqb n 1 ≡ true → 0 < gives
 given_where_one zero n is one = absurd (true≢false (sym one ∙ ap (λ (k : ℕ). eqb k 1) is))
 given_where_one (suc gives) n is one = omega arith
 
-one_where_given : (gives n : ℕ) → n ≡ word_of gives → 0 < gives → n ≡ 1
+one_where_given : (gives n : ℕ) → n ≡ order_word gives → 0 < gives → n ≡ 1
 one_where_given gives n is some_gave = grind (arith, nat_tests)
 
 -- the bit is set, whatever the word was
-set_bit : (gives n : ℕ) → n ≡ word_of gives → bit_or n 1 ≡ 1
+set_bit : (gives n : ℕ) → n ≡ order_word gives → bit_or n 1 ≡ 1
 set_bit gives n is = ap (λ (k : ℕ). bit_or k 1) is ∙ either_bit (nat_lt 0 gives)
   where
     either_bit : (given : Bool) → bit_or (if given then 1 else 0) 1 ≡ 1
@@ -58,7 +58,7 @@ Own = Me (Unit {0}) OrderView
 
 -- a step keeps the rule where its number is right for the new views, and its seat forgets no gift and finds nothing that none gave
 placed : (s : Shared) → IsKept s → (n id : ℕ) (me : Own) (w : OrderView) → get_elem? s.views id ≡ some me.0
-    → me.0.gives ≤ w.gives → n ≡ word_of (gives_in (set s.views id w)) → (w.found ≡ true → 0 < gives_in (set s.views id w))
+    → me.0.gives ≤ w.gives → n ≡ order_word (gives_in (set s.views id w)) → (w.found ≡ true → 0 < gives_in (set s.views id w))
     → IsKept (stepped s 0 n id me.1 w keeps)
 placed s kept n id me w at more is finds =
     let one = kept.one in
@@ -85,7 +85,7 @@ cuts id v s kept at =
     subst (λ (l : List OrderView). IsKept record { words = s.words; homes = s.homes; views = l ++ unaware ∷ [] }) (sym same)
     (record {
       one = kept.one;
-      word = kept.word ∙ ap word_of (sym total);
+      word = kept.word ∙ ap order_word (sym total);
       given = λ seat u there found. ⊎_elim
           (λ was. let some_gave = kept.given seat u was found in omega (arith, total))
           (λ new. absurd (true≢false (sym found ∙ ap (λ (w : OrderView). w.found) (sym new))))
@@ -101,7 +101,7 @@ gives_keep slots id me s kept fits at small =
     let w : OrderView = record { gives = v.gives + 1; looks = v.looks; found = v.found } in
     let sum = sum_by-at_set (λ (u : OrderView). u.gives) s.views id v w at in
     let more : gives_in (set s.views id w) ≡ suc (gives_in s.views) = omega arith in
-    (w, keeps, tt, placed s kept (bit_or (get_or s.words 0 0) 1) id me w at (omega arith) (set_bit (gives_in s.views) (get_or s.words 0 0) kept.word ∙ sym (one_where_given (gives_in (set s.views id w)) (word_of (gives_in (set s.views id w))) refl (omega arith))) (λ _. omega arith), refl)
+    (w, keeps, tt, placed s kept (bit_or (get_or s.words 0 0) 1) id me w at (omega arith) (set_bit (gives_in s.views) (get_or s.words 0 0) kept.word ∙ sym (one_where_given (gives_in (set s.views id w)) (order_word (gives_in (set s.views id w))) refl (omega arith))) (λ _. omega arith), refl)
 
 pub looks_keep : (slots id : ℕ) (me : Own) → Allows IsKept slots id me 0 (λ n. n) (Looks (step slots 0 0 0 none) me)
 looks_keep slots id me s kept fits at small =
@@ -114,7 +114,7 @@ looks_keep slots id me s kept fits at small =
       w,
       keeps,
       tt,
-      placed s kept n id me w at (omega arith) (kept.word ∙ ap word_of (sym same)) (λ found. let gave = given_where_one (gives_in s.views) n kept.word found in omega arith),
+      placed s kept n id me w at (omega arith) (kept.word ∙ ap order_word (sym same)) (λ found. let gave = given_where_one (gives_in s.views) n kept.word found in omega arith),
       record {
         view = refl;
         stays = λ aware. one_where_given (gives_in s.views) n kept.word

@@ -12,8 +12,10 @@ ghost use Rattle.hub_life.specs.Course.{after, after_all, stage_of, IsSound};
 /// `activation`: nothing keeps an activating worker from being activated.
 pub fn lifecycle_laws()
     ensures sound { (events : List Event) → IsSound (after_all start events) }
-    ensures forward { (p : Progress) (event : Event) → stage_of p.state ≤ stage_of (after p event).state }
-    ensures failed_install { (p : Progress) (events : List Event) → p.state ≡ Installing → p.failed ≡ true
+    ensures forward { (p : Progress) (event : Event) →
+        stage_of p.state ≤ stage_of (after p event).state }
+    ensures failed_install { (p : Progress) (events : List Event) →
+        p.state ≡ Installing → p.failed ≡ true
         → ((after_all p events).state ≡ Installing) ⊎ ((after_all p events).state ≡ Redundant) }
     ensures activation { (p : Progress) (event : Event) → p.state ≡ Activating
         → ((after p event).state ≡ Activating) ⊎ ((after p event).state ≡ Activated) }

@@ -1,7 +1,8 @@
 //! The life of a service worker, and the order by which an agent is ended.
 //!
-//! A `Life` answers the events of a worker's life by one table. An `Order` is one seat at a word that
-//! threads share: whoever has a seat may give the order, once and for good, and every seat can find it.
+//! A `Life` answers the events of a worker's life by one table. An `Order` is one seat at a word
+//! that threads share: whoever has a seat may give the order, once and for good, and every seat can
+//! find it.
 #![tactic(auto)]
 
 mod event;
@@ -12,7 +13,6 @@ mod limits;
 mod order;
 mod order_view;
 mod order_word;
-mod out_of_memory;
 mod state;
 #[cfg(test)]
 mod tests;
@@ -23,5 +23,5 @@ pub use life::Life;
 pub use life_error::LifeError;
 pub use limits::MAX_EXTENSIONS;
 pub use order::Order;
-pub use out_of_memory::OutOfMemory;
 pub use state::State;
+pub use std::alloc::AllocError as OutOfMemory;

@@ -73,7 +73,8 @@ impl Life {
 
     /// Takes an event by the table, and answers the state that it leaves.
     pub fn event(&mut self, event: Event) -> Result<State, LifeError>
-        ensures ok { IfOk result (λ state. (answer self.old event ≡ Ok self.new) × (state ≡ self.new.state)) }
+        ensures ok { IfOk result (λ state.
+            (answer self.old event ≡ Ok self.new) × (state ≡ self.new.state)) }
         ensures err { IfErr result (λ e. (answer self.old event ≡ Err e) × (self.new ≡ self.old)) }
     {
         match (self.state, event) {
@@ -114,7 +115,8 @@ impl Life {
 
     fn close_extension(&mut self, fails: bool) -> Result<(), LifeError>
         ensures ok { OnOk result (close_one self.old fails ≡ Ok self.new) }
-        ensures err { IfErr result (λ e. (close_one self.old fails ≡ Err e) × (self.new ≡ self.old)) }
+        ensures err { IfErr result (λ e.
+            (close_one self.old fails ≡ Err e) × (self.new ≡ self.old)) }
     {
         if self.open_extensions == 0 {
             return Err(LifeError::NoExtension);
@@ -127,7 +129,8 @@ impl Life {
 
     fn finish_handler(&mut self) -> Result<(), LifeError>
         ensures ok { OnOk result (finish_handler self.old ≡ Ok self.new) }
-        ensures err { IfErr result (λ e. (finish_handler self.old ≡ Err e) × (self.new ≡ self.old)) }
+        ensures err { IfErr result (λ e.
+            (finish_handler self.old ≡ Err e) × (self.new ≡ self.old)) }
     {
         if !self.handling {
             return Err(LifeError::WrongState);

@@ -2,9 +2,9 @@ ghost use Rattle.std.specs.Prelude.{◌≡◌, ◌+◌, IfOk, IsTrue, replicate}
 ghost use Rattle.std.specs.Arc.{arc_value};
 ghost use Rattle.atomic_table.specs.Seated.{TableId};
 
+use crate::OutOfMemory;
 use crate::order_view::OrderView;
 use crate::order_word::{Give, Look, OneMore, OrderWord};
-use crate::out_of_memory::OutOfMemory;
 use atomic_table::Seat;
 use std::alloc::Global;
 use std::marker::Model;
@@ -35,7 +35,8 @@ impl Order {
 
     /// A new word, at which the order isn't given, and so many seats there.
     pub fn open(alloc: Global, seats: usize) -> Result<Vec<Order>, OutOfMemory>
-        ensures { IfOk result (λ orders. (word : TableId) × (orders.items ≡ replicate seats (new_seat word))) }
+        ensures { IfOk result (λ orders.
+            (word : TableId) × (orders.items ≡ replicate seats (new_seat word))) }
     {
         let mut orders = Vec::with_capacity(alloc, seats)?;
         let (table, mut first) = OrderWord::of_words(alloc, &[0], &())?;

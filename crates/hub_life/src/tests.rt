@@ -237,7 +237,7 @@ fn no_seat_is_made_without_memory(rt: HostRuntime) -> Result<(), Fail> {
 
 // It passes whichever allocation is refused: the next call has the memory.
 #[test]
-fn a_refusal_leaves_nothing_behind(rt: HostRuntime) -> Result<(), Fail> {
+fn opens_again_whichever_allocation_is_refused(rt: HostRuntime) -> Result<(), Fail> {
     let orders = match Order::open(rt.alloc(), 3) {
         Err(OutOfMemory) => Order::open(rt.alloc(), 3)?,
         Ok(orders) => orders,

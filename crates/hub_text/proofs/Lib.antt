@@ -1,2 +1,4 @@
 pub mod Numbers
-pub mod SplitLines
+pub mod FirstTextLine
+pub mod EndLists
+pub mod Carrying

@@ -1,2 +1,5 @@
-pub mod Lines
+pub mod TextLines
+pub mod Word
 pub mod Number
+pub mod EndList
+pub mod Reading

@@ -1,8 +1,17 @@
-//! What the hub's line formats share: an input cut into lines, and numbers in decimal.
+//! What the hub's text formats share: an input cut into text lines, a text line into words, numbers
+//! in decimal, and lists of ends.
+//!
+//! A text line is what stands between two LFs of an input: a step line, a log line.
 #![tactic(auto)]
 
-mod lines;
+mod end_list;
 mod number;
+#[cfg(test)]
+mod tests;
+mod text_lines;
+mod word;
 
-pub use lines::split_line;
+pub use end_list::{EndList, EndListText};
 pub use number::number_of;
+pub use text_lines::split_text_line;
+pub use word::next_word;

@@ -6,7 +6,8 @@ ghost use Rattle.hub_text.specs.Number.{number_of, is_numeral, is_digit};
 /// The number that a word writes: decimal digits without leading zeros, at most `max`.
 pub fn number_of(word: &str, max: u64) -> Option<u64>
     ensures number { result ≡ number_of max word.now }
-    // What is read is how the number is written, and each number within the limit so written is read.
+    // What is read is how the number is written, and each number within the limit so written is
+    // read.
     ensures found { IfSome result (λ n. (n ≤ max) × (word.now ≡ decimal n)) }
     ensures written { (n : ℕ) → n ≤ max → word.now ≡ decimal n → result ≡ Some n }
 {

@@ -8,7 +8,7 @@ use Rattle.std.proofs.lemmas.Fmt.{digits_decimal}
 use Rattle.std.proofs.lemmas.List.Folds.{list_all-append}
 use Rattle.hub_text.specs.Number.{is_digit}
 use Rattle.hub_text.proofs.Numbers.{own}
-use Rattle.hub_trace.specs.Words.{cut}
+use Rattle.hub_text.specs.Word.{cut}
 
 -- every byte of the text passes the test
 abbrev pub HasOnly : (ℕ → Bool) → List ℕ → Type 0

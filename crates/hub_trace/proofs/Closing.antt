@@ -6,11 +6,11 @@ use Rattle.std.proofs.lemmas.List.Elements.{filter-append}
 use Rattle.std.proofs.lemmas.List.{get_or_default, map-append}
 use Rattle.std.specs.Option.{option_eq}
 use Rattle.std.proofs.lemmas.Map.Views.{exact_unsigned_eq}
-use Rattle.hub_trace.specs.declared.entry.Delivery.{Delivery}
+use Rattle.hub_trace.specs.declared.log_entry.Delivery.{Delivery}
 use Rattle.hub_trace.specs.declared.received.Happening.{Happening}
 use Rattle.hub_trace.specs.declared.received.Arrival.{Arrival}
-use Rattle.hub_trace.specs.Got.{Event, Receipt, receipt, receipts, is_closed_after}
-use Rattle.hub_trace.specs.Views.{IsOwn, RisesByEnd, event_of, receipt_of, events_in, receipts_in, is_closed}
+use Rattle.hub_trace.specs.Got.{EndEvent, Receipt, receipt, receipts, is_closed_after}
+use Rattle.hub_trace.specs.Views.{IsOwn, RisesByEnd, end_event_of, receipt_of, end_events_in, receipts_in, is_closed}
 use Rattle.hub_trace.proofs.Cases.{by_test}
 use Rattle.hub_trace.proofs.Lines.{filter_none, rest_each}
 
@@ -19,28 +19,28 @@ drop_here xs i x lt is =
     let next : suc i ≡ i + 1 = omega arith in
     drop-cons xs i x lt ∙ (λ k. sym is k ∷ drop (next k) xs)
 
-same_when_none : (c : Bool) (es : List Event) → (c ≡ true → es ≡ []) → receipts c es ≡ receipts false es
+same_when_none : (c : Bool) (es : List EndEvent) → (c ≡ true → es ≡ []) → receipts c es ≡ receipts false es
 same_when_none true es none = ap (receipts true) (none refl) ∙ sym (ap (receipts false) (none refl))
 same_when_none false es none = refl
 
 -- a closing closes its own end, and matters to no other
 closing_step : (h : Happening) (hs : List Happening) (c : Bool) (end : ℕ) → h.got ≡ None
-    → (c ≡ true → (h.end.0 == end) ≡ false → events_in hs end ≡ [])
-    → receipts c (events_in (h ∷ hs) end) ≡ receipts (h.end.0 == end) (events_in hs end)
+    → (c ≡ true → (h.end.0 == end) ≡ false → end_events_in hs end ≡ [])
+    → receipts c (end_events_in (h ∷ hs) end) ≡ receipts (h.end.0 == end) (end_events_in hs end)
 closing_step h hs c end none over =
-    let rest = map event_of (filter (λ x. x.end.0 == end) hs) in
-    by_test (λ b. receipts c (map event_of (cond b (h ∷ filter (λ x. x.end.0 == end) hs) (filter (λ x. x.end.0 == end) hs))) ≡ receipts b rest) (h.end.0 == end)
+    let rest = map end_event_of (filter (λ x. x.end.0 == end) hs) in
+    by_test (λ b. receipts c (map end_event_of (cond b (h ∷ filter (λ x. x.end.0 == end) hs) (filter (λ x. x.end.0 == end) hs))) ≡ receipts b rest) (h.end.0 == end)
     (λ _ i. receipt c (option_map (λ d. d.now) (none i)) ++ receipts (is_closed_after c (option_map (λ d. d.now) (none i))) rest)
     (λ t. same_when_none c rest (λ e. over e t))
 
 -- what was got goes to its own end
 got_step : (h : Happening) (hs : List Happening) (c : Bool) (end : ℕ) (a : Arrival) (d : Bor Delivery) → h.got ≡ Some d
     → a.label ≡ d.now.label → a.message.now ≡ d.now.message → ((h.end.0 == end) ≡ true → a.late ≡ c) → d.now.label.end.0 ≡ h.end.0
-    → receipts c (events_in (h ∷ hs) end) ≡ receipts_in (a ∷ []) end ++ receipts c (events_in hs end)
+    → receipts c (end_events_in (h ∷ hs) end) ≡ receipts_in (a ∷ []) end ++ receipts c (end_events_in hs end)
 got_step h hs c end a d got labels messages late own =
-    let rest = map event_of (filter (λ x. x.end.0 == end) hs) in
+    let rest = map end_event_of (filter (λ x. x.end.0 == end) hs) in
     let at : h.end.0 ≡ a.label.end.0 = sym own ∙ ap (λ l. l.end.0) (sym labels) in
-    by_test (λ b. receipts c (map event_of (cond b (h ∷ filter (λ x. x.end.0 == end) hs) (filter (λ x. x.end.0 == end) hs))) ≡ map receipt_of (cond b (a ∷ []) []) ++ receipts c rest) (h.end.0 == end)
+    by_test (λ b. receipts c (map end_event_of (cond b (h ∷ filter (λ x. x.end.0 == end) hs) (filter (λ x. x.end.0 == end) hs))) ≡ map receipt_of (cond b (a ∷ []) []) ++ receipts c rest) (h.end.0 == end)
     (λ t. (λ i. receipt c (option_map (λ d. d.now) (got i)) ++ receipts (is_closed_after c (option_map (λ d. d.now) (got i))) rest)
     ∙ (λ i. record { delivery = record { label = sym labels i; message = sym messages i }; late = sym (late t) i } ∷ receipts c rest))
     (λ _. refl)
@@ -58,11 +58,11 @@ Passed xs i closed = IfSome closed (λ x. (k : ℕ) (d : Happening) → i ≤ k 
 
 -- once another end comes, nothing comes of the end that was closed
 over : (xs : List Happening) (i : ℕ) (h : Happening) (closed : Option ℕ) → i < length xs → h ≡ get_or xs i h → RisesByEnd xs → Passed xs i closed
-    → (end : ℕ) → is_closed closed end ≡ true → (h.end.0 == end) ≡ false → events_in (drop (i + 1) xs) end ≡ []
+    → (end : ℕ) → is_closed closed end ≡ true → (h.end.0 == end) ≡ false → end_events_in (drop (i + 1) xs) end ≡ []
 over xs i h None lt is rises passed end c t = cc
 over xs i h (Some x) lt is rises passed end c t =
     let one : x ≡ end = exact_unsigned_eq x end c in
-    ap (map event_of) (filter_none (λ y. y.end.0 == end) (drop (i + 1) xs) (rest_each (λ y. (y.end.0 == end) ≡ false) xs (i + 1) (omega arith) (λ k d lo hi.
+    ap (map end_event_of) (filter_none (λ y. y.end.0 == end) (drop (i + 1) xs) (rest_each (λ y. (y.end.0 == end) ≡ false) xs (i + 1) (omega arith) (λ k d lo hi.
     let at : (get_or xs i d).end.0 ≡ h.end.0 = ap (λ y. y.end.0) (get_or_default xs i d h lt ∙ sym is) in
     let le : h.end.0 ≤ (get_or xs k d).end.0 = omega (arith, rises i k d (omega arith) hi, at) in
     let ge : end ≤ h.end.0 = omega (arith, passed i d (omega arith) lt, at, one) in
@@ -78,11 +78,11 @@ passed_on xs i None h = tt
 passed_on xs i (Some x) h = λ k d lo hi. h k d (omega arith) hi
 
 pub told_closing : (xs : List Happening) (i : ℕ) (h : Happening) (closed : Option ℕ) (done : List Receipt) (end : ℕ) → i < length xs → h ≡ get_or xs i h → RisesByEnd xs → Passed xs i closed
-    → h.got ≡ None → done ++ receipts (is_closed closed end) (events_in (drop i xs) end) ≡ receipts false (events_in xs end)
-    → done ++ receipts (h.end.0 == end) (events_in (drop (i + 1) xs) end) ≡ receipts false (events_in xs end)
+    → h.got ≡ None → done ++ receipts (is_closed closed end) (end_events_in (drop i xs) end) ≡ receipts false (end_events_in xs end)
+    → done ++ receipts (h.end.0 == end) (end_events_in (drop (i + 1) xs) end) ≡ receipts false (end_events_in xs end)
 told_closing xs i h closed done end lt is rises passed none told =
     ap (λ l. done ++ l) (sym (closing_step h (drop (i + 1) xs) (is_closed closed end) end none (over xs i h closed lt is rises passed end))
-    ∙ ap (λ l. receipts (is_closed closed end) (events_in l end)) (sym (drop_here xs i h lt is))) ∙ told
+    ∙ ap (λ l. receipts (is_closed closed end) (end_events_in l end)) (sym (drop_here xs i h lt is))) ∙ told
 
 late_is : (closed : Option ℕ) (n end : ℕ) (r : Bool) → r ≡ option_eq nat_eq closed (Some n) → (n == end) ≡ true → r ≡ is_closed closed end
 late_is None n end r is t = is
@@ -90,13 +90,13 @@ late_is (Some x) n end r is t = is ∙ ap (λ m. x == m) (exact_unsigned_eq n en
 
 pub told_got : (xs : List Happening) (i : ℕ) (h : Happening) (closed : Option ℕ) (arrivals : List Arrival) (a : Arrival) (d : Bor Delivery) (end : ℕ) → i < length xs → h ≡ get_or xs i h
     → h.got ≡ Some d → a.label ≡ d.now.label → a.message.now ≡ d.now.message → a.late ≡ option_eq nat_eq closed (Some h.end.0) → IsOwn h
-    → receipts_in arrivals end ++ receipts (is_closed closed end) (events_in (drop i xs) end) ≡ receipts false (events_in xs end)
-    → receipts_in (arrivals ++ a ∷ []) end ++ receipts (is_closed closed end) (events_in (drop (i + 1) xs) end) ≡ receipts false (events_in xs end)
+    → receipts_in arrivals end ++ receipts (is_closed closed end) (end_events_in (drop i xs) end) ≡ receipts false (end_events_in xs end)
+    → receipts_in (arrivals ++ a ∷ []) end ++ receipts (is_closed closed end) (end_events_in (drop (i + 1) xs) end) ≡ receipts false (end_events_in xs end)
 told_got xs i h closed arrivals a d end lt is got labels messages late own told =
     let c = is_closed closed end in
     let own_end : d.now.label.end.0 ≡ h.end.0 = subst (λ (o : Option (Bor Delivery)). IfSome o (λ x. x.now.label.end.0 ≡ h.end.0)) got own in
-    ap (λ l. l ++ receipts c (events_in (drop (i + 1) xs) end)) (receipts_in-append arrivals (a ∷ []) end)
-    ∙ append_assoc (receipts_in arrivals end) (receipts_in (a ∷ []) end) (receipts c (events_in (drop (i + 1) xs) end))
+    ap (λ l. l ++ receipts c (end_events_in (drop (i + 1) xs) end)) (receipts_in-append arrivals (a ∷ []) end)
+    ∙ append_assoc (receipts_in arrivals end) (receipts_in (a ∷ []) end) (receipts c (end_events_in (drop (i + 1) xs) end))
     ∙ ap (λ l. receipts_in arrivals end ++ l) (sym (got_step h (drop (i + 1) xs) c end a d got labels messages (late_is closed h.end.0 end a.late late) own_end)
-    ∙ ap (λ l. receipts c (events_in l end)) (sym (drop_here xs i h lt is)))
+    ∙ ap (λ l. receipts c (end_events_in l end)) (sym (drop_here xs i h lt is)))
     ∙ told

@@ -3,8 +3,8 @@ use Rattle.std.proofs.Common.{◌≡◌, ℕ, suc, zero, ◌<◌, ◌≤◌, ◌
 use Rattle.std.specs.List.{filter, list_any, AllByRecursion as Each}
 use Rattle.std.proofs.lemmas.Bool.Decides.{nat_tests}
 use Rattle.std.proofs.lemmas.List.Elements.{All-nil, All-cons, All-head, All-tail, filter-append, recursion_from_All}
-use Rattle.hub_trace.specs.declared.entry.Delivery.{Delivery}
-use Rattle.hub_trace.specs.declared.accepted.Accepted.{Accepted}
+use Rattle.hub_trace.specs.declared.log_entry.Delivery.{Delivery}
+use Rattle.hub_trace.specs.declared.accepted.AcceptedEnvelope.{AcceptedEnvelope}
 use Rattle.hub_trace.specs.declared.received.Arrival.{Arrival}
 use Rattle.hub_trace.specs.Accepted.{is_of}
 use Rattle.hub_trace.specs.Got.{Receipt}
@@ -52,7 +52,7 @@ pub nothing_is_clean : (put : List Delivery) (rs : List Receipt) → rs ≡ [] �
 nothing_is_clean put rs e = subst (IsCleanLine put) (sym e) ((put, refl), All-nil (λ r. r.late ≡ false))
 
 -- of a line either all is left, or nothing, and then it is clean
-abbrev pub IsLeft : List Accepted → List Arrival → List Arrival → ℕ → ℕ → Type 0
+abbrev pub IsLeft : List AcceptedEnvelope → List Arrival → List Arrival → ℕ → ℕ → Type 0
 IsLeft accepted arrivals rest end line =
     (got_in rest end line ≡ got_in arrivals end line)
     ⊎ (IsCleanLine (accepted_in accepted end line) (got_in arrivals end line) × (filter (λ a. is_of end line a.label) rest ≡ []))
@@ -72,7 +72,7 @@ self_append [] ys h = sym h
 self_append (x ∷ xs) ys h = let whole : x ∷ xs ≡ x ∷ (xs ++ ys) = h in let tails : xs ≡ xs ++ ys = cc in self_append xs ys tails
 
 -- a front of the rest that is one line, and is clean, is done with
-step_by : (accepted : List Accepted) (arrivals rest front after : List Arrival) (end line : ℕ)
+step_by : (accepted : List AcceptedEnvelope) (arrivals rest front after : List Arrival) (end line : ℕ)
     → front ≡ filter (λ a. is_of end line a.label) rest
     → IsCleanLine (accepted_in accepted end line) (map receipt_of front)
     → (x y : ℕ) → filter (λ a. is_of x y a.label) rest ≡ filter (λ a. is_of x y a.label) front ++ filter (λ a. is_of x y a.label) after
@@ -94,7 +94,7 @@ step_by accepted arrivals rest front after end line picked clean x y split true 
       self_append front (filter (λ a. is_of x y a.label) after) (here ∙ split ∙ ap (λ l. l ++ filter (λ a. is_of x y a.label) after) (filter_all (λ a. is_of x y a.label) front at_end_line)),
     )
 
-pub step_left : (accepted : List Accepted) (arrivals rest front after : List Arrival) (end line : ℕ)
+pub step_left : (accepted : List AcceptedEnvelope) (arrivals rest front after : List Arrival) (end line : ℕ)
     → rest ≡ front ++ after → front ≡ filter (λ a. is_of end line a.label) rest
     → IsCleanLine (accepted_in accepted end line) (map receipt_of front)
     → ((x y : ℕ) → IsLeft accepted arrivals rest x y) → (x y : ℕ) → IsLeft accepted arrivals after x y
@@ -104,13 +104,13 @@ step_left accepted arrivals rest front after end line cut picked clean left x y 
     ((end == x) && (line == y)) refl (left x y)
 
 -- nothing is left of a line of which nothing is in the rest
-pub gone_is_clean : (accepted : List Accepted) (arrivals rest : List Arrival) (x y : ℕ) → filter (λ a. is_of x y a.label) rest ≡ []
+pub gone_is_clean : (accepted : List AcceptedEnvelope) (arrivals rest : List Arrival) (x y : ℕ) → filter (λ a. is_of x y a.label) rest ≡ []
     → IsLeft accepted arrivals rest x y → IsCleanLine (accepted_in accepted x y) (got_in arrivals x y)
 gone_is_clean accepted arrivals rest x y none (inr done) = done.0
 gone_is_clean accepted arrivals rest x y none (inl same) = nothing_is_clean (accepted_in accepted x y) (got_in arrivals x y) (sym same ∙ ap (map receipt_of) none)
 
 -- of a line of which something is in the rest all is
-pub whole_line : (accepted : List Accepted) (arrivals rest front : List Arrival) (x y : ℕ) → front ≡ filter (λ a. is_of x y a.label) rest → 0 < length front
+pub whole_line : (accepted : List AcceptedEnvelope) (arrivals rest front : List Arrival) (x y : ℕ) → front ≡ filter (λ a. is_of x y a.label) rest → 0 < length front
     → IsLeft accepted arrivals rest x y → map receipt_of front ≡ got_in arrivals x y
 whole_line accepted arrivals rest front x y picked some (inl same) = ap (map receipt_of) picked ∙ same
 whole_line accepted arrivals rest front x y picked some (inr done) =

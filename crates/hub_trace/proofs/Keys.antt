@@ -14,14 +14,14 @@ use Rattle.std.proofs.lemmas.Fn.{always_returns_same}
 use Rattle.std.proofs.lemmas.List.Sorted.{ranks_by, sorted_far}
 use Rattle.std.proofs.lemmas.Map.Lookups.{exact_unsigned}
 use Rattle.std.proofs.lemmas.Map.Views.{exact_unsigned_eq}
-use Rattle.hub_trace.specs.declared.entry.Delivery.{Delivery}
-use Rattle.hub_trace.specs.declared.accepted.Accepted.{Accepted}
+use Rattle.hub_trace.specs.declared.log_entry.Delivery.{Delivery}
+use Rattle.hub_trace.specs.declared.accepted.AcceptedEnvelope.{AcceptedEnvelope}
 use Rattle.hub_trace.specs.declared.received.Happening.{Happening}
 use Rattle.hub_trace.specs.declared.received.Arrival.{Arrival}
 use Rattle.hub_trace.specs.Sorted.{inserted, sorted}
 use Rattle.hub_trace.specs.Accepted.{is_of, name_cmp}
-use Rattle.hub_trace.specs.Got.{Event, Receipt, stretch_cmp}
-use Rattle.hub_trace.specs.Views.{delivery_of, event_of, receipt_of, accepted_in, got_in, events_in, receipts_in, RisesByLine, RisesByEnd}
+use Rattle.hub_trace.specs.Got.{EndEvent, Receipt, stretch_cmp}
+use Rattle.hub_trace.specs.Views.{delivery_of, end_event_of, receipt_of, accepted_in, got_in, end_events_in, receipts_in, RisesByLine, RisesByEnd}
 use Rattle.hub_trace.proofs.Cases.{by_test, then_equal, then_lt}
 use Rattle.hub_trace.proofs.Order.{arranged, map-sorted, filter-map}
 
@@ -49,7 +49,7 @@ same_test : (a b e : ℕ) → nat_cmp a b ≡ Equal → (a == e) ≡ true → (b
 same_test a b e same h = ap (λ x. x == e) (sym (exact_unsigned a b same)) ∙ h
 
 -- by end, line, epoch and number
-abbrev pub put_key : Accepted → ℕ × ℕ × ℕ × ℕ
+abbrev pub put_key : AcceptedEnvelope → ℕ × ℕ × ℕ × ℕ
 put_key a = (a.label.end.0, a.label.line.0, a.label.epoch, a.label.number)
 
 abbrev pub put_cmp : (ℕ × ℕ × ℕ × ℕ) → (ℕ × ℕ × ℕ × ℕ) → Ordering
@@ -61,7 +61,7 @@ put_total = then_total (then_total (then_total (on_total (λ k. k.0) nat_cmp_tot
 name_total : IsTotalOrder name_cmp
 name_total = then_total (on_total (λ d. d.label.epoch) nat_cmp_total) (on_total (λ d. d.label.number) nat_cmp_total)
 
-pub accepted_sorted : (xs ys : List Accepted) → IsSortedBy (λ x y. is_lt (put_cmp (put_key x) (put_key y))) ys → IsStableBy (λ x y. is_lt (put_cmp (put_key x) (put_key y))) xs ys
+pub accepted_sorted : (xs ys : List AcceptedEnvelope) → IsSortedBy (λ x y. is_lt (put_cmp (put_key x) (put_key y))) ys → IsStableBy (λ x y. is_lt (put_cmp (put_key x) (put_key y))) xs ys
     → (puts : List Delivery) → map delivery_of xs ≡ puts → (end line : ℕ) → accepted_in ys end line ≡ sorted name_cmp (filter (λ d. is_of end line d.label) puts)
 accepted_sorted xs ys up stable puts from end line =
     ap (map delivery_of) (arranged (on_total put_key put_total) (on_total delivery_of name_total) (λ a. is_of end line a.label)
@@ -90,7 +90,7 @@ first_not_less Greater b h = refl
 line_not_before : (a b c d : ℕ) → is_lt (ordering_then (nat_cmp a b) (nat_cmp c d)) ≡ false → (nat_lt a b || ((a == b) && nat_lt c d)) ≡ false
 line_not_before a b c d h = ap (λ t. nat_lt a b || ((a == b) && t)) (sym (lt_cmp c d)) ∙ sym (then_lt a b (nat_cmp c d)) ∙ h
 
-pub accepted_rise : (ys : List Accepted) → IsSortedBy (λ x y. is_lt (put_cmp (put_key x) (put_key y))) ys → RisesByLine (λ a. a.label) ys
+pub accepted_rise : (ys : List AcceptedEnvelope) → IsSortedBy (λ x y. is_lt (put_cmp (put_key x) (put_key y))) ys → RisesByLine (λ a. a.label) ys
 accepted_rise ys up i j d le lt =
     let x = get_or ys i d in let y = get_or ys j d in
     let h = sorted_far _ (ranks_by put_total put_key) ys up i j d le lt in
@@ -110,13 +110,13 @@ stretch_total : IsTotalOrder stretch_cmp
 stretch_total = on_total (λ e. e.stretch) nat_cmp_total
 
 pub happenings_sorted : (xs ys : List Happening) → IsSortedBy (λ x y. is_lt (pair_cmp (happening_key x) (happening_key y))) ys → IsStableBy (λ x y. is_lt (pair_cmp (happening_key x) (happening_key y))) xs ys
-    → (end : ℕ) (events : List Event) → events_in xs end ≡ events → events_in ys end ≡ sorted stretch_cmp events
-happenings_sorted xs ys up stable end events from =
-    ap (map event_of) (arranged (on_total happening_key pair_total) (on_total event_of stretch_total) (λ h. h.end.0 == end)
+    → (end : ℕ) (end_events : List EndEvent) → end_events_in xs end ≡ end_events → end_events_in ys end ≡ sorted stretch_cmp end_events
+happenings_sorted xs ys up stable end end_events from =
+    ap (map end_event_of) (arranged (on_total happening_key pair_total) (on_total end_event_of stretch_total) (λ h. h.end.0 == end)
     (λ x y p q. (λ i. ordering_then (same_number x.end.0 y.end.0 end p q i) (nat_cmp x.stretch y.stretch)))
     (λ x y p e. same_test x.end.0 y.end.0 end (then_equal _ _ e).0 p)
     xs ys up stable)
-    ∙ map-sorted event_of stretch_cmp (filter (λ h. h.end.0 == end) xs)
+    ∙ map-sorted end_event_of stretch_cmp (filter (λ h. h.end.0 == end) xs)
     ∙ ap (sorted stretch_cmp) from
 
 not_above : (a b : ℕ) → is_lt (nat_cmp b a) ≡ false → a ≤ b

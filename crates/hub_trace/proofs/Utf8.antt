@@ -1,4 +1,4 @@
--- The lines of logs are UTF-8.
+-- The log lines of logs are UTF-8.
 use Rattle.std.proofs.Common.{◌≡◌, ℕ, zero, suc, ◌<◌, ◌≤◌, ◌^◌, List, [], ◌∷◌, ◌++◌, get_or, codes, IsUtf8, All, sym, subst, arith, append_assoc, rules}
 use Rattle.std.specs.Fmt.{decimal}
 use Rattle.std.proofs.lemmas.Fmt.{IsAscii-decimal}
@@ -6,11 +6,12 @@ use Rattle.std.proofs.lemmas.List.Elements.{All-head, All-tail}
 use Rattle.std.proofs.lemmas.Str.{IsUtf8-append, IsUtf8-from_ascii, IsUtf8-nil}
 use Rattle.hub_envelope.specs.declared.ids.AgentId.{AgentId}
 use Rattle.hub_envelope.specs.declared.ids.EndId.{EndId}
-use Rattle.hub_trace.specs.declared.entry.Delivery.{Delivery}
-use Rattle.hub_trace.specs.declared.entry.Entry.{Entry}
-use Rattle.hub_trace.specs.declared.entry.Entry.TheVariants.{Put, Got, Adopted, Closed}
+use Rattle.hub_text.specs.EndList.{ends_text, more_ends_text}
+use Rattle.hub_trace.specs.declared.log_entry.Delivery.{Delivery}
+use Rattle.hub_trace.specs.declared.log_entry.LogEntry.{LogEntry}
+use Rattle.hub_trace.specs.declared.log_entry.LogEntry.TheVariants.{Put, Got, Adopted, Closed}
 use Rattle.hub_trace.specs.Limits.{IsDeliveryWithin, IsEntryWithin, IsPortList}
-use Rattle.hub_trace.specs.Text.{delivery_text, entry_text, more_ports_text, ports_text}
+use Rattle.hub_trace.specs.Text.{delivery_text, entry_text}
 use Rattle.hub_trace.proofs.PortTexts.{small_end}
 
 -- ---- bytes and numbers
@@ -35,17 +36,17 @@ pub delivery_words : (end line epoch number ports body : List ℕ) → end ++ co
     ≡ end ++ (32 ∷ (line ++ (32 ∷ ((epoch ++ (58 ∷ number)) ++ (32 ∷ (ports ++ (32 ∷ body)))))))
 delivery_words end line epoch number ports body = simp append_assoc
 
-more_ports_utf8 : (ends : List EndId) → All (λ e. e.0 ≤ 65535) ends → IsUtf8 (more_ports_text ends)
+more_ports_utf8 : (ends : List EndId) → All (λ e. e.0 ≤ 65535) ends → IsUtf8 (more_ends_text ends)
 more_ports_utf8 [] known = IsUtf8-nil
 more_ports_utf8 (e ∷ ends) known =
-    IsUtf8-append (44 ∷ decimal e.0) (more_ports_text ends)
+    IsUtf8-append (44 ∷ decimal e.0) (more_ends_text ends)
     (IsUtf8-append (44 ∷ []) (decimal e.0) (one 44 (omega arith)) (number e.0 (small_end e.0 (All-head (λ (x : EndId). x.0 ≤ 65535) e ends known))))
     (more_ports_utf8 ends (All-tail (λ (x : EndId). x.0 ≤ 65535) e ends known))
 
-ports_utf8 : (ends : List EndId) → IsPortList ends → IsUtf8 (ports_text ends)
+ports_utf8 : (ends : List EndId) → IsPortList ends → IsUtf8 (ends_text ends)
 ports_utf8 [] h = one 45 (omega arith)
 ports_utf8 (e ∷ ends) h =
-    IsUtf8-append (decimal e.0) (more_ports_text ends) (number e.0 (small_end e.0 (All-head (λ (x : EndId). x.0 ≤ 65535) e ends h.known)))
+    IsUtf8-append (decimal e.0) (more_ends_text ends) (number e.0 (small_end e.0 (All-head (λ (x : EndId). x.0 ≤ 65535) e ends h.known)))
     (more_ports_utf8 ends (All-tail (λ (x : EndId). x.0 ≤ 65535) e ends h.known))
 
 delivery_utf8 : (d : Delivery) → IsDeliveryWithin d → IsUtf8 (delivery_text d)
@@ -55,7 +56,7 @@ delivery_utf8 d h =
     let line = h.label.line in
     let epoch = h.label.epoch in
     let number_le = h.label.number in
-    let ports = ports_text d.message.0 in
+    let ports = ends_text d.message.0 in
     let message = pair ports d.message.1 32 (ports_utf8 d.message.0 h.message.ports) (omega arith) h.message.body.utf8 in
     let name = pair (decimal l.epoch) (decimal l.number) 58 (number l.epoch (omega arith)) (omega arith) (number l.number (omega arith)) in
     subst IsUtf8 (sym (delivery_words (decimal l.end.0) (decimal l.line.0) (decimal l.epoch) (decimal l.number) ports d.message.1))
@@ -82,7 +83,7 @@ closed_utf8 = search rules
 agent_word_utf8 : IsUtf8 (codes "agent ")
 agent_word_utf8 = search rules
 
-pub entry-utf8 : (e : Entry) → IsEntryWithin e → IsUtf8 (entry_text e)
+pub entry-utf8 : (e : LogEntry) → IsEntryWithin e → IsUtf8 (entry_text e)
 entry-utf8 (Put d) h = IsUtf8-append (codes "put ") (delivery_text d) put_utf8 (delivery_utf8 d h)
 entry-utf8 (Got d) h = IsUtf8-append (codes "got ") (delivery_text d) got_utf8 (delivery_utf8 d h)
 entry-utf8 (Adopted e epoch) h =

@@ -1,6 +1,6 @@
 -- Verdicts of lists that are equal, and the one that is clean.
 use Rattle.std.proofs.Common.{◌≡◌, ℕ, List, refl, subst}
-use Rattle.hub_trace.specs.declared.entry.Delivery.{Delivery}
+use Rattle.hub_trace.specs.declared.log_entry.Delivery.{Delivery}
 use Rattle.hub_trace.specs.declared.verdict.Verdict.{Verdict}
 use Rattle.hub_trace.specs.declared.verdict.Verdict.TheVariants.{Clean, Fault}
 use Rattle.hub_trace.specs.Accepted.{AgentLog, accepted}

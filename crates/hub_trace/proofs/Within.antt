@@ -1,99 +1,105 @@
 -- What is read is within the limits.
-use Rattle.std.proofs.Common.{◌≡◌, ◌≢◌, ℕ, zero, suc, ◌<◌, ◌≤◌, List, [], ◌∷◌, ◌++◌, length, get_or, Bool, true, false, cond, eqb, ◌||◌, Some, None, Result, Ok, Err, OnOk, refl, sym, ap, subst, ◌∙◌, arith, length-append}
+use Rattle.std.proofs.Common.{◌≡◌, ℕ, zero, suc, ◌<◌, ◌≤◌, List, [], ◌∷◌, ◌++◌, length, get_or, Bool, true, false, cond, Result, Ok, Err, OnOk, refl, sym, ap, subst, ◌∙◌, arith}
 use Rattle.std.specs.Prelude.{◌==◌}
-use Rattle.std.specs.List.{All, AllPairs, list_any}
-use Rattle.std.proofs.lemmas.Bool.Decides.{nat_tests}
+use Rattle.std.specs.List.{All}
 use Rattle.std.proofs.lemmas.List.Elements.{All-push, All-nil, All-head, All-tail, All-cons}
-use Rattle.std.proofs.lemmas.List.Quantifiers.{all_pairs_push}
+use Rattle.hub_envelope.specs.declared.ids.AgentId.{AgentId}
 use Rattle.hub_envelope.specs.declared.ids.EndId.{EndId}
-use Rattle.hub_trace.specs.declared.entry.Entry.{Entry}
-use Rattle.hub_trace.specs.declared.entry.Entry.TheVariants.{Put, Got, Adopted, Closed}
-use Rattle.hub_trace.specs.declared.line.Line.{Line}
-use Rattle.hub_trace.specs.declared.line.Line.TheVariants as line
+use Rattle.hub_text.specs.Reading.{IsReadAs}
+use Rattle.hub_trace.specs.declared.log_entry.LogEntry.{LogEntry}
+use Rattle.hub_trace.specs.declared.log_entry.LogEntry.TheVariants.{Put, Got, Adopted, Closed}
+use Rattle.hub_trace.specs.declared.log_error.LogError.TheVariants.{BadLine}
+use Rattle.hub_trace.specs.declared.log_line.LogLine.{LogLine}
+use Rattle.hub_trace.specs.declared.log_line.LogLine.TheVariants as line
 use Rattle.hub_trace.specs.Accepted.{AgentLog}
-use Rattle.hub_trace.specs.Limits.{AreWithin, IsEntryWithin, IsLineWithin, IsLogWithin, IsPortList}
-use Rattle.hub_trace.specs.Read.{all_closings, closes_again, closings, with_entry, with_line}
-use Rattle.hub_trace.proofs.Adding.{all_closings_more}
+use Rattle.hub_trace.specs.Closings.{all_closings, closes_again, closes_one, closings, is_closed_by}
+use Rattle.hub_trace.specs.Limits.{AreDistinct, AreWithin, IsEntryWithin, IsLogLineWithin, IsLogWithin}
+use Rattle.hub_trace.specs.PortList.{has_end}
+use Rattle.hub_trace.specs.Read.{with_entry, with_line}
+use Rattle.hub_trace.proofs.Adding.{all_closings_more, any_append, closings_more}
+use Rattle.hub_trace.proofs.PortLists.{distinct_more, first_no, no_pairs, second_no}
 
-first_no : (a b : Bool) → (a || b) ≡ false → a ≡ false
-first_no true b h = h
-first_no false b h = refl
+-- ---- what one log closes
 
-second_no : (a b : Bool) → (a || b) ≡ false → b ≡ false
-second_no true b h = let wrong : true ≡ false = h in cc
-second_no false b h = h
+closes_here : (log : AgentLog) (logs : List AgentLog) (e : LogEntry) → closes_again (log ∷ logs) e ≡ false → closes_one (is_closed_by log.1) e ≡ false
+closes_here log logs (Put d) h = refl
+closes_here log logs (Got d) h = refl
+closes_here log logs (Adopted x k) h = refl
+closes_here log logs (Closed x) h =
+    first_no (has_end (closings log.1) x.0) (has_end (all_closings logs) x.0) (sym (any_append (λ y. y.0 == x.0) (closings log.1) (all_closings logs)) ∙ h)
 
--- none of the ends is the one that the list was searched for
-apart : (ends : List EndId) (n : ℕ) → list_any (λ x. x.0 == n) ends ≡ false → (k : ℕ) (d : EndId) → k < length ends → (get_or ends k d).0 ≡ n → ⊥
-apart [] n h k d lt e = omega arith
-apart (x ∷ ends) n h zero d lt e =
-    let fresh : eqb x.0 n ≡ false = first_no (eqb x.0 n) (list_any (λ y. y.0 == n) ends) h in
-    let yes : eqb x.0 n ≡ true = grind (arith, nat_tests) in
-    let wrong : true ≡ false = sym yes ∙ fresh in cc
-apart (x ∷ ends) n h (suc k) d lt e = apart ends n (second_no (eqb x.0 n) (list_any (λ y. y.0 == n) ends) h) k d (omega arith) e
+closes_later : (log : AgentLog) (logs : List AgentLog) (e : LogEntry) → closes_again (log ∷ logs) e ≡ false → closes_again logs e ≡ false
+closes_later log logs (Put d) h = refl
+closes_later log logs (Got d) h = refl
+closes_later log logs (Adopted x k) h = refl
+closes_later log logs (Closed x) h =
+    second_no (has_end (closings log.1) x.0) (has_end (all_closings logs) x.0) (sym (any_append (λ y. y.0 == x.0) (closings log.1) (all_closings logs)) ∙ h)
 
-distinct_more : (ends : List EndId) (e : EndId) → AllPairs (λ a b. a.0 ≢ b.0) ends → list_any (λ x. x.0 == e.0) ends ≡ false → AllPairs (λ a b. a.0 ≢ b.0) (ends ++ e ∷ [])
-distinct_more ends e h fresh = all_pairs_push (λ (a b : EndId). a.0 ≢ b.0) ends e h (λ k d lt. apart ends e.0 fresh k d lt)
-
-no_pairs : AllPairs (λ (a b : EndId). a.0 ≢ b.0) []
-no_pairs = λ i j d lt below. absurd (omega arith)
-
-pub no_ports : IsPortList []
-no_ports = record { few = omega arith; known = All-nil (λ (e : EndId). e.0 ≤ 65535); distinct = no_pairs }
-
-pub port_more : (ends : List EndId) (e : EndId) → IsPortList ends → (length ends ≡ 16 → ⊥) → e.0 ≤ 65535 → list_any (λ x. x.0 == e.0) ends ≡ false → IsPortList (ends ++ e ∷ [])
-port_more ends e h room known fresh = record {
-  few = let n = h.few in omega (arith, length-append ends (e ∷ []));
-  known = All-push (λ (x : EndId). x.0 ≤ 65535) ends e h.known known;
-  distinct = distinct_more ends e h.distinct fresh;
-}
-
-within_last : (logs : List AgentLog) (e : Entry) → All IsLogWithin logs → IsEntryWithin e → All IsLogWithin (with_entry logs e)
-within_last [] e h within = h
-within_last (l ∷ []) e h within =
-    let old = All-head IsLogWithin l [] h in
-    All-cons IsLogWithin (l.0, l.1 ++ e ∷ []) [] (record { agent = old.agent; entries = All-push IsEntryWithin l.1 e old.entries within }) (All-nil IsLogWithin)
-within_last (l ∷ next ∷ logs) e h within =
-    All-cons IsLogWithin l (with_entry (next ∷ logs) e) (All-head IsLogWithin l (next ∷ logs) h) (within_last (next ∷ logs) e (All-tail IsLogWithin l (next ∷ logs) h) within)
+-- an end that no log closes isn't closed by one of them
+pub not_closed_by : (logs : List AgentLog) (n : ℕ) (log : AgentLog) (e : LogEntry) → n < length logs → log ≡ get_or logs n log → closes_again logs e ≡ false → closes_one (is_closed_by log.1) e ≡ false
+not_closed_by [] n log e lt is h = absurd (omega arith)
+not_closed_by (l ∷ logs) zero log e lt is h = ap (λ (x : AgentLog). closes_one (is_closed_by x.1) e) is ∙ closes_here l logs e h
+not_closed_by (l ∷ logs) (suc n) log e lt is h = not_closed_by logs n log e (omega arith) is (closes_later l logs e h)
 
 append_nil : (xs : List EndId) → xs ++ [] ≡ xs
 append_nil [] = refl
 append_nil (x ∷ xs) = ap (λ ys. x ∷ ys) (append_nil xs)
 
+closed_once_more : (ends : List EndId) (e : LogEntry) → AreDistinct ends → closes_one (has_end ends) e ≡ false → AreDistinct (ends ++ closings (e ∷ []))
+closed_once_more ends (Put d) h fresh = subst AreDistinct (sym (append_nil ends)) h
+closed_once_more ends (Got d) h fresh = subst AreDistinct (sym (append_nil ends)) h
+closed_once_more ends (Adopted x k) h fresh = subst AreDistinct (sym (append_nil ends)) h
+closed_once_more ends (Closed x) h fresh = distinct_more ends x h fresh
+
+-- a log within the limits stays so with an entry within the limits that closes no end again
+pub log_within_more : (log : AgentLog) (e : LogEntry) → IsLogWithin log → IsEntryWithin e → closes_one (is_closed_by log.1) e ≡ false → IsLogWithin (log.0, log.1 ++ e ∷ [])
+log_within_more log e h within fresh = record {
+  agent = h.agent;
+  entries = All-push IsEntryWithin log.1 e h.entries within;
+  closed_once = subst AreDistinct (sym (closings_more log.1 e)) (closed_once_more (closings log.1) e h.closed_once fresh);
+}
+
+pub new_log : (a : AgentId) → a.0 ≤ 15 → IsLogWithin (a, [])
+new_log a le = record { agent = le; entries = All-nil IsEntryWithin; closed_once = no_pairs }
+
+-- ---- what all logs close
+
+within_last : (logs : List AgentLog) (e : LogEntry) → All IsLogWithin logs → IsEntryWithin e → closes_again logs e ≡ false → All IsLogWithin (with_entry logs e)
+within_last [] e h within fresh = h
+within_last (l ∷ []) e h within fresh =
+    All-cons IsLogWithin (l.0, l.1 ++ e ∷ []) [] (log_within_more l e (All-head IsLogWithin l [] h) within (closes_here l [] e fresh)) (All-nil IsLogWithin)
+within_last (l ∷ next ∷ logs) e h within fresh =
+    All-cons IsLogWithin l (with_entry (next ∷ logs) e) (All-head IsLogWithin l (next ∷ logs) h)
+    (within_last (next ∷ logs) e (All-tail IsLogWithin l (next ∷ logs) h) within (closes_later l (next ∷ logs) e fresh))
+
 closings_of_new : (logs : List AgentLog) (l : AgentLog) → closings l.1 ≡ [] → all_closings (logs ++ l ∷ []) ≡ all_closings logs
 closings_of_new [] l h = append_nil (closings l.1) ∙ h
 closings_of_new (x ∷ logs) l h = ap (λ ys. closings x.1 ++ ys) (closings_of_new logs l h)
 
-once_more : (logs : List AgentLog) (e : Entry) → AllPairs (λ a b. a.0 ≢ b.0) (all_closings logs) → closes_again logs e ≡ false → AllPairs (λ a b. a.0 ≢ b.0) (all_closings logs ++ closings (e ∷ []))
-once_more logs (Put d) h fresh = subst (AllPairs (λ a b. a.0 ≢ b.0)) (sym (append_nil (all_closings logs))) h
-once_more logs (Got d) h fresh = subst (AllPairs (λ a b. a.0 ≢ b.0)) (sym (append_nil (all_closings logs))) h
-once_more logs (Adopted x k) h fresh = subst (AllPairs (λ a b. a.0 ≢ b.0)) (sym (append_nil (all_closings logs))) h
-once_more logs (Closed x) h fresh = distinct_more (all_closings logs) x h fresh
-
-added : (l : AgentLog) (logs new : List AgentLog) (e : Entry) (b : Bool) → closes_again (l ∷ logs) e ≡ b → cond b None (Some (with_entry (l ∷ logs) e)) ≡ Some new → AreWithin (l ∷ logs) → IsEntryWithin e → AreWithin new
-added l logs new e true again made h within = let wrong : None ≡ Some new = made in cc
+added : (l : AgentLog) (logs new : List AgentLog) (e : LogEntry) (b : Bool) → closes_again (l ∷ logs) e ≡ b → cond b (Err BadLine) (Ok (with_entry (l ∷ logs) e)) ≡ Ok new → AreWithin (l ∷ logs) → IsEntryWithin e → AreWithin new
+added l logs new e true again made h within = cc
 added l logs new e false again made h within =
     let is : with_entry (l ∷ logs) e ≡ new = cc in
     subst AreWithin is (record {
-      each = within_last (l ∷ logs) e h.each within;
-      closed_once = subst (AllPairs (λ a b. a.0 ≢ b.0)) (sym (all_closings_more (l ∷ logs) e (omega arith))) (once_more (l ∷ logs) e h.closed_once again);
+      each = within_last (l ∷ logs) e h.each within again;
+      closed_once = subst AreDistinct (sym (all_closings_more (l ∷ logs) e (omega arith))) (closed_once_more (all_closings (l ∷ logs)) e h.closed_once again);
     })
 
--- logs within the limits stay so with a line within the limits
-pub line_within : (logs new : List AgentLog) (l : Line) → with_line logs l ≡ Some new → IsLineWithin l → AreWithin logs → AreWithin new
+-- logs within the limits stay so with a log line within the limits
+pub line_within : (logs new : List AgentLog) (l : LogLine) → with_line logs l ≡ Ok new → IsLogLineWithin l → AreWithin logs → AreWithin new
 line_within logs new (line.Agent a) made within h =
     let is : logs ++ (a, []) ∷ [] ≡ new = cc in
     subst AreWithin is (record {
-      each = All-push IsLogWithin logs (a, []) h.each (record { agent = within; entries = All-nil IsEntryWithin });
-      closed_once = subst (AllPairs (λ a b. a.0 ≢ b.0)) (sym (closings_of_new logs (a, []) refl)) h.closed_once;
+      each = All-push IsLogWithin logs (a, []) h.each (new_log a within);
+      closed_once = subst AreDistinct (sym (closings_of_new logs (a, []) refl)) h.closed_once;
     })
-line_within [] new (line.Entry e) made within h = let wrong : None ≡ Some new = made in cc
+line_within [] new (line.Entry e) made within h = cc
 line_within (x ∷ logs) new (line.Entry e) made within h = added x logs new e (closes_again (x ∷ logs) e) refl made h within
 
 pub no_logs : AreWithin []
 no_logs = record { each = All-nil IsLogWithin; closed_once = no_pairs }
 
--- a fact of an answer that another one gives
-pub on_ok : {A E : Type 0} (r : Result A E) (P Q : Type 0) → (P → Q) → OnOk r P → OnOk r Q
-on_ok (Ok x) P Q f h = f h
-on_ok (Err e) P Q f h = tt
+-- a fact of an answer that reads as a definition
+pub on_read : {A X E : Type 0} (memory : E) (view : A → X) (r : Result A E) (read : Result X E) (Q : Type 0) → ((x : A) → read ≡ Ok (view x) → Q) → IsReadAs memory view r read → OnOk r Q
+on_read memory view (Ok x) read Q f h = f x h
+on_read memory view (Err e) read Q f h = tt

@@ -3,19 +3,24 @@ use Rattle.std.specs.Prelude.{ℕ, Bool, List, [], ◌∷◌, ◌==◌, ◌&&◌
 use Rattle.std.specs.List.{filter, flat_map}
 use Rattle.std.specs.declared.cmp.Ordering.{Ordering}
 use Rattle.std.specs.Ordering.{nat_cmp, ordering_then}
+use Rattle.hub_envelope.specs.declared.envelope.Envelope.{Envelope}
 use Rattle.hub_envelope.specs.declared.ids.AgentId.{AgentId}
 use Rattle.hub_trace.specs.declared.label.Label.{Label}
-use Rattle.hub_trace.specs.declared.entry.Delivery.{Delivery}
-use Rattle.hub_trace.specs.declared.entry.Entry.{Entry}
-use Rattle.hub_trace.specs.declared.entry.Entry.TheVariants.{Put, Got, Adopted, Closed}
+use Rattle.hub_trace.specs.declared.log_entry.Delivery.{Delivery}
+use Rattle.hub_trace.specs.declared.log_entry.LogEntry.{LogEntry}
+use Rattle.hub_trace.specs.declared.log_entry.LogEntry.TheVariants.{Put, Got, Adopted, Closed}
 use Rattle.hub_trace.specs.Sorted.{sorted}
+
+-- the label of an envelope
+abbrev pub label_of : Envelope → Label
+label_of e = record { end = e.end; line = e.line; epoch = e.epoch; number = e.number }
 
 -- the log of an agent: the agent, and its entries, oldest first
 abbrev pub AgentLog : Type 0
-AgentLog = AgentId × List Entry
+AgentLog = AgentId × List LogEntry
 
 -- what the put entries say, in their order
-abbrev pub puts : List Entry → List Delivery
+abbrev pub puts : List LogEntry → List Delivery
 puts [] = []
 puts (Put d ∷ entries) = d ∷ puts entries
 puts (Got d ∷ entries) = puts entries

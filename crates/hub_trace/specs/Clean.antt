@@ -1,7 +1,7 @@
 -- When logs are clean.
 use Rattle.std.specs.Prelude.{◌≡◌, ℕ, false, List, ◌++◌, map}
 use Rattle.std.specs.List.{All}
-use Rattle.hub_trace.specs.declared.entry.Delivery.{Delivery}
+use Rattle.hub_trace.specs.declared.log_entry.Delivery.{Delivery}
 use Rattle.hub_trace.specs.Accepted.{AgentLog, accepted}
 use Rattle.hub_trace.specs.Got.{Receipt, got}
 

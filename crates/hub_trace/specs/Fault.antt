@@ -1,7 +1,7 @@
 -- What is wrong in what was got of one line.
 use Rattle.std.specs.Prelude.{◌≡◌, ℕ, Bool, false, List, ◌<◌, ◌==◌, ◌&&◌, Option, Some, None, if◌then◌else◌, slice_get, take}
 use Rattle.std.specs.List.{list_any}
-use Rattle.hub_trace.specs.declared.entry.Delivery.{Delivery}
+use Rattle.hub_trace.specs.declared.log_entry.Delivery.{Delivery}
 use Rattle.hub_trace.specs.declared.label.Label.{Label}
 use Rattle.hub_trace.specs.declared.verdict.FaultKind.{FaultKind}
 use Rattle.hub_trace.specs.declared.verdict.FaultKind.TheVariants.{AfterClose, Changed, Twice, Gap, Foreign}

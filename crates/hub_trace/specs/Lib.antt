@@ -6,7 +6,8 @@ pub mod Fault
 pub mod Verdict
 pub mod Views
 pub mod Text
-pub mod Words
-pub mod Line
+pub mod PortList
+pub mod Closings
+pub mod LogLine
 pub mod Read
 pub mod Limits

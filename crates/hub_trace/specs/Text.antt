@@ -1,12 +1,12 @@
 -- How logs and verdicts are written.
-use Rattle.std.specs.Prelude.{ℕ, List, [], ◌∷◌, ◌++◌, codes}
+use Rattle.std.specs.Prelude.{ℕ, List, ◌++◌, codes}
 use Rattle.std.specs.Fmt.{decimal}
 use Rattle.std.specs.List.{flat_map}
-use Rattle.hub_envelope.specs.declared.ids.EndId.{EndId}
+use Rattle.hub_text.specs.EndList.{ends_text}
 use Rattle.hub_trace.specs.declared.label.Label.{Label}
-use Rattle.hub_trace.specs.declared.entry.Delivery.{Delivery}
-use Rattle.hub_trace.specs.declared.entry.Entry.{Entry}
-use Rattle.hub_trace.specs.declared.entry.Entry.TheVariants.{Put, Got, Adopted, Closed}
+use Rattle.hub_trace.specs.declared.log_entry.Delivery.{Delivery}
+use Rattle.hub_trace.specs.declared.log_entry.LogEntry.{LogEntry}
+use Rattle.hub_trace.specs.declared.log_entry.LogEntry.TheVariants.{Put, Got, Adopted, Closed}
 use Rattle.hub_trace.specs.declared.verdict.FaultKind.{FaultKind}
 use Rattle.hub_trace.specs.declared.verdict.FaultKind.TheVariants.{AfterClose, Changed, Twice, Gap, Foreign}
 use Rattle.hub_trace.specs.declared.verdict.Verdict.{Verdict}
@@ -18,30 +18,21 @@ use Rattle.hub_trace.specs.Accepted.{AgentLog}
 abbrev pub label_text : Label → List ℕ
 label_text l = decimal l.end.0 ++ codes " " ++ decimal l.line.0 ++ codes " " ++ decimal l.epoch ++ codes ":" ++ decimal l.number
 
--- a comma and a number for each
-abbrev pub more_ports_text : List EndId → List ℕ
-more_ports_text ends = flat_map (λ e. codes "," ++ decimal e.0) ends
-
--- the numbers joined by commas, or `-`
-abbrev pub ports_text : List EndId → List ℕ
-ports_text [] = codes "-"
-ports_text (e ∷ ends) = decimal e.0 ++ more_ports_text ends
-
 -- `E L EP:N LIST BODY`
 abbrev pub delivery_text : Delivery → List ℕ
-delivery_text d = label_text d.label ++ codes " " ++ ports_text d.message.0 ++ codes " " ++ d.message.1
+delivery_text d = label_text d.label ++ codes " " ++ ends_text d.message.0 ++ codes " " ++ d.message.1
 
-abbrev pub entry_text : Entry → List ℕ
+abbrev pub entry_text : LogEntry → List ℕ
 entry_text (Put d) = codes "put " ++ delivery_text d
 entry_text (Got d) = codes "got " ++ delivery_text d
 entry_text (Adopted e epoch) = codes "adopted " ++ decimal e.0 ++ codes " " ++ decimal epoch
 entry_text (Closed e) = codes "closed " ++ decimal e.0
 
--- the lines of a log, without the header
+-- the log lines of a log, without the header
 abbrev pub log_text : AgentLog → List ℕ
 log_text log = codes "agent " ++ decimal log.0.0 ++ codes "\n" ++ flat_map (λ e. entry_text e ++ codes "\n") log.1
 
--- a file of logs: the header's line, and the lines of each log
+-- a file of logs: the header's line, and the log lines of each log
 abbrev pub file_text : List AgentLog → List ℕ
 file_text logs = LOG_HEADER.now ++ codes "\n" ++ flat_map log_text logs
 

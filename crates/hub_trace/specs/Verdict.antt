@@ -1,6 +1,6 @@
 -- What a verdict claims.
 use Rattle.std.specs.Prelude.{◌≡◌, ℕ, ◌<◌, ◌⊎◌, List}
-use Rattle.hub_trace.specs.declared.entry.Delivery.{Delivery}
+use Rattle.hub_trace.specs.declared.log_entry.Delivery.{Delivery}
 use Rattle.hub_trace.specs.declared.verdict.Verdict.{Verdict}
 use Rattle.hub_trace.specs.declared.verdict.Verdict.TheVariants.{Clean, Fault}
 use Rattle.hub_trace.specs.Got.{Receipt}

@@ -2,14 +2,14 @@
 use Rattle.std.specs.Prelude.{◌≡◌, ℕ, false, List, ◌<◌, ◌≤◌, ◌==◌, ◌||◌, ◌&&◌, Bool, nat_lt, Option, Some, None, IfSome, option_map, map, slice_index_or, length}
 use Rattle.std.specs.List.{filter}
 use Rattle.hub_trace.specs.declared.label.Label.{Label}
-use Rattle.hub_trace.specs.declared.entry.Delivery.{Delivery}
-use Rattle.hub_trace.specs.declared.accepted.Accepted.{Accepted}
+use Rattle.hub_trace.specs.declared.log_entry.Delivery.{Delivery}
+use Rattle.hub_trace.specs.declared.accepted.AcceptedEnvelope.{AcceptedEnvelope}
 use Rattle.hub_trace.specs.declared.received.Happening.{Happening}
 use Rattle.hub_trace.specs.declared.received.Arrival.{Arrival}
 use Rattle.hub_trace.specs.Accepted.{is_of}
-use Rattle.hub_trace.specs.Got.{Event, Receipt}
+use Rattle.hub_trace.specs.Got.{EndEvent, Receipt}
 
-abbrev pub delivery_of : Accepted → Delivery
+abbrev pub delivery_of : AcceptedEnvelope → Delivery
 delivery_of a = record { label = a.label; message = a.message.now }
 
 abbrev pub receipt_of : Arrival → Receipt
@@ -19,8 +19,8 @@ receipt_of a = record { delivery = record { label = a.label; message = a.message
 abbrev pub RisesByEnd : List Happening → Type 0
 RisesByEnd xs = (i j : ℕ) (d : Happening) → i ≤ j → j < length xs → (slice_index_or xs i d).end.0 ≤ (slice_index_or xs j d).end.0
 
-abbrev pub event_of : Happening → Event
-event_of h = record { stretch = h.stretch; got = option_map (λ d. d.now) h.got }
+abbrev pub end_event_of : Happening → EndEvent
+end_event_of h = record { stretch = h.stretch; got = option_map (λ d. d.now) h.got }
 
 -- the label is of an earlier line than this
 abbrev pub is_before : ℕ → ℕ → Label → Bool
@@ -35,7 +35,7 @@ abbrev pub RisesByLine : {X : Type 0} → (X → Label) → List X → Type 0
 RisesByLine {X} label xs = (i j : ℕ) (d : X) → i ≤ j → j < length xs → is_before (label (slice_index_or xs i d)).end.0 (label (slice_index_or xs i d)).line.0 (label (slice_index_or xs j d)) ≡ false
 
 -- what was accepted at a line, among these
-abbrev pub accepted_in : List Accepted → ℕ → ℕ → List Delivery
+abbrev pub accepted_in : List AcceptedEnvelope → ℕ → ℕ → List Delivery
 accepted_in xs end line = map delivery_of (filter (λ a. is_of end line a.label) xs)
 
 -- what was got of a line, among these
@@ -52,8 +52,8 @@ is_closed None end = false
 is_closed (Some x) end = x == end
 
 -- what happened at an end, among these
-abbrev pub events_in : List Happening → ℕ → List Event
-events_in xs end = map event_of (filter (λ h. h.end.0 == end) xs)
+abbrev pub end_events_in : List Happening → ℕ → List EndEvent
+end_events_in xs end = map end_event_of (filter (λ h. h.end.0 == end) xs)
 
 -- what was got at an end, among these
 abbrev pub receipts_in : List Arrival → ℕ → List Receipt

@@ -3,28 +3,28 @@ ghost use Rattle.std.specs.List.{filter};
 ghost use Rattle.hub_trace.specs.Accepted.{accepted, all_puts, is_of, puts};
 ghost use Rattle.hub_trace.specs.Views.{RisesByLine, accepted_in, delivery_of};
 
-use crate::entry::Entry;
 use crate::label::Label;
 use crate::log::Log;
+use crate::log_entry::LogEntry;
 use crate::message::Message;
-use crate::out_of_memory::OutOfMemory;
-use hub_envelope::{EndId, LineId};
+use hub_envelope::{EndId, LineId, OutOfMemory};
 use std::alloc::Global;
 
 /// An envelope that was accepted.
 #[derive(Clone, Copy, Debug)]
-pub(crate) struct Accepted<'a> {
+pub(crate) struct AcceptedEnvelope<'a> {
     pub(crate) label: Label,
     pub(crate) message: &'a Message,
 }
 
-/// The accepted envelopes of all logs, by end, line, epoch and number, and those of equal names in the
-/// order of the logs.
+/// The accepted envelopes of all logs, by end, line, epoch and number. Envelopes of equal names
+/// stand in the order of the logs.
 pub(crate) fn accepted_in_order(
     alloc: Global,
     logs: &[Log],
-) -> Result<Vec<Accepted<'_>>, OutOfMemory>
-    ensures lines { IfOk result (λ v. (end line : ℕ) → accepted_in v.items end line ≡ accepted logs.now end line) }
+) -> Result<Vec<AcceptedEnvelope<'_>>, OutOfMemory>
+    ensures lines { IfOk result (λ v. (end line : ℕ) →
+        accepted_in v.items end line ≡ accepted logs.now end line) }
     ensures order { IfOk result (λ v. RisesByLine (λ a. a.label) v.items) }
 {
     let mut found = all_accepted(alloc, logs)?;
@@ -33,7 +33,7 @@ pub(crate) fn accepted_in_order(
 }
 
 /// The accepted envelopes in the order of the logs.
-fn all_accepted(alloc: Global, logs: &[Log]) -> Result<Vec<Accepted<'_>>, OutOfMemory>
+fn all_accepted(alloc: Global, logs: &[Log]) -> Result<Vec<AcceptedEnvelope<'_>>, OutOfMemory>
     ensures { IfOk result (λ v. map delivery_of v.items ≡ all_puts logs.now) }
 {
     let mut found = Vec::new(alloc);
@@ -43,13 +43,17 @@ fn all_accepted(alloc: Global, logs: &[Log]) -> Result<Vec<Accepted<'_>>, OutOfM
     Ok(found)
 }
 
-/// Adds those of one log.
-fn add_accepted<'a>(entries: &'a [Entry], found: &mut Vec<Accepted<'a>>) -> Result<(), OutOfMemory>
-    ensures { OnOk result (map delivery_of found.new.items ≡ map delivery_of found.old.items ++ puts entries.now) }
+/// Adds the accepted envelopes of one log.
+fn add_accepted<'a>(
+    entries: &'a [LogEntry],
+    found: &mut Vec<AcceptedEnvelope<'a>>,
+) -> Result<(), OutOfMemory>
+    ensures { OnOk result
+        (map delivery_of found.new.items ≡ map delivery_of found.old.items ++ puts entries.now) }
 {
     for entry in entries {
-        if let Entry::Put(delivery) = entry {
-            found.push(Accepted {
+        if let LogEntry::Put(delivery) = entry {
+            found.push(AcceptedEnvelope {
                 label: delivery.label,
                 message: &delivery.message,
             })?;
@@ -58,12 +62,12 @@ fn add_accepted<'a>(entries: &'a [Entry], found: &mut Vec<Accepted<'a>>) -> Resu
     Ok(())
 }
 
-/// Those of one line.
+/// The accepted envelopes of one line.
 pub(crate) fn accepted_of<'s, 'a>(
-    accepted: &'s [Accepted<'a>],
+    accepted: &'s [AcceptedEnvelope<'a>],
     end: EndId,
     line: LineId,
-) -> &'s [Accepted<'a>]
+) -> &'s [AcceptedEnvelope<'a>]
     requires { RisesByLine (λ a. a.label) accepted.now }
     ensures { result.now ≡ filter (λ a. is_of end.0 line.0 a.label) accepted.now }
 {

@@ -8,20 +8,21 @@ ghost use Rattle.hub_trace.specs.Verdict.{IsVerdict};
 ghost use Rattle.hub_trace.specs.declared.verdict.Verdict.TheVariants.{Clean};
 ghost use Rattle.hub_trace.specs.Views.{RisesByLine, accepted_in, delivery_of, got_in, receipt_of};
 
-use crate::accepted::{Accepted, accepted_in_order, accepted_of};
+use crate::accepted::{AcceptedEnvelope, accepted_in_order, accepted_of};
 use crate::label::Label;
 use crate::log::Log;
-use crate::out_of_memory::OutOfMemory;
 use crate::received::{Arrival, arrivals_in_order, front_of_line};
 use crate::verdict::{FaultKind, Verdict};
+use hub_envelope::OutOfMemory;
 use std::alloc::Global;
 
-/// Reads the logs of one run together, and says whether what was got of each line is the beginning of
-/// what was accepted there, and nothing was got at an end after it was closed. Else it tells the fault
-/// of the least end, then line, then place.
+/// Reads the logs of one run together, and says whether what was got of each line is the beginning
+/// of what was accepted there, and nothing was got at an end after it was closed. Else it tells the
+/// fault of the least end, then line, then place.
 pub fn check(alloc: Global, logs: &[Log]) -> Result<Verdict, OutOfMemory>
     ensures clean { IfOk result (λ verdict. (verdict ≡ Clean) ↔ IsClean logs.now) }
-    ensures verdict { IfOk result (λ verdict. IsVerdict (accepted logs.now) (got logs.now) verdict) }
+    ensures verdict { IfOk result
+        (λ verdict. IsVerdict (accepted logs.now) (got logs.now) verdict) }
 {
     let accepted = accepted_in_order(alloc, logs)?;
     let arrivals = arrivals_in_order(alloc, logs)?;
@@ -29,7 +30,7 @@ pub fn check(alloc: Global, logs: &[Log]) -> Result<Verdict, OutOfMemory>
 }
 
 /// The fault of the least end, then line, then place.
-fn first_fault(accepted: &[Accepted<'_>], arrivals: &[Arrival<'_>]) -> Verdict
+fn first_fault(accepted: &[AcceptedEnvelope<'_>], arrivals: &[Arrival<'_>]) -> Verdict
     requires accepted { RisesByLine (λ a. a.label) accepted.now }
     requires arrivals { RisesByLine (λ a. a.label) arrivals.now }
     ensures { IsVerdict (accepted_in accepted.now) (got_in arrivals.now) result }
@@ -54,10 +55,14 @@ fn first_fault(accepted: &[Accepted<'_>], arrivals: &[Arrival<'_>]) -> Verdict
 }
 
 /// The first fault in what was got of one line.
-fn fault_of_line(accepted: &[Accepted<'_>], got: &[Arrival<'_>]) -> Option<(usize, FaultKind)>
+fn fault_of_line(
+    accepted: &[AcceptedEnvelope<'_>],
+    got: &[Arrival<'_>],
+) -> Option<(usize, FaultKind)>
     ensures { MatchOption result
         (IsCleanLine (map delivery_of accepted.now) (map receipt_of got.now))
-        (λ fault. IsFirstFault (map delivery_of accepted.now) (map receipt_of got.now) fault.0 fault.1) }
+        (λ fault. IsFirstFault (map delivery_of accepted.now) (map receipt_of got.now)
+        fault.0 fault.1) }
 {
     for (place, arrival) in got.iter().enumerate() {
         if !is_right(accepted, place, arrival) {
@@ -67,9 +72,10 @@ fn fault_of_line(accepted: &[Accepted<'_>], got: &[Arrival<'_>]) -> Option<(usiz
     None
 }
 
-/// Whether it was got in time and is what was accepted at its place.
-fn is_right(accepted: &[Accepted<'_>], place: usize, arrival: &Arrival<'_>) -> bool
-    ensures { IsTrue result ↔ IsRight (map delivery_of accepted.now) place (receipt_of arrival.now) }
+/// Whether the arrival came in time and is what was accepted at its place.
+fn is_right(accepted: &[AcceptedEnvelope<'_>], place: usize, arrival: &Arrival<'_>) -> bool
+    ensures { IsTrue result
+        ↔ IsRight (map delivery_of accepted.now) place (receipt_of arrival.now) }
 {
     match accepted.get(place) {
         Some(expected) => {
@@ -81,14 +87,15 @@ fn is_right(accepted: &[Accepted<'_>], place: usize, arrival: &Arrival<'_>) -> b
     }
 }
 
-/// What is wrong with it, where it isn't right.
+/// What is wrong with an arrival that isn't right.
 fn kind_of(
-    accepted: &[Accepted<'_>],
+    accepted: &[AcceptedEnvelope<'_>],
     earlier: &[Arrival<'_>],
     place: usize,
     arrival: &Arrival<'_>,
 ) -> FaultKind
-    ensures { result ≡ kind_at (map delivery_of accepted.now) (map receipt_of earlier.now) place (receipt_of arrival.now) }
+    ensures { result ≡ kind_at (map delivery_of accepted.now) (map receipt_of earlier.now)
+        place (receipt_of arrival.now) }
 {
     if arrival.late {
         return FaultKind::AfterClose;
@@ -106,7 +113,7 @@ fn kind_of(
 }
 
 /// Whether the accepted envelope at the place has this name.
-fn is_named_at(accepted: &[Accepted<'_>], place: usize, label: &Label) -> bool
+fn is_named_at(accepted: &[AcceptedEnvelope<'_>], place: usize, label: &Label) -> bool
     ensures { result ≡ is_named (slice_get (map delivery_of accepted.now) place) label.now }
 {
     match accepted.get(place) {
@@ -116,15 +123,17 @@ fn is_named_at(accepted: &[Accepted<'_>], place: usize, label: &Label) -> bool
 }
 
 /// Whether an accepted envelope has this name.
-fn is_among_accepted(accepted: &[Accepted<'_>], label: &Label) -> bool
-    ensures { result ≡ list_any (λ d. has_name d.label label.now) (map delivery_of accepted.now) }
+fn is_among_accepted(accepted: &[AcceptedEnvelope<'_>], label: &Label) -> bool
+    ensures { result
+        ≡ list_any (λ d. has_name d.label label.now) (map delivery_of accepted.now) }
 {
     accepted.iter().any(|a| a.label.has_name_of(label))
 }
 
 /// Whether an envelope that was got has this name.
 fn is_among_got(got: &[Arrival<'_>], label: &Label) -> bool
-    ensures { result ≡ list_any (λ r. has_name r.delivery.label label.now) (map receipt_of got.now) }
+    ensures { result
+        ≡ list_any (λ r. has_name r.delivery.label label.now) (map receipt_of got.now) }
 {
     got.iter().any(|a| a.label.has_name_of(label))
 }

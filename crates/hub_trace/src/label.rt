@@ -1,8 +1,11 @@
-ghost use Rattle.std.specs.Prelude.{◌≡◌, Some};
+ghost use Rattle.std.specs.Prelude.{◌≡◌, ◌↔◌, IsTrue, Some};
+ghost use Rattle.hub_trace.specs.Limits.{IsLabelWithin};
+ghost use Rattle.hub_trace.specs.Accepted.{label_of};
 ghost use Rattle.hub_trace.specs.Text.{label_text};
 ghost use Rattle.hub_trace.specs.Fault.{has_name};
 ghost use Rattle.hub_trace.specs.Views.{is_before, is_after};
 
+use crate::limits::{MAX_END, MAX_EPOCH, MAX_LINE, MAX_NUMBER};
 use hub_envelope::{EndId, Envelope, LineId};
 use std::fmt;
 
@@ -20,8 +23,7 @@ pub struct Label {
 impl Label {
     /// The label of an envelope.
     pub fn of(envelope: &Envelope) -> Label
-        ensures { result
-            ≡ record { end = envelope.now.end; line = envelope.now.line; epoch = envelope.now.epoch; number = envelope.now.number } }
+        ensures { result ≡ label_of envelope.now }
     {
         Label {
             end: envelope.end,
@@ -31,6 +33,16 @@ impl Label {
         }
     }
 
+    /// Whether a log may have the label.
+    pub fn is_within(&self) -> bool
+        ensures { IsTrue result ↔ IsLabelWithin self.now }
+    {
+        u64::from(self.end.0) <= MAX_END
+            && u64::from(self.line.0) <= MAX_LINE
+            && u64::from(self.epoch) <= MAX_EPOCH
+            && self.number <= MAX_NUMBER
+    }
+
     /// Whether both name the same envelope of a line.
     pub(crate) fn has_name_of(&self, other: &Label) -> bool
         ensures { result ≡ has_name self.now other.now }
@@ -38,14 +50,14 @@ impl Label {
         self.epoch == other.epoch && self.number == other.number
     }
 
-    /// Whether it is of an earlier line than this: by end, then by line.
+    /// Whether the label is of an earlier line than the given one: by end, then by line.
     pub(crate) fn is_before(&self, end: EndId, line: LineId) -> bool
         ensures { result ≡ is_before end.0 line.0 self.now }
     {
         self.end.0 < end.0 || (self.end.0 == end.0 && self.line.0 < line.0)
     }
 
-    /// Whether it is of a later line than this.
+    /// Whether the label is of a later line than the given one.
     pub(crate) fn is_after(&self, end: EndId, line: LineId) -> bool
         ensures { result ≡ is_after end.0 line.0 self.now }
     {

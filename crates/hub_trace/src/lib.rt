@@ -1,19 +1,19 @@
 //! Logs of what agents put and got, and their checker.
 //!
-//! Each agent keeps a log of the envelopes that it had accepted and that it took, of the ends that it
-//! adopted and of those that it closed. The checker reads the logs of one run together, and says
+//! Each agent keeps a log of the envelopes that it had accepted and that it took, of the ends that
+//! it adopted and of those that it closed. The checker reads the logs of one run together, and says
 //! whether each line of each end was delivered in order, each envelope once and as it was posted.
 #![tactic(auto)]
 
 mod accepted;
 mod checker;
-mod entry;
 mod label;
 mod limits;
-mod line;
 mod log;
+mod log_entry;
+mod log_error;
+mod log_line;
 mod message;
-mod out_of_memory;
 mod port_list;
 mod read;
 mod received;
@@ -22,11 +22,13 @@ mod tests;
 mod verdict;
 
 pub use checker::check;
-pub use entry::{Delivery, Entry};
+pub use hub_envelope::OutOfMemory;
 pub use label::Label;
 pub use limits::{MAX_AGENT, MAX_END, MAX_EPOCH, MAX_LINE, MAX_NUMBER};
 pub use log::{LOG_HEADER, Log};
+pub use log_entry::{Delivery, LogEntry};
+pub use log_error::LogError;
 pub use message::Message;
-pub use out_of_memory::OutOfMemory;
-pub use read::{LOGS_END, LogError, read_logs};
+pub use port_list::is_port_list;
+pub use read::{LOGS_END, read_logs};
 pub use verdict::{FaultKind, Verdict};

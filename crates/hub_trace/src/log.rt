@@ -1,12 +1,14 @@
-ghost use Rattle.std.specs.Prelude.{Some, ◌≡◌, [], ◌∷◌, ◌++◌, OnOk, OnErr};
-ghost use Rattle.hub_trace.specs.declared.entry.Entry.TheVariants.{Put, Got, Adopted, Closed};
+ghost use Rattle.std.specs.Prelude.{Some, ◌≡◌, ◌≤◌, [], ◌∷◌, ◌++◌, false, OnOk, OnErr};
+ghost use Rattle.hub_trace.specs.declared.log_entry.LogEntry.TheVariants.{Put, Got, Adopted, Closed};
+ghost use Rattle.hub_trace.specs.declared.limits.TheConstants.{MAX_AGENT, MAX_END, MAX_EPOCH};
+ghost use Rattle.hub_trace.specs.Closings.{closes_one, is_closed_by};
+ghost use Rattle.hub_trace.specs.Limits.{IsEntryWithin, IsLabelWithin, IsLogWithin, IsPortList};
 ghost use Rattle.hub_trace.specs.Text.{log_text};
 
-use crate::entry::{Delivery, Entry};
 use crate::label::Label;
+use crate::log_entry::{Delivery, LogEntry};
 use crate::message::Message;
-use crate::out_of_memory::OutOfMemory;
-use hub_envelope::{AgentId, Body, EndId};
+use hub_envelope::{AgentId, Body, EndId, OutOfMemory};
 use std::alloc::Global;
 use std::fmt;
 use std::marker::Model;
@@ -14,26 +16,31 @@ use std::marker::Model;
 /// The first line of a file of logs.
 pub const LOG_HEADER: &str = "hublog 1";
 
-/// What one agent did, oldest first. The agent's own thread appends to it.
+/// What one agent did, oldest first. The agent's own thread appends to it. All that it holds is
+/// within the limits of a file of logs, and it closes no end twice.
 #[derive(Debug, Drop)]
 pub struct Log {
     agent: AgentId,
-    entries: Vec<Entry>,
+    entries: Vec<LogEntry>,
 }
 
 impl Model for Log {
-    ghost use Rattle.std.specs.Prelude.{Some, List};
+    ghost use Rattle.std.specs.Prelude.{List};
     ghost use Rattle.hub_envelope.specs.declared.ids.AgentId.{AgentId};
-    ghost use Rattle.hub_trace.specs.declared.entry.Entry.{Entry};
+    ghost use Rattle.hub_trace.specs.declared.log_entry.LogEntry.{LogEntry};
+    ghost use Rattle.hub_trace.specs.Limits.{IsLogWithin};
 
-    ghost Value = { AgentId × List Entry };
+    ghost Value = { AgentId × List LogEntry };
 
     ghost view = { λ l. (l.agent, l.entries.items) };
+
+    ghost invariant = { λ l. IsLogWithin (l.agent, l.entries.items) };
 }
 
 impl Log {
     /// An empty log. It takes no memory.
     pub fn new(alloc: Global, agent: AgentId) -> Log
+        requires { agent.0 ≤ MAX_AGENT }
         ensures { result ≡ (agent, []) }
     {
         Log {
@@ -50,10 +57,25 @@ impl Log {
     }
 
     /// The entries, oldest first.
-    pub fn entries(&self) -> &[Entry]
-        ensures { result.now ≡ self.now.1 }
+    pub fn entries(&self) -> &[LogEntry]
+        ensures entries { result.now ≡ self.now.1 }
+        ensures within { IsLogWithin self.now }
     {
         self.entries.as_slice()
+    }
+
+    /// Whether the log has an entry that closes the end. It looks through all entries.
+    pub fn has_closed(&self, end: EndId) -> bool
+        ensures { result ≡ is_closed_by self.now.1 end.0 }
+    {
+        for entry in &self.entries {
+            if let LogEntry::Closed { end: closed } = entry {
+                if *closed == end {
+                    return true;
+                }
+            }
+        }
+        false
     }
 
     /// Logs that a post was accepted under the label. An `Err` changes nothing.
@@ -64,11 +86,17 @@ impl Log {
         ports: &[EndId],
         body: &Body,
     ) -> Result<(), OutOfMemory>
-        ensures ok { OnOk result (self.new ≡ (self.old.0, self.old.1 ++ Put (record { label = label; message = (ports.now, body.now) }) ∷ [])) }
+        requires label { IsLabelWithin label }
+        requires ports { IsPortList ports.now }
+        ensures ok { OnOk result (self.new ≡ (
+          self.old.0,
+          self.old.1
+              ++ Put (record { label = label; message = (ports.now, body.now) }) ∷ [],
+        )) }
         ensures err { OnErr result (self.new ≡ self.old) }
     {
         let message = Message::copy_of(alloc, ports, body)?;
-        self.append(Entry::Put(Delivery { label, message }))
+        self.append(LogEntry::Put(Delivery { label, message }))
     }
 
     /// Logs that the agent took the envelope of the label. An `Err` changes nothing.
@@ -79,32 +107,44 @@ impl Log {
         ports: &[EndId],
         body: &Body,
     ) -> Result<(), OutOfMemory>
-        ensures ok { OnOk result (self.new ≡ (self.old.0, self.old.1 ++ Got (record { label = label; message = (ports.now, body.now) }) ∷ [])) }
+        requires label { IsLabelWithin label }
+        requires ports { IsPortList ports.now }
+        ensures ok { OnOk result (self.new ≡ (
+          self.old.0,
+          self.old.1
+              ++ Got (record { label = label; message = (ports.now, body.now) }) ∷ [],
+        )) }
         ensures err { OnErr result (self.new ≡ self.old) }
     {
         let message = Message::copy_of(alloc, ports, body)?;
-        self.append(Entry::Got(Delivery { label, message }))
+        self.append(LogEntry::Got(Delivery { label, message }))
     }
 
     /// Logs that the agent adopted the end, whose newest queue is now that of the epoch. An `Err`
     /// changes nothing.
     pub fn adopted(&mut self, end: EndId, epoch: u32) -> Result<(), OutOfMemory>
+        requires end { end.0 ≤ MAX_END }
+        requires epoch { epoch ≤ MAX_EPOCH }
         ensures ok { OnOk result (self.new ≡ (self.old.0, self.old.1 ++ Adopted end epoch ∷ [])) }
         ensures err { OnErr result (self.new ≡ self.old) }
     {
-        self.append(Entry::Adopted { end, epoch })
+        self.append(LogEntry::Adopted { end, epoch })
     }
 
-    /// Logs that the agent closed the end. An `Err` changes nothing.
+    /// Logs that the agent closed the end, which it did not log before. An `Err` changes nothing.
     pub fn closed(&mut self, end: EndId) -> Result<(), OutOfMemory>
+        requires end { end.0 ≤ MAX_END }
+        requires first { is_closed_by self.old.1 end.0 ≡ false }
         ensures ok { OnOk result (self.new ≡ (self.old.0, self.old.1 ++ Closed end ∷ [])) }
         ensures err { OnErr result (self.new ≡ self.old) }
     {
-        self.append(Entry::Closed { end })
+        self.append(LogEntry::Closed { end })
     }
 
     /// Adds an entry as the newest. An `Err` changes nothing.
-    pub(crate) fn append(&mut self, entry: Entry) -> Result<(), OutOfMemory>
+    pub(crate) fn append(&mut self, entry: LogEntry) -> Result<(), OutOfMemory>
+        requires within { IsEntryWithin entry }
+        requires first { closes_one (is_closed_by self.old.1) entry ≡ false }
         ensures ok { OnOk result (self.new ≡ (self.old.0, self.old.1 ++ entry ∷ [])) }
         ensures err { OnErr result (self.new ≡ self.old) }
     {
@@ -113,7 +153,7 @@ impl Log {
     }
 }
 
-/// The lines of the log, each with its LF, without the header.
+/// The log lines of the log, each with its LF, without the header.
 impl fmt::Display for Log {
     ghost output = { λ l. Some (log_text l) };
 

@@ -1,11 +1,12 @@
 ghost use Rattle.std.specs.Prelude.{◌≡◌, ◌↔◌, IsTrue, IfOk};
+ghost use Rattle.hub_envelope.specs.BodyText.{IsBodyText};
 
-use crate::out_of_memory::OutOfMemory;
-use hub_envelope::{Body, EndId};
+use hub_envelope::{Body, EndId, OutOfMemory};
 use std::alloc::Global;
 use std::marker::Model;
 
-/// What an envelope carries: the ends of the ports that travel with it, in list order, and its body.
+/// What an envelope carries: the ends of the ports that travel with it, in list order, and its
+/// body.
 #[derive(Debug, Drop)]
 pub struct Message {
     ports: Vec<EndId>,
@@ -23,8 +24,13 @@ impl Model for Message {
 
 impl Message {
     /// A copy of the ports and the body.
-    pub fn copy_of(alloc: Global, ports: &[EndId], body: &Body) -> Result<Message, OutOfMemory>
-        ensures { IfOk result (λ message. message ≡ (ports.now, body.now)) }
+    pub(crate) fn copy_of(
+        alloc: Global,
+        ports: &[EndId],
+        body: &Body,
+    ) -> Result<Message, OutOfMemory>
+        ensures copy { IfOk result (λ message. message ≡ (ports.now, body.now)) }
+        ensures body { IfOk result (λ message. IsBodyText message.1) }
     {
         let ports = Vec::from_slice(alloc, ports)?;
         let body = body.clone()?;

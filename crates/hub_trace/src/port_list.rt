@@ -1,26 +1,34 @@
-ghost use Rattle.std.specs.Prelude.{Some};
-ghost use Rattle.hub_trace.specs.Text.{ports_text};
+ghost use Rattle.std.specs.Prelude.{◌≡◌, ◌↔◌, IsTrue};
+ghost use Rattle.hub_trace.specs.Limits.{IsPortList};
+ghost use Rattle.hub_trace.specs.PortList.{are_distinct, are_known, is_port_list};
 
-use hub_envelope::EndId;
-use std::fmt;
+use crate::limits::MAX_END;
+use hub_envelope::{EndId, MAX_PORTS};
 
-/// A list of ports as a log has it: numbers joined by commas, or `-`.
-#[derive(Clone, Copy)]
-pub(crate) struct PortList<'a>(pub(crate) &'a [EndId]);
+/// Whether a log may have the ends as its list of ports.
+pub fn is_port_list(ends: &[EndId]) -> bool
+    ensures test { result ≡ is_port_list ends.now }
+    ensures list { IsTrue result ↔ IsPortList ends.now }
+{
+    ends.len() <= MAX_PORTS && are_known(ends) && are_distinct(ends)
+}
 
-impl<'a> fmt::Display for PortList<'a> {
-    ghost output = { λ p. Some (ports_text p.0.now) };
+fn are_known(ends: &[EndId]) -> bool
+    ensures { result ≡ are_known ends.now }
+{
+    ends.iter().all(|end| u64::from(end.0) <= MAX_END)
+}
 
-    fn fmt<W: fmt::Write>(&self, f: &mut fmt::Formatter<W>) -> fmt::Result {
-        let Some((first, others)) = self.0.split_first() else {
-            return f.write_str("-");
-        };
-        let first = first.0;
-        write!(f, "{first}")?;
-        for other in others {
-            let other = other.0;
-            write!(f, ",{other}")?;
+/// Whether no end stands twice.
+fn are_distinct(ends: &[EndId]) -> bool
+    ensures { result ≡ are_distinct ends.now }
+{
+    let mut rest = ends;
+    while let Some((end, others)) = rest.split_first() {
+        if others.contains(end) {
+            return false;
         }
-        Ok(())
+        rest = others;
     }
+    true
 }

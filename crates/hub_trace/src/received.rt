@@ -1,16 +1,15 @@
 ghost use Rattle.std.specs.Prelude.{◌≡◌, ◌<◌, ◌≤◌, ℕ, false, true, map, drop, length, slice_index_or, IfOk, OnOk, ◌++◌, ◌==◌};
 ghost use Rattle.std.specs.List.{filter, All};
 ghost use Rattle.hub_trace.specs.Accepted.{is_of};
-ghost use Rattle.hub_trace.specs.Got.{all_events, events, got, joined, receipts};
+ghost use Rattle.hub_trace.specs.Got.{all_end_events, end_events, got, joined, receipts};
 ghost use Rattle.hub_trace.specs.declared.received.Arrival.{Arrival};
-ghost use Rattle.hub_trace.specs.Views.{IsOwn, RisesByLine, RisesByEnd, events_in, got_in, receipts_in};
+ghost use Rattle.hub_trace.specs.Views.{IsOwn, RisesByLine, RisesByEnd, end_events_in, got_in, receipts_in};
 
-use crate::entry::{Delivery, Entry};
 use crate::label::Label;
 use crate::log::Log;
+use crate::log_entry::{Delivery, LogEntry};
 use crate::message::Message;
-use crate::out_of_memory::OutOfMemory;
-use hub_envelope::{EndId, LineId};
+use hub_envelope::{EndId, LineId, OutOfMemory};
 use std::alloc::Global;
 use std::collections::BTreeMap;
 
@@ -32,13 +31,14 @@ pub(crate) struct Arrival<'a> {
     pub(crate) late: bool,
 }
 
-/// What was got, by end and line, and within a line by stretch, those of equal stretches in the order
-/// of the logs.
+/// What was got, by end and line, and within a line by stretch. What was got in equal stretches
+/// stands in the order of the logs.
 pub(crate) fn arrivals_in_order(
     alloc: Global,
     logs: &[Log],
 ) -> Result<Vec<Arrival<'_>>, OutOfMemory>
-    ensures lines { IfOk result (λ v. (end line : ℕ) → got_in v.items end line ≡ got logs.now end line) }
+    ensures lines { IfOk result (λ v. (end line : ℕ) →
+        got_in v.items end line ≡ got logs.now end line) }
     ensures order { IfOk result (λ v. RisesByLine (λ a. a.label) v.items) }
 {
     let happenings = happenings_in_order(alloc, logs)?;
@@ -47,9 +47,11 @@ pub(crate) fn arrivals_in_order(
     Ok(arrivals)
 }
 
-/// What happened at all ends, by end and stretch, that of equal stretches in the order of the logs.
+/// What happened at all ends, by end and stretch. What happened in equal stretches stands in the
+/// order of the logs.
 fn happenings_in_order(alloc: Global, logs: &[Log]) -> Result<Vec<Happening<'_>>, OutOfMemory>
-    ensures ends { IfOk result (λ v. (end : ℕ) → events_in v.items end ≡ joined logs.now end) }
+    ensures ends { IfOk result (λ v. (end : ℕ) →
+        end_events_in v.items end ≡ joined logs.now end) }
     ensures order { IfOk result (λ v. RisesByEnd v.items) }
     ensures own { IfOk result (λ v. All IsOwn v.items) }
 {
@@ -60,7 +62,8 @@ fn happenings_in_order(alloc: Global, logs: &[Log]) -> Result<Vec<Happening<'_>>
 
 /// What happened at all ends, in the order of the logs.
 fn all_happenings(alloc: Global, logs: &[Log]) -> Result<Vec<Happening<'_>>, OutOfMemory>
-    ensures ends { IfOk result (λ v. (end : ℕ) → events_in v.items end ≡ all_events logs.now end) }
+    ensures ends { IfOk result (λ v. (end : ℕ) →
+        end_events_in v.items end ≡ all_end_events logs.now end) }
     ensures own { IfOk result (λ v. All IsOwn v.items) }
 {
     let mut happenings = Vec::new(alloc);
@@ -73,21 +76,22 @@ fn all_happenings(alloc: Global, logs: &[Log]) -> Result<Vec<Happening<'_>>, Out
 /// Adds what the entries of one log say.
 fn add_happenings<'a>(
     alloc: Global,
-    entries: &'a [Entry],
+    entries: &'a [LogEntry],
     happenings: &mut Vec<Happening<'a>>,
 ) -> Result<(), OutOfMemory>
     requires { All IsOwn happenings.old.items }
-    ensures ends { OnOk result ((end : ℕ) → events_in happenings.new.items end ≡ events_in happenings.old.items end ++ events end 0 entries.now) }
+    ensures ends { OnOk result ((end : ℕ) → end_events_in happenings.new.items end
+        ≡ end_events_in happenings.old.items end ++ end_events end 0 entries.now) }
     ensures own { OnOk result (All IsOwn happenings.new.items) }
 {
     let mut stretches = BTreeMap::new(alloc);
     for entry in entries {
         match entry {
-            Entry::Put(_) => {}
-            Entry::Adopted { end, epoch } => {
+            LogEntry::Put(_) => {}
+            LogEntry::Adopted { end, epoch } => {
                 stretches.insert(end.0, *epoch)?;
             }
-            Entry::Got(delivery) => {
+            LogEntry::Got(delivery) => {
                 let end = delivery.label.end;
                 let stretch = stretches.get(&end.0).copied().unwrap_or(0);
                 happenings.push(Happening {
@@ -96,7 +100,7 @@ fn add_happenings<'a>(
                     got: Some(delivery),
                 })?;
             }
-            Entry::Closed { end } => {
+            LogEntry::Closed { end } => {
                 let stretch = stretches.get(&end.0).copied().unwrap_or(0);
                 happenings.push(Happening {
                     end: *end,
@@ -116,7 +120,8 @@ fn arrivals_of<'a>(
 ) -> Result<Vec<Arrival<'a>>, OutOfMemory>
     requires order { RisesByEnd happenings.now }
     requires own { All IsOwn happenings.now }
-    ensures { IfOk result (λ v. (end : ℕ) → receipts_in v.items end ≡ receipts false (events_in happenings.now end)) }
+    ensures { IfOk result (λ v. (end : ℕ) →
+        receipts_in v.items end ≡ receipts false (end_events_in happenings.now end)) }
 {
     let mut arrivals = Vec::new(alloc);
     let mut closed: Option<u32> = None;
@@ -136,7 +141,7 @@ fn arrivals_of<'a>(
     Ok(arrivals)
 }
 
-/// Those of one line, of which the first is.
+/// The arrivals at the front that are of this line. The first arrival is.
 pub(crate) fn front_of_line<'s, 'a>(
     arrivals: &'s [Arrival<'a>],
     end: EndId,
@@ -144,7 +149,8 @@ pub(crate) fn front_of_line<'s, 'a>(
 ) -> &'s [Arrival<'a>]
     requires order { RisesByLine (λ a. a.label) arrivals.now }
     requires some { 0 < length arrivals.now }
-    requires first { (d : Arrival) → is_of end.0 line.0 (slice_index_or arrivals.now 0 d).label ≡ true }
+    requires first { (d : Arrival) →
+        is_of end.0 line.0 (slice_index_or arrivals.now 0 d).label ≡ true }
     ensures some { 0 < length result.now }
     ensures within { length result.now ≤ length arrivals.now }
     ensures front { arrivals.now ≡ result.now ++ drop (length result.now) arrivals.now }

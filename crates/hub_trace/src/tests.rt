@@ -1,4 +1,4 @@
-use crate::{FaultKind, LOG_HEADER, Label, Log, LogError, OutOfMemory, Verdict, check, read_logs};
+use crate::{FaultKind, LOG_HEADER, Label, Log, LogError, Verdict, check, is_port_list, read_logs};
 use hub_envelope::{AgentId, Body, BodyError, EndId, Envelope, LineId, Ports};
 use std::alloc::{AllocError, AllocFailed, Global};
 use std::fmt;
@@ -11,6 +11,8 @@ enum Fail {
     Body,
     Write,
     Read,
+    /// What was to be logged isn't within the limits.
+    Within,
 }
 
 impl From<AllocError> for Fail {
@@ -21,12 +23,6 @@ impl From<AllocError> for Fail {
 
 impl<T: Drop> From<AllocFailed<T>> for Fail {
     fn from(_error: AllocFailed<T>) -> Fail {
-        Fail::Memory
-    }
-}
-
-impl From<OutOfMemory> for Fail {
-    fn from(_error: OutOfMemory) -> Fail {
         Fail::Memory
     }
 }
@@ -69,8 +65,8 @@ fn answers(rt: &(impl AllocGlobal + Abort), rows: &[(&[u8], &str)]) -> Result<()
     Ok(())
 }
 
-const PUTS: &str =
-    "hublog 1\nagent 0\nput 1 0 0:0 - 1\nput 1 0 0:1 - 2\nput 1 0 0:2 - 3\nagent 1\ngot 1 0 0:0 - 1\n";
+const PUTS: &str = "hublog 1\nagent 0\nput 1 0 0:0 - 1\nput 1 0 0:1 - 2\nput 1 0 0:2 - 3\n\
+    agent 1\ngot 1 0 0:0 - 1\n";
 
 #[test]
 fn tells_each_kind_of_fault(rt: HostRuntime) -> Result<(), Fail> {
@@ -148,7 +144,8 @@ fn tells_the_first_bad_line(rt: HostRuntime) -> Result<(), Fail> {
             "line 4: BadLine",
         ),
         (
-            b"hublog 1\nagent 0\nput 1 0 0:4611686018427387903 - 1\nput 1 0 0:4611686018427387904 - 1",
+            b"hublog 1\nagent 0\nput 1 0 0:4611686018427387903 - 1\n\
+            put 1 0 0:4611686018427387904 - 1",
             "line 4: BadLine",
         ),
         (b"hublog 1\nagent 0\nput 1 0 65536:0 - 1", "line 3: BadLine"),
@@ -160,7 +157,8 @@ fn tells_the_first_bad_line(rt: HostRuntime) -> Result<(), Fail> {
         (b"hublog 1\nagent 0\nput 1 0 0:0 1,2,1 1", "line 3: BadLine"),
         (b"hublog 1\nagent 0\nput 1 0 0:0 65536 1", "line 3: BadLine"),
         (
-            b"hublog 1\nagent 0\nput 1 0 0:0 1,2,3,4,5,6,7,8,9,10,11,12,13,14,15,16 1\nput 1 0 0:1 1,2,3,4,5,6,7,8,9,10,11,12,13,14,15,16,17 1",
+            b"hublog 1\nagent 0\nput 1 0 0:0 1,2,3,4,5,6,7,8,9,10,11,12,13,14,15,16 1\n\
+            put 1 0 0:1 1,2,3,4,5,6,7,8,9,10,11,12,13,14,15,16,17 1",
             "line 4: BadLine",
         ),
         (b"hublog 1\nagent 0\nput 1 0 0:0 - 1.5", "line 3: BadLine"),
@@ -185,11 +183,17 @@ fn some_logs(alloc: Global) -> Result<Vec<Log>, Fail> {
     };
     let body = Body::read(alloc, "{\"b\": [1, null],\t\"a\": \"\u{e9}\\n\"}")?;
     let ports = [EndId(7), EndId(0), EndId(12)];
+    if !label.is_within() || !is_port_list(&ports) {
+        return Err(Fail::Within);
+    }
     let mut first = Log::new(alloc, AgentId(3));
     first.put(alloc, label, &ports, &body)?;
     first.closed(EndId(2))?;
     let mut second = Log::new(alloc, AgentId(15));
     second.adopted(EndId(9), 1)?;
+    if !is_port_list(&[]) {
+        return Err(Fail::Within);
+    }
     second.got(alloc, label, &[], &body)?;
     let mut logs = Vec::new(alloc);
     logs.push(first)?;
@@ -198,8 +202,10 @@ fn some_logs(alloc: Global) -> Result<Vec<Log>, Fail> {
     Ok(logs)
 }
 
-const SOME_TEXT: &str =
-    "hublog 1\nagent 3\nput 65535 15 65535:4611686018427387903 7,0,12 {\"a\":\"\u{e9}\\n\",\"b\":[1,null]}\nclosed 2\nagent 15\nadopted 9 1\ngot 65535 15 65535:4611686018427387903 - {\"a\":\"\u{e9}\\n\",\"b\":[1,null]}\nagent 3\n";
+const SOME_TEXT: &str = "hublog 1\nagent 3\n\
+    put 65535 15 65535:4611686018427387903 7,0,12 {\"a\":\"\u{e9}\\n\",\"b\":[1,null]}\n\
+    closed 2\nagent 15\nadopted 9 1\n\
+    got 65535 15 65535:4611686018427387903 - {\"a\":\"\u{e9}\\n\",\"b\":[1,null]}\nagent 3\n";
 
 fn text_of(alloc: Global, logs: &[Log]) -> Result<String, Fail> {
     let mut text = format!(in alloc; "{LOG_HEADER}\n")?;
@@ -244,12 +250,11 @@ fn labels_an_envelope(rt: HostRuntime) -> Result<(), Fail> {
         ports: Ports::none(alloc),
     };
     let mut log = Log::new(alloc, AgentId(1));
-    log.got(
-        alloc,
-        Label::of(&envelope),
-        envelope.ports.as_slice(),
-        &envelope.body,
-    )?;
+    let label = Label::of(&envelope);
+    if !label.is_within() || !is_port_list(envelope.ports.as_slice()) {
+        return Err(Fail::Within);
+    }
+    log.got(alloc, label, envelope.ports.as_slice(), &envelope.body)?;
     assert_eq!(rt;
         log.to_string(alloc)?.as_str(),
         "agent 1\ngot 4 1 2:9 - null\n"

@@ -7,8 +7,8 @@ use std::fmt;
 /// What the checker says of the logs.
 #[derive(Clone, Copy, Debug, PartialEq, Eq, Drop)]
 pub enum Verdict {
-    /// Each line of each end was delivered in order, each envelope once and as it was posted, and no
-    /// end was delivered to after it was closed.
+    /// Each line of each end was delivered in order, each envelope once and as it was posted, and
+    /// no end was delivered to after it was closed.
     Clean,
     /// The fault of the least end, then line, then place.
     Fault {

@@ -4,4 +4,4 @@ pub mod Bytes
 pub mod Posts
 pub mod Running
 pub mod Outputs
-pub mod Verdicts
+pub mod Writing

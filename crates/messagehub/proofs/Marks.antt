@@ -1,14 +1,13 @@
 -- The mark at the front of a line.
 use Rattle.std.proofs.Common.{◌≡◌, ℕ, List, [], ◌∷◌, Bool, true, false, cond, eqb, refl, sym, ap, ◌∙◌}
 use Rattle.std.proofs.lemmas.Bool.{ne_eqb}
-use Rattle.std.proofs.Common.{Ok, Err}
+use Rattle.std.proofs.Common.{Ok, Err, ◌⊎◌, inl, inr}
 use Rattle.std.specs.Str.{is_utf8, IsUtf8}
 use Rattle.std.proofs.lemmas.Str.{is_utf8-from_IsUtf8, IsUtf8-from_is_utf8}
-use Rattle.messagehub.specs.declared.steps.line.Command.{Command}
-use Rattle.messagehub.specs.declared.steps.line.LineError.TheVariants.{BadUtf8}
-use Rattle.messagehub.specs.declared.steps.refusal.Refusal.{Refusal}
-use Rattle.messagehub.specs.declared.steps.refusal.Refusal.TheVariants as refusal
-use Rattle.messagehub.specs.StepLine.{mark, line_with, line_of, command_in, Refuses}
+use Rattle.messagehub.specs.declared.steps.step_line.Command.{Command}
+use Rattle.messagehub.specs.declared.steps.step_line.StepLineError.TheVariants.{BadUtf8}
+use Rattle.messagehub.specs.declared.steps.step_line.StepLineError.{StepLineError}
+use Rattle.messagehub.specs.StepLine.{mark, step_line_with, step_line_of, command_in}
 
 pub no_mark : (text : List ℕ) → ((rest : List ℕ) → text ≡ 33 ∷ rest → ⊥) → (false, text) ≡ mark text
 no_mark [] h = refl
@@ -20,20 +19,20 @@ utf8_at : (bytes : List ℕ) (b : Bool) → is_utf8 bytes ≡ b → (IsUtf8 byte
 utf8_at bytes true e h = absurd (h (IsUtf8-from_is_utf8 bytes e))
 utf8_at bytes false e h = refl
 
-pub not_utf8 : (bytes : List ℕ) → (IsUtf8 bytes → ⊥) → line_of bytes ≡ Err BadUtf8
-unfolding line_of
-not_utf8 bytes h = ap (λ b. cond b (line_with (mark bytes).0 (command_in (mark bytes).1)) (Err BadUtf8)) (utf8_at bytes (is_utf8 bytes) refl h)
+pub not_utf8 : (bytes : List ℕ) → (IsUtf8 bytes → ⊥) → step_line_of bytes ≡ Err BadUtf8
+unfolding step_line_of
+not_utf8 bytes h = ap (λ b. cond b (step_line_with (mark bytes).0 (command_in (mark bytes).1)) (Err BadUtf8)) (utf8_at bytes (is_utf8 bytes) refl h)
 
-pub text_line : (bytes : List ℕ) (refused : Bool) (text : List ℕ) → IsUtf8 bytes → (refused, text) ≡ mark bytes → line_of bytes ≡ line_with refused (command_in text)
-unfolding line_of
+pub text_line : (bytes : List ℕ) (refused : Bool) (text : List ℕ) → IsUtf8 bytes → (refused, text) ≡ mark bytes → step_line_of bytes ≡ step_line_with refused (command_in text)
+unfolding step_line_of
 text_line bytes refused text valid marked =
-    ap (λ b. cond b (line_with (mark bytes).0 (command_in (mark bytes).1)) (Err BadUtf8)) (is_utf8-from_IsUtf8 bytes valid)
-    ∙ ap (λ (m : Bool × List ℕ). line_with m.0 (command_in m.1)) (sym marked)
+    ap (λ b. cond b (step_line_with (mark bytes).0 (command_in (mark bytes).1)) (Err BadUtf8)) (is_utf8-from_IsUtf8 bytes valid)
+    ∙ ap (λ (m : Bool × List ℕ). step_line_with m.0 (command_in m.1)) (sym marked)
 
 pub is_line : (bytes : List ℕ) (refused : Bool) (text : List ℕ) (command : Command) → IsUtf8 bytes → (refused, text) ≡ mark bytes → command_in text ≡ Ok command
-    → line_of bytes ≡ Ok (record { command = command; memory_refused = refused })
-is_line bytes refused text command valid marked read = text_line bytes refused text valid marked ∙ ap (line_with refused) read
+    → step_line_of bytes ≡ Ok (record { command = command; memory_refused = refused })
+is_line bytes refused text command valid marked read = text_line bytes refused text valid marked ∙ ap (step_line_with refused) read
 
-pub fails_line : (e : Refusal) (bytes : List ℕ) (refused : Bool) (text : List ℕ) → IsUtf8 bytes → (refused, text) ≡ mark bytes → Refuses e (command_in text) → Refuses e (line_of bytes)
-fails_line refusal.OutOfMemory bytes refused text valid marked h = tt
-fails_line (refusal.Bad kind) bytes refused text valid marked h = text_line bytes refused text valid marked ∙ ap (line_with refused) h
+pub fails_line : (memory e : StepLineError) (bytes : List ℕ) (refused : Bool) (text : List ℕ) → IsUtf8 bytes → (refused, text) ≡ mark bytes → (e ≡ memory) ⊎ (command_in text ≡ Err e) → (e ≡ memory) ⊎ (step_line_of bytes ≡ Err e)
+fails_line memory e bytes refused text valid marked (inl h) = inl h
+fails_line memory e bytes refused text valid marked (inr h) = inr (text_line bytes refused text valid marked ∙ ap (step_line_with refused) h)

@@ -7,13 +7,17 @@ use Rattle.hub_core.specs.declared.outcome.Outcome.{Outcome}
 use Rattle.hub_core.specs.History.{History}
 use Rattle.hub_core.specs.Legal.{Legal, LegalAfter}
 use Rattle.hub_core.specs.Shows.{Shows}
-use Rattle.messagehub.specs.declared.steps.line.StepLine.{StepLine}
+use Rattle.messagehub.specs.declared.device.Device.{Device}
+use Rattle.messagehub.specs.declared.status.ExitStatus.{ExitStatus}
+use Rattle.messagehub.specs.declared.status.ExitStatus.TheVariants as exit
+use Rattle.messagehub.specs.declared.steps.step_line.StepLine.{StepLine}
 use Rattle.messagehub.specs.Beginning.{AppendsBeginning}
 use Rattle.messagehub.specs.OutcomeText.{outcome_line}
 use Rattle.messagehub.specs.Performed.{Performs, PerformsAt}
 use Rattle.messagehub.specs.StepText.{Runs, IsStepText}
 use Rattle.messagehub.specs.OutOfMemory.{out_of_memory}
-use Rattle.messagehub.specs.Output.{IsCutShort}
+use Rattle.messagehub.specs.Engine.{Says, Writes}
+use Rattle.messagehub.specs.Output.{IsCutShort, IsRunOutput}
 use Rattle.messagehub.proofs.Bytes.{appends_nothing, appends_more, appends_kept, begins_after, begins_kept, begins_longer}
 
 runs_more : (past : History) (lines : List StepLine) (text : List ℕ) (h : History) (line : StepLine) (more : History) (shown : Outcome) → Runs past lines text h → Performs h line more shown
@@ -86,6 +90,15 @@ cut_ending old now next core kept front back lines a e none b =
     let text : a.sent ++ kept ≡ a.sent = ap (λ t. a.sent ++ t) none ∙ append-nil a.sent in
     (a.sent ++ out_of_memory, (front, back, a.sent, e, (a.h, subst (λ t. Runs [] front t a.h) text a.runs, a.legal), refl), begins_after old now next a.sent out_of_memory a.out b)
 
+pub cut_writes : (old now next : Option (List ℕ)) (core : Core) (kept : List ℕ) (front back lines : List StepLine) (r : Result ExitStatus Device) → IsAnswered old now core kept front → lines ≡ front ++ back → kept ≡ [] → Writes (Says exit.OutOfMemory out_of_memory) now next r
+    → Writes (IsRunOutput lines) old next r
+cut_writes old now next core kept front back lines (Ok s) a e none w =
+    let t = cut_ended old now next core kept front back lines a e none (subst (Appends now next) w.1.1 w.2) in
+    (t.0, subst (λ u. IsRunOutput lines u t.0) (sym w.1.0) t.1, t.2)
+cut_writes old now next core kept front back lines (Err failed) a e none w =
+    let t = cut_ending old now next core kept front back lines a e none (subst (AppendsBeginning now next) w.2.1 w.3) in
+    (exit.OutOfMemory, t.0, t.1, t.2)
+
 pub flush_failed : (old now next : Option (List ℕ)) (core : Core) (kept : List ℕ) (front back lines : List StepLine) → IsAnswered old now core kept front → lines ≡ front ++ back → kept ≡ [] → Keeps now next
     → (text : List ℕ) × IsCutShort lines text × AppendsBeginning old next text
 flush_failed old now next core kept front back lines a e none keeps =
@@ -109,7 +122,3 @@ err_says (Err x) P b e f h = h
 pub ok_says : {T E : Type 0} (r : Result T E) (P : Type 0) (b : Bool) → b ≡ is_err r → b ≡ false → OnOk r P → P
 ok_says (Ok x) P b e f h = h
 ok_says (Err x) P b e f h = cc
-
-pub whenever : {T E : Type 0} (r : Result T E) (P : Type 0) → P → OnErr r P
-whenever (Ok x) P h = tt
-whenever (Err e) P h = h

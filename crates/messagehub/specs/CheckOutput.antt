@@ -1,10 +1,9 @@
 -- What the engine of `check` writes for an input, by the exit status that it answers.
-use Rattle.std.specs.Prelude.{◌≡◌, ℕ, List, ◌++◌, Ok, Err, codes}
-use Rattle.std.specs.Fmt.{decimal}
+use Rattle.std.specs.Prelude.{◌≡◌, ℕ, List, ◌++◌, Ok, Err, Option, Some, None, codes, refl}
 use Rattle.hub_envelope.specs.declared.ids.EndId.{EndId}
 use Rattle.hub_envelope.specs.declared.ids.LineId.{LineId}
-use Rattle.hub_trace.specs.declared.read.LogError.{LogError}
-use Rattle.hub_trace.specs.declared.read.LogError.TheVariants as error
+use Rattle.hub_trace.specs.declared.log_error.LogError.{LogError}
+use Rattle.hub_trace.specs.declared.log_error.LogError.TheVariants as error
 use Rattle.hub_trace.specs.declared.verdict.FaultKind.{FaultKind}
 use Rattle.hub_trace.specs.declared.verdict.Verdict.TheVariants.{Clean, Fault}
 use Rattle.hub_trace.specs.Accepted.{AgentLog, accepted}
@@ -14,30 +13,31 @@ use Rattle.hub_trace.specs.Text.{verdict_text}
 use Rattle.hub_trace.specs.Verdict.{IsVerdict}
 use Rattle.messagehub.specs.declared.status.ExitStatus.{ExitStatus}
 use Rattle.messagehub.specs.declared.status.ExitStatus.TheVariants as status
+use Rattle.messagehub.specs.Engine.{IsBadLine}
 use Rattle.messagehub.specs.OutOfMemory.{out_of_memory}
 
--- what is wrong with a bad line; bytes alone never want memory
-abbrev pub IsLogFault : LogError → List ℕ → Type 0
-IsLogFault error.BadHeader kind = kind ≡ codes "BadHeader"
-IsLogFault error.BadLine kind = kind ≡ codes "BadLine"
-IsLogFault error.OutOfMemory kind = ⊥
+-- the kinds of bad log lines, as they are printed. Want of memory is no kind of bad line.
+abbrev pub log_kind_text : LogError → Option (List ℕ)
+log_kind_text error.BadHeader = Some (codes "BadHeader")
+log_kind_text error.BadLine = Some (codes "BadLine")
+log_kind_text error.OutOfMemory = None
 
--- the one line of bad input: the number of the first bad line, from 1, and its kind
-abbrev pub IsBadLine : List ℕ → List ℕ → Type 0
-IsBadLine input text =
-    (n : ℕ) × (fault : LogError) × (kind : List ℕ) × (logs_of input ≡ Err (n, fault)) × IsLogFault fault kind × (text ≡ codes "line " ++ decimal n ++ codes ": " ++ kind ++ codes "\n")
-
--- the verdict on logs, by the exit status
+-- the verdict on logs, by the exit status, or `out of memory`
 abbrev pub IsVerdictLine : List AgentLog → ExitStatus → List ℕ → Type 0
 IsVerdictLine logs status.Success text = IsVerdict (accepted logs) (got logs) Clean × (text ≡ codes "clean\n")
 IsVerdictLine logs status.Fault text =
     (end : EndId) × (line : LineId) × (place : ℕ) × (kind : FaultKind) × IsVerdict (accepted logs) (got logs) (Fault end line place kind) × (text ≡ verdict_text (Fault end line place kind) ++ codes "\n")
+IsVerdictLine logs status.OutOfMemory text = text ≡ out_of_memory
 IsVerdictLine logs _ text = ⊥
 
 -- what is written for an input: the verdict on its logs, or the one line of bad input, or `out of memory`
 abbrev pub IsCheckOutput : List ℕ → ExitStatus → List ℕ → Type 0
 IsCheckOutput input status.Success text = (logs : List AgentLog) × (logs_of input ≡ Ok logs) × IsVerdictLine logs status.Success text
 IsCheckOutput input status.Fault text = (logs : List AgentLog) × (logs_of input ≡ Ok logs) × IsVerdictLine logs status.Fault text
-IsCheckOutput input status.BadInput text = IsBadLine input text
+IsCheckOutput input status.BadInput text = (n : ℕ) × (kind : LogError) × (logs_of input ≡ Err (n, kind)) × IsBadLine n (log_kind_text kind) text
 IsCheckOutput input status.OutOfMemory text = text ≡ out_of_memory
 IsCheckOutput input _ text = ⊥
+
+-- `out of memory` alone is what is written for want of memory
+pub memory_alone : (input : List ℕ) → IsCheckOutput input status.OutOfMemory out_of_memory
+memory_alone input = refl

@@ -3,18 +3,14 @@ use Rattle.std.specs.Prelude.{ℕ, List, [], ◌∷◌, ◌++◌, codes}
 use Rattle.std.specs.Fmt.{decimal}
 use Rattle.hub_envelope.specs.declared.ids.EndId.{EndId}
 use Rattle.hub_envelope.specs.declared.envelope.Envelope.{Envelope}
+use Rattle.hub_text.specs.EndList.{ends_text}
 use Rattle.hub_core.specs.declared.outcome.Outcome.{Outcome}
 use Rattle.hub_core.specs.declared.outcome.Outcome.TheVariants as outcome
-
--- the numbers of further ends, each after a comma
-abbrev pub more_ends : List EndId → List ℕ
-more_ends [] = []
-more_ends (p ∷ ports) = codes "," ++ decimal p.0 ++ more_ends ports
 
 -- the ports of a delivery, where there are some
 abbrev pub ports_text : List EndId → List ℕ
 ports_text [] = []
-ports_text (p ∷ ports) = codes "with " ++ decimal p.0 ++ more_ends ports ++ codes " "
+ports_text (p ∷ ports) = codes "with " ++ ends_text (p ∷ ports) ++ codes " "
 
 abbrev pub delivery_text : Envelope → List ℕ
 delivery_text v =

@@ -8,7 +8,7 @@ use Rattle.hub_core.specs.History.{Pair, History}
 use Rattle.hub_core.specs.Fits.{Fits}
 use Rattle.hub_core.specs.Legal.{LegalAfter}
 use Rattle.hub_core.specs.Shows.{Shows}
-use Rattle.messagehub.specs.declared.steps.line.StepLine.{StepLine}
+use Rattle.messagehub.specs.declared.steps.step_line.StepLine.{StepLine}
 use Rattle.messagehub.specs.Unfolding.{UnfoldsTo, IsPost}
 
 -- the pairs are what the line unfolds to after the history, each fits, and the outcome is the one shown

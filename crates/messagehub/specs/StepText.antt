@@ -3,7 +3,7 @@ use Rattle.std.specs.Prelude.{◌≡◌, ℕ, List, [], ◌∷◌, ◌++◌}
 use Rattle.hub_core.specs.declared.outcome.Outcome.{Outcome}
 use Rattle.hub_core.specs.History.{History}
 use Rattle.hub_core.specs.Legal.{Legal}
-use Rattle.messagehub.specs.declared.steps.line.StepLine.{StepLine}
+use Rattle.messagehub.specs.declared.steps.step_line.StepLine.{StepLine}
 use Rattle.messagehub.specs.OutcomeText.{outcome_line}
 use Rattle.messagehub.specs.Performed.{Performs}
 

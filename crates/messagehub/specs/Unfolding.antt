@@ -1,5 +1,5 @@
 -- The core steps that a step line unfolds to, and the outcome that it shows.
-use Rattle.std.specs.Prelude.{◌≡◌, ℕ, Bool, List, [], ◌∷◌, Option, Some, None}
+use Rattle.std.specs.Prelude.{◌≡◌, ℕ, Bool, true, false, List, [], ◌∷◌, Option, Some, None}
 use Rattle.hub_envelope.specs.declared.ids.EndId.{EndId}
 use Rattle.hub_core.specs.declared.sender.Sender.{Sender}
 use Rattle.hub_core.specs.declared.step.Action.{Action}
@@ -8,14 +8,25 @@ use Rattle.hub_core.specs.declared.outcome.Outcome.{Outcome}
 use Rattle.hub_core.specs.declared.outcome.Outcome.TheVariants as outcome
 use Rattle.hub_core.specs.History.{Pair, History}
 use Rattle.hub_core.specs.Made.{line_of_port}
-use Rattle.messagehub.specs.declared.steps.line.Poster.{Poster}
-use Rattle.messagehub.specs.declared.steps.line.Poster.TheVariants.{Port}
-use Rattle.messagehub.specs.declared.steps.line.Command.{Command}
-use Rattle.messagehub.specs.declared.steps.line.Command.TheVariants as command
+use Rattle.messagehub.specs.declared.steps.step_line.Poster.{Poster}
+use Rattle.messagehub.specs.declared.steps.step_line.Poster.TheVariants.{Port}
+use Rattle.messagehub.specs.declared.steps.step_line.Command.{Command}
+use Rattle.messagehub.specs.declared.steps.step_line.Command.TheVariants as command
 
 -- a step, with memory refused in it or not, and its outcome
 abbrev pub pair : Bool → Action → Outcome → Pair
 pair refused a o = (record { action = a; memory_refused = refused }, o)
+
+-- the commands whose steps may be answered want of memory
+abbrev pub command_takes_memory : Command → Bool
+command_takes_memory command.Agent = true
+command_takes_memory (command.Channel a) = true
+command_takes_memory (command.Push p ports body) = true
+command_takes_memory (command.Post p ports body) = true
+command_takes_memory (command.Enter p) = false
+command_takes_memory (command.Leave p) = false
+command_takes_memory (command.Start e) = false
+command_takes_memory (command.Take e) = false
 
 -- the line that the poster posts on
 abbrev pub sender_of : History → Poster → Option Sender

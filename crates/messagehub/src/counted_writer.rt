@@ -43,7 +43,8 @@ impl<W: Write> CountedWriter<W> {
 
     /// Sees that what was written has gone out. `Device` comes where it may not have.
     pub fn flush(&mut self) -> Result<(), Device>
-        ensures kept { Keeps (W.contents (inner_writer self.old)) (W.contents (inner_writer self.new)) }
+        ensures kept { Keeps (W.contents (inner_writer self.old))
+            (W.contents (inner_writer self.new)) }
         ensures failures { CountsFailure result (failed_writes self.old) (failed_writes self.new) }
     {
         let answer = self.writer.flush();

@@ -6,58 +6,46 @@ mod check;
 mod counted_reader;
 mod counted_writer;
 mod device;
+mod ending;
+mod engine;
 mod input;
 mod mode;
 mod output;
+mod program;
 mod status;
 mod steps;
 #[cfg(test)]
 mod tests;
 
-use check::run_check;
 use counted_reader::CountedReader;
 use counted_writer::CountedWriter;
-use mode::{Mode, mode_of};
+use ending::Ending;
 use output::end_out_of_memory;
-use status::ExitStatus;
+use program::run_words;
 use std::alloc::AllocError;
 use std::io::ErrorKind;
 use std::process::ExitCode;
 use std::{env, io};
-use steps::run_steps;
-
-const USAGE: &str = "usage: messagehub steps|run|check";
-
-const DEVICE_FAILED: &str = "input or output failed";
 
 fn main(rt: HostRuntime) -> ExitCode {
     let mut reader = CountedReader::new(rt.stdin());
     let mut writer = CountedWriter::new(io::writer(&rt));
-    let answer = match mode_asked_for(&rt) {
-        Ok(Some(Mode::Steps)) => run_steps(rt.alloc(), &mut reader, &mut writer),
-        Ok(Some(Mode::Check)) => run_check(rt.alloc(), &mut reader, &mut writer),
-        Ok(None) => {
-            let _ = rt.eprintln(USAGE);
-            Ok(ExitStatus::Usage)
-        }
+    let answer = match words_after_name(&rt) {
+        Ok(words) => run_words(rt.alloc(), &words, &mut reader, &mut writer),
         Err(AllocError) => end_out_of_memory(&mut writer),
     };
-    match answer {
-        Ok(status) => status.code(),
-        Err(_) => {
-            let _ = rt.eprintln(DEVICE_FAILED);
-            ExitStatus::Device.code()
-        }
+    let Ending { status, message } = Ending::of(answer);
+    if let Some(message) = message {
+        let _ = rt.eprintln(message);
     }
+    status.code()
 }
 
-/// What the arguments ask for. Arguments that are no text ask for nothing.
-fn mode_asked_for(rt: &HostRuntime) -> Result<Option<Mode>, AllocError> {
-    let args = match env::args(rt) {
-        Ok(args) => args,
-        Err(error) if error.kind() == ErrorKind::OutOfMemory => return Err(AllocError),
-        Err(_) => return Ok(None),
-    };
-    let words = args.skip(1).collect::<Vec<String>>(rt.alloc())?;
-    Ok(mode_of(&words))
+/// The arguments after the program's name. Arguments that are no text count as none.
+fn words_after_name(rt: &HostRuntime) -> Result<Vec<String>, AllocError> {
+    match env::args(rt) {
+        Ok(args) => args.skip(1).collect::<Vec<String>>(rt.alloc()),
+        Err(error) if error.kind() == ErrorKind::OutOfMemory => Err(AllocError),
+        Err(_) => Ok(Vec::new(rt.alloc())),
+    }
 }

@@ -1,85 +1,72 @@
 //! The engine of `messagehub steps`.
 
-ghost use Rattle.std.specs.Prelude.{◌≡◌, ◌++◌, ℕ, List, IfOk, OnOk, OnErr};
-ghost use Rattle.std.specs.Io.KnownBytes.{Appends};
+ghost use Rattle.std.specs.Prelude.{◌≡◌, ◌++◌, OnOk, OnErr};
 ghost use Rattle.hub_core.specs.declared.outcome.Outcome.{Outcome};
-ghost use Rattle.messagehub.specs.declared.status.ExitStatus.{ExitStatus};
-ghost use Rattle.messagehub.specs.declared.status.ExitStatus.TheVariants as exit;
-ghost use Rattle.messagehub.specs.Beginning.{AppendsBeginning};
-ghost use Rattle.messagehub.specs.Counted.{inner_reader, inner_writer, failed_writes, NoneFails, OneFails};
+ghost use Rattle.messagehub.specs.Counted.{inner_reader, inner_writer, failed_writes};
+ghost use Rattle.messagehub.specs.Engine.{Answers, CountsDevice, Writes};
 ghost use Rattle.messagehub.specs.Failures.{CountsFailure};
-ghost use Rattle.messagehub.specs.IsInput.{IsInput};
 ghost use Rattle.messagehub.specs.OutcomeText.{outcome_line};
+ghost use Rattle.messagehub.specs.Output.{IsRunOutput, IsStepsOutput};
 ghost use Rattle.messagehub.specs.Performed.{PerformsAt};
-ghost use Rattle.messagehub.specs.Output.{IsOutput, IsRunOutput};
 
-mod end_list;
-mod line;
-mod number;
-mod parse;
 mod perform;
-mod read_line;
-mod refusal;
+mod read_step_line;
+mod read_steps;
+mod step_line;
 mod text;
-mod word;
 
 use crate::counted_reader::CountedReader;
 use crate::counted_writer::CountedWriter;
 use crate::device::Device;
-use crate::input::{InputError, read_input};
-use crate::output::{PIECE, end_out_of_memory, end_with, write_kept};
+use crate::engine::{Engine, run_engine};
+use crate::output::{PIECE, end_out_of_memory, end_unread, write_kept};
 use crate::status::ExitStatus;
 use hub_core::{Core, OutOfMemory};
-use line::StepLine;
-use parse::{ParseError, parse};
 use perform::perform;
+use read_steps::read_steps;
 use std::alloc::Global;
 use std::io::{Read, Write};
-use text::{write_fault, write_outcome};
+use step_line::StepLine;
+use text::write_outcome;
 
 /// Reads step lines to the end of the input, runs them, and writes one outcome line for each.
 ///
-/// The whole input is read and parsed before anything is run. Bad input writes one line alone, for
-/// the first bad line. Where memory runs out, the outcome lines so far are followed by
-/// `out of memory`. `Device` comes where a read or a write failed in this call: nothing was run or
-/// written after a failed read, and how much had gone out at a failed write isn't said.
+/// The whole input is read before anything is run. Bad input writes one line alone, for the first
+/// bad line. Where memory runs out, the outcome lines so far are followed by `out of memory`.
 pub fn run_steps<R: Read, W: Write>(
     alloc: Global,
     reader: &mut CountedReader<R>,
     writer: &mut CountedWriter<W>,
 ) -> Result<ExitStatus, Device>
-    // What is written is what the status says of the input, and nothing else.
-    ensures ok { IfOk result (λ answered. (input : List ℕ) × (text : List ℕ)
-        × IsInput (R.remaining (inner_reader reader.old)) input × IsOutput input answered text
-        × Appends (W.contents (inner_writer writer.old))
-        (W.contents (inner_writer writer.new)) text) }
-    // What had gone out is a beginning of that.
-    ensures err { OnErr result ((input : List ℕ) × (answered : ExitStatus) × (text : List ℕ)
-        × IsInput (R.remaining (inner_reader reader.old)) input × IsOutput input answered text
-        × AppendsBeginning (W.contents (inner_writer writer.old))
-        (W.contents (inner_writer writer.new)) text) }
-    // `Device` comes only where a read or a write failed in this call, and then it comes.
-    ensures none_failed { OnOk result (NoneFails reader.old reader.new writer.old writer.new) }
-    ensures one_failed { OnErr result (OneFails reader.old reader.new writer.old writer.new) }
+    ensures written { Answers IsStepsOutput (R.remaining (inner_reader reader.old))
+        (W.contents (inner_writer writer.old)) (W.contents (inner_writer writer.new)) result }
+    ensures failures { CountsDevice reader.old reader.new writer.old writer.new result }
 {
-    let input = match read_input(alloc, reader) {
-        Ok(input) => input,
-        Err(InputError::Device) => return Err(Device),
-        Err(InputError::OutOfMemory) => return end_out_of_memory(writer),
-    };
-    match parse(alloc, &input) {
-        Ok(lines) => {
-            drop(input);
-            run_lines(alloc, lines, writer)
-        }
-        Err(ParseError::Bad(fault)) => {
-            let mut text = String::new(alloc);
-            if write_fault(&mut text, fault).is_err() {
-                return end_out_of_memory(writer);
+    run_engine::<StepsEngine, R, W>(alloc, reader, writer)
+}
+
+/// The step lines of an input are run through one core.
+struct StepsEngine;
+
+impl Engine for StepsEngine {
+    ghost use Rattle.messagehub.specs.Output.{IsStepsOutput, memory_alone};
+
+    ghost output = { IsStepsOutput };
+
+    ghost wants_memory = { memory_alone };
+
+    fn answer<W: Write>(
+        alloc: Global,
+        input: Vec<u8>,
+        writer: &mut CountedWriter<W>,
+    ) -> Result<ExitStatus, Device> {
+        match read_steps(alloc, &input) {
+            Ok(lines) => {
+                drop(input);
+                run_lines(alloc, lines, writer)
             }
-            end_with(writer, text.as_bytes(), ExitStatus::BadInput)
+            Err((line, error)) => end_unread(alloc, writer, line, error.name()),
         }
-        Err(ParseError::OutOfMemory) => end_out_of_memory(writer),
     }
 }
 
@@ -88,12 +75,8 @@ fn run_lines<W: Write>(
     lines: Vec<StepLine>,
     writer: &mut CountedWriter<W>,
 ) -> Result<ExitStatus, Device>
-    ensures ok { IfOk result (λ answered. (text : List ℕ) × IsRunOutput lines.items answered text
-        × Appends (W.contents (inner_writer writer.old))
-        (W.contents (inner_writer writer.new)) text) }
-    ensures err { OnErr result ((text : List ℕ) × IsRunOutput lines.items exit.OutOfMemory text
-        × AppendsBeginning (W.contents (inner_writer writer.old))
-        (W.contents (inner_writer writer.new)) text) }
+    ensures written { Writes (IsRunOutput lines.items) (W.contents (inner_writer writer.old))
+        (W.contents (inner_writer writer.new)) result }
     ensures failures { CountsFailure result (failed_writes writer.old) (failed_writes writer.new) }
 {
     let mut core = Core::new(alloc);
@@ -112,7 +95,7 @@ fn run_lines<W: Write>(
     Ok(ExitStatus::Success)
 }
 
-/// Runs a line and keeps its outcome line. An `Err` keeps nothing.
+/// Runs a step line and keeps its outcome line. An `Err` keeps nothing.
 fn answer_line(
     alloc: Global,
     core: &mut Core,

@@ -1,19 +1,54 @@
 mod check;
 mod devices;
+mod engines;
+mod failures;
 mod steps;
 
-use crate::mode::{Mode, mode_of};
+use crate::counted_reader::CountedReader;
+use crate::counted_writer::CountedWriter;
+use crate::device::Device;
+use crate::ending::Ending;
+use crate::program::run_words;
+use crate::status::ExitStatus;
 use std::test::Fail;
 
+// The words as they are typed, what is read, what is written and how it is answered.
 #[test]
-fn reads_its_arguments(rt: HostRuntime) -> Result<(), Fail> {
-    let steps = String::from_str(rt.alloc(), "steps")?;
-    let other = String::from_str(rt.alloc(), "fly")?;
-    let none = Vec::new(rt.alloc());
-    assert_eq!(rt; mode_of(&none), None);
-    assert_eq!(rt; mode_of(&[other]), None);
-    let two = [steps.clone()?, steps.clone()?];
-    assert_eq!(rt; mode_of(&two), None);
-    assert_eq!(rt; mode_of(&[steps]), Some(Mode::Steps));
+fn runs_the_mode_that_is_named(rt: HostRuntime) -> Result<(), Fail> {
+    let rows: [(&[&str], &[u8], ExitStatus); 5] = [
+        (&[], b"", ExitStatus::Usage),
+        (&["fly"], b"", ExitStatus::Usage),
+        (&["steps", "steps"], b"", ExitStatus::Usage),
+        (&["steps"], b"line 1: UnknownStep\n", ExitStatus::BadInput),
+        (&["check"], b"line 1: BadHeader\n", ExitStatus::BadInput),
+    ];
+    for (words, output, status) in rows {
+        let mut typed = Vec::new(rt.alloc());
+        for word in words {
+            typed.push(String::from_str(rt.alloc(), word)?)?;
+        }
+        let input: &[u8] = b"hublog 9\n";
+        let mut reader = CountedReader::new(input);
+        let mut writer = CountedWriter::new(Vec::<u8>::new(rt.alloc()));
+        let answer = run_words(rt.alloc(), &typed, &mut reader, &mut writer);
+        assert_eq!(rt; answer, Ok(status));
+        assert_eq!(rt; writer.into_inner().as_slice(), output);
+    }
     Ok(())
+}
+
+#[test]
+fn says_why_on_standard_error(rt: HostRuntime) {
+    let usage = Ending::of(Ok(ExitStatus::Usage));
+    assert_eq!(rt;
+        (usage.status.number(), usage.message),
+        (2, Some("usage: messagehub steps|run|check"))
+    );
+    let failed = Ending::of(Err(Device));
+    assert_eq!(rt;
+        (failed.status.number(), failed.message),
+        (4, Some("input or output failed"))
+    );
+    let done = Ending::of(Ok(ExitStatus::Success));
+    assert_eq!(rt; (done.status.number(), done.message), (0, None));
 }

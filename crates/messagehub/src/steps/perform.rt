@@ -1,17 +1,19 @@
-ghost use Rattle.std.specs.Prelude.{◌≡◌, IfOk};
+ghost use Rattle.std.specs.Prelude.{◌≡◌, IfOk, IsOk, OnErr, true};
 ghost use Rattle.hub_core.specs.History.{History};
 ghost use Rattle.hub_core.specs.Shows.{Shows};
 ghost use Rattle.hub_core.specs.declared.step.Action.TheVariants as action;
-ghost use Rattle.messagehub.specs.Unfolding.{sender_of, pair};
+ghost use Rattle.messagehub.specs.Unfolding.{command_takes_memory, pair, sender_of};
 ghost use Rattle.messagehub.specs.Performed.{PerformsAt, PostsAt, StepsAt};
 
-use super::line::{Command, Poster, StepLine};
+use super::step_line::{Command, Poster, StepLine};
 use hub_core::{Action, Core, OutOfMemory, Outcome, Sender, Step};
 use hub_envelope::{Body, EndId};
 
 /// Takes the core's steps of a line, and gives the outcome that the line shows.
 pub fn perform(core: &mut Core, line: StepLine) -> Result<Outcome, OutOfMemory>
-    ensures { IfOk result (λ shown. PerformsAt core.old core.new line shown) }
+    ensures performed { IfOk result (λ shown. PerformsAt core.old core.new line shown) }
+    // Steps that take no memory are never refused for want of it, with the mark or without.
+    ensures memory { OnErr result (command_takes_memory line.command ≡ true) }
 {
     let StepLine {
         command,
@@ -87,7 +89,9 @@ fn post(
 }
 
 fn leave(core: &mut Core, sender: Sender, memory_refused: bool) -> Result<Outcome, OutOfMemory>
-    ensures { IfOk result (λ left. StepsAt core.old core.new (pair memory_refused (action.Leave sender) left)) }
+    ensures left { IfOk result (λ left.
+        StepsAt core.old core.new (pair memory_refused (action.Leave sender) left)) }
+    ensures memory { IsOk result }
 {
     core.step(Step {
         action: Action::Leave(sender),

@@ -1,17 +1,16 @@
 ghost use Rattle.std.specs.Prelude.{◌≡◌, ◌++◌, OnOk, string_bytes};
 ghost use Rattle.messagehub.specs.OutcomeText.{outcome_line, delivery_text, ports_text};
-ghost use Rattle.messagehub.specs.FaultText.{fault_line};
 
-use super::line::LineError;
-use super::parse::Fault;
 use hub_core::Outcome;
 use hub_envelope::{EndId, Envelope};
+use hub_text::EndListText;
 use std::alloc::AllocError;
 
 /// Writes the line of an outcome, with its LF.
 #[tactic(auto, unfolding(crate::specs::OutcomeText::outcome_line))]
 pub fn write_outcome(text: &mut String, outcome: &Outcome) -> Result<(), AllocError>
-    ensures { OnOk result (string_bytes text.new ≡ string_bytes text.old ++ outcome_line outcome.now) }
+    ensures { OnOk result (string_bytes text.new
+        ≡ string_bytes text.old ++ outcome_line outcome.now) }
 {
     match outcome {
         Outcome::NotNow => text.push_str("not-now\n"),
@@ -34,7 +33,8 @@ pub fn write_outcome(text: &mut String, outcome: &Outcome) -> Result<(), AllocEr
 }
 
 fn write_delivery(text: &mut String, envelope: &Envelope) -> Result<(), AllocError>
-    ensures { OnOk result (string_bytes text.new ≡ string_bytes text.old ++ delivery_text envelope.now) }
+    ensures { OnOk result (string_bytes text.new
+        ≡ string_bytes text.old ++ delivery_text envelope.now) }
 {
     let epoch = envelope.epoch;
     let number = envelope.number;
@@ -49,33 +49,9 @@ fn write_delivery(text: &mut String, envelope: &Envelope) -> Result<(), AllocErr
 fn write_ports(text: &mut String, ports: &[EndId]) -> Result<(), AllocError>
     ensures { OnOk result (string_bytes text.new ≡ string_bytes text.old ++ ports_text ports.now) }
 {
-    let [first, others @ ..] = ports else {
+    if ports.is_empty() {
         return Ok(());
-    };
-    write!(text, "with {}", first.0)?;
-    for port in others {
-        write!(text, ",{}", port.0)?;
     }
-    text.push_str(" ")
-}
-
-/// Writes the one line of bad input.
-#[tactic(auto, unfolding(crate::specs::FaultText::fault_line))]
-pub fn write_fault(text: &mut String, fault: Fault) -> Result<(), AllocError>
-    ensures { OnOk result (string_bytes text.new ≡ string_bytes text.old ++ fault_line fault) }
-{
-    let line = fault.line;
-    let kind = match fault.kind {
-        LineError::BadUtf8 => "BadUtf8",
-        LineError::UnknownStep => "UnknownStep",
-        LineError::BadWords => "BadWords",
-        LineError::BadNumber => "BadNumber",
-        LineError::BadPoster => "BadPoster",
-        LineError::BadList => "BadList",
-        LineError::NotJson => "NotJson",
-        LineError::NotWhole => "NotWhole",
-        LineError::TooDeep => "TooDeep",
-        LineError::TooLong => "TooLong",
-    };
-    writeln!(text, "line {line}: {kind}")
+    let ports = EndListText(ports);
+    write!(text, "with {ports} ")
 }

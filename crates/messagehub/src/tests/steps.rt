@@ -1,56 +1,35 @@
-use super::devices::{
-    EndlessReader, FailingWriter, SlowReader, SlowWriter, StuckWriter, UnflushedWriter,
-};
-use crate::counted_reader::CountedReader;
-use crate::counted_writer::CountedWriter;
-use crate::device::Device;
-use crate::status::ExitStatus;
-use crate::steps::run_steps;
-use std::alloc::Global;
-use std::io::{Read, Write};
-use std::process::Abort;
+use super::engines::expect_written;
+use crate::mode::Mode;
 use std::test::Fail;
-
-/// What the engine answers, and its writer after that.
-fn run<R: Read + Drop, W: Write + Drop>(
-    alloc: Global,
-    reader: R,
-    writer: W,
-) -> (Result<ExitStatus, Device>, W) {
-    let mut reader = CountedReader::new(reader);
-    let mut writer = CountedWriter::new(writer);
-    let answer = run_steps(alloc, &mut reader, &mut writer);
-    (answer, writer.into_inner())
-}
-
-fn expect_written(rt: &impl Abort, alloc: Global, input: &[u8], output: &[u8], status: u8) {
-    let (answer, bytes) = run(alloc, input, Vec::new(alloc));
-    let number = answer
-        .expect(rt, "memory never fails to be read or written")
-        .number();
-    assert_eq!(rt; bytes.as_slice(), output);
-    assert_eq!(rt; number, status);
-}
 
 #[test]
 fn runs_the_worked_rows(rt: HostRuntime) {
-    let rows: [(&[u8], &[u8]); 4] = [
+    let rows: [(&[u8], &[u8]); 5] = [
         (b"", b""),
         (
             b"agent -\nchannel 0\npost 0 - {\"a\":1}\ntake 1\nstart 1\ntake 1\ntake 1",
-            b"agent 0\nends 0 1\naccepted 0:0\ndisabled\nstarted\ngot 0:0 from 0 {\"a\":1}\nempty\n",
+            b"agent 0\nends 0 1\naccepted 0:0\ndisabled\nstarted\n\
+                got 0:0 from 0 {\"a\":1}\nempty\n",
         ),
         (
             b"agent -\n!channel 0\nchannel 0\n!post 0 - 1\npost 0 - 2\nstart 1\ntake 1\ntake 1\n",
-            b"agent 0\nno-memory\nends 0 1\nno-memory\naccepted 0:0\nstarted\ngot 0:0 from 0 2\nempty\n",
+            b"agent 0\nno-memory\nends 0 1\nno-memory\naccepted 0:0\nstarted\n\
+                got 0:0 from 0 2\nempty\n",
+        ),
+        // The mark has no effect on steps that take no memory.
+        (
+            b"agent -\nchannel 0\npost 0 - 1\n!start 1\n!take 1\n!enter 0\n!leave 0\n!take 1\n",
+            b"agent 0\nends 0 1\naccepted 0:0\nstarted\ngot 0:0 from 0 1\nin\nleft\nempty\n",
         ),
         (
-            b"agent -\nchannel 0\nenter 0\nenter 0\npush 0 - 5\nleave 0\nleave 0\nenter 9\nstart 2\ntake 1\n",
-            b"agent 0\nends 0 1\nin\nnot-now\naccepted 0:0\nleft\nnot-now\nnot-now\nnot-now\ndisabled\n",
+            b"agent -\nchannel 0\nenter 0\nenter 0\npush 0 - 5\nleave 0\nleave 0\n\
+                enter 9\nstart 2\ntake 1\n",
+            b"agent 0\nends 0 1\nin\nnot-now\naccepted 0:0\nleft\nnot-now\nnot-now\n\
+                not-now\ndisabled\n",
         ),
     ];
     for (input, output) in rows {
-        expect_written(&rt, rt.alloc(), input, output, 0);
+        expect_written(&rt, Mode::Steps, input, output, 0);
     }
 }
 
@@ -70,7 +49,7 @@ fn runs_two_hundred_posts_and_takes(rt: HostRuntime) -> Result<(), Fail> {
     }
     input.push_str("take 1\n")?;
     output.push_str("empty\n")?;
-    expect_written(&rt, rt.alloc(), input.as_bytes(), output.as_bytes(), 0);
+    expect_written(&rt, Mode::Steps, input.as_bytes(), output.as_bytes(), 0);
     Ok(())
 }
 
@@ -113,7 +92,8 @@ fn tells_the_first_bad_line_alone(rt: HostRuntime) {
         (b"post 0 - [1.5", b"line 1: NotJson\n"),
         (b"post 0 - 1.5", b"line 1: NotWhole\n"),
         (
-            b"post 0 - [[[[[[[[[[[[[[[[[[[[[[[[[[[[[[[[[[[[[[[[[[[[[[[[[[[[[[[[[[[[[[[[[]]]]]]]]]]]]]]]]]]]]]]]]]]]]]]]]]]]]]]]]]]]]]]]]]]]]]]]]]]]]]]]]]",
+            b"post 0 - [[[[[[[[[[[[[[[[[[[[[[[[[[[[[[[[[[[[[[[[\
+                [[[[[[[[[[[[[[[[[[[[[[[[[]]]]]]]]]]]]]]]]]]]]]]]]]]]]]]]]]]]]]]]]]]]]]]]]]]]]]]]]]]]]]]]]]",
             b"line 1: TooDeep\n",
         ),
         (
@@ -122,7 +102,7 @@ fn tells_the_first_bad_line_alone(rt: HostRuntime) {
         ),
     ];
     for (input, output) in rows {
-        expect_written(&rt, rt.alloc(), input, output, 2);
+        expect_written(&rt, Mode::Steps, input, output, 2);
     }
 }
 
@@ -130,77 +110,5 @@ fn tells_the_first_bad_line_alone(rt: HostRuntime) {
 fn answers_not_now_to_numbers_that_name_nothing(rt: HostRuntime) {
     let input = b"take 4294967295\nchannel 255\nchannel 4294967295\nenter 7\npost 7 - 1\nleave 7\n";
     let output = b"not-now\nnot-now\nnot-now\nnot-now\nnot-now\nnot-now\n";
-    expect_written(&rt, rt.alloc(), input, output, 0);
-}
-
-#[test]
-fn tells_that_a_write_failed(rt: HostRuntime) {
-    let input: &[u8] = b"agent -\n";
-    let (failed, _) = run(rt.alloc(), input, FailingWriter::with_room(7));
-    assert_eq!(rt; failed, Err(Device));
-    let (done, _) = run(rt.alloc(), input, FailingWriter::with_room(8));
-    assert_eq!(rt; done, Ok(ExitStatus::Success));
-    let (unflushed, _) = run(rt.alloc(), input, UnflushedWriter);
-    assert_eq!(rt; unflushed, Err(Device));
-}
-
-#[test]
-fn tells_that_the_last_of_several_writes_failed(rt: HostRuntime) -> Result<(), Fail> {
-    let mut input = String::new(rt.alloc());
-    for _ in 0..20_000 {
-        input.push_str("take 0\n")?;
-    }
-    let size = 20_000 * "not-now\n".len();
-    let (done, writer) = run(rt.alloc(), input.as_bytes(), FailingWriter::with_room(size));
-    assert_eq!(rt; done, Ok(ExitStatus::Success));
-    assert_eq!(rt; (writer.room, writer.writes), (0, 3));
-    let (failed, writer) = run(
-        rt.alloc(),
-        input.as_bytes(),
-        FailingWriter::with_room(size - 1),
-    );
-    assert_eq!(rt; failed, Err(Device));
-    assert_eq!(rt; (writer.room, writer.writes), (size - 1 - 2 * 65_536, 2));
-    Ok(())
-}
-
-#[test]
-fn reads_and_writes_a_byte_at_a_time(rt: HostRuntime) -> Result<(), Fail> {
-    let reader = SlowReader::new(rt.alloc(), b"agent -\nchannel 0\nfly")?;
-    let taken = Vec::new(rt.alloc());
-    let (answer, writer) = run(rt.alloc(), reader, SlowWriter { taken });
-    assert_eq!(rt; answer, Ok(ExitStatus::BadInput));
-    let line: &[u8] = b"line 3: UnknownStep\n";
-    assert_eq!(rt; writer.taken.as_slice(), line);
-    Ok(())
-}
-
-#[test]
-fn writes_nothing_after_a_failed_read(rt: HostRuntime) -> Result<(), Fail> {
-    for fails_at in [0usize, 8, 18] {
-        let reader = SlowReader::failing_at(rt.alloc(), b"agent -\nchannel 0\n", fails_at)?;
-        let (answer, writer) = run(rt.alloc(), reader, Vec::<u8>::new(rt.alloc()));
-        assert_eq!(rt; answer, Err(Device));
-        assert_eq!(rt; writer.len(), 0);
-    }
-    Ok(())
-}
-
-#[test]
-fn an_input_that_never_ends_is_a_failed_read(rt: HostRuntime) {
-    for is_interrupted in [false, true] {
-        let reader = EndlessReader { is_interrupted };
-        let (answer, writer) = run(rt.alloc(), reader, Vec::<u8>::new(rt.alloc()));
-        assert_eq!(rt; answer, Err(Device));
-        assert_eq!(rt; writer.len(), 0);
-    }
-}
-
-#[test]
-fn a_write_that_takes_nothing_has_failed(rt: HostRuntime) {
-    for is_interrupted in [false, true] {
-        let input: &[u8] = b"agent -\n";
-        let (answer, _) = run(rt.alloc(), input, StuckWriter { is_interrupted });
-        assert_eq!(rt; answer, Err(Device));
-    }
+    expect_written(&rt, Mode::Steps, input, output, 0);
 }

@@ -17,7 +17,7 @@ invariant_of-push_reserved g c =
     let kept = c.loop-line.invariant in
     let same = (same_parts _ _ _ _ (rw last at kept.3)).1 in
     let seat = line_seat _ _ (line_cut_off _ _ _ (ap (λ m. m.0) kept.1) c.split_seat-own.ensures.4) in
-    (rw same c.requires.table.0, c.split_seat-own.ensures.3 ∙ kept.0 ∙ c.requires.table.1 ∙ sym (ap (λ t. t.shared.table_id) same), seat.0, sym (ap (λ v. v.line) seat.1))
+    ((rw same c.requires.table.0, c.split_seat-own.ensures.3 ∙ kept.0 ∙ c.requires.table.1 ∙ sym (ap (λ t. t.shared.table_id) same)), seat.0, sym (ap (λ v. v.line) seat.1))
 
 pub loop-line-preserved : goal.loop-line-preserved
 loop-line-preserved g c =

@@ -1,4 +1,3 @@
--- The laws of all gates.
 use Rattle.hub_gate.proofs.EveryGate.{none_in, no_seat_in, each_step, word_shows}
 use Rattle.hub_gate.proofs.laws.gate_laws.Goals as goal
 

@@ -1,7 +1,7 @@
 use Rattle.std.proofs.Common.{◌≤◌, length, drop, not, rules}
 use Rattle.std.proofs.lemmas.List.{take_rest}
 use Rattle.std.proofs.lemmas.List.Sorted.{IsPartitionPoint-from_clause}
-use Rattle.hub_trace.specs.declared.accepted.Accepted.{Accepted}
+use Rattle.hub_trace.specs.declared.accepted.AcceptedEnvelope.{AcceptedEnvelope}
 use Rattle.hub_trace.specs.Views.{is_before, is_after}
 use Rattle.hub_trace.proofs.Lines.{before_parted, upto_parted, RisesByLine-drop, cut}
 use Rattle.hub_trace.proofs.accepted.accepted_of.Goals as goal
@@ -13,10 +13,10 @@ returns c =
     let line = c.args.line.0 in
     let n = c.partition_point-from.result in
     let m = c.partition_point-count.result in
-    let label = λ (a : Accepted). a.label in
+    let label = λ (a : AcceptedEnvelope). a.label in
     let rest = take_rest xs n in
     let le : n ≤ length xs = c.partition_point-from.ensures.bound in
-    let front = IsPartitionPoint-from_clause (λ (a : Accepted). is_before end line a.label) xs n c.partition_point-from.ensures.partitioned (before_parted label xs end line c.requires) (λ a r f k. search rules) in
-    let back = IsPartitionPoint-from_clause (λ (a : Accepted). not (is_after end line a.label)) _ m c.partition_point-count.ensures.partitioned
+    let front = IsPartitionPoint-from_clause (λ (a : AcceptedEnvelope). is_before end line a.label) xs n c.partition_point-from.ensures.partitioned (before_parted label xs end line c.requires) (λ a r f k. search rules) in
+    let back = IsPartitionPoint-from_clause (λ (a : AcceptedEnvelope). not (is_after end line a.label)) _ m c.partition_point-count.ensures.partitioned
     (rw rest (upto_parted label (drop n xs) end line (RisesByLine-drop label xs n le c.requires))) (λ a r f k. search rules) in
     rw rest (cut label xs end line n m le front (rw rest at c.partition_point-count.ensures.bound) (rw rest at back))

@@ -1,6 +1,6 @@
 use Rattle.std.proofs.Common.{List, length, map, drop, sym, ap, subst}
 use Rattle.std.proofs.lemmas.List.{take_rest}
-use Rattle.hub_trace.specs.declared.entry.Delivery.{Delivery}
+use Rattle.hub_trace.specs.declared.log_entry.Delivery.{Delivery}
 use Rattle.hub_trace.specs.declared.received.Arrival.{Arrival}
 use Rattle.hub_trace.specs.Got.{Receipt}
 use Rattle.hub_trace.specs.Clean.{IsCleanLine}

@@ -1,7 +1,7 @@
 use Rattle.std.proofs.Common.{rules, tests, ◌∙◌}
 use Rattle.std.proofs.lemmas.Iterator.{YieldsList-from_slice}
 use Rattle.std.proofs.lemmas.Iterator.Search.{any_from_yields_List}
-use Rattle.hub_trace.specs.declared.entry.Delivery.{Delivery}
+use Rattle.hub_trace.specs.declared.log_entry.Delivery.{Delivery}
 use Rattle.hub_trace.specs.Fault.{has_name}
 use Rattle.hub_trace.specs.Views.{delivery_of}
 use Rattle.hub_trace.proofs.Faults.{list_any-map}

@@ -1,11 +1,12 @@
-use Rattle.std.proofs.Common.{◌≡◌, ◌+◌, List, length, true, false, bytes_eq, Ok, Err, sym, ap, ◌∙◌, arith}
+use Rattle.std.proofs.Common.{◌≡◌, ◌+◌, List, length, true, false, bytes_eq, Ok, Err, inr, sym, ap, ◌∙◌, arith, rules}
 use Rattle.std.proofs.lemmas.Bool.{eqb-true}
 use Rattle.hub_trace.specs.declared.read.TheConstants.{LOGS_END}
 use Rattle.hub_trace.specs.declared.log.TheConstants.{LOG_HEADER}
-use Rattle.hub_trace.specs.declared.read.LogError.TheVariants as error
+use Rattle.hub_trace.specs.declared.log_error.LogError.TheVariants as error
 use Rattle.hub_trace.specs.Accepted.{AgentLog}
+use Rattle.hub_trace.specs.Read.{HasHeader}
 use Rattle.hub_trace.proofs.Bytes.{not_true}
-use Rattle.hub_trace.proofs.Reading.{nothing_read, none_other, other_header, at_end, bad_line, one_more, all_read}
+use Rattle.hub_trace.proofs.Reading.{nothing_read, none_other, other_header, at_end, comes_below, refused, one_more, all_read}
 use Rattle.hub_trace.proofs.WrittenLogs.{read_back}
 use Rattle.hub_trace.proofs.read.read_logs.Goals as goal
 
@@ -21,26 +22,26 @@ returns-then-is_empty-clause-reads c =
 
 pub returns-then-eq-clause-reads : goal.returns-then-eq-clause-reads
 returns-then-eq-clause-reads c =
-    let line = c.split_line-in-loop-rest.result.0.now in
+    let line = c.split_text_line-in-loop-rest.result.0.now in
     let ends : bytes_eq line LOGS_END.now ≡ true = sym (ap (bytes_eq line) c.as_bytes-in-loop-rest.ensures.value) ∙ sym c.eq.ensures ∙ c.if-eq.true in
-    at_end c.args.bytes.now c.loop-rest.number c.loop-rest.logs.items c.loop-rest.rest.now line c.split_line-in-loop-rest.result.1.now c.loop-rest.invariant.so_far c.split_line-in-loop-rest.ensures.line ends
+    at_end c.args.bytes.now c.loop-rest.number c.loop-rest.logs.items c.loop-rest.rest.now line c.split_text_line-in-loop-rest.result.1.now c.loop-rest.invariant.so_far c.split_text_line-in-loop-rest.ensures.line ends
 
 pub returns-in-Err-clause-reads : goal.returns-in-Err-clause-reads
 returns-in-Err-clause-reads c =
-    let line = c.split_line-in-loop-rest.result.0.now in
+    let line = c.split_text_line-in-loop-rest.result.0.now in
     let goes_on : bytes_eq line LOGS_END.now ≡ false = sym (ap (bytes_eq line) c.as_bytes-in-loop-rest.ensures.value) ∙ sym c.eq.ensures ∙ c.if-eq.false in
-    bad_line c.in-Err.error c.args.bytes.now c.loop-rest.number c.loop-rest.logs.items c.loop-rest.rest.now line c.split_line-in-loop-rest.result.1.now c.loop-rest.invariant.so_far c.split_line-in-loop-rest.ensures.line goes_on c.in-Err.ensures.err
+    refused c.in-Err.error c.args.bytes.now c.loop-rest.number c.loop-rest.logs.items c.loop-rest.rest.now line c.split_text_line-in-loop-rest.result.1.now c.loop-rest.invariant.so_far c.split_text_line-in-loop-rest.ensures.line goes_on c.in-Err.ensures.says
 
 pub loop-rest-preserved : goal.loop-rest-preserved
 loop-rest-preserved c =
-    let line = c.split_line-in-loop-rest.result.0.now in
+    let line = c.split_text_line-in-loop-rest.result.0.now in
     let goes_on : bytes_eq line LOGS_END.now ≡ false = sym (ap (bytes_eq line) c.as_bytes-in-loop-rest.ensures.value) ∙ sym c.eq.ensures ∙ c.if-eq.false in
     record {
       some = omega arith;
-      room = omega (arith, c.split_line-in-loop-rest.ensures.shorter);
+      room = omega (arith, c.split_text_line-in-loop-rest.ensures.shorter);
       closed = c.in_default.ensures.closed;
       within = c.in_default.ensures.within c.loop-rest.invariant.within;
-      so_far = one_more c.args.bytes.now c.loop-rest.number c.loop-rest.logs.items c.add_line.new.logs.items c.loop-rest.rest.now line c.split_line-in-loop-rest.result.1.now c.loop-rest.invariant.so_far c.split_line-in-loop-rest.ensures.line goes_on c.in_default.ensures.ok;
+      so_far = one_more c.args.bytes.now c.loop-rest.number c.loop-rest.logs.items c.add_line.new.logs.items c.loop-rest.rest.now line c.split_text_line-in-loop-rest.result.1.now c.loop-rest.invariant.so_far c.split_text_line-in-loop-rest.ensures.line goes_on c.in_default.ensures.says;
     }
 
 pub returns-clause-reads : goal.returns-clause-reads
@@ -50,9 +51,9 @@ returns-clause-reads c =
 
 pub returns-then-ne-clause-written : goal.returns-then-ne-clause-written
 returns-then-ne-clause-written c =
-    let header = c.split_line.result.0.now in
+    let header = c.split_text_line.result.0.now in
     let other : bytes_eq header LOG_HEADER.now ≡ false = sym (ap (bytes_eq header) c.as_bytes.ensures.value) ∙ not_true (bytes_eq header c.as_bytes.result.now) (sym c.ne.ensures ∙ c.if-ne.true) in
-    read_back (λ (v : List AgentLog). v) c.args.bytes.now (Err (1, error.BadHeader)) (other_header c.args.bytes.now header c.split_line.result.1.now c.split_line.ensures.line other)
+    read_back (λ (v : List AgentLog). v) c.args.bytes.now (Err (1, error.BadHeader)) (inr (other_header c.args.bytes.now header c.split_text_line.result.1.now c.split_text_line.ensures.line other))
 
 pub returns-then-eq-clause-written : goal.returns-then-eq-clause-written
 returns-then-eq-clause-written c = read_back (λ (v : List AgentLog). v) c.args.bytes.now (Ok c.loop-rest.logs.items) (returns-then-eq-clause-reads c)
@@ -62,3 +63,8 @@ returns-in-Err-clause-written c = read_back (λ (v : List AgentLog). v) c.args.b
 
 pub returns-clause-written : goal.returns-clause-written
 returns-clause-written c = read_back (λ (v : List AgentLog). v) c.args.bytes.now (Ok c.loop-rest.logs.items) (returns-clause-reads c)
+
+pub returns-in-Err-clause-errors : goal.returns-in-Err-clause-errors
+returns-in-Err-clause-errors c =
+    let header : HasHeader c.args.bytes.now = search rules in
+    comes_below c.in-Err.error c.args.bytes.now c.loop-rest.number c.loop-rest.logs.items c.split_text_line-in-loop-rest.result.0.now header c.loop-rest.invariant.some c.in-Err.ensures.says

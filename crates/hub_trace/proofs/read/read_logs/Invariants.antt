@@ -1,8 +1,8 @@
-use Rattle.std.proofs.Common.{◌≡◌, ℕ, ◌+◌, ◌<◌, ◌≤◌, length}
+use Rattle.std.proofs.Common.{◌+◌, ◌<◌, ◌≤◌, length}
 use Rattle.std.specs.BTreeSet.{contains}
 use Rattle.std.specs.Ordering.{nat_cmp}
 use Rattle.hub_trace.specs.Limits.{AreWithin}
-use Rattle.hub_trace.specs.Read.{is_closed_in}
+use Rattle.hub_trace.specs.Read.{TellsClosed}
 use Rattle.hub_trace.proofs.Reading.{IsReadSoFar}
 use Rattle.hub_trace.proofs.read.read_logs.Given as goal
 
@@ -10,7 +10,7 @@ abbrev pub invariant-loop-rest : goal.invariant-loop-rest
 invariant-loop-rest l = record {
   some : 0 < l.number;
   room : l.number + length l.rest ≤ length l.fn.bytes;
-  closed : (end : ℕ) → contains nat_cmp l.closed end ≡ is_closed_in l.logs.items end;
+  closed : TellsClosed (contains nat_cmp l.closed) l.logs.items;
   within : AreWithin l.logs.items;
   so_far : IsReadSoFar l.fn.bytes l.number l.logs.items l.rest;
 }

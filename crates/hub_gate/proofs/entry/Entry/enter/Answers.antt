@@ -4,13 +4,13 @@ use Rattle.hub_gate.proofs.Lines.{enters_at, told_in, in_front, entered_in}
 use Rattle.hub_gate.proofs.entry.Entry.enter.Goals as goal
 
 pub fetch_add-word-requires : goal.fetch_add-word-requires
-fetch_add-word-requires g c = (search rules, search rules, enters_at g.T.Right.tag _ _ _ c.self.invariant.2)
+fetch_add-word-requires g c = (search rules, search rules, enters_at g.T.Right.tag _ _ _ c.self.invariant.1)
 
 pub exchange-requires : goal.exchange-requires
 exchange-requires g c =
     let kept = c.self.invariant in
     let told = told_in g.T.Right.tag (line_in c.self.inside.seat.me.0) c.fetch_add-word.result c.fetch_add-word.new.seat.me c.fetch_add-word.ensures.2 (sym c.moved_in.ensures.exactly ∙ c.if-moved_in.false) (sym c.closed_in.ensures.exactly ∙ c.if-closed_in.false) in
-    (search rules, (Some told.0, in_front _ _ _ _ _ told.3 kept.3))
+    (search rules, (Some told.0, in_front _ _ _ _ _ told.3 kept.2))
 
 pub returns : goal.returns
 returns g c =

@@ -10,14 +10,14 @@ returns-in_ok-leave-in-In c =
     let refused = c.args.memory_refused in
     let s = c.args.sender in
     posted_in c.args.core.now c.step.new.self c.step-in-In.new.self c.leave.new.core refused c.args.ports.items c.args.body s (action.Push s c.args.ports c.args.body) c.in_ok-answer-in-In.answer c.in_ok-leave-in-In.field-0 (refl, refl, refl)
-    (subst (λ o. StepsAt c.args.core.now c.step.new.self (pair refused (action.Enter s) o)) c.in-In.is c.in_ok-entered.ensures.fits) c.in_ok-answer-in-In.ensures.fits c.in_ok-leave-in-In.ensures
+    (subst (λ o. StepsAt c.args.core.now c.step.new.self (pair refused (action.Enter s) o)) c.in-In.is c.in_ok-entered.ensures.fits) c.in_ok-answer-in-In.ensures.fits c.in_ok-leave-in-In.ensures.left
 
 pub returns-in_ok-leave-in-Closed : goal.returns-in_ok-leave-in-Closed
 returns-in_ok-leave-in-Closed c =
     let refused = c.args.memory_refused in
     let s = c.args.sender in
     posted_closed c.args.core.now c.step.new.self c.leave-in-Closed.new.core refused c.args.ports.items c.args.body s c.in_ok-leave-in-Closed.field-0
-    (subst (λ o. StepsAt c.args.core.now c.step.new.self (pair refused (action.Enter s) o)) c.in-Closed.is c.in_ok-entered.ensures.fits) c.in_ok-leave-in-Closed.ensures
+    (subst (λ o. StepsAt c.args.core.now c.step.new.self (pair refused (action.Enter s) o)) c.in-Closed.is c.in_ok-entered.ensures.fits) c.in_ok-leave-in-Closed.ensures.left
 
 pub returns-in_default : goal.returns-in_default
 returns-in_default c =

@@ -1,0 +1,14 @@
+-- Which steps may find that memory is wanting (this project's own).
+use Rattle.std.specs.Prelude.{Bool, true, false}
+use Rattle.hub_core.specs.declared.step.Action.{Action}
+use Rattle.hub_core.specs.declared.step.Action.TheVariants as action
+
+-- the steps after which more is kept than before: a new agent, two new ends, an envelope
+abbrev pub takes_memory : Action → Bool
+takes_memory action.Agent = true
+takes_memory (action.Channel a) = true
+takes_memory (action.Enter s) = false
+takes_memory (action.Push s ports body) = true
+takes_memory (action.Leave s) = false
+takes_memory (action.Start e) = false
+takes_memory (action.Take e) = false

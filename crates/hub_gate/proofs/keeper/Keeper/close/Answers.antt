@@ -1,6 +1,0 @@
-use Rattle.std.proofs.Common.{rules}
-use Rattle.hub_gate.proofs.Flags.{closes_at}
-use Rattle.hub_gate.proofs.keeper.Keeper.close.Goals as goal
-
-pub fetch_or-requires : goal.fetch_or-requires
-fetch_or-requires g c = (search rules, search rules, closes_at g.T.Right.tag _ _ _ c.self.invariant.3)

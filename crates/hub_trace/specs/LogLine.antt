@@ -1,0 +1,119 @@
+-- What a log line below the header says, or that it is bad.
+use Rattle.std.specs.Prelude.{ℕ, ◌==◌, List, [], ◌∷◌, Bool, false, Result, Ok, Err, codes, bytes_eq, if◌then◌else◌}
+use Rattle.std.specs.Str.{is_utf8}
+use Rattle.hub_envelope.specs.Answer.{answer_of}
+use Rattle.hub_envelope.specs.declared.body.BodyError.{BodyError}
+use Rattle.hub_envelope.specs.declared.ids.AgentId.{AgentId}
+use Rattle.hub_envelope.specs.declared.ids.EndId.{EndId}
+use Rattle.hub_envelope.specs.declared.ids.LineId.{LineId}
+use Rattle.hub_text.specs.EndList.{ends_of}
+use Rattle.hub_text.specs.Number.{number_of}
+use Rattle.hub_text.specs.Reading.{◌>>=◌, some_or}
+use Rattle.hub_text.specs.Word.{cut}
+use Rattle.hub_trace.specs.declared.label.Label.{Label}
+use Rattle.hub_trace.specs.declared.limits.TheConstants.{MAX_AGENT, MAX_END, MAX_EPOCH, MAX_LINE, MAX_NUMBER}
+use Rattle.hub_trace.specs.declared.log_entry.Delivery.{Delivery}
+use Rattle.hub_trace.specs.declared.log_entry.LogEntry.{LogEntry}
+use Rattle.hub_trace.specs.declared.log_entry.LogEntry.TheVariants.{Put, Got, Adopted, Closed}
+use Rattle.hub_trace.specs.declared.log_error.LogError.{LogError}
+use Rattle.hub_trace.specs.declared.log_error.LogError.TheVariants.{BadLine}
+use Rattle.hub_trace.specs.declared.log_line.LogLine.{LogLine}
+use Rattle.hub_trace.specs.declared.log_line.LogLine.TheVariants as line
+use Rattle.hub_trace.specs.PortList.{is_port_list}
+
+-- what is read, or what is wrong in a log line
+abbrev pub LogRead : Type 0 → Type 0
+LogRead X = Result X LogError
+
+-- what comes before the first such byte, and what comes after it
+abbrev pub parts_in : ℕ → List ℕ → LogRead (List ℕ × List ℕ)
+parts_in c text = some_or BadLine (cut c text)
+
+-- decimal digits without leading zeros, at most max
+abbrev pub number_in : ℕ → List ℕ → LogRead ℕ
+number_in max word = some_or BadLine (number_of max word)
+
+abbrev pub agent_in : List ℕ → LogRead AgentId
+agent_in word = number_in MAX_AGENT word >>= λ n. Ok (record { 0 = n })
+
+abbrev pub end_in : List ℕ → LogRead EndId
+end_in word = number_in MAX_END word >>= λ n. Ok (record { 0 = n })
+
+abbrev pub line_in : List ℕ → LogRead LineId
+line_in word = number_in MAX_LINE word >>= λ n. Ok (record { 0 = n })
+
+abbrev pub epoch_in : List ℕ → LogRead ℕ
+epoch_in word = number_in MAX_EPOCH word
+
+-- `EP:N`, after the words of an end and a line
+unfoldable pub label_in : List ℕ → List ℕ → List ℕ → LogRead Label
+label_in end line name = do
+  parts ← parts_in 58 name
+  e ← end_in end
+  l ← line_in line
+  epoch ← epoch_in parts.0
+  number ← number_in MAX_NUMBER parts.1
+  Ok (record { end = e; line = l; epoch = epoch; number = number })
+
+-- the ends, where a log may have them as its list of ports
+abbrev pub ports_tested : List EndId → LogRead (List EndId)
+ports_tested ends = if is_port_list ends then Ok ends else Err BadLine
+
+-- `-`, or at most MAX_PORTS different ends joined by single commas
+unfoldable pub ports_in : List ℕ → LogRead (List EndId)
+ports_in list = some_or BadLine (ends_of MAX_END list) >>= ports_tested
+
+abbrev pub begins_with_space : List ℕ → Bool
+begins_with_space [] = false
+begins_with_space (b ∷ text) = b == 32
+
+abbrev pub body_answer : Result (List ℕ) BodyError → LogRead (List ℕ)
+body_answer (Ok body) = Ok body
+body_answer (Err e) = Err BadLine
+
+-- the compact text of a body; a space before it would be a second one
+unfoldable pub body_in : List ℕ → LogRead (List ℕ)
+body_in text = if begins_with_space text then Err BadLine else body_answer (answer_of text)
+
+-- `LIST BODY`
+unfoldable pub message_in : List ℕ → LogRead (List EndId × List ℕ)
+message_in text = do
+  parts ← parts_in 32 text
+  ports ← ports_in parts.0
+  body ← body_in parts.1
+  Ok (ports, body)
+
+-- `E L EP:N LIST BODY`
+unfoldable pub delivery_in : List ℕ → LogRead Delivery
+delivery_in text = do
+  end ← parts_in 32 text
+  line ← parts_in 32 end.1
+  name ← parts_in 32 line.1
+  label ← label_in end.0 line.0 name.0
+  message ← message_in name.1
+  Ok (record { label = label; message = message })
+
+-- `E EP`
+unfoldable pub adoption_in : List ℕ → LogRead LogEntry
+adoption_in text = do
+  parts ← parts_in 32 text
+  e ← end_in parts.0
+  epoch ← epoch_in parts.1
+  Ok (Adopted e epoch)
+
+-- what the first word of a log line and the rest of it say
+unfoldable pub log_line_with : List ℕ → List ℕ → LogRead LogLine
+log_line_with name rest =
+    if bytes_eq name (codes "agent") then agent_in rest >>= (λ a. Ok (line.Agent a))
+    else (if bytes_eq name (codes "put") then delivery_in rest >>= (λ d. Ok (line.Entry (Put d)))
+    else (if bytes_eq name (codes "got") then delivery_in rest >>= (λ d. Ok (line.Entry (Got d)))
+    else (if bytes_eq name (codes "adopted") then adoption_in rest >>= (λ e. Ok (line.Entry e))
+    else (if bytes_eq name (codes "closed") then end_in rest >>= (λ e. Ok (line.Entry (Closed e)))
+    else Err BadLine))))
+
+unfoldable pub text_in : List ℕ → LogRead LogLine
+text_in text = parts_in 32 text >>= λ parts. log_line_with parts.0 parts.1
+
+-- the log line that the bytes of a text line are
+unfoldable pub log_line_of : List ℕ → LogRead LogLine
+log_line_of bytes = if is_utf8 bytes then text_in bytes else Err BadLine

@@ -1,0 +1,60 @@
+ghost use Rattle.std.specs.Prelude.{Some};
+ghost use Rattle.hub_trace.specs.Text.{delivery_text, entry_text};
+
+use crate::label::Label;
+use crate::message::Message;
+use hub_envelope::EndId;
+use hub_text::EndListText;
+use std::fmt;
+
+/// What a log says of one envelope.
+#[derive(Debug, Drop)]
+pub struct Delivery {
+    pub label: Label,
+    pub message: Message,
+}
+
+/// An entry of a log.
+#[derive(Debug, Drop)]
+pub enum LogEntry {
+    /// A post of the agent was accepted.
+    Put(Delivery),
+    /// The agent took an envelope.
+    Got(Delivery),
+    /// The agent adopted an end. From here on the log speaks of the end's queue of that epoch.
+    Adopted { end: EndId, epoch: u32 },
+    /// The agent closed an end.
+    Closed { end: EndId },
+}
+
+/// The log line of the entry, without its LF.
+impl fmt::Display for LogEntry {
+    ghost output = { λ e. Some (entry_text e) };
+
+    fn fmt<W: fmt::Write>(&self, f: &mut fmt::Formatter<W>) -> fmt::Result {
+        match self {
+            LogEntry::Put(delivery) => write!(f, "put {delivery}"),
+            LogEntry::Got(delivery) => write!(f, "got {delivery}"),
+            LogEntry::Adopted { end, epoch } => {
+                let end = end.0;
+                write!(f, "adopted {end} {epoch}")
+            }
+            LogEntry::Closed { end } => {
+                let end = end.0;
+                write!(f, "closed {end}")
+            }
+        }
+    }
+}
+
+/// `E L EP:N LIST BODY`.
+impl fmt::Display for Delivery {
+    ghost output = { λ d. Some (delivery_text d) };
+
+    fn fmt<W: fmt::Write>(&self, f: &mut fmt::Formatter<W>) -> fmt::Result {
+        let label = &self.label;
+        let ports = EndListText(self.message.ports());
+        let body = self.message.body();
+        write!(f, "{label} {ports} {body}")
+    }
+}

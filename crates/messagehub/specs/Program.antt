@@ -1,0 +1,26 @@
+-- What the program does for its arguments.
+use Rattle.std.specs.Prelude.{◌≡◌, ℕ, List, Option, Some, None, Result, Ok}
+use Rattle.messagehub.specs.declared.counted_reader.CountedReader.{CountedReader}
+use Rattle.messagehub.specs.declared.counted_writer.CountedWriter.{CountedWriter}
+use Rattle.messagehub.specs.declared.device.Device.{Device}
+use Rattle.messagehub.specs.declared.mode.Mode.{Mode}
+use Rattle.messagehub.specs.declared.mode.Mode.TheVariants.{Steps, Check}
+use Rattle.messagehub.specs.declared.status.ExitStatus.{ExitStatus}
+use Rattle.messagehub.specs.declared.status.ExitStatus.TheVariants.{Usage}
+use Rattle.messagehub.specs.CheckOutput.{IsCheckOutput}
+use Rattle.messagehub.specs.Counted.{inner_reader, inner_writer}
+use Rattle.messagehub.specs.Engine.{Answers, CountsDevice}
+use Rattle.messagehub.specs.Output.{IsStepsOutput}
+
+-- what a mode's engine writes for an input, by the exit status
+abbrev pub output_of : Mode → List ℕ → ExitStatus → List ℕ → Type 0
+output_of Steps = IsStepsOutput
+output_of Check = IsCheckOutput
+
+-- The engine of the mode that is asked for has answered. Where none is asked for, the usage line is due,
+-- and reader and writer are as they were.
+abbrev pub AnswersWords : {R W : Type 0} → Option Mode → (R → Option (List ℕ)) → (W → Option (List ℕ)) → CountedReader R → CountedReader R → CountedWriter W → CountedWriter W → Result ExitStatus Device → Type 0
+AnswersWords None left contents r r' w w' result = (result ≡ Ok Usage) × (r' ≡ r) × (w' ≡ w)
+AnswersWords (Some mode) left contents r r' w w' result =
+    Answers (output_of mode) (left (inner_reader r)) (contents (inner_writer w)) (contents (inner_writer w')) result
+    × CountsDevice r r' w w' result

@@ -1,0 +1,51 @@
+//! What the program does for its arguments.
+
+ghost use Rattle.std.specs.Prelude.{◌≡◌, map, string_bytes};
+ghost use Rattle.messagehub.specs.Counted.{inner_reader, inner_writer};
+ghost use Rattle.messagehub.specs.Engine.{Answers, CountsDevice};
+ghost use Rattle.messagehub.specs.Mode.{mode_asked};
+ghost use Rattle.messagehub.specs.Program.{AnswersWords, output_of};
+
+use crate::check::run_check;
+use crate::counted_reader::CountedReader;
+use crate::counted_writer::CountedWriter;
+use crate::device::Device;
+use crate::mode::{Mode, mode_of};
+use crate::status::ExitStatus;
+use crate::steps::run_steps;
+use std::alloc::Global;
+use std::io::{Read, Write};
+
+/// Runs the mode that the words after the program's name ask for. Where they ask for none, nothing
+/// is read or written, and the usage line is due.
+pub fn run_words<R: Read, W: Write>(
+    alloc: Global,
+    words: &[String],
+    reader: &mut CountedReader<R>,
+    writer: &mut CountedWriter<W>,
+) -> Result<ExitStatus, Device>
+    ensures { AnswersWords (mode_asked (map string_bytes words.now)) R.remaining W.contents
+        reader.old reader.new writer.old writer.new result }
+{
+    match mode_of(words) {
+        Some(mode) => run_mode(alloc, mode, reader, writer),
+        None => Ok(ExitStatus::Usage),
+    }
+}
+
+/// Runs the engine of a mode.
+pub fn run_mode<R: Read, W: Write>(
+    alloc: Global,
+    mode: Mode,
+    reader: &mut CountedReader<R>,
+    writer: &mut CountedWriter<W>,
+) -> Result<ExitStatus, Device>
+    ensures written { Answers (output_of mode) (R.remaining (inner_reader reader.old))
+        (W.contents (inner_writer writer.old)) (W.contents (inner_writer writer.new)) result }
+    ensures failures { CountsDevice reader.old reader.new writer.old writer.new result }
+{
+    match mode {
+        Mode::Steps => run_steps(alloc, reader, writer),
+        Mode::Check => run_check(alloc, reader, writer),
+    }
+}

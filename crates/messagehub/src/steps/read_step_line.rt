@@ -1,0 +1,180 @@
+ghost use Rattle.std.specs.Prelude.{◌≡◌, option_map};
+ghost use Rattle.hub_text.specs.Reading.{IsReadAs};
+ghost use Rattle.messagehub.specs.StepLine.{agent_of, agent_after, command_in, command_of, list_of, mark, number_after, number_of, only_word, poster_after, poster_of, posting_after, step_line_of, word_before};
+
+use super::step_line::{Command, Poster, StepLine, StepLineError};
+use hub_envelope::{AgentId, Body, EndId};
+use hub_text::{EndList, next_word, number_of as number_up_to};
+use std::alloc::Global;
+
+/// The step line that a text line is. Its tests come in the order of `StepLineError`, and from the
+/// left; want of memory may come at any body.
+#[tactic(auto, unfolding(crate::specs::StepLine::step_line_of))]
+pub fn read_step_line(alloc: Global, bytes: &[u8]) -> Result<StepLine, StepLineError>
+    ensures { IsReadAs StepLineError.OutOfMemory (λ x. x) result (step_line_of bytes.now) }
+{
+    let Ok(text) = str::from_utf8(bytes) else {
+        return Err(StepLineError::BadUtf8);
+    };
+    let (memory_refused, text) = marked(text);
+    let command = command_in(alloc, text)?;
+    Ok(StepLine {
+        command,
+        memory_refused,
+    })
+}
+
+/// Whether the mark `!` stands first, and what comes after it.
+fn marked(text: &str) -> (bool, &str)
+    ensures { (result.0, result.1.now) ≡ mark text.now }
+{
+    match text.strip_prefix('!') {
+        Some(rest) => (true, rest),
+        None => (false, text),
+    }
+}
+
+/// What a text line with no mark asks for.
+#[tactic(auto, unfolding(crate::specs::StepLine::command_in))]
+fn command_in(alloc: Global, text: &str) -> Result<Command, StepLineError>
+    ensures { IsReadAs StepLineError.OutOfMemory (λ x. x) result (command_in text.now) }
+{
+    match next_word(text) {
+        Some((name, rest)) => command_of(alloc, name, Some(rest)),
+        None => command_of(alloc, text, None),
+    }
+}
+
+/// What the step of that name asks for. `rest` is what comes after the name and a space, where
+/// there is a space.
+#[tactic(auto, unfolding(crate::specs::StepLine::command_of))]
+fn command_of(alloc: Global, name: &str, rest: Option<&str>) -> Result<Command, StepLineError>
+    ensures { IsReadAs StepLineError.OutOfMemory (λ x. x) result
+        (command_of name.now (option_map (λ x. x.now) rest.entry)) }
+{
+    Ok(match name {
+        "agent" => agent_after(rest)?,
+        "channel" => Command::Channel(agent_of(number_after(rest)?)),
+        "enter" => Command::Enter(poster_after(rest)?),
+        "leave" => Command::Leave(poster_after(rest)?),
+        "push" => {
+            let (poster, ports, body) = posting_after(alloc, rest)?;
+            Command::Push(poster, ports, body)
+        }
+        "post" => {
+            let (poster, ports, body) = posting_after(alloc, rest)?;
+            Command::Post(poster, ports, body)
+        }
+        "start" => Command::Start(EndId(number_after(rest)?)),
+        "take" => Command::Take(EndId(number_after(rest)?)),
+        _ => return Err(StepLineError::UnknownStep),
+    })
+}
+
+/// The one word that comes after the step's name.
+#[tactic(auto, unfolding(crate::specs::StepLine::only_word))]
+fn only_word(rest: Option<&str>) -> Result<&str, StepLineError>
+    ensures { IsReadAs StepLineError.OutOfMemory (λ x. x.now) result
+        (only_word (option_map (λ x. x.now) rest.entry)) }
+{
+    let Some(text) = rest else {
+        return Err(StepLineError::BadWords);
+    };
+    match next_word(text) {
+        None => Ok(text),
+        Some(_) => Err(StepLineError::BadWords),
+    }
+}
+
+/// `-`: an agent with no URL.
+fn agent_after(rest: Option<&str>) -> Result<Command, StepLineError>
+    ensures { IsReadAs StepLineError.OutOfMemory (λ x. x) result
+        (agent_after (option_map (λ x. x.now) rest.entry)) }
+{
+    match rest {
+        Some("-") => Ok(Command::Agent),
+        _ => Err(StepLineError::BadWords),
+    }
+}
+
+fn number_after(rest: Option<&str>) -> Result<u32, StepLineError>
+    ensures { IsReadAs StepLineError.OutOfMemory (λ x. x) result
+        (number_after (option_map (λ x. x.now) rest.entry)) }
+{
+    match number_of(only_word(rest)?) {
+        Some(number) => Ok(number),
+        None => Err(StepLineError::BadNumber),
+    }
+}
+
+/// A number of a step line: decimal digits without leading zeros, below 2^32.
+fn number_of(word: &str) -> Option<u32>
+    ensures { result ≡ number_of word.now }
+{
+    let number = number_up_to(word, u64::from(u32::MAX))?;
+    u32::try_from(number).ok()
+}
+
+fn poster_after(rest: Option<&str>) -> Result<Poster, StepLineError>
+    ensures { IsReadAs StepLineError.OutOfMemory (λ x. x) result
+        (poster_after (option_map (λ x. x.now) rest.entry)) }
+{
+    poster_of(only_word(rest)?)
+}
+
+/// Poster, list and body, the body being the rest of the text line.
+#[tactic(auto, unfolding(crate::specs::StepLine::posting_after))]
+fn posting_after(
+    alloc: Global,
+    rest: Option<&str>,
+) -> Result<(Poster, EndList, Body), StepLineError>
+    ensures { IsReadAs StepLineError.OutOfMemory (λ x. x) result
+        (posting_after (option_map (λ x. x.now) rest.entry)) }
+{
+    let Some(text) = rest else {
+        return Err(StepLineError::BadWords);
+    };
+    let (poster, rest) = word_before(text)?;
+    let (list, body) = word_before(rest)?;
+    let poster = poster_of(poster)?;
+    let ports = list_of(alloc, list)?;
+    let body = Body::read(alloc, body)?;
+    Ok((poster, ports, body))
+}
+
+/// A word, and what comes after its space. There has to be more.
+fn word_before(text: &str) -> Result<(&str, &str), StepLineError>
+    ensures { IsReadAs StepLineError.OutOfMemory (λ x. (x.0.now, x.1.now)) result
+        (word_before text.now) }
+{
+    match next_word(text) {
+        Some(parts) => Ok(parts),
+        None => Err(StepLineError::BadWords),
+    }
+}
+
+/// No agent has the number 255, so each number that names no agent may be read as that one.
+fn agent_of(number: u32) -> AgentId
+    ensures { result ≡ agent_of number }
+{
+    AgentId(u8::try_from(number).unwrap_or(u8::MAX))
+}
+
+fn poster_of(word: &str) -> Result<Poster, StepLineError>
+    ensures { IsReadAs StepLineError.OutOfMemory (λ x. x) result (poster_of word.now) }
+{
+    match number_of(word) {
+        Some(port) => Ok(Poster::Port(EndId(port))),
+        None => Err(StepLineError::BadPoster),
+    }
+}
+
+fn list_of(alloc: Global, word: &str) -> Result<EndList, StepLineError>
+    ensures { IsReadAs StepLineError.OutOfMemory (λ x. x) result (list_of word.now) }
+{
+    if word == "-" {
+        Ok(EndList::none(alloc))
+    } else {
+        Err(StepLineError::BadList)
+    }
+}

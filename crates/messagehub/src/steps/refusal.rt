@@ -1,8 +1,0 @@
-use super::line::LineError;
-
-/// Why a line wasn't parsed.
-#[derive(Clone, Copy, Debug, PartialEq, Eq, Drop)]
-pub enum Refusal {
-    Bad(LineError),
-    OutOfMemory,
-}

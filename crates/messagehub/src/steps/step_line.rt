@@ -1,0 +1,103 @@
+ghost use Rattle.std.specs.Prelude.{◌≡◌, option_map};
+
+use hub_envelope::{AgentId, Body, BodyError, EndId};
+use hub_text::EndList;
+use std::alloc::{AllocError, AllocFailed};
+
+/// Whose poster a step line speaks of.
+#[derive(Clone, Copy, Debug, PartialEq, Eq)]
+pub enum Poster {
+    /// The poster that a port holds, to line 0 of the port that it is entangled with.
+    Port(EndId),
+}
+
+/// What a step line asks for.
+#[derive(Debug, Drop)]
+pub enum Command {
+    Agent,
+    Channel(AgentId),
+    Enter(Poster),
+    Push(Poster, EndList, Body),
+    Leave(Poster),
+    /// Enter, push and leave in one step line.
+    Post(Poster, EndList, Body),
+    Start(EndId),
+    Take(EndId),
+}
+
+/// What a step line asks for, and whether memory is refused in its steps: the mark `!`.
+#[derive(Debug, Drop)]
+pub struct StepLine {
+    pub command: Command,
+    pub memory_refused: bool,
+}
+
+/// Why a text line is no step line: the first of these tests, in this order, that it fails.
+#[derive(Clone, Copy, Debug, PartialEq, Eq, Drop)]
+pub enum StepLineError {
+    BadUtf8,
+    /// The first word names no step; the text line may be empty.
+    UnknownStep,
+    /// Too few words, or too many.
+    BadWords,
+    BadNumber,
+    BadPoster,
+    BadList,
+    NotJson,
+    NotWhole,
+    TooDeep,
+    TooLong,
+    /// Memory ran out. The text line may be a step line or not.
+    OutOfMemory,
+}
+
+impl StepLineError {
+    ghost use Rattle.messagehub.specs.StepLineKind.{kind_text};
+
+    /// The name by which the kind of a bad line is printed. `None` where memory ran out.
+    pub fn name(self) -> Option<&'static str>
+        ensures { option_map (λ name. name.now) result ≡ kind_text self }
+    {
+        match self {
+            StepLineError::BadUtf8 => Some("BadUtf8"),
+            StepLineError::UnknownStep => Some("UnknownStep"),
+            StepLineError::BadWords => Some("BadWords"),
+            StepLineError::BadNumber => Some("BadNumber"),
+            StepLineError::BadPoster => Some("BadPoster"),
+            StepLineError::BadList => Some("BadList"),
+            StepLineError::NotJson => Some("NotJson"),
+            StepLineError::NotWhole => Some("NotWhole"),
+            StepLineError::TooDeep => Some("TooDeep"),
+            StepLineError::TooLong => Some("TooLong"),
+            StepLineError::OutOfMemory => None,
+        }
+    }
+}
+
+impl From<BodyError> for StepLineError {
+    ghost use Rattle.messagehub.specs.BodyKind.{body_kind};
+    ghost use Rattle.std.specs.Prelude.{◌≡◌};
+
+    ghost from_gives = { λ error kind. kind ≡ body_kind error };
+
+    fn from(error: BodyError) -> StepLineError {
+        match error {
+            BodyError::NotJson => StepLineError::NotJson,
+            BodyError::NotWhole => StepLineError::NotWhole,
+            BodyError::TooDeep => StepLineError::TooDeep,
+            BodyError::TooLong => StepLineError::TooLong,
+            BodyError::OutOfMemory => StepLineError::OutOfMemory,
+        }
+    }
+}
+
+impl<T: Drop> From<AllocFailed<T>> for StepLineError {
+    ghost use Rattle.messagehub.specs.declared.steps.step_line.StepLineError.TheVariants.{OutOfMemory};
+    ghost use Rattle.std.specs.Prelude.{◌≡◌};
+
+    ghost from_gives = { λ _ e. e ≡ OutOfMemory };
+
+    fn from(_error: AllocFailed<T>) -> StepLineError {
+        StepLineError::OutOfMemory
+    }
+}

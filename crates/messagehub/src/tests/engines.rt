@@ -1,0 +1,38 @@
+use crate::counted_reader::CountedReader;
+use crate::counted_writer::CountedWriter;
+use crate::device::Device;
+use crate::mode::Mode;
+use crate::program::run_mode;
+use crate::status::ExitStatus;
+use std::alloc::Global;
+use std::io::{Read, Write};
+use std::process::Abort;
+
+/// What the engine of the mode answers, and its writer after that.
+pub fn run<R: Read + Drop, W: Write + Drop>(
+    alloc: Global,
+    mode: Mode,
+    reader: R,
+    writer: W,
+) -> (Result<ExitStatus, Device>, W) {
+    let mut reader = CountedReader::new(reader);
+    let mut writer = CountedWriter::new(writer);
+    let answer = run_mode(alloc, mode, &mut reader, &mut writer);
+    (answer, writer.into_inner())
+}
+
+/// The engine of the mode writes this output for the input, and the process ends with this status.
+pub fn expect_written(
+    rt: &(impl Abort + AllocGlobal),
+    mode: Mode,
+    input: &[u8],
+    output: &[u8],
+    status: u8,
+) {
+    let (answer, written) = run(rt.alloc(), mode, input, Vec::new(rt.alloc()));
+    let number = answer
+        .expect(rt, "memory never fails to be read or written")
+        .number();
+    assert_eq!(rt; written.as_slice(), output);
+    assert_eq!(rt; number, status);
+}
