@@ -1,5 +1,5 @@
 -- What was accepted for an end: the tasks queued on a port message queue (WHATWG HTML, "Message ports").
-use Rattle.std.specs.Prelude.{ℕ, ◌==◌, if◌then◌else◌, List, [], ◌∷◌}
+use Rattle.std.specs.Prelude.{ℕ, ◌==◌, if◌then◌else◌, List, [], ◌∷◌, false}
 use Rattle.std.specs.List.{flat_map}
 use Rattle.hub_envelope.specs.declared.envelope.Envelope.{Envelope}
 use Rattle.hub_envelope.specs.declared.ids.EndId.{EndId}
@@ -14,7 +14,7 @@ use Rattle.hub_core.specs.History.{History}
 -- what was accepted on a line, under its name
 abbrev pub named_envelope : Sender → Acceptance → List ℕ → List EndId → Envelope
 named_envelope s a body ports =
-    record { end = s.end; epoch = a.epoch; line = s.line; number = a.number; agent = a.agent; body = body; ports = ports }
+    record { end = s.end; epoch = a.epoch; line = s.line; number = a.number; agent = a.agent; body = body; ports = ports; notice = false }
 
 -- what an answered step puts at the end: the envelope of a Push answered Accepted
 abbrev pub accepted_by : ℕ → Action → Outcome → List Envelope

@@ -23,7 +23,7 @@ mod tests;
 
 pub use hub_envelope::{MAX_PORTS, OutOfMemory};
 pub use laws::{history_laws, mailbox_laws, queue_laws};
-pub use limits::{MAX_AGENTS, MAX_ENDS, MAX_LINES};
+pub use limits::{MAX_AGENTS, MAX_ENDS, MAX_HOPS, MAX_LINES, MAX_MOVES};
 pub use machine::Core;
 pub use outcome::{Acceptance, Outcome};
 pub use runs::run;

@@ -134,6 +134,7 @@ impl Core {
             agent: accepted.agent,
             body,
             ports,
+            notice: false,
         };
         let end = &mut self.ends[sender.end.0 as usize];
         end.put(line, envelope)?;

@@ -7,3 +7,4 @@ pub mod Answer
 pub mod Compact
 pub mod SameEnds
 pub mod Same
+pub mod Notice

@@ -1,4 +1,4 @@
-ghost use Rattle.std.specs.Prelude.{◌≡◌, ◌⊎◌, ◌↔◌, ◌<◌, ◌≤◌, length, IfOk, IfErr, IsErrOf, IsTrue, bytes_eq};
+ghost use Rattle.std.specs.Prelude.{◌≡◌, ◌⊎◌, ◌↔◌, ◌<◌, ◌≤◌, length, IfOk, IfErr, IsErrOf, IsTrue, bytes_eq, codes};
 ghost use Rattle.std.specs.Cmp.{partial_equiv_from_equiv};
 ghost use Rattle.std.specs.Cmp.Lexicographic.{nat_list_eq_equiv};
 ghost use Rattle.hub_envelope.specs.Answer.{answer_of, IsAnswerTo};
@@ -74,6 +74,14 @@ impl Body {
         } else {
             Body::read_value(alloc, text)
         }
+    }
+
+    /// The body `null`.
+    pub fn null(alloc: Global) -> Result<Body, AllocError>
+        ensures { IfOk result (λ body. body ≡ codes "null") }
+    {
+        let text = String::from_str(alloc, "null")?;
+        Ok(Body { text })
     }
 
     /// The body of a compact text.

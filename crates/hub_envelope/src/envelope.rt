@@ -1,4 +1,4 @@
-ghost use Rattle.std.specs.Prelude.{◌≡◌, ◌↔◌, IsTrue};
+ghost use Rattle.std.specs.Prelude.{◌≡◌, ◌↔◌, IfOk, IsTrue};
 ghost use Rattle.std.specs.Cmp.Rules.{comparing};
 ghost use Rattle.std.proofs.Common.{rules};
 ghost use Rattle.hub_envelope.specs.Same.{is_same_draft, is_same_envelope};
@@ -6,7 +6,7 @@ ghost use Rattle.hub_envelope.specs.Same.{is_same_draft, is_same_envelope};
 use crate::body::Body;
 use crate::ids::{AgentId, EndId, LineId};
 use crate::ports::Ports;
-use std::alloc::AllocError;
+use std::alloc::{AllocError, Global};
 
 /// What a sender hands over to be posted.
 #[derive(Debug, Drop)]
@@ -17,9 +17,28 @@ pub struct Draft {
     pub body: Body,
     /// The ports that are transferred. A draft names them and doesn't hold them.
     pub ports: Ports,
+    /// Whether it is the notice by which a closed port says that nothing more comes on its line.
+    pub notice: bool,
 }
 
-/// The clone has the same agent, the same text and the same list.
+impl Draft {
+    ghost use Rattle.hub_envelope.specs.Notice.{notice_draft};
+
+    /// The notice that a port puts at its peer when it is closed (this project's own, no event of
+    /// WHATWG HTML): it has agent 0, the body `null` and no ports.
+    pub fn notice(alloc: Global) -> Result<Draft, AllocError>
+        ensures { IfOk result (λ draft. draft ≡ notice_draft) }
+    {
+        Ok(Draft {
+            agent: AgentId(0),
+            body: Body::null(alloc)?,
+            ports: Ports::none(alloc),
+            notice: true,
+        })
+    }
+}
+
+/// The clone has the same agent, the same text and the same list, and is a notice where the draft is.
 impl Clone for Draft {
     ghost is_clone = { λ draft copy. copy ≡ draft };
 
@@ -28,11 +47,12 @@ impl Clone for Draft {
             agent: self.agent,
             body: self.body.clone()?,
             ports: self.ports.clone()?,
+            notice: self.notice,
         })
     }
 }
 
-/// Equal drafts have the same agent, the same text and the same list.
+/// Equal drafts have the same agent, the same text and the same list, and both or neither is a notice.
 impl PartialEq for Draft {
     ghost eq = { is_same_draft };
 
@@ -42,7 +62,10 @@ impl PartialEq for Draft {
         ensures value { result ≡ is_same_draft self.now other.now }
         ensures same { IsTrue result ↔ (self.now ≡ other.now) }
     {
-        self.agent == other.agent && self.body == other.body && self.ports == other.ports
+        self.agent == other.agent
+            && self.body == other.body
+            && self.ports == other.ports
+            && self.notice == other.notice
     }
 }
 
@@ -67,9 +90,12 @@ pub struct Envelope {
     pub body: Body,
     /// The ports that travel with it. An envelope names them and doesn't hold them.
     pub ports: Ports,
+    /// Whether it is a notice, the last envelope of its line.
+    pub notice: bool,
 }
 
-/// The clone has the same name, the same agent, the same text and the same list.
+/// The clone has the same name, the same agent, the same text and the same list, and is a notice where
+/// the envelope is.
 impl Clone for Envelope {
     ghost is_clone = { λ envelope copy. copy ≡ envelope };
 
@@ -82,11 +108,13 @@ impl Clone for Envelope {
             agent: self.agent,
             body: self.body.clone()?,
             ports: self.ports.clone()?,
+            notice: self.notice,
         })
     }
 }
 
-/// Equal envelopes have the same name, the same agent, the same text and the same list.
+/// Equal envelopes have the same name, the same agent, the same text and the same list, and both or
+/// neither is a notice.
 impl PartialEq for Envelope {
     ghost eq = { is_same_envelope };
 
@@ -103,6 +131,7 @@ impl PartialEq for Envelope {
             && self.agent == other.agent
             && self.body == other.body
             && self.ports == other.ports
+            && self.notice == other.notice
     }
 }
 

@@ -2,7 +2,7 @@
 pub const MAX_NESTING: usize = 64;
 
 /// How long the compact text of a body may be, in bytes.
-pub const MAX_BODY_BYTES: usize = 65_536;
+pub const MAX_BODY_BYTES: usize = 262_144;
 
 /// How many ports an envelope may carry.
 pub const MAX_PORTS: usize = 16;

@@ -143,7 +143,7 @@ fn refuses_what_is_no_json(rt: HostRuntime) {
 #[test]
 fn limits_nesting_and_length(rt: HostRuntime) -> Result<(), Fail> {
     let alloc = rt.alloc();
-    assert_eq!(rt; (MAX_NESTING, MAX_BODY_BYTES, MAX_PORTS), (64, 65_536, 16));
+    assert_eq!(rt; (MAX_NESTING, MAX_BODY_BYTES, MAX_PORTS), (64, 262_144, 16));
     let deepest = nested(alloc, 64, "")?;
     assert_reads(&rt, deepest.as_str(), Ok(deepest.as_str()));
     let filled = nested(alloc, 64, "7")?;
@@ -171,10 +171,10 @@ fn limits_nesting_and_length(rt: HostRuntime) -> Result<(), Fail> {
         Err(BodyError::TooDeep),
     );
 
-    let longest = quoted(alloc, 65_534)?;
-    assert_eq!(rt; longest.len(), 65_536);
+    let longest = quoted(alloc, 262_142)?;
+    assert_eq!(rt; longest.len(), 262_144);
     assert_reads(&rt, longest.as_str(), Ok(longest.as_str()));
-    let longer = quoted(alloc, 65_535)?;
+    let longer = quoted(alloc, 262_143)?;
     assert_reads(&rt, longer.as_str(), Err(BodyError::TooLong));
     // The limit is on the compact text and not on what was read.
     let spaced = format!(in alloc; "    {longest}    ")?;
@@ -266,12 +266,14 @@ fn clones_are_equal(rt: HostRuntime) -> Result<(), Fail> {
         agent: AgentId(1),
         body: Body::read(alloc, "{\"a\":[1,2]}")?,
         ports: ports(alloc, 2)?.map_err(|_| "refused")?,
+        notice: false,
     };
     assert!(rt; draft.clone()? == draft);
     let other = Draft {
         body: Body::read(alloc, "{\"a\":[1,3]}")?,
         agent: draft.agent,
         ports: draft.ports.clone()?,
+        notice: false,
     };
     assert!(rt; other != draft);
     assert!(rt; other.body != draft.body);
@@ -286,10 +288,24 @@ fn clones_are_equal(rt: HostRuntime) -> Result<(), Fail> {
         agent: draft.agent,
         body: draft.body.clone()?,
         ports: draft.ports.clone()?,
+        notice: false,
     };
     let mut later = envelope.clone()?;
     assert!(rt; later == envelope);
     later.number = 8;
     assert!(rt; later != envelope);
+    later.number = 7;
+    later.notice = true;
+    assert!(rt; later != envelope);
+    Ok(())
+}
+
+#[test]
+fn makes_notices(rt: HostRuntime) -> Result<(), Fail> {
+    let notice = Draft::notice(rt.alloc())?;
+    assert!(rt; notice.notice);
+    assert_eq!(rt; notice.agent, AgentId(0));
+    assert_eq!(rt; notice.body.text(), "null");
+    assert!(rt; notice.ports.as_slice().is_empty());
     Ok(())
 }

@@ -63,8 +63,8 @@ abbrev pub with_right : {T : Type 0} → InsideSeat T → T → InsideSeat T
 with_right inside right = record inside { right = right }
 
 -- the entries of all lines of a gate with these tags
-abbrev pub all_entries : TableId → Tags → List EntrySeat
-all_entries gate tags = first_entries gate tags (length tags)
+abbrev pub entries_of : TableId → Tags → List EntrySeat
+entries_of gate tags = first_entries gate tags (length tags)
 
 -- the seat is one of this table, which has one word
 abbrev pub IsSeatOf : TableId → TableId → Type 0

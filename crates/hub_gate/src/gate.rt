@@ -1,7 +1,7 @@
 ghost use Rattle.std.specs.Prelude.{◌≡◌, ◌≤◌, [], None, Some, map, replicate, length, vec_capacity, IfOk, IfErr};
 ghost use Rattle.std.specs.Arc.{arc_value};
 ghost use Rattle.hub_gate.specs.declared.view.View.TheVariants.{Fresh};
-ghost use Rattle.hub_gate.specs.GateSeats.{AllSame, IsOpened, IsSeatOf, all_entries, keeper_tags};
+ghost use Rattle.hub_gate.specs.GateSeats.{AllSame, IsOpened, IsSeatOf, entries_of, keeper_tags};
 ghost use Rattle.hub_gate.specs.Opening.{IsCount, HasTable, HasFreshSeat, HasShares, HasRoom, error_for, keeper_me, all_seated};
 ghost use Rattle.hub_gate.specs.Taking.{numbered};
 
@@ -9,9 +9,9 @@ use crate::entry::Entry;
 use crate::gate_error::GateError;
 use crate::gate_table::{GateSeat, GateSteps, GateTable, NextLine};
 use crate::keeper::Keeper;
-use crate::limits::MAX_LINES;
 use crate::plays::{Gather, Open};
 use crate::right::Right;
+use hub_core::MAX_LINES;
 use std::alloc::{AllocError, Global};
 use std::marker::PhantomData;
 use std::snapshot::Snapshot;
@@ -100,8 +100,7 @@ fn seat_lines<T: Right>(
     requires same { AllSame arc_value (arc_value table.now) shares.items }
     requires room { (entries.old.items ≡ []) × (length shares.items ≤ vec_capacity entries.old) }
     ensures keeper { seat.new.me ≡ all_seated (keeper_tags seat.old.me.0) }
-    ensures entries { entries.new.items
-        ≡ all_entries seat.old.table_id (keeper_tags seat.old.me.0) }
+    ensures entries { entries.new.items ≡ entries_of seat.old.table_id (keeper_tags seat.old.me.0) }
     ensures stays { seat.new.table_id ≡ seat.old.table_id }
 {
     for line in 0..shares.len() {

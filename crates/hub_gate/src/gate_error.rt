@@ -4,7 +4,7 @@ use thiserror::Error;
 #[derive(Clone, Copy, Debug, PartialEq, Eq, Hash, Drop, Error)]
 pub enum GateError {
     /// There was no right, or more than `MAX_LINES`.
-    #[error("a gate has 1 to 16 lines")]
+    #[error("a gate has 1 to 32 lines")]
     BadCount,
     /// The allocator refused memory.
     #[error("out of memory")]

@@ -1,6 +1,6 @@
 ghost use Rattle.std.specs.Prelude.{◌≡◌, [], IfSome};
 
-use crate::{Entered, Entry, Gate, GateError, Inside, Keeper, Looked, MAX_LINES, Refusal, word_of};
+use crate::{Entered, Entry, Gate, GateError, Inside, Keeper, Looked, Refusal, word_of};
 use std::alloc::{AllocError, Global};
 use std::test::Fail;
 use std::thread;
@@ -85,6 +85,7 @@ fn gate_words(rt: HostRuntime) -> Result<(), Fail> {
     assert_eq!(rt; refusal_of(one), Some(Refusal::Moved));
     assert_eq!(rt; word(&keeper), 7);
     assert_eq!(rt; word_of(true, true, true, 16), 4103);
+    assert_eq!(rt; word_of(true, true, true, 32), 8199);
     Ok(())
 }
 
@@ -104,7 +105,7 @@ fn a_closed_gate_turns_its_entries(rt: HostRuntime) -> Result<(), Fail> {
 #[test]
 fn a_bad_count_gives_the_rights_back(rt: HostRuntime) -> Result<(), Fail> {
     let alloc = rt.alloc();
-    for count in [0, MAX_LINES + 1] {
+    for count in [0, 33] {
         match Gate::open(alloc, rights(alloc, count, 7)?) {
             Ok(_) => return Err(Fail::from("a gate")),
             Err((error, back)) => {
@@ -163,17 +164,17 @@ fn add_rounds(entry: Entry<u64>, rounds: u64) -> Entry<u64> {
 #[test]
 fn sixteen_entries(rt: HostRuntime) -> Result<(), Fail> {
     let alloc = rt.alloc();
-    let zeros = vec![in alloc; 0u64; 16]?;
+    let zeros = vec![in alloc; 0u64; 32]?;
     let Ok((mut keeper, entries)) = Gate::open(alloc, zeros) else {
         return Err(Fail::from("no gate"));
     };
     let entries = thread::map_vec(&rt, entries, &|entry| add_rounds(entry, 1000))?;
-    assert_eq!(rt; entries.len(), 16);
+    assert_eq!(rt; entries.len(), 32);
     keeper.close();
     let Looked::Rights(rights) = keeper.look() else {
         return Err(Fail::from("no rights"));
     };
-    assert_eq!(rt; rights.as_slice(), [1000; 16].as_slice());
+    assert_eq!(rt; rights.as_slice(), [1000; 32].as_slice());
     assert!(rt; matches!(keeper.look(), Looked::Given));
     Ok(())
 }

@@ -1,6 +1,7 @@
 //! The word of a gate: three flags, and from bit 8 on how many lines are inside or turning back.
 ghost use Rattle.std.specs.Prelude.{◌≡◌, ℕ, ◌*◌, ◌≤◌, ◌||◌, Bool};
 ghost use Rattle.hub_core.specs.GateMachine as machine;
+ghost use Rattle.hub_core.specs.declared.limits.TheConstants.{MAX_LINES};
 ghost use Rattle.hub_gate.specs.Flags.{flag_bit};
 
 /// A flag of the word.
@@ -37,7 +38,7 @@ fn value_of(flag: Flag, is_set: bool) -> u64
 /// The word with these flags and this count.
 pub fn word_of(enabled: bool, moved: bool, closed: bool, count: u8) -> u64
     ensures exactly { result ≡ machine.word_of enabled moved closed count }
-    ensures greatest { count ≤ 16 → result ≤ 4103 }
+    ensures greatest { count ≤ MAX_LINES → result ≤ 8199 }
 {
     let flags = value_of(Flag::Enabled, enabled)
         + value_of(Flag::Moved, moved)

@@ -1,5 +1,5 @@
 -- Which bytes stand in a text, and where it may be cut.
-use Rattle.std.proofs.Common.{◌≡◌, ℕ, zero, suc, ◌+◌, ◌<◌, ◌^◌, List, [], ◌∷◌, ◌++◌, length, get_or, take, drop, Bool, true, false, cond, not, nat_lt, nat_le, ◌&&◌, Some, None, All, refl, ap, ◌∙◌, arith, length-append}
+use Rattle.std.proofs.Common.{◌≡◌, ℕ, zero, suc, ◌+◌, ◌<◌, ◌^◌, List, [], ◌∷◌, ◌++◌, length, take, drop, Bool, true, false, cond, not, nat_lt, nat_le, ◌&&◌, Some, None, All, refl, ap, ◌∙◌, arith, length-append}
 use Rattle.std.specs.Prelude.{◌==◌}
 use Rattle.std.specs.Fmt.{decimal}
 use Rattle.std.specs.List.{list_all, position_or_len}
@@ -86,10 +86,6 @@ drop_front : (c : ℕ) (a rest : List ℕ) → drop (length a + 1) (a ++ c ∷ r
 drop_front c a rest =
     let next : length a + 1 ≡ suc (length a) = omega arith in
     ap (λ n. drop n (a ++ c ∷ rest)) next ∙ drop_past c a rest
-
-get_front : (c : ℕ) (a rest : List ℕ) → get_or (a ++ c ∷ rest) (length a) 0 ≡ c
-get_front c [] rest = refl
-get_front c (b ∷ a) rest = get_front c a rest
 
 first_place : (c : ℕ) (a rest : List ℕ) → Lacks c a → position_or_len (λ b. b == c) (a ++ c ∷ rest) ≡ length a
 first_place c [] rest h =

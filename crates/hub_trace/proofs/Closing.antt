@@ -35,14 +35,14 @@ closing_step h hs c end none over =
 
 -- what was got goes to its own end
 got_step : (h : Happening) (hs : List Happening) (c : Bool) (end : ℕ) (a : Arrival) (d : Bor Delivery) → h.got ≡ Some d
-    → a.label ≡ d.now.label → a.message.now ≡ d.now.message → ((h.end.0 == end) ≡ true → a.late ≡ c) → d.now.label.end.0 ≡ h.end.0
+    → a.label ≡ d.now.label → a.content.now ≡ d.now.content → ((h.end.0 == end) ≡ true → a.late ≡ c) → d.now.label.end.0 ≡ h.end.0
     → receipts c (end_events_in (h ∷ hs) end) ≡ receipts_in (a ∷ []) end ++ receipts c (end_events_in hs end)
-got_step h hs c end a d got labels messages late own =
+got_step h hs c end a d got labels contents late own =
     let rest = map end_event_of (filter (λ x. x.end.0 == end) hs) in
     let at : h.end.0 ≡ a.label.end.0 = sym own ∙ ap (λ l. l.end.0) (sym labels) in
     by_test (λ b. receipts c (map end_event_of (cond b (h ∷ filter (λ x. x.end.0 == end) hs) (filter (λ x. x.end.0 == end) hs))) ≡ map receipt_of (cond b (a ∷ []) []) ++ receipts c rest) (h.end.0 == end)
     (λ t. (λ i. receipt c (option_map (λ d. d.now) (got i)) ++ receipts (is_closed_after c (option_map (λ d. d.now) (got i))) rest)
-    ∙ (λ i. record { delivery = record { label = sym labels i; message = sym messages i }; late = sym (late t) i } ∷ receipts c rest))
+    ∙ (λ i. record { delivery = record { label = sym labels i; content = sym contents i }; late = sym (late t) i } ∷ receipts c rest))
     (λ _. refl)
     ∙ (λ i. map receipt_of (cond (at i == end) (a ∷ []) []) ++ receipts c rest)
 
@@ -89,14 +89,14 @@ late_is None n end r is t = is
 late_is (Some x) n end r is t = is ∙ ap (λ m. x == m) (exact_unsigned_eq n end t)
 
 pub told_got : (xs : List Happening) (i : ℕ) (h : Happening) (closed : Option ℕ) (arrivals : List Arrival) (a : Arrival) (d : Bor Delivery) (end : ℕ) → i < length xs → h ≡ get_or xs i h
-    → h.got ≡ Some d → a.label ≡ d.now.label → a.message.now ≡ d.now.message → a.late ≡ option_eq nat_eq closed (Some h.end.0) → IsOwn h
+    → h.got ≡ Some d → a.label ≡ d.now.label → a.content.now ≡ d.now.content → a.late ≡ option_eq nat_eq closed (Some h.end.0) → IsOwn h
     → receipts_in arrivals end ++ receipts (is_closed closed end) (end_events_in (drop i xs) end) ≡ receipts false (end_events_in xs end)
     → receipts_in (arrivals ++ a ∷ []) end ++ receipts (is_closed closed end) (end_events_in (drop (i + 1) xs) end) ≡ receipts false (end_events_in xs end)
-told_got xs i h closed arrivals a d end lt is got labels messages late own told =
+told_got xs i h closed arrivals a d end lt is got labels contents late own told =
     let c = is_closed closed end in
     let own_end : d.now.label.end.0 ≡ h.end.0 = subst (λ (o : Option (Bor Delivery)). IfSome o (λ x. x.now.label.end.0 ≡ h.end.0)) got own in
     ap (λ l. l ++ receipts c (end_events_in (drop (i + 1) xs) end)) (receipts_in-append arrivals (a ∷ []) end)
     ∙ append_assoc (receipts_in arrivals end) (receipts_in (a ∷ []) end) (receipts c (end_events_in (drop (i + 1) xs) end))
-    ∙ ap (λ l. receipts_in arrivals end ++ l) (sym (got_step h (drop (i + 1) xs) c end a d got labels messages (late_is closed h.end.0 end a.late late) own_end)
+    ∙ ap (λ l. receipts_in arrivals end ++ l) (sym (got_step h (drop (i + 1) xs) c end a d got labels contents (late_is closed h.end.0 end a.late late) own_end)
     ∙ ap (λ l. receipts c (end_events_in l end)) (sym (drop_here xs i h lt is)))
     ∙ told

@@ -1,5 +1,5 @@
 -- What was got of one line, against what was accepted there.
-use Rattle.std.proofs.Common.{◌≡◌, ℕ, suc, zero, ◌<◌, ◌≤◌, ◌+◌, ◌⊎◌, inl, inr, Bool, true, false, ◌&&◌, ◌||◌, List, [], ◌∷◌, ◌++◌, Some, None, map, length, get_or, refl, ap, sym, ◌∙◌, subst, slice_get, arith, ◌==◌, nat_lt, option_map}
+use Rattle.std.proofs.Common.{◌≡◌, ℕ, suc, zero, ◌<◌, ◌≤◌, ◌+◌, ◌⊎◌, inl, inr, Bool, true, false, ◌&&◌, ◌||◌, List, [], ◌∷◌, ◌++◌, Some, None, map, length, length-take, get_or, take, refl, ap, sym, ◌∙◌, subst, slice_get, arith, ◌==◌, nat_lt, option_map}
 use Rattle.std.specs.List.{filter, list_any, AllByRecursion as Each}
 use Rattle.std.proofs.lemmas.Bool.Decides.{nat_tests}
 use Rattle.std.proofs.lemmas.List.Elements.{All-nil, All-cons, All-head, All-tail, filter-append, recursion_from_All}
@@ -8,48 +8,103 @@ use Rattle.hub_trace.specs.declared.accepted.AcceptedEnvelope.{AcceptedEnvelope}
 use Rattle.hub_trace.specs.declared.received.Arrival.{Arrival}
 use Rattle.hub_trace.specs.Accepted.{is_of}
 use Rattle.hub_trace.specs.Got.{Receipt}
-use Rattle.hub_trace.specs.Clean.{IsCleanLine}
-use Rattle.hub_trace.specs.Fault.{IsRight, IsFirstFault}
+use Rattle.hub_trace.specs.Clean.{IsCleanLine, IsInTime, IsNoticeLast, IsPrefix}
+use Rattle.hub_trace.specs.Content.{is_notice}
+use Rattle.hub_trace.specs.Fault.{IsRight, IsFirstFault, has_notice}
 use Rattle.hub_trace.specs.Verdict.{IsLineBefore}
 use Rattle.hub_trace.specs.Views.{RisesByLine, accepted_in, got_in, receipt_of, is_before}
 use Rattle.hub_trace.proofs.Cases.{by_test}
 use Rattle.hub_trace.proofs.Order.{Each-passes, Each-weaker}
 use Rattle.hub_trace.proofs.Lines.{filter_none, filter_all}
-use Rattle.std.proofs.lemmas.List.{get_or_default, length-map}
+use Rattle.hub_trace.proofs.PortLists.{first_no, second_no}
+use Rattle.std.proofs.lemmas.List.{get_or_default, get_or-take, length-map}
 use Rattle.std.proofs.lemmas.Option.{slice_get-map, slice_get-get_or, slice_get_past}
 use Rattle.std.proofs.lemmas.Map.Views.{exact_unsigned_eq}
 
 abbrev pub AllRight : List Delivery → List Receipt → Type 0
-AllRight put rs = (k : ℕ) (r : Receipt) → slice_get rs k ≡ Some r → IsRight put k r
+AllRight put rs = (k : ℕ) (r : Receipt) → slice_get rs k ≡ Some r → IsRight put (has_notice (take k rs)) k r
 
-pub clean_from_right : (put : List Delivery) (rs : List Receipt) → AllRight put rs → IsCleanLine put rs
-clean_from_right put [] h = ((put, refl), All-nil (λ r. r.late ≡ false))
-clean_from_right [] (r ∷ rs) h = let e : None ≡ Some r.delivery = (h 0 r refl).1 in cc
-clean_from_right (d ∷ put) (r ∷ rs) h =
+-- ---- notices
+
+no_notice : (rs : List Receipt) (i : ℕ) (d : Receipt) → has_notice rs ≡ false → i < length rs → is_notice (get_or rs i d).delivery.content ≡ false
+no_notice [] i d h lt = absurd (omega arith)
+no_notice (r ∷ rs) zero d h lt = first_no (is_notice r.delivery.content) (has_notice rs) h
+no_notice (r ∷ rs) (suc i) d h lt = no_notice rs i d (second_no (is_notice r.delivery.content) (has_notice rs) h) (omega arith)
+
+none_noticed : (rs : List Receipt) → ((i : ℕ) (d : Receipt) → i < length rs → is_notice (get_or rs i d).delivery.content ≡ false) → has_notice rs ≡ false
+none_noticed [] h = refl
+none_noticed (r ∷ rs) h = ap (λ b. b || has_notice rs) (h 0 r (omega arith)) ∙ none_noticed rs (λ i d lt. h (suc i) d (omega arith))
+
+notice_last : (put : List Delivery) (rs : List Receipt) → AllRight put rs → IsNoticeLast rs
+notice_last put rs h i j d lt below =
+    let later = get_or rs j d in
+    let found : slice_get rs j ≡ Some later = slice_get-get_or rs j d below in
+    let right = h j later found in
+    let none : has_notice (take j rs) ≡ false = right.1 in
+    let here : i < length (take j rs) = omega (arith, length-take j rs) in
+    ap (λ (r : Receipt). is_notice r.delivery.content) (sym (get_or-take j rs i d lt)) ∙ no_notice (take j rs) i d none here
+
+before_none : (rs : List Receipt) (k : ℕ) → k < length rs → IsNoticeLast rs → has_notice (take k rs) ≡ false
+before_none rs k below last = none_noticed (take k rs) (λ i d lt.
+    let under : i < k = omega (arith, length-take k rs) in
+    ap (λ (r : Receipt). is_notice r.delivery.content) (get_or-take k rs i d under) ∙ last i k d under below)
+
+found_below : (rs : List Receipt) (k : ℕ) (r : Receipt) → slice_get rs k ≡ Some r → k < length rs
+found_below rs k r at =
+    by_test (λ b. nat_lt k (length rs) ≡ b → k < length rs) (nat_lt k (length rs))
+    (λ _ t. grind (arith, nat_tests))
+    (λ _ t. let past : length rs ≤ k = grind (arith, nat_tests) in let none : None ≡ Some r = sym (slice_get_past rs k past) ∙ at in cc)
+    refl
+
+-- ---- a clean line is one in which all is right
+
+-- what was got in time, and is what was accepted at its place
+abbrev IsAccepted : List Delivery → ℕ → Receipt → Type 0
+IsAccepted put place r = (r.late ≡ false) × (slice_get put place ≡ Some r.delivery)
+
+abbrev AllAccepted : List Delivery → List Receipt → Type 0
+AllAccepted put rs = (k : ℕ) (r : Receipt) → slice_get rs k ≡ Some r → IsAccepted put k r
+
+prefix_from_accepted : (put : List Delivery) (rs : List Receipt) → AllAccepted put rs → IsPrefix rs put × IsInTime rs
+prefix_from_accepted put [] h = ((put, refl), All-nil (λ r. r.late ≡ false))
+prefix_from_accepted [] (r ∷ rs) h = let e : None ≡ Some r.delivery = (h 0 r refl).1 in cc
+prefix_from_accepted (d ∷ put) (r ∷ rs) h =
     let first = h 0 r refl in
     let same : Some d ≡ Some r.delivery = first.1 in
     let one : d ≡ r.delivery = cc in
-    let rest = clean_from_right put rs (λ k q e. h (suc k) q e) in
+    let rest = prefix_from_accepted put rs (λ k q e. h (suc k) q e) in
     ((rest.0.0, (λ i. one i ∷ rest.0.1 i)), All-cons (λ q. q.late ≡ false) r rs first.0 rest.1)
 
-pub right_from_clean : (put : List Delivery) (rs : List Receipt) → IsCleanLine put rs → AllRight put rs
-right_from_clean put [] h k r e = let x : None ≡ Some r = e in cc
-right_from_clean put (q ∷ rs) h zero r e =
+accepted_from_prefix : (put : List Delivery) (rs : List Receipt) → IsPrefix rs put → IsInTime rs → AllAccepted put rs
+accepted_from_prefix put [] p h k r e = let x : None ≡ Some r = e in cc
+accepted_from_prefix put (q ∷ rs) p h zero r e =
     let same : Some q ≡ Some r = e in
     let one : q ≡ r = cc in
-    let P = λ (x : Receipt). IsRight put 0 x in
-    subst P one (All-head (λ x. x.late ≡ false) q rs h.1, ap (λ l. slice_get l 0) h.0.1)
-right_from_clean [] (q ∷ rs) h (suc k) r e = let x : [] ≡ q.delivery ∷ (map (λ r. r.delivery) rs ++ h.0.0) = h.0.1 in cc
-right_from_clean (d ∷ put) (q ∷ rs) h (suc k) r e =
-    let whole : d ∷ put ≡ q.delivery ∷ (map (λ r. r.delivery) rs ++ h.0.0) = h.0.1 in
-    let tails : put ≡ map (λ r. r.delivery) rs ++ h.0.0 = cc in
-    right_from_clean put rs ((h.0.0, tails), All-tail (λ x. x.late ≡ false) q rs h.1) k r e
+    subst (IsAccepted put 0) one (All-head (λ x. x.late ≡ false) q rs h, ap (λ l. slice_get l 0) p.1)
+accepted_from_prefix [] (q ∷ rs) p h (suc k) r e = let x : [] ≡ q.delivery ∷ (map (λ r. r.delivery) rs ++ p.0) = p.1 in cc
+accepted_from_prefix (d ∷ put) (q ∷ rs) p h (suc k) r e =
+    let whole : d ∷ put ≡ q.delivery ∷ (map (λ r. r.delivery) rs ++ p.0) = p.1 in
+    let tails : put ≡ map (λ r. r.delivery) rs ++ p.0 = cc in
+    accepted_from_prefix put rs (p.0, tails) (All-tail (λ x. x.late ≡ false) q rs h) k r e
+
+pub clean_from_right : (put : List Delivery) (rs : List Receipt) → AllRight put rs → IsCleanLine put rs
+clean_from_right put rs h =
+    let front = prefix_from_accepted put rs (λ k r at. let right = h k r at in (right.0, right.2)) in
+    (front.0, front.1, notice_last put rs h)
+
+pub right_from_clean : (put : List Delivery) (rs : List Receipt) → IsCleanLine put rs → AllRight put rs
+right_from_clean put rs h k r at =
+    let here = accepted_from_prefix put rs h.0 h.1 k r at in
+    (here.0, before_none rs k (found_below rs k r at) h.2, here.1)
 
 pub fault_is_not_clean : {put : List Delivery} {rs : List Receipt} {place : ℕ} {kind : _} → IsFirstFault put rs place kind → IsCleanLine put rs → ⊥
 fault_is_not_clean {put} {rs} {place} f clean = f.wrong (right_from_clean put rs clean place f.receipt f.at)
 
+no_two : IsNoticeLast []
+no_two i j d lt below = absurd (omega arith)
+
 pub nothing_is_clean : (put : List Delivery) (rs : List Receipt) → rs ≡ [] → IsCleanLine put rs
-nothing_is_clean put rs e = subst (IsCleanLine put) (sym e) ((put, refl), All-nil (λ r. r.late ≡ false))
+nothing_is_clean put rs e = subst (IsCleanLine put) (sym e) ((put, refl), All-nil (λ r. r.late ≡ false), no_two)
 
 -- of a line either all is left, or nothing, and then it is clean
 abbrev pub IsLeft : List AcceptedEnvelope → List Arrival → List Arrival → ℕ → ℕ → Type 0
@@ -133,28 +188,54 @@ earlier_line_gone rest x y first some is rises before =
 pub receipt_at : (got : List Arrival) (place : ℕ) (a : Arrival) → place < length got → a ≡ get_or got place a → slice_get (map receipt_of got) place ≡ Some (receipt_of a)
 receipt_at got place a lt is = slice_get-map receipt_of got place ∙ ap (option_map receipt_of) (slice_get-get_or got place a lt) ∙ ap (λ x. Some (receipt_of x)) (sym is)
 
+-- all receipts before the place are right
+abbrev pub RightBefore : List Delivery → List Receipt → ℕ → Type 0
+RightBefore put rs place = (k : ℕ) (r : Receipt) → k < place → slice_get rs k ≡ Some r → IsRight put (has_notice (take k rs)) k r
+
 -- one more receipt is right
 pub right_more : (put : List Delivery) (got : List Arrival) (place : ℕ) (a : Arrival) → place < length got → a ≡ get_or got place a
-    → ((k : ℕ) (r : Receipt) → k < place → slice_get (map receipt_of got) k ≡ Some r → IsRight put k r)
-    → IsRight put place (receipt_of a)
-    → (k : ℕ) (r : Receipt) → k < place + 1 → slice_get (map receipt_of got) k ≡ Some r → IsRight put k r
+    → RightBefore put (map receipt_of got) place → IsRight put (has_notice (take place (map receipt_of got))) place (receipt_of a)
+    → RightBefore put (map receipt_of got) (place + 1)
 right_more put got place a lt is before here k r under at =
-    by_test (λ b. (k == place) ≡ b → IsRight put k r) (k == place)
+    let rs = map receipt_of got in
+    by_test (λ b. (k == place) ≡ b → IsRight put (has_notice (take k rs)) k r) (k == place)
     (λ _ t. let same = exact_unsigned_eq k place t in
-    let found : Some (receipt_of a) ≡ Some r = sym (receipt_at got place a lt is) ∙ ap (slice_get (map receipt_of got)) (sym same) ∙ at in
+    let found : Some (receipt_of a) ≡ Some r = sym (receipt_at got place a lt is) ∙ ap (slice_get rs) (sym same) ∙ at in
     let one : receipt_of a ≡ r = cc in
-    subst (λ (n : ℕ). IsRight put n r) (sym same) (subst (IsRight put place) one here))
+    subst (λ (n : ℕ). IsRight put (has_notice (take n rs)) n r) (sym same) (subst (IsRight put (has_notice (take place rs)) place) one here))
     (λ _ t. let less : k < place = grind (arith, nat_tests) in before k r less at)
     refl
 
-pub all_right : (put : List Delivery) (got : List Arrival) (place : ℕ) → length got ≤ place
-    → ((k : ℕ) (r : Receipt) → k < place → slice_get (map receipt_of got) k ≡ Some r → IsRight put k r) → AllRight put (map receipt_of got)
+pub all_right : (put : List Delivery) (got : List Arrival) (place : ℕ) → length got ≤ place → RightBefore put (map receipt_of got) place → AllRight put (map receipt_of got)
 all_right put got place le h k r at =
-    by_test (λ b. nat_lt k place ≡ b → IsRight put k r) (nat_lt k place)
+    by_test (λ b. nat_lt k place ≡ b → IsRight put (has_notice (take k (map receipt_of got))) k r) (nat_lt k place)
     (λ _ t. let less : k < place = grind (arith, nat_tests) in h k r less at)
     (λ _ t. let past : length (map receipt_of got) ≤ k = grind (arith, nat_tests, length-map got receipt_of) in
     let none : None ≡ Some r = sym (slice_get_past (map receipt_of got) k past) ∙ at in cc)
     refl
+
+or_false : (b : Bool) → (b || false) ≡ b
+or_false true = refl
+or_false false = refl
+
+or_assoc : (a b c : Bool) → (a || (b || c)) ≡ ((a || b) || c)
+or_assoc true b c = refl
+or_assoc false b c = refl
+
+noticed_next : (got : List Arrival) (place : ℕ) (a : Arrival) → place < length got → a ≡ get_or got place a
+    → has_notice (take (suc place) (map receipt_of got)) ≡ (has_notice (take place (map receipt_of got)) || is_notice a.content.now)
+noticed_next [] place a lt is = absurd (omega arith)
+noticed_next (x ∷ got) zero a lt is = or_false (is_notice x.content.now) ∙ ap (λ (y : Arrival). is_notice y.content.now) (sym is)
+noticed_next (x ∷ got) (suc place) a lt is =
+    ap (λ b. is_notice x.content.now || b) (noticed_next got place a (omega arith) is)
+    ∙ or_assoc (is_notice x.content.now) (has_notice (take place (map receipt_of got))) (is_notice a.content.now)
+
+-- whether a notice was got, with one arrival more
+pub noticed_more : (got : List Arrival) (place : ℕ) (a : Arrival) → place < length got → a ≡ get_or got place a
+    → has_notice (take (place + 1) (map receipt_of got)) ≡ (has_notice (take place (map receipt_of got)) || is_notice a.content.now)
+noticed_more got place a lt is =
+    let next : place + 1 ≡ suc place = omega arith in
+    ap (λ n. has_notice (take n (map receipt_of got))) next ∙ noticed_next got place a lt is
 
 pub list_any-map : {X Y : Type 0} (f : X → Y) (p : Y → Bool) (xs : List X) → list_any (λ x. p (f x)) xs ≡ list_any p (map f xs)
 list_any-map f p [] = refl

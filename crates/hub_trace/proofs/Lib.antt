@@ -2,13 +2,14 @@ pub mod Cases
 pub mod Order
 pub mod Keys
 pub mod Lines
-pub mod Faults
-pub mod Closing
-pub mod Verdicts
 pub mod BadLines
 pub mod LogLineText
 pub mod Bytes
 pub mod PortLists
+pub mod Faults
+pub mod Closing
+pub mod Verdicts
+pub mod Versions
 pub mod Adding
 pub mod Within
 pub mod Reading

@@ -1,8 +1,9 @@
 -- The log line of an agent or an entry that was written reads back.
-use Rattle.std.proofs.Common.{◌≡◌, ◌≢◌, get_or, ℕ, ◌<◌, ◌≤◌, ◌^◌, List, [], ◌∷◌, ◌++◌, Bool, true, false, cond, bytes_eq, codes, Ok, Err, refl, sym, ap, subst, ◌∙◌, arith, append_assoc}
+use Rattle.std.proofs.Common.{◌≡◌, ◌≢◌, get_or, ℕ, ◌<◌, ◌≤◌, ◌^◌, List, [], ◌∷◌, ◌++◌, Bool, true, false, cond, bytes_eq, codes, Ok, Err, refl, sym, ap, subst, ◌∙◌, arith, append_assoc, length, leb, None, ◌&&◌}
 use Rattle.std.specs.Fmt.{decimal}
 use Rattle.std.specs.List.{All, list_all}
 use Rattle.std.proofs.lemmas.Bool.{ne_eqb}
+use Rattle.std.proofs.lemmas.Bool.Decides.{nat_tests}
 use Rattle.std.proofs.lemmas.Fmt.{digits_decimal}
 use Rattle.std.proofs.lemmas.List.Elements.{All-head, All-tail}
 use Rattle.hub_envelope.specs.Answer.{answer_of}
@@ -18,17 +19,23 @@ use Rattle.hub_text.proofs.Numbers.{own, written_is}
 use Rattle.hub_trace.specs.declared.log_entry.Delivery.{Delivery}
 use Rattle.hub_trace.specs.declared.log_entry.LogEntry.{LogEntry}
 use Rattle.hub_trace.specs.declared.log_entry.LogEntry.TheVariants.{Put, Got, Adopted, Closed}
+use Rattle.hub_text.specs.Word.{cut}
+use Rattle.hub_trace.specs.declared.content.Content.{Content}
+use Rattle.hub_trace.specs.declared.content.Content.TheVariants.{Message, Notice}
 use Rattle.hub_trace.specs.declared.label.Label.{Label}
+use Rattle.hub_trace.specs.declared.log_version.LogVersion.{LogVersion}
+use Rattle.hub_trace.specs.LogVersion.{max_body, max_line}
 use Rattle.hub_trace.specs.declared.log_line.LogLine.TheVariants as line
 use Rattle.hub_trace.specs.declared.log_error.LogError.TheVariants.{BadLine}
 use Rattle.hub_trace.specs.declared.read.TheConstants.{LOGS_END}
-use Rattle.hub_trace.specs.Limits.{IsDeliveryWithin, IsEntryWithin, IsLabelWithin, IsPortList}
-use Rattle.hub_trace.specs.LogLine.{LogRead, adoption_in, begins_with_space, body_answer, body_in, delivery_in, end_in, epoch_in, label_in, line_in, log_line_of, log_line_with, message_in, number_in, parts_in, ports_in, text_in}
-use Rattle.hub_trace.specs.Text.{delivery_text, entry_text, label_text}
+use Rattle.hub_trace.specs.Limits.{IsContentWithin, IsDeliveryWithin, IsEntryWithin, IsLabelWithin, IsMessageWithin, IsPortList}
+use Rattle.hub_trace.specs.LogLine.{LogRead, adoption_in, begins_with_space, body_answer, body_in, content_cut, content_in, delivery_in, end_in, epoch_in, label_in, line_in, log_line_of, log_line_with, message_with, number_in, parts_in, ports_in, text_in}
+use Rattle.hub_trace.specs.Text.{content_text, delivery_text, entry_text, label_text}
 use Rattle.hub_trace.proofs.Bytes.{HasOnly, HasOnly-append, HasOnly-weaker, Lacks, Lacks-decimal, both, cut-here, decimal-visible, other_than-digit, is_visible-digit, is_visible, other_than}
 use Rattle.hub_trace.proofs.LogLineText.{text_line}
+use Rattle.hub_trace.proofs.Versions.{lines_few}
 use Rattle.hub_trace.proofs.PortTexts.{end_back, ports-back, small_end}
-use Rattle.hub_trace.proofs.Utf8.{delivery_words, adopted_words, entry-utf8, agent-utf8}
+use Rattle.hub_trace.proofs.Utf8.{delivery_words, two_words, adopted_words, entry-utf8, agent-utf8}
 
 -- ---- which bytes stand in a list of ports
 
@@ -66,18 +73,18 @@ number_back max n le fits = ap (some_or BadLine) (written_is max n (decimal n) l
 
 -- ---- labels
 
-name_no_space : (l : Label) → IsLabelWithin l → Lacks 32 (decimal l.epoch ++ 58 ∷ decimal l.number)
-name_no_space l h =
+name_no_space : (v : LogVersion) (l : Label) → IsLabelWithin v l → Lacks 32 (decimal l.epoch ++ 58 ∷ decimal l.number)
+name_no_space v l h =
     let epoch = h.epoch in
     let number = h.number in
     HasOnly-append (other_than 32) (decimal l.epoch) (58 ∷ decimal l.number) (Lacks-decimal 32 l.epoch refl (omega arith)) (Lacks-decimal 32 l.number refl (omega arith))
 
-label_back : (l : Label) → IsLabelWithin l → label_in (decimal l.end.0) (decimal l.line.0) (decimal l.epoch ++ 58 ∷ decimal l.number) ≡ Ok l
+label_back : (v : LogVersion) (l : Label) → IsLabelWithin v l → label_in v (decimal l.end.0) (decimal l.line.0) (decimal l.epoch ++ 58 ∷ decimal l.number) ≡ Ok l
 unfolding label_in
-label_back l h =
+label_back v l h =
     let e1 : parts_in 58 (decimal l.epoch ++ 58 ∷ decimal l.number) ≡ Ok (decimal l.epoch, decimal l.number) = parts-here 58 (decimal l.epoch) (decimal l.number) (Lacks-decimal 58 l.epoch refl (let k = h.epoch in omega arith)) in
     let e2 : end_in (decimal l.end.0) ≡ Ok l.end = end_back l.end h.end in
-    let e3 : line_in (decimal l.line.0) ≡ Ok l.line = ap (λ (r : LogRead ℕ). r >>= λ (n : ℕ). Ok (record { 0 = n })) (number_back 15 l.line.0 h.line (omega arith)) in
+    let e3 : line_in v (decimal l.line.0) ≡ Ok l.line = ap (λ (r : LogRead ℕ). r >>= λ (n : ℕ). Ok (record { 0 = n })) (number_back (max_line v) l.line.0 h.line (omega (arith, lines_few v))) in
     let e4 : epoch_in (decimal l.epoch) ≡ Ok l.epoch = number_back 65535 l.epoch h.epoch (omega arith) in
     let e5 : number_in 4611686018427387903 (decimal l.number) ≡ Ok l.number = number_back 4611686018427387903 l.number h.number (omega arith) in
     rw (e1, e2, e3, e4, e5) refl
@@ -86,10 +93,11 @@ label_back l h =
 label_words : (end line epoch number : List ℕ) → end ++ codes " " ++ line ++ codes " " ++ epoch ++ codes ":" ++ number ≡ end ++ (32 ∷ (line ++ (32 ∷ (epoch ++ (58 ∷ number)))))
 label_words end line epoch number = simp append_assoc
 
-label_visible : (l : Label) → IsLabelWithin l → HasOnly is_visible (label_text l)
-label_visible l h =
+label_visible : (v : LogVersion) (l : Label) → IsLabelWithin v l → HasOnly is_visible (label_text l)
+label_visible v l h =
     let end = h.end in
     let line = h.line in
+    let few = lines_few v in
     let epoch = h.epoch in
     let number = h.number in
     subst (HasOnly is_visible) (sym (label_words (decimal l.end.0) (decimal l.line.0) (decimal l.epoch) (decimal l.number)))
@@ -103,52 +111,68 @@ no_space : (text : List ℕ) → get_or text 0 0 ≢ 32 → begins_with_space te
 no_space [] other = refl
 no_space (b ∷ text) other = ne_eqb b 32 other
 
-body_back : (text : List ℕ) → IsBodyText text → body_in text ≡ Ok text
+body_back : (v : LogVersion) (text : List ℕ) → IsBodyText text → length text ≤ max_body v → body_in v text ≡ Ok text
 unfolding body_in
-body_back text h = ap (λ b. cond b (Err BadLine) (body_answer (answer_of text))) (no_space text (body-first text h)) ∙ ap body_answer (answer_of-again text h)
+body_back v text h le =
+    let fits : leb (length text) (max_body v) ≡ true = grind (arith, nat_tests) in
+    ap (λ b. cond b (Err BadLine) (body_answer v (answer_of text))) (no_space text (body-first text h)) ∙ ap (body_answer v) (answer_of-again text h)
+    ∙ ap (λ b. cond b (Ok text) (Err BadLine)) fits
 
-message_back : (ports : List EndId) (text : List ℕ) → IsPortList ports → IsBodyText text → message_in (ends_text ports ++ 32 ∷ text) ≡ Ok (ports, text)
-unfolding message_in
-message_back ports text few body =
-    let e1 : parts_in 32 (ends_text ports ++ 32 ∷ text) ≡ Ok (ends_text ports, text) = parts-here 32 (ends_text ports) text (ports_no_space ports few) in
-    let e2 : ports_in (ends_text ports) ≡ Ok ports = ports-back ports few in
-    let e3 : body_in text ≡ Ok text = body_back text body in
-    rw (e1, e2, e3) refl
+message_back : (v : LogVersion) (m : List EndId × List ℕ) → IsMessageWithin v m → message_with v (ends_text m.0) m.1 ≡ Ok m
+unfolding message_with
+message_back v m h =
+    let e2 : ports_in (ends_text m.0) ≡ Ok m.0 = ports-back m.0 h.ports in
+    let e3 : body_in v m.1 ≡ Ok m.1 = body_back v m.1 h.body h.short in
+    rw (e2, e3) refl
+
+no_second : cut 32 (codes "notice") ≡ None
+unfolding cut
+no_second = refl
+
+content_back : (v : LogVersion) (c : Content) → IsContentWithin v c → content_in v (content_text c) ≡ Ok c
+unfolding content_in
+content_back v (Message m) h =
+    ap (content_in v) (two_words (ends_text m.0) m.1) ∙ ap (content_cut v (ends_text m.0 ++ 32 ∷ m.1)) (cut-here 32 (ends_text m.0) m.1 (ports_no_space m.0 h.ports))
+    ∙ ap (λ (r : LogRead (List EndId × List ℕ)). r >>= λ (x : List EndId × List ℕ). Ok (Message x)) (message_back v m h)
+content_back v Notice h =
+    ap (content_cut v (codes "notice")) no_second
+    ∙ ap (λ b. cond (b && true) (Ok Notice) (Err BadLine)) h
+
+content_visible : (v : LogVersion) (c : Content) → IsContentWithin v c → HasOnly is_visible (content_text c)
+content_visible v (Message m) h =
+    subst (HasOnly is_visible) (sym (two_words (ends_text m.0) m.1)) (HasOnly-append is_visible (ends_text m.0) (32 ∷ m.1) (ports_visible m.0 h.ports) (body-visible m.1 h.body))
+content_visible v Notice h = refl
 
 -- ---- deliveries
 
-delivery_back : (d : Delivery) → IsDeliveryWithin d → delivery_in (delivery_text d) ≡ Ok d
+delivery_back : (v : LogVersion) (d : Delivery) → IsDeliveryWithin v d → delivery_in v (delivery_text d) ≡ Ok d
 unfolding delivery_in
-delivery_back d h =
+delivery_back v d h =
     let l = d.label in
     let label = h.label in
     let end = decimal l.end.0 in
     let line = decimal l.line.0 in
     let name = decimal l.epoch ++ 58 ∷ decimal l.number in
-    let message = ends_text d.message.0 ++ 32 ∷ d.message.1 in
+    let content = content_text d.content in
     let end_le = label.end in
     let line_le = label.line in
-    let e0 : delivery_text d ≡ end ++ 32 ∷ (line ++ 32 ∷ (name ++ 32 ∷ message)) = delivery_words end line (decimal l.epoch) (decimal l.number) (ends_text d.message.0) d.message.1 in
-    let e1 : parts_in 32 (end ++ 32 ∷ (line ++ 32 ∷ (name ++ 32 ∷ message))) ≡ Ok (end, line ++ 32 ∷ (name ++ 32 ∷ message)) = parts-here 32 end (line ++ 32 ∷ (name ++ 32 ∷ message)) (Lacks-decimal 32 l.end.0 refl (omega arith)) in
-    let e2 : parts_in 32 (line ++ 32 ∷ (name ++ 32 ∷ message)) ≡ Ok (line, name ++ 32 ∷ message) = parts-here 32 line (name ++ 32 ∷ message) (Lacks-decimal 32 l.line.0 refl (omega arith)) in
-    let e3 : parts_in 32 (name ++ 32 ∷ message) ≡ Ok (name, message) = parts-here 32 name message (name_no_space l label) in
-    let e4 : label_in end line name ≡ Ok l = label_back l label in
-    let e5 : message_in message ≡ Ok d.message = message_back d.message.0 d.message.1 h.message.ports h.message.body in
+    let few = lines_few v in
+    let e0 : delivery_text d ≡ end ++ 32 ∷ (line ++ 32 ∷ (name ++ 32 ∷ content)) = delivery_words end line (decimal l.epoch) (decimal l.number) content in
+    let e1 : parts_in 32 (end ++ 32 ∷ (line ++ 32 ∷ (name ++ 32 ∷ content))) ≡ Ok (end, line ++ 32 ∷ (name ++ 32 ∷ content)) = parts-here 32 end (line ++ 32 ∷ (name ++ 32 ∷ content)) (Lacks-decimal 32 l.end.0 refl (omega arith)) in
+    let e2 : parts_in 32 (line ++ 32 ∷ (name ++ 32 ∷ content)) ≡ Ok (line, name ++ 32 ∷ content) = parts-here 32 line (name ++ 32 ∷ content) (Lacks-decimal 32 l.line.0 refl (omega arith)) in
+    let e3 : parts_in 32 (name ++ 32 ∷ content) ≡ Ok (name, content) = parts-here 32 name content (name_no_space v l label) in
+    let e4 : label_in v end line name ≡ Ok l = label_back v l label in
+    let e5 : content_in v content ≡ Ok d.content = content_back v d.content h.content in
     rw (e0, e1, e2, e3, e4, e5) refl
 
-message_words : (label ports body : List ℕ) → label ++ codes " " ++ ports ++ codes " " ++ body ≡ label ++ (32 ∷ (ports ++ (32 ∷ body)))
-message_words label ports body = simp append_assoc
-
-delivery_visible : (d : Delivery) → IsDeliveryWithin d → HasOnly is_visible (delivery_text d)
-delivery_visible d h =
-    let message = h.message in
-    subst (HasOnly is_visible) (sym (message_words (label_text d.label) (ends_text d.message.0) d.message.1))
-    (HasOnly-append is_visible (label_text d.label) (32 ∷ (ends_text d.message.0 ++ 32 ∷ d.message.1)) (label_visible d.label h.label)
-    (HasOnly-append is_visible (ends_text d.message.0) (32 ∷ d.message.1) (ports_visible d.message.0 message.ports) (body-visible d.message.1 message.body)))
+delivery_visible : (v : LogVersion) (d : Delivery) → IsDeliveryWithin v d → HasOnly is_visible (delivery_text d)
+delivery_visible v d h =
+    subst (HasOnly is_visible) (sym (two_words (label_text d.label) (content_text d.content)))
+    (HasOnly-append is_visible (label_text d.label) (32 ∷ content_text d.content) (label_visible v d.label h.label) (content_visible v d.content h.content))
 
 -- ---- entries
 
-adoption_back : (e : EndId) (epoch : ℕ) → e.0 ≤ 65535 → epoch ≤ 65535 → adoption_in (decimal e.0 ++ 32 ∷ decimal epoch) ≡ Ok (Adopted e epoch)
+adoption_back : (e : EndId) (epoch : ℕ) → e.0 ≤ 65535 → epoch ≤ 65535 → adoption_in (decimal e.0 ++ 32 ∷ decimal epoch) ≡ Ok (e, epoch)
 unfolding adoption_in
 adoption_back e epoch known le =
     let e1 : parts_in 32 (decimal e.0 ++ 32 ∷ decimal epoch) ≡ Ok (decimal e.0, decimal epoch) = parts-here 32 (decimal e.0) (decimal epoch) (Lacks-decimal 32 e.0 refl (small_end e.0 known)) in
@@ -156,47 +180,47 @@ adoption_back e epoch known le =
     let e3 : epoch_in (decimal epoch) ≡ Ok epoch = number_back 65535 epoch le (omega arith) in
     rw (e1, e2, e3) refl
 
-said_after : (name rest : List ℕ) → Lacks 32 name → text_in (name ++ 32 ∷ rest) ≡ log_line_with name rest
+said_after : (v : LogVersion) (name rest : List ℕ) → Lacks 32 name → text_in v (name ++ 32 ∷ rest) ≡ log_line_with v name rest
 unfolding text_in
-said_after name rest lacks =
+said_after v name rest lacks =
     let e1 : parts_in 32 (name ++ 32 ∷ rest) ≡ Ok (name, rest) = parts-here 32 name rest lacks in
     rw e1 refl
 
-entry_said : (e : LogEntry) → IsEntryWithin e → text_in (entry_text e) ≡ Ok (line.Entry e)
+entry_said : (v : LogVersion) (e : LogEntry) → IsEntryWithin v e → text_in v (entry_text e) ≡ Ok (line.Entry e)
 unfolding log_line_with
-entry_said (Put d) h =
-    said_after (codes "put") (delivery_text d) refl
-    ∙ ap (λ (r : LogRead Delivery). r >>= λ (x : Delivery). Ok (line.Entry (Put x))) (delivery_back d h)
-entry_said (Got d) h =
-    said_after (codes "got") (delivery_text d) refl
-    ∙ ap (λ (r : LogRead Delivery). r >>= λ (x : Delivery). Ok (line.Entry (Got x))) (delivery_back d h)
-entry_said (Adopted e epoch) h =
-    ap text_in (adopted_words (decimal e.0) (decimal epoch))
-    ∙ said_after (codes "adopted") (decimal e.0 ++ 32 ∷ decimal epoch) refl
-    ∙ ap (λ (r : LogRead LogEntry). r >>= λ (x : LogEntry). Ok (line.Entry x)) (adoption_back e epoch h.0 h.1)
-entry_said (Closed e) h =
-    said_after (codes "closed") (decimal e.0) refl
+entry_said v (Put d) h =
+    said_after v (codes "put") (delivery_text d) refl
+    ∙ ap (λ (r : LogRead Delivery). r >>= λ (x : Delivery). Ok (line.Entry (Put x))) (delivery_back v d h)
+entry_said v (Got d) h =
+    said_after v (codes "got") (delivery_text d) refl
+    ∙ ap (λ (r : LogRead Delivery). r >>= λ (x : Delivery). Ok (line.Entry (Got x))) (delivery_back v d h)
+entry_said v (Adopted e epoch) h =
+    ap (text_in v) (adopted_words (decimal e.0) (decimal epoch))
+    ∙ said_after v (codes "adopted") (decimal e.0 ++ 32 ∷ decimal epoch) refl
+    ∙ ap (λ (r : LogRead (EndId × ℕ)). r >>= λ (x : EndId × ℕ). Ok (line.Entry (Adopted x.0 x.1))) (adoption_back e epoch h.0 h.1)
+entry_said v (Closed e) h =
+    said_after v (codes "closed") (decimal e.0) refl
     ∙ ap (λ (r : LogRead EndId). r >>= λ (x : EndId). Ok (line.Entry (Closed x))) (end_back e h)
 
-pub entry-back : (e : LogEntry) → IsEntryWithin e → log_line_of (entry_text e) ≡ Ok (line.Entry e)
-entry-back e h = text_line (entry_text e) (entry-utf8 e h) ∙ entry_said e h
+pub entry-back : (v : LogVersion) (e : LogEntry) → IsEntryWithin v e → log_line_of v (entry_text e) ≡ Ok (line.Entry e)
+entry-back v e h = text_line v (entry_text e) (entry-utf8 v e h) ∙ entry_said v e h
 
-pub entry-visible : (e : LogEntry) → IsEntryWithin e → HasOnly is_visible (entry_text e)
-entry-visible (Put d) h = delivery_visible d h
-entry-visible (Got d) h = delivery_visible d h
-entry-visible (Adopted e epoch) h =
+pub entry-visible : (v : LogVersion) (e : LogEntry) → IsEntryWithin v e → HasOnly is_visible (entry_text e)
+entry-visible v (Put d) h = delivery_visible v d h
+entry-visible v (Got d) h = delivery_visible v d h
+entry-visible v (Adopted e epoch) h =
     subst (HasOnly is_visible) (sym (adopted_words (decimal e.0) (decimal epoch)))
     (HasOnly-append is_visible (decimal e.0) (32 ∷ decimal epoch) (decimal-visible e.0 (small_end e.0 h.0)) (decimal-visible epoch (small_end epoch h.1)))
-entry-visible (Closed e) h = decimal-visible e.0 (small_end e.0 h)
+entry-visible v (Closed e) h = decimal-visible e.0 (small_end e.0 h)
 
-agent_said : (a : AgentId) → a.0 ≤ 15 → text_in (codes "agent " ++ decimal a.0) ≡ Ok (line.Agent a)
+agent_said : (v : LogVersion) (a : AgentId) → a.0 ≤ 15 → text_in v (codes "agent " ++ decimal a.0) ≡ Ok (line.Agent a)
 unfolding log_line_with
-agent_said a le =
-    said_after (codes "agent") (decimal a.0) refl
+agent_said v a le =
+    said_after v (codes "agent") (decimal a.0) refl
     ∙ ap (λ (r : LogRead ℕ). (r >>= λ (n : ℕ). Ok (record { 0 = n })) >>= λ (x : AgentId). Ok (line.Agent x)) (number_back 15 a.0 le (omega arith))
 
-pub agent-back : (a : AgentId) → a.0 ≤ 15 → log_line_of (codes "agent " ++ decimal a.0) ≡ Ok (line.Agent a)
-agent-back a le = text_line (codes "agent " ++ decimal a.0) (agent-utf8 a le) ∙ agent_said a le
+pub agent-back : (v : LogVersion) (a : AgentId) → a.0 ≤ 15 → log_line_of v (codes "agent " ++ decimal a.0) ≡ Ok (line.Agent a)
+agent-back v a le = text_line v (codes "agent " ++ decimal a.0) (agent-utf8 a le) ∙ agent_said v a le
 
 pub agent-visible : (a : AgentId) → a.0 ≤ 15 → HasOnly is_visible (codes "agent " ++ decimal a.0)
 agent-visible a le = decimal-visible a.0 (omega arith)

@@ -11,6 +11,7 @@ use Rattle.hub_trace.specs.declared.log_entry.LogEntry.TheVariants.{Put, Got, Ad
 use Rattle.hub_trace.specs.declared.log_error.LogError.TheVariants.{BadLine}
 use Rattle.hub_trace.specs.declared.log_line.LogLine.{LogLine}
 use Rattle.hub_trace.specs.declared.log_line.LogLine.TheVariants as line
+use Rattle.hub_trace.specs.declared.log_version.LogVersion.{LogVersion}
 use Rattle.hub_trace.specs.Accepted.{AgentLog}
 use Rattle.hub_trace.specs.Closings.{all_closings, closes_again, closes_one, closings, is_closed_by}
 use Rattle.hub_trace.specs.Limits.{AreDistinct, AreWithin, IsEntryWithin, IsLogLineWithin, IsLogWithin}
@@ -52,52 +53,49 @@ closed_once_more ends (Adopted x k) h fresh = subst AreDistinct (sym (append_nil
 closed_once_more ends (Closed x) h fresh = distinct_more ends x h fresh
 
 -- a log within the limits stays so with an entry within the limits that closes no end again
-pub log_within_more : (log : AgentLog) (e : LogEntry) → IsLogWithin log → IsEntryWithin e → closes_one (is_closed_by log.1) e ≡ false → IsLogWithin (log.0, log.1 ++ e ∷ [])
-log_within_more log e h within fresh = record {
+pub log_within_more : (v : LogVersion) (log : AgentLog) (e : LogEntry) → IsLogWithin v log → IsEntryWithin v e → closes_one (is_closed_by log.1) e ≡ false → IsLogWithin v (log.0, log.1 ++ e ∷ [])
+log_within_more v log e h within fresh = record {
   agent = h.agent;
-  entries = All-push IsEntryWithin log.1 e h.entries within;
+  entries = All-push (IsEntryWithin v) log.1 e h.entries within;
   closed_once = subst AreDistinct (sym (closings_more log.1 e)) (closed_once_more (closings log.1) e h.closed_once fresh);
 }
 
-pub new_log : (a : AgentId) → a.0 ≤ 15 → IsLogWithin (a, [])
-new_log a le = record { agent = le; entries = All-nil IsEntryWithin; closed_once = no_pairs }
+pub new_log : (v : LogVersion) (a : AgentId) → a.0 ≤ 15 → IsLogWithin v (a, [])
+new_log v a le = record { agent = le; entries = All-nil (IsEntryWithin v); closed_once = no_pairs }
 
 -- ---- what all logs close
 
-within_last : (logs : List AgentLog) (e : LogEntry) → All IsLogWithin logs → IsEntryWithin e → closes_again logs e ≡ false → All IsLogWithin (with_entry logs e)
-within_last [] e h within fresh = h
-within_last (l ∷ []) e h within fresh =
-    All-cons IsLogWithin (l.0, l.1 ++ e ∷ []) [] (log_within_more l e (All-head IsLogWithin l [] h) within (closes_here l [] e fresh)) (All-nil IsLogWithin)
-within_last (l ∷ next ∷ logs) e h within fresh =
-    All-cons IsLogWithin l (with_entry (next ∷ logs) e) (All-head IsLogWithin l (next ∷ logs) h)
-    (within_last (next ∷ logs) e (All-tail IsLogWithin l (next ∷ logs) h) within (closes_later l (next ∷ logs) e fresh))
+within_last : (v : LogVersion) (logs : List AgentLog) (e : LogEntry) → All (IsLogWithin v) logs → IsEntryWithin v e → closes_again logs e ≡ false → All (IsLogWithin v) (with_entry logs e)
+within_last v [] e h within fresh = h
+within_last v (l ∷ []) e h within fresh =
+    All-cons (IsLogWithin v) (l.0, l.1 ++ e ∷ []) [] (log_within_more v l e (All-head (IsLogWithin v) l [] h) within (closes_here l [] e fresh)) (All-nil (IsLogWithin v))
+within_last v (l ∷ next ∷ logs) e h within fresh =
+    All-cons (IsLogWithin v) l (with_entry (next ∷ logs) e) (All-head (IsLogWithin v) l (next ∷ logs) h)
+    (within_last v (next ∷ logs) e (All-tail (IsLogWithin v) l (next ∷ logs) h) within (closes_later l (next ∷ logs) e fresh))
 
 closings_of_new : (logs : List AgentLog) (l : AgentLog) → closings l.1 ≡ [] → all_closings (logs ++ l ∷ []) ≡ all_closings logs
 closings_of_new [] l h = append_nil (closings l.1) ∙ h
 closings_of_new (x ∷ logs) l h = ap (λ ys. closings x.1 ++ ys) (closings_of_new logs l h)
 
-added : (l : AgentLog) (logs new : List AgentLog) (e : LogEntry) (b : Bool) → closes_again (l ∷ logs) e ≡ b → cond b (Err BadLine) (Ok (with_entry (l ∷ logs) e)) ≡ Ok new → AreWithin (l ∷ logs) → IsEntryWithin e → AreWithin new
-added l logs new e true again made h within = cc
-added l logs new e false again made h within =
+added : (v : LogVersion) (l : AgentLog) (logs new : List AgentLog) (e : LogEntry) (b : Bool) → closes_again (l ∷ logs) e ≡ b → cond b (Err BadLine) (Ok (with_entry (l ∷ logs) e)) ≡ Ok new → AreWithin v (l ∷ logs) → IsEntryWithin v e → AreWithin v new
+added v l logs new e true again made h within = cc
+added v l logs new e false again made h within =
     let is : with_entry (l ∷ logs) e ≡ new = cc in
-    subst AreWithin is (record {
-      each = within_last (l ∷ logs) e h.each within again;
+    subst (AreWithin v) is (record {
+      each = within_last v (l ∷ logs) e h.each within again;
       closed_once = subst AreDistinct (sym (all_closings_more (l ∷ logs) e (omega arith))) (closed_once_more (all_closings (l ∷ logs)) e h.closed_once again);
     })
 
 -- logs within the limits stay so with a log line within the limits
-pub line_within : (logs new : List AgentLog) (l : LogLine) → with_line logs l ≡ Ok new → IsLogLineWithin l → AreWithin logs → AreWithin new
-line_within logs new (line.Agent a) made within h =
+pub line_within : (v : LogVersion) (logs new : List AgentLog) (l : LogLine) → with_line logs l ≡ Ok new → IsLogLineWithin v l → AreWithin v logs → AreWithin v new
+line_within v logs new (line.Agent a) made within h =
     let is : logs ++ (a, []) ∷ [] ≡ new = cc in
-    subst AreWithin is (record {
-      each = All-push IsLogWithin logs (a, []) h.each (new_log a within);
+    subst (AreWithin v) is (record {
+      each = All-push (IsLogWithin v) logs (a, []) h.each (new_log v a within);
       closed_once = subst AreDistinct (sym (closings_of_new logs (a, []) refl)) h.closed_once;
     })
-line_within [] new (line.Entry e) made within h = cc
-line_within (x ∷ logs) new (line.Entry e) made within h = added x logs new e (closes_again (x ∷ logs) e) refl made h within
-
-pub no_logs : AreWithin []
-no_logs = record { each = All-nil IsLogWithin; closed_once = no_pairs }
+line_within v [] new (line.Entry e) made within h = cc
+line_within v (x ∷ logs) new (line.Entry e) made within h = added v x logs new e (closes_again (x ∷ logs) e) refl made h within
 
 -- a fact of an answer that reads as a definition
 pub on_read : {A X E : Type 0} (memory : E) (view : A → X) (r : Result A E) (read : Result X E) (Q : Type 0) → ((x : A) → read ≡ Ok (view x) → Q) → IsReadAs memory view r read → OnOk r Q

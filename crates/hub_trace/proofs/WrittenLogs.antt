@@ -18,6 +18,7 @@ use Rattle.hub_trace.specs.declared.log.TheConstants.{LOG_HEADER}
 use Rattle.hub_trace.specs.declared.read.TheConstants.{LOGS_END}
 use Rattle.hub_trace.specs.declared.log_error.LogError.{LogError}
 use Rattle.hub_trace.specs.declared.log_error.LogError.TheVariants as error
+use Rattle.hub_trace.specs.declared.log_version.LogVersion.TheVariants.{Third}
 use Rattle.hub_trace.specs.Accepted.{AgentLog}
 use Rattle.hub_trace.specs.Closings.{all_closings, closes_again, closings}
 use Rattle.hub_trace.specs.Limits.{AreDistinct, AreWithin, IsEntryWithin, IsLogWithin}
@@ -31,7 +32,7 @@ use Rattle.hub_trace.proofs.PortTexts.{none_before}
 
 -- what is read of these bytes, after these logs, whichever number the next line has
 abbrev GivesAll : List AgentLog → List AgentLog → List ℕ → Type 0
-GivesAll all logs bytes = (n : ℕ) → logs_from n logs (text_lines_of bytes) ≡ Ok all
+GivesAll all logs bytes = (n : ℕ) → logs_from Third n logs (text_lines_of bytes) ≡ Ok all
 
 no_end : (text : List ℕ) → HasOnly is_visible text → HasNoEnd text
 no_end text visible k lt e =
@@ -40,13 +41,13 @@ no_end text visible k lt e =
     let wrong : true ≡ false = sym same ∙ other in
     cc
 
-line_more : (all logs longer : List AgentLog) (text rest : List ℕ) → HasOnly is_visible text → bytes_eq text LOGS_END.now ≡ false → line_added logs text ≡ Ok longer → GivesAll all longer rest
+line_more : (all logs longer : List AgentLog) (text rest : List ℕ) → HasOnly is_visible text → bytes_eq text LOGS_END.now ≡ false → line_added Third logs text ≡ Ok longer → GivesAll all longer rest
     → GivesAll all logs (text ++ (10 ∷ rest))
 unfolding logs_from
 line_more all logs longer text rest visible other added gives n =
-    ap (logs_from n logs) (line_before text rest (no_end text visible))
-    ∙ ap (λ b. cond b (Ok logs) (after_line n (line_added logs text) (λ x. logs_from (n + 1) x (text_lines_of rest)))) other
-    ∙ ap (λ (r : LogRead (List AgentLog)). after_line n r (λ x. logs_from (n + 1) x (text_lines_of rest))) added
+    ap (logs_from Third n logs) (line_before text rest (no_end text visible))
+    ∙ ap (λ b. cond b (Ok logs) (after_line n (line_added Third logs text) (λ x. logs_from Third (n + 1) x (text_lines_of rest)))) other
+    ∙ ap (λ (r : LogRead (List AgentLog)). after_line n r (λ x. logs_from Third (n + 1) x (text_lines_of rest))) added
     ∙ gives (n + 1)
 
 -- ---- what the entries close
@@ -96,47 +97,47 @@ entry_first first lines text = simp append_assoc
 log_words : (first lines others tail : List ℕ) → (first ++ codes "\n" ++ lines ++ others) ++ tail ≡ first ++ (10 ∷ (lines ++ (others ++ tail)))
 log_words first lines others tail = simp append_assoc
 
-entry_added : (done : List AgentLog) (a : AgentId) (past : List LogEntry) (e : LogEntry) → IsEntryWithin e → closes_again (done ++ ((a, past) ∷ [])) e ≡ false
-    → line_added (done ++ ((a, past) ∷ [])) (entry_text e) ≡ Ok (done ++ ((a, past ++ (e ∷ [])) ∷ []))
+entry_added : (done : List AgentLog) (a : AgentId) (past : List LogEntry) (e : LogEntry) → IsEntryWithin Third e → closes_again (done ++ ((a, past) ∷ [])) e ≡ false
+    → line_added Third (done ++ ((a, past) ∷ [])) (entry_text e) ≡ Ok (done ++ ((a, past ++ (e ∷ [])) ∷ []))
 entry_added done a past e within once =
     let logs = done ++ ((a, past) ∷ []) in
-    ap (λ (r : LogRead LogLine). r >>= with_line logs) (entry-back e within)
+    ap (λ (r : LogRead LogLine). r >>= with_line logs) (entry-back Third e within)
     ∙ may_add logs e (omega (arith, length-append done ((a, past) ∷ []))) once
     ∙ ap (λ (xs : List AgentLog). Ok xs) (in_newest done a past e)
 
-entries_more : (all done : List AgentLog) (a : AgentId) (past es : List LogEntry) (others : List AgentLog) (rest : List ℕ) → All IsEntryWithin es → AreDistinct (all_closings (done ++ ((a, past ++ es) ∷ others)))
+entries_more : (all done : List AgentLog) (a : AgentId) (past es : List LogEntry) (others : List AgentLog) (rest : List ℕ) → All (IsEntryWithin Third) es → AreDistinct (all_closings (done ++ ((a, past ++ es) ∷ others)))
     → GivesAll all (done ++ ((a, past ++ es) ∷ [])) rest → GivesAll all (done ++ ((a, past) ∷ [])) (entry_lines es ++ rest)
 entries_more all done a past [] others rest within distinct gives = subst (λ (xs : List LogEntry). GivesAll all (done ++ ((a, xs) ∷ [])) rest) (append-nil past) gives
 entries_more all done a past (e ∷ es) others rest within distinct gives =
-    let here = All-head IsEntryWithin e es within in
+    let here = All-head (IsEntryWithin Third) e es within in
     let more : (past ++ (e ∷ [])) ++ es ≡ past ++ (e ∷ es) = append_assoc past (e ∷ []) es in
     subst (GivesAll all (done ++ ((a, past) ∷ []))) (sym (entry_first (entry_text e) (entry_lines es) rest))
-    (line_more all (done ++ ((a, past) ∷ [])) (done ++ ((a, past ++ (e ∷ [])) ∷ [])) (entry_text e) (entry_lines es ++ rest) (entry-visible e here) (entry-not_end e)
+    (line_more all (done ++ ((a, past) ∷ [])) (done ++ ((a, past ++ (e ∷ [])) ∷ [])) (entry_text e) (entry_lines es ++ rest) (entry-visible Third e here) (entry-not_end e)
     (entry_added done a past e here (closes_new done a past es others e distinct))
-    (entries_more all done a (past ++ (e ∷ [])) es others rest (All-tail IsEntryWithin e es within)
+    (entries_more all done a (past ++ (e ∷ [])) es others rest (All-tail (IsEntryWithin Third) e es within)
     (subst (λ (xs : List LogEntry). AreDistinct (all_closings (done ++ ((a, xs) ∷ others)))) (sym more) distinct)
     (subst (λ (xs : List LogEntry). GivesAll all (done ++ ((a, xs) ∷ [])) rest) (sym more) gives)))
 
 -- ---- logs
 
-agent_added : (done : List AgentLog) (a : AgentId) → a.0 ≤ 15 → line_added done (codes "agent " ++ decimal a.0) ≡ Ok (done ++ ((a, []) ∷ []))
-agent_added done a le = ap (λ (r : LogRead LogLine). r >>= with_line done) (agent-back a le)
+agent_added : (done : List AgentLog) (a : AgentId) → a.0 ≤ 15 → line_added Third done (codes "agent " ++ decimal a.0) ≡ Ok (done ++ ((a, []) ∷ []))
+agent_added done a le = ap (λ (r : LogRead LogLine). r >>= with_line done) (agent-back Third a le)
 
-logs_more : (all done logs : List AgentLog) (tail : List ℕ) → All IsLogWithin logs → AreDistinct (all_closings (done ++ logs)) → GivesAll all (done ++ logs) tail → GivesAll all done (logs_text logs ++ tail)
+logs_more : (all done logs : List AgentLog) (tail : List ℕ) → All (IsLogWithin Third) logs → AreDistinct (all_closings (done ++ logs)) → GivesAll all (done ++ logs) tail → GivesAll all done (logs_text logs ++ tail)
 logs_more all done [] tail within distinct gives = subst (λ (xs : List AgentLog). GivesAll all xs tail) (append-nil done) gives
 logs_more all done (l ∷ logs) tail within distinct gives =
     let agent = codes "agent " ++ decimal l.0.0 in
-    let here = All-head IsLogWithin l logs within in
+    let here = All-head (IsLogWithin Third) l logs within in
     let one_more : (done ++ (l ∷ [])) ++ logs ≡ done ++ (l ∷ logs) = append_assoc done (l ∷ []) logs in
     subst (GivesAll all done) (sym (log_words agent (entry_lines l.1) (logs_text logs) tail))
     (line_more all done (done ++ ((l.0, []) ∷ [])) agent (entry_lines l.1 ++ (logs_text logs ++ tail)) (agent-visible l.0 here.agent) (agent-not_end l.0) (agent_added done l.0 here.agent)
     (entries_more all done l.0 [] l.1 logs (logs_text logs ++ tail) here.entries distinct
-    (logs_more all (done ++ (l ∷ [])) logs tail (All-tail IsLogWithin l logs within) (subst (λ (xs : List AgentLog). AreDistinct (all_closings xs)) (sym one_more) distinct)
+    (logs_more all (done ++ (l ∷ [])) logs tail (All-tail (IsLogWithin Third) l logs within) (subst (λ (xs : List AgentLog). AreDistinct (all_closings xs)) (sym one_more) distinct)
     (subst (λ (xs : List AgentLog). GivesAll all xs tail) (sym one_more) gives))))
 
 -- ---- files
 
-below : (logs : List AgentLog) (tail : List ℕ) → AreWithin logs → GivesAll logs logs tail → logs_of (file_text logs ++ tail) ≡ Ok logs
+below : (logs : List AgentLog) (tail : List ℕ) → AreWithin Third logs → GivesAll logs logs tail → logs_of (file_text logs ++ tail) ≡ Ok logs
 below logs tail h gives =
     ap below_header (line_before LOG_HEADER.now (logs_text logs ++ tail) (no_end LOG_HEADER.now refl))
     ∙ logs_more logs [] logs tail h.each h.closed_once gives 2
@@ -147,7 +148,7 @@ no_more logs n = refl
 
 deliveries_follow : (logs : List AgentLog) (more : List ℕ) → GivesAll logs logs (codes "deliveries\n" ++ more)
 unfolding logs_from
-deliveries_follow logs more n = ap (logs_from n logs) (line_before LOGS_END.now more (no_end LOGS_END.now refl))
+deliveries_follow logs more n = ap (logs_from Third n logs) (line_before LOGS_END.now more (no_end LOGS_END.now refl))
 
 same_value : {X E : Type 0} (r : Result X E) (x y : X) → r ≡ Ok x → r ≡ Ok y → x ≡ y
 same_value {X} {E} r x y p q =
@@ -159,7 +160,7 @@ not_both {X} {E} r e x p q =
     let wrong : ◌≡◌ {A = Result X E} (Err e) (Ok x) = sym p ∙ q in
     cc
 
-file_back : (bytes : List ℕ) (logs : List AgentLog) (more : List ℕ) → AreWithin logs
+file_back : (bytes : List ℕ) (logs : List AgentLog) (more : List ℕ) → AreWithin Third logs
     → (bytes ≡ file_text logs) ⊎ (bytes ≡ file_text logs ++ codes "deliveries\n" ++ more) → logs_of bytes ≡ Ok logs
 file_back bytes logs more h is =
     ⊎_elim
@@ -169,7 +170,7 @@ file_back bytes logs more h is =
     is
 
 -- what is returned where it is what the definition reads
-pub read_back : {X : Type 0} (view : X → List AgentLog) (bytes : List ℕ) (r : Result X (ℕ × LogError)) → AreLinesReadAs error.OutOfMemory view r (logs_of bytes) → (logs : List AgentLog) (more : List ℕ) → AreWithin logs
+pub read_back : {X : Type 0} (view : X → List AgentLog) (bytes : List ℕ) (r : Result X (ℕ × LogError)) → AreLinesReadAs error.OutOfMemory view r (logs_of bytes) → (logs : List AgentLog) (more : List ℕ) → AreWithin Third logs
     → (bytes ≡ file_text logs) ⊎ (bytes ≡ file_text logs ++ codes "deliveries\n" ++ more) → MatchResult r (λ x. view x ≡ logs) (λ e. e.1 ≡ error.OutOfMemory)
 read_back view bytes (Ok x) reads logs more h is = same_value (logs_of bytes) (view x) logs reads (file_back bytes logs more h is)
 read_back view bytes (Err e) (inl memory) logs more h is = memory

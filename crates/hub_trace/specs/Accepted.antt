@@ -1,10 +1,12 @@
 -- What was accepted at a line.
-use Rattle.std.specs.Prelude.{ℕ, Bool, List, [], ◌∷◌, ◌==◌, ◌&&◌}
+use Rattle.std.specs.Prelude.{ℕ, Bool, List, [], ◌∷◌, ◌++◌, ◌==◌, ◌&&◌}
 use Rattle.std.specs.List.{filter, flat_map}
 use Rattle.std.specs.declared.cmp.Ordering.{Ordering}
 use Rattle.std.specs.Ordering.{nat_cmp, ordering_then}
 use Rattle.hub_envelope.specs.declared.envelope.Envelope.{Envelope}
 use Rattle.hub_envelope.specs.declared.ids.AgentId.{AgentId}
+use Rattle.hub_envelope.specs.declared.ids.EndId.{EndId}
+use Rattle.hub_trace.specs.declared.content.Content.TheVariants.{Message, Notice}
 use Rattle.hub_trace.specs.declared.label.Label.{Label}
 use Rattle.hub_trace.specs.declared.log_entry.Delivery.{Delivery}
 use Rattle.hub_trace.specs.declared.log_entry.LogEntry.{LogEntry}
@@ -18,6 +20,18 @@ label_of e = record { end = e.end; line = e.line; epoch = e.epoch; number = e.nu
 -- the log of an agent: the agent, and its entries, oldest first
 abbrev pub AgentLog : Type 0
 AgentLog = AgentId × List LogEntry
+
+-- the log with an entry more, the newest
+abbrev pub log_with : AgentLog → LogEntry → AgentLog
+log_with log e = (log.0, log.1 ++ e ∷ [])
+
+-- the message of these ports and this body, under its label
+abbrev pub message_at : Label → List EndId → List ℕ → Delivery
+message_at label ports body = record { label = label; content = Message (ports, body) }
+
+-- a notice, under its label
+abbrev pub notice_at : Label → Delivery
+notice_at label = record { label = label; content = Notice }
 
 -- what the put entries say, in their order
 abbrev pub puts : List LogEntry → List Delivery

@@ -4,12 +4,17 @@ use Rattle.std.specs.List.{list_any}
 use Rattle.hub_trace.specs.declared.log_entry.Delivery.{Delivery}
 use Rattle.hub_trace.specs.declared.label.Label.{Label}
 use Rattle.hub_trace.specs.declared.verdict.FaultKind.{FaultKind}
-use Rattle.hub_trace.specs.declared.verdict.FaultKind.TheVariants.{AfterClose, Changed, Twice, Gap, Foreign}
+use Rattle.hub_trace.specs.declared.verdict.FaultKind.TheVariants.{AfterClose, AfterNotice, Changed, Twice, Gap, Foreign}
+use Rattle.hub_trace.specs.Content.{is_notice}
 use Rattle.hub_trace.specs.Got.{Receipt}
 
--- what was got in time, and is what was accepted at its place
-abbrev pub IsRight : List Delivery → ℕ → Receipt → Type 0
-IsRight put place r = (r.late ≡ false) × (slice_get put place ≡ Some r.delivery)
+-- whether a notice is among what was got
+abbrev pub has_notice : List Receipt → Bool
+has_notice receipts = list_any (λ r. is_notice r.delivery.content) receipts
+
+-- what was got in time, with no notice before it, and is what was accepted at its place
+abbrev pub IsRight : List Delivery → Bool → ℕ → Receipt → Type 0
+IsRight put noticed place r = (r.late ≡ false) × (noticed ≡ false) × (slice_get put place ≡ Some r.delivery)
 
 abbrev pub has_name : Label → Label → Bool
 has_name a b = (a.epoch == b.epoch) && (a.number == b.number)
@@ -22,15 +27,16 @@ is_named (Some d) label = has_name d.label label
 abbrev pub kind_at : List Delivery → List Receipt → ℕ → Receipt → FaultKind
 kind_at put earlier place r =
     if r.late then AfterClose
+    else (if has_notice earlier then AfterNotice
     else (if is_named (slice_get put place) r.delivery.label then Changed
     else (if list_any (λ e. has_name e.delivery.label r.delivery.label) earlier then Twice
     else (if list_any (λ d. has_name d.label r.delivery.label) put then Gap
-    else Foreign)))
+    else Foreign))))
 
 -- the receipt at the place is wrong, all before it are right, and this kind is the first that fits
 pub record IsFirstFault (put : List Delivery) (receipts : List Receipt) (place : ℕ) (kind : FaultKind) : Type 0 where
   pub receipt : Receipt
   pub at : slice_get receipts place ≡ Some receipt
-  pub wrong : ¬ (IsRight put place receipt)
-  pub first : (k : ℕ) (r : Receipt) → k < place → slice_get receipts k ≡ Some r → IsRight put k r
+  pub wrong : ¬ (IsRight put (has_notice (take place receipts)) place receipt)
+  pub first : (k : ℕ) (r : Receipt) → k < place → slice_get receipts k ≡ Some r → IsRight put (has_notice (take k receipts)) k r
   pub kind_is : kind ≡ kind_at put (take place receipts) place receipt

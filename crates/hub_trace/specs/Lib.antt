@@ -1,3 +1,5 @@
+pub mod Content
+pub mod LogVersion
 pub mod Sorted
 pub mod Accepted
 pub mod Got

@@ -1,5 +1,5 @@
 -- What a log line below the header says, or that it is bad.
-use Rattle.std.specs.Prelude.{ℕ, ◌==◌, List, [], ◌∷◌, Bool, false, Result, Ok, Err, codes, bytes_eq, if◌then◌else◌}
+use Rattle.std.specs.Prelude.{ℕ, ◌==◌, List, [], ◌∷◌, Bool, false, Result, Ok, Err, codes, bytes_eq, if◌then◌else◌, ◌&&◌, nat_le, length, Option, Some, None}
 use Rattle.std.specs.Str.{is_utf8}
 use Rattle.hub_envelope.specs.Answer.{answer_of}
 use Rattle.hub_envelope.specs.declared.body.BodyError.{BodyError}
@@ -10,10 +10,13 @@ use Rattle.hub_text.specs.EndList.{ends_of}
 use Rattle.hub_text.specs.Number.{number_of}
 use Rattle.hub_text.specs.Reading.{◌>>=◌, some_or}
 use Rattle.hub_text.specs.Word.{cut}
+use Rattle.hub_trace.specs.declared.content.Content.{Content}
+use Rattle.hub_trace.specs.declared.content.Content.TheVariants.{Message, Notice}
 use Rattle.hub_trace.specs.declared.label.Label.{Label}
-use Rattle.hub_trace.specs.declared.limits.TheConstants.{MAX_AGENT, MAX_END, MAX_EPOCH, MAX_LINE, MAX_NUMBER}
+use Rattle.hub_trace.specs.declared.log_version.LogVersion.{LogVersion}
+use Rattle.hub_trace.specs.LogVersion.{has_notices, max_body, max_line}
+use Rattle.hub_trace.specs.declared.limits.TheConstants.{MAX_AGENT, MAX_END, MAX_EPOCH, MAX_NUMBER}
 use Rattle.hub_trace.specs.declared.log_entry.Delivery.{Delivery}
-use Rattle.hub_trace.specs.declared.log_entry.LogEntry.{LogEntry}
 use Rattle.hub_trace.specs.declared.log_entry.LogEntry.TheVariants.{Put, Got, Adopted, Closed}
 use Rattle.hub_trace.specs.declared.log_error.LogError.{LogError}
 use Rattle.hub_trace.specs.declared.log_error.LogError.TheVariants.{BadLine}
@@ -39,18 +42,19 @@ agent_in word = number_in MAX_AGENT word >>= λ n. Ok (record { 0 = n })
 abbrev pub end_in : List ℕ → LogRead EndId
 end_in word = number_in MAX_END word >>= λ n. Ok (record { 0 = n })
 
-abbrev pub line_in : List ℕ → LogRead LineId
-line_in word = number_in MAX_LINE word >>= λ n. Ok (record { 0 = n })
+-- in logs of the version
+abbrev pub line_in : LogVersion → List ℕ → LogRead LineId
+line_in v word = number_in (max_line v) word >>= λ n. Ok (record { 0 = n })
 
 abbrev pub epoch_in : List ℕ → LogRead ℕ
 epoch_in word = number_in MAX_EPOCH word
 
 -- `EP:N`, after the words of an end and a line
-unfoldable pub label_in : List ℕ → List ℕ → List ℕ → LogRead Label
-label_in end line name = do
+unfoldable pub label_in : LogVersion → List ℕ → List ℕ → List ℕ → LogRead Label
+label_in v end line name = do
   parts ← parts_in 58 name
   e ← end_in end
-  l ← line_in line
+  l ← line_in v line
   epoch ← epoch_in parts.0
   number ← number_in MAX_NUMBER parts.1
   Ok (record { end = e; line = l; epoch = epoch; number = number })
@@ -67,53 +71,65 @@ abbrev pub begins_with_space : List ℕ → Bool
 begins_with_space [] = false
 begins_with_space (b ∷ text) = b == 32
 
-abbrev pub body_answer : Result (List ℕ) BodyError → LogRead (List ℕ)
-body_answer (Ok body) = Ok body
-body_answer (Err e) = Err BadLine
+-- the text, where it isn't too long in logs of the version
+abbrev pub short_in : LogVersion → List ℕ → LogRead (List ℕ)
+short_in v body = if nat_le (length body) (max_body v) then Ok body else Err BadLine
+
+abbrev pub body_answer : LogVersion → Result (List ℕ) BodyError → LogRead (List ℕ)
+body_answer v (Ok body) = short_in v body
+body_answer v (Err e) = Err BadLine
 
 -- the compact text of a body; a space before it would be a second one
-unfoldable pub body_in : List ℕ → LogRead (List ℕ)
-body_in text = if begins_with_space text then Err BadLine else body_answer (answer_of text)
+unfoldable pub body_in : LogVersion → List ℕ → LogRead (List ℕ)
+body_in v text = if begins_with_space text then Err BadLine else body_answer v (answer_of text)
 
--- `LIST BODY`
-unfoldable pub message_in : List ℕ → LogRead (List EndId × List ℕ)
-message_in text = do
-  parts ← parts_in 32 text
-  ports ← ports_in parts.0
-  body ← body_in parts.1
+-- a LIST and a BODY
+unfoldable pub message_with : LogVersion → List ℕ → List ℕ → LogRead (List EndId × List ℕ)
+message_with v list text = do
+  ports ← ports_in list
+  body ← body_in v text
   Ok (ports, body)
 
--- `E L EP:N LIST BODY`
-unfoldable pub delivery_in : List ℕ → LogRead Delivery
-delivery_in text = do
+-- one word or two, and more
+abbrev pub content_cut : LogVersion → List ℕ → Option (List ℕ × List ℕ) → LogRead Content
+content_cut v text None = if has_notices v && bytes_eq text (codes "notice") then Ok Notice else Err BadLine
+content_cut v text (Some parts) = message_with v parts.0 parts.1 >>= λ m. Ok (Message m)
+
+-- `LIST BODY`, or `notice` where the version has notices
+unfoldable pub content_in : LogVersion → List ℕ → LogRead Content
+content_in v text = content_cut v text (cut 32 text)
+
+-- `E L EP:N` and a content
+unfoldable pub delivery_in : LogVersion → List ℕ → LogRead Delivery
+delivery_in v text = do
   end ← parts_in 32 text
   line ← parts_in 32 end.1
   name ← parts_in 32 line.1
-  label ← label_in end.0 line.0 name.0
-  message ← message_in name.1
-  Ok (record { label = label; message = message })
+  label ← label_in v end.0 line.0 name.0
+  content ← content_in v name.1
+  Ok (record { label = label; content = content })
 
 -- `E EP`
-unfoldable pub adoption_in : List ℕ → LogRead LogEntry
+unfoldable pub adoption_in : List ℕ → LogRead (EndId × ℕ)
 adoption_in text = do
   parts ← parts_in 32 text
   e ← end_in parts.0
   epoch ← epoch_in parts.1
-  Ok (Adopted e epoch)
+  Ok (e, epoch)
 
--- what the first word of a log line and the rest of it say
-unfoldable pub log_line_with : List ℕ → List ℕ → LogRead LogLine
-log_line_with name rest =
+-- what the first word of a log line and the rest of it say, in logs of the version
+unfoldable pub log_line_with : LogVersion → List ℕ → List ℕ → LogRead LogLine
+log_line_with v name rest =
     if bytes_eq name (codes "agent") then agent_in rest >>= (λ a. Ok (line.Agent a))
-    else (if bytes_eq name (codes "put") then delivery_in rest >>= (λ d. Ok (line.Entry (Put d)))
-    else (if bytes_eq name (codes "got") then delivery_in rest >>= (λ d. Ok (line.Entry (Got d)))
-    else (if bytes_eq name (codes "adopted") then adoption_in rest >>= (λ e. Ok (line.Entry e))
+    else (if bytes_eq name (codes "put") then delivery_in v rest >>= (λ d. Ok (line.Entry (Put d)))
+    else (if bytes_eq name (codes "got") then delivery_in v rest >>= (λ d. Ok (line.Entry (Got d)))
+    else (if bytes_eq name (codes "adopted") then adoption_in rest >>= (λ x. Ok (line.Entry (Adopted x.0 x.1)))
     else (if bytes_eq name (codes "closed") then end_in rest >>= (λ e. Ok (line.Entry (Closed e)))
     else Err BadLine))))
 
-unfoldable pub text_in : List ℕ → LogRead LogLine
-text_in text = parts_in 32 text >>= λ parts. log_line_with parts.0 parts.1
+unfoldable pub text_in : LogVersion → List ℕ → LogRead LogLine
+text_in v text = parts_in 32 text >>= λ parts. log_line_with v parts.0 parts.1
 
--- the log line that the bytes of a text line are
-unfoldable pub log_line_of : List ℕ → LogRead LogLine
-log_line_of bytes = if is_utf8 bytes then text_in bytes else Err BadLine
+-- the log line that the bytes of a text line are, in logs of the version
+unfoldable pub log_line_of : LogVersion → List ℕ → LogRead LogLine
+log_line_of v bytes = if is_utf8 bytes then text_in v bytes else Err BadLine

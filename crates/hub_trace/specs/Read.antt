@@ -1,11 +1,12 @@
 -- What the bytes of a file of logs say.
-use Rattle.std.specs.Prelude.{◌≡◌, ◌≢◌, ℕ, ◌+◌, ◌≤◌, List, [], ◌∷◌, ◌++◌, Bool, Result, Ok, Err, bytes_eq, if◌then◌else◌}
+use Rattle.std.specs.Prelude.{◌≡◌, ◌≢◌, ℕ, ◌+◌, ◌≤◌, List, [], ◌∷◌, ◌++◌, Bool, Option, Some, None, Result, Ok, Err, bytes_eq, if◌then◌else◌}
 use Rattle.hub_text.specs.Reading.{◌>>=◌}
 use Rattle.hub_text.specs.TextLines.{text_lines_of}
 use Rattle.hub_trace.specs.declared.log_entry.LogEntry.{LogEntry}
 use Rattle.hub_trace.specs.declared.log_line.LogLine.{LogLine}
 use Rattle.hub_trace.specs.declared.log_line.LogLine.TheVariants as line
-use Rattle.hub_trace.specs.declared.log.TheConstants.{LOG_HEADER}
+use Rattle.hub_trace.specs.declared.log_version.LogVersion.{LogVersion}
+use Rattle.hub_trace.specs.LogVersion.{header_of, version_of}
 use Rattle.hub_trace.specs.declared.read.TheConstants.{LOGS_END}
 use Rattle.hub_trace.specs.declared.log_error.LogError.{LogError}
 use Rattle.hub_trace.specs.declared.log_error.LogError.TheVariants as error
@@ -29,9 +30,9 @@ with_line logs (line.Agent a) = Ok (logs ++ (a, []) ∷ [])
 with_line [] (line.Entry e) = Err error.BadLine
 with_line (log ∷ logs) (line.Entry e) = if closes_again (log ∷ logs) e then Err error.BadLine else Ok (with_entry (log ∷ logs) e)
 
--- the logs with what the bytes of a text line say
-abbrev pub line_added : List AgentLog → List ℕ → LogRead (List AgentLog)
-line_added logs bytes = log_line_of bytes >>= with_line logs
+-- the logs, which are of the version, with what the bytes of a text line say
+abbrev pub line_added : LogVersion → List AgentLog → List ℕ → LogRead (List AgentLog)
+line_added v logs bytes = log_line_of v bytes >>= with_line logs
 
 -- what is read after the text line of that number
 abbrev pub after_line : ℕ → LogRead (List AgentLog) → (List AgentLog → LogsRead) → LogsRead
@@ -39,14 +40,19 @@ after_line n (Err e) more = Err (n, e)
 after_line n (Ok logs) more = more logs
 
 -- the logs with what the text lines say, of which the first has the number n, up to a line `deliveries`
-unfoldable pub logs_from : ℕ → List AgentLog → List (List ℕ) → LogsRead
-logs_from n logs [] = Ok logs
-logs_from n logs (l ∷ lines) =
-    if bytes_eq l LOGS_END.now then Ok logs else after_line n (line_added logs l) (λ longer. logs_from (n + 1) longer lines)
+unfoldable pub logs_from : LogVersion → ℕ → List AgentLog → List (List ℕ) → LogsRead
+logs_from v n logs [] = Ok logs
+logs_from v n logs (l ∷ lines) =
+    if bytes_eq l LOGS_END.now then Ok logs else after_line n (line_added v logs l) (λ longer. logs_from v (n + 1) longer lines)
+
+-- the logs of the version that the first text line names
+abbrev pub logs_below : Option LogVersion → List (List ℕ) → LogsRead
+logs_below None lines = Err (1, error.BadHeader)
+logs_below (Some v) lines = logs_from v 2 [] lines
 
 abbrev pub below_header : List (List ℕ) → LogsRead
 below_header [] = Ok []
-below_header (header ∷ lines) = if bytes_eq header LOG_HEADER.now then logs_from 2 [] lines else Err (1, error.BadHeader)
+below_header (header ∷ lines) = logs_below (version_of header) lines
 
 -- the logs, or the first bad line and what is wrong with it. No bytes are no logs
 abbrev pub logs_of : List ℕ → LogsRead
@@ -56,13 +62,17 @@ logs_of bytes = below_header (text_lines_of bytes)
 abbrev pub TellsClosed : (ℕ → Bool) → List AgentLog → Type 0
 TellsClosed test logs = (end : ℕ) → test end ≡ is_closed_in logs end
 
--- the first line is the header
-abbrev pub HasHeader : List ℕ → Type 0
-HasHeader bytes = (rest : List (List ℕ)) × (text_lines_of bytes ≡ LOG_HEADER.now ∷ rest)
+-- the first line is the header of that version
+abbrev pub HasHeaderOf : LogVersion → List ℕ → Type 0
+HasHeaderOf v bytes = (rest : List (List ℕ)) × (text_lines_of bytes ≡ header_of v ∷ rest)
 
--- there is a first line, and it is another
+-- the first line is the header of a version
+abbrev pub HasHeader : List ℕ → Type 0
+HasHeader bytes = (v : LogVersion) × HasHeaderOf v bytes
+
+-- there is a first line, and it is the header of no version
 abbrev pub HasOtherHeader : List ℕ → Type 0
-HasOtherHeader bytes = (header : List ℕ) × (rest : List (List ℕ)) × (text_lines_of bytes ≡ header ∷ rest) × (header ≢ LOG_HEADER.now)
+HasOtherHeader bytes = (header : List ℕ) × (rest : List (List ℕ)) × (text_lines_of bytes ≡ header ∷ rest) × ((v : LogVersion) → header ≢ header_of v)
 
 -- where each error comes: BadHeader at the first line alone, the others below a header
 abbrev pub ComesAt : List ℕ → ℕ → LogError → Type 0

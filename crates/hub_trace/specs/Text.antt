@@ -3,12 +3,14 @@ use Rattle.std.specs.Prelude.{ℕ, List, ◌++◌, codes}
 use Rattle.std.specs.Fmt.{decimal}
 use Rattle.std.specs.List.{flat_map}
 use Rattle.hub_text.specs.EndList.{ends_text}
+use Rattle.hub_trace.specs.declared.content.Content.{Content}
+use Rattle.hub_trace.specs.declared.content.Content.TheVariants.{Message, Notice}
 use Rattle.hub_trace.specs.declared.label.Label.{Label}
 use Rattle.hub_trace.specs.declared.log_entry.Delivery.{Delivery}
 use Rattle.hub_trace.specs.declared.log_entry.LogEntry.{LogEntry}
 use Rattle.hub_trace.specs.declared.log_entry.LogEntry.TheVariants.{Put, Got, Adopted, Closed}
 use Rattle.hub_trace.specs.declared.verdict.FaultKind.{FaultKind}
-use Rattle.hub_trace.specs.declared.verdict.FaultKind.TheVariants.{AfterClose, Changed, Twice, Gap, Foreign}
+use Rattle.hub_trace.specs.declared.verdict.FaultKind.TheVariants.{AfterClose, AfterNotice, Changed, Twice, Gap, Foreign}
 use Rattle.hub_trace.specs.declared.verdict.Verdict.{Verdict}
 use Rattle.hub_trace.specs.declared.verdict.Verdict.TheVariants.{Clean, Fault}
 use Rattle.hub_trace.specs.declared.log.TheConstants.{LOG_HEADER}
@@ -18,9 +20,14 @@ use Rattle.hub_trace.specs.Accepted.{AgentLog}
 abbrev pub label_text : Label → List ℕ
 label_text l = decimal l.end.0 ++ codes " " ++ decimal l.line.0 ++ codes " " ++ decimal l.epoch ++ codes ":" ++ decimal l.number
 
--- `E L EP:N LIST BODY`
+-- `LIST BODY`, or `notice`
+abbrev pub content_text : Content → List ℕ
+content_text (Message m) = ends_text m.0 ++ codes " " ++ m.1
+content_text Notice = codes "notice"
+
+-- `E L EP:N LIST BODY`, or `E L EP:N notice`
 abbrev pub delivery_text : Delivery → List ℕ
-delivery_text d = label_text d.label ++ codes " " ++ ends_text d.message.0 ++ codes " " ++ d.message.1
+delivery_text d = label_text d.label ++ codes " " ++ content_text d.content
 
 abbrev pub entry_text : LogEntry → List ℕ
 entry_text (Put d) = codes "put " ++ delivery_text d
@@ -38,6 +45,7 @@ file_text logs = LOG_HEADER.now ++ codes "\n" ++ flat_map log_text logs
 
 abbrev pub kind_text : FaultKind → List ℕ
 kind_text AfterClose = codes "AfterClose"
+kind_text AfterNotice = codes "AfterNotice"
 kind_text Changed = codes "Changed"
 kind_text Twice = codes "Twice"
 kind_text Gap = codes "Gap"

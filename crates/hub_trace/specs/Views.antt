@@ -10,10 +10,10 @@ use Rattle.hub_trace.specs.Accepted.{is_of}
 use Rattle.hub_trace.specs.Got.{EndEvent, Receipt}
 
 abbrev pub delivery_of : AcceptedEnvelope → Delivery
-delivery_of a = record { label = a.label; message = a.message.now }
+delivery_of a = record { label = a.label; content = a.content.now }
 
 abbrev pub receipt_of : Arrival → Receipt
-receipt_of a = record { delivery = record { label = a.label; message = a.message.now }; late = a.late }
+receipt_of a = record { delivery = record { label = a.label; content = a.content.now }; late = a.late }
 
 -- nothing is of an end below that of what stands before it
 abbrev pub RisesByEnd : List Happening → Type 0

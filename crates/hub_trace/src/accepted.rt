@@ -3,18 +3,18 @@ ghost use Rattle.std.specs.List.{filter};
 ghost use Rattle.hub_trace.specs.Accepted.{accepted, all_puts, is_of, puts};
 ghost use Rattle.hub_trace.specs.Views.{RisesByLine, accepted_in, delivery_of};
 
+use crate::content::Content;
 use crate::label::Label;
 use crate::log::Log;
 use crate::log_entry::LogEntry;
-use crate::message::Message;
 use hub_envelope::{EndId, LineId, OutOfMemory};
 use std::alloc::Global;
 
-/// An envelope that was accepted.
+/// An envelope or a notice that was accepted.
 #[derive(Clone, Copy, Debug)]
 pub(crate) struct AcceptedEnvelope<'a> {
     pub(crate) label: Label,
-    pub(crate) message: &'a Message,
+    pub(crate) content: &'a Content,
 }
 
 /// The accepted envelopes of all logs, by end, line, epoch and number. Envelopes of equal names
@@ -55,7 +55,7 @@ fn add_accepted<'a>(
         if let LogEntry::Put(delivery) = entry {
             found.push(AcceptedEnvelope {
                 label: delivery.label,
-                message: &delivery.message,
+                content: &delivery.content,
             })?;
         }
     }

@@ -1,9 +1,9 @@
-ghost use Rattle.std.specs.Prelude.{◌≡◌, ◌↔◌, ℕ, map, IfOk, IsTrue, MatchOption, slice_get, take, Some, ◌<◌, length};
+ghost use Rattle.std.specs.Prelude.{◌≡◌, ◌↔◌, map, IfOk, IsTrue, MatchOption, slice_get, Some, ◌<◌, length};
 ghost use Rattle.std.specs.List.{list_any};
 ghost use Rattle.hub_trace.specs.Accepted.{accepted};
 ghost use Rattle.hub_trace.specs.Got.{got};
 ghost use Rattle.hub_trace.specs.Clean.{IsClean, IsCleanLine};
-ghost use Rattle.hub_trace.specs.Fault.{IsFirstFault, IsRight, has_name, is_named, kind_at};
+ghost use Rattle.hub_trace.specs.Fault.{IsFirstFault, IsRight, has_name, has_notice, is_named, kind_at};
 ghost use Rattle.hub_trace.specs.Verdict.{IsVerdict};
 ghost use Rattle.hub_trace.specs.declared.verdict.Verdict.TheVariants.{Clean};
 ghost use Rattle.hub_trace.specs.Views.{RisesByLine, accepted_in, delivery_of, got_in, receipt_of};
@@ -17,8 +17,8 @@ use hub_envelope::OutOfMemory;
 use std::alloc::Global;
 
 /// Reads the logs of one run together, and says whether what was got of each line is the beginning
-/// of what was accepted there, and nothing was got at an end after it was closed. Else it tells the
-/// fault of the least end, then line, then place.
+/// of what was accepted there, with nothing got at an end after it was closed and nothing got of a
+/// line after a notice of it. Else it tells the fault of the least end, then line, then place.
 pub fn check(alloc: Global, logs: &[Log]) -> Result<Verdict, OutOfMemory>
     ensures clean { IfOk result (λ verdict. (verdict ≡ Clean) ↔ IsClean logs.now) }
     ensures verdict { IfOk result
@@ -64,43 +64,58 @@ fn fault_of_line(
         (λ fault. IsFirstFault (map delivery_of accepted.now) (map receipt_of got.now)
         fault.0 fault.1) }
 {
+    let mut noticed = false;
     for (place, arrival) in got.iter().enumerate() {
-        if !is_right(accepted, place, arrival) {
-            return Some((place, kind_of(accepted, &got[..place], place, arrival)));
+        if !is_right(accepted, noticed, place, arrival) {
+            let kind = kind_of(accepted, &got[..place], noticed, arrival);
+            return Some((place, kind));
         }
+        // What is right has no notice before it.
+        noticed = arrival.content.is_notice();
     }
     None
 }
 
-/// Whether the arrival came in time and is what was accepted at its place.
-fn is_right(accepted: &[AcceptedEnvelope<'_>], place: usize, arrival: &Arrival<'_>) -> bool
+/// Whether the arrival came in time and is what was accepted at its place. `noticed` says whether a
+/// notice of the line was got before.
+fn is_right(
+    accepted: &[AcceptedEnvelope<'_>],
+    noticed: bool,
+    place: usize,
+    arrival: &Arrival<'_>,
+) -> bool
     ensures { IsTrue result
-        ↔ IsRight (map delivery_of accepted.now) place (receipt_of arrival.now) }
+        ↔ IsRight (map delivery_of accepted.now) noticed place (receipt_of arrival.now) }
 {
     match accepted.get(place) {
         Some(expected) => {
             !arrival.late
+                && !noticed
                 && expected.label == arrival.label
-                && expected.message.is_same(arrival.message)
+                && expected.content.is_same(arrival.content)
         }
         None => false,
     }
 }
 
-/// What is wrong with an arrival that isn't right.
+/// What is wrong with an arrival that isn't right. The earlier ones of its line are all before it.
 fn kind_of(
     accepted: &[AcceptedEnvelope<'_>],
     earlier: &[Arrival<'_>],
-    place: usize,
+    noticed: bool,
     arrival: &Arrival<'_>,
 ) -> FaultKind
+    requires { noticed ≡ has_notice (map receipt_of earlier.now) }
     ensures { result ≡ kind_at (map delivery_of accepted.now) (map receipt_of earlier.now)
-        place (receipt_of arrival.now) }
+        (length earlier.now) (receipt_of arrival.now) }
 {
     if arrival.late {
         return FaultKind::AfterClose;
     }
-    if is_named_at(accepted, place, &arrival.label) {
+    if noticed {
+        return FaultKind::AfterNotice;
+    }
+    if is_named_at(accepted, earlier.len(), &arrival.label) {
         return FaultKind::Changed;
     }
     if is_among_got(earlier, &arrival.label) {

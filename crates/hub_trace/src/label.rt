@@ -1,4 +1,5 @@
 ghost use Rattle.std.specs.Prelude.{◌≡◌, ◌↔◌, IsTrue, Some};
+ghost use Rattle.hub_trace.specs.declared.log_version.LogVersion.TheVariants.{Third};
 ghost use Rattle.hub_trace.specs.Limits.{IsLabelWithin};
 ghost use Rattle.hub_trace.specs.Accepted.{label_of};
 ghost use Rattle.hub_trace.specs.Text.{label_text};
@@ -35,7 +36,7 @@ impl Label {
 
     /// Whether a log may have the label.
     pub fn is_within(&self) -> bool
-        ensures { IsTrue result ↔ IsLabelWithin self.now }
+        ensures { IsTrue result ↔ IsLabelWithin Third self.now }
     {
         u64::from(self.end.0) <= MAX_END
             && u64::from(self.line.0) <= MAX_LINE

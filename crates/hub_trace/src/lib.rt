@@ -1,18 +1,21 @@
 //! Logs of what agents put and got, and their checker.
 //!
-//! Each agent keeps a log of the envelopes that it had accepted and that it took, of the ends that
-//! it adopted and of those that it closed. The checker reads the logs of one run together, and says
-//! whether each line of each end was delivered in order, each envelope once and as it was posted.
+//! Each agent keeps a log of the envelopes and notices that it had accepted and that it took, of
+//! the ends that it adopted and of those that it closed. The checker reads the logs of one run
+//! together, and says whether each line of each end was delivered in order, each envelope once and
+//! as it was posted, with nothing after a closing or a notice.
 #![tactic(auto)]
 
 mod accepted;
 mod checker;
+mod content;
 mod label;
 mod limits;
 mod log;
 mod log_entry;
 mod log_error;
 mod log_line;
+mod log_version;
 mod message;
 mod port_list;
 mod read;
@@ -22,6 +25,7 @@ mod tests;
 mod verdict;
 
 pub use checker::check;
+pub use content::Content;
 pub use hub_envelope::OutOfMemory;
 pub use label::Label;
 pub use limits::{MAX_AGENT, MAX_END, MAX_EPOCH, MAX_LINE, MAX_NUMBER};

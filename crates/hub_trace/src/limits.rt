@@ -8,7 +8,13 @@ pub const MAX_END: u64 = 65_535;
 pub const MAX_EPOCH: u64 = 65_535;
 
 /// The greatest number of a line of an end.
-pub const MAX_LINE: u64 = 15;
+pub const MAX_LINE: u64 = 31;
+
+/// The greatest number of a line of an end in logs of the first two versions.
+pub(crate) const OLD_MAX_LINE: u64 = 15;
+
+/// How long the compact text of a body may be in logs of the first two versions, in bytes.
+pub(crate) const OLD_MAX_BODY_BYTES: usize = 65_536;
 
 /// The greatest number of an envelope in its line and epoch.
 pub const MAX_NUMBER: u64 = (1 << 62) - 1;

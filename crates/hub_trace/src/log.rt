@@ -1,10 +1,13 @@
-ghost use Rattle.std.specs.Prelude.{Some, ◌≡◌, ◌≤◌, [], ◌∷◌, ◌++◌, false, OnOk, OnErr};
+ghost use Rattle.std.specs.Prelude.{Some, ◌≡◌, ◌≤◌, [], false, OnOk, OnErr};
 ghost use Rattle.hub_trace.specs.declared.log_entry.LogEntry.TheVariants.{Put, Got, Adopted, Closed};
 ghost use Rattle.hub_trace.specs.declared.limits.TheConstants.{MAX_AGENT, MAX_END, MAX_EPOCH};
+ghost use Rattle.hub_trace.specs.Accepted.{log_with, message_at, notice_at};
+ghost use Rattle.hub_trace.specs.declared.log_version.LogVersion.TheVariants.{Third};
 ghost use Rattle.hub_trace.specs.Closings.{closes_one, is_closed_by};
 ghost use Rattle.hub_trace.specs.Limits.{IsEntryWithin, IsLabelWithin, IsLogWithin, IsPortList};
 ghost use Rattle.hub_trace.specs.Text.{log_text};
 
+use crate::content::Content;
 use crate::label::Label;
 use crate::log_entry::{Delivery, LogEntry};
 use crate::message::Message;
@@ -13,8 +16,8 @@ use std::alloc::Global;
 use std::fmt;
 use std::marker::Model;
 
-/// The first line of a file of logs.
-pub const LOG_HEADER: &str = "hublog 1";
+/// The first line of a file of logs, as logs are written.
+pub const LOG_HEADER: &str = "hublog 3";
 
 /// What one agent did, oldest first. The agent's own thread appends to it. All that it holds is
 /// within the limits of a file of logs, and it closes no end twice.
@@ -28,13 +31,14 @@ impl Model for Log {
     ghost use Rattle.std.specs.Prelude.{List};
     ghost use Rattle.hub_envelope.specs.declared.ids.AgentId.{AgentId};
     ghost use Rattle.hub_trace.specs.declared.log_entry.LogEntry.{LogEntry};
+    ghost use Rattle.hub_trace.specs.declared.log_version.LogVersion.TheVariants.{Third};
     ghost use Rattle.hub_trace.specs.Limits.{IsLogWithin};
 
     ghost Value = { AgentId × List LogEntry };
 
     ghost view = { λ l. (l.agent, l.entries.items) };
 
-    ghost invariant = { λ l. IsLogWithin (l.agent, l.entries.items) };
+    ghost invariant = { λ l. IsLogWithin Third (l.agent, l.entries.items) };
 }
 
 impl Log {
@@ -59,7 +63,7 @@ impl Log {
     /// The entries, oldest first.
     pub fn entries(&self) -> &[LogEntry]
         ensures entries { result.now ≡ self.now.1 }
-        ensures within { IsLogWithin self.now }
+        ensures within { IsLogWithin Third self.now }
     {
         self.entries.as_slice()
     }
@@ -86,17 +90,24 @@ impl Log {
         ports: &[EndId],
         body: &Body,
     ) -> Result<(), OutOfMemory>
-        requires label { IsLabelWithin label }
+        requires label { IsLabelWithin Third label }
         requires ports { IsPortList ports.now }
-        ensures ok { OnOk result (self.new ≡ (
-          self.old.0,
-          self.old.1
-              ++ Put (record { label = label; message = (ports.now, body.now) }) ∷ [],
-        )) }
+        ensures ok { OnOk result
+            (self.new ≡ log_with self.old (Put (message_at label ports.now body.now))) }
         ensures err { OnErr result (self.new ≡ self.old) }
     {
-        let message = Message::copy_of(alloc, ports, body)?;
-        self.append(LogEntry::Put(Delivery { label, message }))
+        let content = Content::Message(Message::copy_of(alloc, ports, body)?);
+        self.append(LogEntry::Put(Delivery { label, content }))
+    }
+
+    /// Logs that the agent put a notice under the label. An `Err` changes nothing.
+    pub fn put_notice(&mut self, label: Label) -> Result<(), OutOfMemory>
+        requires { IsLabelWithin Third label }
+        ensures ok { OnOk result (self.new ≡ log_with self.old (Put (notice_at label))) }
+        ensures err { OnErr result (self.new ≡ self.old) }
+    {
+        let content = Content::Notice;
+        self.append(LogEntry::Put(Delivery { label, content }))
     }
 
     /// Logs that the agent took the envelope of the label. An `Err` changes nothing.
@@ -107,17 +118,24 @@ impl Log {
         ports: &[EndId],
         body: &Body,
     ) -> Result<(), OutOfMemory>
-        requires label { IsLabelWithin label }
+        requires label { IsLabelWithin Third label }
         requires ports { IsPortList ports.now }
-        ensures ok { OnOk result (self.new ≡ (
-          self.old.0,
-          self.old.1
-              ++ Got (record { label = label; message = (ports.now, body.now) }) ∷ [],
-        )) }
+        ensures ok { OnOk result
+            (self.new ≡ log_with self.old (Got (message_at label ports.now body.now))) }
         ensures err { OnErr result (self.new ≡ self.old) }
     {
-        let message = Message::copy_of(alloc, ports, body)?;
-        self.append(LogEntry::Got(Delivery { label, message }))
+        let content = Content::Message(Message::copy_of(alloc, ports, body)?);
+        self.append(LogEntry::Got(Delivery { label, content }))
+    }
+
+    /// Logs that the agent took the notice of the label. An `Err` changes nothing.
+    pub fn got_notice(&mut self, label: Label) -> Result<(), OutOfMemory>
+        requires { IsLabelWithin Third label }
+        ensures ok { OnOk result (self.new ≡ log_with self.old (Got (notice_at label))) }
+        ensures err { OnErr result (self.new ≡ self.old) }
+    {
+        let content = Content::Notice;
+        self.append(LogEntry::Got(Delivery { label, content }))
     }
 
     /// Logs that the agent adopted the end, whose newest queue is now that of the epoch. An `Err`
@@ -125,7 +143,7 @@ impl Log {
     pub fn adopted(&mut self, end: EndId, epoch: u32) -> Result<(), OutOfMemory>
         requires end { end.0 ≤ MAX_END }
         requires epoch { epoch ≤ MAX_EPOCH }
-        ensures ok { OnOk result (self.new ≡ (self.old.0, self.old.1 ++ Adopted end epoch ∷ [])) }
+        ensures ok { OnOk result (self.new ≡ log_with self.old (Adopted end epoch)) }
         ensures err { OnErr result (self.new ≡ self.old) }
     {
         self.append(LogEntry::Adopted { end, epoch })
@@ -135,7 +153,7 @@ impl Log {
     pub fn closed(&mut self, end: EndId) -> Result<(), OutOfMemory>
         requires end { end.0 ≤ MAX_END }
         requires first { is_closed_by self.old.1 end.0 ≡ false }
-        ensures ok { OnOk result (self.new ≡ (self.old.0, self.old.1 ++ Closed end ∷ [])) }
+        ensures ok { OnOk result (self.new ≡ log_with self.old (Closed end)) }
         ensures err { OnErr result (self.new ≡ self.old) }
     {
         self.append(LogEntry::Closed { end })
@@ -143,9 +161,9 @@ impl Log {
 
     /// Adds an entry as the newest. An `Err` changes nothing.
     pub(crate) fn append(&mut self, entry: LogEntry) -> Result<(), OutOfMemory>
-        requires within { IsEntryWithin entry }
+        requires within { IsEntryWithin Third entry }
         requires first { closes_one (is_closed_by self.old.1) entry ≡ false }
-        ensures ok { OnOk result (self.new ≡ (self.old.0, self.old.1 ++ entry ∷ [])) }
+        ensures ok { OnOk result (self.new ≡ log_with self.old entry) }
         ensures err { OnErr result (self.new ≡ self.old) }
     {
         self.entries.push(entry)?;

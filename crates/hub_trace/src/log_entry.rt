@@ -1,25 +1,24 @@
 ghost use Rattle.std.specs.Prelude.{Some};
 ghost use Rattle.hub_trace.specs.Text.{delivery_text, entry_text};
 
+use crate::content::Content;
 use crate::label::Label;
-use crate::message::Message;
 use hub_envelope::EndId;
-use hub_text::EndListText;
 use std::fmt;
 
-/// What a log says of one envelope.
+/// What a log says of one envelope or notice.
 #[derive(Debug, Drop)]
 pub struct Delivery {
     pub label: Label,
-    pub message: Message,
+    pub content: Content,
 }
 
 /// An entry of a log.
 #[derive(Debug, Drop)]
 pub enum LogEntry {
-    /// A post of the agent was accepted.
+    /// A post of the agent was accepted, or the agent put a notice.
     Put(Delivery),
-    /// The agent took an envelope.
+    /// The agent took an envelope or a notice.
     Got(Delivery),
     /// The agent adopted an end. From here on the log speaks of the end's queue of that epoch.
     Adopted { end: EndId, epoch: u32 },
@@ -47,14 +46,13 @@ impl fmt::Display for LogEntry {
     }
 }
 
-/// `E L EP:N LIST BODY`.
+/// `E L EP:N LIST BODY`, or `E L EP:N notice`.
 impl fmt::Display for Delivery {
     ghost output = { λ d. Some (delivery_text d) };
 
     fn fmt<W: fmt::Write>(&self, f: &mut fmt::Formatter<W>) -> fmt::Result {
         let label = &self.label;
-        let ports = EndListText(self.message.ports());
-        let body = self.message.body();
-        write!(f, "{label} {ports} {body}")
+        let content = &self.content;
+        write!(f, "{label} {content}")
     }
 }

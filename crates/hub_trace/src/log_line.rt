@@ -1,13 +1,16 @@
-ghost use Rattle.std.specs.Prelude.{◌≡◌, ◌≤◌, IfOk};
+ghost use Rattle.std.specs.Prelude.{◌≤◌, length, IfOk};
 ghost use Rattle.hub_envelope.specs.BodyText.{IsBodyText};
 ghost use Rattle.hub_text.specs.Reading.{IsReadAs};
-ghost use Rattle.hub_trace.specs.Limits.{IsDeliveryWithin, IsEntryWithin, IsLabelWithin, IsLogLineWithin, IsMessageWithin, IsPortList};
-ghost use Rattle.hub_trace.specs.LogLine.{adoption_in, agent_in, body_in, delivery_in, end_in, epoch_in, label_in, line_in, log_line_of, log_line_with, message_in, number_in, parts_in, ports_in, text_in};
+ghost use Rattle.hub_trace.specs.LogVersion.{max_body, max_line};
+ghost use Rattle.hub_trace.specs.Limits.{IsContentWithin, IsDeliveryWithin, IsLabelWithin, IsLogLineWithin, IsMessageWithin, IsPortList};
+ghost use Rattle.hub_trace.specs.LogLine.{adoption_in, agent_in, body_in, content_in, delivery_in, end_in, epoch_in, label_in, line_in, log_line_of, log_line_with, message_with, number_in, parts_in, ports_in, text_in};
 
+use crate::content::Content;
 use crate::label::Label;
-use crate::limits::{MAX_AGENT, MAX_END, MAX_EPOCH, MAX_LINE, MAX_NUMBER};
+use crate::limits::{MAX_AGENT, MAX_END, MAX_EPOCH, MAX_NUMBER};
 use crate::log_entry::{Delivery, LogEntry};
 use crate::log_error::LogError;
+use crate::log_version::LogVersion;
 use crate::message::Message;
 use crate::port_list::is_port_list;
 use hub_envelope::{AgentId, Body, BodyError, EndId, LineId};
@@ -22,39 +25,52 @@ pub(crate) enum LogLine {
     Entry(LogEntry),
 }
 
-/// The log line that a text line is. Its words are separated by one space each.
+/// The log line that a text line is, in logs of the version. Its words are separated by one space
+/// each.
 #[tactic(auto, unfolding(crate::specs::LogLine::log_line_of))]
-pub(crate) fn read_log_line(alloc: Global, bytes: &[u8]) -> Result<LogLine, LogError>
-    ensures says { IsReadAs LogError.OutOfMemory (λ x. x) result (log_line_of bytes.now) }
-    ensures within { IfOk result (λ l. IsLogLineWithin l) }
+pub(crate) fn read_log_line(
+    alloc: Global,
+    version: LogVersion,
+    bytes: &[u8],
+) -> Result<LogLine, LogError>
+    ensures says { IsReadAs LogError.OutOfMemory (λ x. x) result (log_line_of version bytes.now) }
+    ensures within { IfOk result (λ l. IsLogLineWithin version l) }
 {
     let Ok(text) = str::from_utf8(bytes) else {
         return Err(LogError::BadLine);
     };
-    text_in(alloc, text)
+    text_in(alloc, version, text)
 }
 
 #[tactic(auto, unfolding(crate::specs::LogLine::text_in))]
-fn text_in(alloc: Global, text: &str) -> Result<LogLine, LogError>
-    ensures says { IsReadAs LogError.OutOfMemory (λ x. x) result (text_in text.now) }
-    ensures within { IfOk result (λ l. IsLogLineWithin l) }
+fn text_in(alloc: Global, version: LogVersion, text: &str) -> Result<LogLine, LogError>
+    ensures says { IsReadAs LogError.OutOfMemory (λ x. x) result (text_in version text.now) }
+    ensures within { IfOk result (λ l. IsLogLineWithin version l) }
 {
     let (name, rest) = first_word(text)?;
-    log_line_with(alloc, name, rest)
+    log_line_with(alloc, version, name, rest)
 }
 
 /// The log line that begins with the name. `rest` is what comes after the name and its space.
 #[tactic(auto, unfolding(crate::specs::LogLine::log_line_with))]
-fn log_line_with(alloc: Global, name: &str, rest: &str) -> Result<LogLine, LogError>
+fn log_line_with(
+    alloc: Global,
+    version: LogVersion,
+    name: &str,
+    rest: &str,
+) -> Result<LogLine, LogError>
     ensures says { IsReadAs LogError.OutOfMemory (λ x. x) result
-        (log_line_with name.now rest.now) }
-    ensures within { IfOk result (λ l. IsLogLineWithin l) }
+        (log_line_with version name.now rest.now) }
+    ensures within { IfOk result (λ l. IsLogLineWithin version l) }
 {
     Ok(match name {
         "agent" => LogLine::Agent(agent_in(rest)?),
-        "put" => LogLine::Entry(LogEntry::Put(delivery_in(alloc, rest)?)),
-        "got" => LogLine::Entry(LogEntry::Got(delivery_in(alloc, rest)?)),
-        "adopted" => LogLine::Entry(adoption_in(rest)?),
+        "put" => LogLine::Entry(LogEntry::Put(delivery_in(alloc, version, rest)?)),
+        "got" => LogLine::Entry(LogEntry::Got(delivery_in(alloc, version, rest)?)),
+        "adopted" => {
+            let (end, epoch) = adoption_in(rest)?;
+            LogLine::Entry(LogEntry::Adopted { end, epoch })
+        }
         "closed" => LogLine::Entry(LogEntry::Closed { end: end_in(rest)? }),
         _ => return Err(LogError::BadLine),
     })
@@ -62,55 +78,76 @@ fn log_line_with(alloc: Global, name: &str, rest: &str) -> Result<LogLine, LogEr
 
 /// `E EP`.
 #[tactic(auto, unfolding(crate::specs::LogLine::adoption_in))]
-fn adoption_in(text: &str) -> Result<LogEntry, LogError>
+fn adoption_in(text: &str) -> Result<(EndId, u32), LogError>
     ensures says { IsReadAs LogError.OutOfMemory (λ x. x) result (adoption_in text.now) }
-    ensures within { IfOk result (λ e. IsEntryWithin e) }
+    ensures end { IfOk result (λ adoption. adoption.0.0 ≤ MAX_END) }
+    ensures epoch { IfOk result (λ adoption. adoption.1 ≤ MAX_EPOCH) }
 {
     let (end, epoch) = first_word(text)?;
     let end = end_in(end)?;
     let epoch = epoch_in(epoch)?;
-    Ok(LogEntry::Adopted { end, epoch })
+    Ok((end, epoch))
 }
 
-/// `E L EP:N LIST BODY`, the body being the rest of the log line.
+/// `E L EP:N` and a content, which is the rest of the log line.
 #[tactic(auto, unfolding(crate::specs::LogLine::delivery_in))]
-fn delivery_in(alloc: Global, text: &str) -> Result<Delivery, LogError>
-    ensures says { IsReadAs LogError.OutOfMemory (λ x. x) result (delivery_in text.now) }
-    ensures within { IfOk result (λ d. IsDeliveryWithin d) }
+fn delivery_in(alloc: Global, version: LogVersion, text: &str) -> Result<Delivery, LogError>
+    ensures says { IsReadAs LogError.OutOfMemory (λ x. x) result (delivery_in version text.now) }
+    ensures within { IfOk result (λ d. IsDeliveryWithin version d) }
 {
     let (end, rest) = first_word(text)?;
     let (line, rest) = first_word(rest)?;
     let (name, rest) = first_word(rest)?;
-    let label = label_in(end, line, name)?;
-    let message = message_in(alloc, rest)?;
-    Ok(Delivery { label, message })
+    let label = label_in(version, end, line, name)?;
+    let content = content_in(alloc, version, rest)?;
+    Ok(Delivery { label, content })
 }
 
 /// The numbers of an end and a line, and `EP:N`.
 #[tactic(auto, unfolding(crate::specs::LogLine::label_in))]
-fn label_in(end: &str, line: &str, name: &str) -> Result<Label, LogError>
+fn label_in(version: LogVersion, end: &str, line: &str, name: &str) -> Result<Label, LogError>
     ensures says { IsReadAs LogError.OutOfMemory (λ x. x) result
-        (label_in end.now line.now name.now) }
-    ensures within { IfOk result (λ l. IsLabelWithin l) }
+        (label_in version end.now line.now name.now) }
+    ensures within { IfOk result (λ l. IsLabelWithin version l) }
 {
     let (epoch, number) = name_parts(name)?;
     Ok(Label {
         end: end_in(end)?,
-        line: line_in(line)?,
+        line: line_in(version, line)?,
         epoch: epoch_in(epoch)?,
         number: number_in(number, MAX_NUMBER)?,
     })
 }
 
-/// `LIST BODY`.
-#[tactic(auto, unfolding(crate::specs::LogLine::message_in))]
-fn message_in(alloc: Global, text: &str) -> Result<Message, LogError>
-    ensures says { IsReadAs LogError.OutOfMemory (λ x. x) result (message_in text.now) }
-    ensures within { IfOk result (λ m. IsMessageWithin m) }
+/// `LIST BODY`, or `notice` where the version has notices.
+#[tactic(auto, unfolding(crate::specs::LogLine::content_in))]
+fn content_in(alloc: Global, version: LogVersion, text: &str) -> Result<Content, LogError>
+    ensures says { IsReadAs LogError.OutOfMemory (λ x. x) result (content_in version text.now) }
+    ensures within { IfOk result (λ c. IsContentWithin version c) }
 {
-    let (list, body) = first_word(text)?;
+    match next_word(text) {
+        Some((list, body)) => {
+            let message = message_with(alloc, version, list, body)?;
+            Ok(Content::Message(message))
+        }
+        None if version.has_notices() && text == "notice" => Ok(Content::Notice),
+        None => Err(LogError::BadLine),
+    }
+}
+
+#[tactic(auto, unfolding(crate::specs::LogLine::message_with))]
+fn message_with(
+    alloc: Global,
+    version: LogVersion,
+    list: &str,
+    body: &str,
+) -> Result<Message, LogError>
+    ensures says { IsReadAs LogError.OutOfMemory (λ x. x) result
+        (message_with version list.now body.now) }
+    ensures within { IfOk result (λ m. IsMessageWithin version m) }
+{
     let ports = ports_in(alloc, list)?;
-    let body = body_in(alloc, body)?;
+    let body = body_in(alloc, version, body)?;
     Ok(Message::of(ports.into_ends(), body))
 }
 
@@ -161,11 +198,11 @@ fn end_in(word: &str) -> Result<EndId, LogError>
     Ok(EndId(number_in(word, MAX_END)? as u32))
 }
 
-fn line_in(word: &str) -> Result<LineId, LogError>
-    ensures says { IsReadAs LogError.OutOfMemory (λ x. x) result (line_in word.now) }
-    ensures within { IfOk result (λ l. l.0 ≤ MAX_LINE) }
+fn line_in(version: LogVersion, word: &str) -> Result<LineId, LogError>
+    ensures says { IsReadAs LogError.OutOfMemory (λ x. x) result (line_in version word.now) }
+    ensures within { IfOk result (λ l. l.0 ≤ max_line version) }
 {
-    Ok(LineId(number_in(word, MAX_LINE)? as u8))
+    Ok(LineId(number_in(word, version.max_line())? as u8))
 }
 
 fn epoch_in(word: &str) -> Result<u32, LogError>
@@ -189,15 +226,17 @@ fn ports_in(alloc: Global, list: &str) -> Result<EndList, LogError>
 
 /// A body. A space at its front would be a second one behind the list.
 #[tactic(auto, unfolding(crate::specs::LogLine::body_in))]
-fn body_in(alloc: Global, text: &str) -> Result<Body, LogError>
-    ensures says { IsReadAs LogError.OutOfMemory (λ x. x) result (body_in text.now) }
+fn body_in(alloc: Global, version: LogVersion, text: &str) -> Result<Body, LogError>
+    ensures says { IsReadAs LogError.OutOfMemory (λ x. x) result (body_in version text.now) }
     ensures within { IfOk result (λ b. IsBodyText b) }
+    ensures short { IfOk result (λ b. length b ≤ max_body version) }
 {
     if text.starts_with(' ') {
         return Err(LogError::BadLine);
     }
     match Body::read(alloc, text) {
-        Ok(body) => Ok(body),
+        Ok(body) if body.text().len() <= version.max_body_bytes() => Ok(body),
+        Ok(_) => Err(LogError::BadLine),
         Err(BodyError::OutOfMemory) => Err(LogError::OutOfMemory),
         Err(_) => Err(LogError::BadLine),
     }

@@ -1,18 +1,21 @@
-ghost use Rattle.std.specs.Prelude.{◌≡◌, ◌<◌, ◌==◌, ◌||◌, ◌⊎◌, ◌++◌, not, ℕ, List, [], length, take, codes, MatchResult, OnOk, IfErr, IfOk, IsErrOf, IsOkAnd};
+ghost use Rattle.std.specs.Prelude.{◌≡◌, ◌<◌, ◌==◌, ◌||◌, ◌⊎◌, ◌++◌, not, ℕ, List, [], length, codes, MatchResult, OnOk, IfErr, IfOk, IsErrOf, IsOkAnd};
 ghost use Rattle.std.specs.BTreeSet.{contains};
 ghost use Rattle.std.specs.Ordering.{nat_cmp};
 ghost use Rattle.hub_text.specs.Reading.{AreLinesReadAs, IsReadAs};
 ghost use Rattle.hub_trace.specs.declared.log_line.LogLine.TheVariants as line;
+ghost use Rattle.hub_trace.specs.declared.log_version.LogVersion.{LogVersion};
+ghost use Rattle.hub_trace.specs.declared.log_version.LogVersion.TheVariants.{Third};
 ghost use Rattle.hub_trace.specs.Accepted.{AgentLog};
 ghost use Rattle.hub_trace.specs.Closings.{closes_one};
 ghost use Rattle.hub_trace.specs.Limits.{AreWithin, IsEntryWithin};
-ghost use Rattle.hub_trace.specs.Read.{ComesAt, HasOtherHeader, TellsClosed, line_added, logs_of, with_line};
+ghost use Rattle.hub_trace.specs.Read.{ComesAt, HasHeader, HasHeaderOf, HasOtherHeader, TellsClosed, line_added, logs_of, with_line};
 ghost use Rattle.hub_trace.specs.Text.{file_text};
 
-use crate::log::{LOG_HEADER, Log};
+use crate::log::Log;
 use crate::log_entry::LogEntry;
 use crate::log_error::LogError;
 use crate::log_line::{LogLine, read_log_line};
+use crate::log_version::LogVersion;
 use hub_envelope::OutOfMemory;
 use hub_text::split_text_line;
 use std::alloc::Global;
@@ -21,24 +24,25 @@ use std::collections::BTreeSet;
 /// The text line at which the logs end, where the input goes on.
 pub const LOGS_END: &str = "deliveries";
 
-/// The logs that the bytes spell, up to a line `deliveries` or the end. Lines end at LF; the last
-/// LF may be missing. No bytes at all are no logs. An error comes with the number of its line, from
-/// 1; of several bad lines the first is told. Memory may run out at any line below the header.
+/// The logs that the bytes spell, in any of the three versions, up to a line `deliveries` or the
+/// end. Lines end at LF; the last LF may be missing. No bytes at all are no logs. An error comes
+/// with the number of its line, from 1; of several bad lines the first is told. Memory may run out
+/// at any line below the header.
 pub fn read_logs(alloc: Global, bytes: &[u8]) -> Result<Vec<Log>, (usize, LogError)>
     ensures empty { length bytes.now ≡ 0 → IsOkAnd result (λ logs. logs.items ≡ []) }
-    ensures header { OnOk result
-        (0 < length bytes.now → take (length LOG_HEADER.now) bytes.now ≡ LOG_HEADER.now) }
+    ensures header { OnOk result (0 < length bytes.now → HasHeader bytes.now) }
     ensures numbered { IfErr result (λ error. 0 < error.0) }
     ensures bad_header { HasOtherHeader bytes.now → IsErrOf result (1, LogError.BadHeader) }
     ensures errors { IfErr result (λ error. ComesAt bytes.now error.0 error.1) }
-    ensures within { IfOk result (λ logs. AreWithin logs.items) }
+    ensures within { (v : LogVersion) → HasHeaderOf v bytes.now
+        → IfOk result (λ logs. AreWithin v logs.items) }
     // The logs, or the first bad line and its kind, are those of `logs_of`.
     ensures reads { AreLinesReadAs LogError.OutOfMemory (λ logs. logs.items) result
         (logs_of bytes.now) }
     // What logs write below the header reads back to them, also where a line `deliveries` comes
     // next. Each log is within the limits by itself, so no more is asked of them than that no two
     // close one end.
-    ensures written { (logs : List AgentLog) (more : List ℕ) → AreWithin logs
+    ensures written { (logs : List AgentLog) (more : List ℕ) → AreWithin Third logs
         → (bytes.now ≡ file_text logs)
         ⊎ (bytes.now ≡ file_text logs ++ codes "deliveries\n" ++ more)
         → MatchResult result (λ read. read.items ≡ logs) (λ error. error.1 ≡ LogError.OutOfMemory) }
@@ -48,9 +52,9 @@ pub fn read_logs(alloc: Global, bytes: &[u8]) -> Result<Vec<Log>, (usize, LogErr
         return Ok(logs);
     }
     let (header, mut rest) = split_text_line(bytes);
-    if header != LOG_HEADER.as_bytes() {
+    let Some(version) = LogVersion::of(header) else {
         return Err((1, LogError::BadHeader));
-    }
+    };
     let mut closed = BTreeSet::new(alloc);
     let mut number = 1;
     while !rest.is_empty() {
@@ -59,7 +63,7 @@ pub fn read_logs(alloc: Global, bytes: &[u8]) -> Result<Vec<Log>, (usize, LogErr
             return Ok(logs);
         }
         number += 1;
-        if let Err(error) = add_line(alloc, line, &mut logs, &mut closed) {
+        if let Err(error) = add_line(alloc, version, line, &mut logs, &mut closed) {
             return Err((number, error));
         }
         rest = after;
@@ -70,17 +74,19 @@ pub fn read_logs(alloc: Global, bytes: &[u8]) -> Result<Vec<Log>, (usize, LogErr
 /// Begins a log or adds an entry to the newest. `closed` has the ends that the logs close.
 fn add_line(
     alloc: Global,
+    version: LogVersion,
     line: &[u8],
     logs: &mut Vec<Log>,
     closed: &mut BTreeSet<u32>,
 ) -> Result<(), LogError>
     requires { TellsClosed (contains nat_cmp closed.old) logs.old.items }
     ensures says { IsReadAs LogError.OutOfMemory (λ _. logs.new.items) result
-        (line_added logs.old.items line.now) }
+        (line_added version logs.old.items line.now) }
     ensures closed { OnOk result (TellsClosed (contains nat_cmp closed.new) logs.new.items) }
-    ensures within { OnOk result (AreWithin logs.old.items → AreWithin logs.new.items) }
+    ensures within { OnOk result
+        (AreWithin version logs.old.items → AreWithin version logs.new.items) }
 {
-    match read_log_line(alloc, line)? {
+    match read_log_line(alloc, version, line)? {
         LogLine::Agent(agent) => {
             logs.push(Log::new(alloc, agent))?;
             Ok(())
@@ -95,7 +101,7 @@ fn add_entry(
     logs: &mut Vec<Log>,
     closed: &mut BTreeSet<u32>,
 ) -> Result<(), LogError>
-    requires within { IsEntryWithin entry }
+    requires within { IsEntryWithin Third entry }
     requires closed { TellsClosed (contains nat_cmp closed.old) logs.old.items }
     ensures says { IsReadAs LogError.OutOfMemory (λ _. logs.new.items) result
         (with_line logs.old.items (line.Entry entry)) }

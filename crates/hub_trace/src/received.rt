@@ -1,19 +1,19 @@
-ghost use Rattle.std.specs.Prelude.{◌≡◌, ◌<◌, ◌≤◌, ℕ, false, true, map, drop, length, slice_index_or, IfOk, OnOk, ◌++◌, ◌==◌};
+ghost use Rattle.std.specs.Prelude.{◌≡◌, ◌<◌, ◌≤◌, ℕ, false, true, drop, length, slice_index_or, IfOk, OnOk, ◌++◌, ◌==◌};
 ghost use Rattle.std.specs.List.{filter, All};
 ghost use Rattle.hub_trace.specs.Accepted.{is_of};
 ghost use Rattle.hub_trace.specs.Got.{all_end_events, end_events, got, joined, receipts};
 ghost use Rattle.hub_trace.specs.declared.received.Arrival.{Arrival};
 ghost use Rattle.hub_trace.specs.Views.{IsOwn, RisesByLine, RisesByEnd, end_events_in, got_in, receipts_in};
 
+use crate::content::Content;
 use crate::label::Label;
 use crate::log::Log;
 use crate::log_entry::{Delivery, LogEntry};
-use crate::message::Message;
 use hub_envelope::{EndId, LineId, OutOfMemory};
 use std::alloc::Global;
 use std::collections::BTreeMap;
 
-/// What happened at an end: an envelope was got there, or, where there is none, the end was closed.
+/// What happened at an end: something was got there, or, where nothing was, the end was closed.
 #[derive(Clone, Copy, Debug)]
 pub(crate) struct Happening<'a> {
     pub(crate) end: EndId,
@@ -22,11 +22,11 @@ pub(crate) struct Happening<'a> {
     pub(crate) got: Option<&'a Delivery>,
 }
 
-/// An envelope that was got.
+/// An envelope or a notice that was got.
 #[derive(Clone, Copy, Debug)]
 pub(crate) struct Arrival<'a> {
     pub(crate) label: Label,
-    pub(crate) message: &'a Message,
+    pub(crate) content: &'a Content,
     /// Whether the end had been closed before.
     pub(crate) late: bool,
 }
@@ -132,7 +132,7 @@ fn arrivals_of<'a>(
                 let late = closed == Some(happening.end.0);
                 arrivals.push(Arrival {
                     label: delivery.label,
-                    message: &delivery.message,
+                    content: &delivery.content,
                     late,
                 })?;
             }

@@ -1,3 +1,5 @@
+mod refusals;
+
 use crate::{FaultKind, LOG_HEADER, Label, Log, LogError, Verdict, check, is_port_list, read_logs};
 use hub_envelope::{AgentId, Body, BodyError, EndId, Envelope, LineId, Ports};
 use std::alloc::{AllocError, AllocFailed, Global};
@@ -65,7 +67,7 @@ fn answers(rt: &(impl AllocGlobal + Abort), rows: &[(&[u8], &str)]) -> Result<()
     Ok(())
 }
 
-const PUTS: &str = "hublog 1\nagent 0\nput 1 0 0:0 - 1\nput 1 0 0:1 - 2\nput 1 0 0:2 - 3\n\
+const PUTS: &str = "agent 0\nput 1 0 0:0 - 1\nput 1 0 0:1 - 2\nput 1 0 0:2 - 3\n\
     agent 1\ngot 1 0 0:0 - 1\n";
 
 #[test]
@@ -102,9 +104,92 @@ fn tells_each_kind_of_fault(rt: HostRuntime) -> Result<(), Fail> {
         ("deliveries\nno log\n", "clean"),
     ];
     for (more, wanted) in rows {
-        let text = format!(in rt.alloc(); "{PUTS}{more}")?;
-        let told = answer(rt.alloc(), text.as_bytes())?;
-        assert_eq!(rt; told.as_str(), wanted);
+        for version in 1..=3 {
+            let text = format!(in rt.alloc(); "hublog {version}\n{PUTS}{more}")?;
+            let told = answer(rt.alloc(), text.as_bytes())?;
+            assert_eq!(rt; told.as_str(), wanted);
+        }
+    }
+    Ok(())
+}
+
+#[test]
+fn knows_notices(rt: HostRuntime) -> Result<(), Fail> {
+    let rows: [(&[u8], &str); 8] = [
+        (
+            b"hublog 2\nagent 0\nput 1 0 0:0 notice\n\
+            agent 1\ngot 1 0 0:0 notice\ngot 1 0 0:1 - 1\n",
+            "fault 1 0 1 AfterNotice",
+        ),
+        (
+            b"hublog 3\nagent 0\nput 1 0 0:0 - 1\nput 1 0 0:1 notice\n\
+            got 1 0 0:0 - 1\ngot 1 0 0:1 notice\n",
+            "clean",
+        ),
+        // A notice equals no message of its name.
+        (
+            b"hublog 3\nagent 0\nput 1 0 0:0 notice\ngot 1 0 0:0 - null\n",
+            "fault 1 0 0 Changed",
+        ),
+        (
+            b"hublog 3\nagent 0\nput 1 0 0:0 - null\ngot 1 0 0:0 notice\n",
+            "fault 1 0 0 Changed",
+        ),
+        // A closing is told before a notice, and a notice before the name.
+        (
+            b"hublog 3\nagent 0\nput 1 0 0:0 notice\nput 1 0 0:1 - 1\n\
+            got 1 0 0:0 notice\nclosed 1\ngot 1 0 0:1 - 1\n",
+            "fault 1 0 1 AfterClose",
+        ),
+        (
+            b"hublog 3\nagent 0\nput 1 0 0:0 notice\nput 1 0 0:1 - 1\n\
+            got 1 0 0:0 notice\ngot 1 0 0:1 - 1\n",
+            "fault 1 0 1 AfterNotice",
+        ),
+        // A notice says nothing of another line.
+        (
+            b"hublog 2\nagent 0\nput 1 0 0:0 notice\nput 1 1 0:0 - 1\n\
+            got 1 0 0:0 notice\ngot 1 1 0:0 - 1\n",
+            "clean",
+        ),
+        (
+            b"hublog 3\nagent 0\nput 1 0 0:0 notice 1\n",
+            "line 3: BadLine",
+        ),
+    ];
+    answers(&rt, &rows)
+}
+
+#[test]
+fn keeps_the_limits_of_each_version(rt: HostRuntime) -> Result<(), Fail> {
+    let rows: [(&[u8], &str); 7] = [
+        (
+            b"hublog 1\nagent 0\nput 1 0 0:0 notice\n",
+            "line 3: BadLine",
+        ),
+        (b"hublog 2\nagent 0\nput 1 0 0:0 notice\n", "clean"),
+        (b"hublog 1\nagent 0\nput 1 16 0:0 - 1\n", "line 3: BadLine"),
+        (b"hublog 2\nagent 0\nput 1 16 0:0 - 1\n", "line 3: BadLine"),
+        (b"hublog 3\nagent 0\nput 1 16 0:0 - 1\n", "clean"),
+        (b"hublog 2\nagent 0\nput 1 32 0:0 - 1\n", "line 3: BadLine"),
+        (b"hublog 3\nagent 0\nput 1 32 0:0 - 1\n", "line 3: BadLine"),
+    ];
+    answers(&rt, &rows)?;
+    let alloc = rt.alloc();
+    let mut digits = String::new(alloc);
+    for _ in 0..65_534 {
+        digits.push('1')?;
+    }
+    for version in 1..=3 {
+        let longest = format!(in alloc; "hublog {version}\nagent 0\nput 1 0 0:0 - \"{digits}\"\n")?;
+        assert_eq!(rt; answer(alloc, longest.as_bytes())?.as_str(), "clean");
+        let longer = format!(in alloc; "hublog {version}\nagent 0\nput 1 0 0:0 - \"{digits}1\"\n")?;
+        let wanted = if version < 3 {
+            "line 3: BadLine"
+        } else {
+            "clean"
+        };
+        assert_eq!(rt; answer(alloc, longer.as_bytes())?.as_str(), wanted);
     }
     Ok(())
 }
@@ -177,7 +262,7 @@ fn tells_the_first_bad_line(rt: HostRuntime) -> Result<(), Fail> {
 fn some_logs(alloc: Global) -> Result<Vec<Log>, Fail> {
     let label = Label {
         end: EndId(65_535),
-        line: LineId(15),
+        line: LineId(31),
         epoch: 65_535,
         number: (1 << 62) - 1,
     };
@@ -188,6 +273,7 @@ fn some_logs(alloc: Global) -> Result<Vec<Log>, Fail> {
     }
     let mut first = Log::new(alloc, AgentId(3));
     first.put(alloc, label, &ports, &body)?;
+    first.put_notice(label)?;
     first.closed(EndId(2))?;
     let mut second = Log::new(alloc, AgentId(15));
     second.adopted(EndId(9), 1)?;
@@ -195,6 +281,7 @@ fn some_logs(alloc: Global) -> Result<Vec<Log>, Fail> {
         return Err(Fail::Within);
     }
     second.got(alloc, label, &[], &body)?;
+    second.got_notice(label)?;
     let mut logs = Vec::new(alloc);
     logs.push(first)?;
     logs.push(second)?;
@@ -202,10 +289,12 @@ fn some_logs(alloc: Global) -> Result<Vec<Log>, Fail> {
     Ok(logs)
 }
 
-const SOME_TEXT: &str = "hublog 1\nagent 3\n\
-    put 65535 15 65535:4611686018427387903 7,0,12 {\"a\":\"\u{e9}\\n\",\"b\":[1,null]}\n\
+const SOME_TEXT: &str = "hublog 3\nagent 3\n\
+    put 65535 31 65535:4611686018427387903 7,0,12 {\"a\":\"\u{e9}\\n\",\"b\":[1,null]}\n\
+    put 65535 31 65535:4611686018427387903 notice\n\
     closed 2\nagent 15\nadopted 9 1\n\
-    got 65535 15 65535:4611686018427387903 - {\"a\":\"\u{e9}\\n\",\"b\":[1,null]}\nagent 3\n";
+    got 65535 31 65535:4611686018427387903 - {\"a\":\"\u{e9}\\n\",\"b\":[1,null]}\n\
+    got 65535 31 65535:4611686018427387903 notice\nagent 3\n";
 
 fn text_of(alloc: Global, logs: &[Log]) -> Result<String, Fail> {
     let mut text = format!(in alloc; "{LOG_HEADER}\n")?;
@@ -222,14 +311,14 @@ fn reads_back_what_it_wrote(rt: HostRuntime) -> Result<(), Fail> {
     let logs = read_logs(rt.alloc(), written.as_bytes())?;
     assert_eq!(rt; logs.len(), 3);
     assert_eq!(rt; logs[1].agent(), AgentId(15));
-    assert_eq!(rt; logs[0].entries().len(), 2);
+    assert_eq!(rt; logs[0].entries().len(), 3);
     let again = text_of(rt.alloc(), &logs)?;
     assert_eq!(rt; again.as_str(), SOME_TEXT);
     assert_eq!(rt;
         check(rt.alloc(), &logs)?,
         Verdict::Fault {
             end: EndId(65_535),
-            line: LineId(15),
+            line: LineId(31),
             place: 0,
             kind: FaultKind::Changed
         }
@@ -248,6 +337,7 @@ fn labels_an_envelope(rt: HostRuntime) -> Result<(), Fail> {
         agent: AgentId(0),
         body: Body::read(alloc, "null")?,
         ports: Ports::none(alloc),
+        notice: false,
     };
     let mut log = Log::new(alloc, AgentId(1));
     let label = Label::of(&envelope);

@@ -25,7 +25,9 @@ pub enum Verdict {
 pub enum FaultKind {
     /// The end had been closed before.
     AfterClose,
-    /// It has the name of the envelope accepted at this place, but other ports or another body.
+    /// A notice of its line was got before.
+    AfterNotice,
+    /// It has the name of the envelope accepted at this place, but another content.
     Changed,
     /// An envelope of its name was got earlier.
     Twice,
@@ -41,6 +43,7 @@ impl fmt::Display for FaultKind {
     fn fmt<W: fmt::Write>(&self, f: &mut fmt::Formatter<W>) -> fmt::Result {
         let name = match self {
             FaultKind::AfterClose => "AfterClose",
+            FaultKind::AfterNotice => "AfterNotice",
             FaultKind::Changed => "Changed",
             FaultKind::Twice => "Twice",
             FaultKind::Gap => "Gap",

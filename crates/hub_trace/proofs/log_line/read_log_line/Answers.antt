@@ -6,8 +6,8 @@ use Rattle.hub_trace.proofs.LogLineText.{not_utf8, text_line}
 use Rattle.hub_trace.proofs.log_line.read_log_line.Goals as goal
 
 pub returns-in_default-clause-says : goal.returns-in_default-clause-says
-returns-in_default-clause-says c = inr (not_utf8 c.args.bytes.now c.in_default.ensures.cases.0)
+returns-in_default-clause-says c = inr (not_utf8 c.args.version c.args.bytes.now c.in_default.ensures.cases.0)
 
 pub returns-clause-says : goal.returns-clause-says
 returns-clause-says c =
-    subst (IsReadAs OutOfMemory (λ x. x) c.text_in.result) (ap text_in c.in-Ok.ensures.cases.0 ∙ sym (text_line c.args.bytes.now c.in-Ok.ensures.cases.1)) c.text_in.ensures.says
+    subst (IsReadAs OutOfMemory (λ x. x) c.text_in.result) (ap (text_in c.args.version) c.in-Ok.ensures.cases.0 ∙ sym (text_line c.args.version c.args.bytes.now c.in-Ok.ensures.cases.1)) c.text_in.ensures.says

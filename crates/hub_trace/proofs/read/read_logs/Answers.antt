@@ -1,12 +1,11 @@
-use Rattle.std.proofs.Common.{◌≡◌, ◌+◌, List, length, true, false, bytes_eq, Ok, Err, inr, sym, ap, ◌∙◌, arith, rules}
+use Rattle.std.proofs.Common.{◌≡◌, ◌+◌, List, Some, None, length, true, false, bytes_eq, Ok, Err, inr, sym, ap, ◌∙◌, arith}
 use Rattle.std.proofs.lemmas.Bool.{eqb-true}
 use Rattle.hub_trace.specs.declared.read.TheConstants.{LOGS_END}
-use Rattle.hub_trace.specs.declared.log.TheConstants.{LOG_HEADER}
 use Rattle.hub_trace.specs.declared.log_error.LogError.TheVariants as error
 use Rattle.hub_trace.specs.Accepted.{AgentLog}
+use Rattle.hub_trace.specs.LogVersion.{version_of}
 use Rattle.hub_trace.specs.Read.{HasHeader}
-use Rattle.hub_trace.proofs.Bytes.{not_true}
-use Rattle.hub_trace.proofs.Reading.{nothing_read, none_other, other_header, at_end, comes_below, refused, one_more, all_read}
+use Rattle.hub_trace.proofs.Reading.{nothing_read, none_other, no_other, other_header, at_end, comes_below, refused, one_more, all_read, has_header_of}
 use Rattle.hub_trace.proofs.WrittenLogs.{read_back}
 use Rattle.hub_trace.proofs.read.read_logs.Goals as goal
 
@@ -20,40 +19,61 @@ returns-then-is_empty-clause-reads c =
     let empty : length c.args.bytes.now ≡ 0 = eqb-true (length c.args.bytes.now) 0 (sym c.is_empty.ensures ∙ c.if-is_empty.true) in
     nothing_read c.args.bytes.now empty ∙ ap (λ (logs : List AgentLog). Ok logs) (sym c.new-logs.ensures.items)
 
+pub returns-in_default-clause-written : goal.returns-in_default-clause-written
+returns-in_default-clause-written c =
+    let header = c.split_text_line.result.0.now in
+    let none : version_of header ≡ None = sym c.of.ensures ∙ c.in_default.is in
+    read_back (λ (v : List AgentLog). v) c.args.bytes.now (Err (1, error.BadHeader)) (inr (other_header c.args.bytes.now header c.split_text_line.result.1.now c.split_text_line.ensures.line none))
+
+pub returns-then-eq-clause-bad_header : goal.returns-then-eq-clause-bad_header
+returns-then-eq-clause-bad_header c = λ other.
+    let header = c.split_text_line.result.0.now in
+    let found : version_of header ≡ Some c.in-Some.version = sym c.of.ensures ∙ c.in-Some.is in
+    let has : HasHeader c.args.bytes.now = (c.in-Some.version, has_header_of c.in-Some.version c.args.bytes.now header c.split_text_line.result.1.now c.split_text_line.ensures.line found) in
+    absurd (no_other c.args.bytes.now has other)
+
+pub returns-in-Err-clause-bad_header : goal.returns-in-Err-clause-bad_header
+returns-in-Err-clause-bad_header c = λ other.
+    let header = c.split_text_line.result.0.now in
+    let found : version_of header ≡ Some c.in-Some.version = sym c.of.ensures ∙ c.in-Some.is in
+    let has : HasHeader c.args.bytes.now = (c.in-Some.version, has_header_of c.in-Some.version c.args.bytes.now header c.split_text_line.result.1.now c.split_text_line.ensures.line found) in
+    absurd (no_other c.args.bytes.now has other)
+
+pub returns-clause-bad_header : goal.returns-clause-bad_header
+returns-clause-bad_header c = λ other.
+    let header = c.split_text_line.result.0.now in
+    let found : version_of header ≡ Some c.in-Some.version = sym c.of.ensures ∙ c.in-Some.is in
+    let has : HasHeader c.args.bytes.now = (c.in-Some.version, has_header_of c.in-Some.version c.args.bytes.now header c.split_text_line.result.1.now c.split_text_line.ensures.line found) in
+    absurd (no_other c.args.bytes.now has other)
+
 pub returns-then-eq-clause-reads : goal.returns-then-eq-clause-reads
 returns-then-eq-clause-reads c =
     let line = c.split_text_line-in-loop-rest.result.0.now in
-    let ends : bytes_eq line LOGS_END.now ≡ true = sym (ap (bytes_eq line) c.as_bytes-in-loop-rest.ensures.value) ∙ sym c.eq.ensures ∙ c.if-eq.true in
-    at_end c.args.bytes.now c.loop-rest.number c.loop-rest.logs.items c.loop-rest.rest.now line c.split_text_line-in-loop-rest.result.1.now c.loop-rest.invariant.so_far c.split_text_line-in-loop-rest.ensures.line ends
+    let ends : bytes_eq line LOGS_END.now ≡ true = sym (ap (bytes_eq line) c.as_bytes.ensures.value) ∙ sym c.eq.ensures ∙ c.if-eq.true in
+    at_end c.in-Some.version c.args.bytes.now c.loop-rest.number c.loop-rest.logs.items c.loop-rest.rest.now line c.split_text_line-in-loop-rest.result.1.now c.loop-rest.invariant.so_far c.split_text_line-in-loop-rest.ensures.line ends
 
 pub returns-in-Err-clause-reads : goal.returns-in-Err-clause-reads
 returns-in-Err-clause-reads c =
     let line = c.split_text_line-in-loop-rest.result.0.now in
-    let goes_on : bytes_eq line LOGS_END.now ≡ false = sym (ap (bytes_eq line) c.as_bytes-in-loop-rest.ensures.value) ∙ sym c.eq.ensures ∙ c.if-eq.false in
-    refused c.in-Err.error c.args.bytes.now c.loop-rest.number c.loop-rest.logs.items c.loop-rest.rest.now line c.split_text_line-in-loop-rest.result.1.now c.loop-rest.invariant.so_far c.split_text_line-in-loop-rest.ensures.line goes_on c.in-Err.ensures.says
+    let goes_on : bytes_eq line LOGS_END.now ≡ false = sym (ap (bytes_eq line) c.as_bytes.ensures.value) ∙ sym c.eq.ensures ∙ c.if-eq.false in
+    refused c.in-Some.version c.in-Err.error c.args.bytes.now c.loop-rest.number c.loop-rest.logs.items c.loop-rest.rest.now line c.split_text_line-in-loop-rest.result.1.now c.loop-rest.invariant.so_far c.split_text_line-in-loop-rest.ensures.line goes_on c.in-Err.ensures.says
 
 pub loop-rest-preserved : goal.loop-rest-preserved
 loop-rest-preserved c =
     let line = c.split_text_line-in-loop-rest.result.0.now in
-    let goes_on : bytes_eq line LOGS_END.now ≡ false = sym (ap (bytes_eq line) c.as_bytes-in-loop-rest.ensures.value) ∙ sym c.eq.ensures ∙ c.if-eq.false in
+    let goes_on : bytes_eq line LOGS_END.now ≡ false = sym (ap (bytes_eq line) c.as_bytes.ensures.value) ∙ sym c.eq.ensures ∙ c.if-eq.false in
     record {
       some = omega arith;
       room = omega (arith, c.split_text_line-in-loop-rest.ensures.shorter);
-      closed = c.in_default.ensures.closed;
-      within = c.in_default.ensures.within c.loop-rest.invariant.within;
-      so_far = one_more c.args.bytes.now c.loop-rest.number c.loop-rest.logs.items c.add_line.new.logs.items c.loop-rest.rest.now line c.split_text_line-in-loop-rest.result.1.now c.loop-rest.invariant.so_far c.split_text_line-in-loop-rest.ensures.line goes_on c.in_default.ensures.says;
+      closed = c.in_default-add_line.ensures.closed;
+      within = c.in_default-add_line.ensures.within c.loop-rest.invariant.within;
+      so_far = one_more c.in-Some.version c.args.bytes.now c.loop-rest.number c.loop-rest.logs.items c.add_line.new.logs.items c.loop-rest.rest.now line c.split_text_line-in-loop-rest.result.1.now c.loop-rest.invariant.so_far c.split_text_line-in-loop-rest.ensures.line goes_on c.in_default-add_line.ensures.says;
     }
 
 pub returns-clause-reads : goal.returns-clause-reads
 returns-clause-reads c =
     let empty : length c.loop-rest.rest.now ≡ 0 = eqb-true (length c.loop-rest.rest.now) 0 (sym c.is_empty-in-loop-rest.ensures ∙ c.loop-rest-test.false) in
-    all_read c.args.bytes.now c.loop-rest.number c.loop-rest.logs.items c.loop-rest.rest.now c.loop-rest.invariant.so_far empty
-
-pub returns-then-ne-clause-written : goal.returns-then-ne-clause-written
-returns-then-ne-clause-written c =
-    let header = c.split_text_line.result.0.now in
-    let other : bytes_eq header LOG_HEADER.now ≡ false = sym (ap (bytes_eq header) c.as_bytes.ensures.value) ∙ not_true (bytes_eq header c.as_bytes.result.now) (sym c.ne.ensures ∙ c.if-ne.true) in
-    read_back (λ (v : List AgentLog). v) c.args.bytes.now (Err (1, error.BadHeader)) (inr (other_header c.args.bytes.now header c.split_text_line.result.1.now c.split_text_line.ensures.line other))
+    all_read c.in-Some.version c.args.bytes.now c.loop-rest.number c.loop-rest.logs.items c.loop-rest.rest.now c.loop-rest.invariant.so_far empty
 
 pub returns-then-eq-clause-written : goal.returns-then-eq-clause-written
 returns-then-eq-clause-written c = read_back (λ (v : List AgentLog). v) c.args.bytes.now (Ok c.loop-rest.logs.items) (returns-then-eq-clause-reads c)
@@ -66,5 +86,7 @@ returns-clause-written c = read_back (λ (v : List AgentLog). v) c.args.bytes.no
 
 pub returns-in-Err-clause-errors : goal.returns-in-Err-clause-errors
 returns-in-Err-clause-errors c =
-    let header : HasHeader c.args.bytes.now = search rules in
-    comes_below c.in-Err.error c.args.bytes.now c.loop-rest.number c.loop-rest.logs.items c.split_text_line-in-loop-rest.result.0.now header c.loop-rest.invariant.some c.in-Err.ensures.says
+    let header = c.split_text_line.result.0.now in
+    let found : version_of header ≡ Some c.in-Some.version = sym c.of.ensures ∙ c.in-Some.is in
+    let has : HasHeader c.args.bytes.now = (c.in-Some.version, has_header_of c.in-Some.version c.args.bytes.now header c.split_text_line.result.1.now c.split_text_line.ensures.line found) in
+    comes_below c.in-Some.version c.in-Err.error c.args.bytes.now c.loop-rest.number c.loop-rest.logs.items c.split_text_line-in-loop-rest.result.0.now has c.loop-rest.invariant.some c.in-Err.ensures.says

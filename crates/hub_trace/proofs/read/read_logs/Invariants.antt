@@ -11,8 +11,8 @@ invariant-loop-rest l = record {
   some : 0 < l.number;
   room : l.number + length l.rest ≤ length l.fn.bytes;
   closed : TellsClosed (contains nat_cmp l.closed) l.logs.items;
-  within : AreWithin l.logs.items;
-  so_far : IsReadSoFar l.fn.bytes l.number l.logs.items l.rest;
+  within : AreWithin l.version l.logs.items;
+  so_far : IsReadSoFar l.version l.fn.bytes l.number l.logs.items l.rest;
 }
 
 abbrev pub decreases-loop-rest : goal.decreases-loop-rest

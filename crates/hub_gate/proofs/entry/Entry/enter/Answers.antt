@@ -18,4 +18,4 @@ returns g c =
     let not_moved = sym c.moved_in.ensures.exactly ∙ c.if-moved_in.false in
     let not_closed = sym c.closed_in.ensures.exactly ∙ c.if-closed_in.false in
     let told = told_in g.T.Right.tag (line_in c.self.inside.seat.me.0) c.fetch_add-word.result c.fetch_add-word.new.seat.me c.fetch_add-word.ensures.2 not_moved not_closed in
-    entered_in g.T.Right.tag _ _ _ (line_in c.self.inside.seat.me.0) c.fetch_add-word.result _ c.fetch_add-word.new.seat.me _ c.unwrap-right.result _ c.self.view_is told not_moved not_closed c.exchange.ensures.2 c.unwrap-right.ensures c.exchange.ensures.3 (c.exchange.ensures.0 ∙ c.fetch_add-word.ensures.0)
+    entered_in g.T.Right.tag _ _ c.exchange.new.seat.table_id (line_in c.self.inside.seat.me.0) c.fetch_add-word.result c.self.inside.line c.fetch_add-word.new.seat.me c.exchange.new.seat.me c.unwrap-right.result c.exchange.result c.self.view_is told not_moved not_closed c.exchange.ensures.2 c.unwrap-right.ensures c.exchange.ensures.3 (c.exchange.ensures.0 ∙ c.fetch_add-word.ensures.0)
