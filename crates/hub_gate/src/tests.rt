@@ -119,7 +119,7 @@ fn a_bad_count_gives_the_rights_back(rt: HostRuntime) -> Result<(), Fail> {
 
 // It passes whichever allocation is refused: the next call has the memory.
 #[test]
-fn a_refusal_gives_the_rights_back(rt: HostRuntime) -> Result<(), Fail> {
+fn gives_the_rights_back_whichever_allocation_is_refused(rt: HostRuntime) -> Result<(), Fail> {
     let alloc = rt.alloc();
     let first = match rights(alloc, 3, 1) {
         Ok(rights) => rights,

@@ -8,7 +8,7 @@ use lib.ListN.{get_elem?}
 use Rattle.atomic_table.specs.Table.{State, Me, step, keeps, stepped, opening, Allows, Splits}
 use Rattle.atomic_table.proofs.Lists.{at_set, at_snoc, set_again}
 use Rattle.hub_life.specs.declared.order_view.OrderView.{OrderView}
-use Rattle.hub_life.specs.Order.{unaware, gives_in, order_word, IsKept, Gives, Looks}
+use Rattle.hub_life.specs.Order.{unaware, gives_in, order_word, IsOrderKept, Gives, Looks}
 
 -- a sum after a change of one item
 sum_by-at_set : {A : Type 0} (f : A → ℕ) (l : List A) (i : ℕ) (v w : A) → get_elem? l i ≡ some v → sum_by f (set l i w) + f v ≡ sum_by f l + f w
@@ -57,9 +57,9 @@ abbrev Own : Type 0
 Own = Me (Unit {0}) OrderView
 
 -- a step keeps the rule where its number is right for the new views, and its seat forgets no gift and finds nothing that none gave
-placed : (s : Shared) → IsKept s → (n id : ℕ) (me : Own) (w : OrderView) → get_elem? s.views id ≡ some me.0
+placed : (s : Shared) → IsOrderKept s → (n id : ℕ) (me : Own) (w : OrderView) → get_elem? s.views id ≡ some me.0
     → me.0.gives ≤ w.gives → n ≡ order_word (gives_in (set s.views id w)) → (w.found ≡ true → 0 < gives_in (set s.views id w))
-    → IsKept (stepped s 0 n id me.1 w keeps)
+    → IsOrderKept (stepped s 0 n id me.1 w keeps)
 placed s kept n id me w at more is finds =
     let one = kept.one in
     let sum = sum_by-at_set (λ (v : OrderView). v.gives) s.views id me.0 w at in
@@ -72,17 +72,17 @@ placed s kept n id me w at more is finds =
           (at_set s.views id seat w u there);
     }
 
-pub opens : IsKept (opening (0 ∷ []) [] unaware)
+pub opens : IsOrderKept (opening (0 ∷ []) [] unaware)
 opens = record { one = refl; word = refl; given = none_found }
   where
     none_found : (seat : ℕ) (v : OrderView) → get_elem? (unaware ∷ []) seat ≡ some v → v.found ≡ true → 0 < gives_in (unaware ∷ [])
     none_found zero v there found = absurd (true≢false (sym found ∙ ap (λ (u : OrderView). u.found) (sym (some-injective unaware v there))))
     none_found (suc seat) v there found = absurd (some-ne-none v (sym there))
 
-pub cuts : (id : ℕ) (v : OrderView) → Splits IsKept id v v unaware
+pub cuts : (id : ℕ) (v : OrderView) → Splits IsOrderKept id v v unaware
 cuts id v s kept at =
     let same = set_again s.views id v at in
-    subst (λ (l : List OrderView). IsKept record { words = s.words; homes = s.homes; views = l ++ unaware ∷ [] }) (sym same)
+    subst (λ (l : List OrderView). IsOrderKept record { words = s.words; homes = s.homes; views = l ++ unaware ∷ [] }) (sym same)
     (record {
       one = kept.one;
       word = kept.word ∙ ap order_word (sym total);
@@ -95,7 +95,7 @@ cuts id v s kept at =
     total : gives_in (s.views ++ unaware ∷ []) ≡ gives_in s.views
     total = omega (arith, sum_by-append (λ (w : OrderView). w.gives) s.views (unaware ∷ []))
 
-pub gives_keep : (slots id : ℕ) (me : Own) → Allows IsKept slots id me 0 (λ n. bit_or n 1) (Gives (step slots 0 1 0 none) me)
+pub gives_keep : (slots id : ℕ) (me : Own) → Allows IsOrderKept slots id me 0 (λ n. bit_or n 1) (Gives (step slots 0 1 0 none) me)
 gives_keep slots id me s kept fits at small =
     let v = me.0 in
     let w : OrderView = record { gives = v.gives + 1; looks = v.looks; found = v.found } in
@@ -103,7 +103,7 @@ gives_keep slots id me s kept fits at small =
     let more : gives_in (set s.views id w) ≡ suc (gives_in s.views) = omega arith in
     (w, keeps, tt, placed s kept (bit_or (get_or s.words 0 0) 1) id me w at (omega arith) (set_bit (gives_in s.views) (get_or s.words 0 0) kept.word ∙ sym (one_where_given (gives_in (set s.views id w)) (order_word (gives_in (set s.views id w))) refl (omega arith))) (λ _. omega arith), refl)
 
-pub looks_keep : (slots id : ℕ) (me : Own) → Allows IsKept slots id me 0 (λ n. n) (Looks (step slots 0 0 0 none) me)
+pub looks_keep : (slots id : ℕ) (me : Own) → Allows IsOrderKept slots id me 0 (λ n. n) (Looks (step slots 0 0 0 none) me)
 looks_keep slots id me s kept fits at small =
     let v = me.0 in
     let n : ℕ = get_or s.words 0 0 in

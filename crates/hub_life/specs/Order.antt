@@ -22,7 +22,7 @@ abbrev pub order_word : ℕ → ℕ
 order_word gives = if nat_lt 0 gives then 1 else 0
 
 -- at every moment the one word says whether some seat has given the order, and no seat has found an order that none gave
-pub record IsKept (s : State (Unit {0}) OrderView) : Type 0 where
+pub record IsOrderKept (s : State (Unit {0}) OrderView) : Type 0 where
   pub one : length s.words ≡ 1
   pub word : slice_index s.words 0 ≡ order_word (gives_in s.views)
   pub given : (seat : ℕ) (v : OrderView) → get_elem? s.views seat ≡ some v → v.found ≡ true → 0 < gives_in s.views

@@ -9,9 +9,9 @@ pub type OrderWord = Table<(), OrderView, (), OrderRule, Global>;
 pub struct OrderRule;
 
 impl TableRule<(), OrderView, ()> for OrderRule {
-    ghost use Rattle.hub_life.specs.Order.{IsKept, unaware};
+    ghost use Rattle.hub_life.specs.Order.{IsOrderKept, unaware};
 
-    ghost holds = { λ _. IsKept };
+    ghost holds = { λ _. IsOrderKept };
 
     ghost first = { λ _. unaware };
 }

@@ -6,7 +6,7 @@ use Rattle.std.proofs.lemmas.List.{append-nil}
 use Rattle.messagehub.specs.declared.steps.step_line.StepLine.{StepLine}
 use Rattle.messagehub.specs.declared.steps.step_line.StepLineError.{StepLineError}
 use Rattle.messagehub.specs.StepLine.{step_line_of}
-use Rattle.messagehub.specs.Steps.{at_line, numbered, ReadSteps}
+use Rattle.messagehub.specs.Steps.{at_line, steps_from, ReadSteps}
 
 -- the lines read before, and what is still read
 abbrev pub with_front : List StepLine → ReadSteps → ReadSteps
@@ -18,27 +18,27 @@ regroup front n line (Ok lines) = ap (λ (xs : List StepLine). Ok xs) (sym (appe
 regroup front n line (Err bad) = refl
 
 pub goes_on : (front : List StepLine) (n : ℕ) (lines more : List (List ℕ)) (bytes : List ℕ) (line : StepLine) (total : ReadSteps) → lines ≡ bytes ∷ more → step_line_of bytes ≡ Ok line
-    → with_front front (numbered n lines) ≡ total → with_front (front ++ line ∷ []) (numbered (n + 1) more) ≡ total
-unfolding numbered
+    → with_front front (steps_from n lines) ≡ total → with_front (front ++ line ∷ []) (steps_from (n + 1) more) ≡ total
+unfolding steps_from
 goes_on front n lines more bytes line total cut read so_far =
-    let one : with_front front (numbered n lines) ≡ with_front (front ++ line ∷ []) (numbered (n + 1) more) = rw (cut, read) (regroup front n line (numbered (n + 1) more)) in
+    let one : with_front front (steps_from n lines) ≡ with_front (front ++ line ∷ []) (steps_from (n + 1) more) = rw (cut, read) (regroup front n line (steps_from (n + 1) more)) in
     sym one ∙ so_far
 
 pub is_bad : (front : List StepLine) (n : ℕ) (lines more : List (List ℕ)) (bytes : List ℕ) (kind : StepLineError) (total : ReadSteps) → lines ≡ bytes ∷ more → step_line_of bytes ≡ Err kind
-    → with_front front (numbered n lines) ≡ total → total ≡ Err (n, kind)
-unfolding numbered
+    → with_front front (steps_from n lines) ≡ total → total ≡ Err (n, kind)
+unfolding steps_from
 is_bad front n lines more bytes kind total cut read so_far =
-    let one : with_front front (numbered n lines) ≡ Err (n, kind) = rw (cut, read) refl in
+    let one : with_front front (steps_from n lines) ≡ Err (n, kind) = rw (cut, read) refl in
     sym so_far ∙ one
 
-pub is_done : (front : List StepLine) (n : ℕ) (total : ReadSteps) → with_front front (numbered n []) ≡ total → total ≡ Ok front
-unfolding numbered
+pub is_done : (front : List StepLine) (n : ℕ) (total : ReadSteps) → with_front front (steps_from n []) ≡ total → total ≡ Ok front
+unfolding steps_from
 is_done front n total so_far = sym so_far ∙ ap (λ (xs : List StepLine). Ok xs) (append-nil front)
 
 pub one_more : (xs front : List StepLine) (lines : List (List ℕ)) (total : ReadSteps) (line : StepLine) → length xs ≡ length front + 1 → xs ≡ front ++ line ∷ []
-    → with_front (front ++ line ∷ []) (numbered (length front + 1 + 1) lines) ≡ total → with_front xs (numbered (length xs + 1) lines) ≡ total
+    → with_front (front ++ line ∷ []) (steps_from (length front + 1 + 1) lines) ≡ total → with_front xs (steps_from (length xs + 1) lines) ≡ total
 one_more xs front lines total line longer items h =
-    subst (λ ys. with_front ys (numbered (length xs + 1) lines) ≡ total) (sym items) (subst (λ n. with_front (front ++ line ∷ []) (numbered (n + 1) lines) ≡ total) (sym longer) h)
+    subst (λ ys. with_front ys (steps_from (length xs + 1) lines) ≡ total) (sym items) (subst (λ n. with_front (front ++ line ∷ []) (steps_from (n + 1) lines) ≡ total) (sym longer) h)
 
 pub no_lines : (bytes : List ℕ) → eqb (length bytes) 0 ≡ true → text_lines_of bytes ≡ []
 unfolding text_lines_of

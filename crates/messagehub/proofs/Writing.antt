@@ -14,7 +14,7 @@ use Rattle.messagehub.specs.Beginning.{AppendsBeginning}
 use Rattle.messagehub.specs.CheckOutput.{IsCheckOutput, IsVerdictLine, log_kind_text}
 use Rattle.messagehub.specs.Engine.{IsBadLine, Says, SaysUnread, Writes}
 use Rattle.messagehub.specs.Output.{IsRunOutput, IsStepsOutput}
-use Rattle.messagehub.specs.StepLineKind.{kind_text}
+use Rattle.messagehub.specs.StepLineKind.{step_kind_text}
 use Rattle.messagehub.specs.Steps.{steps_of}
 
 pub writes_weaker : (P Q : ExitStatus → List ℕ → Type 0) (old new : Option (List ℕ)) (r : Result ExitStatus Device) → ((s : ExitStatus) (t : List ℕ) → P s t → Q s t) → Writes P old new r → Writes Q old new r
@@ -24,8 +24,8 @@ writes_weaker P Q old new (Err e) f h = (h.0, h.1, f h.0 h.1 h.2, h.3)
 pub says_so : (Q : ExitStatus → List ℕ → Type 0) (status : ExitStatus) (text : List ℕ) → Q status text → (s : ExitStatus) (t : List ℕ) → Says status text s t → Q s t
 says_so Q status text q s t h = subst (λ u. Q u t) (sym h.0) (subst (Q status) (sym h.1) q)
 
-pub unread_steps : (input : List ℕ) (line : ℕ) (error : StepLineError) → (error ≡ kind.OutOfMemory) ⊎ (steps_of input ≡ Err (line, error)) → (s : ExitStatus) (t : List ℕ) → SaysUnread line (kind_text error) s t → IsStepsOutput input s t
-unread_steps input line error (inl e) status.BadInput t said = absurd (subst (λ k. IsBadLine line (kind_text k) t) e said)
+pub unread_steps : (input : List ℕ) (line : ℕ) (error : StepLineError) → (error ≡ kind.OutOfMemory) ⊎ (steps_of input ≡ Err (line, error)) → (s : ExitStatus) (t : List ℕ) → SaysUnread line (step_kind_text error) s t → IsStepsOutput input s t
+unread_steps input line error (inl e) status.BadInput t said = absurd (subst (λ k. IsBadLine line (step_kind_text k) t) e said)
 unread_steps input line error (inr h) status.BadInput t said = (line, error, h, said)
 unread_steps input line error r status.OutOfMemory t said = inl said
 unread_steps input line error r status.Success t said = absurd said

@@ -39,5 +39,5 @@ IsCheckOutput input status.OutOfMemory text = text ≡ out_of_memory
 IsCheckOutput input _ text = ⊥
 
 -- `out of memory` alone is what is written for want of memory
-pub memory_alone : (input : List ℕ) → IsCheckOutput input status.OutOfMemory out_of_memory
-memory_alone input = refl
+pub check_without_memory : (input : List ℕ) → IsCheckOutput input status.OutOfMemory out_of_memory
+check_without_memory input = refl

@@ -20,8 +20,8 @@ Writes says old new (Ok status) = (text : List ℕ) × says status text × Appen
 Writes says old new (Err failed) = (status : ExitStatus) × (text : List ℕ) × says status text × AppendsBeginning old new text
 
 -- What an engine has written for all that its reader had left.
-abbrev pub Answers : (List ℕ → ExitStatus → List ℕ → Type 0) → Option (List ℕ) → Option (List ℕ) → Option (List ℕ) → Result ExitStatus Device → Type 0
-Answers output left old new result = (input : List ℕ) × IsInput left input × Writes (output input) old new result
+abbrev pub AnswersInput : (List ℕ → ExitStatus → List ℕ → Type 0) → Option (List ℕ) → Option (List ℕ) → Option (List ℕ) → Result ExitStatus Device → Type 0
+AnswersInput output left old new result = (input : List ℕ) × IsInput left input × Writes (output input) old new result
 
 -- A device failure is answered exactly where one was counted. Else no read and no write failed. Where
 -- a read failed the writer is as it was; where a write failed no read and one write did.

@@ -12,8 +12,8 @@ abbrev pub ports_text : List EndId → List ℕ
 ports_text [] = []
 ports_text (p ∷ ports) = codes "with " ++ ends_text (p ∷ ports) ++ codes " "
 
-abbrev pub delivery_text : Envelope → List ℕ
-delivery_text v =
+abbrev pub got_line : Envelope → List ℕ
+got_line v =
     codes "got " ++ decimal v.epoch ++ codes ":" ++ decimal v.number ++ codes " from " ++ decimal v.line.0 ++ codes " " ++ ports_text v.ports ++ v.body ++ codes "\n"
 
 -- the line of an outcome, with its LF
@@ -31,6 +31,6 @@ outcome_line (outcome.Accepted name) = codes "accepted " ++ decimal name.epoch +
 outcome_line outcome.TooManyPorts = codes "too-many-ports\n"
 outcome_line outcome.Left = codes "left\n"
 outcome_line outcome.Started = codes "started\n"
-outcome_line (outcome.Got v) = delivery_text v
+outcome_line (outcome.Got v) = got_line v
 outcome_line outcome.Empty = codes "empty\n"
 outcome_line outcome.Disabled = codes "disabled\n"

@@ -7,7 +7,7 @@ use Rattle.messagehub.specs.declared.steps.step_line.StepLine.{StepLine}
 use Rattle.messagehub.specs.declared.steps.step_line.StepLineError.{StepLineError}
 use Rattle.messagehub.specs.Engine.{IsBadLine}
 use Rattle.messagehub.specs.OutOfMemory.{out_of_memory}
-use Rattle.messagehub.specs.StepLineKind.{kind_text}
+use Rattle.messagehub.specs.StepLineKind.{step_kind_text}
 use Rattle.messagehub.specs.Steps.{steps_of}
 use Rattle.messagehub.specs.StepText.{IsStepText}
 
@@ -26,10 +26,10 @@ IsRunOutput lines _ text = ⊥
 -- anything was run `out of memory` alone
 abbrev pub IsStepsOutput : List ℕ → ExitStatus → List ℕ → Type 0
 IsStepsOutput input status.Success text = (lines : List StepLine) × (steps_of input ≡ Ok lines) × IsStepText lines text
-IsStepsOutput input status.BadInput text = (n : ℕ) × (kind : StepLineError) × (steps_of input ≡ Err (n, kind)) × IsBadLine n (kind_text kind) text
+IsStepsOutput input status.BadInput text = (n : ℕ) × (kind : StepLineError) × (steps_of input ≡ Err (n, kind)) × IsBadLine n (step_kind_text kind) text
 IsStepsOutput input status.OutOfMemory text = (text ≡ out_of_memory) ⊎ ((lines : List StepLine) × (steps_of input ≡ Ok lines) × IsCutShort lines text)
 IsStepsOutput input _ text = ⊥
 
 -- `out of memory` alone is what is written for want of memory
-pub memory_alone : (input : List ℕ) → IsStepsOutput input status.OutOfMemory out_of_memory
-memory_alone input = inl refl
+pub steps_without_memory : (input : List ℕ) → IsStepsOutput input status.OutOfMemory out_of_memory
+steps_without_memory input = inl refl

@@ -9,7 +9,7 @@ use Rattle.messagehub.specs.declared.status.ExitStatus.{ExitStatus}
 use Rattle.messagehub.specs.declared.status.ExitStatus.TheVariants.{Usage}
 use Rattle.messagehub.specs.CheckOutput.{IsCheckOutput}
 use Rattle.messagehub.specs.Counted.{inner_reader, inner_writer}
-use Rattle.messagehub.specs.Engine.{Answers, CountsDevice}
+use Rattle.messagehub.specs.Engine.{AnswersInput, CountsDevice}
 use Rattle.messagehub.specs.Output.{IsStepsOutput}
 
 -- what a mode's engine writes for an input, by the exit status
@@ -22,5 +22,5 @@ output_of Check = IsCheckOutput
 abbrev pub AnswersWords : {R W : Type 0} → Option Mode → (R → Option (List ℕ)) → (W → Option (List ℕ)) → CountedReader R → CountedReader R → CountedWriter W → CountedWriter W → Result ExitStatus Device → Type 0
 AnswersWords None left contents r r' w w' result = (result ≡ Ok Usage) × (r' ≡ r) × (w' ≡ w)
 AnswersWords (Some mode) left contents r r' w w' result =
-    Answers (output_of mode) (left (inner_reader r)) (contents (inner_writer w)) (contents (inner_writer w')) result
+    AnswersInput (output_of mode) (left (inner_reader r)) (contents (inner_writer w)) (contents (inner_writer w')) result
     × CountsDevice r r' w w' result

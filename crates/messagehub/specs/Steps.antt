@@ -16,10 +16,10 @@ at_line n (Ok line) (Err bad) = Err bad
 at_line n (Ok line) (Ok lines) = Ok (line ∷ lines)
 
 -- the step lines that the text lines are, of which the first has the number n
-unfoldable pub numbered : ℕ → List (List ℕ) → ReadSteps
-numbered n [] = Ok []
-numbered n (bytes ∷ more) = at_line n (step_line_of bytes) (numbered (n + 1) more)
+unfoldable pub steps_from : ℕ → List (List ℕ) → ReadSteps
+steps_from n [] = Ok []
+steps_from n (bytes ∷ more) = at_line n (step_line_of bytes) (steps_from (n + 1) more)
 
 -- the step lines of an input, or the first bad line, counted from 1
 abbrev pub steps_of : List ℕ → ReadSteps
-steps_of bytes = numbered 1 (text_lines_of bytes)
+steps_of bytes = steps_from 1 (text_lines_of bytes)

@@ -3,7 +3,7 @@
 ghost use Rattle.std.specs.Prelude.{◌≡◌, IfOk, option_map, string_bytes};
 ghost use Rattle.messagehub.specs.Counted.{inner_reader, inner_writer, failed_writes};
 ghost use Rattle.messagehub.specs.CheckOutput.{IsCheckOutput, IsVerdictLine, log_kind_text};
-ghost use Rattle.messagehub.specs.Engine.{Answers, CountsDevice, Writes};
+ghost use Rattle.messagehub.specs.Engine.{AnswersInput, CountsDevice, Writes};
 ghost use Rattle.messagehub.specs.Failures.{CountsFailure};
 
 use crate::counted_reader::CountedReader;
@@ -25,7 +25,7 @@ pub fn run_check<R: Read, W: Write>(
     reader: &mut CountedReader<R>,
     writer: &mut CountedWriter<W>,
 ) -> Result<ExitStatus, Device>
-    ensures written { Answers IsCheckOutput (R.remaining (inner_reader reader.old))
+    ensures written { AnswersInput IsCheckOutput (R.remaining (inner_reader reader.old))
         (W.contents (inner_writer writer.old)) (W.contents (inner_writer writer.new)) result }
     ensures failures { CountsDevice reader.old reader.new writer.old writer.new result }
 {
@@ -36,11 +36,11 @@ pub fn run_check<R: Read, W: Write>(
 struct CheckEngine;
 
 impl Engine for CheckEngine {
-    ghost use Rattle.messagehub.specs.CheckOutput.{IsCheckOutput, memory_alone};
+    ghost use Rattle.messagehub.specs.CheckOutput.{IsCheckOutput, check_without_memory};
 
     ghost output = { IsCheckOutput };
 
-    ghost wants_memory = { memory_alone };
+    ghost wants_memory = { check_without_memory };
 
     fn answer<W: Write>(
         alloc: Global,

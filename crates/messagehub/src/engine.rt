@@ -1,6 +1,6 @@
 //! What the program's engines have in common: a whole input is read, and answered.
 
-ghost use Rattle.messagehub.specs.Engine.{Answers, CountsDevice};
+ghost use Rattle.messagehub.specs.Engine.{AnswersInput, CountsDevice};
 ghost use Rattle.messagehub.specs.Counted.{inner_reader, inner_writer};
 
 use crate::counted_reader::CountedReader;
@@ -49,7 +49,7 @@ pub fn run_engine<E: Engine, R: Read, W: Write>(
     reader: &mut CountedReader<R>,
     writer: &mut CountedWriter<W>,
 ) -> Result<ExitStatus, Device>
-    ensures written { Answers E.output (R.remaining (inner_reader reader.old))
+    ensures written { AnswersInput E.output (R.remaining (inner_reader reader.old))
         (W.contents (inner_writer writer.old)) (W.contents (inner_writer writer.new)) result }
     ensures failures { CountsDevice reader.old reader.new writer.old writer.new result }
 {

@@ -2,7 +2,7 @@
 
 ghost use Rattle.std.specs.Prelude.{◌≡◌, map, string_bytes};
 ghost use Rattle.messagehub.specs.Counted.{inner_reader, inner_writer};
-ghost use Rattle.messagehub.specs.Engine.{Answers, CountsDevice};
+ghost use Rattle.messagehub.specs.Engine.{AnswersInput, CountsDevice};
 ghost use Rattle.messagehub.specs.Mode.{mode_asked};
 ghost use Rattle.messagehub.specs.Program.{AnswersWords, output_of};
 
@@ -40,7 +40,7 @@ pub fn run_mode<R: Read, W: Write>(
     reader: &mut CountedReader<R>,
     writer: &mut CountedWriter<W>,
 ) -> Result<ExitStatus, Device>
-    ensures written { Answers (output_of mode) (R.remaining (inner_reader reader.old))
+    ensures written { AnswersInput (output_of mode) (R.remaining (inner_reader reader.old))
         (W.contents (inner_writer writer.old)) (W.contents (inner_writer writer.new)) result }
     ensures failures { CountsDevice reader.old reader.new writer.old writer.new result }
 {

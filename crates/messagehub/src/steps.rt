@@ -3,7 +3,7 @@
 ghost use Rattle.std.specs.Prelude.{◌≡◌, ◌++◌, OnOk, OnErr};
 ghost use Rattle.hub_core.specs.declared.outcome.Outcome.{Outcome};
 ghost use Rattle.messagehub.specs.Counted.{inner_reader, inner_writer, failed_writes};
-ghost use Rattle.messagehub.specs.Engine.{Answers, CountsDevice, Writes};
+ghost use Rattle.messagehub.specs.Engine.{AnswersInput, CountsDevice, Writes};
 ghost use Rattle.messagehub.specs.Failures.{CountsFailure};
 ghost use Rattle.messagehub.specs.OutcomeText.{outcome_line};
 ghost use Rattle.messagehub.specs.Output.{IsRunOutput, IsStepsOutput};
@@ -38,7 +38,7 @@ pub fn run_steps<R: Read, W: Write>(
     reader: &mut CountedReader<R>,
     writer: &mut CountedWriter<W>,
 ) -> Result<ExitStatus, Device>
-    ensures written { Answers IsStepsOutput (R.remaining (inner_reader reader.old))
+    ensures written { AnswersInput IsStepsOutput (R.remaining (inner_reader reader.old))
         (W.contents (inner_writer writer.old)) (W.contents (inner_writer writer.new)) result }
     ensures failures { CountsDevice reader.old reader.new writer.old writer.new result }
 {
@@ -49,11 +49,11 @@ pub fn run_steps<R: Read, W: Write>(
 struct StepsEngine;
 
 impl Engine for StepsEngine {
-    ghost use Rattle.messagehub.specs.Output.{IsStepsOutput, memory_alone};
+    ghost use Rattle.messagehub.specs.Output.{IsStepsOutput, steps_without_memory};
 
     ghost output = { IsStepsOutput };
 
-    ghost wants_memory = { memory_alone };
+    ghost wants_memory = { steps_without_memory };
 
     fn answer<W: Write>(
         alloc: Global,

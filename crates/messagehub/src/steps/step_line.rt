@@ -52,11 +52,11 @@ pub enum StepLineError {
 }
 
 impl StepLineError {
-    ghost use Rattle.messagehub.specs.StepLineKind.{kind_text};
+    ghost use Rattle.messagehub.specs.StepLineKind.{step_kind_text};
 
     /// The name by which the kind of a bad line is printed. `None` where memory ran out.
     pub fn name(self) -> Option<&'static str>
-        ensures { option_map (λ name. name.now) result ≡ kind_text self }
+        ensures { option_map (λ name. name.now) result ≡ step_kind_text self }
     {
         match self {
             StepLineError::BadUtf8 => Some("BadUtf8"),

@@ -1,5 +1,5 @@
 ghost use Rattle.std.specs.Prelude.{◌≡◌, ◌++◌, OnOk, string_bytes};
-ghost use Rattle.messagehub.specs.OutcomeText.{outcome_line, delivery_text, ports_text};
+ghost use Rattle.messagehub.specs.OutcomeText.{outcome_line, got_line, ports_text};
 
 use hub_core::Outcome;
 use hub_envelope::{EndId, Envelope};
@@ -34,7 +34,7 @@ pub fn write_outcome(text: &mut String, outcome: &Outcome) -> Result<(), AllocEr
 
 fn write_delivery(text: &mut String, envelope: &Envelope) -> Result<(), AllocError>
     ensures { OnOk result (string_bytes text.new
-        ≡ string_bytes text.old ++ delivery_text envelope.now) }
+        ≡ string_bytes text.old ++ got_line envelope.now) }
 {
     let epoch = envelope.epoch;
     let number = envelope.number;
