@@ -38,7 +38,8 @@ impl Draft {
     }
 }
 
-/// The clone has the same agent, the same text and the same list, and is a notice where the draft is.
+/// The clone has the same agent, the same text and the same list, and is a notice where the draft
+/// is.
 impl Clone for Draft {
     ghost is_clone = { λ draft copy. copy ≡ draft };
 
@@ -52,7 +53,8 @@ impl Clone for Draft {
     }
 }
 
-/// Equal drafts have the same agent, the same text and the same list, and both or neither is a notice.
+/// Equal drafts have the same agent, the same text and the same list, and both or neither is a
+/// notice.
 impl PartialEq for Draft {
     ghost eq = { is_same_draft };
 
@@ -94,8 +96,8 @@ pub struct Envelope {
     pub notice: bool,
 }
 
-/// The clone has the same name, the same agent, the same text and the same list, and is a notice where
-/// the envelope is.
+/// The clone has the same name, the same agent, the same text and the same list, and is a notice
+/// where the envelope is.
 impl Clone for Envelope {
     ghost is_clone = { λ envelope copy. copy ≡ envelope };
 
