@@ -18,8 +18,6 @@ mod runs;
 mod sender;
 mod step;
 mod taking;
-#[cfg(test)]
-mod tests;
 
 pub use hub_envelope::{MAX_PORTS, OutOfMemory};
 pub use laws::{history_laws, mailbox_laws, queue_laws};

@@ -10,8 +10,6 @@ mod depot_error;
 mod kept;
 mod key;
 mod named;
-#[cfg(test)]
-mod tests;
 
 pub use depot::Depot;
 pub use depot_error::DepotError;

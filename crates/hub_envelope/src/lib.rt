@@ -12,8 +12,6 @@ mod ids;
 mod limits;
 mod ports;
 mod profile;
-#[cfg(test)]
-mod tests;
 
 pub use body::{Body, BodyError};
 pub use envelope::{Draft, Envelope};

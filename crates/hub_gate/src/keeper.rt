@@ -9,6 +9,7 @@ use crate::looked::Looked;
 use crate::plays::{Look, SetFlag};
 use crate::right::Right;
 use crate::word::{Flag, count_in, shut_in};
+use std::fmt;
 use std::marker::Model;
 use std::sync::Arc;
 
@@ -133,5 +134,14 @@ impl<T: Right> Keeper<T> {
         let lines = table.slot_count();
         take_out(&table.shared, &mut self.seat, &mut rights, lines);
         Looked::Rights(rights)
+    }
+}
+
+/// Shows the word as it is at that moment. It is no step on the word, and tells nothing of what
+/// comes after.
+impl<T: Right> fmt::Debug for Keeper<T> {
+    fn fmt<W: fmt::Write>(&self, f: &mut fmt::Formatter<W>) -> fmt::Result {
+        let word = self.table.shared.peek(0);
+        write!(f, "Keeper {{ word: {word} }}")
     }
 }

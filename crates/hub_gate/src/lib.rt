@@ -17,8 +17,6 @@ mod laws;
 mod looked;
 mod plays;
 mod right;
-#[cfg(test)]
-mod tests;
 mod view;
 mod word;
 

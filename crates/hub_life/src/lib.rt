@@ -14,8 +14,6 @@ mod order;
 mod order_view;
 mod order_word;
 mod state;
-#[cfg(test)]
-mod tests;
 
 pub use event::Event;
 pub use laws::lifecycle_laws;

@@ -6,8 +6,6 @@
 
 mod end_list;
 mod number;
-#[cfg(test)]
-mod tests;
 mod text_lines;
 mod word;
 

@@ -20,8 +20,6 @@ mod message;
 mod port_list;
 mod read;
 mod received;
-#[cfg(test)]
-mod tests;
 mod verdict;
 
 pub use checker::check;

@@ -1,7 +1,7 @@
-mod refusals;
-
-use crate::{FaultKind, LOG_HEADER, Label, Log, LogError, Verdict, check, is_port_list, read_logs};
 use hub_envelope::{AgentId, Body, BodyError, EndId, Envelope, LineId, Ports};
+use hub_trace::{
+    FaultKind, LOG_HEADER, Label, Log, LogError, Verdict, check, is_port_list, read_logs,
+};
 use std::alloc::{AllocError, AllocFailed, Global};
 use std::fmt;
 use std::process::Abort;

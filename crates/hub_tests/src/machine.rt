@@ -1,9 +1,4 @@
-use crate::laws::history_laws;
-use crate::machine::Core;
-use crate::outcome::Outcome;
-use crate::runs::run;
-use crate::sender::Sender;
-use crate::step::{Action, Step};
+use hub_core::{Action, Core, Outcome, Sender, Step, history_laws, run};
 use hub_envelope::{AgentId, Body, EndId, LineId};
 use std::alloc::Global;
 use std::process::Abort;

@@ -1,6 +1,6 @@
 ghost use Rattle.std.specs.Prelude.{◌<◌};
 
-use crate::{Depot, DepotError, Kept, Key, Named};
+use hub_depot::{Depot, DepotError, Kept, Key, Named};
 use hub_envelope::{EndId, LineId};
 use std::process::Abort;
 use std::sync::Wait;

@@ -1,6 +1,6 @@
 // Logs that are appended to, written, read and checked while one allocation is refused.
-use crate::{LOG_HEADER, Label, Log, LogError, check, is_port_list, read_logs};
 use hub_envelope::{AgentId, Body, BodyError, EndId, LineId};
+use hub_trace::{LOG_HEADER, Label, Log, LogError, check, is_port_list, read_logs};
 use std::alloc::{AllocError, AllocFailed, Global};
 use std::fmt;
 

@@ -1,6 +1,4 @@
-use crate::{EndList, EndListText, next_word, number_of, split_text_line};
-use hub_envelope::EndId;
-use std::test::Fail;
+use hub_text::split_text_line;
 
 #[test]
 fn cuts_an_input_into_text_lines(rt: HostRuntime) {

@@ -1,7 +1,8 @@
 ghost use Rattle.std.specs.Prelude.{◌≡◌, [], IfSome};
 
-use crate::{Entered, Entry, Gate, GateError, Inside, Keeper, Looked, Refusal, word_of};
+use hub_gate::{Entered, Entry, Gate, GateError, Inside, Keeper, Looked, Refusal, word_of};
 use std::alloc::{AllocError, Global};
+use std::process::Abort;
 use std::test::Fail;
 use std::thread;
 
@@ -16,9 +17,11 @@ fn rights(alloc: Global, count: usize, first: u64) -> Result<Vec<u64>, AllocErro
     Ok(rights)
 }
 
-// The gate's word, which nobody is told of, as the keeper would be by a look.
-fn word(keeper: &Keeper<u64>) -> u64 {
-    keeper.table.shared.peek(0)
+// The keeper shows the gate's word, which no other call tells.
+fn assert_word(rt: &(impl Abort + AllocGlobal), keeper: &Keeper<u64>, word: u64) {
+    let shown = format!(in rt.alloc(); "{keeper:?}").expect(rt, "memory");
+    let wanted = format!(in rt.alloc(); "Keeper {{ word: {word} }}").expect(rt, "memory");
+    assert_eq!(rt; shown.as_str(), wanted.as_str());
 }
 
 // Both lines inside, where neither was turned.
@@ -59,21 +62,21 @@ fn gate_words(rt: HostRuntime) -> Result<(), Fail> {
     assert_eq!(rt; entries.len(), 2);
     let other = entries.pop().ok_or("no entry")?;
     let one = entries.pop().ok_or("one entry")?;
-    assert_eq!(rt; word(&keeper), 0);
+    assert_word(&rt, &keeper, 0);
     assert!(rt; !keeper.enabled() && matches!(keeper.look(), Looked::Open));
     keeper.enable();
-    assert_eq!(rt; word(&keeper), 1);
+    assert_word(&rt, &keeper, 1);
     assert!(rt; keeper.enabled());
     let (one, other) = both_in(one, other).ok_or("turned")?;
-    assert_eq!(rt; word(&keeper), 513);
+    assert_word(&rt, &keeper, 513);
     keeper.retire();
-    assert_eq!(rt; word(&keeper), 515);
+    assert_word(&rt, &keeper, 515);
     assert!(rt; matches!(keeper.look(), Looked::StillInside(2)));
     let (one, was_enabled) = one.leave();
-    assert_eq!(rt; word(&keeper), 259);
+    assert_word(&rt, &keeper, 259);
     assert!(rt; was_enabled);
     let (_other, was_enabled) = other.leave();
-    assert_eq!(rt; word(&keeper), 3);
+    assert_word(&rt, &keeper, 3);
     assert!(rt; was_enabled);
     let Looked::Rights(rights) = keeper.look() else {
         return Err(Fail::from("no rights"));
@@ -81,9 +84,9 @@ fn gate_words(rt: HostRuntime) -> Result<(), Fail> {
     assert_eq!(rt; rights.as_slice(), [5, 6].as_slice());
     assert!(rt; matches!(keeper.look(), Looked::Given));
     keeper.close();
-    assert_eq!(rt; word(&keeper), 7);
+    assert_word(&rt, &keeper, 7);
     assert_eq!(rt; refusal_of(one), Some(Refusal::Moved));
-    assert_eq!(rt; word(&keeper), 7);
+    assert_word(&rt, &keeper, 7);
     assert_eq!(rt; word_of(true, true, true, 16), 4103);
     assert_eq!(rt; word_of(true, true, true, 32), 8199);
     Ok(())
@@ -98,7 +101,7 @@ fn a_closed_gate_turns_its_entries(rt: HostRuntime) -> Result<(), Fail> {
     keeper.close();
     let entry = entries.pop().ok_or("no entry")?;
     assert_eq!(rt; refusal_of(entry), Some(Refusal::Closed));
-    assert_eq!(rt; word(&keeper), 4);
+    assert_word(&rt, &keeper, 4);
     Ok(())
 }
 

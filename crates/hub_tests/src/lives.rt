@@ -1,8 +1,5 @@
-use crate::{Event, Life, LifeError, MAX_EXTENSIONS, Order, OutOfMemory, State};
-use std::alloc::Global;
+use hub_life::{Event, Life, LifeError, MAX_EXTENSIONS, State};
 use std::process::Abort;
-use std::test::Fail;
-use std::thread;
 
 type Answer = Result<State, LifeError>;
 
@@ -183,65 +180,4 @@ fn each_cell_of_the_table(rt: HostRuntime) {
             assert_eq!(rt; life.event(*event), *answer, "{event:?} after {way:?}");
         }
     }
-}
-
-// Two seats of one order.
-fn two_seats(alloc: Global) -> Result<(Order, Order), Fail> {
-    let mut orders = Order::open(alloc, 2)?;
-    let one = orders.pop().ok_or("no seat")?;
-    let other = orders.pop().ok_or("one seat")?;
-    Ok((one, other))
-}
-
-#[test]
-fn an_order_is_found_at_another_seat(rt: HostRuntime) -> Result<(), Fail> {
-    let (mut one, mut other) = two_seats(rt.alloc())?;
-    assert!(rt; !one.seen() && !other.seen());
-    one.give();
-    assert!(rt; other.seen() && one.seen());
-    other.give();
-    assert!(rt; other.seen() && one.seen());
-    Ok(())
-}
-
-#[test]
-fn an_order_of_another_word_is_not_found(rt: HostRuntime) -> Result<(), Fail> {
-    let (mut one, _other) = two_seats(rt.alloc())?;
-    let (mut stranger, _other) = two_seats(rt.alloc())?;
-    stranger.give();
-    assert!(rt; !one.seen());
-    Ok(())
-}
-
-#[test]
-fn an_order_crosses_threads(rt: HostRuntime) -> Result<(), Fail> {
-    let (mut giver, mut looker) = two_seats(rt.alloc())?;
-    let (giver_saw, _) = thread::join(
-        &rt,
-        move || {
-            giver.give();
-            giver.seen()
-        },
-        || looker.seen(),
-    );
-    assert!(rt; giver_saw && looker.seen());
-    Ok(())
-}
-
-#[test]
-fn no_seat_is_made_without_memory(rt: HostRuntime) -> Result<(), Fail> {
-    assert!(rt; matches!(Order::open(rt.alloc(), usize::MAX), Err(OutOfMemory)));
-    assert_eq!(rt; Order::open(rt.alloc(), 0)?.len(), 0);
-    Ok(())
-}
-
-// It passes whichever allocation is refused: the next call has the memory.
-#[test]
-fn opens_again_whichever_allocation_is_refused(rt: HostRuntime) -> Result<(), Fail> {
-    let orders = match Order::open(rt.alloc(), 3) {
-        Err(OutOfMemory) => Order::open(rt.alloc(), 3)?,
-        Ok(orders) => orders,
-    };
-    assert_eq!(rt; orders.len(), 3);
-    Ok(())
 }
