@@ -1,10 +1,10 @@
 -- Lists of ends, agents, lines and envelopes: what a write leaves at each number.
-use Rattle.std.proofs.Common.{◌≡◌, ℕ, ◌<◌, ◌+◌, Bool, true, false, eqb, List, [], ◌∷◌, ◌++◌, length, get_or, set, Some, zero, suc, refl, sym, ap, arith, rules}
+use Rattle.std.proofs.Common.{◌≡◌, ℕ, ◌<◌, ◌+◌, Bool, true, false, eqb, List, [], ◌∷◌, ◌++◌, length, get_or, set, Option, Some, zero, suc, ◌≤◌, None, refl, sym, ap, subst, ◌∙◌, inl, inr, arith, rules}
 use Rattle.std.specs.Prelude.{◌&&◌}
 use Rattle.std.proofs.lemmas.Bool.{false≢true}
 use Rattle.std.proofs.lemmas.Bool.Decides.{nat_tests}
-use Rattle.hub_envelope.specs.declared.envelope.Envelope.{Envelope}
 use Rattle.std.specs.List.{slice_get, AllByRecursion}
+use Rattle.std.proofs.lemmas.Option.{slice_get_cases}
 
 pub slice_get-set_same : {A : Type 0} (xs : List A) (i : ℕ) (x : A) → i < length xs → slice_get (set xs i x) i ≡ Some x
 slice_get-set_same [] i x h = absurd (omega arith)
@@ -49,7 +49,29 @@ pub both_of : (a b : Bool) → (a && b) ≡ true → (a ≡ true) × (b ≡ true
 both_of true b h = (refl, h)
 both_of false b h = absurd (false≢true h)
 
--- the one queue of an end, written
-pub written : (queues : List (List Envelope)) (q : List Envelope) → length queues ≡ 1 → get_or (set queues 0 q) 0 [] ≡ q
-written [] q one = absurd (omega (arith, one))
-written (r ∷ rs) q one = refl
+-- what is said of each number, after one was written
+pub each_set : {A : Type 0} (P : ℕ → Option A → Type 0) (xs : List A) (i : ℕ) (x : A) → i < length xs → P i (Some x) → ((j : ℕ) → (j ≡ i → ⊥) → P j (slice_get xs j)) → (j : ℕ) → P j (slice_get (set xs i x) j)
+each_set P xs i x there here others j = elim (eqb j i) as (λ b. eqb j i ≡ b → P j (slice_get (set xs i x) j)) [
+  | true ↦ λ t. let same : j ≡ i = search (rules, t) in subst (λ k. P k (slice_get (set xs i x) k)) (sym same) (subst (P i) (sym (slice_get-set_same xs i x there)) here)
+  | false ↦ λ t. let other : j ≡ i → ⊥ = search (rules, t) in subst (P j) (sym (slice_get-set_other xs i j x other)) (others j other)
+] refl
+
+-- what a list of lists holds at each number, after one was written
+pub get_or-set_same : {A : Type 0} (xs : List (List A)) (i : ℕ) (x : List A) → i < length xs → get_or (set xs i x) i [] ≡ x
+get_or-set_same [] i x h = absurd (omega arith)
+get_or-set_same (y ∷ ys) zero x h = refl
+get_or-set_same (y ∷ ys) (suc i) x h = get_or-set_same ys i x (omega arith)
+
+pub get_or-set_other : {A : Type 0} (xs : List (List A)) (i j : ℕ) (x : List A) → (j ≡ i → ⊥) → get_or (set xs i x) j [] ≡ get_or xs j []
+get_or-set_other [] i j x h = refl
+get_or-set_other (y ∷ ys) zero zero x h = absurd (h refl)
+get_or-set_other (y ∷ ys) zero (suc j) x h = refl
+get_or-set_other (y ∷ ys) (suc i) zero x h = refl
+get_or-set_other (y ∷ ys) (suc i) (suc j) x h = get_or-set_other ys i j x (λ e. h (ap suc e))
+
+-- what is inside a list is there
+pub is_there : {A : Type 0} (xs : List A) (i : ℕ) → i < length xs → slice_get xs i ≡ None → ⊥
+is_there xs i within none = elim (slice_get_cases xs i).1 [
+  | inl p ↦ absurd (search (rules, sym p.2 ∙ none))
+  | inr p ↦ absurd (let past : length xs ≤ i = p.0 in omega arith)
+]

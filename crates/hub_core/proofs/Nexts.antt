@@ -1,20 +1,61 @@
 -- One more pair, for all notions at once: the facts of the longer history.
-use Rattle.std.proofs.Common.{◌≡◌, false, List, [], ◌∷◌, ◌++◌, ap, ◌∙◌, append-nil}
-use Rattle.std.specs.Prelude.{None}
+use Rattle.std.proofs.Common.{◌≡◌, ℕ, Bool, true, false, cond, eqb, List, [], ◌∷◌, ◌++◌, refl, sym, ap, subst, ◌∙◌, inl, inr, append-nil}
+use Rattle.std.specs.Prelude.{◌==◌, if◌then◌else◌, Option, None, ◌⊎◌, Vec}
+use Rattle.hub_core.specs.declared.end.Place.{Place}
+use Rattle.std.specs.declared.alloc.Global.{Global}
 use Rattle.std.specs.List.{fold, flat_map}
 use Rattle.std.proofs.lemmas.List.Sums.{fold-append}
 use Rattle.std.proofs.lemmas.Grind.{flat_map-append}
+use Rattle.hub_envelope.specs.declared.envelope.Envelope.{Envelope}
+use Rattle.hub_envelope.specs.declared.ids.AgentId.{AgentId}
+use Rattle.hub_envelope.specs.declared.ids.EndId.{EndId}
 use Rattle.hub_core.specs.declared.line.Phase.TheVariants.{Out}
+use Rattle.hub_core.specs.declared.sender.Sender.{Sender}
+use Rattle.hub_core.specs.declared.outcome.Acceptance.{Acceptance}
+use Rattle.hub_core.specs.declared.step.Action.{Action}
+use Rattle.hub_core.specs.declared.step.Action.TheVariants as action
+use Rattle.hub_core.specs.declared.outcome.Outcome.{Outcome}
+use Rattle.hub_core.specs.declared.outcome.Outcome.TheVariants as outcome
 use Rattle.hub_core.specs.History.{Pair, History}
-use Rattle.hub_core.specs.Facts.{facts}
-use Rattle.hub_core.specs.Next.{next}
-use Rattle.hub_core.specs.Accepted.{accepted_by}
+use Rattle.hub_core.specs.Facts.{Facts, facts}
+use Rattle.hub_core.specs.Accepted.{named_envelope, accepted_by}
 use Rattle.hub_core.specs.Taken.{taken_by}
 use Rattle.hub_core.specs.Made.{agents_after, runs_after, ends_after, peer_after}
 use Rattle.hub_core.specs.Place.{place_after}
 use Rattle.hub_core.specs.Closed.{closed_after}
 use Rattle.hub_core.specs.Enabled.{enabled_after}
 use Rattle.hub_core.specs.Lines.{phase_after, adoptions_after, hops_after, passed_after}
+
+-- the list with what an answered step puts at its end
+abbrev pub accepted_after : ℕ → List Envelope → Outcome → Action → List Envelope
+accepted_after x vs (outcome.Accepted n) (action.Push s ports body) = if x == s.end.0 then vs ++ named_envelope s n body ports.items ∷ [] else vs
+accepted_after x vs _ _ = vs
+
+abbrev pub taken_after : ℕ → List Envelope → Outcome → Action → List Envelope
+taken_after x vs (outcome.Got v) (action.Take t) = if x == t.0 then vs ++ v ∷ [] else vs
+taken_after x vs _ _ = vs
+
+-- the facts with an answered step; what the step doesn't touch computes to what it was
+abbrev pub next : Facts → Action → Outcome → Facts
+next f a o = record {
+  agents = agents_after f.agents o a;
+  ends = ends_after f.ends o a;
+  agent = λ x. record { runs = runs_after x (f.agent x).runs o a };
+  end = λ x. record {
+    peer = peer_after x (f.end x).peer o a;
+    place = place_after x (λ y. (f.end y).place) o a;
+    closed = closed_after x (f.end x).closed o a;
+    enabled = enabled_after x (f.end x).enabled o a;
+    newest = adoptions_after x (f.end x).newest o a;
+    taker_stand = passed_after x (f.end x).taker_stand o a;
+  };
+  line = λ x l. record {
+    phase = phase_after x l (f.line x l).phase o a;
+    stand = hops_after x l (f.line x l).stand o a;
+  };
+  accepted = λ x. accepted_after x (f.accepted x) o a;
+  taken = λ x. taken_after x (f.taken x) o a;
+}
 
 -- a fold over one more pair
 fold_one : {B : Type 0} (f : B → Pair → B) (b : B) (h : History) (p : Pair) → fold f b (h ++ p ∷ []) ≡ f (fold f b h) p
@@ -24,19 +65,69 @@ fold_one f b h p = fold-append f b h (p ∷ [])
 flat_map_one : {A : Type 0} (f : Pair → List A) (h : History) (p : Pair) → flat_map f (h ++ p ∷ []) ≡ flat_map f h ++ f p
 flat_map_one f h p = flat_map-append f h (p ∷ []) ∙ ap (λ xs. flat_map f h ++ xs) (append-nil (f p))
 
+-- one more where it is of the end, else nothing
+one_where : {A : Type 0} (b : Bool) (vs : List A) (v : A) → vs ++ cond b (v ∷ []) [] ≡ cond b (vs ++ v ∷ []) vs
+one_where true vs v = refl
+one_where false vs v = append-nil vs
+
+accepted_one : (x : ℕ) (vs : List Envelope) (o : Outcome) (a : Action) → vs ++ accepted_by x o a ≡ accepted_after x vs o a
+accepted_one x vs (outcome.Accepted n) (action.Push s ports body) = one_where (eqb x s.end.0) vs (named_envelope s n body ports.items)
+accepted_one x vs o a = append-nil vs
+
+taken_one : (x : ℕ) (vs : List Envelope) (o : Outcome) (a : Action) → vs ++ taken_by x o a ≡ taken_after x vs o a
+taken_one x vs (outcome.Got v) (action.Take t) = one_where (eqb x t.0) vs v
+taken_one x vs o a = append-nil vs
+
 pub facts_next : (h : History) (p : Pair) → facts (h ++ p ∷ []) ≡ next (facts h) p.0.action p.1
 facts_next h p = λ i. record {
-  agents = fold_one (λ n q. agents_after n q.0.action q.1) 0 h p i;
-  ends = fold_one (λ n q. ends_after n q.0.action q.1) 0 h p i;
-  runs = λ x. fold_one (λ r q. runs_after x r q.0.action q.1) false h p i;
-  peer = λ x. fold_one (λ r q. peer_after x r q.0.action q.1) None h p i;
-  place = λ x. fold_one (λ r q. place_after r q.0.action q.1) (λ _. None) h p i x;
-  closed = λ x. fold_one (λ r q. closed_after x r q.0.action q.1) false h p i;
-  enabled = λ x. fold_one (λ r q. enabled_after x r q.0.action q.1) false h p i;
-  newest = λ x. fold_one (λ r q. adoptions_after x r q.0.action q.1) 0 h p i;
-  taker_stand = λ x. fold_one (λ r q. passed_after x r q.0.action q.1) 0 h p i;
-  stand = λ x l. fold_one (λ r q. hops_after x l r q.0.action q.1) 0 h p i;
-  phase = λ x l. fold_one (λ r q. phase_after x l r q.0.action q.1) Out h p i;
-  accepted = λ x. flat_map_one (λ q. accepted_by x q.0.action q.1) h p i;
-  taken = λ x. flat_map_one (λ q. taken_by x q.0.action q.1) h p i;
+  agents = fold_one (λ n q. agents_after n q.1 q.0.action) 0 h p i;
+  ends = fold_one (λ n q. ends_after n q.1 q.0.action) 0 h p i;
+  agent = λ x. record { runs = fold_one (λ r q. runs_after x r q.1 q.0.action) false h p i };
+  end = λ x. record {
+    peer = fold_one (λ r q. peer_after x r q.1 q.0.action) None h p i;
+    place = fold_one {B = ℕ → Option Place} (λ r q y. place_after y r q.1 q.0.action) (λ _. None) h p i x;
+    closed = fold_one (λ r q. closed_after x r q.1 q.0.action) false h p i;
+    enabled = fold_one (λ r q. enabled_after x r q.1 q.0.action) false h p i;
+    newest = fold_one (λ r q. adoptions_after x r q.1 q.0.action) 0 h p i;
+    taker_stand = fold_one (λ r q. passed_after x r q.1 q.0.action) 0 h p i;
+  };
+  line = λ x l. record {
+    phase = fold_one (λ r q. phase_after x l r q.1 q.0.action) Out h p i;
+    stand = fold_one (λ r q. hops_after x l r q.1 q.0.action) 0 h p i;
+  };
+  accepted = λ x. (flat_map_one (λ q. accepted_by x q.1 q.0.action) h p ∙ accepted_one x (flat_map (λ q. accepted_by x q.1 q.0.action) h) p.1 p.0.action) i;
+  taken = λ x. (flat_map_one (λ q. taken_by x q.1 q.0.action) h p ∙ taken_one x (flat_map (λ q. taken_by x q.1 q.0.action) h) p.1 p.0.action) i;
 }
+
+-- ---- the pairs that change something
+
+pub data Change : Action → Outcome → Type 0 where
+  agent_made : (a : AgentId) → Change action.Agent (outcome.Agent a)
+  channel_made : (a : AgentId) (e e' : EndId) → Change (action.Channel a) (outcome.Ends e e')
+  let_in : (s : Sender) → Change (action.Enter s) outcome.In
+  found_moved : (s : Sender) → Change (action.Enter s) outcome.Moved
+  found_closed : (s : Sender) → Change (action.Enter s) outcome.Closed
+  put : (s : Sender) (ports : Vec EndId Global) (body : List ℕ) (n : Acceptance) → Change (action.Push s ports body) (outcome.Accepted n)
+  left : (s : Sender) → Change (action.Leave s) outcome.Left
+  started : (e : EndId) → Change (action.Start e) outcome.Started
+  got : (e : EndId) (v : Envelope) → Change (action.Take e) (outcome.Got v)
+
+-- every other pair leaves the facts as they are
+pub effect : (f : Facts) (o : Outcome) (a : Action) → (next f a o ≡ f) ⊎ Change a o
+effect f (outcome.Agent n) action.Agent = inr (agent_made n)
+effect f (outcome.Ends e e') (action.Channel a) = inr (channel_made a e e')
+effect f outcome.In (action.Enter s) = inr (let_in s)
+effect f outcome.Moved (action.Enter s) = inr (found_moved s)
+effect f outcome.Closed (action.Enter s) = inr (found_closed s)
+effect f (outcome.Accepted n) (action.Push s ports body) = inr (put s ports body n)
+effect f outcome.Left (action.Leave s) = inr (left s)
+effect f outcome.Started (action.Start e) = inr (started e)
+effect f (outcome.Got v) (action.Take e) = inr (got e v)
+effect f o a = inl refl
+
+-- what holds of the facts and is kept by each pair that changes something is kept by every pair
+pub by_change : (P : Facts → Type 0) (f : Facts) (a : Action) (o : Outcome) → P f → (Change a o → P (next f a o)) → P (next f a o)
+by_change P f a o h changed = elim (effect f o a) [
+  | inl same ↦ subst P (sym same) h
+  | inr change ↦ changed change
+]

@@ -1,5 +1,5 @@
 -- Histories that can't be told apart.
-use Rattle.std.proofs.Common.{◌≡◌, ℕ, Bool, true, false, cond, eqb, [], ◌∷◌, ◌++◌, refl, sym, ap, subst, ◌∙◌, inl, inr, rules, append-nil, append_assoc}
+use Rattle.std.proofs.Common.{◌≡◌, ℕ, Bool, true, false, cond, eqb, [], ◌∷◌, ◌++◌, refl, sym, ap, subst, ◌∙◌, inl, inr, rules, append_assoc}
 use Rattle.std.specs.Prelude.{◌&&◌, ◌⊎◌, not, is_some}
 use Rattle.std.proofs.lemmas.Bool.{false≢true}
 use Rattle.hub_core.specs.declared.line.Phase.{Phase}
@@ -11,14 +11,12 @@ use Rattle.hub_core.specs.declared.outcome.Outcome.{Outcome}
 use Rattle.hub_core.specs.declared.outcome.Outcome.TheVariants as outcome
 use Rattle.hub_core.specs.History.{Pair, History}
 use Rattle.hub_core.specs.Facts.{Facts, facts}
-use Rattle.hub_core.specs.Next.{next}
 use Rattle.hub_core.specs.Fits.{Answers, Fits}
 use Rattle.hub_core.specs.Legal.{LegalAfter, Same}
-use Rattle.hub_core.specs.Posting.{is_out, poster}
+use Rattle.hub_core.specs.Posting.{is_out, phase_of_line, poster}
 use Rattle.hub_core.specs.Unchanged.{changes_nothing}
 use Rattle.hub_core.proofs.Lists.{both_of}
-use Rattle.hub_core.proofs.Nexts.{facts_next}
-use Rattle.hub_core.proofs.Frames.{unchanged, unchanged_same}
+use Rattle.hub_core.proofs.Nexts.{next, facts_next}
 
 legal_same : (h k more : History) → facts h ≡ facts k → LegalAfter h more → LegalAfter k more
 legal_same h k [] same l = tt
@@ -31,63 +29,21 @@ legal_same h k (p ∷ more) same l = (
 pub same_facts : (h k : History) → facts h ≡ facts k → Same h k
 same_facts h k same more = (legal_same h k more same, legal_same k h more (sym same))
 
-nothing_next : (f : Facts) (a : Action) (o : Outcome) → changes_nothing a o ≡ true → next f a o ≡ unchanged f
-nothing_next f action.Agent outcome.NotNow h = refl
-nothing_next f action.Agent outcome.NoMemory h = refl
-nothing_next f action.Agent outcome.TooManyAgents h = refl
-nothing_next f action.Agent outcome.TooManyEnds h = refl
-nothing_next f action.Agent outcome.TooManyPorts h = refl
-nothing_next f action.Agent outcome.Disabled h = refl
-nothing_next f action.Agent outcome.Empty h = refl
-nothing_next f (action.Channel a) outcome.NotNow h = refl
-nothing_next f (action.Channel a) outcome.NoMemory h = refl
-nothing_next f (action.Channel a) outcome.TooManyAgents h = refl
-nothing_next f (action.Channel a) outcome.TooManyEnds h = refl
-nothing_next f (action.Channel a) outcome.TooManyPorts h = refl
-nothing_next f (action.Channel a) outcome.Disabled h = refl
-nothing_next f (action.Channel a) outcome.Empty h = refl
-nothing_next f (action.Enter s) outcome.NotNow h = refl
-nothing_next f (action.Enter s) outcome.NoMemory h = refl
-nothing_next f (action.Enter s) outcome.TooManyAgents h = refl
-nothing_next f (action.Enter s) outcome.TooManyEnds h = refl
-nothing_next f (action.Enter s) outcome.TooManyPorts h = refl
-nothing_next f (action.Enter s) outcome.Disabled h = refl
-nothing_next f (action.Enter s) outcome.Empty h = refl
-nothing_next f (action.Push s ports body) outcome.NotNow h = refl
-nothing_next f (action.Push s ports body) outcome.NoMemory h = refl
-nothing_next f (action.Push s ports body) outcome.TooManyAgents h = refl
-nothing_next f (action.Push s ports body) outcome.TooManyEnds h = refl
-nothing_next f (action.Push s ports body) outcome.TooManyPorts h = refl
-nothing_next f (action.Push s ports body) outcome.Disabled h = refl
-nothing_next f (action.Push s ports body) outcome.Empty h = refl
-nothing_next f (action.Leave s) outcome.NotNow h = refl
-nothing_next f (action.Leave s) outcome.NoMemory h = refl
-nothing_next f (action.Leave s) outcome.TooManyAgents h = refl
-nothing_next f (action.Leave s) outcome.TooManyEnds h = refl
-nothing_next f (action.Leave s) outcome.TooManyPorts h = refl
-nothing_next f (action.Leave s) outcome.Disabled h = refl
-nothing_next f (action.Leave s) outcome.Empty h = refl
-nothing_next f (action.Start e) outcome.NotNow h = refl
-nothing_next f (action.Start e) outcome.NoMemory h = refl
-nothing_next f (action.Start e) outcome.TooManyAgents h = refl
-nothing_next f (action.Start e) outcome.TooManyEnds h = refl
-nothing_next f (action.Start e) outcome.TooManyPorts h = refl
-nothing_next f (action.Start e) outcome.Disabled h = refl
-nothing_next f (action.Start e) outcome.Empty h = refl
-nothing_next f (action.Take e) outcome.NotNow h = refl
-nothing_next f (action.Take e) outcome.NoMemory h = refl
-nothing_next f (action.Take e) outcome.TooManyAgents h = refl
-nothing_next f (action.Take e) outcome.TooManyEnds h = refl
-nothing_next f (action.Take e) outcome.TooManyPorts h = refl
-nothing_next f (action.Take e) outcome.Disabled h = refl
-nothing_next f (action.Take e) outcome.Empty h = refl
-nothing_next f (action.Start e) outcome.Closed h = refl
-nothing_next f (action.Take e) outcome.Closed h = refl
+nothing_next : (f : Facts) (o : Outcome) (a : Action) → changes_nothing o a ≡ true → next f a o ≡ f
+nothing_next f outcome.NotNow a h = refl
+nothing_next f outcome.NoMemory a h = refl
+nothing_next f outcome.TooManyAgents a h = refl
+nothing_next f outcome.TooManyEnds a h = refl
+nothing_next f outcome.TooManyPorts a h = refl
+nothing_next f outcome.Disabled a h = refl
+nothing_next f outcome.Empty a h = refl
+nothing_next f outcome.Closed (action.Start e) h = refl
+nothing_next f outcome.Closed (action.Take e) h = refl
 nothing_next f _ _ h = absurd (false≢true h)
 
 -- a pair that changes nothing leaves the same
-pub nothing_same : (h : History) (p : Pair) → changes_nothing p.0.action p.1 ≡ true → Same (h ++ p ∷ []) h
-nothing_same h p n = same_facts (h ++ p ∷ []) h (facts_next h p ∙ nothing_next (facts h) p.0.action p.1 n ∙ unchanged_same (facts h))
+pub nothing_same : (h : History) (p : Pair) → changes_nothing p.1 p.0.action ≡ true → Same (h ++ p ∷ []) h
+nothing_same h p n = same_facts (h ++ p ∷ []) h (facts_next h p ∙ nothing_next (facts h) p.1 p.0.action n)
 
 -- ---- turned back
 
@@ -101,24 +57,20 @@ line_again : (s : Sender) (p q : Phase) (x l : ℕ) → (b : Bool) → (b ≡ tr
 line_again s p q x l true h = sym (h refl)
 line_again s p q x l false h = refl
 
-line_was_out : (f : Facts) (s : Sender) (x l : ℕ) → f.phase s.end.0 s.line.0 ≡ Out → (eqb x s.end.0 && eqb l s.line.0) ≡ true → f.phase x l ≡ Out
+line_was_out : (f : Facts) (s : Sender) (x l : ℕ) → phase_of_line f s ≡ Out → (eqb x s.end.0 && eqb l s.line.0) ≡ true → (f.line x l).phase ≡ Out
 line_was_out f s x l out h =
     let both = both_of (eqb x s.end.0) (eqb l s.line.0) h in
     let here : x ≡ s.end.0 = search (rules, both.0) in
     let line : l ≡ s.line.0 = search (rules, both.1) in
-    ap (λ y. f.phase y l) here ∙ ap (f.phase s.end.0) line ∙ out
+    ap (λ y. (f.line y l).phase) here ∙ ap (λ k. (f.line s.end.0 k).phase) line ∙ out
 
 -- the facts after a turned poster has left
-turned_facts : (f : Facts) (s : Sender) (o : Outcome) → (o ≡ outcome.Closed) ⊎ (o ≡ outcome.Moved) → f.phase s.end.0 s.line.0 ≡ Out → next (next f (action.Enter s) o) (action.Leave s) outcome.Left ≡ f
+turned_facts : (f : Facts) (s : Sender) (o : Outcome) → (o ≡ outcome.Closed) ⊎ (o ≡ outcome.Moved) → phase_of_line f s ≡ Out → next (next f (action.Enter s) o) (action.Leave s) outcome.Left ≡ f
 turned_facts f s o (inl is) out = rw is (λ i. record f {
-  phase = λ x l. line_again s Turned (f.phase x l) x l (eqb x s.end.0 && eqb l s.line.0) (line_was_out f s x l out) i;
-  accepted = λ x. (append-nil (f.accepted x ++ []) ∙ append-nil (f.accepted x)) i;
-  taken = λ x. (append-nil (f.taken x ++ []) ∙ append-nil (f.taken x)) i;
+  line = λ x l. record { phase = line_again s Turned (f.line x l).phase x l (eqb x s.end.0 && eqb l s.line.0) (line_was_out f s x l out) i; stand = (f.line x l).stand };
 })
 turned_facts f s o (inr is) out = rw is (λ i. record f {
-  phase = λ x l. line_again s Turned (f.phase x l) x l (eqb x s.end.0 && eqb l s.line.0) (line_was_out f s x l out) i;
-  accepted = λ x. (append-nil (f.accepted x ++ []) ∙ append-nil (f.accepted x)) i;
-  taken = λ x. (append-nil (f.taken x ++ []) ∙ append-nil (f.taken x)) i;
+  line = λ x l. record { phase = line_again s Turned (f.line x l).phase x l (eqb x s.end.0 && eqb l s.line.0) (line_was_out f s x l out) i; stand = (f.line x l).stand };
 })
 
 -- an Enter that was turned back found its line out
@@ -137,6 +89,6 @@ turned_same h s r q o turned fits =
     let a : Pair = (record { action = action.Enter s; memory_refused = r }, o) in
     let b : Pair = (record { action = action.Leave s; memory_refused = q }, outcome.Left) in
     let f : Facts = facts h in
-    let out : f.phase s.end.0 s.line.0 ≡ Out = out_of (f.phase s.end.0 s.line.0) (entered_out (is_some (poster f s)) (is_out (f.phase s.end.0 s.line.0)) o _ (not_refused o turned) fits) in
+    let out : phase_of_line f s ≡ Out = out_of (phase_of_line f s) (entered_out (is_some (poster f s)) (is_out (phase_of_line f s)) o _ (not_refused o turned) fits) in
     same_facts (h ++ a ∷ b ∷ []) h
     (ap facts (sym (append_assoc h (a ∷ []) (b ∷ []))) ∙ facts_next (h ++ a ∷ []) b ∙ ap (λ g. next g (action.Leave s) outcome.Left) (facts_next h a) ∙ turned_facts f s o turned out)

@@ -1,5 +1,5 @@
 -- From what the parts of the core did to the clauses of a step.
-use Rattle.std.proofs.Common.{◌≡◌, ◌+◌, Bool, true, false, cond, set, length, List, [], ◌∷◌, ◌++◌, Option, Some, None, Result, Ok, Err, refl, sym, subst, ◌∙◌}
+use Rattle.std.proofs.Common.{◌≡◌, Bool, true, false, cond, set, List, [], ◌∷◌, ◌++◌, Option, Some, None, Result, Ok, Err, refl, sym, subst, ◌∙◌}
 use Rattle.std.specs.Prelude.{IfOk, nat_lt}
 use Rattle.std.specs.Bool.{MatchBool}
 use Rattle.std.specs.List.{slice_get}
@@ -18,21 +18,21 @@ use Rattle.hub_core.specs.declared.outcome.Outcome.{Outcome}
 use Rattle.hub_core.specs.declared.outcome.Outcome.TheVariants as outcome
 use Rattle.hub_core.specs.History.{History}
 use Rattle.hub_core.specs.Facts.{Facts, facts}
-use Rattle.hub_core.specs.Next.{next}
 use Rattle.hub_core.specs.Fits.{Answers, Fits}
 use Rattle.hub_core.specs.Posting.{is_out}
 use Rattle.hub_core.specs.Shows.{ShowsFacts}
 use Rattle.hub_core.specs.Unchanged.{changes_nothing}
 use Rattle.hub_core.specs.Kept.{gate_answer, phase_of, enter_outcome, enter_end, enter_outcome_at, enter_ends_at, leave_outcome, leave_end, leave_outcome_at, leave_ends_at, TakeServes, TakeHeld, TakeLeaves}
 use Rattle.hub_core.proofs.Lists.{set_again}
-use Rattle.hub_core.proofs.Nexts.{facts_next}
+use Rattle.hub_core.proofs.Nexts.{next, facts_next}
+use Rattle.hub_core.proofs.Frames.{Stepped}
 
 -- what a step answers and leaves, after every history that is shown
-pub stepped : (agents after_agents : List Agent) (ends after_ends : List End) (step : Step) (o : Outcome) (a : Action) → step.action ≡ a → ((f : Facts) → ShowsFacts agents ends f → Answers f a step.memory_refused o × ShowsFacts after_agents after_ends (next f a o)) → (h : History) → ShowsFacts agents ends (facts h) → Fits h (step, o) × ShowsFacts after_agents after_ends (facts (h ++ (step, o) ∷ []))
+pub stepped : (agents after_agents : List Agent) (ends after_ends : List End) (step : Step) (o : Outcome) (a : Action) → step.action ≡ a → ((f : Facts) → ShowsFacts agents ends f → Stepped after_agents after_ends f a step.memory_refused o) → (h : History) → ShowsFacts agents ends (facts h) → Fits h (step, o) × ShowsFacts after_agents after_ends (facts (h ++ (step, o) ∷ []))
 stepped agents after_agents ends after_ends step o a is k h s =
     let r = k (facts h) s in (
-      subst (λ b. Answers (facts h) b step.memory_refused o) (sym is) r.0,
-      subst (ShowsFacts after_agents after_ends) (sym (facts_next h (step, o))) (subst (λ b. ShowsFacts after_agents after_ends (next (facts h) b o)) (sym is) r.1),
+      subst (λ b. Answers (facts h) b step.memory_refused o) (sym is) r.fits,
+      subst (ShowsFacts after_agents after_ends) (sym (facts_next h (step, o))) (subst (λ b. ShowsFacts after_agents after_ends (next (facts h) b o)) (sym is) r.shows),
     )
 
 -- two facts of what was answered Ok give a third
@@ -42,47 +42,47 @@ ok_both (Err e) P Q R p q f = tt
 
 -- ---- what changes nothing leaves the ends
 
-gate_changes : (closed retired : Bool) (s : Sender) → changes_nothing (action.Enter s) (cond retired outcome.Moved (cond closed outcome.Closed outcome.In)) ≡ false
+gate_changes : (closed retired : Bool) (s : Sender) → changes_nothing (cond retired outcome.Moved (cond closed outcome.Closed outcome.In)) (action.Enter s) ≡ false
 gate_changes closed true s = refl
 gate_changes true false s = refl
 gate_changes false false s = refl
 
-enter_line_same : (ends : List End) (s : Sender) (x : End) → slice_get ends s.end.0 ≡ Some x → (q : Option Line) → changes_nothing (action.Enter s) (enter_outcome x q) ≡ true → set ends s.end.0 (enter_end x s.line.0 q) ≡ ends
+enter_line_same : (ends : List End) (s : Sender) (x : End) → slice_get ends s.end.0 ≡ Some x → (q : Option Line) → changes_nothing (enter_outcome x q) (action.Enter s) ≡ true → set ends s.end.0 (enter_end x s.line.0 q) ≡ ends
 enter_line_same ends s x at None h = set_again ends s.end.0 x at
-enter_line_same ends s x at (Some y) h = elim (is_out y.phase) as (λ b. changes_nothing (action.Enter s) (cond b (gate_answer x y) outcome.NotNow) ≡ true → set ends s.end.0 (cond b (record x { lines = set x.lines s.line.0 (record y { phase = phase_of (gate_answer x y) }) }) x) ≡ ends) [
-  | true ↦ λ open_gate. absurd (false≢true (sym (gate_changes x.is_closed (nat_lt (y.epoch + 1) (length x.queues)) s) ∙ open_gate))
+enter_line_same ends s x at (Some y) h = elim (is_out y.phase) as (λ b. changes_nothing (cond b (gate_answer x y) outcome.NotNow) (action.Enter s) ≡ true → set ends s.end.0 (cond b (record x { lines = set x.lines s.line.0 (record y { phase = phase_of (gate_answer x y) }) }) x) ≡ ends) [
+  | true ↦ λ open_gate. absurd (false≢true (sym (gate_changes x.is_closed (nat_lt y.epoch x.newest) s) ∙ open_gate))
   | false ↦ λ _. set_again ends s.end.0 x at
 ] h
 
-pub enter_same : (ends : List End) (s : Sender) (P : Option AgentId) (q : Option End) → slice_get ends s.end.0 ≡ q → changes_nothing (action.Enter s) (enter_outcome_at P s.line.0 q) ≡ true → enter_ends_at P s ends q ≡ ends
+pub enter_same : (ends : List End) (s : Sender) (P : Option AgentId) (q : Option End) → slice_get ends s.end.0 ≡ q → changes_nothing (enter_outcome_at P s.line.0 q) (action.Enter s) ≡ true → enter_ends_at P s ends q ≡ ends
 enter_same ends s P None at h = refl
 enter_same ends s None (Some x) at h = refl
 enter_same ends s (Some a) (Some x) at h = enter_line_same ends s x at (slice_get x.lines s.line.0) h
 
-leave_line_same : (ends : List End) (s : Sender) (x : End) → slice_get ends s.end.0 ≡ Some x → (q : Option Line) → changes_nothing (action.Leave s) (leave_outcome q) ≡ true → set ends s.end.0 (leave_end x s.line.0 q) ≡ ends
+leave_line_same : (ends : List End) (s : Sender) (x : End) → slice_get ends s.end.0 ≡ Some x → (q : Option Line) → changes_nothing (leave_outcome q) (action.Leave s) ≡ true → set ends s.end.0 (leave_end x s.line.0 q) ≡ ends
 leave_line_same ends s x at None h = set_again ends s.end.0 x at
-leave_line_same ends s x at (Some y) h = elim (is_out y.phase) as (λ b. changes_nothing (action.Leave s) (cond b outcome.NotNow outcome.Left) ≡ true → set ends s.end.0 (cond b x (record x { lines = set x.lines s.line.0 (record y { phase = Out }) })) ≡ ends) [
+leave_line_same ends s x at (Some y) h = elim (is_out y.phase) as (λ b. changes_nothing (cond b outcome.NotNow outcome.Left) (action.Leave s) ≡ true → set ends s.end.0 (cond b x (record x { lines = set x.lines s.line.0 (record y { phase = Out }) })) ≡ ends) [
   | true ↦ λ _. set_again ends s.end.0 x at
   | false ↦ λ left. absurd (false≢true left)
 ] h
 
-pub leave_same : (ends : List End) (s : Sender) (q : Option End) → slice_get ends s.end.0 ≡ q → changes_nothing (action.Leave s) (leave_outcome_at s.line.0 q) ≡ true → leave_ends_at s ends q ≡ ends
+pub leave_same : (ends : List End) (s : Sender) (q : Option End) → slice_get ends s.end.0 ≡ q → changes_nothing (leave_outcome_at s.line.0 q) (action.Leave s) ≡ true → leave_ends_at s ends q ≡ ends
 leave_same ends s None at h = refl
 leave_same ends s (Some x) at h = leave_line_same ends s x at (slice_get x.lines s.line.0) h
 
-take_serves_same : (ends new : List End) (e : EndId) (x : End) (a : AgentId) (o : Outcome) → slice_get ends e.0 ≡ Some x → TakeServes a e.0 ends x o new → changes_nothing (action.Take e) o ≡ true → new ≡ ends
+take_serves_same : (ends new : List End) (e : EndId) (x : End) (a : AgentId) (o : Outcome) → slice_get ends e.0 ≡ Some x → TakeServes a e.0 ends x o new → changes_nothing o (action.Take e) ≡ true → new ≡ ends
 take_serves_same ends new e x a (outcome.Got v) at t h = absurd (false≢true h)
 take_serves_same ends new e x a outcome.Empty at t h = t.1 ∙ set_again ends e.0 x at
 take_serves_same ends new e x a _ at t h = absurd t
 
-take_held_same : (ends new : List End) (e : EndId) (x : End) (P : Option AgentId) (o : Outcome) → slice_get ends e.0 ≡ Some x → TakeHeld P e.0 ends x o new → changes_nothing (action.Take e) o ≡ true → new ≡ ends
+take_held_same : (ends new : List End) (e : EndId) (x : End) (P : Option AgentId) (o : Outcome) → slice_get ends e.0 ≡ Some x → TakeHeld P e.0 ends x o new → changes_nothing o (action.Take e) ≡ true → new ≡ ends
 take_held_same ends new e x None o at t h = t.1
 take_held_same ends new e x (Some a) o at t h = elim x.is_enabled as (λ b. MatchBool b (TakeServes a e.0 ends x o new) ((o ≡ outcome.Disabled) × (new ≡ ends)) → new ≡ ends) [
   | true ↦ λ served. take_serves_same ends new e x a o at served h
   | false ↦ λ both. both.1
 ] t
 
-pub take_same : (ends new : List End) (e : EndId) (P : Option AgentId) (o : Outcome) (q : Option End) → slice_get ends e.0 ≡ q → TakeLeaves P e.0 ends q o new → changes_nothing (action.Take e) o ≡ true → new ≡ ends
+pub take_same : (ends new : List End) (e : EndId) (P : Option AgentId) (o : Outcome) (q : Option End) → slice_get ends e.0 ≡ q → TakeLeaves P e.0 ends q o new → changes_nothing o (action.Take e) ≡ true → new ≡ ends
 take_same ends new e P o None at t h = t.1
 take_same ends new e P o (Some x) at t h = elim x.is_closed as (λ b. MatchBool b ((o ≡ outcome.Closed) × (new ≡ ends)) (TakeHeld P e.0 ends x o new) → new ≡ ends) [
   | true ↦ λ both. both.1

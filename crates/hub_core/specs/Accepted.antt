@@ -17,11 +17,11 @@ named_envelope s a body ports =
     record { end = s.end; epoch = a.epoch; line = s.line; number = a.number; agent = a.agent; body = body; ports = ports; notice = false }
 
 -- what an answered step puts at the end: the envelope of a Push answered Accepted
-abbrev pub accepted_by : ℕ → Action → Outcome → List Envelope
-accepted_by e (action.Push s ports body) (outcome.Accepted a) =
+abbrev pub accepted_by : ℕ → Outcome → Action → List Envelope
+accepted_by e (outcome.Accepted a) (action.Push s ports body) =
     if e == s.end.0 then named_envelope s a body ports.items ∷ [] else []
 accepted_by e _ _ = []
 
 -- the envelopes of the Push steps to the end that were answered Accepted, in order
 abbrev pub accepted : History → ℕ → List Envelope
-accepted h e = flat_map (λ p. accepted_by e p.0.action p.1) h
+accepted h e = flat_map (λ p. accepted_by e p.1 p.0.action) h

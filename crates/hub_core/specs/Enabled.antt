@@ -8,11 +8,11 @@ use Rattle.hub_core.specs.declared.outcome.Outcome.{Outcome}
 use Rattle.hub_core.specs.declared.outcome.Outcome.TheVariants as outcome
 use Rattle.hub_core.specs.History.{History}
 
-abbrev pub enabled_after : ℕ → Bool → Action → Outcome → Bool
-enabled_after x enabled (action.Channel a) (outcome.Ends e f) = if x == e.0 || x == f.0 then false else enabled
-enabled_after x enabled (action.Start e) outcome.Started = if x == e.0 then true else enabled
+abbrev pub enabled_after : ℕ → Bool → Outcome → Action → Bool
+enabled_after x enabled (outcome.Ends e f) (action.Channel a) = if x == e.0 || x == f.0 then false else enabled
+enabled_after x enabled outcome.Started (action.Start e) = if x == e.0 then true else enabled
 enabled_after x enabled _ _ = enabled
 
 -- a Start of the end was answered Started after its making
 abbrev pub enabled : History → ℕ → Bool
-enabled h x = fold (λ q p. enabled_after x q p.0.action p.1) false h
+enabled h x = fold (λ q p. enabled_after x q p.1 p.0.action) false h

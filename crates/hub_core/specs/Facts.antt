@@ -1,4 +1,4 @@
--- All that an answer may depend on.
+-- All that an answer may depend on: agent by agent, end by end, line by line.
 use Rattle.std.specs.Prelude.{ℕ, Bool, List, Option}
 use Rattle.hub_envelope.specs.declared.envelope.Envelope.{Envelope}
 use Rattle.hub_core.specs.declared.end.Place.{Place}
@@ -12,35 +12,49 @@ use Rattle.hub_core.specs.Closed as closed
 use Rattle.hub_core.specs.Enabled as enabled
 use Rattle.hub_core.specs.Lines as lines
 
--- the notions of a history, each by the number of the end, agent or line
+-- an agent now
+pub record AgentNow : Type 0 where
+  pub runs : Bool
+
+-- an end now; a number that no end has yet has no peer, no place and nothing else
+pub record EndNow : Type 0 where
+  pub peer : Option ℕ
+  pub place : Option Place
+  pub closed : Bool
+  pub enabled : Bool
+  pub newest : ℕ
+  pub taker_stand : ℕ
+
+-- a line of an end now
+pub record LineNow : Type 0 where
+  pub phase : Phase
+  pub stand : ℕ
+
+-- how many agents and ends there are; each of them, by number; and by end what was accepted and taken there
 pub record Facts : Type 0 where
   pub agents : ℕ
   pub ends : ℕ
-  pub runs : ℕ → Bool
-  pub peer : ℕ → Option ℕ
-  pub place : ℕ → Option Place
-  pub closed : ℕ → Bool
-  pub enabled : ℕ → Bool
-  pub newest : ℕ → ℕ
-  pub taker_stand : ℕ → ℕ
-  pub stand : ℕ → ℕ → ℕ
-  pub phase : ℕ → ℕ → Phase
+  pub agent : ℕ → AgentNow
+  pub end : ℕ → EndNow
+  pub line : ℕ → ℕ → LineNow
   pub accepted : ℕ → List Envelope
   pub taken : ℕ → List Envelope
 
+-- the notions of a history
 abbrev pub facts : History → Facts
 facts h = record {
   agents = made.agents h;
   ends = made.ends h;
-  runs = made.runs h;
-  peer = made.peer h;
-  place = place.place h;
-  closed = closed.closed h;
-  enabled = enabled.enabled h;
-  newest = lines.newest h;
-  taker_stand = lines.taker_stand h;
-  stand = lines.stand h;
-  phase = lines.phase h;
+  agent = λ a. record { runs = made.runs h a };
+  end = λ x. record {
+    peer = made.peer h x;
+    place = place.place h x;
+    closed = closed.closed h x;
+    enabled = enabled.enabled h x;
+    newest = lines.newest h x;
+    taker_stand = lines.taker_stand h x;
+  };
+  line = λ x l. record { phase = lines.phase h x l; stand = lines.stand h x l };
   accepted = accepted.accepted h;
   taken = taken.taken h;
 }

@@ -1,25 +1,63 @@
 -- What every legal history keeps, in the words of the subject (WHATWG HTML, "Message ports": the tasks of a
 -- port message queue are run in order, each once).
-use Rattle.std.specs.Prelude.{◌≡◌, ℕ, zero, suc, ◌==◌, ◌&&◌, List, [], ◌∷◌, ◌++◌, length, map}
-use Rattle.std.specs.List.{filter}
-use Rattle.hub_envelope.specs.declared.envelope.Envelope.{Envelope}
-use Rattle.hub_core.specs.History.{History}
+use Rattle.std.specs.Prelude.{◌≡◌, ℕ, ◌==◌, ◌&&◌, ◌⊎◌, Bool, true, false, [], ◌∷◌, ◌++◌, length}
+use Rattle.std.specs.List.{AllByRecursion}
+use Rattle.hub_envelope.specs.declared.ids.EndId.{EndId}
+use Rattle.hub_core.specs.declared.sender.Sender.{Sender}
+use Rattle.hub_core.specs.declared.step.Action.{Action}
+use Rattle.hub_core.specs.declared.step.Action.TheVariants as action
+use Rattle.hub_core.specs.declared.outcome.Outcome.{Outcome}
+use Rattle.hub_core.specs.declared.outcome.Outcome.TheVariants as outcome
+use Rattle.hub_core.specs.History.{Pair, History}
 use Rattle.hub_core.specs.Accepted.{accepted}
 use Rattle.hub_core.specs.Taken.{taken}
+use Rattle.hub_core.specs.Closed.{closed}
+use Rattle.hub_core.specs.Enabled.{enabled}
+use Rattle.hub_core.specs.Legal.{Same}
+use Rattle.hub_core.specs.Numbers.{up_to, numbers}
 use Rattle.hub_core.specs.Sender.{by, Prefix}
 
--- the first n numbers: 0, 1, 2 and so on
-abbrev pub up_to : ℕ → List ℕ
-up_to zero = []
-up_to (suc n) = up_to n ++ n ∷ []
+-- a Take, and an Enter, with memory refused in it or not
+abbrev pub take_of : EndId → Bool → Outcome → Pair
+take_of e refused o = (record { action = action.Take e; memory_refused = refused }, o)
 
--- the numbers of the envelopes of a line in one queue, in order
-abbrev pub numbers : ℕ → ℕ → List Envelope → List ℕ
-numbers line epoch vs = map (λ v. v.number) (filter (λ v. v.line.0 == line && v.epoch == epoch) vs)
+abbrev pub enter_of : Sender → Bool → Outcome → Pair
+enter_of s refused o = (record { action = action.Enter s; memory_refused = refused }, o)
 
--- For each end and line: what was taken is a prefix of what was accepted, in order; and in each queue
--- the envelopes are numbered 0, 1, 2 and so on, those accepted and those taken, so that each comes once.
+abbrev pub leave_of : Sender → Bool → Pair
+leave_of s refused = (record { action = action.Leave s; memory_refused = refused }, outcome.Left)
+
+abbrev pub is_line : Sender → Sender → Bool
+is_line s t = s.end.0 == t.end.0 && s.line.0 == t.line.0
+
+-- whether an answered step leaves the line, and whether it is a Push on it that was Accepted
+abbrev pub leaves : Sender → Outcome → Action → Bool
+leaves s outcome.Left (action.Leave t) = is_line s t
+leaves s _ _ = false
+
+abbrev pub posts : Sender → Outcome → Action → Bool
+posts s (outcome.Accepted n) (action.Push t ports body) = is_line s t
+posts s _ _ = false
+
+-- the answers of an Enter that turn a poster back: the end is closed, or the line's queue is retired
+abbrev pub IsTurned : Outcome → Type 0
+IsTurned o = (o ≡ outcome.Closed) ⊎ (o ≡ outcome.Moved)
+
+-- an open, enabled end of which everything accepted was taken
+pub record IsDrainedAt (h : History) (e : ℕ) : Type 0 where
+  pub is_open : closed h e ≡ false
+  pub is_enabled : enabled h e ≡ true
+  pub all : (line : ℕ) → by line (taken h e) ≡ by line (accepted h e)
+
+-- For each end and line, what was taken is a prefix of what was accepted, in order; and in each queue the
+-- envelopes are numbered 0, 1, 2 and so on, those accepted and those taken, so that each comes once. For each pair of
+-- the history: a Take at a closed end takes nothing; from an Enter that was turned back to its Leave no Push of that
+-- line is accepted, and the two leave the same; and a Take finds nothing only where nothing is left.
 pub record Headline (h : History) : Type 0 where
   pub prefix : (e line : ℕ) → Prefix (by line (taken h e)) (by line (accepted h e))
   pub accepted_once : (e line epoch : ℕ) → numbers line epoch (accepted h e) ≡ up_to (length (numbers line epoch (accepted h e)))
   pub taken_once : (e line epoch : ℕ) → numbers line epoch (taken h e) ≡ up_to (length (numbers line epoch (taken h e)))
+  pub closed : (before after : History) (e : EndId) (refused : Bool) (o : Outcome) → h ≡ before ++ take_of e refused o ∷ after → closed before e.0 ≡ true → o ≡ outcome.Closed
+  pub turned : (before middle after : History) (s : Sender) (refused : Bool) (o : Outcome) → IsTurned o → h ≡ before ++ enter_of s refused o ∷ (middle ++ after) → AllByRecursion (λ p. leaves s p.1 p.0.action ≡ false) middle → AllByRecursion (λ p. posts s p.1 p.0.action ≡ false) middle
+  pub same : (before after : History) (s : Sender) (refused again : Bool) (o : Outcome) → IsTurned o → h ≡ before ++ enter_of s refused o ∷ after → Same (before ++ enter_of s refused o ∷ leave_of s again ∷ []) before
+  pub empty : (before after : History) (e : EndId) (refused : Bool) → h ≡ before ++ take_of e refused outcome.Empty ∷ after → IsDrainedAt before e.0

@@ -1,5 +1,5 @@
 -- For private clauses: what the parts of the core do to what it keeps.
-use Rattle.std.specs.Prelude.{ℕ, ◌+◌, ◌==◌, if◌then◌else◌, nat_lt, Bool, List, [], ◌∷◌, ◌++◌, length, slice_set, slice_get, slice_index_or, Option, Some, None, option_map, is_some, false, true, ◌≡◌, ◌&&◌, ◌||◌, not, Result, Ok, Err, IfSome, nat_le, ◌<◌}
+use Rattle.std.specs.Prelude.{ℕ, ◌+◌, ◌==◌, if◌then◌else◌, nat_lt, Bool, List, [], ◌∷◌, ◌++◌, length, slice_set, slice_get, slice_index_or, Option, Some, None, option_map, is_some, false, true, ◌≡◌, ◌&&◌, ◌||◌, not, Result, Ok, Err, IfSome, nat_le, ◌-◌}
 use Rattle.std.specs.Bool.{MatchBool}
 use Rattle.hub_core.specs.declared.limits.TheConstants.{MAX_AGENTS, MAX_ENDS}
 use Rattle.hub_core.specs.declared.end.Place.TheVariants.{With, InFlight, Arrived}
@@ -23,7 +23,7 @@ use Rattle.hub_core.specs.Posting.{is_out, is_inside, is_with, running_at}
 
 -- what the gate of an end answers a line
 abbrev pub gate_answer : End → Line → Outcome
-gate_answer x y = if nat_lt (y.epoch + 1) (length x.queues) then outcome.Moved else (if x.is_closed then outcome.Closed else outcome.In)
+gate_answer x y = if nat_lt y.epoch x.newest then outcome.Moved else (if x.is_closed then outcome.Closed else outcome.In)
 
 -- the phase of a line whose Enter got this answer
 abbrev pub phase_of : Outcome → Phase
@@ -46,20 +46,29 @@ abbrev pub leave_end : End → ℕ → Option Line → End
 leave_end x l None = x
 leave_end x l (Some y) = if is_out y.phase then x else record x { lines = slice_set x.lines l (record y { phase = Out }) }
 
+-- whether the queue is one of those that are kept
+abbrev pub has_queue : End → ℕ → Bool
+has_queue x epoch = nat_le x.taker epoch && nat_lt (epoch - x.taker) (length x.queues)
+
+-- the line, where its poster is inside a queue of the end
+abbrev pub line_inside : End → Option Line → Option Line
+line_inside x None = None
+line_inside x (Some y) = if is_inside y.phase && has_queue x y.epoch then Some y else None
+
 -- the end with an envelope put by a line
 abbrev pub put_end : End → Line → Envelope → End
 put_end x y v = record x {
   lines = slice_set x.lines v.line.0 (record y { put = y.put + 1 });
-  queues = slice_set x.queues y.epoch (slice_index_or x.queues y.epoch [] ++ v ∷ []);
+  queues = slice_set x.queues (y.epoch - x.taker) (slice_index_or x.queues (y.epoch - x.taker) [] ++ v ∷ []);
 }
 
 -- what the taker's queue holds
 abbrev pub taker_queue : End → List Envelope
-taker_queue x = slice_index_or x.queues x.taker_epoch []
+taker_queue x = slice_index_or x.queues 0 []
 
 -- the end with another content of the taker's queue
 abbrev pub with_taker_queue : End → List Envelope → End
-with_taker_queue x rest = record x { queues = slice_set x.queues x.taker_epoch rest }
+with_taker_queue x rest = record x { queues = slice_set x.queues 0 rest }
 
 -- an end whose place is another where the list names it
 abbrev pub moved_end : List EndId → Place → ℕ → End → End
@@ -132,7 +141,7 @@ kept_good ends a source target (p ∷ ps) =
 
 -- the end of the sender has the queue at which the line stands
 abbrev pub HasQueue : List End → Sender → Line → Type 0
-HasQueue ends s y = IfSome (slice_get ends s.end.0) (λ x. y.epoch < length x.queues)
+HasQueue ends s y = IfSome (slice_get ends s.end.0) (λ x. has_queue x y.epoch ≡ true)
 
 -- a line that may push, and the agent that posts, or why it may not
 abbrev pub kept_posting_by : List End → EndId → EndId → List EndId → Bool → Line → Option AgentId → Result (Line × AgentId) Outcome
@@ -143,14 +152,12 @@ kept_posting_by ends source target ports refused y (Some a) =
 abbrev pub kept_posting_line : List Agent → List End → Sender → List EndId → Bool → End → Option Line → Result (Line × AgentId) Outcome
 kept_posting_line agents ends s ports refused x None = Err outcome.NotNow
 kept_posting_line agents ends s ports refused x (Some y) =
-    if is_inside y.phase && nat_lt y.epoch (length x.queues) then
-    (if nat_lt MAX_PORTS (length ports) then Err outcome.TooManyPorts
-    else kept_posting_by ends x.peer s.end ports refused y (kept_holder agents ends x.peer.0))
-    else Err outcome.NotNow
+    if nat_lt MAX_PORTS (length ports) then Err outcome.TooManyPorts
+    else kept_posting_by ends x.peer s.end ports refused y (kept_holder agents ends x.peer.0)
 
 abbrev pub kept_posting_at : List Agent → List End → Sender → List EndId → Bool → Option End → Result (Line × AgentId) Outcome
 kept_posting_at agents ends s ports refused None = Err outcome.NotNow
-kept_posting_at agents ends s ports refused (Some x) = kept_posting_line agents ends s ports refused x (slice_get x.lines s.line.0)
+kept_posting_at agents ends s ports refused (Some x) = kept_posting_line agents ends s ports refused x (line_inside x (slice_get x.lines s.line.0))
 
 abbrev pub kept_posting : List Agent → List End → Sender → List EndId → Bool → Result (Line × AgentId) Outcome
 kept_posting agents ends s ports refused = kept_posting_at agents ends s ports refused (slice_get ends s.end.0)
@@ -186,8 +193,7 @@ abbrev pub TakeServes : AgentId → ℕ → List End → End → Outcome → Lis
 TakeServes a e old x (outcome.Got v) new =
     (rest : List Envelope) × (taker_queue x ≡ v ∷ rest)
     × Moves v.ports (Arrived a) (slice_set old e (with_taker_queue x rest)) new
-TakeServes a e old x outcome.Empty new =
-    (x.taker_epoch < length x.queues → taker_queue x ≡ []) × (new ≡ slice_set old e x)
+TakeServes a e old x outcome.Empty new = (taker_queue x ≡ []) × (new ≡ slice_set old e x)
 TakeServes a e old x _ new = ⊥
 
 abbrev pub TakeHeld : Option AgentId → ℕ → List End → End → Outcome → List End → Type 0
@@ -219,7 +225,8 @@ port_end a peer = record {
   place = With a;
   is_closed = false;
   is_enabled = false;
-  taker_epoch = 0;
+  newest = 0;
+  taker = 0;
   lines = record { phase = Out; epoch = 0; put = 0 } ∷ [];
   queues = [] ∷ [];
 }

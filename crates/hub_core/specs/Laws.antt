@@ -1,47 +1,72 @@
--- Laws of what fits, in the words of the subject.
-use Rattle.std.specs.Prelude.{◌≡◌, ℕ, Bool, true, false, ◌⊎◌, [], ◌∷◌, ◌++◌}
+-- Laws of what fits and of legal histories, in the words of the subject.
+use Rattle.std.specs.Prelude.{◌≡◌, ℕ, Bool, true, false, ◌↔◌, List, [], ◌∷◌, ◌++◌, Some, Vec}
+use Rattle.std.specs.declared.alloc.Global.{Global}
 use Rattle.hub_envelope.specs.declared.ids.EndId.{EndId}
+use Rattle.hub_envelope.specs.declared.ids.AgentId.{AgentId}
+use Rattle.hub_core.specs.declared.line.Phase.TheVariants.{Turned}
 use Rattle.hub_core.specs.declared.sender.Sender.{Sender}
+use Rattle.hub_core.specs.declared.step.Step.{Step}
+use Rattle.hub_core.specs.declared.step.Action.{Action}
 use Rattle.hub_core.specs.declared.step.Action.TheVariants as action
 use Rattle.hub_core.specs.declared.outcome.Outcome.{Outcome}
 use Rattle.hub_core.specs.declared.outcome.Outcome.TheVariants as outcome
 use Rattle.hub_core.specs.History.{Pair, History}
+use Rattle.hub_core.specs.Facts.{facts}
 use Rattle.hub_core.specs.Accepted.{accepted}
 use Rattle.hub_core.specs.Taken.{taken}
-use Rattle.hub_core.specs.Closed.{closed}
-use Rattle.hub_core.specs.Enabled.{enabled}
-use Rattle.hub_core.specs.Sender.{by}
+use Rattle.hub_core.specs.Sender.{in_queue, Prefix}
+use Rattle.hub_core.specs.Posting.{is_out, poster, phase_of_line}
 use Rattle.hub_core.specs.Fits.{Fits}
-use Rattle.hub_core.specs.Legal.{Same}
+use Rattle.hub_core.specs.Legal.{Legal, Same}
 use Rattle.hub_core.specs.Unchanged.{changes_nothing}
-
--- a Take, with memory refused in it or not
-abbrev pub take_of : EndId → Bool → Outcome → Pair
-take_of e refused o = (record { action = action.Take e; memory_refused = refused }, o)
-
--- an open, enabled end of which everything accepted was taken
-pub record IsDrainedAt (h : History) (e : ℕ) : Type 0 where
-  pub is_open : closed h e ≡ false
-  pub is_enabled : enabled h e ≡ true
-  pub all : (line : ℕ) → by line (taken h e) ≡ by line (accepted h e)
-
--- An end answers Empty only where it is open and enabled and nothing is left.
-abbrev pub EmptyMeansDrained : Type 0
-EmptyMeansDrained = (h : History) (e : EndId) (refused : Bool) → Fits h (take_of e refused outcome.Empty) → IsDrainedAt h e.0
-
--- Every Take at a closed end answers Closed.
-abbrev pub ClosedTakesNothing : Type 0
-ClosedTakesNothing = (h : History) (e : EndId) (refused : Bool) (o : Outcome) → closed h e.0 ≡ true → Fits h (take_of e refused o) → o ≡ outcome.Closed
 
 -- A pair that changes nothing leaves the same.
 abbrev pub NothingLeavesTheSame : Type 0
-NothingLeavesTheSame = (h : History) (p : Pair) → changes_nothing p.0.action p.1 ≡ true → Same (h ++ p ∷ []) h
+NothingLeavesTheSame = (h : History) (p : Pair) → changes_nothing p.1 p.0.action ≡ true → Same (h ++ p ∷ []) h
 
--- an Enter and the Leave after it
-abbrev pub enter_and_leave : Sender → Bool → Bool → Outcome → History
-enter_and_leave s first second o =
-    (record { action = action.Enter s; memory_refused = first }, o) ∷ (record { action = action.Leave s; memory_refused = second }, outcome.Left) ∷ []
+-- For legal histories the same is said of joined lists: whatever comes, the one list joined with it is legal exactly
+-- where the other one is.
+abbrev pub SameIsJoined : Type 0
+SameIsJoined = (h k : History) → Legal h → Legal k → Same h k ↔ ((g : History) → Legal (h ++ g) ↔ Legal (k ++ g))
 
--- A poster that found the gate closed, or its queue retired, and has left leaves the same.
-abbrev pub TurnedLeavesTheSame : Type 0
-TurnedLeavesTheSame = (h : History) (s : Sender) (first second : Bool) (o : Outcome) → (o ≡ outcome.Closed) ⊎ (o ≡ outcome.Moved) → Fits h (record { action = action.Enter s; memory_refused = first }, o) → Same (h ++ enter_and_leave s first second o) h
+-- the running agent that posts on the line after the history
+abbrev pub Posts : History → Sender → AgentId → Type 0
+Posts h s a = poster (facts h) s ≡ Some a
+
+-- whether the line's poster is inside or being turned back
+abbrev pub IsAway : History → Sender → Type 0
+IsAway h s = is_out (phase_of_line (facts h) s) ≡ false
+
+-- A line whose poster is away has a running agent that posts on it, and keeps it with every pair that fits, until the
+-- poster leaves.
+pub record KeepsTheLine : Type 0 where
+  pub held : (h : History) (s : Sender) → Legal h → IsAway h s → (a : AgentId) × Posts h s a
+  pub kept : (h : History) (p : Pair) (s : Sender) (a : AgentId) → Legal h → Fits h p → IsAway h s → IsAway (h ++ p ∷ []) s → Posts h s a → Posts (h ++ p ∷ []) s a
+
+-- A Push of a poster that is being turned back is answered NotNow.
+abbrev pub TurnedPutsNothing : Type 0
+TurnedPutsNothing = (h : History) (s : Sender) (ports : Vec EndId Global) (body : List ℕ) (refused : Bool) (o : Outcome) → phase_of_line (facts h) s ≡ Turned → Fits h (record { action = action.Push s ports body; memory_refused = refused }, o) → o ≡ outcome.NotNow
+
+-- In each queue of each end what was taken is a beginning of what was accepted there, across all lines.
+pub record InOrder (h : History) : Type 0 where
+  pub each : (e k : ℕ) → Prefix (in_queue k (taken h e)) (in_queue k (accepted h e))
+
+-- the two actions are one, but for where a list of ports lies in memory
+abbrev pub IsSameAction : Action → Action → Type 0
+IsSameAction (action.Push s ports body) (action.Push t listed text) = (s ≡ t) × (ports.items ≡ listed.items) × (body ≡ text)
+IsSameAction a b = a ≡ b
+
+pub record IsSameStep (s t : Step) : Type 0 where
+  pub action : IsSameAction s.action t.action
+  pub memory_refused : s.memory_refused ≡ t.memory_refused
+
+-- the two histories have the same steps with the same answers
+abbrev pub AreSamePairs : History → History → Type 0
+AreSamePairs [] [] = Unit {0}
+AreSamePairs (p ∷ h) (q ∷ k) = (IsSameStep p.0 q.0 × (p.1 ≡ q.1)) × AreSamePairs h k
+AreSamePairs [] (q ∷ k) = ⊥
+AreSamePairs (p ∷ h) [] = ⊥
+
+-- Where two legal histories in order go on with the same step after the same pairs, they go on with the same answer.
+abbrev pub OneAnswer : Type 0
+OneAnswer = (h k first second : History) (s t : Step) (o p : Outcome) → AreSamePairs h k → IsSameStep s t → Legal (h ++ (s, o) ∷ first) → Legal (k ++ (t, p) ∷ second) → InOrder (h ++ (s, o) ∷ first) → InOrder (k ++ (t, p) ∷ second) → o ≡ p

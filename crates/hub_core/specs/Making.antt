@@ -18,7 +18,7 @@ agent_answer f refused =
 -- given.
 abbrev pub channel_answer : Facts → AgentId → Bool → Outcome
 channel_answer f a refused =
-    if not (f.runs a.0) then outcome.NotNow
+    if not (f.agent a.0).runs then outcome.NotNow
     else (if nat_lt MAX_ENDS (f.ends + 2) then outcome.TooManyEnds
     else (if refused then outcome.NoMemory
     else outcome.Ends (record { 0 = f.ends }) (record { 0 = f.ends + 1 })))

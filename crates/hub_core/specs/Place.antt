@@ -14,21 +14,22 @@ use Rattle.hub_core.specs.History.{History}
 abbrev pub names : List EndId → ℕ → Bool
 names ports x = list_any (λ p. p.0 == x) ports
 
--- the place of a port that arrives at an end of this place
-abbrev pub arrived : Option Place → Option Place
-arrived (Some (With a)) = Some (Arrived a)
-arrived (Some InFlight) = None
-arrived (Some (Arrived a)) = None
-arrived None = None
+-- The place of a port that was in an envelope taken at an end of this place: arrived at the agent that has that
+-- end. An end that no agent has leaves the port where it was.
+abbrev pub arrived : Option Place → Option Place → Option Place
+arrived (Some (With a)) old = Some (Arrived a)
+arrived (Some InFlight) old = old
+arrived (Some (Arrived a)) old = old
+arrived None old = old
 
--- the places after an answered step
-abbrev pub place_after : (ℕ → Option Place) → Action → Outcome → ℕ → Option Place
-place_after place (action.Channel a) (outcome.Ends e f) x = if x == e.0 || x == f.0 then Some (With a) else place x
-place_after place (action.Push s ports body) (outcome.Accepted n) x = if names ports.items x then Some InFlight else place x
-place_after place (action.Take t) (outcome.Got v) x = if names v.ports x then arrived (place t.0) else place x
-place_after place _ _ x = place x
+-- the place of an end after an answered step, from the places before
+abbrev pub place_after : ℕ → (ℕ → Option Place) → Outcome → Action → Option Place
+place_after x place (outcome.Ends e f) (action.Channel a) = if x == e.0 || x == f.0 then Some (With a) else place x
+place_after x place (outcome.Accepted n) (action.Push s ports body) = if names ports.items x then Some InFlight else place x
+place_after x place (outcome.Got v) (action.Take t) = if names v.ports x then arrived (place t.0) (place x) else place x
+place_after x place _ _ = place x
 
 -- The place of an end, by the last pair that placed it: with the agent that made it; in flight since
 -- a Push that names it was Accepted; arrived at the agent that has the end at which that was Got.
 abbrev pub place : History → ℕ → Option Place
-place h = fold (λ q p. place_after q p.0.action p.1) (λ _. None) h
+place h = fold (λ q p x. place_after x q p.1 p.0.action) (λ _. None) h

@@ -35,24 +35,28 @@ running_at runs None = None
 
 -- the running agent that has the end
 abbrev pub holder : Facts → ℕ → Option AgentId
-holder f e = running_at f.runs (f.place e)
+holder f e = running_at (λ a. (f.agent a).runs) ((f.end e).place)
+
+-- where the poster of the line is
+abbrev pub phase_of_line : Facts → Sender → Phase
+phase_of_line f s = (f.line s.end.0 s.line.0).phase
 
 -- the running agent that holds the line: for line 0 of a port the one that has the port that it is
 -- entangled with
 abbrev pub poster : Facts → Sender → Option AgentId
-poster f s = if s.line.0 == 0 then option_and_then (holder f) (f.peer s.end.0) else None
+poster f s = if s.line.0 == 0 then option_and_then (holder f) ((f.end s.end.0).peer) else None
 
 -- An Enter tests that a running agent holds the line and that its poster is out; then it looks for a retired queue
 -- and for a closed end.
 abbrev pub enter_answer : Facts → Sender → Outcome
 enter_answer f s =
-    if not (is_some (poster f s) && is_out (f.phase s.end.0 s.line.0)) then outcome.NotNow
-    else (if nat_lt (f.stand s.end.0 s.line.0) (f.newest s.end.0) then outcome.Moved
-    else (if f.closed s.end.0 then outcome.Closed
+    if not (is_some (poster f s) && is_out (phase_of_line f s)) then outcome.NotNow
+    else (if nat_lt (f.line s.end.0 s.line.0).stand (f.end s.end.0).newest then outcome.Moved
+    else (if (f.end s.end.0).closed then outcome.Closed
     else outcome.In))
 
 abbrev pub leave_answer : Facts → Sender → Outcome
-leave_answer f s = if is_out (f.phase s.end.0 s.line.0) then outcome.NotNow else outcome.Left
+leave_answer f s = if is_out (phase_of_line f s) then outcome.NotNow else outcome.Left
 
 abbrev pub is_distinct : List EndId → Bool
 is_distinct [] = true
@@ -67,7 +71,7 @@ is_with a None = false
 -- whether the poster of the line that a port holds is out
 abbrev pub own_poster_out : Facts → Option ℕ → Bool
 own_poster_out f None = false
-own_poster_out f (Some q) = is_out (f.phase q 0)
+own_poster_out f (Some q) = is_out ((f.line q 0).phase)
 
 abbrev pub is_at : ℕ → Option ℕ → Bool
 is_at x None = false
@@ -76,7 +80,7 @@ is_at x (Some y) = x == y
 -- a port that the agent has, its own poster out, neither the source nor the target
 abbrev pub may_travel : Facts → AgentId → Sender → EndId → Bool
 may_travel f a s p =
-    is_with a (f.place p.0) && own_poster_out f (f.peer p.0) && not (p.0 == s.end.0) && not (is_at p.0 (f.peer s.end.0))
+    is_with a (f.end p.0).place && own_poster_out f (f.end p.0).peer && not (p.0 == s.end.0) && not (is_at p.0 (f.end s.end.0).peer)
 
 -- distinct ports that may travel
 abbrev pub is_good : Facts → AgentId → Sender → List EndId → Bool
@@ -89,14 +93,14 @@ push_answer_of f s ports refused (Some a) =
     else (if refused then outcome.NoMemory
     else outcome.Accepted (record {
       agent = a;
-      epoch = f.stand s.end.0 s.line.0;
-      number = count_in_queue s.line.0 (f.stand s.end.0 s.line.0) (f.accepted s.end.0);
+      epoch = (f.line s.end.0 s.line.0).stand;
+      number = count_in_queue s.line.0 (f.line s.end.0 s.line.0).stand (f.accepted s.end.0);
     }))
 
 -- A Push tests that its poster is inside, then the number of ports, then that the agent that holds the line may send
 -- them, then memory.
 abbrev pub push_answer : Facts → Sender → List EndId → Bool → Outcome
 push_answer f s ports refused =
-    if not (is_inside (f.phase s.end.0 s.line.0)) then outcome.NotNow
+    if not (is_inside (phase_of_line f s)) then outcome.NotNow
     else (if nat_lt MAX_PORTS (length ports) then outcome.TooManyPorts
     else push_answer_of f s ports refused (poster f s))

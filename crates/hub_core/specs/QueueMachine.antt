@@ -1,10 +1,10 @@
 -- One queue of an end as a machine (WHATWG HTML, "Message ports": a port message queue): what each line put
 -- there, what waits and what was taken. The core's queues are such machines, and so are the queues of running
 -- threads.
-use Rattle.std.specs.Prelude.{◌≡◌, ℕ, ◌<◌, ◌==◌, if◌then◌else◌, List, [], ◌∷◌, ◌++◌, length, Option, Some, None}
-use Rattle.std.specs.List.{AllByRecursion}
+use Rattle.std.specs.Prelude.{◌≡◌, ℕ, ◌<◌, ◌≤◌, ◌==◌, if◌then◌else◌, List, [], ◌∷◌, ◌++◌, length, map, All, Option, Some, None}
 use Rattle.hub_envelope.specs.declared.envelope.Envelope.{Envelope}
-use Rattle.hub_core.specs.Sender.{by}
+use Rattle.hub_core.specs.Sender.{by, Prefix}
+use Rattle.hub_core.specs.Numbers.{up_to}
 
 -- for each line what it put; what is held, and what was taken out, both in order
 pub record Queue : Type 0 where
@@ -19,6 +19,17 @@ new_queue = record { put = λ _. []; held = []; got = [] }
 -- the number that the next envelope of a line gets
 abbrev pub next_number : Queue → ℕ → ℕ
 next_number q line = length (q.put line)
+
+-- the envelope bears the name of the queue k of the end e: that end and epoch, and one of its n lines
+pub record IsNamed (e k n : ℕ) (v : Envelope) : Type 0 where
+  pub end : v.end.0 ≡ e
+  pub epoch : v.epoch ≡ k
+  pub line : v.line.0 < n
+
+-- A queue takes an envelope that bears its name and has the next number of its line.
+pub record MayPush (e k n : ℕ) (q : Queue) (v : Envelope) : Type 0 where
+  pub named : IsNamed e k n v
+  pub number : v.number ≡ next_number q v.line.0
 
 -- Push appends an envelope to what its line put and to what is held.
 abbrev pub pushed : Queue → Envelope → Queue
@@ -36,16 +47,24 @@ pop_of q (v ∷ rest) = Some (v, record { put = q.put; held = rest; got = q.got 
 abbrev pub popped : Queue → Option (Envelope × Queue)
 popped q = pop_of q q.held
 
--- The law: for every line, what was taken followed by what is held is what it put; and each envelope names
--- a line of the queue.
-pub record IsLawful (lines : ℕ) (q : Queue) : Type 0 where
-  pub each : (line : ℕ) → by line (q.got ++ q.held) ≡ q.put line
-  pub named : AllByRecursion (λ v. v.line.0 < lines) (q.got ++ q.held)
+-- What holds of the queue k of the end e, with n lines, whatever was pushed and popped.
+pub record IsQueue (e k n : ℕ) (q : Queue) : Type 0 where
+  -- line by line, what was taken followed by what is held is what was put
+  pub put : (line : ℕ) → by line (q.got ++ q.held) ≡ q.put line
+  -- each envelope bears the name of the queue
+  pub named : All (IsNamed e k n) (q.got ++ q.held)
+  -- what a line put is numbered 0, 1, 2 and so on
+  pub numbered : (line : ℕ) → map (λ v. v.number) (q.put line) ≡ up_to (length (q.put line))
 
--- a new queue is lawful, and a push of a line of the queue and a pop leave a lawful queue so
+-- The laws of the queue machine.
 pub record QueueLaws : Type 0 where
-  pub at_first : (lines : ℕ) → IsLawful lines new_queue
-  pub push : (lines : ℕ) (q : Queue) (v : Envelope) → v.line.0 < lines → IsLawful lines q → IsLawful lines (pushed q v)
-  pub pop : (lines : ℕ) (q r : Queue) (v : Envelope) → popped q ≡ Some (v, r) → IsLawful lines q → IsLawful lines r
-  -- a pop that finds none has taken everything that was put
-  pub none : (lines : ℕ) (q : Queue) → popped q ≡ None → IsLawful lines q → (line : ℕ) → by line q.got ≡ q.put line
+  -- a new queue is one, and each push that it takes and each pop leaves it one
+  pub opened : (e k n : ℕ) → IsQueue e k n new_queue
+  pub push : (e k n : ℕ) (q : Queue) (v : Envelope) → MayPush e k n q v → IsQueue e k n q → IsQueue e k n (pushed q v)
+  pub pop : (e k n : ℕ) (q r : Queue) (v : Envelope) → popped q ≡ Some (v, r) → IsQueue e k n q → IsQueue e k n r
+  -- where a pop finds none, everything that was put was taken
+  pub none : (e k n : ℕ) (q : Queue) → popped q ≡ None → IsQueue e k n q → (line : ℕ) → by line q.got ≡ q.put line
+  -- what was taken of a line is a prefix of what it put
+  pub prefix : (e k n : ℕ) (q : Queue) → IsQueue e k n q → (line : ℕ) → Prefix (by line q.got) (q.put line)
+  -- a number that is no line of the queue has put nothing
+  pub unused : (e k n : ℕ) (q : Queue) → IsQueue e k n q → (line : ℕ) → n ≤ line → q.put line ≡ []

@@ -8,6 +8,10 @@ use Rattle.hub_envelope.specs.declared.envelope.Envelope.{Envelope}
 abbrev pub by : ℕ → List Envelope → List Envelope
 by line vs = filter (λ v. v.line.0 == line) vs
 
+-- the envelopes of a queue, in order
+abbrev pub in_queue : ℕ → List Envelope → List Envelope
+in_queue epoch vs = filter (λ v. v.epoch == epoch) vs
+
 -- the second list is the first, followed by some list
 abbrev pub Prefix : List Envelope → List Envelope → Type 0
 Prefix front whole = (rest : List Envelope) × (whole ≡ front ++ rest)

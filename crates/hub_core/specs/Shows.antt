@@ -1,70 +1,74 @@
--- What it means that the core shows a history: end by end what it keeps are the facts of that end.
-use Rattle.std.specs.Prelude.{◌≡◌, ℕ, ◌<◌, nat_lt, true, false, List, [], ◌∷◌, ◌++◌, length, slice_get, slice_index_or, Option, Some, None}
-use Rattle.std.specs.List.{AllByRecursion}
+-- What it means that the core shows a history: what it keeps of each agent, end and line are the facts of the history.
+use Rattle.std.specs.Prelude.{◌≡◌, ℕ, ◌+◌, ◌<◌, false, List, [], ◌∷◌, ◌++◌, length, slice_get, slice_index_or, Option, Some, None}
 use Rattle.hub_envelope.specs.declared.envelope.Envelope.{Envelope}
 use Rattle.hub_core.specs.declared.agent.Agent.{Agent}
 use Rattle.hub_core.specs.declared.line.Line.{Line}
-use Rattle.hub_core.specs.declared.line.Phase.TheVariants.{Out}
 use Rattle.hub_core.specs.declared.end.End.{End}
 use Rattle.hub_core.specs.declared.machine.Core.{Core}
 use Rattle.hub_core.specs.declared.step.Step.{Step}
 use Rattle.hub_core.specs.declared.outcome.Outcome.{Outcome}
 use Rattle.hub_core.specs.History.{History}
-use Rattle.hub_core.specs.Facts.{Facts, facts}
+use Rattle.hub_core.specs.Facts.{AgentNow, EndNow, LineNow, Facts, facts}
 use Rattle.hub_core.specs.Fits.{Fits}
-use Rattle.hub_core.specs.Sender.{count_in_queue}
+use Rattle.hub_core.specs.Sender.{in_queue, count_in_queue}
+use Rattle.hub_core.specs.Sound.{no_end, no_line, lines_of, Sound}
 
--- what is kept of a line; an end has the lines that it keeps and no other
-abbrev pub ShowsLine : Facts → ℕ → ℕ → Option Line → Type 0
-ShowsLine f e l None = (f.phase e l ≡ Out) × (0 < l)
-ShowsLine f e l (Some y) = (f.phase e l ≡ y.phase) × (f.stand e l ≡ y.epoch) × (y.epoch ≡ 0) × (l ≡ 0) × (count_in_queue l y.epoch (f.accepted e) ≡ y.put)
+-- an agent, an end and a line now, as the core keeps them, or as there is none
+abbrev pub agent_now : Option Agent → AgentNow
+agent_now None = record { runs = false }
+agent_now (Some x) = record { runs = x.is_running }
 
--- an envelope that waits at the end, in its first queue, and names ports that were made
-pub record Waits (f : Facts) (e : ℕ) (v : Envelope) : Type 0 where
-  pub end : v.end.0 ≡ e
-  pub epoch : v.epoch ≡ 0
-  pub ports : AllByRecursion (λ p. p.0 < f.ends) v.ports
+abbrev pub end_now : Option End → EndNow
+end_now None = no_end
+end_now (Some x) = record {
+  peer = Some x.peer.0;
+  place = Some x.place;
+  closed = x.is_closed;
+  enabled = x.is_enabled;
+  newest = x.newest;
+  taker_stand = x.taker;
+}
 
--- what is kept of an end. Each end has one queue, since nothing retires a queue yet; what waits there
--- is, in order of acceptance, what was accepted and not taken.
-pub record ShowsEnd (f : Facts) (e : ℕ) (x : End) : Type 0 where
-  pub peer : f.peer e ≡ Some x.peer.0
-  pub peer_made : x.peer.0 < f.ends
-  pub place : f.place e ≡ Some x.place
-  pub closed : f.closed e ≡ x.is_closed
-  pub enabled : f.enabled e ≡ x.is_enabled
-  pub newest : f.newest e ≡ 0
-  pub taker : f.taker_stand e ≡ 0
-  pub taker_epoch : x.taker_epoch ≡ 0
-  pub queues : length x.queues ≡ 1
-  pub waiting : f.accepted e ≡ f.taken e ++ slice_index_or x.queues 0 []
-  pub named : AllByRecursion (Waits f e) (slice_index_or x.queues 0 [])
-  pub lines : (l : ℕ) → ShowsLine f e l (slice_get x.lines l)
+abbrev pub line_now : Option Line → LineNow
+line_now None = no_line
+line_now (Some y) = record { phase = y.phase; stand = y.epoch }
 
--- nothing has happened to a number that no end has yet
-pub record IsUnmade (f : Facts) (e : ℕ) : Type 0 where
-  pub peer : f.peer e ≡ None
-  pub place : f.place e ≡ None
-  pub closed : f.closed e ≡ false
-  pub enabled : f.enabled e ≡ false
-  pub newest : f.newest e ≡ 0
-  pub taker : f.taker_stand e ≡ 0
-  pub accepted : f.accepted e ≡ []
-  pub taken : f.taken e ≡ []
-  pub phase : (l : ℕ) → f.phase e l ≡ Out
-  pub stand : (l : ℕ) → f.stand e l ≡ 0
+abbrev pub kept_lines : Option End → List Line
+kept_lines None = []
+kept_lines (Some x) = x.lines
 
-abbrev pub ShowsAt : Facts → ℕ → Option End → Type 0
-ShowsAt f e None = IsUnmade f e
-ShowsAt f e (Some x) = ShowsEnd f e x
+-- what a line keeps of how many envelopes of it were accepted in the queue at which it stands
+abbrev pub ShowsPut : List Envelope → ℕ → Option Line → Type 0
+ShowsPut accepted l None = Unit {0}
+ShowsPut accepted l (Some y) = count_in_queue l y.epoch accepted ≡ y.put
 
--- agents and ends are those of the facts
+-- The queues from the taker's to the newest are kept: what is kept of a queue is what was accepted there and not
+-- taken, in order of acceptance. Behind the taker everything was taken. No step retires a queue yet.
+pub record KeepsQueues (accepted taken : List Envelope) (x : End) : Type 0 where
+  pub newest : x.newest ≡ 0
+  pub count : x.taker + length x.queues ≡ x.newest + 1
+  pub behind : (k : ℕ) → k < x.taker → in_queue k accepted ≡ in_queue k taken
+  pub each : (i : ℕ) → in_queue (x.taker + i) accepted ≡ in_queue (x.taker + i) taken ++ slice_index_or x.queues i []
+
+abbrev pub ShowsQueues : List Envelope → List Envelope → Option End → Type 0
+ShowsQueues accepted taken None = Unit {0}
+ShowsQueues accepted taken (Some x) = KeepsQueues accepted taken x
+
+-- what is kept of an end, with its lines and queues
+pub record ShowsEnd (now : EndNow) (line : ℕ → LineNow) (accepted taken : List Envelope) (kept : Option End) : Type 0 where
+  pub same : now ≡ end_now kept
+  pub count : length (kept_lines kept) ≡ lines_of now.peer
+  pub lines : (l : ℕ) → line l ≡ line_now (slice_get (kept_lines kept) l)
+  pub put : (l : ℕ) → ShowsPut accepted l (slice_get (kept_lines kept) l)
+  pub queues : ShowsQueues accepted taken kept
+
+-- agents and ends are those of the facts, which are sound
 pub record ShowsFacts (kept_agents : List Agent) (kept_ends : List End) (f : Facts) : Type 0 where
   pub agents : f.agents ≡ length kept_agents
-  pub running : (a : ℕ) → (x : Agent) → slice_get kept_agents a ≡ Some x → x.is_running ≡ true
-  pub runs : (a : ℕ) → f.runs a ≡ nat_lt a (length kept_agents)
+  pub agent : (a : ℕ) → f.agent a ≡ agent_now (slice_get kept_agents a)
   pub ends : f.ends ≡ length kept_ends
-  pub each : (e : ℕ) → ShowsAt f e (slice_get kept_ends e)
+  pub end : (e : ℕ) → ShowsEnd (f.end e) (f.line e) (f.accepted e) (f.taken e) (slice_get kept_ends e)
+  pub sound : Sound f
 
 -- the core's agents and ends are those of the history
 abbrev pub Shows : Core → History → Type 0

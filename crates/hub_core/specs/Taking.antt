@@ -12,19 +12,19 @@ use Rattle.hub_core.specs.Posting.{holder}
 
 abbrev pub start_answer : Facts → EndId → Outcome
 start_answer f e =
-    if f.closed e.0 then outcome.Closed
+    if (f.end e.0).closed then outcome.Closed
     else (if is_some (holder f e.0) then outcome.Started
     else outcome.NotNow)
 
 -- The envelope is of the taker's queue, and the next of its line. Between two lines the choice is free.
 pub record IsNext (f : Facts) (e : EndId) (v : Envelope) : Type 0 where
   pub end : v.end.0 ≡ e.0
-  pub epoch : v.epoch ≡ f.taker_stand e.0
+  pub epoch : v.epoch ≡ (f.end e.0).taker_stand
   pub order : Prefix (by v.line.0 (f.taken e.0 ++ v ∷ [])) (by v.line.0 (f.accepted e.0))
 
 -- the taker stands at the newest queue, and everything that was accepted was taken
 pub record IsDrained (f : Facts) (e : EndId) : Type 0 where
-  pub newest : f.taker_stand e.0 ≡ f.newest e.0
+  pub newest : (f.end e.0).taker_stand ≡ (f.end e.0).newest
   pub all : (line : ℕ) → by line (f.taken e.0) ≡ by line (f.accepted e.0)
 
 -- what an open, enabled end with a running agent answers
@@ -36,7 +36,7 @@ Serves f e _ = ⊥
 -- A Take looks for a closed end, then for a running agent that has the end, then for an enabled queue.
 abbrev pub FitsTake : Facts → EndId → Outcome → Type 0
 FitsTake f e o =
-    MatchBool (f.closed e.0) (o ≡ outcome.Closed)
+    MatchBool ((f.end e.0).closed) (o ≡ outcome.Closed)
     (MatchBool (is_some (holder f e.0))
-    (MatchBool (f.enabled e.0) (Serves f e o) (o ≡ outcome.Disabled))
+    (MatchBool ((f.end e.0).enabled) (Serves f e o) (o ≡ outcome.Disabled))
     (o ≡ outcome.NotNow))

@@ -8,16 +8,16 @@ use Rattle.hub_core.specs.declared.machine.Core.{Core}
 
 -- Refusals, Empty, and Closed of a Start or a Take change nothing. An Enter that was turned back changes where its
 -- poster is.
-abbrev pub changes_nothing : Action → Outcome → Bool
-changes_nothing a outcome.NotNow = true
-changes_nothing a outcome.NoMemory = true
-changes_nothing a outcome.TooManyAgents = true
-changes_nothing a outcome.TooManyEnds = true
-changes_nothing a outcome.TooManyPorts = true
-changes_nothing a outcome.Disabled = true
-changes_nothing a outcome.Empty = true
-changes_nothing (action.Start e) outcome.Closed = true
-changes_nothing (action.Take e) outcome.Closed = true
+abbrev pub changes_nothing : Outcome → Action → Bool
+changes_nothing outcome.NotNow a = true
+changes_nothing outcome.NoMemory a = true
+changes_nothing outcome.TooManyAgents a = true
+changes_nothing outcome.TooManyEnds a = true
+changes_nothing outcome.TooManyPorts a = true
+changes_nothing outcome.Disabled a = true
+changes_nothing outcome.Empty a = true
+changes_nothing outcome.Closed (action.Start e) = true
+changes_nothing outcome.Closed (action.Take e) = true
 changes_nothing _ _ = false
 
 -- the core's agents and ends are as before

@@ -1,7 +1,6 @@
-ghost use Rattle.std.specs.Prelude.{◌≡◌, ◌<◌, ◌+◌, ◌∷◌, [], length, slice_get, slice_set, slice_index_or, IfOk, OnOk, OnErr, Some, None, MatchOption, false, true, List};
+ghost use Rattle.std.specs.Prelude.{◌≡◌, ◌∷◌, [], slice_get, IfOk, OnOk, OnErr, MatchOption, false, true, List};
 ghost use Rattle.hub_envelope.specs.declared.envelope.Envelope.{Envelope as EnvelopeValue};
-ghost use Rattle.hub_core.specs.Posting.{is_inside};
-ghost use Rattle.hub_core.specs.Kept.{enter_outcome, enter_end, leave_outcome, leave_end, put_end, taker_queue, with_taker_queue};
+ghost use Rattle.hub_core.specs.Kept.{enter_outcome, enter_end, leave_outcome, leave_end, has_queue, line_inside, put_end, taker_queue, with_taker_queue};
 
 use crate::limits::MAX_IN_QUEUE;
 use crate::line::{Line, Lines, Phase};
@@ -29,9 +28,12 @@ pub struct End {
     pub(crate) place: Place,
     pub(crate) is_closed: bool,
     pub(crate) is_enabled: bool,
+    /// The newest queue.
+    pub(crate) newest: u32,
     /// The queue at which takes are made.
-    pub(crate) taker_epoch: u32,
+    pub(crate) taker: u32,
     pub(crate) lines: Lines,
+    /// The queues from the taker's to the newest.
     pub(crate) queues: Queues,
 }
 
@@ -43,7 +45,8 @@ impl End {
           place = Place.With agent;
           is_closed = false;
           is_enabled = false;
-          taker_epoch = 0;
+          newest = 0;
+          taker = 0;
           lines = Line.FIRST ∷ [];
           queues = [] ∷ [];
         }) }
@@ -53,7 +56,8 @@ impl End {
             place: Place::With(agent),
             is_closed: false,
             is_enabled: false,
-            taker_epoch: 0,
+            newest: 0,
+            taker: 0,
             lines: Lines::one(alloc)?,
             queues: Queues::one(alloc)?,
         })
@@ -70,7 +74,7 @@ impl End {
         if found.phase != Phase::Out {
             return Outcome::NotNow;
         }
-        let (phase, outcome) = if (found.epoch as usize) + 1 < self.queues.count() {
+        let (phase, outcome) = if found.epoch < self.newest {
             (Phase::Turned, Outcome::Moved)
         } else if self.is_closed {
             (Phase::Turned, Outcome::Closed)
@@ -97,17 +101,19 @@ impl End {
         Outcome::Left
     }
 
+    /// Whether a queue is one of those that are kept.
+    fn has_queue(&self, epoch: u32) -> bool
+        ensures { result ≡ has_queue self.now epoch }
+    {
+        epoch >= self.taker && ((epoch - self.taker) as usize) < self.queues.count()
+    }
+
     /// The line, where its poster is inside a queue of the end.
     pub(crate) fn line_inside(&self, line: LineId) -> Option<Line>
-        ensures { MatchOption result
-            (MatchOption (slice_get self.now.lines line.0) (Unit {0})
-            (λ y. y.epoch < length self.now.queues → is_inside y.phase ≡ false))
-            (λ y. (slice_get self.now.lines line.0 ≡ Some y) × (is_inside y.phase ≡ true)
-            × (y.epoch < length self.now.queues)) }
+        ensures { result ≡ line_inside self.now (slice_get self.now.lines line.0) }
     {
         let found = self.lines.get(line)?;
-        let has_queue = (found.epoch as usize) < self.queues.count();
-        if found.phase == Phase::Inside && has_queue {
+        if found.phase == Phase::Inside && self.has_queue(found.epoch) {
             Some(found)
         } else {
             None
@@ -116,7 +122,7 @@ impl End {
 
     /// Puts an envelope last in the queue at which its line stands.
     pub(crate) fn put(&mut self, found: Line, envelope: Envelope) -> Result<(), OutOfMemory>
-        requires { found.epoch < length self.old.queues }
+        requires { has_queue self.old found.epoch ≡ true }
         ensures ok { OnOk result (self.new ≡ put_end self.old found envelope) }
         ensures err { OnErr result (self.new ≡ self.old) }
     {
@@ -124,7 +130,8 @@ impl End {
             return Err(OutOfMemory);
         }
         let line = envelope.line;
-        self.queues.put(found.epoch, envelope)?;
+        let position = (found.epoch - self.taker) as usize;
+        self.queues.put(position, envelope)?;
         let put = found.put + 1;
         self.lines.set(line, Line { put, ..found });
         Ok(())
@@ -133,15 +140,10 @@ impl End {
     /// Takes the first envelope of the taker's queue.
     pub(crate) fn take(&mut self) -> Option<Envelope>
         ensures { MatchOption result
-            ((self.old.taker_epoch < length self.old.queues → taker_queue self.old ≡ [])
-            × (self.new ≡ self.old))
+            ((taker_queue self.old ≡ []) × (self.new ≡ self.old))
             (λ v. (rest : List EnvelopeValue) × (taker_queue self.old ≡ v ∷ rest)
             × (self.new ≡ with_taker_queue self.old rest)) }
     {
-        if (self.taker_epoch as usize) < self.queues.count() {
-            self.queues.take(self.taker_epoch)
-        } else {
-            None
-        }
+        self.queues.take_first()
     }
 }

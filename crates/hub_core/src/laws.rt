@@ -4,28 +4,58 @@ ghost use Rattle.hub_core.specs.Headline.{Headline};
 ghost use Rattle.hub_core.specs.QueueMachine.{QueueLaws};
 ghost use Rattle.hub_core.specs.declared.machine.Core.{Core};
 ghost use Rattle.hub_core.specs.Shows.{Shows};
-ghost use Rattle.hub_core.specs.MailboxMachine.{MailboxesShow};
-ghost use Rattle.hub_core.specs.Laws.{EmptyMeansDrained, ClosedTakesNothing, NothingLeavesTheSame, TurnedLeavesTheSame};
+ghost use Rattle.hub_core.specs.GateMachineLaws.{GateMachineLaws};
+ghost use Rattle.hub_core.specs.ChainLaws.{ChainLaws};
+ghost use Rattle.hub_core.specs.MailboxShows.{MailboxesShow};
+ghost use Rattle.hub_core.specs.MailboxPairs.{EventsAreSteps, OthersLeaveIt};
+ghost use Rattle.hub_core.specs.Facts.{facts};
+ghost use Rattle.hub_core.specs.Sound.{Sound};
+ghost use Rattle.hub_core.specs.Laws.{NothingLeavesTheSame, SameIsJoined, KeepsTheLine, TurnedPutsNothing, InOrder, OneAnswer};
 
 /// What holds of every legal history: `run` answers one, and `Core::step` makes one longer.
 /// The function does nothing; the laws are its contract.
 pub fn history_laws()
-    // For each end and line what was taken is a prefix of what was accepted, in order, each once.
     ensures headline { (h : History) → Legal h → Headline h }
-    ensures empty { EmptyMeansDrained }
-    ensures closed { ClosedTakesNothing }
+    ensures sound { (h : History) → Legal h → Sound (facts h) }
+    ensures keeps_the_line { KeepsTheLine }
+    ensures turned { TurnedPutsNothing }
     ensures unchanged { NothingLeavesTheSame }
-    ensures turned { TurnedLeavesTheSame }
+    ensures same { SameIsJoined }
+    ensures one_answer { OneAnswer }
 {}
 
 /// What holds of every queue, in the core and among running threads: for every line what was taken,
-/// followed by what is held, is what it put. The function does nothing; the laws are its contract.
+/// followed by what is held, is what it put, and that is numbered from 0. The function does
+/// nothing; the laws are its contract.
 pub fn queue_laws()
     ensures { QueueLaws }
 {}
 
+/// What holds of every gate with rights `R`, in the core and among running threads: the right of a
+/// line is at home unless the line is inside or the rights were collected. The function does
+/// nothing; the laws are its contract.
+pub fn gate_machine_laws<R>()
+    ensures { GateMachineLaws R }
+{}
+
+/// What holds of every mailbox whose gates have rights `R`, in the core and among running threads:
+/// line by line, what was taken out of its chain of queues is a prefix of what was put there. The
+/// function does nothing; the laws are its contract.
+pub fn chain_laws<R>()
+    ensures { ChainLaws R }
+{}
+
 /// The ends of a core that shows a history are mailboxes that show it: queue by queue a gate and
-/// what it holds. The function does nothing; the law is its contract.
+/// what it holds. And what such a core took is in order, queue by queue. The function does nothing;
+/// the laws are its contract.
 pub fn mailbox_laws()
-    ensures { (core : Core) (h : History) → Shows core h → MailboxesShow core h }
+    ensures shown { (core : Core) (h : History) → Shows core h → MailboxesShow core h }
+    ensures in_order { (core : Core) (h : History) → Shows core h → InOrder h }
+{}
+
+/// What each pair of a legal history is to the mailbox of an end: one event there, or nothing. The
+/// function does nothing; the laws are its contract.
+pub fn pair_laws()
+    ensures steps { EventsAreSteps }
+    ensures others { OthersLeaveIt }
 {}

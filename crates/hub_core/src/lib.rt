@@ -20,7 +20,7 @@ mod step;
 mod taking;
 
 pub use hub_envelope::{MAX_PORTS, OutOfMemory};
-pub use laws::{history_laws, mailbox_laws, queue_laws};
+pub use laws::{chain_laws, gate_machine_laws, history_laws, mailbox_laws, pair_laws, queue_laws};
 pub use limits::{MAX_AGENTS, MAX_ENDS, MAX_HOPS, MAX_LINES, MAX_MOVES};
 pub use machine::Core;
 pub use outcome::{Acceptance, Outcome};

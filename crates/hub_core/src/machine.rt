@@ -1,6 +1,7 @@
 ghost use Rattle.std.specs.Prelude.{◌≡◌, [], true, slice_get, option_map, IfOk, OnErr};
 ghost use Rattle.hub_core.specs.Kept.{kept_running, kept_holder, kept_poster};
 ghost use Rattle.hub_core.specs.History.{History};
+ghost use Rattle.hub_core.specs.Laws.{InOrder};
 ghost use Rattle.hub_core.specs.Made.{line_of_port};
 ghost use Rattle.hub_core.specs.Memory.{takes_memory};
 ghost use Rattle.hub_core.specs.Shows.{Shows, FitsAndShows};
@@ -39,10 +40,12 @@ impl Core {
     /// has put 2^62 envelopes in its queue.
     pub fn step(&mut self, step: Step) -> Result<Outcome, OutOfMemory>
         ensures fits { IfOk result (λ o. FitsAndShows self.old self.new step o) }
-        ensures unchanged { IfOk result (λ o. changes_nothing step.action o ≡ true
+        ensures unchanged { IfOk result (λ o. changes_nothing o step.action ≡ true
             → SameContent self.old self.new) }
         ensures err { OnErr result (SameContent self.old self.new) }
         ensures memory { OnErr result (takes_memory step.action ≡ true) }
+        // What was taken is in order of acceptance, queue by queue, also between lines.
+        ensures in_order { (h : History) → Shows self.new h → InOrder h }
     {
         let Step {
             action,

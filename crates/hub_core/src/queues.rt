@@ -1,4 +1,5 @@
-ghost use Rattle.std.specs.Prelude.{◌≡◌, ◌<◌, [], ◌∷◌, ◌++◌, length, slice_set, slice_index_or, IfOk, OnOk, OnErr, MatchOption};
+ghost use Rattle.std.specs.Prelude.{◌≡◌, ◌<◌, [], ◌∷◌, ◌++◌, length, slice_set, slice_index_or, IfOk, OnOk, OnErr, MatchOption, List};
+ghost use Rattle.hub_envelope.specs.declared.envelope.Envelope.{Envelope as EnvelopeValue};
 
 use hub_envelope::Envelope;
 use std::alloc::{AllocError, Global};
@@ -45,7 +46,7 @@ impl Waiting {
     }
 }
 
-/// The queues of an end, by epoch.
+/// Some queues of an end, in order.
 #[derive(Debug, Drop)]
 pub struct Queues {
     queues: Vec<Waiting>,
@@ -78,26 +79,25 @@ impl Queues {
     }
 
     /// Puts an envelope last in a queue.
-    pub(crate) fn put(&mut self, epoch: u32, envelope: Envelope) -> Result<(), AllocError>
-        requires { epoch < length self.old }
+    pub(crate) fn put(&mut self, position: usize, envelope: Envelope) -> Result<(), AllocError>
+        requires { position < length self.old }
         ensures ok { OnOk result (self.new
-            ≡ slice_set self.old epoch (slice_index_or self.old epoch [] ++ envelope ∷ [])) }
+            ≡ slice_set self.old position (slice_index_or self.old position [] ++ envelope ∷ [])) }
         ensures err { OnErr result (self.new ≡ self.old) }
     {
-        let queue = &mut self.queues[epoch as usize];
+        let queue = &mut self.queues[position];
         queue.put(envelope)
     }
 
-    /// Takes the first envelope of a queue.
-    pub(crate) fn take(&mut self, epoch: u32) -> Option<Envelope>
-        requires { epoch < length self.old }
+    /// Takes the first envelope of the first queue.
+    pub(crate) fn take_first(&mut self) -> Option<Envelope>
         ensures { MatchOption result
-            ((slice_index_or self.old epoch [] ≡ []) × (self.new ≡ self.old))
-            (λ envelope. let rest = slice_index_or self.new epoch [] in
-            (slice_index_or self.old epoch [] ≡ envelope ∷ rest)
-            × (self.new ≡ slice_set self.old epoch rest)) }
+            ((slice_index_or self.old 0 [] ≡ []) × (self.new ≡ self.old))
+            (λ envelope. (rest : List EnvelopeValue)
+            × (slice_index_or self.old 0 [] ≡ envelope ∷ rest)
+            × (self.new ≡ slice_set self.old 0 rest)) }
     {
-        let queue = &mut self.queues[epoch as usize];
+        let queue = self.queues.first_mut()?;
         queue.take()
     }
 }

@@ -1,4 +1,7 @@
-use hub_core::{Action, Core, Outcome, Sender, Step, history_laws, run};
+use hub_core::{
+    Action, Core, Outcome, Sender, Step, chain_laws, gate_machine_laws, history_laws, mailbox_laws,
+    pair_laws, queue_laws, run,
+};
 use hub_envelope::{AgentId, Body, EndId, LineId};
 use std::alloc::Global;
 use std::process::Abort;
@@ -127,5 +130,10 @@ fn has_sixteen_agents(rt: HostRuntime) -> Result<(), Fail> {
     assert_eq!(rt; core.sender_of(EndId(0)), Some(to_one()));
     assert_eq!(rt; core.sender_of(EndId(2)), None);
     history_laws();
+    queue_laws();
+    gate_machine_laws::<u8>();
+    chain_laws::<u8>();
+    mailbox_laws();
+    pair_laws();
     Ok(())
 }

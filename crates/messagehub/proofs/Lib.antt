@@ -3,5 +3,6 @@ pub mod Numbered
 pub mod Bytes
 pub mod Posts
 pub mod Running
+pub mod OneText
 pub mod Outputs
 pub mod Writing

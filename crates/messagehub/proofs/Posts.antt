@@ -1,5 +1,5 @@
 -- The steps of a post, one after the other.
-use Rattle.std.proofs.Common.{◌≡◌, ℕ, Bool, true, false, cond, ltb, List, [], ◌∷◌, ◌++◌, Option, Some, None, refl, subst, ◌∙◌, append_assoc, arith}
+use Rattle.std.proofs.Common.{◌≡◌, ℕ, Bool, true, false, cond, ltb, List, [], ◌∷◌, ◌++◌, Option, Some, None, refl, ap, subst, ◌∙◌, append_assoc, arith}
 use Rattle.std.specs.List.{slice_get}
 use Rattle.std.proofs.lemmas.Bool.Decides.{nat_tests}
 use Rattle.hub_envelope.specs.declared.ids.EndId.{EndId}
@@ -11,9 +11,9 @@ use Rattle.hub_core.specs.declared.step.Action.TheVariants as action
 use Rattle.hub_core.specs.declared.outcome.Outcome.{Outcome}
 use Rattle.hub_core.specs.declared.outcome.Outcome.TheVariants as outcome
 use Rattle.hub_core.specs.History.{Pair, History}
-use Rattle.hub_core.specs.Facts.{Facts, facts}
+use Rattle.hub_core.specs.Facts.{EndNow, Facts, facts}
 use Rattle.hub_core.specs.Fits.{Fits}
-use Rattle.hub_core.specs.Shows.{Shows, ShowsAt}
+use Rattle.hub_core.specs.Shows.{ShowsEnd, Shows}
 use Rattle.messagehub.specs.Unfolding.{pair, IsPush}
 use Rattle.messagehub.specs.Performed.{PostsAt, StepsAt}
 
@@ -51,9 +51,9 @@ posted_not_now old new refused ports body s a = λ past shows.
     (p ∷ [], (outcome.NotNow, [], (refl, refl), refl), (x.0, tt), x.1)
 
 -- no queue is retired yet
-newest_at : (f : Facts) (e : ℕ) (x : Option End) → ShowsAt f e x → f.newest e ≡ 0
-newest_at f e None h = h.newest
-newest_at f e (Some x) h = h.newest
+newest_at : (f : Facts) (e : ℕ) (x : Option End) → ShowsEnd (f.end e) (f.line e) (f.accepted e) (f.taken e) x → (f.end e).newest ≡ 0
+newest_at f e None h = ap (λ (y : EndNow). y.newest) h.same
+newest_at f e (Some x) h = ap (λ (y : EndNow). y.newest) h.same ∙ h.queues.newest
 
 entered_at : (o : Outcome) (unusable retired is_closed : Bool) → retired ≡ false → o ≡ cond unusable outcome.NotNow (cond retired outcome.Moved (cond is_closed outcome.Closed outcome.In))
     → (o ≡ outcome.In → ⊥) → (o ≡ outcome.Closed → ⊥) → o ≡ outcome.NotNow
@@ -69,7 +69,7 @@ not_newer n m e = grind (arith, nat_tests)
 pub not_entered : (core : Core) (past : History) (refused : Bool) (s : Sender) (o : Outcome) → Shows core past → Fits past (pair refused (action.Enter s) o) → (o ≡ outcome.In → ⊥) → (o ≡ outcome.Closed → ⊥) → o ≡ outcome.NotNow
 not_entered core past refused s o shows fits i k =
     let f = facts past in
-    entered_at o _ _ (f.closed s.end.0) (not_newer (f.stand s.end.0 s.line.0) (f.newest s.end.0) (newest_at f s.end.0 (slice_get core.ends.items s.end.0) (shows.each s.end.0))) fits i k
+    entered_at o _ _ ((f.end s.end.0).closed) (not_newer ((f.line s.end.0 s.line.0).stand) ((f.end s.end.0).newest) (newest_at f s.end.0 (slice_get core.ends.items s.end.0) (shows.end s.end.0))) fits i k
 
 pub posted_nothing : (old new : Core) (refused : Bool) (ports : List EndId) (body : List ℕ) (s : Sender) (o : Outcome) → (o ≡ outcome.In → ⊥) → (o ≡ outcome.Closed → ⊥) → StepsAt old new (pair refused (action.Enter s) o) → PostsAt old new refused ports body s outcome.NotNow
 posted_nothing old new refused ports body s o i k a = λ past shows.

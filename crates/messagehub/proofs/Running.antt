@@ -18,6 +18,7 @@ use Rattle.messagehub.specs.StepText.{Runs, IsStepText}
 use Rattle.messagehub.specs.OutOfMemory.{out_of_memory}
 use Rattle.messagehub.specs.Engine.{Says, Writes}
 use Rattle.messagehub.specs.Output.{IsCutShort, IsRunOutput}
+use Rattle.hub_core.proofs.Orders.{shows_in_order}
 use Rattle.messagehub.proofs.Bytes.{appends_nothing, appends_more, appends_kept, begins_after, begins_kept, begins_longer}
 
 runs_more : (past : History) (lines : List StepLine) (text : List ℕ) (h : History) (line : StepLine) (more : History) (shown : Outcome) → Runs past lines text h → Performs h line more shown
@@ -40,6 +41,13 @@ pub record IsAnswered (old now : Option (List ℕ)) (core : Core) (kept : List �
   pub legal : Legal h
   pub shows : Shows core h
   pub out : Appends old now sent
+
+-- what was run is a step text, whatever of it has gone out
+told : {old now : Option (List ℕ)} {core : Core} {kept : List ℕ} {lines : List StepLine} → (a : IsAnswered old now core kept lines) → IsStepText lines (a.sent ++ kept)
+told {core = core} a = record { history = a.h; runs = a.runs; legal = a.legal; in_order = shows_in_order core a.h a.shows }
+
+told_as : {old now : Option (List ℕ)} {core : Core} {kept : List ℕ} {lines : List StepLine} → (a : IsAnswered old now core kept lines) → a.sent ++ kept ≡ a.sent → IsStepText lines a.sent
+told_as {lines = lines} a text = subst (IsStepText lines) text (told a)
 
 pub starts : (old : Option (List ℕ)) (core : Core) (kept : List ℕ) → kept ≡ [] → Shows core [] → IsAnswered old old core kept []
 starts old core kept none shows = record { h = []; sent = []; runs = (none, refl); legal = tt; shows = shows; out = appends_nothing old }
@@ -66,29 +74,29 @@ sends old now next core kept none lines a out e =
 pub ends : (old now next : Option (List ℕ)) (core : Core) (kept : List ℕ) (lines : List StepLine) → IsAnswered old now core kept lines → kept ≡ [] → Keeps now next → (text : List ℕ) × IsStepText lines text × Appends old next text
 ends old now next core kept lines a e keeps =
     let text : a.sent ++ kept ≡ a.sent = ap (λ t. a.sent ++ t) e ∙ append-nil a.sent in
-    (a.sent, (a.h, subst (λ t. Runs [] lines t a.h) text a.runs, a.legal), appends_kept old now next a.sent a.out keeps)
+    (a.sent, told_as a text, appends_kept old now next a.sent a.out keeps)
 
 -- the text of the first lines, and out of memory
 pub cut_short : (old now : Option (List ℕ)) (core : Core) (kept : List ℕ) (front back lines : List StepLine) → IsAnswered old now core kept front → lines ≡ front ++ back
     → (said : List ℕ) × IsCutShort lines (said ++ out_of_memory) × (now_sent : List ℕ) × (said ≡ now_sent ++ kept) × Appends old now now_sent
-cut_short old now core kept front back lines a e = (a.sent ++ kept, (front, back, a.sent ++ kept, e, (a.h, a.runs, a.legal), refl), a.sent, refl, a.out)
+cut_short old now core kept front back lines a e = (a.sent ++ kept, (front, back, a.sent ++ kept, e, told a, refl), a.sent, refl, a.out)
 
 pub cut_begun : (old now next : Option (List ℕ)) (core : Core) (kept : List ℕ) (front back lines : List StepLine) → IsAnswered old now core kept front → lines ≡ front ++ back → AppendsBeginning now next kept
     → (text : List ℕ) × IsCutShort lines text × AppendsBeginning old next text
 cut_begun old now next core kept front back lines a e b =
-    ((a.sent ++ kept) ++ out_of_memory, (front, back, a.sent ++ kept, e, (a.h, a.runs, a.legal), refl), begins_longer old next (a.sent ++ kept) out_of_memory (begins_after old now next a.sent kept a.out b))
+    ((a.sent ++ kept) ++ out_of_memory, (front, back, a.sent ++ kept, e, told a, refl), begins_longer old next (a.sent ++ kept) out_of_memory (begins_after old now next a.sent kept a.out b))
 
 pub cut_ended : (old now next : Option (List ℕ)) (core : Core) (kept : List ℕ) (front back lines : List StepLine) → IsAnswered old now core kept front → lines ≡ front ++ back → kept ≡ [] → Appends now next out_of_memory
     → (text : List ℕ) × IsCutShort lines text × Appends old next text
 cut_ended old now next core kept front back lines a e none b =
     let text : a.sent ++ kept ≡ a.sent = ap (λ t. a.sent ++ t) none ∙ append-nil a.sent in
-    (a.sent ++ out_of_memory, (front, back, a.sent, e, (a.h, subst (λ t. Runs [] front t a.h) text a.runs, a.legal), refl), appends_more old now next a.sent out_of_memory a.out b)
+    (a.sent ++ out_of_memory, (front, back, a.sent, e, told_as a text, refl), appends_more old now next a.sent out_of_memory a.out b)
 
 pub cut_ending : (old now next : Option (List ℕ)) (core : Core) (kept : List ℕ) (front back lines : List StepLine) → IsAnswered old now core kept front → lines ≡ front ++ back → kept ≡ [] → AppendsBeginning now next out_of_memory
     → (text : List ℕ) × IsCutShort lines text × AppendsBeginning old next text
 cut_ending old now next core kept front back lines a e none b =
     let text : a.sent ++ kept ≡ a.sent = ap (λ t. a.sent ++ t) none ∙ append-nil a.sent in
-    (a.sent ++ out_of_memory, (front, back, a.sent, e, (a.h, subst (λ t. Runs [] front t a.h) text a.runs, a.legal), refl), begins_after old now next a.sent out_of_memory a.out b)
+    (a.sent ++ out_of_memory, (front, back, a.sent, e, told_as a text, refl), begins_after old now next a.sent out_of_memory a.out b)
 
 pub cut_writes : (old now next : Option (List ℕ)) (core : Core) (kept : List ℕ) (front back lines : List StepLine) (r : Result ExitStatus Device) → IsAnswered old now core kept front → lines ≡ front ++ back → kept ≡ [] → Writes (Says exit.OutOfMemory out_of_memory) now next r
     → Writes (IsRunOutput lines) old next r
@@ -103,7 +111,7 @@ pub flush_failed : (old now next : Option (List ℕ)) (core : Core) (kept : List
     → (text : List ℕ) × IsCutShort lines text × AppendsBeginning old next text
 flush_failed old now next core kept front back lines a e none keeps =
     let text : a.sent ++ kept ≡ a.sent = ap (λ t. a.sent ++ t) none ∙ append-nil a.sent in
-    (a.sent ++ out_of_memory, (front, back, a.sent, e, (a.h, subst (λ t. Runs [] front t a.h) text a.runs, a.legal), refl), begins_kept old now next a.sent out_of_memory a.out keeps)
+    (a.sent ++ out_of_memory, (front, back, a.sent, e, told_as a text, refl), begins_kept old now next a.sent out_of_memory a.out keeps)
 
 pub one_less : (lines done rest after : List StepLine) (line : StepLine) → lines ≡ done ++ rest → rest ≡ line ∷ after → lines ≡ (done ++ line ∷ []) ++ after
 one_less lines done rest after line e f = e ∙ ap (λ xs. done ++ xs) f ∙ sym (append_assoc done (line ∷ []) after)

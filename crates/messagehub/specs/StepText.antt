@@ -3,6 +3,7 @@ use Rattle.std.specs.Prelude.{◌≡◌, ℕ, List, [], ◌∷◌, ◌++◌}
 use Rattle.hub_core.specs.declared.outcome.Outcome.{Outcome}
 use Rattle.hub_core.specs.History.{History}
 use Rattle.hub_core.specs.Legal.{Legal}
+use Rattle.hub_core.specs.Laws.{InOrder}
 use Rattle.messagehub.specs.declared.steps.step_line.StepLine.{StepLine}
 use Rattle.messagehub.specs.OutcomeText.{outcome_line}
 use Rattle.messagehub.specs.Performed.{Performs}
@@ -14,6 +15,13 @@ Runs past [] text after = (text ≡ []) × (after ≡ past)
 Runs past (line ∷ lines) text after =
     (more : History) × (shown : Outcome) × (rest : List ℕ) × Performs past line more shown × (text ≡ outcome_line shown ++ rest) × Runs (past ++ more) lines rest after
 
--- the text that the lines are answered with, by a legal history of their core steps
-abbrev pub IsStepText : List StepLine → List ℕ → Type 0
-IsStepText lines text = (h : History) × Runs [] lines text h × Legal h
+-- the text that the lines are answered with, by a legal history of their core steps, which is in order in each queue
+pub record IsStepText (lines : List StepLine) (text : List ℕ) : Type 0 where
+  pub history : History
+  pub runs : Runs [] lines text history
+  pub legal : Legal history
+  pub in_order : InOrder history
+
+-- Step lines are answered with one text.
+abbrev pub OneText : Type 0
+OneText = (lines : List StepLine) (first second : List ℕ) → IsStepText lines first → IsStepText lines second → first ≡ second

@@ -8,6 +8,7 @@ ghost use Rattle.messagehub.specs.Failures.{CountsFailure};
 ghost use Rattle.messagehub.specs.OutcomeText.{outcome_line};
 ghost use Rattle.messagehub.specs.Output.{IsRunOutput, IsStepsOutput};
 ghost use Rattle.messagehub.specs.Performed.{PerformsAt};
+ghost use Rattle.messagehub.specs.StepText.{OneText};
 
 mod perform;
 mod read_step_line;
@@ -44,6 +45,12 @@ pub fn run_steps<R: Read, W: Write>(
 {
     run_engine::<StepsEngine, R, W>(alloc, reader, writer)
 }
+
+/// What `run_steps` writes for step lines is a function of them: two texts that they may be answered
+/// with are equal. The function does nothing; the law is its contract.
+pub fn step_text_laws()
+    ensures { OneText }
+{}
 
 /// The step lines of an input are run through one core.
 struct StepsEngine;

@@ -3,10 +3,12 @@ use Rattle.std.proofs.Common.{◌≡◌, ◌+◌, [], ◌∷◌, ◌++◌, sym, 
 use Rattle.std.specs.List.{zip}
 use Rattle.hub_core.specs.History.{History}
 use Rattle.hub_core.specs.Legal.{Legal}
-use Rattle.hub_core.specs.Shows.{Shows}
 use Rattle.hub_core.specs.Headline.{Headline}
+use Rattle.hub_core.specs.Laws.{InOrder}
+use Rattle.hub_core.specs.Shows.{Shows}
 use Rattle.hub_core.proofs.Legals.{zip_one, legal_one}
-use Rattle.hub_core.proofs.Prefixes.{headline}
+use Rattle.hub_core.proofs.Headlines.{headline}
+use Rattle.hub_core.proofs.Orders.{shows_in_order}
 use Rattle.hub_core.proofs.runs.run.Goals as goal
 
 pub loop-step-preserved : goal.loop-step-preserved
@@ -21,5 +23,15 @@ loop-step-preserved c =
       each = ap length items ∙ length-append c.loop-step.outcomes.items (c.in_ok-outcome.outcome ∷ []) ∙ ap (λ n. n + 1) c.loop-step.invariant.each ∙ sym (length-append c.loop-step.yielded (c.in-Some.step ∷ []));
       legal = subst Legal (sym longer) legal;
       headline = subst Headline (sym longer) (headline _ legal);
+      in_order = subst InOrder (sym longer) (shows_in_order c.step.new.self (past ++ (c.in-Some.step, c.in_ok-outcome.outcome) ∷ []) both.1);
       shows = subst (Shows c.step.new.self) (sym longer) both.1;
     }
+
+pub loop-step-init : goal.loop-step-init
+loop-step-init c = record {
+  each = ap length c.in_ok-outcomes.ensures.items;
+  legal = tt;
+  headline = headline [] tt;
+  in_order = shows_in_order c.new-core.result [] c.new-core.ensures;
+  shows = c.new-core.ensures;
+}

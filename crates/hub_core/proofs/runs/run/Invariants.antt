@@ -2,6 +2,7 @@ use Rattle.std.proofs.Common.{◌≡◌, length}
 use Rattle.std.specs.List.{zip}
 use Rattle.hub_core.specs.Legal.{Legal}
 use Rattle.hub_core.specs.Headline.{Headline}
+use Rattle.hub_core.specs.Laws.{InOrder}
 use Rattle.hub_core.specs.Shows.{Shows}
 use Rattle.hub_core.proofs.runs.run.Given as goal
 
@@ -11,5 +12,6 @@ invariant-loop-step l = record {
   each : length l.outcomes.items ≡ length l.yielded;
   legal : Legal (zip l.yielded l.outcomes.items);
   headline : Headline (zip l.yielded l.outcomes.items);
+  in_order : InOrder (zip l.yielded l.outcomes.items);
   shows : Shows l.core (zip l.yielded l.outcomes.items);
 }

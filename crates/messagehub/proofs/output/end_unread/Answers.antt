@@ -1,4 +1,4 @@
-use Rattle.std.proofs.Common.{◌≡◌, Some, option_map, sym, subst, ◌∙◌, ap}
+use Rattle.std.proofs.Common.{◌≡◌, Some, option_map, ◌∙◌, ap}
 use Rattle.messagehub.specs.declared.status.ExitStatus.TheVariants as status
 use Rattle.messagehub.specs.Engine.{SaysUnread, bad_line_text}
 use Rattle.messagehub.proofs.Writing.{says_so, writes_weaker}

@@ -1,4 +1,4 @@
-use Rattle.std.proofs.Common.{◌≡◌, ◌+◌, ◌∷◌, [], ◌++◌, length, Ok, sym, ap, subst, ◌∙◌, arith, inl, inr}
+use Rattle.std.proofs.Common.{◌≡◌, ◌+◌, sym, subst, ◌∙◌, arith, inl, inr}
 use Rattle.hub_text.specs.TextLines.{text_lines_of}
 use Rattle.messagehub.specs.Steps.{steps_from, steps_of}
 use Rattle.messagehub.proofs.Numbered.{with_front, goes_on, is_bad, is_done, no_lines}

@@ -1,0 +1,224 @@
+-- What every legal history keeps: the headline, and the laws beside it.
+use Rattle.std.proofs.Common.{◌≡◌, ℕ, zero, suc, ◌+◌, ◌<◌, Bool, true, false, cond, eqb, ltb, get_or, List, [], ◌∷◌, ◌++◌, length, map, refl, sym, ap, subst, ◌∙◌, inl, inr, arith, rules, length-append}
+use Rattle.std.specs.Prelude.{◌&&◌, not}
+use Rattle.std.specs.Bool.{MatchBool}
+use Rattle.std.specs.List.{filter, AllByRecursion}
+use Rattle.std.proofs.lemmas.Bool.Decides.{nat_tests}
+use Rattle.std.proofs.lemmas.Bool.{false≢true, eqb-true}
+use Rattle.std.proofs.lemmas.List.Elements.{filter-append}
+use Rattle.std.proofs.lemmas.List.{map-append, get_or_append_left, ext_get_or}
+use Rattle.std.proofs.Math.Seq.{get_or-append_seam}
+use Rattle.hub_envelope.specs.declared.ids.EndId.{EndId}
+use Rattle.hub_envelope.specs.declared.envelope.Envelope.{Envelope}
+use Rattle.hub_core.specs.declared.line.Phase.{Phase}
+use Rattle.hub_core.specs.declared.line.Phase.TheVariants.{Out, Inside, Turned}
+use Rattle.hub_core.specs.declared.sender.Sender.{Sender}
+use Rattle.hub_core.specs.declared.step.Action.{Action}
+use Rattle.hub_core.specs.declared.step.Action.TheVariants as action
+use Rattle.hub_core.specs.declared.outcome.Outcome.{Outcome}
+use Rattle.hub_core.specs.declared.outcome.Outcome.TheVariants as outcome
+use Rattle.hub_core.specs.History.{Pair, History}
+use Rattle.hub_core.specs.Facts.{Facts, facts}
+use Rattle.hub_core.specs.Fits.{Answers}
+use Rattle.hub_core.specs.Legal.{LegalAfter, Legal}
+use Rattle.hub_core.specs.Accepted.{accepted}
+use Rattle.hub_core.specs.Taken.{taken}
+use Rattle.hub_core.specs.Sender.{by, Prefix}
+use Rattle.hub_core.specs.Posting.{is_out, is_inside, poster, phase_of_line}
+use Rattle.hub_core.specs.Numbers.{up_to, numbers}
+use Rattle.hub_core.specs.Sound.{Sound}
+use Rattle.hub_core.specs.Headline.{take_of, enter_of, is_line, leaves, posts, IsTurned, IsDrainedAt, Headline}
+use Rattle.hub_core.specs.Laws.{KeepsTheLine, TurnedPutsNothing, SameIsJoined}
+use Rattle.hub_core.proofs.Lists.{both_of, eqb_same}
+use Rattle.hub_core.proofs.Nexts.{next, facts_next, effect, Change, agent_made, channel_made, let_in, found_moved, found_closed, put, left, started, got}
+use Rattle.hub_core.proofs.Legals.{legal_apart, legal_joined, legal_at}
+use Rattle.hub_core.proofs.Fitting.{let_in_of, found_moved_of, found_closed_of, pushed_of, empty_of}
+use Rattle.hub_core.proofs.SoundLines.{Numbered}
+use Rattle.hub_core.proofs.SoundPlaces.{speaker_next, speaks_of, poster_is}
+use Rattle.hub_core.proofs.Sounds.{sound_legal}
+use Rattle.hub_core.proofs.Sames.{turned_same}
+
+-- ---- a prefix of numbered envelopes is numbered
+
+length-up_to : (n : ℕ) → length (up_to n) ≡ n
+length-up_to zero = refl
+length-up_to (suc n) = length-append (up_to n) (n ∷ []) ∙ ap (λ m. m + 1) (length-up_to n) ∙ omega arith
+
+last_of : (i n : ℕ) → i < suc n → ltb i n ≡ false → i ≡ n
+last_of i n h e = grind (arith, nat_tests)
+
+get_or-up_to : (n i d : ℕ) → i < n → get_or (up_to n) i d ≡ i
+get_or-up_to zero i d h = absurd (omega arith)
+get_or-up_to (suc n) i d h = elim (ltb i n) as (λ b. ltb i n ≡ b → get_or (up_to n ++ n ∷ []) i d ≡ i) [
+  | true ↦ λ e. let below : i < n = search (rules, nat_tests) in
+      let within : i < length (up_to n) = subst (λ m. i < m) (sym (length-up_to n)) below in
+      get_or_append_left (up_to n) (n ∷ []) d i within ∙ get_or-up_to n i d below
+  | false ↦ λ e. let last : i ≡ n = last_of i n h e in
+      rw last (subst (λ m. get_or (up_to n ++ n ∷ []) m d ≡ n) (length-up_to n) (get_or-append_seam (up_to n) n [] d))
+] refl
+
+front_numbered : (ns ms : List ℕ) → Numbered (ns ++ ms) → Numbered ns
+front_numbered ns ms h = ext_get_or 0 ns (up_to (length ns)) (sym (length-up_to (length ns))) (λ i within.
+    let total : i < length (ns ++ ms) = rw (length-append ns ms) (omega arith) in
+    sym (get_or_append_left ns ms 0 i within) ∙ ap (λ us. get_or us i 0) h ∙ get_or-up_to (length (ns ++ ms)) i 0 total ∙ sym (get_or-up_to (length ns) i 0 within))
+
+-- the envelopes of a line and a queue are among those of the line
+pub filter_both : (line epoch : ℕ) (vs : List Envelope) → filter (λ (v : Envelope). eqb v.line.0 line && eqb v.epoch epoch) vs ≡ filter (λ v. eqb v.epoch epoch) (by line vs)
+filter_both line epoch [] = refl
+filter_both line epoch (v ∷ vs) = elim (eqb v.line.0 line) as (λ b. cond (b && eqb v.epoch epoch) (v ∷ filter (λ (u : Envelope). eqb u.line.0 line && eqb u.epoch epoch) vs) (filter (λ u. eqb u.line.0 line && eqb u.epoch epoch) vs) ≡ filter (λ u. eqb u.epoch epoch) (cond b (v ∷ by line vs) (by line vs))) [
+  | true ↦ ap (λ us. cond (eqb v.epoch epoch) (v ∷ us) us) (filter_both line epoch vs)
+  | false ↦ filter_both line epoch vs
+]
+
+numbers_prefix : (line epoch : ℕ) (ts vs : List Envelope) → Prefix (by line ts) (by line vs) → (rest : List ℕ) × (numbers line epoch vs ≡ numbers line epoch ts ++ rest)
+numbers_prefix line epoch ts vs p = (
+  map (λ (v : Envelope). v.number) (filter (λ (v : Envelope). eqb v.epoch epoch) p.0),
+  ap (map (λ (v : Envelope). v.number)) (filter_both line epoch vs ∙ ap (filter (λ (v : Envelope). eqb v.epoch epoch)) p.1 ∙ filter-append _ (by line ts) p.0 ∙ ap (λ us. us ++ filter (λ (v : Envelope). eqb v.epoch epoch) p.0) (sym (filter_both line epoch ts)))
+      ∙ map-append _ (filter (λ (v : Envelope). eqb v.line.0 line && eqb v.epoch epoch) ts) (filter (λ (v : Envelope). eqb v.epoch epoch) p.0),
+)
+
+-- ---- a poster that is turned back
+
+on_line_turned : (b : Bool) (p q : Phase) → (b ≡ true → ⊥) → q ≡ Turned → cond b p q ≡ Turned
+on_line_turned true p q never h = absurd (never refl)
+on_line_turned false p q never h = h
+
+-- the phase of a line that both numbers name
+phase_there : (f : Facts) (s t : Sender) → is_line s t ≡ true → phase_of_line f s ≡ phase_of_line f t
+phase_there f s t is =
+    let both = both_of (eqb s.end.0 t.end.0) (eqb s.line.0 t.line.0) is in
+    let end : s.end.0 ≡ t.end.0 = eqb-true s.end.0 t.end.0 both.0 in
+    let line : s.line.0 ≡ t.line.0 = eqb-true s.line.0 t.line.0 both.1 in
+    ap (λ e. (f.line e s.line.0).phase) end ∙ ap (λ l. (f.line t.end.0 l).phase) line
+
+not_out : (f : Facts) (s t : Sender) → phase_of_line f s ≡ Turned → is_out (phase_of_line f t) ≡ true → is_line s t ≡ true → ⊥
+not_out f s t turned out is = absurd (search (rules, false≢true, sym (ap is_out (sym (phase_there f s t is) ∙ turned)) ∙ out))
+
+-- it stays so until it leaves
+stays_turned : (f : Facts) {a : Action} (refused : Bool) {o : Outcome} (s : Sender) → Answers f a refused o → phase_of_line f s ≡ Turned → leaves s o a ≡ false → Change a o → phase_of_line (next f a o) s ≡ Turned
+stays_turned f refused s fits turned stays (agent_made n) = turned
+stays_turned f refused s fits turned stays (channel_made a e e') = turned
+stays_turned f refused s fits turned stays (let_in t) = on_line_turned (is_line s t) Inside (phase_of_line f s) (not_out f s t turned (let_in_of f t fits).0.out) turned
+stays_turned f refused s fits turned stays (found_moved t) = on_line_turned (is_line s t) Turned (phase_of_line f s) (not_out f s t turned (found_moved_of f t fits).0.out) turned
+stays_turned f refused s fits turned stays (found_closed t) = on_line_turned (is_line s t) Turned (phase_of_line f s) (not_out f s t turned (found_closed_of f t fits).0.out) turned
+stays_turned f refused s fits turned stays (put t ports body n) = turned
+stays_turned f refused s fits turned stays (left t) = on_line_turned (is_line s t) Out (phase_of_line f s) (λ is. false≢true (sym stays ∙ is)) turned
+stays_turned f refused s fits turned stays (started e) = turned
+stays_turned f refused s fits turned stays (got e v) = turned
+
+turned_next : (f : Facts) (a : Action) (refused : Bool) (o : Outcome) (s : Sender) → Answers f a refused o → phase_of_line f s ≡ Turned → leaves s o a ≡ false → phase_of_line (next f a o) s ≡ Turned
+turned_next f a refused o s fits turned stays = elim (effect f o a) [
+  | inl same ↦ ap (λ (g : Facts). phase_of_line g s) same ∙ turned
+  | inr change ↦ stays_turned f refused s fits turned stays change
+]
+
+-- and posts nothing meanwhile
+posts_inside : (f : Facts) (s t : Sender) → phase_of_line f s ≡ Turned → is_inside (phase_of_line f t) ≡ true → (b : Bool) → is_line s t ≡ b → b ≡ false
+posts_inside f s t turned inside false is = refl
+posts_inside f s t turned inside true is = absurd (search (rules, false≢true, sym (ap is_inside (sym (phase_there f s t is) ∙ turned)) ∙ inside))
+
+no_posts : (f : Facts) {a : Action} (refused : Bool) {o : Outcome} (s : Sender) → Answers f a refused o → phase_of_line f s ≡ Turned → Change a o → posts s o a ≡ false
+no_posts f refused s fits turned (agent_made n) = refl
+no_posts f refused s fits turned (channel_made a e e') = refl
+no_posts f refused s fits turned (let_in t) = refl
+no_posts f refused s fits turned (found_moved t) = refl
+no_posts f refused s fits turned (found_closed t) = refl
+no_posts f refused s fits turned (put t ports body n) = posts_inside f s t turned (pushed_of f t ports.items refused n fits).inside (is_line s t) refl
+no_posts f refused s fits turned (left t) = refl
+no_posts f refused s fits turned (started e) = refl
+no_posts f refused s fits turned (got e v) = refl
+
+posts_change : (s : Sender) (o : Outcome) (a : Action) → (Change a o → posts s o a ≡ false) → posts s o a ≡ false
+posts_change s (outcome.Accepted n) (action.Push t ports body) h = h (put t ports body n)
+posts_change s o a h = refl
+
+turned_on : (past : History) (s : Sender) (middle after : History) → LegalAfter past (middle ++ after) → phase_of_line (facts past) s ≡ Turned → AllByRecursion (λ (p : Pair). leaves s p.1 p.0.action ≡ false) middle → AllByRecursion (λ (p : Pair). posts s p.1 p.0.action ≡ false) middle
+turned_on past s [] after l turned stays = tt
+turned_on past s (p ∷ middle) after l turned stays = (
+  posts_change s p.1 p.0.action (λ change. no_posts (facts past) p.0.memory_refused s l.0 turned change),
+  turned_on (past ++ p ∷ []) s middle after l.1
+      (ap (λ (f : Facts). phase_of_line f s) (facts_next past p) ∙ turned_next (facts past) p.0.action p.0.memory_refused p.1 s l.0 turned stays.0) stays.1,
+)
+
+same_line : (s : Sender) → is_line s s ≡ true
+same_line s = rw (eqb_same s.end.0) (eqb_same s.line.0)
+
+here_turned : (f : Facts) (s : Sender) (o : Outcome) → IsTurned o → phase_of_line (next f (action.Enter s) o) s ≡ Turned
+here_turned f s o (inl is) = rw is (ap (λ b. cond b Turned (phase_of_line f s)) (same_line s))
+here_turned f s o (inr is) = rw is (ap (λ b. cond b Turned (phase_of_line f s)) (same_line s))
+
+turned_from : (h before middle after : History) (s : Sender) (refused : Bool) (o : Outcome) → Legal h → IsTurned o → h ≡ before ++ enter_of s refused o ∷ (middle ++ after) → AllByRecursion (λ (p : Pair). leaves s p.1 p.0.action ≡ false) middle → AllByRecursion (λ (p : Pair). posts s p.1 p.0.action ≡ false) middle
+turned_from h before middle after s refused o l turned is stays =
+    let at = legal_at h before (middle ++ after) (enter_of s refused o) l is in
+    turned_on (before ++ enter_of s refused o ∷ []) s middle after at.2
+    (ap (λ (f : Facts). phase_of_line f s) (facts_next before (enter_of s refused o)) ∙ here_turned (facts before) s o turned) stays
+
+-- ---- what a take is answered
+
+closed_of : (closed : Bool) (o : Outcome) (P : Type 0) → closed ≡ true → MatchBool closed (o ≡ outcome.Closed) P → o ≡ outcome.Closed
+closed_of true o P is h = h
+closed_of false o P is h = absurd (false≢true is)
+
+closed_takes : (h before after : History) (e : EndId) (refused : Bool) (o : Outcome) → Legal h → h ≡ before ++ take_of e refused o ∷ after → ((facts before).end e.0).closed ≡ true → o ≡ outcome.Closed
+closed_takes h before after e refused o l is closed =
+    let at = legal_at h before after (take_of e refused o) l is in
+    closed_of ((facts before).end e.0).closed o _ closed at.1
+
+empty_at : (h before after : History) (e : EndId) (refused : Bool) → Legal h → h ≡ before ++ take_of e refused outcome.Empty ∷ after → IsDrainedAt before e.0
+empty_at h before after e refused l is =
+    let at = legal_at h before after (take_of e refused outcome.Empty) l is in
+    let served = empty_of (facts before) e at.1 in
+    record { is_open = served.is_open; is_enabled = served.is_enabled; all = served.serves.all }
+
+-- ---- the headline
+
+pub headline : (h : History) → Legal h → Headline h
+headline h l =
+    let s : Sound (facts h) = sound_legal h l in
+    record {
+      prefix = λ e line. (s.waiting e).prefix line;
+      accepted_once = λ e line epoch. (s.lines e).numbered line epoch;
+      taken_once = λ e line epoch.
+          let p = numbers_prefix line epoch (taken h e) (accepted h e) ((s.waiting e).prefix line) in
+          front_numbered (numbers line epoch (taken h e)) p.0 (subst Numbered p.1 ((s.lines e).numbered line epoch));
+      closed = λ before after e refused o is closed. closed_takes h before after e refused o l is closed;
+      turned = λ before middle after t refused o turned is stays. turned_from h before middle after t refused o l turned is stays;
+      same = λ before after t refused again o turned is. turned_same before t refused again o turned (legal_at h before after (enter_of t refused o) l is).1;
+      empty = λ before after e refused is. empty_at h before after e refused l is;
+    }
+
+-- ---- the laws beside it
+
+kept_next : (f : Facts) (a : Action) (refused : Bool) (o : Outcome) (s : Sender) → Sound f → Answers f a refused o → is_out (phase_of_line f s) ≡ false → poster (next f a o) s ≡ poster f s
+kept_next f a refused o s h fits away = elim (effect f o a) [
+  | inl same ↦ ap (λ (g : Facts). poster g s) same
+  | inr change ↦ speaker_next f refused h fits change s away
+]
+
+pub keeps_the_line : KeepsTheLine
+keeps_the_line = record {
+  held = λ h s l away.
+      let k = speaks_of (facts h) s ((sound_legal h l).places.away s away) in
+      (k.agent, poster_is (facts h) s k);
+  kept = λ h p s a l fits away still posts.
+      ap (λ (f : Facts). poster f s) (facts_next h p) ∙ kept_next (facts h) p.0.action p.0.memory_refused p.1 s (sound_legal h l) fits away ∙ posts;
+}
+
+turned_push : (inside : Bool) (rest o : Outcome) → inside ≡ false → o ≡ cond (not inside) outcome.NotNow rest → o ≡ outcome.NotNow
+turned_push true rest o is h = absurd (false≢true (sym is))
+turned_push false rest o is h = h
+
+pub turned_puts_nothing : TurnedPutsNothing
+turned_puts_nothing h s ports body refused o turned fits = turned_push (is_inside (phase_of_line (facts h) s)) _ o (ap is_inside turned) fits
+
+pub same_is_joined : SameIsJoined
+same_is_joined h k l m = (
+  (λ same g. (
+    (λ joined. legal_joined [] k g m ((same g).0 (legal_apart [] h g joined).1)),
+    (λ joined. legal_joined [] h g l ((same g).1 (legal_apart [] k g joined).1)),
+  )),
+  (λ joined g. (
+    (λ after. (legal_apart [] k g ((joined g).0 (legal_joined [] h g l after))).1),
+    (λ after. (legal_apart [] h g ((joined g).1 (legal_joined [] k g m after))).1),
+  )),
+)

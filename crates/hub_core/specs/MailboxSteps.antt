@@ -1,0 +1,122 @@
+-- What may happen at a mailbox, and what it makes of it.
+use Rattle.std.specs.Prelude.{◌≡◌, ◌⊎◌, ℕ, ◌+◌, ◌<◌, ◌≤◌, true, false, List, [], ◌∷◌, ◌++◌, length, slice_get, slice_set, Option, Some, None}
+use Rattle.std.specs.Option.{option_to_list}
+use Rattle.hub_envelope.specs.declared.envelope.Envelope.{Envelope}
+use Rattle.hub_core.specs.declared.line.Phase.TheVariants.{Out, Inside}
+use Rattle.hub_core.specs.GateMachine as machine
+use Rattle.hub_core.specs.GateMachine.{Gate, IsAt, opened, busy, Steps}
+use Rattle.hub_core.specs.QueueMachine.{Queue, new_queue, MayPush, pushed, popped}
+use Rattle.hub_core.specs.Mailbox.{Mailbox, GateAt, QueueAt, StandsAt, IsNewest}
+
+module _ {R : Type 0} (m : Mailbox R) where
+  -- the mailbox with another gate or queue at an epoch
+  abbrev pub with_gate : ℕ → Gate R → Mailbox R
+  with_gate k g = record { gates = slice_set m.gates k g; queues = m.queues; stands = m.stands; taker = m.taker }
+
+  abbrev pub with_queue : ℕ → Queue → Mailbox R
+  with_queue k q = record { gates = m.gates; queues = slice_set m.queues k q; stands = m.stands; taker = m.taker }
+
+  -- the mailbox with a line or the taker at another epoch
+  abbrev pub with_stand : ℕ → ℕ → Mailbox R
+  with_stand line k = record { gates = m.gates; queues = m.queues; stands = slice_set m.stands line k; taker = m.taker }
+
+  abbrev pub with_taker : ℕ → Mailbox R
+  with_taker k = record { gates = m.gates; queues = m.queues; stands = m.stands; taker = k }
+
+  -- the mailbox with one queue more, whose gate opens with these rights
+  abbrev pub with_new : List R → Mailbox R
+  with_new rights = record { gates = m.gates ++ opened rights ∷ []; queues = m.queues ++ new_queue ∷ []; stands = m.stands; taker = m.taker }
+
+  -- Where an event of a gate happens: a line's where the line stands, enable and close at the newest gate, a
+  -- look at any. No gate is retired without a new queue.
+  abbrev pub HappensAt : ℕ → machine.Event R → Type 0
+  HappensAt k (machine.enter line) = StandsAt m line k
+  HappensAt k (machine.leave line right) = StandsAt m line k
+  HappensAt k (machine.turn_back line) = StandsAt m line k
+  HappensAt k machine.enable = IsNewest m k
+  HappensAt k machine.close = IsNewest m k
+  HappensAt k machine.look = Unit {0}
+  HappensAt k machine.retire = ⊥
+
+-- nobody is at the gate of this epoch, or its rights were collected
+pub record IsSettled {R : Type 0} (m : Mailbox R) (k : ℕ) : Type 0 where
+  pub gate : Gate R
+  pub is_gate : GateAt m k gate
+  pub left : (gate.collected ≡ true) ⊎ (busy gate ≡ 0)
+
+-- a pop at the queue of this epoch finds none
+pub record HoldsNothing {R : Type 0} (m : Mailbox R) (k : ℕ) : Type 0 where
+  pub queue : Queue
+  pub is_queue : QueueAt m k queue
+  pub nothing : popped queue ≡ None
+
+-- A sweep may pop at this epoch: the newest gate is closed, all queues from the taker's to this one are settled,
+-- and those before this one hold nothing.
+pub record MaySweep {R : Type 0} (m : Mailbox R) (k : ℕ) : Type 0 where
+  pub newest : ℕ
+  pub gate : Gate R
+  pub is_newest : IsNewest m newest
+  pub is_gate : GateAt m newest gate
+  pub closed : gate.closed ≡ true
+  pub from : m.taker ≤ k
+  pub settled : (older : ℕ) → m.taker ≤ older → older ≤ k → IsSettled m older
+  pub nothing : (older : ℕ) → m.taker ≤ older → older < k → HoldsNothing m older
+
+-- what may happen at a mailbox, with what is answered
+pub data MailboxEvent (R : Type 0) : Type 0 where
+  -- an event of the gate of an epoch
+  at_gate : ℕ → machine.Event R → machine.Answer R → MailboxEvent R
+  push : Envelope → MailboxEvent R
+  -- a pop at the queue of an epoch, and what it finds
+  pop : ℕ → Option Envelope → MailboxEvent R
+  -- a line goes on to the next epoch
+  hop : ℕ → MailboxEvent R
+  -- the taker goes on to the next epoch
+  advance : MailboxEvent R
+  -- the newest gate is retired and a queue added, whose gate opens with these rights
+  add : List R → MailboxEvent R
+
+-- what an event puts into the mailbox, and what it takes out
+abbrev pub put_in : {R : Type 0} → MailboxEvent R → List Envelope
+put_in (push v) = v ∷ []
+put_in (at_gate k event answer) = []
+put_in (pop k found) = []
+put_in (hop line) = []
+put_in advance = []
+put_in (add rights) = []
+
+abbrev pub got_in : {R : Type 0} → MailboxEvent R → List Envelope
+got_in (pop k found) = option_to_list found
+got_in (push v) = []
+got_in (at_gate k event answer) = []
+got_in (hop line) = []
+got_in advance = []
+got_in (add rights) = []
+
+-- One event: the mailbox before, and the mailbox after. `owns k line right` says that at epoch k this is a right of
+-- the line.
+pub data MailboxStep {R : Type 0} (owns : ℕ → ℕ → R → Type 0) (end lines : ℕ) (m : Mailbox R) : MailboxEvent R → Mailbox R → Type 0 where
+  -- a gate's event changes that gate alone
+  gate_steps : (k : ℕ) (g after : Gate R) (event : machine.Event R) (answer : machine.Answer R) → GateAt m k g → HappensAt m k event → Steps (owns k) g event answer after
+      → MailboxStep owns end lines m (at_gate k event answer) (with_gate m k after)
+  -- a line that is inside puts an envelope in the queue where it stands
+  pushes : (k : ℕ) (g : Gate R) (q : Queue) (v : Envelope) → StandsAt m v.line.0 k → GateAt m k g → IsAt g v.line.0 Inside → QueueAt m k q → MayPush end k lines q v
+      → MailboxStep owns end lines m (push v) (with_queue m k (pushed q v))
+  -- a pop at the taker's queue, and in a sweep
+  takes : (q rest : Queue) (v : Envelope) → QueueAt m m.taker q → popped q ≡ Some (v, rest)
+      → MailboxStep owns end lines m (pop m.taker (Some v)) (with_queue m m.taker rest)
+  sweeps : (k : ℕ) (q rest : Queue) (v : Envelope) → MaySweep m k → QueueAt m k q → popped q ≡ Some (v, rest)
+      → MailboxStep owns end lines m (pop k (Some v)) (with_queue m k rest)
+  -- a pop that finds none changes nothing
+  finds_none : (k : ℕ) (q : Queue) → QueueAt m k q → popped q ≡ None
+      → MailboxStep owns end lines m (pop k None) m
+  -- a line that is out goes on from a retired queue
+  hops : (line k : ℕ) (g : Gate R) → StandsAt m line k → k + 1 < length m.gates → GateAt m k g → IsAt g line Out
+      → MailboxStep owns end lines m (hop line) (with_stand m line (k + 1))
+  -- the taker goes on from a retired queue that is settled and holds nothing
+  advances : m.taker + 1 < length m.gates → IsSettled m m.taker → HoldsNothing m m.taker
+      → MailboxStep owns end lines m advance (with_taker m (m.taker + 1))
+  -- an open mailbox is moved: its newest gate is retired, and a queue with an opened gate added
+  adds : (k : ℕ) (g after : Gate R) (rights : List R) → IsNewest m k → GateAt m k g → g.closed ≡ false → Steps (owns k) g machine.retire machine.says_done after
+      → length rights ≡ lines → ((line : ℕ) (right : R) → slice_get rights line ≡ Some right → owns (k + 1) line right)
+      → MailboxStep owns end lines m (add rights) (with_new (with_gate m k after) rights)
