@@ -1,0 +1,10 @@
+pub mod Counting
+pub mod Arrays
+pub mod Bodies
+pub mod Changes
+pub mod LineTexts
+pub mod PortLists
+pub mod Posting
+pub mod Reading
+pub mod FirstBad
+pub mod Obeying

@@ -1,0 +1,18 @@
+-- The text of a script line.
+use Rattle.std.proofs.Common.{◌≡◌, ℕ, List, Bool, true, false, cond, Err, refl, ap}
+use Rattle.std.specs.Str.{is_utf8, IsUtf8}
+use Rattle.std.proofs.lemmas.Str.{is_utf8-from_IsUtf8, IsUtf8-from_is_utf8}
+use Rattle.hub_script.specs.declared.script_error.ScriptError.TheVariants.{Syntax}
+use Rattle.hub_script.specs.Form.{form_of, text_form}
+
+utf8_at : (bytes : List ℕ) (b : Bool) → is_utf8 bytes ≡ b → (IsUtf8 bytes → ⊥) → b ≡ false
+utf8_at bytes true e h = absurd (h (IsUtf8-from_is_utf8 bytes e))
+utf8_at bytes false e h = refl
+
+pub not_utf8 : (bytes : List ℕ) → (IsUtf8 bytes → ⊥) → form_of bytes ≡ Err Syntax
+unfolding form_of
+not_utf8 bytes h = ap (λ b. cond b (text_form bytes) (Err Syntax)) (utf8_at bytes (is_utf8 bytes) refl h)
+
+pub form_of_text : (bytes : List ℕ) → IsUtf8 bytes → form_of bytes ≡ text_form bytes
+unfolding form_of
+form_of_text bytes valid = ap (λ b. cond b (text_form bytes) (Err Syntax)) (is_utf8-from_IsUtf8 bytes valid)

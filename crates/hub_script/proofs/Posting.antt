@@ -1,0 +1,33 @@
+-- Posts, test by test.
+use Rattle.std.proofs.Common.{◌≡◌, ℕ, List, map, Some, None, Result, Ok, refl, ap, sym, ◌∙◌}
+use Rattle.hub_envelope.specs.declared.body.BodyError.{BodyError}
+use Rattle.hub_envelope.specs.declared.ids.AgentId.{AgentId}
+use Rattle.hub_envelope.specs.declared.ids.EndId.{EndId}
+use Rattle.hub_script.specs.declared.action.ActionKind.{ActionKind}
+use Rattle.hub_script.specs.declared.action.ActionKind.TheVariants as action
+use Rattle.hub_script.specs.declared.named.NamedEnd.{NamedEnd}
+use Rattle.hub_script.specs.Context.{acting, after_post, after_send, agent_of, body_or, held_port, ports_of}
+use Rattle.hub_script.specs.Known.{Known, end_of, giving_all, queue_of, with_holds}
+
+pub posted : (k : Known) (at : ℕ) (n : List ℕ) (answer : Result (List ℕ) BodyError) (names : List (List ℕ)) (a : AgentId) (port : NamedEnd) (ports : List NamedEnd) (body : List ℕ)
+    → agent_of k at ≡ Ok a → held_port k a n ≡ Ok port → ports_of k a (Some n) names ≡ Ok ports → body_or answer ≡ Ok body
+    → after_post k at n answer names ≡ Ok (with_holds (acting k a (action.Post (end_of k.script port) body (map (end_of k.script) ports))) (giving_all a ports))
+unfolding after_post
+posted k at n answer names a port ports body agent held listed read = rw (agent, held, listed, read) refl
+
+pub sent : (k : Known) (at to : ℕ) (answer : Result (List ℕ) BodyError) (names : List (List ℕ)) (a b : AgentId) (ports : List NamedEnd) (body : List ℕ)
+    → agent_of k at ≡ Ok a → agent_of k to ≡ Ok b → ports_of k a None names ≡ Ok ports → body_or answer ≡ Ok body
+    → after_send k at to answer names ≡ Ok (with_holds (acting k a (action.Send (queue_of b) body (map (end_of k.script) ports))) (giving_all a ports))
+unfolding after_send
+sent k at to answer names a b ports body agent other listed read = rw (agent, other, listed, read) refl
+
+-- the action is added, and then the ports are given up
+pub transferred : (k mid new : Known) (a : AgentId) (make : List EndId → ActionKind) (ports first second : List NamedEnd) (ends : List EndId)
+    → first ≡ ports → second ≡ ports → map (end_of k.script) first ≡ ends → acting k a (make ends) ≡ mid → new ≡ with_holds mid (giving_all a second)
+    → with_holds (acting k a (make (map (end_of k.script) ports))) (giving_all a ports) ≡ new
+transferred k mid new a make ports first second ends same_first same_second listed acted given =
+    ap (λ (xs : List NamedEnd). with_holds (acting k a (make (map (end_of k.script) xs))) (giving_all a ports)) (sym same_first)
+    ∙ ap (λ (xs : List EndId). with_holds (acting k a (make xs)) (giving_all a ports)) listed
+    ∙ ap (λ (m : Known). with_holds m (giving_all a ports)) acted
+    ∙ ap (λ (xs : List NamedEnd). with_holds mid (giving_all a xs)) (sym same_second)
+    ∙ sym given

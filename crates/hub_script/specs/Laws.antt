@@ -1,0 +1,51 @@
+-- Laws of every script line that was read.
+use Rattle.std.specs.Prelude.{◌≡◌, ℕ, ◌≤◌, List, [], length, true, false, Option, Some, None, Result, Ok, codes, bytes_eq}
+use Rattle.std.specs.List.{list_all}
+use Rattle.hub_envelope.specs.declared.body.BodyError.{BodyError}
+use Rattle.hub_envelope.specs.declared.ids.AgentId.{AgentId}
+use Rattle.hub_envelope.specs.declared.limits.TheConstants.{MAX_PORTS}
+use Rattle.hub_script.specs.declared.named.NamedEnd.{NamedEnd}
+use Rattle.hub_script.specs.declared.named.NameKind.TheVariants.{Port}
+use Rattle.hub_script.specs.Context.{after_close, after_post, after_send, after_start, has_twice, is_listed, ports_from}
+use Rattle.hub_script.specs.Known.{Known, holding}
+
+-- the agent holds the port or member of that name
+pub record HoldsName (k : Known) (a : AgentId) (n : List ℕ) : Type 0 where
+  pub end : NamedEnd
+  pub named : k.names n ≡ Some end
+  pub held : k.holds (holding a end) ≡ true
+
+-- the agent holds the port of that name
+pub record HoldsPort (k : Known) (a : AgentId) (n : List ℕ) : Type 0 where
+  pub port : NamedEnd
+  pub named : k.names n ≡ Some port
+  pub kind : port.kind ≡ Port
+  pub held : k.holds (holding a port) ≡ true
+
+-- at most 16 different names of ports that the agent holds, and the source port isn't among them
+pub record MayTransfer (k : Known) (a : AgentId) (source : Option (List ℕ)) (names : List (List ℕ)) : Type 0 where
+  pub ports : List NamedEnd
+  pub named : ports_from k [] names ≡ Ok ports
+  pub apart : is_listed source names ≡ false
+  pub different : has_twice names ≡ false
+  pub held : list_all (λ x. k.holds (holding a x)) ports ≡ true
+  pub few : length ports ≤ MAX_PORTS
+
+-- a post that is read names a port that its agent holds, and what it transfers may be transferred
+abbrev pub PostsHeld : Type 0
+PostsHeld = (k next : Known) (at : ℕ) (n : List ℕ) (answer : Result (List ℕ) BodyError) (names : List (List ℕ)) → after_post k at n answer names ≡ Ok next
+    → (a : AgentId) × (a.0 ≡ at) × HoldsPort k a n × MayTransfer k a (Some n) names
+
+-- what a send transfers may be transferred
+abbrev pub SendsHeld : Type 0
+SendsHeld = (k next : Known) (at to : ℕ) (answer : Result (List ℕ) BodyError) (names : List (List ℕ)) → after_send k at to answer names ≡ Ok next
+    → (a : AgentId) × (a.0 ≡ at) × MayTransfer k a None names
+
+-- a start that is read names a port that its agent holds, or its queue
+abbrev pub StartsHeld : Type 0
+StartsHeld = (k next : Known) (at : ℕ) (n : List ℕ) → after_start k at n ≡ Ok next → bytes_eq n (codes "queue") ≡ false
+    → (a : AgentId) × (a.0 ≡ at) × HoldsPort k a n
+
+-- a close that is read names what its agent holds
+abbrev pub ClosesHeld : Type 0
+ClosesHeld = (k next : Known) (at : ℕ) (n : List ℕ) → after_close k at n ≡ Ok next → (a : AgentId) × (a.0 ≡ at) × HoldsName k a n

@@ -1,0 +1,10 @@
+pub mod Fields
+pub mod Keyword
+pub mod Form
+pub mod Contents
+pub mod Known
+pub mod Context
+pub mod Reader
+pub mod Script
+pub mod Answers
+pub mod Laws

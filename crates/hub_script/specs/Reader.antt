@@ -1,0 +1,15 @@
+-- What a reader of script lines keeps, as what the lines before say.
+use Rattle.std.specs.BTreeMap.{get_by_text}
+use Rattle.std.specs.BTreeSet.{contains}
+use Rattle.std.specs.Ordering.{nat_cmp, ordering_then}
+use Rattle.std.specs.declared.cmp.Ordering.{Ordering}
+use Rattle.hub_script.specs.declared.named.Holding.{Holding}
+use Rattle.hub_script.specs.declared.script_reader.ScriptReader.{ScriptReader}
+use Rattle.hub_script.specs.Known.{Known}
+
+-- by agent, then by name
+abbrev pub holding_cmp : Holding → Holding → Ordering
+holding_cmp x y = ordering_then (nat_cmp x.agent.0 y.agent.0) (nat_cmp x.number y.number)
+
+abbrev pub known : ScriptReader → Known
+known r = record { script = r.script; names = λ n. get_by_text r.names n; holds = λ x. contains holding_cmp r.held x; handed = λ a. contains nat_cmp r.handed a }

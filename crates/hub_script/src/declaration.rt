@@ -1,0 +1,29 @@
+use crate::agent_kind::AgentKind;
+use crate::name::Name;
+use hub_broadcast::Origin;
+use hub_envelope::AgentId;
+
+/// An agent of a script. Agents are numbered from 0 in the order of the file.
+#[derive(Debug, Drop)]
+pub struct DeclaredAgent {
+    pub kind: AgentKind,
+    pub origin: Origin,
+}
+
+/// A channel of a script: two entangled ports, both with one agent (WHATWG HTML, "Message
+/// channels").
+#[derive(Debug, Drop)]
+pub struct DeclaredChannel {
+    pub at: AgentId,
+    pub first: Name,
+    pub second: Name,
+}
+
+/// A broadcast member of a script: its agent, its name in the script, and the name of the channel
+/// that it is on (WHATWG HTML, "Broadcasting to other browsing contexts").
+#[derive(Debug, Drop)]
+pub struct DeclaredMember {
+    pub at: AgentId,
+    pub name: Name,
+    pub on: Name,
+}

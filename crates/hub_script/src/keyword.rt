@@ -1,0 +1,78 @@
+ghost use Rattle.std.specs.Prelude.{◌≡◌};
+ghost use Rattle.hub_script.specs.Keyword.{keyword_of, word_of};
+ghost use Rattle.serde_json.specs.View.{view};
+
+use serde_json::Value;
+
+/// The field by which a form of script line is told. Each form has one of them.
+#[derive(Clone, Copy, Debug, PartialEq, Eq)]
+pub(crate) enum Keyword {
+    Agent,
+    Channel,
+    Member,
+    Post,
+    Send,
+    Cast,
+    Start,
+    Loaded,
+    Close,
+    Wait,
+    Receive,
+    Order,
+    Event,
+    Hand,
+    Fetch,
+}
+
+pub(crate) const KEYWORDS: [Keyword; 15] = [
+    Keyword::Agent,
+    Keyword::Channel,
+    Keyword::Member,
+    Keyword::Post,
+    Keyword::Send,
+    Keyword::Cast,
+    Keyword::Start,
+    Keyword::Loaded,
+    Keyword::Close,
+    Keyword::Wait,
+    Keyword::Receive,
+    Keyword::Order,
+    Keyword::Event,
+    Keyword::Hand,
+    Keyword::Fetch,
+];
+
+impl Keyword {
+    /// The first keyword that the object has as a field.
+    pub(crate) fn of(line: &Value) -> Option<Keyword>
+        ensures { result ≡ keyword_of (view line.now) }
+    {
+        KEYWORDS
+            .iter()
+            .copied()
+            .find(|keyword| line.get(keyword.word()).is_some())
+    }
+
+    /// The field's name.
+    pub(crate) fn word(self) -> &'static str
+        ensures { result.now ≡ word_of self }
+    {
+        match self {
+            Keyword::Agent => "agent",
+            Keyword::Channel => "channel",
+            Keyword::Member => "member",
+            Keyword::Post => "post",
+            Keyword::Send => "send",
+            Keyword::Cast => "cast",
+            Keyword::Start => "start",
+            Keyword::Loaded => "loaded",
+            Keyword::Close => "close",
+            Keyword::Wait => "wait",
+            Keyword::Receive => "receive",
+            Keyword::Order => "order",
+            Keyword::Event => "event",
+            Keyword::Hand => "hand",
+            Keyword::Fetch => "fetch",
+        }
+    }
+}

@@ -1,0 +1,36 @@
+//! Scripts: what the agents of a run are, and what each of them does.
+//!
+//! A script has one JSON object a text line: first the declarations of agents, channels and
+//! broadcast members, then the actions of the agents. What is read has every agent, name and body
+//! resolved, so that an event loop runs it without asking again.
+#![tactic(auto)]
+
+mod action;
+mod actions;
+mod agent_kind;
+mod declaration;
+mod declarations;
+mod fields;
+mod form;
+mod keyword;
+mod laws;
+mod limits;
+mod lists;
+mod name;
+mod name_list;
+mod named;
+mod read;
+mod read_form;
+mod script;
+mod script_error;
+mod script_reader;
+
+pub use action::{Action, ActionKind};
+pub use agent_kind::AgentKind;
+pub use declaration::{DeclaredAgent, DeclaredChannel, DeclaredMember};
+pub use hub_envelope::OutOfMemory;
+pub use laws::script_laws;
+pub use limits::MAX_SCRIPT_LINES;
+pub use name::Name;
+pub use script::Script;
+pub use script_error::{DataCloneCause, ScriptError};

@@ -1,0 +1,50 @@
+ghost use Rattle.hub_script.specs.Answers.{IsScriptAnswer};
+ghost use Rattle.hub_script.specs.Script.{after_line, script_of};
+ghost use Rattle.hub_text.specs.Reading.{AreLinesReadAs, IsReadAs};
+
+use crate::read_form::read_form;
+use crate::script::Script;
+use crate::script_error::ScriptError;
+use crate::script_reader::ScriptReader;
+use hub_text::split_text_line;
+use std::alloc::Global;
+
+impl Script {
+    /// The script that the bytes spell.
+    ///
+    /// Text lines end at LF; the last LF may be missing, and no bytes at all are an empty script.
+    /// An error comes with the number of its text line, from 1; of several bad ones the first is
+    /// told, with the first test that it fails. Memory may run out at any line. Time grows with the
+    /// length of the text and the logarithm of the number of names.
+    pub fn read(alloc: Global, text: &[u8]) -> Result<Script, (usize, ScriptError)>
+        ensures reads { AreLinesReadAs ScriptError.OutOfMemory (λ script. script) result
+            (script_of text.now) }
+        // Each text line obeys the rules after those before it, or it is the first that doesn't.
+        ensures cases { IsScriptAnswer text.now result }
+    {
+        let mut reader = ScriptReader::new(alloc);
+        let mut number = 0;
+        let mut rest = text;
+        while !rest.is_empty() {
+            let (line, after) = split_text_line(rest);
+            number += 1;
+            if let Err(error) = reader.add_line(alloc, line) {
+                return Err((number, error));
+            }
+            rest = after;
+        }
+        Ok(reader.into_script())
+    }
+}
+
+impl ScriptReader {
+    ghost use Rattle.hub_script.specs.Reader.{known};
+
+    fn add_line(&mut self, alloc: Global, line: &[u8]) -> Result<(), ScriptError>
+        ensures { IsReadAs ScriptError.OutOfMemory (λ _. known self.new) result
+            (after_line (known self.old) line.now) }
+    {
+        let form = read_form(alloc, line)?;
+        self.add_form(alloc, form)
+    }
+}
