@@ -127,7 +127,8 @@ impl ScriptReader {
 
     /// What the name names.
     fn named(&self, name: &Name) -> Result<NamedEnd, ScriptError>
-        ensures { IsReadAs ScriptError.OutOfMemory (λ x. x) result (named (known self.now) name.now) }
+        ensures { IsReadAs ScriptError.OutOfMemory (λ x. x) result
+            (named (known self.now) name.now) }
     {
         match self.names.get(name.as_str()) {
             Some(named) => Ok(*named),

@@ -46,8 +46,8 @@ pub fn run_steps<R: Read, W: Write>(
     run_engine::<StepsEngine, R, W>(alloc, reader, writer)
 }
 
-/// What `run_steps` writes for step lines is a function of them: two texts that they may be answered
-/// with are equal. The function does nothing; the law is its contract.
+/// What `run_steps` writes for step lines is a function of them: two texts that they may be
+/// answered with are equal. The function does nothing; the law is its contract.
 pub fn step_text_laws()
     ensures { OneText }
 {}
