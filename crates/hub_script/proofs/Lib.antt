@@ -8,3 +8,15 @@ pub mod Posting
 pub mod Reading
 pub mod FirstBad
 pub mod Obeying
+pub mod OneLineMore
+pub mod Naming
+pub mod Standing
+pub mod Continuing
+pub mod Tests
+pub mod Outcomes
+pub mod EachForm
+pub mod OtherFields
+pub mod ShownForms
+pub mod FormsRead
+pub mod Explaining
+pub mod OneMeaning

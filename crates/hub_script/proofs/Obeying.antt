@@ -21,7 +21,7 @@ use Rattle.hub_script.specs.Known.{Known, end_of, giving, giving_all, holding, q
 use Rattle.hub_script.specs.Laws.{ClosesHeld, HoldsName, HoldsPort, MayTransfer, PostsHeld, SendsHeld, StartsHeld}
 
 -- where the whole is read, so is each part
-parts : {A B : Type 0} (r : ScriptRead A) (f : A → ScriptRead B) (y : B) → (r >>= f) ≡ Ok y → (x : A) × (r ≡ Ok x) × (f x ≡ Ok y)
+pub parts : {A B : Type 0} (r : ScriptRead A) (f : A → ScriptRead B) (y : B) → (r >>= f) ≡ Ok y → (x : A) × (r ≡ Ok x) × (f x ≡ Ok y)
 parts (Ok x) f y h = (x, refl, h)
 parts (Err e) f y h = absurd (cc)
 

@@ -1,13 +1,18 @@
--- Laws of every script line that was read.
+-- Laws of every script line that was read, and of what refusals mean.
 use Rattle.std.specs.Prelude.{◌≡◌, ℕ, ◌≤◌, List, [], length, true, false, Option, Some, None, Result, Ok, codes, bytes_eq}
 use Rattle.std.specs.List.{list_all}
 use Rattle.hub_envelope.specs.declared.body.BodyError.{BodyError}
 use Rattle.hub_envelope.specs.declared.ids.AgentId.{AgentId}
 use Rattle.hub_envelope.specs.declared.limits.TheConstants.{MAX_PORTS}
+use Rattle.hub_script.specs.declared.form.Form.{Form}
 use Rattle.hub_script.specs.declared.named.NamedEnd.{NamedEnd}
 use Rattle.hub_script.specs.declared.named.NameKind.TheVariants.{Port}
+use Rattle.hub_script.specs.declared.script_error.ScriptError.{ScriptError}
+use Rattle.hub_text.specs.TextLines.{text_lines_of}
 use Rattle.hub_script.specs.Context.{after_close, after_post, after_send, after_start, has_twice, is_listed, ports_from}
 use Rattle.hub_script.specs.Known.{Known, holding}
+use Rattle.hub_script.specs.Refusals.{AreAccepted, IsAccepted, IsRefused, Means}
+use Rattle.hub_script.specs.Shown.{TextHasForm}
 
 -- the agent holds the port or member of that name
 pub record HoldsName (k : Known) (a : AgentId) (n : List ℕ) : Type 0 where
@@ -49,3 +54,19 @@ StartsHeld = (k next : Known) (at : ℕ) (n : List ℕ) → after_start k at n �
 -- a close that is read names what its agent holds
 abbrev pub ClosesHeld : Type 0
 ClosesHeld = (k next : Known) (at : ℕ) (n : List ℕ) → after_close k at n ≡ Ok next → (a : AgentId) × (a.0 ≡ at) × HoldsName k a n
+
+-- behind the same lines a text line is refused in one way at most
+abbrev pub OneRefusal : Type 0
+OneRefusal = (before : List Form) (bytes : List ℕ) (e g : ScriptError) → Means before bytes e → Means before bytes g → e ≡ g
+
+-- a text line that is accepted is refused in no way
+abbrev pub NoneAccepted : Type 0
+NoneAccepted = (before : List Form) (bytes : List ℕ) (f : Form) (e : ScriptError) → TextHasForm bytes f → IsAccepted before f → ¬ Means before bytes e
+
+-- a text is refused in one way at most: one text line of it, with one kind
+abbrev pub OneAnswer : Type 0
+OneAnswer = (text : List ℕ) (n m : ℕ) (e g : ScriptError) → IsRefused text n e → IsRefused text m g → (n ≡ m) × (e ≡ g)
+
+-- a text that is refused isn't one of accepted text lines
+abbrev pub NoScript : Type 0
+NoScript = (text : List ℕ) (n : ℕ) (e : ScriptError) → IsRefused text n e → ¬ AreAccepted (text_lines_of text)

@@ -8,3 +8,6 @@ pub mod Reader
 pub mod Script
 pub mod Answers
 pub mod Laws
+pub mod Shown
+pub mod Before
+pub mod Refusals

@@ -1,4 +1,5 @@
 ghost use Rattle.hub_script.specs.Answers.{IsScriptAnswer};
+ghost use Rattle.hub_script.specs.Refusals.{IsExplained};
 ghost use Rattle.hub_script.specs.Script.{after_line, script_of};
 ghost use Rattle.hub_text.specs.Reading.{AreLinesReadAs, IsReadAs};
 
@@ -21,6 +22,8 @@ impl Script {
             (script_of text.now) }
         // Each text line obeys the rules after those before it, or it is the first that doesn't.
         ensures cases { IsScriptAnswer text.now result }
+        // What the kind of a refusal means, in terms of its text line and of those before it.
+        ensures refusals { IsExplained text.now result }
     {
         let mut reader = ScriptReader::new(alloc);
         let mut number = 0;
