@@ -1,6 +1,6 @@
 -- What an answer that fits says of the facts.
-use Rattle.std.proofs.Common.{◌≡◌, ◌+◌, Bool, true, false, cond, List, length, Option, Some, None, refl, ap}
-use Rattle.std.specs.Prelude.{◌&&◌, not, is_some, nat_lt}
+use Rattle.std.proofs.Common.{◌≡◌, ◌+◌, Bool, true, false, cond, List, length, Option, Some, None, refl, ap, ℕ, zero, suc, ◌<◌, ◌≤◌, eqb, sym, ◌∙◌, arith, rules, inl, inr}
+use Rattle.std.specs.Prelude.{◌&&◌, not, is_some, nat_lt, ◌||◌, ◌⊎◌, nat_le}
 use Rattle.std.specs.Bool.{MatchBool}
 use Rattle.hub_envelope.specs.declared.ids.AgentId.{AgentId}
 use Rattle.hub_envelope.specs.declared.ids.EndId.{EndId}
@@ -11,10 +11,31 @@ use Rattle.hub_core.specs.declared.outcome.Acceptance.{Acceptance}
 use Rattle.hub_core.specs.declared.outcome.Outcome.{Outcome}
 use Rattle.hub_core.specs.declared.outcome.Outcome.TheVariants as outcome
 use Rattle.hub_core.specs.Facts.{Facts}
-use Rattle.hub_core.specs.Sender.{count_in_queue}
 use Rattle.hub_core.specs.Making.{agent_answer, channel_answer}
-use Rattle.hub_core.specs.Posting.{holder, poster, phase_of_line, is_out, is_inside, is_good, enter_answer, leave_answer, push_answer_of, push_answer}
-use Rattle.hub_core.specs.Taking.{IsNext, IsDrained, Serves, FitsTake, start_answer}
+use Rattle.hub_core.specs.Posting.{holder, poster, phase_of_line, is_out, is_inside, is_good, enter_answer, leave_answer, push_answer_of, push_answer, may_enter, hears_notice, is_here, own_poster_out, next_name, notice_answer}
+use Rattle.hub_core.specs.Taking.{Serves, FitsTake, start_answer}
+use Rattle.std.proofs.lemmas.Bool.{false≢true, eqb-true, eqb-false}
+use Rattle.hub_core.specs.declared.limits.TheConstants.{MAX_MOVES}
+use Rattle.hub_core.specs.declared.end.Place.{Place}
+use Rattle.hub_core.specs.declared.end.Place.TheVariants.{With, InFlight, Arrived, Swept, Gone}
+use Rattle.hub_core.specs.Looking.{any_below, someone_at, first_unclear, lookable, looked, look_answer_of, look_answer, all_from, all_settled, IsAllWaiting, FitsSweep}
+use Rattle.hub_core.specs.Moving.{hop_answer, is_arrived, adopt_answer, close_answer}
+use Rattle.std.proofs.lemmas.Bool.Decides.{nat_tests}
+use Rattle.hub_core.proofs.Lists.{both_of}
+
+-- ---- tests
+
+either_left : (b : Bool) → (b || false) ≡ true → b ≡ true
+either_left true h = refl
+either_left false h = absurd (false≢true h)
+
+neither_of : (b c : Bool) → (b || c) ≡ false → (b ≡ false) × (c ≡ false)
+neither_of true c h = cc
+neither_of false true h = cc
+neither_of false false h = (refl, refl)
+
+pub below_last : (i n : ℕ) → i < n + 1 → (i ≡ n → ⊥) → i < n
+below_last i n below other = grind (arith, nat_tests)
 
 -- ---- making
 
@@ -38,14 +59,16 @@ new_ends f a refused e e' h = channel_of (f.agent a.0).runs _ refused e e' (reco
 -- ---- entering and leaving
 
 -- an Enter that was answered something else than NotNow
-entered_of : (usable out : Bool) (o p : Outcome) → (o ≡ outcome.NotNow → ⊥) → o ≡ cond (not (usable && out)) outcome.NotNow p → (usable ≡ true) × (out ≡ true) × (o ≡ p)
-entered_of true true o p other h = (refl, refl, h)
-entered_of true false o p other h = absurd (other h)
-entered_of false out o p other h = absurd (other h)
+entered_of : (may out noticed : Bool) (o p : Outcome) → (o ≡ outcome.NotNow → ⊥) → o ≡ cond (not (may && out && not noticed)) outcome.NotNow p → (may ≡ true) × (out ≡ true) × (noticed ≡ false) × (o ≡ p)
+entered_of true true false o p other h = (refl, refl, refl, h)
+entered_of true true true o p other h = absurd (other h)
+entered_of true false noticed o p other h = absurd (other h)
+entered_of false out noticed o p other h = absurd (other h)
 
 pub record Entered (f : Facts) (s : Sender) : Type 0 where
-  pub usable : is_some (poster f s) ≡ true
+  pub may : may_enter f s ≡ true
   pub out : is_out (phase_of_line f s) ≡ true
+  pub plain : (f.line s.end.0 s.line.0).noticed ≡ false
 
 in_of : (retired closed : Bool) → outcome.In ≡ cond retired outcome.Moved (cond closed outcome.Closed outcome.In) → (retired ≡ false) × (closed ≡ false)
 in_of true closed h = cc
@@ -57,9 +80,9 @@ moved_of true closed h = refl
 moved_of false true h = cc
 moved_of false false h = cc
 
-shut_of : (retired closed : Bool) → outcome.Closed ≡ cond retired outcome.Moved (cond closed outcome.Closed outcome.In) → closed ≡ true
+shut_of : (retired closed : Bool) → outcome.Closed ≡ cond retired outcome.Moved (cond closed outcome.Closed outcome.In) → (retired ≡ false) × (closed ≡ true)
 shut_of true closed h = cc
-shut_of false true h = refl
+shut_of false true h = (refl, refl)
 shut_of false false h = cc
 
 abbrev pub is_retired : Facts → Sender → Bool
@@ -67,19 +90,20 @@ is_retired f s = nat_lt (f.line s.end.0 s.line.0).stand (f.end s.end.0).newest
 
 pub let_in_of : (f : Facts) (s : Sender) → outcome.In ≡ enter_answer f s → Entered f s × (is_retired f s ≡ false) × ((f.end s.end.0).closed ≡ false)
 let_in_of f s h =
-    let r = entered_of (is_some (poster f s)) (is_out (phase_of_line f s)) outcome.In _ (λ (x : outcome.In ≡ outcome.NotNow). cc) h in
-    let both = in_of (is_retired f s) (f.end s.end.0).closed r.2 in
-    (record { usable = r.0; out = r.1 }, both.0, both.1)
+    let r = entered_of (may_enter f s) (is_out (phase_of_line f s)) (f.line s.end.0 s.line.0).noticed outcome.In _ (λ (x : outcome.In ≡ outcome.NotNow). cc) h in
+    let both = in_of (is_retired f s) (f.end s.end.0).closed r.3 in
+    (record { may = r.0; out = r.1; plain = r.2 }, both.0, both.1)
 
 pub found_moved_of : (f : Facts) (s : Sender) → outcome.Moved ≡ enter_answer f s → Entered f s × (is_retired f s ≡ true)
 found_moved_of f s h =
-    let r = entered_of (is_some (poster f s)) (is_out (phase_of_line f s)) outcome.Moved _ (λ (x : outcome.Moved ≡ outcome.NotNow). cc) h in
-    (record { usable = r.0; out = r.1 }, moved_of (is_retired f s) (f.end s.end.0).closed r.2)
+    let r = entered_of (may_enter f s) (is_out (phase_of_line f s)) (f.line s.end.0 s.line.0).noticed outcome.Moved _ (λ (x : outcome.Moved ≡ outcome.NotNow). cc) h in
+    (record { may = r.0; out = r.1; plain = r.2 }, moved_of (is_retired f s) (f.end s.end.0).closed r.3)
 
-pub found_closed_of : (f : Facts) (s : Sender) → outcome.Closed ≡ enter_answer f s → Entered f s × ((f.end s.end.0).closed ≡ true)
+pub found_closed_of : (f : Facts) (s : Sender) → outcome.Closed ≡ enter_answer f s → Entered f s × (is_retired f s ≡ false) × ((f.end s.end.0).closed ≡ true)
 found_closed_of f s h =
-    let r = entered_of (is_some (poster f s)) (is_out (phase_of_line f s)) outcome.Closed _ (λ (x : outcome.Closed ≡ outcome.NotNow). cc) h in
-    (record { usable = r.0; out = r.1 }, shut_of (is_retired f s) (f.end s.end.0).closed r.2)
+    let r = entered_of (may_enter f s) (is_out (phase_of_line f s)) (f.line s.end.0 s.line.0).noticed outcome.Closed _ (λ (x : outcome.Closed ≡ outcome.NotNow). cc) h in
+    let both = shut_of (is_retired f s) (f.end s.end.0).closed r.3 in
+    (record { may = r.0; out = r.1; plain = r.2 }, both.0, both.1)
 
 left_when : (out : Bool) → outcome.Left ≡ cond out outcome.NotNow outcome.Left → out ≡ false
 left_when true h = cc
@@ -90,42 +114,55 @@ left_of f s h = left_when (is_out (phase_of_line f s)) h
 
 -- ---- pushing
 
--- the name that an accepted push gives
-abbrev pub name_of : Facts → Sender → AgentId → Acceptance
-name_of f s a = record {
-  agent = a;
-  epoch = (f.line s.end.0 s.line.0).stand;
-  number = count_in_queue s.line.0 (f.line s.end.0 s.line.0).stand (f.accepted s.end.0);
-}
-
 -- a push that was accepted
 pub record Pushed (f : Facts) (s : Sender) (ports : List EndId) (n : Acceptance) : Type 0 where
   pub inside : is_inside (phase_of_line f s) ≡ true
+  pub plain : (f.line s.end.0 s.line.0).noticed ≡ false
   pub agent : AgentId
   pub speaks : poster f s ≡ Some agent
   pub good : is_good f agent s ports ≡ true
-  pub name : n ≡ name_of f s agent
+  pub name : n ≡ next_name f s agent
 
-granted : (good refused : Bool) (n m : Acceptance) → outcome.Accepted n ≡ cond (not good) outcome.NotNow (cond refused outcome.NoMemory (outcome.Accepted m)) → (good ≡ true) × (n ≡ m)
-granted false refused n m h = cc
-granted true true n m h = cc
-granted true false n m h = (refl, cc)
+granted : (many good refused : Bool) (n m : Acceptance) → outcome.Accepted n ≡ cond many outcome.TooManyPorts (cond (not good) outcome.NotNow (cond refused outcome.NoMemory (outcome.Accepted m))) → (good ≡ true) × (n ≡ m)
+granted true good refused n m h = cc
+granted false false refused n m h = cc
+granted false true true n m h = cc
+granted false true false n m h = (refl, cc)
 
-passed : (inside many : Bool) (n : Acceptance) (o : Outcome) → outcome.Accepted n ≡ cond (not inside) outcome.NotNow (cond many outcome.TooManyPorts o) → (inside ≡ true) × (outcome.Accepted n ≡ o)
-passed false many n o h = cc
+passed : (inside noticed : Bool) (n : Acceptance) (o : Outcome) → outcome.Accepted n ≡ cond (not (inside && not noticed)) outcome.NotNow o → (inside ≡ true) × (noticed ≡ false) × (outcome.Accepted n ≡ o)
+passed false noticed n o h = cc
 passed true true n o h = cc
-passed true false n o h = (refl, h)
+passed true false n o h = (refl, refl, h)
 
-pushed_by : (f : Facts) (s : Sender) (ports : List EndId) (refused : Bool) (n : Acceptance) (q : Option AgentId) → is_inside (phase_of_line f s) ≡ true → poster f s ≡ q → outcome.Accepted n ≡ push_answer_of f s ports refused q → Pushed f s ports n
-pushed_by f s ports refused n None inside is h = cc
-pushed_by f s ports refused n (Some a) inside is h =
-    let r = granted (is_good f a s ports) refused n (name_of f s a) h in
-    record { inside = inside; agent = a; speaks = is; good = r.0; name = r.1 }
+pushed_by : (f : Facts) (s : Sender) (ports : List EndId) (refused : Bool) (n : Acceptance) (q : Option AgentId) → is_inside (phase_of_line f s) ≡ true → (f.line s.end.0 s.line.0).noticed ≡ false → poster f s ≡ q → outcome.Accepted n ≡ push_answer_of f s ports refused q → Pushed f s ports n
+pushed_by f s ports refused n None inside plain is h = cc
+pushed_by f s ports refused n (Some a) inside plain is h =
+    let r = granted (nat_lt MAX_PORTS (length ports)) (is_good f a s ports) refused n (next_name f s a) h in
+    record { inside = inside; plain = plain; agent = a; speaks = is; good = r.0; name = r.1 }
 
 pub pushed_of : (f : Facts) (s : Sender) (ports : List EndId) (refused : Bool) (n : Acceptance) → outcome.Accepted n ≡ push_answer f s ports refused → Pushed f s ports n
 pushed_of f s ports refused n h =
-    let r = passed (is_inside (phase_of_line f s)) (nat_lt MAX_PORTS (length ports)) n (push_answer_of f s ports refused (poster f s)) h in
-    pushed_by f s ports refused n (poster f s) r.0 refl r.1
+    let r = passed (is_inside (phase_of_line f s)) (f.line s.end.0 s.line.0).noticed n (push_answer_of f s ports refused (poster f s)) h in
+    pushed_by f s ports refused n (poster f s) r.0 r.1 refl r.2
+
+-- a notice that was accepted
+pub record Noticed (f : Facts) (s : Sender) (n : Acceptance) : Type 0 where
+  pub inside : is_inside (phase_of_line f s) ≡ true
+  pub plain : (f.line s.end.0 s.line.0).noticed ≡ false
+  pub hears : hears_notice f s ≡ true
+  pub name : n ≡ next_name f s (record { 0 = 0 })
+
+noticed_when : (inside noticed hears refused : Bool) (n m : Acceptance) → outcome.Accepted n ≡ cond (not (inside && not noticed && hears)) outcome.NotNow (cond refused outcome.NoMemory (outcome.Accepted m)) → (inside ≡ true) × (noticed ≡ false) × (hears ≡ true) × (n ≡ m)
+noticed_when false noticed hears refused n m h = cc
+noticed_when true true hears refused n m h = cc
+noticed_when true false false refused n m h = cc
+noticed_when true false true true n m h = cc
+noticed_when true false true false n m h = (refl, refl, refl, cc)
+
+pub noticed_of : (f : Facts) (s : Sender) (refused : Bool) (n : Acceptance) → outcome.Accepted n ≡ notice_answer f s refused → Noticed f s n
+noticed_of f s refused n h =
+    let r = noticed_when (is_inside (phase_of_line f s)) (f.line s.end.0 s.line.0).noticed (hears_notice f s) refused n (next_name f s (record { 0 = 0 })) h in
+    record { inside = r.0; plain = r.1; hears = r.2; name = r.3 }
 
 -- ---- taking
 
@@ -144,24 +181,229 @@ pub record Served (f : Facts) (e : EndId) (o : Outcome) : Type 0 where
   pub is_enabled : (f.end e.0).enabled ≡ true
   pub serves : Serves f e o
 
-got_when : (closed held enabled : Bool) (v : Envelope) (P : Type 0) → MatchBool closed (outcome.Got v ≡ outcome.Closed) (MatchBool held (MatchBool enabled P (outcome.Got v ≡ outcome.Disabled)) (outcome.Got v ≡ outcome.NotNow)) → (closed ≡ false) × (held ≡ true) × (enabled ≡ true) × P
-got_when true held enabled v P h = cc
-got_when false true true v P h = (refl, refl, refl, h)
-got_when false true false v P h = cc
-got_when false false enabled v P h = cc
+-- a take that was answered neither Closed nor NotNow nor Disabled was served
+served_when : (closed held enabled : Bool) (o : Outcome) (P : Type 0) → (o ≡ outcome.Closed → ⊥) → (o ≡ outcome.NotNow → ⊥) → (o ≡ outcome.Disabled → ⊥) → MatchBool closed (o ≡ outcome.Closed) (MatchBool held (MatchBool enabled P (o ≡ outcome.Disabled)) (o ≡ outcome.NotNow)) → (closed ≡ false) × (held ≡ true) × (enabled ≡ true) × P
+served_when true held enabled o P x y z h = absurd (x h)
+served_when false true true o P x y z h = (refl, refl, refl, h)
+served_when false true false o P x y z h = absurd (z h)
+served_when false false enabled o P x y z h = absurd (y h)
+
+served_of : (f : Facts) (e : EndId) (o : Outcome) → (o ≡ outcome.Closed → ⊥) → (o ≡ outcome.NotNow → ⊥) → (o ≡ outcome.Disabled → ⊥) → FitsTake f e o → Served f e o
+served_of f e o x y z h =
+    let r = served_when (f.end e.0).closed (is_some (holder f e.0)) (f.end e.0).enabled o (Serves f e o) x y z h in
+    record { is_open = r.0; held = r.1; is_enabled = r.2; serves = r.3 }
 
 pub got_of : (f : Facts) (e : EndId) (v : Envelope) → FitsTake f e (outcome.Got v) → Served f e (outcome.Got v)
-got_of f e v h =
-    let r = got_when (f.end e.0).closed (is_some (holder f e.0)) (f.end e.0).enabled v (IsNext f e v) h in
-    record { is_open = r.0; held = r.1; is_enabled = r.2; serves = r.3 }
-
-empty_when : (closed held enabled : Bool) (P : Type 0) → MatchBool closed (outcome.Empty ≡ outcome.Closed) (MatchBool held (MatchBool enabled P (outcome.Empty ≡ outcome.Disabled)) (outcome.Empty ≡ outcome.NotNow)) → (closed ≡ false) × (held ≡ true) × (enabled ≡ true) × P
-empty_when true held enabled P h = cc
-empty_when false true true P h = (refl, refl, refl, h)
-empty_when false true false P h = cc
-empty_when false false enabled P h = cc
+got_of f e v h = served_of f e (outcome.Got v) (λ is. cc) (λ is. cc) (λ is. cc) h
 
 pub empty_of : (f : Facts) (e : EndId) → FitsTake f e outcome.Empty → Served f e outcome.Empty
-empty_of f e h =
-    let r = empty_when (f.end e.0).closed (is_some (holder f e.0)) (f.end e.0).enabled (IsDrained f e) h in
-    record { is_open = r.0; held = r.1; is_enabled = r.2; serves = r.3 }
+empty_of f e h = served_of f e outcome.Empty (λ is. cc) (λ is. cc) (λ is. cc) h
+
+pub busy_of : (f : Facts) (e : EndId) → FitsTake f e outcome.Busy → Served f e outcome.Busy
+busy_of f e h = served_of f e outcome.Busy (λ is. cc) (λ is. cc) (λ is. cc) h
+
+pub went_on_of : (f : Facts) (e : EndId) → FitsTake f e outcome.Again → Served f e outcome.Again
+went_on_of f e h = served_of f e outcome.Again (λ is. cc) (λ is. cc) (λ is. cc) h
+
+-- ---- going on, and adopting
+
+hopped_when : (may out retired : Bool) (k n : ℕ) → outcome.Hopped k ≡ cond (may && (out && retired)) (outcome.Hopped n) outcome.NotNow → (may ≡ true) × (out ≡ true) × (retired ≡ true) × (k ≡ n)
+hopped_when true true true k n h = (refl, refl, refl, cc)
+hopped_when true true false k n h = cc
+hopped_when true false retired k n h = cc
+hopped_when false out retired k n h = cc
+
+-- a line that goes on
+pub record Hops (f : Facts) (s : Sender) (k : ℕ) : Type 0 where
+  pub may : may_enter f s ≡ true
+  pub out : is_out (phase_of_line f s) ≡ true
+  pub retired : is_retired f s ≡ true
+  pub number : k ≡ (f.line s.end.0 s.line.0).stand + 1
+
+pub hopped_of : (f : Facts) (s : Sender) (k : ℕ) → outcome.Hopped k ≡ hop_answer f s → Hops f s k
+hopped_of f s k h =
+    let r = hopped_when (may_enter f s) (is_out (phase_of_line f s)) (is_retired f s) k ((f.line s.end.0 s.line.0).stand + 1) h in
+    record { may = r.0; out = r.1; retired = r.2; number = r.3 }
+
+adopted_when : (closed arrived runs full refused : Bool) (k n : ℕ) → outcome.Adopted k ≡ cond closed outcome.Closed (cond (not (arrived && runs)) outcome.NotNow (cond full outcome.TooManyMoves (cond refused outcome.NoMemory (outcome.Adopted n)))) → (closed ≡ false) × (arrived ≡ true) × (runs ≡ true) × (k ≡ n)
+adopted_when true arrived runs full refused k n h = cc
+adopted_when false true true true refused k n h = cc
+adopted_when false true true false true k n h = cc
+adopted_when false true true false false k n h = (refl, refl, refl, cc)
+adopted_when false true false full refused k n h = cc
+adopted_when false false runs full refused k n h = cc
+
+arrived_at : (a : AgentId) (p : Option Place) → is_arrived a p ≡ true → p ≡ Some (Arrived a)
+arrived_at a (Some (Arrived b)) h = let same : a.0 ≡ b.0 = search (rules, h) in ap (λ n. Some (Arrived (record { 0 = n }))) (sym same)
+arrived_at a (Some (With b)) h = absurd (false≢true h)
+arrived_at a (Some InFlight) h = absurd (false≢true h)
+arrived_at a (Some Swept) h = absurd (false≢true h)
+arrived_at a (Some Gone) h = absurd (false≢true h)
+arrived_at a None h = absurd (false≢true h)
+
+-- an end that was adopted
+pub record Adopts (f : Facts) (e : EndId) (a : AgentId) (k : ℕ) : Type 0 where
+  pub is_open : (f.end e.0).closed ≡ false
+  pub arrived : (f.end e.0).place ≡ Some (Arrived a)
+  pub runs : (f.agent a.0).runs ≡ true
+  pub number : k ≡ (f.end e.0).newest + 1
+
+pub adopted_of : (f : Facts) (e : EndId) (a : AgentId) (refused : Bool) (k : ℕ) → outcome.Adopted k ≡ adopt_answer f e a refused → Adopts f e a k
+adopted_of f e a refused k h =
+    let r = adopted_when (f.end e.0).closed (is_arrived a (f.end e.0).place) (f.agent a.0).runs (nat_le MAX_MOVES (f.end e.0).newest) refused k ((f.end e.0).newest + 1) h in
+    record { is_open = r.0; arrived = arrived_at a (f.end e.0).place r.1; runs = r.2; number = r.3 }
+
+-- ---- closing and sweeping
+
+after_first : (k i : ℕ) → k ≤ i → (i ≡ k → ⊥) → k + 1 ≤ i
+after_first k i from other = grind (arith, nat_tests)
+
+-- an end that was closed
+pub record Closes (f : Facts) (e : EndId) : Type 0 where
+  pub is_open : (f.end e.0).closed ≡ false
+  pub here : is_here (f.end e.0).place ≡ true
+  pub own_out : own_poster_out f (f.end e.0).peer ≡ true
+
+closed_when : (closed here out : Bool) → outcome.Done ≡ cond closed outcome.Closed (cond (here && out) outcome.Done outcome.NotNow) → (closed ≡ false) × (here ≡ true) × (out ≡ true)
+closed_when true here out h = cc
+closed_when false true true h = (refl, refl, refl)
+closed_when false true false h = cc
+closed_when false false out h = cc
+
+pub closed_of : (f : Facts) (e : EndId) → outcome.Done ≡ close_answer f e → Closes f e
+closed_of f e h =
+    let r = closed_when (f.end e.0).closed (is_here (f.end e.0).place) (own_poster_out f (f.end e.0).peer) h in
+    record { is_open = r.0; here = r.1; own_out = r.2 }
+
+-- an end that was swept
+pub record SweptWith (f : Facts) (e : EndId) (vs : List Envelope) : Type 0 where
+  pub is_closed : (f.end e.0).closed ≡ true
+  pub settled : all_settled f e.0 ≡ true
+  pub all : IsAllWaiting f e.0 vs
+
+swept_when : (closed settled : Bool) (o : Outcome) (P : Type 0) → (o ≡ outcome.Busy → ⊥) → (o ≡ outcome.NotNow → ⊥) → MatchBool closed (MatchBool settled P (o ≡ outcome.Busy)) (o ≡ outcome.NotNow) → (closed ≡ true) × (settled ≡ true) × P
+swept_when true true o P x y h = (refl, refl, h)
+swept_when true false o P x y h = absurd (x h)
+swept_when false settled o P x y h = absurd (y h)
+
+pub swept_of : (f : Facts) (e : EndId) (vs : List Envelope) → FitsSweep f e (outcome.Discarded vs) → SweptWith f e vs
+swept_of f e vs h =
+    let r = swept_when (f.end e.0).closed (all_settled f e.0) (outcome.Discarded vs) (IsAllWaiting f e.0 vs) (λ is. cc) (λ is. cc) h in
+    record { is_closed = r.0; settled = r.1; all = r.2 }
+
+-- each of some queues passes the test
+pub each_of : (test : ℕ → Bool) (k n : ℕ) → all_from test k n ≡ true → (i : ℕ) → k ≤ i → i < k + n → test i ≡ true
+each_of test k zero h i from below = absurd (omega arith)
+each_of test k (suc n) h i from below =
+    let both = both_of (test k) (all_from test (k + 1) n) h in
+    elim (eqb i k) as (λ b. eqb i k ≡ b → test i ≡ true) [
+      | true ↦ λ is. ap test (eqb-true i k is) ∙ both.0
+      | false ↦ λ is. each_of test (k + 1) n both.1 i (after_first k i from (eqb-false i k is)) (omega arith)
+    ] refl
+
+-- ---- looking
+
+-- the first of some queues that isn't clear
+pub record FirstUnclear (clear : ℕ → Bool) (k n j : ℕ) : Type 0 where
+  pub from : k ≤ j
+  pub below : j < k + n
+  pub unclear : clear j ≡ false
+  pub before : (i : ℕ) → k ≤ i → i < j → clear i ≡ true
+
+pub first_unclear_of : (clear : ℕ → Bool) (k n j : ℕ) → first_unclear clear k n ≡ Some j → FirstUnclear clear k n j
+first_unclear_of clear k zero j is = absurd (search (rules, is))
+first_unclear_of clear k (suc n) j is = elim (clear k) as (λ b. clear k ≡ b → cond b (first_unclear clear (k + 1) n) (Some k) ≡ Some j → FirstUnclear clear k (suc n) j) [
+  | true ↦ λ here later.
+      let r = first_unclear_of clear (k + 1) n j later in
+      let from : k + 1 ≤ j = r.from in
+      let below : j < k + 1 + n = r.below in
+      record {
+        from = omega arith;
+        below = omega arith;
+        unclear = r.unclear;
+        before = λ i low less. elim (eqb i k) as (λ b. eqb i k ≡ b → clear i ≡ true) [
+          | true ↦ λ same. let first : i ≡ k = eqb-true i k same in ap clear first ∙ here
+          | false ↦ λ other. r.before i (after_first k i low (eqb-false i k other)) less
+        ] refl;
+      }
+  | false ↦ λ here found.
+      let same : k ≡ j = cc in
+      record { from = omega arith; below = omega arith; unclear = ap clear (sym same) ∙ here; before = λ i low less. absurd (omega arith) }
+] refl is
+
+looks_when : (may : Bool) (o p : Outcome) → (o ≡ outcome.NotNow → ⊥) → o ≡ cond may p outcome.NotNow → (may ≡ true) × (o ≡ p)
+looks_when true o p other h = (refl, h)
+looks_when false o p other h = absurd (other h)
+
+clear_when : (f : Facts) (x k : ℕ) (q : Option ℕ) → outcome.Clear (Some k) ≡ look_answer_of f x q → (q ≡ Some k) × (someone_at f x k ≡ false)
+clear_when f x k None h = cc
+clear_when f x k (Some j) h = elim (someone_at f x j) as (λ b. someone_at f x j ≡ b → outcome.Clear (Some k) ≡ cond b outcome.Busy (outcome.Clear (Some j)) → (Some j ≡ Some k) × (someone_at f x k ≡ false)) [
+  | true ↦ λ is no. cc
+  | false ↦ λ is yes. let same : k ≡ j = cc in (ap Some (sym same), ap (someone_at f x) same ∙ is)
+] refl h
+
+busy_when : (f : Facts) (x : ℕ) (q : Option ℕ) → outcome.Busy ≡ look_answer_of f x q → (k : ℕ) × (q ≡ Some k) × (someone_at f x k ≡ true)
+busy_when f x None h = cc
+busy_when f x (Some j) h = elim (someone_at f x j) as (λ b. someone_at f x j ≡ b → outcome.Busy ≡ cond b outcome.Busy (outcome.Clear (Some j)) → (k : ℕ) × (Some j ≡ Some k) × (someone_at f x k ≡ true)) [
+  | true ↦ λ is yes. (j, refl, is)
+  | false ↦ λ is no. cc
+] refl h
+
+-- a queue that is looked at
+abbrev pub LooksAt : Facts → ℕ → ℕ → Type 0
+LooksAt f x k = FirstUnclear (f.clear x) (f.end x).taker_stand (lookable (f.end x).taker_stand (f.end x).newest (f.end x).closed) k
+
+-- a queue that became clear
+pub record Clears (f : Facts) (x k : ℕ) : Type 0 where
+  pub may : ((f.end x).closed || nat_lt (f.end x).taker_stand (f.end x).newest) ≡ true
+  pub is_looked : looked f x ≡ Some k
+  pub looks : LooksAt f x k
+  pub nobody : someone_at f x k ≡ false
+
+pub cleared_of : (f : Facts) (e : EndId) (k : ℕ) → outcome.Clear (Some k) ≡ look_answer f e → Clears f e.0 k
+cleared_of f e k h =
+    let r = looks_when ((f.end e.0).closed || nat_lt (f.end e.0).taker_stand (f.end e.0).newest) (outcome.Clear (Some k)) _ (λ (x : outcome.Clear (Some k) ≡ outcome.NotNow). cc) h in
+    let both = clear_when f e.0 k (looked f e.0) r.1 in
+    record { may = r.0; is_looked = both.0; looks = first_unclear_of (f.clear e.0) _ _ k both.0; nobody = both.1 }
+
+pub record FindsBusy (f : Facts) (x : ℕ) : Type 0 where
+  pub queue : ℕ
+  pub is_looked : looked f x ≡ Some queue
+  pub looks : LooksAt f x queue
+  pub somebody : someone_at f x queue ≡ true
+
+pub look_busy_of : (f : Facts) (e : EndId) → outcome.Busy ≡ look_answer f e → FindsBusy f e.0
+look_busy_of f e h =
+    let r = looks_when ((f.end e.0).closed || nat_lt (f.end e.0).taker_stand (f.end e.0).newest) outcome.Busy _ (λ (x : outcome.Busy ≡ outcome.NotNow). cc) h in
+    let both = busy_when f e.0 (looked f e.0) r.1 in
+    record { queue = both.0; is_looked = both.1; looks = first_unclear_of (f.clear e.0) _ _ both.0 both.1; somebody = both.2 }
+
+-- a queue that may be looked at is retired, or the newest of a closed end
+pub looked_where : (taker newest k : ℕ) (closed : Bool) → taker ≤ newest → k < taker + lookable taker newest closed → (k < newest) ⊎ ((k ≡ newest) × (closed ≡ true))
+looked_where taker newest k true within below = elim (eqb k newest) as (λ b. eqb k newest ≡ b → (k < newest) ⊎ ((k ≡ newest) × (true ≡ true))) [
+  | true ↦ λ is. inr (eqb-true k newest is, refl)
+  | false ↦ λ is. let other : k ≡ newest → ⊥ = eqb-false k newest is in inl (below_last k newest (omega arith) other)
+] refl
+looked_where taker newest k false within below = inl (omega arith)
+
+-- ---- who is at a queue
+
+-- what passes a test below a bound
+pub any_of : (test : ℕ → Bool) (n : ℕ) → any_below test n ≡ true → (l : ℕ) × (l < n) × (test l ≡ true)
+any_of test zero h = absurd (false≢true h)
+any_of test (suc n) h = elim (test n) as (λ b. test n ≡ b → (any_below test n || b) ≡ true → (l : ℕ) × (l < suc n) × (test l ≡ true)) [
+  | true ↦ λ is _. (n, omega arith, is)
+  | false ↦ λ is rest.
+      let r = any_of test n (either_left (any_below test n) rest) in
+      let low : r.0 < n = r.1 in
+      (r.0, omega arith, r.2)
+] refl h
+
+pub none_of_any : (test : ℕ → Bool) (n l : ℕ) → any_below test n ≡ false → l < n → test l ≡ false
+none_of_any test zero l h less = absurd (omega arith)
+none_of_any test (suc n) l h less =
+    let both = neither_of (any_below test n) (test n) h in
+    elim (eqb l n) as (λ b. eqb l n ≡ b → test l ≡ false) [
+      | true ↦ λ is. ap test (eqb-true l n is) ∙ both.1
+      | false ↦ λ is. none_of_any test n l both.0 (below_last l n (omega arith) (eqb-false l n is))
+    ] refl

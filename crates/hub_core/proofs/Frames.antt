@@ -1,5 +1,5 @@
 -- What a step leaves alone: an end of which no fact changes is shown as before.
-use Rattle.std.proofs.Common.{◌≡◌, ℕ, Bool, List, [], length, Option, refl, sym, ap, subst, ◌∙◌}
+use Rattle.std.proofs.Common.{◌≡◌, ℕ, Bool, List, [], length, Option, refl, sym, ap, subst, ◌∙◌, ◌++◌}
 use Rattle.std.specs.List.{slice_get}
 use Rattle.hub_core.specs.declared.agent.Agent.{Agent}
 use Rattle.hub_core.specs.declared.end.End.{End}
@@ -13,7 +13,7 @@ use Rattle.hub_core.proofs.Sounds.{sound_first, sound_next}
 
 -- what is shown of an end
 abbrev pub ShownAt : Facts → ℕ → Option End → Type 0
-ShownAt f x kept = ShowsEnd (f.end x) (f.line x) (f.accepted x) (f.taken x) kept
+ShownAt f x kept = ShowsEnd (f.end x) (f.line x) (f.clear x) (f.accepted x) (f.taken x ++ f.discarded x) kept
 
 -- a step's answer, and the facts with it
 pub record Stepped (agents : List Agent) (ends : List End) (f : Facts) (a : Action) (refused : Bool) (o : Outcome) : Type 0 where

@@ -14,7 +14,7 @@ abbrev is_home : Bool → Phase → Bool
 is_home collected p = leaves_right p && not collected
 
 -- no line weighs more than all
-weight_le : (ps : List Phase) (l : ℕ) (p : Phase) → slice_get ps l ≡ Some p → weight p ≤ sum_by weight ps
+pub weight_le : (ps : List Phase) (l : ℕ) (p : Phase) → slice_get ps l ≡ Some p → weight p ≤ sum_by weight ps
 weight_le [] l p e = none_got p e
 weight_le (q ∷ ps) zero p e =
     let is : weight q ≡ weight p = ap weight (some_is q p e) in

@@ -1,6 +1,6 @@
 -- What every legal history keeps: the headline, and the laws beside it.
 use Rattle.std.proofs.Common.{◌≡◌, ℕ, zero, suc, ◌+◌, ◌<◌, Bool, true, false, cond, eqb, ltb, get_or, List, [], ◌∷◌, ◌++◌, length, map, refl, sym, ap, subst, ◌∙◌, inl, inr, arith, rules, length-append}
-use Rattle.std.specs.Prelude.{◌&&◌, not}
+use Rattle.std.specs.Prelude.{◌&&◌, not, ◌||◌, is_some}
 use Rattle.std.specs.Bool.{MatchBool}
 use Rattle.std.specs.List.{filter, AllByRecursion}
 use Rattle.std.proofs.lemmas.Bool.Decides.{nat_tests}
@@ -24,19 +24,23 @@ use Rattle.hub_core.specs.Legal.{LegalAfter, Legal}
 use Rattle.hub_core.specs.Accepted.{accepted}
 use Rattle.hub_core.specs.Taken.{taken}
 use Rattle.hub_core.specs.Sender.{by, Prefix}
-use Rattle.hub_core.specs.Posting.{is_out, is_inside, poster, phase_of_line}
+use Rattle.hub_core.specs.Posting.{is_out, is_inside, poster, phase_of_line, hears_notice}
 use Rattle.hub_core.specs.Numbers.{up_to, numbers}
 use Rattle.hub_core.specs.Sound.{Sound}
-use Rattle.hub_core.specs.Headline.{take_of, enter_of, is_line, leaves, posts, IsTurned, IsDrainedAt, Headline}
+use Rattle.hub_core.specs.Headline.{take_of, enter_of, is_line, leaves, posts, IsTurned, IsDrainedAt, Headline, IsBusyAt}
 use Rattle.hub_core.specs.Laws.{KeepsTheLine, TurnedPutsNothing, SameIsJoined}
 use Rattle.hub_core.proofs.Lists.{both_of, eqb_same}
-use Rattle.hub_core.proofs.Nexts.{next, facts_next, effect, Change, agent_made, channel_made, let_in, found_moved, found_closed, put, left, started, got}
+use Rattle.hub_core.proofs.Nexts.{next, facts_next, effect, Change, agent_made, channel_made, let_in, found_moved, found_closed, put, left, started, got, hopped, went_on, cleared, adopted, notice_put, end_closed, end_swept}
 use Rattle.hub_core.proofs.Legals.{legal_apart, legal_joined, legal_at}
-use Rattle.hub_core.proofs.Fitting.{let_in_of, found_moved_of, found_closed_of, pushed_of, empty_of}
+use Rattle.hub_core.proofs.Fitting.{let_in_of, found_moved_of, found_closed_of, pushed_of, empty_of, any_of, busy_of, noticed_of}
 use Rattle.hub_core.proofs.SoundLines.{Numbered}
-use Rattle.hub_core.proofs.SoundPlaces.{speaker_next, speaks_of, poster_is}
+use Rattle.hub_core.proofs.Speakers.{speaker_next}
 use Rattle.hub_core.proofs.Sounds.{sound_legal}
 use Rattle.hub_core.proofs.Sames.{turned_same}
+use Rattle.hub_core.specs.Made.{lines_of}
+use Rattle.hub_core.specs.Discarded.{discarded}
+use Rattle.hub_core.specs.Looking.{someone_at, is_away_at}
+use Rattle.hub_core.proofs.SoundWaiting.{taken_prefix}
 
 -- ---- a prefix of numbered envelopes is numbered
 
@@ -102,9 +106,16 @@ stays_turned f refused s fits turned stays (let_in t) = on_line_turned (is_line 
 stays_turned f refused s fits turned stays (found_moved t) = on_line_turned (is_line s t) Turned (phase_of_line f s) (not_out f s t turned (found_moved_of f t fits).0.out) turned
 stays_turned f refused s fits turned stays (found_closed t) = on_line_turned (is_line s t) Turned (phase_of_line f s) (not_out f s t turned (found_closed_of f t fits).0.out) turned
 stays_turned f refused s fits turned stays (put t ports body n) = turned
+stays_turned f refused s fits turned stays (notice_put t n) = turned
 stays_turned f refused s fits turned stays (left t) = on_line_turned (is_line s t) Out (phase_of_line f s) (λ is. false≢true (sym stays ∙ is)) turned
+stays_turned f refused s fits turned stays (hopped t k) = turned
 stays_turned f refused s fits turned stays (started e) = turned
 stays_turned f refused s fits turned stays (got e v) = turned
+stays_turned f refused s fits turned stays (went_on e) = turned
+stays_turned f refused s fits turned stays (cleared e k) = turned
+stays_turned f refused s fits turned stays (adopted e a k) = turned
+stays_turned f refused s fits turned stays (end_closed e) = turned
+stays_turned f refused s fits turned stays (end_swept e vs) = turned
 
 turned_next : (f : Facts) (a : Action) (refused : Bool) (o : Outcome) (s : Sender) → Answers f a refused o → phase_of_line f s ≡ Turned → leaves s o a ≡ false → phase_of_line (next f a o) s ≡ Turned
 turned_next f a refused o s fits turned stays = elim (effect f o a) [
@@ -124,12 +135,20 @@ no_posts f refused s fits turned (let_in t) = refl
 no_posts f refused s fits turned (found_moved t) = refl
 no_posts f refused s fits turned (found_closed t) = refl
 no_posts f refused s fits turned (put t ports body n) = posts_inside f s t turned (pushed_of f t ports.items refused n fits).inside (is_line s t) refl
+no_posts f refused s fits turned (notice_put t n) = posts_inside f s t turned (noticed_of f t refused n fits).inside (is_line s t) refl
 no_posts f refused s fits turned (left t) = refl
+no_posts f refused s fits turned (hopped t k) = refl
 no_posts f refused s fits turned (started e) = refl
 no_posts f refused s fits turned (got e v) = refl
+no_posts f refused s fits turned (went_on e) = refl
+no_posts f refused s fits turned (cleared e k) = refl
+no_posts f refused s fits turned (adopted e a k) = refl
+no_posts f refused s fits turned (end_closed e) = refl
+no_posts f refused s fits turned (end_swept e vs) = refl
 
 posts_change : (s : Sender) (o : Outcome) (a : Action) → (Change a o → posts s o a ≡ false) → posts s o a ≡ false
 posts_change s (outcome.Accepted n) (action.Push t ports body) h = h (put t ports body n)
+posts_change s (outcome.Accepted n) (action.Notice t) h = h (notice_put t n)
 posts_change s o a h = refl
 
 turned_on : (past : History) (s : Sender) (middle after : History) → LegalAfter past (middle ++ after) → phase_of_line (facts past) s ≡ Turned → AllByRecursion (λ (p : Pair). leaves s p.1 p.0.action ≡ false) middle → AllByRecursion (λ (p : Pair). posts s p.1 p.0.action ≡ false) middle
@@ -170,46 +189,81 @@ empty_at h before after e refused l is =
     let served = empty_of (facts before) e at.1 in
     record { is_open = served.is_open; is_enabled = served.is_enabled; all = served.serves.all }
 
+-- the line whose poster is inside or being turned back at a queue that isn't settled
+pub record Waits (f : Facts) (x k : ℕ) : Type 0 where
+  pub line : ℕ
+  pub low : line < lines_of ((f.end x).peer)
+  pub away : is_out (f.line x line).phase ≡ false
+  pub there : (f.line x line).stand ≡ k
+
+unsettled : (c s : Bool) → (c || not s) ≡ false → (c ≡ false) × (s ≡ true)
+unsettled true s h = cc
+unsettled false true h = (refl, refl)
+unsettled false false h = cc
+
+not_false : (b : Bool) → not b ≡ true → b ≡ false
+not_false true h = cc
+not_false false h = refl
+
+pub waits_of : (f : Facts) (x k : ℕ) → someone_at f x k ≡ true → Waits f x k
+waits_of f x k h =
+    let found = any_of (λ l. is_away_at k (f.line x l)) (lines_of ((f.end x).peer)) h in
+    let both = both_of (not (is_out (f.line x found.0).phase)) (eqb (f.line x found.0).stand k) found.2 in
+    record { line = found.0; low = found.1; away = not_false (is_out (f.line x found.0).phase) both.0; there = eqb-true (f.line x found.0).stand k both.1 }
+
+busy_at : (h before after : History) (e : EndId) (refused : Bool) → Legal h → h ≡ before ++ take_of e refused outcome.Busy ∷ after → IsBusyAt before e.0
+busy_at h before after e refused l is =
+    let at = legal_at h before after (take_of e refused outcome.Busy) l is in
+    let served = busy_of (facts before) e at.1 in
+    let who = waits_of (facts before) e.0 ((facts before).end e.0).taker_stand (unsettled ((facts before).clear e.0 ((facts before).end e.0).taker_stand) (someone_at (facts before) e.0 ((facts before).end e.0).taker_stand) served.serves.1).1 in
+    record { is_open = served.is_open; is_enabled = served.is_enabled; retired = served.serves.0.retired; line = who.line; away = who.away; there = who.there }
+
 -- ---- the headline
 
 pub headline : (h : History) → Legal h → Headline h
 headline h l =
     let s : Sound (facts h) = sound_legal h l in
     record {
-      prefix = λ e line. (s.waiting e).prefix line;
+      prefix = λ e line. taken_prefix line (taken h e) (discarded h e) (accepted h e) ((s.waiting e).prefix line);
       accepted_once = λ e line epoch. (s.lines e).numbered line epoch;
       taken_once = λ e line epoch.
-          let p = numbers_prefix line epoch (taken h e) (accepted h e) ((s.waiting e).prefix line) in
+          let p = numbers_prefix line epoch (taken h e) (accepted h e) (taken_prefix line (taken h e) (discarded h e) (accepted h e) ((s.waiting e).prefix line)) in
           front_numbered (numbers line epoch (taken h e)) p.0 (subst Numbered p.1 ((s.lines e).numbered line epoch));
       closed = λ before after e refused o is closed. closed_takes h before after e refused o l is closed;
       turned = λ before middle after t refused o turned is stays. turned_from h before middle after t refused o l turned is stays;
       same = λ before after t refused again o turned is. turned_same before t refused again o turned (legal_at h before after (enter_of t refused o) l is).1;
       empty = λ before after e refused is. empty_at h before after e refused l is;
+      busy = λ before after e refused is. busy_at h before after e refused l is;
     }
 
 -- ---- the laws beside it
 
-kept_next : (f : Facts) (a : Action) (refused : Bool) (o : Outcome) (s : Sender) → Sound f → Answers f a refused o → is_out (phase_of_line f s) ≡ false → poster (next f a o) s ≡ poster f s
-kept_next f a refused o s h fits away = elim (effect f o a) [
+kept_next : (f : Facts) (a : Action) (refused : Bool) (o : Outcome) (s : Sender) → Sound f → Answers f a refused o → is_out (phase_of_line f s) ≡ false → is_some (poster f s) ≡ true → poster (next f a o) s ≡ poster f s
+kept_next f a refused o s h fits away speaks = elim (effect f o a) [
   | inl same ↦ ap (λ (g : Facts). poster g s) same
-  | inr change ↦ speaker_next f refused h fits change s away
+  | inr change ↦ speaker_next f refused h fits change s away speaks
 ]
 
 pub keeps_the_line : KeepsTheLine
 keeps_the_line = record {
-  held = λ h s l away.
-      let k = speaks_of (facts h) s ((sound_legal h l).places.away s away) in
-      (k.agent, poster_is (facts h) s k);
+  held = λ h s l away. (sound_legal h l).places.away s away;
   kept = λ h p s a l fits away still posts.
-      ap (λ (f : Facts). poster f s) (facts_next h p) ∙ kept_next (facts h) p.0.action p.0.memory_refused p.1 s (sound_legal h l) fits away ∙ posts;
+      ap (λ (f : Facts). poster f s) (facts_next h p) ∙ kept_next (facts h) p.0.action p.0.memory_refused p.1 s (sound_legal h l) fits away (ap is_some posts) ∙ posts;
 }
 
-turned_push : (inside : Bool) (rest o : Outcome) → inside ≡ false → o ≡ cond (not inside) outcome.NotNow rest → o ≡ outcome.NotNow
-turned_push true rest o is h = absurd (false≢true (sym is))
-turned_push false rest o is h = h
+turned_push : (inside noticed : Bool) (rest o : Outcome) → inside ≡ false → o ≡ cond (not (inside && not noticed)) outcome.NotNow rest → o ≡ outcome.NotNow
+turned_push true noticed rest o is h = absurd (false≢true (sym is))
+turned_push false noticed rest o is h = h
+
+turned_notice : (inside noticed hears : Bool) (rest o : Outcome) → inside ≡ false → o ≡ cond (not (inside && not noticed && hears)) outcome.NotNow rest → o ≡ outcome.NotNow
+turned_notice true noticed hears rest o is h = absurd (false≢true (sym is))
+turned_notice false noticed hears rest o is h = h
 
 pub turned_puts_nothing : TurnedPutsNothing
-turned_puts_nothing h s ports body refused o turned fits = turned_push (is_inside (phase_of_line (facts h) s)) _ o (ap is_inside turned) fits
+turned_puts_nothing = record {
+  push = λ h s ports body refused o turned fits. turned_push (is_inside (phase_of_line (facts h) s)) ((facts h).line s.end.0 s.line.0).noticed _ o (ap is_inside turned) fits;
+  notice = λ h s refused o turned fits. turned_notice (is_inside (phase_of_line (facts h) s)) ((facts h).line s.end.0 s.line.0).noticed (hears_notice (facts h) s) _ o (ap is_inside turned) fits;
+}
 
 pub same_is_joined : SameIsJoined
 same_is_joined h k l m = (

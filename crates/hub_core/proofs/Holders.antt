@@ -1,6 +1,6 @@
 -- What the core finds of agents, holders and posters is what the facts say.
 use Rattle.std.proofs.Common.{◌≡◌, ℕ, Bool, true, false, cond, eqb, List, [], ◌∷◌, length, Option, Some, None, zero, suc, refl, sym, ap, ◌∙◌, arith, rules}
-use Rattle.std.specs.Prelude.{option_map, option_and_then, is_some}
+use Rattle.std.specs.Prelude.{option_map, option_and_then, is_some, ◌||◌, ◌&&◌}
 use Rattle.std.specs.List.{slice_get}
 use Rattle.std.proofs.lemmas.Bool.Decides.{nat_tests}
 use Rattle.hub_envelope.specs.declared.ids.AgentId.{AgentId}
@@ -9,13 +9,13 @@ use Rattle.hub_core.specs.declared.line.Line.{Line}
 use Rattle.hub_core.specs.declared.sender.Sender.{Sender}
 use Rattle.hub_core.specs.declared.end.End.{End}
 use Rattle.hub_core.specs.declared.end.Place.{Place}
-use Rattle.hub_core.specs.declared.end.Place.TheVariants.{With, InFlight, Arrived}
+use Rattle.hub_core.specs.declared.end.Place.TheVariants.{With, InFlight, Arrived, Swept, Gone}
 use Rattle.hub_core.specs.Facts.{AgentNow, EndNow, Facts}
-use Rattle.hub_core.specs.Posting.{running_at, holder, poster}
-use Rattle.hub_core.specs.Sound.{lines_of}
+use Rattle.hub_core.specs.Posting.{running_at, holder, poster, hears_notice, is_here, may_enter}
 use Rattle.hub_core.specs.Shows.{agent_now, end_now, ShowsFacts}
-use Rattle.hub_core.specs.Kept.{is_running_agent, kept_running, kept_holder, kept_poster_of, kept_poster}
+use Rattle.hub_core.specs.Kept.{is_running_agent, kept_running, kept_holder, kept_poster_of, kept_poster, kept_place, kept_hears_of, kept_hears, kept_may_enter}
 use Rattle.hub_core.proofs.Frames.{ShownAt}
+use Rattle.hub_core.specs.Made.{lines_of}
 
 running_now : (o : Option Agent) → is_running_agent o ≡ (agent_now o).runs
 running_now None = refl
@@ -33,6 +33,8 @@ running_at_same r s h None = refl
 running_at_same r s h (Some (With a)) = ap (λ b. cond b (Some a) None) (h a.0)
 running_at_same r s h (Some InFlight) = refl
 running_at_same r s h (Some (Arrived a)) = refl
+running_at_same r s h (Some Swept) = refl
+running_at_same r s h (Some Gone) = refl
 
 pub holder_kept : (agents : List Agent) (ends : List End) (f : Facts) (e : ℕ) → ShowsFacts agents ends f → kept_holder agents ends e ≡ holder f e
 holder_kept agents ends f e h =
@@ -62,6 +64,26 @@ poster_end agents ends f s h (Some x) at =
 
 pub poster_kept : (agents : List Agent) (ends : List End) (f : Facts) (s : Sender) → ShowsFacts agents ends f → kept_poster agents ends s ≡ poster f s
 poster_kept agents ends f s h = poster_end agents ends f s h (slice_get ends s.end.0) (h.end s.end.0)
+
+-- what is kept of a place
+pub place_kept : (agents : List Agent) (ends : List End) (f : Facts) (e : ℕ) → ShowsFacts agents ends f → kept_place ends e ≡ (f.end e).place
+place_kept agents ends f e h = place_now (slice_get ends e) ∙ ap (λ (x : EndNow). x.place) (sym (h.end e).same)
+
+never_heard : (b : Bool) → false ≡ (b && false)
+never_heard true = refl
+never_heard false = refl
+
+hears_end : (agents : List Agent) (ends : List End) (f : Facts) (s : Sender) → ShowsFacts agents ends f → (o : Option End) → ShownAt f s.end.0 o → kept_hears_of ends s.line.0 o ≡ hears_notice f s
+hears_end agents ends f s h None at = never_heard (eqb s.line.0 0) ∙ ap (λ (y : EndNow). eqb s.line.0 0 && is_here (option_and_then (λ q. (f.end q).place) y.peer)) (sym at.same)
+hears_end agents ends f s h (Some x) at =
+    ap (λ p. eqb s.line.0 0 && is_here p) (place_kept agents ends f x.peer.0 h)
+    ∙ ap (λ (y : EndNow). eqb s.line.0 0 && is_here (option_and_then (λ q. (f.end q).place) y.peer)) (sym at.same)
+
+pub hears_kept : (agents : List Agent) (ends : List End) (f : Facts) (s : Sender) → ShowsFacts agents ends f → kept_hears ends s ≡ hears_notice f s
+hears_kept agents ends f s h = hears_end agents ends f s h (slice_get ends s.end.0) (h.end s.end.0)
+
+pub may_kept : (agents : List Agent) (ends : List End) (f : Facts) (s : Sender) → ShowsFacts agents ends f → kept_may_enter agents ends s ≡ may_enter f s
+may_kept agents ends f s h = ap (λ p. is_some p || kept_hears ends s) (poster_kept agents ends f s h) ∙ ap (λ b. is_some (poster f s) || b) (hears_kept agents ends f s h)
 
 -- the line that a port posts on
 line_of : (o : Option End) → option_map (λ (y : End). let s : Sender = record { end = y.peer; line = record { 0 = 0 } } in s) o ≡ option_map (λ q. record { end = record { 0 = q }; line = record { 0 = 0 } }) ((end_now o).peer)

@@ -1,186 +1,198 @@
--- Each pair of a history is one event of the mailbox, or leaves it.
-use Rattle.std.proofs.Common.{◌≡◌, ℕ, ◌+◌, ◌<◌, ◌||◌, ◌&&◌, Bool, true, false, cond, eqb, List, [], ◌∷◌, ◌++◌, refl, sym, ap, subst, inl, inr, arith, Option, Some, None}
-use Rattle.std.specs.Prelude.{◌⊎◌}
-use Rattle.std.proofs.lemmas.Bool.{eqb-true, ne_eqb}
-use Rattle.hub_envelope.specs.declared.envelope.Envelope.{Envelope}
+-- Each pair of a history is events of the mailbox of an end, or leaves it.
+use Rattle.std.proofs.Common.{◌≡◌, ℕ, ◌+◌, ◌-◌, ◌<◌, ◌||◌, ◌&&◌, Bool, true, false, cond, eqb, List, [], ◌∷◌, ◌++◌, length, refl, sym, ap, subst, ◌∙◌, inl, inr, arith, Some, None}
+use Rattle.std.specs.Prelude.{◌⊎◌, not}
+use Rattle.std.proofs.lemmas.Bool.{eqb-true, ne_eqb, or_parts, not-false}
 use Rattle.hub_envelope.specs.declared.ids.EndId.{EndId}
-use Rattle.hub_core.specs.declared.line.Phase.{Phase}
 use Rattle.hub_core.specs.declared.line.Phase.TheVariants.{Out, Inside, Turned}
-use Rattle.hub_core.specs.declared.sender.Sender.{Sender}
 use Rattle.hub_core.specs.declared.step.Action.{Action}
 use Rattle.hub_core.specs.declared.step.Action.TheVariants as action
 use Rattle.hub_core.specs.declared.outcome.Outcome.{Outcome}
 use Rattle.hub_core.specs.declared.outcome.Outcome.TheVariants as outcome
-use Rattle.hub_core.specs.Facts.{LineNow, Facts, facts}
-use Rattle.hub_core.specs.Accepted.{named_envelope}
-use Rattle.hub_core.specs.Lines.{on_line}
+use Rattle.hub_core.specs.Facts.{Facts, facts}
+use Rattle.hub_core.specs.Accepted.{named_envelope, named_notice}
+use Rattle.hub_core.specs.Made.{lines_of}
+use Rattle.hub_core.specs.Sender.{in_queue}
+use Rattle.hub_core.specs.Looking.{someone_at, looked, look_answer}
+use Rattle.hub_core.specs.Taking.{IsDrained, IsLeft, FitsTake}
 use Rattle.hub_core.specs.Fits.{Answers}
-use Rattle.hub_core.specs.Sound.{lines_of, Sound}
-use Rattle.hub_core.specs.GateMachine.{enter, enable, lets_in, says_moved, says_closed, says_done}
+use Rattle.hub_core.specs.Sound.{Sound}
+use Rattle.hub_core.specs.GateMachine.{enter, enable, look, close, lets_in, says_moved, says_closed, says_done, gives_rights}
 use Rattle.hub_core.specs.Mailbox.{Mailbox}
-use Rattle.hub_core.specs.MailboxSteps.{MailboxEvent, at_gate, push, pop, MailboxStep}
-use Rattle.hub_core.specs.MailboxPairs.{OneRight, leaving, event_of, HoldsFirst, EventsAreSteps, OthersLeaveIt}
-use Rattle.hub_core.proofs.Lists.{eqb_same}
-use Rattle.hub_core.proofs.Nexts.{next, Change, agent_made, channel_made, let_in, found_moved, found_closed, put, left, started, got, effect}
-use Rattle.hub_core.proofs.Fitting.{new_ends, pushed_of, empty_of}
+use Rattle.hub_core.specs.MailboxSteps.{MailboxEvent, at_gate, push, pop, hop, advance, add, IsSettled, HoldsNothing}
+use Rattle.hub_core.specs.MailboxPairs.{OneRight, leaving, finds_busy, finds_busy_at, rights_of, events_of, HoldsAll, HoldsWhatLeaves, sweeping, PairsAreEvents}
+use Rattle.hub_core.proofs.Nexts.{next, Change, agent_made, channel_made, let_in, found_moved, found_closed, put, left, hopped, started, got, went_on, cleared, adopted, notice_put, end_closed, end_swept}
+use Rattle.hub_core.proofs.Fitting.{new_ends, pushed_of, noticed_of, hopped_of, got_of, empty_of, busy_of, went_on_of, cleared_of, FindsBusy, look_busy_of, adopted_of, swept_of}
 use Rattle.hub_core.proofs.Sounds.{sound_legal}
-use Rattle.hub_core.proofs.MailboxShown.{HasRight, ShownWith, ShownAt, Goes, of_history, with_pair}
-use Rattle.hub_core.proofs.PairGates.{Moves, entered, turned_moved, turned_closed, left_line, started_there}
-use Rattle.hub_core.proofs.PairQueues.{pushed_there, taken_there, drained_there}
+use Rattle.hub_core.proofs.MailboxShown.{View, view, ShownAt, IsShown, Leads, of_history, with_pair, at_end_or}
+use Rattle.hub_core.proofs.PairGates.{with_line, entered, turned_moved, turned_closed, left_line, started_there, closed_there}
+use Rattle.hub_core.proofs.PairQueues.{pushed_there, with_notice, noticed_there, taken_there, taken_all, none_there}
+use Rattle.hub_core.proofs.PairLooks.{settled_there, busy_there, look_busy_there, cleared_there}
+use Rattle.hub_core.proofs.PairSweeps.{swept_there}
+use Rattle.hub_core.proofs.PairMoves.{with_next, hopped_there, with_taker_at, went_on_there, with_queue_new, adopted_there}
 
 -- ---- the pairs that are events
 
 data Happens : Action → Outcome → Type 0 where
   changes : (a : Action) (o : Outcome) → Change a o → Happens a o
   drained : (x : EndId) → Happens (action.Take x) outcome.Empty
+  found_busy : (x : EndId) → Happens (action.Take x) outcome.Busy
+  looked_busy : (x : EndId) → Happens (action.Look x) outcome.Busy
 
--- every other pair is none
-kind_of : (f : Facts) (e : ℕ) (m : Mailbox OneRight) (o : Outcome) (a : Action) → (event_of f e m o a ≡ None) ⊎ Happens a o
-kind_of f e m outcome.Empty (action.Take x) = inr (drained x)
+-- every other pair is none, and changes nothing
+kind_of : (f : Facts) (e : ℕ) (m : Mailbox OneRight) (o : Outcome) (a : Action) → ((events_of f e m o a ≡ []) × (next f a o ≡ f)) ⊎ Happens a o
+kind_of f e m (outcome.Agent n) action.Agent = inr (changes _ _ (agent_made n))
+kind_of f e m (outcome.Ends x y) (action.Channel a) = inr (changes _ _ (channel_made a x y))
 kind_of f e m outcome.In (action.Enter s) = inr (changes _ _ (let_in s))
 kind_of f e m outcome.Moved (action.Enter s) = inr (changes _ _ (found_moved s))
 kind_of f e m outcome.Closed (action.Enter s) = inr (changes _ _ (found_closed s))
 kind_of f e m (outcome.Accepted n) (action.Push s ports body) = inr (changes _ _ (put s ports body n))
+kind_of f e m (outcome.Accepted n) (action.Notice s) = inr (changes _ _ (notice_put s n))
 kind_of f e m outcome.Left (action.Leave s) = inr (changes _ _ (left s))
+kind_of f e m (outcome.Hopped k) (action.Hop s) = inr (changes _ _ (hopped s k))
 kind_of f e m outcome.Started (action.Start x) = inr (changes _ _ (started x))
 kind_of f e m (outcome.Got v) (action.Take x) = inr (changes _ _ (got x v))
-kind_of f e m o a = inl refl
-
--- what is chosen where a test holds, and where nothing is
-chosen : {A : Type 0} (b : Bool) (x y : A) → cond b (Some x) None ≡ Some y → (b ≡ true) × (x ≡ y)
-chosen true x y h = (refl, cc)
-chosen false x y h = cc
-
-unchosen : {A : Type 0} (b : Bool) (x : A) → cond b (Some x) None ≡ None → b ≡ false
-unchosen true x h = cc
-unchosen false x h = refl
-
-no_event : {A X : Type 0} (o : Option A) (x : A) → o ≡ None → o ≡ Some x → X
-no_event o x none some = cc
-
--- what is proved for the end of the step holds for the end that is the same
-at_its_end : (P : ℕ → Type 0) (e x : ℕ) → eqb e x ≡ true → P x → P e
-at_its_end P e x same h = subst P (sym (eqb-true e x same)) h
-
-module _ (f : Facts) (e : ℕ) (m : Mailbox OneRight) where
-  -- the lines of the end, one line in this phase
-  line_moved : (s : Sender) (event : MailboxEvent OneRight) (p : Phase) → Moves f s m event p → (after : Mailbox OneRight) × MailboxStep HasRight s.end.0 (lines_of ((f.end s.end.0).peer)) m event after
-      × ShownWith f s.end.0 ((f.end s.end.0).peer) ((f.end s.end.0).enabled)
-      (λ l. record { phase = on_line s.end.0 l s p (f.line s.end.0 l).phase; stand = (f.line s.end.0 l).stand }) (f.accepted s.end.0) (f.taken s.end.0) after
-  line_moved s event p moves = (
-    moves.0,
-    moves.1,
-    subst (λ b. ShownWith f s.end.0 ((f.end s.end.0).peer) ((f.end s.end.0).enabled)
-        (λ l. record { phase = cond (b && eqb l s.line.0) p (f.line s.end.0 l).phase; stand = (f.line s.end.0 l).stand }) (f.accepted s.end.0) (f.taken s.end.0) moves.0) (sym (eqb_same s.end.0)) moves.2,
-  )
-
-  changed : {a : Action} (refused : Bool) {o : Outcome} (event : MailboxEvent OneRight) → Sound f → Answers f a refused o → ShownAt f e m → Change a o → event_of f e m o a ≡ Some event
-      → ((v : Envelope) → o ≡ outcome.Got v → HoldsFirst m m.taker v) → Goes f e m event (next f a o)
-  changed refused event sound fits shown (agent_made n) is first = no_event None event refl is
-  changed refused event sound fits shown (channel_made a x y) is first = no_event None event refl is
-  changed refused event sound fits shown (let_in s) is first =
-      let here = chosen (eqb e s.end.0) (at_gate ((f.line e s.line.0).stand) (enter s.line.0) (lets_in tt)) event is in
-      subst (λ v. Goes f e m v (next f (action.Enter s) outcome.In)) here.1
-      (at_its_end (λ y. ShownAt f y m → Goes f y m (at_gate ((f.line y s.line.0).stand) (enter s.line.0) (lets_in tt)) (next f (action.Enter s) outcome.In)) e s.end.0 here.0
-      (λ there. line_moved s _ Inside (entered f s m there fits)) shown)
-  changed refused event sound fits shown (found_moved s) is first =
-      let here = chosen (eqb e s.end.0) (at_gate ((f.line e s.line.0).stand) (enter s.line.0) says_moved) event is in
-      subst (λ v. Goes f e m v (next f (action.Enter s) outcome.Moved)) here.1
-      (at_its_end (λ y. ShownAt f y m → Goes f y m (at_gate ((f.line y s.line.0).stand) (enter s.line.0) says_moved) (next f (action.Enter s) outcome.Moved)) e s.end.0 here.0
-      (λ there. line_moved s _ Turned (turned_moved f s m there fits)) shown)
-  changed refused event sound fits shown (found_closed s) is first =
-      let here = chosen (eqb e s.end.0) (at_gate ((f.line e s.line.0).stand) (enter s.line.0) says_closed) event is in
-      subst (λ v. Goes f e m v (next f (action.Enter s) outcome.Closed)) here.1
-      (at_its_end (λ y. ShownAt f y m → Goes f y m (at_gate ((f.line y s.line.0).stand) (enter s.line.0) says_closed) (next f (action.Enter s) outcome.Closed)) e s.end.0 here.0
-      (λ there. line_moved s _ Turned (turned_closed f s m there fits)) shown)
-  changed refused event sound fits shown (put s ports body n) is first =
-      let here = chosen (eqb e s.end.0) (push (named_envelope s n body ports.items)) event is in
-      subst (λ v. Goes f e m v (next f (action.Push s ports body) (outcome.Accepted n))) here.1
-      (at_its_end (λ y. ShownAt f y m → Goes f y m (push (named_envelope s n body ports.items)) (next f (action.Push s ports body) (outcome.Accepted n))) e s.end.0 here.0
-      (λ there.
-      let done = pushed_there f s ports.items body n m there (pushed_of f s ports.items refused n fits) in (
-        done.0,
-        done.1,
-        subst (λ b. ShownWith f s.end.0 ((f.end s.end.0).peer) ((f.end s.end.0).enabled) (f.line s.end.0)
-            (cond b (f.accepted s.end.0 ++ named_envelope s n body ports.items ∷ []) (f.accepted s.end.0)) (f.taken s.end.0) done.0) (sym (eqb_same s.end.0)) done.2,
-      )) shown)
-  changed refused event sound fits shown (left s) is first =
-      let here = chosen (eqb e s.end.0) (leaving m ((f.line e s.line.0).stand) s.line.0 ((f.line e s.line.0).phase)) event is in
-      subst (λ v. Goes f e m v (next f (action.Leave s) outcome.Left)) here.1
-      (at_its_end (λ y. ShownAt f y m → Goes f y m (leaving m ((f.line y s.line.0).stand) s.line.0 ((f.line y s.line.0).phase)) (next f (action.Leave s) outcome.Left)) e s.end.0 here.0
-      (λ there. line_moved s _ Out (left_line f s m there sound fits)) shown)
-  changed refused event sound fits shown (started x) is first =
-      let here = chosen (eqb e x.0) (at_gate ((f.end e).newest) enable says_done) event is in
-      let done = started_there f e m shown in
-      subst (λ v. Goes f e m v (next f (action.Start x) outcome.Started)) here.1 (
-        done.0,
-        done.1,
-        subst (λ b. ShownWith f e ((f.end e).peer) (cond b true ((f.end e).enabled)) (f.line e) (f.accepted e) (f.taken e) done.0) (sym here.0) done.2,
-      )
-  changed refused event sound fits shown (got x v) is first =
-      let here = chosen (eqb e x.0) (pop ((f.end e).taker_stand) (Some v)) event is in
-      let done = taken_there f e m v shown (first v refl) in
-      subst (λ w. Goes f e m w (next f (action.Take x) (outcome.Got v))) here.1 (
-        done.0,
-        done.1,
-        subst (λ b. ShownWith f e ((f.end e).peer) ((f.end e).enabled) (f.line e) (f.accepted e) (cond b (f.taken e ++ v ∷ []) (f.taken e)) done.0) (sym here.0) done.2,
-      )
-
-  goes : {a : Action} (refused : Bool) {o : Outcome} (event : MailboxEvent OneRight) → Sound f → Answers f a refused o → ShownAt f e m → Happens a o → event_of f e m o a ≡ Some event
-      → ((v : Envelope) → o ≡ outcome.Got v → HoldsFirst m m.taker v) → Goes f e m event (next f a o)
-  goes refused event sound fits shown (changes a o change) is first = changed refused event sound fits shown change is first
-  goes refused event sound fits shown (drained x) is first =
-      let here = chosen (eqb e x.0) (pop ((f.end e).taker_stand) None) event is in
-      subst (λ v. Goes f e m v (next f (action.Take x) outcome.Empty)) here.1
-      (at_its_end (λ y. ShownAt f y m → Goes f y m (pop ((f.end y).taker_stand) None) (next f (action.Take x) outcome.Empty)) e x.0 here.0
-      (λ there. (m, drained_there f x m there (empty_of f x fits).serves, there)) shown)
-
-pub events_are_steps : EventsAreSteps
-events_are_steps h p e m event legal fits shows is first =
-    let shown : ShownAt (facts h) e m = of_history h e m shows in
-    let done : Goes (facts h) e m event (next (facts h) p.0.action p.1) = elim (kind_of (facts h) e m p.1 p.0.action) [
-      | inl none ↦ no_event (event_of (facts h) e m p.1 p.0.action) event none is
-      | inr happens ↦ goes (facts h) e m p.0.memory_refused event (sound_legal h legal) fits shown happens is first
-    ] in
-    (done.0, done.1, with_pair h p e done.0 done.2)
-
--- ---- the pairs that are none
+kind_of f e m outcome.Empty (action.Take x) = inr (drained x)
+kind_of f e m outcome.Busy (action.Take x) = inr (found_busy x)
+kind_of f e m outcome.Again (action.Take x) = inr (changes _ _ (went_on x))
+kind_of f e m outcome.Busy (action.Look x) = inr (looked_busy x)
+kind_of f e m (outcome.Clear (Some k)) (action.Look x) = inr (changes _ _ (cleared x k))
+kind_of f e m (outcome.Adopted k) (action.Adopt x a) = inr (changes _ _ (adopted x a k))
+kind_of f e m outcome.Done (action.Close x) = inr (changes _ _ (end_closed x))
+kind_of f e m (outcome.Discarded vs) (action.Sweep x) = inr (changes _ _ (end_swept x vs))
+kind_of f e m o a = inl (refl, refl)
 
 -- an end that was there before
 unmade : (e n x : ℕ) → x ≡ n → e < n → eqb e x ≡ false
 unmade e n x is below = ne_eqb e x (λ same. absurd (omega arith))
 
-module _ (f : Facts) (e : ℕ) (m : Mailbox OneRight) where
-  abbrev StillShown : Option ℕ → Bool → (ℕ → LineNow) → List Envelope → List Envelope → Type 0
-  StillShown peer enabled line accepted taken = ShownWith f e peer enabled line accepted taken m
+module _ (f : Facts) (e : ℕ) (m : Mailbox OneRight) (sound : Sound f) (shown : ShownAt f e m) where
+  abbrev lines : ℕ → ℕ
+  lines y = lines_of ((f.end y).peer)
 
-  line_elsewhere : (s : Sender) (p : Phase) → eqb e s.end.0 ≡ false → ShownAt f e m → StillShown ((f.end e).peer) ((f.end e).enabled) (λ l. record { phase = on_line e l s p (f.line e l).phase; stand = (f.line e l).stand }) (f.accepted e) (f.taken e)
-  line_elsewhere s p other shown =
-      subst (λ b. StillShown ((f.end e).peer) ((f.end e).enabled) (λ l. record { phase = cond (b && eqb l s.line.0) p (f.line e l).phase; stand = (f.line e l).stand }) (f.accepted e) (f.taken e)) (sym other) shown
+  -- what is proved for the end of the step holds for this end where it is the same, and another end stays
+  at_step : (x : ℕ) (events : ℕ → List (MailboxEvent OneRight)) (w : ℕ → Bool → View) → IsShown e (w e false) m → (ShownAt f x m → Leads x (lines x) m (events x) (w x true)) → Leads e (lines e) m (cond (eqb e x) (events e) []) (w e (eqb e x))
+  at_step x events w still there = at_end_or e (lines e) m (events e) (w e) (eqb e x) still
+      (λ here. subst (λ y. ShownAt f y m → Leads y (lines y) m (events y) (w y true)) (sym (eqb-true e x here)) there shown)
 
-  left_alone : {a : Action} (refused : Bool) {o : Outcome} → Answers f a refused o → e < f.ends → ShownAt f e m → Change a o → event_of f e m o a ≡ None → ShownAt (next f a o) e m
-  left_alone refused fits made shown (agent_made n) is = shown
-  left_alone refused fits made shown (channel_made a x y) is =
+  -- nothing was discarded at an open end
+  none_discarded : (x : ℕ) → (f.end x).closed ≡ false → f.discarded x ≡ []
+  none_discarded x opened = (sound.waiting x).kept opened
+
+  made_channel : (x y : EndId) → e < f.ends → x.0 ≡ f.ends → y.0 ≡ f.ends + 1
+      → IsShown e (record (view f e) { peer = cond (eqb e x.0) (Some y.0) (cond (eqb e y.0) (Some x.0) ((f.end e).peer)); enabled = cond (eqb e x.0 || eqb e y.0) false ((f.end e).enabled) }) m
+  made_channel x y made first second =
+      subst (λ b. IsShown e (record (view f e) { peer = cond b (Some y.0) (cond (eqb e y.0) (Some x.0) ((f.end e).peer)); enabled = cond (b || eqb e y.0) false ((f.end e).enabled) }) m) (sym (unmade e f.ends x.0 first made))
+      (subst (λ b. IsShown e (record (view f e) { peer = cond b (Some x.0) ((f.end e).peer); enabled = cond b false ((f.end e).enabled) }) m) (sym (unmade e (f.ends + 1) y.0 second (omega arith))) shown)
+
+  -- ---- takes that find no envelope
+
+  -- a retired queue of which everything was taken
+  left_all : (x : EndId) → ShownAt f x.0 m → (f.end x.0).closed ≡ false → IsLeft f x → HoldsNothing m m.taker
+  left_all x there opened empty = taken_all f x.0 m there (none_discarded x.0 opened) empty.all
+
+  -- the events after a pop that found none
+  pop_first : (x : ℕ) (events : List (MailboxEvent OneRight)) (w : View) → ShownAt f x m → HoldsNothing m m.taker → Leads x (lines x) m events w → Leads x (lines x) m (pop ((f.end x).taker_stand) None ∷ events) w
+  pop_first x events w there nothing done = (done.0, (m, none_there f x m there nothing, done.1), done.2)
+
+  went_on_at : (x : EndId) → FitsTake f x outcome.Again → ShownAt f x.0 m → Leads x.0 (lines x.0) m (pop ((f.end x.0).taker_stand) None ∷ advance ∷ []) (with_taker_at f x.0 true)
+  went_on_at x fits there =
+      let served = went_on_of f x fits in
+      let empty : IsLeft f x = served.serves.0 in
+      let nothing : HoldsNothing m m.taker = left_all x there served.is_open empty in
+      let count : length m.gates ≡ (f.end x.0).newest + 1 = there.gates in
+      let retired : (f.end x.0).taker_stand < (f.end x.0).newest = empty.retired in
+      let settled : IsSettled m m.taker = subst (IsSettled m) (sym there.taker_at) (settled_there f x.0 m there (f.end x.0).taker_stand (omega arith) served.serves.1) in
+      pop_first x.0 (advance ∷ []) (with_taker_at f x.0 true) there nothing (went_on_there f x.0 m there retired settled nothing)
+
+  empty_at : (x : EndId) → FitsTake f x outcome.Empty → ShownAt f x.0 m → Leads x.0 (lines x.0) m (pop ((f.end x.0).taker_stand) None ∷ []) (view f x.0)
+  empty_at x fits there =
+      let served = empty_of f x fits in
+      let all : IsDrained f x = served.serves in
+      let nothing : HoldsNothing m m.taker = taken_all f x.0 m there (none_discarded x.0 served.is_open) (λ l. ap (in_queue (f.end x.0).taker_stand) (all.all l)) in
+      pop_first x.0 [] (view f x.0) there nothing (m, refl, there)
+
+  busy_at_taker : (x : EndId) → FitsTake f x outcome.Busy → ShownAt f x.0 m → Leads x.0 (lines x.0) m (finds_busy m ((f.end x.0).taker_stand) ∷ pop ((f.end x.0).taker_stand) None ∷ []) (view f x.0)
+  busy_at_taker x fits there =
+      let served = busy_of f x fits in
+      let empty : IsLeft f x = served.serves.0 in
+      let t : ℕ = (f.end x.0).taker_stand in
+      let count : length m.gates ≡ (f.end x.0).newest + 1 = there.gates in
+      let retired : t < (f.end x.0).newest = empty.retired in
+      let neither = or_parts (f.clear x.0 t) (not (someone_at f x.0 t)) served.serves.1 in
+      let look_step = busy_there f x.0 m there t (omega arith) (inl retired) neither.0 (not-false (someone_at f x.0 t) neither.1) in
+      (m, (m, look_step, (m, none_there f x.0 m there (left_all x there served.is_open empty), refl)), there)
+
+  looked_busy_at : (x : EndId) → outcome.Busy ≡ look_answer f x → ShownAt f x.0 m → Leads x.0 (lines x.0) m (finds_busy_at m (looked f x.0)) (view f x.0)
+  looked_busy_at x fits there =
+      let busy : FindsBusy f x.0 = look_busy_of f x fits in
+      subst (λ o. Leads x.0 (lines x.0) m (finds_busy_at m o) (view f x.0)) (sym busy.is_looked) (m, (m, look_busy_there f x.0 m there sound busy, refl), there)
+
+  -- ---- all pairs
+
+  changed : {a : Action} (refused : Bool) {o : Outcome} → Answers f a refused o → e < f.ends → Change a o → HoldsWhatLeaves e (record { action = a; memory_refused = refused }, o) m → Leads e (lines e) m (events_of f e m o a) (view (next f a o) e)
+  changed refused fits made (agent_made n) first = (m, refl, shown)
+  changed refused fits made (channel_made a x y) first =
       let new = new_ends f a refused x y fits in
-      let first : eqb e x.0 ≡ false = unmade e f.ends x.0 (ap (λ (n : EndId). n.0) new.1) made in
-      let second : eqb e y.0 ≡ false = unmade e (f.ends + 1) y.0 (ap (λ (n : EndId). n.0) new.2) (omega arith) in
-      subst (λ b. StillShown (cond b (Some y.0) (cond (eqb e y.0) (Some x.0) ((f.end e).peer))) (cond (b || eqb e y.0) false ((f.end e).enabled)) (f.line e) (f.accepted e) (f.taken e)) (sym first)
-      (subst (λ b. StillShown (cond b (Some x.0) ((f.end e).peer)) (cond b false ((f.end e).enabled)) (f.line e) (f.accepted e) (f.taken e)) (sym second) shown)
-  left_alone refused fits made shown (let_in s) is = line_elsewhere s Inside (unchosen (eqb e s.end.0) _ is) shown
-  left_alone refused fits made shown (found_moved s) is = line_elsewhere s Turned (unchosen (eqb e s.end.0) _ is) shown
-  left_alone refused fits made shown (found_closed s) is = line_elsewhere s Turned (unchosen (eqb e s.end.0) _ is) shown
-  left_alone refused fits made shown (put s ports body n) is =
-      subst (λ b. StillShown ((f.end e).peer) ((f.end e).enabled) (f.line e) (cond b (f.accepted e ++ named_envelope s n body ports.items ∷ []) (f.accepted e)) (f.taken e)) (sym (unchosen (eqb e s.end.0) _ is)) shown
-  left_alone refused fits made shown (left s) is = line_elsewhere s Out (unchosen (eqb e s.end.0) _ is) shown
-  left_alone refused fits made shown (started x) is =
-      subst (λ b. StillShown ((f.end e).peer) (cond b true ((f.end e).enabled)) (f.line e) (f.accepted e) (f.taken e)) (sym (unchosen (eqb e x.0) _ is)) shown
-  left_alone refused fits made shown (got x v) is =
-      subst (λ b. StillShown ((f.end e).peer) ((f.end e).enabled) (f.line e) (f.accepted e) (cond b (f.taken e ++ v ∷ []) (f.taken e))) (sym (unchosen (eqb e x.0) _ is)) shown
+      (m, refl, made_channel x y made (ap (λ (n : EndId). n.0) new.1) (ap (λ (n : EndId). n.0) new.2))
+  changed refused fits made (let_in s) first =
+      at_step s.end.0 (λ y. at_gate ((f.line y s.line.0).stand) (enter s.line.0) (lets_in tt) ∷ []) (λ y. with_line f y s.line.0 Inside) shown (λ there. entered f s m there fits)
+  changed refused fits made (found_moved s) first =
+      at_step s.end.0 (λ y. at_gate ((f.line y s.line.0).stand) (enter s.line.0) says_moved ∷ []) (λ y. with_line f y s.line.0 Turned) shown (λ there. turned_moved f s m there fits)
+  changed refused fits made (found_closed s) first =
+      at_step s.end.0 (λ y. at_gate ((f.line y s.line.0).stand) (enter s.line.0) says_closed ∷ []) (λ y. with_line f y s.line.0 Turned) shown (λ there. turned_closed f s m there fits)
+  changed refused fits made (put s ports body n) first =
+      at_step s.end.0 (λ y. push (named_envelope s n body ports.items) ∷ [])
+      (λ y b. record (view f y) { accepted = cond b (f.accepted y ++ named_envelope s n body ports.items ∷ []) (f.accepted y) }) shown
+      (λ there. pushed_there f s ports.items body n m there (pushed_of f s ports.items refused n fits))
+  changed refused fits made (notice_put s n) first =
+      at_step s.end.0 (λ y. push (named_notice s n) ∷ []) (λ y. with_notice f y s n) shown (λ there. noticed_there f s n m there (noticed_of f s refused n fits))
+  changed refused fits made (left s) first =
+      at_step s.end.0 (λ y. leaving m ((f.line y s.line.0).stand) s.line.0 ((f.line y s.line.0).phase) ∷ []) (λ y. with_line f y s.line.0 Out) shown (λ there. left_line f s m there sound fits)
+  changed refused fits made (hopped s k) first =
+      let may = hopped_of f s k fits in
+      at_step s.end.0 (λ y. hop s.line.0 ∷ []) (λ y. with_next f y s.line.0) shown (λ there. hopped_there f s m there may.may may.out may.retired)
+  changed refused fits made (started x) first =
+      at_step x.0 (λ y. at_gate ((f.end y).newest) enable says_done ∷ []) (λ y b. record (view f y) { enabled = cond b true ((f.end y).enabled) }) shown (λ there. started_there f x.0 m there)
+  changed refused fits made (got x v) first =
+      at_end_or e (lines e) m (pop ((f.end e).taker_stand) (Some v) ∷ []) (λ b. record (view f e) { removed = cond b (f.taken e ++ v ∷ []) (f.taken e) ++ f.discarded e }) (eqb e x.0) shown
+      (λ here.
+      let same : e ≡ x.0 = eqb-true e x.0 here in
+      taken_there f e m v shown (none_discarded e (ap (λ y. (f.end y).closed) same ∙ (got_of f x v fits).is_open)) (first.got x v refl refl same))
+  changed refused fits made (went_on x) first =
+      at_step x.0 (λ y. pop ((f.end y).taker_stand) None ∷ advance ∷ []) (λ y. with_taker_at f y) shown (λ there. went_on_at x fits there)
+  changed refused fits made (cleared x k) first =
+      at_step x.0 (λ y. at_gate k look (gives_rights (rights_of m)) ∷ []) (λ y b. record (view f y) { clear = λ i. cond (b && eqb i k) true (f.clear y i) }) shown
+      (λ there. cleared_there f x.0 m there k sound (cleared_of f x k fits))
+  changed refused fits made (adopted x a k) first =
+      at_step x.0 (λ y. add (rights_of m) ∷ []) (λ y. with_queue_new f y) shown
+      (λ there. adopted_there f x.0 m there sound (adopted_of f x a refused k fits).is_open)
+  changed refused fits made (end_closed x) first =
+      at_step x.0 (λ y. at_gate ((f.end y).newest) close says_done ∷ []) (λ y b. record (view f y) { closed = cond b true ((f.end y).closed) }) shown (λ there. closed_there f x.0 m there)
+  changed refused fits made (end_swept x vs) first =
+      let here : ℕ → List (MailboxEvent OneRight) = λ y. sweeping vs ((f.end y).taker_stand) ((f.end y).newest - (f.end y).taker_stand + 1) in
+      at_end_or e (lines e) m (here e) (λ b. record (view f e) { removed = f.taken e ++ cond b (f.discarded e ++ vs) (f.discarded e) }) (eqb e x.0) shown
+      (λ is.
+      let same : e ≡ x.0 = eqb-true e x.0 is in
+      subst (λ y. ShownAt f y m → HoldsAll m vs → Leads y (lines y) m (here y) (record (view f y) { removed = f.taken y ++ (f.discarded y ++ vs) })) (sym same) (λ there. swept_there f x m vs there sound (swept_of f x vs fits)) shown (first.swept x vs refl refl same))
 
-pub others_leave_it : OthersLeaveIt
-others_leave_it h p e m fits made shows is =
-    let shown : ShownAt (facts h) e m = of_history h e m shows in
-    with_pair h p e m (elim (effect (facts h) p.1 p.0.action) [
-      | inl same ↦ subst (λ f. ShownAt f e m) (sym same) shown
-      | inr change ↦ left_alone (facts h) e m p.0.memory_refused fits made shown change is
-    ])
+  happened : {a : Action} (refused : Bool) {o : Outcome} → Answers f a refused o → e < f.ends → Happens a o → HoldsWhatLeaves e (record { action = a; memory_refused = refused }, o) m → Leads e (lines e) m (events_of f e m o a) (view (next f a o) e)
+  happened refused fits made (changes a o change) first = changed refused fits made change first
+  happened refused fits made (drained x) first =
+      at_step x.0 (λ y. pop ((f.end y).taker_stand) None ∷ []) (λ y _. view f y) shown (λ there. empty_at x fits there)
+  happened refused fits made (found_busy x) first =
+      at_step x.0 (λ y. finds_busy m ((f.end y).taker_stand) ∷ pop ((f.end y).taker_stand) None ∷ []) (λ y _. view f y) shown (λ there. busy_at_taker x fits there)
+  happened refused fits made (looked_busy x) first =
+      at_step x.0 (λ y. finds_busy_at m (looked f y)) (λ y _. view f y) shown (λ there. looked_busy_at x fits there)
+
+  goes : (a : Action) (refused : Bool) (o : Outcome) → Answers f a refused o → e < f.ends → HoldsWhatLeaves e (record { action = a; memory_refused = refused }, o) m → Leads e (lines e) m (events_of f e m o a) (view (next f a o) e)
+  goes a refused o fits made first = elim (kind_of f e m o a) [
+    | inl none ↦
+        let still : ShownAt (next f a o) e m = subst (λ g. ShownAt g e m) (sym none.1) shown in
+        subst (λ events. Leads e (lines e) m events (view (next f a o) e)) (sym none.0) (m, refl, still)
+    | inr happens ↦ happened refused fits made happens first
+  ]
+
+pub pairs_are_events : PairsAreEvents
+pairs_are_events h p e m legal fits made shows first =
+    let done = goes (facts h) e m (sound_legal h legal) (of_history h e m shows) p.0.action p.0.memory_refused p.1 fits made first in
+    (done.0, done.1, with_pair h p e done.0 done.2)

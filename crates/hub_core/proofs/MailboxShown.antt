@@ -1,51 +1,75 @@
--- A mailbox that shows facts of an end, and what it shows after one gate or one queue was written.
-use Rattle.std.proofs.Common.{◌≡◌, ℕ, ◌+◌, ◌<◌, Bool, true, false, cond, eqb, List, [], ◌∷◌, ◌++◌, length, set, refl, sym, ap, subst, ◌∙◌, arith, append-nil, length-set, Option, Some}
+-- A mailbox that shows what is known of an end, and what it shows after an event.
+use Rattle.std.proofs.Common.{◌≡◌, ◌≢◌, ℕ, ◌+◌, ◌<◌, Bool, true, false, cond, eqb, List, [], ◌∷◌, ◌++◌, length, set, refl, sym, ap, subst, ◌∙◌, arith, append-nil, length-set, Option, Some}
 use Rattle.std.specs.Prelude.{IsTrue, slice_get}
-use Rattle.std.proofs.lemmas.Bool.{eqb-true, eqb-false}
+use Rattle.std.proofs.lemmas.Bool.{eqb-true, eqb-false, eq-eqb, ne_eqb}
 use Rattle.std.proofs.lemmas.List.Elements.{filter-append}
 use Rattle.hub_envelope.specs.declared.envelope.Envelope.{Envelope}
 use Rattle.hub_core.specs.declared.line.Phase.{Phase}
 use Rattle.hub_core.specs.History.{Pair, History}
 use Rattle.hub_core.specs.Facts.{LineNow, Facts, facts}
+use Rattle.hub_core.specs.Made.{lines_of}
 use Rattle.hub_core.specs.Sender.{by}
-use Rattle.hub_core.specs.Sound.{lines_of}
 use Rattle.hub_core.specs.GateMachine.{Gate, IsAt}
 use Rattle.hub_core.specs.GateMachineLaws.{IsGateOf}
 use Rattle.hub_core.specs.QueueMachine.{Queue}
 use Rattle.hub_core.specs.Mailbox.{Mailbox, GateAt, StandsAt, IsNewest, put_by, got_from, IsMailbox}
-use Rattle.hub_core.specs.MailboxSteps.{MailboxEvent, MailboxStep, with_gate, with_queue}
+use Rattle.hub_core.specs.MailboxSteps.{MailboxEvent, MailboxStep, put_in, got_in, with_gate, with_queue}
 use Rattle.hub_core.specs.MailboxShows.{ShowsMailbox}
 use Rattle.hub_core.specs.ChainLaws.{Grows}
-use Rattle.hub_core.specs.MailboxPairs.{OneRight, has_right}
+use Rattle.hub_core.specs.MailboxPairs.{OneRight, has_right, Runs}
 use Rattle.hub_core.proofs.Lists.{slice_get-set_same, slice_get-set_other}
 use Rattle.hub_core.proofs.Items.{got_within, got_there, got_same_at, at_written}
 use Rattle.hub_core.proofs.Nexts.{next, facts_next}
+use Rattle.hub_core.proofs.MailboxStepping.{chain_laws}
 
--- the mailbox shows these facts of the end
-pub record IsShown (e : ℕ) (peer : Option ℕ) (newest taker : ℕ) (enabled closed : Bool) (line : ℕ → LineNow) (accepted taken : List Envelope) (m : Mailbox OneRight) : Type 0 where
-  pub is_mailbox : IsMailbox e (lines_of peer) m
-  pub gates : length m.gates ≡ newest + 1
-  pub put : (l : ℕ) → put_by m l ≡ by l accepted
-  pub got : got_from m ≡ taken
-  pub flags : (k : ℕ) (g : Gate OneRight) → IsNewest m k → GateAt m k g → (g.enabled ≡ enabled) × (g.closed ≡ closed)
-  pub stands : (l k : ℕ) → StandsAt m l k → (line l).stand ≡ k
-  pub phases : (l k : ℕ) (g : Gate OneRight) → StandsAt m l k → GateAt m k g → IsAt g l (line l).phase
-  pub taker_at : m.taker ≡ taker
+-- what is known of an end, as far as a mailbox shows it
+pub record View : Type 0 where
+  pub peer : Option ℕ
+  pub newest : ℕ
+  pub taker : ℕ
+  pub enabled : Bool
+  pub closed : Bool
+  pub line : ℕ → LineNow
+  pub clear : ℕ → Bool
+  pub accepted : List Envelope
+  pub removed : List Envelope
 
--- the mailbox shows the facts of the end, and these in place of those that a step may change
-abbrev pub ShownWith : Facts → (e : ℕ) → Option ℕ → Bool → (ℕ → LineNow) → List Envelope → List Envelope → Mailbox OneRight → Type 0
-ShownWith f e peer enabled line accepted taken m = IsShown e peer ((f.end e).newest) ((f.end e).taker_stand) enabled ((f.end e).closed) line accepted taken m
+abbrev pub view : Facts → ℕ → View
+view f e = record {
+  peer = (f.end e).peer;
+  newest = (f.end e).newest;
+  taker = (f.end e).taker_stand;
+  enabled = (f.end e).enabled;
+  closed = (f.end e).closed;
+  line = f.line e;
+  clear = f.clear e;
+  accepted = f.accepted e;
+  removed = f.taken e ++ f.discarded e;
+}
+
+-- the mailbox shows this of the end
+pub record IsShown (e : ℕ) (v : View) (m : Mailbox OneRight) : Type 0 where
+  pub is_mailbox : IsMailbox e (lines_of v.peer) m
+  pub gates : length m.gates ≡ v.newest + 1
+  pub put : (l : ℕ) → put_by m l ≡ by l v.accepted
+  pub got : got_from m ≡ v.removed
+  pub flags : (k : ℕ) (g : Gate OneRight) → IsNewest m k → GateAt m k g → (g.enabled ≡ v.enabled) × (g.closed ≡ v.closed)
+  pub given : (k : ℕ) (g : Gate OneRight) → GateAt m k g → g.collected ≡ v.clear k
+  pub stands : (l k : ℕ) → StandsAt m l k → (v.line l).stand ≡ k
+  pub phases : (l k : ℕ) (g : Gate OneRight) → StandsAt m l k → GateAt m k g → IsAt g l (v.line l).phase
+  pub taker_at : m.taker ≡ v.taker
 
 abbrev pub ShownAt : Facts → ℕ → Mailbox OneRight → Type 0
-ShownAt f e m = ShownWith f e ((f.end e).peer) ((f.end e).enabled) (f.line e) (f.accepted e) (f.taken e) m
+ShownAt f e m = IsShown e (view f e) m
 
 pub of_history : (h : History) (e : ℕ) (m : Mailbox OneRight) → ShowsMailbox h e [] m → ShownAt (facts h) e m
 of_history h e m s = record {
   is_mailbox = s.is_mailbox;
   gates = s.gates;
   put = s.put;
-  got = s.got ∙ append-nil ((facts h).taken e);
+  got = s.got ∙ append-nil ((facts h).taken e ++ (facts h).discarded e);
   flags = s.flags;
+  given = s.given;
   stands = s.stands;
   phases = s.phases;
   taker_at = s.taker;
@@ -56,8 +80,9 @@ to_history h e m s = record {
   is_mailbox = s.is_mailbox;
   gates = s.gates;
   put = s.put;
-  got = s.got ∙ sym (append-nil ((facts h).taken e));
+  got = s.got ∙ sym (append-nil ((facts h).taken e ++ (facts h).discarded e));
   flags = s.flags;
+  given = s.given;
   stands = s.stands;
   phases = s.phases;
   taker = s.taker_at;
@@ -66,15 +91,29 @@ to_history h e m s = record {
 pub with_pair : (h : History) (p : Pair) (e : ℕ) (m : Mailbox OneRight) → ShownAt (next (facts h) p.0.action p.1) e m → ShowsMailbox (h ++ p ∷ []) e [] m
 with_pair h p e m s = to_history (h ++ p ∷ []) e m (subst (λ f. ShownAt f e m) (sym (facts_next h p)) s)
 
+-- ---- steps
+
 -- what the right of a line is
 abbrev pub HasRight : ℕ → ℕ → OneRight → Type 0
 HasRight k line right = IsTrue (has_right k line right)
 
--- the event is a step of the mailbox, and the mailbox after it shows the facts after
-abbrev pub Goes : Facts → ℕ → Mailbox OneRight → MailboxEvent OneRight → Facts → Type 0
-Goes f e m event f' = (after : Mailbox OneRight) × MailboxStep HasRight e (lines_of ((f.end e).peer)) m event after × ShownAt f' e after
+-- the events lead to a mailbox that shows this of the end
+abbrev pub Leads : (e lines : ℕ) → Mailbox OneRight → List (MailboxEvent OneRight) → View → Type 0
+Leads e lines m events w = (after : Mailbox OneRight) × Runs e lines m events after × IsShown e w after
 
--- where a line stands, and in which phase
+pub one_step : (e lines : ℕ) (m after : Mailbox OneRight) (event : MailboxEvent OneRight) (w : View) → MailboxStep HasRight e lines m event after → IsShown e w after → Leads e lines m (event ∷ []) w
+one_step e lines m after event w step shown = (after, (after, step, refl), shown)
+
+pub event_grows : (e lines : ℕ) (m after : Mailbox OneRight) (event : MailboxEvent OneRight) → IsMailbox e lines m → MailboxStep HasRight e lines m event after → Grows m (put_in event) (got_in event) after
+event_grows e lines m after event is step = chain_laws.grows has_right e lines m after event step is
+
+-- events of a step at this end, and none where the step is at another one
+pub at_end_or : (e lines : ℕ) (m : Mailbox OneRight) (events : List (MailboxEvent OneRight)) (w : Bool → View) (b : Bool) → IsShown e (w false) m → (b ≡ true → Leads e lines m events (w true)) → Leads e lines m (cond b events []) (w b)
+at_end_or e lines m events w true shown here = here refl
+at_end_or e lines m events w false shown here = (m, refl, shown)
+
+-- ---- where a line stands, and in which phase
+
 pub record Standing (lines : ℕ) (m : Mailbox OneRight) (l : ℕ) (y : LineNow) : Type 0 where
   pub gate : Gate OneRight
   pub stands : StandsAt m l y.stand
@@ -82,79 +121,117 @@ pub record Standing (lines : ℕ) (m : Mailbox OneRight) (l : ℕ) (y : LineNow)
   pub phase : IsAt gate l y.phase
   pub sound : IsGateOf lines gate
 
-module _ (e : ℕ) (peer : Option ℕ) (newest taker : ℕ) (enabled closed : Bool) (line : ℕ → LineNow) (accepted taken : List Envelope) (m : Mailbox OneRight)
-    (is : IsShown e peer newest taker enabled closed line accepted taken m) where
-  pub standing : (l : ℕ) → l < lines_of peer → Standing (lines_of peer) m l (line l)
+-- What a gate that is written at epoch k has to show. Its lines are those that stand there, and the others stay.
+pub record Writes (v : View) (m : Mailbox OneRight) (k : ℕ) (g' : Gate OneRight) (enabled closed : Bool) (line : ℕ → LineNow) (clear : ℕ → Bool) : Type 0 where
+  pub flags : IsNewest m k → (g'.enabled ≡ enabled) × (g'.closed ≡ closed)
+  pub other_flags : (k ≢ v.newest) → (enabled ≡ v.enabled) × (closed ≡ v.closed)
+  pub given : g'.collected ≡ clear k
+  pub other_given : (i : ℕ) → i ≢ k → clear i ≡ v.clear i
+  pub stand : (l : ℕ) → (line l).stand ≡ (v.line l).stand
+  pub phases : (l : ℕ) → StandsAt m l k → IsAt g' l (line l).phase
+  pub other_phases : (l i : ℕ) → i ≢ k → StandsAt m l i → (line l).phase ≡ (v.line l).phase
+
+module _ (e : ℕ) (v : View) (m : Mailbox OneRight) (is : IsShown e v m) where
+  pub standing : (l : ℕ) → l < lines_of v.peer → Standing (lines_of v.peer) m l (v.line l)
   standing l low =
-      let box : IsMailbox e (lines_of peer) m = is.is_mailbox in
-      let many : length m.stands ≡ lines_of peer = box.stands in
+      let box : IsMailbox e (lines_of v.peer) m = is.is_mailbox in
+      let many : length m.stands ≡ lines_of v.peer = box.stands in
       let place = got_there m.stands l (omega arith) in
-      let same : (line l).stand ≡ place.0 = is.stands l place.0 place.1 in
-      let stands : StandsAt m l (line l).stand = subst (StandsAt m l) (sym same) place.1 in
-      let gate = got_there m.gates (line l).stand (box.stands_within l (line l).stand stands) in
+      let same : (v.line l).stand ≡ place.0 = is.stands l place.0 place.1 in
+      let stands : StandsAt m l (v.line l).stand = subst (StandsAt m l) (sym same) place.1 in
+      let gate = got_there m.gates (v.line l).stand (box.stands_within l (v.line l).stand stands) in
       record {
         gate = gate.0;
         stands = stands;
         is_gate = gate.1;
-        phase = is.phases l (line l).stand gate.0 stands gate.1;
-        sound = box.each_gate (line l).stand gate.0 gate.1;
+        phase = is.phases l (v.line l).stand gate.0 stands gate.1;
+        sound = box.each_gate (v.line l).stand gate.0 gate.1;
+      }
+
+  -- another gate at epoch k
+  pub gate_shown : (k : ℕ) (g g' : Gate OneRight) (enabled closed : Bool) (line : ℕ → LineNow) (clear : ℕ → Bool) → GateAt m k g → Writes v m k g' enabled closed line clear → IsMailbox e (lines_of v.peer) (with_gate m k g')
+      → IsShown e (record v { enabled = enabled; closed = closed; line = line; clear = clear }) (with_gate m k g')
+  gate_shown k g g' enabled closed line clear at writes after =
+      let count : length (set m.gates k g') ≡ length m.gates = length-set m.gates k g' in
+      let many : length m.gates ≡ v.newest + 1 = is.gates in
+      record {
+        is_mailbox = after;
+        gates = count ∙ is.gates;
+        put = is.put;
+        got = is.got;
+        flags = λ i h newest there. at_written m.gates k g' (λ j u. j + 1 ≡ length (set m.gates k g') → (u.enabled ≡ enabled) × (u.closed ≡ closed))
+            (λ last. writes.flags (last ∙ count))
+            (λ j u other found last.
+            let old = is.flags j u (last ∙ count) found in
+            let same = writes.other_flags (λ here. other (omega arith)) in
+            (old.0 ∙ sym same.0, old.1 ∙ sym same.1)) i h there newest;
+        given = at_written m.gates k g' (λ j u. u.collected ≡ clear j) writes.given (λ j u other found. is.given j u found ∙ sym (writes.other_given j other));
+        stands = λ l i there. writes.stand l ∙ is.stands l i there;
+        phases = λ l i h there at_h. at_written m.gates k g' (λ j u. StandsAt m l j → IsAt u l (line l).phase)
+            (λ here. writes.phases l here)
+            (λ j u other found here. is.phases l j u here found ∙ ap Some (sym (writes.other_phases l j other here))) i h at_h there;
+        taker_at = is.taker_at;
       }
 
   -- a line that stands at a gate goes to another phase there
-  pub phase_shown : (l k : ℕ) (g g' : Gate OneRight) (p q : Phase) → StandsAt m l k → GateAt m k g → IsAt g l q → g'.phases ≡ set g.phases l p → g'.enabled ≡ g.enabled → g'.closed ≡ g.closed → IsMailbox e (lines_of peer) (with_gate m k g')
-      → IsShown e peer newest taker enabled closed (λ i. record { phase = cond (eqb i l) p (line i).phase; stand = (line i).stand }) accepted taken (with_gate m k g')
-  phase_shown l k g g' p q stands at was phases same_enabled same_closed after =
-      let count : length (set m.gates k g') ≡ length m.gates = length-set m.gates k g' in record {
-        is_mailbox = after;
-        gates = count ∙ is.gates;
-        put = is.put;
-        got = is.got;
-        flags = λ i h newest_is there. at_written m.gates k g' (λ j f. j + 1 ≡ length (set m.gates k g') → (f.enabled ≡ enabled) × (f.closed ≡ closed))
-            (λ last. let old = is.flags k g (last ∙ count) at in (same_enabled ∙ old.0, same_closed ∙ old.1))
-            (λ j f _ found last. is.flags j f (last ∙ count) found) i h there newest_is;
-        stands = is.stands;
-        phases = λ i j f there at_f. elim (eqb i l) as (λ b. eqb i l ≡ b → IsAt f i (cond b p (line i).phase)) [
+  pub phase_shown : (l k : ℕ) (g g' : Gate OneRight) (p q : Phase) → StandsAt m l k → GateAt m k g → IsAt g l q → g'.phases ≡ set g.phases l p → g'.enabled ≡ g.enabled → g'.closed ≡ g.closed → g'.collected ≡ g.collected → IsMailbox e (lines_of v.peer) (with_gate m k g')
+      → IsShown e (record v { line = λ i. record { phase = cond (eqb i l) p (v.line i).phase; stand = (v.line i).stand; noticed = (v.line i).noticed } }) (with_gate m k g')
+  phase_shown l k g g' p q stands at was phases same_enabled same_closed same_given after =
+      gate_shown k g g' v.enabled v.closed (λ i. record { phase = cond (eqb i l) p (v.line i).phase; stand = (v.line i).stand; noticed = (v.line i).noticed }) v.clear at (record {
+        flags = λ last. let old = is.flags k g last at in (same_enabled ∙ old.0, same_closed ∙ old.1);
+        other_flags = λ _. (refl, refl);
+        given = same_given ∙ is.given k g at;
+        other_given = λ i _. refl;
+        stand = λ i. refl;
+        phases = λ i there. elim (eqb i l) as (λ b. eqb i l ≡ b → IsAt g' i (cond b p (v.line i).phase)) [
           | true ↦ λ t.
               let same : i ≡ l = eqb-true i l t in
-              let place : j ≡ k = got_same_at m.stands i l j k same there stands in
               let written : slice_get g'.phases l ≡ Some p = ap (λ ps. slice_get ps l) phases ∙ slice_get-set_same g.phases l p (got_within g.phases l q was) in
-              at_written m.gates k g' (λ n h. n ≡ k → IsAt h i p) (λ _. subst (λ x. slice_get g'.phases x ≡ Some p) (sym same) written) (λ n h other _ here. absurd (other here)) j f at_f place
-          | false ↦ λ t.
-              at_written m.gates k g' (λ n h. StandsAt m i n → IsAt h i (line i).phase)
-              (λ here. ap (λ ps. slice_get ps i) phases ∙ slice_get-set_other g.phases l i p (eqb-false i l t) ∙ is.phases i k g here at)
-              (λ n h _ found here. is.phases i n h here found) j f at_f there
+              subst (λ x. slice_get g'.phases x ≡ Some p) (sym same) written
+          | false ↦ λ t. ap (λ ps. slice_get ps i) phases ∙ slice_get-set_other g.phases l i p (eqb-false i l t) ∙ is.phases i k g there at
         ] refl;
-        taker_at = is.taker_at;
-      }
+        other_phases = λ i j other there. ap (λ b. cond b p (v.line i).phase) (ne_eqb i l (λ same. other (got_same_at m.stands i l j k same there stands)));
+      }) after
 
-  -- the newest gate has another flag enabled
-  pub enabled_shown : (k : ℕ) (g g' : Gate OneRight) (b : Bool) → GateAt m k g → IsNewest m k → g'.phases ≡ g.phases → g'.enabled ≡ b → g'.closed ≡ g.closed → IsMailbox e (lines_of peer) (with_gate m k g')
-      → IsShown e peer newest taker b closed line accepted taken (with_gate m k g')
-  enabled_shown k g g' b at newest_is phases now same_closed after =
-      let count : length (set m.gates k g') ≡ length m.gates = length-set m.gates k g' in record {
-        is_mailbox = after;
-        gates = count ∙ is.gates;
-        put = is.put;
-        got = is.got;
-        flags = λ i h last_is there. at_written m.gates k g' (λ j f. j + 1 ≡ length (set m.gates k g') → (f.enabled ≡ b) × (f.closed ≡ closed))
-            (λ last. let old = is.flags k g (last ∙ count) at in (now, same_closed ∙ old.1))
-            (λ j f other found last. absurd (other (omega arith))) i h there last_is;
-        stands = is.stands;
-        phases = λ i j f there at_f. at_written m.gates k g' (λ n h. StandsAt m i n → IsAt h i (line i).phase)
-            (λ here. ap (λ ps. slice_get ps i) phases ∙ is.phases i k g here at)
-            (λ n h _ found here. is.phases i n h here found) j f at_f there;
-        taker_at = is.taker_at;
-      }
+  -- the newest gate has other flags
+  pub flags_shown : (k : ℕ) (g g' : Gate OneRight) (enabled closed : Bool) → GateAt m k g → IsNewest m k → g'.phases ≡ g.phases → g'.enabled ≡ enabled → g'.closed ≡ closed → g'.collected ≡ g.collected → IsMailbox e (lines_of v.peer) (with_gate m k g')
+      → IsShown e (record v { enabled = enabled; closed = closed }) (with_gate m k g')
+  flags_shown k g g' enabled closed at newest phases now_enabled now_closed same_given after =
+      let many : length m.gates ≡ v.newest + 1 = is.gates in
+      gate_shown k g g' enabled closed v.line v.clear at (record {
+        flags = λ last. (now_enabled, now_closed);
+        other_flags = λ other. absurd (other (omega arith));
+        given = same_given ∙ is.given k g at;
+        other_given = λ i _. refl;
+        stand = λ i. refl;
+        phases = λ i there. ap (λ ps. slice_get ps i) phases ∙ is.phases i k g there at;
+        other_phases = λ i j _ _. refl;
+      }) after
+
+  -- the rights of a gate were collected
+  pub clear_shown : (k : ℕ) (g g' : Gate OneRight) → GateAt m k g → g'.phases ≡ g.phases → g'.enabled ≡ g.enabled → g'.closed ≡ g.closed → g'.collected ≡ true → IsMailbox e (lines_of v.peer) (with_gate m k g')
+      → IsShown e (record v { clear = λ i. cond (eqb i k) true (v.clear i) }) (with_gate m k g')
+  clear_shown k g g' at phases same_enabled same_closed now after =
+      gate_shown k g g' v.enabled v.closed v.line (λ i. cond (eqb i k) true (v.clear i)) at (record {
+        flags = λ last. let old = is.flags k g last at in (same_enabled ∙ old.0, same_closed ∙ old.1);
+        other_flags = λ _. (refl, refl);
+        given = now ∙ sym (ap (λ b. cond b true (v.clear k)) (eq-eqb k k refl));
+        other_given = λ i other. ap (λ b. cond b true (v.clear i)) (ne_eqb i k other);
+        stand = λ i. refl;
+        phases = λ i there. ap (λ ps. slice_get ps i) phases ∙ is.phases i k g there at;
+        other_phases = λ i j _ _. refl;
+      }) after
 
   -- a queue has more that was put or taken
-  pub queue_shown : (k : ℕ) (q : Queue) (put got : List Envelope) → IsMailbox e (lines_of peer) (with_queue m k q) → Grows m put got (with_queue m k q)
-      → IsShown e peer newest taker enabled closed line (accepted ++ put) (taken ++ got) (with_queue m k q)
+  pub queue_shown : (k : ℕ) (q : Queue) (put got : List Envelope) → IsMailbox e (lines_of v.peer) (with_queue m k q) → Grows m put got (with_queue m k q)
+      → IsShown e (record v { accepted = v.accepted ++ put; removed = v.removed ++ got }) (with_queue m k q)
   queue_shown k q put got after grows = record {
     is_mailbox = after;
     gates = is.gates;
-    put = λ l. grows.puts l ∙ ap (λ us. us ++ by l put) (is.put l) ∙ sym (filter-append _ accepted put);
+    put = λ l. grows.puts l ∙ ap (λ us. us ++ by l put) (is.put l) ∙ sym (filter-append _ v.accepted put);
     got = grows.gots ∙ ap (λ us. us ++ got) is.got;
     flags = is.flags;
+    given = is.given;
     stands = is.stands;
     phases = is.phases;
     taker_at = is.taker_at;

@@ -1,10 +1,10 @@
 -- Agent and Channel: what the core answers fits, and it shows the facts with the answered step.
-use Rattle.std.proofs.Common.{◌≡◌, ℕ, ◌+◌, ◌≤◌, Bool, true, false, cond, eqb, List, [], ◌∷◌, ◌++◌, length, get_or, Some, zero, suc, refl, sym, ap, subst, ◌∙◌, arith, length-append}
+use Rattle.std.proofs.Common.{◌≡◌, ℕ, ◌+◌, ◌≤◌, Bool, true, false, cond, eqb, List, [], ◌∷◌, ◌++◌, length, get_or, Some, zero, suc, refl, sym, ap, subst, ◌∙◌, arith, length-append, inl, inr, rules, ◌<◌}
 use Rattle.std.specs.Prelude.{nat_lt, nat_le, ◌||◌}
 use Rattle.std.specs.List.{slice_get}
 use Rattle.std.proofs.lemmas.Option.{slice_get_past}
 use Rattle.std.proofs.lemmas.Bool.Decides.{nat_tests}
-use Rattle.std.proofs.lemmas.Bool.{eqb-true, eqb-false, ltb-true, ltb-false}
+use Rattle.std.proofs.lemmas.Bool.{eqb-true, eqb-false, ltb-true, ltb-false, false≢true}
 use Rattle.hub_envelope.specs.declared.ids.AgentId.{AgentId}
 use Rattle.hub_envelope.specs.declared.ids.EndId.{EndId}
 use Rattle.hub_envelope.specs.declared.envelope.Envelope.{Envelope}
@@ -18,14 +18,15 @@ use Rattle.hub_core.specs.declared.outcome.Outcome.{Outcome}
 use Rattle.hub_core.specs.declared.outcome.Outcome.TheVariants as outcome
 use Rattle.hub_core.specs.Facts.{AgentNow, EndNow, LineNow, Facts}
 use Rattle.hub_core.specs.Making.{agent_answer, channel_answer}
-use Rattle.hub_core.specs.Sound.{no_end, no_line, lines_of}
+use Rattle.hub_core.specs.Sound.{no_end, no_line}
 use Rattle.hub_core.specs.Shows.{agent_now, end_now, line_now, ShowsPut, ShowsEnd, ShowsFacts}
 use Rattle.hub_core.specs.Kept.{kept_running, kept_agent_answer, agents_made, kept_channel_answer, ends_made, port_end}
 use Rattle.hub_core.proofs.Lists.{slice_get-append_front, slice_get-append_back}
 use Rattle.hub_core.proofs.Frames.{Stepped, unchanged}
 use Rattle.hub_core.proofs.Holders.{runs_kept}
 use Rattle.hub_core.proofs.Sounds.{sound_next}
-use Rattle.hub_core.proofs.SoundPlaces.{nothing_accepted, nothing_taken}
+use Rattle.hub_core.proofs.Speakers.{nothing_accepted, nothing_removed}
+use Rattle.hub_core.specs.Made.{lines_of}
 
 next_up : (n a : ℕ) → n ≤ a → (a ≡ n → ⊥) → n + 1 ≤ a
 next_up n a from other = grind (arith, nat_tests)
@@ -73,11 +74,11 @@ agent_shown agents new ends f refused o h is made =
 -- ---- Channel
 
 -- the one line of a new port, and what it put
-new_line : (line : ℕ → LineNow) → ((l : ℕ) → line l ≡ no_line) → (l : ℕ) → line l ≡ line_now (slice_get (record { phase = Out; epoch = 0; put = 0 } ∷ []) l)
+new_line : (line : ℕ → LineNow) → ((l : ℕ) → line l ≡ no_line) → (l : ℕ) → line l ≡ line_now (slice_get (record { phase = Out; epoch = 0; put = 0; has_noticed = false } ∷ []) l)
 new_line line h zero = h 0
 new_line line h (suc l) = h (suc l)
 
-new_put : (l : ℕ) → ShowsPut [] l (slice_get (record { phase = Out; epoch = 0; put = 0 } ∷ []) l)
+new_put : (l : ℕ) → ShowsPut [] l (slice_get (record { phase = Out; epoch = 0; put = 0; has_noticed = false } ∷ []) l)
 new_put zero = refl
 new_put (suc l) = tt
 
@@ -85,23 +86,31 @@ no_queue : (i : ℕ) → (let none : List Envelope = [] in none ≡ get_or (none
 no_queue zero = refl
 no_queue (suc i) = refl
 
+none_below : (k : ℕ) → nat_lt k 0 ≡ false
+none_below k = search (rules, nat_tests)
+
 -- a port that has just been made
-new_port : (now : EndNow) (line : ℕ → LineNow) (vs ts : List Envelope) (a : AgentId) (q : EndId) → now ≡ end_now (Some (port_end a q)) → ((l : ℕ) → line l ≡ no_line) → vs ≡ [] → ts ≡ [] → ShowsEnd now line vs ts (Some (port_end a q))
-new_port now line vs ts a q is lines accepted taken =
+new_port : (now : EndNow) (line : ℕ → LineNow) (clear : ℕ → Bool) (vs ts : List Envelope) (a : AgentId) (q : EndId) → now ≡ end_now (Some (port_end a q)) → ((l : ℕ) → line l ≡ no_line) → ((k : ℕ) → clear k ≡ false) → vs ≡ [] → ts ≡ [] → ShowsEnd now line clear vs ts (Some (port_end a q))
+new_port now line clear vs ts a q is lines unclear accepted taken =
     rw (accepted, taken) (record {
       same = is;
       count = ap (λ (y : EndNow). lines_of y.peer) (sym is);
       lines = new_line line lines;
       put = new_put;
-      queues = record { newest = refl; count = refl; behind = λ k less. refl; each = no_queue };
+      queues = record { reached = omega arith; clear_below = λ k from. unclear k ∙ sym (none_below k); count = λ _. refl; inside = λ l at. absurd (search (rules, sym (ap (λ (y : LineNow). y.phase) (lines l)) ∙ at)); behind = λ k less. refl; each = no_queue };
     })
 
 -- an end that was not made
 record Nothing (f : Facts) (d : ℕ) : Type 0 where
   now : f.end d ≡ no_end
   lines : (l : ℕ) → f.line d l ≡ no_line
+  unclear : (k : ℕ) → f.clear d k ≡ false
   accepted : f.accepted d ≡ []
-  taken : f.taken d ≡ []
+  removed : f.taken d ++ f.discarded d ≡ []
+
+never_clear : (b : Bool) → (b ≡ true → ⊥) → b ≡ false
+never_clear true h = absurd (h refl)
+never_clear false h = refl
 
 nothing_at : (agents : List Agent) (ends : List End) (f : Facts) (d : ℕ) → ShowsFacts agents ends f → length ends ≤ d → Nothing f d
 nothing_at agents ends f d h past =
@@ -112,7 +121,11 @@ nothing_at agents ends f d h past =
       now = none;
       lines = λ l. (h.sound.lines d).none l (subst (λ p. lines_of p ≤ l) (sym (ap (λ (y : EndNow). y.peer) none)) (omega arith));
       accepted = accepted;
-      taken = nothing_taken f d (h.sound.waiting d) accepted;
+      unclear = λ k. never_clear (f.clear d k) (λ is. elim ((h.sound.lines d).clear_within k is) [
+        | inl less ↦ absurd (let first : (f.end d).newest ≡ 0 = ap (λ (y : EndNow). y.newest) none in let low : k < (f.end d).newest = less in omega arith)
+        | inr both ↦ absurd (search (rules, false≢true, sym (ap (λ (y : EndNow). y.closed) none) ∙ both.1))
+      ]);
+      removed = nothing_removed f d (h.sound.waiting d) accepted;
     }
 
 past_two : (ends : List End) (p q : End) (d : ℕ) → length ends ≤ d → (d ≡ length ends → ⊥) → (d ≡ length ends + 1 → ⊥) → length (ends ++ p ∷ q ∷ []) ≤ d
@@ -129,30 +142,30 @@ made_now f a n d first second = record (f.end d) {
   enabled = cond (first || second) false (f.end d).enabled;
 }
 
-port_at : (agents : List Agent) (ends : List End) (f : Facts) (a : AgentId) → ShowsFacts agents ends f → (d : ℕ) → (before first second : Bool) → nat_lt d (length ends) ≡ before → eqb d (length ends) ≡ first → eqb d (length ends + 1) ≡ second → ShowsEnd (made_now f a (length ends) d first second) (f.line d) (f.accepted d) (f.taken d) (slice_get (ends ++ port_end a (record { 0 = length ends + 1 }) ∷ port_end a (record { 0 = length ends }) ∷ []) d)
+port_at : (agents : List Agent) (ends : List End) (f : Facts) (a : AgentId) → ShowsFacts agents ends f → (d : ℕ) → (before first second : Bool) → nat_lt d (length ends) ≡ before → eqb d (length ends) ≡ first → eqb d (length ends + 1) ≡ second → ShowsEnd (made_now f a (length ends) d first second) (f.line d) (f.clear d) (f.accepted d) (f.taken d ++ f.discarded d) (slice_get (ends ++ port_end a (record { 0 = length ends + 1 }) ∷ port_end a (record { 0 = length ends }) ∷ []) d)
 port_at agents ends f a h d before true second is here there =
     let n = length ends in
     let ports : List End = port_end a (record { 0 = n + 1 }) ∷ port_end a (record { 0 = n }) ∷ [] in
     let at : d ≡ n + 0 = eqb-true d n here ∙ omega arith in
     let none = nothing_at agents ends f d h (omega arith) in
-    subst (ShowsEnd _ _ _ _) (sym (slice_get-append_back ends ports d 0 at))
-    (new_port _ (f.line d) (f.accepted d) (f.taken d) a (record { 0 = n + 1 }) (ap (λ (y : EndNow). let z : EndNow = record y { peer = Some (n + 1); place = Some (With a); enabled = false } in z) none.now) none.lines none.accepted none.taken)
+    subst (ShowsEnd _ _ _ _ _) (sym (slice_get-append_back ends ports d 0 at))
+    (new_port _ (f.line d) (f.clear d) (f.accepted d) (f.taken d ++ f.discarded d) a (record { 0 = n + 1 }) (ap (λ (y : EndNow). let z : EndNow = record y { peer = Some (n + 1); place = Some (With a); enabled = false } in z) none.now) none.lines none.unclear none.accepted none.removed)
 port_at agents ends f a h d before false true is here there =
     let n = length ends in
     let ports : List End = port_end a (record { 0 = n + 1 }) ∷ port_end a (record { 0 = n }) ∷ [] in
     let at : d ≡ n + 1 = eqb-true d (n + 1) there in
     let none = nothing_at agents ends f d h (omega arith) in
-    subst (ShowsEnd _ _ _ _) (sym (slice_get-append_back ends ports d 1 at))
-    (new_port _ (f.line d) (f.accepted d) (f.taken d) a (record { 0 = n }) (ap (λ (y : EndNow). let z : EndNow = record y { peer = Some n; place = Some (With a); enabled = false } in z) none.now) none.lines none.accepted none.taken)
+    subst (ShowsEnd _ _ _ _ _) (sym (slice_get-append_back ends ports d 1 at))
+    (new_port _ (f.line d) (f.clear d) (f.accepted d) (f.taken d ++ f.discarded d) a (record { 0 = n }) (ap (λ (y : EndNow). let z : EndNow = record y { peer = Some n; place = Some (With a); enabled = false } in z) none.now) none.lines none.unclear none.accepted none.removed)
 port_at agents ends f a h d true false false is here there =
     let n = length ends in
     let ports : List End = port_end a (record { 0 = n + 1 }) ∷ port_end a (record { 0 = n }) ∷ [] in
-    subst (ShowsEnd _ _ _ _) (sym (slice_get-append_front ends ports d (ltb-true d n is))) (h.end d)
+    subst (ShowsEnd _ _ _ _ _) (sym (slice_get-append_front ends ports d (ltb-true d n is))) (h.end d)
 port_at agents ends f a h d false false false is here there =
     let n = length ends in
     let ports : List End = port_end a (record { 0 = n + 1 }) ∷ port_end a (record { 0 = n }) ∷ [] in
     let beyond : length (ends ++ ports) ≤ d = past_two ends (port_end a (record { 0 = n + 1 })) (port_end a (record { 0 = n })) d (ltb-false d n is) (eqb-false d n here) (eqb-false d (n + 1) there) in
-    subst (ShowsEnd _ _ _ _) (slice_get_past ends d (ltb-false d n is) ∙ sym (slice_get_past (ends ++ ports) d beyond)) (h.end d)
+    subst (ShowsEnd _ _ _ _ _) (slice_get_past ends d (ltb-false d n is) ∙ sym (slice_get_past (ends ++ ports) d beyond)) (h.end d)
 
 ports_made : (agents : List Agent) (ends : List End) (f : Facts) (a : AgentId) → ShowsFacts agents ends f → outcome.Ends (record { 0 = length ends }) (record { 0 = length ends + 1 }) ≡ channel_answer f a false → Stepped agents (ends ++ port_end a (record { 0 = length ends + 1 }) ∷ port_end a (record { 0 = length ends }) ∷ []) f (action.Channel a) false (outcome.Ends (record { 0 = length ends }) (record { 0 = length ends + 1 }))
 ports_made agents ends f a h answer = record {

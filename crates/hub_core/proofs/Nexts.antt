@@ -1,6 +1,6 @@
 -- One more pair, for all notions at once: the facts of the longer history.
 use Rattle.std.proofs.Common.{◌≡◌, ℕ, Bool, true, false, cond, eqb, List, [], ◌∷◌, ◌++◌, refl, sym, ap, subst, ◌∙◌, inl, inr, append-nil}
-use Rattle.std.specs.Prelude.{◌==◌, if◌then◌else◌, Option, None, ◌⊎◌, Vec}
+use Rattle.std.specs.Prelude.{◌==◌, if◌then◌else◌, Option, None, ◌⊎◌, Vec, Some}
 use Rattle.hub_core.specs.declared.end.Place.{Place}
 use Rattle.std.specs.declared.alloc.Global.{Global}
 use Rattle.std.specs.List.{fold, flat_map}
@@ -18,22 +18,29 @@ use Rattle.hub_core.specs.declared.outcome.Outcome.{Outcome}
 use Rattle.hub_core.specs.declared.outcome.Outcome.TheVariants as outcome
 use Rattle.hub_core.specs.History.{Pair, History}
 use Rattle.hub_core.specs.Facts.{Facts, facts}
-use Rattle.hub_core.specs.Accepted.{named_envelope, accepted_by}
+use Rattle.hub_core.specs.Accepted.{named_envelope, accepted_by, named_notice}
 use Rattle.hub_core.specs.Taken.{taken_by}
 use Rattle.hub_core.specs.Made.{agents_after, runs_after, ends_after, peer_after}
 use Rattle.hub_core.specs.Place.{place_after}
 use Rattle.hub_core.specs.Closed.{closed_after}
 use Rattle.hub_core.specs.Enabled.{enabled_after}
-use Rattle.hub_core.specs.Lines.{phase_after, adoptions_after, hops_after, passed_after}
+use Rattle.hub_core.specs.Lines.{phase_after, adoptions_after, hops_after, passed_after, noticed_after}
+use Rattle.hub_core.specs.Clear.{clear_after}
+use Rattle.hub_core.specs.Discarded.{discarded_by}
 
 -- the list with what an answered step puts at its end
 abbrev pub accepted_after : ℕ → List Envelope → Outcome → Action → List Envelope
 accepted_after x vs (outcome.Accepted n) (action.Push s ports body) = if x == s.end.0 then vs ++ named_envelope s n body ports.items ∷ [] else vs
+accepted_after x vs (outcome.Accepted n) (action.Notice s) = if x == s.end.0 then vs ++ named_notice s n ∷ [] else vs
 accepted_after x vs _ _ = vs
 
 abbrev pub taken_after : ℕ → List Envelope → Outcome → Action → List Envelope
 taken_after x vs (outcome.Got v) (action.Take t) = if x == t.0 then vs ++ v ∷ [] else vs
 taken_after x vs _ _ = vs
+
+abbrev pub discarded_after : ℕ → List Envelope → Outcome → Action → List Envelope
+discarded_after x vs (outcome.Discarded ws) (action.Sweep t) = if x == t.0 then vs ++ ws else vs
+discarded_after x vs _ _ = vs
 
 -- the facts with an answered step; what the step doesn't touch computes to what it was
 abbrev pub next : Facts → Action → Outcome → Facts
@@ -52,9 +59,12 @@ next f a o = record {
   line = λ x l. record {
     phase = phase_after x l (f.line x l).phase o a;
     stand = hops_after x l (f.line x l).stand o a;
+    noticed = noticed_after x l (f.line x l).noticed o a;
   };
+  clear = λ x k. clear_after x k (f.clear x k) o a;
   accepted = λ x. accepted_after x (f.accepted x) o a;
   taken = λ x. taken_after x (f.taken x) o a;
+  discarded = λ x. discarded_after x (f.discarded x) o a;
 }
 
 -- a fold over one more pair
@@ -70,13 +80,22 @@ one_where : {A : Type 0} (b : Bool) (vs : List A) (v : A) → vs ++ cond b (v �
 one_where true vs v = refl
 one_where false vs v = append-nil vs
 
+all_where : {A : Type 0} (b : Bool) (vs ws : List A) → vs ++ cond b ws [] ≡ cond b (vs ++ ws) vs
+all_where true vs ws = refl
+all_where false vs ws = append-nil vs
+
 accepted_one : (x : ℕ) (vs : List Envelope) (o : Outcome) (a : Action) → vs ++ accepted_by x o a ≡ accepted_after x vs o a
 accepted_one x vs (outcome.Accepted n) (action.Push s ports body) = one_where (eqb x s.end.0) vs (named_envelope s n body ports.items)
+accepted_one x vs (outcome.Accepted n) (action.Notice s) = one_where (eqb x s.end.0) vs (named_notice s n)
 accepted_one x vs o a = append-nil vs
 
 taken_one : (x : ℕ) (vs : List Envelope) (o : Outcome) (a : Action) → vs ++ taken_by x o a ≡ taken_after x vs o a
 taken_one x vs (outcome.Got v) (action.Take t) = one_where (eqb x t.0) vs v
 taken_one x vs o a = append-nil vs
+
+discarded_one : (x : ℕ) (vs : List Envelope) (o : Outcome) (a : Action) → vs ++ discarded_by x o a ≡ discarded_after x vs o a
+discarded_one x vs (outcome.Discarded ws) (action.Sweep t) = all_where (eqb x t.0) vs ws
+discarded_one x vs o a = append-nil vs
 
 pub facts_next : (h : History) (p : Pair) → facts (h ++ p ∷ []) ≡ next (facts h) p.0.action p.1
 facts_next h p = λ i. record {
@@ -94,9 +113,12 @@ facts_next h p = λ i. record {
   line = λ x l. record {
     phase = fold_one (λ r q. phase_after x l r q.1 q.0.action) Out h p i;
     stand = fold_one (λ r q. hops_after x l r q.1 q.0.action) 0 h p i;
+    noticed = fold_one (λ r q. noticed_after x l r q.1 q.0.action) false h p i;
   };
+  clear = λ x k. fold_one (λ r q. clear_after x k r q.1 q.0.action) false h p i;
   accepted = λ x. (flat_map_one (λ q. accepted_by x q.1 q.0.action) h p ∙ accepted_one x (flat_map (λ q. accepted_by x q.1 q.0.action) h) p.1 p.0.action) i;
   taken = λ x. (flat_map_one (λ q. taken_by x q.1 q.0.action) h p ∙ taken_one x (flat_map (λ q. taken_by x q.1 q.0.action) h) p.1 p.0.action) i;
+  discarded = λ x. (flat_map_one (λ q. discarded_by x q.1 q.0.action) h p ∙ discarded_one x (flat_map (λ q. discarded_by x q.1 q.0.action) h) p.1 p.0.action) i;
 }
 
 -- ---- the pairs that change something
@@ -108,9 +130,16 @@ pub data Change : Action → Outcome → Type 0 where
   found_moved : (s : Sender) → Change (action.Enter s) outcome.Moved
   found_closed : (s : Sender) → Change (action.Enter s) outcome.Closed
   put : (s : Sender) (ports : Vec EndId Global) (body : List ℕ) (n : Acceptance) → Change (action.Push s ports body) (outcome.Accepted n)
+  notice_put : (s : Sender) (n : Acceptance) → Change (action.Notice s) (outcome.Accepted n)
   left : (s : Sender) → Change (action.Leave s) outcome.Left
+  hopped : (s : Sender) (k : ℕ) → Change (action.Hop s) (outcome.Hopped k)
   started : (e : EndId) → Change (action.Start e) outcome.Started
   got : (e : EndId) (v : Envelope) → Change (action.Take e) (outcome.Got v)
+  went_on : (e : EndId) → Change (action.Take e) outcome.Again
+  cleared : (e : EndId) (k : ℕ) → Change (action.Look e) (outcome.Clear (Some k))
+  adopted : (e : EndId) (a : AgentId) (k : ℕ) → Change (action.Adopt e a) (outcome.Adopted k)
+  end_closed : (e : EndId) → Change (action.Close e) outcome.Done
+  end_swept : (e : EndId) (vs : List Envelope) → Change (action.Sweep e) (outcome.Discarded vs)
 
 -- every other pair leaves the facts as they are
 pub effect : (f : Facts) (o : Outcome) (a : Action) → (next f a o ≡ f) ⊎ Change a o
@@ -120,9 +149,16 @@ effect f outcome.In (action.Enter s) = inr (let_in s)
 effect f outcome.Moved (action.Enter s) = inr (found_moved s)
 effect f outcome.Closed (action.Enter s) = inr (found_closed s)
 effect f (outcome.Accepted n) (action.Push s ports body) = inr (put s ports body n)
+effect f (outcome.Accepted n) (action.Notice s) = inr (notice_put s n)
 effect f outcome.Left (action.Leave s) = inr (left s)
+effect f (outcome.Hopped k) (action.Hop s) = inr (hopped s k)
 effect f outcome.Started (action.Start e) = inr (started e)
 effect f (outcome.Got v) (action.Take e) = inr (got e v)
+effect f outcome.Again (action.Take e) = inr (went_on e)
+effect f (outcome.Clear (Some k)) (action.Look e) = inr (cleared e k)
+effect f (outcome.Adopted k) (action.Adopt e a) = inr (adopted e a k)
+effect f outcome.Done (action.Close e) = inr (end_closed e)
+effect f (outcome.Discarded vs) (action.Sweep e) = inr (end_swept e vs)
 effect f o a = inl refl
 
 -- what holds of the facts and is kept by each pair that changes something is kept by every pair

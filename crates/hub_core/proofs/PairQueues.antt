@@ -1,68 +1,46 @@
--- The pairs that are events of a queue: a Push that was accepted, and a Take.
-use Rattle.std.proofs.Common.{◌≡◌, ◌≢◌, ℕ, zero, suc, ◌+◌, ◌<◌, ◌≤◌, ◌&&◌, Bool, true, false, cond, eqb, List, [], ◌∷◌, ◌++◌, length, refl, sym, ap, subst, ◌∙◌, arith, rules, append-nil, length-append, Some, None}
-use Rattle.std.specs.Prelude.{slice_get, flat_map, All, is_some}
-use Rattle.std.specs.List.{filter}
-use Rattle.std.proofs.lemmas.Bool.{false≢true, ne_eqb}
-use Rattle.std.proofs.lemmas.List.Elements.{filter-append, All-head, All-tail}
+-- The pairs that are events of a queue: a Push or a Notice that was accepted, and a pop, which finds an envelope or none.
+use Rattle.std.proofs.Common.{◌≡◌, ◌≢◌, ℕ, zero, suc, ◌<◌, ◌&&◌, Bool, true, cond, eqb, List, [], ◌∷◌, ◌++◌, length, refl, sym, ap, subst, ◌∙◌, arith, append-nil, Some, None}
+use Rattle.std.specs.Prelude.{slice_get, flat_map}
+use Rattle.std.specs.List.{filter, AllByRecursion}
+use Rattle.std.proofs.lemmas.Bool.{ne_eqb, eq-eqb}
+use Rattle.std.proofs.lemmas.List.Elements.{filter-append, recursion_from_All}
 use Rattle.hub_envelope.specs.declared.envelope.Envelope.{Envelope}
 use Rattle.hub_envelope.specs.declared.ids.EndId.{EndId}
-use Rattle.hub_core.specs.declared.line.Phase.{Phase}
-use Rattle.hub_core.specs.declared.line.Phase.TheVariants.{Out, Inside, Turned}
+use Rattle.hub_core.specs.declared.line.Phase.TheVariants.{Inside}
 use Rattle.hub_core.specs.declared.sender.Sender.{Sender}
 use Rattle.hub_core.specs.declared.outcome.Acceptance.{Acceptance}
 use Rattle.hub_core.specs.Facts.{Facts}
-use Rattle.hub_core.specs.Accepted.{named_envelope}
+use Rattle.hub_core.specs.Accepted.{named_envelope, named_notice}
+use Rattle.hub_core.specs.Made.{lines_of}
 use Rattle.hub_core.specs.Sender.{by, in_queue, count_in_queue}
-use Rattle.hub_core.specs.Posting.{is_inside}
-use Rattle.hub_core.specs.Taking.{IsDrained}
-use Rattle.hub_core.specs.Sound.{lines_of}
-use Rattle.hub_core.specs.QueueMachine.{Queue, IsNamed, MayPush, pushed, pop_of, IsQueue}
+use Rattle.hub_core.specs.Posting.{phase_of_line}
+use Rattle.hub_core.specs.QueueMachine.{Queue, IsNamed, MayPush, pushed, pop_of}
 use Rattle.hub_core.specs.Mailbox.{Mailbox, QueueAt, put_by, got_from, IsMailbox}
-use Rattle.hub_core.specs.MailboxSteps.{push, pop, MailboxStep, pushes, takes, finds_none, with_queue}
+use Rattle.hub_core.specs.MailboxSteps.{push, pop, MailboxStep, pushes, takes, finds_none, with_queue, HoldsNothing}
 use Rattle.hub_core.specs.MailboxPairs.{OneRight, HoldsFirst}
-use Rattle.hub_core.proofs.Lists.{eqb_same}
+use Rattle.hub_core.proofs.Lists.{AllByRecursion-weaker}
 use Rattle.hub_core.proofs.Items.{none_got, some_is, got_there}
-use Rattle.hub_core.proofs.Waits.{filters}
-use Rattle.hub_core.proofs.Fitting.{Pushed}
-use Rattle.hub_core.proofs.SoundLines.{line_there}
-use Rattle.hub_core.proofs.Growing.{push_grows, pop_grows}
+use Rattle.hub_core.proofs.Waits.{all_kept, filters}
+use Rattle.hub_core.proofs.Fitting.{Pushed, Noticed}
+use Rattle.hub_core.proofs.SoundLines.{MayPut, message_may, notice_may}
+use Rattle.hub_core.proofs.SoundWaiting.{inside_of}
 use Rattle.hub_core.proofs.MailboxStepping.{step_kept}
-use Rattle.hub_core.proofs.MailboxShown.{HasRight, ShownWith, ShownAt, Standing, standing, queue_shown}
+use Rattle.hub_core.proofs.Joins.{all_pass, filter_both, nothing_there, nothing_more}
+use Rattle.hub_core.proofs.MailboxShown.{View, view, ShownAt, IsShown, HasRight, Leads, one_step, event_grows, Standing, standing, queue_shown}
 
--- ---- the number of a line's next envelope
+-- ---- what was put in a queue and taken out of it, by what was put and taken at the end
 
--- two filters are one
-filter_both : (p q : Envelope → Bool) (vs : List Envelope) → filter q (filter p vs) ≡ filter (λ v. p v && q v) vs
-filter_both p q [] = refl
-filter_both p q (v ∷ vs) = elim (p v) as (λ b. filter q (cond b (v ∷ filter p vs) (filter p vs)) ≡ cond (b && q v) (v ∷ filter (λ u. p u && q u) vs) (filter (λ u. p u && q u) vs)) [
-  | true ↦ ap (λ us. cond (q v) (v ∷ us) us) (filter_both p q vs)
-  | false ↦ filter_both p q vs
-]
+all_front : {A : Type 0} (P : A → Type 0) (xs ys : List A) → AllByRecursion P (xs ++ ys) → AllByRecursion P xs
+all_front P [] ys h = tt
+all_front P (x ∷ xs) ys h = (h.0, all_front P xs ys h.1)
 
--- the envelopes of the queue k, and of another one
-all_in : (e k n : ℕ) (vs : List Envelope) → All (IsNamed e k n) vs → in_queue k vs ≡ vs
-all_in e k n [] named = refl
-all_in e k n (v ∷ vs) named =
-    let first : IsNamed e k n v = All-head (IsNamed e k n) v vs named in
-    let mine : eqb v.epoch k ≡ true = ap (λ i. eqb i k) first.epoch ∙ eqb_same k in
-    ap (λ b. cond b (v ∷ in_queue k vs) (in_queue k vs)) mine ∙ ap (λ us. v ∷ us) (all_in e k n vs (All-tail (IsNamed e k n) v vs named))
+-- the envelopes of one queue, and of another one
+all_in : (k : ℕ) (vs : List Envelope) → AllByRecursion (λ (v : Envelope). v.epoch ≡ k) vs → in_queue k vs ≡ vs
+all_in k vs h = all_pass (λ v. eqb v.epoch k) vs (AllByRecursion-weaker (λ (v : Envelope). v.epoch ≡ k) (λ v. eqb v.epoch k ≡ true) (λ v is. eq-eqb v.epoch k is) vs h)
 
-none_in : (e j k n : ℕ) (vs : List Envelope) → j ≢ k → All (IsNamed e j n) vs → in_queue k vs ≡ []
-none_in e j k n [] other named = refl
-none_in e j k n (v ∷ vs) other named =
-    let first : IsNamed e j n v = All-head (IsNamed e j n) v vs named in
-    let away : eqb v.epoch k ≡ false = ne_eqb v.epoch k (λ same. other (sym first.epoch ∙ same)) in
-    ap (λ b. cond b (v ∷ in_queue k vs) (in_queue k vs)) away ∙ none_in e j k n vs other (All-tail (IsNamed e j n) v vs named)
-
-module _ (e n line : ℕ) where
-  -- of what a line put in a queue, all is of that queue and none of another
-  put_in_queue : (k : ℕ) (q : Queue) → IsQueue e k n q → in_queue k (q.put line) ≡ q.put line
-  put_in_queue k q h =
-      ap (in_queue k) (sym (h.put line)) ∙ filters _ _ (q.got ++ q.held) ∙ ap (by line) (all_in e k n (q.got ++ q.held) h.named) ∙ h.put line
-
-  put_elsewhere : (j k : ℕ) (q : Queue) → j ≢ k → IsQueue e j n q → in_queue k (q.put line) ≡ []
-  put_elsewhere j k q other h =
-      ap (in_queue k) (sym (h.put line)) ∙ filters _ _ (q.got ++ q.held) ∙ ap (by line) (none_in e j k n (q.got ++ q.held) other h.named)
+none_in : (j k : ℕ) (vs : List Envelope) → j ≢ k → AllByRecursion (λ (v : Envelope). v.epoch ≡ j) vs → in_queue k vs ≡ []
+none_in j k [] other h = refl
+none_in j k (v ∷ vs) other h = ap (λ b. cond b (v ∷ in_queue k vs) (in_queue k vs)) (ne_eqb v.epoch k (λ same. other (sym h.0 ∙ same))) ∙ none_in j k vs other h.1
 
 -- what is joined of one queue where the others have nothing
 module _ (f : Queue → List Envelope) where
@@ -81,126 +59,126 @@ joined_filter : (p : Envelope → Bool) (f : Queue → List Envelope) (qs : List
 joined_filter p f [] = refl
 joined_filter p f (q ∷ qs) = filter-append p (f q) (flat_map f qs) ∙ ap (λ us. filter p (f q) ++ us) (joined_filter p f qs)
 
--- what a line put in a queue is what was accepted of it there
-put_there : (e n line k : ℕ) (m : Mailbox OneRight) (q : Queue) → IsMailbox e n m → QueueAt m k q → in_queue k (put_by m line) ≡ q.put line
-put_there e n line k m q is at =
-    joined_filter (λ v. eqb v.epoch k) (λ u. u.put line) m.queues
-    ∙ only_one (λ u. in_queue k (u.put line)) m.queues k q at (λ j u other there. put_elsewhere e n line j k u other (is.each_queue j u there))
-    ∙ put_in_queue e n line k q (is.each_queue k q at)
+-- of what is joined, the envelopes of a queue are those that it has
+in_joined : (f : Queue → List Envelope) (qs : List Queue) (k : ℕ) (q : Queue) → slice_get qs k ≡ Some q → ((j : ℕ) (u : Queue) → slice_get qs j ≡ Some u → AllByRecursion (λ (v : Envelope). v.epoch ≡ j) (f u)) → in_queue k (flat_map f qs) ≡ f q
+in_joined f qs k q at each =
+    joined_filter (λ v. eqb v.epoch k) f qs
+    ∙ only_one (λ u. in_queue k (f u)) qs k q at (λ j u other there. none_in j k (f u) other (each j u there))
+    ∙ all_in k (f q) (each k q at)
+
+module _ (e n : ℕ) (m : Mailbox OneRight) (is : IsMailbox e n m) where
+  -- the envelopes of a queue bear its epoch
+  of_epoch : (k : ℕ) (q : Queue) → QueueAt m k q → AllByRecursion (λ (v : Envelope). v.epoch ≡ k) (q.got ++ q.held)
+  of_epoch k q at = AllByRecursion-weaker (IsNamed e k n) (λ v. v.epoch ≡ k) (λ v named. named.epoch) (q.got ++ q.held) (recursion_from_All (IsNamed e k n) (q.got ++ q.held) (is.each_queue k q at).named)
+
+  pub put_there : (line k : ℕ) (q : Queue) → QueueAt m k q → in_queue k (put_by m line) ≡ q.put line
+  put_there line k q at = in_joined (λ u. u.put line) m.queues k q at (λ j u there.
+      subst (AllByRecursion (λ (v : Envelope). v.epoch ≡ j)) ((is.each_queue j u there).put line) (all_kept (λ (v : Envelope). v.epoch ≡ j) _ (u.got ++ u.held) (of_epoch j u there)))
+
+  pub got_there_in : (k : ℕ) (q : Queue) → QueueAt m k q → in_queue k (got_from m) ≡ q.got
+  got_there_in k q at = in_joined (λ u. u.got) m.queues k q at (λ j u there. all_front (λ (v : Envelope). v.epoch ≡ j) u.got u.held (of_epoch j u there))
+
+  -- a queue of which everything that was put was taken out, line by line, holds nothing
+  pub holds_nothing : (k : ℕ) → k < length m.gates → ((l : ℕ) → in_queue k (by l (got_from m)) ≡ in_queue k (put_by m l)) → HoldsNothing m k
+  holds_nothing k within all =
+      let many : length m.queues ≡ length m.gates = is.queues in
+      let there = got_there m.queues k (omega arith) in
+      let q : Queue = there.0 in
+      let empty : q.held ≡ [] = nothing_there q.held (λ l. nothing_more (by l q.got) (by l q.held)
+      (sym (filter-append _ q.got q.held) ∙ (is.each_queue k q there.1).put l ∙ sym (put_there l k q there.1) ∙ sym (all l) ∙ filters _ _ (got_from m) ∙ ap (by l) (got_there_in k q there.1)))
+      in
+      record { queue = q; is_queue = there.1; nothing = ap (pop_of q) empty }
+
+-- ---- Push and Notice
 
 counted : (line k : ℕ) (vs : List Envelope) → count_in_queue line k vs ≡ length (in_queue k (by line vs))
 counted line k vs = ap length (sym (filter_both (λ v. eqb v.line.0 line) (λ v. eqb v.epoch k) vs))
 
--- ---- Push
-
-is_inside_of : (p : Phase) → is_inside p ≡ true → p ≡ Inside
-is_inside_of Out h = absurd (false≢true h)
-is_inside_of Inside h = refl
-is_inside_of Turned h = absurd (false≢true h)
-
--- the facts after an envelope was put, and after one was taken
-abbrev pub Puts : Facts → ℕ → Mailbox OneRight → Envelope → Type 0
-Puts f e m v = (after : Mailbox OneRight) × MailboxStep HasRight e (lines_of ((f.end e).peer)) m (push v) after
-    × ShownWith f e ((f.end e).peer) ((f.end e).enabled) (f.line e) (f.accepted e ++ v ∷ []) (f.taken e) after
-
-pub pushed_there : (f : Facts) (s : Sender) (ports : List EndId) (body : List ℕ) (n : Acceptance) (m : Mailbox OneRight) → ShownAt f s.end.0 m → Pushed f s ports n → Puts f s.end.0 m (named_envelope s n body ports)
-pushed_there f s ports body n m is p =
+-- an envelope that may be put on its line is a push
+accepted_there : (f : Facts) (s : Sender) (v : Envelope) (m : Mailbox OneRight) → ShownAt f s.end.0 m → MayPut f s v
+    → Leads s.end.0 (lines_of ((f.end s.end.0).peer)) m (push v ∷ []) (record (view f s.end.0) { accepted = f.accepted s.end.0 ++ v ∷ [] })
+accepted_there f s v m is p =
     let e : ℕ = s.end.0 in
-    let l : ℕ = s.line.0 in
+    let l : ℕ = v.line.0 in
     let k : ℕ = (f.line e l).stand in
-    let v : Envelope = named_envelope s n body ports in
-    let low : l < lines_of ((f.end e).peer) = line_there f s (ap is_some p.speaks) in
-    let y : Standing (lines_of ((f.end e).peer)) m l (f.line e l) = standing e _ _ _ _ _ (f.line e) _ _ m is l low in
+    let lines : ℕ = lines_of ((f.end e).peer) in
+    let low : l < lines = subst (λ i. i < lines) (sym p.line) p.there in
+    let y : Standing lines m l (f.line e l) = standing e (view f e) m is l low in
     let within : k < length m.gates = is.is_mailbox.stands_within l k y.stands in
     let many : length m.queues ≡ length m.gates = is.is_mailbox.queues in
     let there = got_there m.queues k (omega arith) in
     let q : Queue = there.0 in
-    let number : n.number ≡ length (q.put l) =
-    ap (λ (a : Acceptance). a.number) p.name ∙ counted l k (f.accepted e) ∙ ap (λ us. length (in_queue k us)) (sym (is.put l)) ∙ ap length (put_there e _ l k m q is.is_mailbox there.1)
-    in
-    let may : MayPush e k (lines_of ((f.end e).peer)) q v = record { named = record { end = refl; epoch = ap (λ (a : Acceptance). a.epoch) p.name; line = low }; number = number } in
-    let step : MailboxStep HasRight e (lines_of ((f.end e).peer)) m (push v) (with_queue m k (pushed q v)) =
-    pushes k y.gate q v y.stands y.is_gate (y.phase ∙ ap Some (is_inside_of (f.line e l).phase p.inside)) there.1 may
-    in (
-      with_queue m k (pushed q v),
-      step,
-      subst (λ ts. ShownWith f e ((f.end e).peer) ((f.end e).enabled) (f.line e) (f.accepted e ++ v ∷ []) ts (with_queue m k (pushed q v))) (append-nil (f.taken e))
-          (queue_shown e _ _ _ _ _ (f.line e) _ _ m is k (pushed q v) (v ∷ []) [] (step_kept e (lines_of ((f.end e).peer)) m (with_queue m k (pushed q v)) is.is_mailbox step) (push_grows e (lines_of ((f.end e).peer)) m is.is_mailbox k q v y.stands there.1)),
+    let after : Mailbox OneRight = with_queue m k (pushed q v) in
+    let counted_there : count_in_queue l k (f.accepted e) ≡ length (q.put l) = counted l k (f.accepted e) ∙ ap (λ us. length (in_queue k us)) (sym (is.put l)) ∙ ap length (put_there e lines m is.is_mailbox l k q there.1) in
+    let number : v.number ≡ length (q.put l) = p.number ∙ ap (λ i. count_in_queue i (f.line e i).stand (f.accepted e)) (sym p.line) ∙ counted_there in
+    let epoch : v.epoch ≡ k = p.epoch ∙ ap (λ i. (f.line e i).stand) (sym p.line) in
+    let may : MayPush e k lines q v = record { named = record { end = p.end; epoch = epoch; line = low }; number = number } in
+    let inside : (f.line e l).phase ≡ Inside = ap (λ i. (f.line e i).phase) p.line ∙ inside_of (phase_of_line f s) p.inside in
+    let step : MailboxStep HasRight e lines m (push v) after = pushes k y.gate q v y.stands y.is_gate (y.phase ∙ ap Some inside) there.1 may in
+    one_step e lines m after (push v) _ step
+    (subst (λ vs. IsShown e (record (view f e) { accepted = f.accepted e ++ v ∷ []; removed = vs }) after) (append-nil (f.taken e ++ f.discarded e))
+    (queue_shown e (view f e) m is k (pushed q v) (v ∷ []) [] (step_kept e lines m after is.is_mailbox step) (event_grows e lines m after _ is.is_mailbox step)))
+
+pub pushed_there : (f : Facts) (s : Sender) (ports : List EndId) (body : List ℕ) (n : Acceptance) (m : Mailbox OneRight) → ShownAt f s.end.0 m → Pushed f s ports n
+    → Leads s.end.0 (lines_of ((f.end s.end.0).peer)) m (push (named_envelope s n body ports) ∷ []) (record (view f s.end.0) { accepted = f.accepted s.end.0 ++ named_envelope s n body ports ∷ [] })
+pushed_there f s ports body n m is p = accepted_there f s (named_envelope s n body ports) m is (message_may f s ports body n p)
+
+-- the end with a notice, the last of its line, where the step is at this end
+abbrev pub with_notice : Facts → ℕ → Sender → Acceptance → Bool → View
+with_notice f e s n here = record (view f e) {
+  line = λ i. record { phase = (f.line e i).phase; stand = (f.line e i).stand; noticed = cond (here && eqb i s.line.0) true (f.line e i).noticed };
+  accepted = cond here (f.accepted e ++ named_notice s n ∷ []) (f.accepted e);
+}
+
+-- a mailbox doesn't show which lines put a notice
+pub noticed_there : (f : Facts) (s : Sender) (n : Acceptance) (m : Mailbox OneRight) → ShownAt f s.end.0 m → Noticed f s n
+    → Leads s.end.0 (lines_of ((f.end s.end.0).peer)) m (push (named_notice s n) ∷ []) (with_notice f s.end.0 s n true)
+noticed_there f s n m is p =
+    let done = accepted_there f s (named_notice s n) m is (notice_may f s n p) in
+    let shown : IsShown s.end.0 (record (view f s.end.0) { accepted = f.accepted s.end.0 ++ named_notice s n ∷ [] }) done.0 = done.2 in (
+      done.0,
+      done.1,
+      record {
+        is_mailbox = shown.is_mailbox;
+        gates = shown.gates;
+        put = shown.put;
+        got = shown.got;
+        flags = shown.flags;
+        given = shown.given;
+        stands = shown.stands;
+        phases = shown.phases;
+        taker_at = shown.taker_at;
+      },
     )
 
--- ---- Take
+-- ---- pops at the taker's queue
 
-abbrev pub Gets : Facts → ℕ → Mailbox OneRight → Envelope → Type 0
-Gets f e m v = (after : Mailbox OneRight) × MailboxStep HasRight e (lines_of ((f.end e).peer)) m (pop ((f.end e).taker_stand) (Some v)) after
-    × ShownWith f e ((f.end e).peer) ((f.end e).enabled) (f.line e) (f.accepted e) (f.taken e ++ v ∷ []) after
-
-pub taken_there : (f : Facts) (e : ℕ) (m : Mailbox OneRight) (v : Envelope) → ShownAt f e m → HoldsFirst m m.taker v → Gets f e m v
-taken_there f e m v is holds =
+-- one that finds an envelope, where nothing was discarded
+pub taken_there : (f : Facts) (e : ℕ) (m : Mailbox OneRight) (v : Envelope) → ShownAt f e m → f.discarded e ≡ [] → HoldsFirst m m.taker v
+    → Leads e (lines_of ((f.end e).peer)) m (pop ((f.end e).taker_stand) (Some v) ∷ []) (record (view f e) { removed = (f.taken e ++ v ∷ []) ++ f.discarded e })
+taken_there f e m v is kept holds =
     let lines : ℕ = lines_of ((f.end e).peer) in
     let after : Mailbox OneRight = with_queue m m.taker holds.rest in
-    let step : MailboxStep HasRight e lines m (pop m.taker (Some v)) after = takes holds.queue holds.rest v holds.is_queue holds.first in (
-      after,
-      subst (λ k. MailboxStep HasRight e lines m (pop k (Some v)) after) is.taker_at step,
-      subst (λ vs. ShownWith f e ((f.end e).peer) ((f.end e).enabled) (f.line e) vs (f.taken e ++ v ∷ []) after) (append-nil (f.accepted e))
-          (queue_shown e _ _ _ _ _ (f.line e) _ _ m is m.taker holds.rest [] (v ∷ []) (step_kept e lines m after is.is_mailbox step) (pop_grows e lines m is.is_mailbox m.taker holds.queue holds.rest v holds.is_queue holds.first)),
-    )
-
--- each queue keeps, line by line, what was put there
-abbrev Keeps : ℕ → List Queue → Type 0
-Keeps line qs = (k : ℕ) (q : Queue) → slice_get qs k ≡ Some q → by line (q.got ++ q.held) ≡ q.put line
-
-parts : (line : ℕ) (q : Queue) → by line (q.got ++ q.held) ≡ q.put line → length (q.put line) ≡ length (by line q.got) + length (by line q.held)
-parts line q h = ap length (sym h ∙ filter-append _ q.got q.held) ∙ length-append (by line q.got) (by line q.held)
-
-put_count : (line : ℕ) (q : Queue) (qs : List Queue) → length (flat_map (λ u. u.put line) (q ∷ qs)) ≡ length (q.put line) + length (flat_map (λ u. u.put line) qs)
-put_count line q qs = length-append (q.put line) (flat_map (λ u. u.put line) qs)
-
-got_count : (line : ℕ) (q : Queue) (qs : List Queue) → length (by line (flat_map (λ u. u.got) (q ∷ qs))) ≡ length (by line q.got) + length (by line (flat_map (λ u. u.got) qs))
-got_count line q qs = ap length (filter-append _ q.got (flat_map (λ u. u.got) qs)) ∙ length-append (by line q.got) (by line (flat_map (λ u. u.got) qs))
-
-no_more : (line : ℕ) (qs : List Queue) → Keeps line qs → length (by line (flat_map (λ q. q.got) qs)) ≤ length (flat_map (λ q. q.put line) qs)
-no_more line [] keeps = omega arith
-no_more line (q ∷ qs) keeps =
-    let first = parts line q (keeps zero q refl) in
-    let puts = put_count line q qs in
-    let gots = got_count line q qs in
-    let rest = no_more line qs (λ k u at. keeps (suc k) u at) in
-    omega arith
-
-is_empty : (vs : List Envelope) → length vs ≤ 0 → vs ≡ []
-is_empty [] h = refl
-is_empty (v ∷ vs) h = absurd (omega arith)
-
--- where as much was taken of a line as was put, no queue holds anything of it
-none_of_line : (line : ℕ) (qs : List Queue) → Keeps line qs → length (flat_map (λ q. q.put line) qs) ≤ length (by line (flat_map (λ q. q.got) qs)) → (k : ℕ) (q : Queue) → slice_get qs k ≡ Some q → by line q.held ≡ []
-none_of_line line [] keeps less k q at = none_got q at
-none_of_line line (p ∷ qs) keeps less zero q at =
-    let first = parts line p (keeps zero p refl) in
-    let puts = put_count line p qs in
-    let gots = got_count line p qs in
-    let rest = no_more line qs (λ j u there. keeps (suc j) u there) in
-    ap (λ (u : Queue). by line u.held) (sym (some_is p q at)) ∙ is_empty (by line p.held) (omega arith)
-none_of_line line (p ∷ qs) keeps less (suc k) q at =
-    let first = parts line p (keeps zero p refl) in
-    let puts = put_count line p qs in
-    let gots = got_count line p qs in
-    none_of_line line qs (λ j u there. keeps (suc j) u there) (omega arith) k q at
-
-nothing_held : (vs : List Envelope) → ((line : ℕ) → by line vs ≡ []) → vs ≡ []
-nothing_held [] none = refl
-nothing_held (v ∷ vs) none =
-    let first : by v.line.0 (v ∷ vs) ≡ v ∷ by v.line.0 vs = ap (λ b. cond b (v ∷ by v.line.0 vs) (by v.line.0 vs)) (eqb_same v.line.0) in
-    absurd (search (rules, sym first ∙ none v.line.0))
-
-pub drained_there : (f : Facts) (x : EndId) (m : Mailbox OneRight) → ShownAt f x.0 m → IsDrained f x → MailboxStep HasRight x.0 (lines_of ((f.end x.0).peer)) m (pop ((f.end x.0).taker_stand) None) m
-drained_there f x m is drained =
-    let within : m.taker < length m.gates = is.is_mailbox.taker_within in
-    let many : length m.queues ≡ length m.gates = is.is_mailbox.queues in
-    let there = got_there m.queues m.taker (omega arith) in
-    let q : Queue = there.0 in
-    let empty : q.held ≡ [] = nothing_held q.held (λ line.
-    let all : by line (got_from m) ≡ put_by m line = ap (by line) is.got ∙ drained.all line ∙ sym (is.put line) in
-    let less : length (put_by m line) ≤ length (by line (got_from m)) = let same : length (by line (got_from m)) ≡ length (put_by m line) = ap length all in omega arith in
-    none_of_line line m.queues (λ k u at. (is.is_mailbox.each_queue k u at).put line) less m.taker q there.1)
+    let step : MailboxStep HasRight e lines m (pop m.taker (Some v)) after = takes holds.queue holds.rest v holds.is_queue holds.first in
+    let last : (f.taken e ++ f.discarded e) ++ v ∷ [] ≡ (f.taken e ++ v ∷ []) ++ f.discarded e =
+    ap (λ us. (f.taken e ++ us) ++ v ∷ []) kept ∙ ap (λ us. us ++ v ∷ []) (append-nil (f.taken e)) ∙ sym (append-nil (f.taken e ++ v ∷ [])) ∙ ap (λ us. (f.taken e ++ v ∷ []) ++ us) (sym kept)
     in
-    subst (λ k. MailboxStep HasRight x.0 (lines_of ((f.end x.0).peer)) m (pop k None) m) is.taker_at (finds_none m.taker q there.1 (ap (pop_of q) empty))
+    let grown : IsShown e (record (view f e) { accepted = f.accepted e ++ []; removed = (f.taken e ++ f.discarded e) ++ v ∷ [] }) after =
+    queue_shown e (view f e) m is m.taker holds.rest [] (v ∷ []) (step_kept e lines m after is.is_mailbox step) (event_grows e lines m after _ is.is_mailbox step)
+    in
+    subst (λ k. Leads e lines m (pop k (Some v) ∷ []) (record (view f e) { removed = (f.taken e ++ v ∷ []) ++ f.discarded e })) is.taker_at
+    (one_step e lines m after (pop m.taker (Some v)) (record (view f e) { removed = (f.taken e ++ v ∷ []) ++ f.discarded e }) step
+    (subst (λ us. IsShown e (record (view f e) { accepted = us; removed = (f.taken e ++ v ∷ []) ++ f.discarded e }) after) (append-nil (f.accepted e))
+    (subst (λ us. IsShown e (record (view f e) { accepted = f.accepted e ++ []; removed = us }) after) last grown)))
+
+-- the taker's queue, where everything that was accepted there was taken
+pub taken_all : (f : Facts) (e : ℕ) (m : Mailbox OneRight) → ShownAt f e m → f.discarded e ≡ [] → ((l : ℕ) → in_queue (f.end e).taker_stand (by l (f.taken e)) ≡ in_queue (f.end e).taker_stand (by l (f.accepted e))) → HoldsNothing m m.taker
+taken_all f e m is kept all =
+    let t : ℕ = (f.end e).taker_stand in
+    holds_nothing e (lines_of ((f.end e).peer)) m is.is_mailbox m.taker is.is_mailbox.taker_within (λ l.
+    let got : got_from m ≡ f.taken e = is.got ∙ ap (λ us. f.taken e ++ us) kept ∙ append-nil (f.taken e) in
+    ap (λ k. in_queue k (by l (got_from m))) is.taker_at ∙ ap (λ us. in_queue t (by l us)) got ∙ all l ∙ sym (ap (in_queue t) (is.put l)) ∙ sym (ap (λ k. in_queue k (put_by m l)) is.taker_at))
+
+-- one that finds none
+pub none_there : (f : Facts) (e : ℕ) (m : Mailbox OneRight) → ShownAt f e m → HoldsNothing m m.taker → MailboxStep HasRight e (lines_of ((f.end e).peer)) m (pop ((f.end e).taker_stand) None) m
+none_there f e m is nothing = subst (λ k. MailboxStep HasRight e (lines_of ((f.end e).peer)) m (pop k None) m) is.taker_at (finds_none m.taker nothing.queue nothing.is_queue nothing.nothing)

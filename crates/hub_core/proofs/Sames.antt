@@ -1,6 +1,6 @@
 -- Histories that can't be told apart.
-use Rattle.std.proofs.Common.{◌≡◌, ℕ, Bool, true, false, cond, eqb, [], ◌∷◌, ◌++◌, refl, sym, ap, subst, ◌∙◌, inl, inr, rules, append_assoc}
-use Rattle.std.specs.Prelude.{◌&&◌, ◌⊎◌, not, is_some}
+use Rattle.std.proofs.Common.{◌≡◌, ℕ, Bool, true, false, cond, eqb, [], ◌∷◌, ◌++◌, refl, sym, ap, subst, ◌∙◌, inl, inr, rules, append_assoc, None}
+use Rattle.std.specs.Prelude.{◌&&◌, ◌⊎◌, not}
 use Rattle.std.proofs.lemmas.Bool.{false≢true}
 use Rattle.hub_core.specs.declared.line.Phase.{Phase}
 use Rattle.hub_core.specs.declared.line.Phase.TheVariants.{Out, Inside, Turned}
@@ -13,7 +13,7 @@ use Rattle.hub_core.specs.History.{Pair, History}
 use Rattle.hub_core.specs.Facts.{Facts, facts}
 use Rattle.hub_core.specs.Fits.{Answers, Fits}
 use Rattle.hub_core.specs.Legal.{LegalAfter, Same}
-use Rattle.hub_core.specs.Posting.{is_out, phase_of_line, poster}
+use Rattle.hub_core.specs.Posting.{is_out, phase_of_line, may_enter}
 use Rattle.hub_core.specs.Unchanged.{changes_nothing}
 use Rattle.hub_core.proofs.Lists.{both_of}
 use Rattle.hub_core.proofs.Nexts.{next, facts_next}
@@ -37,8 +37,13 @@ nothing_next f outcome.TooManyEnds a h = refl
 nothing_next f outcome.TooManyPorts a h = refl
 nothing_next f outcome.Disabled a h = refl
 nothing_next f outcome.Empty a h = refl
+nothing_next f outcome.Busy a h = refl
+nothing_next f outcome.TooManyMoves a h = refl
+nothing_next f (outcome.Clear None) a h = refl
 nothing_next f outcome.Closed (action.Start e) h = refl
 nothing_next f outcome.Closed (action.Take e) h = refl
+nothing_next f outcome.Closed (action.Adopt e a) h = refl
+nothing_next f outcome.Closed (action.Close e) h = refl
 nothing_next f _ _ h = absurd (false≢true h)
 
 -- a pair that changes nothing leaves the same
@@ -67,17 +72,18 @@ line_was_out f s x l out h =
 -- the facts after a turned poster has left
 turned_facts : (f : Facts) (s : Sender) (o : Outcome) → (o ≡ outcome.Closed) ⊎ (o ≡ outcome.Moved) → phase_of_line f s ≡ Out → next (next f (action.Enter s) o) (action.Leave s) outcome.Left ≡ f
 turned_facts f s o (inl is) out = rw is (λ i. record f {
-  line = λ x l. record { phase = line_again s Turned (f.line x l).phase x l (eqb x s.end.0 && eqb l s.line.0) (line_was_out f s x l out) i; stand = (f.line x l).stand };
+  line = λ x l. record { phase = line_again s Turned (f.line x l).phase x l (eqb x s.end.0 && eqb l s.line.0) (line_was_out f s x l out) i; stand = (f.line x l).stand; noticed = (f.line x l).noticed };
 })
 turned_facts f s o (inr is) out = rw is (λ i. record f {
-  line = λ x l. record { phase = line_again s Turned (f.line x l).phase x l (eqb x s.end.0 && eqb l s.line.0) (line_was_out f s x l out) i; stand = (f.line x l).stand };
+  line = λ x l. record { phase = line_again s Turned (f.line x l).phase x l (eqb x s.end.0 && eqb l s.line.0) (line_was_out f s x l out) i; stand = (f.line x l).stand; noticed = (f.line x l).noticed };
 })
 
 -- an Enter that was turned back found its line out
-entered_out : (usable out : Bool) (o p : Outcome) → (o ≡ outcome.NotNow → ⊥) → o ≡ cond (not (usable && out)) outcome.NotNow p → out ≡ true
-entered_out true true o p other h = refl
-entered_out true false o p other h = absurd (other h)
-entered_out false out o p other h = absurd (other h)
+entered_out : (may out noticed : Bool) (o p : Outcome) → (o ≡ outcome.NotNow → ⊥) → o ≡ cond (not (may && out && not noticed)) outcome.NotNow p → out ≡ true
+entered_out true true false o p other h = refl
+entered_out true true true o p other h = absurd (other h)
+entered_out true false noticed o p other h = absurd (other h)
+entered_out false out noticed o p other h = absurd (other h)
 
 not_refused : (o : Outcome) → (o ≡ outcome.Closed) ⊎ (o ≡ outcome.Moved) → o ≡ outcome.NotNow → ⊥
 not_refused o (inl is) h = cc
@@ -89,6 +95,6 @@ turned_same h s r q o turned fits =
     let a : Pair = (record { action = action.Enter s; memory_refused = r }, o) in
     let b : Pair = (record { action = action.Leave s; memory_refused = q }, outcome.Left) in
     let f : Facts = facts h in
-    let out : phase_of_line f s ≡ Out = out_of (phase_of_line f s) (entered_out (is_some (poster f s)) (is_out (phase_of_line f s)) o _ (not_refused o turned) fits) in
+    let out : phase_of_line f s ≡ Out = out_of (phase_of_line f s) (entered_out (may_enter f s) (is_out (phase_of_line f s)) (f.line s.end.0 s.line.0).noticed o _ (not_refused o turned) fits) in
     same_facts (h ++ a ∷ b ∷ []) h
     (ap facts (sym (append_assoc h (a ∷ []) (b ∷ []))) ∙ facts_next (h ++ a ∷ []) b ∙ ap (λ g. next g (action.Leave s) outcome.Left) (facts_next h a) ∙ turned_facts f s o turned out)

@@ -1,8 +1,8 @@
 -- Lines stay sound: what each pair that fits makes of them.
-use Rattle.std.proofs.Common.{◌≡◌, ℕ, suc, ◌<◌, ◌≤◌, Bool, true, false, cond, eqb, List, [], ◌∷◌, ◌++◌, length, map, Option, Some, None, refl, sym, ap, subst, ◌∙◌, inl, inr, arith, rules, append-nil, length-append}
-use Rattle.std.specs.Prelude.{◌&&◌, ◌⊎◌, is_some, option_and_then}
+use Rattle.std.proofs.Common.{◌≡◌, ℕ, suc, ◌<◌, ◌≤◌, Bool, true, false, cond, eqb, List, [], ◌∷◌, ◌++◌, length, map, Option, Some, None, refl, sym, ap, subst, ◌∙◌, inl, inr, arith, rules, append-nil, length-append, ◌+◌}
+use Rattle.std.specs.Prelude.{◌&&◌, ◌⊎◌, is_some, option_and_then, ◌||◌, not, nat_lt}
 use Rattle.std.specs.List.{filter, AllByRecursion, list_all}
-use Rattle.std.proofs.lemmas.Bool.{false≢true, ltb-false, ltb-true}
+use Rattle.std.proofs.lemmas.Bool.{false≢true, ltb-false, ltb-true, eqb-true, lt-ltb, eqb-false}
 use Rattle.std.proofs.lemmas.List.Elements.{filter-append}
 use Rattle.std.proofs.lemmas.List.{length-map, map-append}
 use Rattle.hub_envelope.specs.declared.ids.AgentId.{AgentId}
@@ -17,18 +17,22 @@ use Rattle.hub_core.specs.declared.outcome.Outcome.{Outcome}
 use Rattle.hub_core.specs.Facts.{LineNow, Facts}
 use Rattle.hub_core.specs.Fits.{Answers}
 use Rattle.hub_core.specs.Lines.{on_line}
-use Rattle.hub_core.specs.Accepted.{named_envelope}
-use Rattle.hub_core.specs.Sender.{by, count_in_queue}
-use Rattle.hub_core.specs.Posting.{holder, poster, is_distinct, may_travel}
+use Rattle.hub_core.specs.Accepted.{named_envelope, named_notice}
+use Rattle.hub_core.specs.Sender.{by, count_in_queue, Rises}
+use Rattle.hub_core.specs.Posting.{holder, poster, is_distinct, may_travel, is_out, phase_of_line, may_enter, hears_notice, is_here, is_inside}
 use Rattle.hub_core.specs.Numbers.{up_to, numbers}
-use Rattle.hub_core.specs.Sound.{no_line, lines_of, IsOfEnd, Rises, SoundLines}
-use Rattle.hub_core.proofs.Lists.{both_of, AllByRecursion-append, AllByRecursion-weaker}
-use Rattle.hub_core.proofs.Nexts.{next, Change, agent_made, channel_made, let_in, found_moved, found_closed, put, left, started, got}
-use Rattle.hub_core.proofs.Fitting.{Entered, let_in_of, found_moved_of, found_closed_of, is_retired, Pushed, pushed_of}
+use Rattle.hub_core.specs.Sound.{no_line, IsOfEnd, SoundLines}
+use Rattle.hub_core.proofs.Lists.{both_of, AllByRecursion-append, AllByRecursion-weaker, eqb_same}
+use Rattle.hub_core.proofs.Nexts.{next, Change, agent_made, channel_made, let_in, found_moved, found_closed, put, left, started, got, hopped, went_on, cleared, adopted, notice_put, end_closed, end_swept}
+use Rattle.hub_core.proofs.Fitting.{Entered, let_in_of, found_moved_of, found_closed_of, is_retired, Pushed, pushed_of, hopped_of, went_on_of, Clears, cleared_of, adopted_of, looked_where, none_of_any, Noticed, noticed_of}
+use Rattle.hub_core.specs.Made.{lines_of}
+use Rattle.std.proofs.lemmas.Bool.Decides.{nat_tests}
+use Rattle.hub_core.specs.Looking.{someone_at, is_away_at, is_settled}
+use Rattle.hub_core.specs.Taking.{IsLeft}
 
 -- what is said of the lines of an end
 abbrev pub LinesAt : Facts → ℕ → Type 0
-LinesAt f x = SoundLines x (lines_of ((f.end x).peer)) ((f.end x).newest) ((f.end x).taker_stand) ((f.end x).closed) (f.line x) (f.accepted x)
+LinesAt f x = SoundLines x (lines_of ((f.end x).peer)) ((f.end x).newest) ((f.end x).taker_stand) ((f.end x).closed) (f.line x) (f.clear x) (f.accepted x)
 
 -- ---- making
 
@@ -40,33 +44,38 @@ more_lines false true u w (Some q) = omega arith
 more_lines false false u w p = omega arith
 
 -- an end that has more lines now
-grown : (x n m newest taker : ℕ) (closed : Bool) (line : ℕ → LineNow) (vs : List Envelope) → n ≤ m → SoundLines x n newest taker closed line vs → SoundLines x m newest taker closed line vs
-grown x n m newest taker closed line vs more s = record {
+grown : (x n m newest taker : ℕ) (closed : Bool) (line : ℕ → LineNow) (clear : ℕ → Bool) (vs : List Envelope) → n ≤ m → SoundLines x n newest taker closed line clear vs → SoundLines x m newest taker closed line clear vs
+grown x n m newest taker closed line clear vs more s = record {
   stand = s.stand;
   taker_stand = s.taker_stand;
   none = λ l past. s.none l (omega arith);
   named = AllByRecursion-weaker (IsOfEnd x n line) (IsOfEnd x m line) (λ v is. record { end = is.end; has_line = let less : v.line.0 < n = is.has_line in omega arith; epoch = is.epoch; ports = is.ports }) vs s.named;
   rising = s.rising;
   numbered = s.numbered;
+  clear_within = s.clear_within;
   turned = s.turned;
   inside = s.inside;
+  inside_unclear = s.inside_unclear;
+  messages = s.messages;
+  last = s.last;
 }
 
 -- ---- phases
 
 -- the lines of an end, one line in this phase
 abbrev pub phased_line : Facts → Sender → Phase → ℕ → ℕ → LineNow
-phased_line f t p x l = record { phase = on_line x l t p (f.line x l).phase; stand = (f.line x l).stand }
+phased_line f t p x l = record { phase = on_line x l t p (f.line x l).phase; stand = (f.line x l).stand; noticed = (f.line x l).noticed }
 
 -- why a line may come to this phase
 record MayCome (f : Facts) (t : Sender) (p : Phase) : Type 0 where
   there : (p ≡ Out) ⊎ (t.line.0 < lines_of ((f.end t.end.0).peer))
   turned : p ≡ Turned → ((f.line t.end.0 t.line.0).stand < (f.end t.end.0).newest) ⊎ ((f.end t.end.0).closed ≡ true)
   inside : p ≡ Inside → (f.end t.end.0).taker_stand ≤ (f.line t.end.0 t.line.0).stand
+  unclear : p ≡ Inside → f.clear t.end.0 (f.line t.end.0 t.line.0).stand ≡ false
 
-none_phased : (f : Facts) (t : Sender) (p : Phase) (x l : ℕ) → MayCome f t p → f.line x l ≡ no_line → lines_of ((f.end x).peer) ≤ l → (b : Bool) → (eqb x t.end.0 && eqb l t.line.0) ≡ b → (let y : LineNow = record { phase = cond b p (f.line x l).phase; stand = (f.line x l).stand } in y ≡ no_line)
+none_phased : (f : Facts) (t : Sender) (p : Phase) (x l : ℕ) → MayCome f t p → f.line x l ≡ no_line → lines_of ((f.end x).peer) ≤ l → (b : Bool) → (eqb x t.end.0 && eqb l t.line.0) ≡ b → (let y : LineNow = record { phase = cond b p (f.line x l).phase; stand = (f.line x l).stand; noticed = (f.line x l).noticed } in y ≡ no_line)
 none_phased f t p x l may none past true is = elim may.there [
-  | inl out ↦ rw out (λ i. record { phase = Out; stand = (none i).stand })
+  | inl out ↦ rw out (λ i. record { phase = Out; stand = (none i).stand; noticed = (none i).noticed })
   | inr less ↦
       let both = both_of (eqb x t.end.0) (eqb l t.line.0) is in
       let here : x ≡ t.end.0 = search (rules, both.0) in
@@ -93,7 +102,15 @@ inside_phased f t p x l may s true is h =
     subst (λ y. (f.end y).taker_stand ≤ (f.line y l).stand) (sym here) (subst (λ k. (f.end t.end.0).taker_stand ≤ (f.line t.end.0 k).stand) (sym line) (may.inside h))
 inside_phased f t p x l may s false is h = s.inside l h
 
-phased : (f : Facts) (t : Sender) (p : Phase) (x : ℕ) → MayCome f t p → LinesAt f x → SoundLines x (lines_of ((f.end x).peer)) ((f.end x).newest) ((f.end x).taker_stand) ((f.end x).closed) (phased_line f t p x) (f.accepted x)
+unclear_phased : (f : Facts) (t : Sender) (p : Phase) (x l : ℕ) → MayCome f t p → LinesAt f x → (b : Bool) → (eqb x t.end.0 && eqb l t.line.0) ≡ b → cond b p (f.line x l).phase ≡ Inside → f.clear x (f.line x l).stand ≡ false
+unclear_phased f t p x l may s true is h =
+    let both = both_of (eqb x t.end.0) (eqb l t.line.0) is in
+    let here : x ≡ t.end.0 = search (rules, both.0) in
+    let line : l ≡ t.line.0 = search (rules, both.1) in
+    subst (λ y. f.clear y (f.line y l).stand ≡ false) (sym here) (subst (λ k. f.clear t.end.0 (f.line t.end.0 k).stand ≡ false) (sym line) (may.unclear h))
+unclear_phased f t p x l may s false is h = s.inside_unclear l h
+
+phased : (f : Facts) (t : Sender) (p : Phase) (x : ℕ) → MayCome f t p → LinesAt f x → SoundLines x (lines_of ((f.end x).peer)) ((f.end x).newest) ((f.end x).taker_stand) ((f.end x).closed) (phased_line f t p x) (f.clear x) (f.accepted x)
 phased f t p x may s = record {
   stand = s.stand;
   taker_stand = s.taker_stand;
@@ -101,8 +118,12 @@ phased f t p x may s = record {
   named = AllByRecursion-weaker (IsOfEnd x (lines_of ((f.end x).peer)) (f.line x)) (IsOfEnd x (lines_of ((f.end x).peer)) (phased_line f t p x)) (λ v is. record { end = is.end; has_line = is.has_line; epoch = is.epoch; ports = is.ports }) (f.accepted x) s.named;
   rising = s.rising;
   numbered = s.numbered;
+  clear_within = s.clear_within;
   turned = λ l h. turned_phased f t p x l may s (eqb x t.end.0 && eqb l t.line.0) refl h;
   inside = λ l h. inside_phased f t p x l may s (eqb x t.end.0 && eqb l t.line.0) refl h;
+  inside_unclear = λ l h. unclear_phased f t p x l may s (eqb x t.end.0 && eqb l t.line.0) refl h;
+  messages = s.messages;
+  last = s.last;
 }
 
 -- a line with a poster is one of its end
@@ -111,12 +132,31 @@ some_line true l None q is h = absurd (false≢true h)
 some_line true l (Some y) q is h = let zeroth : l ≡ 0 = search (rules, is) in omega arith
 some_line false l p q is h = absurd (false≢true h)
 
-pub line_there : (f : Facts) (s : Sender) → is_some (poster f s) ≡ true → s.line.0 < lines_of ((f.end s.end.0).peer)
-line_there f s h = some_line (eqb s.line.0 0) s.line.0 ((f.end s.end.0).peer) (holder f) refl h
+heard_line : (f : Facts) (l : ℕ) (p : Option ℕ) → (eqb l 0 && is_here (option_and_then (λ q. (f.end q).place) p)) ≡ true → l < lines_of p
+heard_line f l None h = absurd (false≢true ((both_of (eqb l 0) false h).1))
+heard_line f l (Some q) h = let zeroth : l ≡ 0 = eqb-true l 0 (both_of (eqb l 0) (is_here (f.end q).place) h).0 in omega arith
 
-may_enter : (f : Facts) (s : Sender) → Entered f s → is_retired f s ≡ false → LinesAt f s.end.0 → MayCome f s Inside
-may_enter f s e retired h = record {
-  there = inr (line_there f s e.usable);
+-- a line that may be entered is one of its end
+pub line_there : (f : Facts) (s : Sender) → may_enter f s ≡ true → s.line.0 < lines_of ((f.end s.end.0).peer)
+line_there f s h = elim (is_some (poster f s)) as (λ b. is_some (poster f s) ≡ b → (b || hears_notice f s) ≡ true → s.line.0 < lines_of ((f.end s.end.0).peer)) [
+  | true ↦ λ speaks _. some_line (eqb s.line.0 0) s.line.0 ((f.end s.end.0).peer) (holder f) refl speaks
+  | false ↦ λ _ hears. heard_line f s.line.0 ((f.end s.end.0).peer) hears
+] refl h
+
+not_true : (b : Bool) → (b ≡ true → ⊥) → b ≡ false
+not_true true h = absurd (h refl)
+not_true false h = refl
+
+-- an open queue that isn't retired isn't clear
+not_clear : (f : Facts) (s : Sender) → is_retired f s ≡ false → (f.end s.end.0).closed ≡ false → LinesAt f s.end.0 → f.clear s.end.0 (f.line s.end.0 s.line.0).stand ≡ false
+not_clear f s retired opened h = not_true (f.clear s.end.0 (f.line s.end.0 s.line.0).stand) (λ is. elim (h.clear_within (f.line s.end.0 s.line.0).stand is) [
+  | inl less ↦ absurd (search (rules, false≢true, sym retired ∙ lt-ltb (f.line s.end.0 s.line.0).stand (f.end s.end.0).newest less))
+  | inr both ↦ absurd (search (rules, false≢true, sym opened ∙ both.1))
+])
+
+may_come_in : (f : Facts) (s : Sender) → Entered f s → is_retired f s ≡ false → (f.end s.end.0).closed ≡ false → LinesAt f s.end.0 → MayCome f s Inside
+may_come_in f s e retired opened h = record {
+  there = inr (line_there f s e.may);
   turned = λ is. cc;
   inside = λ _.
       let stand : ℕ = (f.line s.end.0 s.line.0).stand in
@@ -124,24 +164,27 @@ may_enter f s e retired h = record {
       let taker : (f.end s.end.0).taker_stand ≤ newest = h.taker_stand in
       let reached : newest ≤ stand = ltb-false stand newest retired in
       omega arith;
+  unclear = λ _. not_clear f s retired opened h;
 }
 
 may_turn_moved : (f : Facts) (s : Sender) → Entered f s → is_retired f s ≡ true → MayCome f s Turned
 may_turn_moved f s e retired = record {
-  there = inr (line_there f s e.usable);
+  there = inr (line_there f s e.may);
   turned = λ _. inl (ltb-true (f.line s.end.0 s.line.0).stand (f.end s.end.0).newest retired);
   inside = λ is. cc;
+  unclear = λ is. cc;
 }
 
 may_turn_closed : (f : Facts) (s : Sender) → Entered f s → (f.end s.end.0).closed ≡ true → MayCome f s Turned
 may_turn_closed f s e closed = record {
-  there = inr (line_there f s e.usable);
+  there = inr (line_there f s e.may);
   turned = λ _. inr closed;
   inside = λ is. cc;
+  unclear = λ is. cc;
 }
 
 may_leave : (f : Facts) (s : Sender) → MayCome f s Out
-may_leave f s = record { there = inl refl; turned = λ is. cc; inside = λ is. cc }
+may_leave f s = record { there = inl refl; turned = λ is. cc; inside = λ is. cc; unclear = λ is. cc }
 
 -- ---- pushing
 
@@ -149,7 +192,7 @@ may_leave f s = record { there = inl refl; turned = λ is. cc; inside = λ is. c
 pub by_more : (line : ℕ) (ts : List Envelope) (v : Envelope) (b : Bool) → eqb v.line.0 line ≡ b → by line (ts ++ v ∷ []) ≡ by line ts ++ cond b (v ∷ []) []
 by_more line ts v b is = filter-append _ ts (v ∷ []) ∙ ap (λ c. by line ts ++ cond c (v ∷ []) []) is
 
-rises_more : (vs : List Envelope) (v : Envelope) → Rises vs → AllByRecursion (λ u. u.epoch ≤ v.epoch) vs → Rises (vs ++ v ∷ [])
+pub rises_more : (vs : List Envelope) (v : Envelope) → Rises vs → AllByRecursion (λ u. u.epoch ≤ v.epoch) vs → Rises (vs ++ v ∷ [])
 rises_more [] v r all = (tt, tt)
 rises_more (u ∷ vs) v r all = (
   AllByRecursion-append (λ (w : Envelope). u.epoch ≤ w.epoch) vs (v ∷ []) r.0 (all.0, tt),
@@ -202,45 +245,332 @@ numbered_put v line epoch vs old named true is =
     subst Numbered (sym (numbers_more line epoch vs v true is)) (numbered_more (numbers line epoch vs) v.number old count)
 numbered_put v line epoch vs old named false is = subst Numbered (sym (numbers_more line epoch vs v false is ∙ append-nil (numbers line epoch vs))) old
 
--- the envelope of a push that fits
-pub of_end : (f : Facts) (s : Sender) (ports : List EndId) (body : List ℕ) (n : Acceptance) → Pushed f s ports n → IsOfEnd s.end.0 (lines_of ((f.end s.end.0).peer)) (f.line s.end.0) (named_envelope s n body ports)
-of_end f s ports body n p = record {
+-- an envelope that may be put on a line now
+pub record MayPut (f : Facts) (s : Sender) (v : Envelope) : Type 0 where
+  pub end : v.end.0 ≡ s.end.0
+  pub line : v.line.0 ≡ s.line.0
+  pub epoch : v.epoch ≡ (f.line s.end.0 s.line.0).stand
+  pub number : v.number ≡ count_in_queue s.line.0 (f.line s.end.0 s.line.0).stand (f.accepted s.end.0)
+  pub ports : is_distinct v.ports ≡ true
+  pub there : s.line.0 < lines_of ((f.end s.end.0).peer)
+  pub inside : is_inside (phase_of_line f s) ≡ true
+  pub plain : (f.line s.end.0 s.line.0).noticed ≡ false
+
+pub message_may : (f : Facts) (s : Sender) (ports : List EndId) (body : List ℕ) (n : Acceptance) → Pushed f s ports n → MayPut f s (named_envelope s n body ports)
+message_may f s ports body n p = record {
   end = refl;
-  has_line = line_there f s (ap is_some p.speaks);
-  epoch = let same : n.epoch ≡ (f.line s.end.0 s.line.0).stand = ap (λ (m : Acceptance). m.epoch) p.name in omega arith;
+  line = refl;
+  epoch = ap (λ (m : Acceptance). m.epoch) p.name;
+  number = ap (λ (m : Acceptance). m.number) p.name;
   ports = (both_of (is_distinct ports) (list_all (may_travel f p.agent s) ports) p.good).0;
+  there = some_line (eqb s.line.0 0) s.line.0 ((f.end s.end.0).peer) (holder f) refl (ap is_some p.speaks);
+  inside = p.inside;
+  plain = p.plain;
 }
 
-put_at : (f : Facts) (s : Sender) (ports : List EndId) (body : List ℕ) (n : Acceptance) (x : ℕ) → Pushed f s ports n → LinesAt f x → (b : Bool) → eqb x s.end.0 ≡ b → SoundLines x (lines_of ((f.end x).peer)) ((f.end x).newest) ((f.end x).taker_stand) ((f.end x).closed) (f.line x) (cond b (f.accepted x ++ named_envelope s n body ports ∷ []) (f.accepted x))
-put_at f s ports body n x p h false is = h
-put_at f s ports body n x p h true is =
-    let v : Envelope = named_envelope s n body ports in
-    let here : x ≡ s.end.0 = search (rules, is) in
-    let mine : IsOfEnd x (lines_of ((f.end x).peer)) (f.line x) v = subst (λ y. IsOfEnd y (lines_of ((f.end y).peer)) (f.line y) v) (sym here) (of_end f s ports body n p) in
-    let epoch : v.epoch ≡ (f.line x v.line.0).stand = ap (λ (m : Acceptance). m.epoch) p.name ∙ ap (λ y. (f.line y s.line.0).stand) (sym here) in
+pub notice_may : (f : Facts) (s : Sender) (n : Acceptance) → Noticed f s n → MayPut f s (named_notice s n)
+notice_may f s n p = record {
+  end = refl;
+  line = refl;
+  epoch = ap (λ (m : Acceptance). m.epoch) p.name;
+  number = ap (λ (m : Acceptance). m.number) p.name;
+  ports = refl;
+  there = heard_line f s.line.0 ((f.end s.end.0).peer) p.hears;
+  inside = p.inside;
+  plain = p.plain;
+}
+
+-- of a line with messages alone, a notice put now is the last
+only_last : (vs before after : List Envelope) (v u : Envelope) → AllByRecursion (λ (w : Envelope). w.notice ≡ false) vs → vs ++ v ∷ [] ≡ before ++ u ∷ after → u.notice ≡ true → after ≡ []
+only_last [] [] after v u h is notice = cc
+only_last [] (b ∷ []) after v u h is notice = cc
+only_last [] (b ∷ c ∷ before) after v u h is notice = cc
+only_last (w ∷ vs) [] after v u h is notice = let same : w ≡ u = cc in absurd (false≢true (sym h.0 ∙ (ap (λ (x : Envelope). x.notice) same ∙ notice)))
+only_last (w ∷ vs) (b ∷ before) after v u h is notice = let rest : vs ++ v ∷ [] ≡ before ++ u ∷ after = cc in only_last vs before after v u h.1 rest notice
+
+last_put : (vs : List Envelope) (v : Envelope) (l : ℕ) → (v.line.0 ≡ l → AllByRecursion (λ (w : Envelope). w.notice ≡ false) (by l vs)) → ((before after : List Envelope) (u : Envelope) → by l vs ≡ before ++ u ∷ after → u.notice ≡ true → after ≡ []) → (before after : List Envelope) (u : Envelope) → by l (vs ++ v ∷ []) ≡ before ++ u ∷ after → u.notice ≡ true → after ≡ []
+last_put vs v l plain old before after u is notice = elim (eqb v.line.0 l) as (λ b. eqb v.line.0 l ≡ b → after ≡ []) [
+  | true ↦ λ mine. only_last (by l vs) before after v u (plain (eqb-true v.line.0 l mine)) (sym (by_more l vs v true mine) ∙ is) notice
+  | false ↦ λ other. old before after u (sym (by_more l vs v false other ∙ append-nil (by l vs)) ∙ is) notice
+] refl
+
+messages_put : (vs : List Envelope) (v : Envelope) (l : ℕ) → AllByRecursion (λ (w : Envelope). w.notice ≡ false) (by l vs) → (v.line.0 ≡ l → v.notice ≡ false) → AllByRecursion (λ (w : Envelope). w.notice ≡ false) (by l (vs ++ v ∷ []))
+messages_put vs v l old mine = elim (eqb v.line.0 l) as (λ b. eqb v.line.0 l ≡ b → AllByRecursion (λ (w : Envelope). w.notice ≡ false) (by l (vs ++ v ∷ []))) [
+  | true ↦ λ is. subst (AllByRecursion (λ (w : Envelope). w.notice ≡ false)) (sym (by_more l vs v true is)) (AllByRecursion-append (λ (w : Envelope). w.notice ≡ false) (by l vs) (v ∷ []) old (mine (eqb-true v.line.0 l is), tt))
+  | false ↦ λ is. subst (AllByRecursion (λ (w : Envelope). w.notice ≡ false)) (sym (by_more l vs v false is ∙ append-nil (by l vs))) old
+] refl
+
+-- the lines of the end, where at most what was noticed changes
+put_lines : (f : Facts) (s : Sender) (v : Envelope) (x : ℕ) → MayPut f s v → LinesAt f x → x ≡ s.end.0 → (line : ℕ → LineNow) → ((l : ℕ) → (line l).phase ≡ (f.line x l).phase) → ((l : ℕ) → (line l).stand ≡ (f.line x l).stand) → ((l : ℕ) → lines_of ((f.end x).peer) ≤ l → line l ≡ no_line)
+    → ((l : ℕ) → (line l).noticed ≡ false → ((f.line x l).noticed ≡ false) × (v.line.0 ≡ l → v.notice ≡ false))
+    → SoundLines x (lines_of ((f.end x).peer)) ((f.end x).newest) ((f.end x).taker_stand) ((f.end x).closed) line (f.clear x) (f.accepted x ++ v ∷ [])
+put_lines f s v x p h here line phases stands none noticed =
+    let n : ℕ = lines_of ((f.end x).peer) in
+    let epoch : v.epoch ≡ (f.line x v.line.0).stand = p.epoch ∙ ap (λ y. (f.line y s.line.0).stand) (sym here) ∙ ap (λ l. (f.line x l).stand) (sym p.line) in
     let number : v.number ≡ count_in_queue v.line.0 v.epoch (f.accepted x) =
-    ap (λ (m : Acceptance). m.number) p.name ∙ ap (λ k. count_in_queue s.line.0 k (f.accepted s.end.0)) (sym (ap (λ (m : Acceptance). m.epoch) p.name)) ∙ ap (λ y. count_in_queue s.line.0 n.epoch (f.accepted y)) (sym here) in
+    p.number ∙ ap (λ k. count_in_queue s.line.0 k (f.accepted s.end.0)) (sym p.epoch) ∙ ap (λ y. count_in_queue s.line.0 v.epoch (f.accepted y)) (sym here) ∙ ap (λ l. count_in_queue l v.epoch (f.accepted x)) (sym p.line) in
+    let plain : (f.line x s.line.0).noticed ≡ false = ap (λ y. (f.line y s.line.0).noticed) here ∙ p.plain in
+    let mine : IsOfEnd x n line v = record {
+      end = p.end ∙ sym here;
+      has_line = subst (λ y. v.line.0 < lines_of ((f.end y).peer)) (sym here) (subst (λ l. l < lines_of ((f.end s.end.0).peer)) (sym p.line) p.there);
+      epoch = let same : (line v.line.0).stand ≡ (f.line x v.line.0).stand = stands v.line.0 in omega arith;
+      ports = p.ports;
+    } in
     record {
-      stand = h.stand;
+      stand = λ l. subst (λ k. k ≤ (f.end x).newest) (sym (stands l)) (h.stand l);
       taker_stand = h.taker_stand;
-      none = h.none;
-      named = AllByRecursion-append (IsOfEnd x (lines_of ((f.end x).peer)) (f.line x)) (f.accepted x) (v ∷ []) h.named (mine, tt);
-      rising = λ l. rising_put x (lines_of ((f.end x).peer)) (f.line x) (f.accepted x) v l h.named epoch (h.rising l) (eqb v.line.0 l) refl;
+      none = none;
+      named = AllByRecursion-append (IsOfEnd x n line) (f.accepted x) (v ∷ [])
+          (AllByRecursion-weaker (IsOfEnd x n (f.line x)) (IsOfEnd x n line) (λ u is. record { end = is.end; has_line = is.has_line; epoch = subst (λ k. u.epoch ≤ k) (sym (stands u.line.0)) is.epoch; ports = is.ports }) (f.accepted x) h.named) (mine, tt);
+      rising = λ l. rising_put x n (f.line x) (f.accepted x) v l h.named epoch (h.rising l) (eqb v.line.0 l) refl;
       numbered = λ l k. numbered_put v l k (f.accepted x) (h.numbered l k) number (eqb v.line.0 l && eqb v.epoch k) refl;
-      turned = h.turned;
-      inside = h.inside;
+      clear_within = h.clear_within;
+      turned = λ l is. subst (λ k. (k < (f.end x).newest) ⊎ ((f.end x).closed ≡ true)) (sym (stands l)) (h.turned l (sym (phases l) ∙ is));
+      inside = λ l is. subst (λ k. (f.end x).taker_stand ≤ k) (sym (stands l)) (h.inside l (sym (phases l) ∙ is));
+      inside_unclear = λ l is. ap (f.clear x) (stands l) ∙ h.inside_unclear l (sym (phases l) ∙ is);
+      messages = λ l is. messages_put (f.accepted x) v l (h.messages l (noticed l is).0) (noticed l is).1;
+      last = λ l. last_put (f.accepted x) v l (λ same. h.messages l (ap (λ i. (f.line x i).noticed) (sym same ∙ p.line) ∙ plain)) (h.last l);
     }
+
+put_at : (f : Facts) (s : Sender) (v : Envelope) (x : ℕ) → MayPut f s v → v.notice ≡ false → LinesAt f x → (b : Bool) → eqb x s.end.0 ≡ b → SoundLines x (lines_of ((f.end x).peer)) ((f.end x).newest) ((f.end x).taker_stand) ((f.end x).closed) (f.line x) (f.clear x) (cond b (f.accepted x ++ v ∷ []) (f.accepted x))
+put_at f s v x p message h false is = h
+put_at f s v x p message h true is = put_lines f s v x p h (eqb-true x s.end.0 is) (f.line x) (λ l. refl) (λ l. refl) h.none (λ l plain. (plain, λ _. message))
+
+-- a line on which a notice was put
+abbrev pub told_line : Facts → Sender → ℕ → ℕ → LineNow
+told_line f t x l = record { phase = (f.line x l).phase; stand = (f.line x l).stand; noticed = on_line x l t true (f.line x l).noticed }
+
+told_none : (f : Facts) (s : Sender) (x l : ℕ) → s.line.0 < lines_of ((f.end x).peer) → lines_of ((f.end x).peer) ≤ l → f.line x l ≡ no_line → (c : Bool) → eqb l s.line.0 ≡ c → (let y : LineNow = record { phase = (f.line x l).phase; stand = (f.line x l).stand; noticed = cond c true (f.line x l).noticed } in y ≡ no_line)
+told_none f s x l low past none true is = absurd (let same : l ≡ s.line.0 = eqb-true l s.line.0 is in omega arith)
+told_none f s x l low past none false is = none
+
+told_false : (l m : ℕ) (old : Bool) → (c : Bool) → eqb l m ≡ c → cond c true old ≡ false → (old ≡ false) × (l ≡ m → ⊥)
+told_false l m old true is h = absurd (false≢true (sym h))
+told_false l m old false is h = (h, eqb-false l m is)
+
+notice_at : (f : Facts) (s : Sender) (v : Envelope) (x : ℕ) → MayPut f s v → LinesAt f x → (b : Bool) → eqb x s.end.0 ≡ b → SoundLines x (lines_of ((f.end x).peer)) ((f.end x).newest) ((f.end x).taker_stand) ((f.end x).closed) (λ l. record { phase = (f.line x l).phase; stand = (f.line x l).stand; noticed = cond (b && eqb l s.line.0) true (f.line x l).noticed }) (f.clear x) (cond b (f.accepted x ++ v ∷ []) (f.accepted x))
+notice_at f s v x p h false is = h
+notice_at f s v x p h true is =
+    let here : x ≡ s.end.0 = eqb-true x s.end.0 is in
+    let low : s.line.0 < lines_of ((f.end x).peer) = subst (λ y. s.line.0 < lines_of ((f.end y).peer)) (sym here) p.there in
+    put_lines f s v x p h here (λ l. record { phase = (f.line x l).phase; stand = (f.line x l).stand; noticed = cond (eqb l s.line.0) true (f.line x l).noticed }) (λ l. refl) (λ l. refl)
+    (λ l past. told_none f s x l low past (h.none l past) (eqb l s.line.0) refl)
+    (λ l plain. let both = told_false l s.line.0 (f.line x l).noticed (eqb l s.line.0) refl plain in (both.0, λ same. absurd (both.1 (sym same ∙ p.line))))
+
+-- ---- going on
+
+not_of : (b : Bool) → not b ≡ true → b ≡ false
+not_of true h = absurd (false≢true h)
+not_of false h = refl
+
+next_number : (n m : ℕ) → n ≤ m → (m ≡ n → ⊥) → n + 1 ≤ m
+next_number n m least other = grind (arith, nat_tests)
+
+-- a line at the next queue
+abbrev pub gone_line : Facts → Sender → ℕ → ℕ → LineNow
+gone_line f t x l = record { phase = (f.line x l).phase; stand = cond (eqb x t.end.0 && eqb l t.line.0) ((f.line x l).stand + 1) (f.line x l).stand; noticed = (f.line x l).noticed }
+
+-- a line that goes on is out, and isn't at the newest queue
+record GoesOn (f : Facts) (t : Sender) : Type 0 where
+  there : t.line.0 < lines_of ((f.end t.end.0).peer)
+  out : is_out (f.line t.end.0 t.line.0).phase ≡ true
+  below : (f.line t.end.0 t.line.0).stand < (f.end t.end.0).newest
+
+-- what is known of the line, said of the numbers that are found equal to its own
+on_it : (f : Facts) (t : Sender) (x l : ℕ) → GoesOn f t → (eqb x t.end.0 && eqb l t.line.0) ≡ true → (l < lines_of ((f.end x).peer)) × (is_out (f.line x l).phase ≡ true) × ((f.line x l).stand < (f.end x).newest)
+on_it f t x l g is =
+    let both = both_of (eqb x t.end.0) (eqb l t.line.0) is in
+    let here : x ≡ t.end.0 = search (rules, both.0) in
+    let line : l ≡ t.line.0 = search (rules, both.1) in
+    subst (λ y. (l < lines_of ((f.end y).peer)) × (is_out (f.line y l).phase ≡ true) × ((f.line y l).stand < (f.end y).newest)) (sym here)
+    (subst (λ k. (k < lines_of ((f.end t.end.0).peer)) × (is_out (f.line t.end.0 k).phase ≡ true) × ((f.line t.end.0 k).stand < (f.end t.end.0).newest)) (sym line) (g.there, g.out, g.below))
+
+away_not_out : (p q : Phase) → is_out p ≡ true → p ≡ q → is_out q ≡ false → ⊥
+away_not_out p q out same away = false≢true (sym away ∙ (sym (ap is_out same) ∙ out))
+
+module _ (f : Facts) (t : Sender) (x : ℕ) (g : GoesOn f t) (s : LinesAt f x) where
+  gone_stand : (l : ℕ) → (b : Bool) → (eqb x t.end.0 && eqb l t.line.0) ≡ b → cond b ((f.line x l).stand + 1) (f.line x l).stand ≤ (f.end x).newest
+  gone_stand l true is = let below : (f.line x l).stand < (f.end x).newest = (on_it f t x l g is).2 in omega arith
+  gone_stand l false is = s.stand l
+
+  gone_none : (l : ℕ) → f.line x l ≡ no_line → lines_of ((f.end x).peer) ≤ l → (b : Bool) → (eqb x t.end.0 && eqb l t.line.0) ≡ b → (let y : LineNow = record { phase = (f.line x l).phase; stand = cond b ((f.line x l).stand + 1) (f.line x l).stand; noticed = (f.line x l).noticed } in y ≡ no_line)
+  gone_none l none past true is = absurd (let low : l < lines_of ((f.end x).peer) = (on_it f t x l g is).0 in omega arith)
+  gone_none l none past false is = none
+
+  gone_epoch : (l k : ℕ) → k ≤ (f.line x l).stand → (b : Bool) → k ≤ cond b ((f.line x l).stand + 1) (f.line x l).stand
+  gone_epoch l k less true = omega arith
+  gone_epoch l k less false = less
+
+  gone_turned : (l : ℕ) → (b : Bool) → (eqb x t.end.0 && eqb l t.line.0) ≡ b → (f.line x l).phase ≡ Turned → (cond b ((f.line x l).stand + 1) (f.line x l).stand < (f.end x).newest) ⊎ ((f.end x).closed ≡ true)
+  gone_turned l true is h = absurd (away_not_out (f.line x l).phase Turned (on_it f t x l g is).1 h refl)
+  gone_turned l false is h = s.turned l h
+
+  gone_inside : (l : ℕ) → (b : Bool) → (eqb x t.end.0 && eqb l t.line.0) ≡ b → (f.line x l).phase ≡ Inside → (f.end x).taker_stand ≤ cond b ((f.line x l).stand + 1) (f.line x l).stand
+  gone_inside l true is h = absurd (away_not_out (f.line x l).phase Inside (on_it f t x l g is).1 h refl)
+  gone_inside l false is h = s.inside l h
+
+  gone_unclear : (l : ℕ) → (b : Bool) → (eqb x t.end.0 && eqb l t.line.0) ≡ b → (f.line x l).phase ≡ Inside → f.clear x (cond b ((f.line x l).stand + 1) (f.line x l).stand) ≡ false
+  gone_unclear l true is h = absurd (away_not_out (f.line x l).phase Inside (on_it f t x l g is).1 h refl)
+  gone_unclear l false is h = s.inside_unclear l h
+
+  gone : SoundLines x (lines_of ((f.end x).peer)) ((f.end x).newest) ((f.end x).taker_stand) ((f.end x).closed) (gone_line f t x) (f.clear x) (f.accepted x)
+  gone = record {
+    stand = λ l. gone_stand l (eqb x t.end.0 && eqb l t.line.0) refl;
+    taker_stand = s.taker_stand;
+    none = λ l past. gone_none l (s.none l past) past (eqb x t.end.0 && eqb l t.line.0) refl;
+    named = AllByRecursion-weaker (IsOfEnd x (lines_of ((f.end x).peer)) (f.line x)) (IsOfEnd x (lines_of ((f.end x).peer)) (gone_line f t x)) (λ v is. record { end = is.end; has_line = is.has_line; epoch = gone_epoch v.line.0 v.epoch is.epoch (eqb x t.end.0 && eqb v.line.0 t.line.0); ports = is.ports }) (f.accepted x) s.named;
+    rising = s.rising;
+    numbered = s.numbered;
+    clear_within = s.clear_within;
+    turned = λ l h. gone_turned l (eqb x t.end.0 && eqb l t.line.0) refl h;
+    inside = λ l h. gone_inside l (eqb x t.end.0 && eqb l t.line.0) refl h;
+    inside_unclear = λ l h. gone_unclear l (eqb x t.end.0 && eqb l t.line.0) refl h;
+    messages = s.messages;
+    last = s.last;
+  }
+
+-- ---- a queue more, the taker one further, and a queue that is clear
+
+-- nobody is inside a queue at which nobody is
+pub nobody_inside : (f : Facts) (x k l : ℕ) → LinesAt f x → someone_at f x k ≡ false → (f.line x l).phase ≡ Inside → (f.line x l).stand ≡ k → ⊥
+nobody_inside f x k l s none inside at = elim (nat_lt l (lines_of ((f.end x).peer))) as (λ b. nat_lt l (lines_of ((f.end x).peer)) ≡ b → ⊥) [
+  | true ↦ λ low.
+      let away : is_away_at k (f.line x l) ≡ false = none_of_any (λ i. is_away_at k (f.line x i)) (lines_of ((f.end x).peer)) l none (ltb-true l (lines_of ((f.end x).peer)) low) in
+      let there : is_away_at k (f.line x l) ≡ true = rw (inside, at) (eqb_same k) in
+      false≢true (sym away ∙ there)
+  | false ↦ λ high.
+      let out : Out ≡ Inside = sym (ap (λ (y : LineNow). y.phase) (s.none l (ltb-false l (lines_of ((f.end x).peer)) high))) ∙ inside in
+      absurd (search (rules, out))
+] refl
+
+-- a line inside is at none of the settled queues
+pub inside_unsettled : (f : Facts) (x k l : ℕ) → LinesAt f x → is_settled f x k ≡ true → (f.line x l).phase ≡ Inside → (f.line x l).stand ≡ k → ⊥
+inside_unsettled f x k l s settled inside at = elim (f.clear x k) as (λ b. f.clear x k ≡ b → (b || not (someone_at f x k)) ≡ true → ⊥) [
+  | true ↦ λ clear _. false≢true (sym (s.inside_unclear l inside) ∙ (ap (f.clear x) at ∙ clear))
+  | false ↦ λ _ none. nobody_inside f x k l s (not_of (someone_at f x k) none) inside at
+] refl settled
+
+went : (f : Facts) (e : EndId) (x : ℕ) → LinesAt f x → IsLeft f e → is_settled f e.0 (f.end e.0).taker_stand ≡ true → (b : Bool) → eqb x e.0 ≡ b → SoundLines x (lines_of ((f.end x).peer)) ((f.end x).newest) (cond b ((f.end x).taker_stand + 1) (f.end x).taker_stand) ((f.end x).closed) (f.line x) (f.clear x) (f.accepted x)
+went f e x s empty settled false is = s
+went f e x s empty settled true is =
+    let here : x ≡ e.0 = eqb-true x e.0 is in
+    let low : (f.end x).taker_stand < (f.end x).newest = subst (λ y. (f.end y).taker_stand < (f.end y).newest) (sym here) empty.retired in
+    let done : is_settled f x (f.end x).taker_stand ≡ true = subst (λ y. is_settled f y (f.end y).taker_stand ≡ true) (sym here) settled in
+    record {
+      stand = s.stand;
+      taker_stand = omega arith;
+      none = s.none;
+      named = s.named;
+      rising = s.rising;
+      numbered = s.numbered;
+      clear_within = s.clear_within;
+      turned = s.turned;
+      inside = λ l h.
+          let reached : (f.end x).taker_stand ≤ (f.line x l).stand = s.inside l h in
+          next_number (f.end x).taker_stand (f.line x l).stand reached (λ at. inside_unsettled f x (f.end x).taker_stand l s done h at);
+      inside_unclear = s.inside_unclear;
+      messages = s.messages;
+      last = s.last;
+    }
+
+longer : (f : Facts) (e : EndId) (x : ℕ) → LinesAt f x → (f.end e.0).closed ≡ false → (b : Bool) → eqb x e.0 ≡ b → SoundLines x (lines_of ((f.end x).peer)) (cond b ((f.end x).newest + 1) (f.end x).newest) ((f.end x).taker_stand) ((f.end x).closed) (f.line x) (f.clear x) (f.accepted x)
+longer f e x s opened false is = s
+longer f e x s opened true is =
+    let here : x ≡ e.0 = eqb-true x e.0 is in
+    let still : (f.end x).closed ≡ false = ap (λ y. (f.end y).closed) here ∙ opened in
+    record {
+      stand = λ l. let within : (f.line x l).stand ≤ (f.end x).newest = s.stand l in omega arith;
+      taker_stand = let within : (f.end x).taker_stand ≤ (f.end x).newest = s.taker_stand in omega arith;
+      none = s.none;
+      named = s.named;
+      rising = s.rising;
+      numbered = s.numbered;
+      clear_within = λ k h. elim (s.clear_within k h) [
+        | inl less ↦ inl (omega arith)
+        | inr both ↦ absurd (search (rules, false≢true, sym still ∙ both.1))
+      ];
+      turned = λ l h. elim (s.turned l h) [
+        | inl less ↦ inl (let before : (f.line x l).stand < (f.end x).newest = less in omega arith)
+        | inr closed ↦ absurd (search (rules, false≢true, sym still ∙ closed))
+      ];
+      inside = s.inside;
+      inside_unclear = s.inside_unclear;
+      messages = s.messages;
+      last = s.last;
+    }
+
+-- the queue k of the end x is clear now
+clear_at : (f : Facts) (x k : ℕ) → LinesAt f x → Clears f x k → (i : ℕ) → (c : Bool) → eqb i k ≡ c → cond c true (f.clear x i) ≡ true → (i < (f.end x).newest) ⊎ ((i ≡ (f.end x).newest) × ((f.end x).closed ≡ true))
+clear_at f x k s w i true is h =
+    subst (λ j. (j < (f.end x).newest) ⊎ ((j ≡ (f.end x).newest) × ((f.end x).closed ≡ true))) (sym (eqb-true i k is))
+    (looked_where (f.end x).taker_stand (f.end x).newest k (f.end x).closed s.taker_stand w.looks.below)
+clear_at f x k s w i false is h = s.clear_within i h
+
+clear_inside : (f : Facts) (x k l : ℕ) → LinesAt f x → Clears f x k → (f.line x l).phase ≡ Inside → (c : Bool) → eqb (f.line x l).stand k ≡ c → cond c true (f.clear x (f.line x l).stand) ≡ false
+clear_inside f x k l s w inside true is = absurd (nobody_inside f x k l s w.nobody inside (eqb-true (f.line x l).stand k is))
+clear_inside f x k l s w inside false is = s.inside_unclear l inside
+
+cleared_end : (f : Facts) (e : EndId) (k x : ℕ) → LinesAt f x → Clears f e.0 k → (b : Bool) → eqb x e.0 ≡ b → SoundLines x (lines_of ((f.end x).peer)) ((f.end x).newest) ((f.end x).taker_stand) ((f.end x).closed) (f.line x) (λ i. cond (b && eqb i k) true (f.clear x i)) (f.accepted x)
+cleared_end f e k x s w false is = s
+cleared_end f e k x s w true is =
+    let here : x ≡ e.0 = eqb-true x e.0 is in
+    let mine : Clears f x k = subst (λ y. Clears f y k) (sym here) w in
+    record {
+      stand = s.stand;
+      taker_stand = s.taker_stand;
+      none = s.none;
+      named = s.named;
+      rising = s.rising;
+      numbered = s.numbered;
+      clear_within = λ i h. clear_at f x k s mine i (eqb i k) refl h;
+      turned = s.turned;
+      inside = s.inside;
+      inside_unclear = λ l h. clear_inside f x k l s mine h (eqb (f.line x l).stand k) refl;
+      messages = s.messages;
+      last = s.last;
+    }
+
+-- ---- closing
+
+shut : (f : Facts) (e : EndId) (x : ℕ) → LinesAt f x → (b : Bool) → SoundLines x (lines_of ((f.end x).peer)) ((f.end x).newest) ((f.end x).taker_stand) (cond b true (f.end x).closed) (f.line x) (f.clear x) (f.accepted x)
+shut f e x s false = s
+shut f e x s true = record {
+  stand = s.stand;
+  taker_stand = s.taker_stand;
+  none = s.none;
+  named = s.named;
+  rising = s.rising;
+  numbered = s.numbered;
+  clear_within = λ k h. elim (s.clear_within k h) [
+    | inl less ↦ inl less
+    | inr both ↦ inr (both.0, refl)
+  ];
+  turned = λ l h. inr refl;
+  inside = s.inside;
+  inside_unclear = s.inside_unclear;
+  messages = s.messages;
+  last = s.last;
+}
 
 -- ---- every pair that changes something
 
 pub lines_next : (f : Facts) {a : Action} (refused : Bool) {o : Outcome} → ((x : ℕ) → LinesAt f x) → Answers f a refused o → Change a o → (x : ℕ) → LinesAt (next f a o) x
 lines_next f refused h fits (agent_made n) x = h x
 lines_next f refused h fits (channel_made a e e') x =
-    grown x (lines_of ((f.end x).peer)) _ _ _ _ (f.line x) (f.accepted x) (more_lines (eqb x e.0) (eqb x e'.0) e'.0 e.0 ((f.end x).peer)) (h x)
-lines_next f refused h fits (let_in s) x = let r = let_in_of f s fits in phased f s Inside x (may_enter f s r.0 r.1 (h s.end.0)) (h x)
+    grown x (lines_of ((f.end x).peer)) _ _ _ _ (f.line x) (f.clear x) (f.accepted x) (more_lines (eqb x e.0) (eqb x e'.0) e'.0 e.0 ((f.end x).peer)) (h x)
+lines_next f refused h fits (let_in s) x = let r = let_in_of f s fits in phased f s Inside x (may_come_in f s r.0 r.1 r.2 (h s.end.0)) (h x)
 lines_next f refused h fits (found_moved s) x = let r = found_moved_of f s fits in phased f s Turned x (may_turn_moved f s r.0 r.1) (h x)
-lines_next f refused h fits (found_closed s) x = let r = found_closed_of f s fits in phased f s Turned x (may_turn_closed f s r.0 r.1) (h x)
-lines_next f refused h fits (put s ports body n) x = put_at f s ports.items body n x (pushed_of f s ports.items refused n fits) (h x) (eqb x s.end.0) refl
+lines_next f refused h fits (found_closed s) x = let r = found_closed_of f s fits in phased f s Turned x (may_turn_closed f s r.0 r.2) (h x)
+lines_next f refused h fits (put s ports body n) x = put_at f s (named_envelope s n body ports.items) x (message_may f s ports.items body n (pushed_of f s ports.items refused n fits)) refl (h x) (eqb x s.end.0) refl
+lines_next f refused h fits (notice_put s n) x = notice_at f s (named_notice s n) x (notice_may f s n (noticed_of f s refused n fits)) (h x) (eqb x s.end.0) refl
 lines_next f refused h fits (left s) x = phased f s Out x (may_leave f s) (h x)
+lines_next f refused h fits (hopped s k) x =
+    let r = hopped_of f s k fits in
+    gone f s x (record { there = line_there f s r.may; out = r.out; below = ltb-true (f.line s.end.0 s.line.0).stand (f.end s.end.0).newest r.retired }) (h x)
 lines_next f refused h fits (started e) x = h x
 lines_next f refused h fits (got e v) x = h x
+lines_next f refused h fits (went_on e) x = let served = went_on_of f e fits in went f e x (h x) served.serves.0 served.serves.1 (eqb x e.0) refl
+lines_next f refused h fits (cleared e k) x = cleared_end f e k x (h x) (cleared_of f e k fits) (eqb x e.0) refl
+lines_next f refused h fits (adopted e a k) x = longer f e x (h x) (adopted_of f e a refused k fits).is_open (eqb x e.0) refl
+lines_next f refused h fits (end_closed e) x = shut f e x (h x) (eqb x e.0)
+lines_next f refused h fits (end_swept e vs) x = h x

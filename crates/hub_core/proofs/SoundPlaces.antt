@@ -1,15 +1,14 @@
--- Places stay sound; and whoever is away keeps the line.
+-- Places stay sound.
 use Rattle.std.proofs.Common.{◌≡◌, ℕ, suc, ◌+◌, ◌<◌, ◌≤◌, Bool, true, false, cond, eqb, List, [], ◌∷◌, ◌++◌, Option, Some, None, refl, sym, ap, subst, ◌∙◌, arith, rules}
-use Rattle.std.specs.Prelude.{◌&&◌, ◌||◌, not, is_some, option_and_then, nat_le}
+use Rattle.std.specs.Prelude.{◌&&◌, ◌||◌, is_some, nat_le}
 use Rattle.std.specs.Prelude.{Vec}
 use Rattle.std.specs.declared.alloc.Global.{Global}
-use Rattle.std.specs.List.{AllByRecursion, list_all}
 use Rattle.std.proofs.lemmas.Bool.{false≢true, ne_eqb, eqb-true, leb-true, leb-false}
 use Rattle.hub_envelope.specs.declared.ids.AgentId.{AgentId}
 use Rattle.hub_envelope.specs.declared.ids.EndId.{EndId}
 use Rattle.hub_envelope.specs.declared.envelope.Envelope.{Envelope}
 use Rattle.hub_core.specs.declared.end.Place.{Place}
-use Rattle.hub_core.specs.declared.end.Place.TheVariants.{With, InFlight, Arrived}
+use Rattle.hub_core.specs.declared.end.Place.TheVariants.{With, InFlight, Arrived, Swept, Gone}
 use Rattle.hub_core.specs.declared.line.Phase.{Phase}
 use Rattle.hub_core.specs.declared.line.Phase.TheVariants.{Out, Inside, Turned}
 use Rattle.hub_core.specs.declared.sender.Sender.{Sender}
@@ -18,203 +17,18 @@ use Rattle.hub_core.specs.declared.step.Action.TheVariants as action
 use Rattle.hub_core.specs.declared.outcome.Acceptance.{Acceptance}
 use Rattle.hub_core.specs.declared.outcome.Outcome.{Outcome}
 use Rattle.hub_core.specs.declared.outcome.Outcome.TheVariants as outcome
-use Rattle.hub_core.specs.Facts.{EndNow, LineNow, Facts}
+use Rattle.hub_core.specs.Facts.{EndNow, Facts}
 use Rattle.hub_core.specs.Fits.{Answers}
-use Rattle.hub_core.specs.Place.{names, arrived}
-use Rattle.hub_core.specs.Accepted.{named_envelope}
-use Rattle.hub_core.specs.Sender.{by, Prefix}
-use Rattle.hub_core.specs.Posting.{running_at, holder, poster, phase_of_line, is_out, is_distinct, is_with, own_poster_out, is_at, may_travel}
+use Rattle.hub_core.specs.Place.{names, arrived, is_named}
+use Rattle.hub_core.specs.Accepted.{named_envelope, named_notice}
+use Rattle.hub_core.specs.Posting.{poster, is_out, may_enter, hears_notice, is_here}
 use Rattle.hub_core.specs.Taking.{IsNext}
-use Rattle.hub_core.specs.Sound.{no_end, lines_of, IsOfEnd, total, naming, flights, SoundPlaces, Sound}
+use Rattle.hub_core.specs.Sound.{no_end, total, naming, flights, SoundPlaces, Sound, is_gone}
 use Rattle.hub_core.proofs.Lists.{both_of, eqb_same}
-use Rattle.hub_core.proofs.Totals.{total_less, total_more, count, bit, count_more, count_lines}
-use Rattle.hub_core.proofs.Nexts.{next, Change, agent_made, channel_made, let_in, found_moved, found_closed, put, left, started, got}
-use Rattle.hub_core.proofs.Fitting.{new_agent, new_ends, let_in_of, found_moved_of, found_closed_of, Pushed, pushed_of, started_of, got_of}
-use Rattle.hub_core.proofs.SoundLines.{LinesAt}
-use Rattle.hub_core.proofs.SoundWaiting.{WaitingAt, got_prefix}
-
--- ---- ends that were not made
-
--- an end of which something is known was made
-made_of : (f : Facts) (x : ℕ) → ((y : ℕ) → f.ends ≤ y → f.end y ≡ no_end) → (f.end x ≡ no_end → ⊥) → x < f.ends
-made_of f x none known = elim (nat_le f.ends x) as (λ b. nat_le f.ends x ≡ b → x < f.ends) [
-  | true ↦ λ past. absurd (known (none x (leb-true f.ends x past)))
-  | false ↦ λ below. leb-false f.ends x below
-] refl
-
-pub placed_made : (f : Facts) (x : ℕ) (p : Place) → SoundPlaces f → (f.end x).place ≡ Some p → x < f.ends
-placed_made f x p s is = made_of f x s.ends (λ none. absurd (search (rules, sym (ap (λ (e : EndNow). e.place) none) ∙ is)))
-
-pub entangled_made : (f : Facts) (x y : ℕ) → SoundPlaces f → (f.end x).peer ≡ Some y → x < f.ends
-entangled_made f x y s is = made_of f x s.ends (λ none. absurd (search (rules, sym (ap (λ (e : EndNow). e.peer) none) ∙ is)))
-
-no_lines : (x : ℕ) (line : ℕ → LineNow) (vs : List Envelope) → AllByRecursion (IsOfEnd x 0 line) vs → vs ≡ []
-no_lines x line [] h = refl
-no_lines x line (v ∷ vs) h = absurd (let none : v.line.0 < 0 = h.0.has_line in omega arith)
-
-pub nothing_accepted : (f : Facts) (x : ℕ) → LinesAt f x → f.end x ≡ no_end → f.accepted x ≡ []
-nothing_accepted f x h none = no_lines x (f.line x) (f.accepted x) (subst (λ p. AllByRecursion (IsOfEnd x (lines_of p) (f.line x)) (f.accepted x)) (ap (λ (e : EndNow). e.peer) none) h.named)
-
-no_prefix : (ts : List Envelope) → ((l : ℕ) → Prefix (by l ts) []) → ts ≡ []
-no_prefix [] h = refl
-no_prefix (t ∷ ts) h =
-    let p : Prefix (by t.line.0 (t ∷ ts)) [] = h t.line.0 in
-    let first : by t.line.0 (t ∷ ts) ≡ t ∷ by t.line.0 ts = ap (λ b. cond b (t ∷ by t.line.0 ts) (by t.line.0 ts)) (eqb_same t.line.0) in
-    let none : [] ≡ t ∷ (by t.line.0 ts ++ p.0) = p.1 ∙ ap (λ us. us ++ p.0) first in
-    absurd (search (rules, none))
-
-pub nothing_taken : (f : Facts) (x : ℕ) → WaitingAt f x → f.accepted x ≡ [] → f.taken x ≡ []
-nothing_taken f x h none = no_prefix (f.taken x) (λ l. subst (λ vs. Prefix (by l (f.taken x)) (by l vs)) none (h.prefix l))
-
--- ---- posters
-
--- what a poster that is there says: the line is line 0, and the agent has the peer and runs
-pub record Speaks (f : Facts) (s : Sender) : Type 0 where
-  pub line : s.line.0 ≡ 0
-  pub peer : ℕ
-  pub entangled : (f.end s.end.0).peer ≡ Some peer
-  pub agent : AgentId
-  pub has : (f.end peer).place ≡ Some (With agent)
-  pub runs : (f.agent agent.0).runs ≡ true
-
-pub runs_there : (f : Facts) (p : Option Place) → is_some (running_at (λ a. (f.agent a).runs) p) ≡ true → (a : AgentId) × (p ≡ Some (With a)) × ((f.agent a.0).runs ≡ true)
-runs_there f (Some (With a)) h = (a, refl, elim ((f.agent a.0).runs) as (λ b. is_some (cond b (Some a) None) ≡ true → b ≡ true) [ true ↦ λ _. refl | false ↦ λ no. absurd (false≢true no) ] h)
-runs_there f (Some InFlight) h = absurd (false≢true h)
-runs_there f (Some (Arrived a)) h = absurd (false≢true h)
-runs_there f None h = absurd (false≢true h)
-
-speaks_by : (f : Facts) (s : Sender) (first : Bool) (p : Option ℕ) → eqb s.line.0 0 ≡ first → (f.end s.end.0).peer ≡ p → is_some (cond first (option_and_then (holder f) p) None) ≡ true → Speaks f s
-speaks_by f s false p line is h = absurd (false≢true h)
-speaks_by f s true None line is h = absurd (false≢true h)
-speaks_by f s true (Some q) line is h =
-    let there = runs_there f (f.end q).place h in
-    record { line = search (rules, line); peer = q; entangled = is; agent = there.0; has = there.1; runs = there.2 }
-
-pub speaks_of : (f : Facts) (s : Sender) → is_some (poster f s) ≡ true → Speaks f s
-speaks_of f s h = speaks_by f s (eqb s.line.0 0) ((f.end s.end.0).peer) refl refl h
-
--- the poster, by what it is read off
-poster_as : (g : Facts) (s : Sender) (q : ℕ) (a : AgentId) → s.line.0 ≡ 0 → (g.end s.end.0).peer ≡ Some q → (g.end q).place ≡ Some (With a) → (g.agent a.0).runs ≡ true → poster g s ≡ Some a
-poster_as g s q a line peer place runs = rw (line, peer, place, runs) refl
-
-pub poster_is : (f : Facts) (s : Sender) (k : Speaks f s) → poster f s ≡ Some k.agent
-poster_is f s k = poster_as f s k.peer k.agent k.line k.entangled k.has k.runs
-
--- ---- ports that travel
-
-with_agent : (a : AgentId) (p : Option Place) → is_with a p ≡ true → p ≡ Some (With a)
-with_agent a (Some (With b)) h = let same : a.0 ≡ b.0 = search (rules, h) in ap (λ n. Some (With (record { 0 = n }))) (sym same)
-with_agent a (Some InFlight) h = absurd (false≢true h)
-with_agent a (Some (Arrived b)) h = absurd (false≢true h)
-with_agent a None h = absurd (false≢true h)
-
--- a port of a good list has its own line out and is with the agent
-pub travels : (f : Facts) (a : AgentId) (s : Sender) (x : ℕ) (ports : List EndId) → list_all (may_travel f a s) ports ≡ true → names ports x ≡ true → ((f.end x).place ≡ Some (With a)) × (own_poster_out f ((f.end x).peer) ≡ true)
-travels f a s x [] all named = absurd (false≢true named)
-travels f a s x (p ∷ ps) all named = elim (eqb p.0 x) as (λ b. eqb p.0 x ≡ b → (b || names ps x) ≡ true → ((f.end x).place ≡ Some (With a)) × (own_poster_out f ((f.end x).peer) ≡ true)) [
-  | true ↦ λ t _.
-      let same : p.0 ≡ x = search (rules, t) in
-      let tests = both_of (may_travel f a s p) (list_all (may_travel f a s) ps) all in
-      let first = both_of (is_with a (f.end p.0).place && own_poster_out f (f.end p.0).peer && not (eqb p.0 s.end.0)) (not (is_at p.0 (f.end s.end.0).peer)) tests.0 in
-      let second = both_of (is_with a (f.end p.0).place && own_poster_out f (f.end p.0).peer) (not (eqb p.0 s.end.0)) first.0 in
-      let third = both_of (is_with a (f.end p.0).place) (own_poster_out f (f.end p.0).peer) second.0 in
-      subst (λ y. ((f.end y).place ≡ Some (With a)) × (own_poster_out f ((f.end y).peer) ≡ true)) same (with_agent a (f.end p.0).place third.0, third.1)
-  | false ↦ λ t later. travels f a s x ps (both_of (may_travel f a s p) (list_all (may_travel f a s) ps) all).1 later
-] refl named
-
-pub all_good : (f : Facts) (s : Sender) (ports : List EndId) (n : Acceptance) → (p : Pushed f s ports n) → list_all (may_travel f p.agent s) ports ≡ true
-all_good f s ports n p = (both_of (is_distinct ports) (list_all (may_travel f p.agent s) ports) p.good).1
-
--- ---- flights
-
-flying : (p : Option Place) → 1 ≤ flights p → p ≡ Some InFlight
-flying (Some InFlight) h = refl
-flying (Some (With a)) h = absurd (omega arith)
-flying (Some (Arrived a)) h = absurd (omega arith)
-flying None h = absurd (omega arith)
-
--- a take that fits names ports that are in flight
-pub taken_flies : (f : Facts) (e : EndId) (v : Envelope) (x : ℕ) → Sound f → IsNext f e v → e.0 < f.ends → names v.ports x ≡ true → (f.end x).place ≡ Some InFlight
-taken_flies f e v x s n made named =
-    let P : Envelope → Bool = λ u. names u.ports x in
-    let more : count P (f.taken e.0 ++ v ∷ []) ≡ count P (f.taken e.0) + 1 = count_more P (f.taken e.0) v ∙ ap (λ b. count P (f.taken e.0) + bit b) named in
-    let within : count P (f.taken e.0 ++ v ∷ []) ≤ count P (f.accepted e.0) = count_lines P (f.taken e.0 ++ v ∷ []) (f.accepted e.0) (got_prefix f e v n (s.waiting e.0)) in
-    let w : ℕ → ℕ = λ d. naming x (f.taken d) in
-    let u : ℕ → ℕ = λ d. naming x (f.accepted d) in
-    let top : ℕ → ℕ = λ d. cond (eqb d e.0) (naming x (f.taken d) + 1) (naming x (f.taken d)) in
-    let grows : total top f.ends ≡ total w f.ends + 1 = total_more w top f.ends e.0 1 made (ap (λ b. cond b (naming x (f.taken e.0) + 1) (naming x (f.taken e.0))) (eqb_same e.0)) (λ d other. ap (λ b. cond b (naming x (f.taken d) + 1) (naming x (f.taken d))) (ne_eqb d e.0 other)) in
-    let under : total top f.ends ≤ total u f.ends = total_less top u f.ends (λ d. elim (eqb d e.0) as (λ b. eqb d e.0 ≡ b → cond b (naming x (f.taken d) + 1) (naming x (f.taken d)) ≤ naming x (f.accepted d)) [
-      | true ↦ λ t. let here : d ≡ e.0 = search (rules, t) in subst (λ y. naming x (f.taken y) + 1 ≤ naming x (f.accepted y)) (sym here) (omega arith)
-      | false ↦ λ t. count_lines P (f.taken d) (f.accepted d) ((s.waiting d).prefix)
-    ] refl) in
-    let sum : total u f.ends ≡ total w f.ends + flights ((f.end x).place) = s.places.flights x in
-    flying ((f.end x).place) (omega arith)
-
--- ---- whoever is away keeps the line
-
-own_out : (f : Facts) (s : Sender) (q : ℕ) → s.line.0 ≡ 0 → own_poster_out f ((f.end q).peer) ≡ true → (f.end q).peer ≡ Some s.end.0 → is_out (phase_of_line f s) ≡ true
-own_out f s q line out peer =
-    let first : is_out ((f.line s.end.0 0).phase) ≡ true = subst (λ p. own_poster_out f p ≡ true) peer out in
-    subst (λ l. is_out ((f.line s.end.0 l).phase) ≡ true) (sym line) first
-
-other_place : (p q : Option Place) (a : AgentId) → p ≡ Some (With a) → p ≡ Some InFlight → ⊥
-other_place p q a with_a flying = absurd (search (rules, sym with_a ∙ flying))
-
-still_runs : (b r : Bool) → r ≡ true → cond b true r ≡ true
-still_runs true r h = refl
-still_runs false r h = h
-
-below : (x n : ℕ) → x < n → (eqb x n ≡ false) × (eqb x (n + 1) ≡ false)
-below x n less = (ne_eqb x n (λ is. omega arith), ne_eqb x (n + 1) (λ is. omega arith))
-
--- the numbers of new ends are not those of an end that was made
-old_end : (f : Facts) (e e' : EndId) (x : ℕ) → e ≡ record { 0 = f.ends } → e' ≡ record { 0 = f.ends + 1 } → x < f.ends → (eqb x e.0 ≡ false) × (eqb x e'.0 ≡ false)
-old_end f e e' x first second less =
-    let both = below x f.ends less in
-    (ap (λ (d : EndId). eqb x d.0) first ∙ both.0, ap (λ (d : EndId). eqb x d.0) second ∙ both.1)
-
-either_false : (b c : Bool) → b ≡ false → c ≡ false → (b || c) ≡ false
-either_false b c x y = rw (x, y) refl
-
-pub holder_made : (f : Facts) (e : ℕ) → SoundPlaces f → is_some (holder f e) ≡ true → e < f.ends
-holder_made f e s h = let there = runs_there f (f.end e).place h in placed_made f e (With there.0) s there.1
-
--- the ends that a push or a take moves are none that a poster of a line that is away has
-unmoved : (named : Bool) (p q r : Option Place) → (named ≡ true → ⊥) → q ≡ r → cond named p q ≡ r
-unmoved true p q r never h = absurd (never refl)
-unmoved false p q r never h = h
-
--- the poster of a line that is away is the same after every pair that fits
-pub speaker_next : (f : Facts) {a : Action} (refused : Bool) {o : Outcome} → Sound f → Answers f a refused o → Change a o → (s : Sender) → is_out (phase_of_line f s) ≡ false → poster (next f a o) s ≡ poster f s
-speaker_next f refused h fits (agent_made n) s away =
-    let k = speaks_of f s (h.places.away s away) in
-    poster_as (next f action.Agent (outcome.Agent n)) s k.peer k.agent k.line k.entangled k.has (still_runs (eqb k.agent.0 n.0) (f.agent k.agent.0).runs k.runs) ∙ sym (poster_is f s k)
-speaker_next f refused h fits (channel_made b e e') s away =
-    let k = speaks_of f s (h.places.away s away) in
-    let made = new_ends f b refused e e' fits in
-    let target = old_end f e e' s.end.0 made.1 made.2 (entangled_made f s.end.0 k.peer h.places k.entangled) in
-    let source = old_end f e e' k.peer made.1 made.2 (placed_made f k.peer (With k.agent) h.places k.has) in
-    poster_as (next f (action.Channel b) (outcome.Ends e e')) s k.peer k.agent k.line (rw (target.0, target.1) k.entangled) (rw (source.0, source.1) k.has) k.runs ∙ sym (poster_is f s k)
-speaker_next f refused h fits (let_in t) s away = refl
-speaker_next f refused h fits (found_moved t) s away = refl
-speaker_next f refused h fits (found_closed t) s away = refl
-speaker_next f refused h fits (put t ports body n) s away =
-    let k = speaks_of f s (h.places.away s away) in
-    let p = pushed_of f t ports.items refused n fits in
-    let stays : names ports.items k.peer ≡ true → ⊥ = λ named.
-    let out = own_out f s k.peer k.line (travels f p.agent t k.peer ports.items (all_good f t ports.items n p) named).1 (h.places.peers s.end.0 k.peer k.entangled).1 in
-    false≢true (sym away ∙ out)
-    in
-    poster_as (next f (action.Push t ports body) (outcome.Accepted n)) s k.peer k.agent k.line k.entangled (unmoved (names ports.items k.peer) _ _ _ stays k.has) k.runs ∙ sym (poster_is f s k)
-speaker_next f refused h fits (left t) s away = refl
-speaker_next f refused h fits (started e) s away = refl
-speaker_next f refused h fits (got e v) s away =
-    let k = speaks_of f s (h.places.away s away) in
-    let served = got_of f e v fits in
-    let stays : names v.ports k.peer ≡ true → ⊥ = λ named.
-    other_place ((f.end k.peer).place) (Some InFlight) k.agent k.has (taken_flies f e v k.peer h served.serves (holder_made f e.0 h.places served.held) named)
-    in
-    poster_as (next f (action.Take e) (outcome.Got v)) s k.peer k.agent k.line k.entangled (unmoved (names v.ports k.peer) _ _ _ stays k.has) k.runs ∙ sym (poster_is f s k)
+use Rattle.hub_core.proofs.Totals.{total_more, bit, count_more, count_between}
+use Rattle.hub_core.proofs.Nexts.{next, Change, agent_made, channel_made, let_in, found_moved, found_closed, put, left, started, got, hopped, went_on, cleared, adopted, notice_put, end_closed, end_swept}
+use Rattle.hub_core.proofs.Fitting.{new_agent, new_ends, let_in_of, found_moved_of, found_closed_of, pushed_of, started_of, got_of, went_on_of, adopted_of, noticed_of, closed_of, SweptWith, swept_of}
+use Rattle.hub_core.proofs.Speakers.{made_of, placed_made, entangled_made, nothing_accepted, nothing_removed, runs_there, speaks_of, travels, all_good, taken_flies, named_count, unnamed_count, swept_total, closed_made, swept_within, swept_flies, old_end, holder_made, hears_of, or_true, may_next}
 
 -- ---- who is away after a pair
 
@@ -222,14 +36,14 @@ same_sender : (s t : Sender) → s.end.0 ≡ t.end.0 → s.line.0 ≡ t.line.0 �
 same_sender s t end line = λ i. record { end = record { 0 = end i }; line = record { 0 = line i } }
 
 -- after an Enter
-away_entered : (f : Facts) (s t : Sender) (p : Phase) → SoundPlaces f → is_some (poster f t) ≡ true → (b : Bool) → (eqb s.end.0 t.end.0 && eqb s.line.0 t.line.0) ≡ b → is_out (cond b p ((f.line s.end.0 s.line.0).phase)) ≡ false → is_some (poster f s) ≡ true
-away_entered f s t p h usable true is away =
+away_entered : (f : Facts) (s t : Sender) (p : Phase) → SoundPlaces f → may_enter f t ≡ true → (b : Bool) → (eqb s.end.0 t.end.0 && eqb s.line.0 t.line.0) ≡ b → is_out (cond b p ((f.line s.end.0 s.line.0).phase)) ≡ false → may_enter f s ≡ true
+away_entered f s t p h may true is away =
     let both = both_of (eqb s.end.0 t.end.0) (eqb s.line.0 t.line.0) is in
-    subst (λ u. is_some (poster f u) ≡ true) (sym (same_sender s t (eqb-true s.end.0 t.end.0 both.0) (eqb-true s.line.0 t.line.0 both.1))) usable
-away_entered f s t p h usable false is away = h.away s away
+    subst (λ u. may_enter f u ≡ true) (sym (same_sender s t (eqb-true s.end.0 t.end.0 both.0) (eqb-true s.line.0 t.line.0 both.1))) may
+away_entered f s t p h may false is away = h.away s away
 
 -- after a Leave
-away_left : (f : Facts) (s : Sender) (b : Bool) → SoundPlaces f → is_out (cond b Out ((f.line s.end.0 s.line.0).phase)) ≡ false → is_some (poster f s) ≡ true
+away_left : (f : Facts) (s : Sender) (b : Bool) → SoundPlaces f → is_out (cond b Out ((f.line s.end.0 s.line.0).phase)) ≡ false → may_enter f s ≡ true
 away_left f s true h away = absurd (false≢true (sym away))
 away_left f s false h away = h.away s away
 
@@ -238,36 +52,49 @@ away_left f s false h away = h.away s away
 no_flights : (p : Option Place) (a : AgentId) → p ≡ Some (With a) → flights p ≡ 0
 no_flights p a is = ap flights is
 
-put_flights : (f : Facts) (s : Sender) (ports : List EndId) (body : List ℕ) (n : Acceptance) (x : ℕ) → SoundPlaces f → Pushed f s ports n → s.end.0 < f.ends → (b : Bool) → names ports x ≡ b → total (λ e. naming x (cond (eqb e s.end.0) (f.accepted e ++ named_envelope s n body ports ∷ []) (f.accepted e))) f.ends ≡ total (λ e. naming x (f.taken e)) f.ends + flights (cond b (Some InFlight) ((f.end x).place))
-put_flights f s ports body n x h p made b is =
-    let v : Envelope = named_envelope s n body ports in
+put_flights : (f : Facts) (s : Sender) (v : Envelope) (x : ℕ) → SoundPlaces f → s.end.0 < f.ends → (b : Bool) → names v.ports x ≡ b → (b ≡ true → flights ((f.end x).place) ≡ 0) → total (λ e. naming x (cond (eqb e s.end.0) (f.accepted e ++ v ∷ []) (f.accepted e))) f.ends ≡ total (λ e. naming x (f.taken e ++ f.discarded e)) f.ends + flights (cond b (Some InFlight) ((f.end x).place))
+put_flights f s v x h made b is landed =
     let P : Envelope → Bool = λ u. names u.ports x in
     let u : ℕ → ℕ = λ e. naming x (cond (eqb e s.end.0) (f.accepted e ++ v ∷ []) (f.accepted e)) in
     let w : ℕ → ℕ = λ e. naming x (f.accepted e) in
     let here : u s.end.0 ≡ w s.end.0 + bit b = ap (λ c. naming x (cond c (f.accepted s.end.0 ++ v ∷ []) (f.accepted s.end.0))) (eqb_same s.end.0) ∙ count_more P (f.accepted s.end.0) v ∙ ap (λ c. w s.end.0 + bit c) is in
     let grows : total u f.ends ≡ total w f.ends + bit b = total_more w u f.ends s.end.0 (bit b) made here (λ d other. ap (λ c. naming x (cond c (f.accepted d ++ v ∷ []) (f.accepted d))) (ne_eqb d s.end.0 other)) in
-    let before : total w f.ends ≡ total (λ e. naming x (f.taken e)) f.ends + flights ((f.end x).place) = h.flights x in
-    let more : flights (cond b (Some InFlight) ((f.end x).place)) ≡ flights ((f.end x).place) + bit b = elim b as (λ c. names ports x ≡ c → flights (cond c (Some InFlight) ((f.end x).place)) ≡ flights ((f.end x).place) + bit c) [
-      | true ↦ λ t. let none : flights ((f.end x).place) ≡ 0 = no_flights ((f.end x).place) p.agent (travels f p.agent s x ports (all_good f s ports n p) t).0 in omega arith
-      | false ↦ λ t. omega arith
-    ] is in
+    let before : total w f.ends ≡ total (λ e. naming x (f.taken e ++ f.discarded e)) f.ends + flights ((f.end x).place) = h.flights x in
+    let more : flights (cond b (Some InFlight) ((f.end x).place)) ≡ flights ((f.end x).place) + bit b = elim b as (λ c. (c ≡ true → flights ((f.end x).place) ≡ 0) → flights (cond c (Some InFlight) ((f.end x).place)) ≡ flights ((f.end x).place) + bit c) [
+      | true ↦ λ none. let zeroth : flights ((f.end x).place) ≡ 0 = none refl in omega arith
+      | false ↦ λ none. omega arith
+    ] landed in
     omega arith
 
-got_flights : (f : Facts) (e : EndId) (v : Envelope) (x : ℕ) (a : AgentId) → Sound f → IsNext f e v → e.0 < f.ends → (f.end e.0).place ≡ Some (With a) → (b : Bool) → names v.ports x ≡ b → total (λ d. naming x (f.accepted d)) f.ends ≡ total (λ d. naming x (cond (eqb d e.0) (f.taken d ++ v ∷ []) (f.taken d))) f.ends + flights (cond b (arrived ((f.end e.0).place) ((f.end x).place)) ((f.end x).place))
-got_flights f e v x a h n made has b is =
+got_flights : (f : Facts) (e : EndId) (v : Envelope) (x : ℕ) (a : AgentId) → Sound f → IsNext f e v → (f.end e.0).closed ≡ false → e.0 < f.ends → (f.end e.0).place ≡ Some (With a) → (b : Bool) → names v.ports x ≡ b → total (λ d. naming x (f.accepted d)) f.ends ≡ total (λ d. naming x (cond (eqb d e.0) (f.taken d ++ v ∷ []) (f.taken d) ++ f.discarded d)) f.ends + flights (cond b (arrived ((f.end e.0).place) ((f.end x).place)) ((f.end x).place))
+got_flights f e v x a h n opened made has b is =
     let P : Envelope → Bool = λ u. names u.ports x in
-    let u : ℕ → ℕ = λ d. naming x (cond (eqb d e.0) (f.taken d ++ v ∷ []) (f.taken d)) in
-    let w : ℕ → ℕ = λ d. naming x (f.taken d) in
-    let here : u e.0 ≡ w e.0 + bit b = ap (λ c. naming x (cond c (f.taken e.0 ++ v ∷ []) (f.taken e.0))) (eqb_same e.0) ∙ count_more P (f.taken e.0) v ∙ ap (λ c. w e.0 + bit c) is in
-    let grows : total u f.ends ≡ total w f.ends + bit b = total_more w u f.ends e.0 (bit b) made here (λ d other. ap (λ c. naming x (cond c (f.taken d ++ v ∷ []) (f.taken d))) (ne_eqb d e.0 other)) in
+    let u : ℕ → ℕ = λ d. naming x (cond (eqb d e.0) (f.taken d ++ v ∷ []) (f.taken d) ++ f.discarded d) in
+    let w : ℕ → ℕ = λ d. naming x (f.taken d ++ f.discarded d) in
+    let here : u e.0 ≡ w e.0 + bit b = ap (λ c. naming x (cond c (f.taken e.0 ++ v ∷ []) (f.taken e.0) ++ f.discarded e.0)) (eqb_same e.0) ∙ count_between P (f.taken e.0) (f.discarded e.0) v ∙ ap (λ c. w e.0 + bit c) is in
+    let grows : total u f.ends ≡ total w f.ends + bit b = total_more w u f.ends e.0 (bit b) made here (λ d other. ap (λ c. naming x (cond c (f.taken d ++ v ∷ []) (f.taken d) ++ f.discarded d)) (ne_eqb d e.0 other)) in
     let before : total (λ d. naming x (f.accepted d)) f.ends ≡ total w f.ends + flights ((f.end x).place) = h.places.flights x in
     let fewer : flights ((f.end x).place) ≡ bit b + flights (cond b (arrived ((f.end e.0).place) ((f.end x).place)) ((f.end x).place)) = elim b as (λ c. names v.ports x ≡ c → flights ((f.end x).place) ≡ bit c + flights (cond c (arrived ((f.end e.0).place) ((f.end x).place)) ((f.end x).place))) [
       | true ↦ λ t.
-          let one : flights ((f.end x).place) ≡ 1 = ap flights (taken_flies f e v x h n made t) in
+          let one : flights ((f.end x).place) ≡ 1 = ap flights (taken_flies f e v x h n opened made t) in
           let none : flights (arrived ((f.end e.0).place) ((f.end x).place)) ≡ 0 = ap (λ p. flights (arrived p ((f.end x).place))) has in
           omega arith
       | false ↦ λ t. omega arith
     ] is in
+    omega arith
+
+swept_flights : (f : Facts) (e : EndId) (vs : List Envelope) (x : ℕ) → Sound f → SweptWith f e vs → e.0 < f.ends → (b : Bool) → is_named vs x ≡ b → total (λ d. naming x (f.accepted d)) f.ends ≡ total (λ d. naming x (f.taken d ++ cond (eqb d e.0) (f.discarded d ++ vs) (f.discarded d))) f.ends + flights (cond b (Some Swept) ((f.end x).place))
+swept_flights f e vs x h w made true named =
+    let one : 1 ≤ naming x vs = named_count x vs named in
+    let within : naming x vs ≤ flights ((f.end x).place) = swept_within f e vs x h w in
+    let was : flights ((f.end x).place) ≡ 1 = ap flights (swept_flies f e vs x h w named) in
+    let grows : total (λ d. naming x (f.taken d ++ cond (eqb d e.0) (f.discarded d ++ vs) (f.discarded d))) f.ends ≡ total (λ d. naming x (f.taken d ++ f.discarded d)) f.ends + naming x vs = swept_total f e vs x made in
+    let before : total (λ d. naming x (f.accepted d)) f.ends ≡ total (λ d. naming x (f.taken d ++ f.discarded d)) f.ends + flights ((f.end x).place) = h.places.flights x in
+    omega arith
+swept_flights f e vs x h w made false named =
+    let none : naming x vs ≡ 0 = unnamed_count x vs named in
+    let grows : total (λ d. naming x (f.taken d ++ cond (eqb d e.0) (f.discarded d ++ vs) (f.discarded d))) f.ends ≡ total (λ d. naming x (f.taken d ++ f.discarded d)) f.ends + naming x vs = swept_total f e vs x made in
+    let before : total (λ d. naming x (f.accepted d)) f.ends ≡ total (λ d. naming x (f.taken d ++ f.discarded d)) f.ends + flights ((f.end x).place) = h.places.flights x in
     omega arith
 
 two_more : (w : ℕ → ℕ) (n : ℕ) → w n ≡ 0 → w (n + 1) ≡ 0 → total w (n + 2) ≡ total w n
@@ -333,6 +160,16 @@ ends_channel f b e e' x h first second past =
     let two : eqb x e'.0 ≡ false = ne_eqb x e'.0 (λ same. omega arith) in
     rw (one, two) (h.ends x (omega arith))
 
+-- a new end is open
+gone_made : (fresh : Bool) (b : AgentId) (closed : Bool) (p : Option Place) → (fresh ≡ true → closed ≡ false) → closed ≡ is_gone p → closed ≡ is_gone (cond fresh (Some (With b)) p)
+gone_made true b closed p new old = new refl
+gone_made false b closed p new old = old
+
+-- an open end that goes to another place
+gone_moved : (moved closed : Bool) (q p : Option Place) → is_gone q ≡ false → (moved ≡ true → closed ≡ false) → closed ≡ is_gone p → closed ≡ is_gone (cond moved q p)
+gone_moved true closed q p here opened old = opened refl ∙ sym here
+gone_moved false closed q p here opened old = old
+
 channel_places : (f : Facts) (b : AgentId) (refused : Bool) (e e' : EndId) → Sound f → Answers f (action.Channel b) refused (outcome.Ends e e') → SoundPlaces (next f (action.Channel b) (outcome.Ends e e'))
 channel_places f b refused e e' h fits =
     let made = new_ends f b refused e e' fits in
@@ -342,12 +179,13 @@ channel_places f b refused e e' h fits =
       peers = λ x y is. peers_channel f e e' h.places made.1 made.2 x y (eqb x e.0) (eqb x e'.0) refl refl is;
       with_made = λ x a is. with_channel f b x (eqb x e.0 || eqb x e'.0) a h.places made.0 is;
       arrived_made = λ x a is. arrived_channel f b x (eqb x e.0 || eqb x e'.0) a h.places is;
-      away = λ s away. ap is_some (speaker_next f refused h fits (channel_made b e e') s away) ∙ h.places.away s away;
+      away = λ s away. may_next f refused h fits (channel_made b e e') s away (h.places.away s away);
+      gone = λ x. gone_made (eqb x e.0 || eqb x e'.0) b (f.end x).closed (f.end x).place (λ is. ap (λ (d : EndNow). d.closed) (new_end f e e' x h.places made.1 made.2 is)) (h.places.gone x);
       flights = λ x.
           let w : ℕ → ℕ = λ d. naming x (f.accepted d) in
-          let u : ℕ → ℕ = λ d. naming x (f.taken d) in
-          let none_at : (y : ℕ) → f.ends ≤ y → (f.accepted y ≡ []) × (f.taken y ≡ []) = λ y past.
-          let nothing = nothing_accepted f y (h.lines y) (h.places.ends y past) in (nothing, nothing_taken f y (h.waiting y) nothing)
+          let u : ℕ → ℕ = λ d. naming x (f.taken d ++ f.discarded d) in
+          let none_at : (y : ℕ) → f.ends ≤ y → (f.accepted y ≡ []) × (f.taken y ++ f.discarded y ≡ []) = λ y past.
+          let nothing = nothing_accepted f y (h.lines y) (h.places.ends y past) in (nothing, nothing_removed f y (h.waiting y) nothing)
           in
           let accepted : total w (f.ends + 2) ≡ total w f.ends = two_more w f.ends (ap (naming x) (none_at f.ends (omega arith)).0) (ap (naming x) (none_at (f.ends + 1) (omega arith)).0) in
           let taken : total u (f.ends + 2) ≡ total u f.ends = two_more u f.ends (ap (naming x) (none_at f.ends (omega arith)).1) (ap (naming x) (none_at (f.ends + 1) (omega arith)).1) in
@@ -359,7 +197,7 @@ channel_places f b refused e e' h fits =
 -- ---- every pair that changes something
 
 -- a pair that changes lines alone
-lines_alone : (f g : Facts) → SoundPlaces f → ((s : Sender) → is_out ((g.line s.end.0 s.line.0).phase) ≡ false → is_some (poster f s) ≡ true) → SoundPlaces (record f { line = g.line })
+lines_alone : (f g : Facts) → SoundPlaces f → ((s : Sender) → is_out ((g.line s.end.0 s.line.0).phase) ≡ false → may_enter f s ≡ true) → SoundPlaces (record f { line = g.line })
 lines_alone f g h away = record {
   ends = h.ends;
   agents = h.agents;
@@ -367,6 +205,7 @@ lines_alone f g h away = record {
   with_made = h.with_made;
   arrived_made = h.arrived_made;
   away = away;
+  gone = h.gone;
   flights = h.flights;
 }
 
@@ -381,7 +220,8 @@ agent_places f refused n h fits =
       peers = h.places.peers;
       with_made = λ x a is. let less : a.0 < f.agents = h.places.with_made x a is in omega arith;
       arrived_made = λ x a is. let less : a.0 < f.agents = h.places.arrived_made x a is in omega arith;
-      away = λ s away. ap is_some (speaker_next f refused h fits (agent_made n) s away) ∙ h.places.away s away;
+      away = λ s away. may_next f refused h fits (agent_made n) s away (h.places.away s away);
+      gone = h.places.gone;
       flights = h.places.flights;
     }
 
@@ -415,8 +255,9 @@ put_places f refused s ports body n h fits =
       peers = h.places.peers;
       with_made = λ x a is. h.places.with_made x a (put_with ((f.end x).place) (names ports.items x) a is);
       arrived_made = λ x a is. h.places.arrived_made x a (put_arrived ((f.end x).place) (names ports.items x) a is);
-      away = λ t away. ap is_some (speaker_next f refused h fits (put s ports body n) t away) ∙ h.places.away t away;
-      flights = λ x. put_flights f s ports.items body n x h.places p (entangled_made f s.end.0 k.peer h.places k.entangled) (names ports.items x) refl;
+      away = λ t away. may_next f refused h fits (put s ports body n) t away (h.places.away t away);
+      gone = λ x. gone_moved (names ports.items x) (f.end x).closed (Some InFlight) (f.end x).place refl (λ named. h.places.gone x ∙ ap is_gone (travels f p.agent s x ports.items (all_good f s ports.items n p) named).0) (h.places.gone x);
+      flights = λ x. put_flights f s (named_envelope s n body ports.items) x h.places (entangled_made f s.end.0 k.peer h.places k.entangled) (names ports.items x) refl (λ named. no_flights ((f.end x).place) p.agent (travels f p.agent s x ports.items (all_good f s ports.items n p) named).0);
     }
 
 got_with : (x t : Option Place) (c : AgentId) (named : Bool) (a : AgentId) → t ≡ Some (With c) → cond named (arrived t x) x ≡ Some (With a) → x ≡ Some (With a)
@@ -436,13 +277,14 @@ got_places f refused e v h fits =
     let made = holder_made f e.0 h.places served.held in
     let there = runs_there f (f.end e.0).place served.held in
     record {
-      ends = λ x past. moved_none f x (names v.ports x) (arrived ((f.end e.0).place) ((f.end x).place)) (h.places.ends x past) (λ named. none_with f x InFlight (h.places.ends x past) (taken_flies f e v x h served.serves made named));
+      ends = λ x past. moved_none f x (names v.ports x) (arrived ((f.end e.0).place) ((f.end x).place)) (h.places.ends x past) (λ named. none_with f x InFlight (h.places.ends x past) (taken_flies f e v x h served.serves served.is_open made named));
       agents = h.places.agents;
       peers = h.places.peers;
       with_made = λ x a is. h.places.with_made x a (got_with ((f.end x).place) ((f.end e.0).place) there.0 (names v.ports x) a there.1 is);
       arrived_made = λ x a is. got_arrived f x ((f.end e.0).place) there.0 (names v.ports x) a h.places (h.places.with_made e.0 there.0 there.1) there.1 is;
-      away = λ t away. ap is_some (speaker_next f refused h fits (got e v) t away) ∙ h.places.away t away;
-      flights = λ x. got_flights f e v x there.0 h served.serves made there.1 (names v.ports x) refl;
+      away = λ t away. may_next f refused h fits (got e v) t away (h.places.away t away);
+      gone = λ x. gone_moved (names v.ports x) (f.end x).closed (arrived ((f.end e.0).place) ((f.end x).place)) (f.end x).place (ap (λ q. is_gone (arrived q ((f.end x).place))) there.1) (λ named. h.places.gone x ∙ ap is_gone (taken_flies f e v x h served.serves served.is_open made named)) (h.places.gone x);
+      flights = λ x. got_flights f e v x there.0 h served.serves served.is_open made there.1 (names v.ports x) refl;
     }
 
 started_none : (f : Facts) (e x : ℕ) (b : Bool) → eqb x e ≡ b → e < f.ends → f.ends ≤ x → f.end x ≡ no_end → (let y : EndNow = record (f.end x) { enabled = cond b true (f.end x).enabled } in y ≡ no_end)
@@ -459,20 +301,157 @@ started_places f refused e h fits =
       with_made = h.places.with_made;
       arrived_made = h.places.arrived_made;
       away = h.places.away;
+      gone = h.places.gone;
       flights = h.places.flights;
+    }
+
+-- a pair that changes which queues are clear alone
+clear_alone : (f : Facts) (clear : ℕ → ℕ → Bool) → SoundPlaces f → SoundPlaces (record f { clear = clear })
+clear_alone f clear h = record {
+  ends = h.ends;
+  agents = h.agents;
+  peers = h.peers;
+  with_made = h.with_made;
+  arrived_made = h.arrived_made;
+  away = h.away;
+  gone = h.gone;
+  flights = h.flights;
+}
+
+went_none : (f : Facts) (e x : ℕ) (b : Bool) → eqb x e ≡ b → e < f.ends → f.ends ≤ x → f.end x ≡ no_end → (let y : EndNow = record (f.end x) { taker_stand = cond b ((f.end x).taker_stand + 1) (f.end x).taker_stand } in y ≡ no_end)
+went_none f e x true is less past none = let same : x ≡ e = eqb-true x e is in absurd (omega arith)
+went_none f e x false is less past none = none
+
+went_places : (f : Facts) (refused : Bool) (e : EndId) → Sound f → Answers f (action.Take e) refused outcome.Again → SoundPlaces (next f (action.Take e) outcome.Again)
+went_places f refused e h fits =
+    let made = holder_made f e.0 h.places (went_on_of f e fits).held in
+    record {
+      ends = λ x past. went_none f e.0 x (eqb x e.0) refl made past (h.places.ends x past);
+      agents = h.places.agents;
+      peers = h.places.peers;
+      with_made = h.places.with_made;
+      arrived_made = h.places.arrived_made;
+      away = h.places.away;
+      gone = h.places.gone;
+      flights = h.places.flights;
+    }
+
+adopted_none : (f : Facts) (e x : ℕ) (a : AgentId) (b : Bool) → eqb x e ≡ b → e < f.ends → f.ends ≤ x → f.end x ≡ no_end → (let y : EndNow = record (f.end x) { place = cond b (Some (With a)) (f.end x).place; enabled = cond b false (f.end x).enabled; newest = cond b ((f.end x).newest + 1) (f.end x).newest } in y ≡ no_end)
+adopted_none f e x a true is less past none = let same : x ≡ e = eqb-true x e is in absurd (omega arith)
+adopted_none f e x a false is less past none = none
+
+adopted_flights : (p : Option Place) (a : AgentId) (b : Bool) → (b ≡ true → p ≡ Some (Arrived a)) → flights (cond b (Some (With a)) p) ≡ flights p
+adopted_flights p a true arrived = sym (ap flights (arrived refl))
+adopted_flights p a false arrived = refl
+
+adopted_places : (f : Facts) (refused : Bool) (e : EndId) (a : AgentId) (k : ℕ) → Sound f → Answers f (action.Adopt e a) refused (outcome.Adopted k) → SoundPlaces (next f (action.Adopt e a) (outcome.Adopted k))
+adopted_places f refused e a k h fits =
+    let adopts = adopted_of f e a refused k fits in
+    let made : e.0 < f.ends = placed_made f e.0 (Arrived a) h.places adopts.arrived in
+    record {
+      ends = λ x past. adopted_none f e.0 x a (eqb x e.0) refl made past (h.places.ends x past);
+      agents = h.places.agents;
+      peers = h.places.peers;
+      with_made = λ x b is. with_channel f a x (eqb x e.0) b h.places adopts.runs is;
+      arrived_made = λ x b is. arrived_channel f a x (eqb x e.0) b h.places is;
+      away = λ s away. may_next f refused h fits (adopted e a k) s away (h.places.away s away);
+      gone = λ x. gone_moved (eqb x e.0) (f.end x).closed (Some (With a)) (f.end x).place refl (λ is. h.places.gone x ∙ ap (λ y. is_gone (f.end y).place) (eqb-true x e.0 is) ∙ ap is_gone adopts.arrived) (h.places.gone x);
+      flights = λ x.
+          let before : total (λ d. naming x (f.accepted d)) f.ends ≡ total (λ d. naming x (f.taken d ++ f.discarded d)) f.ends + flights ((f.end x).place) = h.places.flights x in
+          before ∙ ap (λ n. total (λ d. naming x (f.taken d ++ f.discarded d)) f.ends + n) (sym (adopted_flights ((f.end x).place) a (eqb x e.0) (λ is. ap (λ y. (f.end y).place) (eqb-true x e.0 is) ∙ adopts.arrived)));
+    }
+
+notice_places : (f : Facts) (refused : Bool) (s : Sender) (n : Acceptance) → Sound f → Answers f (action.Notice s) refused (outcome.Accepted n) → SoundPlaces (next f (action.Notice s) (outcome.Accepted n))
+notice_places f refused s n h fits =
+    let p = noticed_of f s refused n fits in
+    let k = hears_of f s (or_true (is_some (poster f s)) (hears_notice f s) p.hears) in
+    record {
+      ends = h.places.ends;
+      agents = h.places.agents;
+      peers = h.places.peers;
+      with_made = h.places.with_made;
+      arrived_made = h.places.arrived_made;
+      away = h.places.away;
+      gone = h.places.gone;
+      flights = λ x. put_flights f s (named_notice s n) x h.places (entangled_made f s.end.0 k.peer h.places k.entangled) false refl (λ is. absurd (false≢true is));
+    }
+
+closed_none : (f : Facts) (e x : ℕ) (b : Bool) → eqb x e ≡ b → e < f.ends → f.ends ≤ x → f.end x ≡ no_end → (let y : EndNow = record (f.end x) { closed = cond b true (f.end x).closed; place = cond b (Some Gone) (f.end x).place } in y ≡ no_end)
+closed_none f e x true is less past none = let same : x ≡ e = eqb-true x e is in absurd (omega arith)
+closed_none f e x false is less past none = none
+
+-- an end that is gone is at no agent
+gone_nowhere : (b : Bool) (p q : Option Place) (r : Place) → cond b q p ≡ Some r → (q ≡ Some r → ⊥) → p ≡ Some r
+gone_nowhere true p q r is never = absurd (never is)
+gone_nowhere false p q r is never = is
+
+here_made : (f : Facts) (e : ℕ) → SoundPlaces f → is_here (f.end e).place ≡ true → e < f.ends
+here_made f e s h = made_of f e s.ends (λ none. false≢true (sym (ap (λ (d : EndNow). is_here d.place) none) ∙ h))
+
+no_flight : (p : Option Place) → is_here p ≡ true → flights p ≡ 0
+no_flight (Some (With a)) h = refl
+no_flight (Some (Arrived a)) h = refl
+no_flight (Some Swept) h = refl
+no_flight (Some InFlight) h = absurd (false≢true h)
+no_flight (Some Gone) h = refl
+no_flight None h = refl
+
+same_flights : (b : Bool) (q p : Option Place) → flights q ≡ 0 → (b ≡ true → flights p ≡ 0) → flights (cond b q p) ≡ flights p
+same_flights true q p none landed = none ∙ sym (landed refl)
+same_flights false q p none landed = refl
+
+closed_gone : (b closed : Bool) (p : Option Place) → closed ≡ is_gone p → cond b true closed ≡ is_gone (cond b (Some Gone) p)
+closed_gone true closed p old = refl
+closed_gone false closed p old = old
+
+closed_places : (f : Facts) (refused : Bool) (e : EndId) → Sound f → Answers f (action.Close e) refused outcome.Done → SoundPlaces (next f (action.Close e) outcome.Done)
+closed_places f refused e h fits =
+    let closes = closed_of f e fits in
+    let made = here_made f e.0 h.places closes.here in
+    record {
+      ends = λ x past. closed_none f e.0 x (eqb x e.0) refl made past (h.places.ends x past);
+      agents = h.places.agents;
+      peers = h.places.peers;
+      with_made = λ x a is. h.places.with_made x a (gone_nowhere (eqb x e.0) (f.end x).place (Some Gone) (With a) is (λ same. search (rules, same)));
+      arrived_made = λ x a is. h.places.arrived_made x a (gone_nowhere (eqb x e.0) (f.end x).place (Some Gone) (Arrived a) is (λ same. search (rules, same)));
+      away = λ s away. may_next f refused h fits (end_closed e) s away (h.places.away s away);
+      gone = λ x. closed_gone (eqb x e.0) (f.end x).closed (f.end x).place (h.places.gone x);
+      flights = λ x. h.places.flights x ∙ ap (λ n. total (λ d. naming x (f.taken d ++ f.discarded d)) f.ends + n) (sym (same_flights (eqb x e.0) (Some Gone) (f.end x).place refl (λ is. no_flight (f.end x).place (ap (λ y. is_here (f.end y).place) (eqb-true x e.0 is) ∙ closes.here))));
+    }
+
+swept_places : (f : Facts) (refused : Bool) (e : EndId) (vs : List Envelope) → Sound f → Answers f (action.Sweep e) refused (outcome.Discarded vs) → SoundPlaces (next f (action.Sweep e) (outcome.Discarded vs))
+swept_places f refused e vs h fits =
+    let w = swept_of f e vs fits in
+    let made = closed_made f e.0 h.places w.is_closed in
+    record {
+      ends = λ x past. moved_none f x (is_named vs x) (Some Swept) (h.places.ends x past) (λ named. none_with f x InFlight (h.places.ends x past) (swept_flies f e vs x h w named));
+      agents = h.places.agents;
+      peers = h.places.peers;
+      with_made = λ x a is. h.places.with_made x a (gone_nowhere (is_named vs x) (f.end x).place (Some Swept) (With a) is (λ same. search (rules, same)));
+      arrived_made = λ x a is. h.places.arrived_made x a (gone_nowhere (is_named vs x) (f.end x).place (Some Swept) (Arrived a) is (λ same. search (rules, same)));
+      away = λ s away. may_next f refused h fits (end_swept e vs) s away (h.places.away s away);
+      gone = λ x. gone_moved (is_named vs x) (f.end x).closed (Some Swept) (f.end x).place refl (λ named. h.places.gone x ∙ ap is_gone (swept_flies f e vs x h w named)) (h.places.gone x);
+      flights = λ x. swept_flights f e vs x h w made (is_named vs x) refl;
     }
 
 pub places_next : (f : Facts) {a : Action} (refused : Bool) {o : Outcome} → Sound f → Answers f a refused o → Change a o → SoundPlaces (next f a o)
 places_next f refused h fits (agent_made n) = agent_places f refused n h fits
 places_next f refused h fits (channel_made b e e') = channel_places f b refused e e' h fits
 places_next f refused h fits (let_in s) =
-    lines_alone f (next f (action.Enter s) outcome.In) h.places (λ t away. away_entered f t s Inside h.places (let_in_of f s fits).0.usable (eqb t.end.0 s.end.0 && eqb t.line.0 s.line.0) refl away)
+    lines_alone f (next f (action.Enter s) outcome.In) h.places (λ t away. away_entered f t s Inside h.places (let_in_of f s fits).0.may (eqb t.end.0 s.end.0 && eqb t.line.0 s.line.0) refl away)
 places_next f refused h fits (found_moved s) =
-    lines_alone f (next f (action.Enter s) outcome.Moved) h.places (λ t away. away_entered f t s Turned h.places (found_moved_of f s fits).0.usable (eqb t.end.0 s.end.0 && eqb t.line.0 s.line.0) refl away)
+    lines_alone f (next f (action.Enter s) outcome.Moved) h.places (λ t away. away_entered f t s Turned h.places (found_moved_of f s fits).0.may (eqb t.end.0 s.end.0 && eqb t.line.0 s.line.0) refl away)
 places_next f refused h fits (found_closed s) =
-    lines_alone f (next f (action.Enter s) outcome.Closed) h.places (λ t away. away_entered f t s Turned h.places (found_closed_of f s fits).0.usable (eqb t.end.0 s.end.0 && eqb t.line.0 s.line.0) refl away)
+    lines_alone f (next f (action.Enter s) outcome.Closed) h.places (λ t away. away_entered f t s Turned h.places (found_closed_of f s fits).0.may (eqb t.end.0 s.end.0 && eqb t.line.0 s.line.0) refl away)
 places_next f refused h fits (put s ports body n) = put_places f refused s ports body n h fits
+places_next f refused h fits (notice_put s n) = notice_places f refused s n h fits
 places_next f refused h fits (left s) =
     lines_alone f (next f (action.Leave s) outcome.Left) h.places (λ t away. away_left f t (eqb t.end.0 s.end.0 && eqb t.line.0 s.line.0) h.places away)
+places_next f refused h fits (hopped s k) = lines_alone f (next f (action.Hop s) (outcome.Hopped k)) h.places h.places.away
 places_next f refused h fits (started e) = started_places f refused e h fits
 places_next f refused h fits (got e v) = got_places f refused e v h fits
+places_next f refused h fits (went_on e) = went_places f refused e h fits
+places_next f refused h fits (cleared e k) = clear_alone f (next f (action.Look e) (outcome.Clear (Some k))).clear h.places
+places_next f refused h fits (adopted e a k) = adopted_places f refused e a k h fits
+places_next f refused h fits (end_closed e) = closed_places f refused e h fits
+places_next f refused h fits (end_swept e vs) = swept_places f refused e vs h fits

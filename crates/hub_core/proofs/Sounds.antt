@@ -1,5 +1,5 @@
 -- Every pair that fits leaves sound facts sound; so the facts of every legal history are sound.
-use Rattle.std.proofs.Common.{[], ◌∷◌, ◌++◌, refl, sym, subst, arith, Bool}
+use Rattle.std.proofs.Common.{[], ◌∷◌, ◌++◌, refl, sym, subst, arith, Bool, inl, List, rules, ◌≡◌}
 use Rattle.hub_core.specs.declared.step.Action.{Action}
 use Rattle.hub_core.specs.declared.outcome.Outcome.{Outcome}
 use Rattle.hub_core.specs.History.{Pair, History}
@@ -12,6 +12,7 @@ use Rattle.hub_core.proofs.Legals.{by_pairs}
 use Rattle.hub_core.proofs.SoundLines.{lines_next}
 use Rattle.hub_core.proofs.SoundWaiting.{waiting_next}
 use Rattle.hub_core.proofs.SoundPlaces.{places_next}
+use Rattle.hub_envelope.specs.declared.envelope.Envelope.{Envelope}
 
 pub sound_next : (f : Facts) (a : Action) (refused : Bool) (o : Outcome) → Sound f → Answers f a refused o → Sound (next f a o)
 sound_next f a refused o h fits = by_change Sound f a o h (λ change. record {
@@ -19,6 +20,10 @@ sound_next f a refused o h fits = by_change Sound f a o h (λ change. record {
   waiting = λ x. waiting_next f refused h.lines h.waiting fits change x;
   places = places_next f refused h fits change;
 })
+
+nothing_there : (before after : List Envelope) (v : Envelope) → (let none : List Envelope = [] in none ≡ before ++ v ∷ after) → after ≡ []
+nothing_there [] after v is = absurd (search (rules, is))
+nothing_there (b ∷ before) after v is = absurd (search (rules, is))
 
 pub sound_first : Sound (facts [])
 sound_first = record {
@@ -29,10 +34,14 @@ sound_first = record {
     named = tt;
     rising = λ l. tt;
     numbered = λ l k. refl;
+    clear_within = λ k is. cc;
     turned = λ l is. cc;
     inside = λ l is. cc;
+    inside_unclear = λ l is. cc;
+    messages = λ l is. tt;
+    last = λ l before after v is notice. nothing_there before after v is;
   };
-  waiting = λ x. record { prefix = λ l. ([], refl); behind = λ l k less. refl };
+  waiting = λ x. record { prefix = λ l. ([], refl); rising = tt; reached = tt; behind = λ l k less. refl; kept = λ is. refl; nobody = λ l is. refl; swept = inl refl };
   places = record {
     ends = λ x past. refl;
     agents = λ a past. refl;
@@ -40,6 +49,7 @@ sound_first = record {
     with_made = λ x a is. cc;
     arrived_made = λ x a is. cc;
     away = λ s away. cc;
+    gone = λ x. refl;
     flights = λ x. refl;
   };
 }

@@ -1,6 +1,6 @@
 -- From what the parts of the core did to the clauses of a step.
-use Rattle.std.proofs.Common.{◌≡◌, Bool, true, false, cond, set, List, [], ◌∷◌, ◌++◌, Option, Some, None, Result, Ok, Err, refl, sym, subst, ◌∙◌}
-use Rattle.std.specs.Prelude.{IfOk, nat_lt}
+use Rattle.std.proofs.Common.{◌≡◌, Bool, true, false, cond, set, List, [], ◌∷◌, ◌++◌, Option, Some, None, Result, Ok, Err, refl, sym, subst, ◌∙◌, ap}
+use Rattle.std.specs.Prelude.{IfOk, nat_lt, nat_le}
 use Rattle.std.specs.Bool.{MatchBool}
 use Rattle.std.specs.List.{slice_get}
 use Rattle.std.proofs.lemmas.Bool.{false≢true}
@@ -22,7 +22,7 @@ use Rattle.hub_core.specs.Fits.{Answers, Fits}
 use Rattle.hub_core.specs.Posting.{is_out}
 use Rattle.hub_core.specs.Shows.{ShowsFacts}
 use Rattle.hub_core.specs.Unchanged.{changes_nothing}
-use Rattle.hub_core.specs.Kept.{gate_answer, phase_of, enter_outcome, enter_end, enter_outcome_at, enter_ends_at, leave_outcome, leave_end, leave_outcome_at, leave_ends_at, TakeServes, TakeHeld, TakeLeaves}
+use Rattle.hub_core.specs.Kept.{gate_answer, phase_of, enter_outcome, enter_end, enter_outcome_at, enter_ends_at, leave_outcome, leave_end, leave_outcome_at, leave_ends_at, TakeServes, TakeHeld, TakeLeaves, advanced_end, kept_settled, may_come}
 use Rattle.hub_core.proofs.Lists.{set_again}
 use Rattle.hub_core.proofs.Nexts.{next, facts_next}
 use Rattle.hub_core.proofs.Frames.{Stepped}
@@ -49,15 +49,15 @@ gate_changes false false s = refl
 
 enter_line_same : (ends : List End) (s : Sender) (x : End) → slice_get ends s.end.0 ≡ Some x → (q : Option Line) → changes_nothing (enter_outcome x q) (action.Enter s) ≡ true → set ends s.end.0 (enter_end x s.line.0 q) ≡ ends
 enter_line_same ends s x at None h = set_again ends s.end.0 x at
-enter_line_same ends s x at (Some y) h = elim (is_out y.phase) as (λ b. changes_nothing (cond b (gate_answer x y) outcome.NotNow) (action.Enter s) ≡ true → set ends s.end.0 (cond b (record x { lines = set x.lines s.line.0 (record y { phase = phase_of (gate_answer x y) }) }) x) ≡ ends) [
+enter_line_same ends s x at (Some y) h = elim (may_come y) as (λ b. changes_nothing (cond b (gate_answer x y) outcome.NotNow) (action.Enter s) ≡ true → set ends s.end.0 (cond b (record x { lines = set x.lines s.line.0 (record y { phase = phase_of (gate_answer x y) }) }) x) ≡ ends) [
   | true ↦ λ open_gate. absurd (false≢true (sym (gate_changes x.is_closed (nat_lt y.epoch x.newest) s) ∙ open_gate))
   | false ↦ λ _. set_again ends s.end.0 x at
 ] h
 
-pub enter_same : (ends : List End) (s : Sender) (P : Option AgentId) (q : Option End) → slice_get ends s.end.0 ≡ q → changes_nothing (enter_outcome_at P s.line.0 q) (action.Enter s) ≡ true → enter_ends_at P s ends q ≡ ends
-enter_same ends s P None at h = refl
-enter_same ends s None (Some x) at h = refl
-enter_same ends s (Some a) (Some x) at h = enter_line_same ends s x at (slice_get x.lines s.line.0) h
+pub enter_same : (ends : List End) (s : Sender) (may : Bool) (q : Option End) → slice_get ends s.end.0 ≡ q → changes_nothing (enter_outcome_at may s.line.0 q) (action.Enter s) ≡ true → enter_ends_at may s ends q ≡ ends
+enter_same ends s may None at h = refl
+enter_same ends s false (Some x) at h = refl
+enter_same ends s true (Some x) at h = enter_line_same ends s x at (slice_get x.lines s.line.0) h
 
 leave_line_same : (ends : List End) (s : Sender) (x : End) → slice_get ends s.end.0 ≡ Some x → (q : Option Line) → changes_nothing (leave_outcome q) (action.Leave s) ≡ true → set ends s.end.0 (leave_end x s.line.0 q) ≡ ends
 leave_line_same ends s x at None h = set_again ends s.end.0 x at
@@ -70,10 +70,15 @@ pub leave_same : (ends : List End) (s : Sender) (q : Option End) → slice_get e
 leave_same ends s None at h = refl
 leave_same ends s (Some x) at h = leave_line_same ends s x at (slice_get x.lines s.line.0) h
 
+-- a taker that stays changes nothing
+left_same : (e : EndId) (x : End) (o : Outcome) (last settled : Bool) → o ≡ cond last outcome.Empty (cond settled outcome.Again outcome.Busy) → changes_nothing o (action.Take e) ≡ true → cond last x (cond settled (advanced_end x) x) ≡ x
+left_same e x o true settled is h = refl
+left_same e x o false true is h = absurd (false≢true (subst (λ p. changes_nothing p (action.Take e) ≡ true) is h))
+left_same e x o false false is h = refl
+
 take_serves_same : (ends new : List End) (e : EndId) (x : End) (a : AgentId) (o : Outcome) → slice_get ends e.0 ≡ Some x → TakeServes a e.0 ends x o new → changes_nothing o (action.Take e) ≡ true → new ≡ ends
 take_serves_same ends new e x a (outcome.Got v) at t h = absurd (false≢true h)
-take_serves_same ends new e x a outcome.Empty at t h = t.1 ∙ set_again ends e.0 x at
-take_serves_same ends new e x a _ at t h = absurd t
+take_serves_same ends new e x a o at t h = t.2 ∙ ap (set ends e.0) (left_same e x o (nat_le x.newest x.taker) (kept_settled x x.taker) t.1 h) ∙ set_again ends e.0 x at
 
 take_held_same : (ends new : List End) (e : EndId) (x : End) (P : Option AgentId) (o : Outcome) → slice_get ends e.0 ≡ Some x → TakeHeld P e.0 ends x o new → changes_nothing o (action.Take e) ≡ true → new ≡ ends
 take_held_same ends new e x None o at t h = t.1

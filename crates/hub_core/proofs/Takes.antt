@@ -1,5 +1,5 @@
 -- Start and Take: what the core answers fits, and it shows the facts with the answered step.
-use Rattle.std.proofs.Common.{◌≡◌, ℕ, zero, suc, ◌+◌, ◌<◌, ◌≤◌, Bool, true, false, cond, eqb, List, [], ◌∷◌, ◌++◌, length, get_or, set, Option, Some, None, refl, sym, ap, subst, ◌∙◌, arith, rules, append-nil, append_assoc}
+use Rattle.std.proofs.Common.{◌≡◌, ℕ, zero, suc, ◌+◌, ◌<◌, Bool, true, false, cond, eqb, List, [], ◌∷◌, ◌++◌, length, get_or, set, Option, Some, None, refl, sym, ap, subst, ◌∙◌, arith, rules, append_assoc}
 use Rattle.std.specs.Prelude.{is_some}
 use Rattle.std.specs.Bool.{MatchBool}
 use Rattle.std.specs.List.{slice_get, AllByRecursion}
@@ -18,19 +18,20 @@ use Rattle.hub_core.specs.declared.outcome.Outcome.{Outcome}
 use Rattle.hub_core.specs.declared.outcome.Outcome.TheVariants as outcome
 use Rattle.hub_core.specs.Facts.{EndNow, LineNow, Facts}
 use Rattle.hub_core.specs.Place.{arrived}
-use Rattle.hub_core.specs.Sender.{by, in_queue}
+use Rattle.hub_core.specs.Sender.{in_queue}
 use Rattle.hub_core.specs.Posting.{running_at, holder}
-use Rattle.hub_core.specs.Taking.{IsNext, IsDrained, Serves, FitsTake, start_answer}
+use Rattle.hub_core.specs.Taking.{IsNext, Serves, FitsTake, start_answer}
 use Rattle.hub_core.specs.Sound.{no_end, IsOfEnd, Sound}
 use Rattle.hub_core.specs.Shows.{end_now, ShowsEnd, ShowsFacts}
 use Rattle.hub_core.specs.Kept.{kept_holder, start_outcome, start_ends, with_taker_queue, Moves, TakeServes, TakeHeld, TakeLeaves}
-use Rattle.hub_core.proofs.Lists.{eqb_same, set_again, each_set, get_or-set_same, get_or-set_other, is_there, AllByRecursion-weaker}
-use Rattle.hub_core.proofs.Waits.{all_kept, all_back, of_queue, queue_more, queue_other, next_in_line, all_taken}
+use Rattle.hub_core.proofs.Lists.{eqb_same, each_set, get_or-set_same, get_or-set_other, is_there}
+use Rattle.hub_core.proofs.Waits.{all_kept, all_back, of_queue, queue_more, queue_other, next_in_line}
 use Rattle.hub_core.proofs.Frames.{ShownAt, Stepped, changed, unchanged}
 use Rattle.hub_core.proofs.Holders.{holder_kept}
-use Rattle.hub_core.proofs.Moving.{moved_shown}
-use Rattle.hub_core.proofs.SoundLines.{line_epochs}
-use Rattle.hub_core.proofs.SoundPlaces.{runs_there, placed_made, taken_flies}
+use Rattle.hub_core.proofs.Placing.{moved_shown}
+use Rattle.hub_core.proofs.Speakers.{runs_there, placed_made, taken_flies}
+use Rattle.hub_core.proofs.GoingOn.{taker_queue_at, nothing_shown}
+use Rattle.hub_core.proofs.SoundWaiting.{nothing_more, taken_prefix}
 
 -- ---- Start
 
@@ -38,13 +39,13 @@ start_as : (f : Facts) (e : EndId) (x : EndNow) (P : Option AgentId) → f.end e
 start_as f e x P end is = ap (λ (y : EndNow). cond y.closed outcome.Closed (cond (is_some P) outcome.Started outcome.NotNow)) (sym end) ∙ ap (λ Q. cond (f.end e.0).closed outcome.Closed (cond (is_some Q) outcome.Started outcome.NotNow)) is
 
 -- the end, enabled
-enabled_end : (now : EndNow) (line : ℕ → LineNow) (vs ts : List Envelope) (x : End) → ShowsEnd now line vs ts (Some x) → ShowsEnd (record now { enabled = true }) line vs ts (Some (record x { is_enabled = true }))
-enabled_end now line vs ts x h = record {
+enabled_end : (now : EndNow) (line : ℕ → LineNow) (clear : ℕ → Bool) (vs ts : List Envelope) (x : End) → ShowsEnd now line clear vs ts (Some x) → ShowsEnd (record now { enabled = true }) line clear vs ts (Some (record x { is_enabled = true }))
+enabled_end now line clear vs ts x h = record {
   same = ap (λ (e : EndNow). let d : EndNow = record e { enabled = true } in d) h.same;
   count = h.count;
   lines = h.lines;
   put = h.put;
-  queues = record { newest = h.queues.newest; count = h.queues.count; behind = h.queues.behind; each = h.queues.each };
+  queues = record { reached = h.queues.reached; clear_below = h.queues.clear_below; count = h.queues.count; inside = h.queues.inside; behind = h.queues.behind; each = h.queues.each };
 }
 
 start_end : (agents : List Agent) (ends : List End) (f : Facts) (e : EndId) (refused : Bool) (x : End) → ShowsFacts agents ends f → slice_get ends e.0 ≡ Some x → (closed : Bool) (P : Option AgentId) → cond closed outcome.Closed (cond (is_some P) outcome.Started outcome.NotNow) ≡ start_answer f e → Stepped agents (cond closed ends (cond (is_some P) (set ends e.0 (record x { is_enabled = true })) ends)) f (action.Start e) refused (cond closed outcome.Closed (cond (is_some P) outcome.Started outcome.NotNow))
@@ -52,9 +53,9 @@ start_end agents ends f e refused x h at true P answer = unchanged agents ends e
 start_end agents ends f e refused x h at false None answer = unchanged agents ends ends f (action.Start e) refused outcome.NotNow outcome.NotNow h refl refl refl answer
 start_end agents ends f e refused x h at false (Some a) answer =
     changed agents ends _ f (action.Start e) refused outcome.Started h answer refl refl refl (length-set ends e.0 (record x { is_enabled = true }))
-    (each_set (λ d o. ShowsEnd (record (f.end d) { enabled = cond (eqb d e.0) true (f.end d).enabled }) (f.line d) (f.accepted d) (f.taken d) o) ends e.0 (record x { is_enabled = true }) (slice_get_within ends e.0 x at)
-    (subst (λ b. ShowsEnd (record (f.end e.0) { enabled = cond b true (f.end e.0).enabled }) (f.line e.0) (f.accepted e.0) (f.taken e.0) (Some (record x { is_enabled = true }))) (sym (eqb_same e.0)) (enabled_end (f.end e.0) (f.line e.0) (f.accepted e.0) (f.taken e.0) x (subst (ShownAt f e.0) at (h.end e.0))))
-    (λ d other. subst (λ b. ShowsEnd (record (f.end d) { enabled = cond b true (f.end d).enabled }) (f.line d) (f.accepted d) (f.taken d) (slice_get ends d)) (sym (ne_eqb d e.0 other)) (h.end d)))
+    (each_set (λ d o. ShowsEnd (record (f.end d) { enabled = cond (eqb d e.0) true (f.end d).enabled }) (f.line d) (f.clear d) (f.accepted d) (f.taken d ++ f.discarded d) o) ends e.0 (record x { is_enabled = true }) (slice_get_within ends e.0 x at)
+    (subst (λ b. ShowsEnd (record (f.end e.0) { enabled = cond b true (f.end e.0).enabled }) (f.line e.0) (f.clear e.0) (f.accepted e.0) (f.taken e.0 ++ f.discarded e.0) (Some (record x { is_enabled = true }))) (sym (eqb_same e.0)) (enabled_end (f.end e.0) (f.line e.0) (f.clear e.0) (f.accepted e.0) (f.taken e.0 ++ f.discarded e.0) x (subst (ShownAt f e.0) at (h.end e.0))))
+    (λ d other. subst (λ b. ShowsEnd (record (f.end d) { enabled = cond b true (f.end d).enabled }) (f.line d) (f.clear d) (f.accepted d) (f.taken d ++ f.discarded d) (slice_get ends d)) (sym (ne_eqb d e.0 other)) (h.end d)))
 
 start_at : (agents : List Agent) (ends : List End) (f : Facts) (e : EndId) (refused : Bool) → ShowsFacts agents ends f → (o : Option End) → slice_get ends e.0 ≡ o → ShownAt f e.0 o → (P : Option AgentId) → P ≡ holder f e.0 → Stepped agents (start_ends P e.0 ends o) f (action.Start e) refused (start_outcome P o)
 start_at agents ends f e refused h None at shown P is =
@@ -72,43 +73,24 @@ pub record Front (f : Facts) (e : EndId) (v : Envelope) : Type 0 where
   pub end : v.end.0 ≡ e.0
   pub epoch : v.epoch ≡ (f.end e.0).taker_stand
 
-taker_queue_at : (f : Facts) (e : EndId) (x : End) → ShownAt f e.0 (Some x) → in_queue ((f.end e.0).taker_stand) (f.accepted e.0) ≡ in_queue ((f.end e.0).taker_stand) (f.taken e.0) ++ get_or x.queues 0 []
-taker_queue_at f e x h =
-    let taker : (f.end e.0).taker_stand ≡ x.taker + 0 = ap (λ (y : EndNow). y.taker_stand) h.same ∙ omega arith in
-    subst (λ k. in_queue k (f.accepted e.0) ≡ in_queue k (f.taken e.0) ++ get_or x.queues 0 []) (sym taker) (h.queues.each 0)
-
-front_at : (f : Facts) (e : EndId) (x : End) (v : Envelope) (rest : List Envelope) → Sound f → ShownAt f e.0 (Some x) → get_or x.queues 0 [] ≡ v ∷ rest → Front f e v
-front_at f e x v rest s h front =
+front_at : (f : Facts) (e : EndId) (x : End) (v : Envelope) (rest : List Envelope) → Sound f → f.discarded e.0 ≡ [] → ShownAt f e.0 (Some x) → get_or x.queues 0 [] ≡ v ∷ rest → Front f e v
+front_at f e x v rest s none h front =
     let t : ℕ = (f.end e.0).taker_stand in
-    let at : in_queue t (f.accepted e.0) ≡ in_queue t (f.taken e.0) ++ v ∷ rest = taker_queue_at f e x h ∙ ap (λ q. in_queue t (f.taken e.0) ++ q) front in
+    let at : in_queue t (f.accepted e.0) ≡ in_queue t (f.taken e.0) ++ v ∷ rest = taker_queue_at f e x none h ∙ ap (λ q. in_queue t (f.taken e.0) ++ q) front in
     let epochs = all_back (λ (u : Envelope). u.epoch ≡ t) (in_queue t (f.taken e.0)) (v ∷ rest) (subst (AllByRecursion (λ (u : Envelope). u.epoch ≡ t)) at (of_queue t (f.accepted e.0))) in
     let named = all_back _ (in_queue t (f.taken e.0)) (v ∷ rest) (subst (AllByRecursion (IsOfEnd e.0 _ (f.line e.0))) at (all_kept _ (λ (u : Envelope). eqb u.epoch t) (f.accepted e.0) (s.lines e.0).named)) in
     record { end = named.0.end; epoch = epochs.0 }
 
 -- the envelope at the front is the next of its line
-next_of : (f : Facts) (e : EndId) (x : End) (v : Envelope) (rest : List Envelope) → Sound f → ShownAt f e.0 (Some x) → get_or x.queues 0 [] ≡ v ∷ rest → IsNext f e v
-next_of f e x v rest s h front =
+next_of : (f : Facts) (e : EndId) (x : End) (v : Envelope) (rest : List Envelope) → Sound f → f.discarded e.0 ≡ [] → ShownAt f e.0 (Some x) → get_or x.queues 0 [] ≡ v ∷ rest → IsNext f e v
+next_of f e x v rest s none h front =
     let t : ℕ = (f.end e.0).taker_stand in
-    let here = front_at f e x v rest s h front in
+    let here = front_at f e x v rest s none h front in
     record {
       end = here.end;
       epoch = here.epoch;
-      order = next_in_line t (f.accepted e.0) (f.taken e.0) rest v ((s.waiting e.0).prefix v.line.0) ((s.lines e.0).rising v.line.0) ((s.waiting e.0).behind v.line.0)
-          (taker_queue_at f e x h ∙ ap (λ q. in_queue t (f.taken e.0) ++ q) front);
-    }
-
-drained_of : (f : Facts) (e : EndId) (x : End) → Sound f → ShownAt f e.0 (Some x) → get_or x.queues 0 [] ≡ [] → IsDrained f e
-drained_of f e x s h empty =
-    let t : ℕ = (f.end e.0).taker_stand in
-    let first : (f.end e.0).newest ≡ 0 = ap (λ (y : EndNow). y.newest) h.same ∙ h.queues.newest in
-    let reached : t ≤ (f.end e.0).newest = (s.lines e.0).taker_stand in
-    let last : t ≡ (f.end e.0).newest = omega arith in
-    let drained : in_queue t (f.accepted e.0) ≡ in_queue t (f.taken e.0) = taker_queue_at f e x h ∙ ap (λ q. in_queue t (f.taken e.0) ++ q) empty ∙ append-nil (in_queue t (f.taken e.0)) in
-    record {
-      newest = last;
-      all = λ l. all_taken t l (f.accepted e.0) (f.taken e.0) ((s.waiting e.0).prefix l) ((s.waiting e.0).behind l)
-          (AllByRecursion-weaker (λ (u : Envelope). u.epoch ≤ (f.line e.0 l).stand) (λ u. u.epoch ≤ t) (λ u less. let within : (f.line e.0 l).stand ≤ (f.end e.0).newest = (s.lines e.0).stand l in omega arith) (by l (f.accepted e.0)) (line_epochs e.0 _ (f.line e.0) (f.accepted e.0) l (s.lines e.0).named))
-          drained;
+      order = next_in_line t (f.accepted e.0) (f.taken e.0) rest v (taken_prefix v.line.0 (f.taken e.0) (f.discarded e.0) (f.accepted e.0) ((s.waiting e.0).prefix v.line.0)) ((s.lines e.0).rising v.line.0) ((s.waiting e.0).behind v.line.0)
+          (taker_queue_at f e x none h ∙ ap (λ q. in_queue t (f.taken e.0) ++ q) front);
     }
 
 some_queue : (queues : List (List Envelope)) (v : Envelope) (rest : List Envelope) → get_or queues 0 [] ≡ v ∷ rest → 0 < length queues
@@ -127,40 +109,45 @@ each_taken taker vs ts queues v rest epoch front each (suc i) =
     ∙ ap (λ q. in_queue (taker + suc i) (ts ++ v ∷ []) ++ q) (sym (get_or-set_other queues 0 (suc i) rest (λ is. omega arith)))
 
 -- the end whose front was taken
-taken_end : (f : Facts) (e : EndId) (x : End) (v : Envelope) (rest : List Envelope) → Sound f → ShownAt f e.0 (Some x) → get_or x.queues 0 [] ≡ v ∷ rest → ShowsEnd (f.end e.0) (f.line e.0) (f.accepted e.0) (f.taken e.0 ++ v ∷ []) (Some (with_taker_queue x rest))
-taken_end f e x v rest s h front =
-    let taker : v.epoch ≡ x.taker = (front_at f e x v rest s h front).epoch ∙ ap (λ (y : EndNow). y.taker_stand) h.same in
+taken_end : (f : Facts) (e : EndId) (x : End) (v : Envelope) (rest : List Envelope) → Sound f → f.discarded e.0 ≡ [] → ShownAt f e.0 (Some x) → get_or x.queues 0 [] ≡ v ∷ rest → ShowsEnd (f.end e.0) (f.line e.0) (f.clear e.0) (f.accepted e.0) (f.taken e.0 ++ v ∷ []) (Some (with_taker_queue x rest))
+taken_end f e x v rest s none h front =
+    let taker : v.epoch ≡ x.taker = (front_at f e x v rest s none h front).epoch ∙ ap (λ (y : EndNow). y.taker_stand) h.same in
+    let same : f.taken e.0 ++ f.discarded e.0 ≡ f.taken e.0 = nothing_more (f.taken e.0) (f.discarded e.0) none in
     record {
       same = h.same;
       count = h.count;
       lines = h.lines;
       put = h.put;
       queues = record {
-        newest = h.queues.newest;
-        count = ap (λ n. x.taker + n) (length-set x.queues 0 rest) ∙ h.queues.count;
-        behind = λ k less. h.queues.behind k less ∙ sym (queue_other k (f.taken e.0) v (λ is. omega arith));
-        each = each_taken x.taker (f.accepted e.0) (f.taken e.0) x.queues v rest taker front h.queues.each;
+        reached = h.queues.reached;
+        clear_below = h.queues.clear_below;
+        count = λ opened. ap (λ n. x.taker + n) (length-set x.queues 0 rest) ∙ h.queues.count opened;
+        inside = λ l at. subst (λ n. (f.line e.0 l).stand < x.taker + n) (sym (length-set x.queues 0 rest)) (h.queues.inside l at);
+        behind = λ k less. h.queues.behind k less ∙ ap (in_queue k) same ∙ sym (queue_other k (f.taken e.0) v (λ is. omega arith));
+        each = each_taken x.taker (f.accepted e.0) (f.taken e.0) x.queues v rest taker front (λ i. subst (λ us. in_queue (x.taker + i) (f.accepted e.0) ≡ in_queue (x.taker + i) us ++ get_or x.queues i []) same (h.queues.each i));
       };
     }
 
 -- every end, with the envelope taken and its ports arrived
-got_shown : (agents : List Agent) (ends new : List End) (f : Facts) (e : EndId) (refused : Bool) (x : End) (a : AgentId) (v : Envelope) (rest : List Envelope) → ShowsFacts agents ends f → slice_get ends e.0 ≡ Some x → (f.end e.0).place ≡ Some (With a) → FitsTake f e (outcome.Got v) → get_or x.queues 0 [] ≡ v ∷ rest → IsNext f e v → Moves v.ports (Arrived a) (set ends e.0 (with_taker_queue x rest)) new → Stepped agents new f (action.Take e) refused (outcome.Got v)
-got_shown agents ends new f e refused x a v rest h at has fits front n moves =
+got_shown : (agents : List Agent) (ends new : List End) (f : Facts) (e : EndId) (refused : Bool) (x : End) (a : AgentId) (v : Envelope) (rest : List Envelope) → ShowsFacts agents ends f → slice_get ends e.0 ≡ Some x → (f.end e.0).place ≡ Some (With a) → (f.end e.0).closed ≡ false → FitsTake f e (outcome.Got v) → get_or x.queues 0 [] ≡ v ∷ rest → IsNext f e v → Moves v.ports (Arrived a) (set ends e.0 (with_taker_queue x rest)) new → Stepped agents new f (action.Take e) refused (outcome.Got v)
+got_shown agents ends new f e refused x a v rest h at has opened fits front n moves =
     let base : List End = set ends e.0 (with_taker_queue x rest) in
     let shown : ShownAt f e.0 (Some x) = subst (ShownAt f e.0) at (h.end e.0) in
-    let each : (d : ℕ) → ShowsEnd (f.end d) (f.line d) (f.accepted d) (cond (eqb d e.0) (f.taken d ++ v ∷ []) (f.taken d)) (slice_get base d) =
-    each_set (λ d o. ShowsEnd (f.end d) (f.line d) (f.accepted d) (cond (eqb d e.0) (f.taken d ++ v ∷ []) (f.taken d)) o) ends e.0 (with_taker_queue x rest) (slice_get_within ends e.0 x at)
-    (subst (λ b. ShowsEnd (f.end e.0) (f.line e.0) (f.accepted e.0) (cond b (f.taken e.0 ++ v ∷ []) (f.taken e.0)) (Some (with_taker_queue x rest))) (sym (eqb_same e.0)) (taken_end f e x v rest h.sound shown front))
-    (λ d other. subst (λ b. ShowsEnd (f.end d) (f.line d) (f.accepted d) (cond b (f.taken d ++ v ∷ []) (f.taken d)) (slice_get ends d)) (sym (ne_eqb d e.0 other)) (h.end d))
+    let none : f.discarded e.0 ≡ [] = (h.sound.waiting e.0).kept opened in
+    let each : (d : ℕ) → ShowsEnd (f.end d) (f.line d) (f.clear d) (f.accepted d) (cond (eqb d e.0) (f.taken d ++ v ∷ []) (f.taken d) ++ f.discarded d) (slice_get base d) =
+    each_set (λ d o. ShowsEnd (f.end d) (f.line d) (f.clear d) (f.accepted d) (cond (eqb d e.0) (f.taken d ++ v ∷ []) (f.taken d) ++ f.discarded d) o) ends e.0 (with_taker_queue x rest) (slice_get_within ends e.0 x at)
+    (subst (λ b. ShowsEnd (f.end e.0) (f.line e.0) (f.clear e.0) (f.accepted e.0) (cond b (f.taken e.0 ++ v ∷ []) (f.taken e.0) ++ f.discarded e.0) (Some (with_taker_queue x rest))) (sym (eqb_same e.0))
+    (subst (λ us. ShowsEnd (f.end e.0) (f.line e.0) (f.clear e.0) (f.accepted e.0) us (Some (with_taker_queue x rest))) (sym (nothing_more (f.taken e.0 ++ v ∷ []) (f.discarded e.0) none)) (taken_end f e x v rest h.sound none shown front)))
+    (λ d other. subst (λ b. ShowsEnd (f.end d) (f.line d) (f.clear d) (f.accepted d) (cond b (f.taken d ++ v ∷ []) (f.taken d) ++ f.discarded d) (slice_get ends d)) (sym (ne_eqb d e.0 other)) (h.end d))
     in
     let made : e.0 < f.ends = placed_made f e.0 (With a) h.sound.places has in
     let same_count : length base ≡ length ends = length-set ends e.0 (with_taker_queue x rest) in
     changed agents ends new f (action.Take e) refused (outcome.Got v) h fits refl refl refl (moves.count ∙ same_count) (λ d.
-    subst (ShowsEnd _ _ _ _) (sym (moves.each d))
-    (moved_shown (f.end d) (f.line d) (f.accepted d) (cond (eqb d e.0) (f.taken d ++ v ∷ []) (f.taken d)) (slice_get base d) v.ports (Arrived a) (arrived ((f.end e.0).place) ((f.end d).place)) d (λ named. (
+    subst (ShowsEnd _ _ _ _ _) (sym (moves.each d))
+    (moved_shown (f.end d) (f.line d) (f.clear d) (f.accepted d) (cond (eqb d e.0) (f.taken d ++ v ∷ []) (f.taken d) ++ f.discarded d) (slice_get base d) v.ports (Arrived a) (arrived ((f.end e.0).place) ((f.end d).place)) d (λ named. (
       ap (λ p. arrived p ((f.end d).place)) has,
       λ none.
-          let there : d < f.ends = placed_made f d InFlight h.sound.places (taken_flies f e v d h.sound n made named) in
+          let there : d < f.ends = placed_made f d InFlight h.sound.places (taken_flies f e v d h.sound n opened made named) in
           let count : f.ends ≡ length ends = h.ends in
           is_there base d (omega arith) none,
     )) (each d)))
@@ -193,14 +180,12 @@ agent_of f p b a is held = running_agent f b a (subst (λ q. running_at (λ c. (
 take_served : (agents : List Agent) (ends new : List End) (f : Facts) (e : EndId) (refused : Bool) (x : End) (a : AgentId) → ShowsFacts agents ends f → slice_get ends e.0 ≡ Some x → (f.end e.0).closed ≡ false → holder f e.0 ≡ Some a → (f.end e.0).enabled ≡ true → (o : Outcome) → TakeServes a e.0 ends x o new → Stepped agents new f (action.Take e) refused o
 take_served agents ends new f e refused x a h at opened held enabled (outcome.Got v) served =
     let shown : ShownAt f e.0 (Some x) = subst (ShownAt f e.0) at (h.end e.0) in
-    let n = next_of f e x v served.0 h.sound shown served.1 in
+    let n = next_of f e x v served.0 h.sound ((h.sound.waiting e.0).kept opened) shown served.1 in
     let there = runs_there f (f.end e.0).place (ap is_some held) in
     let same : there.0 ≡ a = agent_of f (f.end e.0).place there.0 a there.1 held in
-    got_shown agents ends new f e refused x a v served.0 h at (there.1 ∙ ap (λ b. Some (With b)) same) (fits_served f e (outcome.Got v) opened (ap is_some held) enabled n) served.1 n served.2
-take_served agents ends new f e refused x a h at opened held enabled outcome.Empty served =
-    let shown : ShownAt f e.0 (Some x) = subst (ShownAt f e.0) at (h.end e.0) in
-    unchanged agents ends new f (action.Take e) refused outcome.Empty outcome.Empty h refl refl (served.1 ∙ set_again ends e.0 x at) (fits_served f e outcome.Empty opened (ap is_some held) enabled (drained_of f e x h.sound shown served.0))
-take_served agents ends new f e refused x a h at opened held enabled _ served = absurd served
+    got_shown agents ends new f e refused x a v served.0 h at (there.1 ∙ ap (λ b. Some (With b)) same) opened (fits_served f e (outcome.Got v) opened (ap is_some held) enabled n) served.1 n served.2
+take_served agents ends new f e refused x a h at opened held enabled o served =
+    nothing_shown agents ends new f e refused x o h at opened served.0 (λ p serves. fits_served f e p opened (ap is_some held) enabled serves) served.1 served.2
 
 take_held : (agents : List Agent) (ends new : List End) (f : Facts) (e : EndId) (refused : Bool) (x : End) (o : Outcome) → ShowsFacts agents ends f → slice_get ends e.0 ≡ Some x → (f.end e.0).closed ≡ false → (P : Option AgentId) → holder f e.0 ≡ P → (enabled : Bool) → (f.end e.0).enabled ≡ enabled → x.is_enabled ≡ enabled → TakeHeld P e.0 ends x o new → Stepped agents new f (action.Take e) refused o
 take_held agents ends new f e refused x o h at opened None is enabled says keeps t = unchanged agents ends new f (action.Take e) refused o outcome.NotNow h refl t.0 t.1 (fits_unheld f e opened (ap is_some is))

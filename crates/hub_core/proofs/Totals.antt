@@ -62,6 +62,17 @@ one_bit v false = refl
 pub count_more : (P : Envelope → Bool) (vs : List Envelope) (v : Envelope) → count P (vs ++ v ∷ []) ≡ count P vs + bit (P v)
 count_more P vs v = ap length (filter-append P vs (v ∷ [])) ∙ length-append (filter P vs) (filter P (v ∷ [])) ∙ ap (λ n. count P vs + n) (one_bit v (P v))
 
+pub count_append : (P : Envelope → Bool) (vs ws : List Envelope) → count P (vs ++ ws) ≡ count P vs + count P ws
+count_append P vs ws = ap length (filter-append P vs ws) ∙ length-append (filter P vs) (filter P ws)
+
+-- one more before the last ones
+pub count_between : (P : Envelope → Bool) (vs ws : List Envelope) (v : Envelope) → count P ((vs ++ v ∷ []) ++ ws) ≡ count P (vs ++ ws) + bit (P v)
+count_between P vs ws v =
+    let more : count P ((vs ++ v ∷ []) ++ ws) ≡ count P (vs ++ v ∷ []) + count P ws = count_append P (vs ++ v ∷ []) ws in
+    let one : count P (vs ++ v ∷ []) ≡ count P vs + bit (P v) = count_more P vs v in
+    let both : count P (vs ++ ws) ≡ count P vs + count P ws = count_append P vs ws in
+    omega arith
+
 count_first : (P : Envelope → Bool) (vs : List Envelope) (v : Envelope) (b : Bool) → length (cond b (v ∷ filter P vs) (filter P vs)) ≡ count P vs + bit b
 count_first P vs v true = omega arith
 count_first P vs v false = omega arith

@@ -7,8 +7,7 @@ use Rattle.std.proofs.lemmas.Bool.Decides.{nat_tests}
 use Rattle.std.proofs.lemmas.List.{append_cancel_left}
 use Rattle.std.proofs.lemmas.List.Elements.{filter-append}
 use Rattle.hub_envelope.specs.declared.envelope.Envelope.{Envelope}
-use Rattle.hub_core.specs.Sender.{by, in_queue, Prefix}
-use Rattle.hub_core.specs.Sound.{Rises}
+use Rattle.hub_core.specs.Sender.{by, in_queue, Prefix, Rises}
 use Rattle.hub_core.proofs.Lists.{eqb_same}
 
 -- ---- filters
@@ -68,7 +67,7 @@ first_of u xs true h = absurd (search (rules, h))
 first_of u xs false h = (refl, h)
 
 -- where nothing is left of the queues below, all that is left is of this queue or later ones
-from_queue : (t : ℕ) (rs : List Envelope) → ((k : ℕ) → k < t → in_queue k rs ≡ []) → AllByRecursion (λ (u : Envelope). t ≤ u.epoch) rs
+pub from_queue : (t : ℕ) (rs : List Envelope) → ((k : ℕ) → k < t → in_queue k rs ≡ []) → AllByRecursion (λ (u : Envelope). t ≤ u.epoch) rs
 from_queue t [] h = tt
 from_queue t (u ∷ rs) h = (
   elim (nat_lt u.epoch t) as (λ b. nat_lt u.epoch t ≡ b → t ≤ u.epoch) [
@@ -80,7 +79,7 @@ from_queue t (u ∷ rs) h = (
   from_queue t rs (λ k less. (first_of u (in_queue k rs) (eqb u.epoch k) (h k less)).1),
 )
 
-rises_back : (xs ys : List Envelope) → Rises (xs ++ ys) → Rises ys
+pub rises_back : (xs ys : List Envelope) → Rises (xs ++ ys) → Rises ys
 rises_back [] ys h = h
 rises_back (x ∷ xs) ys h = rises_back xs ys h.1
 

@@ -1,5 +1,5 @@
 -- What was accepted for an end: the tasks queued on a port message queue (WHATWG HTML, "Message ports").
-use Rattle.std.specs.Prelude.{ℕ, ◌==◌, if◌then◌else◌, List, [], ◌∷◌, false}
+use Rattle.std.specs.Prelude.{ℕ, ◌==◌, if◌then◌else◌, List, [], ◌∷◌, true, false, codes}
 use Rattle.std.specs.List.{flat_map}
 use Rattle.hub_envelope.specs.declared.envelope.Envelope.{Envelope}
 use Rattle.hub_envelope.specs.declared.ids.EndId.{EndId}
@@ -16,12 +16,18 @@ abbrev pub named_envelope : Sender → Acceptance → List ℕ → List EndId �
 named_envelope s a body ports =
     record { end = s.end; epoch = a.epoch; line = s.line; number = a.number; agent = a.agent; body = body; ports = ports; notice = false }
 
--- what an answered step puts at the end: the envelope of a Push answered Accepted
+-- a notice that was accepted on a line, under its name: it has no agent of its own, no body and no ports
+abbrev pub named_notice : Sender → Acceptance → Envelope
+named_notice s a =
+    record { end = s.end; epoch = a.epoch; line = s.line; number = a.number; agent = a.agent; body = codes "null"; ports = []; notice = true }
+
+-- what an answered step puts at the end: the envelope of a Push, or of a Notice, answered Accepted
 abbrev pub accepted_by : ℕ → Outcome → Action → List Envelope
 accepted_by e (outcome.Accepted a) (action.Push s ports body) =
     if e == s.end.0 then named_envelope s a body ports.items ∷ [] else []
+accepted_by e (outcome.Accepted a) (action.Notice s) = if e == s.end.0 then named_notice s a ∷ [] else []
 accepted_by e _ _ = []
 
--- the envelopes of the Push steps to the end that were answered Accepted, in order
+-- the envelopes of the Push and Notice steps to the end that were answered Accepted, in order
 abbrev pub accepted : History → ℕ → List Envelope
 accepted h e = flat_map (λ p. accepted_by e p.1 p.0.action) h

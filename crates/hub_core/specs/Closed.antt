@@ -1,14 +1,16 @@
 -- Whether an end is closed (WHATWG HTML, "Message ports", `close()`).
-use Rattle.std.specs.Prelude.{ℕ, Bool, false}
+use Rattle.std.specs.Prelude.{ℕ, ◌==◌, if◌then◌else◌, Bool, true, false}
 use Rattle.std.specs.List.{fold}
 use Rattle.hub_core.specs.declared.step.Action.{Action}
+use Rattle.hub_core.specs.declared.step.Action.TheVariants as action
 use Rattle.hub_core.specs.declared.outcome.Outcome.{Outcome}
+use Rattle.hub_core.specs.declared.outcome.Outcome.TheVariants as outcome
 use Rattle.hub_core.specs.History.{History}
 
--- No step closes an end yet.
 abbrev pub closed_after : ℕ → Bool → Outcome → Action → Bool
+closed_after x closed outcome.Done (action.Close t) = if x == t.0 then true else closed
 closed_after x closed _ _ = closed
 
--- An end is open at first.
+-- a Close of the end was answered Done
 abbrev pub closed : History → ℕ → Bool
 closed h x = fold (λ q p. closed_after x q p.1 p.0.action) false h

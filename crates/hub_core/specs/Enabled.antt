@@ -11,8 +11,9 @@ use Rattle.hub_core.specs.History.{History}
 abbrev pub enabled_after : ℕ → Bool → Outcome → Action → Bool
 enabled_after x enabled (outcome.Ends e f) (action.Channel a) = if x == e.0 || x == f.0 then false else enabled
 enabled_after x enabled outcome.Started (action.Start e) = if x == e.0 then true else enabled
+enabled_after x enabled (outcome.Adopted n) (action.Adopt t a) = if x == t.0 then false else enabled
 enabled_after x enabled _ _ = enabled
 
--- a Start of the end was answered Started after its making
+-- a Start of the end was answered Started after it was made, or last adopted
 abbrev pub enabled : History → ℕ → Bool
 enabled h x = fold (λ q p. enabled_after x q p.1 p.0.action) false h

@@ -11,6 +11,8 @@ use Rattle.hub_core.specs.Place as place
 use Rattle.hub_core.specs.Closed as closed
 use Rattle.hub_core.specs.Enabled as enabled
 use Rattle.hub_core.specs.Lines as lines
+use Rattle.hub_core.specs.Clear as clear
+use Rattle.hub_core.specs.Discarded as discarded
 
 -- an agent now
 pub record AgentNow : Type 0 where
@@ -29,16 +31,20 @@ pub record EndNow : Type 0 where
 pub record LineNow : Type 0 where
   pub phase : Phase
   pub stand : ℕ
+  pub noticed : Bool
 
--- how many agents and ends there are; each of them, by number; and by end what was accepted and taken there
+-- how many agents and ends there are; each of them, by number; which queues of an
+-- end are clear; and by end what was accepted, taken and discarded there
 pub record Facts : Type 0 where
   pub agents : ℕ
   pub ends : ℕ
   pub agent : ℕ → AgentNow
   pub end : ℕ → EndNow
   pub line : ℕ → ℕ → LineNow
+  pub clear : ℕ → ℕ → Bool
   pub accepted : ℕ → List Envelope
   pub taken : ℕ → List Envelope
+  pub discarded : ℕ → List Envelope
 
 -- the notions of a history
 abbrev pub facts : History → Facts
@@ -54,7 +60,9 @@ facts h = record {
     newest = lines.newest h x;
     taker_stand = lines.taker_stand h x;
   };
-  line = λ x l. record { phase = lines.phase h x l; stand = lines.stand h x l };
+  line = λ x l. record { phase = lines.phase h x l; stand = lines.stand h x l; noticed = lines.noticed h x l };
+  clear = clear.clear h;
   accepted = accepted.accepted h;
   taken = taken.taken h;
+  discarded = discarded.discarded h;
 }

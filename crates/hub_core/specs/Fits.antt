@@ -6,8 +6,10 @@ use Rattle.hub_core.specs.declared.outcome.Outcome.{Outcome}
 use Rattle.hub_core.specs.History.{Pair, History}
 use Rattle.hub_core.specs.Facts.{Facts, facts}
 use Rattle.hub_core.specs.Making.{agent_answer, channel_answer}
-use Rattle.hub_core.specs.Posting.{enter_answer, leave_answer, push_answer}
+use Rattle.hub_core.specs.Posting.{enter_answer, leave_answer, push_answer, notice_answer}
 use Rattle.hub_core.specs.Taking.{start_answer, FitsTake}
+use Rattle.hub_core.specs.Moving.{hop_answer, adopt_answer, close_answer}
+use Rattle.hub_core.specs.Looking.{look_answer, FitsSweep}
 
 -- the last but one argument says whether memory is refused in the step
 abbrev pub Answers : Facts → Action → Bool → Outcome → Type 0
@@ -15,9 +17,15 @@ Answers f action.Agent refused o = o ≡ agent_answer f refused
 Answers f (action.Channel a) refused o = o ≡ channel_answer f a refused
 Answers f (action.Enter s) refused o = o ≡ enter_answer f s
 Answers f (action.Push s ports body) refused o = o ≡ push_answer f s ports.items refused
+Answers f (action.Notice s) refused o = o ≡ notice_answer f s refused
 Answers f (action.Leave s) refused o = o ≡ leave_answer f s
+Answers f (action.Hop s) refused o = o ≡ hop_answer f s
 Answers f (action.Start e) refused o = o ≡ start_answer f e
 Answers f (action.Take e) refused o = FitsTake f e o
+Answers f (action.Look e) refused o = o ≡ look_answer f e
+Answers f (action.Adopt e a) refused o = o ≡ adopt_answer f e a refused
+Answers f (action.Close e) refused o = o ≡ close_answer f e
+Answers f (action.Sweep e) refused o = FitsSweep f e o
 
 -- the pair fits the history
 abbrev pub Fits : History → Pair → Type 0

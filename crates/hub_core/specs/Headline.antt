@@ -1,6 +1,6 @@
 -- What every legal history keeps, in the words of the subject (WHATWG HTML, "Message ports": the tasks of a
 -- port message queue are run in order, each once).
-use Rattle.std.specs.Prelude.{◌≡◌, ℕ, ◌==◌, ◌&&◌, ◌⊎◌, Bool, true, false, [], ◌∷◌, ◌++◌, length}
+use Rattle.std.specs.Prelude.{◌≡◌, ℕ, ◌==◌, ◌&&◌, ◌⊎◌, Bool, true, false, [], ◌∷◌, ◌++◌, length, ◌<◌}
 use Rattle.std.specs.List.{AllByRecursion}
 use Rattle.hub_envelope.specs.declared.ids.EndId.{EndId}
 use Rattle.hub_core.specs.declared.sender.Sender.{Sender}
@@ -16,6 +16,8 @@ use Rattle.hub_core.specs.Enabled.{enabled}
 use Rattle.hub_core.specs.Legal.{Same}
 use Rattle.hub_core.specs.Numbers.{up_to, numbers}
 use Rattle.hub_core.specs.Sender.{by, Prefix}
+use Rattle.hub_core.specs.Lines.{phase, stand, newest, taker_stand}
+use Rattle.hub_core.specs.Posting.{is_out}
 
 -- a Take, and an Enter, with memory refused in it or not
 abbrev pub take_of : EndId → Bool → Outcome → Pair
@@ -30,13 +32,14 @@ leave_of s refused = (record { action = action.Leave s; memory_refused = refused
 abbrev pub is_line : Sender → Sender → Bool
 is_line s t = s.end.0 == t.end.0 && s.line.0 == t.line.0
 
--- whether an answered step leaves the line, and whether it is a Push on it that was Accepted
+-- whether an answered step leaves the line, and whether it is a Push or a Notice on it that was Accepted
 abbrev pub leaves : Sender → Outcome → Action → Bool
 leaves s outcome.Left (action.Leave t) = is_line s t
 leaves s _ _ = false
 
 abbrev pub posts : Sender → Outcome → Action → Bool
 posts s (outcome.Accepted n) (action.Push t ports body) = is_line s t
+posts s (outcome.Accepted n) (action.Notice t) = is_line s t
 posts s _ _ = false
 
 -- the answers of an Enter that turn a poster back: the end is closed, or the line's queue is retired
@@ -49,10 +52,20 @@ pub record IsDrainedAt (h : History) (e : ℕ) : Type 0 where
   pub is_enabled : enabled h e ≡ true
   pub all : (line : ℕ) → by line (taken h e) ≡ by line (accepted h e)
 
+-- an open, enabled end with its taker at a retired queue, where the poster of some line is inside or being turned back
+pub record IsBusyAt (h : History) (e : ℕ) : Type 0 where
+  pub is_open : closed h e ≡ false
+  pub is_enabled : enabled h e ≡ true
+  pub retired : taker_stand h e < newest h e
+  pub line : ℕ
+  pub away : is_out (phase h e line) ≡ false
+  pub there : stand h e line ≡ taker_stand h e
+
 -- For each end and line, what was taken is a prefix of what was accepted, in order; and in each queue the
 -- envelopes are numbered 0, 1, 2 and so on, those accepted and those taken, so that each comes once. For each pair of
--- the history: a Take at a closed end takes nothing; from an Enter that was turned back to its Leave no Push of that
--- line is accepted, and the two leave the same; and a Take finds nothing only where nothing is left.
+-- the history: a Take at a closed end takes nothing; from an Enter that was turned back to its Leave nothing of that
+-- line is accepted, and the two leave the same; and a Take finds nothing only where nothing is left, or a poster is
+-- inside or being turned back at the taker's queue.
 pub record Headline (h : History) : Type 0 where
   pub prefix : (e line : ℕ) → Prefix (by line (taken h e)) (by line (accepted h e))
   pub accepted_once : (e line epoch : ℕ) → numbers line epoch (accepted h e) ≡ up_to (length (numbers line epoch (accepted h e)))
@@ -61,3 +74,4 @@ pub record Headline (h : History) : Type 0 where
   pub turned : (before middle after : History) (s : Sender) (refused : Bool) (o : Outcome) → IsTurned o → h ≡ before ++ enter_of s refused o ∷ (middle ++ after) → AllByRecursion (λ p. leaves s p.1 p.0.action ≡ false) middle → AllByRecursion (λ p. posts s p.1 p.0.action ≡ false) middle
   pub same : (before after : History) (s : Sender) (refused again : Bool) (o : Outcome) → IsTurned o → h ≡ before ++ enter_of s refused o ∷ after → Same (before ++ enter_of s refused o ∷ leave_of s again ∷ []) before
   pub empty : (before after : History) (e : EndId) (refused : Bool) → h ≡ before ++ take_of e refused outcome.Empty ∷ after → IsDrainedAt before e.0
+  pub busy : (before after : History) (e : EndId) (refused : Bool) → h ≡ before ++ take_of e refused outcome.Busy ∷ after → IsBusyAt before e.0

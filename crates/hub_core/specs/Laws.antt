@@ -14,11 +14,13 @@ use Rattle.hub_core.specs.History.{Pair, History}
 use Rattle.hub_core.specs.Facts.{facts}
 use Rattle.hub_core.specs.Accepted.{accepted}
 use Rattle.hub_core.specs.Taken.{taken}
-use Rattle.hub_core.specs.Sender.{in_queue, Prefix}
-use Rattle.hub_core.specs.Posting.{is_out, poster, phase_of_line}
+use Rattle.hub_core.specs.Sender.{in_queue, Prefix, by}
+use Rattle.hub_core.specs.Posting.{is_out, poster, phase_of_line, may_enter}
 use Rattle.hub_core.specs.Fits.{Fits}
 use Rattle.hub_core.specs.Legal.{Legal, Same}
 use Rattle.hub_core.specs.Unchanged.{changes_nothing}
+use Rattle.hub_core.specs.Discarded.{discarded}
+use Rattle.hub_envelope.specs.declared.envelope.Envelope.{Envelope}
 
 -- A pair that changes nothing leaves the same.
 abbrev pub NothingLeavesTheSame : Type 0
@@ -37,19 +39,25 @@ Posts h s a = poster (facts h) s ≡ Some a
 abbrev pub IsAway : History → Sender → Type 0
 IsAway h s = is_out (phase_of_line (facts h) s) ≡ false
 
--- A line whose poster is away has a running agent that posts on it, and keeps it with every pair that fits, until the
--- poster leaves.
+-- A line whose poster is away is one that may be entered; and the running agent that posts on it, where there is one,
+-- keeps it with every pair that fits, until the poster leaves.
 pub record KeepsTheLine : Type 0 where
-  pub held : (h : History) (s : Sender) → Legal h → IsAway h s → (a : AgentId) × Posts h s a
+  pub held : (h : History) (s : Sender) → Legal h → IsAway h s → may_enter (facts h) s ≡ true
   pub kept : (h : History) (p : Pair) (s : Sender) (a : AgentId) → Legal h → Fits h p → IsAway h s → IsAway (h ++ p ∷ []) s → Posts h s a → Posts (h ++ p ∷ []) s a
 
--- A Push of a poster that is being turned back is answered NotNow.
-abbrev pub TurnedPutsNothing : Type 0
-TurnedPutsNothing = (h : History) (s : Sender) (ports : Vec EndId Global) (body : List ℕ) (refused : Bool) (o : Outcome) → phase_of_line (facts h) s ≡ Turned → Fits h (record { action = action.Push s ports body; memory_refused = refused }, o) → o ≡ outcome.NotNow
+-- A Push or a Notice of a poster that is being turned back is answered NotNow.
+pub record TurnedPutsNothing : Type 0 where
+  pub push : (h : History) (s : Sender) (ports : Vec EndId Global) (body : List ℕ) (refused : Bool) (o : Outcome) → phase_of_line (facts h) s ≡ Turned → Fits h (record { action = action.Push s ports body; memory_refused = refused }, o) → o ≡ outcome.NotNow
+  pub notice : (h : History) (s : Sender) (refused : Bool) (o : Outcome) → phase_of_line (facts h) s ≡ Turned → Fits h (record { action = action.Notice s; memory_refused = refused }, o) → o ≡ outcome.NotNow
 
--- In each queue of each end what was taken is a beginning of what was accepted there, across all lines.
+-- After a notice nothing more of its line is accepted.
+abbrev pub NoticeIsLast : Type 0
+NoticeIsLast = (h : History) (e line : ℕ) (before after : List Envelope) (v : Envelope) → Legal h → by line (accepted h e) ≡ before ++ v ∷ after → v.notice ≡ true → after ≡ []
+
+-- In each queue of each end what was taken, and then discarded, is a beginning of what was accepted there, across all
+-- lines.
 pub record InOrder (h : History) : Type 0 where
-  pub each : (e k : ℕ) → Prefix (in_queue k (taken h e)) (in_queue k (accepted h e))
+  pub each : (e k : ℕ) → Prefix (in_queue k (taken h e ++ discarded h e)) (in_queue k (accepted h e))
 
 -- the two actions are one, but for where a list of ports lies in memory
 abbrev pub IsSameAction : Action → Action → Type 0

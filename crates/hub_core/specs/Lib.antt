@@ -7,9 +7,13 @@ pub mod Place
 pub mod Closed
 pub mod Enabled
 pub mod Lines
+pub mod Clear
+pub mod Discarded
 pub mod Facts
 pub mod Making
 pub mod Posting
+pub mod Looking
+pub mod Moving
 pub mod Taking
 pub mod Memory
 pub mod Fits
@@ -21,6 +25,7 @@ pub mod Unchanged
 pub mod Numbers
 pub mod Headline
 pub mod Laws
+pub mod Fates
 pub mod QueueMachine
 pub mod GateMachine
 pub mod GateMachineLaws

@@ -1,6 +1,6 @@
 -- Where the posters of an end's lines are, and at which queues its lines and its taker stand (this project's
 -- own; WHATWG HTML, "Message ports", moves the tasks of a transferred port to the new port's queue).
-use Rattle.std.specs.Prelude.{ℕ, ◌==◌, ◌&&◌, if◌then◌else◌}
+use Rattle.std.specs.Prelude.{ℕ, ◌+◌, ◌==◌, ◌&&◌, if◌then◌else◌, Bool, true, false}
 use Rattle.std.specs.List.{fold}
 use Rattle.hub_core.specs.declared.line.Phase.{Phase}
 use Rattle.hub_core.specs.declared.line.Phase.TheVariants.{Out, Inside, Turned}
@@ -11,8 +11,8 @@ use Rattle.hub_core.specs.declared.outcome.Outcome.{Outcome}
 use Rattle.hub_core.specs.declared.outcome.Outcome.TheVariants as outcome
 use Rattle.hub_core.specs.History.{History}
 
--- the phase, or the new one where the step is on this line of this end
-abbrev pub on_line : ℕ → ℕ → Sender → Phase → Phase → Phase
+-- what was, or the new where the step is on this line of this end
+abbrev pub on_line : {A : Type 0} → ℕ → ℕ → Sender → A → A → A
 on_line x l s new old = if x == s.end.0 && l == s.line.0 then new else old
 
 abbrev pub phase_after : ℕ → ℕ → Phase → Outcome → Action → Phase
@@ -27,26 +27,34 @@ phase_after x l phase _ _ = phase
 abbrev pub phase : History → ℕ → ℕ → Phase
 phase h x l = fold (λ q p. phase_after x l q p.1 p.0.action) Out h
 
--- how many queues of the end were followed by another: the adoptions. No step adopts yet.
 abbrev pub adoptions_after : ℕ → ℕ → Outcome → Action → ℕ
+adoptions_after x n (outcome.Adopted k) (action.Adopt t a) = if x == t.0 then n + 1 else n
 adoptions_after x n _ _ = n
 
--- the newest queue of the end
+-- The newest queue of the end: how often the end was adopted. The queues below it are retired.
 abbrev pub newest : History → ℕ → ℕ
 newest h x = fold (λ q p. adoptions_after x q p.1 p.0.action) 0 h
 
--- how often a line of the end went on to the next queue. No step moves a line yet.
 abbrev pub hops_after : ℕ → ℕ → ℕ → Outcome → Action → ℕ
+hops_after x l n (outcome.Hopped k) (action.Hop s) = on_line x l s (n + 1) n
 hops_after x l n _ _ = n
 
--- the queue at which a line of the end stands
+-- the queue at which a line of the end stands: how often it went on
 abbrev pub stand : History → ℕ → ℕ → ℕ
 stand h x l = fold (λ q p. hops_after x l q p.1 p.0.action) 0 h
 
--- how often the end's taker went on to the next queue. No step moves a taker yet.
 abbrev pub passed_after : ℕ → ℕ → Outcome → Action → ℕ
+passed_after x n outcome.Again (action.Take t) = if x == t.0 then n + 1 else n
 passed_after x n _ _ = n
 
--- the queue at which takes are made
+-- the queue at which takes are made: how often the taker went on
 abbrev pub taker_stand : History → ℕ → ℕ
 taker_stand h x = fold (λ q p. passed_after x q p.1 p.0.action) 0 h
+
+abbrev pub noticed_after : ℕ → ℕ → Bool → Outcome → Action → Bool
+noticed_after x l noticed (outcome.Accepted n) (action.Notice s) = on_line x l s true noticed
+noticed_after x l noticed _ _ = noticed
+
+-- a Notice on the line was answered Accepted
+abbrev pub noticed : History → ℕ → ℕ → Bool
+noticed h x l = fold (λ q p. noticed_after x l q p.1 p.0.action) false h

@@ -1,5 +1,5 @@
 -- Which agents and ends were made (WHATWG HTML, "Message channels").
-use Rattle.std.specs.Prelude.{ℕ, ◌+◌, ◌==◌, if◌then◌else◌, Bool, true, false, Option, Some, None, option_map}
+use Rattle.std.specs.Prelude.{ℕ, ◌+◌, ◌==◌, if◌then◌else◌, Bool, true, false, Option, Some, None, option_map, is_some}
 use Rattle.hub_core.specs.declared.sender.Sender.{Sender}
 use Rattle.std.specs.List.{fold}
 use Rattle.hub_core.specs.declared.step.Action.{Action}
@@ -43,3 +43,7 @@ peer h x = fold (λ q p. peer_after x q p.1 p.0.action) None h
 -- the line that a port posts on: line 0 of its peer
 abbrev pub line_of_port : History → ℕ → Option Sender
 line_of_port h x = option_map (λ q. record { end = record { 0 = q }; line = record { 0 = 0 } }) (peer h x)
+
+-- how many lines an end has: one where it is a port
+abbrev pub lines_of : Option ℕ → ℕ
+lines_of peer = if is_some peer then 1 else 0

@@ -1,5 +1,5 @@
--- What each pair of a history is to the mailbox of one end: one event, or nothing.
-use Rattle.std.specs.Prelude.{◌≡◌, ℕ, ◌<◌, ◌==◌, if◌then◌else◌, Bool, true, false, IsTrue, [], ◌∷◌, ◌++◌, Option, Some, None, slice_get}
+-- What each pair of a history is to the mailbox of one end: events there, or nothing.
+use Rattle.std.specs.Prelude.{◌≡◌, ℕ, ◌<◌, ◌==◌, if◌then◌else◌, Bool, true, false, IsTrue, [], ◌∷◌, ◌++◌, Option, Some, None, slice_get, List, map, zero, suc, ◌+◌, ◌-◌, ◌≤◌}
 use Rattle.hub_envelope.specs.declared.envelope.Envelope.{Envelope}
 use Rattle.hub_envelope.specs.declared.ids.EndId.{EndId}
 use Rattle.hub_core.specs.declared.line.Phase.{Phase}
@@ -10,16 +10,17 @@ use Rattle.hub_core.specs.declared.outcome.Outcome.{Outcome}
 use Rattle.hub_core.specs.declared.outcome.Outcome.TheVariants as outcome
 use Rattle.hub_core.specs.History.{Pair, History}
 use Rattle.hub_core.specs.Facts.{Facts, facts}
-use Rattle.hub_core.specs.Accepted.{named_envelope}
-use Rattle.hub_core.specs.Made.{ends, peer}
+use Rattle.hub_core.specs.Accepted.{named_envelope, named_notice}
+use Rattle.hub_core.specs.Made.{ends, peer, lines_of}
 use Rattle.hub_core.specs.Fits.{Fits}
 use Rattle.hub_core.specs.Legal.{Legal}
-use Rattle.hub_core.specs.Sound.{lines_of}
-use Rattle.hub_core.specs.GateMachine.{Gate, enter, leave, turn_back, enable, lets_in, says_moved, says_closed, lets_out, says_done}
+use Rattle.hub_core.specs.GateMachine.{Gate, enter, leave, turn_back, enable, lets_in, says_moved, says_closed, lets_out, says_done, busy, look, says_inside, gives_rights, close}
 use Rattle.hub_core.specs.QueueMachine.{Queue, popped}
 use Rattle.hub_core.specs.Mailbox.{Mailbox, QueueAt}
-use Rattle.hub_core.specs.MailboxSteps.{MailboxEvent, at_gate, push, pop, MailboxStep}
+use Rattle.hub_core.specs.MailboxSteps.{MailboxEvent, at_gate, push, pop, MailboxStep, hop, advance, add}
 use Rattle.hub_core.specs.MailboxShows.{ShowsMailbox}
+use Rattle.hub_core.specs.Looking.{looked}
+use Rattle.hub_core.specs.Sender.{in_queue}
 
 -- A history says nothing of rights. So there is one right, which each line has at every epoch.
 abbrev pub OneRight : Type 0
@@ -38,22 +39,61 @@ abbrev pub leaving : Mailbox OneRight → ℕ → ℕ → Phase → MailboxEvent
 leaving m k line Inside = at_gate k (leave line tt) (lets_out (enabled_of (slice_get m.gates k)))
 leaving m k line _ = at_gate k (turn_back line) says_done
 
--- the event, where the step is at this end
-abbrev pub at_end : ℕ → EndId → MailboxEvent OneRight → Option (MailboxEvent OneRight)
-at_end e x event = if e == x.0 then Some event else None
+-- how many are inside or being turned back at the gate that is found
+abbrev pub busy_at : Option (Gate OneRight) → ℕ
+busy_at (Some g) = busy g
+busy_at None = 0
 
--- The event of the mailbox of the end that an answered step is. An event of a line is at the gate or the queue where
--- the line stands, a Start at the newest gate, and a Take at the taker's queue. Every other answered step is none.
-abbrev pub event_of : Facts → ℕ → Mailbox OneRight → Outcome → Action → Option (MailboxEvent OneRight)
-event_of f e m outcome.In (action.Enter s) = at_end e s.end (at_gate ((f.line e s.line.0).stand) (enter s.line.0) (lets_in tt))
-event_of f e m outcome.Moved (action.Enter s) = at_end e s.end (at_gate ((f.line e s.line.0).stand) (enter s.line.0) says_moved)
-event_of f e m outcome.Closed (action.Enter s) = at_end e s.end (at_gate ((f.line e s.line.0).stand) (enter s.line.0) says_closed)
-event_of f e m outcome.Left (action.Leave s) = at_end e s.end (leaving m ((f.line e s.line.0).stand) s.line.0 ((f.line e s.line.0).phase))
-event_of f e m (outcome.Accepted a) (action.Push s ports body) = at_end e s.end (push (named_envelope s a body ports.items))
-event_of f e m outcome.Started (action.Start x) = at_end e x (at_gate ((f.end e).newest) enable says_done)
-event_of f e m (outcome.Got v) (action.Take x) = at_end e x (pop ((f.end e).taker_stand) (Some v))
-event_of f e m outcome.Empty (action.Take x) = at_end e x (pop ((f.end e).taker_stand) None)
-event_of f e m _ _ = None
+-- the right of each line
+abbrev pub rights_of : Mailbox OneRight → List OneRight
+rights_of m = map (λ _. tt) m.stands
+
+-- a look at the gate of epoch k that finds somebody
+abbrev pub finds_busy : Mailbox OneRight → ℕ → MailboxEvent OneRight
+finds_busy m k = at_gate k look (says_inside (busy_at (slice_get m.gates k)))
+
+-- the look at the queue that is looked at, where there is one
+abbrev pub finds_busy_at : Mailbox OneRight → Option ℕ → List (MailboxEvent OneRight)
+finds_busy_at m None = []
+finds_busy_at m (Some k) = finds_busy m k ∷ []
+
+-- the events, where the step is at this end
+abbrev pub at_end : ℕ → EndId → List (MailboxEvent OneRight) → List (MailboxEvent OneRight)
+at_end e x events = if e == x.0 then events else []
+
+-- pops at n queues, from the epoch k on, each until it finds none
+abbrev pub sweeping : List Envelope → ℕ → ℕ → List (MailboxEvent OneRight)
+sweeping vs k zero = []
+sweeping vs k (suc n) = map (λ v. pop k (Some v)) (in_queue k vs) ++ (pop k None ∷ sweeping vs (k + 1) n)
+
+-- The events of the mailbox of the end that an answered step is. An event of a line is at the gate or the queue where
+-- the line stands, a Start at the newest gate, and a Take at the taker's queue. A Take that finds a retired queue
+-- empty looks for somebody there, or goes on. An Adopt retires the newest gate and adds a queue, a Close closes the newest
+-- gate, and a Sweep pops at each queue from the taker's on. Every other answered step is none.
+abbrev pub events_of : Facts → ℕ → Mailbox OneRight → Outcome → Action → List (MailboxEvent OneRight)
+events_of f e m outcome.In (action.Enter s) = at_end e s.end (at_gate ((f.line e s.line.0).stand) (enter s.line.0) (lets_in tt) ∷ [])
+events_of f e m outcome.Moved (action.Enter s) = at_end e s.end (at_gate ((f.line e s.line.0).stand) (enter s.line.0) says_moved ∷ [])
+events_of f e m outcome.Closed (action.Enter s) = at_end e s.end (at_gate ((f.line e s.line.0).stand) (enter s.line.0) says_closed ∷ [])
+events_of f e m outcome.Left (action.Leave s) = at_end e s.end (leaving m ((f.line e s.line.0).stand) s.line.0 ((f.line e s.line.0).phase) ∷ [])
+events_of f e m (outcome.Accepted a) (action.Push s ports body) = at_end e s.end (push (named_envelope s a body ports.items) ∷ [])
+events_of f e m (outcome.Accepted a) (action.Notice s) = at_end e s.end (push (named_notice s a) ∷ [])
+events_of f e m (outcome.Hopped k) (action.Hop s) = at_end e s.end (hop s.line.0 ∷ [])
+events_of f e m outcome.Started (action.Start x) = at_end e x (at_gate ((f.end e).newest) enable says_done ∷ [])
+events_of f e m (outcome.Got v) (action.Take x) = at_end e x (pop ((f.end e).taker_stand) (Some v) ∷ [])
+events_of f e m outcome.Empty (action.Take x) = at_end e x (pop ((f.end e).taker_stand) None ∷ [])
+events_of f e m outcome.Busy (action.Take x) = at_end e x (finds_busy m ((f.end e).taker_stand) ∷ pop ((f.end e).taker_stand) None ∷ [])
+events_of f e m outcome.Again (action.Take x) = at_end e x (pop ((f.end e).taker_stand) None ∷ advance ∷ [])
+events_of f e m outcome.Busy (action.Look x) = at_end e x (finds_busy_at m (looked f e))
+events_of f e m (outcome.Clear (Some k)) (action.Look x) = at_end e x (at_gate k look (gives_rights (rights_of m)) ∷ [])
+events_of f e m (outcome.Adopted n) (action.Adopt x a) = at_end e x (add (rights_of m) ∷ [])
+events_of f e m outcome.Done (action.Close x) = at_end e x (at_gate ((f.end e).newest) close says_done ∷ [])
+events_of f e m (outcome.Discarded vs) (action.Sweep x) = at_end e x (sweeping vs ((f.end e).taker_stand) ((f.end e).newest - (f.end e).taker_stand + 1))
+events_of f e m _ _ = []
+
+-- from the one mailbox the events, one after another, lead to the other
+abbrev pub Runs : (end lines : ℕ) → Mailbox OneRight → List (MailboxEvent OneRight) → Mailbox OneRight → Type 0
+Runs end lines m [] after = after ≡ m
+Runs end lines m (event ∷ events) after = (between : Mailbox OneRight) × MailboxStep (λ k line right. IsTrue (has_right k line right)) end lines m event between × Runs end lines between events after
 
 -- the queue of this epoch holds the envelope first
 pub record HoldsFirst (m : Mailbox OneRight) (k : ℕ) (v : Envelope) : Type 0 where
@@ -62,17 +102,18 @@ pub record HoldsFirst (m : Mailbox OneRight) (k : ℕ) (v : Envelope) : Type 0 w
   pub is_queue : QueueAt m k queue
   pub first : popped queue ≡ Some (v, rest)
 
--- A pair that fits and has an event is a step of each mailbox that shows the history, and the mailbox after it shows
--- the history with the pair. A history leaves free from which line a Take gets its envelope, and a queue does not: so
--- a Got is such a step where the taker's queue holds its envelope first.
-abbrev pub EventsAreSteps : Type 0
-EventsAreSteps = (h : History) (p : Pair) (e : ℕ) (m : Mailbox OneRight) (event : MailboxEvent OneRight) → Legal h → Fits h p → ShowsMailbox h e [] m
-    → event_of (facts h) e m p.1 p.0.action ≡ Some event
-    → ((v : Envelope) → p.1 ≡ outcome.Got v → HoldsFirst m m.taker v)
-    → (after : Mailbox OneRight) × MailboxStep (λ k line right. IsTrue (has_right k line right)) e (lines_of (peer h e)) m event after × ShowsMailbox (h ++ p ∷ []) e [] after
+-- the queues from the taker's on hold these envelopes
+abbrev pub HoldsAll : Mailbox OneRight → List Envelope → Type 0
+HoldsAll m vs = (k : ℕ) (q : Queue) → m.taker ≤ k → QueueAt m k q → q.held ≡ in_queue k vs
 
--- A pair that fits and has no event leaves the mailbox of an end that was made as it is.
-abbrev pub OthersLeaveIt : Type 0
-OthersLeaveIt = (h : History) (p : Pair) (e : ℕ) (m : Mailbox OneRight) → Fits h p → e < ends h → ShowsMailbox h e [] m
-    → event_of (facts h) e m p.1 p.0.action ≡ None
-    → ShowsMailbox (h ++ p ∷ []) e [] m
+-- what a history leaves free and a queue does not: from which line an envelope comes first
+pub record HoldsWhatLeaves (e : ℕ) (p : Pair) (m : Mailbox OneRight) : Type 0 where
+  pub got : (t : EndId) (v : Envelope) → p.0.action ≡ action.Take t → p.1 ≡ outcome.Got v → e ≡ t.0 → HoldsFirst m m.taker v
+  pub swept : (t : EndId) (vs : List Envelope) → p.0.action ≡ action.Sweep t → p.1 ≡ outcome.Discarded vs → e ≡ t.0 → HoldsAll m vs
+
+-- A pair that fits is what its events make of each mailbox that shows the history at an end: the mailbox after them shows
+-- the history with the pair. Where there is no event, that is the mailbox as it was. What is taken or discarded there the
+-- queues hold in that order.
+abbrev pub PairsAreEvents : Type 0
+PairsAreEvents = (h : History) (p : Pair) (e : ℕ) (m : Mailbox OneRight) → Legal h → Fits h p → e < ends h → ShowsMailbox h e [] m → HoldsWhatLeaves e p m
+    → (after : Mailbox OneRight) × Runs e (lines_of (peer h e)) m (events_of (facts h) e m p.1 p.0.action) after × ShowsMailbox (h ++ p ∷ []) e [] after

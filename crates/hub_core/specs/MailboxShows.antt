@@ -6,25 +6,28 @@ use Rattle.hub_core.specs.declared.machine.Core.{Core}
 use Rattle.hub_core.specs.History.{History}
 use Rattle.hub_core.specs.Accepted.{accepted}
 use Rattle.hub_core.specs.Taken.{taken}
-use Rattle.hub_core.specs.Made.{peer}
+use Rattle.hub_core.specs.Made.{peer, lines_of}
 use Rattle.hub_core.specs.Closed.{closed}
 use Rattle.hub_core.specs.Enabled.{enabled}
 use Rattle.hub_core.specs.Lines.{phase, newest, stand, taker_stand}
 use Rattle.hub_core.specs.Sender.{by}
-use Rattle.hub_core.specs.Sound.{lines_of}
 use Rattle.hub_core.specs.GateMachine.{Gate, IsAt}
 use Rattle.hub_core.specs.QueueMachine.{Queue}
 use Rattle.hub_core.specs.Mailbox.{Mailbox, GateAt, QueueAt, StandsAt, IsNewest, put_by, got_from, IsMailbox}
+use Rattle.hub_core.specs.Clear.{clear}
+use Rattle.hub_core.specs.Discarded.{discarded}
 
 -- The mailbox shows the history at the end: what each line put is what was accepted of it, what was taken out is
--- what was taken, and then what was collected, as by a sweep that isn't done; the newest gate has the flags of the
--- end, and each line stands where it does in the history, in its phase; so does the taker.
+-- what was taken, then what was discarded, and then what was collected, as by a sweep that isn't done; the newest gate
+-- has the flags of the end, and the rights of a gate were collected exactly where its queue is clear; each line stands
+-- where it does in the history, in its phase; so does the taker.
 pub record ShowsMailbox {R : Type 0} (h : History) (e : ℕ) (collected : List Envelope) (m : Mailbox R) : Type 0 where
   pub is_mailbox : IsMailbox e (lines_of (peer h e)) m
   pub gates : length m.gates ≡ newest h e + 1
   pub put : (line : ℕ) → put_by m line ≡ by line (accepted h e)
-  pub got : got_from m ≡ taken h e ++ collected
+  pub got : got_from m ≡ (taken h e ++ discarded h e) ++ collected
   pub flags : (k : ℕ) (g : Gate R) → IsNewest m k → GateAt m k g → (g.enabled ≡ enabled h e) × (g.closed ≡ closed h e)
+  pub given : (k : ℕ) (g : Gate R) → GateAt m k g → g.collected ≡ clear h e k
   pub stands : (line k : ℕ) → StandsAt m line k → stand h e line ≡ k
   pub phases : (line k : ℕ) (g : Gate R) → StandsAt m line k → GateAt m k g → IsAt g line (phase h e line)
   pub taker : m.taker ≡ taker_stand h e

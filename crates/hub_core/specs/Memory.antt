@@ -3,12 +3,19 @@ use Rattle.std.specs.Prelude.{Bool, true, false}
 use Rattle.hub_core.specs.declared.step.Action.{Action}
 use Rattle.hub_core.specs.declared.step.Action.TheVariants as action
 
--- the steps after which more is kept than before: a new agent, two new ends, an envelope
+-- the steps after which more is kept than before: a new agent, two new ends, an envelope, a new queue; and a
+-- Sweep, which answers a list
 abbrev pub takes_memory : Action → Bool
 takes_memory action.Agent = true
 takes_memory (action.Channel a) = true
 takes_memory (action.Enter s) = false
 takes_memory (action.Push s ports body) = true
+takes_memory (action.Notice s) = true
 takes_memory (action.Leave s) = false
+takes_memory (action.Hop s) = false
 takes_memory (action.Start e) = false
 takes_memory (action.Take e) = false
+takes_memory (action.Look e) = false
+takes_memory (action.Adopt e a) = true
+takes_memory (action.Close e) = false
+takes_memory (action.Sweep e) = true

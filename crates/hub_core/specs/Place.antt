@@ -3,12 +3,13 @@ use Rattle.std.specs.Prelude.{ℕ, ◌==◌, ◌||◌, if◌then◌else◌, List
 use Rattle.std.specs.List.{fold, list_any}
 use Rattle.hub_envelope.specs.declared.ids.EndId.{EndId}
 use Rattle.hub_core.specs.declared.end.Place.{Place}
-use Rattle.hub_core.specs.declared.end.Place.TheVariants.{With, InFlight, Arrived}
+use Rattle.hub_core.specs.declared.end.Place.TheVariants.{With, InFlight, Arrived, Swept, Gone}
 use Rattle.hub_core.specs.declared.step.Action.{Action}
 use Rattle.hub_core.specs.declared.step.Action.TheVariants as action
 use Rattle.hub_core.specs.declared.outcome.Outcome.{Outcome}
 use Rattle.hub_core.specs.declared.outcome.Outcome.TheVariants as outcome
 use Rattle.hub_core.specs.History.{History}
+use Rattle.hub_envelope.specs.declared.envelope.Envelope.{Envelope}
 
 -- whether a list of ports names the end
 abbrev pub names : List EndId → ℕ → Bool
@@ -20,16 +21,26 @@ abbrev pub arrived : Option Place → Option Place → Option Place
 arrived (Some (With a)) old = Some (Arrived a)
 arrived (Some InFlight) old = old
 arrived (Some (Arrived a)) old = old
+arrived (Some Swept) old = old
+arrived (Some Gone) old = old
 arrived None old = old
+
+-- whether one of the envelopes names the end
+abbrev pub is_named : List Envelope → ℕ → Bool
+is_named vs x = list_any (λ v. names v.ports x) vs
 
 -- the place of an end after an answered step, from the places before
 abbrev pub place_after : ℕ → (ℕ → Option Place) → Outcome → Action → Option Place
 place_after x place (outcome.Ends e f) (action.Channel a) = if x == e.0 || x == f.0 then Some (With a) else place x
 place_after x place (outcome.Accepted n) (action.Push s ports body) = if names ports.items x then Some InFlight else place x
 place_after x place (outcome.Got v) (action.Take t) = if names v.ports x then arrived (place t.0) (place x) else place x
+place_after x place (outcome.Adopted n) (action.Adopt t a) = if x == t.0 then Some (With a) else place x
+place_after x place (outcome.Discarded vs) (action.Sweep t) = if is_named vs x then Some Swept else place x
+place_after x place outcome.Done (action.Close t) = if x == t.0 then Some Gone else place x
 place_after x place _ _ = place x
 
 -- The place of an end, by the last pair that placed it: with the agent that made it; in flight since
--- a Push that names it was Accepted; arrived at the agent that has the end at which that was Got.
+-- a Push that names it was Accepted; arrived at the agent that has the end at which that was Got, or swept where it
+-- was Discarded; with the agent that adopted it; and gone where it was closed.
 abbrev pub place : History → ℕ → Option Place
 place h = fold (λ q p x. place_after x q p.1 p.0.action) (λ _. None) h

@@ -1,12 +1,12 @@
 -- What the steps of a poster are answered (WHATWG HTML, "Message ports", the message port post message steps
 -- with their transfer list; entering and leaving a gate are this project's own).
-use Rattle.std.specs.Prelude.{ℕ, ◌==◌, ◌&&◌, if◌then◌else◌, nat_lt, Bool, true, false, not, is_some, List, [], ◌∷◌, length, Option, Some, None, option_and_then}
+use Rattle.std.specs.Prelude.{ℕ, ◌==◌, ◌&&◌, if◌then◌else◌, nat_lt, Bool, true, false, not, is_some, List, [], ◌∷◌, length, Option, Some, None, option_and_then, ◌||◌}
 use Rattle.std.specs.List.{list_all}
 use Rattle.hub_envelope.specs.declared.ids.AgentId.{AgentId}
 use Rattle.hub_envelope.specs.declared.ids.EndId.{EndId}
 use Rattle.hub_envelope.specs.declared.limits.TheConstants.{MAX_PORTS}
 use Rattle.hub_core.specs.declared.end.Place.{Place}
-use Rattle.hub_core.specs.declared.end.Place.TheVariants.{With, InFlight, Arrived}
+use Rattle.hub_core.specs.declared.end.Place.TheVariants.{With, InFlight, Arrived, Swept, Gone}
 use Rattle.hub_core.specs.declared.line.Phase.{Phase}
 use Rattle.hub_core.specs.declared.line.Phase.TheVariants.{Out, Inside, Turned}
 use Rattle.hub_core.specs.declared.sender.Sender.{Sender}
@@ -15,6 +15,9 @@ use Rattle.hub_core.specs.declared.outcome.Outcome.TheVariants as outcome
 use Rattle.hub_core.specs.Facts.{Facts}
 use Rattle.hub_core.specs.Place.{names}
 use Rattle.hub_core.specs.Sender.{count_in_queue}
+use Rattle.hub_core.specs.declared.outcome.Acceptance.{Acceptance}
+use Rattle.hub_core.specs.declared.listing.Listing.{Listing}
+use Rattle.hub_core.specs.declared.listing.Listing.TheVariants.{Good, HoldsTarget, Bad}
 
 abbrev pub is_out : Phase → Bool
 is_out Out = true
@@ -31,6 +34,8 @@ abbrev pub running_at : (ℕ → Bool) → Option Place → Option AgentId
 running_at runs (Some (With a)) = if runs a.0 then Some a else None
 running_at runs (Some InFlight) = None
 running_at runs (Some (Arrived a)) = None
+running_at runs (Some Swept) = None
+running_at runs (Some Gone) = None
 running_at runs None = None
 
 -- the running agent that has the end
@@ -46,11 +51,28 @@ phase_of_line f s = (f.line s.end.0 s.line.0).phase
 abbrev pub poster : Facts → Sender → Option AgentId
 poster f s = if s.line.0 == 0 then option_and_then (holder f) ((f.end s.end.0).peer) else None
 
--- An Enter tests that a running agent holds the line and that its poster is out; then it looks for a retired queue
--- and for a closed end.
+-- whether a port of this place can be closed, and its poster say so: an agent has it, or it has arrived or was swept
+abbrev pub is_here : Option Place → Bool
+is_here (Some (With a)) = true
+is_here (Some (Arrived a)) = true
+is_here (Some Swept) = true
+is_here (Some InFlight) = false
+is_here (Some Gone) = false
+is_here None = false
+
+-- whether the place of the port that posts on the line lets its poster put a notice
+abbrev pub hears_notice : Facts → Sender → Bool
+hears_notice f s = s.line.0 == 0 && is_here (option_and_then (λ q. (f.end q).place) ((f.end s.end.0).peer))
+
+-- whether a poster may enter: to post, or to put a notice alone
+abbrev pub may_enter : Facts → Sender → Bool
+may_enter f s = is_some (poster f s) || hears_notice f s
+
+-- An Enter tests that its poster may enter and is out, and that no notice was put on the line; then it looks for a
+-- retired queue and for a closed end.
 abbrev pub enter_answer : Facts → Sender → Outcome
 enter_answer f s =
-    if not (is_some (poster f s) && is_out (phase_of_line f s)) then outcome.NotNow
+    if not (may_enter f s && is_out (phase_of_line f s) && not (f.line s.end.0 s.line.0).noticed) then outcome.NotNow
     else (if nat_lt (f.line s.end.0 s.line.0).stand (f.end s.end.0).newest then outcome.Moved
     else (if (f.end s.end.0).closed then outcome.Closed
     else outcome.In))
@@ -66,6 +88,8 @@ abbrev pub is_with : AgentId → Option Place → Bool
 is_with a (Some (With b)) = a.0 == b.0
 is_with a (Some InFlight) = false
 is_with a (Some (Arrived b)) = false
+is_with a (Some Swept) = false
+is_with a (Some Gone) = false
 is_with a None = false
 
 -- whether the poster of the line that a port holds is out
@@ -73,34 +97,73 @@ abbrev pub own_poster_out : Facts → Option ℕ → Bool
 own_poster_out f None = false
 own_poster_out f (Some q) = is_out ((f.line q 0).phase)
 
+-- whether no notice was put on the line that a port holds
+abbrev pub own_line_plain : Facts → Option ℕ → Bool
+own_line_plain f None = false
+own_line_plain f (Some q) = not (f.line q 0).noticed
+
 abbrev pub is_at : ℕ → Option ℕ → Bool
 is_at x None = false
 is_at x (Some y) = x == y
 
--- a port that the agent has, its own poster out, neither the source nor the target
+-- a port that the agent has, its own poster out, with no notice of it, and not the source
+abbrev pub may_leave_agent : Facts → AgentId → Sender → EndId → Bool
+may_leave_agent f a s p =
+    is_with a (f.end p.0).place && own_poster_out f (f.end p.0).peer && own_line_plain f (f.end p.0).peer && not (is_at p.0 (f.end s.end.0).peer)
+
+-- such a port that isn't the target either
 abbrev pub may_travel : Facts → AgentId → Sender → EndId → Bool
-may_travel f a s p =
-    is_with a (f.end p.0).place && own_poster_out f (f.end p.0).peer && not (p.0 == s.end.0) && not (is_at p.0 (f.end s.end.0).peer)
+may_travel f a s p = may_leave_agent f a s p && not (p.0 == s.end.0)
 
 -- distinct ports that may travel
 abbrev pub is_good : Facts → AgentId → Sender → List EndId → Bool
 is_good f a s ports = is_distinct ports && list_all (may_travel f a s) ports
 
+-- the name that an envelope of an agent on a line gets now
+abbrev pub next_name : Facts → Sender → AgentId → Acceptance
+next_name f s a = record {
+  agent = a;
+  epoch = (f.line s.end.0 s.line.0).stand;
+  number = count_in_queue s.line.0 (f.line s.end.0 s.line.0).stand (f.accepted s.end.0);
+}
+
 abbrev pub push_answer_of : Facts → Sender → List EndId → Bool → Option AgentId → Outcome
 push_answer_of f s ports refused None = outcome.NotNow
 push_answer_of f s ports refused (Some a) =
-    if not (is_good f a s ports) then outcome.NotNow
+    if nat_lt MAX_PORTS (length ports) then outcome.TooManyPorts
+    else (if not (is_good f a s ports) then outcome.NotNow
     else (if refused then outcome.NoMemory
-    else outcome.Accepted (record {
-      agent = a;
-      epoch = (f.line s.end.0 s.line.0).stand;
-      number = count_in_queue s.line.0 (f.line s.end.0 s.line.0).stand (f.accepted s.end.0);
-    }))
+    else outcome.Accepted (next_name f s a)))
 
--- A Push tests that its poster is inside, then the number of ports, then that the agent that holds the line may send
--- them, then memory.
+-- whether the line's poster is inside, and no notice was put
+abbrev pub is_posting : Facts → Sender → Bool
+is_posting f s = is_inside (phase_of_line f s) && not (f.line s.end.0 s.line.0).noticed
+
+-- A Push tests that its poster is inside with no notice put, and that a running agent holds the line; then the number
+-- of ports, that the agent may send them, and memory.
 abbrev pub push_answer : Facts → Sender → List EndId → Bool → Outcome
 push_answer f s ports refused =
-    if not (is_inside (phase_of_line f s)) then outcome.NotNow
-    else (if nat_lt MAX_PORTS (length ports) then outcome.TooManyPorts
-    else push_answer_of f s ports refused (poster f s))
+    if not (is_posting f s) then outcome.NotNow
+    else push_answer_of f s ports refused (poster f s)
+
+-- A Notice tests that its poster is inside with no notice put, and that the port's place lets it; then memory. The
+-- envelope is of agent 0, whichever agent the port is with.
+abbrev pub notice_answer : Facts → Sender → Bool → Outcome
+notice_answer f s refused =
+    if not (is_posting f s && hears_notice f s) then outcome.NotNow
+    else (if refused then outcome.NoMemory
+    else outcome.Accepted (next_name f s (record { 0 = 0 })))
+
+-- whether a message may be posted on the line: a running agent holds it, its poster is out, and no notice was put
+abbrev pub may_post : Facts → Sender → Bool
+may_post f s = is_some (poster f s) && is_out (phase_of_line f s) && not (f.line s.end.0 s.line.0).noticed
+
+abbrev pub listing_of : Facts → Sender → List EndId → Option AgentId → Listing
+listing_of f s ports None = Bad
+listing_of f s ports (Some a) =
+    if not (is_distinct ports && list_all (may_leave_agent f a s) ports) then Bad
+    else (if names ports s.end.0 then HoldsTarget else Good)
+
+-- what a list of ports is to a message on the line
+abbrev pub listing : Facts → Sender → List EndId → Listing
+listing f s ports = listing_of f s ports (poster f s)

@@ -1,7 +1,7 @@
 -- What one sender posts at an end goes by one line: order is stated line by line (this project's own; in
 -- WHATWG HTML, "Message ports", a port's one sender is the port that it is entangled with).
-use Rattle.std.specs.Prelude.{◌≡◌, ℕ, ◌==◌, ◌&&◌, List, ◌++◌, length}
-use Rattle.std.specs.List.{filter}
+use Rattle.std.specs.Prelude.{◌≡◌, ℕ, ◌==◌, ◌&&◌, List, ◌++◌, length, ◌≤◌, [], ◌∷◌}
+use Rattle.std.specs.List.{filter, AllByRecursion}
 use Rattle.hub_envelope.specs.declared.envelope.Envelope.{Envelope}
 
 -- the envelopes of a line, in order
@@ -19,3 +19,8 @@ Prefix front whole = (rest : List Envelope) × (whole ≡ front ++ rest)
 -- how many of the envelopes are of this line and this queue
 abbrev pub count_in_queue : ℕ → ℕ → List Envelope → ℕ
 count_in_queue line epoch vs = length (filter (λ v. v.line.0 == line && v.epoch == epoch) vs)
+
+-- the epochs never fall
+abbrev pub Rises : List Envelope → Type 0
+Rises [] = Unit {0}
+Rises (v ∷ vs) = AllByRecursion (λ u. v.epoch ≤ u.epoch) vs × Rises vs

@@ -1,5 +1,5 @@
 -- What it means that the core shows a history: what it keeps of each agent, end and line are the facts of the history.
-use Rattle.std.specs.Prelude.{◌≡◌, ℕ, ◌+◌, ◌<◌, false, List, [], ◌∷◌, ◌++◌, length, slice_get, slice_index_or, Option, Some, None}
+use Rattle.std.specs.Prelude.{◌≡◌, ℕ, ◌+◌, ◌<◌, false, List, [], ◌∷◌, ◌++◌, length, slice_get, slice_index_or, Option, Some, None, nat_lt, ◌≤◌, Bool}
 use Rattle.hub_envelope.specs.declared.envelope.Envelope.{Envelope}
 use Rattle.hub_core.specs.declared.agent.Agent.{Agent}
 use Rattle.hub_core.specs.declared.line.Line.{Line}
@@ -11,7 +11,9 @@ use Rattle.hub_core.specs.History.{History}
 use Rattle.hub_core.specs.Facts.{AgentNow, EndNow, LineNow, Facts, facts}
 use Rattle.hub_core.specs.Fits.{Fits}
 use Rattle.hub_core.specs.Sender.{in_queue, count_in_queue}
-use Rattle.hub_core.specs.Sound.{no_end, no_line, lines_of, Sound}
+use Rattle.hub_core.specs.Sound.{no_end, no_line, Sound}
+use Rattle.hub_core.specs.Made.{lines_of}
+use Rattle.hub_core.specs.declared.line.Phase.TheVariants.{Inside}
 
 -- an agent, an end and a line now, as the core keeps them, or as there is none
 abbrev pub agent_now : Option Agent → AgentNow
@@ -31,7 +33,7 @@ end_now (Some x) = record {
 
 abbrev pub line_now : Option Line → LineNow
 line_now None = no_line
-line_now (Some y) = record { phase = y.phase; stand = y.epoch }
+line_now (Some y) = record { phase = y.phase; stand = y.epoch; noticed = y.has_noticed }
 
 abbrev pub kept_lines : Option End → List Line
 kept_lines None = []
@@ -42,32 +44,35 @@ abbrev pub ShowsPut : List Envelope → ℕ → Option Line → Type 0
 ShowsPut accepted l None = Unit {0}
 ShowsPut accepted l (Some y) = count_in_queue l y.epoch accepted ≡ y.put
 
--- The queues from the taker's to the newest are kept: what is kept of a queue is what was accepted there and not
--- taken, in order of acceptance. Behind the taker everything was taken. No step retires a queue yet.
-pub record KeepsQueues (accepted taken : List Envelope) (x : End) : Type 0 where
-  pub newest : x.newest ≡ 0
-  pub count : x.taker + length x.queues ≡ x.newest + 1
-  pub behind : (k : ℕ) → k < x.taker → in_queue k accepted ≡ in_queue k taken
-  pub each : (i : ℕ) → in_queue (x.taker + i) accepted ≡ in_queue (x.taker + i) taken ++ slice_index_or x.queues i []
+-- The queues of an open end from the taker's to the newest are kept: what is kept of a queue is what was accepted there and neither
+-- taken nor discarded, in order of acceptance. Behind the taker everything was taken. A queue from the taker's on is
+-- clear exactly where it is below the one to look at. Of a closed end the queues are kept in which somebody is inside.
+pub record KeepsQueues (line : ℕ → LineNow) (clear : ℕ → Bool) (accepted removed : List Envelope) (x : End) : Type 0 where
+  pub reached : x.taker ≤ x.looked
+  pub clear_below : (k : ℕ) → x.taker ≤ k → clear k ≡ nat_lt k x.looked
+  pub count : x.is_closed ≡ false → x.taker + length x.queues ≡ x.newest + 1
+  pub inside : (l : ℕ) → (line l).phase ≡ Inside → (line l).stand < x.taker + length x.queues
+  pub behind : (k : ℕ) → k < x.taker → in_queue k accepted ≡ in_queue k removed
+  pub each : (i : ℕ) → in_queue (x.taker + i) accepted ≡ in_queue (x.taker + i) removed ++ slice_index_or x.queues i []
 
-abbrev pub ShowsQueues : List Envelope → List Envelope → Option End → Type 0
-ShowsQueues accepted taken None = Unit {0}
-ShowsQueues accepted taken (Some x) = KeepsQueues accepted taken x
+abbrev pub ShowsQueues : (ℕ → LineNow) → (ℕ → Bool) → List Envelope → List Envelope → Option End → Type 0
+ShowsQueues line clear accepted removed None = Unit {0}
+ShowsQueues line clear accepted removed (Some x) = KeepsQueues line clear accepted removed x
 
--- what is kept of an end, with its lines and queues
-pub record ShowsEnd (now : EndNow) (line : ℕ → LineNow) (accepted taken : List Envelope) (kept : Option End) : Type 0 where
+-- what is kept of an end, with its lines and queues; what was removed from the queues was taken or discarded
+pub record ShowsEnd (now : EndNow) (line : ℕ → LineNow) (clear : ℕ → Bool) (accepted removed : List Envelope) (kept : Option End) : Type 0 where
   pub same : now ≡ end_now kept
   pub count : length (kept_lines kept) ≡ lines_of now.peer
   pub lines : (l : ℕ) → line l ≡ line_now (slice_get (kept_lines kept) l)
   pub put : (l : ℕ) → ShowsPut accepted l (slice_get (kept_lines kept) l)
-  pub queues : ShowsQueues accepted taken kept
+  pub queues : ShowsQueues line clear accepted removed kept
 
 -- agents and ends are those of the facts, which are sound
 pub record ShowsFacts (kept_agents : List Agent) (kept_ends : List End) (f : Facts) : Type 0 where
   pub agents : f.agents ≡ length kept_agents
   pub agent : (a : ℕ) → f.agent a ≡ agent_now (slice_get kept_agents a)
   pub ends : f.ends ≡ length kept_ends
-  pub end : (e : ℕ) → ShowsEnd (f.end e) (f.line e) (f.accepted e) (f.taken e) (slice_get kept_ends e)
+  pub end : (e : ℕ) → ShowsEnd (f.end e) (f.line e) (f.clear e) (f.accepted e) (f.taken e ++ f.discarded e) (slice_get kept_ends e)
   pub sound : Sound f
 
 -- the core's agents and ends are those of the history

@@ -1,28 +1,25 @@
 -- What holds of the facts of every legal history, each part with the notions that it reads (this project's own).
-use Rattle.std.specs.Prelude.{◌≡◌, ℕ, zero, suc, ◌+◌, ◌<◌, ◌≤◌, if◌then◌else◌, Bool, true, false, is_some, List, [], ◌∷◌, length, Option, Some, None, ◌⊎◌}
+use Rattle.std.specs.Prelude.{◌≡◌, ℕ, zero, suc, ◌+◌, ◌<◌, ◌≤◌, Bool, true, false, List, [], ◌∷◌, length, Option, Some, None, ◌⊎◌, ◌++◌}
 use Rattle.std.specs.List.{AllByRecursion, filter}
 use Rattle.hub_envelope.specs.declared.ids.AgentId.{AgentId}
 use Rattle.hub_envelope.specs.declared.envelope.Envelope.{Envelope}
 use Rattle.hub_core.specs.declared.end.Place.{Place}
-use Rattle.hub_core.specs.declared.end.Place.TheVariants.{With, InFlight, Arrived}
+use Rattle.hub_core.specs.declared.end.Place.TheVariants.{With, InFlight, Arrived, Swept, Gone}
 use Rattle.hub_core.specs.declared.line.Phase.TheVariants.{Out, Inside, Turned}
 use Rattle.hub_core.specs.declared.sender.Sender.{Sender}
 use Rattle.hub_core.specs.Facts.{EndNow, LineNow, Facts}
 use Rattle.hub_core.specs.Place.{names}
-use Rattle.hub_core.specs.Sender.{by, in_queue, Prefix}
-use Rattle.hub_core.specs.Posting.{is_out, is_distinct, poster}
+use Rattle.hub_core.specs.Sender.{by, in_queue, Prefix, Rises}
+use Rattle.hub_core.specs.Posting.{is_out, is_distinct, may_enter}
 use Rattle.hub_core.specs.Numbers.{up_to, numbers}
+use Rattle.hub_core.specs.Made.{lines_of}
 
 -- a number that no end has, and one that no line of an end has
 abbrev pub no_end : EndNow
 no_end = record { peer = None; place = None; closed = false; enabled = false; newest = 0; taker_stand = 0 }
 
 abbrev pub no_line : LineNow
-no_line = record { phase = Out; stand = 0 }
-
--- how many lines an end has: one where it is a port
-abbrev pub lines_of : Option ℕ → ℕ
-lines_of peer = if is_some peer then 1 else 0
+no_line = record { phase = Out; stand = 0; noticed = false }
 
 -- an envelope of the end, of one of its lines, and of a queue that the line came to, with different ports
 pub record IsOfEnd (x lines : ℕ) (line : ℕ → LineNow) (v : Envelope) : Type 0 where
@@ -31,30 +28,37 @@ pub record IsOfEnd (x lines : ℕ) (line : ℕ → LineNow) (v : Envelope) : Typ
   pub epoch : v.epoch ≤ (line v.line.0).stand
   pub ports : is_distinct v.ports ≡ true
 
--- the epochs never fall
-abbrev pub Rises : List Envelope → Type 0
-Rises [] = Unit {0}
-Rises (v ∷ vs) = AllByRecursion (λ u. v.epoch ≤ u.epoch) vs × Rises vs
-
 -- The lines of an end. A line stands between the first queue and the newest, and so does the taker; a number that no
 -- line has is out, at the first queue. What was accepted of a line goes from queue to queue, numbered in each
--- from 0. A line is turned back only where its queue is retired or the end closed, and is inside no queue that the
--- taker has left.
-pub record SoundLines (x lines newest taker : ℕ) (closed : Bool) (line : ℕ → LineNow) (accepted : List Envelope) : Type 0 where
+-- from 0. A queue is clear only where it is retired or the newest of a closed end. A line is turned back only where its
+-- queue is retired or the end closed, and is inside no queue that the taker has left, and none that is clear. A notice is
+-- the last of its line.
+pub record SoundLines (x lines newest taker : ℕ) (closed : Bool) (line : ℕ → LineNow) (clear : ℕ → Bool) (accepted : List Envelope) : Type 0 where
   pub stand : (l : ℕ) → (line l).stand ≤ newest
   pub taker_stand : taker ≤ newest
   pub none : (l : ℕ) → lines ≤ l → line l ≡ no_line
   pub named : AllByRecursion (IsOfEnd x lines line) accepted
   pub rising : (l : ℕ) → Rises (by l accepted)
   pub numbered : (l k : ℕ) → numbers l k accepted ≡ up_to (length (numbers l k accepted))
+  pub clear_within : (k : ℕ) → clear k ≡ true → (k < newest) ⊎ ((k ≡ newest) × (closed ≡ true))
   pub turned : (l : ℕ) → (line l).phase ≡ Turned → ((line l).stand < newest) ⊎ (closed ≡ true)
   pub inside : (l : ℕ) → (line l).phase ≡ Inside → taker ≤ (line l).stand
+  pub inside_unclear : (l : ℕ) → (line l).phase ≡ Inside → clear (line l).stand ≡ false
+  pub messages : (l : ℕ) → (line l).noticed ≡ false → AllByRecursion (λ v. v.notice ≡ false) (by l accepted)
+  pub last : (l : ℕ) (before after : List Envelope) (v : Envelope) → by l accepted ≡ before ++ v ∷ after → v.notice ≡ true → after ≡ []
 
--- What waits at an end. What was taken of a line is a prefix of what was accepted of it, and nothing waits in a queue
--- that the taker has left.
-pub record SoundWaiting (taker : ℕ) (accepted taken : List Envelope) : Type 0 where
-  pub prefix : (l : ℕ) → Prefix (by l taken) (by l accepted)
+-- What was taken and then discarded at an end, and what waits there. Of a line it is a prefix of what was accepted of
+-- it, and it goes from queue to queue across the lines. What was taken is of queues that the taker came to, and nothing
+-- waits in a queue that it has left. Nothing is discarded while the end is open or a line is inside, and where
+-- something was discarded nothing waits.
+pub record SoundWaiting (taker : ℕ) (closed : Bool) (line : ℕ → LineNow) (accepted taken discarded : List Envelope) : Type 0 where
+  pub prefix : (l : ℕ) → Prefix (by l (taken ++ discarded)) (by l accepted)
+  pub rising : Rises (taken ++ discarded)
+  pub reached : AllByRecursion (λ v. v.epoch ≤ taker) taken
   pub behind : (l k : ℕ) → k < taker → in_queue k (by l taken) ≡ in_queue k (by l accepted)
+  pub kept : closed ≡ false → discarded ≡ []
+  pub nobody : (l : ℕ) → (line l).phase ≡ Inside → discarded ≡ []
+  pub swept : (discarded ≡ []) ⊎ ((l : ℕ) → by l (taken ++ discarded) ≡ by l accepted)
 
 -- the sum over the numbers below a bound
 abbrev pub total : (ℕ → ℕ) → ℕ → ℕ
@@ -70,21 +74,35 @@ abbrev pub flights : Option Place → ℕ
 flights (Some InFlight) = 1
 flights (Some (With a)) = 0
 flights (Some (Arrived a)) = 0
+flights (Some Swept) = 0
+flights (Some Gone) = 0
 flights None = 0
 
+-- whether an end of this place was closed
+abbrev pub is_gone : Option Place → Bool
+is_gone (Some Gone) = true
+is_gone (Some (With a)) = false
+is_gone (Some InFlight) = false
+is_gone (Some (Arrived a)) = false
+is_gone (Some Swept) = false
+is_gone None = false
+
 -- Where ends are. A number that no end or agent has stands for nothing. Ports are entangled both ways. The agents that
--- have ends were made. A line whose poster is inside or being turned back has a running agent that posts on it.
--- A port is in flight exactly where one envelope that was accepted and not taken names it, and at most one does.
+-- have ends were made. A line whose poster is inside or being turned back is one that may be entered. An end is closed
+-- exactly where it is gone.
+-- A port is in flight exactly where one envelope that waits names it, accepted and neither taken nor discarded, and at
+-- most one does.
 pub record SoundPlaces (f : Facts) : Type 0 where
   pub ends : (x : ℕ) → f.ends ≤ x → f.end x ≡ no_end
   pub agents : (a : ℕ) → f.agents ≤ a → (f.agent a).runs ≡ false
   pub peers : (x y : ℕ) → (f.end x).peer ≡ Some y → (y < f.ends) × ((f.end y).peer ≡ Some x)
   pub with_made : (x : ℕ) (a : AgentId) → (f.end x).place ≡ Some (With a) → a.0 < f.agents
   pub arrived_made : (x : ℕ) (a : AgentId) → (f.end x).place ≡ Some (Arrived a) → a.0 < f.agents
-  pub away : (s : Sender) → is_out ((f.line s.end.0 s.line.0).phase) ≡ false → is_some (poster f s) ≡ true
-  pub flights : (x : ℕ) → total (λ e. naming x (f.accepted e)) f.ends ≡ total (λ e. naming x (f.taken e)) f.ends + flights ((f.end x).place)
+  pub away : (s : Sender) → is_out ((f.line s.end.0 s.line.0).phase) ≡ false → may_enter f s ≡ true
+  pub gone : (x : ℕ) → (f.end x).closed ≡ is_gone ((f.end x).place)
+  pub flights : (x : ℕ) → total (λ e. naming x (f.accepted e)) f.ends ≡ total (λ e. naming x (f.taken e ++ f.discarded e)) f.ends + flights ((f.end x).place)
 
 pub record Sound (f : Facts) : Type 0 where
-  pub lines : (x : ℕ) → SoundLines x (lines_of ((f.end x).peer)) ((f.end x).newest) ((f.end x).taker_stand) ((f.end x).closed) (f.line x) (f.accepted x)
-  pub waiting : (x : ℕ) → SoundWaiting ((f.end x).taker_stand) (f.accepted x) (f.taken x)
+  pub lines : (x : ℕ) → SoundLines x (lines_of ((f.end x).peer)) ((f.end x).newest) ((f.end x).taker_stand) ((f.end x).closed) (f.line x) (f.clear x) (f.accepted x)
+  pub waiting : (x : ℕ) → SoundWaiting ((f.end x).taker_stand) ((f.end x).closed) (f.line x) (f.accepted x) (f.taken x) (f.discarded x)
   pub places : SoundPlaces f

@@ -1,12 +1,13 @@
 -- Which answers leave everything as it was.
-use Rattle.std.specs.Prelude.{◌≡◌, Bool, true, false}
+use Rattle.std.specs.Prelude.{◌≡◌, Bool, true, false, None}
 use Rattle.hub_core.specs.declared.step.Action.{Action}
 use Rattle.hub_core.specs.declared.step.Action.TheVariants as action
 use Rattle.hub_core.specs.declared.outcome.Outcome.{Outcome}
 use Rattle.hub_core.specs.declared.outcome.Outcome.TheVariants as outcome
 use Rattle.hub_core.specs.declared.machine.Core.{Core}
 
--- Refusals, Empty, and Closed of a Start or a Take change nothing. An Enter that was turned back changes where its
+-- Refusals, Empty, Busy, a Look that found no queue, and Closed of any step but an Enter
+-- change nothing. An Enter that was turned back changes where its
 -- poster is.
 abbrev pub changes_nothing : Outcome → Action → Bool
 changes_nothing outcome.NotNow a = true
@@ -16,8 +17,13 @@ changes_nothing outcome.TooManyEnds a = true
 changes_nothing outcome.TooManyPorts a = true
 changes_nothing outcome.Disabled a = true
 changes_nothing outcome.Empty a = true
+changes_nothing outcome.Busy a = true
+changes_nothing outcome.TooManyMoves a = true
+changes_nothing (outcome.Clear None) a = true
 changes_nothing outcome.Closed (action.Start e) = true
 changes_nothing outcome.Closed (action.Take e) = true
+changes_nothing outcome.Closed (action.Adopt e a) = true
+changes_nothing outcome.Closed (action.Close e) = true
 changes_nothing _ _ = false
 
 -- the core's agents and ends are as before

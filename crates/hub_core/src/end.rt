@@ -1,8 +1,10 @@
-ghost use Rattle.std.specs.Prelude.{◌≡◌, ◌∷◌, [], slice_get, IfOk, OnOk, OnErr, MatchOption, false, true, List};
+ghost use Rattle.std.specs.Prelude.{◌≡◌, ◌∷◌, ◌<◌, [], slice_get, IfOk, OnOk, OnErr, MatchOption, false, true, List, Some};
 ghost use Rattle.hub_envelope.specs.declared.envelope.Envelope.{Envelope as EnvelopeValue};
-ghost use Rattle.hub_core.specs.Kept.{enter_outcome, enter_end, leave_outcome, leave_end, has_queue, line_inside, put_end, taker_queue, with_taker_queue};
+ghost use Rattle.hub_core.specs.declared.limits.TheConstants.{MAX_MOVES};
+ghost use Rattle.hub_core.specs.Posting.{is_here};
+ghost use Rattle.hub_core.specs.Kept.{close_outcome, close_end, hop_outcome, hop_end, kept_looked, kept_settled, left_outcome, left_end, look_outcome, look_end, advanced_end, adopted_end, adopt_outcome, adopt_end, enter_outcome, enter_end, leave_outcome, leave_end, has_queue, posting_line, put_end, sweep_outcome, swept_end, taker_queue, with_taker_queue};
 
-use crate::limits::MAX_IN_QUEUE;
+use crate::limits::{MAX_IN_QUEUE, MAX_MOVES};
 use crate::line::{Line, Lines, Phase};
 use crate::outcome::Outcome;
 use crate::queues::Queues;
@@ -18,6 +20,19 @@ pub enum Place {
     InFlight,
     /// The envelope that named the end was taken by the agent, which hasn't adopted the end yet.
     Arrived(AgentId),
+    /// The envelope that named the end was discarded.
+    Swept,
+    /// The end is closed.
+    Gone,
+}
+
+impl Place {
+    /// Whether an end of this place can be closed.
+    pub(crate) fn is_here(self) -> bool
+        ensures { result ≡ is_here (Some self) }
+    {
+        matches!(self, Place::With(_) | Place::Arrived(_) | Place::Swept)
+    }
 }
 
 /// What the core keeps of an end.
@@ -32,8 +47,11 @@ pub struct End {
     pub(crate) newest: u32,
     /// The queue at which takes are made.
     pub(crate) taker: u32,
+    /// The first queue, from the taker's on, that isn't clear. It is one past the newest where
+    /// that is clear, so it is wider than the number of a queue.
+    pub(crate) looked: u64,
     pub(crate) lines: Lines,
-    /// The queues from the taker's to the newest.
+    /// The queues from the taker's to the newest; none where the end was swept.
     pub(crate) queues: Queues,
 }
 
@@ -47,6 +65,7 @@ impl End {
           is_enabled = false;
           newest = 0;
           taker = 0;
+          looked = 0;
           lines = Line.FIRST ∷ [];
           queues = [] ∷ [];
         }) }
@@ -58,6 +77,7 @@ impl End {
             is_enabled: false,
             newest: 0,
             taker: 0,
+            looked: 0,
             lines: Lines::one(alloc)?,
             queues: Queues::one(alloc)?,
         })
@@ -71,7 +91,7 @@ impl End {
         let Some(found) = self.lines.get(line) else {
             return Outcome::NotNow;
         };
-        if found.phase != Phase::Out {
+        if found.phase != Phase::Out || found.has_noticed {
             return Outcome::NotNow;
         }
         let (phase, outcome) = if found.epoch < self.newest {
@@ -101,6 +121,137 @@ impl End {
         Outcome::Left
     }
 
+    /// A line that is out goes on from a retired queue to the next one.
+    pub(crate) fn hop(&mut self, line: LineId) -> Outcome
+        ensures outcome { result ≡ hop_outcome self.old (slice_get self.old.lines line.0) }
+        ensures after { self.new ≡ hop_end self.old line.0 (slice_get self.old.lines line.0) }
+    {
+        let Some(found) = self.lines.get(line) else {
+            return Outcome::NotNow;
+        };
+        if found.phase != Phase::Out || found.epoch >= self.newest {
+            return Outcome::NotNow;
+        }
+        let epoch = found.epoch + 1;
+        let put = 0;
+        self.lines.set(
+            line,
+            Line {
+                epoch,
+                put,
+                ..found
+            },
+        );
+        Outcome::Hopped(epoch)
+    }
+
+    /// The queue that a look looks at: the first that isn't clear among the retired ones from the
+    /// taker's on, and the newest where the end is closed.
+    pub(crate) fn looked(&self) -> Option<u32>
+        ensures { result ≡ kept_looked self.now }
+    {
+        let newest = u64::from(self.newest);
+        if self.looked < newest || (self.is_closed && self.looked == newest) {
+            Some(self.looked as u32)
+        } else {
+            None
+        }
+    }
+
+    /// The queue that is looked at becomes clear where nobody is inside or being turned back there.
+    pub(crate) fn look(&mut self) -> Outcome
+        ensures outcome { result ≡ look_outcome self.old }
+        ensures after { self.new ≡ look_end self.old }
+    {
+        if !self.is_closed && self.taker >= self.newest {
+            return Outcome::NotNow;
+        }
+        let Some(epoch) = self.looked() else {
+            return Outcome::Clear(None);
+        };
+        if self.lines.is_anyone_at(epoch) {
+            return Outcome::Busy;
+        }
+        self.looked += 1;
+        Outcome::Clear(Some(epoch))
+    }
+
+    /// Whether nobody is inside or being turned back at a queue, or it is clear.
+    fn is_settled(&self, epoch: u32) -> bool
+        ensures { result ≡ kept_settled self.now epoch }
+    {
+        u64::from(epoch) < self.looked || !self.lines.is_anyone_at(epoch)
+    }
+
+    /// What a take is answered whose queue holds nothing: the taker stays, or goes on from a
+    /// retired queue that is settled.
+    pub(crate) fn nothing_left(&mut self) -> Outcome
+        ensures outcome { result ≡ left_outcome self.old }
+        ensures after { self.new ≡ left_end self.old }
+    {
+        if self.taker >= self.newest {
+            return Outcome::Empty;
+        }
+        if !self.is_settled(self.taker) {
+            return Outcome::Busy;
+        }
+        self.advance();
+        Outcome::Again
+    }
+
+    /// The taker goes on to the next queue.
+    fn advance(&mut self)
+        requires { self.old.taker < self.old.newest }
+        ensures { self.new ≡ advanced_end self.old }
+    {
+        self.taker += 1;
+        self.looked = self.looked.max(u64::from(self.taker));
+        self.queues.drop_first();
+    }
+
+    /// The agent at which the end has arrived adopts it.
+    pub(crate) fn adopt(
+        &mut self,
+        alloc: Global,
+        agent: AgentId,
+        is_running: bool,
+        memory_refused: bool,
+    ) -> Result<Outcome, OutOfMemory>
+        ensures outcome { IfOk result (λ o. o
+            ≡ adopt_outcome is_running agent memory_refused self.old) }
+        ensures after { OnOk result (self.new
+            ≡ adopt_end is_running agent memory_refused self.old) }
+        ensures err { OnErr result (self.new ≡ self.old) }
+    {
+        if self.is_closed {
+            return Ok(Outcome::Closed);
+        }
+        if self.place != Place::Arrived(agent) || !is_running {
+            return Ok(Outcome::NotNow);
+        }
+        if self.newest >= MAX_MOVES {
+            return Ok(Outcome::TooManyMoves);
+        }
+        if memory_refused {
+            return Ok(Outcome::NoMemory);
+        }
+        self.renew(alloc, agent)?;
+        Ok(Outcome::Adopted(self.newest))
+    }
+
+    /// The agent has the end, with a new, disabled queue.
+    fn renew(&mut self, alloc: Global, agent: AgentId) -> Result<(), OutOfMemory>
+        requires { self.old.newest < MAX_MOVES }
+        ensures ok { OnOk result (self.new ≡ adopted_end agent self.old) }
+        ensures err { OnErr result (self.new ≡ self.old) }
+    {
+        self.queues.add(alloc)?;
+        self.newest += 1;
+        self.place = Place::With(agent);
+        self.is_enabled = false;
+        Ok(())
+    }
+
     /// Whether a queue is one of those that are kept.
     fn has_queue(&self, epoch: u32) -> bool
         ensures { result ≡ has_queue self.now epoch }
@@ -108,12 +259,12 @@ impl End {
         epoch >= self.taker && ((epoch - self.taker) as usize) < self.queues.count()
     }
 
-    /// The line, where its poster is inside a queue of the end.
-    pub(crate) fn line_inside(&self, line: LineId) -> Option<Line>
-        ensures { result ≡ line_inside self.now (slice_get self.now.lines line.0) }
+    /// The line, where its poster is inside a queue of the end and no notice was put.
+    pub(crate) fn posting_line(&self, line: LineId) -> Option<Line>
+        ensures { result ≡ posting_line self.now (slice_get self.now.lines line.0) }
     {
         let found = self.lines.get(line)?;
-        if found.phase == Phase::Inside && self.has_queue(found.epoch) {
+        if found.phase == Phase::Inside && !found.has_noticed && self.has_queue(found.epoch) {
             Some(found)
         } else {
             None
@@ -130,11 +281,51 @@ impl End {
             return Err(OutOfMemory);
         }
         let line = envelope.line;
+        let has_noticed = envelope.notice;
         let position = (found.epoch - self.taker) as usize;
         self.queues.put(position, envelope)?;
         let put = found.put + 1;
-        self.lines.set(line, Line { put, ..found });
+        self.lines.set(
+            line,
+            Line {
+                put,
+                has_noticed,
+                ..found
+            },
+        );
         Ok(())
+    }
+
+    /// The end is closed, where it can be.
+    pub(crate) fn close(&mut self, may: bool) -> Outcome
+        ensures outcome { result ≡ close_outcome may self.old }
+        ensures after { self.new ≡ close_end may self.old }
+    {
+        if self.is_closed {
+            return Outcome::Closed;
+        }
+        if !may {
+            return Outcome::NotNow;
+        }
+        self.is_closed = true;
+        self.place = Place::Gone;
+        Outcome::Done
+    }
+
+    /// What waits at a closed end is discarded, where every queue is settled.
+    pub(crate) fn sweep(&mut self, alloc: Global) -> Result<Outcome, OutOfMemory>
+        ensures outcome { IfOk result (λ o. o ≡ sweep_outcome self.old) }
+        ensures after { OnOk result (self.new ≡ swept_end self.old (sweep_outcome self.old)) }
+        ensures err { OnErr result (self.new ≡ self.old) }
+    {
+        if !self.is_closed {
+            return Ok(Outcome::NotNow);
+        }
+        if self.lines.is_anyone_from(self.looked) {
+            return Ok(Outcome::Busy);
+        }
+        let envelopes = self.queues.empty(alloc)?;
+        Ok(Outcome::Discarded(envelopes))
     }
 
     /// Takes the first envelope of the taker's queue.

@@ -7,10 +7,11 @@ ghost use Rattle.hub_core.specs.Shows.{Shows};
 ghost use Rattle.hub_core.specs.GateMachineLaws.{GateMachineLaws};
 ghost use Rattle.hub_core.specs.ChainLaws.{ChainLaws};
 ghost use Rattle.hub_core.specs.MailboxShows.{MailboxesShow};
-ghost use Rattle.hub_core.specs.MailboxPairs.{EventsAreSteps, OthersLeaveIt};
+ghost use Rattle.hub_core.specs.MailboxPairs.{PairsAreEvents};
 ghost use Rattle.hub_core.specs.Facts.{facts};
 ghost use Rattle.hub_core.specs.Sound.{Sound};
-ghost use Rattle.hub_core.specs.Laws.{NothingLeavesTheSame, SameIsJoined, KeepsTheLine, TurnedPutsNothing, InOrder, OneAnswer};
+ghost use Rattle.hub_core.specs.Laws.{NothingLeavesTheSame, SameIsJoined, KeepsTheLine, TurnedPutsNothing, NoticeIsLast, InOrder, OneAnswer};
+ghost use Rattle.hub_core.specs.Fates.{Fates};
 
 /// What holds of every legal history: `run` answers one, and `Core::step` makes one longer.
 /// The function does nothing; the laws are its contract.
@@ -19,6 +20,8 @@ pub fn history_laws()
     ensures sound { (h : History) → Legal h → Sound (facts h) }
     ensures keeps_the_line { KeepsTheLine }
     ensures turned { TurnedPutsNothing }
+    ensures fates { (h : History) → Legal h → Fates h }
+    ensures notice_is_last { NoticeIsLast }
     ensures unchanged { NothingLeavesTheSame }
     ensures same { SameIsJoined }
     ensures one_answer { OneAnswer }
@@ -53,9 +56,8 @@ pub fn mailbox_laws()
     ensures in_order { (core : Core) (h : History) → Shows core h → InOrder h }
 {}
 
-/// What each pair of a legal history is to the mailbox of an end: one event there, or nothing. The
-/// function does nothing; the laws are its contract.
+/// What each pair of a legal history is to the mailbox of an end: events there, or nothing. The
+/// function does nothing; the law is its contract.
 pub fn pair_laws()
-    ensures steps { EventsAreSteps }
-    ensures others { OthersLeaveIt }
+    ensures { PairsAreEvents }
 {}

@@ -6,22 +6,29 @@
 
 mod agent;
 mod end;
+mod envelopes;
 mod laws;
 mod limits;
 mod line;
+mod listing;
+mod looking;
 mod machine;
 mod making;
+mod moving;
 mod outcome;
 mod posting;
+mod queries;
 mod queues;
 mod runs;
 mod sender;
 mod step;
 mod taking;
 
+pub use envelopes::Envelopes;
 pub use hub_envelope::{MAX_PORTS, OutOfMemory};
 pub use laws::{chain_laws, gate_machine_laws, history_laws, mailbox_laws, pair_laws, queue_laws};
 pub use limits::{MAX_AGENTS, MAX_ENDS, MAX_HOPS, MAX_LINES, MAX_MOVES};
+pub use listing::Listing;
 pub use machine::Core;
 pub use outcome::{Acceptance, Outcome};
 pub use runs::run;

@@ -1,4 +1,5 @@
 ghost use Rattle.std.specs.Prelude.{◌≡◌, [], ◌∷◌, IfOk, slice_get, slice_set};
+ghost use Rattle.hub_core.specs.Kept.{is_anyone_at, is_anyone_from};
 
 use hub_envelope::LineId;
 use std::alloc::{AllocError, Global};
@@ -21,6 +22,8 @@ pub struct Line {
     pub epoch: u32,
     /// How many envelopes the line has put in that queue.
     pub put: u64,
+    /// Whether a notice was put, which is the last of the line.
+    pub has_noticed: bool,
 }
 
 impl Line {
@@ -29,6 +32,7 @@ impl Line {
         phase: Phase::Out,
         epoch: 0,
         put: 0,
+        has_noticed: false,
     };
 }
 
@@ -61,6 +65,22 @@ impl Lines {
         ensures { result ≡ slice_get self.now line.0 }
     {
         self.lines.get(line.0 as usize).copied()
+    }
+
+    /// Whether the poster of some line is inside or being turned back at a queue.
+    pub(crate) fn is_anyone_at(&self, epoch: u32) -> bool
+        ensures { result ≡ is_anyone_at epoch self.now }
+    {
+        self.lines
+            .iter()
+            .any(|line| line.phase != Phase::Out && line.epoch == epoch)
+    }
+
+    /// Whether the poster of some line is inside or being turned back at a queue from this one on.
+    pub(crate) fn is_anyone_from(&self, epoch: u64) -> bool
+        ensures { result ≡ is_anyone_from epoch self.now }
+    {
+        self.lines.iter().any(|line| line.phase != Phase::Out && u64::from(line.epoch) >= epoch)
     }
 
     /// Changes a line. A line that isn't there stays away.

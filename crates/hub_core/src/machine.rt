@@ -1,5 +1,6 @@
 ghost use Rattle.std.specs.Prelude.{◌≡◌, [], true, slice_get, option_map, IfOk, OnErr};
-ghost use Rattle.hub_core.specs.Kept.{kept_running, kept_holder, kept_poster};
+ghost use Rattle.hub_core.specs.Kept.{kept_running, kept_holder, kept_poster, kept_place, kept_hears, kept_may_enter};
+ghost use Rattle.hub_core.specs.Posting.{is_here};
 ghost use Rattle.hub_core.specs.History.{History};
 ghost use Rattle.hub_core.specs.Laws.{InOrder};
 ghost use Rattle.hub_core.specs.Made.{line_of_port};
@@ -36,8 +37,8 @@ impl Core {
     }
 
     /// Takes a step, in time that doesn't grow with the number of ends, lines and waiting envelopes
-    /// beyond what a growing list costs. An `Err` says that memory can't be had, or that a line
-    /// has put 2^62 envelopes in its queue.
+    /// beyond what a growing list costs; a `Sweep` takes time for each envelope that it discards.
+    /// An `Err` says that memory can't be had, or that a line has put 2^62 envelopes in its queue.
     pub fn step(&mut self, step: Step) -> Result<Outcome, OutOfMemory>
         ensures fits { IfOk result (λ o. FitsAndShows self.old self.new step o) }
         ensures unchanged { IfOk result (λ o. changes_nothing o step.action ≡ true
@@ -56,9 +57,15 @@ impl Core {
             Action::Channel(agent) => self.make_channel(agent, memory_refused),
             Action::Enter(sender) => Ok(self.enter(sender)),
             Action::Push(sender, ports, body) => self.push(sender, ports, body, memory_refused),
+            Action::Notice(sender) => self.notice(sender, memory_refused),
             Action::Leave(sender) => Ok(self.leave(sender)),
+            Action::Hop(sender) => Ok(self.hop(sender)),
             Action::Start(end) => Ok(self.start(end)),
             Action::Take(end) => Ok(self.take(end)),
+            Action::Look(end) => Ok(self.look(end)),
+            Action::Adopt(end, agent) => self.adopt(end, agent, memory_refused),
+            Action::Close(end) => Ok(self.close(end)),
+            Action::Sweep(end) => self.sweep(end),
         }
     }
 
@@ -108,5 +115,32 @@ impl Core {
         let end = self.ends.get(sender.end.0 as usize)?;
         end.lines.get(sender.line)?;
         self.running_holder(end.peer)
+    }
+
+    /// Whether an end has a place where it can be closed.
+    pub(crate) fn is_here(&self, end: EndId) -> bool
+        ensures { result ≡ is_here (kept_place self.now.ends.items end.0) }
+    {
+        match self.ends.get(end.0 as usize) {
+            Some(end) => end.place.is_here(),
+            None => false,
+        }
+    }
+
+    /// Whether the place of the port that posts on a line lets its poster put a notice.
+    pub(crate) fn hears_notice(&self, sender: Sender) -> bool
+        ensures { result ≡ kept_hears self.now.ends.items sender }
+    {
+        match self.ends.get(sender.end.0 as usize) {
+            Some(end) => sender.line.0 == 0 && self.is_here(end.peer),
+            None => false,
+        }
+    }
+
+    /// Whether a poster may enter: to post, or to put a notice alone.
+    pub(crate) fn may_enter(&self, sender: Sender) -> bool
+        ensures { result ≡ kept_may_enter self.now.agents.items self.now.ends.items sender }
+    {
+        self.poster_of(sender).is_some() || self.hears_notice(sender)
     }
 }

@@ -1,3 +1,4 @@
+use crate::envelopes::Envelopes;
 use hub_envelope::{AgentId, EndId, Envelope};
 
 /// The part of an accepted envelope's name that its `Push` doesn't say.
@@ -38,12 +39,29 @@ pub enum Outcome {
     TooManyPorts,
     /// The poster is out.
     Left,
+    /// The line stands at this queue now.
+    Hopped(u32),
     /// The queue is enabled.
     Started,
     /// The envelope, which is in its queue no more.
     Got(Envelope),
     /// Nothing is left to take. Nothing changed.
     Empty,
+    /// A poster is inside or being turned back at the taker's queue, which is retired and of which
+    /// nothing is left; or at a queue that a `Look` or a `Sweep` asked for. Nothing changed.
+    Busy,
+    /// Nothing is left in a retired queue, and the taker went on to the next one.
+    Again,
     /// The queue isn't enabled. Nothing changed.
     Disabled,
+    /// The queue that became clear; `None` where there was none to look at, and nothing changed.
+    Clear(Option<u32>),
+    /// The end is with the agent, and this is its newest queue.
+    Adopted(u32),
+    /// The end was adopted `MAX_MOVES` times. Nothing changed.
+    TooManyMoves,
+    /// The end is closed from now on.
+    Done,
+    /// What waited at the end, in order of the queues and then of acceptance. It waits no more.
+    Discarded(Envelopes),
 }

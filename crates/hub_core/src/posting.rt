@@ -1,5 +1,5 @@
 ghost use Rattle.std.specs.Prelude.{◌≡◌, ◌<◌, ◌≤◌, ◌∷◌, [], length, slice_get, IfOk, OnOk, OnErr};
-ghost use Rattle.hub_core.specs.Kept.{kept_poster, enter_outcome_at, enter_ends_at, leave_outcome_at, leave_ends_at, kept_posting, kept_good, kept_may_travel, push_outcome, HasQueue, AcceptLeaves, PushLeaves, Moves};
+ghost use Rattle.hub_core.specs.Kept.{enter_outcome_at, enter_ends_at, leave_outcome_at, leave_ends_at, hop_outcome_at, hop_ends_at, kept_may_enter, kept_noticing, notice_outcome, NoticeLeaves, kept_posting, kept_good, kept_may_travel, kept_may_leave, push_outcome, HasQueue, AcceptLeaves, PushLeaves, Moves};
 
 use crate::end::Place;
 use crate::line::{Line, Phase};
@@ -11,14 +11,14 @@ use hub_envelope::{AgentId, Body, EndId, Envelope, LineId, MAX_PORTS, OutOfMemor
 impl Core {
     pub(crate) fn enter(&mut self, sender: Sender) -> Outcome
         ensures outcome { let ends = self.old.ends.items in
-            let poster = kept_poster self.old.agents.items ends sender in
-            result ≡ enter_outcome_at poster sender.line.0 (slice_get ends sender.end.0) }
+            let may = kept_may_enter self.old.agents.items ends sender in
+            result ≡ enter_outcome_at may sender.line.0 (slice_get ends sender.end.0) }
         ensures ends { let ends = self.old.ends.items in
-            let poster = kept_poster self.old.agents.items ends sender in
-            self.new.ends.items ≡ enter_ends_at poster sender ends (slice_get ends sender.end.0) }
+            let may = kept_may_enter self.old.agents.items ends sender in
+            self.new.ends.items ≡ enter_ends_at may sender ends (slice_get ends sender.end.0) }
         ensures agents { self.new.agents ≡ self.old.agents }
     {
-        if self.poster_of(sender).is_none() {
+        if !self.may_enter(sender) {
             return Outcome::NotNow;
         }
         let Some(end) = self.ends.get_mut(sender.end.0 as usize) else {
@@ -38,6 +38,24 @@ impl Core {
             return Outcome::NotNow;
         };
         end.leave(sender.line)
+    }
+
+    pub(crate) fn hop(&mut self, sender: Sender) -> Outcome
+        ensures outcome { let ends = self.old.ends.items in
+            let may = kept_may_enter self.old.agents.items ends sender in
+            result ≡ hop_outcome_at may sender.line.0 (slice_get ends sender.end.0) }
+        ensures ends { let ends = self.old.ends.items in
+            let may = kept_may_enter self.old.agents.items ends sender in
+            self.new.ends.items ≡ hop_ends_at may sender ends (slice_get ends sender.end.0) }
+        ensures agents { self.new.agents ≡ self.old.agents }
+    {
+        if !self.may_enter(sender) {
+            return Outcome::NotNow;
+        }
+        let Some(end) = self.ends.get_mut(sender.end.0 as usize) else {
+            return Outcome::NotNow;
+        };
+        end.hop(sender.line)
     }
 
     pub(crate) fn push(
@@ -66,7 +84,17 @@ impl Core {
                     epoch: line.epoch,
                     number: line.put,
                 };
-                self.accept(sender, line, accepted, ports, body)?;
+                let envelope = Envelope {
+                    end: sender.end,
+                    epoch: accepted.epoch,
+                    line: sender.line,
+                    number: accepted.number,
+                    agent: accepted.agent,
+                    body,
+                    ports,
+                    notice: false,
+                };
+                self.accept(line, envelope)?;
                 Ok(Outcome::Accepted(accepted))
             }
             Err(refusal) => Ok(refusal),
@@ -90,15 +118,15 @@ impl Core {
         let Some(end) = self.ends.get(sender.end.0 as usize) else {
             return Err(Outcome::NotNow);
         };
-        let Some(line) = end.line_inside(sender.line) else {
+        let Some(line) = end.posting_line(sender.line) else {
+            return Err(Outcome::NotNow);
+        };
+        let Some(agent) = self.running_holder(end.peer) else {
             return Err(Outcome::NotNow);
         };
         if ports.len() > MAX_PORTS {
             return Err(Outcome::TooManyPorts);
         }
-        let Some(agent) = self.running_holder(end.peer) else {
-            return Err(Outcome::NotNow);
-        };
         if !self.may_be_sent(agent, end.peer, sender.end, ports) {
             return Err(Outcome::NotNow);
         }
@@ -108,42 +136,87 @@ impl Core {
         Ok((line, agent))
     }
 
-    /// Puts an envelope on a line, and its ports in flight.
-    fn accept(
+    /// Puts a notice, where its poster may put it now.
+    pub(crate) fn notice(
         &mut self,
         sender: Sender,
-        line: Line,
-        accepted: Acceptance,
-        ports: Ports,
-        body: Body,
-    ) -> Result<(), OutOfMemory>
-        requires there { sender.end.0 < length self.old.ends.items }
-        requires queue { HasQueue self.old.ends.items sender line }
-        ensures ok { OnOk result (AcceptLeaves sender ports body self.old.ends.items line accepted
+        memory_refused: bool,
+    ) -> Result<Outcome, OutOfMemory>
+        ensures outcome { let ends = self.old.ends.items in
+            let noticing = kept_noticing ends sender memory_refused in
+            IfOk result (λ o. o ≡ notice_outcome noticing) }
+        ensures ends { let ends = self.old.ends.items in
+            let noticing = kept_noticing ends sender memory_refused in
+            OnOk result (NoticeLeaves sender ends noticing self.new.ends.items) }
+        ensures err { OnErr result (self.new.ends.items ≡ self.old.ends.items) }
+        ensures agents { self.new.agents ≡ self.old.agents }
+    {
+        match self.noticing(sender, memory_refused) {
+            Ok(line) => {
+                let accepted = Acceptance {
+                    agent: AgentId(0),
+                    epoch: line.epoch,
+                    number: line.put,
+                };
+                let envelope = Envelope {
+                    end: sender.end,
+                    epoch: accepted.epoch,
+                    line: sender.line,
+                    number: accepted.number,
+                    agent: accepted.agent,
+                    body: Body::null(self.alloc)?,
+                    ports: Ports::none(self.alloc),
+                    notice: true,
+                };
+                self.accept(line, envelope)?;
+                Ok(Outcome::Accepted(accepted))
+            }
+            Err(refusal) => Ok(refusal),
+        }
+    }
+
+    /// The line, where its poster may put a notice now; or what the step is answered.
+    fn noticing(&self, sender: Sender, memory_refused: bool) -> Result<Line, Outcome>
+        ensures answer { result ≡ kept_noticing self.now.ends.items sender memory_refused }
+        ensures there { IfOk result (λ line. (sender.end.0 < length self.now.ends.items)
+            × HasQueue self.now.ends.items sender line) }
+    {
+        let Some(end) = self.ends.get(sender.end.0 as usize) else {
+            return Err(Outcome::NotNow);
+        };
+        let Some(line) = end.posting_line(sender.line) else {
+            return Err(Outcome::NotNow);
+        };
+        if !self.hears_notice(sender) {
+            return Err(Outcome::NotNow);
+        }
+        if memory_refused {
+            return Err(Outcome::NoMemory);
+        }
+        Ok(line)
+    }
+
+    /// Puts an envelope on a line, and its ports in flight.
+    fn accept(&mut self, line: Line, envelope: Envelope) -> Result<(), OutOfMemory>
+        requires there { envelope.end.0 < length self.old.ends.items }
+        requires queue { HasQueue self.old.ends.items
+            (record { end = envelope.end; line = envelope.line }) line }
+        ensures ok { OnOk result (AcceptLeaves self.old.ends.items line envelope
             self.new.ends.items) }
         ensures err { OnErr result (self.new.ends.items ≡ self.old.ends.items) }
         ensures agents { self.new.agents ≡ self.old.agents }
     {
         // The ports are placed once the envelope is in its queue, which takes the list.
-        let travelling = Vec::from_slice(self.alloc, ports.as_slice())?;
-        let envelope = Envelope {
-            end: sender.end,
-            epoch: accepted.epoch,
-            line: sender.line,
-            number: accepted.number,
-            agent: accepted.agent,
-            body,
-            ports,
-            notice: false,
-        };
-        let end = &mut self.ends[sender.end.0 as usize];
+        let travelling = Vec::from_slice(self.alloc, envelope.ports.as_slice())?;
+        let end = &mut self.ends[envelope.end.0 as usize];
         end.put(line, envelope)?;
         self.place_each(&travelling, Place::InFlight);
         Ok(())
     }
 
     /// Whether an agent may send these ports: distinct ports that the agent has, none of them the
-    /// port that posts or the one that is posted to, and none with its own poster inside.
+    /// port that posts or the one that is posted to, and none with its own poster inside or a
+    /// notice of it.
     fn may_be_sent(&self, agent: AgentId, source: EndId, target: EndId, ports: &[EndId]) -> bool
         ensures { result ≡ kept_good self.now.ends.items agent source target ports.now }
     {
@@ -158,6 +231,13 @@ impl Core {
     fn may_travel(&self, agent: AgentId, source: EndId, target: EndId, port: EndId) -> bool
         ensures { result ≡ kept_may_travel self.now.ends.items agent source target port }
     {
+        self.may_leave(agent, source, port) && port != target
+    }
+
+    /// Whether a port may leave an agent that posts with another one, the source.
+    pub(crate) fn may_leave(&self, agent: AgentId, source: EndId, port: EndId) -> bool
+        ensures { result ≡ kept_may_leave self.now.ends.items agent source port }
+    {
         let Some(end) = self.ends.get(port.0 as usize) else {
             return false;
         };
@@ -168,8 +248,8 @@ impl Core {
             return false;
         };
         own_line.phase == Phase::Out
+            && !own_line.has_noticed
             && end.place == Place::With(agent)
-            && port != target
             && port != source
     }
 

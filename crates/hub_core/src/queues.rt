@@ -1,6 +1,8 @@
-ghost use Rattle.std.specs.Prelude.{◌≡◌, ◌<◌, [], ◌∷◌, ◌++◌, length, slice_set, slice_index_or, IfOk, OnOk, OnErr, MatchOption, List};
+ghost use Rattle.std.specs.Prelude.{◌≡◌, ◌<◌, [], ◌∷◌, ◌++◌, length, slice_set, slice_index_or, drop, IfOk, OnOk, OnErr, MatchOption, List};
 ghost use Rattle.hub_envelope.specs.declared.envelope.Envelope.{Envelope as EnvelopeValue};
+ghost use Rattle.hub_core.specs.Kept.{joined};
 
+use crate::envelopes::Envelopes;
 use hub_envelope::Envelope;
 use std::alloc::{AllocError, Global};
 use std::collections::VecDeque;
@@ -30,6 +32,12 @@ impl Waiting {
         }
     }
 
+    fn count(&self) -> usize
+        ensures { result ≡ length self.now }
+    {
+        self.envelopes.len()
+    }
+
     fn put(&mut self, envelope: Envelope) -> Result<(), AllocError>
         ensures ok { OnOk result (self.new ≡ self.old ++ envelope ∷ []) }
         ensures err { OnErr result (self.new ≡ self.old) }
@@ -49,7 +57,7 @@ impl Waiting {
 /// Some queues of an end, in order.
 #[derive(Debug, Drop)]
 pub struct Queues {
-    queues: Vec<Waiting>,
+    queues: VecDeque<Waiting>,
 }
 
 impl Model for Queues {
@@ -66,8 +74,8 @@ impl Queues {
     pub(crate) fn one(alloc: Global) -> Result<Queues, AllocError>
         ensures { IfOk result (λ queues. queues ≡ [] ∷ []) }
     {
-        let mut queues = Vec::with_capacity(alloc, 1)?;
-        queues.push(Waiting::none(alloc))?;
+        let mut queues = VecDeque::with_capacity(alloc, 1)?;
+        queues.push_back(Waiting::none(alloc))?;
         Ok(Queues { queues })
     }
 
@@ -78,6 +86,22 @@ impl Queues {
         self.queues.len()
     }
 
+    /// Adds an empty queue at the back.
+    pub(crate) fn add(&mut self, alloc: Global) -> Result<(), AllocError>
+        ensures ok { OnOk result (self.new ≡ self.old ++ [] ∷ []) }
+        ensures err { OnErr result (self.new ≡ self.old) }
+    {
+        self.queues.push_back(Waiting::none(alloc))?;
+        Ok(())
+    }
+
+    /// Drops the first queue.
+    pub(crate) fn drop_first(&mut self)
+        ensures { self.new ≡ drop 1 self.old }
+    {
+        self.queues.pop_front();
+    }
+
     /// Puts an envelope last in a queue.
     pub(crate) fn put(&mut self, position: usize, envelope: Envelope) -> Result<(), AllocError>
         requires { position < length self.old }
@@ -85,7 +109,7 @@ impl Queues {
             ≡ slice_set self.old position (slice_index_or self.old position [] ++ envelope ∷ [])) }
         ensures err { OnErr result (self.new ≡ self.old) }
     {
-        let queue = &mut self.queues[position];
+        let queue = self.queues.get_mut(position).unwrap();
         queue.put(envelope)
     }
 
@@ -97,7 +121,44 @@ impl Queues {
             × (slice_index_or self.old 0 [] ≡ envelope ∷ rest)
             × (self.new ≡ slice_set self.old 0 rest)) }
     {
-        let queue = self.queues.first_mut()?;
+        let queue = self.queues.front_mut()?;
         queue.take()
     }
+
+    /// How many envelopes wait in all queues.
+    fn waiting(&self) -> Result<usize, AllocError>
+        ensures { IfOk result (λ n. n ≡ length (joined self.now)) }
+    {
+        let (front, back) = self.queues.as_slices();
+        let waiting = count_in(front)?;
+        waiting.checked_add(count_in(back)?).ok_or(AllocError)
+    }
+
+    /// Takes all envelopes, queue after queue, and leaves no queue.
+    pub(crate) fn empty(&mut self, alloc: Global) -> Result<Envelopes, AllocError>
+        ensures ok { IfOk result (λ envelopes. envelopes ≡ joined self.old) }
+        ensures none { OnOk result (self.new ≡ []) }
+        ensures err { OnErr result (self.new ≡ self.old) }
+    {
+        let waiting = self.waiting()?;
+        // There is room for all before the first one moves.
+        let mut envelopes = Vec::with_capacity(alloc, waiting)?;
+        while let Some(mut queue) = self.queues.pop_front() {
+            while let Some(envelope) = queue.take() {
+                envelopes.push(envelope).unwrap();
+            }
+        }
+        Ok(Envelopes { envelopes })
+    }
+}
+
+/// How many envelopes wait in these queues.
+fn count_in(queues: &[Waiting]) -> Result<usize, AllocError>
+    ensures { IfOk result (λ n. n ≡ length (joined queues.now)) }
+{
+    let mut count: usize = 0;
+    for queue in queues {
+        count = count.checked_add(queue.count()).ok_or(AllocError)?;
+    }
+    Ok(count)
 }

@@ -2,6 +2,7 @@ ghost use Rattle.std.specs.Prelude.{◌≡◌, length, IfOk};
 ghost use Rattle.std.specs.List.{zip};
 ghost use Rattle.hub_core.specs.Legal.{Legal};
 ghost use Rattle.hub_core.specs.Headline.{Headline};
+ghost use Rattle.hub_core.specs.Fates.{Fates};
 ghost use Rattle.hub_core.specs.Laws.{InOrder};
 
 use crate::machine::Core;
@@ -17,6 +18,7 @@ pub fn run(alloc: Global, steps: Vec<Step>) -> Result<Vec<Outcome>, OutOfMemory>
     ensures legal { IfOk result (λ outcomes. Legal (zip steps.items outcomes.items)) }
     // Every legal history keeps the headline.
     ensures headline { IfOk result (λ outcomes. Headline (zip steps.items outcomes.items)) }
+    ensures fates { IfOk result (λ outcomes. Fates (zip steps.items outcomes.items)) }
     // Between the lines of a queue the order is that of acceptance.
     ensures in_order { IfOk result (λ outcomes. InOrder (zip steps.items outcomes.items)) }
 {

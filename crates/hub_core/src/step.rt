@@ -12,12 +12,27 @@ pub enum Action {
     Enter(Sender),
     /// A poster that is inside a queue puts a body in it, with the ports that travel along.
     Push(Sender, Vec<EndId>, Body),
+    /// A poster that is inside a queue says that the port that it posts for is closed (WHATWG HTML,
+    /// "Message ports", the `close` event). It is the last that the line puts.
+    Notice(Sender),
     /// A poster leaves, or has turned back.
     Leave(Sender),
+    /// A line that is out goes on from a retired queue to the next one.
+    Hop(Sender),
     /// The queue of an end is enabled (WHATWG HTML, "Message ports", `start()`).
     Start(EndId),
     /// The agent that has the end takes the next envelope from it.
     Take(EndId),
+    /// The oldest queue, from the taker's on, that is retired or closed and isn't clear is looked
+    /// at: it becomes clear where no poster is inside or being turned back there.
+    Look(EndId),
+    /// The agent at which an end has arrived adopts it, with a new, disabled queue (WHATWG HTML,
+    /// "Message ports", the transfer-receiving steps).
+    Adopt(EndId, AgentId),
+    /// An end is closed (WHATWG HTML, "Message ports", `close()`).
+    Close(EndId),
+    /// What waits at a closed end is discarded.
+    Sweep(EndId),
 }
 
 /// An event, and whether memory is refused in it. Refused memory has no effect on an event that

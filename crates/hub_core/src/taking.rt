@@ -55,7 +55,7 @@ impl Core {
                 self.place_each(envelope.ports.as_slice(), Place::Arrived(agent));
                 Outcome::Got(envelope)
             }
-            None => Outcome::Empty,
+            None => served.nothing_left(),
         }
     }
 }

@@ -1,8 +1,8 @@
 use hub_core::{
-    Action, Core, Outcome, Sender, Step, chain_laws, gate_machine_laws, history_laws, mailbox_laws,
-    pair_laws, queue_laws, run,
+    Action, Core, Listing, OutOfMemory, Outcome, Sender, Step, chain_laws, gate_machine_laws,
+    history_laws, mailbox_laws, pair_laws, queue_laws, run,
 };
-use hub_envelope::{AgentId, Body, EndId, LineId};
+use hub_envelope::{AgentId, Body, EndId, Envelope, LineId};
 use std::alloc::Global;
 use std::process::Abort;
 use std::test::Fail;
@@ -14,16 +14,85 @@ fn step(action: Action) -> Step {
     }
 }
 
-/// The line that port 0 posts on.
-fn to_one() -> Sender {
+/// The line that a port posts on. Ports 0 and 1 are entangled, and 2 and 3, and so on.
+fn line_of(port: u32) -> Sender {
     Sender {
-        end: EndId(1),
+        end: EndId(port ^ 1),
         line: LineId(0),
     }
 }
 
-fn body(rt: &impl Abort, alloc: Global, text: &str) -> Body {
-    Body::read(alloc, text).expect(rt, "a body")
+fn enter(port: u32) -> Step {
+    step(Action::Enter(line_of(port)))
+}
+
+/// A push of a port, with these ports.
+fn push(alloc: Global, port: u32, ports: &[EndId], text: &str) -> Result<Step, OutOfMemory> {
+    let body = Body::read(alloc, text).ok().ok_or(OutOfMemory)?;
+    let ports = Vec::from_slice(alloc, ports)?;
+    Ok(step(Action::Push(line_of(port), ports, body)))
+}
+
+fn notice(port: u32) -> Step {
+    step(Action::Notice(line_of(port)))
+}
+
+fn leave(port: u32) -> Step {
+    step(Action::Leave(line_of(port)))
+}
+
+fn hop(port: u32) -> Step {
+    step(Action::Hop(line_of(port)))
+}
+
+fn start(end: u32) -> Step {
+    step(Action::Start(EndId(end)))
+}
+
+fn take(end: u32) -> Step {
+    step(Action::Take(EndId(end)))
+}
+
+fn look(end: u32) -> Step {
+    step(Action::Look(EndId(end)))
+}
+
+fn close(end: u32) -> Step {
+    step(Action::Close(EndId(end)))
+}
+
+fn sweep(end: u32) -> Step {
+    step(Action::Sweep(EndId(end)))
+}
+
+/// Adds an envelope's name in its end, its text and its ports.
+fn tell_envelope(words: &mut String, envelope: &Envelope) -> Result<(), Fail> {
+    let text = envelope.body.text();
+    write!(words, " {}:{} {text} with", envelope.epoch, envelope.number)?;
+    for port in envelope.ports.as_slice() {
+        write!(words, " {}", port.0)?;
+    }
+    Ok(())
+}
+
+/// Adds what a step was answered.
+fn tell(words: &mut String, outcome: &Outcome) -> Result<(), Fail> {
+    match outcome {
+        Outcome::Got(envelope) => {
+            let kind = if envelope.notice { "Notice" } else { "Got" };
+            words.push_str(kind)?;
+            tell_envelope(words, envelope)?;
+        }
+        Outcome::Discarded(envelopes) => {
+            words.push_str("Discarded")?;
+            for envelope in envelopes.as_slice() {
+                tell_envelope(words, envelope)?;
+            }
+        }
+        other => write!(words, "{other:?}")?,
+    }
+    words.push_str("; ")?;
+    Ok(())
 }
 
 /// What a run of steps answers, in the words of its outcomes.
@@ -31,34 +100,9 @@ fn outcomes_of(rt: &impl Abort, alloc: Global, steps: Vec<Step>) -> Result<Strin
     let outcomes = run(alloc, steps).expect(rt, "memory");
     let mut words = String::new(alloc);
     for outcome in outcomes {
-        match outcome {
-            Outcome::Got(envelope) => {
-                let number = envelope.number;
-                let text = envelope.body.text();
-                write!(words, "Got {number} {text} with")?;
-                for port in envelope.ports.as_slice() {
-                    write!(words, " {}", port.0)?;
-                }
-            }
-            other => write!(words, "{other:?}")?,
-        }
-        words.push_str("; ")?;
+        tell(&mut words, &outcome)?;
     }
     Ok(words)
-}
-
-/// A push on the line of port 0, with these ports.
-fn push(
-    rt: &impl Abort,
-    alloc: Global,
-    ports: &[EndId],
-    memory_refused: bool,
-) -> Result<Step, Fail> {
-    let ports = Vec::from_slice(alloc, ports)?;
-    Ok(Step {
-        action: Action::Push(to_one(), ports, body(rt, alloc, "7")),
-        memory_refused,
-    })
 }
 
 #[test]
@@ -67,21 +111,24 @@ fn runs_posts_and_takes(rt: HostRuntime) -> Result<(), Fail> {
     let steps = vec![in alloc;
         step(Action::Agent),
         step(Action::Channel(AgentId(0))),
-        step(Action::Enter(to_one())),
-        push(&rt, alloc, &[], true)?,
-        push(&rt, alloc, &[], false)?,
-        step(Action::Leave(to_one())),
-        step(Action::Take(EndId(1))),
-        step(Action::Start(EndId(1))),
-        step(Action::Take(EndId(1))),
-        step(Action::Take(EndId(1))),
+        enter(0),
+        Step {
+            memory_refused: true,
+            ..push(alloc, 0, &[], "7")?
+        },
+        push(alloc, 0, &[], "7")?,
+        leave(0),
+        take(1),
+        start(1),
+        take(1),
+        take(1),
     ]?;
     let words = outcomes_of(&rt, alloc, steps)?;
     assert_eq!(rt;
         words.as_str(),
         "Agent(AgentId(0)); Ends(EndId(0), EndId(1)); In; NoMemory; \
          Accepted(Acceptance { agent: AgentId(0), epoch: 0, number: 0 }); Left; Disabled; \
-         Started; Got 0 7 with; Empty; "
+         Started; Got 0:0 7 with; Empty; "
     );
     Ok(())
 }
@@ -93,17 +140,17 @@ fn sends_ports(rt: HostRuntime) -> Result<(), Fail> {
         step(Action::Agent),
         step(Action::Channel(AgentId(0))),
         step(Action::Channel(AgentId(0))),
-        step(Action::Start(EndId(1))),
-        step(Action::Enter(to_one())),
-        push(&rt, alloc, &[EndId(0)], false)?,
-        push(&rt, alloc, &[EndId(1)], false)?,
-        push(&rt, alloc, &[EndId(2), EndId(2)], false)?,
-        push(&rt, alloc, &[EndId(9)], false)?,
-        push(&rt, alloc, &[EndId(2); 17], false)?,
-        push(&rt, alloc, &[EndId(3), EndId(2)], false)?,
-        step(Action::Start(EndId(2))),
-        step(Action::Take(EndId(1))),
-        push(&rt, alloc, &[EndId(2)], false)?,
+        start(1),
+        enter(0),
+        push(alloc, 0, &[EndId(0)], "7")?,
+        push(alloc, 0, &[EndId(1)], "7")?,
+        push(alloc, 0, &[EndId(2), EndId(2)], "7")?,
+        push(alloc, 0, &[EndId(9)], "7")?,
+        push(alloc, 0, &[EndId(2); 17], "7")?,
+        push(alloc, 0, &[EndId(3), EndId(2)], "7")?,
+        start(2),
+        take(1),
+        push(alloc, 0, &[EndId(2)], "7")?,
     ]?;
     let words = outcomes_of(&rt, alloc, steps)?;
     assert_eq!(rt;
@@ -111,8 +158,194 @@ fn sends_ports(rt: HostRuntime) -> Result<(), Fail> {
         "Agent(AgentId(0)); Ends(EndId(0), EndId(1)); Ends(EndId(2), EndId(3)); Started; In; \
          NotNow; NotNow; NotNow; NotNow; TooManyPorts; \
          Accepted(Acceptance { agent: AgentId(0), epoch: 0, number: 0 }); NotNow; \
-         Got 0 7 with 3 2; NotNow; "
+         Got 0:0 7 with 3 2; NotNow; "
     );
+    Ok(())
+}
+
+/// Port 1 is sent while an envelope waits and a poster is inside, and adopted.
+fn moving(alloc: Global) -> Result<Vec<Step>, OutOfMemory> {
+    Ok(vec![in alloc;
+        step(Action::Agent),
+        step(Action::Channel(AgentId(0))),
+        step(Action::Channel(AgentId(0))),
+        start(3),
+        enter(0),
+        push(alloc, 0, &[], "10")?,
+        enter(2),
+        push(alloc, 2, &[EndId(1)], "null")?,
+        leave(2),
+        take(3),
+        step(Action::Adopt(EndId(1), AgentId(0))),
+        start(1),
+        take(1),
+        take(1),
+        look(1),
+        push(alloc, 0, &[], "5")?,
+        leave(0),
+        enter(0),
+        hop(0),
+        leave(0),
+        hop(0),
+        enter(0),
+        push(alloc, 0, &[], "8")?,
+        leave(0),
+        look(1),
+        look(1),
+        look(0),
+        take(1),
+        take(1),
+        take(1),
+        take(1),
+    ]?)
+}
+
+const MOVED: &str = "Agent(AgentId(0)); Ends(EndId(0), EndId(1)); Ends(EndId(2), EndId(3)); \
+    Started; In; Accepted(Acceptance { agent: AgentId(0), epoch: 0, number: 0 }); \
+    In; Accepted(Acceptance { agent: AgentId(0), epoch: 0, number: 0 }); Left; \
+    Got 0:0 null with 1; Adopted(1); Started; Got 0:0 10 with; Busy; Busy; \
+    Accepted(Acceptance { agent: AgentId(0), epoch: 0, number: 1 }); Left; \
+    Moved; NotNow; Left; Hopped(1); \
+    In; Accepted(Acceptance { agent: AgentId(0), epoch: 1, number: 0 }); Left; \
+    Clear(Some(0)); Clear(None); NotNow; Got 0:1 5 with; Again; Got 1:0 8 with; Empty; ";
+
+/// Port 1 is closed with a poster inside and swept; port 2, which is discarded with what waited
+/// there, is closed and swept too.
+fn closing(alloc: Global) -> Result<Vec<Step>, OutOfMemory> {
+    Ok(vec![in alloc;
+        step(Action::Agent),
+        step(Action::Channel(AgentId(0))),
+        step(Action::Channel(AgentId(0))),
+        step(Action::Channel(AgentId(0))),
+        enter(3),
+        push(alloc, 3, &[EndId(4)], "\"in\"")?,
+        leave(3),
+        enter(0),
+        push(alloc, 0, &[EndId(2)], "1")?,
+        close(1),
+        push(alloc, 0, &[], "7")?,
+        sweep(1),
+        leave(0),
+        take(1),
+        sweep(1),
+        sweep(1),
+        enter(2),
+        notice(2),
+        leave(2),
+        enter(2),
+        close(2),
+        enter(3),
+        leave(3),
+        take(2),
+        sweep(2),
+        start(3),
+        take(3),
+        take(3),
+    ]?)
+}
+
+const CLOSED: &str = "Agent(AgentId(0)); Ends(EndId(0), EndId(1)); Ends(EndId(2), EndId(3)); \
+    Ends(EndId(4), EndId(5)); \
+    In; Accepted(Acceptance { agent: AgentId(0), epoch: 0, number: 0 }); Left; \
+    In; Accepted(Acceptance { agent: AgentId(0), epoch: 0, number: 0 }); Done; \
+    Accepted(Acceptance { agent: AgentId(0), epoch: 0, number: 1 }); Busy; Left; Closed; \
+    Discarded 0:0 1 with 2 0:1 7 with; Discarded; \
+    In; Accepted(Acceptance { agent: AgentId(0), epoch: 0, number: 0 }); Left; NotNow; Done; \
+    Closed; Left; Closed; Discarded 0:0 \"in\" with 4; Started; Notice 0:0 null with; Empty; ";
+
+#[test]
+fn moves_closes_and_discards(rt: HostRuntime) -> Result<(), Fail> {
+    let alloc = rt.alloc();
+    let moved = outcomes_of(&rt, alloc, moving(alloc)?)?;
+    assert_eq!(rt; moved.as_str(), MOVED);
+    let closed = outcomes_of(&rt, alloc, closing(alloc)?)?;
+    assert_eq!(rt; closed.as_str(), CLOSED);
+    Ok(())
+}
+
+#[test]
+fn says_what_may_be_done(rt: HostRuntime) -> Result<(), Fail> {
+    let mut core = Core::new(rt.alloc());
+    let (here, there) = (line_of(0), line_of(1));
+    assert!(rt; !core.may_post(here) && !core.may_close(EndId(0)));
+    for action in [
+        Action::Agent,
+        Action::Channel(AgentId(0)),
+        Action::Channel(AgentId(0)),
+    ] {
+        core.step(step(action))?;
+    }
+    assert!(rt; core.may_post(here) && core.may_close(EndId(0)));
+    let (good, bad) = (Listing::Good, Listing::Bad);
+    assert_eq!(rt; core.listing(here, &[EndId(3), EndId(2)]), good);
+    assert_eq!(rt;
+        core.listing(here, &[EndId(2), EndId(1)]),
+        Listing::HoldsTarget
+    );
+    assert_eq!(rt; core.listing(here, &[EndId(1), EndId(1)]), bad, "twice");
+    assert_eq!(rt; core.listing(here, &[EndId(0)]), bad, "the source");
+    assert_eq!(rt; core.listing(here, &[EndId(4)]), bad, "no end");
+    core.step(enter(0))?;
+    assert!(rt; !core.may_post(here) && core.may_post(there));
+    assert!(rt; !core.may_close(EndId(0)) && core.may_close(EndId(1)));
+    core.step(notice(0))?;
+    core.step(leave(0))?;
+    assert!(rt; !core.may_post(here) && core.may_close(EndId(0)));
+    assert!(rt; matches!(core.step(close(0))?, Outcome::Done));
+    assert!(rt; core.may_post(there) && !core.may_close(EndId(0)));
+    assert_eq!(rt; core.listing(here, &[]), bad, "no holder");
+    Ok(())
+}
+
+/// Takes the steps of one list; where memory is refused to a step, the same step of the other.
+fn outcomes_again(
+    alloc: Global,
+    words: &mut String,
+    steps: Vec<Step>,
+    same: Vec<Step>,
+) -> Result<(), Fail> {
+    let mut core = Core::new(alloc);
+    for (step, same) in steps.into_iter().zip(same) {
+        let outcome = match core.step(step) {
+            Ok(outcome) => outcome,
+            Err(OutOfMemory) => core.step(same)?,
+        };
+        tell(words, &outcome)?;
+    }
+    Ok(())
+}
+
+fn steps_of(alloc: Global, closes: bool) -> Result<Vec<Step>, OutOfMemory> {
+    if closes {
+        closing(alloc)
+    } else {
+        moving(alloc)
+    }
+}
+
+/// The steps, where memory is refused once.
+fn steps_again(alloc: Global, closes: bool) -> Result<Vec<Step>, OutOfMemory> {
+    match steps_of(alloc, closes) {
+        Ok(steps) => Ok(steps),
+        Err(OutOfMemory) => steps_of(alloc, closes),
+    }
+}
+
+// It passes whichever allocation is refused: the step that asked for it changed nothing, so that
+// step and those after it are answered as ever.
+#[test]
+fn goes_on_whichever_allocation_is_refused(rt: HostRuntime) -> Result<(), Fail> {
+    let alloc = rt.alloc();
+    for (closes, expected) in [(false, MOVED), (true, CLOSED)] {
+        let steps = steps_again(alloc, closes)?;
+        let same = steps_again(alloc, closes)?;
+        let mut words = match String::with_capacity(alloc, expected.len()) {
+            Ok(words) => words,
+            Err(OutOfMemory) => String::with_capacity(alloc, expected.len())?,
+        };
+        outcomes_again(alloc, &mut words, steps, same)?;
+        assert_eq!(rt; words.as_str(), expected);
+    }
     Ok(())
 }
 
@@ -127,7 +360,7 @@ fn has_sixteen_agents(rt: HostRuntime) -> Result<(), Fail> {
     assert!(rt; matches!(outcome, Outcome::TooManyAgents));
     let made = core.step(step(Action::Channel(AgentId(15))))?;
     assert!(rt; matches!(made, Outcome::Ends(EndId(0), EndId(1))));
-    assert_eq!(rt; core.sender_of(EndId(0)), Some(to_one()));
+    assert_eq!(rt; core.sender_of(EndId(0)), Some(line_of(0)));
     assert_eq!(rt; core.sender_of(EndId(2)), None);
     history_laws();
     queue_laws();

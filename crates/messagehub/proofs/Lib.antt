@@ -1,7 +1,7 @@
 pub mod Marks
 pub mod Numbered
 pub mod Bytes
-pub mod Posts
+pub mod Computing
 pub mod Running
 pub mod OneText
 pub mod Outputs

@@ -1,24 +1,31 @@
 -- Step lines have one text.
-use Rattle.std.proofs.Common.{◌≡◌, ℕ, Bool, List, [], ◌∷◌, ◌++◌, Option, Some, None, refl, sym, ap, subst, ◌∙◌, append_assoc, append-nil}
-use Rattle.std.specs.Prelude.{option_map}
+use Rattle.std.proofs.Common.{◌≡◌, ℕ, zero, suc, Bool, true, false, List, length, [], ◌∷◌, ◌++◌, Option, Some, None, refl, sym, ap, subst, ◌∙◌, append_assoc, append-nil}
 use Rattle.hub_envelope.specs.declared.ids.EndId.{EndId}
+use Rattle.hub_envelope.specs.declared.envelope.Envelope.{Envelope}
+use Rattle.hub_envelope.specs.declared.limits.TheConstants.{MAX_PORTS}
+use Rattle.std.specs.Prelude.{nat_lt}
 use Rattle.hub_core.specs.declared.sender.Sender.{Sender}
 use Rattle.hub_core.specs.declared.step.Action.{Action}
 use Rattle.hub_core.specs.declared.step.Action.TheVariants as action
 use Rattle.hub_core.specs.declared.outcome.Outcome.{Outcome}
 use Rattle.hub_core.specs.declared.outcome.Outcome.TheVariants as outcome
-use Rattle.hub_core.specs.History.{Pair, History}
+use Rattle.hub_core.specs.History.{History}
+use Rattle.hub_core.specs.declared.listing.Listing.{Listing}
+use Rattle.hub_core.specs.declared.listing.Listing.TheVariants.{Good, HoldsTarget, Bad}
 use Rattle.hub_core.specs.Facts.{Facts}
+use Rattle.hub_core.specs.Posting.{may_post, listing}
 use Rattle.hub_core.specs.Legal.{Legal}
 use Rattle.hub_core.specs.Laws.{InOrder, IsSameAction, AreSamePairs}
 use Rattle.hub_core.proofs.Orders.{one_answer, facts_alike}
 use Rattle.messagehub.specs.declared.steps.step_line.Poster.{Poster}
-use Rattle.messagehub.specs.declared.steps.step_line.Poster.TheVariants.{Port}
+use Rattle.messagehub.specs.declared.steps.shown.Shown.{Shown}
+use Rattle.messagehub.specs.declared.steps.shown.Shown.TheVariants.{Answer, Moving, Doomed}
 use Rattle.messagehub.specs.declared.steps.step_line.Command.{Command}
 use Rattle.messagehub.specs.declared.steps.step_line.Command.TheVariants as command
 use Rattle.messagehub.specs.declared.steps.step_line.StepLine.{StepLine}
-use Rattle.messagehub.specs.OutcomeText.{outcome_line}
-use Rattle.messagehub.specs.Unfolding.{pair, sender_of, IsStep, IsPosterStep, IsPush, IsPosterPush, IsRestOfPost, IsPost, UnfoldsTo}
+use Rattle.messagehub.specs.ShownText.{shown_line}
+use Rattle.messagehub.specs.Computation.{Computation, pair, pure, ask, step, ◌>>=◌}
+use Rattle.messagehub.specs.Unfolding.{shown_step, sender_of, on_line, on_line_of, IsPush, push, go_on, enter, send_inside, send, notice_line, tell_inside, tell, close_shown, close_on, close, close_each, close_ports, close_swept, sweep, post_listing, post_count, post_may, post, core_steps}
 use Rattle.messagehub.specs.StepText.{Runs, OneText}
 
 -- ---- the same pairs
@@ -47,93 +54,160 @@ step_one h k first second refused a b o p same past w =
 one_pair : (refused : Bool) (a b : Action) (o p : Outcome) → IsSameAction a b → o ≡ p → AreSamePairs (pair refused a o ∷ []) (pair refused b p ∷ [])
 one_pair refused a b o p same is = ((record { action = same; memory_refused = refl }, is), tt)
 
--- what two runs of a line have in common
-pub record Agree (more also : History) (shown told : Outcome) : Type 0 where
+-- what two runs have in common
+pub record Agree {X : Type 0} (more also : History) (x y : X) : Type 0 where
   pub pairs : AreSamePairs more also
-  pub outcome : shown ≡ told
+  pub value : x ≡ y
 
-step_agrees : (h k first second more also : History) (refused : Bool) (a b : Action) (shown told : Outcome) → IsSameAction a b → AreSamePairs h k → IsStep refused a more shown → IsStep refused b also told → Whole (h ++ (more ++ first)) (k ++ (also ++ second)) → Agree more also shown told
-step_agrees h k first second more also refused a b shown told same past is it w =
-    let moved = whole_as (ap (λ m. h ++ (m ++ first)) is) (ap (λ m. k ++ (m ++ second)) it) w in
-    let answer : shown ≡ told = step_one h k first second refused a b shown told same past moved in
-    record { pairs = subst (λ m. AreSamePairs m also) (sym is) (subst (λ m. AreSamePairs (pair refused a shown ∷ []) m) (sym it) (one_pair refused a b shown told same answer)); outcome = answer }
+-- whatever the computation gives after the same pairs in two whole histories is the same
+abbrev Agrees : {X : Type 0} → Computation X → Type 0
+Agrees {X = X} steps = (h k first second more also : History) (x y : X) → AreSamePairs h k → steps h more x → steps k also y → Whole (h ++ (more ++ first)) (k ++ (also ++ second)) → Agree more also x y
 
-none_agrees : (more also : History) (shown told : Outcome) → (more ≡ []) × (shown ≡ outcome.NotNow) → (also ≡ []) × (told ≡ outcome.NotNow) → Agree more also shown told
-none_agrees more also shown told a b = record { pairs = subst (λ m. AreSamePairs m also) (sym a.0) (subst (AreSamePairs []) (sym b.0) tt); outcome = a.1 ∙ sym b.1 }
+step_agrees : (h k first second more also : History) (refused : Bool) (a b : Action) (o p : Outcome) → IsSameAction a b → AreSamePairs h k → step refused a h more o → step refused b k also p → Whole (h ++ (more ++ first)) (k ++ (also ++ second)) → Agree more also o p
+step_agrees h k first second more also refused a b o p same past is it w =
+    let answer : o ≡ p = step_one h k first second refused a b o p same past (whole_as (ap (λ m. h ++ (m ++ first)) is) (ap (λ m. k ++ (m ++ second)) it) w) in
+    record { pairs = subst (λ m. AreSamePairs m also) (sym is) (subst (λ m. AreSamePairs (pair refused a o ∷ []) m) (sym it) (one_pair refused a b o p same answer)); value = answer }
 
-poster_agrees : (h k first second more also : History) (refused : Bool) (a : Sender → Action) (q : Option Sender) (shown told : Outcome) → ((s : Sender) → IsSameAction (a s) (a s)) → AreSamePairs h k → IsPosterStep refused a q more shown → IsPosterStep refused a q also told → Whole (h ++ (more ++ first)) (k ++ (also ++ second)) → Agree more also shown told
-poster_agrees h k first second more also refused a None shown told same past is it w = none_agrees more also shown told is it
-poster_agrees h k first second more also refused a (Some s) shown told same past is it w = step_agrees h k first second more also refused (a s) (a s) shown told (same s) past is it w
+pure_agrees : {X : Type 0} → (x : X) → Agrees (pure x)
+pure_agrees x h k first second more also y z past is it w =
+    record { pairs = subst (λ m. AreSamePairs m also) (sym is.0) (subst (AreSamePairs []) (sym it.0) tt); value = is.1 ∙ sym it.1 }
+
+ask_agrees : {X : Type 0} → (f : Facts → X) → Agrees (ask f)
+ask_agrees f h k first second more also y z past is it w =
+    record { pairs = subst (λ m. AreSamePairs m also) (sym is.0) (subst (AreSamePairs []) (sym it.0) tt); value = is.1 ∙ ap f (facts_alike h k past) ∙ sym it.1 }
+
+chain_agrees : {X Y : Type 0} → (first : Computation X) (next : X → Computation Y) → Agrees first → ((x : X) → Agrees (next x)) → Agrees (first >>= next)
+chain_agrees first next a b h k front back more also y z past is it w =
+    let one : History = is.1 in
+    let uno : History = it.1 in
+    let moved = whole_as (ap (λ m. h ++ (m ++ front)) is.5 ∙ ap (λ m. h ++ m) (append_assoc one is.2 front)) (ap (λ m. k ++ (m ++ back)) it.5 ∙ ap (λ m. k ++ m) (append_assoc uno it.2 back)) w in
+    let begun = a h k (is.2 ++ front) (it.2 ++ back) one uno is.0 it.0 past is.3 it.3 moved in
+    let behind = whole_as (sym (append_assoc h one (is.2 ++ front))) (sym (append_assoc k uno (it.2 ++ back))) moved in
+    let rest = b is.0 (h ++ one) (k ++ uno) front back is.2 it.2 y z (same_joined h k one uno past begun.pairs) is.4 (subst (λ x. next x (k ++ uno) it.2 z) (sym begun.value) it.4) behind in
+    let pairs : AreSamePairs (one ++ is.2) (uno ++ it.2) = same_joined one uno is.2 it.2 begun.pairs rest.pairs in
+    record { pairs = subst (λ m. AreSamePairs m also) (sym is.5) (subst (AreSamePairs (one ++ is.2)) (sym it.5) pairs); value = rest.value }
+
+-- ---- the parts of a line
+
+-- an action that isn't a Push is the same as itself
+plain_agrees : (refused : Bool) (a : Action) → IsSameAction a a → Agrees (step refused a)
+plain_agrees refused a same h k first second more also o p past is it w = step_agrees h k first second more also refused a a o p same past is it w
+
+shown_agrees : {X : Type 0} → (steps : Computation X) (f : X → Shown) → Agrees steps → Agrees (steps >>= λ x. pure (f x))
+shown_agrees steps f a = chain_agrees steps (λ x. pure (f x)) a (λ x. pure_agrees (f x))
+
+shown_step_agrees : (refused : Bool) (a : Action) → IsSameAction a a → Agrees (shown_step refused a)
+shown_step_agrees refused a same = shown_agrees (step refused a) Answer (plain_agrees refused a same)
 
 same_push : (ports : List EndId) (body : List ℕ) (s : Sender) (a b : Action) → IsPush ports body s a → IsPush ports body s b → IsSameAction a b
 same_push ports body s (action.Push t listed text) (action.Push u list words) x y = (x.0 ∙ sym y.0, x.1 ∙ sym y.1, x.2 ∙ sym y.2)
 same_push ports body s (action.Push t listed text) _ x y = absurd y
 same_push ports body s _ b x y = absurd x
 
-push_agrees : (h k first second more also : History) (refused : Bool) (ports : List EndId) (body : List ℕ) (q : Option Sender) (shown told : Outcome) → AreSamePairs h k → IsPosterPush refused ports body q more shown → IsPosterPush refused ports body q also told → Whole (h ++ (more ++ first)) (k ++ (also ++ second)) → Agree more also shown told
-push_agrees h k first second more also refused ports body None shown told past is it w = none_agrees more also shown told is it
-push_agrees h k first second more also refused ports body (Some s) shown told past is it w =
-    step_agrees h k first second more also refused is.0 it.0 shown told (same_push ports body s is.0 it.0 is.1 it.1) past is.2 it.2 w
+push_agrees : (refused : Bool) (ports : List EndId) (body : List ℕ) (s : Sender) → Agrees (push refused ports body s)
+push_agrees refused ports body s h k first second more also o p past is it w =
+    step_agrees h k first second more also refused is.0 it.0 o p (same_push ports body s is.0 it.0 is.1 it.1) past is.2 it.2 w
+
+on_line_agrees : (steps : Sender → Computation Shown) → ((s : Sender) → Agrees (steps s)) → (s : Option Sender) → Agrees (on_line steps s)
+on_line_agrees steps a None = pure_agrees (Answer outcome.NotNow)
+on_line_agrees steps a (Some s) = a s
+
+on_line_of_agrees : (p : Poster) (steps : Sender → Computation Shown) → ((s : Sender) → Agrees (steps s)) → Agrees (on_line_of p steps)
+on_line_of_agrees p steps a = chain_agrees (ask (sender_of p)) (on_line steps) (ask_agrees (sender_of p)) (on_line_agrees steps a)
 
 -- ---- a post
 
--- the rest of a post, behind its Enter
-rest_agrees : (h k first second rest also : History) (refused : Bool) (ports : List EndId) (body : List ℕ) (s : Sender) (o : Outcome) (shown told : Outcome) → AreSamePairs h k → IsRestOfPost refused ports body s o rest shown → IsRestOfPost refused ports body s o also told → Whole (h ++ (rest ++ first)) (k ++ (also ++ second)) → Agree rest also shown told
-rest_agrees h k first second rest also refused ports body s outcome.In shown told past is it w =
-    let a : Action = is.0 in
-    let b : Action = it.0 in
-    let same : IsSameAction a b = same_push ports body s a b is.2 it.2 in
-    let l : Pair = pair refused (action.Leave s) is.1 in
-    let r : Pair = pair refused (action.Leave s) it.1 in
-    let moved = whole_as (ap (λ m. h ++ (m ++ first)) is.3) (ap (λ m. k ++ (m ++ second)) it.3) w in
-    let answer : shown ≡ told = step_one h k (l ∷ first) (r ∷ second) refused a b shown told same past moved in
-    let pushed = one_pair refused a b shown told same answer in
-    let longer = same_joined h k (pair refused a shown ∷ []) (pair refused b told ∷ []) past pushed in
-    let behind = whole_as (sym (append_assoc h (pair refused a shown ∷ []) (l ∷ first))) (sym (append_assoc k (pair refused b told ∷ []) (r ∷ second))) moved in
-    let left : is.1 ≡ it.1 = step_one (h ++ pair refused a shown ∷ []) (k ++ pair refused b told ∷ []) first second refused (action.Leave s) (action.Leave s) is.1 it.1 refl longer behind in
-    let pairs : AreSamePairs (pair refused a shown ∷ l ∷ []) (pair refused b told ∷ r ∷ []) = (pushed.0, one_pair refused (action.Leave s) (action.Leave s) is.1 it.1 refl left) in
-    record { pairs = subst (λ m. AreSamePairs m also) (sym is.3) (subst (λ m. AreSamePairs (pair refused a shown ∷ l ∷ []) m) (sym it.3) pairs); outcome = answer }
-rest_agrees h k first second rest also refused ports body s outcome.Closed shown told past is it w =
-    let moved = whole_as (ap (λ m. h ++ (m ++ first)) is.2) (ap (λ m. k ++ (m ++ second)) it.2) w in
-    let left : is.0 ≡ it.0 = step_one h k first second refused (action.Leave s) (action.Leave s) is.0 it.0 refl past moved in
-    let pairs = one_pair refused (action.Leave s) (action.Leave s) is.0 it.0 refl left in
-    record { pairs = subst (λ m. AreSamePairs m also) (sym is.2) (subst (λ m. AreSamePairs (pair refused (action.Leave s) is.0 ∷ []) m) (sym it.2) pairs); outcome = is.1 ∙ sym it.1 }
-rest_agrees h k first second rest also refused ports body s outcome.NotNow shown told past is it w = none_agrees rest also shown told (is.1, is.0) (it.1, it.0)
-rest_agrees h k first second rest also refused ports body s _ shown told past is it w = absurd is
+leave_agrees : (refused : Bool) (s : Sender) (shown : Shown) → Agrees (step refused (action.Leave s) >>= λ left. pure shown)
+leave_agrees refused s shown = shown_agrees (step refused (action.Leave s)) (λ left. shown) (plain_agrees refused (action.Leave s) refl)
 
-post_agrees : (h k first second more also : History) (refused : Bool) (ports : List EndId) (body : List ℕ) (q : Option Sender) (shown told : Outcome) → AreSamePairs h k → IsPost refused ports body q more shown → IsPost refused ports body q also told → Whole (h ++ (more ++ first)) (k ++ (also ++ second)) → Agree more also shown told
-post_agrees h k first second more also refused ports body None shown told past is it w = none_agrees more also shown told is it
-post_agrees h k first second more also refused ports body (Some s) shown told past is it w =
-    let e : Pair = pair refused (action.Enter s) is.0 in
-    let d : Pair = pair refused (action.Enter s) it.0 in
-    let moved = whole_as (ap (λ m. h ++ (m ++ first)) is.3) (ap (λ m. k ++ (m ++ second)) it.3) w in
-    let answer : is.0 ≡ it.0 = step_one h k (is.1 ++ first) (it.1 ++ second) refused (action.Enter s) (action.Enter s) is.0 it.0 refl past moved in
-    let entered = one_pair refused (action.Enter s) (action.Enter s) is.0 it.0 refl answer in
-    let longer = same_joined h k (e ∷ []) (d ∷ []) past entered in
-    let behind = whole_as (sym (append_assoc h (e ∷ []) (is.1 ++ first))) (sym (append_assoc k (d ∷ []) (it.1 ++ second))) moved in
-    let rest = rest_agrees (h ++ e ∷ []) (k ++ d ∷ []) first second is.1 it.1 refused ports body s is.0 shown told longer is.2 (subst (λ o. IsRestOfPost refused ports body s o it.1 told) (sym answer) it.2) behind in
-    let pairs : AreSamePairs (e ∷ is.1) (d ∷ it.1) = (entered.0, rest.pairs) in
-    record { pairs = subst (λ m. AreSamePairs m also) (sym is.3) (subst (λ m. AreSamePairs (e ∷ is.1) m) (sym it.3) pairs); outcome = rest.outcome }
+go_on_agrees : (refused : Bool) (s : Sender) (again : Computation Outcome) → Agrees again → (o : Outcome) → Agrees (go_on refused s again o)
+go_on_agrees refused s again a outcome.Moved =
+    chain_agrees (step refused (action.Leave s)) (λ left. step refused (action.Hop s) >>= λ hopped. again) (plain_agrees refused (action.Leave s) refl)
+    (λ left. chain_agrees (step refused (action.Hop s)) (λ hopped. again) (plain_agrees refused (action.Hop s) refl) (λ hopped. a))
+go_on_agrees refused s again a o = pure_agrees o
+
+enter_agrees : (n : ℕ) (refused : Bool) (s : Sender) → Agrees (enter n refused s)
+unfolding enter
+enter_agrees zero refused s = plain_agrees refused (action.Enter s) refl
+enter_agrees (suc n) refused s = chain_agrees (step refused (action.Enter s)) (go_on refused s (enter n refused s)) (plain_agrees refused (action.Enter s) refl) (go_on_agrees refused s (enter n refused s) (enter_agrees n refused s))
+
+inside_agrees : (refused : Bool) (ports : List EndId) (body : List ℕ) (s : Sender) (o : Outcome) → Agrees (send_inside refused ports body s o)
+inside_agrees refused ports body s outcome.In = chain_agrees (push refused ports body s) (λ answer. step refused (action.Leave s) >>= λ left. pure (Answer answer)) (push_agrees refused ports body s) (λ answer. leave_agrees refused s (Answer answer))
+inside_agrees refused ports body s outcome.Closed = leave_agrees refused s (Answer outcome.Closed)
+inside_agrees refused ports body s outcome.Moved = leave_agrees refused s Moving
+inside_agrees refused ports body s o = pure_agrees (Answer o)
+
+send_agrees : (refused : Bool) (ports : List EndId) (body : List ℕ) (s : Sender) → Agrees (send refused ports body s)
+send_agrees refused ports body s = chain_agrees (enter 4 refused s) (send_inside refused ports body s) (enter_agrees 4 refused s) (inside_agrees refused ports body s)
+
+-- ---- the closing of an end
+
+tell_inside_agrees : (refused : Bool) (s : Sender) (o : Outcome) → Agrees (tell_inside refused s o)
+tell_inside_agrees refused s outcome.In = plain_agrees refused (action.Notice s) refl
+tell_inside_agrees refused s o = pure_agrees o
+
+tell_agrees : (refused : Bool) (s : Sender) → Agrees (tell refused s)
+tell_agrees refused s = chain_agrees (enter 4 refused s) (tell_inside refused s) (enter_agrees 4 refused s) (tell_inside_agrees refused s)
+
+close_on_agrees : (refused : Bool) (e : EndId) (s : Option Sender) → Agrees (close_on refused e s)
+close_on_agrees refused e None = shown_step_agrees refused (action.Close e) refl
+close_on_agrees refused e (Some s) =
+    let last : Outcome → Computation Shown = λ t. step refused (action.Close e) >>= λ k. pure (close_shown t k) in
+    chain_agrees (tell refused s) (λ t. step refused (action.Leave s) >>= λ left. last t) (tell_agrees refused s)
+    (λ t. chain_agrees (step refused (action.Leave s)) (λ left. last t) (plain_agrees refused (action.Leave s) refl) (λ left. shown_agrees (step refused (action.Close e)) (close_shown t) (plain_agrees refused (action.Close e) refl)))
+
+close_agrees : (refused : Bool) (e : EndId) → Agrees (close refused e)
+close_agrees refused e = chain_agrees (ask (notice_line e)) (close_on refused e) (ask_agrees (notice_line e)) (close_on_agrees refused e)
+
+close_each_agrees : (refused : Bool) (ends : List EndId) → Agrees (close_each refused ends)
+close_each_agrees refused [] = pure_agrees tt
+close_each_agrees refused (e ∷ ends) = chain_agrees (close refused e) (λ k. close_each refused ends) (close_agrees refused e) (λ k. close_each_agrees refused ends)
+
+close_ports_agrees : (refused : Bool) (vs : List Envelope) → Agrees (close_ports refused vs)
+close_ports_agrees refused [] = pure_agrees tt
+close_ports_agrees refused (v ∷ vs) = chain_agrees (close_each refused v.ports) (λ k. close_ports refused vs) (close_each_agrees refused v.ports) (λ k. close_ports_agrees refused vs)
+
+close_swept_agrees : (refused : Bool) (o : Outcome) → Agrees (close_swept refused o)
+close_swept_agrees refused (outcome.Discarded vs) = shown_agrees (close_ports refused vs) (λ k. Answer (outcome.Discarded vs)) (close_ports_agrees refused vs)
+close_swept_agrees refused o = pure_agrees (Answer o)
+
+sweep_agrees : (refused : Bool) (e : EndId) → Agrees (sweep refused e)
+sweep_agrees refused e = chain_agrees (step refused (action.Sweep e)) (close_swept refused) (plain_agrees refused (action.Sweep e) refl) (close_swept_agrees refused)
+
+-- ---- the tests of a post
+
+listing_agrees : (refused : Bool) (ports : List EndId) (body : List ℕ) (s : Sender) (list : Listing) → Agrees (post_listing refused ports body s list)
+listing_agrees refused ports body s Bad = pure_agrees (Answer outcome.NotNow)
+listing_agrees refused ports body s HoldsTarget = shown_agrees (close_each refused ports) (λ k. Doomed) (close_each_agrees refused ports)
+listing_agrees refused ports body s Good = send_agrees refused ports body s
+
+count_agrees : (refused : Bool) (ports : List EndId) (body : List ℕ) (s : Sender) (many : Bool) → Agrees (post_count refused ports body s many)
+count_agrees refused ports body s true = pure_agrees (Answer outcome.TooManyPorts)
+count_agrees refused ports body s false = chain_agrees (ask (λ f. listing f s ports)) (post_listing refused ports body s) (ask_agrees (λ f. listing f s ports)) (listing_agrees refused ports body s)
+
+may_agrees : (refused : Bool) (ports : List EndId) (body : List ℕ) (s : Sender) (may : Bool) → Agrees (post_may refused ports body s may)
+may_agrees refused ports body s false = pure_agrees (Answer outcome.NotNow)
+may_agrees refused ports body s true = count_agrees refused ports body s (nat_lt MAX_PORTS (length ports))
+
+post_agrees : (refused : Bool) (ports : List EndId) (body : List ℕ) (s : Sender) → Agrees (post refused ports body s)
+post_agrees refused ports body s = chain_agrees (ask (λ f. may_post f s)) (post_may refused ports body s) (ask_agrees (λ f. may_post f s)) (may_agrees refused ports body s)
 
 -- ---- a line
 
--- the line that a poster posts on is the same after the same pairs
-same_sender : (h k : History) (p : Poster) → AreSamePairs h k → sender_of h p ≡ sender_of k p
-same_sender h k (Port p) same = ap (λ (f : Facts). option_map (λ q. let s : Sender = record { end = record { 0 = q }; line = record { 0 = 0 } } in s) (f.end p.0).peer) (facts_alike h k same)
-
-line_agrees : (h k first second more also : History) (refused : Bool) (c : Command) (shown told : Outcome) → AreSamePairs h k → UnfoldsTo h refused c more shown → UnfoldsTo k refused c also told → Whole (h ++ (more ++ first)) (k ++ (also ++ second)) → Agree more also shown told
-line_agrees h k first second more also refused command.Agent shown told past is it w = step_agrees h k first second more also refused action.Agent action.Agent shown told refl past is it w
-line_agrees h k first second more also refused (command.Channel a) shown told past is it w = step_agrees h k first second more also refused (action.Channel a) (action.Channel a) shown told refl past is it w
-line_agrees h k first second more also refused (command.Enter p) shown told past is it w =
-    poster_agrees h k first second more also refused action.Enter (sender_of h p) shown told (λ s. refl) past is (subst (λ q. IsPosterStep refused action.Enter q also told) (sym (same_sender h k p past)) it) w
-line_agrees h k first second more also refused (command.Push p ports body) shown told past is it w =
-    push_agrees h k first second more also refused ports body (sender_of h p) shown told past is (subst (λ q. IsPosterPush refused ports body q also told) (sym (same_sender h k p past)) it) w
-line_agrees h k first second more also refused (command.Leave p) shown told past is it w =
-    poster_agrees h k first second more also refused action.Leave (sender_of h p) shown told (λ s. refl) past is (subst (λ q. IsPosterStep refused action.Leave q also told) (sym (same_sender h k p past)) it) w
-line_agrees h k first second more also refused (command.Post p ports body) shown told past is it w =
-    post_agrees h k first second more also refused ports body (sender_of h p) shown told past is (subst (λ q. IsPost refused ports body q also told) (sym (same_sender h k p past)) it) w
-line_agrees h k first second more also refused (command.Start e) shown told past is it w = step_agrees h k first second more also refused (action.Start e) (action.Start e) shown told refl past is it w
-line_agrees h k first second more also refused (command.Take e) shown told past is it w = step_agrees h k first second more also refused (action.Take e) (action.Take e) shown told refl past is it w
+line_agrees : (refused : Bool) (c : Command) → Agrees (core_steps refused c)
+line_agrees refused command.Agent = shown_step_agrees refused action.Agent refl
+line_agrees refused (command.Channel a) = shown_step_agrees refused (action.Channel a) refl
+line_agrees refused (command.Enter p) = on_line_of_agrees p _ (λ s. shown_step_agrees refused (action.Enter s) refl)
+line_agrees refused (command.Push p ports body) = on_line_of_agrees p _ (λ s. shown_agrees (push refused ports body s) Answer (push_agrees refused ports body s))
+line_agrees refused (command.Leave p) = on_line_of_agrees p _ (λ s. shown_step_agrees refused (action.Leave s) refl)
+line_agrees refused (command.Hop p) = on_line_of_agrees p _ (λ s. shown_step_agrees refused (action.Hop s) refl)
+line_agrees refused (command.Post p ports body) = on_line_of_agrees p _ (post_agrees refused ports body)
+line_agrees refused (command.Start e) = shown_step_agrees refused (action.Start e) refl
+line_agrees refused (command.Take e) = shown_step_agrees refused (action.Take e) refl
+line_agrees refused (command.Look e) = shown_step_agrees refused (action.Look e) refl
+line_agrees refused (command.Adopt e a) = shown_step_agrees refused (action.Adopt e a) refl
+line_agrees refused (command.Close e) = close_agrees refused e
+line_agrees refused (command.Sweep e) = sweep_agrees refused e
 
 -- ---- all lines
 
@@ -150,9 +224,9 @@ texts_agree h k (l ∷ lines) text words after end past r s w =
     let first = runs_on (h ++ r.0) lines r.2 after r.5 in
     let second = runs_on (k ++ s.0) lines s.2 end s.5 in
     let moved = whole_as (first.1 ∙ append_assoc h r.0 first.0) (second.1 ∙ append_assoc k s.0 second.0) w in
-    let agree = line_agrees h k first.0 second.0 r.0 s.0 l.memory_refused l.command r.1 s.1 past r.3.unfolds s.3.unfolds moved in
+    let agree = line_agrees l.memory_refused l.command h k first.0 second.0 r.0 s.0 r.1 s.1 past r.3.unfolds s.3.unfolds moved in
     let rest : r.2 ≡ s.2 = texts_agree (h ++ r.0) (k ++ s.0) lines r.2 s.2 after end (same_joined h k r.0 s.0 past agree.pairs) r.5 s.5 w in
-    r.4 ∙ ap (λ o. outcome_line o ++ r.2) agree.outcome ∙ ap (λ t. outcome_line s.1 ++ t) rest ∙ sym s.4
+    r.4 ∙ ap (λ o. shown_line o ++ r.2) agree.value ∙ ap (λ t. shown_line s.1 ++ t) rest ∙ sym s.4
 
 pub one_text : OneText
 one_text lines first second a b =

@@ -3,34 +3,31 @@ use Rattle.std.proofs.Common.{◌≡◌, ℕ, List, [], ◌∷◌, ◌++◌, len
 use Rattle.std.specs.Result.{is_err, OnOk, OnErr}
 use Rattle.std.specs.Io.KnownBytes.{Appends, Keeps}
 use Rattle.hub_core.specs.declared.machine.Core.{Core}
-use Rattle.hub_core.specs.declared.outcome.Outcome.{Outcome}
 use Rattle.hub_core.specs.History.{History}
-use Rattle.hub_core.specs.Legal.{Legal, LegalAfter}
+use Rattle.hub_core.specs.Legal.{Legal}
 use Rattle.hub_core.specs.Shows.{Shows}
 use Rattle.messagehub.specs.declared.device.Device.{Device}
 use Rattle.messagehub.specs.declared.status.ExitStatus.{ExitStatus}
 use Rattle.messagehub.specs.declared.status.ExitStatus.TheVariants as exit
 use Rattle.messagehub.specs.declared.steps.step_line.StepLine.{StepLine}
 use Rattle.messagehub.specs.Beginning.{AppendsBeginning}
-use Rattle.messagehub.specs.OutcomeText.{outcome_line}
+use Rattle.messagehub.specs.declared.steps.shown.Shown.{Shown}
+use Rattle.messagehub.specs.ShownText.{shown_line}
 use Rattle.messagehub.specs.Performed.{Performs, PerformsAt}
 use Rattle.messagehub.specs.StepText.{Runs, IsStepText}
 use Rattle.messagehub.specs.OutOfMemory.{out_of_memory}
 use Rattle.messagehub.specs.Engine.{Says, Writes}
 use Rattle.messagehub.specs.Output.{IsCutShort, IsRunOutput}
 use Rattle.hub_core.proofs.Orders.{shows_in_order}
+use Rattle.messagehub.proofs.Computing.{legal_append}
 use Rattle.messagehub.proofs.Bytes.{appends_nothing, appends_more, appends_kept, begins_after, begins_kept, begins_longer}
 
-runs_more : (past : History) (lines : List StepLine) (text : List ℕ) (h : History) (line : StepLine) (more : History) (shown : Outcome) → Runs past lines text h → Performs h line more shown
-    → Runs past (lines ++ line ∷ []) (text ++ outcome_line shown) (h ++ more)
+runs_more : (past : History) (lines : List StepLine) (text : List ℕ) (h : History) (line : StepLine) (more : History) (shown : Shown) → Runs past lines text h → Performs h line more shown
+    → Runs past (lines ++ line ∷ []) (text ++ shown_line shown) (h ++ more)
 runs_more past [] text h line more shown r p =
-    (more, shown, [], subst (λ k. Performs k line more shown) r.1 p, ap (λ t. t ++ outcome_line shown) r.0 ∙ sym (append-nil (outcome_line shown)), (refl, ap (λ k. k ++ more) r.1))
+    (more, shown, [], subst (λ k. Performs k line more shown) r.1 p, ap (λ t. t ++ shown_line shown) r.0 ∙ sym (append-nil (shown_line shown)), (refl, ap (λ k. k ++ more) r.1))
 runs_more past (l ∷ lines) text h line more shown r p =
-    (r.0, r.1, r.2 ++ outcome_line shown, r.3, ap (λ t. t ++ outcome_line shown) r.4 ∙ append_assoc (outcome_line r.1) r.2 (outcome_line shown), runs_more (past ++ r.0) lines r.2 h line more shown r.5 p)
-
-legal_append : (past a b : History) → LegalAfter past a → LegalAfter (past ++ a) b → LegalAfter past (a ++ b)
-legal_append past [] b l m = subst (λ k. LegalAfter k b) (append-nil past) m
-legal_append past (p ∷ a) b l m = (l.0, legal_append (past ++ p ∷ []) a b l.1 (subst (λ k. LegalAfter k b) (sym (append_assoc past (p ∷ []) a)) m))
+    (r.0, r.1, r.2 ++ shown_line shown, r.3, ap (λ t. t ++ shown_line shown) r.4 ∙ append_assoc (shown_line r.1) r.2 (shown_line shown), runs_more (past ++ r.0) lines r.2 h line more shown r.5 p)
 
 -- the lines were run by a legal history that the core shows; of their text a front has gone out, and
 -- the rest is kept
@@ -52,11 +49,11 @@ told_as {lines = lines} a text = subst (IsStepText lines) text (told a)
 pub starts : (old : Option (List ℕ)) (core : Core) (kept : List ℕ) → kept ≡ [] → Shows core [] → IsAnswered old old core kept []
 starts old core kept none shows = record { h = []; sent = []; runs = (none, refl); legal = tt; shows = shows; out = appends_nothing old }
 
-pub answers : (old now : Option (List ℕ)) (core next : Core) (kept longer : List ℕ) (lines : List StepLine) (line : StepLine) (shown : Outcome) → IsAnswered old now core kept lines → PerformsAt core next line shown → longer ≡ kept ++ outcome_line shown
+pub answers : (old now : Option (List ℕ)) (core next : Core) (kept longer : List ℕ) (lines : List StepLine) (line : StepLine) (shown : Shown) → IsAnswered old now core kept lines → PerformsAt core next line shown → longer ≡ kept ++ shown_line shown
     → IsAnswered old now next longer (lines ++ line ∷ [])
 answers old now core next kept longer lines line shown a performs e =
     let x = performs a.h a.shows in
-    let text : (a.sent ++ kept) ++ outcome_line shown ≡ a.sent ++ longer = append_assoc a.sent kept (outcome_line shown) ∙ ap (λ t. a.sent ++ t) (sym e) in
+    let text : (a.sent ++ kept) ++ shown_line shown ≡ a.sent ++ longer = append_assoc a.sent kept (shown_line shown) ∙ ap (λ t. a.sent ++ t) (sym e) in
     record {
       h = a.h ++ x.0;
       sent = a.sent;

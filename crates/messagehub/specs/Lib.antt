@@ -13,6 +13,8 @@ pub mod Beginning
 pub mod OutOfMemory
 pub mod Engine
 pub mod OutcomeText
+pub mod ShownText
+pub mod Computation
 pub mod Unfolding
 pub mod Performed
 pub mod StepText

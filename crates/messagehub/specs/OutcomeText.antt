@@ -1,5 +1,6 @@
 -- The outcome lines.
-use Rattle.std.specs.Prelude.{ℕ, List, [], ◌∷◌, ◌++◌, codes}
+use Rattle.std.specs.Prelude.{ℕ, List, [], ◌∷◌, ◌++◌, codes, if◌then◌else◌}
+use Rattle.std.specs.List.{flat_map}
 use Rattle.std.specs.Fmt.{decimal}
 use Rattle.hub_envelope.specs.declared.ids.EndId.{EndId}
 use Rattle.hub_envelope.specs.declared.envelope.Envelope.{Envelope}
@@ -12,9 +13,27 @@ abbrev pub ports_text : List EndId → List ℕ
 ports_text [] = []
 ports_text (p ∷ ports) = codes "with " ++ ends_text (p ∷ ports) ++ codes " "
 
+-- the name of an envelope on its line
+abbrev pub name_text : Envelope → List ℕ
+name_text v = decimal v.epoch ++ codes ":" ++ decimal v.number
+
+-- a delivery, or a notice, which has no body and no ports to show
 abbrev pub got_line : Envelope → List ℕ
 got_line v =
-    codes "got " ++ decimal v.epoch ++ codes ":" ++ decimal v.number ++ codes " from " ++ decimal v.line.0 ++ codes " " ++ ports_text v.ports ++ v.body ++ codes "\n"
+    if v.notice then codes "notice " ++ name_text v ++ codes " from " ++ decimal v.line.0 ++ codes "\n"
+    else codes "got " ++ name_text v ++ codes " from " ++ decimal v.line.0 ++ codes " " ++ ports_text v.ports ++ v.body ++ codes "\n"
+
+-- a space, the name and the line
+abbrev pub listed_name : Envelope → List ℕ
+listed_name v = codes " " ++ name_text v ++ codes "/" ++ decimal v.line.0
+
+abbrev pub names_text : List Envelope → List ℕ
+names_text vs = flat_map listed_name vs
+
+-- what was discarded, in order, or that nothing was
+abbrev pub discarded_line : List Envelope → List ℕ
+discarded_line [] = codes "discarded nothing\n"
+discarded_line (v ∷ vs) = codes "discarded" ++ names_text (v ∷ vs) ++ codes "\n"
 
 -- the line of an outcome, with its LF
 unfoldable pub outcome_line : Outcome → List ℕ
@@ -30,7 +49,15 @@ outcome_line outcome.Moved = codes "moved\n"
 outcome_line (outcome.Accepted name) = codes "accepted " ++ decimal name.epoch ++ codes ":" ++ decimal name.number ++ codes "\n"
 outcome_line outcome.TooManyPorts = codes "too-many-ports\n"
 outcome_line outcome.Left = codes "left\n"
+outcome_line (outcome.Hopped k) = codes "hopped " ++ decimal k ++ codes "\n"
 outcome_line outcome.Started = codes "started\n"
 outcome_line (outcome.Got v) = got_line v
 outcome_line outcome.Empty = codes "empty\n"
+outcome_line outcome.Busy = codes "busy\n"
+outcome_line outcome.Again = codes "again\n"
 outcome_line outcome.Disabled = codes "disabled\n"
+outcome_line (outcome.Clear queue) = codes "clear\n"
+outcome_line (outcome.Adopted k) = codes "adopted " ++ decimal k ++ codes "\n"
+outcome_line outcome.TooManyMoves = codes "too-many-moves\n"
+outcome_line outcome.Done = codes "done\n"
+outcome_line (outcome.Discarded vs) = discarded_line vs

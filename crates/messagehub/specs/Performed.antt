@@ -1,30 +1,27 @@
 -- A step line run after a history.
-use Rattle.std.specs.Prelude.{ℕ, Bool, List, [], ◌∷◌, ◌++◌, Some}
-use Rattle.hub_envelope.specs.declared.ids.EndId.{EndId}
-use Rattle.hub_core.specs.declared.sender.Sender.{Sender}
-use Rattle.hub_core.specs.declared.outcome.Outcome.{Outcome}
+use Rattle.std.specs.Prelude.{◌++◌}
 use Rattle.hub_core.specs.declared.machine.Core.{Core}
-use Rattle.hub_core.specs.History.{Pair, History}
-use Rattle.hub_core.specs.Fits.{Fits}
+use Rattle.hub_core.specs.History.{History}
 use Rattle.hub_core.specs.Legal.{LegalAfter}
 use Rattle.hub_core.specs.Shows.{Shows}
+use Rattle.messagehub.specs.declared.steps.shown.Shown.{Shown}
 use Rattle.messagehub.specs.declared.steps.step_line.StepLine.{StepLine}
-use Rattle.messagehub.specs.Unfolding.{UnfoldsTo, IsPost}
+use Rattle.messagehub.specs.Computation.{Computation}
+use Rattle.messagehub.specs.Unfolding.{core_steps}
 
--- the pairs are what the line unfolds to after the history, each fits, and the outcome is the one shown
-pub record Performs (past : History) (line : StepLine) (more : History) (shown : Outcome) : Type 0 where
-  pub unfolds : UnfoldsTo past line.memory_refused line.command more shown
+-- the pairs and the value are those of the computation after the history, and each pair fits
+pub record Computes {X : Type 0} (steps : Computation X) (past more : History) (value : X) : Type 0 where
+  pub unfolds : steps past more value
   pub legal : LegalAfter past more
 
+-- after every history that the core showed, it shows one that is longer by what was computed
+abbrev pub ComputesAt : {X : Type 0} → Core → Core → Computation X → X → Type 0
+ComputesAt old new steps value = (past : History) → Shows old past → (more : History) × Computes steps past more value × Shows new (past ++ more)
+
+-- the pairs and what is shown are those that the line unfolds to after the history
+abbrev pub Performs : History → StepLine → History → Shown → Type 0
+Performs past line more shown = Computes (core_steps line.memory_refused line.command) past more shown
+
 -- after every history that the core showed, it shows one that is longer by a line
-abbrev pub PerformsAt : Core → Core → StepLine → Outcome → Type 0
-PerformsAt old new line shown = (past : History) → Shows old past → (more : History) × Performs past line more shown × Shows new (past ++ more)
-
--- after every history that the core showed, it shows one that is longer by a post
-abbrev pub PostsAt : Core → Core → Bool → List EndId → List ℕ → Sender → Outcome → Type 0
-PostsAt old new refused ports body s shown =
-    (past : History) → Shows old past → (more : History) × IsPost refused ports body (Some s) more shown × LegalAfter past more × Shows new (past ++ more)
-
--- after every history that the core showed, it shows one that is longer by a pair that fits
-abbrev pub StepsAt : Core → Core → Pair → Type 0
-StepsAt old new p = (past : History) → Shows old past → Fits past p × Shows new (past ++ p ∷ [])
+abbrev pub PerformsAt : Core → Core → StepLine → Shown → Type 0
+PerformsAt old new line shown = ComputesAt old new (core_steps line.memory_refused line.command) shown

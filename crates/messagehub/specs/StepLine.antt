@@ -5,6 +5,7 @@ use Rattle.hub_envelope.specs.Answer.{answer_of}
 use Rattle.hub_envelope.specs.declared.body.BodyError.{BodyError}
 use Rattle.hub_envelope.specs.declared.ids.AgentId.{AgentId}
 use Rattle.hub_envelope.specs.declared.ids.EndId.{EndId}
+use Rattle.hub_text.specs.EndList.{ends_of}
 use Rattle.hub_text.specs.Number as text
 use Rattle.hub_text.specs.Reading.{◌>>=◌, some_or}
 use Rattle.hub_text.specs.Word.{cut}
@@ -33,9 +34,9 @@ agent_of n = record { 0 = (if nat_lt n 256 then n else 255) }
 abbrev pub poster_of : List ℕ → Read Poster
 poster_of word = some_or BadPoster (option_map (λ port. Port (record { 0 = port })) (number_of word))
 
--- `-` is the list with no end. No step line takes another list yet.
+-- `-`, or numbers joined by single commas
 abbrev pub list_of : List ℕ → Read (List EndId)
-list_of word = if bytes_eq word (codes "-") then Ok [] else Err BadList
+list_of word = some_or BadList (ends_of 4294967295 word)
 
 abbrev pub body_read : Result (List ℕ) BodyError → Read (List ℕ)
 body_read (Ok body) = Ok body
@@ -58,13 +59,23 @@ only_word (Some text) = word_alone (cut 32 text) text
 abbrev pub number_after : Option (List ℕ) → Read ℕ
 number_after rest = only_word rest >>= λ word. some_or BadNumber (number_of word)
 
--- the poster that is the rest of the step line
-abbrev pub poster_after : Option (List ℕ) → Read Poster
-poster_after rest = only_word rest >>= poster_of
-
 -- a word, and what comes after its space
 abbrev pub word_before : List ℕ → Read (List ℕ × List ℕ)
 word_before text = some_or BadWords (cut 32 text)
+
+-- the two numbers that are the rest of the step line
+unfoldable pub two_numbers_after : Option (List ℕ) → Read (ℕ × ℕ)
+two_numbers_after rest = do
+  text ← some_or BadWords rest
+  parts ← word_before text
+  word ← only_word (Some parts.1)
+  first ← some_or BadNumber (number_of parts.0)
+  second ← some_or BadNumber (number_of word)
+  Ok (first, second)
+
+-- the poster that is the rest of the step line
+abbrev pub poster_after : Option (List ℕ) → Read Poster
+poster_after rest = only_word rest >>= poster_of
 
 -- poster, list and body, the body being the rest of the step line
 unfoldable pub posting_after : Option (List ℕ) → Read (Poster × List EndId × List ℕ)
@@ -89,11 +100,16 @@ command_of name rest =
     else (if bytes_eq name (codes "channel") then number_after rest >>= (λ n. Ok (command.Channel (agent_of n)))
     else (if bytes_eq name (codes "enter") then poster_after rest >>= (λ p. Ok (command.Enter p))
     else (if bytes_eq name (codes "leave") then poster_after rest >>= (λ p. Ok (command.Leave p))
+    else (if bytes_eq name (codes "hop") then poster_after rest >>= (λ p. Ok (command.Hop p))
     else (if bytes_eq name (codes "push") then posting_after rest >>= (λ x. Ok (command.Push x.0 x.1 x.2))
     else (if bytes_eq name (codes "post") then posting_after rest >>= (λ x. Ok (command.Post x.0 x.1 x.2))
     else (if bytes_eq name (codes "start") then number_after rest >>= (λ n. Ok (command.Start (record { 0 = n })))
     else (if bytes_eq name (codes "take") then number_after rest >>= (λ n. Ok (command.Take (record { 0 = n })))
-    else Err UnknownStep)))))))
+    else (if bytes_eq name (codes "look") then number_after rest >>= (λ n. Ok (command.Look (record { 0 = n })))
+    else (if bytes_eq name (codes "adopt") then two_numbers_after rest >>= (λ x. Ok (command.Adopt (record { 0 = x.0 }) (agent_of x.1)))
+    else (if bytes_eq name (codes "close") then number_after rest >>= (λ n. Ok (command.Close (record { 0 = n })))
+    else (if bytes_eq name (codes "sweep") then number_after rest >>= (λ n. Ok (command.Sweep (record { 0 = n })))
+    else Err UnknownStep))))))))))))
 
 abbrev pub command_cut : List ℕ → Option (List ℕ × List ℕ) → Read Command
 command_cut text None = command_of text None

@@ -1,19 +1,19 @@
 -- The text that step lines are answered with.
 use Rattle.std.specs.Prelude.{◌≡◌, ℕ, List, [], ◌∷◌, ◌++◌}
-use Rattle.hub_core.specs.declared.outcome.Outcome.{Outcome}
 use Rattle.hub_core.specs.History.{History}
 use Rattle.hub_core.specs.Legal.{Legal}
 use Rattle.hub_core.specs.Laws.{InOrder}
 use Rattle.messagehub.specs.declared.steps.step_line.StepLine.{StepLine}
-use Rattle.messagehub.specs.OutcomeText.{outcome_line}
+use Rattle.messagehub.specs.declared.steps.shown.Shown.{Shown}
+use Rattle.messagehub.specs.ShownText.{shown_line}
 use Rattle.messagehub.specs.Performed.{Performs}
 
--- the lines, run in order after a history, are answered with the text, an outcome line for each, and
+-- the lines, run in order after a history, are answered with the text, a line for each, and
 -- leave the history `after`
 abbrev pub Runs : History → List StepLine → List ℕ → History → Type 0
 Runs past [] text after = (text ≡ []) × (after ≡ past)
 Runs past (line ∷ lines) text after =
-    (more : History) × (shown : Outcome) × (rest : List ℕ) × Performs past line more shown × (text ≡ outcome_line shown ++ rest) × Runs (past ++ more) lines rest after
+    (more : History) × (shown : Shown) × (rest : List ℕ) × Performs past line more shown × (text ≡ shown_line shown ++ rest) × Runs (past ++ more) lines rest after
 
 -- the text that the lines are answered with, by a legal history of their core steps, which is in order in each queue
 pub record IsStepText (lines : List StepLine) (text : List ℕ) : Type 0 where

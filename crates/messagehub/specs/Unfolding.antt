@@ -1,21 +1,26 @@
--- The core steps that a step line unfolds to, and the outcome that it shows.
-use Rattle.std.specs.Prelude.{◌≡◌, ℕ, Bool, true, false, List, [], ◌∷◌, Option, Some, None}
+-- The core steps that a step line unfolds to, and what it shows.
+use Rattle.std.specs.Prelude.{◌≡◌, ℕ, zero, suc, Bool, true, false, List, [], ◌∷◌, length, nat_lt, if◌then◌else◌, Option, Some, None, option_map}
 use Rattle.hub_envelope.specs.declared.ids.EndId.{EndId}
+use Rattle.hub_envelope.specs.declared.envelope.Envelope.{Envelope}
+use Rattle.hub_envelope.specs.declared.limits.TheConstants.{MAX_PORTS}
+use Rattle.hub_core.specs.declared.limits.TheConstants.{MAX_HOPS}
 use Rattle.hub_core.specs.declared.sender.Sender.{Sender}
 use Rattle.hub_core.specs.declared.step.Action.{Action}
 use Rattle.hub_core.specs.declared.step.Action.TheVariants as action
 use Rattle.hub_core.specs.declared.outcome.Outcome.{Outcome}
 use Rattle.hub_core.specs.declared.outcome.Outcome.TheVariants as outcome
-use Rattle.hub_core.specs.History.{Pair, History}
-use Rattle.hub_core.specs.Made.{line_of_port}
+use Rattle.hub_core.specs.declared.listing.Listing.{Listing}
+use Rattle.hub_core.specs.declared.listing.Listing.TheVariants.{Good, HoldsTarget, Bad}
+use Rattle.hub_core.specs.Facts.{Facts}
+use Rattle.hub_core.specs.Moving.{may_close}
+use Rattle.hub_core.specs.Posting.{may_post, listing}
+use Rattle.messagehub.specs.declared.steps.shown.Shown.{Shown}
+use Rattle.messagehub.specs.declared.steps.shown.Shown.TheVariants.{Answer, Moving, Doomed, DoneNoMemory, DoneMoving}
 use Rattle.messagehub.specs.declared.steps.step_line.Poster.{Poster}
 use Rattle.messagehub.specs.declared.steps.step_line.Poster.TheVariants.{Port}
 use Rattle.messagehub.specs.declared.steps.step_line.Command.{Command}
 use Rattle.messagehub.specs.declared.steps.step_line.Command.TheVariants as command
-
--- a step, with memory refused in it or not, and its outcome
-abbrev pub pair : Bool → Action → Outcome → Pair
-pair refused a o = (record { action = a; memory_refused = refused }, o)
+use Rattle.messagehub.specs.Computation.{Computation, pure, ask, step, ◌>>=◌}
 
 -- the commands whose steps may be answered want of memory
 abbrev pub command_takes_memory : Command → Bool
@@ -23,57 +28,189 @@ command_takes_memory command.Agent = true
 command_takes_memory (command.Channel a) = true
 command_takes_memory (command.Push p ports body) = true
 command_takes_memory (command.Post p ports body) = true
+command_takes_memory (command.Adopt e a) = true
+command_takes_memory (command.Close e) = true
+command_takes_memory (command.Sweep e) = true
 command_takes_memory (command.Enter p) = false
 command_takes_memory (command.Leave p) = false
+command_takes_memory (command.Hop p) = false
 command_takes_memory (command.Start e) = false
 command_takes_memory (command.Take e) = false
+command_takes_memory (command.Look e) = false
 
--- the line that the poster posts on
-abbrev pub sender_of : History → Poster → Option Sender
-sender_of past (Port p) = line_of_port past p.0
+-- a step whose outcome is shown
+abbrev pub shown_step : Bool → Action → Computation Shown
+shown_step refused a = do
+  answer ← step refused a
+  pure (Answer answer)
 
--- one step, whose outcome is shown
-abbrev pub IsStep : Bool → Action → History → Outcome → Type 0
-IsStep refused a more shown = more ≡ pair refused a shown ∷ []
+-- the line that the poster posts on: line 0 of the port that its port is entangled with
+abbrev pub sender_of : Poster → Facts → Option Sender
+sender_of (Port p) f = option_map (λ q. record { end = record { 0 = q }; line = record { 0 = 0 } }) (f.end p.0).peer
 
--- the step of a poster; one that names no line takes no step, and not-now is shown
-abbrev pub IsPosterStep : Bool → (Sender → Action) → Option Sender → History → Outcome → Type 0
-IsPosterStep refused a None more shown = (more ≡ []) × (shown ≡ outcome.NotNow)
-IsPosterStep refused a (Some s) more shown = IsStep refused (a s) more shown
+abbrev pub on_line : (Sender → Computation Shown) → Option Sender → Computation Shown
+on_line steps None = pure (Answer outcome.NotNow)
+on_line steps (Some s) = steps s
 
--- a Push of the listed ports
+-- what the poster's line is for; a poster that names no line takes no step, and not-now is shown
+abbrev pub on_line_of : Poster → (Sender → Computation Shown) → Computation Shown
+on_line_of p steps = do
+  line ← ask (sender_of p)
+  on_line steps line
+
+-- a Push of the listed ports, wherever their list lies in memory
 abbrev pub IsPush : List EndId → List ℕ → Sender → Action → Type 0
 IsPush ports body s (action.Push t listed text) = (t ≡ s) × (listed.items ≡ ports) × (text ≡ body)
 IsPush ports body s _ = ⊥
 
--- the Push of a poster, as IsPosterStep
-abbrev pub IsPosterPush : Bool → List EndId → List ℕ → Option Sender → History → Outcome → Type 0
-IsPosterPush refused ports body None more shown = (more ≡ []) × (shown ≡ outcome.NotNow)
-IsPosterPush refused ports body (Some s) more shown = (push : Action) × IsPush ports body s push × IsStep refused push more shown
+abbrev pub push : Bool → List EndId → List ℕ → Sender → Computation Outcome
+push refused ports body s past more answer = (a : Action) × IsPush ports body s a × step refused a past more answer
 
--- What follows the Enter of a post. Inside it pushes and leaves, and what the push is answered is
--- shown; at a closed gate it leaves. No queue is retired yet, so it isn't answered Moved.
-abbrev pub IsRestOfPost : Bool → List EndId → List ℕ → Sender → Outcome → History → Outcome → Type 0
-IsRestOfPost refused ports body s outcome.In rest shown =
-    (push : Action) × (left : Outcome) × IsPush ports body s push × (rest ≡ pair refused push shown ∷ pair refused (action.Leave s) left ∷ [])
-IsRestOfPost refused ports body s outcome.Closed rest shown =
-    (left : Outcome) × (shown ≡ outcome.Closed) × (rest ≡ pair refused (action.Leave s) left ∷ [])
-IsRestOfPost refused ports body s outcome.NotNow rest shown = (shown ≡ outcome.NotNow) × (rest ≡ [])
-IsRestOfPost refused ports body s _ rest shown = ⊥
+abbrev pub shown_push : Bool → List EndId → List ℕ → Sender → Computation Shown
+shown_push refused ports body s = do
+  answer ← push refused ports body s
+  pure (Answer answer)
 
--- Enter, push and leave
-abbrev pub IsPost : Bool → List EndId → List ℕ → Option Sender → History → Outcome → Type 0
-IsPost refused ports body None more shown = (more ≡ []) × (shown ≡ outcome.NotNow)
-IsPost refused ports body (Some s) more shown =
-    (entered : Outcome) × (rest : History) × IsRestOfPost refused ports body s entered rest shown × (more ≡ pair refused (action.Enter s) entered ∷ rest)
+-- What follows an Enter where hops are left: answered Moved, it goes on by Leave and Hop to enter again.
+abbrev pub go_on : Bool → Sender → Computation Outcome → Outcome → Computation Outcome
+go_on refused s again outcome.Moved = do
+  left ← step refused (action.Leave s)
+  hopped ← step refused (action.Hop s)
+  again
+go_on refused s again entered = pure entered
 
--- what a command unfolds to after a history: the pairs that it adds, and the outcome that it shows
-abbrev pub UnfoldsTo : History → Bool → Command → History → Outcome → Type 0
-UnfoldsTo past refused command.Agent = IsStep refused action.Agent
-UnfoldsTo past refused (command.Channel a) = IsStep refused (action.Channel a)
-UnfoldsTo past refused (command.Enter p) = IsPosterStep refused action.Enter (sender_of past p)
-UnfoldsTo past refused (command.Push p ports body) = IsPosterPush refused ports body (sender_of past p)
-UnfoldsTo past refused (command.Leave p) = IsPosterStep refused action.Leave (sender_of past p)
-UnfoldsTo past refused (command.Post p ports body) = IsPost refused ports body (sender_of past p)
-UnfoldsTo past refused (command.Start e) = IsStep refused (action.Start e)
-UnfoldsTo past refused (command.Take e) = IsStep refused (action.Take e)
+-- Enter, with at most n hops: the answer of the last Enter, which is Moved only after n hops
+unfoldable pub enter : ℕ → Bool → Sender → Computation Outcome
+enter zero refused s = step refused (action.Enter s)
+enter (suc n) refused s = do
+  entered ← step refused (action.Enter s)
+  go_on refused s (enter n refused s) entered
+
+-- ---- the closing of an end
+
+-- the line on which the closing of a port puts its notice, where a Close would be answered Done
+abbrev pub notice_line : EndId → Facts → Option Sender
+notice_line e f = if may_close f e.0 then sender_of (Port e) f else None
+
+-- What follows the last Enter of a closing: inside, the Push of the notice.
+abbrev pub tell_inside : Bool → Sender → Outcome → Computation Outcome
+tell_inside refused s outcome.In = step refused (action.Notice s)
+tell_inside refused s entered = pure entered
+
+-- Enter, with at most four hops, and the Push of the notice: the answer of that Push, or else of the last Enter
+abbrev pub tell : Bool → Sender → Computation Outcome
+tell refused s = do
+  entered ← enter MAX_HOPS refused s
+  tell_inside refused s entered
+
+-- what a closing shows, by that answer and by that of the Close
+abbrev pub close_shown : Outcome → Outcome → Shown
+close_shown outcome.NoMemory answer = DoneNoMemory
+close_shown outcome.Moved answer = DoneMoving
+close_shown told answer = Answer answer
+
+abbrev pub close_on : Bool → EndId → Option Sender → Computation Shown
+close_on refused e None = shown_step refused (action.Close e)
+close_on refused e (Some s) = do
+  told ← tell refused s
+  left ← step refused (action.Leave s)
+  closed ← step refused (action.Close e)
+  pure (close_shown told closed)
+
+-- The closing of a port. Where its Close would be answered Closed or NotNow, that is the only step; else the port's
+-- own poster enters, puts the notice where it is inside, and leaves; and then Close.
+abbrev pub close : Bool → EndId → Computation Shown
+close refused e = do
+  line ← ask (notice_line e)
+  close_on refused e line
+
+-- the closing of each, in order, with hops counted anew; it isn't shown
+abbrev pub close_each : Bool → List EndId → Computation (Unit {0})
+close_each refused [] = pure tt
+close_each refused (e ∷ ends) = do
+  closed ← close refused e
+  close_each refused ends
+
+-- the closing of the ports of each envelope, in order
+abbrev pub close_ports : Bool → List Envelope → Computation (Unit {0})
+close_ports refused [] = pure tt
+close_ports refused (v ∷ vs) = do
+  closed ← close_each refused v.ports
+  close_ports refused vs
+
+abbrev pub close_swept : Bool → Outcome → Computation Shown
+close_swept refused (outcome.Discarded vs) = do
+  closed ← close_ports refused vs
+  pure (Answer (outcome.Discarded vs))
+close_swept refused answer = pure (Answer answer)
+
+-- Sweep, and then the closing of each end that the discarded envelopes name
+abbrev pub sweep : Bool → EndId → Computation Shown
+sweep refused e = do
+  answer ← step refused (action.Sweep e)
+  close_swept refused answer
+
+-- ---- a post
+
+-- What follows the last Enter of a post. Inside it pushes and leaves, and what the push is answered is
+-- shown; at a closed end it leaves; behind the last hop it leaves, and moving is shown.
+abbrev pub send_inside : Bool → List EndId → List ℕ → Sender → Outcome → Computation Shown
+send_inside refused ports body s outcome.In = do
+  answer ← push refused ports body s
+  left ← step refused (action.Leave s)
+  pure (Answer answer)
+send_inside refused ports body s outcome.Closed = do
+  left ← step refused (action.Leave s)
+  pure (Answer outcome.Closed)
+send_inside refused ports body s outcome.Moved = do
+  left ← step refused (action.Leave s)
+  pure Moving
+send_inside refused ports body s entered = pure (Answer entered)
+
+-- Enter, with at most four hops; then push and leave
+abbrev pub send : Bool → List EndId → List ℕ → Sender → Computation Shown
+send refused ports body s = do
+  entered ← enter MAX_HOPS refused s
+  send_inside refused ports body s entered
+
+abbrev pub post_listing : Bool → List EndId → List ℕ → Sender → Listing → Computation Shown
+post_listing refused ports body s Bad = pure (Answer outcome.NotNow)
+post_listing refused ports body s HoldsTarget = do
+  closed ← close_each refused ports
+  pure Doomed
+post_listing refused ports body s Good = send refused ports body s
+
+abbrev pub post_count : Bool → List EndId → List ℕ → Sender → Bool → Computation Shown
+post_count refused ports body s true = pure (Answer outcome.TooManyPorts)
+post_count refused ports body s false = do
+  list ← ask (λ f. listing f s ports)
+  post_listing refused ports body s list
+
+abbrev pub post_may : Bool → List EndId → List ℕ → Sender → Bool → Computation Shown
+post_may refused ports body s false = pure (Answer outcome.NotNow)
+post_may refused ports body s true = post_count refused ports body s (nat_lt MAX_PORTS (length ports))
+
+-- A post tests that its poster may post now; then that the list has at most 16 ports; then that the list isn't bad
+-- for another cause than the target; then that it doesn't hold the target, else each listed port is closed.
+abbrev pub post : Bool → List EndId → List ℕ → Sender → Computation Shown
+post refused ports body s = do
+  may ← ask (λ f. may_post f s)
+  post_may refused ports body s may
+
+-- ---- a step line
+
+-- what a command unfolds to, with memory refused or not
+abbrev pub core_steps : Bool → Command → Computation Shown
+core_steps refused command.Agent = shown_step refused action.Agent
+core_steps refused (command.Channel a) = shown_step refused (action.Channel a)
+core_steps refused (command.Enter p) = on_line_of p (λ s. shown_step refused (action.Enter s))
+core_steps refused (command.Push p ports body) = on_line_of p (shown_push refused ports body)
+core_steps refused (command.Leave p) = on_line_of p (λ s. shown_step refused (action.Leave s))
+core_steps refused (command.Hop p) = on_line_of p (λ s. shown_step refused (action.Hop s))
+core_steps refused (command.Post p ports body) = on_line_of p (post refused ports body)
+core_steps refused (command.Start e) = shown_step refused (action.Start e)
+core_steps refused (command.Take e) = shown_step refused (action.Take e)
+core_steps refused (command.Look e) = shown_step refused (action.Look e)
+core_steps refused (command.Adopt e a) = shown_step refused (action.Adopt e a)
+core_steps refused (command.Close e) = close refused e
+core_steps refused (command.Sweep e) = sweep refused e

@@ -1,18 +1,22 @@
 //! The engine of `messagehub steps`.
 
 ghost use Rattle.std.specs.Prelude.{◌≡◌, ◌++◌, OnOk, OnErr};
-ghost use Rattle.hub_core.specs.declared.outcome.Outcome.{Outcome};
 ghost use Rattle.messagehub.specs.Counted.{inner_reader, inner_writer, failed_writes};
 ghost use Rattle.messagehub.specs.Engine.{AnswersInput, CountsDevice, Writes};
 ghost use Rattle.messagehub.specs.Failures.{CountsFailure};
-ghost use Rattle.messagehub.specs.OutcomeText.{outcome_line};
 ghost use Rattle.messagehub.specs.Output.{IsRunOutput, IsStepsOutput};
 ghost use Rattle.messagehub.specs.Performed.{PerformsAt};
+ghost use Rattle.messagehub.specs.ShownText.{shown_line};
 ghost use Rattle.messagehub.specs.StepText.{OneText};
+ghost use Rattle.messagehub.specs.declared.steps.shown.Shown.{Shown};
 
+mod closing;
+mod entering;
 mod perform;
+mod posting;
 mod read_step_line;
 mod read_steps;
+mod shown;
 mod step_line;
 mod text;
 
@@ -28,7 +32,7 @@ use read_steps::read_steps;
 use std::alloc::Global;
 use std::io::{Read, Write};
 use step_line::StepLine;
-use text::write_outcome;
+use text::write_shown;
 
 /// Reads step lines to the end of the input, runs them, and writes one outcome line for each.
 ///
@@ -109,13 +113,13 @@ fn answer_line(
     line: StepLine,
     kept: &mut Vec<u8>,
 ) -> Result<(), OutOfMemory>
-    ensures ok { OnOk result ((shown : Outcome) × PerformsAt core.old core.new line shown
-        × (kept.new.items ≡ kept.old.items ++ outcome_line shown)) }
+    ensures ok { OnOk result ((shown : Shown) × PerformsAt core.old core.new line shown
+        × (kept.new.items ≡ kept.old.items ++ shown_line shown)) }
     ensures err { OnErr result (kept.new.items ≡ kept.old.items) }
 {
-    let outcome = perform(core, line)?;
+    let shown = perform(core, line)?;
     let mut text = String::new(alloc);
-    write_outcome(&mut text, &outcome)?;
+    write_shown(&mut text, &shown)?;
     kept.extend_from_slice(text.as_bytes())?;
     Ok(())
 }

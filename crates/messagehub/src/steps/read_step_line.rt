@@ -1,6 +1,6 @@
 ghost use Rattle.std.specs.Prelude.{◌≡◌, option_map};
 ghost use Rattle.hub_text.specs.Reading.{IsReadAs};
-ghost use Rattle.messagehub.specs.StepLine.{agent_of, agent_after, command_in, command_of, list_of, mark, number_after, number_of, only_word, poster_after, poster_of, posting_after, step_line_of, word_before};
+ghost use Rattle.messagehub.specs.StepLine.{agent_of, agent_after, command_in, command_of, list_of, mark, number_after, number_of, only_word, poster_after, poster_of, posting_after, step_line_of, two_numbers_after, word_before};
 
 use super::step_line::{Command, Poster, StepLine, StepLineError};
 use hub_envelope::{AgentId, Body, EndId};
@@ -57,6 +57,7 @@ fn command_of(alloc: Global, name: &str, rest: Option<&str>) -> Result<Command, 
         "channel" => Command::Channel(agent_of(number_after(rest)?)),
         "enter" => Command::Enter(poster_after(rest)?),
         "leave" => Command::Leave(poster_after(rest)?),
+        "hop" => Command::Hop(poster_after(rest)?),
         "push" => {
             let (poster, ports, body) = posting_after(alloc, rest)?;
             Command::Push(poster, ports, body)
@@ -67,6 +68,13 @@ fn command_of(alloc: Global, name: &str, rest: Option<&str>) -> Result<Command, 
         }
         "start" => Command::Start(EndId(number_after(rest)?)),
         "take" => Command::Take(EndId(number_after(rest)?)),
+        "look" => Command::Look(EndId(number_after(rest)?)),
+        "adopt" => {
+            let (end, agent) = two_numbers_after(rest)?;
+            Command::Adopt(EndId(end), agent_of(agent))
+        }
+        "close" => Command::Close(EndId(number_after(rest)?)),
+        "sweep" => Command::Sweep(EndId(number_after(rest)?)),
         _ => return Err(StepLineError::UnknownStep),
     })
 }
@@ -104,6 +112,22 @@ fn number_after(rest: Option<&str>) -> Result<u32, StepLineError>
     match number_of(only_word(rest)?) {
         Some(number) => Ok(number),
         None => Err(StepLineError::BadNumber),
+    }
+}
+
+#[tactic(auto, unfolding(crate::specs::StepLine::two_numbers_after))]
+fn two_numbers_after(rest: Option<&str>) -> Result<(u32, u32), StepLineError>
+    ensures { IsReadAs StepLineError.OutOfMemory (λ x. x) result
+        (two_numbers_after (option_map (λ x. x.now) rest.entry)) }
+{
+    let Some(text) = rest else {
+        return Err(StepLineError::BadWords);
+    };
+    let (first, rest) = word_before(text)?;
+    let second = only_word(Some(rest))?;
+    match (number_of(first), number_of(second)) {
+        (Some(first), Some(second)) => Ok((first, second)),
+        _ => Err(StepLineError::BadNumber),
     }
 }
 
@@ -172,9 +196,9 @@ fn poster_of(word: &str) -> Result<Poster, StepLineError>
 fn list_of(alloc: Global, word: &str) -> Result<EndList, StepLineError>
     ensures { IsReadAs StepLineError.OutOfMemory (λ x. x) result (list_of word.now) }
 {
-    if word == "-" {
-        Ok(EndList::none(alloc))
-    } else {
-        Err(StepLineError::BadList)
+    match EndList::read(alloc, word, u32::MAX) {
+        Ok(Some(list)) => Ok(list),
+        Ok(None) => Err(StepLineError::BadList),
+        Err(_) => Err(StepLineError::OutOfMemory),
     }
 }

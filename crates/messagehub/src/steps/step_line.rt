@@ -19,10 +19,17 @@ pub enum Command {
     Enter(Poster),
     Push(Poster, EndList, Body),
     Leave(Poster),
-    /// Enter, push and leave in one step line.
+    Hop(Poster),
+    /// Tests, and then Enter, Push and Leave in one step line.
     Post(Poster, EndList, Body),
     Start(EndId),
     Take(EndId),
+    Look(EndId),
+    Adopt(EndId, AgentId),
+    /// The notice of a port, and Close.
+    Close(EndId),
+    /// Sweep, and the closing of each end that what was discarded names.
+    Sweep(EndId),
 }
 
 /// What a step line asks for, and whether memory is refused in its steps: the mark `!`.

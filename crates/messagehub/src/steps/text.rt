@@ -1,14 +1,30 @@
 ghost use Rattle.std.specs.Prelude.{◌≡◌, ◌++◌, OnOk, string_bytes};
-ghost use Rattle.messagehub.specs.OutcomeText.{outcome_line, got_line, ports_text};
+ghost use Rattle.messagehub.specs.OutcomeText.{discarded_line, got_line, listed_name, names_text, outcome_line, ports_text};
+ghost use Rattle.messagehub.specs.ShownText.{shown_line};
 
+use super::shown::Shown;
 use hub_core::Outcome;
 use hub_envelope::{EndId, Envelope};
 use hub_text::EndListText;
 use std::alloc::AllocError;
 
+/// Writes the line of what a step line shows, with its LF.
+#[tactic(auto, unfolding(crate::specs::ShownText::shown_line))]
+pub fn write_shown(text: &mut String, shown: &Shown) -> Result<(), AllocError>
+    ensures { OnOk result (string_bytes text.new ≡ string_bytes text.old ++ shown_line shown.now) }
+{
+    match shown {
+        Shown::Answer(outcome) => write_outcome(text, outcome),
+        Shown::Moving => text.push_str("moving\n"),
+        Shown::Doomed => text.push_str("doomed\n"),
+        Shown::DoneNoMemory => text.push_str("done no-memory\n"),
+        Shown::DoneMoving => text.push_str("done moving\n"),
+    }
+}
+
 /// Writes the line of an outcome, with its LF.
 #[tactic(auto, unfolding(crate::specs::OutcomeText::outcome_line))]
-pub fn write_outcome(text: &mut String, outcome: &Outcome) -> Result<(), AllocError>
+fn write_outcome(text: &mut String, outcome: &Outcome) -> Result<(), AllocError>
     ensures { OnOk result (string_bytes text.new
         ≡ string_bytes text.old ++ outcome_line outcome.now) }
 {
@@ -25,13 +41,22 @@ pub fn write_outcome(text: &mut String, outcome: &Outcome) -> Result<(), AllocEr
         Outcome::Accepted(name) => writeln!(text, "accepted {}:{}", name.epoch, name.number),
         Outcome::TooManyPorts => text.push_str("too-many-ports\n"),
         Outcome::Left => text.push_str("left\n"),
+        Outcome::Hopped(queue) => writeln!(text, "hopped {queue}"),
         Outcome::Started => text.push_str("started\n"),
         Outcome::Got(envelope) => write_delivery(text, envelope),
         Outcome::Empty => text.push_str("empty\n"),
+        Outcome::Busy => text.push_str("busy\n"),
+        Outcome::Again => text.push_str("again\n"),
         Outcome::Disabled => text.push_str("disabled\n"),
+        Outcome::Clear(_) => text.push_str("clear\n"),
+        Outcome::Adopted(queue) => writeln!(text, "adopted {queue}"),
+        Outcome::TooManyMoves => text.push_str("too-many-moves\n"),
+        Outcome::Done => text.push_str("done\n"),
+        Outcome::Discarded(envelopes) => write_discarded(text, envelopes.as_slice()),
     }
 }
 
+/// Writes the line of an envelope that was taken.
 fn write_delivery(text: &mut String, envelope: &Envelope) -> Result<(), AllocError>
     ensures { OnOk result (string_bytes text.new
         ≡ string_bytes text.old ++ got_line envelope.now) }
@@ -39,10 +64,47 @@ fn write_delivery(text: &mut String, envelope: &Envelope) -> Result<(), AllocErr
     let epoch = envelope.epoch;
     let number = envelope.number;
     let line = envelope.line.0;
+    if envelope.notice {
+        return writeln!(text, "notice {epoch}:{number} from {line}");
+    }
     write!(text, "got {epoch}:{number} from {line} ")?;
     write_ports(text, envelope.ports.as_slice())?;
     text.push_str(envelope.body.text())?;
     text.push_str("\n")
+}
+
+/// Writes the line of what was discarded.
+fn write_discarded(text: &mut String, envelopes: &[Envelope]) -> Result<(), AllocError>
+    ensures { OnOk result (string_bytes text.new
+        ≡ string_bytes text.old ++ discarded_line envelopes.now) }
+{
+    if envelopes.is_empty() {
+        return text.push_str("discarded nothing\n");
+    }
+    text.push_str("discarded")?;
+    write_names(text, envelopes)?;
+    text.push_str("\n")
+}
+
+/// Writes a space, the name and the line of each envelope.
+fn write_names(text: &mut String, envelopes: &[Envelope]) -> Result<(), AllocError>
+    ensures { OnOk result (string_bytes text.new
+        ≡ string_bytes text.old ++ names_text envelopes.now) }
+{
+    for envelope in envelopes {
+        write_name(text, envelope)?;
+    }
+    Ok(())
+}
+
+fn write_name(text: &mut String, envelope: &Envelope) -> Result<(), AllocError>
+    ensures { OnOk result (string_bytes text.new
+        ≡ string_bytes text.old ++ listed_name envelope.now) }
+{
+    let epoch = envelope.epoch;
+    let number = envelope.number;
+    let line = envelope.line.0;
+    write!(text, " {epoch}:{number}/{line}")
 }
 
 /// Writes the ports of a delivery, where there are some.

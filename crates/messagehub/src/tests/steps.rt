@@ -4,7 +4,7 @@ use std::test::Fail;
 
 #[test]
 fn runs_the_worked_rows(rt: HostRuntime) {
-    let rows: [(&[u8], &[u8]); 5] = [
+    let rows: [(&[u8], &[u8]); 6] = [
         (b"", b""),
         (
             b"agent -\nchannel 0\npost 0 - {\"a\":1}\ntake 1\nstart 1\ntake 1\ntake 1",
@@ -26,6 +26,13 @@ fn runs_the_worked_rows(rt: HostRuntime) {
                 enter 9\nstart 2\ntake 1\n",
             b"agent 0\nends 0 1\nin\nnot-now\naccepted 0:0\nleft\nnot-now\nnot-now\n\
                 not-now\ndisabled\n",
+        ),
+        // A Look at a retired queue tells whether a poster is inside.
+        (
+            b"agent -\nchannel 0\nchannel 0\nstart 3\npost 2 1 null\nenter 0\ntake 3\n\
+                adopt 1 0\nlook 1\nleave 0\nlook 1\n",
+            b"agent 0\nends 0 1\nends 2 3\nstarted\naccepted 0:0\nin\n\
+                got 0:0 from 0 with 1 null\nadopted 1\nbusy\nleft\nclear\n",
         ),
     ];
     for (input, output) in rows {
@@ -55,7 +62,7 @@ fn runs_two_hundred_posts_and_takes(rt: HostRuntime) -> Result<(), Fail> {
 
 #[test]
 fn tells_the_first_bad_line_alone(rt: HostRuntime) {
-    let rows: [(&[u8], &[u8]); 37] = [
+    let rows: [(&[u8], &[u8]); 42] = [
         (b"fly 0", b"line 1: UnknownStep\n"),
         (b"fly \xff", b"line 1: BadUtf8\n"),
         (b"agent -\n\xff\nfly", b"line 2: BadUtf8\n"),
@@ -65,7 +72,7 @@ fn tells_the_first_bad_line_alone(rt: HostRuntime) {
         (b"!", b"line 1: UnknownStep\n"),
         (b"!!take 0", b"line 1: UnknownStep\n"),
         (b" take 0", b"line 1: UnknownStep\n"),
-        (b"close 0", b"line 1: UnknownStep\n"),
+        (b"closing 0", b"line 1: UnknownStep\n"),
         (b"agent -\ntake 0\nfly\ntake", b"line 3: UnknownStep\n"),
         (b"take", b"line 1: BadWords\n"),
         (b"take 0 1", b"line 1: BadWords\n"),
@@ -75,6 +82,11 @@ fn tells_the_first_bad_line_alone(rt: HostRuntime) {
         (b"agent -\r\nchannel 0", b"line 1: BadWords\n"),
         (b"post 0 -", b"line 1: BadWords\n"),
         (b"post x", b"line 1: BadWords\n"),
+        (b"adopt 0", b"line 1: BadWords\n"),
+        (b"adopt 0 1 2", b"line 1: BadWords\n"),
+        (b"adopt x y", b"line 1: BadNumber\n"),
+        (b"adopt 0 x", b"line 1: BadNumber\n"),
+        (b"hop x", b"line 1: BadPoster\n"),
         (b"take ", b"line 1: BadNumber\n"),
         (b"take 4294967296", b"line 1: BadNumber\n"),
         (b"take 99999999999999999999999999", b"line 1: BadNumber\n"),
@@ -85,7 +97,7 @@ fn tells_the_first_bad_line_alone(rt: HostRuntime) {
         (b"enter 0/0", b"line 1: BadPoster\n"),
         (b"post 0/ x [", b"line 1: BadPoster\n"),
         (b"post  - 1", b"line 1: BadPoster\n"),
-        (b"post 0 0 [", b"line 1: BadList\n"),
+        (b"post 0 0, [", b"line 1: BadList\n"),
         (b"post 0 1,,2 1", b"line 1: BadList\n"),
         (b"push 0  - 1", b"line 1: BadList\n"),
         (b"post 0 - ", b"line 1: NotJson\n"),

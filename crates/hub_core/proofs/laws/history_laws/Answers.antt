@@ -3,6 +3,7 @@ use Rattle.hub_core.proofs.Sames.{nothing_same}
 use Rattle.hub_core.proofs.Sounds.{sound_legal}
 use Rattle.hub_core.proofs.Headlines.{headline, keeps_the_line, turned_puts_nothing, same_is_joined}
 use Rattle.hub_core.proofs.Orders.{one_answer}
+use Rattle.hub_core.proofs.Fating.{fates, notice_is_last}
 use Rattle.hub_core.proofs.laws.history_laws.Goals as goal
 
 pub returns-clause-headline : goal.returns-clause-headline
@@ -25,3 +26,9 @@ returns-clause-same c = same_is_joined
 
 pub returns-clause-one_answer : goal.returns-clause-one_answer
 returns-clause-one_answer c = one_answer
+
+pub returns-clause-fates : goal.returns-clause-fates
+returns-clause-fates c = fates
+
+pub returns-clause-notice_is_last : goal.returns-clause-notice_is_last
+returns-clause-notice_is_last c = notice_is_last

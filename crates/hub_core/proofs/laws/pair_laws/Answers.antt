@@ -1,9 +1,6 @@
--- Each pair of a history is one event of the mailbox.
-use Rattle.hub_core.proofs.MailboxPairs.{events_are_steps, others_leave_it}
+-- Each pair of a history is events of the mailbox.
+use Rattle.hub_core.proofs.MailboxPairs.{pairs_are_events}
 use Rattle.hub_core.proofs.laws.pair_laws.Goals as goal
 
-pub returns-clause-steps : goal.returns-clause-steps
-returns-clause-steps c = events_are_steps
-
-pub returns-clause-others : goal.returns-clause-others
-returns-clause-others c = others_leave_it
+pub returns : goal.returns
+returns c = pairs_are_events

@@ -10,6 +10,8 @@ use Rattle.hub_core.proofs.Legals.{zip_one, legal_one}
 use Rattle.hub_core.proofs.Headlines.{headline}
 use Rattle.hub_core.proofs.Orders.{shows_in_order}
 use Rattle.hub_core.proofs.runs.run.Goals as goal
+use Rattle.hub_core.specs.Fates.{Fates}
+use Rattle.hub_core.proofs.Fating.{fates}
 
 pub loop-step-preserved : goal.loop-step-preserved
 loop-step-preserved c =
@@ -23,6 +25,7 @@ loop-step-preserved c =
       each = ap length items ∙ length-append c.loop-step.outcomes.items (c.in_ok-outcome.outcome ∷ []) ∙ ap (λ n. n + 1) c.loop-step.invariant.each ∙ sym (length-append c.loop-step.yielded (c.in-Some.step ∷ []));
       legal = subst Legal (sym longer) legal;
       headline = subst Headline (sym longer) (headline _ legal);
+      fates = subst Fates (sym longer) (fates _ legal);
       in_order = subst InOrder (sym longer) (shows_in_order c.step.new.self (past ++ (c.in-Some.step, c.in_ok-outcome.outcome) ∷ []) both.1);
       shows = subst (Shows c.step.new.self) (sym longer) both.1;
     }
@@ -32,6 +35,7 @@ loop-step-init c = record {
   each = ap length c.in_ok-outcomes.ensures.items;
   legal = tt;
   headline = headline [] tt;
+  fates = fates [] tt;
   in_order = shows_in_order c.new-core.result [] c.new-core.ensures;
   shows = c.new-core.ensures;
 }

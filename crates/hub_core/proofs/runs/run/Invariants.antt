@@ -5,6 +5,7 @@ use Rattle.hub_core.specs.Headline.{Headline}
 use Rattle.hub_core.specs.Laws.{InOrder}
 use Rattle.hub_core.specs.Shows.{Shows}
 use Rattle.hub_core.proofs.runs.run.Given as goal
+use Rattle.hub_core.specs.Fates.{Fates}
 
 -- the pairs so far are a legal history, and the core shows it
 abbrev pub invariant-loop-step : goal.invariant-loop-step
@@ -12,6 +13,7 @@ invariant-loop-step l = record {
   each : length l.outcomes.items ≡ length l.yielded;
   legal : Legal (zip l.yielded l.outcomes.items);
   headline : Headline (zip l.yielded l.outcomes.items);
+  fates : Fates (zip l.yielded l.outcomes.items);
   in_order : InOrder (zip l.yielded l.outcomes.items);
   shows : Shows l.core (zip l.yielded l.outcomes.items);
 }

@@ -11,6 +11,12 @@ use Rattle.hub_core.proofs.Pushes.{push_shown}
 use Rattle.hub_core.proofs.Takes.{start_shown, take_shown}
 use Rattle.hub_core.proofs.Orders.{shows_in_order}
 use Rattle.hub_core.proofs.machine.Core.step.Goals as goal
+use Rattle.hub_core.proofs.Hops.{hop_shown, hop_same}
+use Rattle.hub_core.proofs.Looks.{look_shown, look_same}
+use Rattle.hub_core.proofs.Adopts.{adopt_shown, adopt_same}
+use Rattle.hub_core.proofs.Notices.{notice_shown}
+use Rattle.hub_core.proofs.Closes.{close_shown, close_same}
+use Rattle.hub_core.proofs.Sweeps.{sweep_shown, sweep_same}
 
 pub returns-in-Agent-clause-fits : goal.returns-in-Agent-clause-fits
 returns-in-Agent-clause-fits c = ok_both c.make_agent.result _ _ _ c.make_agent.ensures.outcome c.make_agent.ensures.agents (λ o is made.
@@ -56,6 +62,19 @@ returns-in-Leave-clause-unchanged c = λ h.
           ∙ leave_same c.args.self.now.ends.items c.in-Leave.sender (slice_get c.args.self.now.ends.items c.in-Leave.sender.end.0) refl (subst (λ o. changes_nothing o (action.Leave c.in-Leave.sender) ≡ true) c.leave.ensures.outcome nothing),
     )
 
+pub returns-in-Hop-clause-fits : goal.returns-in-Hop-clause-fits
+returns-in-Hop-clause-fits c = stepped _ _ _ _ c.args.step c.hop.result (action.Hop c.in-Hop.sender) c.in-Hop.is (λ f s.
+    along (λ gs es o. Stepped gs es f (action.Hop c.in-Hop.sender) c.args.step.memory_refused o) (ap (λ v. v.items) c.hop.ensures.agents) c.hop.ensures.ends c.hop.ensures.outcome
+    (hop_shown c.args.self.now.agents.items c.args.self.now.ends.items f c.in-Hop.sender c.args.step.memory_refused s))
+
+pub returns-in-Hop-clause-unchanged : goal.returns-in-Hop-clause-unchanged
+returns-in-Hop-clause-unchanged c = λ h.
+    let nothing : changes_nothing c.hop.result (action.Hop c.in-Hop.sender) ≡ true = subst (λ a. changes_nothing c.hop.result a ≡ true) c.in-Hop.is h in (
+      ap (λ v. v.items) c.hop.ensures.agents,
+      c.hop.ensures.ends
+          ∙ hop_same c.args.self.now.ends.items c.in-Hop.sender _ (slice_get c.args.self.now.ends.items c.in-Hop.sender.end.0) refl (subst (λ o. changes_nothing o (action.Hop c.in-Hop.sender) ≡ true) c.hop.ensures.outcome nothing),
+    )
+
 pub returns-in-Start-clause-fits : goal.returns-in-Start-clause-fits
 returns-in-Start-clause-fits c = stepped _ _ _ _ c.args.step c.start.result (action.Start c.in-Start.end) c.in-Start.is (λ f s.
     along (λ gs es o. Stepped gs es f (action.Start c.in-Start.end) c.args.step.memory_refused o) (ap (λ v. v.items) c.start.ensures.agents) c.start.ensures.ends c.start.ensures.outcome
@@ -70,6 +89,64 @@ pub returns-in-Take-clause-unchanged : goal.returns-in-Take-clause-unchanged
 returns-in-Take-clause-unchanged c = λ h.
     let nothing : changes_nothing c.take.result (action.Take c.in-Take.end) ≡ true = subst (λ a. changes_nothing c.take.result a ≡ true) c.in-Take.is h in
     (ap (λ v. v.items) c.take.ensures.agents, take_same c.args.self.now.ends.items c.take.new.self.ends.items c.in-Take.end _ c.take.result (slice_get c.args.self.now.ends.items c.in-Take.end.0) refl c.take.ensures.ends nothing)
+
+pub returns-in-Look-clause-fits : goal.returns-in-Look-clause-fits
+returns-in-Look-clause-fits c = stepped _ _ _ _ c.args.step c.look.result (action.Look c.in-Look.end) c.in-Look.is (λ f s.
+    along (λ gs es o. Stepped gs es f (action.Look c.in-Look.end) c.args.step.memory_refused o) (ap (λ v. v.items) c.look.ensures.agents) c.look.ensures.ends c.look.ensures.outcome
+    (look_shown c.args.self.now.agents.items c.args.self.now.ends.items f c.in-Look.end c.args.step.memory_refused s))
+
+pub returns-in-Look-clause-unchanged : goal.returns-in-Look-clause-unchanged
+returns-in-Look-clause-unchanged c = λ h.
+    let nothing : changes_nothing c.look.result (action.Look c.in-Look.end) ≡ true = subst (λ a. changes_nothing c.look.result a ≡ true) c.in-Look.is h in (
+      ap (λ v. v.items) c.look.ensures.agents,
+      c.look.ensures.ends
+          ∙ look_same c.args.self.now.ends.items c.in-Look.end (slice_get c.args.self.now.ends.items c.in-Look.end.0) refl (subst (λ o. changes_nothing o (action.Look c.in-Look.end) ≡ true) c.look.ensures.outcome nothing),
+    )
+
+pub returns-in-Adopt-clause-fits : goal.returns-in-Adopt-clause-fits
+returns-in-Adopt-clause-fits c = ok_both c.adopt.result _ _ _ c.adopt.ensures.outcome c.adopt.ensures.ends (λ o is leaves.
+    stepped _ _ _ _ c.args.step o (action.Adopt c.in-Adopt.end c.in-Adopt.agent) c.in-Adopt.is (λ f s.
+    subst (λ gs. Stepped gs c.adopt.new.self.ends.items f (action.Adopt c.in-Adopt.end c.in-Adopt.agent) c.args.step.memory_refused o) (sym (ap (λ v. v.items) c.adopt.ensures.agents))
+    (adopt_shown c.args.self.now.agents.items c.args.self.now.ends.items c.adopt.new.self.ends.items f c.in-Adopt.end c.in-Adopt.agent c.args.step.memory_refused o s is leaves)))
+
+pub returns-in-Adopt-clause-unchanged : goal.returns-in-Adopt-clause-unchanged
+returns-in-Adopt-clause-unchanged c = ok_both c.adopt.result _ _ _ c.adopt.ensures.outcome c.adopt.ensures.ends (λ o is leaves. λ h.
+    let nothing : changes_nothing o (action.Adopt c.in-Adopt.end c.in-Adopt.agent) ≡ true = subst (λ a. changes_nothing o a ≡ true) c.in-Adopt.is h in (
+      ap (λ v. v.items) c.adopt.ensures.agents,
+      leaves ∙ adopt_same c.args.self.now.ends.items c.in-Adopt.end c.in-Adopt.agent _ c.args.step.memory_refused (slice_get c.args.self.now.ends.items c.in-Adopt.end.0) refl (subst (λ p. changes_nothing p (action.Adopt c.in-Adopt.end c.in-Adopt.agent) ≡ true) is nothing),
+    ))
+
+pub returns-in-Notice-clause-fits : goal.returns-in-Notice-clause-fits
+returns-in-Notice-clause-fits c = ok_both c.notice.result _ _ _ c.notice.ensures.outcome c.notice.ensures.ends (λ o is leaves.
+    stepped _ _ _ _ c.args.step o (action.Notice c.in-Notice.sender) c.in-Notice.is (λ f s.
+    subst (λ gs. Stepped gs c.notice.new.self.ends.items f (action.Notice c.in-Notice.sender) c.args.step.memory_refused o) (sym (ap (λ v. v.items) c.notice.ensures.agents))
+    (notice_shown c.args.self.now.agents.items c.args.self.now.ends.items c.notice.new.self.ends.items f c.in-Notice.sender c.args.step.memory_refused o s is leaves)))
+
+pub returns-in-Close-clause-fits : goal.returns-in-Close-clause-fits
+returns-in-Close-clause-fits c = stepped _ _ _ _ c.args.step c.close.result (action.Close c.in-Close.end) c.in-Close.is (λ f s.
+    along (λ gs es o. Stepped gs es f (action.Close c.in-Close.end) c.args.step.memory_refused o) (ap (λ v. v.items) c.close.ensures.agents) c.close.ensures.ends c.close.ensures.outcome
+    (close_shown c.args.self.now.agents.items c.args.self.now.ends.items f c.in-Close.end c.args.step.memory_refused s))
+
+pub returns-in-Close-clause-unchanged : goal.returns-in-Close-clause-unchanged
+returns-in-Close-clause-unchanged c = λ h.
+    let nothing : changes_nothing c.close.result (action.Close c.in-Close.end) ≡ true = subst (λ a. changes_nothing c.close.result a ≡ true) c.in-Close.is h in (
+      ap (λ v. v.items) c.close.ensures.agents,
+      c.close.ensures.ends
+          ∙ close_same c.args.self.now.ends.items c.in-Close.end _ (slice_get c.args.self.now.ends.items c.in-Close.end.0) refl (subst (λ o. changes_nothing o (action.Close c.in-Close.end) ≡ true) c.close.ensures.outcome nothing),
+    )
+
+pub returns-in-Sweep-clause-fits : goal.returns-in-Sweep-clause-fits
+returns-in-Sweep-clause-fits c = ok_both c.sweep.result _ _ _ c.sweep.ensures.outcome c.sweep.ensures.ends (λ o is leaves.
+    stepped _ _ _ _ c.args.step o (action.Sweep c.in-Sweep.end) c.in-Sweep.is (λ f s.
+    subst (λ gs. Stepped gs c.sweep.new.self.ends.items f (action.Sweep c.in-Sweep.end) c.args.step.memory_refused o) (sym (ap (λ v. v.items) c.sweep.ensures.agents))
+    (sweep_shown c.args.self.now.agents.items c.args.self.now.ends.items c.sweep.new.self.ends.items f c.in-Sweep.end c.args.step.memory_refused o s is leaves)))
+
+pub returns-in-Sweep-clause-unchanged : goal.returns-in-Sweep-clause-unchanged
+returns-in-Sweep-clause-unchanged c = ok_both c.sweep.result _ _ _ c.sweep.ensures.outcome c.sweep.ensures.ends (λ o is leaves. λ h.
+    let nothing : changes_nothing o (action.Sweep c.in-Sweep.end) ≡ true = subst (λ a. changes_nothing o a ≡ true) c.in-Sweep.is h in (
+      ap (λ v. v.items) c.sweep.ensures.agents,
+      sweep_same c.args.self.now.ends.items c.sweep.new.self.ends.items c.in-Sweep.end (slice_get c.args.self.now.ends.items c.in-Sweep.end.0) refl (subst (λ p. changes_nothing p (action.Sweep c.in-Sweep.end) ≡ true) is nothing) leaves,
+    ))
 
 pub returns-in-Agent-clause-in_order : goal.returns-in-Agent-clause-in_order
 returns-in-Agent-clause-in_order c = shows_in_order c.make_agent.new.self
@@ -91,3 +168,21 @@ returns-in-Start-clause-in_order c = shows_in_order c.start.new.self
 
 pub returns-in-Take-clause-in_order : goal.returns-in-Take-clause-in_order
 returns-in-Take-clause-in_order c = shows_in_order c.take.new.self
+
+pub returns-in-Hop-clause-in_order : goal.returns-in-Hop-clause-in_order
+returns-in-Hop-clause-in_order c = shows_in_order c.hop.new.self
+
+pub returns-in-Look-clause-in_order : goal.returns-in-Look-clause-in_order
+returns-in-Look-clause-in_order c = shows_in_order c.look.new.self
+
+pub returns-in-Adopt-clause-in_order : goal.returns-in-Adopt-clause-in_order
+returns-in-Adopt-clause-in_order c = shows_in_order c.adopt.new.self
+
+pub returns-in-Notice-clause-in_order : goal.returns-in-Notice-clause-in_order
+returns-in-Notice-clause-in_order c = shows_in_order c.notice.new.self
+
+pub returns-in-Close-clause-in_order : goal.returns-in-Close-clause-in_order
+returns-in-Close-clause-in_order c = shows_in_order c.close.new.self
+
+pub returns-in-Sweep-clause-in_order : goal.returns-in-Sweep-clause-in_order
+returns-in-Sweep-clause-in_order c = shows_in_order c.sweep.new.self

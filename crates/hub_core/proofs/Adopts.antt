@@ -1,0 +1,102 @@
+-- Adopt: what the core answers fits, and it shows the facts with the answered step.
+use Rattle.std.proofs.Common.{◌≡◌, ℕ, zero, suc, ◌+◌, Bool, true, false, cond, eqb, List, [], ◌∷◌, ◌++◌, length, length-append, get_or, set, Option, Some, None, refl, sym, ap, subst, ◌∙◌, arith, ◌<◌}
+use Rattle.std.specs.Prelude.{◌&&◌, not, nat_le}
+use Rattle.std.specs.List.{slice_get}
+use Rattle.std.proofs.lemmas.Bool.{false≢true, ne_eqb}
+use Rattle.std.proofs.lemmas.List.{length-set}
+use Rattle.std.proofs.lemmas.Option.{slice_get_within}
+use Rattle.hub_envelope.specs.declared.ids.AgentId.{AgentId}
+use Rattle.hub_envelope.specs.declared.ids.EndId.{EndId}
+use Rattle.hub_envelope.specs.declared.envelope.Envelope.{Envelope}
+use Rattle.hub_core.specs.declared.limits.TheConstants.{MAX_MOVES}
+use Rattle.hub_core.specs.declared.agent.Agent.{Agent}
+use Rattle.hub_core.specs.declared.end.End.{End}
+use Rattle.hub_core.specs.declared.end.Place.TheVariants.{With}
+use Rattle.hub_core.specs.declared.step.Action.TheVariants as action
+use Rattle.hub_core.specs.declared.outcome.Outcome.{Outcome}
+use Rattle.hub_core.specs.declared.outcome.Outcome.TheVariants as outcome
+use Rattle.hub_core.specs.Facts.{EndNow, LineNow, Facts}
+use Rattle.hub_core.specs.Moving.{is_arrived, adopt_answer}
+use Rattle.hub_core.specs.Sound.{no_end}
+use Rattle.hub_core.specs.Shows.{end_now, ShowsEnd, ShowsFacts}
+use Rattle.hub_core.specs.Unchanged.{changes_nothing}
+use Rattle.hub_core.specs.Kept.{adopted_end, adopt_outcome, adopted_by, adopt_outcome_at, adopt_ends_at, kept_running}
+use Rattle.hub_core.proofs.Lists.{eqb_same, set_again, each_set}
+use Rattle.hub_core.proofs.Frames.{ShownAt, Stepped, changed, unchanged}
+use Rattle.hub_core.proofs.Holders.{runs_kept}
+use Rattle.hub_core.specs.Sender.{in_queue}
+
+-- ---- an end with a new queue
+
+get_or-one_more : (queues : List (List Envelope)) (i : ℕ) → get_or (queues ++ [] ∷ []) i [] ≡ get_or queues i []
+get_or-one_more [] zero = refl
+get_or-one_more [] (suc i) = refl
+get_or-one_more (q ∷ qs) zero = refl
+get_or-one_more (q ∷ qs) (suc i) = get_or-one_more qs i
+
+adopted_one : (now : EndNow) (line : ℕ → LineNow) (clear : ℕ → Bool) (vs ts : List Envelope) (x : End) (a : AgentId) → ShowsEnd now line clear vs ts (Some x) → ShowsEnd (record now { place = Some (With a); enabled = false; newest = now.newest + 1 }) line clear vs ts (Some (adopted_end a x))
+adopted_one now line clear vs ts x a h = record {
+  same = ap (λ (e : EndNow). let d : EndNow = record e { place = Some (With a); enabled = false; newest = e.newest + 1 } in d) h.same;
+  count = h.count;
+  lines = h.lines;
+  put = h.put;
+  queues = record {
+    reached = h.queues.reached;
+    clear_below = h.queues.clear_below;
+    count = λ opened.
+        let more : length (x.queues ++ [] ∷ []) ≡ length x.queues + 1 = length-append x.queues ([] ∷ []) in
+        let many : x.taker + length x.queues ≡ x.newest + 1 = h.queues.count opened in
+        omega arith;
+    inside = λ l at.
+        let more : length (x.queues ++ [] ∷ []) ≡ length x.queues + 1 = length-append x.queues ([] ∷ []) in
+        let within : (line l).stand < x.taker + length x.queues = h.queues.inside l at in
+        omega arith;
+    behind = h.queues.behind;
+    each = λ i. h.queues.each i ∙ ap (λ q. in_queue (x.taker + i) ts ++ q) (sym (get_or-one_more x.queues i));
+  };
+}
+
+adopted_shown : (agents : List Agent) (ends : List End) (f : Facts) (e : EndId) (a : AgentId) (refused : Bool) (x : End) (k : ℕ) → ShowsFacts agents ends f → slice_get ends e.0 ≡ Some x → outcome.Adopted k ≡ adopt_answer f e a refused → Stepped agents (set ends e.0 (adopted_end a x)) f (action.Adopt e a) refused (outcome.Adopted k)
+adopted_shown agents ends f e a refused x k h at answer =
+    changed agents ends (set ends e.0 (adopted_end a x)) f (action.Adopt e a) refused (outcome.Adopted k) h answer refl refl refl (length-set ends e.0 (adopted_end a x))
+    (each_set (λ d q. ShowsEnd (record (f.end d) { place = cond (eqb d e.0) (Some (With a)) (f.end d).place; enabled = cond (eqb d e.0) false (f.end d).enabled; newest = cond (eqb d e.0) ((f.end d).newest + 1) (f.end d).newest }) (f.line d) (f.clear d) (f.accepted d) (f.taken d ++ f.discarded d) q) ends e.0 (adopted_end a x) (slice_get_within ends e.0 x at)
+    (subst (λ b. ShowsEnd (record (f.end e.0) { place = cond b (Some (With a)) (f.end e.0).place; enabled = cond b false (f.end e.0).enabled; newest = cond b ((f.end e.0).newest + 1) (f.end e.0).newest }) (f.line e.0) (f.clear e.0) (f.accepted e.0) (f.taken e.0 ++ f.discarded e.0) (Some (adopted_end a x))) (sym (eqb_same e.0)) (adopted_one (f.end e.0) (f.line e.0) (f.clear e.0) (f.accepted e.0) (f.taken e.0 ++ f.discarded e.0) x a (subst (ShownAt f e.0) at (h.end e.0))))
+    (λ d other. subst (λ b. ShowsEnd (record (f.end d) { place = cond b (Some (With a)) (f.end d).place; enabled = cond b false (f.end d).enabled; newest = cond b ((f.end d).newest + 1) (f.end d).newest }) (f.line d) (f.clear d) (f.accepted d) (f.taken d ++ f.discarded d) (slice_get ends d)) (sym (ne_eqb d e.0 other)) (h.end d)))
+
+-- ---- what is answered
+
+abbrev answer_by : Bool → Bool → Bool → Bool → ℕ → Outcome
+answer_by closed there full refused n = cond closed outcome.Closed (cond (not there) outcome.NotNow (cond full outcome.TooManyMoves (cond refused outcome.NoMemory (outcome.Adopted n))))
+
+adopt_by : (agents : List Agent) (ends : List End) (f : Facts) (e : EndId) (a : AgentId) (refused : Bool) (x : End) → ShowsFacts agents ends f → slice_get ends e.0 ≡ Some x → (closed there full memory : Bool) (n : ℕ) → answer_by closed there full memory n ≡ adopt_answer f e a refused → Stepped agents (set ends e.0 (adopted_by a x (answer_by closed there full memory n))) f (action.Adopt e a) refused (answer_by closed there full memory n)
+adopt_by agents ends f e a refused x h at true there full memory n answer = unchanged agents ends _ f (action.Adopt e a) refused outcome.Closed outcome.Closed h refl refl (set_again ends e.0 x at) answer
+adopt_by agents ends f e a refused x h at false false full memory n answer = unchanged agents ends _ f (action.Adopt e a) refused outcome.NotNow outcome.NotNow h refl refl (set_again ends e.0 x at) answer
+adopt_by agents ends f e a refused x h at false true true memory n answer = unchanged agents ends _ f (action.Adopt e a) refused outcome.TooManyMoves outcome.TooManyMoves h refl refl (set_again ends e.0 x at) answer
+adopt_by agents ends f e a refused x h at false true false true n answer = unchanged agents ends _ f (action.Adopt e a) refused outcome.NoMemory outcome.NoMemory h refl refl (set_again ends e.0 x at) answer
+adopt_by agents ends f e a refused x h at false true false false n answer = adopted_shown agents ends f e a refused x n h at answer
+
+adopt_as : (f : Facts) (e : EndId) (a : AgentId) (refused runs : Bool) (x : EndNow) → f.end e.0 ≡ x → runs ≡ (f.agent a.0).runs → answer_by x.closed (is_arrived a x.place && runs) (nat_le MAX_MOVES x.newest) refused (x.newest + 1) ≡ adopt_answer f e a refused
+adopt_as f e a refused runs x end is =
+    ap (λ r. answer_by x.closed (is_arrived a x.place && r) (nat_le MAX_MOVES x.newest) refused (x.newest + 1)) is
+    ∙ ap (λ (y : EndNow). answer_by y.closed (is_arrived a y.place && (f.agent a.0).runs) (nat_le MAX_MOVES y.newest) refused (y.newest + 1)) (sym end)
+
+adopt_at : (agents : List Agent) (ends : List End) (f : Facts) (e : EndId) (a : AgentId) (refused runs : Bool) → ShowsFacts agents ends f → runs ≡ (f.agent a.0).runs → (o : Option End) → slice_get ends e.0 ≡ o → ShownAt f e.0 o → Stepped agents (adopt_ends_at runs a refused e.0 ends o) f (action.Adopt e a) refused (adopt_outcome_at runs a refused o)
+adopt_at agents ends f e a refused runs h is None at shown = unchanged agents ends ends f (action.Adopt e a) refused outcome.NotNow outcome.NotNow h refl refl refl (adopt_as f e a refused runs no_end shown.same is)
+adopt_at agents ends f e a refused runs h is (Some x) at shown =
+    adopt_by agents ends f e a refused x h at x.is_closed (is_arrived a (Some x.place) && runs) (nat_le MAX_MOVES x.newest) refused (x.newest + 1) (adopt_as f e a refused runs (end_now (Some x)) shown.same is)
+
+pub adopt_shown : (agents : List Agent) (ends new : List End) (f : Facts) (e : EndId) (a : AgentId) (refused : Bool) (o : Outcome) → ShowsFacts agents ends f → o ≡ adopt_outcome_at (kept_running agents a.0) a refused (slice_get ends e.0) → new ≡ adopt_ends_at (kept_running agents a.0) a refused e.0 ends (slice_get ends e.0) → Stepped agents new f (action.Adopt e a) refused o
+adopt_shown agents ends new f e a refused o h says leaves =
+    subst (λ p. Stepped agents new f (action.Adopt e a) refused p) (sym says)
+    (subst (λ es. Stepped agents es f (action.Adopt e a) refused (adopt_outcome_at (kept_running agents a.0) a refused (slice_get ends e.0))) (sym leaves)
+    (adopt_at agents ends f e a refused (kept_running agents a.0) h (runs_kept agents ends f a.0 h) (slice_get ends e.0) refl (h.end e.0)))
+
+-- ---- what changes nothing leaves the ends
+
+adopted_same : (e : EndId) (a : AgentId) (x : End) (o : Outcome) → changes_nothing o (action.Adopt e a) ≡ true → adopted_by a x o ≡ x
+adopted_same e a x (outcome.Adopted k) h = absurd (false≢true h)
+adopted_same e a x o h = refl
+
+pub adopt_same : (ends : List End) (e : EndId) (a : AgentId) (runs refused : Bool) (q : Option End) → slice_get ends e.0 ≡ q → changes_nothing (adopt_outcome_at runs a refused q) (action.Adopt e a) ≡ true → adopt_ends_at runs a refused e.0 ends q ≡ ends
+adopt_same ends e a runs refused None at h = refl
+adopt_same ends e a runs refused (Some x) at h = ap (set ends e.0) (adopted_same e a x (adopt_outcome runs a refused x) h) ∙ set_again ends e.0 x at

@@ -1,0 +1,157 @@
+-- A Take that finds nothing: what the core answers fits, and it shows the facts with the answered step.
+use Rattle.std.proofs.Common.{◌≡◌, ℕ, suc, ◌+◌, ◌<◌, ◌≤◌, Bool, true, false, cond, eqb, List, [], ◌∷◌, ◌++◌, length, drop, get_or, set, Some, refl, sym, ap, subst, ◌∙◌, arith, append-nil, ◌-◌}
+use Rattle.std.specs.Prelude.{nat_le, nat_lt}
+use Rattle.std.specs.List.{slice_get}
+use Rattle.std.proofs.lemmas.Bool.{ne_eqb, leb-true, leb-false, ltb-true, ltb-false, eqb-true, eqb-false}
+use Rattle.std.proofs.lemmas.Bool.Decides.{nat_tests}
+use Rattle.std.proofs.lemmas.List.{length-set}
+use Rattle.std.proofs.lemmas.Option.{slice_get_within}
+use Rattle.hub_envelope.specs.declared.ids.EndId.{EndId}
+use Rattle.hub_envelope.specs.declared.envelope.Envelope.{Envelope}
+use Rattle.hub_core.specs.declared.agent.Agent.{Agent}
+use Rattle.hub_core.specs.declared.end.End.{End}
+use Rattle.hub_core.specs.declared.step.Action.TheVariants as action
+use Rattle.hub_core.specs.declared.outcome.Outcome.{Outcome}
+use Rattle.hub_core.specs.declared.outcome.Outcome.TheVariants as outcome
+use Rattle.hub_core.specs.Facts.{EndNow, LineNow, Facts}
+use Rattle.hub_core.specs.Sender.{by, in_queue}
+use Rattle.hub_core.specs.Looking.{is_settled}
+use Rattle.hub_core.specs.Taking.{IsDrained, IsLeft, Serves, FitsTake}
+use Rattle.hub_core.specs.Sound.{Sound}
+use Rattle.hub_core.specs.Shows.{ShowsEnd, ShowsFacts, KeepsQueues}
+use Rattle.hub_core.specs.Kept.{kept_settled, advanced_end, left_outcome, left_end}
+use Rattle.hub_core.proofs.Lists.{eqb_same, set_again, each_set, AllByRecursion-weaker}
+use Rattle.hub_core.proofs.Waits.{filters, all_taken}
+use Rattle.hub_core.proofs.Frames.{ShownAt, Stepped, changed, unchanged}
+use Rattle.hub_core.proofs.Presence.{settled_kept}
+use Rattle.hub_core.proofs.SoundLines.{line_epochs}
+use Rattle.hub_core.proofs.SoundWaiting.{nothing_more, taken_prefix}
+
+-- what waits in the taker's queue of an open end
+pub taker_queue_at : (f : Facts) (e : EndId) (x : End) → f.discarded e.0 ≡ [] → ShownAt f e.0 (Some x) → in_queue ((f.end e.0).taker_stand) (f.accepted e.0) ≡ in_queue ((f.end e.0).taker_stand) (f.taken e.0) ++ get_or x.queues 0 []
+taker_queue_at f e x none h =
+    let taker : (f.end e.0).taker_stand ≡ x.taker + 0 = ap (λ (y : EndNow). y.taker_stand) h.same ∙ omega arith in
+    subst (λ k. in_queue k (f.accepted e.0) ≡ in_queue k (f.taken e.0) ++ get_or x.queues 0 []) (sym taker)
+    (subst (λ us. in_queue (x.taker + 0) (f.accepted e.0) ≡ in_queue (x.taker + 0) us ++ get_or x.queues 0 []) (nothing_more (f.taken e.0) (f.discarded e.0) none) (h.queues.each 0))
+
+drained_queue : (f : Facts) (e : EndId) (x : End) → f.discarded e.0 ≡ [] → ShownAt f e.0 (Some x) → get_or x.queues 0 [] ≡ [] → in_queue ((f.end e.0).taker_stand) (f.accepted e.0) ≡ in_queue ((f.end e.0).taker_stand) (f.taken e.0)
+drained_queue f e x none h empty =
+    let t : ℕ = (f.end e.0).taker_stand in
+    taker_queue_at f e x none h ∙ ap (λ q. in_queue t (f.taken e.0) ++ q) empty ∙ append-nil (in_queue t (f.taken e.0))
+
+-- the taker stands at the newest queue
+drained_of : (f : Facts) (e : EndId) (x : End) → Sound f → f.discarded e.0 ≡ [] → ShownAt f e.0 (Some x) → get_or x.queues 0 [] ≡ [] → nat_le x.newest x.taker ≡ true → IsDrained f e
+drained_of f e x s none h empty last =
+    let t : ℕ = (f.end e.0).taker_stand in
+    let newest : (f.end e.0).newest ≡ x.newest = ap (λ (y : EndNow). y.newest) h.same in
+    let taker : t ≡ x.taker = ap (λ (y : EndNow). y.taker_stand) h.same in
+    let within : t ≤ (f.end e.0).newest = (s.lines e.0).taker_stand in
+    let reached : x.newest ≤ x.taker = leb-true x.newest x.taker last in
+    let same : t ≡ (f.end e.0).newest = omega arith in
+    record {
+      newest = same;
+      all = λ l. all_taken t l (f.accepted e.0) (f.taken e.0) (taken_prefix l (f.taken e.0) (f.discarded e.0) (f.accepted e.0) ((s.waiting e.0).prefix l)) ((s.waiting e.0).behind l)
+          (AllByRecursion-weaker (λ (u : Envelope). u.epoch ≤ (f.line e.0 l).stand) (λ u. u.epoch ≤ t) (λ u less. let low : (f.line e.0 l).stand ≤ (f.end e.0).newest = (s.lines e.0).stand l in omega arith) (by l (f.accepted e.0)) (line_epochs e.0 _ (f.line e.0) (f.accepted e.0) l (s.lines e.0).named))
+          (drained_queue f e x none h empty);
+    }
+
+-- the taker stands at a retired queue
+left_of : (f : Facts) (e : EndId) (x : End) → f.discarded e.0 ≡ [] → ShownAt f e.0 (Some x) → get_or x.queues 0 [] ≡ [] → nat_le x.newest x.taker ≡ false → IsLeft f e
+left_of f e x none h empty low =
+    let t : ℕ = (f.end e.0).taker_stand in
+    let newest : (f.end e.0).newest ≡ x.newest = ap (λ (y : EndNow). y.newest) h.same in
+    let taker : t ≡ x.taker = ap (λ (y : EndNow). y.taker_stand) h.same in
+    let below : x.taker < x.newest = leb-false x.newest x.taker low in
+    record {
+      retired = omega arith;
+      all = λ l. filters _ _ (f.taken e.0) ∙ ap (by l) (sym (drained_queue f e x none h empty)) ∙ sym (filters _ _ (f.accepted e.0));
+    }
+
+-- ---- the taker goes on
+
+next_up : (n m : ℕ) → n ≤ m → (m ≡ n → ⊥) → n + 1 ≤ m
+next_up n m least other = grind (arith, nat_tests)
+
+not_below : (n m : ℕ) → m ≤ n → nat_lt n m ≡ false
+not_below n m least = grind (arith, nat_tests)
+
+last_one : (k n : ℕ) → k < n + 1 → (k ≡ n → ⊥) → k < n
+last_one k n below other = grind (arith, nat_tests)
+
+reached_next : (taker looked : ℕ) → (b : Bool) → nat_lt looked (taker + 1) ≡ b → taker + 1 ≤ cond b (taker + 1) looked
+reached_next taker looked true is = omega arith
+reached_next taker looked false is = ltb-false looked (taker + 1) is
+
+clear_next : (taker looked k : ℕ) → taker ≤ looked → taker + 1 ≤ k → (b : Bool) → nat_lt looked (taker + 1) ≡ b → nat_lt k looked ≡ nat_lt k (cond b (taker + 1) looked)
+clear_next taker looked k reached from true is =
+    let low : looked < taker + 1 = ltb-true looked (taker + 1) is in
+    not_below k looked (omega arith) ∙ sym (not_below k (taker + 1) from)
+clear_next taker looked k reached from false is = refl
+
+get_or-drop : (queues : List (List Envelope)) (i : ℕ) → get_or (drop 1 queues) i [] ≡ get_or queues (suc i) []
+get_or-drop [] i = refl
+get_or-drop (q ∷ qs) i = refl
+
+length-drop : (queues : List (List Envelope)) (n : ℕ) → length queues ≡ n + 1 → length (drop 1 queues) ≡ n
+length-drop [] n is = absurd (omega (arith, is))
+length-drop (q ∷ qs) n is = omega (arith, is)
+
+advanced_queues : (line : ℕ → LineNow) (clear : ℕ → Bool) (vs ts : List Envelope) (x : End) → x.is_closed ≡ false → x.taker < x.newest → get_or x.queues 0 [] ≡ [] → KeepsQueues line clear vs ts x → KeepsQueues line clear vs ts (advanced_end x)
+advanced_queues line clear vs ts x opened low empty h =
+    let many : x.taker + length x.queues ≡ x.newest + 1 = h.count opened in
+    let rest : length x.queues ≡ (x.newest - x.taker) + 1 = omega arith in
+    let fewer : length (drop 1 x.queues) ≡ x.newest - x.taker = length-drop x.queues (x.newest - x.taker) rest in
+    record {
+      reached = reached_next x.taker x.looked (nat_lt x.looked (x.taker + 1)) refl;
+      clear_below = λ k from. h.clear_below k (omega (arith, from)) ∙ clear_next x.taker x.looked k h.reached from (nat_lt x.looked (x.taker + 1)) refl;
+      count = λ _. omega arith;
+      inside = λ l at. let within : (line l).stand < x.taker + length x.queues = h.inside l at in omega arith;
+      behind = λ k less. elim (eqb k x.taker) as (λ b. eqb k x.taker ≡ b → in_queue k vs ≡ in_queue k ts) [
+        | true ↦ λ is.
+            let same : x.taker + 0 ≡ k = omega (arith, eqb-true k x.taker is) in
+            subst (λ j. in_queue j vs ≡ in_queue j ts) same (h.each 0 ∙ ap (λ q. in_queue (x.taker + 0) ts ++ q) empty ∙ append-nil (in_queue (x.taker + 0) ts))
+        | false ↦ λ is. h.behind k (last_one k x.taker less (eqb-false k x.taker is))
+      ] refl;
+      each = λ i.
+          let shift : x.taker + suc i ≡ x.taker + 1 + i = omega arith in
+          subst (λ j. in_queue j vs ≡ in_queue j ts ++ get_or x.queues (suc i) []) shift (h.each (suc i)) ∙ ap (λ q. in_queue (x.taker + 1 + i) ts ++ q) (sym (get_or-drop x.queues i));
+    }
+
+advanced_shown : (now : EndNow) (line : ℕ → LineNow) (clear : ℕ → Bool) (vs ts : List Envelope) (x : End) → x.is_closed ≡ false → x.taker < x.newest → get_or x.queues 0 [] ≡ [] → ShowsEnd now line clear vs ts (Some x) → ShowsEnd (record now { taker_stand = now.taker_stand + 1 }) line clear vs ts (Some (advanced_end x))
+advanced_shown now line clear vs ts x opened low empty h = record {
+  same = ap (λ (e : EndNow). let d : EndNow = record e { taker_stand = e.taker_stand + 1 } in d) h.same;
+  count = h.count;
+  lines = h.lines;
+  put = h.put;
+  queues = advanced_queues line clear vs ts x opened low empty h.queues;
+}
+
+-- ---- what is answered
+
+left_shown : (agents : List Agent) (ends new : List End) (f : Facts) (e : EndId) (refused : Bool) (x : End) (o : Outcome) → ShowsFacts agents ends f → slice_get ends e.0 ≡ Some x → ShownAt f e.0 (Some x) → (f.end e.0).closed ≡ false → get_or x.queues 0 [] ≡ [] → ((p : Outcome) → Serves f e p → FitsTake f e p)
+    → (last settled : Bool) → nat_le x.newest x.taker ≡ last → kept_settled x x.taker ≡ settled
+    → o ≡ cond last outcome.Empty (cond settled outcome.Again outcome.Busy) → new ≡ set ends e.0 (cond last x (cond settled (advanced_end x) x)) → Stepped agents new f (action.Take e) refused o
+left_shown agents ends new f e refused x o h at shown opened empty fits true settled is found says leaves =
+    unchanged agents ends new f (action.Take e) refused o outcome.Empty h refl says (leaves ∙ set_again ends e.0 x at) (fits outcome.Empty (drained_of f e x h.sound ((h.sound.waiting e.0).kept opened) shown empty is))
+left_shown agents ends new f e refused x o h at shown opened empty fits false false is found says leaves =
+    let taker : (f.end e.0).taker_stand ≡ x.taker = ap (λ (y : EndNow). y.taker_stand) shown.same in
+    let unsettled : is_settled f e.0 (f.end e.0).taker_stand ≡ false = ap (is_settled f e.0) taker ∙ sym (settled_kept f e.0 x.taker x shown (omega arith)) ∙ found in
+    unchanged agents ends new f (action.Take e) refused o outcome.Busy h refl says (leaves ∙ set_again ends e.0 x at) (fits outcome.Busy (left_of f e x ((h.sound.waiting e.0).kept opened) shown empty is, unsettled))
+left_shown agents ends new f e refused x o h at shown opened empty fits false true is found says leaves =
+    let taker : (f.end e.0).taker_stand ≡ x.taker = ap (λ (y : EndNow). y.taker_stand) shown.same in
+    let settled : is_settled f e.0 (f.end e.0).taker_stand ≡ true = ap (is_settled f e.0) taker ∙ sym (settled_kept f e.0 x.taker x shown (omega arith)) ∙ found in
+    let low : x.taker < x.newest = leb-false x.newest x.taker is in
+    let still : x.is_closed ≡ false = sym (ap (λ (y : EndNow). y.closed) shown.same) ∙ opened in
+    let answer : FitsTake f e outcome.Again = fits outcome.Again (left_of f e x ((h.sound.waiting e.0).kept opened) shown empty is, settled) in
+    let base : List End = set ends e.0 (advanced_end x) in
+    let stepped : Stepped agents base f (action.Take e) refused outcome.Again =
+    changed agents ends base f (action.Take e) refused outcome.Again h answer refl refl refl (length-set ends e.0 (advanced_end x))
+    (each_set (λ d q. ShowsEnd (record (f.end d) { taker_stand = cond (eqb d e.0) ((f.end d).taker_stand + 1) (f.end d).taker_stand }) (f.line d) (f.clear d) (f.accepted d) (f.taken d ++ f.discarded d) q) ends e.0 (advanced_end x) (slice_get_within ends e.0 x at)
+    (subst (λ b. ShowsEnd (record (f.end e.0) { taker_stand = cond b ((f.end e.0).taker_stand + 1) (f.end e.0).taker_stand }) (f.line e.0) (f.clear e.0) (f.accepted e.0) (f.taken e.0 ++ f.discarded e.0) (Some (advanced_end x))) (sym (eqb_same e.0)) (advanced_shown (f.end e.0) (f.line e.0) (f.clear e.0) (f.accepted e.0) (f.taken e.0 ++ f.discarded e.0) x still low empty shown))
+    (λ d other. subst (λ b. ShowsEnd (record (f.end d) { taker_stand = cond b ((f.end d).taker_stand + 1) (f.end d).taker_stand }) (f.line d) (f.clear d) (f.accepted d) (f.taken d ++ f.discarded d) (slice_get ends d)) (sym (ne_eqb d e.0 other)) (h.end d)))
+    in
+    subst (λ p. Stepped agents new f (action.Take e) refused p) (sym says) (subst (λ es. Stepped agents es f (action.Take e) refused outcome.Again) (sym leaves) stepped)
+
+pub nothing_shown : (agents : List Agent) (ends new : List End) (f : Facts) (e : EndId) (refused : Bool) (x : End) (o : Outcome) → ShowsFacts agents ends f → slice_get ends e.0 ≡ Some x → (f.end e.0).closed ≡ false → get_or x.queues 0 [] ≡ [] → ((p : Outcome) → Serves f e p → FitsTake f e p) → o ≡ left_outcome x → new ≡ set ends e.0 (left_end x) → Stepped agents new f (action.Take e) refused o
+nothing_shown agents ends new f e refused x o h at opened empty fits says leaves =
+    left_shown agents ends new f e refused x o h at (subst (ShownAt f e.0) at (h.end e.0)) opened empty fits (nat_le x.newest x.taker) (kept_settled x x.taker) refl refl says leaves

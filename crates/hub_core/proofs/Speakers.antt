@@ -1,0 +1,375 @@
+-- Who posts on a line, who may enter, and which ports are in flight.
+use Rattle.std.proofs.Common.{◌≡◌, ℕ, ◌+◌, ◌<◌, ◌≤◌, Bool, true, false, cond, eqb, List, [], ◌∷◌, ◌++◌, Option, Some, None, refl, sym, ap, subst, ◌∙◌, arith, rules, length, append_assoc, append-nil}
+use Rattle.std.specs.Prelude.{◌&&◌, ◌||◌, not, is_some, option_and_then, nat_le}
+use Rattle.std.specs.List.{AllByRecursion, list_all, filter}
+use Rattle.std.proofs.lemmas.Bool.{false≢true, ne_eqb, eqb-true, leb-true, leb-false}
+use Rattle.hub_envelope.specs.declared.ids.AgentId.{AgentId}
+use Rattle.hub_envelope.specs.declared.ids.EndId.{EndId}
+use Rattle.hub_envelope.specs.declared.envelope.Envelope.{Envelope}
+use Rattle.hub_core.specs.declared.end.Place.{Place}
+use Rattle.hub_core.specs.declared.end.Place.TheVariants.{With, InFlight, Arrived, Swept, Gone}
+use Rattle.hub_core.specs.declared.sender.Sender.{Sender}
+use Rattle.hub_core.specs.declared.step.Action.{Action}
+use Rattle.hub_core.specs.declared.step.Action.TheVariants as action
+use Rattle.hub_core.specs.declared.outcome.Acceptance.{Acceptance}
+use Rattle.hub_core.specs.declared.outcome.Outcome.{Outcome}
+use Rattle.hub_core.specs.declared.outcome.Outcome.TheVariants as outcome
+use Rattle.hub_core.specs.Facts.{EndNow, LineNow, Facts}
+use Rattle.hub_core.specs.Fits.{Answers}
+use Rattle.hub_core.specs.Place.{names, is_named}
+use Rattle.hub_core.specs.Sender.{by, Prefix}
+use Rattle.hub_core.specs.Posting.{running_at, holder, poster, phase_of_line, is_out, is_distinct, is_with, own_poster_out, is_at, may_travel, may_enter, hears_notice, is_here, may_leave_agent, own_line_plain}
+use Rattle.hub_core.specs.Taking.{IsNext}
+use Rattle.hub_core.specs.Sound.{no_end, IsOfEnd, total, naming, flights, SoundPlaces, Sound}
+use Rattle.hub_core.proofs.Lists.{both_of, eqb_same}
+use Rattle.hub_core.proofs.Totals.{total_less, total_more, count, bit, count_more, count_lines, count_append}
+use Rattle.hub_core.proofs.Nexts.{next, Change, agent_made, channel_made, let_in, found_moved, found_closed, put, left, started, got, hopped, went_on, cleared, adopted, notice_put, end_closed, end_swept}
+use Rattle.hub_core.proofs.Fitting.{new_ends, Pushed, pushed_of, got_of, adopted_of, closed_of, SweptWith, swept_of}
+use Rattle.hub_core.proofs.SoundLines.{LinesAt}
+use Rattle.hub_core.proofs.SoundWaiting.{WaitingAt, got_prefix, nothing_more, all_removed}
+use Rattle.hub_core.specs.Made.{lines_of}
+use Rattle.hub_core.specs.Looking.{IsAllWaiting}
+
+-- ---- ends that were not made
+
+-- an end of which something is known was made
+pub made_of : (f : Facts) (x : ℕ) → ((y : ℕ) → f.ends ≤ y → f.end y ≡ no_end) → (f.end x ≡ no_end → ⊥) → x < f.ends
+made_of f x none known = elim (nat_le f.ends x) as (λ b. nat_le f.ends x ≡ b → x < f.ends) [
+  | true ↦ λ past. absurd (known (none x (leb-true f.ends x past)))
+  | false ↦ λ below. leb-false f.ends x below
+] refl
+
+pub placed_made : (f : Facts) (x : ℕ) (p : Place) → SoundPlaces f → (f.end x).place ≡ Some p → x < f.ends
+placed_made f x p s is = made_of f x s.ends (λ none. absurd (search (rules, sym (ap (λ (e : EndNow). e.place) none) ∙ is)))
+
+pub entangled_made : (f : Facts) (x y : ℕ) → SoundPlaces f → (f.end x).peer ≡ Some y → x < f.ends
+entangled_made f x y s is = made_of f x s.ends (λ none. absurd (search (rules, sym (ap (λ (e : EndNow). e.peer) none) ∙ is)))
+
+no_lines : (x : ℕ) (line : ℕ → LineNow) (vs : List Envelope) → AllByRecursion (IsOfEnd x 0 line) vs → vs ≡ []
+no_lines x line [] h = refl
+no_lines x line (v ∷ vs) h = absurd (let none : v.line.0 < 0 = h.0.has_line in omega arith)
+
+pub nothing_accepted : (f : Facts) (x : ℕ) → LinesAt f x → f.end x ≡ no_end → f.accepted x ≡ []
+nothing_accepted f x h none = no_lines x (f.line x) (f.accepted x) (subst (λ p. AllByRecursion (IsOfEnd x (lines_of p) (f.line x)) (f.accepted x)) (ap (λ (e : EndNow). e.peer) none) h.named)
+
+no_prefix : (ts : List Envelope) → ((l : ℕ) → Prefix (by l ts) []) → ts ≡ []
+no_prefix [] h = refl
+no_prefix (t ∷ ts) h =
+    let p : Prefix (by t.line.0 (t ∷ ts)) [] = h t.line.0 in
+    let first : by t.line.0 (t ∷ ts) ≡ t ∷ by t.line.0 ts = ap (λ b. cond b (t ∷ by t.line.0 ts) (by t.line.0 ts)) (eqb_same t.line.0) in
+    let none : [] ≡ t ∷ (by t.line.0 ts ++ p.0) = p.1 ∙ ap (λ us. us ++ p.0) first in
+    absurd (search (rules, none))
+
+pub nothing_removed : (f : Facts) (x : ℕ) → WaitingAt f x → f.accepted x ≡ [] → f.taken x ++ f.discarded x ≡ []
+nothing_removed f x h none = no_prefix (f.taken x ++ f.discarded x) (λ l. subst (λ vs. Prefix (by l (f.taken x ++ f.discarded x)) (by l vs)) none (h.prefix l))
+
+-- ---- posters
+
+-- what a poster that is there says: the line is line 0, and the agent has the peer and runs
+pub record Speaks (f : Facts) (s : Sender) : Type 0 where
+  pub line : s.line.0 ≡ 0
+  pub peer : ℕ
+  pub entangled : (f.end s.end.0).peer ≡ Some peer
+  pub agent : AgentId
+  pub has : (f.end peer).place ≡ Some (With agent)
+  pub runs : (f.agent agent.0).runs ≡ true
+
+pub runs_there : (f : Facts) (p : Option Place) → is_some (running_at (λ a. (f.agent a).runs) p) ≡ true → (a : AgentId) × (p ≡ Some (With a)) × ((f.agent a.0).runs ≡ true)
+runs_there f (Some (With a)) h = (a, refl, elim ((f.agent a.0).runs) as (λ b. is_some (cond b (Some a) None) ≡ true → b ≡ true) [ true ↦ λ _. refl | false ↦ λ no. absurd (false≢true no) ] h)
+runs_there f (Some InFlight) h = absurd (false≢true h)
+runs_there f (Some (Arrived a)) h = absurd (false≢true h)
+runs_there f (Some Swept) h = absurd (false≢true h)
+runs_there f (Some Gone) h = absurd (false≢true h)
+runs_there f None h = absurd (false≢true h)
+
+speaks_by : (f : Facts) (s : Sender) (first : Bool) (p : Option ℕ) → eqb s.line.0 0 ≡ first → (f.end s.end.0).peer ≡ p → is_some (cond first (option_and_then (holder f) p) None) ≡ true → Speaks f s
+speaks_by f s false p line is h = absurd (false≢true h)
+speaks_by f s true None line is h = absurd (false≢true h)
+speaks_by f s true (Some q) line is h =
+    let there = runs_there f (f.end q).place h in
+    record { line = search (rules, line); peer = q; entangled = is; agent = there.0; has = there.1; runs = there.2 }
+
+pub speaks_of : (f : Facts) (s : Sender) → is_some (poster f s) ≡ true → Speaks f s
+speaks_of f s h = speaks_by f s (eqb s.line.0 0) ((f.end s.end.0).peer) refl refl h
+
+-- the poster, by what it is read off
+poster_as : (g : Facts) (s : Sender) (q : ℕ) (a : AgentId) → s.line.0 ≡ 0 → (g.end s.end.0).peer ≡ Some q → (g.end q).place ≡ Some (With a) → (g.agent a.0).runs ≡ true → poster g s ≡ Some a
+poster_as g s q a line peer place runs = rw (line, peer, place, runs) refl
+
+pub poster_is : (f : Facts) (s : Sender) (k : Speaks f s) → poster f s ≡ Some k.agent
+poster_is f s k = poster_as f s k.peer k.agent k.line k.entangled k.has k.runs
+
+-- ---- ports that travel
+
+with_agent : (a : AgentId) (p : Option Place) → is_with a p ≡ true → p ≡ Some (With a)
+with_agent a (Some (With b)) h = let same : a.0 ≡ b.0 = search (rules, h) in ap (λ n. Some (With (record { 0 = n }))) (sym same)
+with_agent a (Some InFlight) h = absurd (false≢true h)
+with_agent a (Some (Arrived b)) h = absurd (false≢true h)
+with_agent a (Some Swept) h = absurd (false≢true h)
+with_agent a (Some Gone) h = absurd (false≢true h)
+with_agent a None h = absurd (false≢true h)
+
+-- a port of a good list has its own line out and is with the agent
+pub travels : (f : Facts) (a : AgentId) (s : Sender) (x : ℕ) (ports : List EndId) → list_all (may_travel f a s) ports ≡ true → names ports x ≡ true → ((f.end x).place ≡ Some (With a)) × (own_poster_out f ((f.end x).peer) ≡ true)
+travels f a s x [] all named = absurd (false≢true named)
+travels f a s x (p ∷ ps) all named = elim (eqb p.0 x) as (λ b. eqb p.0 x ≡ b → (b || names ps x) ≡ true → ((f.end x).place ≡ Some (With a)) × (own_poster_out f ((f.end x).peer) ≡ true)) [
+  | true ↦ λ t _.
+      let same : p.0 ≡ x = search (rules, t) in
+      let tests = both_of (may_travel f a s p) (list_all (may_travel f a s) ps) all in
+      let leaves = both_of (may_leave_agent f a s p) (not (eqb p.0 s.end.0)) tests.0 in
+      let first = both_of (is_with a (f.end p.0).place && own_poster_out f (f.end p.0).peer && own_line_plain f (f.end p.0).peer) (not (is_at p.0 (f.end s.end.0).peer)) leaves.0 in
+      let second = both_of (is_with a (f.end p.0).place && own_poster_out f (f.end p.0).peer) (own_line_plain f (f.end p.0).peer) first.0 in
+      let third = both_of (is_with a (f.end p.0).place) (own_poster_out f (f.end p.0).peer) second.0 in
+      subst (λ y. ((f.end y).place ≡ Some (With a)) × (own_poster_out f ((f.end y).peer) ≡ true)) same (with_agent a (f.end p.0).place third.0, third.1)
+  | false ↦ λ t later. travels f a s x ps (both_of (may_travel f a s p) (list_all (may_travel f a s) ps) all).1 later
+] refl named
+
+pub all_good : (f : Facts) (s : Sender) (ports : List EndId) (n : Acceptance) → (p : Pushed f s ports n) → list_all (may_travel f p.agent s) ports ≡ true
+all_good f s ports n p = (both_of (is_distinct ports) (list_all (may_travel f p.agent s) ports) p.good).1
+
+-- ---- flights
+
+flying : (p : Option Place) → 1 ≤ flights p → p ≡ Some InFlight
+flying (Some InFlight) h = refl
+flying (Some (With a)) h = absurd (omega arith)
+flying (Some (Arrived a)) h = absurd (omega arith)
+flying (Some Swept) h = absurd (omega arith)
+flying (Some Gone) h = absurd (omega arith)
+flying None h = absurd (omega arith)
+
+-- a take that fits names ports that are in flight
+pub taken_flies : (f : Facts) (e : EndId) (v : Envelope) (x : ℕ) → Sound f → IsNext f e v → (f.end e.0).closed ≡ false → e.0 < f.ends → names v.ports x ≡ true → (f.end x).place ≡ Some InFlight
+taken_flies f e v x s n opened made named =
+    let P : Envelope → Bool = λ u. names u.ports x in
+    let more : count P (f.taken e.0 ++ v ∷ []) ≡ count P (f.taken e.0) + 1 = count_more P (f.taken e.0) v ∙ ap (λ b. count P (f.taken e.0) + bit b) named in
+    let within : count P (f.taken e.0 ++ v ∷ []) ≤ count P (f.accepted e.0) = count_lines P (f.taken e.0 ++ v ∷ []) (f.accepted e.0) (got_prefix f e v n (s.waiting e.0)) in
+    let gone : ℕ → ℕ = λ d. naming x (f.taken d ++ f.discarded d) in
+    let u : ℕ → ℕ = λ d. naming x (f.accepted d) in
+    let top : ℕ → ℕ = λ d. cond (eqb d e.0) (gone d + 1) (gone d) in
+    let same : gone e.0 ≡ count P (f.taken e.0) = ap (naming x) (nothing_more (f.taken e.0) (f.discarded e.0) ((s.waiting e.0).kept opened)) in
+    let grows : total top f.ends ≡ total gone f.ends + 1 = total_more gone top f.ends e.0 1 made (ap (λ b. cond b (gone e.0 + 1) (gone e.0)) (eqb_same e.0)) (λ d other. ap (λ b. cond b (gone d + 1) (gone d)) (ne_eqb d e.0 other)) in
+    let mine : gone e.0 + 1 ≤ u e.0 = omega arith in
+    let under : total top f.ends ≤ total u f.ends = total_less top u f.ends (λ d. elim (eqb d e.0) as (λ b. eqb d e.0 ≡ b → cond b (gone d + 1) (gone d) ≤ u d) [
+      | true ↦ λ t. let here : d ≡ e.0 = search (rules, t) in subst (λ y. gone y + 1 ≤ u y) (sym here) mine
+      | false ↦ λ t. count_lines P (f.taken d ++ f.discarded d) (f.accepted d) ((s.waiting d).prefix)
+    ] refl) in
+    let sum : total u f.ends ≡ total gone f.ends + flights ((f.end x).place) = s.places.flights x in
+    flying ((f.end x).place) (omega arith)
+
+-- the ports of what a sweep that fits discards
+
+pub named_count : (x : ℕ) (vs : List Envelope) → is_named vs x ≡ true → 1 ≤ naming x vs
+named_count x [] h = absurd (false≢true h)
+named_count x (v ∷ vs) h = elim (names v.ports x) as (λ b. (b || is_named vs x) ≡ true → 1 ≤ length (cond b (v ∷ filter (λ (u : Envelope). names u.ports x) vs) (filter (λ (u : Envelope). names u.ports x) vs))) [
+  | true ↦ λ _. omega arith
+  | false ↦ λ later. named_count x vs later
+] h
+
+pub unnamed_count : (x : ℕ) (vs : List Envelope) → is_named vs x ≡ false → naming x vs ≡ 0
+unnamed_count x [] h = refl
+unnamed_count x (v ∷ vs) h = elim (names v.ports x) as (λ b. (b || is_named vs x) ≡ false → length (cond b (v ∷ filter (λ (u : Envelope). names u.ports x) vs) (filter (λ (u : Envelope). names u.ports x) vs)) ≡ 0) [
+  | true ↦ λ no. absurd (false≢true (sym no))
+  | false ↦ λ later. unnamed_count x vs later
+] h
+
+-- what is removed at the ends, with what a sweep discards
+pub swept_total : (f : Facts) (e : EndId) (vs : List Envelope) (x : ℕ) → e.0 < f.ends → total (λ d. naming x (f.taken d ++ cond (eqb d e.0) (f.discarded d ++ vs) (f.discarded d))) f.ends ≡ total (λ d. naming x (f.taken d ++ f.discarded d)) f.ends + naming x vs
+swept_total f e vs x made =
+    let P : Envelope → Bool = λ u. names u.ports x in
+    total_more (λ d. naming x (f.taken d ++ f.discarded d)) (λ d. naming x (f.taken d ++ cond (eqb d e.0) (f.discarded d ++ vs) (f.discarded d))) f.ends e.0 (naming x vs) made
+    (ap (λ b. naming x (f.taken e.0 ++ cond b (f.discarded e.0 ++ vs) (f.discarded e.0))) (eqb_same e.0) ∙ ap (naming x) (sym (append_assoc (f.taken e.0) (f.discarded e.0) vs)) ∙ count_append P (f.taken e.0 ++ f.discarded e.0) vs)
+    (λ d other. ap (λ b. naming x (f.taken d ++ cond b (f.discarded d ++ vs) (f.discarded d))) (ne_eqb d e.0 other))
+
+pub closed_made : (f : Facts) (x : ℕ) → SoundPlaces f → (f.end x).closed ≡ true → x < f.ends
+closed_made f x s is = made_of f x s.ends (λ none. absurd (search (rules, sym (ap (λ (e : EndNow). e.closed) none) ∙ is)))
+
+pub swept_within : (f : Facts) (e : EndId) (vs : List Envelope) (x : ℕ) → Sound f → SweptWith f e vs → naming x vs ≤ flights ((f.end x).place)
+swept_within f e vs x s w =
+    let P : Envelope → Bool = λ u. names u.ports x in
+    let made : e.0 < f.ends = closed_made f e.0 s.places w.is_closed in
+    let u : ℕ → ℕ = λ d. naming x (f.accepted d) in
+    let top : ℕ → ℕ = λ d. naming x (f.taken d ++ cond (eqb d e.0) (f.discarded d ++ vs) (f.discarded d)) in
+    let gone : ℕ → ℕ = λ d. naming x (f.taken d ++ f.discarded d) in
+    let grows : total top f.ends ≡ total gone f.ends + naming x vs = swept_total f e vs x made in
+    let under : total top f.ends ≤ total u f.ends = total_less top u f.ends (λ d. elim (eqb d e.0) as (λ b. eqb d e.0 ≡ b → naming x (f.taken d ++ cond b (f.discarded d ++ vs) (f.discarded d)) ≤ u d) [
+      | true ↦ λ is.
+          let here : d ≡ e.0 = eqb-true d e.0 is in
+          let all : IsAllWaiting f d vs = subst (λ y. IsAllWaiting f y vs) (sym here) w.all in
+          count_lines P (f.taken d ++ (f.discarded d ++ vs)) (f.accepted d) (λ l. ([], sym (append-nil (by l (f.taken d ++ (f.discarded d ++ vs))) ∙ all_removed f d vs (s.waiting d) all l)))
+      | false ↦ λ is. count_lines P (f.taken d ++ f.discarded d) (f.accepted d) ((s.waiting d).prefix)
+    ] refl) in
+    let sum : total u f.ends ≡ total gone f.ends + flights ((f.end x).place) = s.places.flights x in
+    omega arith
+
+pub swept_flies : (f : Facts) (e : EndId) (vs : List Envelope) (x : ℕ) → Sound f → SweptWith f e vs → is_named vs x ≡ true → (f.end x).place ≡ Some InFlight
+swept_flies f e vs x s w named =
+    let one : 1 ≤ naming x vs = named_count x vs named in
+    let within : naming x vs ≤ flights ((f.end x).place) = swept_within f e vs x s w in
+    flying ((f.end x).place) (omega arith)
+
+-- ---- whoever is away keeps the line
+
+own_out : (f : Facts) (s : Sender) (q : ℕ) → s.line.0 ≡ 0 → own_poster_out f ((f.end q).peer) ≡ true → (f.end q).peer ≡ Some s.end.0 → is_out (phase_of_line f s) ≡ true
+own_out f s q line out peer =
+    let first : is_out ((f.line s.end.0 0).phase) ≡ true = subst (λ p. own_poster_out f p ≡ true) peer out in
+    subst (λ l. is_out ((f.line s.end.0 l).phase) ≡ true) (sym line) first
+
+other_place : (p q : Option Place) (a : AgentId) → p ≡ Some (With a) → p ≡ Some InFlight → ⊥
+other_place p q a with_a flying = absurd (search (rules, sym with_a ∙ flying))
+
+still_runs : (b r : Bool) → r ≡ true → cond b true r ≡ true
+still_runs true r h = refl
+still_runs false r h = h
+
+below : (x n : ℕ) → x < n → (eqb x n ≡ false) × (eqb x (n + 1) ≡ false)
+below x n less = (ne_eqb x n (λ is. omega arith), ne_eqb x (n + 1) (λ is. omega arith))
+
+-- the numbers of new ends are not those of an end that was made
+pub old_end : (f : Facts) (e e' : EndId) (x : ℕ) → e ≡ record { 0 = f.ends } → e' ≡ record { 0 = f.ends + 1 } → x < f.ends → (eqb x e.0 ≡ false) × (eqb x e'.0 ≡ false)
+old_end f e e' x first second less =
+    let both = below x f.ends less in
+    (ap (λ (d : EndId). eqb x d.0) first ∙ both.0, ap (λ (d : EndId). eqb x d.0) second ∙ both.1)
+
+either_false : (b c : Bool) → b ≡ false → c ≡ false → (b || c) ≡ false
+either_false b c x y = rw (x, y) refl
+
+pub holder_made : (f : Facts) (e : ℕ) → SoundPlaces f → is_some (holder f e) ≡ true → e < f.ends
+holder_made f e s h = let there = runs_there f (f.end e).place h in placed_made f e (With there.0) s there.1
+
+-- the ends that a push or a take moves are none that a poster of a line that is away has
+unmoved : (named : Bool) (p q r : Option Place) → (named ≡ true → ⊥) → q ≡ r → cond named p q ≡ r
+unmoved true p q r never h = absurd (never refl)
+unmoved false p q r never h = h
+
+-- the poster of a line that is away is the same after every pair that fits
+pub speaker_next : (f : Facts) {a : Action} (refused : Bool) {o : Outcome} → Sound f → Answers f a refused o → Change a o → (s : Sender) → is_out (phase_of_line f s) ≡ false → is_some (poster f s) ≡ true → poster (next f a o) s ≡ poster f s
+speaker_next f refused h fits (agent_made n) s away speaks =
+    let k = speaks_of f s speaks in
+    poster_as (next f action.Agent (outcome.Agent n)) s k.peer k.agent k.line k.entangled k.has (still_runs (eqb k.agent.0 n.0) (f.agent k.agent.0).runs k.runs) ∙ sym (poster_is f s k)
+speaker_next f refused h fits (channel_made b e e') s away speaks =
+    let k = speaks_of f s speaks in
+    let made = new_ends f b refused e e' fits in
+    let target = old_end f e e' s.end.0 made.1 made.2 (entangled_made f s.end.0 k.peer h.places k.entangled) in
+    let source = old_end f e e' k.peer made.1 made.2 (placed_made f k.peer (With k.agent) h.places k.has) in
+    poster_as (next f (action.Channel b) (outcome.Ends e e')) s k.peer k.agent k.line (rw (target.0, target.1) k.entangled) (rw (source.0, source.1) k.has) k.runs ∙ sym (poster_is f s k)
+speaker_next f refused h fits (let_in t) s away speaks = refl
+speaker_next f refused h fits (found_moved t) s away speaks = refl
+speaker_next f refused h fits (found_closed t) s away speaks = refl
+speaker_next f refused h fits (put t ports body n) s away speaks =
+    let k = speaks_of f s speaks in
+    let p = pushed_of f t ports.items refused n fits in
+    let stays : names ports.items k.peer ≡ true → ⊥ = λ named.
+    let out = own_out f s k.peer k.line (travels f p.agent t k.peer ports.items (all_good f t ports.items n p) named).1 (h.places.peers s.end.0 k.peer k.entangled).1 in
+    false≢true (sym away ∙ out)
+    in
+    poster_as (next f (action.Push t ports body) (outcome.Accepted n)) s k.peer k.agent k.line k.entangled (unmoved (names ports.items k.peer) _ _ _ stays k.has) k.runs ∙ sym (poster_is f s k)
+speaker_next f refused h fits (notice_put t n) s away speaks = refl
+speaker_next f refused h fits (left t) s away speaks = refl
+speaker_next f refused h fits (hopped t k) s away speaks = refl
+speaker_next f refused h fits (started e) s away speaks = refl
+speaker_next f refused h fits (went_on e) s away speaks = refl
+speaker_next f refused h fits (cleared e k) s away speaks = refl
+speaker_next f refused h fits (adopted e a n) s away speaks =
+    let k = speaks_of f s speaks in
+    let adopts = adopted_of f e a refused n fits in
+    let stays : eqb k.peer e.0 ≡ true → ⊥ = λ same.
+    let here : (f.end k.peer).place ≡ Some (Arrived a) = ap (λ y. (f.end y).place) (eqb-true k.peer e.0 same) ∙ adopts.arrived in
+    absurd (search (rules, sym k.has ∙ here))
+    in
+    poster_as (next f (action.Adopt e a) (outcome.Adopted n)) s k.peer k.agent k.line k.entangled (unmoved (eqb k.peer e.0) _ _ _ stays k.has) k.runs ∙ sym (poster_is f s k)
+speaker_next f refused h fits (got e v) s away speaks =
+    let k = speaks_of f s speaks in
+    let served = got_of f e v fits in
+    let stays : names v.ports k.peer ≡ true → ⊥ = λ named.
+    other_place ((f.end k.peer).place) (Some InFlight) k.agent k.has (taken_flies f e v k.peer h served.serves served.is_open (holder_made f e.0 h.places served.held) named)
+    in
+    poster_as (next f (action.Take e) (outcome.Got v)) s k.peer k.agent k.line k.entangled (unmoved (names v.ports k.peer) _ _ _ stays k.has) k.runs ∙ sym (poster_is f s k)
+speaker_next f refused h fits (end_closed e) s away speaks =
+    let k = speaks_of f s speaks in
+    let closes = closed_of f e fits in
+    let stays : eqb k.peer e.0 ≡ true → ⊥ = λ same.
+    let own : own_poster_out f (f.end k.peer).peer ≡ true = ap (λ y. own_poster_out f (f.end y).peer) (eqb-true k.peer e.0 same) ∙ closes.own_out in
+    false≢true (sym away ∙ own_out f s k.peer k.line own (h.places.peers s.end.0 k.peer k.entangled).1)
+    in
+    poster_as (next f (action.Close e) outcome.Done) s k.peer k.agent k.line k.entangled (unmoved (eqb k.peer e.0) _ _ _ stays k.has) k.runs ∙ sym (poster_is f s k)
+speaker_next f refused h fits (end_swept e vs) s away speaks =
+    let k = speaks_of f s speaks in
+    let stays : is_named vs k.peer ≡ true → ⊥ = λ named. other_place ((f.end k.peer).place) (Some InFlight) k.agent k.has (swept_flies f e vs k.peer h (swept_of f e vs fits) named) in
+    poster_as (next f (action.Sweep e) (outcome.Discarded vs)) s k.peer k.agent k.line k.entangled (unmoved (is_named vs k.peer) _ _ _ stays k.has) k.runs ∙ sym (poster_is f s k)
+
+-- ---- whoever is away may enter
+
+-- what a poster that may enter says: the line is line 0, and the port at the other side has a place where it can be closed
+pub record Hears (f : Facts) (s : Sender) : Type 0 where
+  pub line : s.line.0 ≡ 0
+  pub peer : ℕ
+  pub entangled : (f.end s.end.0).peer ≡ Some peer
+  pub here : is_here (f.end peer).place ≡ true
+
+heard_by : (f : Facts) (s : Sender) (p : Option ℕ) → (f.end s.end.0).peer ≡ p → (eqb s.line.0 0 && is_here (option_and_then (λ q. (f.end q).place) p)) ≡ true → Hears f s
+heard_by f s None is h = absurd (false≢true (both_of (eqb s.line.0 0) false h).1)
+heard_by f s (Some q) is h = let both = both_of (eqb s.line.0 0) (is_here (f.end q).place) h in record { line = eqb-true s.line.0 0 both.0; peer = q; entangled = is; here = both.1 }
+
+pub hears_of : (f : Facts) (s : Sender) → may_enter f s ≡ true → Hears f s
+hears_of f s h = elim (is_some (poster f s)) as (λ b. is_some (poster f s) ≡ b → (b || hears_notice f s) ≡ true → Hears f s) [
+  | true ↦ λ speaks _. let k = speaks_of f s speaks in record { line = k.line; peer = k.peer; entangled = k.entangled; here = ap is_here k.has }
+  | false ↦ λ _ hears. heard_by f s ((f.end s.end.0).peer) refl hears
+] refl h
+
+pub or_true : (b c : Bool) → c ≡ true → (b || c) ≡ true
+or_true true c is = refl
+or_true false c is = is
+
+pub may_as : (g : Facts) (s : Sender) (q : ℕ) → s.line.0 ≡ 0 → (g.end s.end.0).peer ≡ Some q → is_here (g.end q).place ≡ true → may_enter g s ≡ true
+may_as g s q line peer here = or_true (is_some (poster g s)) (hears_notice g s) (rw (line, peer, here) refl)
+
+still_here : (b : Bool) (p q : Option Place) → (b ≡ true → is_here p ≡ true) → is_here q ≡ true → is_here (cond b p q) ≡ true
+still_here true p q new old = new refl
+still_here false p q new old = old
+
+not_here : (p : Option Place) → p ≡ Some InFlight → is_here p ≡ true → ⊥
+not_here p is h = false≢true (sym (ap is_here is) ∙ h)
+
+pub may_next : (f : Facts) {a : Action} (refused : Bool) {o : Outcome} → Sound f → Answers f a refused o → Change a o → (s : Sender) → is_out (phase_of_line f s) ≡ false → may_enter f s ≡ true → may_enter (next f a o) s ≡ true
+may_next f refused h fits (agent_made n) s away may = let k = hears_of f s may in may_as (next f action.Agent (outcome.Agent n)) s k.peer k.line k.entangled k.here
+may_next f refused h fits (channel_made b e e') s away may =
+    let k = hears_of f s may in
+    let made = new_ends f b refused e e' fits in
+    let target = old_end f e e' s.end.0 made.1 made.2 (entangled_made f s.end.0 k.peer h.places k.entangled) in
+    let source = old_end f e e' k.peer made.1 made.2 (h.places.peers s.end.0 k.peer k.entangled).0 in
+    may_as (next f (action.Channel b) (outcome.Ends e e')) s k.peer k.line (rw (target.0, target.1) k.entangled) (rw (source.0, source.1) k.here)
+may_next f refused h fits (let_in t) s away may = may
+may_next f refused h fits (found_moved t) s away may = may
+may_next f refused h fits (found_closed t) s away may = may
+may_next f refused h fits (put t ports body n) s away may =
+    let k = hears_of f s may in
+    let p = pushed_of f t ports.items refused n fits in
+    let stays : names ports.items k.peer ≡ true → ⊥ = λ named.
+    let out = own_out f s k.peer k.line (travels f p.agent t k.peer ports.items (all_good f t ports.items n p) named).1 (h.places.peers s.end.0 k.peer k.entangled).1 in
+    false≢true (sym away ∙ out)
+    in
+    may_as (next f (action.Push t ports body) (outcome.Accepted n)) s k.peer k.line k.entangled (still_here (names ports.items k.peer) _ _ (λ named. absurd (stays named)) k.here)
+may_next f refused h fits (notice_put t n) s away may = may
+may_next f refused h fits (left t) s away may = may
+may_next f refused h fits (hopped t k) s away may = may
+may_next f refused h fits (started e) s away may = may
+may_next f refused h fits (got e v) s away may =
+    let k = hears_of f s may in
+    let served = got_of f e v fits in
+    may_as (next f (action.Take e) (outcome.Got v)) s k.peer k.line k.entangled (still_here (names v.ports k.peer) _ _ (λ named. absurd (not_here (f.end k.peer).place (taken_flies f e v k.peer h served.serves served.is_open (holder_made f e.0 h.places served.held) named) k.here)) k.here)
+may_next f refused h fits (went_on e) s away may = may
+may_next f refused h fits (cleared e k) s away may = may
+may_next f refused h fits (adopted e a n) s away may =
+    let k = hears_of f s may in
+    may_as (next f (action.Adopt e a) (outcome.Adopted n)) s k.peer k.line k.entangled (still_here (eqb k.peer e.0) _ _ (λ _. refl) k.here)
+may_next f refused h fits (end_closed e) s away may =
+    let k = hears_of f s may in
+    let closes = closed_of f e fits in
+    let stays : eqb k.peer e.0 ≡ true → ⊥ = λ same.
+    let own : own_poster_out f (f.end k.peer).peer ≡ true = ap (λ y. own_poster_out f (f.end y).peer) (eqb-true k.peer e.0 same) ∙ closes.own_out in
+    false≢true (sym away ∙ own_out f s k.peer k.line own (h.places.peers s.end.0 k.peer k.entangled).1)
+    in
+    may_as (next f (action.Close e) outcome.Done) s k.peer k.line k.entangled (still_here (eqb k.peer e.0) _ _ (λ same. absurd (stays same)) k.here)
+may_next f refused h fits (end_swept e vs) s away may =
+    let k = hears_of f s may in
+    may_as (next f (action.Sweep e) (outcome.Discarded vs)) s k.peer k.line k.entangled (still_here (is_named vs k.peer) _ _ (λ _. refl) k.here)

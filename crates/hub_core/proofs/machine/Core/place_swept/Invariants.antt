@@ -1,0 +1,11 @@
+use Rattle.std.proofs.Common.{◌≡◌, take}
+use Rattle.hub_core.specs.declared.end.Place.TheVariants.{Swept}
+use Rattle.hub_core.specs.Kept.{Moves, ports_of}
+use Rattle.hub_core.proofs.machine.Core.place_swept.Given as goal
+
+-- the ports of the envelopes so far are placed
+abbrev pub invariant-loop-envelope : goal.invariant-loop-envelope
+invariant-loop-envelope l = record {
+  ends : Moves (ports_of (take l.envelope-index l.envelopes)) Swept l.fn.self.ends.items l.self.ends.items;
+  agents : l.self.agents ≡ l.fn.self.agents;
+}

@@ -1,0 +1,49 @@
+-- What the steps that move lines and ends are answered (WHATWG HTML, "Message ports", the transfer and
+-- transfer-receiving steps; going on to a newer queue is this project's own).
+use Rattle.std.specs.Prelude.{◌+◌, ◌==◌, ◌&&◌, if◌then◌else◌, not, nat_lt, nat_le, Bool, false, Option, Some, None, ℕ}
+use Rattle.hub_envelope.specs.declared.ids.AgentId.{AgentId}
+use Rattle.hub_envelope.specs.declared.ids.EndId.{EndId}
+use Rattle.hub_core.specs.declared.limits.TheConstants.{MAX_MOVES}
+use Rattle.hub_core.specs.declared.end.Place.{Place}
+use Rattle.hub_core.specs.declared.end.Place.TheVariants.{With, InFlight, Arrived, Swept, Gone}
+use Rattle.hub_core.specs.declared.sender.Sender.{Sender}
+use Rattle.hub_core.specs.declared.outcome.Outcome.{Outcome}
+use Rattle.hub_core.specs.declared.outcome.Outcome.TheVariants as outcome
+use Rattle.hub_core.specs.Facts.{Facts}
+use Rattle.hub_core.specs.Posting.{is_out, phase_of_line, is_here, own_poster_out, may_enter}
+
+-- A Hop tests that its poster may enter and is out, and that the line stands at a retired queue.
+abbrev pub hop_answer : Facts → Sender → Outcome
+hop_answer f s =
+    if may_enter f s && (is_out (phase_of_line f s) && nat_lt (f.line s.end.0 s.line.0).stand (f.end s.end.0).newest)
+    then outcome.Hopped ((f.line s.end.0 s.line.0).stand + 1)
+    else outcome.NotNow
+
+abbrev pub is_arrived : AgentId → Option Place → Bool
+is_arrived a (Some (Arrived b)) = a.0 == b.0
+is_arrived a (Some (With b)) = false
+is_arrived a (Some InFlight) = false
+is_arrived a (Some Swept) = false
+is_arrived a (Some Gone) = false
+is_arrived a None = false
+
+-- An Adopt looks for a closed end; then it tests that the end has arrived at the agent, which runs; then how often the
+-- end was adopted; then memory. The new queue is the newest.
+abbrev pub adopt_answer : Facts → EndId → AgentId → Bool → Outcome
+adopt_answer f e a refused =
+    if (f.end e.0).closed then outcome.Closed
+    else (if not (is_arrived a (f.end e.0).place && (f.agent a.0).runs) then outcome.NotNow
+    else (if nat_le MAX_MOVES (f.end e.0).newest then outcome.TooManyMoves
+    else (if refused then outcome.NoMemory
+    else outcome.Adopted ((f.end e.0).newest + 1))))
+
+-- whether an open end can be closed: it has a place where it can, and its own poster is out
+abbrev pub may_close : Facts → ℕ → Bool
+may_close f e = is_here (f.end e).place && own_poster_out f (f.end e).peer
+
+-- A Close looks for a closed end, and then tests that the end can be closed.
+abbrev pub close_answer : Facts → EndId → Outcome
+close_answer f e =
+    if (f.end e.0).closed then outcome.Closed
+    else (if may_close f e.0 then outcome.Done
+    else outcome.NotNow)

@@ -1,0 +1,52 @@
+ghost use Rattle.std.specs.Prelude.{◌≡◌, slice_get, IfOk, OnOk, OnErr};
+ghost use Rattle.hub_core.specs.Kept.{look_outcome_at, look_ends_at, sweep_outcome_at, SweepLeaves, Moves, ports_of};
+
+use crate::end::Place;
+use crate::machine::Core;
+use crate::outcome::Outcome;
+use hub_envelope::{EndId, Envelope, OutOfMemory};
+
+impl Core {
+    pub(crate) fn look(&mut self, end: EndId) -> Outcome
+        ensures outcome { result ≡ look_outcome_at (slice_get self.old.ends.items end.0) }
+        ensures ends { let ends = self.old.ends.items in
+            self.new.ends.items ≡ look_ends_at end.0 ends (slice_get ends end.0) }
+        ensures agents { self.new.agents ≡ self.old.agents }
+    {
+        let Some(found) = self.ends.get_mut(end.0 as usize) else {
+            return Outcome::NotNow;
+        };
+        found.look()
+    }
+
+    /// Discards what waits at a closed end, where every queue is settled.
+    pub(crate) fn sweep(&mut self, end: EndId) -> Result<Outcome, OutOfMemory>
+        ensures outcome { IfOk result (λ o. o
+            ≡ sweep_outcome_at (slice_get self.old.ends.items end.0)) }
+        ensures ends { let ends = self.old.ends.items in
+            OnOk result (SweepLeaves end.0 ends (slice_get ends end.0) self.new.ends.items) }
+        ensures err { OnErr result (self.new.ends.items ≡ self.old.ends.items) }
+        ensures agents { self.new.agents ≡ self.old.agents }
+    {
+        let alloc = self.alloc;
+        let Some(found) = self.ends.get_mut(end.0 as usize) else {
+            return Ok(Outcome::NotNow);
+        };
+        let outcome = found.sweep(alloc)?;
+        if let Outcome::Discarded(envelopes) = &outcome {
+            self.place_swept(envelopes.as_slice());
+        }
+        Ok(outcome)
+    }
+
+    /// Gives each port that the envelopes name its place.
+    fn place_swept(&mut self, envelopes: &[Envelope])
+        ensures ends { Moves (ports_of envelopes.now) Place.Swept self.old.ends.items
+            self.new.ends.items }
+        ensures agents { self.new.agents ≡ self.old.agents }
+    {
+        for envelope in envelopes {
+            self.place_each(envelope.ports.as_slice(), Place::Swept);
+        }
+    }
+}

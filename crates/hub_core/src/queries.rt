@@ -1,0 +1,82 @@
+ghost use Rattle.std.specs.Prelude.{◌≡◌, length};
+ghost use Rattle.hub_core.specs.Facts.{facts};
+ghost use Rattle.hub_core.specs.History.{History};
+ghost use Rattle.hub_core.specs.Kept.{kept_may_post, kept_all_leave, kept_listing};
+ghost use Rattle.hub_core.specs.Moving.{may_close};
+ghost use Rattle.hub_core.specs.Posting.{may_post, listing};
+ghost use Rattle.hub_core.specs.Shows.{Shows};
+
+use crate::line::Phase;
+use crate::listing::Listing;
+use crate::machine::Core;
+use crate::sender::Sender;
+use hub_envelope::{AgentId, EndId};
+
+impl Core {
+    /// Whether a message may be posted on a line now: a running agent holds it, its poster is out,
+    /// and no notice was put.
+    pub fn may_post(&self, sender: Sender) -> bool
+        ensures { (h : History) → Shows self.now h → result ≡ may_post (facts h) sender }
+    {
+        self.can_post(sender)
+    }
+
+    fn can_post(&self, sender: Sender) -> bool
+        ensures { result ≡ kept_may_post self.now.agents.items self.now.ends.items sender }
+    {
+        let Some(end) = self.ends.get(sender.end.0 as usize) else {
+            return false;
+        };
+        let Some(line) = end.lines.get(sender.line) else {
+            return false;
+        };
+        self.poster_of(sender).is_some() && line.phase == Phase::Out && !line.has_noticed
+    }
+
+    /// What a list of ports is to a message on a line now. Where no running agent holds the line
+    /// each list is bad.
+    pub fn listing(&self, sender: Sender, ports: &[EndId]) -> Listing
+        ensures { (h : History) → Shows self.now h → result ≡ listing (facts h) sender ports.now }
+    {
+        self.kind_of_list(sender, ports)
+    }
+
+    fn kind_of_list(&self, sender: Sender, ports: &[EndId]) -> Listing
+        ensures { let ends = self.now.ends.items in
+            result ≡ kept_listing self.now.agents.items ends sender ports.now }
+    {
+        let Some(end) = self.ends.get(sender.end.0 as usize) else {
+            return Listing::Bad;
+        };
+        let Some(agent) = self.poster_of(sender) else {
+            return Listing::Bad;
+        };
+        if !self.may_all_leave(agent, end.peer, ports) {
+            return Listing::Bad;
+        }
+        if ports.contains(&sender.end) {
+            Listing::HoldsTarget
+        } else {
+            Listing::Good
+        }
+    }
+
+    /// Whether these are distinct ports that may leave an agent.
+    fn may_all_leave(&self, agent: AgentId, source: EndId, ports: &[EndId]) -> bool
+        ensures { result ≡ kept_all_leave self.now.ends.items agent source ports.now }
+    {
+        for (i, port) in ports.iter().enumerate() {
+            if ports[i + 1..].contains(port) || !self.may_leave(agent, source, *port) {
+                return false;
+            }
+        }
+        true
+    }
+
+    /// Whether a Close of the end would be answered Done now.
+    pub fn may_close(&self, end: EndId) -> bool
+        ensures { (h : History) → Shows self.now h → result ≡ may_close (facts h) end.0 }
+    {
+        self.can_close(end)
+    }
+}

@@ -1,0 +1,16 @@
+use hub_core::Outcome;
+
+/// What a step line shows.
+#[derive(Debug, Drop)]
+pub enum Shown {
+    /// The outcome of one of its core steps, or what its first failed test says.
+    Answer(Outcome),
+    /// The line of a post stood at a retired queue still after `MAX_HOPS` hops.
+    Moving,
+    /// The list of a post held the end to which it went, and each listed port was closed.
+    Doomed,
+    /// A port was closed, and its notice found no memory.
+    DoneNoMemory,
+    /// A port was closed, and its line stood at a retired queue still after `MAX_HOPS` hops.
+    DoneMoving,
+}
