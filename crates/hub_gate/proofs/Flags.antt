@@ -23,25 +23,27 @@ one_more : (n : ℕ) → nat_lt 0 (n + 1) ≡ true
 one_more n = grind (arith, nat_tests)
 
 -- what the setting of one flag does to the gate and to the keeper's view
-record IsSetting {T : Type 0} (owns : ℕ → T → Type 0) (tags : Tags) (g : machine.Gate T) (k : KeeperView) (flag : Flag) : Type 0 where
+record IsSetting {T : Type 0} (owns : ℕ → T → Type 0) (tags : Tags) (g : machine.Gate T) (k : KeeperView T) (flag : Flag) : Type 0 where
   step : machine.Steps owns g (flag_event flag) machine.says_done (flagged_gate flag g)
   phases : (flagged_gate flag g).phases ≡ g.phases
   homes : (flagged_gate flag g).homes ≡ g.homes
+  collected : (flagged_gate flag g).collected ≡ g.collected
   next : (flagged_keeper flag k).next ≡ k.next
+  rights : (flagged_keeper flag k).rights ≡ k.rights
   shows : IsShownBy k tags g → IsShownBy (flagged_keeper flag k) tags (flagged_gate flag g)
 
-setting : {T : Type 0} (owns : ℕ → T → Type 0) (tags : Tags) (g : machine.Gate T) (k : KeeperView) (flag : Flag) → IsSetting owns tags g k flag
-setting owns tags g k Enabled = record { step = machine.enables; phases = refl; homes = refl; next = refl; shows = λ was. record { tags = was.tags; enabled = one_more k.enables; moved = was.moved; closed = was.closed; collected = was.collected } }
-setting owns tags g k Moved = record { step = machine.retires; phases = refl; homes = refl; next = refl; shows = λ was. record { tags = was.tags; enabled = was.enabled; moved = one_more k.retires; closed = was.closed; collected = was.collected } }
-setting owns tags g k Closed = record { step = machine.closes; phases = refl; homes = refl; next = refl; shows = λ was. record { tags = was.tags; enabled = was.enabled; moved = was.moved; closed = one_more k.closes; collected = was.collected } }
+setting : {T : Type 0} (owns : ℕ → T → Type 0) (tags : Tags) (g : machine.Gate T) (k : KeeperView T) (flag : Flag) → IsSetting owns tags g k flag
+setting owns tags g k Enabled = record { step = machine.enables; phases = refl; homes = refl; collected = refl; next = refl; rights = refl; shows = λ was. record { tags = was.tags; enabled = one_more k.enables; moved = was.moved; closed = was.closed; collected = was.collected } }
+setting owns tags g k Moved = record { step = machine.retires; phases = refl; homes = refl; collected = refl; next = refl; rights = refl; shows = λ was. record { tags = was.tags; enabled = was.enabled; moved = one_more k.retires; closed = was.closed; collected = was.collected } }
+setting owns tags g k Closed = record { step = machine.closes; phases = refl; homes = refl; collected = refl; next = refl; rights = refl; shows = λ was. record { tags = was.tags; enabled = was.enabled; moved = was.moved; closed = one_more k.closes; collected = was.collected } }
 
 -- the keeper sets a flag
-sets_flag : {T : Type 0} (tag : T → List ℕ) (slots id : ℕ) (k : KeeperView) (c : List (ℕ × Option T)) (flag : Flag) → Allows (IsGate tag) slots id (Keeping k, c) 0 (λ n. bit_or n (flag_bit flag)) (SetsFlag tag flag (Keeping k, c))
+sets_flag : {T : Type 0} (tag : T → List ℕ) (slots id : ℕ) (k : KeeperView T) (c : List (ℕ × Option T)) (flag : Flag) → Allows (IsGate tag) slots id (Keeping k, c) 0 (λ n. bit_or n (flag_bit flag)) (SetsFlag tag flag (Keeping k, c))
 sets_flag tag slots id k c flag s kept fits at small =
     let shown = shown_where tag s id (Keeping k) refl at kept in
     let own = shown.seats id (Keeping k) at in
     let set_now = setting (Owns tag shown.tags) shown.tags shown.gate k flag in
-    let taken = steps tag s shown id k own (flagged_keeper flag k) (flagged_gate flag shown.gate) set_now.phases set_now.next (set_now.shows own.shows) (flag_event flag) machine.says_done (bit_or (get_or s.words 0 0) (flag_bit flag)) s.homes set_now.step
+    let taken = steps tag s shown id k own (flagged_keeper flag k) (flagged_gate flag shown.gate) set_now.phases (λ not_yet. (sym set_now.collected ∙ not_yet, set_now.homes)) set_now.next set_now.rights (set_now.shows own.shows) (flag_event flag) machine.says_done (bit_or (get_or s.words 0 0) (flag_bit flag)) s.homes set_now.step
     (new_word s.words (machine.word shown.gate) _ (λ n. bit_or n (flag_bit flag)) shown.word (or_flag flag shown.gate))
     (shown.homes ∙ ap (map slot_of) (sym set_now.homes)) in
     (Keeping (flagged_keeper flag k), keeps, tt, taken.0, (refl, taken.1))
@@ -56,7 +58,7 @@ flag_again Enabled = refl
 flag_again Moved = refl
 flag_again Closed = refl
 
-pub sets : {T : Type 0} (tag : T → List ℕ) (slots id bit : ℕ) (flag : Flag) (me : Me (Option T) View) → bit ≡ flag_bit flag → me.0 ≡ Keeping (keeper_in me.0) → Allows (IsGate tag) slots id me 0 (λ n. bit_or n bit) (Sets tag (step slots 0 bit 0 maybe.none) me)
+pub sets : {T : Type 0} (tag : T → List ℕ) (slots id bit : ℕ) (flag : Flag) (me : Me (Option T) (View T)) → bit ≡ flag_bit flag → me.0 ≡ Keeping (keeper_in me.0) → Allows (IsGate tag) slots id me 0 (λ n. bit_or n bit) (Sets tag (step slots 0 bit 0 maybe.none) me)
 sets {T = T} tag slots id bit flag me bit_is is =
     at_keeper (IsGate tag) slots id (λ n. bit_or n bit) (Sets tag (step slots 0 bit 0 maybe.none)) me is
     (subst (λ (b : ℕ). Allows (IsGate tag) slots id (Keeping (keeper_in me.0), me.1) 0 (λ n. bit_or n b) (Sets tag (step slots 0 b 0 maybe.none) (Keeping (keeper_in me.0), me.1))) (sym bit_is)

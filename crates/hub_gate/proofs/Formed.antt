@@ -6,12 +6,8 @@ use Rattle.hub_core.specs.declared.line.Phase.{Phase}
 use Rattle.hub_core.specs.declared.line.Phase.TheVariants.{Out, Inside, Turned}
 use Rattle.hub_core.specs.GateMachine.{Gate, opened, is_shut, Steps, finds_moved, finds_closed, goes_in, goes_out, turns_back, enables, retires, closes, gave, is_open, is_busy, gives, Reached, opens, goes_on}
 use Rattle.hub_core.specs.GateMachine as machine
+use Rattle.hub_gate.specs.GateRule.{is_inside}
 use Rattle.hub_gate.proofs.Got.{none_got, some_is, got_within, got_there, got_set, got_here, got_else, got-map, got_of-map, len-map}
-
-abbrev pub is_inside : Phase → Bool
-is_inside Out = false
-is_inside Inside = true
-is_inside Turned = false
 
 -- a line that isn't inside has its right at home until all are collected, which they are only in a gate that is moved or closed, with nobody inside
 pub record IsFormed {R : Type 0} (owns : ℕ → R → Type 0) (g : Gate R) : Type 0 where
@@ -65,7 +61,7 @@ module _ {R : Type 0} (owns : ℕ → R → Type 0) where
         (got_set g.phases l k w p there)
 
     -- the slot of a line is there
-    there_again : (l : ℕ) (r : R) → slice_get g.phases l ≡ Some Inside → slice_get (set g.homes l (Some r)) l ≡ Some (Some r)
+    pub there_again : (l : ℕ) (r : R) → slice_get g.phases l ≡ Some Inside → slice_get (set g.homes l (Some r)) l ≡ Some (Some r)
     there_again l r at =
         let low = got_within g.phases l Inside at in
         let same = formed.same in

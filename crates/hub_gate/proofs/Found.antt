@@ -27,7 +27,7 @@ busy_le (p ∷ ps) = let r = busy_le ps in let h = light p in omega (arith, sum_
 pub new_word : (words : List ℕ) (n n' : ℕ) (f : ℕ → ℕ) → words ≡ n ∷ [] → f n ≡ n' → set words 0 (f (get_or words 0 0)) ≡ n' ∷ []
 new_word words n n' f is e = ap (λ (w : List ℕ). set w 0 (f (get_or w 0 0))) is ∙ ap (λ (k : ℕ). k ∷ []) e
 
-module _ {T : Type 0} (tag : T → List ℕ) (s : State (Option T) View) (shown : ShowsGate tag s) where
+module _ {T : Type 0} (tag : T → List ℕ) (s : State (Option T) (View T)) (shown : ShowsGate tag s) where
   pub found_word : get_or s.words 0 0 ≡ machine.word shown.gate
   found_word = ap (λ (w : List ℕ). get_or w 0 0) shown.word
 

@@ -6,7 +6,7 @@ use Rattle.hub_gate.specs.declared.entered.Refusal.TheVariants.{Moved, Closed}
 use Rattle.hub_gate.specs.declared.entered.Entered.{Entered}
 use Rattle.hub_gate.specs.declared.entered.Entered.TheVariants.{In, Turned}
 use Rattle.hub_gate.specs.GateSeats.{EntrySeat, InsideSeat}
-use Rattle.hub_gate.specs.GatePlays.{Happens, entered_line, turned_line}
+use Rattle.hub_gate.specs.GatePlays.{Happens, entered_line, left_line, turned_line}
 
 -- what the gate machine answers where an entry was turned
 abbrev pub refused : {T : Type 0} → Refusal → machine.Answer T
@@ -34,10 +34,14 @@ pub record IsTurnedBack {T : Type 0} (tag : T → List ℕ) (line : ℕ) (refusa
   pub word_back : ℕ
   pub back : Happens tag word_back (machine.turn_back line) machine.says_done
 
--- a line that is let in makes one step, and the right is the line's. A line that is turned makes two steps and is out again, and the entry's view keeps the flag that was found.
-abbrev pub IsEntered : {T : Type 0} → (T → List ℕ) → EntrySeat → Entered T → Type 0
-IsEntered tag entry (In inside) = (inside.gate ≡ entry.gate) × (inside.at ≡ entered_line entry.at None) × (tag inside.right ≡ entry.at.tag) × IsLetIn tag entry.at.line inside.right
+-- a line that is let in makes one step, and has the right that its entry's view shows, which is the one that it left at home. A line that is turned makes two steps and is out again, and the entry's view keeps the flag that was found.
+abbrev pub IsEntered : {T : Type 0} → (T → List ℕ) → EntrySeat T → Entered T → Type 0
+IsEntered tag entry (In inside) = (inside.gate ≡ entry.gate) × (inside.at ≡ entered_line entry.at None) × (tag inside.right ≡ entry.at.tag) × (entry.at.home ≡ Some inside.right) × IsLetIn tag entry.at.line inside.right
 IsEntered tag entry (Turned back refusal) = (back ≡ record { gate = entry.gate; at = turned_line (entered_line entry.at (Some refusal)) }) × IsTurnedBack tag entry.at.line refusal
+
+-- the entry of a line that left with its right, which is at home then, and found this flag ENABLED
+abbrev pub left_seat : {T : Type 0} → InsideSeat T → Bool → EntrySeat T
+left_seat inside enabled = record { gate = inside.gate; at = left_line inside.at inside.right enabled }
 
 -- the step of a line that left with its right, and found this flag ENABLED
 abbrev pub IsLetOut : {T : Type 0} → (T → List ℕ) → InsideSeat T → Bool → Type 0

@@ -23,7 +23,7 @@ flagged_gate Moved g = machine.with_flags g g.enabled true g.closed
 flagged_gate Closed g = machine.with_flags g g.enabled g.moved true
 
 -- the keeper's view after it has set the flag once more
-abbrev pub flagged_keeper : Flag → KeeperView → KeeperView
+abbrev pub flagged_keeper : {T : Type 0} → Flag → KeeperView T → KeeperView T
 flagged_keeper Enabled k = record k { enables = k.enables + 1 }
 flagged_keeper Moved k = record k { retires = k.retires + 1 }
 flagged_keeper Closed k = record k { closes = k.closes + 1 }

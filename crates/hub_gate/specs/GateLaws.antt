@@ -17,7 +17,7 @@ NoneInAfterRights {T = T} tag = (tags : Tags) (g later : machine.Gate T) → mac
 
 -- at no moment has a seat a line inside while the keeper has the rights
 abbrev pub NoSeatInAfterRights : {T : Type 0} → (T → List ℕ) → Type 0
-NoSeatInAfterRights {T = T} tag = (s : State (Option T) View) → IsGate tag s → (keeper seat : ℕ) (k : KeeperView) (v : LineView) → get_elem? s.views keeper ≡ some (Keeping k) → k.collected ≡ true → ¬ (get_elem? s.views seat ≡ some (LineInside v))
+NoSeatInAfterRights {T = T} tag = (s : State (Option T) (View T)) → IsGate tag s → (keeper seat : ℕ) (k : KeeperView T) (v : LineView T) → get_elem? s.views keeper ≡ some (Keeping k) → k.collected ≡ true → ¬ (get_elem? s.views seat ≡ some (LineInside v))
 
 -- what each event makes of the word: it adds a line, takes one off, sets one bit or leaves the word
 abbrev pub ChangesWord : {R : Type 0} → machine.Event R → ℕ → ℕ → Type 0

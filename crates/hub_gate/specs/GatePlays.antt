@@ -13,34 +13,34 @@ use Rattle.hub_core.specs.GateMachine as machine
 use Rattle.hub_gate.specs.GateRule.{Tags, keeper_at, Owns, IsShownBy}
 use Rattle.hub_gate.specs.GateSeats.{KeeperSeat, line_in, keeper_in}
 use Rattle.hub_gate.specs.Flags.{flag_bit, flag_event, flagged_keeper}
-use Rattle.hub_gate.specs.Taking.{numbered}
+use Rattle.hub_gate.specs.Taking.{numbered, values_in}
 
 -- the tags of a gate that is not open yet
-abbrev pub tags_in : View → Tags
+abbrev pub tags_in : {T : Type 0} → View T → Tags
 tags_in (Fresh tags) = tags
 tags_in (Filling tags) = tags
 tags_in _ = []
 
 module _ {T : Type 0} where
   -- the first seat has all slots, with no right in any
-  abbrev pub Gathers : Step (Option T) → Me (Option T) View → ℕ → Me (Option T) View → Type 0
+  abbrev pub Gathers : Step (Option T) → Me (Option T) (View T) → ℕ → Me (Option T) (View T) → Type 0
   Gathers step before found after = after ≡ (Filling (tags_in before.0), numbered 0 (replicate (length (tags_in before.0)) None))
 
-  -- the first seat is the keeper's, and has no slot in hand
-  abbrev pub Opens : Step (Option T) → Me (Option T) View → ℕ → Me (Option T) View → Type 0
-  Opens step before found after = after ≡ (Keeping (keeper_at (tags_in before.0) 0), [])
+  -- the first seat is the keeper's, which knows the rights that were in hand, and has no slot in hand
+  abbrev pub Opens : Step (Option T) → Me (Option T) (View T) → ℕ → Me (Option T) (View T) → Type 0
+  Opens step before found after = after ≡ (Keeping (keeper_at (tags_in before.0) (values_in before.1) 0), [])
 
 -- the view of a line that has added itself to the word, and the flag that turned it
-abbrev pub entered_line : LineView → Option Refusal → LineView
+abbrev pub entered_line : {T : Type 0} → LineView T → Option Refusal → LineView T
 entered_line v refusal = record v { enters = v.enters + 1; refusal = refusal }
 
--- the view of a line that has taken itself off the word and found this flag ENABLED
-abbrev pub left_line : LineView → Bool → LineView
-left_line v enabled = record v { leaves = v.leaves + 1; enabled = enabled }
+-- the view of a line that has left with this right, taken itself off the word and found this flag ENABLED
+abbrev pub left_line : {T : Type 0} → LineView T → T → Bool → LineView T
+left_line v right enabled = record v { leaves = v.leaves + 1; enabled = enabled; home = Some right }
 
 -- the view of a line that has turned back
-abbrev pub turned_line : LineView → LineView
-turned_line v = left_line v v.enabled
+abbrev pub turned_line : {T : Type 0} → LineView T → LineView T
+turned_line v = record v { leaves = v.leaves + 1 }
 
 -- at one moment the gate's word was this one, and the gate machine took this one step
 pub record Happens {T : Type 0} (tag : T → List ℕ) (word : ℕ) (event : machine.Event T) (answer : machine.Answer T) : Type 0 where
@@ -56,80 +56,80 @@ abbrev pub HappensBack : {T : Type 0} → (T → List ℕ) → ℕ → Type 0
 HappensBack tag line = (word : ℕ) × Happens tag word (machine.turn_back line) machine.says_done
 
 -- one step of the keeper: its view shows the gate as it was found, and its new view the gate after the step
-pub record KeeperStep {T : Type 0} (tag : T → List ℕ) (old new : KeeperView) (word : ℕ) (event : machine.Event T) (answer : machine.Answer T) : Type 0 where
+pub record KeeperStep {T : Type 0} (tag : T → List ℕ) (old new : KeeperView T) (word : ℕ) (event : machine.Event T) (answer : machine.Answer T) : Type 0 where
   pub happens : Happens tag word event answer
   pub before : IsShownBy old happens.tags happens.before
   pub after : IsShownBy new happens.tags happens.after
 
 module _ {T : Type 0} (tag : T → List ℕ) where
   -- the line is being turned back, by this flag
-  abbrev pub IsTurned : LineView → Refusal → machine.Answer T → ℕ → Me (Option T) View → Type 0
+  abbrev pub IsTurned : LineView T → Refusal → machine.Answer T → ℕ → Me (Option T) (View T) → Type 0
   IsTurned v refusal answer found after = Happens tag found (machine.enter v.line) answer × (after ≡ (LineTurned (entered_line v (Some refusal)), []))
 
-  -- the line is inside, with its right
-  abbrev pub IsIn : LineView → ℕ → Me (Option T) View → Type 0
-  IsIn v found after = (right : T) × Happens tag found (machine.enter v.line) (machine.lets_in right) × (tag right ≡ v.tag) × (after ≡ (LineInside (entered_line v None), (v.line, Some right) ∷ []))
+  -- the line is inside, with the right that it had at home
+  abbrev pub IsIn : LineView T → ℕ → Me (Option T) (View T) → Type 0
+  IsIn v found after = (right : T) × Happens tag found (machine.enter v.line) (machine.lets_in right) × (tag right ≡ v.tag) × (v.home ≡ Some right) × (after ≡ (LineInside (entered_line v None), (v.line, Some right) ∷ []))
 
   -- moved comes before closed, and where the word has neither flag the line is inside
-  abbrev pub Enters : Step (Option T) → Me (Option T) View → ℕ → Me (Option T) View → Type 0
+  abbrev pub Enters : Step (Option T) → Me (Option T) (View T) → ℕ → Me (Option T) (View T) → Type 0
   Enters step before found after = MatchBool (machine.moved_in found) (IsTurned (line_in before.0) Moved machine.says_moved found after)
       (MatchBool (machine.closed_in found) (IsTurned (line_in before.0) Closed machine.says_closed found after) (IsIn (line_in before.0) found after))
 
-  -- the line is out, and its right is at home
-  abbrev pub Leaves : Step (Option T) → Me (Option T) View → ℕ → Me (Option T) View → Type 0
-  Leaves step before found after = (after ≡ (LineOut (left_line (line_in before.0) (machine.enabled_in found)), []))
-      × ((right : T) → before.1 ≡ ((line_in before.0).line, Some right) ∷ [] → Happens tag found (machine.leave (line_in before.0).line right) (machine.lets_out (machine.enabled_in found)))
+  -- the line is out, and the right that it had in hand is at home
+  abbrev pub Leaves : Step (Option T) → Me (Option T) (View T) → ℕ → Me (Option T) (View T) → Type 0
+  Leaves step before found after = (right : T) → before.1 ≡ ((line_in before.0).line, Some right) ∷ []
+      → (after ≡ (LineOut (left_line (line_in before.0) right (machine.enabled_in found)), [])) × Happens tag found (machine.leave (line_in before.0).line right) (machine.lets_out (machine.enabled_in found))
 
   -- the line that was turned is out again
-  abbrev pub TurnsBack : Step (Option T) → Me (Option T) View → ℕ → Me (Option T) View → Type 0
+  abbrev pub TurnsBack : Step (Option T) → Me (Option T) (View T) → ℕ → Me (Option T) (View T) → Type 0
   TurnsBack step before found after = (after ≡ (LineOut (turned_line (line_in before.0)), [])) × Happens tag found (machine.turn_back (line_in before.0).line) machine.says_done
 
 module _ {T : Type 0} (tag : T → List ℕ) where
   -- at one moment the keeper took this one step
-  abbrev pub TakesStep : KeeperSeat → KeeperSeat → machine.Event T → machine.Answer T → Type 0
+  abbrev pub TakesStep : KeeperSeat T → KeeperSeat T → machine.Event T → machine.Answer T → Type 0
   TakesStep old new event answer = (word : ℕ) × KeeperStep tag old.at new.at word event answer
 
   -- the keeper has set this flag once more
-  abbrev pub SetsFlag : Flag → Me (Option T) View → ℕ → Me (Option T) View → Type 0
+  abbrev pub SetsFlag : Flag → Me (Option T) (View T) → ℕ → Me (Option T) (View T) → Type 0
   SetsFlag flag before found after = (after ≡ (Keeping (flagged_keeper flag (keeper_in before.0)), before.1)) × KeeperStep tag (keeper_in before.0) (flagged_keeper flag (keeper_in before.0)) found (flag_event flag) machine.says_done
 
   -- the flag is the one whose bit the step sets
-  abbrev pub Sets : Step (Option T) → Me (Option T) View → ℕ → Me (Option T) View → Type 0
+  abbrev pub Sets : Step (Option T) → Me (Option T) (View T) → ℕ → Me (Option T) (View T) → Type 0
   Sets step before found after = (flag : Flag) → step.first ≡ flag_bit flag → SetsFlag flag before found after
 
 -- the keeper's view after a look that found this word
-abbrev pub looked_keeper : KeeperView → ℕ → Bool → KeeperView
+abbrev pub looked_keeper : {T : Type 0} → KeeperView T → ℕ → Bool → KeeperView T
 looked_keeper k found collected = record k { looks = k.looks + 1; found = machine.count_in found; collected = collected }
 
 -- the keeper has set one of the flags moved and closed
-abbrev pub has_shut : KeeperView → Bool
+abbrev pub has_shut : {T : Type 0} → KeeperView T → Bool
 has_shut k = nat_lt 0 k.retires || nat_lt 0 k.closes
 
 module _ {T : Type 0} (tag : T → List ℕ) where
   -- the look gives no right
-  abbrev pub IsSeen : KeeperView → List (ℕ × Option T) → machine.Answer T → ℕ → Me (Option T) View → Type 0
+  abbrev pub IsSeen : KeeperView T → List (ℕ × Option T) → machine.Answer T → ℕ → Me (Option T) (View T) → Type 0
   IsSeen k carried answer found after = KeeperStep tag k (looked_keeper k found k.collected) found machine.look answer × (after ≡ (Keeping (looked_keeper k found k.collected), carried))
 
   -- the keeper has all rights, in the order of the lines
-  abbrev pub IsGiven : KeeperView → ℕ → Me (Option T) View → Type 0
+  abbrev pub IsGiven : KeeperView T → ℕ → Me (Option T) (View T) → Type 0
   IsGiven k found after = (rights : List T) × KeeperStep tag k (looked_keeper k found true) found machine.look (machine.gives_rights rights) × (map tag rights ≡ k.tags) × (after ≡ (Keeping (looked_keeper k found true), numbered 0 (map Some rights)))
 
   -- the look of a gate that is neither moved nor closed
-  abbrev pub SeesOpen : KeeperView → List (ℕ × Option T) → ℕ → Me (Option T) View → Type 0
+  abbrev pub SeesOpen : KeeperView T → List (ℕ × Option T) → ℕ → Me (Option T) (View T) → Type 0
   SeesOpen k carried found after = (has_shut k ≡ false) × IsSeen k carried machine.says_open found after
 
   -- the look that finds lines inside or being turned back
-  abbrev pub SeesBusy : KeeperView → List (ℕ × Option T) → ℕ → Me (Option T) View → Type 0
+  abbrev pub SeesBusy : KeeperView T → List (ℕ × Option T) → ℕ → Me (Option T) (View T) → Type 0
   SeesBusy k carried found after = (0 < machine.count_in found) × (machine.count_in found ≤ MAX_LINES) × IsSeen k carried (machine.says_inside (machine.count_in found)) found after
 
   -- the look of a gate that is moved or closed
-  abbrev pub SeesShut : KeeperView → List (ℕ × Option T) → ℕ → Me (Option T) View → Type 0
+  abbrev pub SeesShut : KeeperView T → List (ℕ × Option T) → ℕ → Me (Option T) (View T) → Type 0
   SeesShut k carried found after = (has_shut k ≡ true) × MatchBool (machine.count_in found == 0) (IsGiven k found after) (SeesBusy k carried found after)
 
   -- the look of a keeper that has no right yet
-  abbrev pub LooksAt : KeeperView → List (ℕ × Option T) → ℕ → Me (Option T) View → Type 0
+  abbrev pub LooksAt : KeeperView T → List (ℕ × Option T) → ℕ → Me (Option T) (View T) → Type 0
   LooksAt k carried found after = MatchBool (machine.moved_in found || machine.closed_in found) (SeesShut k carried found after) (SeesOpen k carried found after)
 
   -- where the rights were given the look says so; else it says that the gate is neither moved nor closed, or how many lines are inside or being turned back, or gives all rights
-  abbrev pub Looks : Step (Option T) → Me (Option T) View → ℕ → Me (Option T) View → Type 0
+  abbrev pub Looks : Step (Option T) → Me (Option T) (View T) → ℕ → Me (Option T) (View T) → Type 0
   Looks step before found after = MatchBool (keeper_in before.0).collected (IsSeen (keeper_in before.0) before.1 machine.says_given found after) (LooksAt (keeper_in before.0) before.1 found after)

@@ -9,7 +9,7 @@ use Rattle.hub_gate.specs.declared.gate_error.GateError.TheVariants.{BadCount, O
 use Rattle.hub_gate.specs.declared.view.View.{View}
 use Rattle.hub_gate.specs.declared.view.View.TheVariants.{Fresh, Keeping}
 use Rattle.hub_gate.specs.GateRule.{Tags, keeper_at}
-use Rattle.hub_gate.specs.GateSeats.{AllSame, IsSeatOf}
+use Rattle.hub_gate.specs.GateSeats.{AllSame, IsSeatOf, keeper_in}
 
 -- a gate may have so many rights
 abbrev pub IsCount : ℕ → Type 0
@@ -20,12 +20,15 @@ abbrev pub error_for : ℕ → GateError
 error_for count = if nat_lt 0 count && nat_le count MAX_LINES then OutOfMemory else BadCount
 
 -- the keeper's seat where so many lines have seats
-abbrev pub keeper_me : {S : Type 0} → Tags → ℕ → Me S View
-keeper_me tags next = (Keeping (keeper_at tags next), [])
+abbrev pub keeper_me : {S T : Type 0} → Tags → List T → ℕ → Me S (View T)
+keeper_me tags rights next = (Keeping (keeper_at tags rights next), [])
 
--- the keeper's seat where all lines of these tags have seats
-abbrev pub all_seated : {S : Type 0} → Tags → Me S View
-all_seated tags = keeper_me tags (length tags)
+-- the keeper's seat where no line has a seat yet, and where all lines have seats
+abbrev pub none_seated : {S T : Type 0} → View T → Me S (View T)
+none_seated view = keeper_me (keeper_in view).tags (keeper_in view).rights 0
+
+abbrev pub all_seated : {S T : Type 0} → View T → Me S (View T)
+all_seated view = keeper_me (keeper_in view).tags (keeper_in view).rights (length (keeper_in view).tags)
 
 -- the memory that a gate with these rights needs
 module _ {T : Type 0} (tag : T → List ℕ) (rights : List T) where

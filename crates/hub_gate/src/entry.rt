@@ -26,7 +26,7 @@ impl<T: Right> Model for Entry<T> {
     ghost use Rattle.hub_gate.specs.declared.view.View.TheVariants.{LineOut};
     ghost use Rattle.hub_gate.specs.GateSeats.{EntrySeat, IsSeatOf, line_in};
 
-    ghost Value = { EntrySeat };
+    ghost Value = { EntrySeat T };
 
     ghost view = { λ e. record { gate = e.seat.table_id; at = line_in e.seat.me.0 } };
 

@@ -2,7 +2,7 @@ ghost use Rattle.std.specs.Prelude.{◌≡◌, ◌≤◌, [], None, Some, map, r
 ghost use Rattle.std.specs.Arc.{arc_value};
 ghost use Rattle.hub_gate.specs.declared.view.View.TheVariants.{Fresh};
 ghost use Rattle.hub_gate.specs.GateSeats.{AllSame, IsOpened, IsSeatOf, entries_of, keeper_tags};
-ghost use Rattle.hub_gate.specs.Opening.{IsCount, HasTable, HasFreshSeat, HasShares, HasRoom, error_for, keeper_me, all_seated};
+ghost use Rattle.hub_gate.specs.Opening.{IsCount, HasTable, HasFreshSeat, HasShares, HasRoom, error_for, keeper_me, none_seated, all_seated};
 ghost use Rattle.hub_gate.specs.Taking.{numbered};
 
 use crate::entry::Entry;
@@ -79,7 +79,7 @@ fn put_home<T: Right>(slots: &GateSteps<T>, seat: &mut GateSeat<T>, rights: Vec<
     requires slots { slots.now.table_id.slots ≡ length rights.items }
     requires fresh { seat.old.me ≡ (Fresh (map T.tag rights.items), []) }
     requires few { length rights.items ≤ MAX_LINES }
-    ensures keeper { seat.new.me ≡ keeper_me (map T.tag rights.items) 0 }
+    ensures keeper { seat.new.me ≡ keeper_me (map T.tag rights.items) rights.items 0 }
     ensures stays { seat.new.table_id ≡ seat.old.table_id }
 {
     slots.load::<Gather>(seat, 0);
@@ -95,12 +95,12 @@ fn seat_lines<T: Right>(
     entries: &mut Vec<Entry<T>>,
 )
     requires table { IsSeatOf (arc_value table.now).shared.table_id seat.old.table_id }
-    requires keeper { seat.old.me ≡ keeper_me (keeper_tags seat.old.me.0) 0 }
+    requires keeper { seat.old.me ≡ none_seated seat.old.me.0 }
     requires count { length shares.items ≡ length (keeper_tags seat.old.me.0) }
     requires same { AllSame arc_value (arc_value table.now) shares.items }
     requires room { (entries.old.items ≡ []) × (length shares.items ≤ vec_capacity entries.old) }
-    ensures keeper { seat.new.me ≡ all_seated (keeper_tags seat.old.me.0) }
-    ensures entries { entries.new.items ≡ entries_of seat.old.table_id (keeper_tags seat.old.me.0) }
+    ensures keeper { seat.new.me ≡ all_seated seat.old.me.0 }
+    ensures entries { entries.new.items ≡ entries_of seat.old.table_id seat.old.me.0 }
     ensures stays { seat.new.table_id ≡ seat.old.table_id }
 {
     for line in 0..shares.len() {

@@ -35,8 +35,7 @@ impl<T: Right> Model for Inside<T> {
 impl<T: Right> Inside<T> {
     ghost use Rattle.std.specs.Borrow.{Lends, sem};
     ghost use Rattle.hub_gate.specs.contracts.inside.Inside.{the_row};
-    ghost use Rattle.hub_gate.specs.Entering.{IsLetOut};
-    ghost use Rattle.hub_gate.specs.GatePlays.{left_line};
+    ghost use Rattle.hub_gate.specs.Entering.{IsLetOut, left_seat};
     ghost use Rattle.hub_gate.specs.GateSeats.{with_right};
 
     /// Lends the right, which is to have its tag again when the line leaves.
@@ -49,10 +48,11 @@ impl<T: Right> Inside<T> {
     }
 
     /// Leaves with the right, which must have its tag, and says whether the word that was found
-    /// had the flag ENABLED. It is one step on the word.
+    /// had the flag ENABLED. The right is at home until the line enters again, and comes back as it
+    /// was left. It is one step on the word.
     pub fn leave(self) -> (Entry<T>, bool)
         requires { T.tag self.right ≡ self.at.tag }
-        ensures entry { result.0 ≡ record { gate = self.gate; at = left_line self.at result.1 } }
+        ensures entry { result.0 ≡ left_seat self result.1 }
         ensures step { IsLetOut T.tag self result.1 }
     {
         let Inside {

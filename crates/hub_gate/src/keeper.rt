@@ -30,7 +30,7 @@ impl<T: Right> Model for Keeper<T> {
     ghost use Rattle.hub_gate.specs.declared.view.View.TheVariants.{Keeping};
     ghost use Rattle.hub_gate.specs.GateSeats.{IsSeatOf, KeeperSeat, keeper_in};
 
-    ghost Value = { KeeperSeat };
+    ghost Value = { KeeperSeat T };
 
     ghost view = { λ k. record { gate = k.seat.table_id; at = keeper_in k.seat.me.0 } };
 

@@ -7,7 +7,7 @@ use std::marker::PhantomData;
 /// The first seat takes all slots in hand.
 pub struct Gather;
 
-impl<T> Play<Option<T>, View> for Gather {
+impl<T> Play<Option<T>, View<T>> for Gather {
     ghost use Rattle.hub_gate.specs.GatePlays.{Gathers};
 
     ghost then = { Gathers };
@@ -16,7 +16,7 @@ impl<T> Play<Option<T>, View> for Gather {
 /// The first seat gives all slots back, each with its right, and is the keeper's.
 pub struct Open;
 
-impl<T> Play<Option<T>, View> for Open {
+impl<T> Play<Option<T>, View<T>> for Open {
     ghost use Rattle.hub_gate.specs.GatePlays.{Opens};
 
     ghost then = { Opens };
@@ -25,7 +25,7 @@ impl<T> Play<Option<T>, View> for Open {
 /// A line enters.
 pub struct Enter<T>(PhantomData<T>);
 
-impl<T: Right> Play<Option<T>, View> for Enter<T> {
+impl<T: Right> Play<Option<T>, View<T>> for Enter<T> {
     ghost use Rattle.hub_gate.specs.GatePlays.{Enters};
 
     ghost then = { Enters T.tag };
@@ -34,7 +34,7 @@ impl<T: Right> Play<Option<T>, View> for Enter<T> {
 /// A line leaves, with its right.
 pub struct Leave<T>(PhantomData<T>);
 
-impl<T: Right> Play<Option<T>, View> for Leave<T> {
+impl<T: Right> Play<Option<T>, View<T>> for Leave<T> {
     ghost use Rattle.hub_gate.specs.GatePlays.{Leaves};
 
     ghost then = { Leaves T.tag };
@@ -43,7 +43,7 @@ impl<T: Right> Play<Option<T>, View> for Leave<T> {
 /// A line turns back.
 pub struct TurnBack<T>(PhantomData<T>);
 
-impl<T: Right> Play<Option<T>, View> for TurnBack<T> {
+impl<T: Right> Play<Option<T>, View<T>> for TurnBack<T> {
     ghost use Rattle.hub_gate.specs.GatePlays.{TurnsBack};
 
     ghost then = { TurnsBack T.tag };
@@ -52,7 +52,7 @@ impl<T: Right> Play<Option<T>, View> for TurnBack<T> {
 /// The keeper sets the flag whose bit the step sets.
 pub struct SetFlag<T>(PhantomData<T>);
 
-impl<T: Right> Play<Option<T>, View> for SetFlag<T> {
+impl<T: Right> Play<Option<T>, View<T>> for SetFlag<T> {
     ghost use Rattle.hub_gate.specs.GatePlays.{Sets};
 
     ghost then = { Sets T.tag };
@@ -61,7 +61,7 @@ impl<T: Right> Play<Option<T>, View> for SetFlag<T> {
 /// The keeper looks.
 pub struct Look<T>(PhantomData<T>);
 
-impl<T: Right> Play<Option<T>, View> for Look<T> {
+impl<T: Right> Play<Option<T>, View<T>> for Look<T> {
     ghost use Rattle.hub_gate.specs.GatePlays.{Looks};
 
     ghost then = { Looks T.tag };

@@ -1,12 +1,15 @@
 //! What the seats at a gate's word know. It stands in proofs alone: no value of it is made, so its
 //! numbers have no bound, and an array is a list of any length.
 use crate::entered::Refusal;
+use std::collections::LinkedList;
 
 /// What the seat of one line knows.
-pub struct LineView {
+pub struct LineView<T> {
     pub line: u64,
     /// The tag of the line's right.
     pub tag: [u64; 0],
+    /// The right that the line left at home, or the one that the gate opened with.
+    pub home: Option<T>,
     /// How often the line has added itself to the word.
     pub enters: u64,
     /// How often the line has taken itself off the word, leaving or turning back.
@@ -18,9 +21,11 @@ pub struct LineView {
 }
 
 /// What the keeper's seat knows.
-pub struct KeeperView {
+pub struct KeeperView<T> {
     /// The tags of the rights, in the order of the lines.
     pub tags: [[u64; 0]; 0],
+    /// The rights that the gate opened with, in the order of the lines.
+    pub rights: LinkedList<T>,
     /// The next line to get a seat: the lines below this number have theirs.
     pub next: u64,
     /// How often the keeper has set each flag.
@@ -35,13 +40,13 @@ pub struct KeeperView {
 }
 
 /// What a seat knows: a line's seat by where the line is.
-pub enum View {
+pub enum View<T> {
     /// The first seat, of a gate with rights of these tags, which has put none of them in its slot.
     Fresh([[u64; 0]; 0]),
     /// The first seat while it has all slots in hand.
     Filling([[u64; 0]; 0]),
-    Keeping(KeeperView),
-    LineOut(LineView),
-    LineInside(LineView),
-    LineTurned(LineView),
+    Keeping(KeeperView<T>),
+    LineOut(LineView<T>),
+    LineInside(LineView<T>),
+    LineTurned(LineView<T>),
 }

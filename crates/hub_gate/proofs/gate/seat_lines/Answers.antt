@@ -29,7 +29,7 @@ loop-line-preserved g c =
       keeper_cut_off _ _ _ _ (ap (λ m. m.0) kept.1) c.split_seat-own.ensures.2 (ap (λ m. m.1) kept.1),
       omega arith,
       (same_parts _ _ _ _ (rw last at kept.3)).0,
-      c.push_reserved.ensures.items ∙ (λ i. kept.4 i ++ record { gate = (c.split_seat-own.ensures.3 ∙ kept.0) i; at = seat.1 i } ∷ []) ∙ sym (first_more c.args.seat.now.table_id (keeper_in c.args.seat.now.me.0).tags c.loop-line.line),
+      c.push_reserved.ensures.items ∙ (λ i. kept.4 i ++ record { gate = (c.split_seat-own.ensures.3 ∙ kept.0) i; at = seat.1 i } ∷ []) ∙ sym (first_more c.args.seat.now.table_id (keeper_in c.args.seat.now.me.0).tags (keeper_in c.args.seat.now.me.0).rights c.loop-line.line),
       ap length c.push_reserved.ensures.items ∙ length-append c.loop-line.entries.items _ ∙ ap (λ n. n + 1) kept.5,
       search rules,
     )

@@ -10,7 +10,7 @@ pub exchange-requires : goal.exchange-requires
 exchange-requires g c =
     let kept = c.self.invariant in
     let told = told_in g.T.Right.tag (line_in c.self.inside.seat.me.0) c.fetch_add-word.result c.fetch_add-word.new.seat.me c.fetch_add-word.ensures.2 (sym c.moved_in.ensures.exactly ∙ c.if-moved_in.false) (sym c.closed_in.ensures.exactly ∙ c.if-closed_in.false) in
-    (search rules, (Some told.0, in_front _ _ _ _ _ told.3 kept.2))
+    (search rules, (Some told.0, in_front _ _ _ _ _ told.4 kept.2))
 
 pub returns : goal.returns
 returns g c =

@@ -1,0 +1,9 @@
+pub mod Below
+pub mod Hopping
+pub mod Lending
+pub mod NewPlaces
+pub mod Rights
+pub mod Rule
+pub mod Seating
+pub mod Sweeps
+pub mod Together

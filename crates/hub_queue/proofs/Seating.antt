@@ -1,0 +1,79 @@
+-- The posters of a mailbox that was just opened.
+use Rattle.std.proofs.Common.{◌≡◌, ℕ, suc, ◌+◌, ◌<◌, List, [], ◌∷◌, ◌++◌, map, length, reverse, get_or, refl, sym, ap, ◌∙◌, subst, arith, append_assoc, Some}
+use Rattle.std.specs.Prelude.{slice_get}
+use Rattle.std.proofs.lemmas.List.{reverse-append}
+use Rattle.atomic_blocks.specs.Laid.{WebId}
+use Rattle.atomic_table.specs.Seated.{TableId}
+use Rattle.hub_envelope.specs.declared.ids.EndId.{EndId}
+use Rattle.hub_gate.specs.GateRule.{Tags, new_line, keeper_at}
+use Rattle.hub_gate.specs.GateSeats.{EntrySeat, first_entries}
+use Rattle.hub_gate.proofs.Got.{some_is, got_or, got-map, len-map}
+use Rattle.hub_queue.specs.Mailboxes.{new_stand, new_stands, IsOpenMailbox}
+use Rattle.hub_queue.specs.Opening.{new_right, new_rights, IsOpenPlace}
+use Rattle.hub_queue.specs.Places.{PlaceSeat}
+use Rattle.hub_queue.specs.Standing.{StandSeat, IsStand}
+use Rattle.hub_queue.specs.Seats.{LineSeat, tag_of}
+use Rattle.hub_queue.proofs.Below.{many_below, at_below}
+use Rattle.hub_queue.proofs.NewPlaces.{tags_are, as_many}
+
+right_at : (web : WebId) (e k n i : ℕ) → i < n → slice_get (new_rights web e k n) i ≡ Some (new_right web e k i)
+right_at web e k n i low = at_below (λ i. new_right web e k i) (λ n. new_rights web e k n) refl (λ n. refl) n i low
+
+-- the entry of a line of a gate with these tags and rights
+abbrev entry_of : TableId → Tags → List LineSeat → ℕ → EntrySeat LineSeat
+entry_of gate tags rights i = record { gate = gate; at = new_line i (get_or tags i []) (slice_get rights i) }
+
+-- the entries of a new place are those of its lines, in order
+pub entry_at : (end : EndId) (lines : ℕ) (p : PlaceSeat) (entries : List (EntrySeat LineSeat)) → IsOpenPlace end.0 0 lines p entries → (i : ℕ) → i < length entries → slice_get entries i ≡ Some (new_stand p.keeper.gate p.queue end i).entry
+entry_at end lines p entries opened i low =
+    let rights : List LineSeat = new_rights p.queue end.0 0 lines in
+    let tags : Tags = map tag_of rights in
+    let many : length rights ≡ lines = as_many p.queue end.0 0 lines in
+    let same_count : length entries ≡ length rights = ap length opened.entries_are ∙ many_below (entry_of p.keeper.gate tags rights) (λ n. first_entries p.keeper.gate tags rights n) refl (λ n. refl) (length rights) in
+    let own : slice_get rights i ≡ Some (new_right p.queue end.0 0 i) = right_at p.queue end.0 0 lines i (omega arith) in
+    let longer = len-map tag_of rights in
+    let tagged : slice_get tags i ≡ Some (tag_of (new_right p.queue end.0 0 i)) = got-map tag_of rights i _ own in
+    let tag_is : get_or tags i [] ≡ tag_of (new_right p.queue end.0 0 i) = some_is _ _ (sym (got_or tags i [] (omega arith)) ∙ tagged) in
+    ap (λ (l : List (EntrySeat LineSeat)). slice_get l i) opened.entries_are
+    ∙ at_below (entry_of p.keeper.gate tags rights) (λ n. first_entries p.keeper.gate tags rights n) refl (λ n. refl) (length rights) i (omega arith)
+    ∙ (λ j. Some (record { gate = p.keeper.gate; at = new_line i (tag_is j) (own j) }))
+
+-- as many entries as lines
+pub many_entries : (end : EndId) (lines : ℕ) (p : PlaceSeat) (entries : List (EntrySeat LineSeat)) → IsOpenPlace end.0 0 lines p entries → length entries ≡ lines
+many_entries end lines p entries opened =
+    let rights : List LineSeat = new_rights p.queue end.0 0 lines in
+    ap length opened.entries_are ∙ many_below (entry_of p.keeper.gate (map tag_of rights) rights) (λ n. first_entries p.keeper.gate (map tag_of rights) rights n) refl (λ n. refl) (length rights) ∙ as_many p.queue end.0 0 lines
+
+-- what is popped off the list that was turned round is the next of the list
+pub next_is : {A : Type 0} (all done before left : List A) (x : A) → all ≡ done ++ reverse before → before ≡ left ++ x ∷ [] → (all ≡ (done ++ x ∷ []) ++ reverse left) × (slice_get all (length done) ≡ Some x)
+next_is {A = A} all done before left x is last =
+    let turned : reverse before ≡ x ∷ reverse left = ap reverse last ∙ reverse-append left (x ∷ []) in
+    let parts : all ≡ done ++ x ∷ reverse left = is ∙ ap (λ (l : List A). done ++ l) turned in
+    (parts ∙ sym (append_assoc done (x ∷ []) (reverse left)), ap (λ (l : List A). slice_get l (length done)) parts ∙ here done x (reverse left))
+  where
+    here : (xs : List A) (y : A) (ys : List A) → slice_get (xs ++ y ∷ ys) (length xs) ≡ Some y
+    here [] y ys = refl
+    here (z ∷ xs) y ys = here xs y ys
+
+-- the first lines of an end, and one more
+pub stands_more : (gate : TableId) (web : WebId) (end : EndId) (line : ℕ) → new_stands gate web end (line + 1) ≡ new_stands gate web end line ++ new_stand gate web end line ∷ []
+stands_more gate web end line = let e : line + 1 ≡ suc line = omega arith in ap (new_stands gate web end) e
+
+-- a line that has just got its entry stands at the queue
+pub stand_holds : (gate : TableId) (web : WebId) (end : EndId) (line : ℕ) (entry : EntrySeat LineSeat) → entry ≡ (new_stand gate web end line).entry → IsStand (record { name = record { end = end; epoch = 0; line = record { 0 = line } }; entry = entry })
+stand_holds gate web end line entry is = subst (λ (x : EntrySeat LineSeat). IsStand (record { name = record { end = end; epoch = 0; line = record { 0 = line } }; entry = x })) (sym is) (record {
+  home = refl;
+  name = record { end = refl; epoch = refl; line = refl };
+  line = refl;
+})
+
+pub mailbox_opened : (end : EndId) (lines : ℕ) (p : PlaceSeat) (entries : List (EntrySeat LineSeat)) (posters : List StandSeat) → IsOpenPlace end.0 0 lines p entries → posters ≡ new_stands p.keeper.gate p.queue end p.at.lines → IsOpenMailbox end lines (record { end = end.0; epoch = 0; places = p ∷ [] }) posters
+mailbox_opened end lines p entries posters opened posters_are =
+    let same : p.at.lines ≡ lines = ap (λ t. t.lines) opened.at in
+    let rights : List LineSeat = new_rights p.queue end.0 0 lines in record {
+      place = p;
+      taker_is = refl;
+      at = opened.at;
+      keeper = opened.keeper ∙ (λ i. keeper_at (tags_are p.queue end.0 0 lines i) rights (as_many p.queue end.0 0 lines i));
+      posters_are = posters_are ∙ ap (new_stands p.keeper.gate p.queue end) same;
+    }

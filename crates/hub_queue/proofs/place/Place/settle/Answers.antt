@@ -1,0 +1,22 @@
+use Rattle.std.proofs.Common.{◌≡◌, ap, sym, ◌∙◌, subst, true}
+use Rattle.std.specs.Prelude.{length}
+use Rattle.hub_queue.specs.Places.{tags_of}
+use Rattle.hub_queue.specs.Seats.{take_in}
+use Rattle.hub_queue.specs.Settling.{looked, knowing, KnowsAll}
+use Rattle.hub_queue.proofs.Rights.{tags_by_count, knows_all}
+use Rattle.hub_queue.proofs.place.Place.settle.Goals as goal
+
+pub take_in_all-requires-clause-rights : goal.take_in_all-requires-clause-rights
+take_in_all-requires-clause-rights c =
+    let kept = c.self.invariant in
+    tags_by_count _ _ _ _ kept.2 c.in-Rights.ensures.tags ∙ (λ i. tags_of (sym c.deref.ensures i).lines.web (length c.in-Rights.rights.items))
+
+pub returns-in-Rights : goal.returns-in-Rights
+returns-in-Rights c =
+    let kept = c.self.invariant in
+    let at : take_in c.take_in_all.new.pass.me.view.client ≡ knowing (take_in c.self.inside.pass.me.view.client) c.in-Rights.rights.items = ap take_in c.take_in_all.ensures.taker in (
+      c.in-Rights.ensures.word,
+      c.in-Rights.rights.items,
+      λ i. record { queue = (c.self.view_is i).queue; at = (at ∙ (λ j. knowing ((c.self.view_is j).at) c.in-Rights.rights.items)) i; keeper = (c.in-Rights.ensures.keeper ∙ (λ j. looked ((c.self.view_is j).keeper) c.in-Rights.ensures.word true)) i },
+      subst KnowsAll (sym at) (knows_all _ (take_in c.self.inside.pass.me.view.client) _ (c.in-Rights.ensures.tags ∙ kept.2.tags)),
+    )

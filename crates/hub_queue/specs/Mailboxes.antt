@@ -1,0 +1,31 @@
+-- What a mailbox is as it is opened.
+use Rattle.std.specs.Prelude.{◌≡◌, ℕ, zero, suc, List, [], ◌∷◌, ◌++◌, Some}
+use Rattle.atomic_blocks.specs.Laid.{WebId}
+use Rattle.atomic_table.specs.Seated.{TableId}
+use Rattle.hub_envelope.specs.declared.ids.EndId.{EndId}
+use Rattle.hub_gate.specs.GateRule.{new_line, keeper_at}
+use Rattle.hub_queue.specs.Opening.{new_right, new_rights, new_take}
+use Rattle.hub_queue.specs.Places.{PlaceSeat, tags_of}
+use Rattle.hub_queue.specs.Seats.{tag_of}
+use Rattle.hub_queue.specs.Standing.{StandSeat}
+use Rattle.hub_queue.specs.Taking.{TakerSeat}
+
+-- a line at the first queue of an end, which has put nothing there
+abbrev pub new_stand : TableId → WebId → EndId → ℕ → StandSeat
+new_stand gate web end line = record {
+  name = record { end = end; epoch = 0; line = record { 0 = line } };
+  entry = record { gate = gate; at = new_line line (tag_of (new_right web end.0 0 line)) (Some (new_right web end.0 0 line)) };
+}
+
+-- the first lines of an end
+abbrev pub new_stands : TableId → WebId → EndId → ℕ → List StandSeat
+new_stands gate web end zero = []
+new_stands gate web end (suc line) = new_stands gate web end line ++ new_stand gate web end line ∷ []
+
+-- The end has one queue, of epoch 0, in which nothing was put and which is disabled; its gate is that of the posters, one for each line.
+pub record IsOpenMailbox (end : EndId) (lines : ℕ) (taker : TakerSeat) (posters : List StandSeat) : Type 0 where
+  pub place : PlaceSeat
+  pub taker_is : taker ≡ record { end = end.0; epoch = 0; places = place ∷ [] }
+  pub at : place.at ≡ new_take end.0 0 lines
+  pub keeper : place.keeper.at ≡ keeper_at (tags_of place.queue lines) (new_rights place.queue end.0 0 lines) lines
+  pub posters_are : posters ≡ new_stands place.keeper.gate place.queue end lines

@@ -1,0 +1,36 @@
+-- What a meeting of a poster and a taker comes to.
+use Rattle.std.specs.Prelude.{◌≡◌, ◌<◌, ◌≤◌, List, ◌∷◌, length}
+use Rattle.hub_core.specs.Sender.{by, Prefix}
+use Rattle.hub_gate.specs.declared.entered.Refusal.{Refusal}
+use Rattle.hub_queue.specs.declared.meeting.Meeting.{Meeting}
+use Rattle.hub_queue.specs.declared.meeting.Meeting.TheVariants.{Strangers, Turned, Met}
+use Rattle.hub_queue.specs.Places.{PlaceSeat}
+use Rattle.hub_queue.specs.Posting.{StaysAt, HasSeen}
+use Rattle.hub_queue.specs.Standing.{StandSeat, put_of, right_of}
+use Rattle.hub_queue.specs.Taking.{TakerSeat}
+
+-- the poster stands at the queue of the taker's end and epoch
+abbrev pub IsAtTaker : StandSeat → TakerSeat → Type 0
+IsAtTaker s t = (s.name.end.0 ≡ t.end) × (s.name.epoch ≡ t.epoch)
+
+-- where end and epoch agree, the poster is of the taker's first queue
+abbrev pub AreOfOne : StandSeat → TakerSeat → Type 0
+AreOfOne s t = IsAtTaker s t → (p : PlaceSeat) × (rest : List PlaceSeat) × (t.places ≡ p ∷ rest) × ((right_of s).queue ≡ p.queue)
+
+-- the poster has gone in and out, or was turned, and has put nothing
+pub record IsOutAgain (old new : StandSeat) : Type 0 where
+  pub stays : StaysAt old new
+  pub put : put_of new ≡ put_of old
+  pub entered : old.entry.at.enters < new.entry.at.enters
+
+-- Strangers: exactly where end or epoch differ. Turned: the poster has seen MOVED or CLOSED in this call. Met: how many envelopes the line has put and how many of them were taken; what was taken of the line is a prefix of what it has put. The taker is as it was.
+abbrev pub HaveMet : StandSeat → StandSeat → TakerSeat → TakerSeat → Meeting → Type 0
+HaveMet old new before after Strangers = (¬ IsAtTaker old before) × (new ≡ old) × (after ≡ before)
+HaveMet old new before after Turned = IsAtTaker old before × StaysAt old new × (put_of new ≡ put_of old) × ((flag : Refusal) × HasSeen new old.entry.at.enters flag) × (after ≡ before)
+HaveMet old new before after (Met put got) = IsAtTaker old before × IsOutAgain old new × (after ≡ before)
+    × ((p : PlaceSeat) × (rest : List PlaceSeat) × (before.places ≡ p ∷ rest) × Prefix (by old.name.line.0 p.at.got) (put_of old).put × (put ≡ length (put_of old).put) × (got ≡ length (by old.name.line.0 p.at.got)))
+
+-- The poster is of the taker's first queue or of a later one. A poster and a taker that one `Mailbox::open` gave are so, and each post, start and take leaves them so.
+pub record AreTogether (s : StandSeat) (t : TakerSeat) : Type 0 where
+  pub of_one : AreOfOne s t
+  pub not_before : t.epoch ≤ s.name.epoch

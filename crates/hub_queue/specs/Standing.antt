@@ -1,0 +1,49 @@
+-- Where a line stands, and what it has put there.
+use Rattle.std.specs.Prelude.{◌≡◌, ◌+◌, [], Option, Some, None}
+use Rattle.hub_depot.specs.declared.key.Key.{Key}
+use Rattle.hub_gate.specs.GateRule.{new_line}
+use Rattle.hub_gate.specs.GateSeats.{EntrySeat}
+use Rattle.hub_queue.specs.declared.pass_view.PutView.{PutView}
+use Rattle.hub_queue.specs.Seats.{LineSeat, IsNameOf}
+
+-- the name of the line at the queue where it stands, and its entry at the gate of that queue
+pub record StandSeat : Type 0 where
+  pub name : Key
+  pub entry : EntrySeat LineSeat
+
+-- the right of an entry that is out, which is at home
+abbrev pub right_in : Option LineSeat → LineSeat
+right_in (Some r) = r
+right_in None = record { queue = (0, 0); at = record { end = 0; epoch = 0; line = 0; put = [] } }
+
+abbrev pub right_of : StandSeat → LineSeat
+right_of s = right_in s.entry.at.home
+
+-- what the line has put in the queue where it stands
+abbrev pub put_of : StandSeat → PutView
+put_of s = (right_of s).at
+
+-- the line has its right at home, and the name is that of its queue and its line
+pub record IsStand (s : StandSeat) : Type 0 where
+  pub home : s.entry.at.home ≡ Some (right_of s)
+  pub name : IsNameOf (put_of s) s.name
+  pub line : s.entry.at.line ≡ s.name.line.0
+
+-- the line has put nothing there, and has never entered
+pub record IsUnused (s : StandSeat) : Type 0 where
+  pub put : (put_of s).put ≡ []
+  pub enters : s.entry.at.enters ≡ 0
+
+-- the stand of a line at the next queue of its end, which is not used yet
+pub record IsNext (name : Key) (s : StandSeat) : Type 0 where
+  pub name_is : s.name ≡ record { end = name.end; epoch = name.epoch + 1; line = name.line }
+  pub named : IsNameOf (put_of s) s.name
+  pub unused : IsUnused s
+
+-- where the line of a poster stands
+abbrev pub stand_in : Option StandSeat → StandSeat
+stand_in (Some s) = s
+stand_in None = record {
+  name = record { end = record { 0 = 0 }; epoch = 0; line = record { 0 = 0 } };
+  entry = record { gate = record { words = 0; slots = 0; views_name = 0; atom = 0; block = 0; offset = 0; slot_names = [] }; at = new_line 0 [] None };
+}

@@ -1,0 +1,52 @@
+//! Mailboxes for running threads: a queue at an end, posters that put envelopes there, one for each
+//! line, and a taker that takes them.
+//!
+//! A gate stands before each queue and keeps for each line the right to push, so that an end can be
+//! closed while posters are inside, and swept once none is. A mailbox has one queue so far.
+#![tactic(auto)]
+
+mod bell;
+mod ends;
+mod grave;
+mod limits;
+mod line_right;
+mod mailbox;
+mod meeting;
+mod onward;
+mod opening;
+mod pass_view;
+mod pause;
+mod place;
+mod pop;
+mod post_error;
+mod posted;
+mod poster;
+mod posting;
+mod queue_rule;
+mod settling;
+mod stand;
+mod steps;
+mod store;
+mod swept;
+mod taker;
+mod took;
+
+pub use bell::Bell;
+pub use ends::Ends;
+pub use grave::{Grave, Sweep};
+pub use hub_core::{MAX_HOPS, MAX_LINES};
+pub use limits::MAX_PUT;
+pub use line_right::LineRight;
+pub use mailbox::Mailbox;
+pub use meeting::{Meeting, meet};
+pub use onward::Onward;
+pub use pause::{NoPause, Pause, Point};
+pub use place::Place;
+pub use post_error::PostError;
+pub use posted::Posted;
+pub use poster::Poster;
+pub use stand::Stand;
+pub use steps::Steps;
+pub use swept::Swept;
+pub use taker::Taker;
+pub use took::Took;

@@ -1,0 +1,112 @@
+ghost use Rattle.std.specs.Prelude.{◌≡◌};
+ghost use Rattle.hub_queue.specs.Putting.{IsPut, unnamed};
+
+use crate::limits::MAX_PUT;
+use crate::posted::Posted;
+use crate::queue_rule::Put;
+use crate::store::{Pass, Store};
+use hub_depot::Key;
+use hub_envelope::{Draft, Envelope};
+use hub_gate::Right;
+use std::marker::Model;
+use std::sync::{Arc, Wait};
+
+/// What the gate of a queue keeps for a line: the line's pass, with the queue that it is of.
+/// Whoever is inside has it in hand, so that a line pushes only between entering and leaving.
+#[derive(Drop)]
+pub struct LineRight {
+    pub(crate) store: Arc<Store>,
+    pub(crate) pass: Pass,
+    pub(crate) name: Key,
+    /// How many envelopes the line has put in this queue.
+    pub(crate) number: u64,
+}
+
+impl Model for LineRight {
+    ghost use Rattle.std.specs.Prelude.{◌≡◌, length};
+    ghost use Rattle.std.specs.Arc.{arc_value};
+    ghost use Rattle.crossbeam_queue.specs.SegTies.{IsSegPassOf};
+    ghost use Rattle.hub_queue.specs.declared.pass_view.PassView.TheVariants.{Puts};
+    ghost use Rattle.hub_queue.specs.Seats.{LineSeat, IsNameOf, known_by, put_in};
+
+    ghost Value = { LineSeat };
+
+    ghost view = { λ r. record {
+      queue = (arc_value r.store).lines.web;
+      at = put_in (known_by r.pass);
+    } };
+
+    ghost invariant = { λ r. IsSegPassOf (arc_value r.store).lines r.pass
+        × (known_by r.pass ≡ Puts (put_in (known_by r.pass)))
+        × IsNameOf (put_in (known_by r.pass)) r.name
+        × (r.number ≡ length (put_in (known_by r.pass)).put) };
+}
+
+impl Right for LineRight {
+    ghost use Rattle.hub_queue.specs.Seats.{tag_of};
+
+    ghost tag = { tag_of };
+}
+
+// The draft that an envelope was made of.
+fn draft_of(envelope: Envelope) -> Draft
+    ensures { result ≡ unnamed envelope }
+{
+    let Envelope {
+        end: _,
+        epoch: _,
+        line: _,
+        number: _,
+        agent,
+        body,
+        ports,
+        notice,
+    } = envelope;
+    Draft {
+        agent,
+        body,
+        ports,
+        notice,
+    }
+}
+
+impl LineRight {
+    /// Puts the draft in the queue, under the next name of the line. `Err`: there was no memory, or
+    /// the line has put `MAX_PUT` envelopes there. The draft comes back, and nothing was put.
+    pub(crate) fn put<R: Wait>(&mut self, rt: &R, draft: Draft) -> Result<Posted, Draft>
+        ensures queue { self.new.queue ≡ self.old.queue }
+        ensures put { IsPut self.old.at self.new.at draft result }
+    {
+        let number = self.number;
+        if number >= MAX_PUT {
+            return Err(draft);
+        }
+        let Key { end, epoch, line } = self.name;
+        let envelope = Envelope {
+            end,
+            epoch,
+            line,
+            number,
+            agent: draft.agent,
+            body: draft.body,
+            ports: draft.ports,
+            notice: draft.notice,
+        };
+        match self
+            .store
+            .lines
+            .push_as::<Put, R>(rt, &mut self.pass, envelope)
+        {
+            Ok(()) => {
+                self.number = number + 1;
+                Ok(Posted {
+                    end,
+                    epoch,
+                    line,
+                    number,
+                })
+            }
+            Err(envelope) => Err(draft_of(envelope)),
+        }
+    }
+}

@@ -1,0 +1,70 @@
+ghost use Rattle.std.specs.Prelude.{◌≡◌, length};
+ghost use Rattle.hub_core.specs.Sender.{by, Prefix};
+ghost use Rattle.hub_queue.specs.Meetings.{AreOfOne, HaveMet};
+
+use crate::line_right::LineRight;
+use crate::place::Place;
+use crate::poster::Poster;
+use crate::queue_rule::{Compare, GiveBack, Lend};
+use crate::stand::Stand;
+use crate::taker::Taker;
+use hub_gate::Entered;
+use std::sync::Wait;
+
+/// What a meeting of a poster and a taker came to.
+#[derive(Clone, Copy, Debug, PartialEq, Eq)]
+pub enum Meeting {
+    /// They are of different ends or of different queues of one end.
+    Strangers,
+    /// The poster was turned at the gate: the queue is retired or the end closed.
+    Turned,
+    /// They are of one queue. The line has put so many envelopes there, and so many of them were
+    /// taken, which are the first ones.
+    Met { put: u64, got: u64 },
+}
+
+// Lends the pass of a line to the taker's for one look at the queue: what was taken of the line is
+// a prefix of what it has put. It says how many were put and taken. Both passes are as they were.
+fn compare<R: Wait>(rt: &R, place: &mut Place, right: &mut LineRight) -> (u64, u64)
+    requires queue { right.old.queue ≡ place.old.queue }
+    ensures same { (place.new ≡ place.old) × (right.new ≡ right.old) }
+    ensures prefix { Prefix (by right.old.at.line place.old.at.got) right.old.at.put }
+    ensures put { result.0 ≡ length right.old.at.put }
+    ensures got { result.1 ≡ length (by right.old.at.line place.old.at.got) }
+{
+    let lines = &place.store.lines;
+    let lent = lines.another::<Lend>(&mut right.pass);
+    lines.absorb::<Compare>(&mut place.pass, lent);
+    lines.len_as::<Compare, R>(rt, &mut place.pass);
+    right.pass = lines.another::<GiveBack>(&mut place.pass);
+    (right.number, place.taken[right.name.line.0 as usize])
+}
+
+/// Compares what a poster has put with what a taker has taken, where both stand at one queue. The
+/// poster goes in and out for it.
+///
+/// `Strangers` exactly where the end or the epoch differs. Where both agree the two must be of one
+/// queue, as those are that one `Mailbox::open` gave.
+pub fn meet<R: Wait>(rt: &R, poster: &mut Poster, taker: &mut Taker) -> Meeting
+    requires { AreOfOne poster.old taker.old }
+    ensures { HaveMet poster.old poster.new taker.old taker.new result }
+{
+    let stand = poster.stand.take().unwrap();
+    if stand.name.end != taker.end || stand.name.epoch != taker.epoch {
+        poster.stand = Some(stand);
+        return Meeting::Strangers;
+    }
+    let Stand { name, entry, bell } = stand;
+    match entry.enter() {
+        Entered::In(mut inside) => {
+            let (put, got) = compare(rt, &mut taker.newest, inside.right_mut());
+            let (entry, _) = inside.leave();
+            poster.stand = Some(Stand { name, entry, bell });
+            Meeting::Met { put, got }
+        }
+        Entered::Turned(entry, _) => {
+            poster.stand = Some(Stand { name, entry, bell });
+            Meeting::Turned
+        }
+    }
+}

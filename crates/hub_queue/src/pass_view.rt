@@ -1,0 +1,31 @@
+//! What the passes of a queue know. It stands in proofs alone: no value of it is made, so its
+//! numbers have no bound, and an array is a list of any length.
+use hub_envelope::Envelope;
+
+/// What the pass of a line knows: the queue's end and epoch, the line, and what the line has put.
+pub struct PutView {
+    pub end: u32,
+    pub epoch: u32,
+    pub line: u8,
+    pub put: [Envelope; 0],
+}
+
+/// What the taker's pass knows: the queue's end and epoch, how many lines have got a pass, what was
+/// taken, and of each pass that it has taken in for good what its line has put.
+pub struct TakeView {
+    pub end: u32,
+    pub epoch: u32,
+    pub lines: u8,
+    pub got: [Envelope; 0],
+    pub known: [PutView; 0],
+}
+
+/// What a pass knows, by what may be done with it.
+pub enum PassView {
+    Takes(TakeView),
+    Puts(PutView),
+    /// The taker's pass while a line's pass is lent to it.
+    Both(TakeView, PutView),
+    /// Nothing may be done with it any more.
+    Spent,
+}

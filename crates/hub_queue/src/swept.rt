@@ -1,0 +1,54 @@
+use crate::place::Place;
+use hub_envelope::{EndId, Envelope};
+use std::marker::Model;
+
+/// What is left of an end that is closed and empty. Only `Grave::sweep` makes one.
+#[derive(Drop)]
+pub struct Swept {
+    pub(crate) end: EndId,
+    pub(crate) envelopes: Vec<Envelope>,
+    pub(crate) newest: Place,
+}
+
+impl Model for Swept {
+    ghost use Rattle.std.specs.Prelude.{[], ◌∷◌};
+    ghost use Rattle.hub_queue.specs.Graves.{SweptSeat};
+
+    ghost Value = { SweptSeat };
+
+    ghost view = { λ s. record {
+      end = s.end.0;
+      envelopes = s.envelopes.items;
+      places = s.newest ∷ [];
+    } };
+}
+
+impl Swept {
+    ghost use Rattle.std.specs.Prelude.{◌≡◌};
+
+    /// The end that was closed.
+    pub fn end(&self) -> EndId
+        ensures { result.0 ≡ self.now.end }
+    {
+        self.end
+    }
+
+    /// The envelopes that were discarded, in the order in which the queue held them.
+    pub fn envelopes(&self) -> &[Envelope]
+        ensures { result.now ≡ self.now.envelopes }
+    {
+        self.envelopes.as_slice()
+    }
+
+    /// The same, as a list of the caller's own.
+    pub fn into_envelopes(self) -> Vec<Envelope>
+        ensures { result.items ≡ self.envelopes }
+    {
+        let Swept {
+            end: _,
+            envelopes,
+            newest: _,
+        } = self;
+        envelopes
+    }
+}
