@@ -9,14 +9,16 @@ use Rattle.hub_core.specs.declared.line.Line.{Line}
 use Rattle.hub_core.specs.declared.end.End.{End}
 use Rattle.hub_core.specs.declared.listing.Listing.TheVariants.{Good, HoldsTarget, Bad}
 use Rattle.hub_core.specs.declared.sender.Sender.{Sender}
+use Rattle.hub_core.specs.declared.kind.Kind.{Kind}
 use Rattle.hub_core.specs.Facts.{EndNow, LineNow, Facts}
 use Rattle.hub_core.specs.Place.{names}
 use Rattle.hub_core.specs.Posting.{is_out, phase_of_line, is_distinct, may_leave_agent, may_post, listing_of, listing}
 use Rattle.hub_core.specs.Shows.{ShowsFacts, line_now}
-use Rattle.hub_core.specs.Kept.{kept_poster_of, kept_comes, kept_comes_at, kept_may_post, kept_all_leave, kept_listing_by, kept_listing_at, kept_listing}
+use Rattle.hub_core.specs.Kept.{source_of, kept_poster_of, kept_comes, kept_comes_at, kept_may_post, kept_all_leave, kept_listing_by, kept_listing_at, kept_listing}
 use Rattle.hub_core.proofs.Frames.{ShownAt}
 use Rattle.hub_core.proofs.Holders.{poster_kept}
 use Rattle.hub_core.proofs.Travels.{leave_kept}
+use Rattle.hub_core.specs.Made.{peer_of}
 
 -- ---- posting
 
@@ -50,7 +52,7 @@ leave_more false true distinct all = refl
 leave_more false false true all = refl
 leave_more false false false all = refl
 
-all_leave : (agents : List Agent) (ends : List End) (f : Facts) (a : AgentId) (s : Sender) (source : EndId) → ShowsFacts agents ends f → (f.end s.end.0).peer ≡ Some source.0 → (ports : List EndId) → kept_all_leave ends a source ports ≡ (is_distinct ports && list_all (may_leave_agent f a s) ports)
+all_leave : (agents : List Agent) (ends : List End) (f : Facts) (a : AgentId) (s : Sender) (source : Kind) → ShowsFacts agents ends f → (f.end s.end.0).kind ≡ Some source → (ports : List EndId) → kept_all_leave ends a (source_of source) ports ≡ (is_distinct ports && list_all (may_leave_agent f a s) ports)
 all_leave agents ends f a s source h from [] = refl
 all_leave agents ends f a s source h from (p ∷ ps) =
     rw (leave_kept agents ends f a s source p h from, all_leave agents ends f a s source h from ps)
@@ -59,7 +61,7 @@ all_leave agents ends f a s source h from (p ∷ ps) =
 list_by : (agents : List Agent) (ends : List End) (f : Facts) (s : Sender) (ports : List EndId) (x : End) → ShowsFacts agents ends f → ShownAt f s.end.0 (Some x) → (p : Option AgentId) → kept_listing_by ends s ports x p ≡ listing_of f s ports p
 list_by agents ends f s ports x h shown None = refl
 list_by agents ends f s ports x h shown (Some a) =
-    ap (λ b. cond (not b) Bad (cond (names ports s.end.0) HoldsTarget Good)) (all_leave agents ends f a s x.peer h (ap (λ (z : EndNow). z.peer) shown.same) ports)
+    ap (λ b. cond (not b) Bad (cond (names ports s.end.0) HoldsTarget Good)) (all_leave agents ends f a s x.kind h (ap (λ (z : EndNow). z.kind) shown.same) ports)
 
 list_end : (agents : List Agent) (ends : List End) (f : Facts) (s : Sender) (ports : List EndId) → ShowsFacts agents ends f → (o : Option End) → ShownAt f s.end.0 o → kept_listing_at ends s ports (kept_poster_of agents ends s.line.0 o) o ≡ listing_of f s ports (kept_poster_of agents ends s.line.0 o)
 list_end agents ends f s ports h None shown = refl

@@ -13,26 +13,40 @@ use Rattle.hub_core.specs.declared.end.Place.TheVariants.{Gone}
 use Rattle.hub_core.specs.declared.step.Action.TheVariants as action
 use Rattle.hub_core.specs.declared.outcome.Outcome.TheVariants as outcome
 use Rattle.hub_core.specs.Facts.{EndNow, LineNow, Facts}
-use Rattle.hub_core.specs.Posting.{is_here, own_poster_out}
-use Rattle.hub_core.specs.Moving.{may_close, close_answer}
-use Rattle.hub_core.specs.Sound.{no_end}
+use Rattle.hub_core.specs.Posting.{is_here, own_poster_out, is_with}
+use Rattle.hub_core.specs.Moving.{may_close, close_answer, is_released}
+use Rattle.hub_core.specs.Sound.{no_end, SoundPlaces}
 use Rattle.hub_core.specs.Shows.{end_now, ShowsEnd, ShowsFacts}
 use Rattle.hub_core.specs.Unchanged.{changes_nothing}
-use Rattle.hub_core.specs.Kept.{kept_may_close_of, kept_may_close, closed_end, close_outcome_at, close_ends_at}
+use Rattle.hub_core.specs.Kept.{kept_may_close_of, kept_may_close, closed_end, close_outcome_at, close_ends_at, close_agents, gone, kept_released}
 use Rattle.hub_core.proofs.Lists.{eqb_same, set_again, each_set, is_there}
-use Rattle.hub_core.proofs.Frames.{ShownAt, Stepped, changed, unchanged}
+use Rattle.hub_core.proofs.Frames.{ShownAt, Stepped, changed, unchanged, recounted}
 use Rattle.hub_core.proofs.Travels.{own_end}
+use Rattle.hub_core.specs.Made.{peer_of}
+use Rattle.hub_core.specs.declared.kind.Kind.{Kind}
+use Rattle.hub_core.specs.declared.outcome.Outcome.{Outcome}
+use Rattle.hub_core.proofs.Counts.{Went, gone_length, gone_now, counted_went, counts_of}
+use Rattle.hub_core.proofs.Nexts.{next}
+use Rattle.hub_core.proofs.Speakers.{placed_made}
+use Rattle.hub_core.specs.declared.kind.Kind.TheVariants.{Port, Client, Worker}
 
 -- ---- whether an end can be closed
 
-may_end : (agents : List Agent) (ends : List End) (f : Facts) (e : ℕ) → ShowsFacts agents ends f → (o : Option End) → ShownAt f e o → kept_may_close_of ends o ≡ may_close f e
-may_end agents ends f e h None at = sym (ap (λ (y : EndNow). is_here y.place && own_poster_out f y.peer) at.same)
-may_end agents ends f e h (Some x) at =
-    let peer : (f.end e).peer ≡ Some x.peer.0 = ap (λ (y : EndNow). y.peer) at.same in
-    let made : x.peer.0 < f.ends = (h.sound.places.peers e x.peer.0 peer).0 in
+-- whether the own poster of an end is out, where the end is a port
+released_kept : (agents : List Agent) (ends : List End) (f : Facts) (e : ℕ) → ShowsFacts agents ends f → (k : Kind) → (f.end e).kind ≡ Some k → kept_released ends k ≡ is_released f (Some k)
+released_kept agents ends f e h (Port q) is =
+    let back = h.sound.places.peers e q.0 (ap peer_of is) in
+    let made : q.0 < f.ends = back.0 in
     let count : f.ends ≡ length ends = h.ends in
-    ap (λ b. is_here (Some x.place) && b) (own_end f x.peer.0 (slice_get ends x.peer.0) (h.end x.peer.0) (is_there ends x.peer.0 (omega arith)))
-    ∙ ap (λ (y : EndNow). is_here y.place && own_poster_out f y.peer) (sym at.same)
+    own_end f q.0 e (slice_get ends q.0) (h.end q.0) back.1 (is_there ends q.0 (omega arith))
+released_kept agents ends f e h Client is = refl
+released_kept agents ends f e h Worker is = refl
+
+may_end : (agents : List Agent) (ends : List End) (f : Facts) (e : ℕ) → ShowsFacts agents ends f → (o : Option End) → ShownAt f e o → kept_may_close_of ends o ≡ may_close f e
+may_end agents ends f e h None at = sym (ap (λ (y : EndNow). is_here y.place && is_released f y.kind) at.same)
+may_end agents ends f e h (Some x) at =
+    ap (λ b. is_here (Some x.place) && b) (released_kept agents ends f e h x.kind (ap (λ (y : EndNow). y.kind) at.same))
+    ∙ ap (λ (y : EndNow). is_here y.place && is_released f y.kind) (sym at.same)
 
 pub may_close_kept : (agents : List Agent) (ends : List End) (f : Facts) (e : ℕ) → ShowsFacts agents ends f → kept_may_close ends e ≡ may_close f e
 may_close_kept agents ends f e h = may_end agents ends f e h (slice_get ends e) (h.end e)
@@ -48,16 +62,32 @@ shut_one now line clear vs ts x h = record {
   queues = record { reached = h.queues.reached; clear_below = h.queues.clear_below; count = λ opened. absurd (false≢true (sym opened)); inside = h.queues.inside; behind = h.queues.behind; each = h.queues.each };
 }
 
-shut_shown : (agents : List Agent) (ends : List End) (f : Facts) (e : EndId) (refused : Bool) (x : End) → ShowsFacts agents ends f → slice_get ends e.0 ≡ Some x → outcome.Done ≡ close_answer f e → Stepped agents (set ends e.0 (closed_end x)) f (action.Close e) refused outcome.Done
+-- the end went
+shut_went : (f : Facts) (e : EndId) (x : End) → SoundPlaces f → f.end e.0 ≡ end_now (Some x) → Went f (next f (action.Close e) outcome.Done) e.0 x.kind x.place
+shut_went f e x h same = record {
+  made = placed_made f e.0 x.place h (ap (λ (y : EndNow). y.place) same);
+  ends = refl;
+  was = ap (λ (y : EndNow). y.kind) same;
+  from = ap (λ (y : EndNow). y.place) same;
+  is = ap (λ (y : EndNow). y.kind) same;
+  nowhere = λ a. ap (λ b. is_with a (cond b (Some Gone) (f.end e.0).place)) (eqb_same e.0);
+  kinds = λ d far. refl;
+  places = λ d far. ap (λ b. cond b (Some Gone) (f.end d).place) (ne_eqb d e.0 far);
+}
+
+shut_shown : (agents : List Agent) (ends : List End) (f : Facts) (e : EndId) (refused : Bool) (x : End) → ShowsFacts agents ends f → slice_get ends e.0 ≡ Some x → outcome.Done ≡ close_answer f e → Stepped (gone x.kind x.place agents) (set ends e.0 (closed_end x)) f (action.Close e) refused outcome.Done
 shut_shown agents ends f e refused x h at answer =
-    changed agents ends (set ends e.0 (closed_end x)) f (action.Close e) refused outcome.Done h answer refl refl refl (length-set ends e.0 (closed_end x))
+    let shown : ShownAt f e.0 (Some x) = subst (ShownAt f e.0) at (h.end e.0) in
+    recounted agents (gone x.kind x.place agents) ends (set ends e.0 (closed_end x)) f (action.Close e) refused outcome.Done h answer refl refl
+    (gone_length x.kind x.place agents) (gone_now x.kind x.place agents) (h.ends ∙ sym (length-set ends e.0 (closed_end x)))
+    (counted_went agents f (next f (action.Close e) outcome.Done) e.0 x.kind x.place (shut_went f e x h.sound.places shown.same) (counts_of agents ends f h))
     (each_set (λ d q. ShowsEnd (record (f.end d) { closed = cond (eqb d e.0) true (f.end d).closed; place = cond (eqb d e.0) (Some Gone) (f.end d).place }) (f.line d) (f.clear d) (f.accepted d) (f.taken d ++ f.discarded d) q) ends e.0 (closed_end x) (slice_get_within ends e.0 x at)
-    (subst (λ b. ShowsEnd (record (f.end e.0) { closed = cond b true (f.end e.0).closed; place = cond b (Some Gone) (f.end e.0).place }) (f.line e.0) (f.clear e.0) (f.accepted e.0) (f.taken e.0 ++ f.discarded e.0) (Some (closed_end x))) (sym (eqb_same e.0)) (shut_one (f.end e.0) (f.line e.0) (f.clear e.0) (f.accepted e.0) (f.taken e.0 ++ f.discarded e.0) x (subst (ShownAt f e.0) at (h.end e.0))))
+    (subst (λ b. ShowsEnd (record (f.end e.0) { closed = cond b true (f.end e.0).closed; place = cond b (Some Gone) (f.end e.0).place }) (f.line e.0) (f.clear e.0) (f.accepted e.0) (f.taken e.0 ++ f.discarded e.0) (Some (closed_end x))) (sym (eqb_same e.0)) (shut_one (f.end e.0) (f.line e.0) (f.clear e.0) (f.accepted e.0) (f.taken e.0 ++ f.discarded e.0) x shown))
     (λ d other. subst (λ b. ShowsEnd (record (f.end d) { closed = cond b true (f.end d).closed; place = cond b (Some Gone) (f.end d).place }) (f.line d) (f.clear d) (f.accepted d) (f.taken d ++ f.discarded d) (slice_get ends d)) (sym (ne_eqb d e.0 other)) (h.end d)))
 
 -- ---- what is answered
 
-close_by : (agents : List Agent) (ends : List End) (f : Facts) (e : EndId) (refused : Bool) (x : End) → ShowsFacts agents ends f → slice_get ends e.0 ≡ Some x → (closed may : Bool) → cond closed outcome.Closed (cond may outcome.Done outcome.NotNow) ≡ close_answer f e → Stepped agents (set ends e.0 (cond closed x (cond may (closed_end x) x))) f (action.Close e) refused (cond closed outcome.Closed (cond may outcome.Done outcome.NotNow))
+close_by : (agents : List Agent) (ends : List End) (f : Facts) (e : EndId) (refused : Bool) (x : End) → ShowsFacts agents ends f → slice_get ends e.0 ≡ Some x → (closed may : Bool) → cond closed outcome.Closed (cond may outcome.Done outcome.NotNow) ≡ close_answer f e → Stepped (close_agents agents (Some x) (cond closed outcome.Closed (cond may outcome.Done outcome.NotNow))) (set ends e.0 (cond closed x (cond may (closed_end x) x))) f (action.Close e) refused (cond closed outcome.Closed (cond may outcome.Done outcome.NotNow))
 close_by agents ends f e refused x h at true may answer = unchanged agents ends _ f (action.Close e) refused outcome.Closed outcome.Closed h refl refl (set_again ends e.0 x at) answer
 close_by agents ends f e refused x h at false false answer = unchanged agents ends _ f (action.Close e) refused outcome.NotNow outcome.NotNow h refl refl (set_again ends e.0 x at) answer
 close_by agents ends f e refused x h at false true answer = shut_shown agents ends f e refused x h at answer
@@ -67,13 +97,13 @@ close_as f e may x end is = ap (λ b. cond x.closed outcome.Closed (cond b outco
 
 -- a number that no end has can't be closed
 close_none : (f : Facts) (e : EndId) → f.end e.0 ≡ no_end → outcome.NotNow ≡ close_answer f e
-close_none f e none = ap (λ (y : EndNow). cond y.closed outcome.Closed (cond (is_here y.place && own_poster_out f y.peer) outcome.Done outcome.NotNow)) (sym none)
+close_none f e none = ap (λ (y : EndNow). cond y.closed outcome.Closed (cond (is_here y.place && is_released f y.kind) outcome.Done outcome.NotNow)) (sym none)
 
-close_at : (agents : List Agent) (ends : List End) (f : Facts) (e : EndId) (refused may : Bool) → ShowsFacts agents ends f → may ≡ may_close f e.0 → (o : Option End) → slice_get ends e.0 ≡ o → ShownAt f e.0 o → Stepped agents (close_ends_at may e.0 ends o) f (action.Close e) refused (close_outcome_at may o)
+close_at : (agents : List Agent) (ends : List End) (f : Facts) (e : EndId) (refused may : Bool) → ShowsFacts agents ends f → may ≡ may_close f e.0 → (o : Option End) → slice_get ends e.0 ≡ o → ShownAt f e.0 o → Stepped (close_agents agents o (close_outcome_at may o)) (close_ends_at may e.0 ends o) f (action.Close e) refused (close_outcome_at may o)
 close_at agents ends f e refused may h is None at shown = unchanged agents ends ends f (action.Close e) refused outcome.NotNow outcome.NotNow h refl refl refl (close_none f e shown.same)
 close_at agents ends f e refused may h is (Some x) at shown = close_by agents ends f e refused x h at x.is_closed may (close_as f e may (end_now (Some x)) shown.same is)
 
-pub close_shown : (agents : List Agent) (ends : List End) (f : Facts) (e : EndId) (refused : Bool) → ShowsFacts agents ends f → Stepped agents (close_ends_at (kept_may_close ends e.0) e.0 ends (slice_get ends e.0)) f (action.Close e) refused (close_outcome_at (kept_may_close ends e.0) (slice_get ends e.0))
+pub close_shown : (agents : List Agent) (ends : List End) (f : Facts) (e : EndId) (refused : Bool) → ShowsFacts agents ends f → Stepped (close_agents agents (slice_get ends e.0) (close_outcome_at (kept_may_close ends e.0) (slice_get ends e.0))) (close_ends_at (kept_may_close ends e.0) e.0 ends (slice_get ends e.0)) f (action.Close e) refused (close_outcome_at (kept_may_close ends e.0) (slice_get ends e.0))
 close_shown agents ends f e refused h = close_at agents ends f e refused (kept_may_close ends e.0) h (may_close_kept agents ends f e.0 h) (slice_get ends e.0) refl (h.end e.0)
 
 -- ---- what changes nothing leaves the ends
@@ -86,3 +116,8 @@ close_end_same e x false false h = refl
 pub close_same : (ends : List End) (e : EndId) (may : Bool) (q : Option End) → slice_get ends e.0 ≡ q → changes_nothing (close_outcome_at may q) (action.Close e) ≡ true → close_ends_at may e.0 ends q ≡ ends
 close_same ends e may None at h = refl
 close_same ends e may (Some x) at h = ap (set ends e.0) (close_end_same e x x.is_closed may h) ∙ set_again ends e.0 x at
+
+pub close_agents_same : (agents : List Agent) (e : EndId) (q : Option End) (o : Outcome) → changes_nothing o (action.Close e) ≡ true → close_agents agents q o ≡ agents
+close_agents_same agents e None o h = refl
+close_agents_same agents e (Some x) outcome.Done h = absurd (false≢true h)
+close_agents_same agents e (Some x) o h = refl

@@ -16,16 +16,17 @@ use Rattle.hub_core.specs.declared.end.End.{End}
 use Rattle.hub_core.specs.declared.step.Action.TheVariants as action
 use Rattle.hub_core.specs.declared.outcome.Outcome.TheVariants as outcome
 use Rattle.hub_core.specs.Facts.{EndNow, LineNow, Facts}
-use Rattle.hub_core.specs.Posting.{is_out, holder, enter_answer, leave_answer, may_enter, is_here}
+use Rattle.hub_core.specs.Posting.{is_out, holder, enter_answer, leave_answer, may_enter, is_here, poster_of}
 use Rattle.hub_core.specs.Sound.{no_end, no_line, Sound}
 use Rattle.hub_core.specs.Shows.{end_now, line_now, ShowsPut, ShowsEnd, ShowsFacts}
 use Rattle.hub_core.specs.Kept.{gate_answer, phase_of, enter_outcome, enter_end, enter_outcome_at, enter_ends_at, leave_outcome, leave_end, leave_outcome_at, leave_ends_at, may_come, kept_may_enter}
 use Rattle.hub_core.proofs.Lists.{eqb_same, set_again, each_set, is_there}
 use Rattle.hub_core.proofs.Frames.{ShownAt, Stepped, changed, unchanged}
 use Rattle.hub_core.proofs.Holders.{may_kept}
-use Rattle.hub_core.proofs.SoundLines.{phased_line, line_there}
-use Rattle.hub_core.specs.Made.{lines_of}
+use Rattle.hub_core.proofs.SoundLines.{phased_line, line_there, LinesAt}
+use Rattle.hub_core.specs.Made.{lines_of, peer_of}
 use Rattle.hub_core.proofs.Fitting.{let_in_of}
+use Rattle.hub_core.proofs.Counts.{counts_still}
 
 -- ---- a line in another phase
 
@@ -34,10 +35,10 @@ abbrev pub with_phase : End → Line → ℕ → Phase → End
 with_phase x y k p = record x { lines = set x.lines k (record y { phase = p }) }
 
 -- what the facts say of each line then
-line_phased : (old : ℕ → LineNow) (k : ℕ) (p : Phase) (l : ℕ) → (b : Bool) → eqb l k ≡ b → (o : Option Line) → (b ≡ false → old l ≡ line_now o) → (y : Line) → (b ≡ true → old k ≡ line_now (Some y)) → (b ≡ true → o ≡ Some (record y { phase = p })) → (let z : LineNow = record { phase = cond b p (old l).phase; stand = (old l).stand; noticed = (old l).noticed } in z ≡ line_now o)
+line_phased : (old : ℕ → LineNow) (k : ℕ) (p : Phase) (l : ℕ) → (b : Bool) → eqb l k ≡ b → (o : Option Line) → (b ≡ false → old l ≡ line_now o) → (y : Line) → (b ≡ true → old k ≡ line_now (Some y)) → (b ≡ true → o ≡ Some (record y { phase = p })) → (let z : LineNow = record { phase = cond b p (old l).phase; stand = (old l).stand; noticed = (old l).noticed; held_by = (old l).held_by } in z ≡ line_now o)
 line_phased old k p l true is o other y mine here =
     let same : l ≡ k = eqb-true l k is in
-    ap (λ (z : LineNow). let w : LineNow = record { phase = p; stand = z.stand; noticed = z.noticed } in w) (ap old same ∙ mine refl) ∙ ap line_now (sym (here refl))
+    ap (λ (z : LineNow). let w : LineNow = record { phase = p; stand = z.stand; noticed = z.noticed; held_by = z.held_by } in w) (ap old same ∙ mine refl) ∙ ap line_now (sym (here refl))
 line_phased old k p l false is o other y mine here = other refl
 
 -- a line that is inside is at a queue that is kept
@@ -46,15 +47,15 @@ phased_inside old k bound p l true is may kept at = subst (λ i. (old i).stand <
 phased_inside old k bound p l false is may kept at = kept at
 
 -- the end at which the line is
-phased_end : (now : EndNow) (old : ℕ → LineNow) (clear : ℕ → Bool) (vs ts : List Envelope) (x : End) (y : Line) (k : ℕ) (p : Phase) → slice_get x.lines k ≡ Some y → (p ≡ Inside → (old k).stand < x.taker + length x.queues) → ShowsEnd now old clear vs ts (Some x) → ShowsEnd now (λ l. record { phase = cond (eqb l k) p (old l).phase; stand = (old l).stand; noticed = (old l).noticed }) clear vs ts (Some (with_phase x y k p))
+phased_end : (now : EndNow) (old : ℕ → LineNow) (clear : ℕ → Bool) (vs ts : List Envelope) (x : End) (y : Line) (k : ℕ) (p : Phase) → slice_get x.lines k ≡ Some y → (p ≡ Inside → (old k).stand < x.taker + length x.queues) → ShowsEnd now old clear vs ts (Some x) → ShowsEnd now (λ l. record { phase = cond (eqb l k) p (old l).phase; stand = (old l).stand; noticed = (old l).noticed; held_by = (old l).held_by }) clear vs ts (Some (with_phase x y k p))
 phased_end now old clear vs ts x y k p is may h =
     let within : k < length x.lines = slice_get_within x.lines k y is in
     record {
       same = h.same;
       count = length-set x.lines k (record y { phase = p }) ∙ h.count;
-      lines = each_set (λ l o. (let z : LineNow = record { phase = cond (eqb l k) p (old l).phase; stand = (old l).stand; noticed = (old l).noticed } in z ≡ line_now o)) x.lines k (record y { phase = p }) within
-          (ap (λ b. let z : LineNow = record { phase = cond b p (old k).phase; stand = (old k).stand; noticed = (old k).noticed } in z) (eqb_same k) ∙ ap (λ (z : LineNow). let w : LineNow = record { phase = p; stand = z.stand; noticed = z.noticed } in w) (h.lines k ∙ ap line_now is))
-          (λ l other. ap (λ b. let z : LineNow = record { phase = cond b p (old l).phase; stand = (old l).stand; noticed = (old l).noticed } in z) (ne_eqb l k other) ∙ h.lines l);
+      lines = each_set (λ l o. (let z : LineNow = record { phase = cond (eqb l k) p (old l).phase; stand = (old l).stand; noticed = (old l).noticed; held_by = (old l).held_by } in z ≡ line_now o)) x.lines k (record y { phase = p }) within
+          (ap (λ b. let z : LineNow = record { phase = cond b p (old k).phase; stand = (old k).stand; noticed = (old k).noticed; held_by = (old k).held_by } in z) (eqb_same k) ∙ ap (λ (z : LineNow). let w : LineNow = record { phase = p; stand = z.stand; noticed = z.noticed; held_by = z.held_by } in w) (h.lines k ∙ ap line_now is))
+          (λ l other. ap (λ b. let z : LineNow = record { phase = cond b p (old l).phase; stand = (old l).stand; noticed = (old l).noticed; held_by = (old l).held_by } in z) (ne_eqb l k other) ∙ h.lines l);
       put = each_set (ShowsPut vs) x.lines k (record y { phase = p }) within
           (subst (ShowsPut vs k) is (h.put k))
           (λ l other. h.put l);
@@ -65,9 +66,9 @@ phased_end now old clear vs ts x y k p is may h =
 pub phased_shown : (agents : List Agent) (ends : List End) (f : Facts) (s : Sender) (p : Phase) (x : End) (y : Line) → ShowsFacts agents ends f → slice_get ends s.end.0 ≡ Some x → slice_get x.lines s.line.0 ≡ Some y → (p ≡ Inside → (f.line s.end.0 s.line.0).stand < x.taker + length x.queues) → (d : ℕ) → ShowsEnd (f.end d) (phased_line f s p d) (f.clear d) (f.accepted d) (f.taken d ++ f.discarded d) (slice_get (set ends s.end.0 (with_phase x y s.line.0 p)) d)
 phased_shown agents ends f s p x y h at is may =
     each_set (λ d o. ShowsEnd (f.end d) (phased_line f s p d) (f.clear d) (f.accepted d) (f.taken d ++ f.discarded d) o) ends s.end.0 (with_phase x y s.line.0 p) (slice_get_within ends s.end.0 x at)
-    (subst (λ b. ShowsEnd (f.end s.end.0) (λ l. record { phase = cond (b && eqb l s.line.0) p (f.line s.end.0 l).phase; stand = (f.line s.end.0 l).stand; noticed = (f.line s.end.0 l).noticed }) (f.clear s.end.0) (f.accepted s.end.0) (f.taken s.end.0 ++ f.discarded s.end.0) (Some (with_phase x y s.line.0 p))) (sym (eqb_same s.end.0))
+    (subst (λ b. ShowsEnd (f.end s.end.0) (λ l. record { phase = cond (b && eqb l s.line.0) p (f.line s.end.0 l).phase; stand = (f.line s.end.0 l).stand; noticed = (f.line s.end.0 l).noticed; held_by = (f.line s.end.0 l).held_by }) (f.clear s.end.0) (f.accepted s.end.0) (f.taken s.end.0 ++ f.discarded s.end.0) (Some (with_phase x y s.line.0 p))) (sym (eqb_same s.end.0))
     (phased_end (f.end s.end.0) (f.line s.end.0) (f.clear s.end.0) (f.accepted s.end.0) (f.taken s.end.0 ++ f.discarded s.end.0) x y s.line.0 p is may (subst (ShownAt f s.end.0) at (h.end s.end.0))))
-    (λ d other. subst (λ b. ShowsEnd (f.end d) (λ l. record { phase = cond (b && eqb l s.line.0) p (f.line d l).phase; stand = (f.line d l).stand; noticed = (f.line d l).noticed }) (f.clear d) (f.accepted d) (f.taken d ++ f.discarded d) (slice_get ends d)) (sym (ne_eqb d s.end.0 other)) (h.end d))
+    (λ d other. subst (λ b. ShowsEnd (f.end d) (λ l. record { phase = cond (b && eqb l s.line.0) p (f.line d l).phase; stand = (f.line d l).stand; noticed = (f.line d l).noticed; held_by = (f.line d l).held_by }) (f.clear d) (f.accepted d) (f.taken d ++ f.discarded d) (slice_get ends d)) (sym (ne_eqb d s.end.0 other)) (h.end d))
 
 -- ---- Enter
 
@@ -88,9 +89,9 @@ stand_kept f e l x s h opened =
 
 -- the gate's answer, and the phase that comes with it
 gate_shown : (agents : List Agent) (ends : List End) (f : Facts) (s : Sender) (refused : Bool) (x : End) (y : Line) → ShowsFacts agents ends f → slice_get ends s.end.0 ≡ Some x → slice_get x.lines s.line.0 ≡ Some y → (retired closed : Bool) → cond retired outcome.Moved (cond closed outcome.Closed outcome.In) ≡ enter_answer f s → Stepped agents (set ends s.end.0 (with_phase x y s.line.0 (phase_of (cond retired outcome.Moved (cond closed outcome.Closed outcome.In))))) f (action.Enter s) refused (cond retired outcome.Moved (cond closed outcome.Closed outcome.In))
-gate_shown agents ends f s refused x y h at is true closed answer = changed agents ends _ f (action.Enter s) refused outcome.Moved h answer refl refl refl (length-set ends s.end.0 (with_phase x y s.line.0 Turned)) (phased_shown agents ends f s Turned x y h at is (λ no. cc))
-gate_shown agents ends f s refused x y h at is false true answer = changed agents ends _ f (action.Enter s) refused outcome.Closed h answer refl refl refl (length-set ends s.end.0 (with_phase x y s.line.0 Turned)) (phased_shown agents ends f s Turned x y h at is (λ no. cc))
-gate_shown agents ends f s refused x y h at is false false answer = changed agents ends _ f (action.Enter s) refused outcome.In h answer refl refl refl (length-set ends s.end.0 (with_phase x y s.line.0 Inside)) (phased_shown agents ends f s Inside x y h at is (λ _. stand_kept f s.end.0 s.line.0 x h.sound (subst (ShownAt f s.end.0) at (h.end s.end.0)) (let_in_of f s answer).2))
+gate_shown agents ends f s refused x y h at is true closed answer = changed agents ends _ f (action.Enter s) refused outcome.Moved h answer refl refl refl (length-set ends s.end.0 (with_phase x y s.line.0 Turned)) (counts_still agents ends f _ h refl (λ d. refl) (λ d. refl)) (phased_shown agents ends f s Turned x y h at is (λ no. cc))
+gate_shown agents ends f s refused x y h at is false true answer = changed agents ends _ f (action.Enter s) refused outcome.Closed h answer refl refl refl (length-set ends s.end.0 (with_phase x y s.line.0 Turned)) (counts_still agents ends f _ h refl (λ d. refl) (λ d. refl)) (phased_shown agents ends f s Turned x y h at is (λ no. cc))
+gate_shown agents ends f s refused x y h at is false false answer = changed agents ends _ f (action.Enter s) refused outcome.In h answer refl refl refl (length-set ends s.end.0 (with_phase x y s.line.0 Inside)) (counts_still agents ends f _ h refl (λ d. refl) (λ d. refl)) (phased_shown agents ends f s Inside x y h at is (λ _. stand_kept f s.end.0 s.line.0 x h.sound (subst (ShownAt f s.end.0) at (h.end s.end.0)) (let_in_of f s answer).2))
 
 enter_line : (agents : List Agent) (ends : List End) (f : Facts) (s : Sender) (refused : Bool) (x : End) → ShowsFacts agents ends f → slice_get ends s.end.0 ≡ Some x → may_enter f s ≡ true → (o : Option Line) → slice_get x.lines s.line.0 ≡ o → f.line s.end.0 s.line.0 ≡ line_now o → f.end s.end.0 ≡ end_now (Some x) → (o ≡ None → ⊥) → Stepped agents (set ends s.end.0 (enter_end x s.line.0 o)) f (action.Enter s) refused (enter_outcome x o)
 enter_line agents ends f s refused x h at may None is line end there = absurd (there refl)
@@ -102,24 +103,24 @@ enter_line agents ends f s refused x h at may (Some y) is line end there =
     ] answer
 
 -- a line that may be entered is kept
-pub line_is_kept : (f : Facts) (s : Sender) (x : End) → ShownAt f s.end.0 (Some x) → may_enter f s ≡ true → slice_get x.lines s.line.0 ≡ None → ⊥
-line_is_kept f s x h may none =
-    let there : s.line.0 < lines_of ((f.end s.end.0).peer) = line_there f s may in
-    let count : length x.lines ≡ lines_of ((f.end s.end.0).peer) = h.count in
+pub line_is_kept : (f : Facts) (s : Sender) (x : End) → LinesAt f s.end.0 → ShownAt f s.end.0 (Some x) → may_enter f s ≡ true → slice_get x.lines s.line.0 ≡ None → ⊥
+line_is_kept f s x lines h may none =
+    let there : s.line.0 < lines_of ((f.end s.end.0).kind) = line_there f s lines may in
+    let count : length x.lines ≡ lines_of ((f.end s.end.0).kind) = h.count in
     is_there x.lines s.line.0 (omega arith) none
 
-nobody : (b : Bool) → (let n : Option AgentId = None in (is_some (cond b n n) || (b && false)) ≡ false)
+nobody : (b : Bool) → (b && false) ≡ false
 nobody true = refl
 nobody false = refl
 
 pub unmade_line : (f : Facts) (s : Sender) → f.end s.end.0 ≡ no_end → may_enter f s ≡ false
-unmade_line f s none = ap (λ (y : EndNow). is_some (cond (eqb s.line.0 0) (option_and_then (holder f) y.peer) None) || (eqb s.line.0 0 && is_here (option_and_then (λ q. (f.end q).place) y.peer))) none ∙ nobody (eqb s.line.0 0)
+unmade_line f s none = ap (λ (y : EndNow). is_some (poster_of f s y.kind) || (eqb s.line.0 0 && is_here (option_and_then (λ q. (f.end q).place) (peer_of y.kind)))) none ∙ nobody (eqb s.line.0 0)
 
 enter_end_shown : (agents : List Agent) (ends : List End) (f : Facts) (s : Sender) (refused : Bool) → ShowsFacts agents ends f → (o : Option End) → slice_get ends s.end.0 ≡ o → ShownAt f s.end.0 o → (may : Bool) → may ≡ may_enter f s → Stepped agents (enter_ends_at may s ends o) f (action.Enter s) refused (enter_outcome_at may s.line.0 o)
 enter_end_shown agents ends f s refused h None at shown may is = unchanged agents ends ends f (action.Enter s) refused outcome.NotNow outcome.NotNow h refl refl refl (enter_refused f s (unmade_line f s shown.same))
 enter_end_shown agents ends f s refused h (Some x) at shown false is = unchanged agents ends ends f (action.Enter s) refused outcome.NotNow outcome.NotNow h refl refl refl (enter_refused f s (sym is))
 enter_end_shown agents ends f s refused h (Some x) at shown true is =
-    enter_line agents ends f s refused x h at (sym is) (slice_get x.lines s.line.0) refl (shown.lines s.line.0) shown.same (line_is_kept f s x shown (sym is))
+    enter_line agents ends f s refused x h at (sym is) (slice_get x.lines s.line.0) refl (shown.lines s.line.0) shown.same (line_is_kept f s x (h.sound.lines s.end.0) shown (sym is))
 
 pub enter_shown : (agents : List Agent) (ends : List End) (f : Facts) (s : Sender) (refused : Bool) → ShowsFacts agents ends f → Stepped agents (enter_ends_at (kept_may_enter agents ends s) s ends (slice_get ends s.end.0)) f (action.Enter s) refused (enter_outcome_at (kept_may_enter agents ends s) s.line.0 (slice_get ends s.end.0))
 enter_shown agents ends f s refused h = enter_end_shown agents ends f s refused h (slice_get ends s.end.0) refl (h.end s.end.0) (kept_may_enter agents ends s) (may_kept agents ends f s h)
@@ -134,7 +135,7 @@ leave_line agents ends f s refused x h at None is line = unchanged agents ends _
 leave_line agents ends f s refused x h at (Some y) is line =
     elim (is_out y.phase) as (λ b. cond b outcome.NotNow outcome.Left ≡ leave_answer f s → Stepped agents (set ends s.end.0 (cond b x (with_phase x y s.line.0 Out))) f (action.Leave s) refused (cond b outcome.NotNow outcome.Left)) [
       | true ↦ λ answer. unchanged agents ends _ f (action.Leave s) refused outcome.NotNow outcome.NotNow h refl refl (set_again ends s.end.0 x at) answer
-      | false ↦ λ answer. changed agents ends _ f (action.Leave s) refused outcome.Left h answer refl refl refl (length-set ends s.end.0 (with_phase x y s.line.0 Out)) (phased_shown agents ends f s Out x y h at is (λ no. cc))
+      | false ↦ λ answer. changed agents ends _ f (action.Leave s) refused outcome.Left h answer refl refl refl (length-set ends s.end.0 (with_phase x y s.line.0 Out)) (counts_still agents ends f _ h refl (λ d. refl) (λ d. refl)) (phased_shown agents ends f s Out x y h at is (λ no. cc))
     ] (leave_as f s (line_now (Some y)) line)
 
 leave_end_shown : (agents : List Agent) (ends : List End) (f : Facts) (s : Sender) (refused : Bool) → ShowsFacts agents ends f → (o : Option End) → slice_get ends s.end.0 ≡ o → ShownAt f s.end.0 o → Stepped agents (leave_ends_at s ends o) f (action.Leave s) refused (leave_outcome_at s.line.0 o)

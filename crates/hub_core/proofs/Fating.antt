@@ -28,7 +28,7 @@ use Rattle.hub_core.specs.Posting.{phase_of_line, is_inside}
 use Rattle.hub_core.specs.Sound.{IsOfEnd, total, naming, flights, Sound}
 use Rattle.hub_core.specs.Laws.{NoticeIsLast}
 use Rattle.hub_core.specs.Fates.{waiting, sweep_of, Fates}
-use Rattle.hub_core.proofs.Nexts.{next, facts_next, by_change, Change, agent_made, channel_made, let_in, found_moved, found_closed, put, notice_put, left, hopped, started, got, went_on, cleared, adopted, end_closed, end_swept}
+use Rattle.hub_core.proofs.Nexts.{next, facts_next, by_change, Change, agent_made, channel_made, let_in, found_moved, found_closed, put, notice_put, left, hopped, started, got, went_on, cleared, adopted, end_closed, end_swept, client_made, worker_made, line_got, line_back, handed}
 use Rattle.hub_core.proofs.Legals.{by_pairs, legal_at}
 use Rattle.hub_core.proofs.Lists.{eqb_same}
 use Rattle.hub_core.proofs.Totals.{total_same, count_append, count_lines}
@@ -85,7 +85,7 @@ no_line_no_envelope x line (v ∷ vs) h = let low : v.line.0 < 0 = h.0.has_line 
 only_at_ends : (h : History) (e : ℕ) → Legal h → ends h ≤ e → accepted h e ≡ []
 only_at_ends h e legal past =
     let sound : Sound (facts h) = sound_legal h legal in
-    let none : lines_of (((facts h).end e).peer) ≡ 0 = ap (λ (y : EndNow). lines_of y.peer) (sound.places.ends e past) in
+    let none : lines_of (((facts h).end e).kind) ≡ 0 = ap (λ (y : EndNow). lines_of y.kind) (sound.places.ends e past) in
     no_line_no_envelope e ((facts h).line e) (accepted h e) (subst (λ n. AllByRecursion (IsOfEnd e n ((facts h).line e)) (accepted h e)) none (sound.lines e).named)
 
 -- ---- after a Sweep
@@ -149,6 +149,11 @@ module _ (f : Facts) (x : ℕ) (whole : List Envelope) (h : QuietAt f x whole) w
 quiet_change : (f : Facts) {a : Action} (refused : Bool) {o : Outcome} (x : ℕ) (whole : List Envelope) → QuietAt f x whole → Answers f a refused o → Change a o → QuietAt (next f a o) x whole
 quiet_change f refused x whole h fits (agent_made n) = h
 quiet_change f refused x whole h fits (channel_made a e e') = h
+quiet_change f refused x whole h fits (client_made a e) = h
+quiet_change f refused x whole h fits (worker_made a e) = h
+quiet_change f refused x whole h fits (line_got e a l) = h
+quiet_change f refused x whole h fits (line_back s) = h
+quiet_change f refused x whole h fits (handed e b) = h
 quiet_change f refused x whole h fits (let_in s) = quiet_phased f x whole h s Inside (λ _. not_open f x whole h s.end.0 (let_in_of f s fits).2)
 quiet_change f refused x whole h fits (found_moved s) = quiet_phased f x whole h s Turned (λ is. cc)
 quiet_change f refused x whole h fits (found_closed s) = quiet_phased f x whole h s Turned (λ is. cc)

@@ -1,5 +1,5 @@
 -- What an answer that fits says of the facts.
-use Rattle.std.proofs.Common.{◌≡◌, ◌+◌, Bool, true, false, cond, List, length, Option, Some, None, refl, ap, ℕ, zero, suc, ◌<◌, ◌≤◌, eqb, sym, ◌∙◌, arith, rules, inl, inr}
+use Rattle.std.proofs.Common.{◌≡◌, ◌+◌, Bool, true, false, cond, List, length, Option, Some, None, refl, ap, ℕ, zero, suc, ◌<◌, ◌≤◌, eqb, sym, ◌∙◌, arith, rules, inl, inr, ltb-true}
 use Rattle.std.specs.Prelude.{◌&&◌, not, is_some, nat_lt, ◌||◌, ◌⊎◌, nat_le}
 use Rattle.std.specs.Bool.{MatchBool}
 use Rattle.hub_envelope.specs.declared.ids.AgentId.{AgentId}
@@ -11,17 +11,21 @@ use Rattle.hub_core.specs.declared.outcome.Acceptance.{Acceptance}
 use Rattle.hub_core.specs.declared.outcome.Outcome.{Outcome}
 use Rattle.hub_core.specs.declared.outcome.Outcome.TheVariants as outcome
 use Rattle.hub_core.specs.Facts.{Facts}
-use Rattle.hub_core.specs.Making.{agent_answer, channel_answer}
+use Rattle.hub_core.specs.Making.{agent_answer, channel_answer, queue_answer, has_one}
 use Rattle.hub_core.specs.Posting.{holder, poster, phase_of_line, is_out, is_inside, is_good, enter_answer, leave_answer, push_answer_of, push_answer, may_enter, hears_notice, is_here, own_poster_out, next_name, notice_answer}
 use Rattle.hub_core.specs.Taking.{Serves, FitsTake, start_answer}
 use Rattle.std.proofs.lemmas.Bool.{false≢true, eqb-true, eqb-false}
-use Rattle.hub_core.specs.declared.limits.TheConstants.{MAX_MOVES}
+use Rattle.hub_core.specs.declared.limits.TheConstants.{MAX_MOVES, MAX_LINES, MAX_ENDS}
 use Rattle.hub_core.specs.declared.end.Place.{Place}
 use Rattle.hub_core.specs.declared.end.Place.TheVariants.{With, InFlight, Arrived, Swept, Gone}
-use Rattle.hub_core.specs.Looking.{any_below, someone_at, first_unclear, lookable, looked, look_answer_of, look_answer, all_from, all_settled, IsAllWaiting, FitsSweep}
-use Rattle.hub_core.specs.Moving.{hop_answer, is_arrived, adopt_answer, close_answer}
+use Rattle.hub_core.specs.Looking.{any_below, someone_at, first_failing, lookable, looked, look_answer_of, look_answer, all_from, all_settled, IsAllWaiting, FitsSweep}
+use Rattle.hub_core.specs.Moving.{hop_answer, is_arrived, adopt_answer, close_answer, is_released, hand_answer, may_take_over}
 use Rattle.std.proofs.lemmas.Bool.Decides.{nat_tests}
 use Rattle.hub_core.proofs.Lists.{both_of}
+use Rattle.hub_core.specs.Made.{peer_of, is_queue}
+use Rattle.hub_envelope.specs.declared.ids.LineId.{LineId}
+use Rattle.hub_core.specs.declared.kind.Kind.{Kind}
+use Rattle.hub_core.specs.Holding.{back_answer, line_found, line_answer, free_line}
 
 -- ---- tests
 
@@ -55,6 +59,34 @@ channel_of true false false e e' n n' h = (refl, cc, cc)
 
 pub new_ends : (f : Facts) (a : AgentId) (refused : Bool) (e e' : EndId) → outcome.Ends e e' ≡ channel_answer f a refused → ((f.agent a.0).runs ≡ true) × (e ≡ record { 0 = f.ends }) × (e' ≡ record { 0 = f.ends + 1 })
 new_ends f a refused e e' h = channel_of (f.agent a.0).runs _ refused e e' (record { 0 = f.ends }) (record { 0 = f.ends + 1 }) h
+
+not_both : (b c : Bool) → not (b && not c) ≡ false → (b ≡ true) × (c ≡ false)
+not_both true true h = cc
+not_both true false h = (refl, refl)
+not_both false c h = cc
+
+queue_of : (may full refused : Bool) (e n : EndId) → outcome.End e ≡ cond (not may) outcome.NotNow (cond full outcome.TooManyEnds (cond refused outcome.NoMemory (outcome.End n))) → (may ≡ true) × (full ≡ false) × (e ≡ n)
+queue_of false full refused e n h = cc
+queue_of true true refused e n h = cc
+queue_of true false true e n h = cc
+queue_of true false false e n h = (refl, refl, cc)
+
+both_tests : (b c : Bool) → (b && not c) ≡ true → (b ≡ true) × (c ≡ false)
+both_tests true false h = (refl, refl)
+both_tests true true h = cc
+both_tests false c h = cc
+
+-- a queue that was made
+pub record MakesQueue (f : Facts) (test : Option Kind → Bool) (a : AgentId) (e : EndId) : Type 0 where
+  pub runs : (f.agent a.0).runs ≡ true
+  pub first : has_one test a f ≡ false
+  pub number : e ≡ record { 0 = f.ends }
+
+pub queue_made_of : (f : Facts) (test : Option Kind → Bool) (a : AgentId) (refused : Bool) (e : EndId) → outcome.End e ≡ queue_answer test f a refused → MakesQueue f test a e
+queue_made_of f test a refused e h =
+    let r = queue_of ((f.agent a.0).runs && not (has_one test a f)) (nat_le MAX_ENDS f.ends) refused e (record { 0 = f.ends }) h in
+    let both = both_tests (f.agent a.0).runs (has_one test a f) r.0 in
+    record { runs = both.0; first = both.1; number = r.2 }
 
 -- ---- entering and leaving
 
@@ -262,7 +294,7 @@ after_first k i from other = grind (arith, nat_tests)
 pub record Closes (f : Facts) (e : EndId) : Type 0 where
   pub is_open : (f.end e.0).closed ≡ false
   pub here : is_here (f.end e.0).place ≡ true
-  pub own_out : own_poster_out f (f.end e.0).peer ≡ true
+  pub released : is_released f (f.end e.0).kind ≡ true
 
 closed_when : (closed here out : Bool) → outcome.Done ≡ cond closed outcome.Closed (cond (here && out) outcome.Done outcome.NotNow) → (closed ≡ false) × (here ≡ true) × (out ≡ true)
 closed_when true here out h = cc
@@ -272,8 +304,8 @@ closed_when false false out h = cc
 
 pub closed_of : (f : Facts) (e : EndId) → outcome.Done ≡ close_answer f e → Closes f e
 closed_of f e h =
-    let r = closed_when (f.end e.0).closed (is_here (f.end e.0).place) (own_poster_out f (f.end e.0).peer) h in
-    record { is_open = r.0; here = r.1; own_out = r.2 }
+    let r = closed_when (f.end e.0).closed (is_here (f.end e.0).place) (is_released f (f.end e.0).kind) h in
+    record { is_open = r.0; here = r.1; released = r.2 }
 
 -- an end that was swept
 pub record SweptWith (f : Facts) (e : EndId) (vs : List Envelope) : Type 0 where
@@ -304,17 +336,17 @@ each_of test k (suc n) h i from below =
 -- ---- looking
 
 -- the first of some queues that isn't clear
-pub record FirstUnclear (clear : ℕ → Bool) (k n j : ℕ) : Type 0 where
+pub record FirstFailing (clear : ℕ → Bool) (k n j : ℕ) : Type 0 where
   pub from : k ≤ j
   pub below : j < k + n
   pub unclear : clear j ≡ false
   pub before : (i : ℕ) → k ≤ i → i < j → clear i ≡ true
 
-pub first_unclear_of : (clear : ℕ → Bool) (k n j : ℕ) → first_unclear clear k n ≡ Some j → FirstUnclear clear k n j
-first_unclear_of clear k zero j is = absurd (search (rules, is))
-first_unclear_of clear k (suc n) j is = elim (clear k) as (λ b. clear k ≡ b → cond b (first_unclear clear (k + 1) n) (Some k) ≡ Some j → FirstUnclear clear k (suc n) j) [
+pub first_failing_of : (clear : ℕ → Bool) (k n j : ℕ) → first_failing clear k n ≡ Some j → FirstFailing clear k n j
+first_failing_of clear k zero j is = absurd (search (rules, is))
+first_failing_of clear k (suc n) j is = elim (clear k) as (λ b. clear k ≡ b → cond b (first_failing clear (k + 1) n) (Some k) ≡ Some j → FirstFailing clear k (suc n) j) [
   | true ↦ λ here later.
-      let r = first_unclear_of clear (k + 1) n j later in
+      let r = first_failing_of clear (k + 1) n j later in
       let from : k + 1 ≤ j = r.from in
       let below : j < k + 1 + n = r.below in
       record {
@@ -351,7 +383,7 @@ busy_when f x (Some j) h = elim (someone_at f x j) as (λ b. someone_at f x j �
 
 -- a queue that is looked at
 abbrev pub LooksAt : Facts → ℕ → ℕ → Type 0
-LooksAt f x k = FirstUnclear (f.clear x) (f.end x).taker_stand (lookable (f.end x).taker_stand (f.end x).newest (f.end x).closed) k
+LooksAt f x k = FirstFailing (f.clear x) (f.end x).taker_stand (lookable (f.end x).taker_stand (f.end x).newest (f.end x).closed) k
 
 -- a queue that became clear
 pub record Clears (f : Facts) (x k : ℕ) : Type 0 where
@@ -364,7 +396,7 @@ pub cleared_of : (f : Facts) (e : EndId) (k : ℕ) → outcome.Clear (Some k) �
 cleared_of f e k h =
     let r = looks_when ((f.end e.0).closed || nat_lt (f.end e.0).taker_stand (f.end e.0).newest) (outcome.Clear (Some k)) _ (λ (x : outcome.Clear (Some k) ≡ outcome.NotNow). cc) h in
     let both = clear_when f e.0 k (looked f e.0) r.1 in
-    record { may = r.0; is_looked = both.0; looks = first_unclear_of (f.clear e.0) _ _ k both.0; nobody = both.1 }
+    record { may = r.0; is_looked = both.0; looks = first_failing_of (f.clear e.0) _ _ k both.0; nobody = both.1 }
 
 pub record FindsBusy (f : Facts) (x : ℕ) : Type 0 where
   pub queue : ℕ
@@ -376,7 +408,7 @@ pub look_busy_of : (f : Facts) (e : EndId) → outcome.Busy ≡ look_answer f e 
 look_busy_of f e h =
     let r = looks_when ((f.end e.0).closed || nat_lt (f.end e.0).taker_stand (f.end e.0).newest) outcome.Busy _ (λ (x : outcome.Busy ≡ outcome.NotNow). cc) h in
     let both = busy_when f e.0 (looked f e.0) r.1 in
-    record { queue = both.0; is_looked = both.1; looks = first_unclear_of (f.clear e.0) _ _ both.0 both.1; somebody = both.2 }
+    record { queue = both.0; is_looked = both.1; looks = first_failing_of (f.clear e.0) _ _ both.0 both.1; somebody = both.2 }
 
 -- a queue that may be looked at is retired, or the newest of a closed end
 pub looked_where : (taker newest k : ℕ) (closed : Bool) → taker ≤ newest → k < taker + lookable taker newest closed → (k < newest) ⊎ ((k ≡ newest) × (closed ≡ true))
@@ -407,3 +439,61 @@ none_of_any test (suc n) l h less =
       | true ↦ λ is. ap test (eqb-true l n is) ∙ both.1
       | false ↦ λ is. none_of_any test n l both.0 (below_last l n (omega arith) (eqb-false l n is))
     ] refl
+
+-- ---- holding lines, and handing
+
+line_when : (runs queue : Bool) (l : LineId) (q : Option ℕ) → outcome.Line l ≡ cond (not runs) outcome.NotNow (cond (not queue) outcome.NoSuchEnd (line_found q)) → (runs ≡ true) × (queue ≡ true) × (q ≡ Some l.0)
+line_when false queue l q h = cc
+line_when true false l q h = cc
+line_when true true l None h = cc
+line_when true true l (Some n) h = (refl, refl, let same : l ≡ record { 0 = n } = cc in ap Some (sym (ap (λ (k : LineId). k.0) same)))
+
+not_some : {A : Type 0} (q : Option A) → is_some q ≡ false → q ≡ None
+not_some None h = refl
+not_some (Some a) h = absurd (false≢true (sym h))
+
+-- a line that an agent got
+pub record GetsLine (f : Facts) (e : EndId) (a : AgentId) (l : LineId) : Type 0 where
+  pub runs : (f.agent a.0).runs ≡ true
+  pub queue : is_queue (f.end e.0).kind ≡ true
+  pub low : l.0 < MAX_LINES
+  pub free : (f.line e.0 l.0).held_by ≡ None
+
+pub line_got_of : (f : Facts) (e : EndId) (a : AgentId) (l : LineId) → outcome.Line l ≡ line_answer f e a → GetsLine f e a l
+line_got_of f e a l h =
+    let r = line_when (f.agent a.0).runs (is_queue (f.end e.0).kind) l (free_line f e.0) h in
+    let found = first_failing_of (λ i. is_some (f.line e.0 i).held_by) 0 MAX_LINES l.0 r.2 in
+    let below : l.0 < 0 + MAX_LINES = found.below in
+    record { runs = r.0; queue = r.1; low = omega arith; free = not_some (f.line e.0 l.0).held_by found.unclear }
+
+back_when : (held out : Bool) → outcome.Done ≡ cond (held && out) outcome.Done outcome.NotNow → (held ≡ true) × (out ≡ true)
+back_when true true h = (refl, refl)
+back_when true false h = cc
+back_when false out h = cc
+
+pub back_of : (f : Facts) (s : Sender) → outcome.Done ≡ back_answer f s → (is_some (f.line s.end.0 s.line.0).held_by ≡ true) × (is_out (phase_of_line f s) ≡ true)
+back_of f s h = back_when (is_some (f.line s.end.0 s.line.0).held_by) (is_out (phase_of_line f s)) h
+
+handed_when : (closed queue may : Bool) → outcome.Handed ≡ cond closed outcome.Closed (cond (queue && may) outcome.Handed outcome.NotNow) → (closed ≡ false) × (queue ≡ true) × (may ≡ true)
+handed_when true queue may h = cc
+handed_when false true true h = (refl, refl, refl)
+handed_when false true false h = cc
+handed_when false false may h = cc
+
+taken_over : (f : Facts) (b : AgentId) (q : Option AgentId) → may_take_over f b q ≡ true → (a : AgentId) × (q ≡ Some a) × (b.0 < f.agents)
+taken_over f b None h = absurd (false≢true h)
+taken_over f b (Some a) h = (a, refl, ltb-true b.0 f.agents (both_of (nat_lt b.0 f.agents) (not (eqb a.0 b.0)) h).0)
+
+-- an end that was handed on
+pub record Hands (f : Facts) (e : EndId) (b : AgentId) : Type 0 where
+  pub is_open : (f.end e.0).closed ≡ false
+  pub queue : is_queue (f.end e.0).kind ≡ true
+  pub agent : AgentId
+  pub holds : holder f e.0 ≡ Some agent
+  pub known : b.0 < f.agents
+
+pub handed_of : (f : Facts) (e : EndId) (b : AgentId) → outcome.Handed ≡ hand_answer f e b → Hands f e b
+handed_of f e b h =
+    let r = handed_when (f.end e.0).closed (is_queue (f.end e.0).kind) (may_take_over f b (holder f e.0)) h in
+    let over = taken_over f b (holder f e.0) r.2 in
+    record { is_open = r.0; queue = r.1; agent = over.0; holds = over.1; known = over.2 }

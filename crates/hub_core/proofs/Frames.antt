@@ -7,8 +7,9 @@ use Rattle.hub_core.specs.declared.step.Action.{Action}
 use Rattle.hub_core.specs.declared.outcome.Outcome.{Outcome}
 use Rattle.hub_core.specs.Facts.{Facts, facts}
 use Rattle.hub_core.specs.Fits.{Answers}
-use Rattle.hub_core.specs.Shows.{ShowsEnd, ShowsFacts}
+use Rattle.hub_core.specs.Shows.{ShowsEnd, ShowsFacts, agent_now}
 use Rattle.hub_core.proofs.Nexts.{next}
+use Rattle.hub_core.proofs.Counts.{Counted, counts_of}
 use Rattle.hub_core.proofs.Sounds.{sound_first, sound_next}
 
 -- what is shown of an end
@@ -21,14 +22,31 @@ pub record Stepped (agents : List Agent) (ends : List End) (f : Facts) (a : Acti
   pub shows : ShowsFacts agents ends (next f a o)
 
 -- a step that makes no agent and no end
-pub changed : (agents : List Agent) (ends after : List End) (f : Facts) (a : Action) (refused : Bool) (o : Outcome) → ShowsFacts agents ends f → Answers f a refused o → (next f a o).agents ≡ f.agents → (next f a o).agent ≡ f.agent → (next f a o).ends ≡ f.ends → length after ≡ length ends → ((x : ℕ) → ShownAt (next f a o) x (slice_get after x)) → Stepped agents after f a refused o
-changed agents ends after f a refused o h fits same_agents same_agent same_ends count each = record {
+pub changed : (agents : List Agent) (ends after : List End) (f : Facts) (a : Action) (refused : Bool) (o : Outcome) → ShowsFacts agents ends f → Answers f a refused o → (next f a o).agents ≡ f.agents → (next f a o).agent ≡ f.agent → (next f a o).ends ≡ f.ends → length after ≡ length ends → Counted agents (next f a o) → ((x : ℕ) → ShownAt (next f a o) x (slice_get after x)) → Stepped agents after f a refused o
+changed agents ends after f a refused o h fits same_agents same_agent same_ends count counted each = record {
   fits = fits;
   shows = record {
     agents = same_agents ∙ h.agents;
     agent = λ x. ap (λ g. g x) same_agent ∙ h.agent x;
     ends = same_ends ∙ h.ends ∙ sym count;
     end = each;
+    clients = counted.clients;
+    workers = counted.workers;
+    sound = sound_next f a refused o h.sound fits;
+  };
+}
+
+-- a step that counts the queues of agents anew
+pub recounted : (agents new : List Agent) (ends after : List End) (f : Facts) (a : Action) (refused : Bool) (o : Outcome) → ShowsFacts agents ends f → Answers f a refused o → (next f a o).agents ≡ f.agents → (next f a o).agent ≡ f.agent → length new ≡ length agents → ((x : ℕ) → agent_now (slice_get new x) ≡ agent_now (slice_get agents x)) → (next f a o).ends ≡ length after → Counted new (next f a o) → ((x : ℕ) → ShownAt (next f a o) x (slice_get after x)) → Stepped new after f a refused o
+recounted agents new ends after f a refused o h fits same_agents same_agent same_count same_now count counted each = record {
+  fits = fits;
+  shows = record {
+    agents = same_agents ∙ h.agents ∙ sym same_count;
+    agent = λ x. ap (λ g. g x) same_agent ∙ h.agent x ∙ sym (same_now x);
+    ends = count;
+    end = each;
+    clients = counted.clients;
+    workers = counted.workers;
     sound = sound_next f a refused o h.sound fits;
   };
 }
@@ -46,5 +64,12 @@ shows_first agents ends none nothing = rw (none, nothing) (record {
   agent = λ a. refl;
   ends = refl;
   end = λ e. record { same = refl; count = refl; lines = λ l. refl; put = λ l. tt; queues = tt };
+  clients = λ a. refl;
+  workers = λ a. refl;
   sound = sound_first;
 })
+
+-- ---- along equations
+
+pub along : (P : List Agent → List End → Outcome → Type 0) {gs hs : List Agent} {es fs : List End} {o p : Outcome} → hs ≡ gs → fs ≡ es → p ≡ o → P gs es o → P hs fs p
+along P {gs = gs} {hs = hs} {es = es} {fs = fs} {o = o} {p = p} a b c h = subst (λ x. P x fs p) (sym a) (subst (λ x. P gs x p) (sym b) (subst (λ x. P gs es x) (sym c) h))

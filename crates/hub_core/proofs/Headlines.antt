@@ -30,7 +30,7 @@ use Rattle.hub_core.specs.Sound.{Sound}
 use Rattle.hub_core.specs.Headline.{take_of, enter_of, is_line, leaves, posts, IsTurned, IsDrainedAt, Headline, IsBusyAt}
 use Rattle.hub_core.specs.Laws.{KeepsTheLine, TurnedPutsNothing, SameIsJoined}
 use Rattle.hub_core.proofs.Lists.{both_of, eqb_same}
-use Rattle.hub_core.proofs.Nexts.{next, facts_next, effect, Change, agent_made, channel_made, let_in, found_moved, found_closed, put, left, started, got, hopped, went_on, cleared, adopted, notice_put, end_closed, end_swept}
+use Rattle.hub_core.proofs.Nexts.{next, facts_next, effect, Change, agent_made, channel_made, let_in, found_moved, found_closed, put, left, started, got, hopped, went_on, cleared, adopted, notice_put, end_closed, end_swept, client_made, worker_made, line_got, line_back, handed}
 use Rattle.hub_core.proofs.Legals.{legal_apart, legal_joined, legal_at}
 use Rattle.hub_core.proofs.Fitting.{let_in_of, found_moved_of, found_closed_of, pushed_of, empty_of, any_of, busy_of, noticed_of}
 use Rattle.hub_core.proofs.SoundLines.{Numbered}
@@ -102,6 +102,11 @@ not_out f s t turned out is = absurd (search (rules, false≢true, sym (ap is_ou
 stays_turned : (f : Facts) {a : Action} (refused : Bool) {o : Outcome} (s : Sender) → Answers f a refused o → phase_of_line f s ≡ Turned → leaves s o a ≡ false → Change a o → phase_of_line (next f a o) s ≡ Turned
 stays_turned f refused s fits turned stays (agent_made n) = turned
 stays_turned f refused s fits turned stays (channel_made a e e') = turned
+stays_turned f refused s fits turned stays (client_made a e) = turned
+stays_turned f refused s fits turned stays (worker_made a e) = turned
+stays_turned f refused s fits turned stays (line_got e a l) = turned
+stays_turned f refused s fits turned stays (line_back t) = turned
+stays_turned f refused s fits turned stays (handed e b) = turned
 stays_turned f refused s fits turned stays (let_in t) = on_line_turned (is_line s t) Inside (phase_of_line f s) (not_out f s t turned (let_in_of f t fits).0.out) turned
 stays_turned f refused s fits turned stays (found_moved t) = on_line_turned (is_line s t) Turned (phase_of_line f s) (not_out f s t turned (found_moved_of f t fits).0.out) turned
 stays_turned f refused s fits turned stays (found_closed t) = on_line_turned (is_line s t) Turned (phase_of_line f s) (not_out f s t turned (found_closed_of f t fits).0.out) turned
@@ -131,6 +136,11 @@ posts_inside f s t turned inside true is = absurd (search (rules, false≢true, 
 no_posts : (f : Facts) {a : Action} (refused : Bool) {o : Outcome} (s : Sender) → Answers f a refused o → phase_of_line f s ≡ Turned → Change a o → posts s o a ≡ false
 no_posts f refused s fits turned (agent_made n) = refl
 no_posts f refused s fits turned (channel_made a e e') = refl
+no_posts f refused s fits turned (client_made a e) = refl
+no_posts f refused s fits turned (worker_made a e) = refl
+no_posts f refused s fits turned (line_got e a l) = refl
+no_posts f refused s fits turned (line_back t) = refl
+no_posts f refused s fits turned (handed e b) = refl
 no_posts f refused s fits turned (let_in t) = refl
 no_posts f refused s fits turned (found_moved t) = refl
 no_posts f refused s fits turned (found_closed t) = refl
@@ -192,7 +202,7 @@ empty_at h before after e refused l is =
 -- the line whose poster is inside or being turned back at a queue that isn't settled
 pub record Waits (f : Facts) (x k : ℕ) : Type 0 where
   pub line : ℕ
-  pub low : line < lines_of ((f.end x).peer)
+  pub low : line < lines_of ((f.end x).kind)
   pub away : is_out (f.line x line).phase ≡ false
   pub there : (f.line x line).stand ≡ k
 
@@ -207,7 +217,7 @@ not_false false h = refl
 
 pub waits_of : (f : Facts) (x k : ℕ) → someone_at f x k ≡ true → Waits f x k
 waits_of f x k h =
-    let found = any_of (λ l. is_away_at k (f.line x l)) (lines_of ((f.end x).peer)) h in
+    let found = any_of (λ l. is_away_at k (f.line x l)) (lines_of ((f.end x).kind)) h in
     let both = both_of (not (is_out (f.line x found.0).phase)) (eqb (f.line x found.0).stand k) found.2 in
     record { line = found.0; low = found.1; away = not_false (is_out (f.line x found.0).phase) both.0; there = eqb-true (f.line x found.0).stand k both.1 }
 

@@ -10,12 +10,14 @@ use Rattle.hub_core.specs.declared.sender.Sender.{Sender}
 use Rattle.hub_core.specs.declared.end.End.{End}
 use Rattle.hub_core.specs.declared.end.Place.{Place}
 use Rattle.hub_core.specs.declared.end.Place.TheVariants.{With, InFlight, Arrived, Swept, Gone}
-use Rattle.hub_core.specs.Facts.{AgentNow, EndNow, Facts}
-use Rattle.hub_core.specs.Posting.{running_at, holder, poster, hears_notice, is_here, may_enter}
-use Rattle.hub_core.specs.Shows.{agent_now, end_now, ShowsFacts}
-use Rattle.hub_core.specs.Kept.{is_running_agent, kept_running, kept_holder, kept_poster_of, kept_poster, kept_place, kept_hears_of, kept_hears, kept_may_enter}
+use Rattle.hub_core.specs.Facts.{AgentNow, EndNow, Facts, LineNow}
+use Rattle.hub_core.specs.Posting.{running_at, holder, poster, hears_notice, is_here, may_enter, poster_of, running}
+use Rattle.hub_core.specs.Shows.{agent_now, end_now, ShowsFacts, line_now}
+use Rattle.hub_core.specs.Kept.{is_running_agent, kept_running, kept_holder, kept_poster_of, kept_poster, kept_place, kept_hears_of, kept_hears, kept_may_enter, kept_runs, kept_line_of_port, kept_poster_by, kept_poster_on, source_of, kept_hears_by}
 use Rattle.hub_core.proofs.Frames.{ShownAt}
-use Rattle.hub_core.specs.Made.{lines_of}
+use Rattle.hub_core.specs.Made.{lines_of, peer_of}
+use Rattle.hub_core.specs.declared.kind.Kind.{Kind}
+use Rattle.hub_core.specs.declared.kind.Kind.TheVariants.{Port, Client, Worker}
 
 running_now : (o : Option Agent) → is_running_agent o ≡ (agent_now o).runs
 running_now None = refl
@@ -48,19 +50,32 @@ one_line (y ∷ []) zero one = refl
 one_line (y ∷ []) (suc l) one = search (rules, nat_tests)
 one_line (y ∷ z ∷ ls) l one = absurd (omega (arith, one))
 
-pub has_one_line : (f : Facts) (e : ℕ) (x : End) → ShownAt f e (Some x) → length x.lines ≡ 1
-has_one_line f e x h = h.count ∙ ap (λ (y : EndNow). lines_of y.peer) h.same
+running_kept : (agents : List Agent) (ends : List End) (f : Facts) (q : Option AgentId) → ShowsFacts agents ends f → kept_runs agents q ≡ running f q
+running_kept agents ends f None h = refl
+running_kept agents ends f (Some a) h = ap (λ b. cond b (Some a) None) (runs_kept agents ends f a.0 h)
 
-none_either : (b : Bool) → (let n : Option AgentId = None in n ≡ cond b None None)
-none_either true = refl
-none_either false = refl
+abbrev poster_found : List Agent → List End → Kind → Option Line → Option AgentId
+poster_found agents ends k None = None
+poster_found agents ends k (Some y) = kept_poster_by agents ends k y
+
+poster_line : (agents : List Agent) (ends : List End) (f : Facts) (s : Sender) (x : End) → ShowsFacts agents ends f → (k : Kind) → length x.lines ≡ lines_of (Some k) → (o : Option Line) → slice_get x.lines s.line.0 ≡ o → f.line s.end.0 s.line.0 ≡ line_now o → poster_found agents ends k o ≡ poster_of f s (Some k)
+poster_line agents ends f s x h (Port q) count None at line = ap (λ b. cond b (holder f q.0) None) (sym (ap is_some at) ∙ one_line x.lines s.line.0 count)
+poster_line agents ends f s x h (Port q) count (Some y) at line =
+    holder_kept agents ends f q.0 h ∙ ap (λ b. cond b (holder f q.0) None) (sym (ap is_some at) ∙ one_line x.lines s.line.0 count)
+poster_line agents ends f s x h Client count None at line = ap (λ (z : LineNow). running f z.held_by) (sym line)
+poster_line agents ends f s x h Client count (Some y) at line = running_kept agents ends f y.held_by h ∙ ap (λ (z : LineNow). running f z.held_by) (sym line)
+poster_line agents ends f s x h Worker count None at line = ap (λ (z : LineNow). running f z.held_by) (sym line)
+poster_line agents ends f s x h Worker count (Some y) at line = running_kept agents ends f y.held_by h ∙ ap (λ (z : LineNow). running f z.held_by) (sym line)
+
+poster_on : (agents : List Agent) (ends : List End) (f : Facts) (s : Sender) (x : End) → ShowsFacts agents ends f → length x.lines ≡ lines_of (Some x.kind) → (o : Option Line) → slice_get x.lines s.line.0 ≡ o → f.line s.end.0 s.line.0 ≡ line_now o → kept_poster_on agents ends x o ≡ poster_of f s (Some x.kind)
+poster_on agents ends f s x h count None at line = poster_line agents ends f s x h x.kind count None at line
+poster_on agents ends f s x h count (Some y) at line = poster_line agents ends f s x h x.kind count (Some y) at line
 
 poster_end : (agents : List Agent) (ends : List End) (f : Facts) (s : Sender) → ShowsFacts agents ends f → (o : Option End) → ShownAt f s.end.0 o → kept_poster_of agents ends s.line.0 o ≡ poster f s
-poster_end agents ends f s h None at = none_either (eqb s.line.0 0) ∙ ap (λ (y : EndNow). cond (eqb s.line.0 0) (option_and_then (holder f) y.peer) None) (sym at.same)
+poster_end agents ends f s h None at = ap (λ (y : EndNow). poster_of f s y.kind) (sym at.same)
 poster_end agents ends f s h (Some x) at =
-    ap (λ b. cond b (kept_holder agents ends x.peer.0) None) (one_line x.lines s.line.0 (has_one_line f s.end.0 x at))
-    ∙ ap (λ a. cond (eqb s.line.0 0) a None) (holder_kept agents ends f x.peer.0 h)
-    ∙ ap (λ (y : EndNow). cond (eqb s.line.0 0) (option_and_then (holder f) y.peer) None) (sym at.same)
+    let kind : (f.end s.end.0).kind ≡ Some x.kind = ap (λ (y : EndNow). y.kind) at.same in
+    poster_on agents ends f s x h (at.count ∙ ap lines_of kind) (slice_get x.lines s.line.0) refl (at.lines s.line.0) ∙ ap (poster_of f s) (sym kind)
 
 pub poster_kept : (agents : List Agent) (ends : List End) (f : Facts) (s : Sender) → ShowsFacts agents ends f → kept_poster agents ends s ≡ poster f s
 poster_kept agents ends f s h = poster_end agents ends f s h (slice_get ends s.end.0) (h.end s.end.0)
@@ -73,11 +88,16 @@ never_heard : (b : Bool) → false ≡ (b && false)
 never_heard true = refl
 never_heard false = refl
 
+hears_by : (agents : List Agent) (ends : List End) (f : Facts) (k : Kind) → ShowsFacts agents ends f → kept_hears_by ends k ≡ is_here (option_and_then (λ q. (f.end q).place) (peer_of (Some k)))
+hears_by agents ends f (Port q) h = ap is_here (place_kept agents ends f q.0 h)
+hears_by agents ends f Client h = refl
+hears_by agents ends f Worker h = refl
+
 hears_end : (agents : List Agent) (ends : List End) (f : Facts) (s : Sender) → ShowsFacts agents ends f → (o : Option End) → ShownAt f s.end.0 o → kept_hears_of ends s.line.0 o ≡ hears_notice f s
-hears_end agents ends f s h None at = never_heard (eqb s.line.0 0) ∙ ap (λ (y : EndNow). eqb s.line.0 0 && is_here (option_and_then (λ q. (f.end q).place) y.peer)) (sym at.same)
+hears_end agents ends f s h None at = never_heard (eqb s.line.0 0) ∙ ap (λ (y : EndNow). eqb s.line.0 0 && is_here (option_and_then (λ q. (f.end q).place) (peer_of y.kind))) (sym at.same)
 hears_end agents ends f s h (Some x) at =
-    ap (λ p. eqb s.line.0 0 && is_here p) (place_kept agents ends f x.peer.0 h)
-    ∙ ap (λ (y : EndNow). eqb s.line.0 0 && is_here (option_and_then (λ q. (f.end q).place) y.peer)) (sym at.same)
+    ap (λ b. eqb s.line.0 0 && b) (hears_by agents ends f x.kind h)
+    ∙ ap (λ (y : EndNow). eqb s.line.0 0 && is_here (option_and_then (λ q. (f.end q).place) (peer_of y.kind))) (sym at.same)
 
 pub hears_kept : (agents : List Agent) (ends : List End) (f : Facts) (s : Sender) → ShowsFacts agents ends f → kept_hears ends s ≡ hears_notice f s
 hears_kept agents ends f s h = hears_end agents ends f s h (slice_get ends s.end.0) (h.end s.end.0)
@@ -86,9 +106,22 @@ pub may_kept : (agents : List Agent) (ends : List End) (f : Facts) (s : Sender) 
 may_kept agents ends f s h = ap (λ p. is_some p || kept_hears ends s) (poster_kept agents ends f s h) ∙ ap (λ b. is_some (poster f s) || b) (hears_kept agents ends f s h)
 
 -- the line that a port posts on
-line_of : (o : Option End) → option_map (λ (y : End). let s : Sender = record { end = y.peer; line = record { 0 = 0 } } in s) o ≡ option_map (λ q. record { end = record { 0 = q }; line = record { 0 = 0 } }) ((end_now o).peer)
-line_of None = refl
-line_of (Some y) = refl
+line_by : (k : Kind) → option_map (λ q. let s : Sender = record { end = q; line = record { 0 = 0 } } in s) (source_of k) ≡ option_map (λ q. record { end = record { 0 = q }; line = record { 0 = 0 } }) (peer_of (Some k))
+line_by (Port q) = refl
+line_by Client = refl
+line_by Worker = refl
 
-pub line_kept : (agents : List Agent) (ends : List End) (f : Facts) (x : ℕ) → ShowsFacts agents ends f → option_map (λ (y : End). let s : Sender = record { end = y.peer; line = record { 0 = 0 } } in s) (slice_get ends x) ≡ option_map (λ q. record { end = record { 0 = q }; line = record { 0 = 0 } }) ((f.end x).peer)
-line_kept agents ends f x h = line_of (slice_get ends x) ∙ ap (λ (y : EndNow). option_map (λ q. let s : Sender = record { end = record { 0 = q }; line = record { 0 = 0 } } in s) y.peer) (sym (h.end x).same)
+line_of : (o : Option End) → kept_line_of_port o ≡ option_map (λ q. record { end = record { 0 = q }; line = record { 0 = 0 } }) (peer_of (end_now o).kind)
+line_of None = refl
+line_of (Some y) = line_by y.kind
+
+pub line_kept : (agents : List Agent) (ends : List End) (f : Facts) (x : ℕ) → ShowsFacts agents ends f → kept_line_of_port (slice_get ends x) ≡ option_map (λ q. record { end = record { 0 = q }; line = record { 0 = 0 } }) (peer_of (f.end x).kind)
+line_kept agents ends f x h = line_of (slice_get ends x) ∙ ap (λ (y : EndNow). option_map (λ q. let s : Sender = record { end = record { 0 = q }; line = record { 0 = 0 } } in s) (peer_of y.kind)) (sym (h.end x).same)
+
+-- what is kept of an end's kind
+kind_now : (o : Option End) → option_map (λ (x : End). x.kind) o ≡ (end_now o).kind
+kind_now None = refl
+kind_now (Some x) = refl
+
+pub kind_kept : (agents : List Agent) (ends : List End) (f : Facts) (e : ℕ) → ShowsFacts agents ends f → option_map (λ (x : End). x.kind) (slice_get ends e) ≡ (f.end e).kind
+kind_kept agents ends f e h = kind_now (slice_get ends e) ∙ ap (λ (x : EndNow). x.kind) (sym (h.end e).same)

@@ -27,6 +27,7 @@ use Rattle.hub_core.proofs.Entering.{unmade_line, line_is_kept}
 use Rattle.hub_core.specs.Unchanged.{changes_nothing}
 use Rattle.hub_core.specs.declared.line.Phase.TheVariants.{Inside}
 use Rattle.hub_core.proofs.Fitting.{hopped_of}
+use Rattle.hub_core.proofs.Counts.{counts_still}
 
 -- ---- a line at the next queue
 
@@ -49,7 +50,7 @@ gone_inside : (old : ℕ → LineNow) (k bound l : ℕ) → (b : Bool) → eqb l
 gone_inside old k bound l true is out kept at = absurd (out (ap (λ i. (old i).phase) (sym (eqb-true l k is)) ∙ at))
 gone_inside old k bound l false is out kept at = kept at
 
-gone_end : (e n : ℕ) (now : EndNow) (old : ℕ → LineNow) (clear : ℕ → Bool) (vs ts : List Envelope) (x : End) (y : Line) (k : ℕ) → slice_get x.lines k ≡ Some y → AllByRecursion (IsOfEnd e n old) vs → ((old k).phase ≡ Inside → ⊥) → ShowsEnd now old clear vs ts (Some x) → ShowsEnd now (λ l. record { phase = (old l).phase; stand = cond (eqb l k) ((old l).stand + 1) (old l).stand; noticed = (old l).noticed }) clear vs ts (Some (hopped_end x k y))
+gone_end : (e n : ℕ) (now : EndNow) (old : ℕ → LineNow) (clear : ℕ → Bool) (vs ts : List Envelope) (x : End) (y : Line) (k : ℕ) → slice_get x.lines k ≡ Some y → AllByRecursion (IsOfEnd e n old) vs → ((old k).phase ≡ Inside → ⊥) → ShowsEnd now old clear vs ts (Some x) → ShowsEnd now (λ l. record { phase = (old l).phase; stand = cond (eqb l k) ((old l).stand + 1) (old l).stand; noticed = (old l).noticed; held_by = (old l).held_by }) clear vs ts (Some (hopped_end x k y))
 gone_end e n now old clear vs ts x y k is named out h =
     let within : k < length x.lines = slice_get_within x.lines k y is in
     let mine : old k ≡ line_now (Some y) = h.lines k ∙ ap line_now is in
@@ -57,9 +58,9 @@ gone_end e n now old clear vs ts x y k is named out h =
     record {
       same = h.same;
       count = length-set x.lines k next ∙ h.count;
-      lines = each_set (λ l o. (let z : LineNow = record { phase = (old l).phase; stand = cond (eqb l k) ((old l).stand + 1) (old l).stand; noticed = (old l).noticed } in z ≡ line_now o)) x.lines k next within
-          (ap (λ b. let z : LineNow = record { phase = (old k).phase; stand = cond b ((old k).stand + 1) (old k).stand; noticed = (old k).noticed } in z) (eqb_same k) ∙ ap (λ (z : LineNow). let w : LineNow = record { phase = z.phase; stand = z.stand + 1; noticed = z.noticed } in w) mine)
-          (λ l other. ap (λ b. let z : LineNow = record { phase = (old l).phase; stand = cond b ((old l).stand + 1) (old l).stand; noticed = (old l).noticed } in z) (ne_eqb l k other) ∙ h.lines l);
+      lines = each_set (λ l o. (let z : LineNow = record { phase = (old l).phase; stand = cond (eqb l k) ((old l).stand + 1) (old l).stand; noticed = (old l).noticed; held_by = (old l).held_by } in z ≡ line_now o)) x.lines k next within
+          (ap (λ b. let z : LineNow = record { phase = (old k).phase; stand = cond b ((old k).stand + 1) (old k).stand; noticed = (old k).noticed; held_by = (old k).held_by } in z) (eqb_same k) ∙ ap (λ (z : LineNow). let w : LineNow = record { phase = z.phase; stand = z.stand + 1; noticed = z.noticed; held_by = z.held_by } in w) mine)
+          (λ l other. ap (λ b. let z : LineNow = record { phase = (old l).phase; stand = cond b ((old l).stand + 1) (old l).stand; noticed = (old l).noticed; held_by = (old l).held_by } in z) (ne_eqb l k other) ∙ h.lines l);
       put = each_set (ShowsPut vs) x.lines k next within
           (nothing_next e n old k y.epoch (ap (λ (z : LineNow). z.stand) mine) vs named)
           (λ l other. h.put l);
@@ -70,9 +71,9 @@ gone_end e n now old clear vs ts x y k is named out h =
 gone_shown : (agents : List Agent) (ends : List End) (f : Facts) (s : Sender) (x : End) (y : Line) → ShowsFacts agents ends f → slice_get ends s.end.0 ≡ Some x → slice_get x.lines s.line.0 ≡ Some y → is_out (f.line s.end.0 s.line.0).phase ≡ true → (d : ℕ) → ShowsEnd (f.end d) (gone_line f s d) (f.clear d) (f.accepted d) (f.taken d ++ f.discarded d) (slice_get (set ends s.end.0 (hopped_end x s.line.0 y)) d)
 gone_shown agents ends f s x y h at is out =
     each_set (λ d o. ShowsEnd (f.end d) (gone_line f s d) (f.clear d) (f.accepted d) (f.taken d ++ f.discarded d) o) ends s.end.0 (hopped_end x s.line.0 y) (slice_get_within ends s.end.0 x at)
-    (subst (λ b. ShowsEnd (f.end s.end.0) (λ l. record { phase = (f.line s.end.0 l).phase; stand = cond (b && eqb l s.line.0) ((f.line s.end.0 l).stand + 1) (f.line s.end.0 l).stand; noticed = (f.line s.end.0 l).noticed }) (f.clear s.end.0) (f.accepted s.end.0) (f.taken s.end.0 ++ f.discarded s.end.0) (Some (hopped_end x s.line.0 y))) (sym (eqb_same s.end.0))
+    (subst (λ b. ShowsEnd (f.end s.end.0) (λ l. record { phase = (f.line s.end.0 l).phase; stand = cond (b && eqb l s.line.0) ((f.line s.end.0 l).stand + 1) (f.line s.end.0 l).stand; noticed = (f.line s.end.0 l).noticed; held_by = (f.line s.end.0 l).held_by }) (f.clear s.end.0) (f.accepted s.end.0) (f.taken s.end.0 ++ f.discarded s.end.0) (Some (hopped_end x s.line.0 y))) (sym (eqb_same s.end.0))
     (gone_end s.end.0 _ (f.end s.end.0) (f.line s.end.0) (f.clear s.end.0) (f.accepted s.end.0) (f.taken s.end.0 ++ f.discarded s.end.0) x y s.line.0 is (h.sound.lines s.end.0).named (λ inside. false≢true (sym (ap is_out inside) ∙ out)) (subst (ShownAt f s.end.0) at (h.end s.end.0))))
-    (λ d other. subst (λ b. ShowsEnd (f.end d) (λ l. record { phase = (f.line d l).phase; stand = cond (b && eqb l s.line.0) ((f.line d l).stand + 1) (f.line d l).stand; noticed = (f.line d l).noticed }) (f.clear d) (f.accepted d) (f.taken d ++ f.discarded d) (slice_get ends d)) (sym (ne_eqb d s.end.0 other)) (h.end d))
+    (λ d other. subst (λ b. ShowsEnd (f.end d) (λ l. record { phase = (f.line d l).phase; stand = cond (b && eqb l s.line.0) ((f.line d l).stand + 1) (f.line d l).stand; noticed = (f.line d l).noticed; held_by = (f.line d l).held_by }) (f.clear d) (f.accepted d) (f.taken d ++ f.discarded d) (slice_get ends d)) (sym (ne_eqb d s.end.0 other)) (h.end d))
 
 -- ---- what is answered
 
@@ -84,10 +85,10 @@ hop_refused f s none = rw none refl
 
 hop_line : (agents : List Agent) (ends : List End) (f : Facts) (s : Sender) (refused : Bool) (x : End) → ShowsFacts agents ends f → slice_get ends s.end.0 ≡ Some x → ShownAt f s.end.0 (Some x) → may_enter f s ≡ true → (o : Option Line) → slice_get x.lines s.line.0 ≡ o → f.line s.end.0 s.line.0 ≡ line_now o → Stepped agents (set ends s.end.0 (hop_end x s.line.0 o)) f (action.Hop s) refused (hop_outcome x o)
 hop_line agents ends f s refused x h at shown may None is line =
-    absurd (line_is_kept f s x shown may is)
+    absurd (line_is_kept f s x (h.sound.lines s.end.0) shown may is)
 hop_line agents ends f s refused x h at shown may (Some y) is line =
     elim (may_hop x y) as (λ b. cond b (outcome.Hopped (y.epoch + 1)) outcome.NotNow ≡ hop_answer f s → Stepped agents (set ends s.end.0 (cond b (hopped_end x s.line.0 y) x)) f (action.Hop s) refused (cond b (outcome.Hopped (y.epoch + 1)) outcome.NotNow)) [
-      | true ↦ λ answer. changed agents ends _ f (action.Hop s) refused (outcome.Hopped (y.epoch + 1)) h answer refl refl refl (length-set ends s.end.0 (hopped_end x s.line.0 y)) (gone_shown agents ends f s x y h at is (hopped_of f s (y.epoch + 1) answer).out)
+      | true ↦ λ answer. changed agents ends _ f (action.Hop s) refused (outcome.Hopped (y.epoch + 1)) h answer refl refl refl (length-set ends s.end.0 (hopped_end x s.line.0 y)) (counts_still agents ends f _ h refl (λ d. refl) (λ d. refl)) (gone_shown agents ends f s x y h at is (hopped_of f s (y.epoch + 1) answer).out)
       | false ↦ λ answer. unchanged agents ends _ f (action.Hop s) refused outcome.NotNow outcome.NotNow h refl refl (set_again ends s.end.0 x at) answer
     ] (hop_as f s (end_now (Some x)) (line_now (Some y)) shown.same line may)
 

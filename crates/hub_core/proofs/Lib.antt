@@ -14,6 +14,7 @@ pub mod Joins
 pub mod SweepOrders
 pub mod Orders
 pub mod Sames
+pub mod Counts
 pub mod Frames
 pub mod Holders
 pub mod Entering
@@ -31,6 +32,8 @@ pub mod Puts
 pub mod Pushes
 pub mod Notices
 pub mod Makes
+pub mod Holds
+pub mod Hands
 pub mod Stepping
 pub mod Items
 pub mod Queueing

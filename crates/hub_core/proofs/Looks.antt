@@ -14,7 +14,7 @@ use Rattle.hub_core.specs.declared.step.Action.TheVariants as action
 use Rattle.hub_core.specs.declared.outcome.Outcome.{Outcome}
 use Rattle.hub_core.specs.declared.outcome.Outcome.TheVariants as outcome
 use Rattle.hub_core.specs.Facts.{EndNow, LineNow, Facts}
-use Rattle.hub_core.specs.Looking.{first_unclear, lookable, looked, look_answer_of, look_answer}
+use Rattle.hub_core.specs.Looking.{first_failing, lookable, looked, look_answer_of, look_answer}
 use Rattle.hub_core.specs.Sound.{no_end}
 use Rattle.hub_core.specs.Shows.{ShowsEnd, ShowsFacts, KeepsQueues}
 use Rattle.hub_core.specs.Unchanged.{changes_nothing}
@@ -22,6 +22,7 @@ use Rattle.hub_core.specs.Kept.{is_anyone_at, kept_looked, look_answer_at, may_l
 use Rattle.hub_core.proofs.Lists.{eqb_same, set_again, each_set}
 use Rattle.hub_core.proofs.Frames.{ShownAt, Stepped, changed, unchanged}
 use Rattle.hub_core.proofs.Presence.{someone_kept}
+use Rattle.hub_core.proofs.Counts.{counts_still}
 
 -- ---- the queue that is looked at
 
@@ -35,9 +36,9 @@ next_up : (n m : ℕ) → n < m → n + 1 ≤ m
 next_up n m less = omega arith
 
 -- where the queues from k on are clear exactly below a number, that is the first that isn't
-first_below : (clear : ℕ → Bool) (k n last : ℕ) → k ≤ last → ((i : ℕ) → k ≤ i → clear i ≡ nat_lt i last) → first_unclear clear k n ≡ cond (nat_lt last (k + n)) (Some last) None
+first_below : (clear : ℕ → Bool) (k n last : ℕ) → k ≤ last → ((i : ℕ) → k ≤ i → clear i ≡ nat_lt i last) → first_failing clear k n ≡ cond (nat_lt last (k + n)) (Some last) None
 first_below clear k zero last from h = ap (λ b. cond b (Some last) None) (sym (not_below last (k + 0) (omega arith)))
-first_below clear k (suc n) last from h = ap (λ b. cond b (first_unclear clear (k + 1) n) (Some k)) (h k (omega arith)) ∙ elim (nat_lt k last) as (λ b. nat_lt k last ≡ b → cond b (first_unclear clear (k + 1) n) (Some k) ≡ cond (nat_lt last (k + suc n)) (Some last) None) [
+first_below clear k (suc n) last from h = ap (λ b. cond b (first_failing clear (k + 1) n) (Some k)) (h k (omega arith)) ∙ elim (nat_lt k last) as (λ b. nat_lt k last ≡ b → cond b (first_failing clear (k + 1) n) (Some k) ≡ cond (nat_lt last (k + suc n)) (Some last) None) [
   | true ↦ λ is.
       let sum : k + 1 + n ≡ k + suc n = omega arith in
       first_below clear (k + 1) n last (next_up k last (ltb-true k last is)) (λ i more. h i (omega (arith, more))) ∙ ap (λ m. cond (nat_lt last m) (Some last) None) sum
@@ -65,7 +66,7 @@ looked_within taker newest last false within =
 looked_kept : (f : Facts) (e : ℕ) (x : End) → ShownAt f e (Some x) → (f.end e).taker_stand ≤ (f.end e).newest → looked f e ≡ kept_looked x
 looked_kept f e x h within =
     let low : x.taker ≤ x.newest = subst (λ (y : EndNow). y.taker_stand ≤ y.newest) h.same within in
-    ap (λ (y : EndNow). first_unclear (f.clear e) y.taker_stand (lookable y.taker_stand y.newest y.closed)) h.same
+    ap (λ (y : EndNow). first_failing (f.clear e) y.taker_stand (lookable y.taker_stand y.newest y.closed)) h.same
     ∙ first_below (f.clear e) x.taker (lookable x.taker x.newest x.is_closed) x.looked h.queues.reached h.queues.clear_below
     ∙ ap (λ b. cond b (Some x.looked) None) (looked_within x.taker x.newest x.looked x.is_closed low)
 
@@ -105,7 +106,7 @@ cleared_end now line clear vs ts x h = record { same = h.same; count = h.count; 
 cleared_shown : (agents : List Agent) (ends : List End) (f : Facts) (e : EndId) (refused : Bool) (x : End) → ShowsFacts agents ends f → slice_get ends e.0 ≡ Some x → outcome.Clear (Some x.looked) ≡ look_answer f e → Stepped agents (set ends e.0 (record x { looked = x.looked + 1 })) f (action.Look e) refused (outcome.Clear (Some x.looked))
 cleared_shown agents ends f e refused x h at answer =
     let y : End = record x { looked = x.looked + 1 } in
-    changed agents ends (set ends e.0 y) f (action.Look e) refused (outcome.Clear (Some x.looked)) h answer refl refl refl (length-set ends e.0 y)
+    changed agents ends (set ends e.0 y) f (action.Look e) refused (outcome.Clear (Some x.looked)) h answer refl refl refl (length-set ends e.0 y) (counts_still agents ends f _ h refl (λ d. refl) (λ d. refl))
     (each_set (λ d q. ShowsEnd (f.end d) (f.line d) (λ i. cond (eqb d e.0 && eqb i x.looked) true (f.clear d i)) (f.accepted d) (f.taken d ++ f.discarded d) q) ends e.0 y (slice_get_within ends e.0 x at)
     (subst (λ b. ShowsEnd (f.end e.0) (f.line e.0) (λ i. cond (b && eqb i x.looked) true (f.clear e.0 i)) (f.accepted e.0) (f.taken e.0 ++ f.discarded e.0) (Some y)) (sym (eqb_same e.0)) (cleared_end (f.end e.0) (f.line e.0) (f.clear e.0) (f.accepted e.0) (f.taken e.0 ++ f.discarded e.0) x (subst (ShownAt f e.0) at (h.end e.0))))
     (λ d other. subst (λ b. ShowsEnd (f.end d) (f.line d) (λ i. cond (b && eqb i x.looked) true (f.clear d i)) (f.accepted d) (f.taken d ++ f.discarded d) (slice_get ends d)) (sym (ne_eqb d e.0 other)) (h.end d)))

@@ -46,7 +46,7 @@ homes_there collected phase (l ∷ ls) = λ i. home_there (leaves_right (phase l
 -- what was accepted at an end is of queues up to the newest
 pub accepted_below : (f : Facts) (e : ℕ) → Sound f → AllByRecursion (λ (v : Envelope). ltb v.epoch ((f.end e).newest + 1) ≡ true) (f.accepted e)
 accepted_below f e sound =
-    AllByRecursion-weaker (IsOfEnd e (lines_of ((f.end e).peer)) (f.line e)) (λ v. ltb v.epoch ((f.end e).newest + 1) ≡ true) (λ v is.
+    AllByRecursion-weaker (IsOfEnd e (lines_of ((f.end e).kind)) (f.line e)) (λ v. ltb v.epoch ((f.end e).newest + 1) ≡ true) (λ v is.
     let low : v.epoch ≤ (f.line e v.line.0).stand = is.epoch in
     let stand : (f.line e v.line.0).stand ≤ (f.end e).newest = (sound.lines e).stand v.line.0 in
     lt-ltb v.epoch ((f.end e).newest + 1) (omega arith)) (f.accepted e) (sound.lines e).named
@@ -55,7 +55,7 @@ accepted_below f e sound =
 
 module _ (f : Facts) (e : ℕ) (held : ℕ → List Envelope) where
   abbrev lines : ℕ
-  lines = lines_of ((f.end e).peer)
+  lines = lines_of ((f.end e).kind)
 
   abbrev newest : ℕ
   newest = (f.end e).newest

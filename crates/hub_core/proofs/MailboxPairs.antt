@@ -1,5 +1,5 @@
 -- Each pair of a history is events of the mailbox of an end, or leaves it.
-use Rattle.std.proofs.Common.{◌≡◌, ℕ, ◌+◌, ◌-◌, ◌<◌, ◌||◌, ◌&&◌, Bool, true, false, cond, eqb, List, [], ◌∷◌, ◌++◌, length, refl, sym, ap, subst, ◌∙◌, inl, inr, arith, Some, None}
+use Rattle.std.proofs.Common.{◌≡◌, ℕ, ◌+◌, ◌-◌, ◌<◌, ◌||◌, ◌&&◌, Bool, true, false, cond, eqb, List, [], ◌∷◌, ◌++◌, length, refl, sym, ap, subst, ◌∙◌, inl, inr, arith, Some, None, Option}
 use Rattle.std.specs.Prelude.{◌⊎◌, not}
 use Rattle.std.proofs.lemmas.Bool.{eqb-true, ne_eqb, or_parts, not-false}
 use Rattle.hub_envelope.specs.declared.ids.EndId.{EndId}
@@ -10,7 +10,7 @@ use Rattle.hub_core.specs.declared.outcome.Outcome.{Outcome}
 use Rattle.hub_core.specs.declared.outcome.Outcome.TheVariants as outcome
 use Rattle.hub_core.specs.Facts.{Facts, facts}
 use Rattle.hub_core.specs.Accepted.{named_envelope, named_notice}
-use Rattle.hub_core.specs.Made.{lines_of}
+use Rattle.hub_core.specs.Made.{lines_of, peer_of}
 use Rattle.hub_core.specs.Sender.{in_queue}
 use Rattle.hub_core.specs.Looking.{someone_at, looked, look_answer}
 use Rattle.hub_core.specs.Taking.{IsDrained, IsLeft, FitsTake}
@@ -20,8 +20,8 @@ use Rattle.hub_core.specs.GateMachine.{enter, enable, look, close, lets_in, says
 use Rattle.hub_core.specs.Mailbox.{Mailbox}
 use Rattle.hub_core.specs.MailboxSteps.{MailboxEvent, at_gate, push, pop, hop, advance, add, IsSettled, HoldsNothing}
 use Rattle.hub_core.specs.MailboxPairs.{OneRight, leaving, finds_busy, finds_busy_at, rights_of, events_of, HoldsAll, HoldsWhatLeaves, sweeping, PairsAreEvents}
-use Rattle.hub_core.proofs.Nexts.{next, Change, agent_made, channel_made, let_in, found_moved, found_closed, put, left, hopped, started, got, went_on, cleared, adopted, notice_put, end_closed, end_swept}
-use Rattle.hub_core.proofs.Fitting.{new_ends, pushed_of, noticed_of, hopped_of, got_of, empty_of, busy_of, went_on_of, cleared_of, FindsBusy, look_busy_of, adopted_of, swept_of}
+use Rattle.hub_core.proofs.Nexts.{next, Change, agent_made, channel_made, let_in, found_moved, found_closed, put, left, hopped, started, got, went_on, cleared, adopted, notice_put, end_closed, end_swept, client_made, worker_made, line_got, line_back, handed}
+use Rattle.hub_core.proofs.Fitting.{new_ends, pushed_of, noticed_of, hopped_of, got_of, empty_of, busy_of, went_on_of, cleared_of, FindsBusy, look_busy_of, adopted_of, swept_of, queue_made_of}
 use Rattle.hub_core.proofs.Sounds.{sound_legal}
 use Rattle.hub_core.proofs.MailboxShown.{View, view, ShownAt, IsShown, Leads, of_history, with_pair, at_end_or}
 use Rattle.hub_core.proofs.PairGates.{with_line, entered, turned_moved, turned_closed, left_line, started_there, closed_there}
@@ -29,6 +29,11 @@ use Rattle.hub_core.proofs.PairQueues.{pushed_there, with_notice, noticed_there,
 use Rattle.hub_core.proofs.PairLooks.{settled_there, busy_there, look_busy_there, cleared_there}
 use Rattle.hub_core.proofs.PairSweeps.{swept_there}
 use Rattle.hub_core.proofs.PairMoves.{with_next, hopped_there, with_taker_at, went_on_there, with_queue_new, adopted_there}
+use Rattle.hub_core.specs.declared.kind.Kind.{Kind}
+use Rattle.hub_core.specs.declared.kind.Kind.TheVariants.{Port, Client, Worker}
+use Rattle.hub_envelope.specs.declared.ids.AgentId.{AgentId}
+use Rattle.hub_core.specs.Making.{is_client, is_worker}
+use Rattle.hub_core.specs.Lines.{on_line}
 
 -- ---- the pairs that are events
 
@@ -42,6 +47,11 @@ data Happens : Action → Outcome → Type 0 where
 kind_of : (f : Facts) (e : ℕ) (m : Mailbox OneRight) (o : Outcome) (a : Action) → ((events_of f e m o a ≡ []) × (next f a o ≡ f)) ⊎ Happens a o
 kind_of f e m (outcome.Agent n) action.Agent = inr (changes _ _ (agent_made n))
 kind_of f e m (outcome.Ends x y) (action.Channel a) = inr (changes _ _ (channel_made a x y))
+kind_of f e m (outcome.End x) (action.Client a) = inr (changes _ _ (client_made a x))
+kind_of f e m (outcome.End x) (action.Worker a) = inr (changes _ _ (worker_made a x))
+kind_of f e m (outcome.Line l) (action.Line x a) = inr (changes _ _ (line_got x a l))
+kind_of f e m outcome.Done (action.Back s) = inr (changes _ _ (line_back s))
+kind_of f e m outcome.Handed (action.Hand x b) = inr (changes _ _ (handed x b))
 kind_of f e m outcome.In (action.Enter s) = inr (changes _ _ (let_in s))
 kind_of f e m outcome.Moved (action.Enter s) = inr (changes _ _ (found_moved s))
 kind_of f e m outcome.Closed (action.Enter s) = inr (changes _ _ (found_closed s))
@@ -67,7 +77,7 @@ unmade e n x is below = ne_eqb e x (λ same. absurd (omega arith))
 
 module _ (f : Facts) (e : ℕ) (m : Mailbox OneRight) (sound : Sound f) (shown : ShownAt f e m) where
   abbrev lines : ℕ → ℕ
-  lines y = lines_of ((f.end y).peer)
+  lines y = lines_of ((f.end y).kind)
 
   -- what is proved for the end of the step holds for this end where it is the same, and another end stays
   at_step : (x : ℕ) (events : ℕ → List (MailboxEvent OneRight)) (w : ℕ → Bool → View) → IsShown e (w e false) m → (ShownAt f x m → Leads x (lines x) m (events x) (w x true)) → Leads e (lines e) m (cond (eqb e x) (events e) []) (w e (eqb e x))
@@ -79,10 +89,27 @@ module _ (f : Facts) (e : ℕ) (m : Mailbox OneRight) (sound : Sound f) (shown :
   none_discarded x opened = (sound.waiting x).kept opened
 
   made_channel : (x y : EndId) → e < f.ends → x.0 ≡ f.ends → y.0 ≡ f.ends + 1
-      → IsShown e (record (view f e) { peer = cond (eqb e x.0) (Some y.0) (cond (eqb e y.0) (Some x.0) ((f.end e).peer)); enabled = cond (eqb e x.0 || eqb e y.0) false ((f.end e).enabled) }) m
+      → IsShown e (record (view f e) { kind = cond (eqb e x.0) (Some (Port y)) (cond (eqb e y.0) (Some (Port x)) (f.end e).kind) }) m
   made_channel x y made first second =
-      subst (λ b. IsShown e (record (view f e) { peer = cond b (Some y.0) (cond (eqb e y.0) (Some x.0) ((f.end e).peer)); enabled = cond (b || eqb e y.0) false ((f.end e).enabled) }) m) (sym (unmade e f.ends x.0 first made))
-      (subst (λ b. IsShown e (record (view f e) { peer = cond b (Some x.0) ((f.end e).peer); enabled = cond b false ((f.end e).enabled) }) m) (sym (unmade e (f.ends + 1) y.0 second (omega arith))) shown)
+      subst (λ b. IsShown e (record (view f e) { kind = cond b (Some (Port y)) (cond (eqb e y.0) (Some (Port x)) (f.end e).kind) }) m) (sym (unmade e f.ends x.0 first made))
+      (subst (λ b. IsShown e (record (view f e) { kind = cond b (Some (Port x)) (f.end e).kind }) m) (sym (unmade e (f.ends + 1) y.0 second (omega arith))) shown)
+
+  made_queue : (x : EndId) (k : Kind) → e < f.ends → x.0 ≡ f.ends → IsShown e (record (view f e) { kind = cond (eqb e x.0) (Some k) (f.end e).kind }) m
+  made_queue x k made first = subst (λ b. IsShown e (record (view f e) { kind = cond b (Some k) (f.end e).kind }) m) (sym (unmade e f.ends x.0 first made)) shown
+
+  -- who holds a line isn't shown
+  held_shown : (holder : ℕ → Option AgentId) → IsShown e (record (view f e) { line = λ l. record { phase = (f.line e l).phase; stand = (f.line e l).stand; noticed = (f.line e l).noticed; held_by = holder l } }) m
+  held_shown holder = record {
+    is_mailbox = shown.is_mailbox;
+    gates = shown.gates;
+    put = shown.put;
+    got = shown.got;
+    flags = shown.flags;
+    given = shown.given;
+    stands = shown.stands;
+    phases = shown.phases;
+    taker_at = shown.taker_at;
+  }
 
   -- ---- takes that find no envelope
 
@@ -134,23 +161,28 @@ module _ (f : Facts) (e : ℕ) (m : Mailbox OneRight) (sound : Sound f) (shown :
   changed refused fits made (channel_made a x y) first =
       let new = new_ends f a refused x y fits in
       (m, refl, made_channel x y made (ap (λ (n : EndId). n.0) new.1) (ap (λ (n : EndId). n.0) new.2))
+  changed refused fits made (client_made a x) first = (m, refl, made_queue x Client made (ap (λ (n : EndId). n.0) (queue_made_of f is_client a refused x fits).number))
+  changed refused fits made (worker_made a x) first = (m, refl, made_queue x Worker made (ap (λ (n : EndId). n.0) (queue_made_of f is_worker a refused x fits).number))
+  changed refused fits made (line_got x a l) first = (m, refl, held_shown (λ i. on_line e i (record { end = x; line = l }) (Some a) (f.line e i).held_by))
+  changed refused fits made (line_back s) first = (m, refl, held_shown (λ i. on_line e i s None (f.line e i).held_by))
+  changed refused fits made (handed x b) first = (m, refl, shown)
   changed refused fits made (let_in s) first =
-      at_step s.end.0 (λ y. at_gate ((f.line y s.line.0).stand) (enter s.line.0) (lets_in tt) ∷ []) (λ y. with_line f y s.line.0 Inside) shown (λ there. entered f s m there fits)
+      at_step s.end.0 (λ y. at_gate ((f.line y s.line.0).stand) (enter s.line.0) (lets_in tt) ∷ []) (λ y. with_line f y s.line.0 Inside) shown (λ there. entered f s m there (sound.lines s.end.0) fits)
   changed refused fits made (found_moved s) first =
-      at_step s.end.0 (λ y. at_gate ((f.line y s.line.0).stand) (enter s.line.0) says_moved ∷ []) (λ y. with_line f y s.line.0 Turned) shown (λ there. turned_moved f s m there fits)
+      at_step s.end.0 (λ y. at_gate ((f.line y s.line.0).stand) (enter s.line.0) says_moved ∷ []) (λ y. with_line f y s.line.0 Turned) shown (λ there. turned_moved f s m there (sound.lines s.end.0) fits)
   changed refused fits made (found_closed s) first =
-      at_step s.end.0 (λ y. at_gate ((f.line y s.line.0).stand) (enter s.line.0) says_closed ∷ []) (λ y. with_line f y s.line.0 Turned) shown (λ there. turned_closed f s m there fits)
+      at_step s.end.0 (λ y. at_gate ((f.line y s.line.0).stand) (enter s.line.0) says_closed ∷ []) (λ y. with_line f y s.line.0 Turned) shown (λ there. turned_closed f s m there (sound.lines s.end.0) fits)
   changed refused fits made (put s ports body n) first =
       at_step s.end.0 (λ y. push (named_envelope s n body ports.items) ∷ [])
       (λ y b. record (view f y) { accepted = cond b (f.accepted y ++ named_envelope s n body ports.items ∷ []) (f.accepted y) }) shown
-      (λ there. pushed_there f s ports.items body n m there (pushed_of f s ports.items refused n fits))
+      (λ there. pushed_there f s ports.items body n m there (sound.lines s.end.0) (pushed_of f s ports.items refused n fits))
   changed refused fits made (notice_put s n) first =
       at_step s.end.0 (λ y. push (named_notice s n) ∷ []) (λ y. with_notice f y s n) shown (λ there. noticed_there f s n m there (noticed_of f s refused n fits))
   changed refused fits made (left s) first =
       at_step s.end.0 (λ y. leaving m ((f.line y s.line.0).stand) s.line.0 ((f.line y s.line.0).phase) ∷ []) (λ y. with_line f y s.line.0 Out) shown (λ there. left_line f s m there sound fits)
   changed refused fits made (hopped s k) first =
       let may = hopped_of f s k fits in
-      at_step s.end.0 (λ y. hop s.line.0 ∷ []) (λ y. with_next f y s.line.0) shown (λ there. hopped_there f s m there may.may may.out may.retired)
+      at_step s.end.0 (λ y. hop s.line.0 ∷ []) (λ y. with_next f y s.line.0) shown (λ there. hopped_there f s m there (sound.lines s.end.0) may.may may.out may.retired)
   changed refused fits made (started x) first =
       at_step x.0 (λ y. at_gate ((f.end y).newest) enable says_done ∷ []) (λ y b. record (view f y) { enabled = cond b true ((f.end y).enabled) }) shown (λ there. started_there f x.0 m there)
   changed refused fits made (got x v) first =

@@ -7,7 +7,7 @@ use Rattle.hub_envelope.specs.declared.envelope.Envelope.{Envelope}
 use Rattle.hub_core.specs.declared.line.Phase.{Phase}
 use Rattle.hub_core.specs.History.{Pair, History}
 use Rattle.hub_core.specs.Facts.{LineNow, Facts, facts}
-use Rattle.hub_core.specs.Made.{lines_of}
+use Rattle.hub_core.specs.Made.{lines_of, peer_of}
 use Rattle.hub_core.specs.Sender.{by}
 use Rattle.hub_core.specs.GateMachine.{Gate, IsAt}
 use Rattle.hub_core.specs.GateMachineLaws.{IsGateOf}
@@ -21,10 +21,11 @@ use Rattle.hub_core.proofs.Lists.{slice_get-set_same, slice_get-set_other}
 use Rattle.hub_core.proofs.Items.{got_within, got_there, got_same_at, at_written}
 use Rattle.hub_core.proofs.Nexts.{next, facts_next}
 use Rattle.hub_core.proofs.MailboxStepping.{chain_laws}
+use Rattle.hub_core.specs.declared.kind.Kind.{Kind}
 
 -- what is known of an end, as far as a mailbox shows it
 pub record View : Type 0 where
-  pub peer : Option ℕ
+  pub kind : Option Kind
   pub newest : ℕ
   pub taker : ℕ
   pub enabled : Bool
@@ -36,7 +37,7 @@ pub record View : Type 0 where
 
 abbrev pub view : Facts → ℕ → View
 view f e = record {
-  peer = (f.end e).peer;
+  kind = (f.end e).kind;
   newest = (f.end e).newest;
   taker = (f.end e).taker_stand;
   enabled = (f.end e).enabled;
@@ -49,7 +50,7 @@ view f e = record {
 
 -- the mailbox shows this of the end
 pub record IsShown (e : ℕ) (v : View) (m : Mailbox OneRight) : Type 0 where
-  pub is_mailbox : IsMailbox e (lines_of v.peer) m
+  pub is_mailbox : IsMailbox e (lines_of v.kind) m
   pub gates : length m.gates ≡ v.newest + 1
   pub put : (l : ℕ) → put_by m l ≡ by l v.accepted
   pub got : got_from m ≡ v.removed
@@ -132,10 +133,10 @@ pub record Writes (v : View) (m : Mailbox OneRight) (k : ℕ) (g' : Gate OneRigh
   pub other_phases : (l i : ℕ) → i ≢ k → StandsAt m l i → (line l).phase ≡ (v.line l).phase
 
 module _ (e : ℕ) (v : View) (m : Mailbox OneRight) (is : IsShown e v m) where
-  pub standing : (l : ℕ) → l < lines_of v.peer → Standing (lines_of v.peer) m l (v.line l)
+  pub standing : (l : ℕ) → l < lines_of v.kind → Standing (lines_of v.kind) m l (v.line l)
   standing l low =
-      let box : IsMailbox e (lines_of v.peer) m = is.is_mailbox in
-      let many : length m.stands ≡ lines_of v.peer = box.stands in
+      let box : IsMailbox e (lines_of v.kind) m = is.is_mailbox in
+      let many : length m.stands ≡ lines_of v.kind = box.stands in
       let place = got_there m.stands l (omega arith) in
       let same : (v.line l).stand ≡ place.0 = is.stands l place.0 place.1 in
       let stands : StandsAt m l (v.line l).stand = subst (StandsAt m l) (sym same) place.1 in
@@ -149,7 +150,7 @@ module _ (e : ℕ) (v : View) (m : Mailbox OneRight) (is : IsShown e v m) where
       }
 
   -- another gate at epoch k
-  pub gate_shown : (k : ℕ) (g g' : Gate OneRight) (enabled closed : Bool) (line : ℕ → LineNow) (clear : ℕ → Bool) → GateAt m k g → Writes v m k g' enabled closed line clear → IsMailbox e (lines_of v.peer) (with_gate m k g')
+  pub gate_shown : (k : ℕ) (g g' : Gate OneRight) (enabled closed : Bool) (line : ℕ → LineNow) (clear : ℕ → Bool) → GateAt m k g → Writes v m k g' enabled closed line clear → IsMailbox e (lines_of v.kind) (with_gate m k g')
       → IsShown e (record v { enabled = enabled; closed = closed; line = line; clear = clear }) (with_gate m k g')
   gate_shown k g g' enabled closed line clear at writes after =
       let count : length (set m.gates k g') ≡ length m.gates = length-set m.gates k g' in
@@ -174,10 +175,10 @@ module _ (e : ℕ) (v : View) (m : Mailbox OneRight) (is : IsShown e v m) where
       }
 
   -- a line that stands at a gate goes to another phase there
-  pub phase_shown : (l k : ℕ) (g g' : Gate OneRight) (p q : Phase) → StandsAt m l k → GateAt m k g → IsAt g l q → g'.phases ≡ set g.phases l p → g'.enabled ≡ g.enabled → g'.closed ≡ g.closed → g'.collected ≡ g.collected → IsMailbox e (lines_of v.peer) (with_gate m k g')
-      → IsShown e (record v { line = λ i. record { phase = cond (eqb i l) p (v.line i).phase; stand = (v.line i).stand; noticed = (v.line i).noticed } }) (with_gate m k g')
+  pub phase_shown : (l k : ℕ) (g g' : Gate OneRight) (p q : Phase) → StandsAt m l k → GateAt m k g → IsAt g l q → g'.phases ≡ set g.phases l p → g'.enabled ≡ g.enabled → g'.closed ≡ g.closed → g'.collected ≡ g.collected → IsMailbox e (lines_of v.kind) (with_gate m k g')
+      → IsShown e (record v { line = λ i. record { phase = cond (eqb i l) p (v.line i).phase; stand = (v.line i).stand; noticed = (v.line i).noticed; held_by = (v.line i).held_by } }) (with_gate m k g')
   phase_shown l k g g' p q stands at was phases same_enabled same_closed same_given after =
-      gate_shown k g g' v.enabled v.closed (λ i. record { phase = cond (eqb i l) p (v.line i).phase; stand = (v.line i).stand; noticed = (v.line i).noticed }) v.clear at (record {
+      gate_shown k g g' v.enabled v.closed (λ i. record { phase = cond (eqb i l) p (v.line i).phase; stand = (v.line i).stand; noticed = (v.line i).noticed; held_by = (v.line i).held_by }) v.clear at (record {
         flags = λ last. let old = is.flags k g last at in (same_enabled ∙ old.0, same_closed ∙ old.1);
         other_flags = λ _. (refl, refl);
         given = same_given ∙ is.given k g at;
@@ -194,7 +195,7 @@ module _ (e : ℕ) (v : View) (m : Mailbox OneRight) (is : IsShown e v m) where
       }) after
 
   -- the newest gate has other flags
-  pub flags_shown : (k : ℕ) (g g' : Gate OneRight) (enabled closed : Bool) → GateAt m k g → IsNewest m k → g'.phases ≡ g.phases → g'.enabled ≡ enabled → g'.closed ≡ closed → g'.collected ≡ g.collected → IsMailbox e (lines_of v.peer) (with_gate m k g')
+  pub flags_shown : (k : ℕ) (g g' : Gate OneRight) (enabled closed : Bool) → GateAt m k g → IsNewest m k → g'.phases ≡ g.phases → g'.enabled ≡ enabled → g'.closed ≡ closed → g'.collected ≡ g.collected → IsMailbox e (lines_of v.kind) (with_gate m k g')
       → IsShown e (record v { enabled = enabled; closed = closed }) (with_gate m k g')
   flags_shown k g g' enabled closed at newest phases now_enabled now_closed same_given after =
       let many : length m.gates ≡ v.newest + 1 = is.gates in
@@ -209,7 +210,7 @@ module _ (e : ℕ) (v : View) (m : Mailbox OneRight) (is : IsShown e v m) where
       }) after
 
   -- the rights of a gate were collected
-  pub clear_shown : (k : ℕ) (g g' : Gate OneRight) → GateAt m k g → g'.phases ≡ g.phases → g'.enabled ≡ g.enabled → g'.closed ≡ g.closed → g'.collected ≡ true → IsMailbox e (lines_of v.peer) (with_gate m k g')
+  pub clear_shown : (k : ℕ) (g g' : Gate OneRight) → GateAt m k g → g'.phases ≡ g.phases → g'.enabled ≡ g.enabled → g'.closed ≡ g.closed → g'.collected ≡ true → IsMailbox e (lines_of v.kind) (with_gate m k g')
       → IsShown e (record v { clear = λ i. cond (eqb i k) true (v.clear i) }) (with_gate m k g')
   clear_shown k g g' at phases same_enabled same_closed now after =
       gate_shown k g g' v.enabled v.closed v.line (λ i. cond (eqb i k) true (v.clear i)) at (record {
@@ -223,7 +224,7 @@ module _ (e : ℕ) (v : View) (m : Mailbox OneRight) (is : IsShown e v m) where
       }) after
 
   -- a queue has more that was put or taken
-  pub queue_shown : (k : ℕ) (q : Queue) (put got : List Envelope) → IsMailbox e (lines_of v.peer) (with_queue m k q) → Grows m put got (with_queue m k q)
+  pub queue_shown : (k : ℕ) (q : Queue) (put got : List Envelope) → IsMailbox e (lines_of v.kind) (with_queue m k q) → Grows m put got (with_queue m k q)
       → IsShown e (record v { accepted = v.accepted ++ put; removed = v.removed ++ got }) (with_queue m k q)
   queue_shown k q put got after grows = record {
     is_mailbox = after;

@@ -1,6 +1,6 @@
 -- Agent and Channel: what the core answers fits, and it shows the facts with the answered step.
-use Rattle.std.proofs.Common.{◌≡◌, ℕ, ◌+◌, ◌≤◌, Bool, true, false, cond, eqb, List, [], ◌∷◌, ◌++◌, length, get_or, Some, zero, suc, refl, sym, ap, subst, ◌∙◌, arith, length-append, inl, inr, rules, ◌<◌}
-use Rattle.std.specs.Prelude.{nat_lt, nat_le, ◌||◌}
+use Rattle.std.proofs.Common.{◌≡◌, ℕ, ◌+◌, ◌≤◌, Bool, true, false, cond, eqb, List, [], ◌∷◌, ◌++◌, length, get_or, Some, zero, suc, refl, sym, ap, subst, ◌∙◌, arith, length-append, inl, inr, rules, ◌<◌, Option, not, replicate, None, ne_eqb}
+use Rattle.std.specs.Prelude.{◌&&◌, nat_lt, nat_le, ◌||◌}
 use Rattle.std.specs.List.{slice_get}
 use Rattle.std.proofs.lemmas.Option.{slice_get_past}
 use Rattle.std.proofs.lemmas.Bool.Decides.{nat_tests}
@@ -17,36 +17,55 @@ use Rattle.hub_core.specs.declared.step.Action.TheVariants as action
 use Rattle.hub_core.specs.declared.outcome.Outcome.{Outcome}
 use Rattle.hub_core.specs.declared.outcome.Outcome.TheVariants as outcome
 use Rattle.hub_core.specs.Facts.{AgentNow, EndNow, LineNow, Facts}
-use Rattle.hub_core.specs.Making.{agent_answer, channel_answer}
-use Rattle.hub_core.specs.Sound.{no_end, no_line}
-use Rattle.hub_core.specs.Shows.{agent_now, end_now, line_now, ShowsPut, ShowsEnd, ShowsFacts}
-use Rattle.hub_core.specs.Kept.{kept_running, kept_agent_answer, agents_made, kept_channel_answer, ends_made, port_end}
-use Rattle.hub_core.proofs.Lists.{slice_get-append_front, slice_get-append_back}
-use Rattle.hub_core.proofs.Frames.{Stepped, unchanged}
+use Rattle.hub_core.specs.Making.{agent_answer, channel_answer, queue_answer, is_client, is_worker, has_one}
+use Rattle.hub_core.specs.Sound.{no_end, no_line, total, Sound}
+use Rattle.hub_core.specs.Shows.{agent_now, end_now, line_now, ShowsPut, ShowsEnd, ShowsFacts, kept_clients, count_with, kept_workers}
+use Rattle.hub_core.specs.Kept.{queue_made, kept_running, kept_agent_answer, agents_made, kept_channel_answer, ends_made, first_line, kept_queue_answer, new_end, count_of, queue_counted, come}
+use Rattle.hub_core.proofs.Lists.{slice_get-append_front, slice_get-append_back, eqb_same}
+use Rattle.hub_core.proofs.Frames.{Stepped, unchanged, along}
 use Rattle.hub_core.proofs.Holders.{runs_kept}
 use Rattle.hub_core.proofs.Sounds.{sound_next}
-use Rattle.hub_core.proofs.Speakers.{nothing_accepted, nothing_removed}
-use Rattle.hub_core.specs.Made.{lines_of}
+use Rattle.hub_core.proofs.Speakers.{nothing_accepted, nothing_removed, running_made}
+use Rattle.hub_core.specs.Made.{lines_of, peer_of}
+use Rattle.hub_core.specs.declared.kind.Kind.{Kind}
+use Rattle.hub_core.specs.declared.step.Action.{Action}
+use Rattle.hub_core.specs.declared.kind.Kind.TheVariants.{Port, Client, Worker}
+use Rattle.hub_core.proofs.Nexts.{next}
+use Rattle.hub_core.proofs.Counts.{New, counts_at, Counted, counted_new, none_of_kind, counts_of, come_length, come_now}
+use Rattle.hub_core.specs.Unchanged.{changes_nothing}
+use Rattle.hub_core.proofs.Sames.{nothing_next}
+use Rattle.hub_core.specs.Fits.{Answers}
+use Rattle.hub_core.proofs.Totals.{total_same}
+use Rattle.std.proofs.lemmas.List.{length-replicate}
+use Rattle.hub_core.specs.Posting.{is_with}
+use Rattle.hub_core.proofs.Fitting.{queue_made_of}
 
 next_up : (n a : ℕ) → n ≤ a → (a ≡ n → ⊥) → n + 1 ≤ a
 next_up n a from other = grind (arith, nat_tests)
 
 -- ---- Agent
 
-past_one : (agents : List Agent) (a : ℕ) → (a ≡ length agents → ⊥) → length agents ≤ a → length (agents ++ record { is_running = true } ∷ []) ≤ a
+past_one : (agents : List Agent) (a : ℕ) → (a ≡ length agents → ⊥) → length agents ≤ a → length (agents ++ record { is_running = true; clients = 0; workers = 0 } ∷ []) ≤ a
 past_one agents a other from = let beyond : length agents + 1 ≤ a = next_up (length agents) a from other in simp length-append (omega arith)
 
 -- each agent after one was made
-agent_each : (agents : List Agent) (f : Facts) (a : ℕ) → ((b : ℕ) → f.agent b ≡ agent_now (slice_get agents b)) → (before same : Bool) → nat_lt a (length agents) ≡ before → eqb a (length agents) ≡ same → (let y : AgentNow = record { runs = cond same true (f.agent a).runs } in y ≡ agent_now (slice_get (agents ++ record { is_running = true } ∷ []) a))
+agent_each : (agents : List Agent) (f : Facts) (a : ℕ) → ((b : ℕ) → f.agent b ≡ agent_now (slice_get agents b)) → (before same : Bool) → nat_lt a (length agents) ≡ before → eqb a (length agents) ≡ same → (let y : AgentNow = record { runs = cond same true (f.agent a).runs } in y ≡ agent_now (slice_get (agents ++ record { is_running = true; clients = 0; workers = 0 } ∷ []) a))
 agent_each agents f a h before true is here =
     let at : a ≡ length agents + 0 = eqb-true a (length agents) here ∙ omega arith in
-    ap agent_now (sym (slice_get-append_back agents (record { is_running = true } ∷ []) a 0 at))
-agent_each agents f a h true false is here = h a ∙ ap agent_now (sym (slice_get-append_front agents (record { is_running = true } ∷ []) a (ltb-true a (length agents) is)))
+    ap agent_now (sym (slice_get-append_back agents (record { is_running = true; clients = 0; workers = 0 } ∷ []) a 0 at))
+agent_each agents f a h true false is here = h a ∙ ap agent_now (sym (slice_get-append_front agents (record { is_running = true; clients = 0; workers = 0 } ∷ []) a (ltb-true a (length agents) is)))
 agent_each agents f a h false false is here =
     let other : a ≡ length agents → ⊥ = eqb-false a (length agents) here in
     let from : length agents ≤ a = ltb-false a (length agents) is in
-    let past : length (agents ++ record { is_running = true } ∷ []) ≤ a = past_one agents a other from in
-    h a ∙ ap agent_now (slice_get_past agents a from ∙ sym (slice_get_past (agents ++ record { is_running = true } ∷ []) a past))
+    let past : length (agents ++ record { is_running = true; clients = 0; workers = 0 } ∷ []) ≤ a = past_one agents a other from in
+    h a ∙ ap agent_now (slice_get_past agents a from ∙ sym (slice_get_past (agents ++ record { is_running = true; clients = 0; workers = 0 } ∷ []) a past))
+
+-- of a new agent nothing is counted, as of none
+none_kept : (kept : Option Agent → ℕ) (agents : List Agent) (a : ℕ) → kept None ≡ 0 → kept (Some (record { is_running = true; clients = 0; workers = 0 })) ≡ 0 → kept (slice_get (agents ++ record { is_running = true; clients = 0; workers = 0 } ∷ []) a) ≡ kept (slice_get agents a)
+none_kept kept [] zero none first = first ∙ sym none
+none_kept kept [] (suc a) none first = refl
+none_kept kept (x ∷ agents) zero none first = refl
+none_kept kept (x ∷ agents) (suc a) none first = none_kept kept agents a none first
 
 agent_by : (agents : List Agent) (ends : List End) (f : Facts) (refused : Bool) → ShowsFacts agents ends f → (full : Bool) → nat_le MAX_AGENTS (length agents) ≡ full → kept_agent_answer (length agents) refused ≡ agent_answer f refused → Stepped (agents_made agents (kept_agent_answer (length agents) refused)) ends f action.Agent refused (kept_agent_answer (length agents) refused)
 agent_by agents ends f true h full is fits = unchanged agents ends ends f action.Agent true outcome.NoMemory outcome.NoMemory h refl refl refl fits
@@ -57,10 +76,12 @@ agent_by agents ends f false h false is fits =
     rw is (record {
       fits = answer;
       shows = record {
-        agents = ap (λ m. m + 1) h.agents ∙ sym (length-append agents (record { is_running = true } ∷ []));
+        agents = ap (λ m. m + 1) h.agents ∙ sym (length-append agents (record { is_running = true; clients = 0; workers = 0 } ∷ []));
         agent = λ a. agent_each agents f a h.agent (nat_lt a (length agents)) (eqb a (length agents)) refl refl;
         ends = h.ends;
         end = h.end;
+        clients = λ a. none_kept kept_clients agents a.0 refl refl ∙ h.clients a;
+        workers = λ a. none_kept kept_workers agents a.0 refl refl ∙ h.workers a;
         sound = sound_next f action.Agent false (outcome.Agent n) h.sound answer;
       };
     })
@@ -73,14 +94,19 @@ agent_shown agents new ends f refused o h is made =
 
 -- ---- Channel
 
--- the one line of a new port, and what it put
-new_line : (line : ℕ → LineNow) → ((l : ℕ) → line l ≡ no_line) → (l : ℕ) → line l ≡ line_now (slice_get (record { phase = Out; epoch = 0; put = 0; has_noticed = false } ∷ []) l)
-new_line line h zero = h 0
-new_line line h (suc l) = h (suc l)
+-- the lines of a new end, and what they put
+line_first : (n l : ℕ) → line_now (slice_get (replicate n first_line) l) ≡ no_line
+line_first zero l = refl
+line_first (suc n) zero = refl
+line_first (suc n) (suc l) = line_first n l
 
-new_put : (l : ℕ) → ShowsPut [] l (slice_get (record { phase = Out; epoch = 0; put = 0; has_noticed = false } ∷ []) l)
-new_put zero = refl
-new_put (suc l) = tt
+new_line : (n : ℕ) (line : ℕ → LineNow) → ((l : ℕ) → line l ≡ no_line) → (l : ℕ) → line l ≡ line_now (slice_get (replicate n first_line) l)
+new_line n line h l = h l ∙ sym (line_first n l)
+
+new_put : (n l i : ℕ) → ShowsPut [] i (slice_get (replicate n first_line) l)
+new_put zero l i = tt
+new_put (suc n) zero i = refl
+new_put (suc n) (suc l) i = new_put n l i
 
 no_queue : (i : ℕ) → (let none : List Envelope = [] in none ≡ get_or (none ∷ []) i none)
 no_queue zero = refl
@@ -89,14 +115,14 @@ no_queue (suc i) = refl
 none_below : (k : ℕ) → nat_lt k 0 ≡ false
 none_below k = search (rules, nat_tests)
 
--- a port that has just been made
-new_port : (now : EndNow) (line : ℕ → LineNow) (clear : ℕ → Bool) (vs ts : List Envelope) (a : AgentId) (q : EndId) → now ≡ end_now (Some (port_end a q)) → ((l : ℕ) → line l ≡ no_line) → ((k : ℕ) → clear k ≡ false) → vs ≡ [] → ts ≡ [] → ShowsEnd now line clear vs ts (Some (port_end a q))
-new_port now line clear vs ts a q is lines unclear accepted taken =
+-- an end that has just been made
+new_shown : (now : EndNow) (line : ℕ → LineNow) (clear : ℕ → Bool) (vs ts : List Envelope) (a : AgentId) (k : Kind) → now ≡ end_now (Some (new_end a k)) → ((l : ℕ) → line l ≡ no_line) → ((k : ℕ) → clear k ≡ false) → vs ≡ [] → ts ≡ [] → ShowsEnd now line clear vs ts (Some (new_end a k))
+new_shown now line clear vs ts a k is lines unclear accepted taken =
     rw (accepted, taken) (record {
       same = is;
-      count = ap (λ (y : EndNow). lines_of y.peer) (sym is);
-      lines = new_line line lines;
-      put = new_put;
+      count = length-replicate (lines_of (Some k)) first_line ∙ ap (λ (y : EndNow). lines_of y.kind) (sym is);
+      lines = new_line (lines_of (Some k)) line lines;
+      put = λ l. new_put (lines_of (Some k)) l l;
       queues = record { reached = omega arith; clear_below = λ k from. unclear k ∙ sym (none_below k); count = λ _. refl; inside = λ l at. absurd (search (rules, sym (ap (λ (y : LineNow). y.phase) (lines l)) ∙ at)); behind = λ k less. refl; each = no_queue };
     })
 
@@ -119,7 +145,7 @@ nothing_at agents ends f d h past =
     let accepted = nothing_accepted f d (h.sound.lines d) none in
     record {
       now = none;
-      lines = λ l. (h.sound.lines d).none l (subst (λ p. lines_of p ≤ l) (sym (ap (λ (y : EndNow). y.peer) none)) (omega arith));
+      lines = λ l. (h.sound.lines d).none l (subst (λ p. lines_of p ≤ l) (sym (ap (λ (y : EndNow). y.kind) none)) (omega arith));
       accepted = accepted;
       unclear = λ k. never_clear (f.clear d k) (λ is. elim ((h.sound.lines d).clear_within k is) [
         | inl less ↦ absurd (let first : (f.end d).newest ≡ 0 = ap (λ (y : EndNow). y.newest) none in let low : k < (f.end d).newest = less in omega arith)
@@ -137,47 +163,72 @@ past_two ends p q d from first second =
 -- the facts of an end after a channel was made
 abbrev made_now : Facts → AgentId → ℕ → ℕ → Bool → Bool → EndNow
 made_now f a n d first second = record (f.end d) {
-  peer = cond first (Some (n + 1)) (cond second (Some n) (f.end d).peer);
+  kind = cond first (Some (Port (record { 0 = n + 1 }))) (cond second (Some (Port (record { 0 = n }))) (f.end d).kind);
   place = cond (first || second) (Some (With a)) (f.end d).place;
-  enabled = cond (first || second) false (f.end d).enabled;
 }
 
-port_at : (agents : List Agent) (ends : List End) (f : Facts) (a : AgentId) → ShowsFacts agents ends f → (d : ℕ) → (before first second : Bool) → nat_lt d (length ends) ≡ before → eqb d (length ends) ≡ first → eqb d (length ends + 1) ≡ second → ShowsEnd (made_now f a (length ends) d first second) (f.line d) (f.clear d) (f.accepted d) (f.taken d ++ f.discarded d) (slice_get (ends ++ port_end a (record { 0 = length ends + 1 }) ∷ port_end a (record { 0 = length ends }) ∷ []) d)
+-- two ports more
+abbrev two_ports : AgentId → ℕ → List End
+two_ports a n = new_end a (Port (record { 0 = n + 1 })) ∷ new_end a (Port (record { 0 = n })) ∷ []
+
+port_at : (agents : List Agent) (ends : List End) (f : Facts) (a : AgentId) → ShowsFacts agents ends f → (d : ℕ) → (before first second : Bool) → nat_lt d (length ends) ≡ before → eqb d (length ends) ≡ first → eqb d (length ends + 1) ≡ second → ShowsEnd (made_now f a (length ends) d first second) (f.line d) (f.clear d) (f.accepted d) (f.taken d ++ f.discarded d) (slice_get (ends ++ two_ports a (length ends)) d)
 port_at agents ends f a h d before true second is here there =
     let n = length ends in
-    let ports : List End = port_end a (record { 0 = n + 1 }) ∷ port_end a (record { 0 = n }) ∷ [] in
+    let k : Kind = Port (record { 0 = n + 1 }) in
     let at : d ≡ n + 0 = eqb-true d n here ∙ omega arith in
     let none = nothing_at agents ends f d h (omega arith) in
-    subst (ShowsEnd _ _ _ _ _) (sym (slice_get-append_back ends ports d 0 at))
-    (new_port _ (f.line d) (f.clear d) (f.accepted d) (f.taken d ++ f.discarded d) a (record { 0 = n + 1 }) (ap (λ (y : EndNow). let z : EndNow = record y { peer = Some (n + 1); place = Some (With a); enabled = false } in z) none.now) none.lines none.unclear none.accepted none.removed)
+    subst (ShowsEnd _ _ _ _ _) (sym (slice_get-append_back ends (two_ports a n) d 0 at))
+    (new_shown _ (f.line d) (f.clear d) (f.accepted d) (f.taken d ++ f.discarded d) a k (ap (λ (y : EndNow). let z : EndNow = record y { kind = Some k; place = Some (With a) } in z) none.now) none.lines none.unclear none.accepted none.removed)
 port_at agents ends f a h d before false true is here there =
     let n = length ends in
-    let ports : List End = port_end a (record { 0 = n + 1 }) ∷ port_end a (record { 0 = n }) ∷ [] in
+    let k : Kind = Port (record { 0 = n }) in
     let at : d ≡ n + 1 = eqb-true d (n + 1) there in
     let none = nothing_at agents ends f d h (omega arith) in
-    subst (ShowsEnd _ _ _ _ _) (sym (slice_get-append_back ends ports d 1 at))
-    (new_port _ (f.line d) (f.clear d) (f.accepted d) (f.taken d ++ f.discarded d) a (record { 0 = n }) (ap (λ (y : EndNow). let z : EndNow = record y { peer = Some n; place = Some (With a); enabled = false } in z) none.now) none.lines none.unclear none.accepted none.removed)
+    subst (ShowsEnd _ _ _ _ _) (sym (slice_get-append_back ends (two_ports a n) d 1 at))
+    (new_shown _ (f.line d) (f.clear d) (f.accepted d) (f.taken d ++ f.discarded d) a k (ap (λ (y : EndNow). let z : EndNow = record y { kind = Some k; place = Some (With a) } in z) none.now) none.lines none.unclear none.accepted none.removed)
 port_at agents ends f a h d true false false is here there =
     let n = length ends in
-    let ports : List End = port_end a (record { 0 = n + 1 }) ∷ port_end a (record { 0 = n }) ∷ [] in
-    subst (ShowsEnd _ _ _ _ _) (sym (slice_get-append_front ends ports d (ltb-true d n is))) (h.end d)
+    subst (ShowsEnd _ _ _ _ _) (sym (slice_get-append_front ends (two_ports a n) d (ltb-true d n is))) (h.end d)
 port_at agents ends f a h d false false false is here there =
     let n = length ends in
-    let ports : List End = port_end a (record { 0 = n + 1 }) ∷ port_end a (record { 0 = n }) ∷ [] in
-    let beyond : length (ends ++ ports) ≤ d = past_two ends (port_end a (record { 0 = n + 1 })) (port_end a (record { 0 = n })) d (ltb-false d n is) (eqb-false d n here) (eqb-false d (n + 1) there) in
-    subst (ShowsEnd _ _ _ _ _) (slice_get_past ends d (ltb-false d n is) ∙ sym (slice_get_past (ends ++ ports) d beyond)) (h.end d)
+    let beyond : length (ends ++ two_ports a n) ≤ d = past_two ends (new_end a (Port (record { 0 = n + 1 }))) (new_end a (Port (record { 0 = n }))) d (ltb-false d n is) (eqb-false d n here) (eqb-false d (n + 1) there) in
+    subst (ShowsEnd _ _ _ _ _) (slice_get_past ends d (ltb-false d n is) ∙ sym (slice_get_past (ends ++ two_ports a n) d beyond)) (h.end d)
 
-ports_made : (agents : List Agent) (ends : List End) (f : Facts) (a : AgentId) → ShowsFacts agents ends f → outcome.Ends (record { 0 = length ends }) (record { 0 = length ends + 1 }) ≡ channel_answer f a false → Stepped agents (ends ++ port_end a (record { 0 = length ends + 1 }) ∷ port_end a (record { 0 = length ends }) ∷ []) f (action.Channel a) false (outcome.Ends (record { 0 = length ends }) (record { 0 = length ends + 1 }))
+-- new ports are no queues
+ports_counted : (test : Option Kind → Bool) → ((q : EndId) → test (Some (Port q)) ≡ false) → (f : Facts) (a b : AgentId) → count_with test b (next f (action.Channel a) (outcome.Ends (record { 0 = f.ends }) (record { 0 = f.ends + 1 }))) ≡ count_with test b f
+ports_counted test never f a b =
+    let g : Facts = next f (action.Channel a) (outcome.Ends (record { 0 = f.ends }) (record { 0 = f.ends + 1 })) in
+    let u : ℕ → ℕ = λ x. cond (counts_at test b (g.end x)) 1 0 in
+    let w : ℕ → ℕ = λ x. cond (counts_at test b (f.end x)) 1 0 in
+    let rest : total u f.ends ≡ total w f.ends = total_same w u f.ends (λ d less.
+    let one : eqb d f.ends ≡ false = ne_eqb d f.ends (λ is. omega arith) in
+    let two : eqb d (f.ends + 1) ≡ false = ne_eqb d (f.ends + 1) (λ is. omega arith) in
+    rw (one, two) refl)
+    in
+    let first : u f.ends ≡ 0 = ap (λ c. cond (counts_at test b (made_now f a f.ends f.ends c (eqb f.ends (f.ends + 1)))) 1 0) (eqb_same f.ends) ∙ ap (λ c. cond (c && is_with b (Some (With a))) 1 0) (never (record { 0 = f.ends + 1 })) in
+    let other : eqb (f.ends + 1) f.ends ≡ false = ne_eqb (f.ends + 1) f.ends (λ is. omega arith) in
+    let second : u (f.ends + 1) ≡ 0 = ap (λ c. cond (counts_at test b (made_now f a f.ends (f.ends + 1) c (eqb (f.ends + 1) (f.ends + 1)))) 1 0) other ∙ ap (λ c. cond (counts_at test b (made_now f a f.ends (f.ends + 1) false c)) 1 0) (eqb_same (f.ends + 1)) ∙ ap (λ c. cond (c && is_with b (Some (With a))) 1 0) (never (record { 0 = f.ends })) in
+    let next_one : f.ends + 1 ≡ suc f.ends = omega arith in
+    let last : u (suc f.ends) ≡ 0 = ap u (sym next_one) ∙ second in
+    let range : f.ends + 2 ≡ suc (suc f.ends) = omega arith in
+    ap (total u) range ∙ omega arith
+
+ports_made : (agents : List Agent) (ends : List End) (f : Facts) (a : AgentId) → ShowsFacts agents ends f → outcome.Ends (record { 0 = length ends }) (record { 0 = length ends + 1 }) ≡ channel_answer f a false → Stepped agents (ends ++ two_ports a (length ends)) f (action.Channel a) false (outcome.Ends (record { 0 = length ends }) (record { 0 = length ends + 1 }))
 ports_made agents ends f a h answer = record {
   fits = answer;
   shows = record {
     agents = h.agents;
     agent = h.agent;
-    ends = ap (λ n. n + 2) h.ends ∙ sym (length-append ends (port_end a (record { 0 = length ends + 1 }) ∷ port_end a (record { 0 = length ends }) ∷ []));
+    ends = ap (λ n. n + 2) h.ends ∙ sym (length-append ends (two_ports a (length ends)));
     end = λ d. port_at agents ends f a h d (nat_lt d (length ends)) (eqb d (length ends)) (eqb d (length ends + 1)) refl refl refl;
+    clients = λ b. h.clients b ∙ sym (counted is_client (λ q. refl) b);
+    workers = λ b. h.workers b ∙ sym (counted is_worker (λ q. refl) b);
     sound = sound_next f (action.Channel a) false (outcome.Ends (record { 0 = length ends }) (record { 0 = length ends + 1 })) h.sound answer;
   };
 }
+  where
+    counted : (test : Option Kind → Bool) → ((q : EndId) → test (Some (Port q)) ≡ false) → (b : AgentId) → count_with test b (next f (action.Channel a) (outcome.Ends (record { 0 = length ends }) (record { 0 = length ends + 1 }))) ≡ count_with test b f
+    counted test never b = ap (λ n. count_with test b (next f (action.Channel a) (outcome.Ends (record { 0 = n }) (record { 0 = n + 1 })))) (sym h.ends) ∙ ports_counted test never f a b
 
 channel_by : (agents : List Agent) (ends : List End) (f : Facts) (a : AgentId) (refused : Bool) → ShowsFacts agents ends f → (running full : Bool) → (f.agent a.0).runs ≡ running → nat_lt MAX_ENDS (length ends + 2) ≡ full → Stepped agents (ends_made a ends (kept_channel_answer running (length ends) refused)) f (action.Channel a) refused (kept_channel_answer running (length ends) refused)
 channel_by agents ends f a refused h false full runs is = unchanged agents ends ends f (action.Channel a) refused outcome.NotNow outcome.NotNow h refl refl refl (rw runs refl)
@@ -190,3 +241,120 @@ channel_shown agents ends new f a refused o h is made =
     let at = channel_by agents ends f a refused h (kept_running agents a.0) (nat_lt MAX_ENDS (length ends + 2)) (sym (runs_kept agents ends f a.0 h)) refl in
     let written : new ≡ ends_made a ends (kept_channel_answer (kept_running agents a.0) (length ends) refused) = made ∙ ap (ends_made a ends) is in
     subst (λ n. Stepped agents n f (action.Channel a) refused o) (sym written) (subst (λ p. Stepped agents (ends_made a ends (kept_channel_answer (kept_running agents a.0) (length ends) refused)) f (action.Channel a) refused p) (sym is) at)
+
+-- ---- Client and Worker
+
+-- the facts of an end after a queue was made
+abbrev queue_now : Facts → AgentId → Kind → ℕ → Bool → EndNow
+queue_now f a k d fresh = record (f.end d) { kind = cond fresh (Some k) (f.end d).kind; place = cond fresh (Some (With a)) (f.end d).place }
+
+past_end : (ends : List End) (p : End) (d : ℕ) → length ends ≤ d → (d ≡ length ends → ⊥) → length (ends ++ p ∷ []) ≤ d
+past_end ends p d from other = let one : length ends + 1 ≤ d = next_up (length ends) d from other in simp length-append (omega arith)
+
+queue_at : (agents : List Agent) (ends : List End) (f : Facts) (a : AgentId) (k : Kind) → ShowsFacts agents ends f → (d : ℕ) → (before fresh : Bool) → nat_lt d (length ends) ≡ before → eqb d (length ends) ≡ fresh → ShowsEnd (queue_now f a k d fresh) (f.line d) (f.clear d) (f.accepted d) (f.taken d ++ f.discarded d) (slice_get (ends ++ new_end a k ∷ []) d)
+queue_at agents ends f a k h d before true is here =
+    let n = length ends in
+    let at : d ≡ n + 0 = eqb-true d n here ∙ omega arith in
+    let none = nothing_at agents ends f d h (omega arith) in
+    subst (ShowsEnd _ _ _ _ _) (sym (slice_get-append_back ends (new_end a k ∷ []) d 0 at))
+    (new_shown _ (f.line d) (f.clear d) (f.accepted d) (f.taken d ++ f.discarded d) a k (ap (λ (y : EndNow). let z : EndNow = record y { kind = Some k; place = Some (With a) } in z) none.now) none.lines none.unclear none.accepted none.removed)
+queue_at agents ends f a k h d true false is here =
+    subst (ShowsEnd _ _ _ _ _) (sym (slice_get-append_front ends (new_end a k ∷ []) d (ltb-true d (length ends) is))) (h.end d)
+queue_at agents ends f a k h d false false is here =
+    let beyond : length (ends ++ new_end a k ∷ []) ≤ d = past_end ends (new_end a k) d (ltb-false d (length ends) is) (eqb-false d (length ends) here) in
+    subst (ShowsEnd _ _ _ _ _) (slice_get_past ends d (ltb-false d (length ends) is) ∙ sym (slice_get_past (ends ++ new_end a k ∷ []) d beyond)) (h.end d)
+
+-- the two steps that make a queue, and the kind that they make
+data Makes : Action → Kind → (Option Kind → Bool) → AgentId → Type 0 where
+  makes_client : (a : AgentId) → Makes (action.Client a) Client is_client a
+  makes_worker : (a : AgentId) → Makes (action.Worker a) Worker is_worker a
+
+queue_new : (f : Facts) {b : Action} {k : Kind} {test : Option Kind → Bool} {a : AgentId} → Makes b k test a → New f (next f b (outcome.End (record { 0 = f.ends }))) k a
+queue_new f (makes_client a) = record {
+  ends = refl;
+  is = ap (λ c. cond c (Some Client) (f.end f.ends).kind) (eqb_same f.ends);
+  to = ap (λ c. cond c (Some (With a)) (f.end f.ends).place) (eqb_same f.ends);
+  kinds = λ d less. ap (λ c. cond c (Some Client) (f.end d).kind) (ne_eqb d f.ends (λ is. omega arith));
+  places = λ d less. ap (λ c. cond c (Some (With a)) (f.end d).place) (ne_eqb d f.ends (λ is. omega arith));
+}
+queue_new f (makes_worker a) = record {
+  ends = refl;
+  is = ap (λ c. cond c (Some Worker) (f.end f.ends).kind) (eqb_same f.ends);
+  to = ap (λ c. cond c (Some (With a)) (f.end f.ends).place) (eqb_same f.ends);
+  kinds = λ d less. ap (λ c. cond c (Some Worker) (f.end d).kind) (ne_eqb d f.ends (λ is. omega arith));
+  places = λ d less. ap (λ c. cond c (Some (With a)) (f.end d).place) (ne_eqb d f.ends (λ is. omega arith));
+}
+
+queue_fits : (f : Facts) {b : Action} {k : Kind} {test : Option Kind → Bool} {a : AgentId} (refused : Bool) (o : Outcome) → Makes b k test a → o ≡ queue_answer test f a refused → Answers f b refused o
+queue_fits f refused o (makes_client a) is = is
+queue_fits f refused o (makes_worker a) is = is
+
+queue_nothing : (f : Facts) {b : Action} {k : Kind} {test : Option Kind → Bool} {a : AgentId} (o : Outcome) → Makes b k test a → changes_nothing o b ≡ true → next f b o ≡ f
+queue_nothing f {b = b} o makes h = nothing_next f o b h
+
+queue_ends : (f : Facts) {b : Action} {k : Kind} {test : Option Kind → Bool} {a : AgentId} (e : EndId) → Makes b k test a → (d : ℕ) → (next f b (outcome.End e)).end d ≡ queue_now f a k d (eqb d e.0)
+queue_ends f e (makes_client a) d = refl
+queue_ends f e (makes_worker a) d = refl
+
+queue_rest : (f : Facts) {b : Action} {k : Kind} {test : Option Kind → Bool} {a : AgentId} (e : EndId) → Makes b k test a → next f b (outcome.End e) ≡ record f { ends = f.ends + 1; end = λ d. queue_now f a k d (eqb d e.0) }
+queue_rest f e (makes_client a) = refl
+queue_rest f e (makes_worker a) = refl
+
+queue_shows : (agents : List Agent) (ends : List End) (f : Facts) {b : Action} {k : Kind} {test : Option Kind → Bool} {a : AgentId} → Makes b k test a → ShowsFacts agents ends f → outcome.End (record { 0 = length ends }) ≡ queue_answer test f a false → Stepped (come k a agents) (ends ++ new_end a k ∷ []) f b false (outcome.End (record { 0 = length ends }))
+queue_shows agents ends f {b = b} {k = k} {test = test} {a = a} makes h answer =
+    let e : EndId = record { 0 = length ends } in
+    let g : Facts = record f { ends = f.ends + 1; end = λ d. queue_now f a k d (eqb d (length ends)) } in
+    let count : f.agents ≡ length agents = h.agents in
+    let known : a.0 < f.agents = running_made f a h.sound.places (queue_made_of f test a false e answer).runs in
+    let counted : Counted (come k a agents) (next f b (outcome.End (record { 0 = f.ends }))) = counted_new agents f (next f b (outcome.End (record { 0 = f.ends }))) k a (omega arith) (queue_new f makes) (counts_of agents ends f h) in
+    let here : Counted (come k a agents) g = subst (Counted (come k a agents)) (ap (λ n. next f b (outcome.End (record { 0 = n }))) h.ends ∙ queue_rest f e makes) counted in
+    record {
+      fits = queue_fits f false (outcome.End e) makes answer;
+      shows = subst (ShowsFacts (come k a agents) (ends ++ new_end a k ∷ [])) (sym (queue_rest f e makes)) (record {
+        agents = h.agents ∙ sym (come_length k a agents);
+        agent = λ x. h.agent x ∙ sym (come_now k a agents x);
+        ends = ap (λ n. n + 1) h.ends ∙ sym (length-append ends (new_end a k ∷ []));
+        end = λ d. queue_at agents ends f a k h d (nat_lt d (length ends)) (eqb d (length ends)) refl refl;
+        clients = here.clients;
+        workers = here.workers;
+        sound = subst Sound (queue_rest f e makes) (sound_next f b false (outcome.End e) h.sound (queue_fits f false (outcome.End e) makes answer));
+      });
+    }
+
+-- what an agent keeps of its queues of this kind
+count_kept : (agents : List Agent) (ends : List End) (f : Facts) {b : Action} {k : Kind} {test : Option Kind → Bool} {a : AgentId} → Makes b k test a → ShowsFacts agents ends f → count_of k (slice_get agents a.0) ≡ count_with test a f
+count_kept agents ends f (makes_client a) h = client_count (slice_get agents a.0) ∙ h.clients a
+  where
+    client_count : (o : Option Agent) → count_of Client o ≡ kept_clients o
+    client_count None = refl
+    client_count (Some x) = refl
+count_kept agents ends f (makes_worker a) h = worker_count (slice_get agents a.0) ∙ h.workers a
+  where
+    worker_count : (o : Option Agent) → count_of Worker o ≡ kept_workers o
+    worker_count None = refl
+    worker_count (Some x) = refl
+
+abbrev made_by : Bool → Bool → Bool → ℕ → Outcome
+made_by may full refused n = cond (not may) outcome.NotNow (cond full outcome.TooManyEnds (cond refused outcome.NoMemory (outcome.End (record { 0 = n }))))
+
+queue_step : (agents : List Agent) (ends : List End) (f : Facts) {b : Action} {k : Kind} {test : Option Kind → Bool} {a : AgentId} (refused : Bool) → Makes b k test a → ShowsFacts agents ends f → (may full : Bool) → (refused_is : Bool) → refused ≡ refused_is → made_by may full refused_is (length ends) ≡ queue_answer test f a refused → Stepped (queue_counted a k agents (made_by may full refused_is (length ends))) (queue_made a k ends (made_by may full refused_is (length ends))) f b refused (made_by may full refused_is (length ends))
+queue_step agents ends f {b = b} refused makes h false full memory is answer = unchanged agents ends ends f b refused outcome.NotNow outcome.NotNow h (queue_nothing f outcome.NotNow makes refl) refl refl (queue_fits f refused outcome.NotNow makes answer)
+queue_step agents ends f {b = b} refused makes h true true memory is answer = unchanged agents ends ends f b refused outcome.TooManyEnds outcome.TooManyEnds h (queue_nothing f outcome.TooManyEnds makes refl) refl refl (queue_fits f refused outcome.TooManyEnds makes answer)
+queue_step agents ends f {b = b} refused makes h true false true is answer = unchanged agents ends ends f b refused outcome.NoMemory outcome.NoMemory h (queue_nothing f outcome.NoMemory makes refl) refl refl (queue_fits f refused outcome.NoMemory makes answer)
+queue_step agents ends f {b = b} {k = k} {test = test} {a = a} refused makes h true false false is answer =
+    subst (λ r. outcome.End (record { 0 = length ends }) ≡ queue_answer test f a r → Stepped (come k a agents) (ends ++ new_end a k ∷ []) f b r (outcome.End (record { 0 = length ends }))) (sym is) (queue_shows agents ends f makes h) answer
+
+queue_whole : (agents new_agents : List Agent) (ends new : List End) (f : Facts) {b : Action} {k : Kind} {test : Option Kind → Bool} {a : AgentId} (refused : Bool) (o : Outcome) → Makes b k test a → ShowsFacts agents ends f → o ≡ kept_queue_answer (kept_running agents a.0) (count_of k (slice_get agents a.0)) (length ends) refused → new ≡ queue_made a k ends o → new_agents ≡ queue_counted a k agents o → Stepped new_agents new f b refused o
+queue_whole agents new_agents ends new f {b = b} {k = k} {test = test} {a = a} refused o makes h says leaves counts =
+    let may : Bool = kept_running agents a.0 && eqb (count_of k (slice_get agents a.0)) 0 in
+    let full : Bool = nat_le MAX_ENDS (length ends) in
+    let same : may ≡ ((f.agent a.0).runs && not (has_one test a f)) = ap (λ r. r && eqb (count_of k (slice_get agents a.0)) 0) (runs_kept agents ends f a.0 h) ∙ ap (λ c. (f.agent a.0).runs && c) (ap (λ n. eqb n 0) (count_kept agents ends f makes h) ∙ none_of_kind test a f) in
+    let answer : made_by may full refused (length ends) ≡ queue_answer test f a refused = ap (λ c. made_by c full refused (length ends)) same ∙ ap (λ n. made_by ((f.agent a.0).runs && not (has_one test a f)) (nat_le MAX_ENDS n) refused n) (sym h.ends) in
+    along (λ gs es q. Stepped gs es f b refused q) (counts ∙ ap (queue_counted a k agents) says) (leaves ∙ ap (queue_made a k ends) says) says
+    (queue_step agents ends f refused makes h may full refused refl answer)
+
+pub client_shown : (agents new_agents : List Agent) (ends new : List End) (f : Facts) (a : AgentId) (refused : Bool) (o : Outcome) → ShowsFacts agents ends f → o ≡ kept_queue_answer (kept_running agents a.0) (count_of Client (slice_get agents a.0)) (length ends) refused → new ≡ queue_made a Client ends o → new_agents ≡ queue_counted a Client agents o → Stepped new_agents new f (action.Client a) refused o
+client_shown agents new_agents ends new f a refused o h says leaves counts = queue_whole agents new_agents ends new f refused o (makes_client a) h says leaves counts
+
+pub worker_shown : (agents new_agents : List Agent) (ends new : List End) (f : Facts) (a : AgentId) (refused : Bool) (o : Outcome) → ShowsFacts agents ends f → o ≡ kept_queue_answer (kept_running agents a.0) (count_of Worker (slice_get agents a.0)) (length ends) refused → new ≡ queue_made a Worker ends o → new_agents ≡ queue_counted a Worker agents o → Stepped new_agents new f (action.Worker a) refused o
+worker_shown agents new_agents ends new f a refused o h says leaves counts = queue_whole agents new_agents ends new f refused o (makes_worker a) h says leaves counts

@@ -9,6 +9,7 @@ use Rattle.std.proofs.lemmas.Grind.{flat_map-append}
 use Rattle.hub_envelope.specs.declared.envelope.Envelope.{Envelope}
 use Rattle.hub_envelope.specs.declared.ids.AgentId.{AgentId}
 use Rattle.hub_envelope.specs.declared.ids.EndId.{EndId}
+use Rattle.hub_envelope.specs.declared.ids.LineId.{LineId}
 use Rattle.hub_core.specs.declared.line.Phase.TheVariants.{Out}
 use Rattle.hub_core.specs.declared.sender.Sender.{Sender}
 use Rattle.hub_core.specs.declared.outcome.Acceptance.{Acceptance}
@@ -20,11 +21,11 @@ use Rattle.hub_core.specs.History.{Pair, History}
 use Rattle.hub_core.specs.Facts.{Facts, facts}
 use Rattle.hub_core.specs.Accepted.{named_envelope, accepted_by, named_notice}
 use Rattle.hub_core.specs.Taken.{taken_by}
-use Rattle.hub_core.specs.Made.{agents_after, runs_after, ends_after, peer_after}
+use Rattle.hub_core.specs.Made.{agents_after, runs_after, ends_after, kind_after}
 use Rattle.hub_core.specs.Place.{place_after}
 use Rattle.hub_core.specs.Closed.{closed_after}
 use Rattle.hub_core.specs.Enabled.{enabled_after}
-use Rattle.hub_core.specs.Lines.{phase_after, adoptions_after, hops_after, passed_after, noticed_after}
+use Rattle.hub_core.specs.Lines.{phase_after, adoptions_after, hops_after, passed_after, noticed_after, held_after}
 use Rattle.hub_core.specs.Clear.{clear_after}
 use Rattle.hub_core.specs.Discarded.{discarded_by}
 
@@ -49,7 +50,7 @@ next f a o = record {
   ends = ends_after f.ends o a;
   agent = λ x. record { runs = runs_after x (f.agent x).runs o a };
   end = λ x. record {
-    peer = peer_after x (f.end x).peer o a;
+    kind = kind_after x (f.end x).kind o a;
     place = place_after x (λ y. (f.end y).place) o a;
     closed = closed_after x (f.end x).closed o a;
     enabled = enabled_after x (f.end x).enabled o a;
@@ -60,6 +61,7 @@ next f a o = record {
     phase = phase_after x l (f.line x l).phase o a;
     stand = hops_after x l (f.line x l).stand o a;
     noticed = noticed_after x l (f.line x l).noticed o a;
+    held_by = held_after x l (f.line x l).held_by o a;
   };
   clear = λ x k. clear_after x k (f.clear x k) o a;
   accepted = λ x. accepted_after x (f.accepted x) o a;
@@ -103,7 +105,7 @@ facts_next h p = λ i. record {
   ends = fold_one (λ n q. ends_after n q.1 q.0.action) 0 h p i;
   agent = λ x. record { runs = fold_one (λ r q. runs_after x r q.1 q.0.action) false h p i };
   end = λ x. record {
-    peer = fold_one (λ r q. peer_after x r q.1 q.0.action) None h p i;
+    kind = fold_one (λ r q. kind_after x r q.1 q.0.action) None h p i;
     place = fold_one {B = ℕ → Option Place} (λ r q y. place_after y r q.1 q.0.action) (λ _. None) h p i x;
     closed = fold_one (λ r q. closed_after x r q.1 q.0.action) false h p i;
     enabled = fold_one (λ r q. enabled_after x r q.1 q.0.action) false h p i;
@@ -114,6 +116,7 @@ facts_next h p = λ i. record {
     phase = fold_one (λ r q. phase_after x l r q.1 q.0.action) Out h p i;
     stand = fold_one (λ r q. hops_after x l r q.1 q.0.action) 0 h p i;
     noticed = fold_one (λ r q. noticed_after x l r q.1 q.0.action) false h p i;
+    held_by = fold_one (λ r q. held_after x l r q.1 q.0.action) None h p i;
   };
   clear = λ x k. fold_one (λ r q. clear_after x k r q.1 q.0.action) false h p i;
   accepted = λ x. (flat_map_one (λ q. accepted_by x q.1 q.0.action) h p ∙ accepted_one x (flat_map (λ q. accepted_by x q.1 q.0.action) h) p.1 p.0.action) i;
@@ -126,6 +129,10 @@ facts_next h p = λ i. record {
 pub data Change : Action → Outcome → Type 0 where
   agent_made : (a : AgentId) → Change action.Agent (outcome.Agent a)
   channel_made : (a : AgentId) (e e' : EndId) → Change (action.Channel a) (outcome.Ends e e')
+  client_made : (a : AgentId) (e : EndId) → Change (action.Client a) (outcome.End e)
+  worker_made : (a : AgentId) (e : EndId) → Change (action.Worker a) (outcome.End e)
+  line_got : (e : EndId) (a : AgentId) (l : LineId) → Change (action.Line e a) (outcome.Line l)
+  line_back : (s : Sender) → Change (action.Back s) outcome.Done
   let_in : (s : Sender) → Change (action.Enter s) outcome.In
   found_moved : (s : Sender) → Change (action.Enter s) outcome.Moved
   found_closed : (s : Sender) → Change (action.Enter s) outcome.Closed
@@ -140,11 +147,16 @@ pub data Change : Action → Outcome → Type 0 where
   adopted : (e : EndId) (a : AgentId) (k : ℕ) → Change (action.Adopt e a) (outcome.Adopted k)
   end_closed : (e : EndId) → Change (action.Close e) outcome.Done
   end_swept : (e : EndId) (vs : List Envelope) → Change (action.Sweep e) (outcome.Discarded vs)
+  handed : (e : EndId) (b : AgentId) → Change (action.Hand e b) outcome.Handed
 
 -- every other pair leaves the facts as they are
 pub effect : (f : Facts) (o : Outcome) (a : Action) → (next f a o ≡ f) ⊎ Change a o
 effect f (outcome.Agent n) action.Agent = inr (agent_made n)
 effect f (outcome.Ends e e') (action.Channel a) = inr (channel_made a e e')
+effect f (outcome.End e) (action.Client a) = inr (client_made a e)
+effect f (outcome.End e) (action.Worker a) = inr (worker_made a e)
+effect f (outcome.Line l) (action.Line e a) = inr (line_got e a l)
+effect f outcome.Done (action.Back s) = inr (line_back s)
 effect f outcome.In (action.Enter s) = inr (let_in s)
 effect f outcome.Moved (action.Enter s) = inr (found_moved s)
 effect f outcome.Closed (action.Enter s) = inr (found_closed s)
@@ -159,6 +171,7 @@ effect f (outcome.Clear (Some k)) (action.Look e) = inr (cleared e k)
 effect f (outcome.Adopted k) (action.Adopt e a) = inr (adopted e a k)
 effect f outcome.Done (action.Close e) = inr (end_closed e)
 effect f (outcome.Discarded vs) (action.Sweep e) = inr (end_swept e vs)
+effect f outcome.Handed (action.Hand e b) = inr (handed e b)
 effect f o a = inl refl
 
 -- what holds of the facts and is kept by each pair that changes something is kept by every pair

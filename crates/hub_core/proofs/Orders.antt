@@ -28,7 +28,7 @@ use Rattle.hub_core.specs.Accepted.{accepted, accepted_by, named_envelope}
 use Rattle.hub_core.specs.Taken.{taken, taken_by}
 use Rattle.hub_core.specs.Sender.{by, in_queue, Prefix}
 use Rattle.hub_core.specs.Posting.{holder, enter_answer, leave_answer, push_answer, notice_answer}
-use Rattle.hub_core.specs.Making.{agent_answer, channel_answer}
+use Rattle.hub_core.specs.Making.{agent_answer, channel_answer, queue_answer, is_client, is_worker}
 use Rattle.hub_core.specs.Taking.{IsNext, IsDrained, Serves, FitsTake, start_answer, IsLeft}
 use Rattle.hub_core.specs.Sound.{Sound}
 use Rattle.hub_core.specs.Shows.{KeepsQueues, Shows}
@@ -45,9 +45,10 @@ use Rattle.hub_core.proofs.Nexts.{next, facts_next}
 use Rattle.hub_core.proofs.Legals.{legal_at}
 use Rattle.hub_core.specs.Discarded.{discarded}
 use Rattle.hub_core.specs.Looking.{is_settled, look_answer}
-use Rattle.hub_core.specs.Moving.{hop_answer, adopt_answer, close_answer}
+use Rattle.hub_core.specs.Moving.{hop_answer, adopt_answer, close_answer, hand_answer}
 use Rattle.hub_core.proofs.SweepOrders.{sweep_one}
 use Rattle.hub_core.specs.Legal.{LegalAfter}
+use Rattle.hub_core.specs.Holding.{line_answer, back_answer}
 
 -- ---- what a core shows is in order
 
@@ -164,6 +165,11 @@ take_one false false enabled P Q o p k a b = a ∙ sym b
 answers_one : (h k first second : History) (s t : Step) (a : Action) (o p : Outcome) → facts h ≡ facts k → s.action ≡ a → t.action ≡ a → s.memory_refused ≡ t.memory_refused → Sound (facts h) → Sound (facts k) → LegalAfter h ((s, o) ∷ first) → LegalAfter k ((t, p) ∷ second) → Answers (facts h) a s.memory_refused o → Answers (facts k) a t.memory_refused p → InOrder (h ++ (s, o) ∷ first) → InOrder (k ++ (t, p) ∷ second) → o ≡ p
 answers_one h k first second s t action.Agent o p same is it refused x y l m a b i j = a ∙ ap (λ f. agent_answer f s.memory_refused) same ∙ ap (agent_answer (facts k)) refused ∙ sym b
 answers_one h k first second s t (action.Channel g) o p same is it refused x y l m a b i j = a ∙ ap (λ f. channel_answer f g s.memory_refused) same ∙ ap (channel_answer (facts k) g) refused ∙ sym b
+answers_one h k first second s t (action.Client g) o p same is it refused x y l m a b i j = a ∙ ap (λ f. queue_answer is_client f g s.memory_refused) same ∙ ap (queue_answer is_client (facts k) g) refused ∙ sym b
+answers_one h k first second s t (action.Worker g) o p same is it refused x y l m a b i j = a ∙ ap (λ f. queue_answer is_worker f g s.memory_refused) same ∙ ap (queue_answer is_worker (facts k) g) refused ∙ sym b
+answers_one h k first second s t (action.Line e g) o p same is it refused x y l m a b i j = a ∙ ap (λ f. line_answer f e g) same ∙ sym b
+answers_one h k first second s t (action.Back u) o p same is it refused x y l m a b i j = a ∙ ap (λ f. back_answer f u) same ∙ sym b
+answers_one h k first second s t (action.Hand e g) o p same is it refused x y l m a b i j = a ∙ ap (λ f. hand_answer f e g) same ∙ sym b
 answers_one h k first second s t (action.Enter u) o p same is it refused x y l m a b i j = a ∙ ap (λ f. enter_answer f u) same ∙ sym b
 answers_one h k first second s t (action.Push u ports body) o p same is it refused x y l m a b i j = a ∙ ap (λ f. push_answer f u ports.items s.memory_refused) same ∙ ap (push_answer (facts k) u ports.items) refused ∙ sym b
 answers_one h k first second s t (action.Leave u) o p same is it refused x y l m a b i j = a ∙ ap (λ f. leave_answer f u) same ∙ sym b

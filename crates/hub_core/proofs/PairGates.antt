@@ -18,7 +18,7 @@ use Rattle.hub_core.specs.MailboxSteps.{at_gate, MailboxStep, gate_steps, with_g
 use Rattle.hub_core.specs.MailboxPairs.{OneRight, enabled_of, leaving}
 use Rattle.hub_core.proofs.Items.{got_there, got-map, got_of-map}
 use Rattle.hub_core.proofs.Fitting.{is_retired, let_in_of, found_moved_of, found_closed_of, left_of}
-use Rattle.hub_core.proofs.SoundLines.{line_there}
+use Rattle.hub_core.proofs.SoundLines.{line_there, LinesAt}
 use Rattle.hub_core.proofs.MailboxStepping.{step_kept}
 use Rattle.hub_core.proofs.MailboxShown.{View, view, ShownAt, HasRight, Leads, one_step, Standing, standing, phase_shown, flags_shown}
 
@@ -48,14 +48,14 @@ right_home lines g l h kept out =
 
 -- the end with a line in this phase, where the step is at this end
 abbrev pub with_line : Facts → ℕ → ℕ → Phase → Bool → View
-with_line f e l p here = record (view f e) { line = λ i. record { phase = cond (here && eqb i l) p (f.line e i).phase; stand = (f.line e i).stand; noticed = (f.line e i).noticed } }
+with_line f e l p here = record (view f e) { line = λ i. record { phase = cond (here && eqb i l) p (f.line e i).phase; stand = (f.line e i).stand; noticed = (f.line e i).noticed; held_by = (f.line e i).held_by } }
 
 module _ (f : Facts) (s : Sender) (m : Mailbox OneRight) (is : ShownAt f s.end.0 m) where
   abbrev here : LineNow
   here = f.line s.end.0 s.line.0
 
   abbrev lines : ℕ
-  lines = lines_of ((f.end s.end.0).peer)
+  lines = lines_of ((f.end s.end.0).kind)
 
   pub at_line : s.line.0 < lines → Standing lines m s.line.0 here
   at_line low = standing s.end.0 (view f s.end.0) m is s.line.0 low
@@ -83,10 +83,10 @@ module _ (f : Facts) (s : Sender) (m : Mailbox OneRight) (is : ShownAt f s.end.0
       let count : length m.gates ≡ (f.end s.end.0).newest + 1 = is.gates in
       omega arith
 
-  pub entered : outcome.In ≡ enter_answer f s → Leads s.end.0 lines m (at_gate here.stand (machine.enter s.line.0) (machine.lets_in tt) ∷ []) (with_line f s.end.0 s.line.0 Inside true)
-  entered fits =
+  pub entered : LinesAt f s.end.0 → outcome.In ≡ enter_answer f s → Leads s.end.0 lines m (at_gate here.stand (machine.enter s.line.0) (machine.lets_in tt) ∷ []) (with_line f s.end.0 s.line.0 Inside true)
+  entered lines_at fits =
       let why = let_in_of f s fits in
-      let y : Standing lines m s.line.0 here = at_line (line_there f s why.0.may) in
+      let y : Standing lines m s.line.0 here = at_line (line_there f s lines_at why.0.may) in
       let newest : IsNewest m here.stand = at_newest y why.1 in
       let moved : y.gate.moved ≡ false = is.is_mailbox.newest here.stand y.gate y.is_gate newest in
       let closed : y.gate.closed ≡ false = (is.flags here.stand y.gate newest y.is_gate).1 ∙ why.2 in
@@ -95,18 +95,18 @@ module _ (f : Facts) (s : Sender) (m : Mailbox OneRight) (is : ShownAt f s.end.0
       moves y (with_home (with_phase y.gate s.line.0 Inside) s.line.0 None) (machine.enter s.line.0) (machine.lets_in tt) Inside
       (gate_steps here.stand y.gate _ (machine.enter s.line.0) (machine.lets_in tt) y.is_gate y.stands (goes_in s.line.0 tt out moved closed home)) refl refl refl refl
 
-  pub turned_moved : outcome.Moved ≡ enter_answer f s → Leads s.end.0 lines m (at_gate here.stand (machine.enter s.line.0) machine.says_moved ∷ []) (with_line f s.end.0 s.line.0 Turned true)
-  turned_moved fits =
+  pub turned_moved : LinesAt f s.end.0 → outcome.Moved ≡ enter_answer f s → Leads s.end.0 lines m (at_gate here.stand (machine.enter s.line.0) machine.says_moved ∷ []) (with_line f s.end.0 s.line.0 Turned true)
+  turned_moved lines_at fits =
       let why = found_moved_of f s fits in
-      let y : Standing lines m s.line.0 here = at_line (line_there f s why.0.may) in
+      let y : Standing lines m s.line.0 here = at_line (line_there f s lines_at why.0.may) in
       let moved : y.gate.moved ≡ true = (is.is_mailbox.retired here.stand y.gate y.is_gate (at_retired why.1)).0 in
       moves y (with_phase y.gate s.line.0 Turned) (machine.enter s.line.0) machine.says_moved Turned
       (gate_steps here.stand y.gate _ (machine.enter s.line.0) machine.says_moved y.is_gate y.stands (finds_moved s.line.0 (out_there y why.0.out) moved)) refl refl refl refl
 
-  pub turned_closed : outcome.Closed ≡ enter_answer f s → Leads s.end.0 lines m (at_gate here.stand (machine.enter s.line.0) machine.says_closed ∷ []) (with_line f s.end.0 s.line.0 Turned true)
-  turned_closed fits =
+  pub turned_closed : LinesAt f s.end.0 → outcome.Closed ≡ enter_answer f s → Leads s.end.0 lines m (at_gate here.stand (machine.enter s.line.0) machine.says_closed ∷ []) (with_line f s.end.0 s.line.0 Turned true)
+  turned_closed lines_at fits =
       let why = found_closed_of f s fits in
-      let y : Standing lines m s.line.0 here = at_line (line_there f s why.0.may) in
+      let y : Standing lines m s.line.0 here = at_line (line_there f s lines_at why.0.may) in
       let newest : IsNewest m here.stand = at_newest y why.1 in
       let moved : y.gate.moved ≡ false = is.is_mailbox.newest here.stand y.gate y.is_gate newest in
       let closed : y.gate.closed ≡ true = (is.flags here.stand y.gate newest y.is_gate).1 ∙ why.2 in
@@ -139,7 +139,7 @@ module _ (f : Facts) (e : ℕ) (m : Mailbox OneRight) (is : ShownAt f e m) where
   newest = (f.end e).newest
 
   abbrev end_lines : ℕ
-  end_lines = lines_of ((f.end e).peer)
+  end_lines = lines_of ((f.end e).kind)
 
   newest_gate : (g : Gate OneRight) × (slice_get m.gates newest ≡ Some g)
   newest_gate = let count : length m.gates ≡ newest + 1 = is.gates in got_there m.gates newest (omega arith)

@@ -55,7 +55,7 @@ same_rights (x ∷ xs) (y ∷ ys) same = ap (λ zs. tt ∷ zs) (same_rights xs y
 
 module _ (f : Facts) (e : ℕ) (m : Mailbox OneRight) (is : ShownAt f e m) where
   abbrev lines : ℕ
-  lines = lines_of ((f.end e).peer)
+  lines = lines_of ((f.end e).kind)
 
   module _ (k : ℕ) (g : Gate OneRight) (at : GateAt m k g) where
     somebody_there : someone_at f e k ≡ true → 0 < busy g

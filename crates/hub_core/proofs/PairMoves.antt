@@ -15,7 +15,7 @@ use Rattle.hub_core.specs.MailboxPairs.{OneRight, rights_of}
 use Rattle.hub_core.proofs.Items.{got_within, got_there, at_written, at_pushed}
 use Rattle.hub_core.specs.Posting.{is_out, phase_of_line, may_enter}
 use Rattle.hub_core.proofs.Fitting.{is_retired}
-use Rattle.hub_core.proofs.SoundLines.{line_there}
+use Rattle.hub_core.proofs.SoundLines.{line_there, LinesAt}
 use Rattle.hub_core.proofs.MailboxStepping.{step_kept}
 use Rattle.hub_core.proofs.MailboxShown.{View, view, ShownAt, IsShown, HasRight, Leads, one_step, event_grows, Standing}
 use Rattle.hub_core.proofs.PairGates.{at_line, out_there, at_retired}
@@ -24,14 +24,14 @@ use Rattle.hub_core.proofs.PairGates.{at_line, out_there, at_retired}
 
 -- the end with a line at the next queue, where the step is at this end
 abbrev pub with_next : Facts → ℕ → ℕ → Bool → View
-with_next f e l here = record (view f e) { line = λ i. record { phase = (f.line e i).phase; stand = cond (here && eqb i l) ((f.line e i).stand + 1) (f.line e i).stand; noticed = (f.line e i).noticed } }
+with_next f e l here = record (view f e) { line = λ i. record { phase = (f.line e i).phase; stand = cond (here && eqb i l) ((f.line e i).stand + 1) (f.line e i).stand; noticed = (f.line e i).noticed; held_by = (f.line e i).held_by } }
 
-pub hopped_there : (f : Facts) (s : Sender) (m : Mailbox OneRight) → ShownAt f s.end.0 m → may_enter f s ≡ true → is_out (phase_of_line f s) ≡ true → is_retired f s ≡ true → Leads s.end.0 (lines_of ((f.end s.end.0).peer)) m (hop s.line.0 ∷ []) (with_next f s.end.0 s.line.0 true)
-hopped_there f s m is may out_of retired =
+pub hopped_there : (f : Facts) (s : Sender) (m : Mailbox OneRight) → ShownAt f s.end.0 m → LinesAt f s.end.0 → may_enter f s ≡ true → is_out (phase_of_line f s) ≡ true → is_retired f s ≡ true → Leads s.end.0 (lines_of ((f.end s.end.0).kind)) m (hop s.line.0 ∷ []) (with_next f s.end.0 s.line.0 true)
+hopped_there f s m is lines_at may out_of retired =
     let e : ℕ = s.end.0 in
     let l : ℕ = s.line.0 in
-    let lines : ℕ = lines_of ((f.end e).peer) in
-    let y : Standing lines m l (f.line e l) = at_line f s m is (line_there f s may) in
+    let lines : ℕ = lines_of ((f.end e).kind) in
+    let y : Standing lines m l (f.line e l) = at_line f s m is (line_there f s lines_at may) in
     let k : ℕ = (f.line e l).stand in
     let after : Mailbox OneRight = with_stand m l (k + 1) in
     let out : IsAt y.gate l Out = out_there f s m is y out_of in
@@ -57,9 +57,9 @@ hopped_there f s m is may out_of retired =
 abbrev pub with_taker_at : Facts → ℕ → Bool → View
 with_taker_at f e here = record (view f e) { taker = cond here ((f.end e).taker_stand + 1) (f.end e).taker_stand }
 
-pub went_on_there : (f : Facts) (e : ℕ) (m : Mailbox OneRight) → ShownAt f e m → (f.end e).taker_stand < (f.end e).newest → IsSettled m m.taker → HoldsNothing m m.taker → Leads e (lines_of ((f.end e).peer)) m (advance ∷ []) (with_taker_at f e true)
+pub went_on_there : (f : Facts) (e : ℕ) (m : Mailbox OneRight) → ShownAt f e m → (f.end e).taker_stand < (f.end e).newest → IsSettled m m.taker → HoldsNothing m m.taker → Leads e (lines_of ((f.end e).kind)) m (advance ∷ []) (with_taker_at f e true)
 went_on_there f e m is retired settled nothing =
-    let lines : ℕ = lines_of ((f.end e).peer) in
+    let lines : ℕ = lines_of ((f.end e).kind) in
     let at : m.taker ≡ (f.end e).taker_stand = is.taker_at in
     let count : length m.gates ≡ (f.end e).newest + 1 = is.gates in
     let after : Mailbox OneRight = with_taker m (m.taker + 1) in
@@ -84,7 +84,7 @@ with_queue_new f e here = record (view f e) { newest = cond here ((f.end e).newe
 
 module _ (f : Facts) (e : ℕ) (m : Mailbox OneRight) (is : ShownAt f e m) (sound : Sound f) (opened_yet : (f.end e).closed ≡ false) where
   abbrev lines : ℕ
-  lines = lines_of ((f.end e).peer)
+  lines = lines_of ((f.end e).kind)
 
   abbrev newest : ℕ
   newest = (f.end e).newest

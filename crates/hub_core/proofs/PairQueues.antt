@@ -11,7 +11,7 @@ use Rattle.hub_core.specs.declared.sender.Sender.{Sender}
 use Rattle.hub_core.specs.declared.outcome.Acceptance.{Acceptance}
 use Rattle.hub_core.specs.Facts.{Facts}
 use Rattle.hub_core.specs.Accepted.{named_envelope, named_notice}
-use Rattle.hub_core.specs.Made.{lines_of}
+use Rattle.hub_core.specs.Made.{lines_of, is_queue}
 use Rattle.hub_core.specs.Sender.{by, in_queue, count_in_queue}
 use Rattle.hub_core.specs.Posting.{phase_of_line}
 use Rattle.hub_core.specs.QueueMachine.{Queue, IsNamed, MayPush, pushed, pop_of}
@@ -22,7 +22,7 @@ use Rattle.hub_core.proofs.Lists.{AllByRecursion-weaker}
 use Rattle.hub_core.proofs.Items.{none_got, some_is, got_there}
 use Rattle.hub_core.proofs.Waits.{all_kept, filters}
 use Rattle.hub_core.proofs.Fitting.{Pushed, Noticed}
-use Rattle.hub_core.proofs.SoundLines.{MayPut, message_may, notice_may}
+use Rattle.hub_core.proofs.SoundLines.{MayPut, message_may, notice_may, LinesAt}
 use Rattle.hub_core.proofs.SoundWaiting.{inside_of}
 use Rattle.hub_core.proofs.MailboxStepping.{step_kept}
 use Rattle.hub_core.proofs.Joins.{all_pass, filter_both, nothing_there, nothing_more}
@@ -96,12 +96,12 @@ counted line k vs = ap length (sym (filter_both (λ v. eqb v.line.0 line) (λ v.
 
 -- an envelope that may be put on its line is a push
 accepted_there : (f : Facts) (s : Sender) (v : Envelope) (m : Mailbox OneRight) → ShownAt f s.end.0 m → MayPut f s v
-    → Leads s.end.0 (lines_of ((f.end s.end.0).peer)) m (push v ∷ []) (record (view f s.end.0) { accepted = f.accepted s.end.0 ++ v ∷ [] })
+    → Leads s.end.0 (lines_of ((f.end s.end.0).kind)) m (push v ∷ []) (record (view f s.end.0) { accepted = f.accepted s.end.0 ++ v ∷ [] })
 accepted_there f s v m is p =
     let e : ℕ = s.end.0 in
     let l : ℕ = v.line.0 in
     let k : ℕ = (f.line e l).stand in
-    let lines : ℕ = lines_of ((f.end e).peer) in
+    let lines : ℕ = lines_of ((f.end e).kind) in
     let low : l < lines = subst (λ i. i < lines) (sym p.line) p.there in
     let y : Standing lines m l (f.line e l) = standing e (view f e) m is l low in
     let within : k < length m.gates = is.is_mailbox.stands_within l k y.stands in
@@ -119,20 +119,20 @@ accepted_there f s v m is p =
     (subst (λ vs. IsShown e (record (view f e) { accepted = f.accepted e ++ v ∷ []; removed = vs }) after) (append-nil (f.taken e ++ f.discarded e))
     (queue_shown e (view f e) m is k (pushed q v) (v ∷ []) [] (step_kept e lines m after is.is_mailbox step) (event_grows e lines m after _ is.is_mailbox step)))
 
-pub pushed_there : (f : Facts) (s : Sender) (ports : List EndId) (body : List ℕ) (n : Acceptance) (m : Mailbox OneRight) → ShownAt f s.end.0 m → Pushed f s ports n
-    → Leads s.end.0 (lines_of ((f.end s.end.0).peer)) m (push (named_envelope s n body ports) ∷ []) (record (view f s.end.0) { accepted = f.accepted s.end.0 ++ named_envelope s n body ports ∷ [] })
-pushed_there f s ports body n m is p = accepted_there f s (named_envelope s n body ports) m is (message_may f s ports body n p)
+pub pushed_there : (f : Facts) (s : Sender) (ports : List EndId) (body : List ℕ) (n : Acceptance) (m : Mailbox OneRight) → ShownAt f s.end.0 m → LinesAt f s.end.0 → Pushed f s ports n
+    → Leads s.end.0 (lines_of ((f.end s.end.0).kind)) m (push (named_envelope s n body ports) ∷ []) (record (view f s.end.0) { accepted = f.accepted s.end.0 ++ named_envelope s n body ports ∷ [] })
+pushed_there f s ports body n m is lines_at p = accepted_there f s (named_envelope s n body ports) m is (message_may f s ports body n lines_at p)
 
 -- the end with a notice, the last of its line, where the step is at this end
 abbrev pub with_notice : Facts → ℕ → Sender → Acceptance → Bool → View
 with_notice f e s n here = record (view f e) {
-  line = λ i. record { phase = (f.line e i).phase; stand = (f.line e i).stand; noticed = cond (here && eqb i s.line.0) true (f.line e i).noticed };
+  line = λ i. record { phase = (f.line e i).phase; stand = (f.line e i).stand; noticed = cond (here && eqb i s.line.0) true (f.line e i).noticed; held_by = (f.line e i).held_by };
   accepted = cond here (f.accepted e ++ named_notice s n ∷ []) (f.accepted e);
 }
 
 -- a mailbox doesn't show which lines put a notice
 pub noticed_there : (f : Facts) (s : Sender) (n : Acceptance) (m : Mailbox OneRight) → ShownAt f s.end.0 m → Noticed f s n
-    → Leads s.end.0 (lines_of ((f.end s.end.0).peer)) m (push (named_notice s n) ∷ []) (with_notice f s.end.0 s n true)
+    → Leads s.end.0 (lines_of ((f.end s.end.0).kind)) m (push (named_notice s n) ∷ []) (with_notice f s.end.0 s n true)
 noticed_there f s n m is p =
     let done = accepted_there f s (named_notice s n) m is (notice_may f s n p) in
     let shown : IsShown s.end.0 (record (view f s.end.0) { accepted = f.accepted s.end.0 ++ named_notice s n ∷ [] }) done.0 = done.2 in (
@@ -155,9 +155,9 @@ noticed_there f s n m is p =
 
 -- one that finds an envelope, where nothing was discarded
 pub taken_there : (f : Facts) (e : ℕ) (m : Mailbox OneRight) (v : Envelope) → ShownAt f e m → f.discarded e ≡ [] → HoldsFirst m m.taker v
-    → Leads e (lines_of ((f.end e).peer)) m (pop ((f.end e).taker_stand) (Some v) ∷ []) (record (view f e) { removed = (f.taken e ++ v ∷ []) ++ f.discarded e })
+    → Leads e (lines_of ((f.end e).kind)) m (pop ((f.end e).taker_stand) (Some v) ∷ []) (record (view f e) { removed = (f.taken e ++ v ∷ []) ++ f.discarded e })
 taken_there f e m v is kept holds =
-    let lines : ℕ = lines_of ((f.end e).peer) in
+    let lines : ℕ = lines_of ((f.end e).kind) in
     let after : Mailbox OneRight = with_queue m m.taker holds.rest in
     let step : MailboxStep HasRight e lines m (pop m.taker (Some v)) after = takes holds.queue holds.rest v holds.is_queue holds.first in
     let last : (f.taken e ++ f.discarded e) ++ v ∷ [] ≡ (f.taken e ++ v ∷ []) ++ f.discarded e =
@@ -175,10 +175,10 @@ taken_there f e m v is kept holds =
 pub taken_all : (f : Facts) (e : ℕ) (m : Mailbox OneRight) → ShownAt f e m → f.discarded e ≡ [] → ((l : ℕ) → in_queue (f.end e).taker_stand (by l (f.taken e)) ≡ in_queue (f.end e).taker_stand (by l (f.accepted e))) → HoldsNothing m m.taker
 taken_all f e m is kept all =
     let t : ℕ = (f.end e).taker_stand in
-    holds_nothing e (lines_of ((f.end e).peer)) m is.is_mailbox m.taker is.is_mailbox.taker_within (λ l.
+    holds_nothing e (lines_of ((f.end e).kind)) m is.is_mailbox m.taker is.is_mailbox.taker_within (λ l.
     let got : got_from m ≡ f.taken e = is.got ∙ ap (λ us. f.taken e ++ us) kept ∙ append-nil (f.taken e) in
     ap (λ k. in_queue k (by l (got_from m))) is.taker_at ∙ ap (λ us. in_queue t (by l us)) got ∙ all l ∙ sym (ap (in_queue t) (is.put l)) ∙ sym (ap (λ k. in_queue k (put_by m l)) is.taker_at))
 
 -- one that finds none
-pub none_there : (f : Facts) (e : ℕ) (m : Mailbox OneRight) → ShownAt f e m → HoldsNothing m m.taker → MailboxStep HasRight e (lines_of ((f.end e).peer)) m (pop ((f.end e).taker_stand) None) m
-none_there f e m is nothing = subst (λ k. MailboxStep HasRight e (lines_of ((f.end e).peer)) m (pop k None) m) is.taker_at (finds_none m.taker nothing.queue nothing.is_queue nothing.nothing)
+pub none_there : (f : Facts) (e : ℕ) (m : Mailbox OneRight) → ShownAt f e m → HoldsNothing m m.taker → MailboxStep HasRight e (lines_of ((f.end e).kind)) m (pop ((f.end e).taker_stand) None) m
+none_there f e m is nothing = subst (λ k. MailboxStep HasRight e (lines_of ((f.end e).kind)) m (pop k None) m) is.taker_at (finds_none m.taker nothing.queue nothing.is_queue nothing.nothing)

@@ -7,7 +7,7 @@ use Rattle.std.proofs.lemmas.List.Elements.{filter-append}
 use Rattle.hub_envelope.specs.declared.envelope.Envelope.{Envelope}
 use Rattle.hub_envelope.specs.declared.ids.EndId.{EndId}
 use Rattle.hub_core.specs.Facts.{Facts}
-use Rattle.hub_core.specs.Made.{lines_of}
+use Rattle.hub_core.specs.Made.{lines_of, is_queue}
 use Rattle.hub_core.specs.Sender.{by, in_queue}
 use Rattle.hub_core.specs.Looking.{is_settled, IsAllWaiting}
 use Rattle.hub_core.specs.Sound.{Sound}
@@ -27,7 +27,7 @@ use Rattle.hub_core.proofs.PairLooks.{settled_there}
 
 module _ (f : Facts) (e : ℕ) (vs : List Envelope) where
   abbrev lines : ℕ
-  lines = lines_of ((f.end e).peer)
+  lines = lines_of ((f.end e).kind)
 
   abbrev taker : ℕ
   taker = (f.end e).taker_stand
@@ -167,7 +167,7 @@ module _ (f : Facts) (e : ℕ) (vs : List Envelope) where
 
 -- a Sweep pops all that waits
 pub swept_there : (f : Facts) (x : EndId) (m : Mailbox OneRight) (vs : List Envelope) → ShownAt f x.0 m → Sound f → SweptWith f x vs → HoldsAll m vs
-    → Leads x.0 (lines_of ((f.end x.0).peer)) m (sweeping vs (f.end x.0).taker_stand ((f.end x.0).newest - (f.end x.0).taker_stand + 1)) (record (view f x.0) { removed = f.taken x.0 ++ (f.discarded x.0 ++ vs) })
+    → Leads x.0 (lines_of ((f.end x.0).kind)) m (sweeping vs (f.end x.0).taker_stand ((f.end x.0).newest - (f.end x.0).taker_stand + 1)) (record (view f x.0) { removed = f.taken x.0 ++ (f.discarded x.0 ++ vs) })
 swept_there f x m vs is sound s holds =
     let e : ℕ = x.0 in
     let t : ℕ = (f.end e).taker_stand in
@@ -184,5 +184,5 @@ swept_there f x m vs is sound s holds =
     let last : (f.taken e ++ f.discarded e) ++ queues_from t n vs ≡ f.taken e ++ (f.discarded e ++ vs) =
     ap (λ us. (f.taken e ++ f.discarded e) ++ us) (all_queues f e vs sound s.all) ∙ append_assoc (f.taken e) (f.discarded e) vs
     in
-    subst (λ us. Leads e (lines_of ((f.end e).peer)) m (sweeping vs t n) (record (view f e) { removed = us })) last
+    subst (λ us. Leads e (lines_of ((f.end e).kind)) m (sweeping vs t n) (record (view f e) { removed = us })) last
     (swept_from f e vs s.is_closed n t (f.taken e ++ f.discarded e) m (omega arith) (omega arith) first)

@@ -30,7 +30,7 @@ any_lines q test [] h = refl
 any_lines q test (y ∷ ys) h =
     any_front test (length ys) ∙ ap (λ b. b || any_below (λ l. test (suc l)) (length ys)) (h 0) ∙ ap (λ b. q (line_now (Some y)) || b) (any_lines q (λ l. test (suc l)) ys (λ l. h (suc l)))
 
-pub lines_kept : (f : Facts) (e : ℕ) (x : End) (q : LineNow → Bool) → ShownAt f e (Some x) → list_any (λ y. q (line_now (Some y))) x.lines ≡ any_below (λ l. q (f.line e l)) (lines_of (f.end e).peer)
+pub lines_kept : (f : Facts) (e : ℕ) (x : End) (q : LineNow → Bool) → ShownAt f e (Some x) → list_any (λ y. q (line_now (Some y))) x.lines ≡ any_below (λ l. q (f.line e l)) (lines_of (f.end e).kind)
 lines_kept f e x q h = sym (any_lines q (λ l. q (f.line e l)) x.lines (λ l. ap q (h.lines l))) ∙ ap (any_below (λ l. q (f.line e l))) h.count
 
 pub someone_kept : (f : Facts) (e k : ℕ) (x : End) → ShownAt f e (Some x) → is_anyone_at k x.lines ≡ someone_at f e k

@@ -22,14 +22,19 @@ use Rattle.hub_core.specs.Accepted.{named_envelope}
 use Rattle.hub_core.specs.Posting.{phase_of_line, is_inside, poster, is_good, push_answer_of, push_answer, next_name, is_posting}
 use Rattle.hub_core.specs.Sound.{no_line}
 use Rattle.hub_core.specs.Shows.{line_now, ShowsPut, ShowsFacts}
-use Rattle.hub_core.specs.Kept.{kept_holder, kept_good, has_queue, posting_line, kept_posting_by, kept_posting_line, kept_posting_at, kept_posting, push_outcome, put_end, PushLeaves, Moves}
+use Rattle.hub_core.specs.Kept.{kept_holder, kept_good, has_queue, posting_line, kept_posting_by, kept_posting_line, kept_posting_at, kept_posting, push_outcome, put_end, PushLeaves, Moves, kept_poster_by, source_of, kept_poster_of, kept_poster_on}
 use Rattle.hub_core.proofs.Lists.{both_of}
 use Rattle.hub_core.proofs.Frames.{ShownAt, Stepped, changed, unchanged}
-use Rattle.hub_core.proofs.Holders.{holder_kept, has_one_line}
+use Rattle.hub_core.proofs.Holders.{holder_kept, poster_kept}
 use Rattle.hub_core.proofs.Fitting.{pushed_of}
 use Rattle.hub_core.proofs.Speakers.{placed_made, travels, all_good}
 use Rattle.hub_core.proofs.Puts.{each_shown, put_count, name_kept, queue_kept}
 use Rattle.hub_core.proofs.Travels.{good_kept}
+use Rattle.hub_core.specs.Made.{peer_of}
+use Rattle.hub_core.proofs.Counts.{counted_ports, counts_of}
+use Rattle.hub_core.proofs.Nexts.{next}
+use Rattle.hub_core.specs.Place.{names}
+use Rattle.hub_core.proofs.SoundPlaces.{some_own}
 
 -- every end, with the message put and its ports in flight
 pushed_shown : (agents : List Agent) (ends new : List End) (f : Facts) (s : Sender) (ports : Vec EndId Global) (body : List ℕ) (refused : Bool) (n : Acceptance) (x : End) (y : Line) → ShowsFacts agents ends f → slice_get ends s.end.0 ≡ Some x → slice_get x.lines s.line.0 ≡ Some y → f.line s.end.0 s.line.0 ≡ line_now (Some y) → n.epoch ≡ y.epoch → has_queue x y.epoch ≡ true → outcome.Accepted n ≡ push_answer f s ports.items refused → Moves ports.items InFlight (set ends s.end.0 (put_end x y (named_envelope s n body ports.items))) new → Stepped agents new f (action.Push s ports body) refused (outcome.Accepted n)
@@ -38,7 +43,8 @@ pushed_shown agents ends new f s ports body refused n x y h at is line epoch que
     let p = pushed_of f s ports.items refused n fits in
     let plain : y.has_noticed ≡ false = sym (ap (λ (z : LineNow). z.noticed) line) ∙ p.plain in
     changed agents ends new f (action.Push s ports body) refused (outcome.Accepted n) h fits refl refl refl (put_count ends new s.end.0 (put_end x y v) ports.items moves)
-    (each_shown agents ends new f v x y f.line h at is epoch queue (line ∙ ap (λ b. let z : LineNow = record { phase = y.phase; stand = y.epoch; noticed = b } in z) plain) (λ l other. refl) (λ l. refl) (λ l. refl) (λ d other. refl)
+    (counted_ports agents f (next f (action.Push s ports body) (outcome.Accepted n)) (names ports.items) (λ d. Some InFlight) refl (λ d. refl) (λ d. refl) (λ d named. some_own f (peer_of (f.end d).kind) (travels f p.agent s d ports.items (all_good f s ports.items n p) named).1) (counts_of agents ends f h))
+    (each_shown agents ends new f v x y f.line h at is epoch queue (line ∙ ap (λ b. let z : LineNow = record { phase = y.phase; stand = y.epoch; noticed = b; held_by = y.held_by } in z) plain) (λ l other. refl) (λ l. refl) (λ l. refl) (λ d other. refl)
     (λ d named. placed_made f d (With p.agent) h.sound.places (travels f p.agent s d ports.items (all_good f s ports.items n p) named).0) moves)
 
 -- ---- the tests of a push, one after another
@@ -58,14 +64,10 @@ not_good f s ports refused a few h = rw (few, h) refl
 good : (f : Facts) (s : Sender) (ports : List EndId) (refused : Bool) (a : AgentId) → nat_lt MAX_PORTS (length ports) ≡ false → is_good f a s ports ≡ true → cond refused outcome.NoMemory (outcome.Accepted (next_name f s a)) ≡ push_answer_of f s ports refused (Some a)
 good f s ports refused a few h = rw (few, h) refl
 
--- the poster of the one line of a port
-poster_here : (agents : List Agent) (ends : List End) (f : Facts) (s : Sender) (x : End) (y : Line) → ShowsFacts agents ends f → ShownAt f s.end.0 (Some x) → slice_get x.lines s.line.0 ≡ Some y → poster f s ≡ kept_holder agents ends x.peer.0
-poster_here agents ends f s x y h shown is =
-    let within : s.line.0 < length x.lines = slice_get_within x.lines s.line.0 y is in
-    let one : length x.lines ≡ 1 = has_one_line f s.end.0 x shown in
-    let first : s.line.0 ≡ 0 = omega arith in
-    let peer : (f.end s.end.0).peer ≡ Some x.peer.0 = ap (λ (z : EndNow). z.peer) shown.same in
-    rw (first, peer) (sym (holder_kept agents ends f x.peer.0 h))
+-- the poster of a line of an end
+poster_here : (agents : List Agent) (ends : List End) (f : Facts) (s : Sender) (x : End) (y : Line) → ShowsFacts agents ends f → ShownAt f s.end.0 (Some x) → slice_get ends s.end.0 ≡ Some x → slice_get x.lines s.line.0 ≡ Some y → poster f s ≡ kept_poster_by agents ends x.kind y
+poster_here agents ends f s x y h shown at is =
+    sym (poster_kept agents ends f s h) ∙ ap (kept_poster_of agents ends s.line.0) at ∙ ap (kept_poster_on agents ends x) is
 
 push_good : (agents : List Agent) (ends new : List End) (f : Facts) (s : Sender) (ports : Vec EndId Global) (body : List ℕ) (refused : Bool) (x : End) (y : Line) (a : AgentId) (o : Outcome) → ShowsFacts agents ends f → slice_get ends s.end.0 ≡ Some x → slice_get x.lines s.line.0 ≡ Some y → ShownAt f s.end.0 (Some x) → has_queue x y.epoch ≡ true → cond refused outcome.NoMemory (outcome.Accepted (next_name f s a)) ≡ push_answer f s ports.items refused → o ≡ push_outcome (cond refused (Err outcome.NoMemory) (Ok (y, a))) → PushLeaves s ports.items body ends (cond refused (Err outcome.NoMemory) (Ok (y, a))) new → Stepped agents new f (action.Push s ports body) refused o
 push_good agents ends new f s ports body true x y a o h at is shown queue answer says leaves =
@@ -80,22 +82,22 @@ push_good agents ends new f s ports body false x y a o h at is shown queue answe
     (pushed_shown agents ends new f s ports body false n x y h at is line refl queue (ap outcome.Accepted same ∙ answer) moves)
 
 push_few : (agents : List Agent) (ends new : List End) (f : Facts) (s : Sender) (ports : Vec EndId Global) (body : List ℕ) (refused : Bool) (x : End) (y : Line) (a : AgentId) (o : Outcome) → ShowsFacts agents ends f → slice_get ends s.end.0 ≡ Some x → slice_get x.lines s.line.0 ≡ Some y → ShownAt f s.end.0 (Some x) → has_queue x y.epoch ≡ true → push_answer_of f s ports.items refused (Some a) ≡ push_answer f s ports.items refused
-    → (many fine : Bool) → nat_lt MAX_PORTS (length ports.items) ≡ many → kept_good ends a x.peer s.end ports.items ≡ fine
+    → (many fine : Bool) → nat_lt MAX_PORTS (length ports.items) ≡ many → kept_good ends a (source_of x.kind) s.end ports.items ≡ fine
     → o ≡ push_outcome (cond many (Err outcome.TooManyPorts) (cond fine (cond refused (Err outcome.NoMemory) (Ok (y, a))) (Err outcome.NotNow))) → PushLeaves s ports.items body ends (cond many (Err outcome.TooManyPorts) (cond fine (cond refused (Err outcome.NoMemory) (Ok (y, a))) (Err outcome.NotNow))) new → Stepped agents new f (action.Push s ports body) refused o
 push_few agents ends new f s ports body refused x y a o h at is shown queue falls true fine many good_is says leaves =
     unchanged agents ends new f (action.Push s ports body) refused o outcome.TooManyPorts h refl says leaves (too_many f s ports.items refused a many ∙ falls)
 push_few agents ends new f s ports body refused x y a o h at is shown queue falls false fine few good_is says leaves =
-    let same : kept_good ends a x.peer s.end ports.items ≡ is_good f a s ports.items = good_kept agents ends f a s x.peer h (ap (λ (z : EndNow). z.peer) shown.same) ports.items in
-    elim fine as (λ b. kept_good ends a x.peer s.end ports.items ≡ b → o ≡ push_outcome (cond b (cond refused (Err outcome.NoMemory) (Ok (y, a))) (Err outcome.NotNow)) → PushLeaves s ports.items body ends (cond b (cond refused (Err outcome.NoMemory) (Ok (y, a))) (Err outcome.NotNow)) new → Stepped agents new f (action.Push s ports body) refused o) [
+    let same : kept_good ends a (source_of x.kind) s.end ports.items ≡ is_good f a s ports.items = good_kept agents ends f a s x.kind h (ap (λ (z : EndNow). z.kind) shown.same) ports.items in
+    elim fine as (λ b. kept_good ends a (source_of x.kind) s.end ports.items ≡ b → o ≡ push_outcome (cond b (cond refused (Err outcome.NoMemory) (Ok (y, a))) (Err outcome.NotNow)) → PushLeaves s ports.items body ends (cond b (cond refused (Err outcome.NoMemory) (Ok (y, a))) (Err outcome.NotNow)) new → Stepped agents new f (action.Push s ports body) refused o) [
       | true ↦ λ found says leaves. push_good agents ends new f s ports body refused x y a o h at is shown queue (good f s ports.items refused a few (sym same ∙ found) ∙ falls) says leaves
       | false ↦ λ bad says leaves. unchanged agents ends new f (action.Push s ports body) refused o outcome.NotNow h refl says leaves (not_good f s ports.items refused a few (sym same ∙ bad) ∙ falls)
     ] good_is says leaves
 
-push_held : (agents : List Agent) (ends new : List End) (f : Facts) (s : Sender) (ports : Vec EndId Global) (body : List ℕ) (refused : Bool) (x : End) (y : Line) (o : Outcome) → ShowsFacts agents ends f → slice_get ends s.end.0 ≡ Some x → slice_get x.lines s.line.0 ≡ Some y → ShownAt f s.end.0 (Some x) → has_queue x y.epoch ≡ true → (q : Option AgentId) → push_answer_of f s ports.items refused q ≡ push_answer f s ports.items refused → o ≡ push_outcome (kept_posting_by ends x.peer s.end ports.items refused y q) → PushLeaves s ports.items body ends (kept_posting_by ends x.peer s.end ports.items refused y q) new → Stepped agents new f (action.Push s ports body) refused o
+push_held : (agents : List Agent) (ends new : List End) (f : Facts) (s : Sender) (ports : Vec EndId Global) (body : List ℕ) (refused : Bool) (x : End) (y : Line) (o : Outcome) → ShowsFacts agents ends f → slice_get ends s.end.0 ≡ Some x → slice_get x.lines s.line.0 ≡ Some y → ShownAt f s.end.0 (Some x) → has_queue x y.epoch ≡ true → (q : Option AgentId) → push_answer_of f s ports.items refused q ≡ push_answer f s ports.items refused → o ≡ push_outcome (kept_posting_by ends (source_of x.kind) s.end ports.items refused y q) → PushLeaves s ports.items body ends (kept_posting_by ends (source_of x.kind) s.end ports.items refused y q) new → Stepped agents new f (action.Push s ports body) refused o
 push_held agents ends new f s ports body refused x y o h at is shown queue None falls says leaves =
     unchanged agents ends new f (action.Push s ports body) refused o outcome.NotNow h refl says leaves falls
 push_held agents ends new f s ports body refused x y o h at is shown queue (Some a) falls says leaves =
-    push_few agents ends new f s ports body refused x y a o h at is shown queue falls (nat_lt MAX_PORTS (length ports.items)) (kept_good ends a x.peer s.end ports.items) refl refl says leaves
+    push_few agents ends new f s ports body refused x y a o h at is shown queue falls (nat_lt MAX_PORTS (length ports.items)) (kept_good ends a (source_of x.kind) s.end ports.items) refl refl says leaves
 
 -- whether the line posts, by what is kept of it
 pub posting_as : (f : Facts) (s : Sender) (y : LineNow) → f.line s.end.0 s.line.0 ≡ y → is_posting f s ≡ (is_inside y.phase && not y.noticed)
@@ -110,8 +112,8 @@ push_line agents ends new f s ports body refused x o h at shown (Some y) is line
           let mine : is_posting f s ≡ true = posting_as f s (line_now (Some y)) line ∙ posting in
           let inside : is_inside (phase_of_line f s) ≡ true = (both_of (is_inside (phase_of_line f s)) (not (f.line s.end.0 s.line.0).noticed) mine).0 in
           let queue : has_queue x y.epoch ≡ true = queue_kept f s x y h.sound shown line inside in
-          push_held agents ends new f s ports body refused x y o h at is shown queue (kept_holder agents ends x.peer.0)
-          (posts f s ports.items refused (kept_holder agents ends x.peer.0) mine (poster_here agents ends f s x y h shown is))
+          push_held agents ends new f s ports body refused x y o h at is shown queue (kept_poster_by agents ends x.kind y)
+          (posts f s ports.items refused (kept_poster_by agents ends x.kind y) mine (poster_here agents ends f s x y h shown at is))
           (says ∙ ap (λ c. push_outcome (kept_posting_line agents ends s ports.items refused x (cond c (Some y) None))) queue)
           (subst (λ c. PushLeaves s ports.items body ends (kept_posting_line agents ends s ports.items refused x (cond c (Some y) None)) new) queue leaves)
       | false ↦ λ outside says leaves. unchanged agents ends new f (action.Push s ports body) refused o outcome.NotNow h refl says leaves (not_posting f s ports.items refused (posting_as f s (line_now (Some y)) line ∙ outside))

@@ -54,14 +54,14 @@ each_put taker at vs ts queues v epoch within each i = elim (eqb i at) as (λ b.
 
 -- the end with an envelope put by a line, which a notice changes and a message doesn't
 put_shown : (now : EndNow) (line told : ℕ → LineNow) (clear : ℕ → Bool) (vs ts : List Envelope) (x : End) (y : Line) (v : Envelope) → slice_get x.lines v.line.0 ≡ Some y → v.epoch ≡ y.epoch → has_queue x y.epoch ≡ true
-    → (let z : LineNow = record { phase = y.phase; stand = y.epoch; noticed = v.notice } in told v.line.0 ≡ z) → ((l : ℕ) → (l ≡ v.line.0 → ⊥) → told l ≡ line l) → ((l : ℕ) → (told l).phase ≡ (line l).phase) → ((l : ℕ) → (told l).stand ≡ (line l).stand)
+    → (let z : LineNow = record { phase = y.phase; stand = y.epoch; noticed = v.notice; held_by = y.held_by } in told v.line.0 ≡ z) → ((l : ℕ) → (l ≡ v.line.0 → ⊥) → told l ≡ line l) → ((l : ℕ) → (told l).phase ≡ (line l).phase) → ((l : ℕ) → (told l).stand ≡ (line l).stand)
     → ShowsEnd now line clear vs ts (Some x) → ShowsEnd now told clear (vs ++ v ∷ []) ts (Some (put_end x y v))
 put_shown now line told clear vs ts x y v is epoch queue mine others phases stands h =
     let within : v.line.0 < length x.lines = slice_get_within x.lines v.line.0 y is in
     let tests = both_of (nat_le x.taker y.epoch) (nat_lt (y.epoch - x.taker) (length x.queues)) queue in
     let reached : x.taker ≤ y.epoch = leb-true x.taker y.epoch tests.0 in
     let inside : y.epoch - x.taker < length x.queues = ltb-true (y.epoch - x.taker) (length x.queues) tests.1 in
-    let next : Line = record y { put = y.put + 1; has_noticed = v.notice } in
+    let next : Line = record y { put = y.put + 1; has_noticed = v.notice; held_by = y.held_by } in
     let many : length (set x.queues (y.epoch - x.taker) (get_or x.queues (y.epoch - x.taker) [] ++ v ∷ [])) ≡ length x.queues = length-set x.queues (y.epoch - x.taker) (get_or x.queues (y.epoch - x.taker) [] ++ v ∷ []) in
     record {
       same = h.same;
@@ -82,7 +82,7 @@ put_shown now line told clear vs ts x y v is epoch queue mine others phases stan
 
 -- every end, with the envelope put and its ports in flight
 pub each_shown : (agents : List Agent) (ends new : List End) (f : Facts) (v : Envelope) (x : End) (y : Line) (told : ℕ → ℕ → LineNow) → ShowsFacts agents ends f → slice_get ends v.end.0 ≡ Some x → slice_get x.lines v.line.0 ≡ Some y → v.epoch ≡ y.epoch → has_queue x y.epoch ≡ true
-    → (let z : LineNow = record { phase = y.phase; stand = y.epoch; noticed = v.notice } in told v.end.0 v.line.0 ≡ z) → ((l : ℕ) → (l ≡ v.line.0 → ⊥) → told v.end.0 l ≡ f.line v.end.0 l) → ((l : ℕ) → (told v.end.0 l).phase ≡ (f.line v.end.0 l).phase) → ((l : ℕ) → (told v.end.0 l).stand ≡ (f.line v.end.0 l).stand) → ((d : ℕ) → (d ≡ v.end.0 → ⊥) → told d ≡ f.line d)
+    → (let z : LineNow = record { phase = y.phase; stand = y.epoch; noticed = v.notice; held_by = y.held_by } in told v.end.0 v.line.0 ≡ z) → ((l : ℕ) → (l ≡ v.line.0 → ⊥) → told v.end.0 l ≡ f.line v.end.0 l) → ((l : ℕ) → (told v.end.0 l).phase ≡ (f.line v.end.0 l).phase) → ((l : ℕ) → (told v.end.0 l).stand ≡ (f.line v.end.0 l).stand) → ((d : ℕ) → (d ≡ v.end.0 → ⊥) → told d ≡ f.line d)
     → ((d : ℕ) → names v.ports d ≡ true → d < f.ends) → Moves v.ports InFlight (set ends v.end.0 (put_end x y v)) new
     → (d : ℕ) → ShowsEnd (record (f.end d) { place = cond (names v.ports d) (Some InFlight) (f.end d).place }) (told d) (f.clear d) (cond (eqb d v.end.0) (f.accepted d ++ v ∷ []) (f.accepted d)) (f.taken d ++ f.discarded d) (slice_get new d)
 each_shown agents ends new f v x y told h at is epoch queue mine others phases stands elsewhere made moves d =

@@ -29,7 +29,7 @@ legal_same h k (p ∷ more) same l = (
 pub same_facts : (h k : History) → facts h ≡ facts k → Same h k
 same_facts h k same more = (legal_same h k more same, legal_same k h more (sym same))
 
-nothing_next : (f : Facts) (o : Outcome) (a : Action) → changes_nothing o a ≡ true → next f a o ≡ f
+pub nothing_next : (f : Facts) (o : Outcome) (a : Action) → changes_nothing o a ≡ true → next f a o ≡ f
 nothing_next f outcome.NotNow a h = refl
 nothing_next f outcome.NoMemory a h = refl
 nothing_next f outcome.TooManyAgents a h = refl
@@ -39,11 +39,14 @@ nothing_next f outcome.Disabled a h = refl
 nothing_next f outcome.Empty a h = refl
 nothing_next f outcome.Busy a h = refl
 nothing_next f outcome.TooManyMoves a h = refl
+nothing_next f outcome.NoSuchEnd a h = refl
+nothing_next f outcome.NoLine a h = refl
 nothing_next f (outcome.Clear None) a h = refl
 nothing_next f outcome.Closed (action.Start e) h = refl
 nothing_next f outcome.Closed (action.Take e) h = refl
 nothing_next f outcome.Closed (action.Adopt e a) h = refl
 nothing_next f outcome.Closed (action.Close e) h = refl
+nothing_next f outcome.Closed (action.Hand e b) h = refl
 nothing_next f _ _ h = absurd (false≢true h)
 
 -- a pair that changes nothing leaves the same
@@ -72,10 +75,10 @@ line_was_out f s x l out h =
 -- the facts after a turned poster has left
 turned_facts : (f : Facts) (s : Sender) (o : Outcome) → (o ≡ outcome.Closed) ⊎ (o ≡ outcome.Moved) → phase_of_line f s ≡ Out → next (next f (action.Enter s) o) (action.Leave s) outcome.Left ≡ f
 turned_facts f s o (inl is) out = rw is (λ i. record f {
-  line = λ x l. record { phase = line_again s Turned (f.line x l).phase x l (eqb x s.end.0 && eqb l s.line.0) (line_was_out f s x l out) i; stand = (f.line x l).stand; noticed = (f.line x l).noticed };
+  line = λ x l. record { phase = line_again s Turned (f.line x l).phase x l (eqb x s.end.0 && eqb l s.line.0) (line_was_out f s x l out) i; stand = (f.line x l).stand; noticed = (f.line x l).noticed; held_by = (f.line x l).held_by };
 })
 turned_facts f s o (inr is) out = rw is (λ i. record f {
-  line = λ x l. record { phase = line_again s Turned (f.line x l).phase x l (eqb x s.end.0 && eqb l s.line.0) (line_was_out f s x l out) i; stand = (f.line x l).stand; noticed = (f.line x l).noticed };
+  line = λ x l. record { phase = line_again s Turned (f.line x l).phase x l (eqb x s.end.0 && eqb l s.line.0) (line_was_out f s x l out) i; stand = (f.line x l).stand; noticed = (f.line x l).noticed; held_by = (f.line x l).held_by };
 })
 
 -- an Enter that was turned back found its line out

@@ -1,5 +1,5 @@
 -- Lines stay sound: what each pair that fits makes of them.
-use Rattle.std.proofs.Common.{◌≡◌, ℕ, suc, ◌<◌, ◌≤◌, Bool, true, false, cond, eqb, List, [], ◌∷◌, ◌++◌, length, map, Option, Some, None, refl, sym, ap, subst, ◌∙◌, inl, inr, arith, rules, append-nil, length-append, ◌+◌}
+use Rattle.std.proofs.Common.{◌≡◌, ℕ, suc, ◌<◌, ◌≤◌, Bool, true, false, cond, eqb, List, [], ◌∷◌, ◌++◌, length, map, Option, Some, None, refl, sym, ap, subst, ◌∙◌, inl, inr, arith, rules, append-nil, length-append, ◌+◌, nat_le, leb-true, leb-false}
 use Rattle.std.specs.Prelude.{◌&&◌, ◌⊎◌, is_some, option_and_then, ◌||◌, not, nat_lt}
 use Rattle.std.specs.List.{filter, AllByRecursion, list_all}
 use Rattle.std.proofs.lemmas.Bool.{false≢true, ltb-false, ltb-true, eqb-true, lt-ltb, eqb-false}
@@ -14,34 +14,61 @@ use Rattle.hub_core.specs.declared.sender.Sender.{Sender}
 use Rattle.hub_core.specs.declared.step.Action.{Action}
 use Rattle.hub_core.specs.declared.outcome.Acceptance.{Acceptance}
 use Rattle.hub_core.specs.declared.outcome.Outcome.{Outcome}
-use Rattle.hub_core.specs.Facts.{LineNow, Facts}
+use Rattle.hub_core.specs.Facts.{LineNow, Facts, EndNow}
 use Rattle.hub_core.specs.Fits.{Answers}
 use Rattle.hub_core.specs.Lines.{on_line}
 use Rattle.hub_core.specs.Accepted.{named_envelope, named_notice}
 use Rattle.hub_core.specs.Sender.{by, count_in_queue, Rises}
-use Rattle.hub_core.specs.Posting.{holder, poster, is_distinct, may_travel, is_out, phase_of_line, may_enter, hears_notice, is_here, is_inside}
+use Rattle.hub_core.specs.Posting.{holder, poster, is_distinct, may_travel, is_out, phase_of_line, may_enter, hears_notice, is_here, is_inside, running, poster_of}
 use Rattle.hub_core.specs.Numbers.{up_to, numbers}
-use Rattle.hub_core.specs.Sound.{no_line, IsOfEnd, SoundLines}
+use Rattle.hub_core.specs.Sound.{no_line, IsOfEnd, SoundLines, no_end}
 use Rattle.hub_core.proofs.Lists.{both_of, AllByRecursion-append, AllByRecursion-weaker, eqb_same}
-use Rattle.hub_core.proofs.Nexts.{next, Change, agent_made, channel_made, let_in, found_moved, found_closed, put, left, started, got, hopped, went_on, cleared, adopted, notice_put, end_closed, end_swept}
-use Rattle.hub_core.proofs.Fitting.{Entered, let_in_of, found_moved_of, found_closed_of, is_retired, Pushed, pushed_of, hopped_of, went_on_of, Clears, cleared_of, adopted_of, looked_where, none_of_any, Noticed, noticed_of}
-use Rattle.hub_core.specs.Made.{lines_of}
+use Rattle.hub_core.proofs.Nexts.{next, Change, agent_made, channel_made, let_in, found_moved, found_closed, put, left, started, got, hopped, went_on, cleared, adopted, notice_put, end_closed, end_swept, client_made, worker_made, line_got, line_back, handed}
+use Rattle.hub_core.proofs.Fitting.{Entered, let_in_of, found_moved_of, found_closed_of, is_retired, Pushed, pushed_of, hopped_of, went_on_of, Clears, cleared_of, adopted_of, looked_where, none_of_any, Noticed, noticed_of, new_ends, queue_made_of, line_got_of}
+use Rattle.hub_core.specs.Made.{lines_of, peer_of, is_queue}
 use Rattle.std.proofs.lemmas.Bool.Decides.{nat_tests}
 use Rattle.hub_core.specs.Looking.{someone_at, is_away_at, is_settled}
 use Rattle.hub_core.specs.Taking.{IsLeft}
+use Rattle.hub_core.specs.Kept.{come}
+use Rattle.hub_core.specs.declared.kind.Kind.{Kind}
+use Rattle.hub_core.specs.declared.kind.Kind.TheVariants.{Port, Client, Worker}
+use Rattle.hub_core.specs.declared.limits.TheConstants.{MAX_LINES}
+use Rattle.hub_core.specs.Making.{is_client, is_worker}
 
 -- what is said of the lines of an end
 abbrev pub LinesAt : Facts → ℕ → Type 0
-LinesAt f x = SoundLines x (lines_of ((f.end x).peer)) ((f.end x).newest) ((f.end x).taker_stand) ((f.end x).closed) (f.line x) (f.clear x) (f.accepted x)
+LinesAt f x = SoundLines x (lines_of ((f.end x).kind)) ((f.end x).newest) ((f.end x).taker_stand) ((f.end x).closed) (f.line x) (f.clear x) (f.accepted x)
 
 -- ---- making
 
-more_lines : (b c : Bool) (u w : ℕ) (p : Option ℕ) → lines_of p ≤ lines_of (cond b (Some u) (cond c (Some w) p))
-more_lines true c u w None = omega arith
-more_lines true c u w (Some q) = omega arith
-more_lines false true u w None = omega arith
-more_lines false true u w (Some q) = omega arith
-more_lines false false u w p = omega arith
+-- a number that no end had has no lines
+fewest : (p q : Option Kind) → p ≡ None → lines_of p ≤ lines_of q
+fewest p q none = subst (λ r. lines_of r ≤ lines_of q) (sym none) (omega arith)
+
+more_lines : (b c : Bool) (u w : Kind) (p : Option Kind) → ((b || c) ≡ true → p ≡ None) → lines_of p ≤ lines_of (cond b (Some u) (cond c (Some w) p))
+more_lines true c u w p new = fewest p (Some u) (new refl)
+more_lines false true u w p new = fewest p (Some w) (new refl)
+more_lines false false u w p new = omega arith
+
+one_more_line : (b : Bool) (u : Kind) (p : Option Kind) → (b ≡ true → p ≡ None) → lines_of p ≤ lines_of (cond b (Some u) p)
+one_more_line true u p new = fewest p (Some u) (new refl)
+one_more_line false u p new = omega arith
+
+-- the numbers of ends that are made are new
+abbrev pub IsUnmade : Facts → Type 0
+IsUnmade f = (x : ℕ) → f.ends ≤ x → f.end x ≡ no_end
+
+kind_none : (f : Facts) (x : ℕ) → IsUnmade f → f.ends ≤ x → (f.end x).kind ≡ None
+kind_none f x none past = ap (λ (e : EndNow). e.kind) (none x past)
+
+either_new : (f : Facts) (e e' : EndId) (x : ℕ) → IsUnmade f → e ≡ record { 0 = f.ends } → e' ≡ record { 0 = f.ends + 1 } → (eqb x e.0 || eqb x e'.0) ≡ true → (f.end x).kind ≡ None
+either_new f e e' x h first second is = elim (eqb x e.0) as (λ b. eqb x e.0 ≡ b → (b || eqb x e'.0) ≡ true → (f.end x).kind ≡ None) [
+  | true ↦ λ t _. let same : x ≡ f.ends = eqb-true x e.0 t ∙ ap (λ (d : EndId). d.0) first in kind_none f x h (omega arith)
+  | false ↦ λ _ t. let same : x ≡ f.ends + 1 = eqb-true x e'.0 t ∙ ap (λ (d : EndId). d.0) second in kind_none f x h (omega arith)
+] refl is
+
+one_new : (f : Facts) (e : EndId) (x : ℕ) → IsUnmade f → e ≡ record { 0 = f.ends } → eqb x e.0 ≡ true → (f.end x).kind ≡ None
+one_new f e x h first is = let same : x ≡ f.ends = eqb-true x e.0 is ∙ ap (λ (d : EndId). d.0) first in kind_none f x h (omega arith)
 
 -- an end that has more lines now
 grown : (x n m newest taker : ℕ) (closed : Bool) (line : ℕ → LineNow) (clear : ℕ → Bool) (vs : List Envelope) → n ≤ m → SoundLines x n newest taker closed line clear vs → SoundLines x m newest taker closed line clear vs
@@ -64,23 +91,23 @@ grown x n m newest taker closed line clear vs more s = record {
 
 -- the lines of an end, one line in this phase
 abbrev pub phased_line : Facts → Sender → Phase → ℕ → ℕ → LineNow
-phased_line f t p x l = record { phase = on_line x l t p (f.line x l).phase; stand = (f.line x l).stand; noticed = (f.line x l).noticed }
+phased_line f t p x l = record { phase = on_line x l t p (f.line x l).phase; stand = (f.line x l).stand; noticed = (f.line x l).noticed; held_by = (f.line x l).held_by }
 
 -- why a line may come to this phase
 record MayCome (f : Facts) (t : Sender) (p : Phase) : Type 0 where
-  there : (p ≡ Out) ⊎ (t.line.0 < lines_of ((f.end t.end.0).peer))
+  there : (p ≡ Out) ⊎ (t.line.0 < lines_of ((f.end t.end.0).kind))
   turned : p ≡ Turned → ((f.line t.end.0 t.line.0).stand < (f.end t.end.0).newest) ⊎ ((f.end t.end.0).closed ≡ true)
   inside : p ≡ Inside → (f.end t.end.0).taker_stand ≤ (f.line t.end.0 t.line.0).stand
   unclear : p ≡ Inside → f.clear t.end.0 (f.line t.end.0 t.line.0).stand ≡ false
 
-none_phased : (f : Facts) (t : Sender) (p : Phase) (x l : ℕ) → MayCome f t p → f.line x l ≡ no_line → lines_of ((f.end x).peer) ≤ l → (b : Bool) → (eqb x t.end.0 && eqb l t.line.0) ≡ b → (let y : LineNow = record { phase = cond b p (f.line x l).phase; stand = (f.line x l).stand; noticed = (f.line x l).noticed } in y ≡ no_line)
+none_phased : (f : Facts) (t : Sender) (p : Phase) (x l : ℕ) → MayCome f t p → f.line x l ≡ no_line → lines_of ((f.end x).kind) ≤ l → (b : Bool) → (eqb x t.end.0 && eqb l t.line.0) ≡ b → (let y : LineNow = record { phase = cond b p (f.line x l).phase; stand = (f.line x l).stand; noticed = (f.line x l).noticed; held_by = (f.line x l).held_by } in y ≡ no_line)
 none_phased f t p x l may none past true is = elim may.there [
-  | inl out ↦ rw out (λ i. record { phase = Out; stand = (none i).stand; noticed = (none i).noticed })
+  | inl out ↦ rw out (λ i. record { phase = Out; stand = (none i).stand; noticed = (none i).noticed; held_by = (none i).held_by })
   | inr less ↦
       let both = both_of (eqb x t.end.0) (eqb l t.line.0) is in
       let here : x ≡ t.end.0 = search (rules, both.0) in
       let line : l ≡ t.line.0 = search (rules, both.1) in
-      let bound : t.line.0 < lines_of ((f.end x).peer) = subst (λ y. t.line.0 < lines_of ((f.end y).peer)) (sym here) less in
+      let bound : t.line.0 < lines_of ((f.end x).kind) = subst (λ y. t.line.0 < lines_of ((f.end y).kind)) (sym here) less in
       absurd (omega arith)
 ]
 none_phased f t p x l may none past false is = none
@@ -110,12 +137,12 @@ unclear_phased f t p x l may s true is h =
     subst (λ y. f.clear y (f.line y l).stand ≡ false) (sym here) (subst (λ k. f.clear t.end.0 (f.line t.end.0 k).stand ≡ false) (sym line) (may.unclear h))
 unclear_phased f t p x l may s false is h = s.inside_unclear l h
 
-phased : (f : Facts) (t : Sender) (p : Phase) (x : ℕ) → MayCome f t p → LinesAt f x → SoundLines x (lines_of ((f.end x).peer)) ((f.end x).newest) ((f.end x).taker_stand) ((f.end x).closed) (phased_line f t p x) (f.clear x) (f.accepted x)
+phased : (f : Facts) (t : Sender) (p : Phase) (x : ℕ) → MayCome f t p → LinesAt f x → SoundLines x (lines_of ((f.end x).kind)) ((f.end x).newest) ((f.end x).taker_stand) ((f.end x).closed) (phased_line f t p x) (f.clear x) (f.accepted x)
 phased f t p x may s = record {
   stand = s.stand;
   taker_stand = s.taker_stand;
   none = λ l past. none_phased f t p x l may (s.none l past) past (eqb x t.end.0 && eqb l t.line.0) refl;
-  named = AllByRecursion-weaker (IsOfEnd x (lines_of ((f.end x).peer)) (f.line x)) (IsOfEnd x (lines_of ((f.end x).peer)) (phased_line f t p x)) (λ v is. record { end = is.end; has_line = is.has_line; epoch = is.epoch; ports = is.ports }) (f.accepted x) s.named;
+  named = AllByRecursion-weaker (IsOfEnd x (lines_of ((f.end x).kind)) (f.line x)) (IsOfEnd x (lines_of ((f.end x).kind)) (phased_line f t p x)) (λ v is. record { end = is.end; has_line = is.has_line; epoch = is.epoch; ports = is.ports }) (f.accepted x) s.named;
   rising = s.rising;
   numbered = s.numbered;
   clear_within = s.clear_within;
@@ -126,21 +153,34 @@ phased f t p x may s = record {
   last = s.last;
 }
 
--- a line with a poster is one of its end
-some_line : (first : Bool) (l : ℕ) (p : Option ℕ) (q : ℕ → Option AgentId) → eqb l 0 ≡ first → is_some (cond first (option_and_then q p) None) ≡ true → l < lines_of p
-some_line true l None q is h = absurd (false≢true h)
-some_line true l (Some y) q is h = let zeroth : l ≡ 0 = search (rules, is) in omega arith
-some_line false l p q is h = absurd (false≢true h)
+-- a line that an agent holds is one of its end
+held_line : (f : Facts) (s : Sender) → LinesAt f s.end.0 → is_some (running f (f.line s.end.0 s.line.0).held_by) ≡ true → s.line.0 < lines_of ((f.end s.end.0).kind)
+held_line f s h held = elim (nat_le (lines_of ((f.end s.end.0).kind)) s.line.0) as (λ b. nat_le (lines_of ((f.end s.end.0).kind)) s.line.0 ≡ b → s.line.0 < lines_of ((f.end s.end.0).kind)) [
+  | true ↦ λ past. absurd (false≢true (sym (ap (λ (y : LineNow). is_some (running f y.held_by)) (h.none s.line.0 (leb-true (lines_of ((f.end s.end.0).kind)) s.line.0 past))) ∙ held))
+  | false ↦ λ under. leb-false (lines_of ((f.end s.end.0).kind)) s.line.0 under
+] refl
 
-heard_line : (f : Facts) (l : ℕ) (p : Option ℕ) → (eqb l 0 && is_here (option_and_then (λ q. (f.end q).place) p)) ≡ true → l < lines_of p
+-- a line with a poster is one of its end
+some_line : (f : Facts) (s : Sender) → LinesAt f s.end.0 → (p : Option Kind) → (f.end s.end.0).kind ≡ p → is_some (poster_of f s p) ≡ true → s.line.0 < lines_of p
+some_line f s h None is speaks = absurd (false≢true speaks)
+some_line f s h (Some (Port q)) is speaks = elim (eqb s.line.0 0) as (λ b. eqb s.line.0 0 ≡ b → is_some (cond b (holder f q.0) None) ≡ true → s.line.0 < 1) [
+  | true ↦ λ zeroth _. let first : s.line.0 ≡ 0 = eqb-true s.line.0 0 zeroth in omega arith
+  | false ↦ λ _ no. absurd (false≢true no)
+] refl speaks
+some_line f s h (Some Client) is speaks = subst (λ p. s.line.0 < lines_of p) is (held_line f s h speaks)
+some_line f s h (Some Worker) is speaks = subst (λ p. s.line.0 < lines_of p) is (held_line f s h speaks)
+
+heard_line : (f : Facts) (l : ℕ) (p : Option Kind) → (eqb l 0 && is_here (option_and_then (λ q. (f.end q).place) (peer_of p))) ≡ true → l < lines_of p
 heard_line f l None h = absurd (false≢true ((both_of (eqb l 0) false h).1))
-heard_line f l (Some q) h = let zeroth : l ≡ 0 = eqb-true l 0 (both_of (eqb l 0) (is_here (f.end q).place) h).0 in omega arith
+heard_line f l (Some (Port q)) h = let zeroth : l ≡ 0 = eqb-true l 0 (both_of (eqb l 0) (is_here (f.end q.0).place) h).0 in omega arith
+heard_line f l (Some Client) h = absurd (false≢true ((both_of (eqb l 0) false h).1))
+heard_line f l (Some Worker) h = absurd (false≢true ((both_of (eqb l 0) false h).1))
 
 -- a line that may be entered is one of its end
-pub line_there : (f : Facts) (s : Sender) → may_enter f s ≡ true → s.line.0 < lines_of ((f.end s.end.0).peer)
-line_there f s h = elim (is_some (poster f s)) as (λ b. is_some (poster f s) ≡ b → (b || hears_notice f s) ≡ true → s.line.0 < lines_of ((f.end s.end.0).peer)) [
-  | true ↦ λ speaks _. some_line (eqb s.line.0 0) s.line.0 ((f.end s.end.0).peer) (holder f) refl speaks
-  | false ↦ λ _ hears. heard_line f s.line.0 ((f.end s.end.0).peer) hears
+pub line_there : (f : Facts) (s : Sender) → LinesAt f s.end.0 → may_enter f s ≡ true → s.line.0 < lines_of ((f.end s.end.0).kind)
+line_there f s lines h = elim (is_some (poster f s)) as (λ b. is_some (poster f s) ≡ b → (b || hears_notice f s) ≡ true → s.line.0 < lines_of ((f.end s.end.0).kind)) [
+  | true ↦ λ speaks _. some_line f s lines (f.end s.end.0).kind refl speaks
+  | false ↦ λ _ hears. heard_line f s.line.0 (f.end s.end.0).kind hears
 ] refl h
 
 not_true : (b : Bool) → (b ≡ true → ⊥) → b ≡ false
@@ -156,7 +196,7 @@ not_clear f s retired opened h = not_true (f.clear s.end.0 (f.line s.end.0 s.lin
 
 may_come_in : (f : Facts) (s : Sender) → Entered f s → is_retired f s ≡ false → (f.end s.end.0).closed ≡ false → LinesAt f s.end.0 → MayCome f s Inside
 may_come_in f s e retired opened h = record {
-  there = inr (line_there f s e.may);
+  there = inr (line_there f s h e.may);
   turned = λ is. cc;
   inside = λ _.
       let stand : ℕ = (f.line s.end.0 s.line.0).stand in
@@ -167,17 +207,17 @@ may_come_in f s e retired opened h = record {
   unclear = λ _. not_clear f s retired opened h;
 }
 
-may_turn_moved : (f : Facts) (s : Sender) → Entered f s → is_retired f s ≡ true → MayCome f s Turned
-may_turn_moved f s e retired = record {
-  there = inr (line_there f s e.may);
+may_turn_moved : (f : Facts) (s : Sender) → Entered f s → is_retired f s ≡ true → LinesAt f s.end.0 → MayCome f s Turned
+may_turn_moved f s e retired h = record {
+  there = inr (line_there f s h e.may);
   turned = λ _. inl (ltb-true (f.line s.end.0 s.line.0).stand (f.end s.end.0).newest retired);
   inside = λ is. cc;
   unclear = λ is. cc;
 }
 
-may_turn_closed : (f : Facts) (s : Sender) → Entered f s → (f.end s.end.0).closed ≡ true → MayCome f s Turned
-may_turn_closed f s e closed = record {
-  there = inr (line_there f s e.may);
+may_turn_closed : (f : Facts) (s : Sender) → Entered f s → (f.end s.end.0).closed ≡ true → LinesAt f s.end.0 → MayCome f s Turned
+may_turn_closed f s e closed h = record {
+  there = inr (line_there f s h e.may);
   turned = λ _. inr closed;
   inside = λ is. cc;
   unclear = λ is. cc;
@@ -252,18 +292,18 @@ pub record MayPut (f : Facts) (s : Sender) (v : Envelope) : Type 0 where
   pub epoch : v.epoch ≡ (f.line s.end.0 s.line.0).stand
   pub number : v.number ≡ count_in_queue s.line.0 (f.line s.end.0 s.line.0).stand (f.accepted s.end.0)
   pub ports : is_distinct v.ports ≡ true
-  pub there : s.line.0 < lines_of ((f.end s.end.0).peer)
+  pub there : s.line.0 < lines_of ((f.end s.end.0).kind)
   pub inside : is_inside (phase_of_line f s) ≡ true
   pub plain : (f.line s.end.0 s.line.0).noticed ≡ false
 
-pub message_may : (f : Facts) (s : Sender) (ports : List EndId) (body : List ℕ) (n : Acceptance) → Pushed f s ports n → MayPut f s (named_envelope s n body ports)
-message_may f s ports body n p = record {
+pub message_may : (f : Facts) (s : Sender) (ports : List EndId) (body : List ℕ) (n : Acceptance) → LinesAt f s.end.0 → Pushed f s ports n → MayPut f s (named_envelope s n body ports)
+message_may f s ports body n h p = record {
   end = refl;
   line = refl;
   epoch = ap (λ (m : Acceptance). m.epoch) p.name;
   number = ap (λ (m : Acceptance). m.number) p.name;
   ports = (both_of (is_distinct ports) (list_all (may_travel f p.agent s) ports) p.good).0;
-  there = some_line (eqb s.line.0 0) s.line.0 ((f.end s.end.0).peer) (holder f) refl (ap is_some p.speaks);
+  there = some_line f s h (f.end s.end.0).kind refl (ap is_some p.speaks);
   inside = p.inside;
   plain = p.plain;
 }
@@ -275,7 +315,7 @@ notice_may f s n p = record {
   epoch = ap (λ (m : Acceptance). m.epoch) p.name;
   number = ap (λ (m : Acceptance). m.number) p.name;
   ports = refl;
-  there = heard_line f s.line.0 ((f.end s.end.0).peer) p.hears;
+  there = heard_line f s.line.0 (f.end s.end.0).kind p.hears;
   inside = p.inside;
   plain = p.plain;
 }
@@ -301,18 +341,18 @@ messages_put vs v l old mine = elim (eqb v.line.0 l) as (λ b. eqb v.line.0 l �
 ] refl
 
 -- the lines of the end, where at most what was noticed changes
-put_lines : (f : Facts) (s : Sender) (v : Envelope) (x : ℕ) → MayPut f s v → LinesAt f x → x ≡ s.end.0 → (line : ℕ → LineNow) → ((l : ℕ) → (line l).phase ≡ (f.line x l).phase) → ((l : ℕ) → (line l).stand ≡ (f.line x l).stand) → ((l : ℕ) → lines_of ((f.end x).peer) ≤ l → line l ≡ no_line)
+put_lines : (f : Facts) (s : Sender) (v : Envelope) (x : ℕ) → MayPut f s v → LinesAt f x → x ≡ s.end.0 → (line : ℕ → LineNow) → ((l : ℕ) → (line l).phase ≡ (f.line x l).phase) → ((l : ℕ) → (line l).stand ≡ (f.line x l).stand) → ((l : ℕ) → lines_of ((f.end x).kind) ≤ l → line l ≡ no_line)
     → ((l : ℕ) → (line l).noticed ≡ false → ((f.line x l).noticed ≡ false) × (v.line.0 ≡ l → v.notice ≡ false))
-    → SoundLines x (lines_of ((f.end x).peer)) ((f.end x).newest) ((f.end x).taker_stand) ((f.end x).closed) line (f.clear x) (f.accepted x ++ v ∷ [])
+    → SoundLines x (lines_of ((f.end x).kind)) ((f.end x).newest) ((f.end x).taker_stand) ((f.end x).closed) line (f.clear x) (f.accepted x ++ v ∷ [])
 put_lines f s v x p h here line phases stands none noticed =
-    let n : ℕ = lines_of ((f.end x).peer) in
+    let n : ℕ = lines_of ((f.end x).kind) in
     let epoch : v.epoch ≡ (f.line x v.line.0).stand = p.epoch ∙ ap (λ y. (f.line y s.line.0).stand) (sym here) ∙ ap (λ l. (f.line x l).stand) (sym p.line) in
     let number : v.number ≡ count_in_queue v.line.0 v.epoch (f.accepted x) =
     p.number ∙ ap (λ k. count_in_queue s.line.0 k (f.accepted s.end.0)) (sym p.epoch) ∙ ap (λ y. count_in_queue s.line.0 v.epoch (f.accepted y)) (sym here) ∙ ap (λ l. count_in_queue l v.epoch (f.accepted x)) (sym p.line) in
     let plain : (f.line x s.line.0).noticed ≡ false = ap (λ y. (f.line y s.line.0).noticed) here ∙ p.plain in
     let mine : IsOfEnd x n line v = record {
       end = p.end ∙ sym here;
-      has_line = subst (λ y. v.line.0 < lines_of ((f.end y).peer)) (sym here) (subst (λ l. l < lines_of ((f.end s.end.0).peer)) (sym p.line) p.there);
+      has_line = subst (λ y. v.line.0 < lines_of ((f.end y).kind)) (sym here) (subst (λ l. l < lines_of ((f.end s.end.0).kind)) (sym p.line) p.there);
       epoch = let same : (line v.line.0).stand ≡ (f.line x v.line.0).stand = stands v.line.0 in omega arith;
       ports = p.ports;
     } in
@@ -332,15 +372,15 @@ put_lines f s v x p h here line phases stands none noticed =
       last = λ l. last_put (f.accepted x) v l (λ same. h.messages l (ap (λ i. (f.line x i).noticed) (sym same ∙ p.line) ∙ plain)) (h.last l);
     }
 
-put_at : (f : Facts) (s : Sender) (v : Envelope) (x : ℕ) → MayPut f s v → v.notice ≡ false → LinesAt f x → (b : Bool) → eqb x s.end.0 ≡ b → SoundLines x (lines_of ((f.end x).peer)) ((f.end x).newest) ((f.end x).taker_stand) ((f.end x).closed) (f.line x) (f.clear x) (cond b (f.accepted x ++ v ∷ []) (f.accepted x))
+put_at : (f : Facts) (s : Sender) (v : Envelope) (x : ℕ) → MayPut f s v → v.notice ≡ false → LinesAt f x → (b : Bool) → eqb x s.end.0 ≡ b → SoundLines x (lines_of ((f.end x).kind)) ((f.end x).newest) ((f.end x).taker_stand) ((f.end x).closed) (f.line x) (f.clear x) (cond b (f.accepted x ++ v ∷ []) (f.accepted x))
 put_at f s v x p message h false is = h
 put_at f s v x p message h true is = put_lines f s v x p h (eqb-true x s.end.0 is) (f.line x) (λ l. refl) (λ l. refl) h.none (λ l plain. (plain, λ _. message))
 
 -- a line on which a notice was put
 abbrev pub told_line : Facts → Sender → ℕ → ℕ → LineNow
-told_line f t x l = record { phase = (f.line x l).phase; stand = (f.line x l).stand; noticed = on_line x l t true (f.line x l).noticed }
+told_line f t x l = record { phase = (f.line x l).phase; stand = (f.line x l).stand; noticed = on_line x l t true (f.line x l).noticed; held_by = (f.line x l).held_by }
 
-told_none : (f : Facts) (s : Sender) (x l : ℕ) → s.line.0 < lines_of ((f.end x).peer) → lines_of ((f.end x).peer) ≤ l → f.line x l ≡ no_line → (c : Bool) → eqb l s.line.0 ≡ c → (let y : LineNow = record { phase = (f.line x l).phase; stand = (f.line x l).stand; noticed = cond c true (f.line x l).noticed } in y ≡ no_line)
+told_none : (f : Facts) (s : Sender) (x l : ℕ) → s.line.0 < lines_of ((f.end x).kind) → lines_of ((f.end x).kind) ≤ l → f.line x l ≡ no_line → (c : Bool) → eqb l s.line.0 ≡ c → (let y : LineNow = record { phase = (f.line x l).phase; stand = (f.line x l).stand; noticed = cond c true (f.line x l).noticed; held_by = (f.line x l).held_by } in y ≡ no_line)
 told_none f s x l low past none true is = absurd (let same : l ≡ s.line.0 = eqb-true l s.line.0 is in omega arith)
 told_none f s x l low past none false is = none
 
@@ -348,12 +388,12 @@ told_false : (l m : ℕ) (old : Bool) → (c : Bool) → eqb l m ≡ c → cond 
 told_false l m old true is h = absurd (false≢true (sym h))
 told_false l m old false is h = (h, eqb-false l m is)
 
-notice_at : (f : Facts) (s : Sender) (v : Envelope) (x : ℕ) → MayPut f s v → LinesAt f x → (b : Bool) → eqb x s.end.0 ≡ b → SoundLines x (lines_of ((f.end x).peer)) ((f.end x).newest) ((f.end x).taker_stand) ((f.end x).closed) (λ l. record { phase = (f.line x l).phase; stand = (f.line x l).stand; noticed = cond (b && eqb l s.line.0) true (f.line x l).noticed }) (f.clear x) (cond b (f.accepted x ++ v ∷ []) (f.accepted x))
+notice_at : (f : Facts) (s : Sender) (v : Envelope) (x : ℕ) → MayPut f s v → LinesAt f x → (b : Bool) → eqb x s.end.0 ≡ b → SoundLines x (lines_of ((f.end x).kind)) ((f.end x).newest) ((f.end x).taker_stand) ((f.end x).closed) (λ l. record { phase = (f.line x l).phase; stand = (f.line x l).stand; noticed = cond (b && eqb l s.line.0) true (f.line x l).noticed; held_by = (f.line x l).held_by }) (f.clear x) (cond b (f.accepted x ++ v ∷ []) (f.accepted x))
 notice_at f s v x p h false is = h
 notice_at f s v x p h true is =
     let here : x ≡ s.end.0 = eqb-true x s.end.0 is in
-    let low : s.line.0 < lines_of ((f.end x).peer) = subst (λ y. s.line.0 < lines_of ((f.end y).peer)) (sym here) p.there in
-    put_lines f s v x p h here (λ l. record { phase = (f.line x l).phase; stand = (f.line x l).stand; noticed = cond (eqb l s.line.0) true (f.line x l).noticed }) (λ l. refl) (λ l. refl)
+    let low : s.line.0 < lines_of ((f.end x).kind) = subst (λ y. s.line.0 < lines_of ((f.end y).kind)) (sym here) p.there in
+    put_lines f s v x p h here (λ l. record { phase = (f.line x l).phase; stand = (f.line x l).stand; noticed = cond (eqb l s.line.0) true (f.line x l).noticed; held_by = (f.line x l).held_by }) (λ l. refl) (λ l. refl)
     (λ l past. told_none f s x l low past (h.none l past) (eqb l s.line.0) refl)
     (λ l plain. let both = told_false l s.line.0 (f.line x l).noticed (eqb l s.line.0) refl plain in (both.0, λ same. absurd (both.1 (sym same ∙ p.line))))
 
@@ -368,22 +408,22 @@ next_number n m least other = grind (arith, nat_tests)
 
 -- a line at the next queue
 abbrev pub gone_line : Facts → Sender → ℕ → ℕ → LineNow
-gone_line f t x l = record { phase = (f.line x l).phase; stand = cond (eqb x t.end.0 && eqb l t.line.0) ((f.line x l).stand + 1) (f.line x l).stand; noticed = (f.line x l).noticed }
+gone_line f t x l = record { phase = (f.line x l).phase; stand = cond (eqb x t.end.0 && eqb l t.line.0) ((f.line x l).stand + 1) (f.line x l).stand; noticed = (f.line x l).noticed; held_by = (f.line x l).held_by }
 
 -- a line that goes on is out, and isn't at the newest queue
 record GoesOn (f : Facts) (t : Sender) : Type 0 where
-  there : t.line.0 < lines_of ((f.end t.end.0).peer)
+  there : t.line.0 < lines_of ((f.end t.end.0).kind)
   out : is_out (f.line t.end.0 t.line.0).phase ≡ true
   below : (f.line t.end.0 t.line.0).stand < (f.end t.end.0).newest
 
 -- what is known of the line, said of the numbers that are found equal to its own
-on_it : (f : Facts) (t : Sender) (x l : ℕ) → GoesOn f t → (eqb x t.end.0 && eqb l t.line.0) ≡ true → (l < lines_of ((f.end x).peer)) × (is_out (f.line x l).phase ≡ true) × ((f.line x l).stand < (f.end x).newest)
+on_it : (f : Facts) (t : Sender) (x l : ℕ) → GoesOn f t → (eqb x t.end.0 && eqb l t.line.0) ≡ true → (l < lines_of ((f.end x).kind)) × (is_out (f.line x l).phase ≡ true) × ((f.line x l).stand < (f.end x).newest)
 on_it f t x l g is =
     let both = both_of (eqb x t.end.0) (eqb l t.line.0) is in
     let here : x ≡ t.end.0 = search (rules, both.0) in
     let line : l ≡ t.line.0 = search (rules, both.1) in
-    subst (λ y. (l < lines_of ((f.end y).peer)) × (is_out (f.line y l).phase ≡ true) × ((f.line y l).stand < (f.end y).newest)) (sym here)
-    (subst (λ k. (k < lines_of ((f.end t.end.0).peer)) × (is_out (f.line t.end.0 k).phase ≡ true) × ((f.line t.end.0 k).stand < (f.end t.end.0).newest)) (sym line) (g.there, g.out, g.below))
+    subst (λ y. (l < lines_of ((f.end y).kind)) × (is_out (f.line y l).phase ≡ true) × ((f.line y l).stand < (f.end y).newest)) (sym here)
+    (subst (λ k. (k < lines_of ((f.end t.end.0).kind)) × (is_out (f.line t.end.0 k).phase ≡ true) × ((f.line t.end.0 k).stand < (f.end t.end.0).newest)) (sym line) (g.there, g.out, g.below))
 
 away_not_out : (p q : Phase) → is_out p ≡ true → p ≡ q → is_out q ≡ false → ⊥
 away_not_out p q out same away = false≢true (sym away ∙ (sym (ap is_out same) ∙ out))
@@ -393,8 +433,8 @@ module _ (f : Facts) (t : Sender) (x : ℕ) (g : GoesOn f t) (s : LinesAt f x) w
   gone_stand l true is = let below : (f.line x l).stand < (f.end x).newest = (on_it f t x l g is).2 in omega arith
   gone_stand l false is = s.stand l
 
-  gone_none : (l : ℕ) → f.line x l ≡ no_line → lines_of ((f.end x).peer) ≤ l → (b : Bool) → (eqb x t.end.0 && eqb l t.line.0) ≡ b → (let y : LineNow = record { phase = (f.line x l).phase; stand = cond b ((f.line x l).stand + 1) (f.line x l).stand; noticed = (f.line x l).noticed } in y ≡ no_line)
-  gone_none l none past true is = absurd (let low : l < lines_of ((f.end x).peer) = (on_it f t x l g is).0 in omega arith)
+  gone_none : (l : ℕ) → f.line x l ≡ no_line → lines_of ((f.end x).kind) ≤ l → (b : Bool) → (eqb x t.end.0 && eqb l t.line.0) ≡ b → (let y : LineNow = record { phase = (f.line x l).phase; stand = cond b ((f.line x l).stand + 1) (f.line x l).stand; noticed = (f.line x l).noticed; held_by = (f.line x l).held_by } in y ≡ no_line)
+  gone_none l none past true is = absurd (let low : l < lines_of ((f.end x).kind) = (on_it f t x l g is).0 in omega arith)
   gone_none l none past false is = none
 
   gone_epoch : (l k : ℕ) → k ≤ (f.line x l).stand → (b : Bool) → k ≤ cond b ((f.line x l).stand + 1) (f.line x l).stand
@@ -413,12 +453,12 @@ module _ (f : Facts) (t : Sender) (x : ℕ) (g : GoesOn f t) (s : LinesAt f x) w
   gone_unclear l true is h = absurd (away_not_out (f.line x l).phase Inside (on_it f t x l g is).1 h refl)
   gone_unclear l false is h = s.inside_unclear l h
 
-  gone : SoundLines x (lines_of ((f.end x).peer)) ((f.end x).newest) ((f.end x).taker_stand) ((f.end x).closed) (gone_line f t x) (f.clear x) (f.accepted x)
+  gone : SoundLines x (lines_of ((f.end x).kind)) ((f.end x).newest) ((f.end x).taker_stand) ((f.end x).closed) (gone_line f t x) (f.clear x) (f.accepted x)
   gone = record {
     stand = λ l. gone_stand l (eqb x t.end.0 && eqb l t.line.0) refl;
     taker_stand = s.taker_stand;
     none = λ l past. gone_none l (s.none l past) past (eqb x t.end.0 && eqb l t.line.0) refl;
-    named = AllByRecursion-weaker (IsOfEnd x (lines_of ((f.end x).peer)) (f.line x)) (IsOfEnd x (lines_of ((f.end x).peer)) (gone_line f t x)) (λ v is. record { end = is.end; has_line = is.has_line; epoch = gone_epoch v.line.0 v.epoch is.epoch (eqb x t.end.0 && eqb v.line.0 t.line.0); ports = is.ports }) (f.accepted x) s.named;
+    named = AllByRecursion-weaker (IsOfEnd x (lines_of ((f.end x).kind)) (f.line x)) (IsOfEnd x (lines_of ((f.end x).kind)) (gone_line f t x)) (λ v is. record { end = is.end; has_line = is.has_line; epoch = gone_epoch v.line.0 v.epoch is.epoch (eqb x t.end.0 && eqb v.line.0 t.line.0); ports = is.ports }) (f.accepted x) s.named;
     rising = s.rising;
     numbered = s.numbered;
     clear_within = s.clear_within;
@@ -433,13 +473,13 @@ module _ (f : Facts) (t : Sender) (x : ℕ) (g : GoesOn f t) (s : LinesAt f x) w
 
 -- nobody is inside a queue at which nobody is
 pub nobody_inside : (f : Facts) (x k l : ℕ) → LinesAt f x → someone_at f x k ≡ false → (f.line x l).phase ≡ Inside → (f.line x l).stand ≡ k → ⊥
-nobody_inside f x k l s none inside at = elim (nat_lt l (lines_of ((f.end x).peer))) as (λ b. nat_lt l (lines_of ((f.end x).peer)) ≡ b → ⊥) [
+nobody_inside f x k l s none inside at = elim (nat_lt l (lines_of ((f.end x).kind))) as (λ b. nat_lt l (lines_of ((f.end x).kind)) ≡ b → ⊥) [
   | true ↦ λ low.
-      let away : is_away_at k (f.line x l) ≡ false = none_of_any (λ i. is_away_at k (f.line x i)) (lines_of ((f.end x).peer)) l none (ltb-true l (lines_of ((f.end x).peer)) low) in
+      let away : is_away_at k (f.line x l) ≡ false = none_of_any (λ i. is_away_at k (f.line x i)) (lines_of ((f.end x).kind)) l none (ltb-true l (lines_of ((f.end x).kind)) low) in
       let there : is_away_at k (f.line x l) ≡ true = rw (inside, at) (eqb_same k) in
       false≢true (sym away ∙ there)
   | false ↦ λ high.
-      let out : Out ≡ Inside = sym (ap (λ (y : LineNow). y.phase) (s.none l (ltb-false l (lines_of ((f.end x).peer)) high))) ∙ inside in
+      let out : Out ≡ Inside = sym (ap (λ (y : LineNow). y.phase) (s.none l (ltb-false l (lines_of ((f.end x).kind)) high))) ∙ inside in
       absurd (search (rules, out))
 ] refl
 
@@ -450,7 +490,7 @@ inside_unsettled f x k l s settled inside at = elim (f.clear x k) as (λ b. f.cl
   | false ↦ λ _ none. nobody_inside f x k l s (not_of (someone_at f x k) none) inside at
 ] refl settled
 
-went : (f : Facts) (e : EndId) (x : ℕ) → LinesAt f x → IsLeft f e → is_settled f e.0 (f.end e.0).taker_stand ≡ true → (b : Bool) → eqb x e.0 ≡ b → SoundLines x (lines_of ((f.end x).peer)) ((f.end x).newest) (cond b ((f.end x).taker_stand + 1) (f.end x).taker_stand) ((f.end x).closed) (f.line x) (f.clear x) (f.accepted x)
+went : (f : Facts) (e : EndId) (x : ℕ) → LinesAt f x → IsLeft f e → is_settled f e.0 (f.end e.0).taker_stand ≡ true → (b : Bool) → eqb x e.0 ≡ b → SoundLines x (lines_of ((f.end x).kind)) ((f.end x).newest) (cond b ((f.end x).taker_stand + 1) (f.end x).taker_stand) ((f.end x).closed) (f.line x) (f.clear x) (f.accepted x)
 went f e x s empty settled false is = s
 went f e x s empty settled true is =
     let here : x ≡ e.0 = eqb-true x e.0 is in
@@ -473,7 +513,7 @@ went f e x s empty settled true is =
       last = s.last;
     }
 
-longer : (f : Facts) (e : EndId) (x : ℕ) → LinesAt f x → (f.end e.0).closed ≡ false → (b : Bool) → eqb x e.0 ≡ b → SoundLines x (lines_of ((f.end x).peer)) (cond b ((f.end x).newest + 1) (f.end x).newest) ((f.end x).taker_stand) ((f.end x).closed) (f.line x) (f.clear x) (f.accepted x)
+longer : (f : Facts) (e : EndId) (x : ℕ) → LinesAt f x → (f.end e.0).closed ≡ false → (b : Bool) → eqb x e.0 ≡ b → SoundLines x (lines_of ((f.end x).kind)) (cond b ((f.end x).newest + 1) (f.end x).newest) ((f.end x).taker_stand) ((f.end x).closed) (f.line x) (f.clear x) (f.accepted x)
 longer f e x s opened false is = s
 longer f e x s opened true is =
     let here : x ≡ e.0 = eqb-true x e.0 is in
@@ -510,7 +550,7 @@ clear_inside : (f : Facts) (x k l : ℕ) → LinesAt f x → Clears f x k → (f
 clear_inside f x k l s w inside true is = absurd (nobody_inside f x k l s w.nobody inside (eqb-true (f.line x l).stand k is))
 clear_inside f x k l s w inside false is = s.inside_unclear l inside
 
-cleared_end : (f : Facts) (e : EndId) (k x : ℕ) → LinesAt f x → Clears f e.0 k → (b : Bool) → eqb x e.0 ≡ b → SoundLines x (lines_of ((f.end x).peer)) ((f.end x).newest) ((f.end x).taker_stand) ((f.end x).closed) (f.line x) (λ i. cond (b && eqb i k) true (f.clear x i)) (f.accepted x)
+cleared_end : (f : Facts) (e : EndId) (k x : ℕ) → LinesAt f x → Clears f e.0 k → (b : Bool) → eqb x e.0 ≡ b → SoundLines x (lines_of ((f.end x).kind)) ((f.end x).newest) ((f.end x).taker_stand) ((f.end x).closed) (f.line x) (λ i. cond (b && eqb i k) true (f.clear x i)) (f.accepted x)
 cleared_end f e k x s w false is = s
 cleared_end f e k x s w true is =
     let here : x ≡ e.0 = eqb-true x e.0 is in
@@ -532,7 +572,7 @@ cleared_end f e k x s w true is =
 
 -- ---- closing
 
-shut : (f : Facts) (e : EndId) (x : ℕ) → LinesAt f x → (b : Bool) → SoundLines x (lines_of ((f.end x).peer)) ((f.end x).newest) ((f.end x).taker_stand) (cond b true (f.end x).closed) (f.line x) (f.clear x) (f.accepted x)
+shut : (f : Facts) (e : EndId) (x : ℕ) → LinesAt f x → (b : Bool) → SoundLines x (lines_of ((f.end x).kind)) ((f.end x).newest) ((f.end x).taker_stand) (cond b true (f.end x).closed) (f.line x) (f.clear x) (f.accepted x)
 shut f e x s false = s
 shut f e x s true = record {
   stand = s.stand;
@@ -552,25 +592,78 @@ shut f e x s true = record {
   last = s.last;
 }
 
+-- ---- holding
+
+-- a line that another agent holds, or none
+abbrev pub held_line_as : Facts → Sender → Option AgentId → ℕ → ℕ → LineNow
+held_line_as f t holder x l = record { phase = (f.line x l).phase; stand = (f.line x l).stand; noticed = (f.line x l).noticed; held_by = on_line x l t holder (f.line x l).held_by }
+
+held_none : (f : Facts) (t : Sender) (holder : Option AgentId) (x l : ℕ) → (t.line.0 < lines_of ((f.end t.end.0).kind)) ⊎ (holder ≡ None) → f.line x l ≡ no_line → lines_of ((f.end x).kind) ≤ l → (b : Bool) → (eqb x t.end.0 && eqb l t.line.0) ≡ b → (let y : LineNow = record { phase = (f.line x l).phase; stand = (f.line x l).stand; noticed = (f.line x l).noticed; held_by = cond b holder (f.line x l).held_by } in y ≡ no_line)
+held_none f t holder x l may none past true is = elim may [
+  | inl less ↦
+      let both = both_of (eqb x t.end.0) (eqb l t.line.0) is in
+      let here : x ≡ t.end.0 = search (rules, both.0) in
+      let line : l ≡ t.line.0 = search (rules, both.1) in
+      let bound : t.line.0 < lines_of ((f.end x).kind) = subst (λ y. t.line.0 < lines_of ((f.end y).kind)) (sym here) less in
+      absurd (omega arith)
+  | inr nobody ↦ λ i. record { phase = (none i).phase; stand = (none i).stand; noticed = (none i).noticed; held_by = nobody i }
+]
+held_none f t holder x l may none past false is = none
+
+held : (f : Facts) (t : Sender) (holder : Option AgentId) (x : ℕ) → (t.line.0 < lines_of ((f.end t.end.0).kind)) ⊎ (holder ≡ None) → LinesAt f x → SoundLines x (lines_of ((f.end x).kind)) ((f.end x).newest) ((f.end x).taker_stand) ((f.end x).closed) (held_line_as f t holder x) (f.clear x) (f.accepted x)
+held f t holder x may s = record {
+  stand = s.stand;
+  taker_stand = s.taker_stand;
+  none = λ l past. held_none f t holder x l may (s.none l past) past (eqb x t.end.0 && eqb l t.line.0) refl;
+  named = AllByRecursion-weaker (IsOfEnd x (lines_of ((f.end x).kind)) (f.line x)) (IsOfEnd x (lines_of ((f.end x).kind)) (held_line_as f t holder x)) (λ v is. record { end = is.end; has_line = is.has_line; epoch = is.epoch; ports = is.ports }) (f.accepted x) s.named;
+  rising = s.rising;
+  numbered = s.numbered;
+  clear_within = s.clear_within;
+  turned = s.turned;
+  inside = s.inside;
+  inside_unclear = s.inside_unclear;
+  messages = s.messages;
+  last = s.last;
+}
+
+-- the lines of a queue are those that agents hold
+pub queue_lines : (p : Option Kind) → is_queue p ≡ true → lines_of p ≡ MAX_LINES
+queue_lines (Some (Port q)) h = absurd (false≢true h)
+queue_lines (Some Client) h = refl
+queue_lines (Some Worker) h = refl
+queue_lines None h = absurd (false≢true h)
+
 -- ---- every pair that changes something
 
-pub lines_next : (f : Facts) {a : Action} (refused : Bool) {o : Outcome} → ((x : ℕ) → LinesAt f x) → Answers f a refused o → Change a o → (x : ℕ) → LinesAt (next f a o) x
-lines_next f refused h fits (agent_made n) x = h x
-lines_next f refused h fits (channel_made a e e') x =
-    grown x (lines_of ((f.end x).peer)) _ _ _ _ (f.line x) (f.clear x) (f.accepted x) (more_lines (eqb x e.0) (eqb x e'.0) e'.0 e.0 ((f.end x).peer)) (h x)
-lines_next f refused h fits (let_in s) x = let r = let_in_of f s fits in phased f s Inside x (may_come_in f s r.0 r.1 r.2 (h s.end.0)) (h x)
-lines_next f refused h fits (found_moved s) x = let r = found_moved_of f s fits in phased f s Turned x (may_turn_moved f s r.0 r.1) (h x)
-lines_next f refused h fits (found_closed s) x = let r = found_closed_of f s fits in phased f s Turned x (may_turn_closed f s r.0 r.2) (h x)
-lines_next f refused h fits (put s ports body n) x = put_at f s (named_envelope s n body ports.items) x (message_may f s ports.items body n (pushed_of f s ports.items refused n fits)) refl (h x) (eqb x s.end.0) refl
-lines_next f refused h fits (notice_put s n) x = notice_at f s (named_notice s n) x (notice_may f s n (noticed_of f s refused n fits)) (h x) (eqb x s.end.0) refl
-lines_next f refused h fits (left s) x = phased f s Out x (may_leave f s) (h x)
-lines_next f refused h fits (hopped s k) x =
+pub lines_next : (f : Facts) {a : Action} (refused : Bool) {o : Outcome} → IsUnmade f → ((x : ℕ) → LinesAt f x) → Answers f a refused o → Change a o → (x : ℕ) → LinesAt (next f a o) x
+lines_next f refused none h fits (agent_made n) x = h x
+lines_next f refused none h fits (channel_made a e e') x =
+    let made = new_ends f a refused e e' fits in
+    grown x (lines_of ((f.end x).kind)) _ _ _ _ (f.line x) (f.clear x) (f.accepted x) (more_lines (eqb x e.0) (eqb x e'.0) (Port e') (Port e) (f.end x).kind (either_new f e e' x none made.1 made.2)) (h x)
+lines_next f refused none h fits (client_made a e) x =
+    let made = queue_made_of f is_client a refused e fits in
+    grown x (lines_of ((f.end x).kind)) _ _ _ _ (f.line x) (f.clear x) (f.accepted x) (one_more_line (eqb x e.0) Client (f.end x).kind (one_new f e x none made.number)) (h x)
+lines_next f refused none h fits (worker_made a e) x =
+    let made = queue_made_of f is_worker a refused e fits in
+    grown x (lines_of ((f.end x).kind)) _ _ _ _ (f.line x) (f.clear x) (f.accepted x) (one_more_line (eqb x e.0) Worker (f.end x).kind (one_new f e x none made.number)) (h x)
+lines_next f refused none h fits (line_got e a l) x =
+    let gets = line_got_of f e a l fits in
+    held f (record { end = e; line = l }) (Some a) x (inl (subst (λ n. l.0 < n) (sym (queue_lines (f.end e.0).kind gets.queue)) gets.low)) (h x)
+lines_next f refused none h fits (line_back s) x = held f s None x (inr refl) (h x)
+lines_next f refused none h fits (handed e b) x = h x
+lines_next f refused none h fits (let_in s) x = let r = let_in_of f s fits in phased f s Inside x (may_come_in f s r.0 r.1 r.2 (h s.end.0)) (h x)
+lines_next f refused none h fits (found_moved s) x = let r = found_moved_of f s fits in phased f s Turned x (may_turn_moved f s r.0 r.1 (h s.end.0)) (h x)
+lines_next f refused none h fits (found_closed s) x = let r = found_closed_of f s fits in phased f s Turned x (may_turn_closed f s r.0 r.2 (h s.end.0)) (h x)
+lines_next f refused none h fits (put s ports body n) x = put_at f s (named_envelope s n body ports.items) x (message_may f s ports.items body n (h s.end.0) (pushed_of f s ports.items refused n fits)) refl (h x) (eqb x s.end.0) refl
+lines_next f refused none h fits (notice_put s n) x = notice_at f s (named_notice s n) x (notice_may f s n (noticed_of f s refused n fits)) (h x) (eqb x s.end.0) refl
+lines_next f refused none h fits (left s) x = phased f s Out x (may_leave f s) (h x)
+lines_next f refused none h fits (hopped s k) x =
     let r = hopped_of f s k fits in
-    gone f s x (record { there = line_there f s r.may; out = r.out; below = ltb-true (f.line s.end.0 s.line.0).stand (f.end s.end.0).newest r.retired }) (h x)
-lines_next f refused h fits (started e) x = h x
-lines_next f refused h fits (got e v) x = h x
-lines_next f refused h fits (went_on e) x = let served = went_on_of f e fits in went f e x (h x) served.serves.0 served.serves.1 (eqb x e.0) refl
-lines_next f refused h fits (cleared e k) x = cleared_end f e k x (h x) (cleared_of f e k fits) (eqb x e.0) refl
-lines_next f refused h fits (adopted e a k) x = longer f e x (h x) (adopted_of f e a refused k fits).is_open (eqb x e.0) refl
-lines_next f refused h fits (end_closed e) x = shut f e x (h x) (eqb x e.0)
-lines_next f refused h fits (end_swept e vs) x = h x
+    gone f s x (record { there = line_there f s (h s.end.0) r.may; out = r.out; below = ltb-true (f.line s.end.0 s.line.0).stand (f.end s.end.0).newest r.retired }) (h x)
+lines_next f refused none h fits (started e) x = h x
+lines_next f refused none h fits (got e v) x = h x
+lines_next f refused none h fits (went_on e) x = let served = went_on_of f e fits in went f e x (h x) served.serves.0 served.serves.1 (eqb x e.0) refl
+lines_next f refused none h fits (cleared e k) x = cleared_end f e k x (h x) (cleared_of f e k fits) (eqb x e.0) refl
+lines_next f refused none h fits (adopted e a k) x = longer f e x (h x) (adopted_of f e a refused k fits).is_open (eqb x e.0) refl
+lines_next f refused none h fits (end_closed e) x = shut f e x (h x) (eqb x e.0)
+lines_next f refused none h fits (end_swept e vs) x = h x

@@ -1,6 +1,6 @@
 -- Places stay sound.
-use Rattle.std.proofs.Common.{◌≡◌, ℕ, suc, ◌+◌, ◌<◌, ◌≤◌, Bool, true, false, cond, eqb, List, [], ◌∷◌, ◌++◌, Option, Some, None, refl, sym, ap, subst, ◌∙◌, arith, rules}
-use Rattle.std.specs.Prelude.{◌&&◌, ◌||◌, is_some, nat_le}
+use Rattle.std.proofs.Common.{◌≡◌, ℕ, suc, ◌+◌, ◌<◌, ◌≤◌, Bool, true, false, cond, eqb, List, [], ◌∷◌, ◌++◌, Option, Some, None, refl, sym, ap, subst, ◌∙◌, arith, rules, inl, inr}
+use Rattle.std.specs.Prelude.{◌⊎◌, ◌&&◌, ◌||◌, is_some, nat_le}
 use Rattle.std.specs.Prelude.{Vec}
 use Rattle.std.specs.declared.alloc.Global.{Global}
 use Rattle.std.proofs.lemmas.Bool.{false≢true, ne_eqb, eqb-true, leb-true, leb-false}
@@ -17,23 +17,24 @@ use Rattle.hub_core.specs.declared.step.Action.TheVariants as action
 use Rattle.hub_core.specs.declared.outcome.Acceptance.{Acceptance}
 use Rattle.hub_core.specs.declared.outcome.Outcome.{Outcome}
 use Rattle.hub_core.specs.declared.outcome.Outcome.TheVariants as outcome
-use Rattle.hub_core.specs.Facts.{EndNow, Facts}
+use Rattle.hub_core.specs.Facts.{EndNow, Facts, LineNow}
 use Rattle.hub_core.specs.Fits.{Answers}
 use Rattle.hub_core.specs.Place.{names, arrived, is_named}
 use Rattle.hub_core.specs.Accepted.{named_envelope, named_notice}
-use Rattle.hub_core.specs.Posting.{poster, is_out, may_enter, hears_notice, is_here}
+use Rattle.hub_core.specs.Posting.{poster, is_out, may_enter, hears_notice, is_here, own_poster_out}
 use Rattle.hub_core.specs.Taking.{IsNext}
 use Rattle.hub_core.specs.Sound.{no_end, total, naming, flights, SoundPlaces, Sound, is_gone}
 use Rattle.hub_core.proofs.Lists.{both_of, eqb_same}
 use Rattle.hub_core.proofs.Totals.{total_more, bit, count_more, count_between}
-use Rattle.hub_core.proofs.Nexts.{next, Change, agent_made, channel_made, let_in, found_moved, found_closed, put, left, started, got, hopped, went_on, cleared, adopted, notice_put, end_closed, end_swept}
-use Rattle.hub_core.proofs.Fitting.{new_agent, new_ends, let_in_of, found_moved_of, found_closed_of, pushed_of, started_of, got_of, went_on_of, adopted_of, noticed_of, closed_of, SweptWith, swept_of}
-use Rattle.hub_core.proofs.Speakers.{made_of, placed_made, entangled_made, nothing_accepted, nothing_removed, runs_there, speaks_of, travels, all_good, taken_flies, named_count, unnamed_count, swept_total, closed_made, swept_within, swept_flies, old_end, holder_made, hears_of, or_true, may_next}
+use Rattle.hub_core.proofs.Nexts.{next, Change, agent_made, channel_made, let_in, found_moved, found_closed, put, left, started, got, hopped, went_on, cleared, adopted, notice_put, end_closed, end_swept, client_made, worker_made, line_got, line_back, handed}
+use Rattle.hub_core.proofs.Fitting.{new_agent, new_ends, let_in_of, found_moved_of, found_closed_of, pushed_of, started_of, got_of, went_on_of, adopted_of, noticed_of, closed_of, SweptWith, swept_of, handed_of, queue_made_of}
+use Rattle.hub_core.proofs.Speakers.{made_of, placed_made, entangled_made, nothing_accepted, nothing_removed, runs_there, speaks_of, travels, all_good, taken_flies, named_count, unnamed_count, swept_total, closed_made, swept_within, swept_flies, old_end, holder_made, hears_of, or_true, may_next, same_sender, heard_of, queue_is_made, no_port, old_one, Speaks, HoldsLine}
+use Rattle.hub_core.specs.Made.{peer_of, is_queue}
+use Rattle.hub_core.specs.declared.kind.Kind.TheVariants.{Port, Client, Worker}
+use Rattle.hub_core.specs.declared.kind.Kind.{Kind}
+use Rattle.hub_core.specs.Making.{is_client, is_worker}
 
 -- ---- who is away after a pair
-
-same_sender : (s t : Sender) → s.end.0 ≡ t.end.0 → s.line.0 ≡ t.line.0 → s ≡ t
-same_sender s t end line = λ i. record { end = record { 0 = end i }; line = record { 0 = line i } }
 
 -- after an Enter
 away_entered : (f : Facts) (s t : Sender) (p : Phase) → SoundPlaces f → may_enter f t ≡ true → (b : Bool) → (eqb s.end.0 t.end.0 && eqb s.line.0 t.line.0) ≡ b → is_out (cond b p ((f.line s.end.0 s.line.0).phase)) ≡ false → may_enter f s ≡ true
@@ -111,13 +112,13 @@ made_place true a p none = sym (ap flights (none refl))
 made_place false a p none = refl
 
 -- what is said of a new end: it was none before
-new_end : (f : Facts) (e e' : EndId) (x : ℕ) → SoundPlaces f → e ≡ record { 0 = f.ends } → e' ≡ record { 0 = f.ends + 1 } → (eqb x e.0 || eqb x e'.0) ≡ true → f.end x ≡ no_end
-new_end f e e' x h first second is = elim (eqb x e.0) as (λ b. eqb x e.0 ≡ b → (b || eqb x e'.0) ≡ true → f.end x ≡ no_end) [
+unmade_end : (f : Facts) (e e' : EndId) (x : ℕ) → SoundPlaces f → e ≡ record { 0 = f.ends } → e' ≡ record { 0 = f.ends + 1 } → (eqb x e.0 || eqb x e'.0) ≡ true → f.end x ≡ no_end
+unmade_end f e e' x h first second is = elim (eqb x e.0) as (λ b. eqb x e.0 ≡ b → (b || eqb x e'.0) ≡ true → f.end x ≡ no_end) [
   | true ↦ λ t _. let same : x ≡ f.ends = eqb-true x e.0 t ∙ ap (λ (d : EndId). d.0) first in h.ends x (omega arith)
   | false ↦ λ _ t. let same : x ≡ f.ends + 1 = eqb-true x e'.0 t ∙ ap (λ (d : EndId). d.0) second in h.ends x (omega arith)
 ] refl is
 
-peers_channel : (f : Facts) (e e' : EndId) → SoundPlaces f → e ≡ record { 0 = f.ends } → e' ≡ record { 0 = f.ends + 1 } → (x y : ℕ) → (b c : Bool) → eqb x e.0 ≡ b → eqb x e'.0 ≡ c → cond b (Some e'.0) (cond c (Some e.0) ((f.end x).peer)) ≡ Some y → (y < f.ends + 2) × (cond (eqb y e.0) (Some e'.0) (cond (eqb y e'.0) (Some e.0) ((f.end y).peer)) ≡ Some x)
+peers_channel : (f : Facts) (e e' : EndId) → SoundPlaces f → e ≡ record { 0 = f.ends } → e' ≡ record { 0 = f.ends + 1 } → (x y : ℕ) → (b c : Bool) → eqb x e.0 ≡ b → eqb x e'.0 ≡ c → peer_of (cond b (Some (Port e')) (cond c (Some (Port e)) (f.end x).kind)) ≡ Some y → (y < f.ends + 2) × (peer_of (cond (eqb y e.0) (Some (Port e')) (cond (eqb y e'.0) (Some (Port e)) (f.end y).kind)) ≡ Some x)
 peers_channel f e e' h first second x y true c is other at =
     let n : e.0 ≡ f.ends = ap (λ (d : EndId). d.0) first in
     let m : e'.0 ≡ f.ends + 1 = ap (λ (d : EndId). d.0) second in
@@ -170,6 +171,11 @@ gone_moved : (moved closed : Bool) (q p : Option Place) → is_gone q ≡ false 
 gone_moved true closed q p here opened old = opened refl ∙ sym here
 gone_moved false closed q p here opened old = old
 
+channel_flying : (b c : Bool) (a : AgentId) (u w : EndId) (p : Option Place) (k : Option Kind) → (p ≡ Some InFlight → is_some (peer_of k) ≡ true) → cond (b || c) (Some (With a)) p ≡ Some InFlight → is_some (peer_of (cond b (Some (Port u)) (cond c (Some (Port w)) k))) ≡ true
+channel_flying true c a u w p k old is = refl
+channel_flying false true a u w p k old is = refl
+channel_flying false false a u w p k old is = old is
+
 channel_places : (f : Facts) (b : AgentId) (refused : Bool) (e e' : EndId) → Sound f → Answers f (action.Channel b) refused (outcome.Ends e e') → SoundPlaces (next f (action.Channel b) (outcome.Ends e e'))
 channel_places f b refused e e' h fits =
     let made = new_ends f b refused e e' fits in
@@ -180,7 +186,8 @@ channel_places f b refused e e' h fits =
       with_made = λ x a is. with_channel f b x (eqb x e.0 || eqb x e'.0) a h.places made.0 is;
       arrived_made = λ x a is. arrived_channel f b x (eqb x e.0 || eqb x e'.0) a h.places is;
       away = λ s away. may_next f refused h fits (channel_made b e e') s away (h.places.away s away);
-      gone = λ x. gone_made (eqb x e.0 || eqb x e'.0) b (f.end x).closed (f.end x).place (λ is. ap (λ (d : EndNow). d.closed) (new_end f e e' x h.places made.1 made.2 is)) (h.places.gone x);
+      flying = λ x is. channel_flying (eqb x e.0) (eqb x e'.0) b e' e (f.end x).place (f.end x).kind (h.places.flying x) is;
+      gone = λ x. gone_made (eqb x e.0 || eqb x e'.0) b (f.end x).closed (f.end x).place (λ is. ap (λ (d : EndNow). d.closed) (unmade_end f e e' x h.places made.1 made.2 is)) (h.places.gone x);
       flights = λ x.
           let w : ℕ → ℕ = λ d. naming x (f.accepted d) in
           let u : ℕ → ℕ = λ d. naming x (f.taken d ++ f.discarded d) in
@@ -189,7 +196,7 @@ channel_places f b refused e e' h fits =
           in
           let accepted : total w (f.ends + 2) ≡ total w f.ends = two_more w f.ends (ap (naming x) (none_at f.ends (omega arith)).0) (ap (naming x) (none_at (f.ends + 1) (omega arith)).0) in
           let taken : total u (f.ends + 2) ≡ total u f.ends = two_more u f.ends (ap (naming x) (none_at f.ends (omega arith)).1) (ap (naming x) (none_at (f.ends + 1) (omega arith)).1) in
-          let place : flights (cond (eqb x e.0 || eqb x e'.0) (Some (With b)) ((f.end x).place)) ≡ flights ((f.end x).place) = made_place (eqb x e.0 || eqb x e'.0) b ((f.end x).place) (λ is. ap (λ (d : EndNow). d.place) (new_end f e e' x h.places made.1 made.2 is)) in
+          let place : flights (cond (eqb x e.0 || eqb x e'.0) (Some (With b)) ((f.end x).place)) ≡ flights ((f.end x).place) = made_place (eqb x e.0 || eqb x e'.0) b ((f.end x).place) (λ is. ap (λ (d : EndNow). d.place) (unmade_end f e e' x h.places made.1 made.2 is)) in
           let before : total w f.ends ≡ total u f.ends + flights ((f.end x).place) = h.places.flights x in
           omega arith;
     }
@@ -197,17 +204,23 @@ channel_places f b refused e e' h fits =
 -- ---- every pair that changes something
 
 -- a pair that changes lines alone
-lines_alone : (f g : Facts) → SoundPlaces f → ((s : Sender) → is_out ((g.line s.end.0 s.line.0).phase) ≡ false → may_enter f s ≡ true) → SoundPlaces (record f { line = g.line })
-lines_alone f g h away = record {
+lines_alone : (f : Facts) (line : ℕ → ℕ → LineNow) → SoundPlaces f → ((s : Sender) → is_out ((line s.end.0 s.line.0).phase) ≡ false → may_enter (record f { line = line }) s ≡ true) → SoundPlaces (record f { line = line })
+lines_alone f line h away = record {
   ends = h.ends;
   agents = h.agents;
   peers = h.peers;
   with_made = h.with_made;
   arrived_made = h.arrived_made;
   away = away;
+  flying = h.flying;
   gone = h.gone;
   flights = h.flights;
 }
+
+-- an end that goes to another place than that of ports alone
+moved_flying : (b : Bool) (q p : Option Place) (k : Option Kind) → (q ≡ Some InFlight → ⊥) → (p ≡ Some InFlight → is_some (peer_of k) ≡ true) → cond b q p ≡ Some InFlight → is_some (peer_of k) ≡ true
+moved_flying true q p k never old is = absurd (never is)
+moved_flying false q p k never old is = old is
 
 agent_places : (f : Facts) (refused : Bool) (n : AgentId) → Sound f → Answers f action.Agent refused (outcome.Agent n) → SoundPlaces (next f action.Agent (outcome.Agent n))
 agent_places f refused n h fits =
@@ -221,6 +234,7 @@ agent_places f refused n h fits =
       with_made = λ x a is. let less : a.0 < f.agents = h.places.with_made x a is in omega arith;
       arrived_made = λ x a is. let less : a.0 < f.agents = h.places.arrived_made x a is in omega arith;
       away = λ s away. may_next f refused h fits (agent_made n) s away (h.places.away s away);
+      flying = h.places.flying;
       gone = h.places.gone;
       flights = h.places.flights;
     }
@@ -245,10 +259,21 @@ put_arrived : (x : Option Place) (named : Bool) (a : AgentId) → cond named (So
 put_arrived x true a is = absurd (search (rules, is))
 put_arrived x false a is = is
 
+posted_made : (f : Facts) (s : Sender) → SoundPlaces f → Speaks f s ⊎ HoldsLine f s → s.end.0 < f.ends
+posted_made f s h (inl k) = entangled_made f s.end.0 k.peer h k.entangled
+posted_made f s h (inr k) = queue_is_made f s.end.0 h k.queue
+
+pub some_own : (f : Facts) (q : Option ℕ) → own_poster_out f q ≡ true → is_some q ≡ true
+some_own f (Some q) h = refl
+some_own f None h = absurd (false≢true h)
+
+put_flying : (b : Bool) (p : Option Place) (k : Option Kind) → (b ≡ true → is_some (peer_of k) ≡ true) → (p ≡ Some InFlight → is_some (peer_of k) ≡ true) → cond b (Some InFlight) p ≡ Some InFlight → is_some (peer_of k) ≡ true
+put_flying true p k port old is = port refl
+put_flying false p k port old is = old is
+
 put_places : (f : Facts) (refused : Bool) (s : Sender) (ports : Vec EndId Global) (body : List ℕ) (n : Acceptance) → Sound f → Answers f (action.Push s ports body) refused (outcome.Accepted n) → SoundPlaces (next f (action.Push s ports body) (outcome.Accepted n))
 put_places f refused s ports body n h fits =
     let p = pushed_of f s ports.items refused n fits in
-    let k = speaks_of f s (ap is_some p.speaks) in
     record {
       ends = λ x past. moved_none f x (names ports.items x) (Some InFlight) (h.places.ends x past) (λ named. none_with f x (With p.agent) (h.places.ends x past) (travels f p.agent s x ports.items (all_good f s ports.items n p) named).0);
       agents = h.places.agents;
@@ -256,8 +281,9 @@ put_places f refused s ports body n h fits =
       with_made = λ x a is. h.places.with_made x a (put_with ((f.end x).place) (names ports.items x) a is);
       arrived_made = λ x a is. h.places.arrived_made x a (put_arrived ((f.end x).place) (names ports.items x) a is);
       away = λ t away. may_next f refused h fits (put s ports body n) t away (h.places.away t away);
+      flying = λ x is. put_flying (names ports.items x) (f.end x).place (f.end x).kind (λ named. some_own f (peer_of (f.end x).kind) (travels f p.agent s x ports.items (all_good f s ports.items n p) named).1) (h.places.flying x) is;
       gone = λ x. gone_moved (names ports.items x) (f.end x).closed (Some InFlight) (f.end x).place refl (λ named. h.places.gone x ∙ ap is_gone (travels f p.agent s x ports.items (all_good f s ports.items n p) named).0) (h.places.gone x);
-      flights = λ x. put_flights f s (named_envelope s n body ports.items) x h.places (entangled_made f s.end.0 k.peer h.places k.entangled) (names ports.items x) refl (λ named. no_flights ((f.end x).place) p.agent (travels f p.agent s x ports.items (all_good f s ports.items n p) named).0);
+      flights = λ x. put_flights f s (named_envelope s n body ports.items) x h.places (posted_made f s h.places (speaks_of f s (ap is_some p.speaks))) (names ports.items x) refl (λ named. no_flights ((f.end x).place) p.agent (travels f p.agent s x ports.items (all_good f s ports.items n p) named).0);
     }
 
 got_with : (x t : Option Place) (c : AgentId) (named : Bool) (a : AgentId) → t ≡ Some (With c) → cond named (arrived t x) x ≡ Some (With a) → x ≡ Some (With a)
@@ -283,6 +309,7 @@ got_places f refused e v h fits =
       with_made = λ x a is. h.places.with_made x a (got_with ((f.end x).place) ((f.end e.0).place) there.0 (names v.ports x) a there.1 is);
       arrived_made = λ x a is. got_arrived f x ((f.end e.0).place) there.0 (names v.ports x) a h.places (h.places.with_made e.0 there.0 there.1) there.1 is;
       away = λ t away. may_next f refused h fits (got e v) t away (h.places.away t away);
+      flying = λ x is. moved_flying (names v.ports x) (arrived ((f.end e.0).place) ((f.end x).place)) (f.end x).place (f.end x).kind (λ same. search (rules, sym (ap (λ q. arrived q (f.end x).place) there.1) ∙ same)) (h.places.flying x) is;
       gone = λ x. gone_moved (names v.ports x) (f.end x).closed (arrived ((f.end e.0).place) ((f.end x).place)) (f.end x).place (ap (λ q. is_gone (arrived q ((f.end x).place))) there.1) (λ named. h.places.gone x ∙ ap is_gone (taken_flies f e v x h served.serves served.is_open made named)) (h.places.gone x);
       flights = λ x. got_flights f e v x there.0 h served.serves served.is_open made there.1 (names v.ports x) refl;
     }
@@ -301,6 +328,7 @@ started_places f refused e h fits =
       with_made = h.places.with_made;
       arrived_made = h.places.arrived_made;
       away = h.places.away;
+      flying = h.places.flying;
       gone = h.places.gone;
       flights = h.places.flights;
     }
@@ -314,6 +342,7 @@ clear_alone f clear h = record {
   with_made = h.with_made;
   arrived_made = h.arrived_made;
   away = h.away;
+  flying = h.flying;
   gone = h.gone;
   flights = h.flights;
 }
@@ -332,6 +361,7 @@ went_places f refused e h fits =
       with_made = h.places.with_made;
       arrived_made = h.places.arrived_made;
       away = h.places.away;
+      flying = h.places.flying;
       gone = h.places.gone;
       flights = h.places.flights;
     }
@@ -355,6 +385,7 @@ adopted_places f refused e a k h fits =
       with_made = λ x b is. with_channel f a x (eqb x e.0) b h.places adopts.runs is;
       arrived_made = λ x b is. arrived_channel f a x (eqb x e.0) b h.places is;
       away = λ s away. may_next f refused h fits (adopted e a k) s away (h.places.away s away);
+      flying = λ x is. moved_flying (eqb x e.0) (Some (With a)) (f.end x).place (f.end x).kind (λ same. search (rules, same)) (h.places.flying x) is;
       gone = λ x. gone_moved (eqb x e.0) (f.end x).closed (Some (With a)) (f.end x).place refl (λ is. h.places.gone x ∙ ap (λ y. is_gone (f.end y).place) (eqb-true x e.0 is) ∙ ap is_gone adopts.arrived) (h.places.gone x);
       flights = λ x.
           let before : total (λ d. naming x (f.accepted d)) f.ends ≡ total (λ d. naming x (f.taken d ++ f.discarded d)) f.ends + flights ((f.end x).place) = h.places.flights x in
@@ -364,7 +395,7 @@ adopted_places f refused e a k h fits =
 notice_places : (f : Facts) (refused : Bool) (s : Sender) (n : Acceptance) → Sound f → Answers f (action.Notice s) refused (outcome.Accepted n) → SoundPlaces (next f (action.Notice s) (outcome.Accepted n))
 notice_places f refused s n h fits =
     let p = noticed_of f s refused n fits in
-    let k = hears_of f s (or_true (is_some (poster f s)) (hears_notice f s) p.hears) in
+    let k = heard_of f s p.hears in
     record {
       ends = h.places.ends;
       agents = h.places.agents;
@@ -372,6 +403,7 @@ notice_places f refused s n h fits =
       with_made = h.places.with_made;
       arrived_made = h.places.arrived_made;
       away = h.places.away;
+      flying = h.places.flying;
       gone = h.places.gone;
       flights = λ x. put_flights f s (named_notice s n) x h.places (entangled_made f s.end.0 k.peer h.places k.entangled) false refl (λ is. absurd (false≢true is));
     }
@@ -415,6 +447,7 @@ closed_places f refused e h fits =
       with_made = λ x a is. h.places.with_made x a (gone_nowhere (eqb x e.0) (f.end x).place (Some Gone) (With a) is (λ same. search (rules, same)));
       arrived_made = λ x a is. h.places.arrived_made x a (gone_nowhere (eqb x e.0) (f.end x).place (Some Gone) (Arrived a) is (λ same. search (rules, same)));
       away = λ s away. may_next f refused h fits (end_closed e) s away (h.places.away s away);
+      flying = λ x is. moved_flying (eqb x e.0) (Some Gone) (f.end x).place (f.end x).kind (λ same. search (rules, same)) (h.places.flying x) is;
       gone = λ x. closed_gone (eqb x e.0) (f.end x).closed (f.end x).place (h.places.gone x);
       flights = λ x. h.places.flights x ∙ ap (λ n. total (λ d. naming x (f.taken d ++ f.discarded d)) f.ends + n) (sym (same_flights (eqb x e.0) (Some Gone) (f.end x).place refl (λ is. no_flight (f.end x).place (ap (λ y. is_here (f.end y).place) (eqb-true x e.0 is) ∙ closes.here))));
     }
@@ -430,24 +463,104 @@ swept_places f refused e vs h fits =
       with_made = λ x a is. h.places.with_made x a (gone_nowhere (is_named vs x) (f.end x).place (Some Swept) (With a) is (λ same. search (rules, same)));
       arrived_made = λ x a is. h.places.arrived_made x a (gone_nowhere (is_named vs x) (f.end x).place (Some Swept) (Arrived a) is (λ same. search (rules, same)));
       away = λ s away. may_next f refused h fits (end_swept e vs) s away (h.places.away s away);
+      flying = λ x is. moved_flying (is_named vs x) (Some Swept) (f.end x).place (f.end x).kind (λ same. search (rules, same)) (h.places.flying x) is;
       gone = λ x. gone_moved (is_named vs x) (f.end x).closed (Some Swept) (f.end x).place refl (λ named. h.places.gone x ∙ ap is_gone (swept_flies f e vs x h w named)) (h.places.gone x);
       flights = λ x. swept_flights f e vs x h w made (is_named vs x) refl;
+    }
+
+-- a queue more
+abbrev one_made : Facts → AgentId → Kind → EndId → Facts
+one_made f b k e = record f {
+  ends = f.ends + 1;
+  end = λ x. record (f.end x) { kind = cond (eqb x e.0) (Some k) (f.end x).kind; place = cond (eqb x e.0) (Some (With b)) (f.end x).place };
+}
+
+one_none : (f : Facts) (b : AgentId) (k : Kind) (e : EndId) (x : ℕ) → SoundPlaces f → e ≡ record { 0 = f.ends } → f.ends + 1 ≤ x → (one_made f b k e).end x ≡ no_end
+one_none f b k e x h first past =
+    let n : e.0 ≡ f.ends = ap (λ (d : EndId). d.0) first in
+    let other : eqb x e.0 ≡ false = ne_eqb x e.0 (λ same. omega arith) in
+    rw other (h.ends x (omega arith))
+
+one_peers : (f : Facts) (b : AgentId) (k : Kind) (e : EndId) → SoundPlaces f → is_queue (Some k) ≡ true → e ≡ record { 0 = f.ends } → (x y : ℕ) → (c : Bool) → eqb x e.0 ≡ c → peer_of (cond c (Some k) (f.end x).kind) ≡ Some y → (y < f.ends + 1) × (peer_of (cond (eqb y e.0) (Some k) (f.end y).kind) ≡ Some x)
+one_peers f b k e h queue first x y true is at = absurd (no_port (Some k) y queue at)
+one_peers f b k e h queue first x y false is at =
+    let old = h.peers x y at in
+    let less : y < f.ends = old.0 in
+    (omega arith, rw (old_one f e y first less) old.1)
+
+-- what is said of a new queue's number: no end had it
+unmade_one : (f : Facts) (e : EndId) (x : ℕ) → SoundPlaces f → e ≡ record { 0 = f.ends } → eqb x e.0 ≡ true → f.end x ≡ no_end
+unmade_one f e x h first is = let same : x ≡ f.ends = eqb-true x e.0 is ∙ ap (λ (d : EndId). d.0) first in h.ends x (omega arith)
+
+one_total : (w : ℕ → ℕ) (n : ℕ) → w n ≡ 0 → total w (n + 1) ≡ total w n
+one_total w n last =
+    let same : n + 1 ≡ suc n = omega arith in
+    ap (total w) same ∙ omega arith
+
+one_flying : (b : Bool) (a : AgentId) (u : Kind) (p : Option Place) (k : Option Kind) → (p ≡ Some InFlight → is_some (peer_of k) ≡ true) → cond b (Some (With a)) p ≡ Some InFlight → is_some (peer_of (cond b (Some u) k)) ≡ true
+one_flying true a u p k old is = absurd (search (rules, is))
+one_flying false a u p k old is = old is
+
+queue_places : (f : Facts) (b : AgentId) (k : Kind) (e : EndId) → Sound f → is_queue (Some k) ≡ true → (f.agent b.0).runs ≡ true → e ≡ record { 0 = f.ends } → ((s : Sender) → is_out ((f.line s.end.0 s.line.0).phase) ≡ false → may_enter (one_made f b k e) s ≡ true) → SoundPlaces (one_made f b k e)
+queue_places f b k e h queue runs first away = record {
+  ends = λ x past. one_none f b k e x h.places first past;
+  agents = h.places.agents;
+  peers = λ x y is. one_peers f b k e h.places queue first x y (eqb x e.0) refl is;
+  with_made = λ x a is. with_channel f b x (eqb x e.0) a h.places runs is;
+  arrived_made = λ x a is. arrived_channel f b x (eqb x e.0) a h.places is;
+  away = away;
+  flying = λ x is. one_flying (eqb x e.0) b k (f.end x).place (f.end x).kind (h.places.flying x) is;
+  gone = λ x. gone_made (eqb x e.0) b (f.end x).closed (f.end x).place (λ is. ap (λ (d : EndNow). d.closed) (unmade_one f e x h.places first is)) (h.places.gone x);
+  flights = λ x.
+      let w : ℕ → ℕ = λ d. naming x (f.accepted d) in
+      let u : ℕ → ℕ = λ d. naming x (f.taken d ++ f.discarded d) in
+      let nothing = nothing_accepted f f.ends (h.lines f.ends) (h.places.ends f.ends (omega arith)) in
+      let accepted : total w (f.ends + 1) ≡ total w f.ends = one_total w f.ends (ap (naming x) nothing) in
+      let taken : total u (f.ends + 1) ≡ total u f.ends = one_total u f.ends (ap (naming x) (nothing_removed f f.ends (h.waiting f.ends) nothing)) in
+      let place : flights (cond (eqb x e.0) (Some (With b)) ((f.end x).place)) ≡ flights ((f.end x).place) = made_place (eqb x e.0) b ((f.end x).place) (λ is. ap (λ (d : EndNow). d.place) (unmade_one f e x h.places first is)) in
+      let before : total w f.ends ≡ total u f.ends + flights ((f.end x).place) = h.places.flights x in
+      omega arith;
+}
+
+handed_none : (f : Facts) (e x : ℕ) (a : AgentId) (b : Bool) → eqb x e ≡ b → e < f.ends → f.ends ≤ x → f.end x ≡ no_end → (let y : EndNow = record (f.end x) { place = cond b (Some (Arrived a)) (f.end x).place } in y ≡ no_end)
+handed_none f e x a true is less past none = let same : x ≡ e = eqb-true x e is in absurd (omega arith)
+handed_none f e x a false is less past none = none
+
+handed_known : (b : Bool) (a c : AgentId) (n : ℕ) (p : Option Place) → a.0 < n → (p ≡ Some (Arrived c) → c.0 < n) → cond b (Some (Arrived a)) p ≡ Some (Arrived c) → c.0 < n
+handed_known true a c n p known old is = let same : a ≡ c = cc in subst (λ (d : AgentId). d.0 < n) same known
+handed_known false a c n p known old is = old is
+
+handed_places : (f : Facts) (refused : Bool) (e : EndId) (b : AgentId) → Sound f → Answers f (action.Hand e b) refused outcome.Handed → SoundPlaces (next f (action.Hand e b) outcome.Handed)
+handed_places f refused e b h fits =
+    let hands = handed_of f e b fits in
+    let made : e.0 < f.ends = queue_is_made f e.0 h.places hands.queue in
+    let there = runs_there f (f.end e.0).place (ap is_some hands.holds) in
+    record {
+      ends = λ x past. handed_none f e.0 x b (eqb x e.0) refl made past (h.places.ends x past);
+      agents = h.places.agents;
+      peers = h.places.peers;
+      with_made = λ x a is. h.places.with_made x a (gone_nowhere (eqb x e.0) (f.end x).place (Some (Arrived b)) (With a) is (λ same. search (rules, same)));
+      arrived_made = λ x a is. handed_known (eqb x e.0) b a f.agents (f.end x).place hands.known (h.places.arrived_made x a) is;
+      away = λ s away. may_next f refused h fits (handed e b) s away (h.places.away s away);
+      flying = λ x is. moved_flying (eqb x e.0) (Some (Arrived b)) (f.end x).place (f.end x).kind (λ same. search (rules, same)) (h.places.flying x) is;
+      gone = λ x. gone_moved (eqb x e.0) (f.end x).closed (Some (Arrived b)) (f.end x).place refl (λ is. h.places.gone x ∙ ap (λ y. is_gone (f.end y).place) (eqb-true x e.0 is) ∙ ap is_gone there.1) (h.places.gone x);
+      flights = λ x. h.places.flights x ∙ ap (λ n. total (λ d. naming x (f.taken d ++ f.discarded d)) f.ends + n) (sym (same_flights (eqb x e.0) (Some (Arrived b)) (f.end x).place refl (λ is. ap (λ y. flights (f.end y).place) (eqb-true x e.0 is) ∙ ap flights there.1)));
     }
 
 pub places_next : (f : Facts) {a : Action} (refused : Bool) {o : Outcome} → Sound f → Answers f a refused o → Change a o → SoundPlaces (next f a o)
 places_next f refused h fits (agent_made n) = agent_places f refused n h fits
 places_next f refused h fits (channel_made b e e') = channel_places f b refused e e' h fits
 places_next f refused h fits (let_in s) =
-    lines_alone f (next f (action.Enter s) outcome.In) h.places (λ t away. away_entered f t s Inside h.places (let_in_of f s fits).0.may (eqb t.end.0 s.end.0 && eqb t.line.0 s.line.0) refl away)
+    lines_alone f (next f (action.Enter s) outcome.In).line h.places (λ t away. away_entered f t s Inside h.places (let_in_of f s fits).0.may (eqb t.end.0 s.end.0 && eqb t.line.0 s.line.0) refl away)
 places_next f refused h fits (found_moved s) =
-    lines_alone f (next f (action.Enter s) outcome.Moved) h.places (λ t away. away_entered f t s Turned h.places (found_moved_of f s fits).0.may (eqb t.end.0 s.end.0 && eqb t.line.0 s.line.0) refl away)
+    lines_alone f (next f (action.Enter s) outcome.Moved).line h.places (λ t away. away_entered f t s Turned h.places (found_moved_of f s fits).0.may (eqb t.end.0 s.end.0 && eqb t.line.0 s.line.0) refl away)
 places_next f refused h fits (found_closed s) =
-    lines_alone f (next f (action.Enter s) outcome.Closed) h.places (λ t away. away_entered f t s Turned h.places (found_closed_of f s fits).0.may (eqb t.end.0 s.end.0 && eqb t.line.0 s.line.0) refl away)
+    lines_alone f (next f (action.Enter s) outcome.Closed).line h.places (λ t away. away_entered f t s Turned h.places (found_closed_of f s fits).0.may (eqb t.end.0 s.end.0 && eqb t.line.0 s.line.0) refl away)
 places_next f refused h fits (put s ports body n) = put_places f refused s ports body n h fits
 places_next f refused h fits (notice_put s n) = notice_places f refused s n h fits
 places_next f refused h fits (left s) =
-    lines_alone f (next f (action.Leave s) outcome.Left) h.places (λ t away. away_left f t (eqb t.end.0 s.end.0 && eqb t.line.0 s.line.0) h.places away)
-places_next f refused h fits (hopped s k) = lines_alone f (next f (action.Hop s) (outcome.Hopped k)) h.places h.places.away
+    lines_alone f (next f (action.Leave s) outcome.Left).line h.places (λ t away. away_left f t (eqb t.end.0 s.end.0 && eqb t.line.0 s.line.0) h.places away)
+places_next f refused h fits (hopped s k) = lines_alone f (next f (action.Hop s) (outcome.Hopped k)).line h.places h.places.away
 places_next f refused h fits (started e) = started_places f refused e h fits
 places_next f refused h fits (got e v) = got_places f refused e v h fits
 places_next f refused h fits (went_on e) = went_places f refused e h fits
@@ -455,3 +568,12 @@ places_next f refused h fits (cleared e k) = clear_alone f (next f (action.Look 
 places_next f refused h fits (adopted e a k) = adopted_places f refused e a k h fits
 places_next f refused h fits (end_closed e) = closed_places f refused e h fits
 places_next f refused h fits (end_swept e vs) = swept_places f refused e vs h fits
+places_next f refused h fits (client_made b e) =
+    let made = queue_made_of f is_client b refused e fits in
+    queue_places f b Client e h refl made.runs made.number (λ s away. may_next f refused h fits (client_made b e) s away (h.places.away s away))
+places_next f refused h fits (worker_made b e) =
+    let made = queue_made_of f is_worker b refused e fits in
+    queue_places f b Worker e h refl made.runs made.number (λ s away. may_next f refused h fits (worker_made b e) s away (h.places.away s away))
+places_next f refused h fits (line_got e a l) = lines_alone f (next f (action.Line e a) (outcome.Line l)).line h.places (λ s away. may_next f refused h fits (line_got e a l) s away (h.places.away s away))
+places_next f refused h fits (line_back t) = lines_alone f (next f (action.Back t) outcome.Done).line h.places (λ s away. may_next f refused h fits (line_back t) s away (h.places.away s away))
+places_next f refused h fits (handed e b) = handed_places f refused e b h fits

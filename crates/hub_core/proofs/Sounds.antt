@@ -16,7 +16,7 @@ use Rattle.hub_envelope.specs.declared.envelope.Envelope.{Envelope}
 
 pub sound_next : (f : Facts) (a : Action) (refused : Bool) (o : Outcome) → Sound f → Answers f a refused o → Sound (next f a o)
 sound_next f a refused o h fits = by_change Sound f a o h (λ change. record {
-  lines = λ x. lines_next f refused h.lines fits change x;
+  lines = λ x. lines_next f refused h.places.ends h.lines fits change x;
   waiting = λ x. waiting_next f refused h.lines h.waiting fits change x;
   places = places_next f refused h fits change;
 })
@@ -49,6 +49,7 @@ sound_first = record {
     with_made = λ x a is. cc;
     arrived_made = λ x a is. cc;
     away = λ s away. cc;
+    flying = λ x is. cc;
     gone = λ x. refl;
     flights = λ x. refl;
   };

@@ -1,6 +1,6 @@
 -- Who posts on a line, who may enter, and which ports are in flight.
-use Rattle.std.proofs.Common.{◌≡◌, ℕ, ◌+◌, ◌<◌, ◌≤◌, Bool, true, false, cond, eqb, List, [], ◌∷◌, ◌++◌, Option, Some, None, refl, sym, ap, subst, ◌∙◌, arith, rules, length, append_assoc, append-nil}
-use Rattle.std.specs.Prelude.{◌&&◌, ◌||◌, not, is_some, option_and_then, nat_le}
+use Rattle.std.proofs.Common.{◌≡◌, ℕ, ◌+◌, ◌<◌, ◌≤◌, Bool, true, false, cond, eqb, List, [], ◌∷◌, ◌++◌, Option, Some, None, refl, sym, ap, subst, ◌∙◌, arith, rules, length, append_assoc, append-nil, inl, inr}
+use Rattle.std.specs.Prelude.{◌⊎◌, ◌&&◌, ◌||◌, not, is_some, option_and_then, nat_le}
 use Rattle.std.specs.List.{AllByRecursion, list_all, filter}
 use Rattle.std.proofs.lemmas.Bool.{false≢true, ne_eqb, eqb-true, leb-true, leb-false}
 use Rattle.hub_envelope.specs.declared.ids.AgentId.{AgentId}
@@ -18,17 +18,22 @@ use Rattle.hub_core.specs.Facts.{EndNow, LineNow, Facts}
 use Rattle.hub_core.specs.Fits.{Answers}
 use Rattle.hub_core.specs.Place.{names, is_named}
 use Rattle.hub_core.specs.Sender.{by, Prefix}
-use Rattle.hub_core.specs.Posting.{running_at, holder, poster, phase_of_line, is_out, is_distinct, is_with, own_poster_out, is_at, may_travel, may_enter, hears_notice, is_here, may_leave_agent, own_line_plain}
+use Rattle.hub_core.specs.Posting.{running_at, holder, poster, phase_of_line, is_out, is_distinct, is_with, own_poster_out, is_at, may_travel, may_enter, hears_notice, is_here, may_leave_agent, own_line_plain, running, poster_of}
 use Rattle.hub_core.specs.Taking.{IsNext}
 use Rattle.hub_core.specs.Sound.{no_end, IsOfEnd, total, naming, flights, SoundPlaces, Sound}
 use Rattle.hub_core.proofs.Lists.{both_of, eqb_same}
 use Rattle.hub_core.proofs.Totals.{total_less, total_more, count, bit, count_more, count_lines, count_append}
-use Rattle.hub_core.proofs.Nexts.{next, Change, agent_made, channel_made, let_in, found_moved, found_closed, put, left, started, got, hopped, went_on, cleared, adopted, notice_put, end_closed, end_swept}
-use Rattle.hub_core.proofs.Fitting.{new_ends, Pushed, pushed_of, got_of, adopted_of, closed_of, SweptWith, swept_of}
+use Rattle.hub_core.proofs.Nexts.{next, Change, agent_made, channel_made, let_in, found_moved, found_closed, put, left, started, got, hopped, went_on, cleared, adopted, notice_put, end_closed, end_swept, client_made, worker_made, line_got, line_back, handed}
+use Rattle.hub_core.proofs.Fitting.{new_ends, Pushed, pushed_of, got_of, adopted_of, closed_of, SweptWith, swept_of, queue_made_of, handed_of, line_got_of, back_of}
 use Rattle.hub_core.proofs.SoundLines.{LinesAt}
 use Rattle.hub_core.proofs.SoundWaiting.{WaitingAt, got_prefix, nothing_more, all_removed}
-use Rattle.hub_core.specs.Made.{lines_of}
+use Rattle.hub_core.specs.Made.{lines_of, peer_of, is_queue}
 use Rattle.hub_core.specs.Looking.{IsAllWaiting}
+use Rattle.hub_core.specs.declared.kind.Kind.{Kind}
+use Rattle.hub_core.specs.Lines.{on_line}
+use Rattle.hub_core.specs.Moving.{is_released}
+use Rattle.hub_core.specs.declared.kind.Kind.TheVariants.{Port, Client, Worker}
+use Rattle.hub_core.specs.Making.{is_client, is_worker}
 
 -- ---- ends that were not made
 
@@ -42,15 +47,15 @@ made_of f x none known = elim (nat_le f.ends x) as (λ b. nat_le f.ends x ≡ b 
 pub placed_made : (f : Facts) (x : ℕ) (p : Place) → SoundPlaces f → (f.end x).place ≡ Some p → x < f.ends
 placed_made f x p s is = made_of f x s.ends (λ none. absurd (search (rules, sym (ap (λ (e : EndNow). e.place) none) ∙ is)))
 
-pub entangled_made : (f : Facts) (x y : ℕ) → SoundPlaces f → (f.end x).peer ≡ Some y → x < f.ends
-entangled_made f x y s is = made_of f x s.ends (λ none. absurd (search (rules, sym (ap (λ (e : EndNow). e.peer) none) ∙ is)))
+pub entangled_made : (f : Facts) (x y : ℕ) → SoundPlaces f → peer_of (f.end x).kind ≡ Some y → x < f.ends
+entangled_made f x y s is = made_of f x s.ends (λ none. absurd (search (rules, sym (ap (λ (e : EndNow). peer_of e.kind) none) ∙ is)))
 
 no_lines : (x : ℕ) (line : ℕ → LineNow) (vs : List Envelope) → AllByRecursion (IsOfEnd x 0 line) vs → vs ≡ []
 no_lines x line [] h = refl
 no_lines x line (v ∷ vs) h = absurd (let none : v.line.0 < 0 = h.0.has_line in omega arith)
 
 pub nothing_accepted : (f : Facts) (x : ℕ) → LinesAt f x → f.end x ≡ no_end → f.accepted x ≡ []
-nothing_accepted f x h none = no_lines x (f.line x) (f.accepted x) (subst (λ p. AllByRecursion (IsOfEnd x (lines_of p) (f.line x)) (f.accepted x)) (ap (λ (e : EndNow). e.peer) none) h.named)
+nothing_accepted f x h none = no_lines x (f.line x) (f.accepted x) (subst (λ p. AllByRecursion (IsOfEnd x (lines_of p) (f.line x)) (f.accepted x)) (ap (λ (e : EndNow). e.kind) none) h.named)
 
 no_prefix : (ts : List Envelope) → ((l : ℕ) → Prefix (by l ts) []) → ts ≡ []
 no_prefix [] h = refl
@@ -65,13 +70,20 @@ nothing_removed f x h none = no_prefix (f.taken x ++ f.discarded x) (λ l. subst
 
 -- ---- posters
 
--- what a poster that is there says: the line is line 0, and the agent has the peer and runs
+-- what the poster of a port's line says: the line is line 0, and the agent has the peer and runs
 pub record Speaks (f : Facts) (s : Sender) : Type 0 where
   pub line : s.line.0 ≡ 0
   pub peer : ℕ
-  pub entangled : (f.end s.end.0).peer ≡ Some peer
+  pub entangled : peer_of (f.end s.end.0).kind ≡ Some peer
   pub agent : AgentId
   pub has : (f.end peer).place ≡ Some (With agent)
+  pub runs : (f.agent agent.0).runs ≡ true
+
+-- what the poster of a queue's line says: the agent holds the line and runs
+pub record HoldsLine (f : Facts) (s : Sender) : Type 0 where
+  pub queue : is_queue (f.end s.end.0).kind ≡ true
+  pub agent : AgentId
+  pub held : (f.line s.end.0 s.line.0).held_by ≡ Some agent
   pub runs : (f.agent agent.0).runs ≡ true
 
 pub runs_there : (f : Facts) (p : Option Place) → is_some (running_at (λ a. (f.agent a).runs) p) ≡ true → (a : AgentId) × (p ≡ Some (With a)) × ((f.agent a.0).runs ≡ true)
@@ -82,19 +94,46 @@ runs_there f (Some Swept) h = absurd (false≢true h)
 runs_there f (Some Gone) h = absurd (false≢true h)
 runs_there f None h = absurd (false≢true h)
 
-speaks_by : (f : Facts) (s : Sender) (first : Bool) (p : Option ℕ) → eqb s.line.0 0 ≡ first → (f.end s.end.0).peer ≡ p → is_some (cond first (option_and_then (holder f) p) None) ≡ true → Speaks f s
-speaks_by f s false p line is h = absurd (false≢true h)
-speaks_by f s true None line is h = absurd (false≢true h)
-speaks_by f s true (Some q) line is h =
-    let there = runs_there f (f.end q).place h in
-    record { line = search (rules, line); peer = q; entangled = is; agent = there.0; has = there.1; runs = there.2 }
+runs_held : (f : Facts) (q : Option AgentId) → is_some (running f q) ≡ true → (a : AgentId) × (q ≡ Some a) × ((f.agent a.0).runs ≡ true)
+runs_held f None h = absurd (false≢true h)
+runs_held f (Some a) h = (a, refl, elim ((f.agent a.0).runs) as (λ b. is_some (cond b (Some a) None) ≡ true → b ≡ true) [ true ↦ λ _. refl | false ↦ λ no. absurd (false≢true no) ] h)
 
-pub speaks_of : (f : Facts) (s : Sender) → is_some (poster f s) ≡ true → Speaks f s
-speaks_of f s h = speaks_by f s (eqb s.line.0 0) ((f.end s.end.0).peer) refl refl h
+held_by_one : (f : Facts) (s : Sender) → is_queue (f.end s.end.0).kind ≡ true → is_some (running f (f.line s.end.0 s.line.0).held_by) ≡ true → HoldsLine f s
+held_by_one f s queue h = let r = runs_held f (f.line s.end.0 s.line.0).held_by h in record { queue = queue; agent = r.0; held = r.1; runs = r.2 }
+
+speaks_by : (f : Facts) (s : Sender) (p : Option Kind) → (f.end s.end.0).kind ≡ p → is_some (poster_of f s p) ≡ true → Speaks f s ⊎ HoldsLine f s
+speaks_by f s None is h = absurd (false≢true h)
+speaks_by f s (Some (Port q)) is h = elim (eqb s.line.0 0) as (λ b. eqb s.line.0 0 ≡ b → is_some (cond b (holder f q.0) None) ≡ true → Speaks f s ⊎ HoldsLine f s) [
+  | true ↦ λ line held.
+      let there = runs_there f (f.end q.0).place held in
+      inl (record { line = eqb-true s.line.0 0 line; peer = q.0; entangled = ap peer_of is; agent = there.0; has = there.1; runs = there.2 })
+  | false ↦ λ line none. absurd (false≢true none)
+] refl h
+speaks_by f s (Some Client) is h = inr (held_by_one f s (ap is_queue is) h)
+speaks_by f s (Some Worker) is h = inr (held_by_one f s (ap is_queue is) h)
+
+pub speaks_of : (f : Facts) (s : Sender) → is_some (poster f s) ≡ true → Speaks f s ⊎ HoldsLine f s
+speaks_of f s h = speaks_by f s (f.end s.end.0).kind refl h
+
+-- a port is entangled
+pub port_of : (p : Option Kind) (q : ℕ) → peer_of p ≡ Some q → p ≡ Some (Port (record { 0 = q }))
+port_of (Some (Port r)) q h = let same : r.0 ≡ q = cc in ap (λ n. Some (Port (record { 0 = n }))) same
+port_of (Some Client) q h = absurd (search (rules, h))
+port_of (Some Worker) q h = absurd (search (rules, h))
+port_of None q h = absurd (search (rules, h))
 
 -- the poster, by what it is read off
-poster_as : (g : Facts) (s : Sender) (q : ℕ) (a : AgentId) → s.line.0 ≡ 0 → (g.end s.end.0).peer ≡ Some q → (g.end q).place ≡ Some (With a) → (g.agent a.0).runs ≡ true → poster g s ≡ Some a
-poster_as g s q a line peer place runs = rw (line, peer, place, runs) refl
+poster_as : (g : Facts) (s : Sender) (q : ℕ) (a : AgentId) → s.line.0 ≡ 0 → peer_of (g.end s.end.0).kind ≡ Some q → (g.end q).place ≡ Some (With a) → (g.agent a.0).runs ≡ true → poster g s ≡ Some a
+poster_as g s q a line peer place runs = let port = port_of (g.end s.end.0).kind q peer in rw (line, port, place, runs) refl
+
+queue_poster : (g : Facts) (s : Sender) (p : Option Kind) → is_queue p ≡ true → poster_of g s p ≡ running g (g.line s.end.0 s.line.0).held_by
+queue_poster g s (Some (Port q)) h = absurd (false≢true h)
+queue_poster g s (Some Client) h = refl
+queue_poster g s (Some Worker) h = refl
+queue_poster g s None h = absurd (false≢true h)
+
+pub holds_as : (g : Facts) (s : Sender) (k : HoldsLine g s) → poster g s ≡ Some k.agent
+holds_as g s k = queue_poster g s (g.end s.end.0).kind k.queue ∙ ap (running g) k.held ∙ ap (λ b. cond b (Some k.agent) None) k.runs
 
 pub poster_is : (f : Facts) (s : Sender) (k : Speaks f s) → poster f s ≡ Some k.agent
 poster_is f s k = poster_as f s k.peer k.agent k.line k.entangled k.has k.runs
@@ -110,17 +149,17 @@ with_agent a (Some Gone) h = absurd (false≢true h)
 with_agent a None h = absurd (false≢true h)
 
 -- a port of a good list has its own line out and is with the agent
-pub travels : (f : Facts) (a : AgentId) (s : Sender) (x : ℕ) (ports : List EndId) → list_all (may_travel f a s) ports ≡ true → names ports x ≡ true → ((f.end x).place ≡ Some (With a)) × (own_poster_out f ((f.end x).peer) ≡ true)
+pub travels : (f : Facts) (a : AgentId) (s : Sender) (x : ℕ) (ports : List EndId) → list_all (may_travel f a s) ports ≡ true → names ports x ≡ true → ((f.end x).place ≡ Some (With a)) × (own_poster_out f (peer_of (f.end x).kind) ≡ true)
 travels f a s x [] all named = absurd (false≢true named)
-travels f a s x (p ∷ ps) all named = elim (eqb p.0 x) as (λ b. eqb p.0 x ≡ b → (b || names ps x) ≡ true → ((f.end x).place ≡ Some (With a)) × (own_poster_out f ((f.end x).peer) ≡ true)) [
+travels f a s x (p ∷ ps) all named = elim (eqb p.0 x) as (λ b. eqb p.0 x ≡ b → (b || names ps x) ≡ true → ((f.end x).place ≡ Some (With a)) × (own_poster_out f (peer_of (f.end x).kind) ≡ true)) [
   | true ↦ λ t _.
       let same : p.0 ≡ x = search (rules, t) in
       let tests = both_of (may_travel f a s p) (list_all (may_travel f a s) ps) all in
       let leaves = both_of (may_leave_agent f a s p) (not (eqb p.0 s.end.0)) tests.0 in
-      let first = both_of (is_with a (f.end p.0).place && own_poster_out f (f.end p.0).peer && own_line_plain f (f.end p.0).peer) (not (is_at p.0 (f.end s.end.0).peer)) leaves.0 in
-      let second = both_of (is_with a (f.end p.0).place && own_poster_out f (f.end p.0).peer) (own_line_plain f (f.end p.0).peer) first.0 in
-      let third = both_of (is_with a (f.end p.0).place) (own_poster_out f (f.end p.0).peer) second.0 in
-      subst (λ y. ((f.end y).place ≡ Some (With a)) × (own_poster_out f ((f.end y).peer) ≡ true)) same (with_agent a (f.end p.0).place third.0, third.1)
+      let first = both_of (is_with a (f.end p.0).place && own_poster_out f (peer_of (f.end p.0).kind) && own_line_plain f (peer_of (f.end p.0).kind)) (not (is_at p.0 (peer_of (f.end s.end.0).kind))) leaves.0 in
+      let second = both_of (is_with a (f.end p.0).place && own_poster_out f (peer_of (f.end p.0).kind)) (own_line_plain f (peer_of (f.end p.0).kind)) first.0 in
+      let third = both_of (is_with a (f.end p.0).place) (own_poster_out f (peer_of (f.end p.0).kind)) second.0 in
+      subst (λ y. ((f.end y).place ≡ Some (With a)) × (own_poster_out f (peer_of (f.end y).kind) ≡ true)) same (with_agent a (f.end p.0).place third.0, third.1)
   | false ↦ λ t later. travels f a s x ps (both_of (may_travel f a s p) (list_all (may_travel f a s) ps) all).1 later
 ] refl named
 
@@ -209,7 +248,14 @@ swept_flies f e vs x s w named =
 
 -- ---- whoever is away keeps the line
 
-own_out : (f : Facts) (s : Sender) (q : ℕ) → s.line.0 ≡ 0 → own_poster_out f ((f.end q).peer) ≡ true → (f.end q).peer ≡ Some s.end.0 → is_out (phase_of_line f s) ≡ true
+-- the own poster of a port that may be closed is out
+released_out : (f : Facts) (p : Option Kind) (x : ℕ) → is_released f p ≡ true → peer_of p ≡ Some x → own_poster_out f (peer_of p) ≡ true
+released_out f (Some (Port q)) x h is = h
+released_out f (Some Client) x h is = absurd (search (rules, is))
+released_out f (Some Worker) x h is = absurd (search (rules, is))
+released_out f None x h is = absurd (search (rules, is))
+
+own_out : (f : Facts) (s : Sender) (q : ℕ) → s.line.0 ≡ 0 → own_poster_out f (peer_of (f.end q).kind) ≡ true → peer_of (f.end q).kind ≡ Some s.end.0 → is_out (phase_of_line f s) ≡ true
 own_out f s q line out peer =
     let first : is_out ((f.line s.end.0 0).phase) ≡ true = subst (λ p. own_poster_out f p ≡ true) peer out in
     subst (λ l. is_out ((f.line s.end.0 l).phase) ≡ true) (sym line) first
@@ -241,86 +287,208 @@ unmoved : (named : Bool) (p q r : Option Place) → (named ≡ true → ⊥) →
 unmoved true p q r never h = absurd (never refl)
 unmoved false p q r never h = h
 
--- the poster of a line that is away is the same after every pair that fits
-pub speaker_next : (f : Facts) {a : Action} (refused : Bool) {o : Outcome} → Sound f → Answers f a refused o → Change a o → (s : Sender) → is_out (phase_of_line f s) ≡ false → is_some (poster f s) ≡ true → poster (next f a o) s ≡ poster f s
-speaker_next f refused h fits (agent_made n) s away speaks =
-    let k = speaks_of f s speaks in
+-- an agent that runs was made
+pub running_made : (f : Facts) (a : AgentId) → SoundPlaces f → (f.agent a.0).runs ≡ true → a.0 < f.agents
+running_made f a h runs = elim (nat_le f.agents a.0) as (λ c. nat_le f.agents a.0 ≡ c → a.0 < f.agents) [
+  | true ↦ λ past. absurd (false≢true (sym (h.agents a.0 (leb-true f.agents a.0 past)) ∙ runs))
+  | false ↦ λ under. leb-false f.agents a.0 under
+] refl
+
+-- the number of a new end is not that of an end that was made
+pub old_one : (f : Facts) (e : EndId) (x : ℕ) → e ≡ record { 0 = f.ends } → x < f.ends → eqb x e.0 ≡ false
+old_one f e x first less = ap (λ (d : EndId). eqb x d.0) first ∙ ne_eqb x f.ends (λ is. omega arith)
+
+-- a queue was made
+pub queue_is_made : (f : Facts) (x : ℕ) → SoundPlaces f → is_queue (f.end x).kind ≡ true → x < f.ends
+queue_is_made f x s is = made_of f x s.ends (λ none. false≢true (sym (ap (λ (e : EndNow). is_queue e.kind) none) ∙ is))
+
+-- a queue is no port
+pub no_port : (p : Option Kind) (q : ℕ) → is_queue p ≡ true → peer_of p ≡ Some q → ⊥
+no_port (Some (Port r)) q h is = false≢true h
+no_port (Some Client) q h is = absurd (search (rules, is))
+no_port (Some Worker) q h is = absurd (search (rules, is))
+no_port None q h is = false≢true h
+
+-- two senders with the same numbers are one
+pub same_sender : (s t : Sender) → s.end.0 ≡ t.end.0 → s.line.0 ≡ t.line.0 → s ≡ t
+same_sender s t end line = λ i. record { end = record { 0 = end i }; line = record { 0 = line i } }
+
+-- a line that another one isn't stays held
+still_held : (f : Facts) (s t : Sender) (holder : Option AgentId) (a : AgentId) → (f.line s.end.0 s.line.0).held_by ≡ Some a → (s ≡ t → ⊥) → on_line s.end.0 s.line.0 t holder (f.line s.end.0 s.line.0).held_by ≡ Some a
+still_held f s t holder a held other = elim (eqb s.end.0 t.end.0 && eqb s.line.0 t.line.0) as (λ b. (eqb s.end.0 t.end.0 && eqb s.line.0 t.line.0) ≡ b → cond b holder (f.line s.end.0 s.line.0).held_by ≡ Some a) [
+  | true ↦ λ is. let both = both_of (eqb s.end.0 t.end.0) (eqb s.line.0 t.line.0) is in absurd (other (same_sender s t (eqb-true s.end.0 t.end.0 both.0) (eqb-true s.line.0 t.line.0 both.1)))
+  | false ↦ λ is. held
+] refl
+
+-- the poster of a port's line that is away is the same after every pair that fits
+port_speaker_next : (f : Facts) {a : Action} (refused : Bool) {o : Outcome} → Sound f → Answers f a refused o → Change a o → (s : Sender) → is_out (phase_of_line f s) ≡ false → Speaks f s → poster (next f a o) s ≡ poster f s
+port_speaker_next f refused h fits (agent_made n) s away k =
     poster_as (next f action.Agent (outcome.Agent n)) s k.peer k.agent k.line k.entangled k.has (still_runs (eqb k.agent.0 n.0) (f.agent k.agent.0).runs k.runs) ∙ sym (poster_is f s k)
-speaker_next f refused h fits (channel_made b e e') s away speaks =
-    let k = speaks_of f s speaks in
+port_speaker_next f refused h fits (channel_made b e e') s away k =
     let made = new_ends f b refused e e' fits in
     let target = old_end f e e' s.end.0 made.1 made.2 (entangled_made f s.end.0 k.peer h.places k.entangled) in
     let source = old_end f e e' k.peer made.1 made.2 (placed_made f k.peer (With k.agent) h.places k.has) in
     poster_as (next f (action.Channel b) (outcome.Ends e e')) s k.peer k.agent k.line (rw (target.0, target.1) k.entangled) (rw (source.0, source.1) k.has) k.runs ∙ sym (poster_is f s k)
-speaker_next f refused h fits (let_in t) s away speaks = refl
-speaker_next f refused h fits (found_moved t) s away speaks = refl
-speaker_next f refused h fits (found_closed t) s away speaks = refl
-speaker_next f refused h fits (put t ports body n) s away speaks =
-    let k = speaks_of f s speaks in
+port_speaker_next f refused h fits (client_made b e) s away k =
+    let made = queue_made_of f is_client b refused e fits in
+    let target = old_one f e s.end.0 made.number (entangled_made f s.end.0 k.peer h.places k.entangled) in
+    let source = old_one f e k.peer made.number (placed_made f k.peer (With k.agent) h.places k.has) in
+    poster_as (next f (action.Client b) (outcome.End e)) s k.peer k.agent k.line (rw target k.entangled) (rw source k.has) k.runs ∙ sym (poster_is f s k)
+port_speaker_next f refused h fits (worker_made b e) s away k =
+    let made = queue_made_of f is_worker b refused e fits in
+    let target = old_one f e s.end.0 made.number (entangled_made f s.end.0 k.peer h.places k.entangled) in
+    let source = old_one f e k.peer made.number (placed_made f k.peer (With k.agent) h.places k.has) in
+    poster_as (next f (action.Worker b) (outcome.End e)) s k.peer k.agent k.line (rw target k.entangled) (rw source k.has) k.runs ∙ sym (poster_is f s k)
+port_speaker_next f refused h fits (line_got e a l) s away k = poster_as (next f (action.Line e a) (outcome.Line l)) s k.peer k.agent k.line k.entangled k.has k.runs ∙ sym (poster_is f s k)
+port_speaker_next f refused h fits (line_back t) s away k = poster_as (next f (action.Back t) outcome.Done) s k.peer k.agent k.line k.entangled k.has k.runs ∙ sym (poster_is f s k)
+port_speaker_next f refused h fits (handed e b) s away k =
+    let hands = handed_of f e b fits in
+    let stays : eqb k.peer e.0 ≡ true → ⊥ = λ same.
+    let back : peer_of (f.end k.peer).kind ≡ Some s.end.0 = (h.places.peers s.end.0 k.peer k.entangled).1 in
+    no_port (f.end k.peer).kind s.end.0 (ap (λ y. is_queue (f.end y).kind) (eqb-true k.peer e.0 same) ∙ hands.queue) back
+    in
+    poster_as (next f (action.Hand e b) outcome.Handed) s k.peer k.agent k.line k.entangled (unmoved (eqb k.peer e.0) _ _ _ stays k.has) k.runs ∙ sym (poster_is f s k)
+port_speaker_next f refused h fits (let_in t) s away k = refl
+port_speaker_next f refused h fits (found_moved t) s away k = refl
+port_speaker_next f refused h fits (found_closed t) s away k = refl
+port_speaker_next f refused h fits (put t ports body n) s away k =
     let p = pushed_of f t ports.items refused n fits in
     let stays : names ports.items k.peer ≡ true → ⊥ = λ named.
     let out = own_out f s k.peer k.line (travels f p.agent t k.peer ports.items (all_good f t ports.items n p) named).1 (h.places.peers s.end.0 k.peer k.entangled).1 in
     false≢true (sym away ∙ out)
     in
     poster_as (next f (action.Push t ports body) (outcome.Accepted n)) s k.peer k.agent k.line k.entangled (unmoved (names ports.items k.peer) _ _ _ stays k.has) k.runs ∙ sym (poster_is f s k)
-speaker_next f refused h fits (notice_put t n) s away speaks = refl
-speaker_next f refused h fits (left t) s away speaks = refl
-speaker_next f refused h fits (hopped t k) s away speaks = refl
-speaker_next f refused h fits (started e) s away speaks = refl
-speaker_next f refused h fits (went_on e) s away speaks = refl
-speaker_next f refused h fits (cleared e k) s away speaks = refl
-speaker_next f refused h fits (adopted e a n) s away speaks =
-    let k = speaks_of f s speaks in
+port_speaker_next f refused h fits (notice_put t n) s away k = refl
+port_speaker_next f refused h fits (left t) s away k = refl
+port_speaker_next f refused h fits (hopped t n) s away k = refl
+port_speaker_next f refused h fits (started e) s away k = refl
+port_speaker_next f refused h fits (went_on e) s away k = refl
+port_speaker_next f refused h fits (cleared e n) s away k = refl
+port_speaker_next f refused h fits (adopted e a n) s away k =
     let adopts = adopted_of f e a refused n fits in
     let stays : eqb k.peer e.0 ≡ true → ⊥ = λ same.
     let here : (f.end k.peer).place ≡ Some (Arrived a) = ap (λ y. (f.end y).place) (eqb-true k.peer e.0 same) ∙ adopts.arrived in
     absurd (search (rules, sym k.has ∙ here))
     in
     poster_as (next f (action.Adopt e a) (outcome.Adopted n)) s k.peer k.agent k.line k.entangled (unmoved (eqb k.peer e.0) _ _ _ stays k.has) k.runs ∙ sym (poster_is f s k)
-speaker_next f refused h fits (got e v) s away speaks =
-    let k = speaks_of f s speaks in
+port_speaker_next f refused h fits (got e v) s away k =
     let served = got_of f e v fits in
     let stays : names v.ports k.peer ≡ true → ⊥ = λ named.
     other_place ((f.end k.peer).place) (Some InFlight) k.agent k.has (taken_flies f e v k.peer h served.serves served.is_open (holder_made f e.0 h.places served.held) named)
     in
     poster_as (next f (action.Take e) (outcome.Got v)) s k.peer k.agent k.line k.entangled (unmoved (names v.ports k.peer) _ _ _ stays k.has) k.runs ∙ sym (poster_is f s k)
-speaker_next f refused h fits (end_closed e) s away speaks =
-    let k = speaks_of f s speaks in
+port_speaker_next f refused h fits (end_closed e) s away k =
     let closes = closed_of f e fits in
     let stays : eqb k.peer e.0 ≡ true → ⊥ = λ same.
-    let own : own_poster_out f (f.end k.peer).peer ≡ true = ap (λ y. own_poster_out f (f.end y).peer) (eqb-true k.peer e.0 same) ∙ closes.own_out in
+    let back : peer_of (f.end k.peer).kind ≡ Some s.end.0 = (h.places.peers s.end.0 k.peer k.entangled).1 in
+    let free : is_released f (f.end k.peer).kind ≡ true = ap (λ y. is_released f (f.end y).kind) (eqb-true k.peer e.0 same) ∙ closes.released in
+    let own : own_poster_out f (peer_of (f.end k.peer).kind) ≡ true = released_out f (f.end k.peer).kind s.end.0 free back in
     false≢true (sym away ∙ own_out f s k.peer k.line own (h.places.peers s.end.0 k.peer k.entangled).1)
     in
     poster_as (next f (action.Close e) outcome.Done) s k.peer k.agent k.line k.entangled (unmoved (eqb k.peer e.0) _ _ _ stays k.has) k.runs ∙ sym (poster_is f s k)
-speaker_next f refused h fits (end_swept e vs) s away speaks =
-    let k = speaks_of f s speaks in
+port_speaker_next f refused h fits (end_swept e vs) s away k =
     let stays : is_named vs k.peer ≡ true → ⊥ = λ named. other_place ((f.end k.peer).place) (Some InFlight) k.agent k.has (swept_flies f e vs k.peer h (swept_of f e vs fits) named) in
     poster_as (next f (action.Sweep e) (outcome.Discarded vs)) s k.peer k.agent k.line k.entangled (unmoved (is_named vs k.peer) _ _ _ stays k.has) k.runs ∙ sym (poster_is f s k)
 
+-- an agent that holds a queue's line that is away holds it after every pair that fits
+held_next : (f : Facts) {a : Action} (refused : Bool) {o : Outcome} → Sound f → Answers f a refused o → Change a o → (s : Sender) → is_out (phase_of_line f s) ≡ false → (k : HoldsLine f s) → HoldsLine (next f a o) s
+held_next f refused h fits (agent_made n) s away k = record { queue = k.queue; agent = k.agent; held = k.held; runs = still_runs (eqb k.agent.0 n.0) (f.agent k.agent.0).runs k.runs }
+held_next f refused h fits (channel_made b e e') s away k =
+    let made = new_ends f b refused e e' fits in
+    let target = old_end f e e' s.end.0 made.1 made.2 (queue_is_made f s.end.0 h.places k.queue) in
+    record { queue = rw (target.0, target.1) k.queue; agent = k.agent; held = k.held; runs = k.runs }
+held_next f refused h fits (client_made b e) s away k =
+    let made = queue_made_of f is_client b refused e fits in
+    let target = old_one f e s.end.0 made.number (queue_is_made f s.end.0 h.places k.queue) in
+    record { queue = rw target k.queue; agent = k.agent; held = k.held; runs = k.runs }
+held_next f refused h fits (worker_made b e) s away k =
+    let made = queue_made_of f is_worker b refused e fits in
+    let target = old_one f e s.end.0 made.number (queue_is_made f s.end.0 h.places k.queue) in
+    record { queue = rw target k.queue; agent = k.agent; held = k.held; runs = k.runs }
+held_next f refused h fits (line_got e a l) s away k =
+    let gets = line_got_of f e a l fits in
+    record { queue = k.queue; agent = k.agent; held = still_held f s (record { end = e; line = l }) (Some a) k.agent k.held (λ same. absurd (search (rules, sym k.held ∙ (ap (λ (t : Sender). (f.line t.end.0 t.line.0).held_by) same ∙ gets.free)))); runs = k.runs }
+held_next f refused h fits (line_back t) s away k =
+    let back = back_of f t fits in
+    record { queue = k.queue; agent = k.agent; held = still_held f s t None k.agent k.held (λ same. absurd (false≢true (sym away ∙ (ap (λ (u : Sender). is_out (phase_of_line f u)) same ∙ back.1)))); runs = k.runs }
+held_next f refused h fits (handed e b) s away k = record { queue = k.queue; agent = k.agent; held = k.held; runs = k.runs }
+held_next f refused h fits (let_in t) s away k = record { queue = k.queue; agent = k.agent; held = k.held; runs = k.runs }
+held_next f refused h fits (found_moved t) s away k = record { queue = k.queue; agent = k.agent; held = k.held; runs = k.runs }
+held_next f refused h fits (found_closed t) s away k = record { queue = k.queue; agent = k.agent; held = k.held; runs = k.runs }
+held_next f refused h fits (put t ports body n) s away k = record { queue = k.queue; agent = k.agent; held = k.held; runs = k.runs }
+held_next f refused h fits (notice_put t n) s away k = record { queue = k.queue; agent = k.agent; held = k.held; runs = k.runs }
+held_next f refused h fits (left t) s away k = record { queue = k.queue; agent = k.agent; held = k.held; runs = k.runs }
+held_next f refused h fits (hopped t k2) s away k = record { queue = k.queue; agent = k.agent; held = k.held; runs = k.runs }
+held_next f refused h fits (started e) s away k = record { queue = k.queue; agent = k.agent; held = k.held; runs = k.runs }
+held_next f refused h fits (got e v) s away k = record { queue = k.queue; agent = k.agent; held = k.held; runs = k.runs }
+held_next f refused h fits (went_on e) s away k = record { queue = k.queue; agent = k.agent; held = k.held; runs = k.runs }
+held_next f refused h fits (cleared e k2) s away k = record { queue = k.queue; agent = k.agent; held = k.held; runs = k.runs }
+held_next f refused h fits (adopted e a n) s away k = record { queue = k.queue; agent = k.agent; held = k.held; runs = k.runs }
+held_next f refused h fits (end_closed e) s away k = record { queue = k.queue; agent = k.agent; held = k.held; runs = k.runs }
+held_next f refused h fits (end_swept e vs) s away k = record { queue = k.queue; agent = k.agent; held = k.held; runs = k.runs }
+
+-- the agent that holds it is the same one
+held_same : (f : Facts) {a : Action} (refused : Bool) {o : Outcome} (h : Sound f) (fits : Answers f a refused o) (c : Change a o) (s : Sender) (away : is_out (phase_of_line f s) ≡ false) (k : HoldsLine f s) → (held_next f refused h fits c s away k).agent ≡ k.agent
+unfolding held_next
+held_same f refused h fits (agent_made n) s away k = refl
+held_same f refused h fits (channel_made b e e') s away k = refl
+held_same f refused h fits (client_made b e) s away k = refl
+held_same f refused h fits (worker_made b e) s away k = refl
+held_same f refused h fits (line_got e a l) s away k = refl
+held_same f refused h fits (line_back t) s away k = refl
+held_same f refused h fits (handed e b) s away k = refl
+held_same f refused h fits (let_in t) s away k = refl
+held_same f refused h fits (found_moved t) s away k = refl
+held_same f refused h fits (found_closed t) s away k = refl
+held_same f refused h fits (put t ports body n) s away k = refl
+held_same f refused h fits (notice_put t n) s away k = refl
+held_same f refused h fits (left t) s away k = refl
+held_same f refused h fits (hopped t k2) s away k = refl
+held_same f refused h fits (started e) s away k = refl
+held_same f refused h fits (got e v) s away k = refl
+held_same f refused h fits (went_on e) s away k = refl
+held_same f refused h fits (cleared e k2) s away k = refl
+held_same f refused h fits (adopted e a n) s away k = refl
+held_same f refused h fits (end_closed e) s away k = refl
+held_same f refused h fits (end_swept e vs) s away k = refl
+
+-- the poster of a line that is away is the same after every pair that fits
+pub speaker_next : (f : Facts) {a : Action} (refused : Bool) {o : Outcome} → Sound f → Answers f a refused o → Change a o → (s : Sender) → is_out (phase_of_line f s) ≡ false → is_some (poster f s) ≡ true → poster (next f a o) s ≡ poster f s
+speaker_next f {a = a} refused {o = o} h fits c s away speaks = elim (speaks_of f s speaks) [
+  | inl k ↦ port_speaker_next f refused h fits c s away k
+  | inr k ↦ holds_as (next f a o) s (held_next f refused h fits c s away k) ∙ (ap Some (held_same f refused h fits c s away k) ∙ sym (holds_as f s k))
+]
+
 -- ---- whoever is away may enter
 
--- what a poster that may enter says: the line is line 0, and the port at the other side has a place where it can be closed
+-- what the poster of a port's line that may enter says: the line is line 0, and the port at the other side has a place where it can be closed
 pub record Hears (f : Facts) (s : Sender) : Type 0 where
   pub line : s.line.0 ≡ 0
   pub peer : ℕ
-  pub entangled : (f.end s.end.0).peer ≡ Some peer
+  pub entangled : peer_of (f.end s.end.0).kind ≡ Some peer
   pub here : is_here (f.end peer).place ≡ true
 
-heard_by : (f : Facts) (s : Sender) (p : Option ℕ) → (f.end s.end.0).peer ≡ p → (eqb s.line.0 0 && is_here (option_and_then (λ q. (f.end q).place) p)) ≡ true → Hears f s
+heard_by : (f : Facts) (s : Sender) (p : Option ℕ) → peer_of (f.end s.end.0).kind ≡ p → (eqb s.line.0 0 && is_here (option_and_then (λ q. (f.end q).place) p)) ≡ true → Hears f s
 heard_by f s None is h = absurd (false≢true (both_of (eqb s.line.0 0) false h).1)
 heard_by f s (Some q) is h = let both = both_of (eqb s.line.0 0) (is_here (f.end q).place) h in record { line = eqb-true s.line.0 0 both.0; peer = q; entangled = is; here = both.1 }
 
-pub hears_of : (f : Facts) (s : Sender) → may_enter f s ≡ true → Hears f s
-hears_of f s h = elim (is_some (poster f s)) as (λ b. is_some (poster f s) ≡ b → (b || hears_notice f s) ≡ true → Hears f s) [
-  | true ↦ λ speaks _. let k = speaks_of f s speaks in record { line = k.line; peer = k.peer; entangled = k.entangled; here = ap is_here k.has }
-  | false ↦ λ _ hears. heard_by f s ((f.end s.end.0).peer) refl hears
+pub heard_of : (f : Facts) (s : Sender) → hears_notice f s ≡ true → Hears f s
+heard_of f s h = heard_by f s (peer_of (f.end s.end.0).kind) refl h
+
+pub hears_of : (f : Facts) (s : Sender) → may_enter f s ≡ true → Hears f s ⊎ HoldsLine f s
+hears_of f s h = elim (is_some (poster f s)) as (λ b. is_some (poster f s) ≡ b → (b || hears_notice f s) ≡ true → Hears f s ⊎ HoldsLine f s) [
+  | true ↦ λ speaks _. elim (speaks_of f s speaks) [
+    | inl k ↦ inl (record { line = k.line; peer = k.peer; entangled = k.entangled; here = ap is_here k.has })
+    | inr k ↦ inr k
+  ]
+  | false ↦ λ _ hears. inl (heard_of f s hears)
 ] refl h
 
 pub or_true : (b c : Bool) → c ≡ true → (b || c) ≡ true
 or_true true c is = refl
 or_true false c is = is
 
-pub may_as : (g : Facts) (s : Sender) (q : ℕ) → s.line.0 ≡ 0 → (g.end s.end.0).peer ≡ Some q → is_here (g.end q).place ≡ true → may_enter g s ≡ true
+pub may_as : (g : Facts) (s : Sender) (q : ℕ) → s.line.0 ≡ 0 → peer_of (g.end s.end.0).kind ≡ Some q → is_here (g.end q).place ≡ true → may_enter g s ≡ true
 may_as g s q line peer here = or_true (is_some (poster g s)) (hears_notice g s) (rw (line, peer, here) refl)
 
 still_here : (b : Bool) (p q : Option Place) → (b ≡ true → is_here p ≡ true) → is_here q ≡ true → is_here (cond b p q) ≡ true
@@ -330,46 +498,66 @@ still_here false p q new old = old
 not_here : (p : Option Place) → p ≡ Some InFlight → is_here p ≡ true → ⊥
 not_here p is h = false≢true (sym (ap is_here is) ∙ h)
 
-pub may_next : (f : Facts) {a : Action} (refused : Bool) {o : Outcome} → Sound f → Answers f a refused o → Change a o → (s : Sender) → is_out (phase_of_line f s) ≡ false → may_enter f s ≡ true → may_enter (next f a o) s ≡ true
-may_next f refused h fits (agent_made n) s away may = let k = hears_of f s may in may_as (next f action.Agent (outcome.Agent n)) s k.peer k.line k.entangled k.here
-may_next f refused h fits (channel_made b e e') s away may =
-    let k = hears_of f s may in
+-- a port's line that is away may be entered after every pair that fits
+port_may_next : (f : Facts) {a : Action} (refused : Bool) {o : Outcome} → Sound f → Answers f a refused o → Change a o → (s : Sender) → is_out (phase_of_line f s) ≡ false → Hears f s → may_enter (next f a o) s ≡ true
+port_may_next f refused h fits (agent_made n) s away k = may_as (next f action.Agent (outcome.Agent n)) s k.peer k.line k.entangled k.here
+port_may_next f refused h fits (channel_made b e e') s away k =
     let made = new_ends f b refused e e' fits in
     let target = old_end f e e' s.end.0 made.1 made.2 (entangled_made f s.end.0 k.peer h.places k.entangled) in
     let source = old_end f e e' k.peer made.1 made.2 (h.places.peers s.end.0 k.peer k.entangled).0 in
     may_as (next f (action.Channel b) (outcome.Ends e e')) s k.peer k.line (rw (target.0, target.1) k.entangled) (rw (source.0, source.1) k.here)
-may_next f refused h fits (let_in t) s away may = may
-may_next f refused h fits (found_moved t) s away may = may
-may_next f refused h fits (found_closed t) s away may = may
-may_next f refused h fits (put t ports body n) s away may =
-    let k = hears_of f s may in
+port_may_next f refused h fits (client_made b e) s away k =
+    let made = queue_made_of f is_client b refused e fits in
+    let target = old_one f e s.end.0 made.number (entangled_made f s.end.0 k.peer h.places k.entangled) in
+    let source = old_one f e k.peer made.number (h.places.peers s.end.0 k.peer k.entangled).0 in
+    may_as (next f (action.Client b) (outcome.End e)) s k.peer k.line (rw target k.entangled) (rw source k.here)
+port_may_next f refused h fits (worker_made b e) s away k =
+    let made = queue_made_of f is_worker b refused e fits in
+    let target = old_one f e s.end.0 made.number (entangled_made f s.end.0 k.peer h.places k.entangled) in
+    let source = old_one f e k.peer made.number (h.places.peers s.end.0 k.peer k.entangled).0 in
+    may_as (next f (action.Worker b) (outcome.End e)) s k.peer k.line (rw target k.entangled) (rw source k.here)
+port_may_next f refused h fits (line_got e a l) s away k = may_as (next f (action.Line e a) (outcome.Line l)) s k.peer k.line k.entangled k.here
+port_may_next f refused h fits (line_back t) s away k = may_as (next f (action.Back t) outcome.Done) s k.peer k.line k.entangled k.here
+port_may_next f refused h fits (handed e b) s away k = may_as (next f (action.Hand e b) outcome.Handed) s k.peer k.line k.entangled (still_here (eqb k.peer e.0) _ _ (λ _. refl) k.here)
+port_may_next f refused h fits (let_in t) s away k = may_as f s k.peer k.line k.entangled k.here
+port_may_next f refused h fits (found_moved t) s away k = may_as f s k.peer k.line k.entangled k.here
+port_may_next f refused h fits (found_closed t) s away k = may_as f s k.peer k.line k.entangled k.here
+port_may_next f refused h fits (put t ports body n) s away k =
     let p = pushed_of f t ports.items refused n fits in
     let stays : names ports.items k.peer ≡ true → ⊥ = λ named.
     let out = own_out f s k.peer k.line (travels f p.agent t k.peer ports.items (all_good f t ports.items n p) named).1 (h.places.peers s.end.0 k.peer k.entangled).1 in
     false≢true (sym away ∙ out)
     in
     may_as (next f (action.Push t ports body) (outcome.Accepted n)) s k.peer k.line k.entangled (still_here (names ports.items k.peer) _ _ (λ named. absurd (stays named)) k.here)
-may_next f refused h fits (notice_put t n) s away may = may
-may_next f refused h fits (left t) s away may = may
-may_next f refused h fits (hopped t k) s away may = may
-may_next f refused h fits (started e) s away may = may
-may_next f refused h fits (got e v) s away may =
-    let k = hears_of f s may in
+port_may_next f refused h fits (notice_put t n) s away k = may_as f s k.peer k.line k.entangled k.here
+port_may_next f refused h fits (left t) s away k = may_as f s k.peer k.line k.entangled k.here
+port_may_next f refused h fits (hopped t n) s away k = may_as f s k.peer k.line k.entangled k.here
+port_may_next f refused h fits (started e) s away k = may_as f s k.peer k.line k.entangled k.here
+port_may_next f refused h fits (got e v) s away k =
     let served = got_of f e v fits in
     may_as (next f (action.Take e) (outcome.Got v)) s k.peer k.line k.entangled (still_here (names v.ports k.peer) _ _ (λ named. absurd (not_here (f.end k.peer).place (taken_flies f e v k.peer h served.serves served.is_open (holder_made f e.0 h.places served.held) named) k.here)) k.here)
-may_next f refused h fits (went_on e) s away may = may
-may_next f refused h fits (cleared e k) s away may = may
-may_next f refused h fits (adopted e a n) s away may =
-    let k = hears_of f s may in
+port_may_next f refused h fits (went_on e) s away k = may_as f s k.peer k.line k.entangled k.here
+port_may_next f refused h fits (cleared e n) s away k = may_as f s k.peer k.line k.entangled k.here
+port_may_next f refused h fits (adopted e a n) s away k =
     may_as (next f (action.Adopt e a) (outcome.Adopted n)) s k.peer k.line k.entangled (still_here (eqb k.peer e.0) _ _ (λ _. refl) k.here)
-may_next f refused h fits (end_closed e) s away may =
-    let k = hears_of f s may in
+port_may_next f refused h fits (end_closed e) s away k =
     let closes = closed_of f e fits in
     let stays : eqb k.peer e.0 ≡ true → ⊥ = λ same.
-    let own : own_poster_out f (f.end k.peer).peer ≡ true = ap (λ y. own_poster_out f (f.end y).peer) (eqb-true k.peer e.0 same) ∙ closes.own_out in
+    let back : peer_of (f.end k.peer).kind ≡ Some s.end.0 = (h.places.peers s.end.0 k.peer k.entangled).1 in
+    let free : is_released f (f.end k.peer).kind ≡ true = ap (λ y. is_released f (f.end y).kind) (eqb-true k.peer e.0 same) ∙ closes.released in
+    let own : own_poster_out f (peer_of (f.end k.peer).kind) ≡ true = released_out f (f.end k.peer).kind s.end.0 free back in
     false≢true (sym away ∙ own_out f s k.peer k.line own (h.places.peers s.end.0 k.peer k.entangled).1)
     in
     may_as (next f (action.Close e) outcome.Done) s k.peer k.line k.entangled (still_here (eqb k.peer e.0) _ _ (λ same. absurd (stays same)) k.here)
-may_next f refused h fits (end_swept e vs) s away may =
-    let k = hears_of f s may in
+port_may_next f refused h fits (end_swept e vs) s away k =
     may_as (next f (action.Sweep e) (outcome.Discarded vs)) s k.peer k.line k.entangled (still_here (is_named vs k.peer) _ _ (λ _. refl) k.here)
+
+-- a queue's line that an agent holds may be entered
+held_may : (g : Facts) (s : Sender) → HoldsLine g s → may_enter g s ≡ true
+held_may g s k = ap (λ q. is_some q || hears_notice g s) (holds_as g s k)
+
+pub may_next : (f : Facts) {a : Action} (refused : Bool) {o : Outcome} → Sound f → Answers f a refused o → Change a o → (s : Sender) → is_out (phase_of_line f s) ≡ false → may_enter f s ≡ true → may_enter (next f a o) s ≡ true
+may_next f {a = a} refused {o = o} h fits c s away may = elim (hears_of f s may) [
+  | inl k ↦ port_may_next f refused h fits c s away k
+  | inr k ↦ held_may (next f a o) s (held_next f refused h fits c s away k)
+]

@@ -40,6 +40,10 @@ pub ok_both : {E : Type 0} (r : Result Outcome E) (P Q R : Outcome → Type 0) �
 ok_both (Ok o) P Q R p q f = f o p q
 ok_both (Err e) P Q R p q f = tt
 
+pub ok_all : {E : Type 0} (r : Result Outcome E) (P Q : Outcome → Type 0) → IfOk r P → IfOk r Q → IfOk r (λ o. P o × Q o)
+ok_all (Ok o) P Q p q = (p, q)
+ok_all (Err e) P Q p q = tt
+
 -- ---- what changes nothing leaves the ends
 
 gate_changes : (closed retired : Bool) (s : Sender) → changes_nothing (cond retired outcome.Moved (cond closed outcome.Closed outcome.In)) (action.Enter s) ≡ false
@@ -93,8 +97,3 @@ take_same ends new e P o (Some x) at t h = elim x.is_closed as (λ b. MatchBool 
   | true ↦ λ both. both.1
   | false ↦ λ held. take_held_same ends new e x P o at held h
 ] t
-
--- ---- along equations
-
-pub along : (P : List Agent → List End → Outcome → Type 0) {gs hs : List Agent} {es fs : List End} {o p : Outcome} → hs ≡ gs → fs ≡ es → p ≡ o → P gs es o → P hs fs p
-along P {gs = gs} {hs = hs} {es = es} {fs = fs} {o = o} {p = p} a b c h = subst (λ x. P x fs p) (sym a) (subst (λ x. P gs x p) (sym b) (subst (λ x. P gs es x) (sym c) h))

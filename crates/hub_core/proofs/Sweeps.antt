@@ -35,6 +35,8 @@ use Rattle.hub_core.specs.declared.line.Phase.TheVariants.{Inside}
 use Rattle.hub_core.proofs.Presence.{lines_kept}
 use Rattle.hub_core.proofs.SweepOrders.{rises_one}
 use Rattle.hub_core.specs.Unchanged.{changes_nothing}
+use Rattle.hub_core.proofs.Counts.{counted_ports, counts_of}
+use Rattle.hub_core.proofs.Nexts.{next}
 
 -- ---- tests
 
@@ -111,19 +113,19 @@ module _ (f : Facts) (e : ℕ) (x : End) (s : Sound f) (h : ShownAt f e (Some x)
   nobody_from : is_anyone_from x.looked x.lines ≡ false → all_settled f e ≡ true
   nobody_from none =
       let taker : (f.end e).taker_stand ≡ x.taker = ap (λ (y : EndNow). y.taker_stand) h.same in
-      let lines : any_below (λ l. away_from x.looked (f.line e l)) (lines_of (f.end e).peer) ≡ false = sym (lines_kept f e x (away_from x.looked) h) ∙ none in
+      let lines : any_below (λ l. away_from x.looked (f.line e l)) (lines_of (f.end e).kind) ≡ false = sym (lines_kept f e x (away_from x.looked) h) ∙ none in
       each_all (is_settled f e) (f.end e).taker_stand ((f.end e).newest - (f.end e).taker_stand + 1) (λ k from below.
       elim (nat_lt k x.looked) as (λ b. nat_lt k x.looked ≡ b → is_settled f e k ≡ true) [
         | true ↦ λ is. ap (λ b. b || not (someone_at f e k)) (h.queues.clear_below k (omega arith) ∙ is)
         | false ↦ λ is.
             let at : x.looked ≤ k = not_below k x.looked is in
-            let nobody : someone_at f e k ≡ false = none_below (λ l. is_away_at k (f.line e l)) (lines_of (f.end e).peer) (λ l low. no_test (not (is_out (f.line e l).phase)) k x.looked (f.line e l).stand at (none_of_any (λ i. away_from x.looked (f.line e i)) (lines_of (f.end e).peer) l lines low)) in
+            let nobody : someone_at f e k ≡ false = none_below (λ l. is_away_at k (f.line e l)) (lines_of (f.end e).kind) (λ l low. no_test (not (is_out (f.line e l).phase)) k x.looked (f.line e l).stand at (none_of_any (λ i. away_from x.looked (f.line e i)) (lines_of (f.end e).kind) l lines low)) in
             ap (λ b. f.clear e k || not b) nobody ∙ or_true (f.clear e k)
       ] refl)
 
   somebody_from : is_anyone_from x.looked x.lines ≡ true → all_settled f e ≡ false
   somebody_from some =
-      let found = any_of (λ l. away_from x.looked (f.line e l)) (lines_of (f.end e).peer) (sym (lines_kept f e x (away_from x.looked) h) ∙ some) in
+      let found = any_of (λ l. away_from x.looked (f.line e l)) (lines_of (f.end e).kind) (sym (lines_kept f e x (away_from x.looked) h) ∙ some) in
       let both = both_of (not (is_out (f.line e found.0).phase)) (nat_le x.looked (f.line e found.0).stand) found.2 in
       let k : ℕ = (f.line e found.0).stand in
       let from : x.looked ≤ k = leb-true x.looked k both.1 in
@@ -131,7 +133,7 @@ module _ (f : Facts) (e : ℕ) (x : End) (s : Sound f) (h : ShownAt f e (Some x)
       let reached : x.taker ≤ x.looked = h.queues.reached in
       let within : k ≤ (f.end e).newest = (s.lines e).stand found.0 in
       let unclear : f.clear e k ≡ false = h.queues.clear_below k (omega arith) ∙ high k x.looked from in
-      let there : someone_at f e k ≡ true = some_below (λ l. is_away_at k (f.line e l)) (lines_of (f.end e).peer) found.0 found.1 (rw (both.0) (eqb_same k)) in
+      let there : someone_at f e k ≡ true = some_below (λ l. is_away_at k (f.line e l)) (lines_of (f.end e).kind) found.0 found.1 (rw (both.0) (eqb_same k)) in
       not_true (all_settled f e) (λ all. false≢true (sym (ap (λ b. b || not (someone_at f e k)) unclear ∙ ap not there) ∙ each_of (is_settled f e) (f.end e).taker_stand ((f.end e).newest - (f.end e).taker_stand + 1) all k (omega arith) (omega arith)))
 
 -- ---- what is kept is all that waits
@@ -263,7 +265,8 @@ swept_shown agents ends new f e refused x h at closed settled fits moves =
     in
     let same_count : length base ≡ length ends = length-set ends e.0 y in
     let count : f.ends ≡ length ends = h.ends in
-    changed agents ends new f (action.Sweep e) refused (outcome.Discarded vs) h fits refl refl refl (moves.count ∙ same_count) (λ d.
+    changed agents ends new f (action.Sweep e) refused (outcome.Discarded vs) h fits refl refl refl (moves.count ∙ same_count)
+    (counted_ports agents f (next f (action.Sweep e) (outcome.Discarded vs)) (is_named vs) (λ d. Some Swept) refl (λ d. refl) (λ d. refl) (λ d named. h.sound.places.flying d (swept_flies f e vs d h.sound (swept_of f e vs fits) named)) (counts_of agents ends f h)) (λ d.
     subst (ShowsEnd _ _ _ _ _) (sym (moves.each d))
     (subst (λ b. ShowsEnd (record (f.end d) { place = cond b (Some Swept) (f.end d).place }) (f.line d) (f.clear d) (f.accepted d) (f.taken d ++ cond (eqb d e.0) (f.discarded d ++ vs) (f.discarded d)) (option_map (moved_end (ports_of vs) Swept d) (slice_get base d))) (named_ports d vs)
     (moved_shown (f.end d) (f.line d) (f.clear d) (f.accepted d) (f.taken d ++ cond (eqb d e.0) (f.discarded d ++ vs) (f.discarded d)) (slice_get base d) (ports_of vs) Swept (Some Swept) d (λ named. (

@@ -1,6 +1,6 @@
 -- Whether an end's queue is enabled (WHATWG HTML, "Message ports": a port message queue is disabled
 -- when it is made, and `start()` enables it).
-use Rattle.std.specs.Prelude.{ℕ, ◌==◌, ◌||◌, if◌then◌else◌, Bool, true, false}
+use Rattle.std.specs.Prelude.{ℕ, ◌==◌, if◌then◌else◌, Bool, true, false}
 use Rattle.std.specs.List.{fold}
 use Rattle.hub_core.specs.declared.step.Action.{Action}
 use Rattle.hub_core.specs.declared.step.Action.TheVariants as action
@@ -9,11 +9,10 @@ use Rattle.hub_core.specs.declared.outcome.Outcome.TheVariants as outcome
 use Rattle.hub_core.specs.History.{History}
 
 abbrev pub enabled_after : ℕ → Bool → Outcome → Action → Bool
-enabled_after x enabled (outcome.Ends e f) (action.Channel a) = if x == e.0 || x == f.0 then false else enabled
 enabled_after x enabled outcome.Started (action.Start e) = if x == e.0 then true else enabled
 enabled_after x enabled (outcome.Adopted n) (action.Adopt t a) = if x == t.0 then false else enabled
 enabled_after x enabled _ _ = enabled
 
--- a Start of the end was answered Started after it was made, or last adopted
+-- a Start of the end was answered Started, after its last adoption where it was adopted
 abbrev pub enabled : History → ℕ → Bool
 enabled h x = fold (λ q p. enabled_after x q p.1 p.0.action) false h

@@ -1,7 +1,9 @@
 -- All that an answer may depend on: agent by agent, end by end, line by line.
 use Rattle.std.specs.Prelude.{ℕ, Bool, List, Option}
 use Rattle.hub_envelope.specs.declared.envelope.Envelope.{Envelope}
+use Rattle.hub_envelope.specs.declared.ids.AgentId.{AgentId}
 use Rattle.hub_core.specs.declared.end.Place.{Place}
+use Rattle.hub_core.specs.declared.kind.Kind.{Kind}
 use Rattle.hub_core.specs.declared.line.Phase.{Phase}
 use Rattle.hub_core.specs.History.{History}
 use Rattle.hub_core.specs.Accepted as accepted
@@ -18,9 +20,9 @@ use Rattle.hub_core.specs.Discarded as discarded
 pub record AgentNow : Type 0 where
   pub runs : Bool
 
--- an end now; a number that no end has yet has no peer, no place and nothing else
+-- an end now; a number that no end has yet has no kind, no place and nothing else
 pub record EndNow : Type 0 where
-  pub peer : Option ℕ
+  pub kind : Option Kind
   pub place : Option Place
   pub closed : Bool
   pub enabled : Bool
@@ -32,6 +34,7 @@ pub record LineNow : Type 0 where
   pub phase : Phase
   pub stand : ℕ
   pub noticed : Bool
+  pub held_by : Option AgentId
 
 -- how many agents and ends there are; each of them, by number; which queues of an
 -- end are clear; and by end what was accepted, taken and discarded there
@@ -53,14 +56,19 @@ facts h = record {
   ends = made.ends h;
   agent = λ a. record { runs = made.runs h a };
   end = λ x. record {
-    peer = made.peer h x;
+    kind = made.kind h x;
     place = place.place h x;
     closed = closed.closed h x;
     enabled = enabled.enabled h x;
     newest = lines.newest h x;
     taker_stand = lines.taker_stand h x;
   };
-  line = λ x l. record { phase = lines.phase h x l; stand = lines.stand h x l; noticed = lines.noticed h x l };
+  line = λ x l. record {
+    phase = lines.phase h x l;
+    stand = lines.stand h x l;
+    noticed = lines.noticed h x l;
+    held_by = lines.held_by h x l;
+  };
   clear = clear.clear h;
   accepted = accepted.accepted h;
   taken = taken.taken h;

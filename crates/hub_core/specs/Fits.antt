@@ -5,16 +5,21 @@ use Rattle.hub_core.specs.declared.step.Action.TheVariants as action
 use Rattle.hub_core.specs.declared.outcome.Outcome.{Outcome}
 use Rattle.hub_core.specs.History.{Pair, History}
 use Rattle.hub_core.specs.Facts.{Facts, facts}
-use Rattle.hub_core.specs.Making.{agent_answer, channel_answer}
+use Rattle.hub_core.specs.Making.{agent_answer, channel_answer, queue_answer, is_client, is_worker}
 use Rattle.hub_core.specs.Posting.{enter_answer, leave_answer, push_answer, notice_answer}
 use Rattle.hub_core.specs.Taking.{start_answer, FitsTake}
-use Rattle.hub_core.specs.Moving.{hop_answer, adopt_answer, close_answer}
+use Rattle.hub_core.specs.Moving.{hop_answer, adopt_answer, close_answer, hand_answer}
+use Rattle.hub_core.specs.Holding.{line_answer, back_answer}
 use Rattle.hub_core.specs.Looking.{look_answer, FitsSweep}
 
 -- the last but one argument says whether memory is refused in the step
 abbrev pub Answers : Facts → Action → Bool → Outcome → Type 0
 Answers f action.Agent refused o = o ≡ agent_answer f refused
 Answers f (action.Channel a) refused o = o ≡ channel_answer f a refused
+Answers f (action.Client a) refused o = o ≡ queue_answer is_client f a refused
+Answers f (action.Worker a) refused o = o ≡ queue_answer is_worker f a refused
+Answers f (action.Line e a) refused o = o ≡ line_answer f e a
+Answers f (action.Back s) refused o = o ≡ back_answer f s
 Answers f (action.Enter s) refused o = o ≡ enter_answer f s
 Answers f (action.Push s ports body) refused o = o ≡ push_answer f s ports.items refused
 Answers f (action.Notice s) refused o = o ≡ notice_answer f s refused
@@ -26,6 +31,7 @@ Answers f (action.Look e) refused o = o ≡ look_answer f e
 Answers f (action.Adopt e a) refused o = o ≡ adopt_answer f e a refused
 Answers f (action.Close e) refused o = o ≡ close_answer f e
 Answers f (action.Sweep e) refused o = FitsSweep f e o
+Answers f (action.Hand e b) refused o = o ≡ hand_answer f e b
 
 -- the pair fits the history
 abbrev pub Fits : History → Pair → Type 0

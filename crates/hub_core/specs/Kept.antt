@@ -1,14 +1,19 @@
 -- For private clauses: what the parts of the core do to what it keeps.
-use Rattle.std.specs.Prelude.{ℕ, ◌+◌, ◌==◌, if◌then◌else◌, nat_lt, Bool, List, [], ◌∷◌, ◌++◌, length, slice_set, slice_get, slice_index_or, drop, Option, Some, None, option_map, is_some, false, true, ◌≡◌, ◌&&◌, ◌||◌, not, Result, Ok, Err, IfSome, nat_le, ◌-◌}
-use Rattle.std.specs.List.{list_any, flat_map}
+use Rattle.std.specs.Prelude.{ℕ, ◌+◌, ◌==◌, if◌then◌else◌, nat_lt, Bool, List, [], ◌∷◌, ◌++◌, length, slice_set, slice_get, slice_index_or, drop, Option, Some, None, option_map, is_some, false, true, ◌≡◌, ◌&&◌, ◌||◌, not, Result, Ok, Err, IfSome, nat_le, ◌-◌, replicate}
+use Rattle.std.specs.List.{list_any, flat_map, position}
 use Rattle.std.specs.Bool.{MatchBool}
-use Rattle.hub_core.specs.declared.limits.TheConstants.{MAX_AGENTS, MAX_ENDS, MAX_MOVES}
+use Rattle.hub_core.specs.declared.limits.TheConstants.{MAX_AGENTS, MAX_ENDS, MAX_LINES, MAX_MOVES}
+use Rattle.hub_envelope.specs.declared.ids.LineId.{LineId}
 use Rattle.hub_core.specs.declared.end.Place.TheVariants.{With, InFlight, Arrived, Swept, Gone}
 use Rattle.hub_core.specs.Accepted.{named_envelope, named_notice}
 use Rattle.hub_envelope.specs.declared.limits.TheConstants.{MAX_PORTS}
 use Rattle.hub_envelope.specs.declared.ids.EndId.{EndId}
 use Rattle.hub_envelope.specs.declared.ids.AgentId.{AgentId}
 use Rattle.hub_core.specs.declared.agent.Agent.{Agent}
+use Rattle.hub_core.specs.declared.kind.Kind.{Kind}
+use Rattle.hub_core.specs.declared.kind.Kind.TheVariants.{Port, Client, Worker}
+use Rattle.hub_core.specs.Made.{lines_of, is_queue}
+use Rattle.hub_core.specs.Moving.{is_arrived}
 use Rattle.hub_core.specs.declared.sender.Sender.{Sender}
 use Rattle.hub_envelope.specs.declared.envelope.Envelope.{Envelope}
 use Rattle.hub_core.specs.declared.line.Line.{Line}
@@ -20,7 +25,6 @@ use Rattle.hub_core.specs.declared.outcome.Outcome.{Outcome}
 use Rattle.hub_core.specs.declared.outcome.Outcome.TheVariants as outcome
 use Rattle.hub_core.specs.Place.{names}
 use Rattle.hub_core.specs.Posting.{is_out, is_inside, is_here, is_with, running_at}
-use Rattle.hub_core.specs.Moving.{is_arrived}
 use Rattle.hub_core.specs.declared.listing.Listing.{Listing}
 use Rattle.hub_core.specs.declared.listing.Listing.TheVariants.{Good, HoldsTarget, Bad}
 
@@ -206,9 +210,24 @@ kept_running agents a = is_running_agent (slice_get agents a)
 abbrev pub kept_holder : List Agent → List End → ℕ → Option AgentId
 kept_holder agents ends e = running_at (kept_running agents) (option_map (λ x. x.place) (slice_get ends e))
 
+-- the agent, where it runs
+abbrev pub kept_runs : List Agent → Option AgentId → Option AgentId
+kept_runs agents None = None
+kept_runs agents (Some a) = if kept_running agents a.0 then Some a else None
+
+-- the running agent that holds a line of an end of this kind
+abbrev pub kept_poster_by : List Agent → List End → Kind → Line → Option AgentId
+kept_poster_by agents ends (Port q) y = kept_holder agents ends q.0
+kept_poster_by agents ends Client y = kept_runs agents y.held_by
+kept_poster_by agents ends Worker y = kept_runs agents y.held_by
+
+abbrev pub kept_poster_on : List Agent → List End → End → Option Line → Option AgentId
+kept_poster_on agents ends x None = None
+kept_poster_on agents ends x (Some y) = kept_poster_by agents ends x.kind y
+
 abbrev pub kept_poster_of : List Agent → List End → ℕ → Option End → Option AgentId
 kept_poster_of agents ends l None = None
-kept_poster_of agents ends l (Some x) = if is_some (slice_get x.lines l) then kept_holder agents ends x.peer.0 else None
+kept_poster_of agents ends l (Some x) = kept_poster_on agents ends x (slice_get x.lines l)
 
 -- the running agent that holds the line
 abbrev pub kept_poster : List Agent → List End → Sender → Option AgentId
@@ -217,9 +236,26 @@ kept_poster agents ends s = kept_poster_of agents ends s.line.0 (slice_get ends 
 abbrev pub kept_place : List End → ℕ → Option Place
 kept_place ends e = option_map (λ x. x.place) (slice_get ends e)
 
+-- whether the place of the port that posts at an end of this kind lets its poster put a notice
+abbrev pub kept_hears_by : List End → Kind → Bool
+kept_hears_by ends (Port q) = is_here (kept_place ends q.0)
+kept_hears_by ends Client = false
+kept_hears_by ends Worker = false
+
 abbrev pub kept_hears_of : List End → ℕ → Option End → Bool
 kept_hears_of ends l None = false
-kept_hears_of ends l (Some x) = l == 0 && is_here (kept_place ends x.peer.0)
+kept_hears_of ends l (Some x) = l == 0 && kept_hears_by ends x.kind
+
+-- the port that posts at an end of this kind
+abbrev pub source_of : Kind → Option EndId
+source_of (Port q) = Some q
+source_of Client = None
+source_of Worker = None
+
+-- the line that a port posts on
+abbrev pub kept_line_of_port : Option End → Option Sender
+kept_line_of_port None = None
+kept_line_of_port (Some x) = option_map (λ q. record { end = q; line = record { 0 = 0 } }) (source_of x.kind)
 
 -- whether the place of the port that posts on the line lets its poster put a notice
 abbrev pub kept_hears : List End → Sender → Bool
@@ -254,14 +290,18 @@ abbrev pub leave_ends_at : Sender → List End → Option End → List End
 leave_ends_at s ends None = ends
 leave_ends_at s ends (Some x) = slice_set ends s.end.0 (leave_end x s.line.0 (slice_get x.lines s.line.0))
 
+-- line 0 of an end
+abbrev pub kept_own_line : Option End → Option Line
+kept_own_line None = None
+kept_own_line (Some x) = slice_get x.lines 0
+
 abbrev pub line_is_out : Option Line → Bool
 line_is_out None = false
 line_is_out (Some y) = is_out y.phase
 
 -- whether the poster on line 0 of an end is out
 abbrev pub kept_own_out : Option End → Bool
-kept_own_out None = false
-kept_own_out (Some x) = line_is_out (slice_get x.lines 0)
+kept_own_out x = line_is_out (kept_own_line x)
 
 abbrev pub line_is_plain : Option Line → Bool
 line_is_plain None = false
@@ -269,24 +309,33 @@ line_is_plain (Some y) = not y.has_noticed
 
 -- whether no notice was put on line 0 of an end
 abbrev pub kept_own_plain : Option End → Bool
-kept_own_plain None = false
-kept_own_plain (Some x) = line_is_plain (slice_get x.lines 0)
+kept_own_plain x = line_is_plain (kept_own_line x)
 
-abbrev pub kept_end_may_leave : List End → AgentId → EndId → EndId → Option End → Bool
+-- whether the poster of an end of this kind is out, with no notice of it
+abbrev pub kept_own_free : List End → Kind → Bool
+kept_own_free ends (Port q) = kept_own_out (slice_get ends q.0) && kept_own_plain (slice_get ends q.0)
+kept_own_free ends Client = false
+kept_own_free ends Worker = false
+
+abbrev pub is_source : EndId → Option EndId → Bool
+is_source p None = false
+is_source p (Some q) = p.0 == q.0
+
+abbrev pub kept_end_may_leave : List End → AgentId → Option EndId → EndId → Option End → Bool
 kept_end_may_leave ends a source p None = false
 kept_end_may_leave ends a source p (Some x) =
-    is_with a (Some x.place) && kept_own_out (slice_get ends x.peer.0) && kept_own_plain (slice_get ends x.peer.0) && not (p.0 == source.0)
+    is_with a (Some x.place) && kept_own_free ends x.kind && not (is_source p source)
 
--- whether a port may leave an agent that posts with another port, the source
-abbrev pub kept_may_leave : List End → AgentId → EndId → EndId → Bool
+-- whether a port may leave an agent that posts with another port, the source, or with none
+abbrev pub kept_may_leave : List End → AgentId → Option EndId → EndId → Bool
 kept_may_leave ends a source p = kept_end_may_leave ends a source p (slice_get ends p.0)
 
 -- whether a port may be sent by an agent that posts on a line, the source being the port that posts
-abbrev pub kept_may_travel : List End → AgentId → EndId → EndId → EndId → Bool
+abbrev pub kept_may_travel : List End → AgentId → Option EndId → EndId → EndId → Bool
 kept_may_travel ends a source target p = kept_may_leave ends a source p && not (p.0 == target.0)
 
 -- distinct ports that may travel
-abbrev pub kept_good : List End → AgentId → EndId → EndId → List EndId → Bool
+abbrev pub kept_good : List End → AgentId → Option EndId → EndId → List EndId → Bool
 kept_good ends a source target [] = true
 kept_good ends a source target (p ∷ ps) =
     if names ps p.0 || not (kept_may_travel ends a source target p) then false else kept_good ends a source target ps
@@ -296,7 +345,7 @@ abbrev pub HasQueue : List End → Sender → Line → Type 0
 HasQueue ends s y = IfSome (slice_get ends s.end.0) (λ x. has_queue x y.epoch ≡ true)
 
 -- a line that may push, and the agent that posts, or why it may not
-abbrev pub kept_posting_by : List End → EndId → EndId → List EndId → Bool → Line → Option AgentId → Result (Line × AgentId) Outcome
+abbrev pub kept_posting_by : List End → Option EndId → EndId → List EndId → Bool → Line → Option AgentId → Result (Line × AgentId) Outcome
 kept_posting_by ends source target ports refused y None = Err outcome.NotNow
 kept_posting_by ends source target ports refused y (Some a) =
     if nat_lt MAX_PORTS (length ports) then Err outcome.TooManyPorts
@@ -305,7 +354,7 @@ kept_posting_by ends source target ports refused y (Some a) =
 abbrev pub kept_posting_line : List Agent → List End → Sender → List EndId → Bool → End → Option Line → Result (Line × AgentId) Outcome
 kept_posting_line agents ends s ports refused x None = Err outcome.NotNow
 kept_posting_line agents ends s ports refused x (Some y) =
-    kept_posting_by ends x.peer s.end ports refused y (kept_holder agents ends x.peer.0)
+    kept_posting_by ends (source_of x.kind) s.end ports refused y (kept_poster_by agents ends x.kind y)
 
 abbrev pub kept_posting_at : List Agent → List End → Sender → List EndId → Bool → Option End → Result (Line × AgentId) Outcome
 kept_posting_at agents ends s ports refused None = Err outcome.NotNow
@@ -353,10 +402,16 @@ NoticeLeaves s old (Ok y) new =
     AcceptLeaves old y (named_notice s (record { agent = record { 0 = 0 }; epoch = y.epoch; number = y.put })) new
 NoticeLeaves s old (Err o) new = new ≡ old
 
+-- whether an end of this kind is no port whose own poster is inside or being turned back
+abbrev pub kept_released : List End → Kind → Bool
+kept_released ends (Port q) = kept_own_out (slice_get ends q.0)
+kept_released ends Client = true
+kept_released ends Worker = true
+
 -- whether an open end can be closed
 abbrev pub kept_may_close_of : List End → Option End → Bool
 kept_may_close_of ends None = false
-kept_may_close_of ends (Some x) = is_here (Some x.place) && kept_own_out (slice_get ends x.peer.0)
+kept_may_close_of ends (Some x) = is_here (Some x.place) && kept_released ends x.kind
 
 abbrev pub kept_may_close : List End → ℕ → Bool
 kept_may_close ends e = kept_may_close_of ends (slice_get ends e)
@@ -449,20 +504,24 @@ kept_agent_answer n refused =
     else outcome.Agent (record { 0 = n }))
 
 abbrev pub agents_made : List Agent → Outcome → List Agent
-agents_made old (outcome.Agent a) = old ++ record { is_running = true } ∷ []
+agents_made old (outcome.Agent a) = old ++ record { is_running = true; clients = 0; workers = 0 } ∷ []
 agents_made old _ = old
 
--- a new port
-abbrev pub port_end : AgentId → EndId → End
-port_end a peer = record {
-  peer = peer;
+-- a line that has put nothing
+abbrev pub first_line : Line
+first_line = record { phase = Out; epoch = 0; put = 0; has_noticed = false; held_by = None }
+
+-- a new end
+abbrev pub new_end : AgentId → Kind → End
+new_end a kind = record {
+  kind = kind;
   place = With a;
   is_closed = false;
   is_enabled = false;
   newest = 0;
   taker = 0;
   looked = 0;
-  lines = record { phase = Out; epoch = 0; put = 0; has_noticed = false } ∷ [];
+  lines = replicate (lines_of (Some kind)) first_line;
   queues = [] ∷ [];
 }
 
@@ -474,7 +533,7 @@ kept_channel_answer runs n refused =
     else outcome.Ends (record { 0 = n }) (record { 0 = n + 1 })))
 
 abbrev pub ends_made : AgentId → List End → Outcome → List End
-ends_made a old (outcome.Ends e f) = old ++ port_end a f ∷ port_end a e ∷ []
+ends_made a old (outcome.Ends e f) = old ++ new_end a (Port f) ∷ new_end a (Port e) ∷ []
 ends_made a old _ = old
 
 abbrev pub kept_comes : Option Line → Bool
@@ -490,7 +549,7 @@ abbrev pub kept_may_post : List Agent → List End → Sender → Bool
 kept_may_post agents ends s = is_some (kept_poster agents ends s) && kept_comes_at s.line.0 (slice_get ends s.end.0)
 
 -- distinct ports that may leave an agent
-abbrev pub kept_all_leave : List End → AgentId → EndId → List EndId → Bool
+abbrev pub kept_all_leave : List End → AgentId → Option EndId → List EndId → Bool
 kept_all_leave ends a source [] = true
 kept_all_leave ends a source (p ∷ ps) =
     if names ps p.0 || not (kept_may_leave ends a source p) then false else kept_all_leave ends a source ps
@@ -498,7 +557,7 @@ kept_all_leave ends a source (p ∷ ps) =
 abbrev pub kept_listing_by : List End → Sender → List EndId → End → Option AgentId → Listing
 kept_listing_by ends s ports x None = Bad
 kept_listing_by ends s ports x (Some a) =
-    if not (kept_all_leave ends a x.peer ports) then Bad else (if names ports s.end.0 then HoldsTarget else Good)
+    if not (kept_all_leave ends a (source_of x.kind) ports) then Bad else (if names ports s.end.0 then HoldsTarget else Good)
 
 abbrev pub kept_listing_at : List End → Sender → List EndId → Option AgentId → Option End → Listing
 kept_listing_at ends s ports poster None = Bad
@@ -507,3 +566,147 @@ kept_listing_at ends s ports poster (Some x) = kept_listing_by ends s ports x po
 -- what a list of ports is to a message on the line
 abbrev pub kept_listing : List Agent → List End → Sender → List EndId → Listing
 kept_listing agents ends s ports = kept_listing_at ends s ports (kept_poster agents ends s) (slice_get ends s.end.0)
+
+-- ---- queues of clients and workers
+
+-- an agent with another count of its queues of this kind
+abbrev pub one_more : Kind → Agent → Agent
+one_more (Port q) x = x
+one_more Client x = record x { clients = x.clients + 1 }
+one_more Worker x = record x { workers = x.workers + 1 }
+
+abbrev pub one_less : Kind → Agent → Agent
+one_less (Port q) x = x
+one_less Client x = record x { clients = x.clients - 1 }
+one_less Worker x = record x { workers = x.workers - 1 }
+
+abbrev pub set_agent : ℕ → List Agent → Option Agent → List Agent
+set_agent a agents None = agents
+set_agent a agents (Some x) = slice_set agents a x
+
+-- the agents, one of them changed
+abbrev pub change_agent : (Agent → Agent) → ℕ → List Agent → List Agent
+change_agent change a agents = set_agent a agents (option_map change (slice_get agents a))
+
+-- the agents after an end of this kind came to an agent, and after it went from this place
+abbrev pub come : Kind → AgentId → List Agent → List Agent
+come kind a agents = change_agent (one_more kind) a.0 agents
+
+abbrev pub gone : Kind → Place → List Agent → List Agent
+gone kind (With a) agents = change_agent (one_less kind) a.0 agents
+gone kind InFlight agents = agents
+gone kind (Arrived a) agents = agents
+gone kind Swept agents = agents
+gone kind Gone agents = agents
+
+-- how many queues of this kind the agent has
+abbrev pub count_of : Kind → Option Agent → ℕ
+count_of kind None = 0
+count_of (Port q) (Some x) = 0
+count_of Client (Some x) = x.clients
+count_of Worker (Some x) = x.workers
+
+abbrev pub kept_queue_answer : Bool → ℕ → ℕ → Bool → Outcome
+kept_queue_answer runs held n refused =
+    if not (runs && held == 0) then outcome.NotNow
+    else (if nat_le MAX_ENDS n then outcome.TooManyEnds
+    else (if refused then outcome.NoMemory
+    else outcome.End (record { 0 = n })))
+
+abbrev pub queue_made : AgentId → Kind → List End → Outcome → List End
+queue_made a kind old (outcome.End e) = old ++ new_end a kind ∷ []
+queue_made a kind old _ = old
+
+abbrev pub queue_counted : AgentId → Kind → List Agent → Outcome → List Agent
+queue_counted a kind old (outcome.End e) = come kind a old
+queue_counted a kind old _ = old
+
+abbrev pub line_within : Option ℕ → Option LineId
+line_within None = None
+line_within (Some l) = if nat_lt l MAX_LINES then Some (record { 0 = l }) else None
+
+-- the first line that no agent holds
+abbrev pub first_free : List Line → Option LineId
+first_free lines = line_within (position (λ y. not (is_some y.held_by)) lines)
+
+abbrev pub hold_outcome_of : Option LineId → Outcome
+hold_outcome_of None = outcome.NoLine
+hold_outcome_of (Some l) = outcome.Line l
+
+abbrev pub hold_outcome : End → Outcome
+hold_outcome x = if is_queue (Some x.kind) then hold_outcome_of (first_free x.lines) else outcome.NoSuchEnd
+
+-- the lines with one of them held by this agent, or by none
+abbrev pub held_lines : Option AgentId → ℕ → List Line → Option Line → List Line
+held_lines holder l lines None = lines
+held_lines holder l lines (Some y) = slice_set lines l (record y { held_by = holder })
+
+abbrev pub held_end : AgentId → End → Outcome → End
+held_end a x (outcome.Line l) = record x { lines = held_lines (Some a) l.0 x.lines (slice_get x.lines l.0) }
+held_end a x _ = x
+
+abbrev pub line_outcome_at : Bool → Option End → Outcome
+line_outcome_at false x = outcome.NotNow
+line_outcome_at true None = outcome.NoSuchEnd
+line_outcome_at true (Some x) = hold_outcome x
+
+abbrev pub line_ends_at : Bool → AgentId → ℕ → List End → Option End → List End
+line_ends_at false a e ends x = ends
+line_ends_at true a e ends None = ends
+line_ends_at true a e ends (Some x) = slice_set ends e (held_end a x (hold_outcome x))
+
+-- whether a line may be given back: an agent holds it, and its poster is out
+abbrev pub may_give_back : Line → Bool
+may_give_back y = is_some y.held_by && is_out y.phase
+
+abbrev pub back_outcome : Option Line → Outcome
+back_outcome None = outcome.NotNow
+back_outcome (Some y) = if may_give_back y then outcome.Done else outcome.NotNow
+
+abbrev pub back_end : End → ℕ → Option Line → End
+back_end x l None = x
+back_end x l (Some y) = if may_give_back y then record x { lines = slice_set x.lines l (record y { held_by = None }) } else x
+
+abbrev pub back_outcome_at : ℕ → Option End → Outcome
+back_outcome_at l None = outcome.NotNow
+back_outcome_at l (Some x) = back_outcome (slice_get x.lines l)
+
+abbrev pub back_ends_at : Sender → List End → Option End → List End
+back_ends_at s ends None = ends
+back_ends_at s ends (Some x) = slice_set ends s.end.0 (back_end x s.line.0 (slice_get x.lines s.line.0))
+
+-- whether an agent may take over what this agent has: it is another one of so many
+abbrev pub kept_may_take_over : ℕ → AgentId → Option AgentId → Bool
+kept_may_take_over n b None = false
+kept_may_take_over n b (Some a) = nat_lt b.0 n && not (a.0 == b.0)
+
+abbrev pub hand_outcome : Bool → End → Outcome
+hand_outcome may x =
+    if x.is_closed then outcome.Closed
+    else (if is_queue (Some x.kind) && may then outcome.Handed
+    else outcome.NotNow)
+
+abbrev pub handed_end : AgentId → End → Outcome → End
+handed_end b x outcome.Handed = record x { place = Arrived b }
+handed_end b x _ = x
+
+abbrev pub hand_outcome_at : Bool → Option End → Outcome
+hand_outcome_at may None = outcome.NotNow
+hand_outcome_at may (Some x) = hand_outcome may x
+
+abbrev pub hand_ends_at : Bool → AgentId → ℕ → List End → Option End → List End
+hand_ends_at may b e ends None = ends
+hand_ends_at may b e ends (Some x) = slice_set ends e (handed_end b x (hand_outcome may x))
+
+-- the agents after an end got this answer to a Hand, to a Close, and to an Adopt
+abbrev pub hand_agents : List Agent → Option End → Outcome → List Agent
+hand_agents agents (Some x) outcome.Handed = gone x.kind x.place agents
+hand_agents agents x _ = agents
+
+abbrev pub close_agents : List Agent → Option End → Outcome → List Agent
+close_agents agents (Some x) outcome.Done = gone x.kind x.place agents
+close_agents agents x _ = agents
+
+abbrev pub adopt_agents : AgentId → List Agent → Option End → Outcome → List Agent
+adopt_agents a agents (Some x) (outcome.Adopted k) = come x.kind a agents
+adopt_agents a agents x _ = agents

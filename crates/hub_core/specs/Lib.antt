@@ -14,6 +14,7 @@ pub mod Making
 pub mod Posting
 pub mod Looking
 pub mod Moving
+pub mod Holding
 pub mod Taking
 pub mod Memory
 pub mod Fits

@@ -1,7 +1,8 @@
 -- Where the posters of an end's lines are, and at which queues its lines and its taker stand (this project's
 -- own; WHATWG HTML, "Message ports", moves the tasks of a transferred port to the new port's queue).
-use Rattle.std.specs.Prelude.{ℕ, ◌+◌, ◌==◌, ◌&&◌, if◌then◌else◌, Bool, true, false}
+use Rattle.std.specs.Prelude.{ℕ, ◌+◌, ◌==◌, ◌&&◌, if◌then◌else◌, Bool, true, false, Option, Some, None}
 use Rattle.std.specs.List.{fold}
+use Rattle.hub_envelope.specs.declared.ids.AgentId.{AgentId}
 use Rattle.hub_core.specs.declared.line.Phase.{Phase}
 use Rattle.hub_core.specs.declared.line.Phase.TheVariants.{Out, Inside, Turned}
 use Rattle.hub_core.specs.declared.sender.Sender.{Sender}
@@ -58,3 +59,12 @@ noticed_after x l noticed _ _ = noticed
 -- a Notice on the line was answered Accepted
 abbrev pub noticed : History → ℕ → ℕ → Bool
 noticed h x l = fold (λ q p. noticed_after x l q p.1 p.0.action) false h
+
+abbrev pub held_after : ℕ → ℕ → Option AgentId → Outcome → Action → Option AgentId
+held_after x l held (outcome.Line n) (action.Line e a) = on_line x l (record { end = e; line = n }) (Some a) held
+held_after x l held outcome.Done (action.Back s) = on_line x l s None held
+held_after x l held _ _ = held
+
+-- The agent that holds a line of a client's or a worker's queue: the one that got it by a Line, until a Back.
+abbrev pub held_by : History → ℕ → ℕ → Option AgentId
+held_by h x l = fold (λ q p. held_after x l q p.1 p.0.action) None h

@@ -21,16 +21,16 @@ is_away_at k y = not (is_out y.phase) && y.stand == k
 
 -- whether the poster of some line of the end is inside or being turned back at the queue
 abbrev pub someone_at : Facts → ℕ → ℕ → Bool
-someone_at f x k = any_below (λ l. is_away_at k (f.line x l)) (lines_of (f.end x).peer)
+someone_at f x k = any_below (λ l. is_away_at k (f.line x l)) (lines_of (f.end x).kind)
 
 -- The queue is clear, or nobody is inside or being turned back there.
 abbrev pub is_settled : Facts → ℕ → ℕ → Bool
 is_settled f x k = f.clear x k || not (someone_at f x k)
 
--- the first of n queues, from the queue k on, that isn't clear
-abbrev pub first_unclear : (ℕ → Bool) → ℕ → ℕ → Option ℕ
-first_unclear clear k zero = None
-first_unclear clear k (suc n) = if clear k then first_unclear clear (k + 1) n else Some k
+-- the first of n numbers, from the number k on, that fails the test
+abbrev pub first_failing : (ℕ → Bool) → ℕ → ℕ → Option ℕ
+first_failing test k zero = None
+first_failing test k (suc n) = if test k then first_failing test (k + 1) n else Some k
 
 -- how many queues a Look may look at: the retired ones from the taker's on, and the newest of a closed end
 abbrev pub lookable : ℕ → ℕ → Bool → ℕ
@@ -38,7 +38,7 @@ lookable taker newest closed = (newest - taker) + (if closed then 1 else 0)
 
 -- the oldest of these that isn't clear
 abbrev pub looked : Facts → ℕ → Option ℕ
-looked f x = first_unclear (f.clear x) (f.end x).taker_stand (lookable (f.end x).taker_stand (f.end x).newest (f.end x).closed)
+looked f x = first_failing (f.clear x) (f.end x).taker_stand (lookable (f.end x).taker_stand (f.end x).newest (f.end x).closed)
 
 abbrev pub look_answer_of : Facts → ℕ → Option ℕ → Outcome
 look_answer_of f x None = outcome.Clear None

@@ -1,5 +1,9 @@
--- Which agents and ends were made (WHATWG HTML, "Message channels").
-use Rattle.std.specs.Prelude.{ℕ, ◌+◌, ◌==◌, if◌then◌else◌, Bool, true, false, Option, Some, None, option_map, is_some}
+-- Which agents and ends were made (WHATWG HTML, "Message channels"; W3C Service Workers, the queues of the messages to a
+-- client and to a worker).
+use Rattle.std.specs.Prelude.{ℕ, ◌+◌, ◌==◌, if◌then◌else◌, Bool, true, false, Option, Some, None, option_map}
+use Rattle.hub_core.specs.declared.limits.TheConstants.{MAX_LINES}
+use Rattle.hub_core.specs.declared.kind.Kind.{Kind}
+use Rattle.hub_core.specs.declared.kind.Kind.TheVariants.{Port, Client, Worker}
 use Rattle.hub_core.specs.declared.sender.Sender.{Sender}
 use Rattle.std.specs.List.{fold}
 use Rattle.hub_core.specs.declared.step.Action.{Action}
@@ -26,24 +30,49 @@ runs h x = fold (λ r p. runs_after x r p.1 p.0.action) false h
 
 abbrev pub ends_after : ℕ → Outcome → Action → ℕ
 ends_after n (outcome.Ends e f) (action.Channel a) = n + 2
+ends_after n (outcome.End e) (action.Client a) = n + 1
+ends_after n (outcome.End e) (action.Worker a) = n + 1
 ends_after n _ _ = n
 
 -- how many ends were made
 abbrev pub ends : History → ℕ
 ends h = fold (λ n p. ends_after n p.1 p.0.action) 0 h
 
-abbrev pub peer_after : ℕ → Option ℕ → Outcome → Action → Option ℕ
-peer_after x peer (outcome.Ends e f) (action.Channel a) = if x == e.0 then Some f.0 else (if x == f.0 then Some e.0 else peer)
-peer_after x peer _ _ = peer
+abbrev pub kind_after : ℕ → Option Kind → Outcome → Action → Option Kind
+kind_after x kind (outcome.Ends e f) (action.Channel a) = if x == e.0 then Some (Port f) else (if x == f.0 then Some (Port e) else kind)
+kind_after x kind (outcome.End e) (action.Client a) = if x == e.0 then Some Client else kind
+kind_after x kind (outcome.End e) (action.Worker a) = if x == e.0 then Some Worker else kind
+kind_after x kind _ _ = kind
 
--- the port that a port is entangled with: the other one of the Channel that made it
+-- What an end is, by the step that made it: a port that is entangled with the other one of its Channel, or a client's
+-- or a worker's queue.
+abbrev pub kind : History → ℕ → Option Kind
+kind h x = fold (λ q p. kind_after x q p.1 p.0.action) None h
+
+-- the port that a port is entangled with
+abbrev pub peer_of : Option Kind → Option ℕ
+peer_of (Some (Port q)) = Some q.0
+peer_of (Some Client) = None
+peer_of (Some Worker) = None
+peer_of None = None
+
 abbrev pub peer : History → ℕ → Option ℕ
-peer h x = fold (λ q p. peer_after x q p.1 p.0.action) None h
+peer h x = peer_of (kind h x)
+
+-- whether the end is a client's or a worker's queue
+abbrev pub is_queue : Option Kind → Bool
+is_queue (Some (Port q)) = false
+is_queue (Some Client) = true
+is_queue (Some Worker) = true
+is_queue None = false
 
 -- the line that a port posts on: line 0 of its peer
 abbrev pub line_of_port : History → ℕ → Option Sender
 line_of_port h x = option_map (λ q. record { end = record { 0 = q }; line = record { 0 = 0 } }) (peer h x)
 
--- how many lines an end has: one where it is a port
-abbrev pub lines_of : Option ℕ → ℕ
-lines_of peer = if is_some peer then 1 else 0
+-- how many lines an end has
+abbrev pub lines_of : Option Kind → ℕ
+lines_of (Some (Port q)) = 1
+lines_of (Some Client) = MAX_LINES
+lines_of (Some Worker) = MAX_LINES
+lines_of None = 0

@@ -11,7 +11,7 @@ use Rattle.hub_core.specs.declared.outcome.Outcome.TheVariants as outcome
 use Rattle.hub_core.specs.History.{Pair, History}
 use Rattle.hub_core.specs.Facts.{Facts, facts}
 use Rattle.hub_core.specs.Accepted.{named_envelope, named_notice}
-use Rattle.hub_core.specs.Made.{ends, peer, lines_of}
+use Rattle.hub_core.specs.Made.{ends, kind, lines_of}
 use Rattle.hub_core.specs.Fits.{Fits}
 use Rattle.hub_core.specs.Legal.{Legal}
 use Rattle.hub_core.specs.GateMachine.{Gate, enter, leave, turn_back, enable, lets_in, says_moved, says_closed, lets_out, says_done, busy, look, says_inside, gives_rights, close}
@@ -116,4 +116,4 @@ pub record HoldsWhatLeaves (e : ℕ) (p : Pair) (m : Mailbox OneRight) : Type 0 
 -- queues hold in that order.
 abbrev pub PairsAreEvents : Type 0
 PairsAreEvents = (h : History) (p : Pair) (e : ℕ) (m : Mailbox OneRight) → Legal h → Fits h p → e < ends h → ShowsMailbox h e [] m → HoldsWhatLeaves e p m
-    → (after : Mailbox OneRight) × Runs e (lines_of (peer h e)) m (events_of (facts h) e m p.1 p.0.action) after × ShowsMailbox (h ++ p ∷ []) e [] after
+    → (after : Mailbox OneRight) × Runs e (lines_of (kind h e)) m (events_of (facts h) e m p.1 p.0.action) after × ShowsMailbox (h ++ p ∷ []) e [] after

@@ -6,7 +6,7 @@ use Rattle.hub_core.specs.declared.machine.Core.{Core}
 use Rattle.hub_core.specs.History.{History}
 use Rattle.hub_core.specs.Accepted.{accepted}
 use Rattle.hub_core.specs.Taken.{taken}
-use Rattle.hub_core.specs.Made.{peer, lines_of}
+use Rattle.hub_core.specs.Made.{kind, lines_of}
 use Rattle.hub_core.specs.Closed.{closed}
 use Rattle.hub_core.specs.Enabled.{enabled}
 use Rattle.hub_core.specs.Lines.{phase, newest, stand, taker_stand}
@@ -22,7 +22,7 @@ use Rattle.hub_core.specs.Discarded.{discarded}
 -- has the flags of the end, and the rights of a gate were collected exactly where its queue is clear; each line stands
 -- where it does in the history, in its phase; so does the taker.
 pub record ShowsMailbox {R : Type 0} (h : History) (e : ℕ) (collected : List Envelope) (m : Mailbox R) : Type 0 where
-  pub is_mailbox : IsMailbox e (lines_of (peer h e)) m
+  pub is_mailbox : IsMailbox e (lines_of (kind h e)) m
   pub gates : length m.gates ≡ newest h e + 1
   pub put : (line : ℕ) → put_by m line ≡ by line (accepted h e)
   pub got : got_from m ≡ (taken h e ++ discarded h e) ++ collected

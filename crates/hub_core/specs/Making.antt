@@ -1,11 +1,15 @@
 -- What the steps that make agents and ends are answered (WHATWG HTML, "Message channels": a new channel is
 -- two entangled ports; the limits are this project's own).
-use Rattle.std.specs.Prelude.{◌+◌, if◌then◌else◌, nat_le, nat_lt, Bool, not}
+use Rattle.std.specs.Prelude.{◌+◌, ◌&&◌, if◌then◌else◌, nat_le, nat_lt, Bool, true, false, not, Option, Some, None}
 use Rattle.hub_envelope.specs.declared.ids.AgentId.{AgentId}
 use Rattle.hub_core.specs.declared.limits.TheConstants.{MAX_AGENTS, MAX_ENDS}
 use Rattle.hub_core.specs.declared.outcome.Outcome.{Outcome}
 use Rattle.hub_core.specs.declared.outcome.Outcome.TheVariants as outcome
+use Rattle.hub_core.specs.declared.kind.Kind.{Kind}
+use Rattle.hub_core.specs.declared.kind.Kind.TheVariants.{Port, Client, Worker}
 use Rattle.hub_core.specs.Facts.{Facts}
+use Rattle.hub_core.specs.Posting.{is_with}
+use Rattle.hub_core.specs.Looking.{any_below}
 
 -- An Agent tests memory and then the limit. A new agent gets the least number not given.
 abbrev pub agent_answer : Facts → Bool → Outcome
@@ -22,3 +26,27 @@ channel_answer f a refused =
     else (if nat_lt MAX_ENDS (f.ends + 2) then outcome.TooManyEnds
     else (if refused then outcome.NoMemory
     else outcome.Ends (record { 0 = f.ends }) (record { 0 = f.ends + 1 })))
+
+abbrev pub is_client : Option Kind → Bool
+is_client (Some Client) = true
+is_client (Some (Port q)) = false
+is_client (Some Worker) = false
+is_client None = false
+
+abbrev pub is_worker : Option Kind → Bool
+is_worker (Some Worker) = true
+is_worker (Some (Port q)) = false
+is_worker (Some Client) = false
+is_worker None = false
+
+-- whether the agent has an end whose kind passes the test
+abbrev pub has_one : (Option Kind → Bool) → AgentId → Facts → Bool
+has_one test a f = any_below (λ x. test (f.end x).kind && is_with a (f.end x).place) f.ends
+
+-- A Client and a Worker test that their agent runs and has no such queue, then the limit, then memory.
+abbrev pub queue_answer : (Option Kind → Bool) → Facts → AgentId → Bool → Outcome
+queue_answer test f a refused =
+    if not ((f.agent a.0).runs && not (has_one test a f)) then outcome.NotNow
+    else (if nat_le MAX_ENDS f.ends then outcome.TooManyEnds
+    else (if refused then outcome.NoMemory
+    else outcome.End (record { 0 = f.ends })))

@@ -3,11 +3,15 @@ use Rattle.std.specs.Prelude.{Bool, true, false}
 use Rattle.hub_core.specs.declared.step.Action.{Action}
 use Rattle.hub_core.specs.declared.step.Action.TheVariants as action
 
--- the steps after which more is kept than before: a new agent, two new ends, an envelope, a new queue; and a
+-- the steps after which more is kept than before: a new agent, new ends, an envelope, a new queue; and a
 -- Sweep, which answers a list
 abbrev pub takes_memory : Action → Bool
 takes_memory action.Agent = true
 takes_memory (action.Channel a) = true
+takes_memory (action.Client a) = true
+takes_memory (action.Worker a) = true
+takes_memory (action.Line e a) = false
+takes_memory (action.Back s) = false
 takes_memory (action.Enter s) = false
 takes_memory (action.Push s ports body) = true
 takes_memory (action.Notice s) = true
@@ -19,3 +23,4 @@ takes_memory (action.Look e) = false
 takes_memory (action.Adopt e a) = true
 takes_memory (action.Close e) = false
 takes_memory (action.Sweep e) = true
+takes_memory (action.Hand e a) = false

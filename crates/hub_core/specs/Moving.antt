@@ -1,16 +1,19 @@
 -- What the steps that move lines and ends are answered (WHATWG HTML, "Message ports", the transfer and
 -- transfer-receiving steps; going on to a newer queue is this project's own).
-use Rattle.std.specs.Prelude.{◌+◌, ◌==◌, ◌&&◌, if◌then◌else◌, not, nat_lt, nat_le, Bool, false, Option, Some, None, ℕ}
+use Rattle.std.specs.Prelude.{◌+◌, ◌==◌, ◌&&◌, if◌then◌else◌, not, nat_lt, nat_le, Bool, true, false, Option, Some, None, ℕ}
 use Rattle.hub_envelope.specs.declared.ids.AgentId.{AgentId}
 use Rattle.hub_envelope.specs.declared.ids.EndId.{EndId}
 use Rattle.hub_core.specs.declared.limits.TheConstants.{MAX_MOVES}
 use Rattle.hub_core.specs.declared.end.Place.{Place}
 use Rattle.hub_core.specs.declared.end.Place.TheVariants.{With, InFlight, Arrived, Swept, Gone}
+use Rattle.hub_core.specs.declared.kind.Kind.{Kind}
+use Rattle.hub_core.specs.declared.kind.Kind.TheVariants.{Port, Client, Worker}
 use Rattle.hub_core.specs.declared.sender.Sender.{Sender}
 use Rattle.hub_core.specs.declared.outcome.Outcome.{Outcome}
 use Rattle.hub_core.specs.declared.outcome.Outcome.TheVariants as outcome
 use Rattle.hub_core.specs.Facts.{Facts}
-use Rattle.hub_core.specs.Posting.{is_out, phase_of_line, is_here, own_poster_out, may_enter}
+use Rattle.hub_core.specs.Made.{is_queue}
+use Rattle.hub_core.specs.Posting.{is_out, phase_of_line, is_here, may_enter, holder}
 
 -- A Hop tests that its poster may enter and is out, and that the line stands at a retired queue.
 abbrev pub hop_answer : Facts → Sender → Outcome
@@ -37,13 +40,33 @@ adopt_answer f e a refused =
     else (if refused then outcome.NoMemory
     else outcome.Adopted ((f.end e.0).newest + 1))))
 
--- whether an open end can be closed: it has a place where it can, and its own poster is out
+-- whether the end is no port with its own poster inside or being turned back
+abbrev pub is_released : Facts → Option Kind → Bool
+is_released f (Some (Port q)) = is_out (f.line q.0 0).phase
+is_released f (Some Client) = true
+is_released f (Some Worker) = true
+is_released f None = true
+
+-- whether an open end can be closed: it has a place where it can, and of a port its own poster is out
 abbrev pub may_close : Facts → ℕ → Bool
-may_close f e = is_here (f.end e).place && own_poster_out f (f.end e).peer
+may_close f e = is_here (f.end e).place && is_released f (f.end e).kind
 
 -- A Close looks for a closed end, and then tests that the end can be closed.
 abbrev pub close_answer : Facts → EndId → Outcome
 close_answer f e =
     if (f.end e.0).closed then outcome.Closed
     else (if may_close f e.0 then outcome.Done
+    else outcome.NotNow)
+
+-- whether an agent may take over what this agent has: it is another one that was made
+abbrev pub may_take_over : Facts → AgentId → Option AgentId → Bool
+may_take_over f b None = false
+may_take_over f b (Some a) = nat_lt b.0 f.agents && not (a.0 == b.0)
+
+-- A Hand looks for a closed end; then it tests that the end is a client's or a worker's queue that a running agent has,
+-- and that the other agent may take it over.
+abbrev pub hand_answer : Facts → EndId → AgentId → Outcome
+hand_answer f e b =
+    if (f.end e.0).closed then outcome.Closed
+    else (if is_queue (f.end e.0).kind && may_take_over f b (holder f e.0) then outcome.Handed
     else outcome.NotNow)

@@ -32,15 +32,18 @@ is_named vs x = list_any (λ v. names v.ports x) vs
 -- the place of an end after an answered step, from the places before
 abbrev pub place_after : ℕ → (ℕ → Option Place) → Outcome → Action → Option Place
 place_after x place (outcome.Ends e f) (action.Channel a) = if x == e.0 || x == f.0 then Some (With a) else place x
+place_after x place (outcome.End e) (action.Client a) = if x == e.0 then Some (With a) else place x
+place_after x place (outcome.End e) (action.Worker a) = if x == e.0 then Some (With a) else place x
 place_after x place (outcome.Accepted n) (action.Push s ports body) = if names ports.items x then Some InFlight else place x
 place_after x place (outcome.Got v) (action.Take t) = if names v.ports x then arrived (place t.0) (place x) else place x
 place_after x place (outcome.Adopted n) (action.Adopt t a) = if x == t.0 then Some (With a) else place x
+place_after x place outcome.Handed (action.Hand t a) = if x == t.0 then Some (Arrived a) else place x
 place_after x place (outcome.Discarded vs) (action.Sweep t) = if is_named vs x then Some Swept else place x
 place_after x place outcome.Done (action.Close t) = if x == t.0 then Some Gone else place x
 place_after x place _ _ = place x
 
 -- The place of an end, by the last pair that placed it: with the agent that made it; in flight since
--- a Push that names it was Accepted; arrived at the agent that has the end at which that was Got, or swept where it
--- was Discarded; with the agent that adopted it; and gone where it was closed.
+-- a Push that names it was Accepted; arrived at the agent that has the end at which that was Got, or to which it was
+-- handed; swept where it was Discarded; with the agent that adopted it; and gone where it was closed.
 abbrev pub place : History → ℕ → Option Place
 place h = fold (λ q p x. place_after x q p.1 p.0.action) (λ _. None) h

@@ -7,6 +7,8 @@ use Rattle.hub_envelope.specs.declared.ids.EndId.{EndId}
 use Rattle.hub_envelope.specs.declared.limits.TheConstants.{MAX_PORTS}
 use Rattle.hub_core.specs.declared.end.Place.{Place}
 use Rattle.hub_core.specs.declared.end.Place.TheVariants.{With, InFlight, Arrived, Swept, Gone}
+use Rattle.hub_core.specs.declared.kind.Kind.{Kind}
+use Rattle.hub_core.specs.declared.kind.Kind.TheVariants.{Port, Client, Worker}
 use Rattle.hub_core.specs.declared.line.Phase.{Phase}
 use Rattle.hub_core.specs.declared.line.Phase.TheVariants.{Out, Inside, Turned}
 use Rattle.hub_core.specs.declared.sender.Sender.{Sender}
@@ -14,6 +16,7 @@ use Rattle.hub_core.specs.declared.outcome.Outcome.{Outcome}
 use Rattle.hub_core.specs.declared.outcome.Outcome.TheVariants as outcome
 use Rattle.hub_core.specs.Facts.{Facts}
 use Rattle.hub_core.specs.Place.{names}
+use Rattle.hub_core.specs.Made.{peer_of}
 use Rattle.hub_core.specs.Sender.{count_in_queue}
 use Rattle.hub_core.specs.declared.outcome.Acceptance.{Acceptance}
 use Rattle.hub_core.specs.declared.listing.Listing.{Listing}
@@ -46,10 +49,21 @@ holder f e = running_at (λ a. (f.agent a).runs) ((f.end e).place)
 abbrev pub phase_of_line : Facts → Sender → Phase
 phase_of_line f s = (f.line s.end.0 s.line.0).phase
 
+-- the agent, where it runs
+abbrev pub running : Facts → Option AgentId → Option AgentId
+running f None = None
+running f (Some a) = if (f.agent a.0).runs then Some a else None
+
+abbrev pub poster_of : Facts → Sender → Option Kind → Option AgentId
+poster_of f s (Some (Port q)) = if s.line.0 == 0 then holder f q.0 else None
+poster_of f s (Some Client) = running f (f.line s.end.0 s.line.0).held_by
+poster_of f s (Some Worker) = running f (f.line s.end.0 s.line.0).held_by
+poster_of f s None = None
+
 -- the running agent that holds the line: for line 0 of a port the one that has the port that it is
 -- entangled with
 abbrev pub poster : Facts → Sender → Option AgentId
-poster f s = if s.line.0 == 0 then option_and_then (holder f) ((f.end s.end.0).peer) else None
+poster f s = poster_of f s (f.end s.end.0).kind
 
 -- whether a port of this place can be closed, and its poster say so: an agent has it, or it has arrived or was swept
 abbrev pub is_here : Option Place → Bool
@@ -62,7 +76,7 @@ is_here None = false
 
 -- whether the place of the port that posts on the line lets its poster put a notice
 abbrev pub hears_notice : Facts → Sender → Bool
-hears_notice f s = s.line.0 == 0 && is_here (option_and_then (λ q. (f.end q).place) ((f.end s.end.0).peer))
+hears_notice f s = s.line.0 == 0 && is_here (option_and_then (λ q. (f.end q).place) (peer_of (f.end s.end.0).kind))
 
 -- whether a poster may enter: to post, or to put a notice alone
 abbrev pub may_enter : Facts → Sender → Bool
@@ -92,7 +106,7 @@ is_with a (Some Swept) = false
 is_with a (Some Gone) = false
 is_with a None = false
 
--- whether the poster of the line that a port holds is out
+-- whether there is the line that a port holds, and its poster is out
 abbrev pub own_poster_out : Facts → Option ℕ → Bool
 own_poster_out f None = false
 own_poster_out f (Some q) = is_out ((f.line q 0).phase)
@@ -109,7 +123,7 @@ is_at x (Some y) = x == y
 -- a port that the agent has, its own poster out, with no notice of it, and not the source
 abbrev pub may_leave_agent : Facts → AgentId → Sender → EndId → Bool
 may_leave_agent f a s p =
-    is_with a (f.end p.0).place && own_poster_out f (f.end p.0).peer && own_line_plain f (f.end p.0).peer && not (is_at p.0 (f.end s.end.0).peer)
+    is_with a (f.end p.0).place && own_poster_out f (peer_of (f.end p.0).kind) && own_line_plain f (peer_of (f.end p.0).kind) && not (is_at p.0 (peer_of (f.end s.end.0).kind))
 
 -- such a port that isn't the target either
 abbrev pub may_travel : Facts → AgentId → Sender → EndId → Bool

@@ -1,6 +1,8 @@
 -- What it means that the core shows a history: what it keeps of each agent, end and line are the facts of the history.
-use Rattle.std.specs.Prelude.{◌≡◌, ℕ, ◌+◌, ◌<◌, false, List, [], ◌∷◌, ◌++◌, length, slice_get, slice_index_or, Option, Some, None, nat_lt, ◌≤◌, Bool}
+use Rattle.std.specs.Prelude.{◌≡◌, ℕ, ◌+◌, ◌<◌, false, List, [], ◌∷◌, ◌++◌, length, slice_get, slice_index_or, Option, Some, None, nat_lt, ◌≤◌, Bool, ◌&&◌, if◌then◌else◌}
 use Rattle.hub_envelope.specs.declared.envelope.Envelope.{Envelope}
+use Rattle.hub_envelope.specs.declared.ids.AgentId.{AgentId}
+use Rattle.hub_core.specs.declared.kind.Kind.{Kind}
 use Rattle.hub_core.specs.declared.agent.Agent.{Agent}
 use Rattle.hub_core.specs.declared.line.Line.{Line}
 use Rattle.hub_core.specs.declared.end.End.{End}
@@ -11,7 +13,9 @@ use Rattle.hub_core.specs.History.{History}
 use Rattle.hub_core.specs.Facts.{AgentNow, EndNow, LineNow, Facts, facts}
 use Rattle.hub_core.specs.Fits.{Fits}
 use Rattle.hub_core.specs.Sender.{in_queue, count_in_queue}
-use Rattle.hub_core.specs.Sound.{no_end, no_line, Sound}
+use Rattle.hub_core.specs.Sound.{no_end, no_line, total, Sound}
+use Rattle.hub_core.specs.Making.{is_client, is_worker}
+use Rattle.hub_core.specs.Posting.{is_with}
 use Rattle.hub_core.specs.Made.{lines_of}
 use Rattle.hub_core.specs.declared.line.Phase.TheVariants.{Inside}
 
@@ -23,7 +27,7 @@ agent_now (Some x) = record { runs = x.is_running }
 abbrev pub end_now : Option End → EndNow
 end_now None = no_end
 end_now (Some x) = record {
-  peer = Some x.peer.0;
+  kind = Some x.kind;
   place = Some x.place;
   closed = x.is_closed;
   enabled = x.is_enabled;
@@ -33,7 +37,7 @@ end_now (Some x) = record {
 
 abbrev pub line_now : Option Line → LineNow
 line_now None = no_line
-line_now (Some y) = record { phase = y.phase; stand = y.epoch; noticed = y.has_noticed }
+line_now (Some y) = record { phase = y.phase; stand = y.epoch; noticed = y.has_noticed; held_by = y.held_by }
 
 abbrev pub kept_lines : Option End → List Line
 kept_lines None = []
@@ -62,17 +66,31 @@ ShowsQueues line clear accepted removed (Some x) = KeepsQueues line clear accept
 -- what is kept of an end, with its lines and queues; what was removed from the queues was taken or discarded
 pub record ShowsEnd (now : EndNow) (line : ℕ → LineNow) (clear : ℕ → Bool) (accepted removed : List Envelope) (kept : Option End) : Type 0 where
   pub same : now ≡ end_now kept
-  pub count : length (kept_lines kept) ≡ lines_of now.peer
+  pub count : length (kept_lines kept) ≡ lines_of now.kind
   pub lines : (l : ℕ) → line l ≡ line_now (slice_get (kept_lines kept) l)
   pub put : (l : ℕ) → ShowsPut accepted l (slice_get (kept_lines kept) l)
   pub queues : ShowsQueues line clear accepted removed kept
 
--- agents and ends are those of the facts, which are sound
+abbrev pub kept_clients : Option Agent → ℕ
+kept_clients None = 0
+kept_clients (Some x) = x.clients
+
+abbrev pub kept_workers : Option Agent → ℕ
+kept_workers None = 0
+kept_workers (Some x) = x.workers
+
+-- how many ends the agent has whose kind passes the test
+abbrev pub count_with : (Option Kind → Bool) → AgentId → Facts → ℕ
+count_with test a f = total (λ x. if test (f.end x).kind && is_with a (f.end x).place then 1 else 0) f.ends
+
+-- agents and ends are those of the facts, which are sound; of each agent it is kept how many queues it has
 pub record ShowsFacts (kept_agents : List Agent) (kept_ends : List End) (f : Facts) : Type 0 where
   pub agents : f.agents ≡ length kept_agents
   pub agent : (a : ℕ) → f.agent a ≡ agent_now (slice_get kept_agents a)
   pub ends : f.ends ≡ length kept_ends
   pub end : (e : ℕ) → ShowsEnd (f.end e) (f.line e) (f.clear e) (f.accepted e) (f.taken e ++ f.discarded e) (slice_get kept_ends e)
+  pub clients : (a : AgentId) → kept_clients (slice_get kept_agents a.0) ≡ count_with is_client a f
+  pub workers : (a : AgentId) → kept_workers (slice_get kept_agents a.0) ≡ count_with is_worker a f
   pub sound : Sound f
 
 -- the core's agents and ends are those of the history

@@ -1,5 +1,5 @@
 -- What holds of the facts of every legal history, each part with the notions that it reads (this project's own).
-use Rattle.std.specs.Prelude.{◌≡◌, ℕ, zero, suc, ◌+◌, ◌<◌, ◌≤◌, Bool, true, false, List, [], ◌∷◌, length, Option, Some, None, ◌⊎◌, ◌++◌}
+use Rattle.std.specs.Prelude.{◌≡◌, ℕ, zero, suc, ◌+◌, ◌<◌, ◌≤◌, Bool, true, false, List, [], ◌∷◌, length, Option, Some, None, ◌⊎◌, ◌++◌, is_some}
 use Rattle.std.specs.List.{AllByRecursion, filter}
 use Rattle.hub_envelope.specs.declared.ids.AgentId.{AgentId}
 use Rattle.hub_envelope.specs.declared.envelope.Envelope.{Envelope}
@@ -12,14 +12,14 @@ use Rattle.hub_core.specs.Place.{names}
 use Rattle.hub_core.specs.Sender.{by, in_queue, Prefix, Rises}
 use Rattle.hub_core.specs.Posting.{is_out, is_distinct, may_enter}
 use Rattle.hub_core.specs.Numbers.{up_to, numbers}
-use Rattle.hub_core.specs.Made.{lines_of}
+use Rattle.hub_core.specs.Made.{peer_of, lines_of}
 
 -- a number that no end has, and one that no line of an end has
 abbrev pub no_end : EndNow
-no_end = record { peer = None; place = None; closed = false; enabled = false; newest = 0; taker_stand = 0 }
+no_end = record { kind = None; place = None; closed = false; enabled = false; newest = 0; taker_stand = 0 }
 
 abbrev pub no_line : LineNow
-no_line = record { phase = Out; stand = 0; noticed = false }
+no_line = record { phase = Out; stand = 0; noticed = false; held_by = None }
 
 -- an envelope of the end, of one of its lines, and of a queue that the line came to, with different ports
 pub record IsOfEnd (x lines : ℕ) (line : ℕ → LineNow) (v : Envelope) : Type 0 where
@@ -89,20 +89,21 @@ is_gone None = false
 
 -- Where ends are. A number that no end or agent has stands for nothing. Ports are entangled both ways. The agents that
 -- have ends were made. A line whose poster is inside or being turned back is one that may be entered. An end is closed
--- exactly where it is gone.
+-- exactly where it is gone. Ports alone are in flight.
 -- A port is in flight exactly where one envelope that waits names it, accepted and neither taken nor discarded, and at
 -- most one does.
 pub record SoundPlaces (f : Facts) : Type 0 where
   pub ends : (x : ℕ) → f.ends ≤ x → f.end x ≡ no_end
   pub agents : (a : ℕ) → f.agents ≤ a → (f.agent a).runs ≡ false
-  pub peers : (x y : ℕ) → (f.end x).peer ≡ Some y → (y < f.ends) × ((f.end y).peer ≡ Some x)
+  pub peers : (x y : ℕ) → peer_of (f.end x).kind ≡ Some y → (y < f.ends) × (peer_of (f.end y).kind ≡ Some x)
   pub with_made : (x : ℕ) (a : AgentId) → (f.end x).place ≡ Some (With a) → a.0 < f.agents
   pub arrived_made : (x : ℕ) (a : AgentId) → (f.end x).place ≡ Some (Arrived a) → a.0 < f.agents
   pub away : (s : Sender) → is_out ((f.line s.end.0 s.line.0).phase) ≡ false → may_enter f s ≡ true
+  pub flying : (x : ℕ) → (f.end x).place ≡ Some InFlight → is_some (peer_of (f.end x).kind) ≡ true
   pub gone : (x : ℕ) → (f.end x).closed ≡ is_gone ((f.end x).place)
   pub flights : (x : ℕ) → total (λ e. naming x (f.accepted e)) f.ends ≡ total (λ e. naming x (f.taken e ++ f.discarded e)) f.ends + flights ((f.end x).place)
 
 pub record Sound (f : Facts) : Type 0 where
-  pub lines : (x : ℕ) → SoundLines x (lines_of ((f.end x).peer)) ((f.end x).newest) ((f.end x).taker_stand) ((f.end x).closed) (f.line x) (f.clear x) (f.accepted x)
+  pub lines : (x : ℕ) → SoundLines x (lines_of ((f.end x).kind)) ((f.end x).newest) ((f.end x).taker_stand) ((f.end x).closed) (f.line x) (f.clear x) (f.accepted x)
   pub waiting : (x : ℕ) → SoundWaiting ((f.end x).taker_stand) ((f.end x).closed) (f.line x) (f.accepted x) (f.taken x) (f.discarded x)
   pub places : SoundPlaces f

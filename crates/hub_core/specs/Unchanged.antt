@@ -19,11 +19,14 @@ changes_nothing outcome.Disabled a = true
 changes_nothing outcome.Empty a = true
 changes_nothing outcome.Busy a = true
 changes_nothing outcome.TooManyMoves a = true
+changes_nothing outcome.NoSuchEnd a = true
+changes_nothing outcome.NoLine a = true
 changes_nothing (outcome.Clear None) a = true
 changes_nothing outcome.Closed (action.Start e) = true
 changes_nothing outcome.Closed (action.Take e) = true
 changes_nothing outcome.Closed (action.Adopt e a) = true
 changes_nothing outcome.Closed (action.Close e) = true
+changes_nothing outcome.Closed (action.Hand e b) = true
 changes_nothing _ _ = false
 
 -- the core's agents and ends are as before

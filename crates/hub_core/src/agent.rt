@@ -1,6 +1,60 @@
+ghost use Rattle.std.specs.Prelude.{◌≡◌, Some, IfOk};
+ghost use Rattle.hub_core.specs.Kept.{count_of, one_more, one_less};
+
+use crate::kind::Kind;
+use hub_envelope::OutOfMemory;
+
 /// What the core keeps of an agent.
 #[derive(Clone, Copy, Debug, PartialEq, Eq)]
 pub(crate) struct Agent {
     /// An agent runs until it has found the order to end.
     pub(crate) is_running: bool,
+    /// How many client queues the agent has.
+    pub(crate) clients: u32,
+    /// How many worker queues the agent has.
+    pub(crate) workers: u32,
+}
+
+impl Agent {
+    /// An agent that has no end.
+    pub(crate) const FIRST: Agent = Agent {
+        is_running: true,
+        clients: 0,
+        workers: 0,
+    };
+
+    /// How many queues of a kind the agent has.
+    pub(crate) fn count(self, kind: Kind) -> u32
+        ensures { result ≡ count_of kind (Some self) }
+    {
+        match kind {
+            Kind::Port(_) => 0,
+            Kind::Client => self.clients,
+            Kind::Worker => self.workers,
+        }
+    }
+
+    /// The agent with an end of this kind more.
+    pub(crate) fn with_one_more(mut self, kind: Kind) -> Result<Agent, OutOfMemory>
+        ensures { IfOk result (λ x. x ≡ one_more kind self) }
+    {
+        match kind {
+            Kind::Port(_) => {}
+            Kind::Client => self.clients = self.clients.checked_add(1).ok_or(OutOfMemory)?,
+            Kind::Worker => self.workers = self.workers.checked_add(1).ok_or(OutOfMemory)?,
+        }
+        Ok(self)
+    }
+
+    /// The agent with an end of this kind less.
+    pub(crate) fn with_one_less(mut self, kind: Kind) -> Agent
+        ensures { result ≡ one_less kind self }
+    {
+        match kind {
+            Kind::Port(_) => {}
+            Kind::Client => self.clients = self.clients.saturating_sub(1),
+            Kind::Worker => self.workers = self.workers.saturating_sub(1),
+        }
+        self
+    }
 }

@@ -2,13 +2,14 @@ ghost use Rattle.std.specs.Prelude.{◌≡◌, ◌∷◌, ◌<◌, [], slice_get
 ghost use Rattle.hub_envelope.specs.declared.envelope.Envelope.{Envelope as EnvelopeValue};
 ghost use Rattle.hub_core.specs.declared.limits.TheConstants.{MAX_MOVES};
 ghost use Rattle.hub_core.specs.Posting.{is_here};
-ghost use Rattle.hub_core.specs.Kept.{close_outcome, close_end, hop_outcome, hop_end, kept_looked, kept_settled, left_outcome, left_end, look_outcome, look_end, advanced_end, adopted_end, adopt_outcome, adopt_end, enter_outcome, enter_end, leave_outcome, leave_end, has_queue, posting_line, put_end, sweep_outcome, swept_end, taker_queue, with_taker_queue};
+ghost use Rattle.hub_core.specs.Kept.{new_end, hold_outcome, held_end, back_outcome, back_end, hand_outcome, handed_end, close_outcome, close_end, hop_outcome, hop_end, kept_looked, kept_settled, left_outcome, left_end, look_outcome, look_end, advanced_end, adopted_end, adopt_outcome, adopt_end, enter_outcome, enter_end, leave_outcome, leave_end, has_queue, posting_line, put_end, sweep_outcome, swept_end, taker_queue, with_taker_queue};
 
+use crate::kind::Kind;
 use crate::limits::{MAX_IN_QUEUE, MAX_MOVES};
 use crate::line::{Line, Lines, Phase};
 use crate::outcome::Outcome;
 use crate::queues::Queues;
-use hub_envelope::{AgentId, EndId, Envelope, LineId, OutOfMemory};
+use hub_envelope::{AgentId, Envelope, LineId, OutOfMemory};
 use std::alloc::{AllocError, Global};
 
 /// Where an end is (WHATWG HTML, "Transferable objects": a port that travels is with no agent).
@@ -38,8 +39,7 @@ impl Place {
 /// What the core keeps of an end.
 #[derive(Debug, Drop)]
 pub struct End {
-    /// The port with which the end is entangled.
-    pub(crate) peer: EndId,
+    pub(crate) kind: Kind,
     pub(crate) place: Place,
     pub(crate) is_closed: bool,
     pub(crate) is_enabled: bool,
@@ -56,29 +56,19 @@ pub struct End {
 }
 
 impl End {
-    /// A port that the agent has just made.
-    pub(crate) fn port(alloc: Global, agent: AgentId, peer: EndId) -> Result<End, AllocError>
-        ensures { IfOk result (λ x. x ≡ record {
-          peer = peer;
-          place = Place.With agent;
-          is_closed = false;
-          is_enabled = false;
-          newest = 0;
-          taker = 0;
-          looked = 0;
-          lines = Line.FIRST ∷ [];
-          queues = [] ∷ [];
-        }) }
+    /// An end that the agent has just made.
+    pub(crate) fn new(alloc: Global, agent: AgentId, kind: Kind) -> Result<End, AllocError>
+        ensures { IfOk result (λ x. x ≡ new_end agent kind) }
     {
         Ok(End {
-            peer,
+            kind,
             place: Place::With(agent),
             is_closed: false,
             is_enabled: false,
             newest: 0,
             taker: 0,
             looked: 0,
-            lines: Lines::one(alloc)?,
+            lines: Lines::first(alloc, kind.lines())?,
             queues: Queues::one(alloc)?,
         })
     }
@@ -336,5 +326,51 @@ impl End {
             × (self.new ≡ with_taker_queue self.old rest)) }
     {
         self.queues.take_first()
+    }
+
+    /// The agent holds the first line of a client's or worker's queue that no agent holds.
+    pub(crate) fn hold(&mut self, agent: AgentId) -> Outcome
+        ensures outcome { result ≡ hold_outcome self.old }
+        ensures after { self.new ≡ held_end agent self.old (hold_outcome self.old) }
+    {
+        if !self.kind.is_queue() {
+            return Outcome::NoSuchEnd;
+        }
+        let Some(line) = self.lines.first_free() else {
+            return Outcome::NoLine;
+        };
+        self.lines.hold(line, Some(agent));
+        Outcome::Line(line)
+    }
+
+    /// A line that an agent holds and whose poster is out is held by none.
+    pub(crate) fn give_back(&mut self, line: LineId) -> Outcome
+        ensures outcome { result ≡ back_outcome (slice_get self.old.lines line.0) }
+        ensures after { self.new ≡ back_end self.old line.0 (slice_get self.old.lines line.0) }
+    {
+        let Some(found) = self.lines.get(line) else {
+            return Outcome::NotNow;
+        };
+        if found.held_by.is_none() || found.phase != Phase::Out {
+            return Outcome::NotNow;
+        }
+        let held_by = None;
+        self.lines.set(line, Line { held_by, ..found });
+        Outcome::Done
+    }
+
+    /// An open queue of a client or worker goes to another agent, where it may.
+    pub(crate) fn hand(&mut self, agent: AgentId, may: bool) -> Outcome
+        ensures outcome { result ≡ hand_outcome may self.old }
+        ensures after { self.new ≡ handed_end agent self.old (hand_outcome may self.old) }
+    {
+        if self.is_closed {
+            return Outcome::Closed;
+        }
+        if !self.kind.is_queue() || !may {
+            return Outcome::NotNow;
+        }
+        self.place = Place::Arrived(agent);
+        Outcome::Handed
     }
 }

@@ -7,6 +7,8 @@
 mod agent;
 mod end;
 mod envelopes;
+mod holding;
+mod kind;
 mod laws;
 mod limits;
 mod line;
@@ -26,6 +28,7 @@ mod taking;
 
 pub use envelopes::Envelopes;
 pub use hub_envelope::{MAX_PORTS, OutOfMemory};
+pub use kind::Kind;
 pub use laws::{chain_laws, gate_machine_laws, history_laws, mailbox_laws, pair_laws, queue_laws};
 pub use limits::{MAX_AGENTS, MAX_ENDS, MAX_HOPS, MAX_LINES, MAX_MOVES};
 pub use listing::Listing;

@@ -1,7 +1,9 @@
-ghost use Rattle.std.specs.Prelude.{◌≡◌, [], ◌∷◌, IfOk, slice_get, slice_set};
-ghost use Rattle.hub_core.specs.Kept.{is_anyone_at, is_anyone_from};
+ghost use Rattle.std.specs.Prelude.{◌≡◌, replicate, not, is_some, IfOk, slice_get, slice_set};
+ghost use Rattle.std.specs.List.{position};
+ghost use Rattle.hub_core.specs.Kept.{first_line, first_free, held_lines, is_anyone_at, is_anyone_from};
 
-use hub_envelope::LineId;
+use crate::limits::MAX_LINES;
+use hub_envelope::{AgentId, LineId};
 use std::alloc::{AllocError, Global};
 use std::marker::Model;
 
@@ -24,6 +26,8 @@ pub struct Line {
     pub put: u64,
     /// Whether a notice was put, which is the last of the line.
     pub has_noticed: bool,
+    /// The agent that holds the line of a client's or worker's queue.
+    pub held_by: Option<AgentId>,
 }
 
 impl Line {
@@ -33,6 +37,7 @@ impl Line {
         epoch: 0,
         put: 0,
         has_noticed: false,
+        held_by: None,
     };
 }
 
@@ -52,12 +57,12 @@ impl Model for Lines {
 }
 
 impl Lines {
-    /// The one line of a port.
-    pub(crate) fn one(alloc: Global) -> Result<Lines, AllocError>
-        ensures { IfOk result (λ lines. lines ≡ Line.FIRST ∷ []) }
+    /// So many lines that have put nothing.
+    pub(crate) fn first(alloc: Global, count: usize) -> Result<Lines, AllocError>
+        ensures { IfOk result (λ lines. lines ≡ replicate count first_line) }
     {
-        let mut lines = Vec::with_capacity(alloc, 1)?;
-        lines.push(Line::FIRST)?;
+        let mut lines = Vec::new(alloc);
+        lines.resize(count, Line::FIRST)?;
         Ok(Lines { lines })
     }
 
@@ -81,6 +86,31 @@ impl Lines {
         ensures { result ≡ is_anyone_from epoch self.now }
     {
         self.lines.iter().any(|line| line.phase != Phase::Out && u64::from(line.epoch) >= epoch)
+    }
+
+    /// The first line that no agent holds.
+    pub(crate) fn first_free(&self) -> Option<LineId>
+        ensures { result ≡ first_free self.now }
+    {
+        match self.first_unheld() {
+            Some(position) if position < MAX_LINES => Some(LineId(position as u8)),
+            _ => None,
+        }
+    }
+
+    fn first_unheld(&self) -> Option<usize>
+        ensures { result ≡ position (λ y. not (is_some y.held_by)) self.now }
+    {
+        self.lines.iter().position(|line| line.held_by.is_none())
+    }
+
+    /// Changes who holds a line.
+    pub(crate) fn hold(&mut self, line: LineId, holder: Option<AgentId>)
+        ensures { self.new ≡ held_lines holder line.0 self.old (slice_get self.old line.0) }
+    {
+        if let Some(kept) = self.lines.get_mut(line.0 as usize) {
+            kept.held_by = holder;
+        }
     }
 
     /// Changes a line. A line that isn't there stays away.

@@ -1,5 +1,5 @@
-ghost use Rattle.std.specs.Prelude.{◌≡◌, [], true, slice_get, option_map, IfOk, OnErr};
-ghost use Rattle.hub_core.specs.Kept.{kept_running, kept_holder, kept_poster, kept_place, kept_hears, kept_may_enter};
+ghost use Rattle.std.specs.Prelude.{◌≡◌, [], true, slice_get, IfOk, OnErr};
+ghost use Rattle.hub_core.specs.Kept.{kept_running, kept_runs, kept_holder, kept_line_of_port, kept_poster_by, kept_poster, kept_place, kept_hears, kept_may_enter};
 ghost use Rattle.hub_core.specs.Posting.{is_here};
 ghost use Rattle.hub_core.specs.History.{History};
 ghost use Rattle.hub_core.specs.Laws.{InOrder};
@@ -10,6 +10,8 @@ ghost use Rattle.hub_core.specs.Unchanged.{changes_nothing, SameContent};
 
 use crate::agent::Agent;
 use crate::end::{End, Place};
+use crate::kind::Kind;
+use crate::line::Line;
 use crate::outcome::Outcome;
 use crate::sender::Sender;
 use crate::step::{Action, Step};
@@ -55,6 +57,10 @@ impl Core {
         match action {
             Action::Agent => self.make_agent(memory_refused),
             Action::Channel(agent) => self.make_channel(agent, memory_refused),
+            Action::Client(agent) => self.make_queue(Kind::Client, agent, memory_refused),
+            Action::Worker(agent) => self.make_queue(Kind::Worker, agent, memory_refused),
+            Action::Line(end, agent) => Ok(self.hold(end, agent)),
+            Action::Back(sender) => Ok(self.give_back(sender)),
             Action::Enter(sender) => Ok(self.enter(sender)),
             Action::Push(sender, ports, body) => self.push(sender, ports, body, memory_refused),
             Action::Notice(sender) => self.notice(sender, memory_refused),
@@ -66,6 +72,7 @@ impl Core {
             Action::Adopt(end, agent) => self.adopt(end, agent, memory_refused),
             Action::Close(end) => Ok(self.close(end)),
             Action::Sweep(end) => self.sweep(end),
+            Action::Hand(end, agent) => Ok(self.hand(end, agent)),
         }
     }
 
@@ -78,14 +85,11 @@ impl Core {
     }
 
     fn line_held_by(&self, port: EndId) -> Option<Sender>
-        ensures { result ≡ option_map (λ x. record { end = x.peer; line = record { 0 = 0 } })
-            (slice_get self.now.ends.items port.0) }
+        ensures { result ≡ kept_line_of_port (slice_get self.now.ends.items port.0) }
     {
-        let end = self.ends.get(port.0 as usize)?;
-        Some(Sender {
-            end: end.peer,
-            line: LineId(0),
-        })
+        let end = self.ends.get(port.0 as usize)?.kind.source()?;
+        let line = LineId(0);
+        Some(Sender { end, line })
     }
 
     pub(crate) fn is_running(&self, agent: AgentId) -> bool
@@ -107,14 +111,32 @@ impl Core {
         }
     }
 
-    /// The running agent that holds a line, where one does: for a port's line the agent that has
-    /// the port at the other side.
+    /// The agent, where it runs.
+    fn running(&self, agent: Option<AgentId>) -> Option<AgentId>
+        ensures { result ≡ kept_runs self.now.agents.items agent }
+    {
+        agent.filter(|agent| self.is_running(*agent))
+    }
+
+    /// The running agent that holds a line of an end of this kind, where one does: for a port's
+    /// line the agent that has the port at the other side.
+    pub(crate) fn poster_by(&self, kind: Kind, line: Line) -> Option<AgentId>
+        ensures { let ends = self.now.ends.items in
+            result ≡ kept_poster_by self.now.agents.items ends kind line }
+    {
+        match kind {
+            Kind::Port(peer) => self.running_holder(peer),
+            Kind::Client | Kind::Worker => self.running(line.held_by),
+        }
+    }
+
+    /// The running agent that holds a line, where one does.
     pub(crate) fn poster_of(&self, sender: Sender) -> Option<AgentId>
         ensures { result ≡ kept_poster self.now.agents.items self.now.ends.items sender }
     {
         let end = self.ends.get(sender.end.0 as usize)?;
-        end.lines.get(sender.line)?;
-        self.running_holder(end.peer)
+        let line = end.lines.get(sender.line)?;
+        self.poster_by(end.kind, line)
     }
 
     /// Whether an end has a place where it can be closed.
@@ -131,9 +153,12 @@ impl Core {
     pub(crate) fn hears_notice(&self, sender: Sender) -> bool
         ensures { result ≡ kept_hears self.now.ends.items sender }
     {
-        match self.ends.get(sender.end.0 as usize) {
-            Some(end) => sender.line.0 == 0 && self.is_here(end.peer),
-            None => false,
+        let Some(end) = self.ends.get(sender.end.0 as usize) else {
+            return false;
+        };
+        match end.kind {
+            Kind::Port(peer) => sender.line.0 == 0 && self.is_here(peer),
+            Kind::Client | Kind::Worker => false,
         }
     }
 

@@ -1,8 +1,9 @@
-ghost use Rattle.std.specs.Prelude.{◌≡◌, length, IfOk, OnErr};
-ghost use Rattle.hub_core.specs.Kept.{kept_running, kept_agent_answer, agents_made, kept_channel_answer, ends_made};
+ghost use Rattle.std.specs.Prelude.{◌≡◌, length, slice_get, IfOk, OnErr};
+ghost use Rattle.hub_core.specs.Kept.{kept_running, kept_agent_answer, agents_made, kept_channel_answer, ends_made, count_of, kept_queue_answer, queue_made, queue_counted};
 
 use crate::agent::Agent;
 use crate::end::End;
+use crate::kind::Kind;
 use crate::limits::{MAX_AGENTS, MAX_ENDS};
 use crate::machine::Core;
 use crate::outcome::Outcome;
@@ -24,7 +25,7 @@ impl Core {
         if number >= MAX_AGENTS {
             return Ok(Outcome::TooManyAgents);
         }
-        self.agents.push(Agent { is_running: true })?;
+        self.agents.push(Agent::FIRST)?;
         Ok(Outcome::Agent(AgentId(number as u8)))
     }
 
@@ -53,12 +54,49 @@ impl Core {
         }
         let first = EndId(number as u32);
         let second = EndId(number as u32 + 1);
-        let first_end = End::port(self.alloc, agent, second)?;
-        let second_end = End::port(self.alloc, agent, first)?;
+        let first_end = End::new(self.alloc, agent, Kind::Port(second))?;
+        let second_end = End::new(self.alloc, agent, Kind::Port(first))?;
         // With room for both no end is left alone.
         self.ends.reserve(2)?;
         self.ends.push(first_end).unwrap();
         self.ends.push(second_end).unwrap();
         Ok(Outcome::Ends(first, second))
+    }
+
+    /// The agent makes its queue of a kind.
+    pub(crate) fn make_queue(
+        &mut self,
+        kind: Kind,
+        agent: AgentId,
+        memory_refused: bool,
+    ) -> Result<Outcome, OutOfMemory>
+        ensures outcome { let agents = self.old.agents.items in
+            let held = count_of kind (slice_get agents agent.0) in
+            let count = length self.old.ends.items in
+            IfOk result (λ o. o
+            ≡ kept_queue_answer (kept_running agents agent.0) held count memory_refused) }
+        ensures ends { IfOk result (λ o. self.new.ends.items
+            ≡ queue_made agent kind self.old.ends.items o) }
+        ensures agents { IfOk result (λ o. self.new.agents.items
+            ≡ queue_counted agent kind self.old.agents.items o) }
+        ensures err_ends { OnErr result (self.new.ends.items ≡ self.old.ends.items) }
+        ensures err_agents { OnErr result (self.new.agents.items ≡ self.old.agents.items) }
+    {
+        if !self.is_running(agent) || self.count_of(kind, agent) != 0 {
+            return Ok(Outcome::NotNow);
+        }
+        let number = self.ends.len();
+        if number >= MAX_ENDS {
+            return Ok(Outcome::TooManyEnds);
+        }
+        if memory_refused {
+            return Ok(Outcome::NoMemory);
+        }
+        let end = End::new(self.alloc, agent, kind)?;
+        let counted = self.with_one_more(kind, agent)?;
+        // What the agent has is counted once the end has its place.
+        self.ends.push(end)?;
+        self.set_agent(agent, counted);
+        Ok(Outcome::End(EndId(number as u32)))
     }
 }

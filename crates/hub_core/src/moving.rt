@@ -1,7 +1,8 @@
-ghost use Rattle.std.specs.Prelude.{◌≡◌, slice_get, IfOk, OnOk, OnErr};
-ghost use Rattle.hub_core.specs.Kept.{kept_running, adopt_outcome_at, adopt_ends_at, kept_may_close, close_outcome_at, close_ends_at};
+ghost use Rattle.std.specs.Prelude.{◌≡◌, length, slice_get, IfOk, OnOk, OnErr};
+ghost use Rattle.hub_core.specs.Kept.{kept_running, kept_holder, kept_own_line, kept_released, kept_may_take_over, adopt_outcome_at, adopt_ends_at, adopt_agents, kept_may_close, close_outcome_at, close_ends_at, close_agents, hand_outcome_at, hand_ends_at, hand_agents};
 
-use crate::line::Phase;
+use crate::kind::Kind;
+use crate::line::{Line, Phase};
 use crate::machine::Core;
 use crate::outcome::Outcome;
 use hub_envelope::{AgentId, EndId, LineId, OutOfMemory};
@@ -21,14 +22,22 @@ impl Core {
             OnOk result (self.new.ends.items
             ≡ adopt_ends_at runs agent memory_refused end.0 ends (slice_get ends end.0)) }
         ensures err { OnErr result (self.new.ends.items ≡ self.old.ends.items) }
-        ensures agents { self.new.agents ≡ self.old.agents }
+        ensures agents { let agents = self.old.agents.items in
+            let found = slice_get self.old.ends.items end.0 in
+            IfOk result (λ o. self.new.agents.items ≡ adopt_agents agent agents found o) }
+        ensures err_agents { OnErr result (self.new.agents.items ≡ self.old.agents.items) }
     {
-        let is_running = self.is_running(agent);
-        let alloc = self.alloc;
-        let Some(found) = self.ends.get_mut(end.0 as usize) else {
+        let Some(kind) = self.kind_at(end) else {
             return Ok(Outcome::NotNow);
         };
-        found.adopt(alloc, agent, is_running, memory_refused)
+        let is_running = self.is_running(agent);
+        let counted = self.with_one_more(kind, agent)?;
+        let found = &mut self.ends[end.0 as usize];
+        let outcome = found.adopt(self.alloc, agent, is_running, memory_refused)?;
+        if matches!(outcome, Outcome::Adopted(_)) {
+            self.set_agent(agent, counted);
+        }
+        Ok(outcome)
     }
 
     pub(crate) fn close(&mut self, end: EndId) -> Outcome
@@ -37,13 +46,20 @@ impl Core {
         ensures ends { let ends = self.old.ends.items in
             let may = kept_may_close ends end.0 in
             self.new.ends.items ≡ close_ends_at may end.0 ends (slice_get ends end.0) }
-        ensures agents { self.new.agents ≡ self.old.agents }
+        ensures agents { let found = slice_get self.old.ends.items end.0 in
+            self.new.agents.items ≡ close_agents self.old.agents.items found result }
     {
         let may = self.can_close(end);
         let Some(found) = self.ends.get_mut(end.0 as usize) else {
             return Outcome::NotNow;
         };
-        found.close(may)
+        let kind = found.kind;
+        let place = found.place;
+        let outcome = found.close(may);
+        if matches!(outcome, Outcome::Done) {
+            self.went_from(kind, place);
+        }
+        outcome
     }
 
     pub(crate) fn can_close(&self, end: EndId) -> bool
@@ -52,12 +68,63 @@ impl Core {
         let Some(found) = self.ends.get(end.0 as usize) else {
             return false;
         };
-        let Some(peer) = self.ends.get(found.peer.0 as usize) else {
-            return false;
+        found.place.is_here() && self.is_released(found.kind)
+    }
+
+    /// Whether an end of this kind is no port whose own poster is inside or being turned back.
+    fn is_released(&self, kind: Kind) -> bool
+        ensures { result ≡ kept_released self.now.ends.items kind }
+    {
+        let Kind::Port(peer) = kind else {
+            return true;
         };
-        let Some(own_line) = peer.lines.get(LineId(0)) else {
-            return false;
+        match self.own_line(peer) {
+            Some(line) => line.phase == Phase::Out,
+            None => false,
+        }
+    }
+
+    /// Line 0 of the port with which a port is entangled.
+    pub(crate) fn own_line(&self, peer: EndId) -> Option<Line>
+        ensures { result ≡ kept_own_line (slice_get self.now.ends.items peer.0) }
+    {
+        self.ends.get(peer.0 as usize)?.lines.get(LineId(0))
+    }
+
+    pub(crate) fn hand(&mut self, end: EndId, agent: AgentId) -> Outcome
+        ensures outcome { let agents = self.old.agents.items in
+            let ends = self.old.ends.items in
+            let holder = kept_holder agents ends end.0 in
+            let may = kept_may_take_over (length agents) agent holder in
+            result ≡ hand_outcome_at may (slice_get ends end.0) }
+        ensures ends { let agents = self.old.agents.items in
+            let ends = self.old.ends.items in
+            let holder = kept_holder agents ends end.0 in
+            let may = kept_may_take_over (length agents) agent holder in
+            self.new.ends.items ≡ hand_ends_at may agent end.0 ends (slice_get ends end.0) }
+        ensures agents { let found = slice_get self.old.ends.items end.0 in
+            self.new.agents.items ≡ hand_agents self.old.agents.items found result }
+    {
+        let may = self.may_take_over(agent, self.running_holder(end));
+        let Some(found) = self.ends.get_mut(end.0 as usize) else {
+            return Outcome::NotNow;
         };
-        found.place.is_here() && own_line.phase == Phase::Out
+        let kind = found.kind;
+        let place = found.place;
+        let outcome = found.hand(agent, may);
+        if matches!(outcome, Outcome::Handed) {
+            self.went_from(kind, place);
+        }
+        outcome
+    }
+
+    /// Whether an agent may take over what another one has.
+    fn may_take_over(&self, agent: AgentId, holder: Option<AgentId>) -> bool
+        ensures { result ≡ kept_may_take_over (length self.now.agents.items) agent holder }
+    {
+        match holder {
+            Some(holder) => (agent.0 as usize) < self.agents.len() && holder != agent,
+            None => false,
+        }
     }
 }

@@ -1,5 +1,5 @@
 use crate::envelopes::Envelopes;
-use hub_envelope::{AgentId, EndId, Envelope};
+use hub_envelope::{AgentId, EndId, Envelope, LineId};
 
 /// The part of an accepted envelope's name that its `Push` doesn't say.
 #[derive(Clone, Copy, Debug, PartialEq, Eq)]
@@ -25,8 +25,16 @@ pub enum Outcome {
     TooManyAgents,
     /// The two new ports, entangled with each other.
     Ends(EndId, EndId),
+    /// The new end.
+    End(EndId),
     /// There is no number left for a new end. Nothing changed.
     TooManyEnds,
+    /// The agent holds this line of the end.
+    Line(LineId),
+    /// The end is no client's or worker's queue. Nothing changed.
+    NoSuchEnd,
+    /// Agents hold all `MAX_LINES` lines of the end. Nothing changed.
+    NoLine,
     /// The poster is inside.
     In,
     /// The end, or the line's queue, is closed. A poster that enters is being turned back.
@@ -60,8 +68,10 @@ pub enum Outcome {
     Adopted(u32),
     /// The end was adopted `MAX_MOVES` times. Nothing changed.
     TooManyMoves,
-    /// The end is closed from now on.
+    /// The end is closed from now on; or the line that was given back is held by no agent.
     Done,
+    /// The end has arrived at the other agent.
+    Handed,
     /// What waited at the end, in order of the queues and then of acceptance. It waits no more.
     Discarded(Envelopes),
 }

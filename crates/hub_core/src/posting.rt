@@ -1,12 +1,13 @@
 ghost use Rattle.std.specs.Prelude.{◌≡◌, ◌<◌, ◌≤◌, ◌∷◌, [], length, slice_get, IfOk, OnOk, OnErr};
-ghost use Rattle.hub_core.specs.Kept.{enter_outcome_at, enter_ends_at, leave_outcome_at, leave_ends_at, hop_outcome_at, hop_ends_at, kept_may_enter, kept_noticing, notice_outcome, NoticeLeaves, kept_posting, kept_good, kept_may_travel, kept_may_leave, push_outcome, HasQueue, AcceptLeaves, PushLeaves, Moves};
+ghost use Rattle.hub_core.specs.Kept.{enter_outcome_at, enter_ends_at, leave_outcome_at, leave_ends_at, hop_outcome_at, hop_ends_at, kept_may_enter, kept_noticing, notice_outcome, NoticeLeaves, kept_posting, kept_good, kept_may_travel, kept_may_leave, kept_own_free, push_outcome, HasQueue, AcceptLeaves, PushLeaves, Moves};
 
 use crate::end::Place;
+use crate::kind::Kind;
 use crate::line::{Line, Phase};
 use crate::machine::Core;
 use crate::outcome::{Acceptance, Outcome};
 use crate::sender::Sender;
-use hub_envelope::{AgentId, Body, EndId, Envelope, LineId, MAX_PORTS, OutOfMemory, Ports};
+use hub_envelope::{AgentId, Body, EndId, Envelope, MAX_PORTS, OutOfMemory, Ports};
 
 impl Core {
     pub(crate) fn enter(&mut self, sender: Sender) -> Outcome
@@ -121,13 +122,13 @@ impl Core {
         let Some(line) = end.posting_line(sender.line) else {
             return Err(Outcome::NotNow);
         };
-        let Some(agent) = self.running_holder(end.peer) else {
+        let Some(agent) = self.poster_by(end.kind, line) else {
             return Err(Outcome::NotNow);
         };
         if ports.len() > MAX_PORTS {
             return Err(Outcome::TooManyPorts);
         }
-        if !self.may_be_sent(agent, end.peer, sender.end, ports) {
+        if !self.may_be_sent(agent, end.kind.source(), sender.end, ports) {
             return Err(Outcome::NotNow);
         }
         if memory_refused {
@@ -217,7 +218,13 @@ impl Core {
     /// Whether an agent may send these ports: distinct ports that the agent has, none of them the
     /// port that posts or the one that is posted to, and none with its own poster inside or a
     /// notice of it.
-    fn may_be_sent(&self, agent: AgentId, source: EndId, target: EndId, ports: &[EndId]) -> bool
+    fn may_be_sent(
+        &self,
+        agent: AgentId,
+        source: Option<EndId>,
+        target: EndId,
+        ports: &[EndId],
+    ) -> bool
         ensures { result ≡ kept_good self.now.ends.items agent source target ports.now }
     {
         for (i, port) in ports.iter().enumerate() {
@@ -228,29 +235,33 @@ impl Core {
         true
     }
 
-    fn may_travel(&self, agent: AgentId, source: EndId, target: EndId, port: EndId) -> bool
+    fn may_travel(&self, agent: AgentId, source: Option<EndId>, target: EndId, port: EndId) -> bool
         ensures { result ≡ kept_may_travel self.now.ends.items agent source target port }
     {
         self.may_leave(agent, source, port) && port != target
     }
 
-    /// Whether a port may leave an agent that posts with another one, the source.
-    pub(crate) fn may_leave(&self, agent: AgentId, source: EndId, port: EndId) -> bool
+    /// Whether a port may leave an agent that posts with another one, the source, or with none.
+    pub(crate) fn may_leave(&self, agent: AgentId, source: Option<EndId>, port: EndId) -> bool
         ensures { result ≡ kept_may_leave self.now.ends.items agent source port }
     {
         let Some(end) = self.ends.get(port.0 as usize) else {
             return false;
         };
-        let Some(peer) = self.ends.get(end.peer.0 as usize) else {
+        end.place == Place::With(agent) && self.is_free(end.kind) && source != Some(port)
+    }
+
+    /// Whether an end of this kind is a port whose own poster is out, with no notice of it.
+    fn is_free(&self, kind: Kind) -> bool
+        ensures { result ≡ kept_own_free self.now.ends.items kind }
+    {
+        let Kind::Port(peer) = kind else {
             return false;
         };
-        let Some(own_line) = peer.lines.get(LineId(0)) else {
-            return false;
-        };
-        own_line.phase == Phase::Out
-            && !own_line.has_noticed
-            && end.place == Place::With(agent)
-            && port != source
+        match self.own_line(peer) {
+            Some(line) => line.phase == Phase::Out && !line.has_noticed,
+            None => false,
+        }
     }
 
     /// Gives each listed port a new place.

@@ -1,11 +1,13 @@
-ghost use Rattle.std.specs.Prelude.{◌≡◌, length};
+ghost use Rattle.std.specs.Prelude.{◌≡◌, length, option_map, slice_get};
 ghost use Rattle.hub_core.specs.Facts.{facts};
 ghost use Rattle.hub_core.specs.History.{History};
 ghost use Rattle.hub_core.specs.Kept.{kept_may_post, kept_all_leave, kept_listing};
+ghost use Rattle.hub_core.specs.Made.{kind};
 ghost use Rattle.hub_core.specs.Moving.{may_close};
 ghost use Rattle.hub_core.specs.Posting.{may_post, listing};
 ghost use Rattle.hub_core.specs.Shows.{Shows};
 
+use crate::kind::Kind;
 use crate::line::Phase;
 use crate::listing::Listing;
 use crate::machine::Core;
@@ -51,7 +53,7 @@ impl Core {
         let Some(agent) = self.poster_of(sender) else {
             return Listing::Bad;
         };
-        if !self.may_all_leave(agent, end.peer, ports) {
+        if !self.may_all_leave(agent, end.kind.source(), ports) {
             return Listing::Bad;
         }
         if ports.contains(&sender.end) {
@@ -62,7 +64,7 @@ impl Core {
     }
 
     /// Whether these are distinct ports that may leave an agent.
-    fn may_all_leave(&self, agent: AgentId, source: EndId, ports: &[EndId]) -> bool
+    fn may_all_leave(&self, agent: AgentId, source: Option<EndId>, ports: &[EndId]) -> bool
         ensures { result ≡ kept_all_leave self.now.ends.items agent source ports.now }
     {
         for (i, port) in ports.iter().enumerate() {
@@ -71,6 +73,19 @@ impl Core {
             }
         }
         true
+    }
+
+    /// What an end is, where there is one.
+    pub fn kind_of(&self, end: EndId) -> Option<Kind>
+        ensures { (h : History) → Shows self.now h → result ≡ kind h end.0 }
+    {
+        self.kind_at(end)
+    }
+
+    pub(crate) fn kind_at(&self, end: EndId) -> Option<Kind>
+        ensures { result ≡ option_map (λ x. x.kind) (slice_get self.now.ends.items end.0) }
+    {
+        Some(self.ends.get(end.0 as usize)?.kind)
     }
 
     /// Whether a Close of the end would be answered Done now.

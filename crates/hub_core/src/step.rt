@@ -8,6 +8,15 @@ pub enum Action {
     Agent,
     /// The agent makes two entangled ports (WHATWG HTML, "Message channels").
     Channel(AgentId),
+    /// The agent makes its queue of the messages to a client (W3C Service Workers, "Client").
+    Client(AgentId),
+    /// The agent makes its queue of the messages to a worker (W3C Service Workers,
+    /// "ServiceWorker").
+    Worker(AgentId),
+    /// The agent gets a line of a client's or worker's queue, and holds it until it gives it back.
+    Line(EndId, AgentId),
+    /// A line is given back.
+    Back(Sender),
     /// A poster passes the gate of its line's queue, or is turned back there.
     Enter(Sender),
     /// A poster that is inside a queue puts a body in it, with the ports that travel along.
@@ -33,6 +42,9 @@ pub enum Action {
     Close(EndId),
     /// What waits at a closed end is discarded.
     Sweep(EndId),
+    /// The agent that has a client's or worker's queue hands it to another agent, at which it
+    /// arrives.
+    Hand(EndId, AgentId),
 }
 
 /// An event, and whether memory is refused in it. Refused memory has no effect on an event that

@@ -1,5 +1,5 @@
 use hub_core::{
-    Action, Core, Listing, OutOfMemory, Outcome, Sender, Step, chain_laws, gate_machine_laws,
+    Action, Core, Kind, Listing, OutOfMemory, Outcome, Sender, Step, chain_laws, gate_machine_laws,
     history_laws, mailbox_laws, pair_laws, queue_laws, run,
 };
 use hub_envelope::{AgentId, Body, EndId, Envelope, LineId};
@@ -20,6 +20,26 @@ fn line_of(port: u32) -> Sender {
         end: EndId(port ^ 1),
         line: LineId(0),
     }
+}
+
+/// A line of a client's or worker's queue.
+fn line_at(end: u32, line: u8) -> Sender {
+    Sender {
+        end: EndId(end),
+        line: LineId(line),
+    }
+}
+
+fn hold(end: u32, agent: u8) -> Step {
+    step(Action::Line(EndId(end), AgentId(agent)))
+}
+
+fn back(end: u32, line: u8) -> Step {
+    step(Action::Back(line_at(end, line)))
+}
+
+fn hand(end: u32, agent: u8) -> Step {
+    step(Action::Hand(EndId(end), AgentId(agent)))
 }
 
 fn enter(port: u32) -> Step {
@@ -253,13 +273,55 @@ const CLOSED: &str = "Agent(AgentId(0)); Ends(EndId(0), EndId(1)); Ends(EndId(2)
     In; Accepted(Acceptance { agent: AgentId(0), epoch: 0, number: 0 }); Left; NotNow; Done; \
     Closed; Left; Closed; Discarded 0:0 \"in\" with 4; Started; Notice 0:0 null with; Empty; ";
 
+/// The client's queue of agent 0 is posted at by agent 1, handed to it and adopted.
+fn handing(alloc: Global) -> Result<Vec<Step>, OutOfMemory> {
+    let body = Body::read(alloc, "7").ok().ok_or(OutOfMemory)?;
+    Ok(vec![in alloc;
+        step(Action::Agent),
+        step(Action::Agent),
+        step(Action::Client(AgentId(0))),
+        step(Action::Client(AgentId(0))),
+        step(Action::Worker(AgentId(1))),
+        hold(0, 1),
+        hold(0, 0),
+        step(Action::Enter(line_at(0, 0))),
+        step(Action::Push(line_at(0, 0), Vec::new(alloc), body)),
+        back(0, 0),
+        step(Action::Leave(line_at(0, 0))),
+        back(0, 0),
+        hold(0, 0),
+        hold(2, 0),
+        start(0),
+        hand(0, 0),
+        hand(0, 1),
+        take(0),
+        step(Action::Client(AgentId(0))),
+        step(Action::Adopt(EndId(0), AgentId(1))),
+        start(0),
+        take(0),
+        take(0),
+        step(Action::Client(AgentId(1))),
+        close(0),
+        step(Action::Client(AgentId(1))),
+        hand(0, 0),
+    ]?)
+}
+
+const HANDED: &str = "Agent(AgentId(0)); Agent(AgentId(1)); End(EndId(0)); NotNow; End(EndId(1)); \
+    Line(LineId(0)); Line(LineId(1)); In; \
+    Accepted(Acceptance { agent: AgentId(1), epoch: 0, number: 0 }); NotNow; Left; Done; \
+    Line(LineId(0)); NoSuchEnd; Started; NotNow; Handed; NotNow; End(EndId(2)); Adopted(1); \
+    Started; Got 0:0 7 with; Again; NotNow; Done; End(EndId(3)); Closed; ";
+
 #[test]
-fn moves_closes_and_discards(rt: HostRuntime) -> Result<(), Fail> {
+fn moves_closes_hands_and_discards(rt: HostRuntime) -> Result<(), Fail> {
     let alloc = rt.alloc();
     let moved = outcomes_of(&rt, alloc, moving(alloc)?)?;
     assert_eq!(rt; moved.as_str(), MOVED);
     let closed = outcomes_of(&rt, alloc, closing(alloc)?)?;
     assert_eq!(rt; closed.as_str(), CLOSED);
+    let handed = outcomes_of(&rt, alloc, handing(alloc)?)?;
+    assert_eq!(rt; handed.as_str(), HANDED);
     Ok(())
 }
 
@@ -285,6 +347,8 @@ fn says_what_may_be_done(rt: HostRuntime) -> Result<(), Fail> {
     assert_eq!(rt; core.listing(here, &[EndId(1), EndId(1)]), bad, "twice");
     assert_eq!(rt; core.listing(here, &[EndId(0)]), bad, "the source");
     assert_eq!(rt; core.listing(here, &[EndId(4)]), bad, "no end");
+    assert_eq!(rt; core.kind_of(EndId(0)), Some(Kind::Port(EndId(1))));
+    assert_eq!(rt; core.kind_of(EndId(4)), None, "no end");
     core.step(enter(0))?;
     assert!(rt; !core.may_post(here) && core.may_post(there));
     assert!(rt; !core.may_close(EndId(0)) && core.may_close(EndId(1)));
@@ -315,19 +379,27 @@ fn outcomes_again(
     Ok(())
 }
 
-fn steps_of(alloc: Global, closes: bool) -> Result<Vec<Step>, OutOfMemory> {
-    if closes {
-        closing(alloc)
-    } else {
-        moving(alloc)
+/// What a list of steps is about.
+#[derive(Clone, Copy)]
+enum About {
+    Moving,
+    Closing,
+    Handing,
+}
+
+fn steps_of(alloc: Global, about: About) -> Result<Vec<Step>, OutOfMemory> {
+    match about {
+        About::Moving => moving(alloc),
+        About::Closing => closing(alloc),
+        About::Handing => handing(alloc),
     }
 }
 
 /// The steps, where memory is refused once.
-fn steps_again(alloc: Global, closes: bool) -> Result<Vec<Step>, OutOfMemory> {
-    match steps_of(alloc, closes) {
+fn steps_again(alloc: Global, about: About) -> Result<Vec<Step>, OutOfMemory> {
+    match steps_of(alloc, about) {
         Ok(steps) => Ok(steps),
-        Err(OutOfMemory) => steps_of(alloc, closes),
+        Err(OutOfMemory) => steps_of(alloc, about),
     }
 }
 
@@ -336,9 +408,13 @@ fn steps_again(alloc: Global, closes: bool) -> Result<Vec<Step>, OutOfMemory> {
 #[test]
 fn goes_on_whichever_allocation_is_refused(rt: HostRuntime) -> Result<(), Fail> {
     let alloc = rt.alloc();
-    for (closes, expected) in [(false, MOVED), (true, CLOSED)] {
-        let steps = steps_again(alloc, closes)?;
-        let same = steps_again(alloc, closes)?;
+    for (about, expected) in [
+        (About::Moving, MOVED),
+        (About::Closing, CLOSED),
+        (About::Handing, HANDED),
+    ] {
+        let steps = steps_again(alloc, about)?;
+        let same = steps_again(alloc, about)?;
         let mut words = match String::with_capacity(alloc, expected.len()) {
             Ok(words) => words,
             Err(OutOfMemory) => String::with_capacity(alloc, expected.len())?,

@@ -3,6 +3,7 @@ use Rattle.std.proofs.Common.{◌≡◌, ℕ, suc, ◌+◌, ◌-◌, ◌<◌, �
 use Rattle.std.proofs.lemmas.Bool.Decides.{nat_tests}
 use Rattle.std.specs.Prelude.{Vec, nat_lt, IfOk}
 use Rattle.std.specs.declared.alloc.Global.{Global}
+use Rattle.hub_envelope.specs.declared.ids.AgentId.{AgentId}
 use Rattle.hub_envelope.specs.declared.ids.EndId.{EndId}
 use Rattle.hub_envelope.specs.declared.envelope.Envelope.{Envelope}
 use Rattle.hub_core.specs.declared.sender.Sender.{Sender}
@@ -21,9 +22,11 @@ use Rattle.hub_core.specs.Shows.{Shows, FitsAndShows}
 use Rattle.messagehub.specs.declared.steps.shown.Shown.{Shown}
 use Rattle.messagehub.specs.declared.steps.shown.Shown.TheVariants.{Answer, Moving, Doomed}
 use Rattle.messagehub.specs.declared.steps.step_line.Poster.{Poster}
+use Rattle.messagehub.specs.declared.steps.step_line.Command.{Command}
+use Rattle.messagehub.specs.declared.steps.step_line.StepLine.{StepLine}
 use Rattle.messagehub.specs.Computation.{Computation, pair, pure, ask, step, ◌>>=◌}
-use Rattle.messagehub.specs.Performed.{ComputesAt}
-use Rattle.messagehub.specs.Unfolding.{shown_step, sender_of, on_line, on_line_of, push, shown_push, enter, go_on, send_inside, send, post_listing, post_count, post_may, post, notice_line, tell_inside, tell, close_shown, close_on, close, close_each, close_ports, close_swept, sweep}
+use Rattle.messagehub.specs.Performed.{ComputesAt, PerformsAt}
+use Rattle.messagehub.specs.Unfolding.{shown_step, sender_of, on_line, on_line_of, push, shown_push, enter, go_on, send_inside, send, post_listing, post_count, post_may, post, start_made, worker, start_worker, start_adopted, adopt, notice_line, tell_inside, tell, close_shown, close_on, close, close_each, close_ports, close_swept, sweep, core_steps}
 
 -- ---- computations in general
 
@@ -62,6 +65,10 @@ pub asked_then : {X Y : Type 0} → (old new : Core) (f : Facts → X) (next : X
 asked_then old new f next x y is did = chained old old new (ask f) next x y (asked old f x is) did
 
 -- ---- a step line of one step
+
+-- a step line whose command it is
+pub performed : {E : Type 0} → (old new : Core) (line : StepLine) (c : Command) (r : Result Shown E) → line.command ≡ c → IfOk r (λ shown. ComputesAt old new (core_steps line.memory_refused c) shown) → IfOk r (λ shown. PerformsAt old new line shown)
+performed old new line c r is did = subst (λ (command : Command). IfOk r (λ shown. ComputesAt old new (core_steps line.memory_refused command) shown)) (sym is) did
 
 pub step_shown : (old new : Core) (refused : Bool) (a : Action) (o : Outcome) → FitsAndShows old new (record { action = a; memory_refused = refused }) o → ComputesAt old new (shown_step refused a) (Answer o)
 step_shown old new refused a o fits = shown_as old new (step refused a) Answer o (stepped old new refused a o fits)
@@ -245,3 +252,29 @@ sweeps_nothing core refused o other = given core (Answer o)
 
 pub swept_nothing : (old new : Core) (refused : Bool) (e : EndId) (o : Outcome) → ((vs : List Envelope) → o ≡ outcome.Discarded vs → ⊥) → ComputesAt old new (step refused (action.Sweep e)) o → ComputesAt old new (sweep refused e) (Answer o)
 swept_nothing old new refused e o other a = chained old new new (step refused (action.Sweep e)) (close_swept refused) o (Answer o) a (sweeps_nothing new refused o other)
+
+-- ---- queues that a step line starts
+
+pub made_and_started : (old first new : Core) (refused : Bool) (a : AgentId) (e : EndId) (o : Outcome) → ComputesAt old first (step refused (action.Worker a)) (outcome.End e) → ComputesAt first new (step refused (action.Start e)) o → ComputesAt old new (worker refused a) (Answer (outcome.End e))
+made_and_started old first new refused a e o made did =
+    chained old first new (step refused (action.Worker a)) (start_made refused) (outcome.End e) (Answer (outcome.End e)) made
+    (shown_as first new (step refused (action.Start e)) (λ started. Answer (outcome.End e)) o did)
+
+makes_nothing : (core : Core) (refused : Bool) (o : Outcome) → ((e : EndId) → o ≡ outcome.End e → ⊥) → ComputesAt core core (start_made refused o) (Answer o)
+makes_nothing core refused (outcome.End e) other = absurd (other e refl)
+makes_nothing core refused o other = given core (Answer o)
+
+pub made_nothing : (old new : Core) (refused : Bool) (a : AgentId) (o : Outcome) → ((e : EndId) → o ≡ outcome.End e → ⊥) → ComputesAt old new (step refused (action.Worker a)) o → ComputesAt old new (worker refused a) (Answer o)
+made_nothing old new refused a o other did = chained old new new (step refused (action.Worker a)) (start_made refused) o (Answer o) did (makes_nothing new refused o other)
+
+pub adopted_and_started : (old first new : Core) (refused : Bool) (e : EndId) (a : AgentId) (k : ℕ) → ComputesAt old first (step refused (action.Adopt e a)) (outcome.Adopted k) → ComputesAt first new (start_worker refused e) tt → ComputesAt old new (adopt refused e a) (Answer (outcome.Adopted k))
+adopted_and_started old first new refused e a k adopted did =
+    chained old first new (step refused (action.Adopt e a)) (start_adopted refused e) (outcome.Adopted k) (Answer (outcome.Adopted k)) adopted
+    (shown_as first new (start_worker refused e) (λ started. Answer (outcome.Adopted k)) tt did)
+
+adopts_nothing : (core : Core) (refused : Bool) (e : EndId) (o : Outcome) → ((k : ℕ) → o ≡ outcome.Adopted k → ⊥) → ComputesAt core core (start_adopted refused e o) (Answer o)
+adopts_nothing core refused e (outcome.Adopted k) other = absurd (other k refl)
+adopts_nothing core refused e o other = given core (Answer o)
+
+pub adopted_nothing : (old new : Core) (refused : Bool) (e : EndId) (a : AgentId) (o : Outcome) → ((k : ℕ) → o ≡ outcome.Adopted k → ⊥) → ComputesAt old new (step refused (action.Adopt e a)) o → ComputesAt old new (adopt refused e a) (Answer o)
+adopted_nothing old new refused e a o other did = chained old new new (step refused (action.Adopt e a)) (start_adopted refused e) o (Answer o) did (adopts_nothing new refused e o other)

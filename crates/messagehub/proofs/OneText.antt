@@ -1,5 +1,6 @@
 -- Step lines have one text.
 use Rattle.std.proofs.Common.{◌≡◌, ℕ, zero, suc, Bool, true, false, List, length, [], ◌∷◌, ◌++◌, Option, Some, None, refl, sym, ap, subst, ◌∙◌, append_assoc, append-nil}
+use Rattle.hub_envelope.specs.declared.ids.AgentId.{AgentId}
 use Rattle.hub_envelope.specs.declared.ids.EndId.{EndId}
 use Rattle.hub_envelope.specs.declared.envelope.Envelope.{Envelope}
 use Rattle.hub_envelope.specs.declared.limits.TheConstants.{MAX_PORTS}
@@ -13,11 +14,14 @@ use Rattle.hub_core.specs.History.{History}
 use Rattle.hub_core.specs.declared.listing.Listing.{Listing}
 use Rattle.hub_core.specs.declared.listing.Listing.TheVariants.{Good, HoldsTarget, Bad}
 use Rattle.hub_core.specs.Facts.{Facts}
+use Rattle.hub_core.specs.Making.{is_client, is_worker}
 use Rattle.hub_core.specs.Posting.{may_post, listing}
 use Rattle.hub_core.specs.Legal.{Legal}
 use Rattle.hub_core.specs.Laws.{InOrder, IsSameAction, AreSamePairs}
 use Rattle.hub_core.proofs.Orders.{one_answer, facts_alike}
 use Rattle.messagehub.specs.declared.steps.step_line.Poster.{Poster}
+use Rattle.messagehub.specs.declared.steps.step_line.PosterCommand.{PosterCommand}
+use Rattle.messagehub.specs.declared.steps.step_line.PosterCommand.TheVariants as poster
 use Rattle.messagehub.specs.declared.steps.shown.Shown.{Shown}
 use Rattle.messagehub.specs.declared.steps.shown.Shown.TheVariants.{Answer, Moving, Doomed}
 use Rattle.messagehub.specs.declared.steps.step_line.Command.{Command}
@@ -25,7 +29,7 @@ use Rattle.messagehub.specs.declared.steps.step_line.Command.TheVariants as comm
 use Rattle.messagehub.specs.declared.steps.step_line.StepLine.{StepLine}
 use Rattle.messagehub.specs.ShownText.{shown_line}
 use Rattle.messagehub.specs.Computation.{Computation, pair, pure, ask, step, ◌>>=◌}
-use Rattle.messagehub.specs.Unfolding.{shown_step, sender_of, on_line, on_line_of, IsPush, push, go_on, enter, send_inside, send, notice_line, tell_inside, tell, close_shown, close_on, close, close_each, close_ports, close_swept, sweep, post_listing, post_count, post_may, post, core_steps}
+use Rattle.messagehub.specs.Unfolding.{shown_step, sender_of, on_line, on_line_of, IsPush, push, go_on, enter, send_inside, send, notice_line, tell_inside, tell, close_shown, close_on, close, close_each, close_ports, close_swept, sweep, post_listing, post_count, post_may, post, start_made, worker, start_where, start_worker, start_adopted, adopt, load_client, load, line_steps, core_steps}
 use Rattle.messagehub.specs.StepText.{Runs, OneText}
 
 -- ---- the same pairs
@@ -192,20 +196,67 @@ may_agrees refused ports body s true = count_agrees refused ports body s (nat_lt
 post_agrees : (refused : Bool) (ports : List EndId) (body : List ℕ) (s : Sender) → Agrees (post refused ports body s)
 post_agrees refused ports body s = chain_agrees (ask (λ f. may_post f s)) (post_may refused ports body s) (ask_agrees (λ f. may_post f s)) (may_agrees refused ports body s)
 
+-- ---- queues that a line starts
+
+-- a Start that isn't shown
+started_agrees : {X : Type 0} → (refused : Bool) (e : EndId) (x : X) → Agrees (step refused (action.Start e) >>= λ started. pure x)
+started_agrees refused e x = chain_agrees (step refused (action.Start e)) (λ started. pure x) (plain_agrees refused (action.Start e) refl) (λ started. pure_agrees x)
+
+start_made_agrees : (refused : Bool) (o : Outcome) → Agrees (start_made refused o)
+start_made_agrees refused (outcome.End e) = started_agrees refused e (Answer (outcome.End e))
+start_made_agrees refused o = pure_agrees (Answer o)
+
+worker_agrees : (refused : Bool) (a : AgentId) → Agrees (worker refused a)
+worker_agrees refused a = chain_agrees (step refused (action.Worker a)) (start_made refused) (plain_agrees refused (action.Worker a) refl) (start_made_agrees refused)
+
+start_where_agrees : (refused : Bool) (e : EndId) (there : Bool) → Agrees (start_where refused e there)
+start_where_agrees refused e true = started_agrees refused e tt
+start_where_agrees refused e false = pure_agrees tt
+
+start_worker_agrees : (refused : Bool) (e : EndId) → Agrees (start_worker refused e)
+start_worker_agrees refused e =
+    let of_worker : Facts → Bool = λ f. is_worker (f.end e.0).kind in
+    chain_agrees (ask of_worker) (start_where refused e) (ask_agrees of_worker) (start_where_agrees refused e)
+
+start_adopted_agrees : (refused : Bool) (e : EndId) (o : Outcome) → Agrees (start_adopted refused e o)
+start_adopted_agrees refused e (outcome.Adopted k) = shown_agrees (start_worker refused e) (λ started. Answer (outcome.Adopted k)) (start_worker_agrees refused e)
+start_adopted_agrees refused e o = pure_agrees (Answer o)
+
+adopt_agrees : (refused : Bool) (e : EndId) (a : AgentId) → Agrees (adopt refused e a)
+adopt_agrees refused e a = chain_agrees (step refused (action.Adopt e a)) (start_adopted refused e) (plain_agrees refused (action.Adopt e a) refl) (start_adopted_agrees refused e)
+
+load_client_agrees : (refused : Bool) (e : EndId) (there : Bool) → Agrees (load_client refused e there)
+load_client_agrees refused e true = shown_step_agrees refused (action.Start e) refl
+load_client_agrees refused e false = pure_agrees (Answer outcome.NotNow)
+
+load_agrees : (refused : Bool) (e : EndId) → Agrees (load refused e)
+load_agrees refused e =
+    let of_client : Facts → Bool = λ f. is_client (f.end e.0).kind in
+    chain_agrees (ask of_client) (load_client refused e) (ask_agrees of_client) (load_client_agrees refused e)
+
 -- ---- a line
+
+line_steps_agrees : (refused : Bool) (c : PosterCommand) (s : Sender) → Agrees (line_steps refused c s)
+line_steps_agrees refused poster.Enter s = shown_step_agrees refused (action.Enter s) refl
+line_steps_agrees refused (poster.Push ports body) s = shown_agrees (push refused ports body s) Answer (push_agrees refused ports body s)
+line_steps_agrees refused poster.Leave s = shown_step_agrees refused (action.Leave s) refl
+line_steps_agrees refused poster.Hop s = shown_step_agrees refused (action.Hop s) refl
+line_steps_agrees refused poster.Back s = shown_step_agrees refused (action.Back s) refl
+line_steps_agrees refused (poster.Post ports body) s = post_agrees refused ports body s
 
 line_agrees : (refused : Bool) (c : Command) → Agrees (core_steps refused c)
 line_agrees refused command.Agent = shown_step_agrees refused action.Agent refl
 line_agrees refused (command.Channel a) = shown_step_agrees refused (action.Channel a) refl
-line_agrees refused (command.Enter p) = on_line_of_agrees p _ (λ s. shown_step_agrees refused (action.Enter s) refl)
-line_agrees refused (command.Push p ports body) = on_line_of_agrees p _ (λ s. shown_agrees (push refused ports body s) Answer (push_agrees refused ports body s))
-line_agrees refused (command.Leave p) = on_line_of_agrees p _ (λ s. shown_step_agrees refused (action.Leave s) refl)
-line_agrees refused (command.Hop p) = on_line_of_agrees p _ (λ s. shown_step_agrees refused (action.Hop s) refl)
-line_agrees refused (command.Post p ports body) = on_line_of_agrees p _ (post_agrees refused ports body)
+line_agrees refused (command.Client a) = shown_step_agrees refused (action.Client a) refl
+line_agrees refused (command.Worker a) = worker_agrees refused a
+line_agrees refused (command.Line e a) = shown_step_agrees refused (action.Line e a) refl
+line_agrees refused (command.At p c) = on_line_of_agrees p (line_steps refused c) (line_steps_agrees refused c)
 line_agrees refused (command.Start e) = shown_step_agrees refused (action.Start e) refl
+line_agrees refused (command.Loaded e) = load_agrees refused e
 line_agrees refused (command.Take e) = shown_step_agrees refused (action.Take e) refl
 line_agrees refused (command.Look e) = shown_step_agrees refused (action.Look e) refl
-line_agrees refused (command.Adopt e a) = shown_step_agrees refused (action.Adopt e a) refl
+line_agrees refused (command.Hand e a) = shown_step_agrees refused (action.Hand e a) refl
+line_agrees refused (command.Adopt e a) = adopt_agrees refused e a
 line_agrees refused (command.Close e) = close_agrees refused e
 line_agrees refused (command.Sweep e) = sweep_agrees refused e
 

@@ -1,16 +1,18 @@
 -- What a step line asks for, or what is wrong with it: the first test that it fails, in their order.
-use Rattle.std.specs.Prelude.{ℕ, ◌==◌, nat_lt, List, [], ◌∷◌, Bool, true, false, Option, Some, None, option_map, Result, Ok, Err, codes, bytes_eq, if◌then◌else◌}
+use Rattle.std.specs.Prelude.{ℕ, ◌==◌, nat_lt, List, [], ◌∷◌, Bool, true, false, Option, Some, None, option_and_then, option_map, Result, Ok, Err, codes, bytes_eq, if◌then◌else◌}
 use Rattle.std.specs.Str.{is_utf8}
 use Rattle.hub_envelope.specs.Answer.{answer_of}
 use Rattle.hub_envelope.specs.declared.body.BodyError.{BodyError}
 use Rattle.hub_envelope.specs.declared.ids.AgentId.{AgentId}
 use Rattle.hub_envelope.specs.declared.ids.EndId.{EndId}
+use Rattle.hub_envelope.specs.declared.ids.LineId.{LineId}
 use Rattle.hub_text.specs.EndList.{ends_of}
 use Rattle.hub_text.specs.Number as text
 use Rattle.hub_text.specs.Reading.{◌>>=◌, some_or}
 use Rattle.hub_text.specs.Word.{cut}
 use Rattle.messagehub.specs.declared.steps.step_line.Poster.{Poster}
-use Rattle.messagehub.specs.declared.steps.step_line.Poster.TheVariants.{Port}
+use Rattle.messagehub.specs.declared.steps.step_line.Poster.TheVariants.{Port, Line}
+use Rattle.messagehub.specs.declared.steps.step_line.PosterCommand.TheVariants.{Enter, Push, Leave, Hop, Back, Post}
 use Rattle.messagehub.specs.declared.steps.step_line.Command.{Command}
 use Rattle.messagehub.specs.declared.steps.step_line.Command.TheVariants as command
 use Rattle.messagehub.specs.declared.steps.step_line.StepLine.{StepLine}
@@ -30,9 +32,28 @@ number_of word = text.number_of 4294967295 word
 abbrev pub agent_of : ℕ → AgentId
 agent_of n = record { 0 = (if nat_lt n 256 then n else 255) }
 
--- a number, for the poster that the port of that number holds
+-- No end has a line 255, so each number that names no line is read as that one.
+abbrev pub line_of : ℕ → LineId
+line_of n = record { 0 = (if nat_lt n 256 then n else 255) }
+
+-- the poster that the port of that number holds
+abbrev pub port_named : List ℕ → Option Poster
+port_named word = option_map (λ port. Port (record { 0 = port })) (number_of word)
+
+-- the poster of the line of that number, at the end of that number
+abbrev pub line_named : List ℕ → List ℕ → Option Poster
+line_named end line = option_and_then (λ e. option_map (λ l. Line (record { 0 = e }) (line_of l)) (number_of line)) (number_of end)
+
+abbrev pub poster_cut : Option (List ℕ × List ℕ) → List ℕ → Option Poster
+poster_cut None word = port_named word
+poster_cut (Some parts) word = line_named parts.0 parts.1
+
+-- a number, for the poster that a port holds; or two numbers with a `/` between, for the poster of a line
+abbrev pub poster_named : List ℕ → Option Poster
+poster_named word = poster_cut (cut 47 word) word
+
 abbrev pub poster_of : List ℕ → Read Poster
-poster_of word = some_or BadPoster (option_map (λ port. Port (record { 0 = port })) (number_of word))
+poster_of word = some_or BadPoster (poster_named word)
 
 -- `-`, or numbers joined by single commas
 abbrev pub list_of : List ℕ → Read (List EndId)
@@ -63,15 +84,15 @@ number_after rest = only_word rest >>= λ word. some_or BadNumber (number_of wor
 abbrev pub word_before : List ℕ → Read (List ℕ × List ℕ)
 word_before text = some_or BadWords (cut 32 text)
 
--- the two numbers that are the rest of the step line
-unfoldable pub two_numbers_after : Option (List ℕ) → Read (ℕ × ℕ)
-two_numbers_after rest = do
+-- the two numbers that are the rest of the step line: an end's and an agent's
+unfoldable pub end_and_agent_after : Option (List ℕ) → Read (EndId × AgentId)
+end_and_agent_after rest = do
   text ← some_or BadWords rest
   parts ← word_before text
   word ← only_word (Some parts.1)
-  first ← some_or BadNumber (number_of parts.0)
-  second ← some_or BadNumber (number_of word)
-  Ok (first, second)
+  end ← some_or BadNumber (number_of parts.0)
+  agent ← some_or BadNumber (number_of word)
+  Ok (record { 0 = end }, agent_of agent)
 
 -- the poster that is the rest of the step line
 abbrev pub poster_after : Option (List ℕ) → Read Poster
@@ -93,23 +114,34 @@ abbrev pub agent_after : Option (List ℕ) → Read Command
 agent_after None = Err BadWords
 agent_after (Some text) = if bytes_eq text (codes "-") then Ok command.Agent else Err BadWords
 
+-- what the step of that name and the rest of the step line ask of a poster
+unfoldable pub poster_command_of : List ℕ → Option (List ℕ) → Read Command
+poster_command_of name rest =
+    if bytes_eq name (codes "enter") then poster_after rest >>= (λ p. Ok (command.At p Enter))
+    else (if bytes_eq name (codes "leave") then poster_after rest >>= (λ p. Ok (command.At p Leave))
+    else (if bytes_eq name (codes "hop") then poster_after rest >>= (λ p. Ok (command.At p Hop))
+    else (if bytes_eq name (codes "back") then poster_after rest >>= (λ p. Ok (command.At p Back))
+    else (if bytes_eq name (codes "push") then posting_after rest >>= (λ x. Ok (command.At x.0 (Push x.1 x.2)))
+    else (if bytes_eq name (codes "post") then posting_after rest >>= (λ x. Ok (command.At x.0 (Post x.1 x.2)))
+    else Err UnknownStep)))))
+
 -- what the step of that name and the rest of the step line ask for
 unfoldable pub command_of : List ℕ → Option (List ℕ) → Read Command
 command_of name rest =
     if bytes_eq name (codes "agent") then agent_after rest
     else (if bytes_eq name (codes "channel") then number_after rest >>= (λ n. Ok (command.Channel (agent_of n)))
-    else (if bytes_eq name (codes "enter") then poster_after rest >>= (λ p. Ok (command.Enter p))
-    else (if bytes_eq name (codes "leave") then poster_after rest >>= (λ p. Ok (command.Leave p))
-    else (if bytes_eq name (codes "hop") then poster_after rest >>= (λ p. Ok (command.Hop p))
-    else (if bytes_eq name (codes "push") then posting_after rest >>= (λ x. Ok (command.Push x.0 x.1 x.2))
-    else (if bytes_eq name (codes "post") then posting_after rest >>= (λ x. Ok (command.Post x.0 x.1 x.2))
+    else (if bytes_eq name (codes "client") then number_after rest >>= (λ n. Ok (command.Client (agent_of n)))
+    else (if bytes_eq name (codes "worker") then number_after rest >>= (λ n. Ok (command.Worker (agent_of n)))
+    else (if bytes_eq name (codes "line") then end_and_agent_after rest >>= (λ x. Ok (command.Line x.0 x.1))
     else (if bytes_eq name (codes "start") then number_after rest >>= (λ n. Ok (command.Start (record { 0 = n })))
+    else (if bytes_eq name (codes "loaded") then number_after rest >>= (λ n. Ok (command.Loaded (record { 0 = n })))
     else (if bytes_eq name (codes "take") then number_after rest >>= (λ n. Ok (command.Take (record { 0 = n })))
     else (if bytes_eq name (codes "look") then number_after rest >>= (λ n. Ok (command.Look (record { 0 = n })))
-    else (if bytes_eq name (codes "adopt") then two_numbers_after rest >>= (λ x. Ok (command.Adopt (record { 0 = x.0 }) (agent_of x.1)))
+    else (if bytes_eq name (codes "hand") then end_and_agent_after rest >>= (λ x. Ok (command.Hand x.0 x.1))
+    else (if bytes_eq name (codes "adopt") then end_and_agent_after rest >>= (λ x. Ok (command.Adopt x.0 x.1))
     else (if bytes_eq name (codes "close") then number_after rest >>= (λ n. Ok (command.Close (record { 0 = n })))
     else (if bytes_eq name (codes "sweep") then number_after rest >>= (λ n. Ok (command.Sweep (record { 0 = n })))
-    else Err UnknownStep))))))))))))
+    else poster_command_of name rest))))))))))))
 
 abbrev pub command_cut : List ℕ → Option (List ℕ × List ℕ) → Read Command
 command_cut text None = command_of text None

@@ -1,9 +1,10 @@
 -- The core steps that a step line unfolds to, and what it shows.
-use Rattle.std.specs.Prelude.{◌≡◌, ℕ, zero, suc, Bool, true, false, List, [], ◌∷◌, length, nat_lt, if◌then◌else◌, Option, Some, None, option_map}
+use Rattle.std.specs.Prelude.{◌≡◌, ℕ, zero, suc, Bool, true, false, ◌&&◌, List, [], ◌∷◌, length, nat_lt, if◌then◌else◌, Option, Some, None, option_map}
+use Rattle.hub_envelope.specs.declared.ids.AgentId.{AgentId}
 use Rattle.hub_envelope.specs.declared.ids.EndId.{EndId}
 use Rattle.hub_envelope.specs.declared.envelope.Envelope.{Envelope}
 use Rattle.hub_envelope.specs.declared.limits.TheConstants.{MAX_PORTS}
-use Rattle.hub_core.specs.declared.limits.TheConstants.{MAX_HOPS}
+use Rattle.hub_core.specs.declared.limits.TheConstants.{MAX_HOPS, MAX_LINES}
 use Rattle.hub_core.specs.declared.sender.Sender.{Sender}
 use Rattle.hub_core.specs.declared.step.Action.{Action}
 use Rattle.hub_core.specs.declared.step.Action.TheVariants as action
@@ -12,31 +13,44 @@ use Rattle.hub_core.specs.declared.outcome.Outcome.TheVariants as outcome
 use Rattle.hub_core.specs.declared.listing.Listing.{Listing}
 use Rattle.hub_core.specs.declared.listing.Listing.TheVariants.{Good, HoldsTarget, Bad}
 use Rattle.hub_core.specs.Facts.{Facts}
+use Rattle.hub_core.specs.Made.{is_queue, peer_of}
+use Rattle.hub_core.specs.Making.{is_client, is_worker}
 use Rattle.hub_core.specs.Moving.{may_close}
 use Rattle.hub_core.specs.Posting.{may_post, listing}
 use Rattle.messagehub.specs.declared.steps.shown.Shown.{Shown}
 use Rattle.messagehub.specs.declared.steps.shown.Shown.TheVariants.{Answer, Moving, Doomed, DoneNoMemory, DoneMoving}
 use Rattle.messagehub.specs.declared.steps.step_line.Poster.{Poster}
-use Rattle.messagehub.specs.declared.steps.step_line.Poster.TheVariants.{Port}
+use Rattle.messagehub.specs.declared.steps.step_line.Poster.TheVariants.{Port, Line}
+use Rattle.messagehub.specs.declared.steps.step_line.PosterCommand.{PosterCommand}
+use Rattle.messagehub.specs.declared.steps.step_line.PosterCommand.TheVariants as poster
 use Rattle.messagehub.specs.declared.steps.step_line.Command.{Command}
 use Rattle.messagehub.specs.declared.steps.step_line.Command.TheVariants as command
 use Rattle.messagehub.specs.Computation.{Computation, pure, ask, step, ◌>>=◌}
+
+abbrev pub poster_command_takes_memory : PosterCommand → Bool
+poster_command_takes_memory poster.Enter = false
+poster_command_takes_memory (poster.Push ports body) = true
+poster_command_takes_memory poster.Leave = false
+poster_command_takes_memory poster.Hop = false
+poster_command_takes_memory poster.Back = false
+poster_command_takes_memory (poster.Post ports body) = true
 
 -- the commands whose steps may be answered want of memory
 abbrev pub command_takes_memory : Command → Bool
 command_takes_memory command.Agent = true
 command_takes_memory (command.Channel a) = true
-command_takes_memory (command.Push p ports body) = true
-command_takes_memory (command.Post p ports body) = true
+command_takes_memory (command.Client a) = true
+command_takes_memory (command.Worker a) = true
+command_takes_memory (command.Line e a) = false
+command_takes_memory (command.At p c) = poster_command_takes_memory c
+command_takes_memory (command.Start e) = false
+command_takes_memory (command.Loaded e) = false
+command_takes_memory (command.Take e) = false
+command_takes_memory (command.Look e) = false
+command_takes_memory (command.Hand e a) = false
 command_takes_memory (command.Adopt e a) = true
 command_takes_memory (command.Close e) = true
 command_takes_memory (command.Sweep e) = true
-command_takes_memory (command.Enter p) = false
-command_takes_memory (command.Leave p) = false
-command_takes_memory (command.Hop p) = false
-command_takes_memory (command.Start e) = false
-command_takes_memory (command.Take e) = false
-command_takes_memory (command.Look e) = false
 
 -- a step whose outcome is shown
 abbrev pub shown_step : Bool → Action → Computation Shown
@@ -44,9 +58,11 @@ shown_step refused a = do
   answer ← step refused a
   pure (Answer answer)
 
--- the line that the poster posts on: line 0 of the port that its port is entangled with
+-- the line that the poster posts on: for a port's poster line 0 of the port that it is entangled with, else that line
+-- of a client's or worker's queue
 abbrev pub sender_of : Poster → Facts → Option Sender
-sender_of (Port p) f = option_map (λ q. record { end = record { 0 = q }; line = record { 0 = 0 } }) (f.end p.0).peer
+sender_of (Port p) f = option_map (λ q. record { end = record { 0 = q }; line = record { 0 = 0 } }) (peer_of (f.end p.0).kind)
+sender_of (Line e l) f = if is_queue (f.end e.0).kind && nat_lt l.0 MAX_LINES then Some (record { end = e; line = l }) else None
 
 abbrev pub on_line : (Sender → Computation Shown) → Option Sender → Computation Shown
 on_line steps None = pure (Answer outcome.NotNow)
@@ -88,7 +104,7 @@ enter (suc n) refused s = do
 
 -- ---- the closing of an end
 
--- the line on which the closing of a port puts its notice, where a Close would be answered Done
+-- the line on which the closing of a port puts its notice, where a Close would be answered Done; no other end has one
 abbrev pub notice_line : EndId → Facts → Option Sender
 notice_line e f = if may_close f e.0 then sender_of (Port e) f else None
 
@@ -117,8 +133,8 @@ close_on refused e (Some s) = do
   closed ← step refused (action.Close e)
   pure (close_shown told closed)
 
--- The closing of a port. Where its Close would be answered Closed or NotNow, that is the only step; else the port's
--- own poster enters, puts the notice where it is inside, and leaves; and then Close.
+-- The closing of an end. A port's own poster enters, puts the notice where it is inside, and leaves; and then Close. At
+-- a client's or worker's queue, and where the Close would be answered Closed or NotNow, that is the only step.
 abbrev pub close : Bool → EndId → Computation Shown
 close refused e = do
   line ← ask (notice_line e)
@@ -197,20 +213,80 @@ post refused ports body s = do
   may ← ask (λ f. may_post f s)
   post_may refused ports body s may
 
+-- ---- queues that a step line makes and starts
+
+-- What follows a Worker. A new queue is started, which isn't shown.
+abbrev pub start_made : Bool → Outcome → Computation Shown
+start_made refused (outcome.End e) = do
+  started ← step refused (action.Start e)
+  pure (Answer (outcome.End e))
+start_made refused answer = pure (Answer answer)
+
+-- Worker, and then Start of the queue that it made
+abbrev pub worker : Bool → AgentId → Computation Shown
+worker refused a = do
+  answer ← step refused (action.Worker a)
+  start_made refused answer
+
+abbrev pub start_where : Bool → EndId → Bool → Computation (Unit {0})
+start_where refused e true = do
+  started ← step refused (action.Start e)
+  pure tt
+start_where refused e false = pure tt
+
+-- Start of a worker's queue; no step of any other end
+abbrev pub start_worker : Bool → EndId → Computation (Unit {0})
+start_worker refused e = do
+  of_worker ← ask (λ f. is_worker (f.end e.0).kind)
+  start_where refused e of_worker
+
+-- What follows an Adopt. A worker's queue that was adopted is started, which isn't shown.
+abbrev pub start_adopted : Bool → EndId → Outcome → Computation Shown
+start_adopted refused e (outcome.Adopted k) = do
+  started ← start_worker refused e
+  pure (Answer (outcome.Adopted k))
+start_adopted refused e answer = pure (Answer answer)
+
+-- Adopt, and then Start where it adopted a worker's queue
+abbrev pub adopt : Bool → EndId → AgentId → Computation Shown
+adopt refused e a = do
+  answer ← step refused (action.Adopt e a)
+  start_adopted refused e answer
+
+abbrev pub load_client : Bool → EndId → Bool → Computation Shown
+load_client refused e true = shown_step refused (action.Start e)
+load_client refused e false = pure (Answer outcome.NotNow)
+
+-- Start, of a client's queue alone
+abbrev pub load : Bool → EndId → Computation Shown
+load refused e = do
+  of_client ← ask (λ f. is_client (f.end e.0).kind)
+  load_client refused e of_client
+
 -- ---- a step line
+
+-- what a command of a poster unfolds to on its line
+abbrev pub line_steps : Bool → PosterCommand → Sender → Computation Shown
+line_steps refused poster.Enter s = shown_step refused (action.Enter s)
+line_steps refused (poster.Push ports body) s = shown_push refused ports body s
+line_steps refused poster.Leave s = shown_step refused (action.Leave s)
+line_steps refused poster.Hop s = shown_step refused (action.Hop s)
+line_steps refused poster.Back s = shown_step refused (action.Back s)
+line_steps refused (poster.Post ports body) s = post refused ports body s
 
 -- what a command unfolds to, with memory refused or not
 abbrev pub core_steps : Bool → Command → Computation Shown
 core_steps refused command.Agent = shown_step refused action.Agent
 core_steps refused (command.Channel a) = shown_step refused (action.Channel a)
-core_steps refused (command.Enter p) = on_line_of p (λ s. shown_step refused (action.Enter s))
-core_steps refused (command.Push p ports body) = on_line_of p (shown_push refused ports body)
-core_steps refused (command.Leave p) = on_line_of p (λ s. shown_step refused (action.Leave s))
-core_steps refused (command.Hop p) = on_line_of p (λ s. shown_step refused (action.Hop s))
-core_steps refused (command.Post p ports body) = on_line_of p (post refused ports body)
+core_steps refused (command.Client a) = shown_step refused (action.Client a)
+core_steps refused (command.Worker a) = worker refused a
+core_steps refused (command.Line e a) = shown_step refused (action.Line e a)
+core_steps refused (command.At p c) = on_line_of p (line_steps refused c)
 core_steps refused (command.Start e) = shown_step refused (action.Start e)
+core_steps refused (command.Loaded e) = load refused e
 core_steps refused (command.Take e) = shown_step refused (action.Take e)
 core_steps refused (command.Look e) = shown_step refused (action.Look e)
-core_steps refused (command.Adopt e a) = shown_step refused (action.Adopt e a)
+core_steps refused (command.Hand e a) = shown_step refused (action.Hand e a)
+core_steps refused (command.Adopt e a) = adopt refused e a
 core_steps refused (command.Close e) = close refused e
 core_steps refused (command.Sweep e) = sweep refused e

@@ -17,6 +17,7 @@ mod posting;
 mod read_step_line;
 mod read_steps;
 mod shown;
+mod starting;
 mod step_line;
 mod text;
 

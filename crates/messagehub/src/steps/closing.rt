@@ -10,7 +10,8 @@ use super::shown::Shown;
 use hub_core::{Action, Core, OutOfMemory, Outcome, Sender};
 use hub_envelope::{EndId, Envelope};
 
-/// Closes a port: where its Close would be answered `Done`, its own poster puts the notice before.
+/// Closes an end. Where it is a port whose Close would be answered `Done`, its own poster puts the
+/// notice before.
 pub fn close(core: &mut Core, end: EndId, memory_refused: bool) -> Result<Shown, OutOfMemory>
     ensures { IfOk result (λ shown.
         ComputesAt core.old core.new (close memory_refused end) shown) }
@@ -25,7 +26,7 @@ pub fn close(core: &mut Core, end: EndId, memory_refused: bool) -> Result<Shown,
 }
 
 /// The line on which the closing of a port puts its notice, where its Close would be answered
-/// `Done` now.
+/// `Done` now. No other end has one.
 fn notice_line(core: &Core, end: EndId) -> Option<Sender>
     ensures { (h : History) → Shows core.now h → result ≡ notice_line end (facts h) }
 {
@@ -58,7 +59,7 @@ fn close_shown(told: Outcome, closed: Outcome) -> Shown
     }
 }
 
-/// Closes each port, in order.
+/// Closes each end, in order.
 pub fn close_each(core: &mut Core, ends: &[EndId], memory_refused: bool) -> Result<(), OutOfMemory>
     ensures { OnOk result (ComputesAt core.old core.new (close_each memory_refused ends.now) tt) }
 {

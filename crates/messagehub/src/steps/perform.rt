@@ -2,18 +2,19 @@ ghost use Rattle.std.specs.Prelude.{◌≡◌, IfOk, OnErr, true};
 ghost use Rattle.hub_core.specs.Facts.{facts};
 ghost use Rattle.hub_core.specs.History.{History};
 ghost use Rattle.hub_core.specs.Shows.{Shows};
-ghost use Rattle.messagehub.specs.Performed.{PerformsAt};
-ghost use Rattle.messagehub.specs.Unfolding.{command_takes_memory, sender_of};
+ghost use Rattle.messagehub.specs.Performed.{ComputesAt, PerformsAt};
+ghost use Rattle.messagehub.specs.Unfolding.{command_takes_memory, line_steps, on_line_of, poster_command_takes_memory, sender_of};
 
 use super::closing::{close, sweep};
 use super::entering::show_step;
 use super::posting::post;
 use super::shown::Shown;
-use super::step_line::{Command, Poster, StepLine};
-use hub_core::{Action, Core, OutOfMemory, Outcome, Sender};
+use super::starting::{adopt, load, make_worker};
+use super::step_line::{Command, Poster, PosterCommand, StepLine};
+use hub_core::{Action, Core, Kind, MAX_LINES, OutOfMemory, Outcome, Sender};
+use hub_envelope::{EndId, LineId};
 
 /// Takes the core's steps of a line, and gives what the line shows.
-#[tactic(auto, using(crate::proofs::Computing::on_lines))]
 pub fn perform(core: &mut Core, line: StepLine) -> Result<Shown, OutOfMemory>
     ensures performed { IfOk result (λ shown. PerformsAt core.old core.new line shown) }
     // Steps that take no memory are never refused for want of it, with the mark or without.
@@ -23,43 +24,71 @@ pub fn perform(core: &mut Core, line: StepLine) -> Result<Shown, OutOfMemory>
         command,
         memory_refused,
     } = line;
+    match command {
+        Command::Agent => show_step(core, Action::Agent, memory_refused),
+        Command::Channel(agent) => show_step(core, Action::Channel(agent), memory_refused),
+        Command::Client(agent) => show_step(core, Action::Client(agent), memory_refused),
+        Command::Worker(agent) => make_worker(core, agent, memory_refused),
+        Command::Line(end, agent) => show_step(core, Action::Line(end, agent), memory_refused),
+        Command::At(poster, command) => perform_at(core, poster, command, memory_refused),
+        Command::Start(end) => show_step(core, Action::Start(end), memory_refused),
+        Command::Loaded(end) => load(core, end, memory_refused),
+        Command::Take(end) => show_step(core, Action::Take(end), memory_refused),
+        Command::Look(end) => show_step(core, Action::Look(end), memory_refused),
+        Command::Hand(end, agent) => show_step(core, Action::Hand(end, agent), memory_refused),
+        Command::Adopt(end, agent) => adopt(core, end, agent, memory_refused),
+        Command::Close(end) => close(core, end, memory_refused),
+        Command::Sweep(end) => sweep(core, end, memory_refused),
+    }
+}
+
+/// Takes the core's steps of a line about a poster. One that names nothing takes none.
+#[tactic(auto, using(crate::proofs::Computing::on_lines))]
+fn perform_at(
+    core: &mut Core,
+    poster: Poster,
+    command: PosterCommand,
+    memory_refused: bool,
+) -> Result<Shown, OutOfMemory>
+    ensures performed { IfOk result (λ shown. ComputesAt core.old core.new
+        (on_line_of poster (line_steps memory_refused command)) shown) }
+    ensures memory { OnErr result (poster_command_takes_memory command ≡ true) }
+{
+    let Some(sender) = sender_of(core, poster) else {
+        return Ok(Shown::Answer(Outcome::NotNow));
+    };
     let action = match command {
-        Command::Agent => Action::Agent,
-        Command::Channel(agent) => Action::Channel(agent),
-        Command::Enter(poster) => match sender_of(core, poster) {
-            Some(sender) => Action::Enter(sender),
-            None => return Ok(Shown::Answer(Outcome::NotNow)),
-        },
-        Command::Leave(poster) => match sender_of(core, poster) {
-            Some(sender) => Action::Leave(sender),
-            None => return Ok(Shown::Answer(Outcome::NotNow)),
-        },
-        Command::Hop(poster) => match sender_of(core, poster) {
-            Some(sender) => Action::Hop(sender),
-            None => return Ok(Shown::Answer(Outcome::NotNow)),
-        },
-        Command::Push(poster, ports, body) => match sender_of(core, poster) {
-            Some(sender) => Action::Push(sender, ports.into_ends(), body),
-            None => return Ok(Shown::Answer(Outcome::NotNow)),
-        },
-        Command::Post(poster, ports, body) => match sender_of(core, poster) {
-            Some(sender) => return post(core, sender, ports.into_ends(), body, memory_refused),
-            None => return Ok(Shown::Answer(Outcome::NotNow)),
-        },
-        Command::Start(end) => Action::Start(end),
-        Command::Take(end) => Action::Take(end),
-        Command::Look(end) => Action::Look(end),
-        Command::Adopt(end, agent) => Action::Adopt(end, agent),
-        Command::Close(end) => return close(core, end, memory_refused),
-        Command::Sweep(end) => return sweep(core, end, memory_refused),
+        PosterCommand::Enter => Action::Enter(sender),
+        PosterCommand::Push(ports, body) => Action::Push(sender, ports.into_ends(), body),
+        PosterCommand::Leave => Action::Leave(sender),
+        PosterCommand::Hop => Action::Hop(sender),
+        PosterCommand::Back => Action::Back(sender),
+        PosterCommand::Post(ports, body) => {
+            return post(core, sender, ports.into_ends(), body, memory_refused);
+        }
     };
     show_step(core, action, memory_refused)
 }
 
+/// The line that a poster posts on. `None` where it names nothing.
 fn sender_of(core: &Core, poster: Poster) -> Option<Sender>
     ensures { (h : History) → Shows core.now h → result ≡ sender_of poster (facts h) }
 {
     match poster {
         Poster::Port(port) => core.sender_of(port),
+        Poster::Line(end, line) => line_of_queue(core, end, line),
+    }
+}
+
+/// A line of a client's or worker's queue.
+fn line_of_queue(core: &Core, end: EndId, line: LineId) -> Option<Sender>
+    ensures { (h : History) → Shows core.now h
+        → result ≡ sender_of (Poster.Line end line) (facts h) }
+{
+    let is_queue = matches!(core.kind_of(end), Some(Kind::Client | Kind::Worker));
+    if is_queue && usize::from(line.0) < MAX_LINES {
+        Some(Sender { end, line })
+    } else {
+        None
     }
 }

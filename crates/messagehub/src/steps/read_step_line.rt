@@ -1,9 +1,9 @@
 ghost use Rattle.std.specs.Prelude.{◌≡◌, option_map};
 ghost use Rattle.hub_text.specs.Reading.{IsReadAs};
-ghost use Rattle.messagehub.specs.StepLine.{agent_of, agent_after, command_in, command_of, list_of, mark, number_after, number_of, only_word, poster_after, poster_of, posting_after, step_line_of, two_numbers_after, word_before};
+ghost use Rattle.messagehub.specs.StepLine.{agent_of, agent_after, command_in, command_of, end_and_agent_after, line_of, list_of, mark, number_after, number_of, only_word, poster_after, poster_command_of, poster_named, poster_of, posting_after, step_line_of, word_before};
 
-use super::step_line::{Command, Poster, StepLine, StepLineError};
-use hub_envelope::{AgentId, Body, EndId};
+use super::step_line::{Command, Poster, PosterCommand, StepLine, StepLineError};
+use hub_envelope::{AgentId, Body, EndId, LineId};
 use hub_text::{EndList, next_word, number_of as number_up_to};
 use std::alloc::Global;
 
@@ -55,26 +55,53 @@ fn command_of(alloc: Global, name: &str, rest: Option<&str>) -> Result<Command, 
     Ok(match name {
         "agent" => agent_after(rest)?,
         "channel" => Command::Channel(agent_of(number_after(rest)?)),
-        "enter" => Command::Enter(poster_after(rest)?),
-        "leave" => Command::Leave(poster_after(rest)?),
-        "hop" => Command::Hop(poster_after(rest)?),
-        "push" => {
-            let (poster, ports, body) = posting_after(alloc, rest)?;
-            Command::Push(poster, ports, body)
-        }
-        "post" => {
-            let (poster, ports, body) = posting_after(alloc, rest)?;
-            Command::Post(poster, ports, body)
+        "client" => Command::Client(agent_of(number_after(rest)?)),
+        "worker" => Command::Worker(agent_of(number_after(rest)?)),
+        "line" => {
+            let (end, agent) = end_and_agent_after(rest)?;
+            Command::Line(end, agent)
         }
         "start" => Command::Start(EndId(number_after(rest)?)),
+        "loaded" => Command::Loaded(EndId(number_after(rest)?)),
         "take" => Command::Take(EndId(number_after(rest)?)),
         "look" => Command::Look(EndId(number_after(rest)?)),
+        "hand" => {
+            let (end, agent) = end_and_agent_after(rest)?;
+            Command::Hand(end, agent)
+        }
         "adopt" => {
-            let (end, agent) = two_numbers_after(rest)?;
-            Command::Adopt(EndId(end), agent_of(agent))
+            let (end, agent) = end_and_agent_after(rest)?;
+            Command::Adopt(end, agent)
         }
         "close" => Command::Close(EndId(number_after(rest)?)),
         "sweep" => Command::Sweep(EndId(number_after(rest)?)),
+        _ => return poster_command_of(alloc, name, rest),
+    })
+}
+
+/// What the step of that name asks of a poster.
+#[tactic(auto, unfolding(crate::specs::StepLine::poster_command_of))]
+fn poster_command_of(
+    alloc: Global,
+    name: &str,
+    rest: Option<&str>,
+) -> Result<Command, StepLineError>
+    ensures { IsReadAs StepLineError.OutOfMemory (λ x. x) result
+        (poster_command_of name.now (option_map (λ x. x.now) rest.entry)) }
+{
+    Ok(match name {
+        "enter" => Command::At(poster_after(rest)?, PosterCommand::Enter),
+        "leave" => Command::At(poster_after(rest)?, PosterCommand::Leave),
+        "hop" => Command::At(poster_after(rest)?, PosterCommand::Hop),
+        "back" => Command::At(poster_after(rest)?, PosterCommand::Back),
+        "push" => {
+            let (poster, ports, body) = posting_after(alloc, rest)?;
+            Command::At(poster, PosterCommand::Push(ports, body))
+        }
+        "post" => {
+            let (poster, ports, body) = posting_after(alloc, rest)?;
+            Command::At(poster, PosterCommand::Post(ports, body))
+        }
         _ => return Err(StepLineError::UnknownStep),
     })
 }
@@ -115,18 +142,18 @@ fn number_after(rest: Option<&str>) -> Result<u32, StepLineError>
     }
 }
 
-#[tactic(auto, unfolding(crate::specs::StepLine::two_numbers_after))]
-fn two_numbers_after(rest: Option<&str>) -> Result<(u32, u32), StepLineError>
+#[tactic(auto, unfolding(crate::specs::StepLine::end_and_agent_after))]
+fn end_and_agent_after(rest: Option<&str>) -> Result<(EndId, AgentId), StepLineError>
     ensures { IsReadAs StepLineError.OutOfMemory (λ x. x) result
-        (two_numbers_after (option_map (λ x. x.now) rest.entry)) }
+        (end_and_agent_after (option_map (λ x. x.now) rest.entry)) }
 {
     let Some(text) = rest else {
         return Err(StepLineError::BadWords);
     };
-    let (first, rest) = word_before(text)?;
-    let second = only_word(Some(rest))?;
-    match (number_of(first), number_of(second)) {
-        (Some(first), Some(second)) => Ok((first, second)),
+    let (end, rest) = word_before(text)?;
+    let agent = only_word(Some(rest))?;
+    match (number_of(end), number_of(agent)) {
+        (Some(end), Some(agent)) => Ok((EndId(end), agent_of(agent))),
         _ => Err(StepLineError::BadNumber),
     }
 }
@@ -184,13 +211,34 @@ fn agent_of(number: u32) -> AgentId
     AgentId(u8::try_from(number).unwrap_or(u8::MAX))
 }
 
+/// No end has a line 255, so each number that names no line may be read as that one.
+fn line_of(number: u32) -> LineId
+    ensures { result ≡ line_of number }
+{
+    LineId(u8::try_from(number).unwrap_or(u8::MAX))
+}
+
 fn poster_of(word: &str) -> Result<Poster, StepLineError>
     ensures { IsReadAs StepLineError.OutOfMemory (λ x. x) result (poster_of word.now) }
 {
-    match number_of(word) {
-        Some(port) => Ok(Poster::Port(EndId(port))),
+    match poster_named(word) {
+        Some(poster) => Ok(poster),
         None => Err(StepLineError::BadPoster),
     }
+}
+
+/// The poster of the port that one number names, or of the line that two numbers joined by `/`
+/// name.
+#[tactic(auto, unfolding(hub_text::specs::Word::cut))]
+fn poster_named(word: &str) -> Option<Poster>
+    ensures { result ≡ poster_named word.now }
+{
+    let Some((end, line)) = word.split_once('/') else {
+        return Some(Poster::Port(EndId(number_of(word)?)));
+    };
+    let end = EndId(number_of(end)?);
+    let line = line_of(number_of(line)?);
+    Some(Poster::Line(end, line))
 }
 
 fn list_of(alloc: Global, word: &str) -> Result<EndList, StepLineError>

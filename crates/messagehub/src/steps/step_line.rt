@@ -1,6 +1,6 @@
 ghost use Rattle.std.specs.Prelude.{◌≡◌, option_map};
 
-use hub_envelope::{AgentId, Body, BodyError, EndId};
+use hub_envelope::{AgentId, Body, BodyError, EndId, LineId};
 use hub_text::EndList;
 use std::alloc::{AllocError, AllocFailed};
 
@@ -9,6 +9,21 @@ use std::alloc::{AllocError, AllocFailed};
 pub enum Poster {
     /// The poster that a port holds, to line 0 of the port that it is entangled with.
     Port(EndId),
+    /// The poster of a line of a client's or worker's queue.
+    Line(EndId, LineId),
+}
+
+/// What a step line asks of a poster.
+#[derive(Debug, Drop)]
+pub enum PosterCommand {
+    Enter,
+    Push(EndList, Body),
+    Leave,
+    Hop,
+    /// The line is given back.
+    Back,
+    /// Tests, and then Enter, Push and Leave in one step line.
+    Post(EndList, Body),
 }
 
 /// What a step line asks for.
@@ -16,15 +31,18 @@ pub enum Poster {
 pub enum Command {
     Agent,
     Channel(AgentId),
-    Enter(Poster),
-    Push(Poster, EndList, Body),
-    Leave(Poster),
-    Hop(Poster),
-    /// Tests, and then Enter, Push and Leave in one step line.
-    Post(Poster, EndList, Body),
+    Client(AgentId),
+    /// A worker's queue, and its Start.
+    Worker(AgentId),
+    Line(EndId, AgentId),
+    At(Poster, PosterCommand),
     Start(EndId),
+    /// Start of a client's queue, whose document is parsed.
+    Loaded(EndId),
     Take(EndId),
     Look(EndId),
+    Hand(EndId, AgentId),
+    /// Adopt, and Start where the end is a worker's queue.
     Adopt(EndId, AgentId),
     /// The notice of a port, and Close.
     Close(EndId),

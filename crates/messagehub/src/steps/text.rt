@@ -34,7 +34,11 @@ fn write_outcome(text: &mut String, outcome: &Outcome) -> Result<(), AllocError>
         Outcome::Agent(agent) => writeln!(text, "agent {}", agent.0),
         Outcome::TooManyAgents => text.push_str("too-many-agents\n"),
         Outcome::Ends(first, second) => writeln!(text, "ends {} {}", first.0, second.0),
+        Outcome::End(end) => writeln!(text, "end {}", end.0),
         Outcome::TooManyEnds => text.push_str("too-many-ends\n"),
+        Outcome::Line(line) => writeln!(text, "line {}", line.0),
+        Outcome::NoSuchEnd => text.push_str("no-such-end\n"),
+        Outcome::NoLine => text.push_str("no-line\n"),
         Outcome::In => text.push_str("in\n"),
         Outcome::Closed => text.push_str("closed\n"),
         Outcome::Moved => text.push_str("moved\n"),
@@ -52,6 +56,7 @@ fn write_outcome(text: &mut String, outcome: &Outcome) -> Result<(), AllocError>
         Outcome::Adopted(queue) => writeln!(text, "adopted {queue}"),
         Outcome::TooManyMoves => text.push_str("too-many-moves\n"),
         Outcome::Done => text.push_str("done\n"),
+        Outcome::Handed => text.push_str("handed\n"),
         Outcome::Discarded(envelopes) => write_discarded(text, envelopes.as_slice()),
     }
 }

@@ -41,6 +41,36 @@ fn runs_the_worked_rows(rt: HostRuntime) {
 }
 
 #[test]
+fn runs_the_queues_of_clients_and_workers(rt: HostRuntime) {
+    let rows: [(&[u8], &[u8]); 3] = [
+        // A worker's queue is started as it is made, a client's when its document is parsed.
+        (
+            b"agent -\nagent -\nclient 0\nworker 1\nline 0 1\nline 0 1\npost 0/1 - 1\ntake 0\n\
+                loaded 1\nloaded 0\ntake 0\ntake 1\nback 0/1\npost 0/1 - 2\nline 0 1\n",
+            b"agent 0\nagent 1\nend 0\nend 1\nline 0\nline 1\naccepted 0:0\ndisabled\n\
+                not-now\nstarted\ngot 0:0 from 1 1\nempty\ndone\nnot-now\nline 1\n",
+        ),
+        // An adopted worker's queue is started too.
+        (
+            b"agent -\nagent -\n!worker 0\n!client 0\nworker 0\nworker 0\nline 0 1\npost 0/0 - 1\n\
+                hand 0 1\n!adopt 0 1\nadopt 0 1\ntake 0\ntake 0\ntake 0\nclose 0\nhand 0 0\n",
+            b"agent 0\nagent 1\nno-memory\nno-memory\nend 0\nnot-now\nline 0\naccepted 0:0\n\
+                handed\nno-memory\nadopted 1\ngot 0:0 from 0 1\nagain\nempty\ndone\nclosed\n",
+        ),
+        // A queue has no poster of its own, a port none by line, and a queue no line 32.
+        (
+            b"agent -\nchannel 0\nclient 0\nenter 2\nenter 0/0\nenter 2/32\nenter 2/4294967295\n\
+                line 0 0\nline 9 0\nline 9 1\nloaded 0\nclose 2\n",
+            b"agent 0\nends 0 1\nend 2\nnot-now\nnot-now\nnot-now\nnot-now\n\
+                no-such-end\nno-such-end\nnot-now\nnot-now\ndone\n",
+        ),
+    ];
+    for (input, output) in rows {
+        expect_written(&rt, Mode::Steps, input, output, 0);
+    }
+}
+
+#[test]
 fn runs_two_hundred_posts_and_takes(rt: HostRuntime) -> Result<(), Fail> {
     let mut input = String::from_str(rt.alloc(), "agent -\nchannel 0\n")?;
     let mut output = String::from_str(rt.alloc(), "agent 0\nends 0 1\n")?;
@@ -62,7 +92,7 @@ fn runs_two_hundred_posts_and_takes(rt: HostRuntime) -> Result<(), Fail> {
 
 #[test]
 fn tells_the_first_bad_line_alone(rt: HostRuntime) {
-    let rows: [(&[u8], &[u8]); 42] = [
+    let rows: [(&[u8], &[u8]); 51] = [
         (b"fly 0", b"line 1: UnknownStep\n"),
         (b"fly \xff", b"line 1: BadUtf8\n"),
         (b"agent -\n\xff\nfly", b"line 2: BadUtf8\n"),
@@ -86,6 +116,11 @@ fn tells_the_first_bad_line_alone(rt: HostRuntime) {
         (b"adopt 0 1 2", b"line 1: BadWords\n"),
         (b"adopt x y", b"line 1: BadNumber\n"),
         (b"adopt 0 x", b"line 1: BadNumber\n"),
+        (b"hand 0", b"line 1: BadWords\n"),
+        (b"line 0 1 2", b"line 1: BadWords\n"),
+        (b"worker 0 1", b"line 1: BadWords\n"),
+        (b"line x y", b"line 1: BadNumber\n"),
+        (b"loaded 0/0", b"line 1: BadNumber\n"),
         (b"hop x", b"line 1: BadPoster\n"),
         (b"take ", b"line 1: BadNumber\n"),
         (b"take 4294967296", b"line 1: BadNumber\n"),
@@ -94,7 +129,11 @@ fn tells_the_first_bad_line_alone(rt: HostRuntime) {
         (b"start +1", b"line 1: BadNumber\n"),
         (b"take 0\r", b"line 1: BadNumber\n"),
         (b"enter ", b"line 1: BadPoster\n"),
-        (b"enter 0/0", b"line 1: BadPoster\n"),
+        (b"enter 0/", b"line 1: BadPoster\n"),
+        (b"enter /0", b"line 1: BadPoster\n"),
+        (b"enter 0/0/0", b"line 1: BadPoster\n"),
+        (b"enter 01/0", b"line 1: BadPoster\n"),
+        (b"back 0/4294967296", b"line 1: BadPoster\n"),
         (b"post 0/ x [", b"line 1: BadPoster\n"),
         (b"post  - 1", b"line 1: BadPoster\n"),
         (b"post 0 0, [", b"line 1: BadList\n"),

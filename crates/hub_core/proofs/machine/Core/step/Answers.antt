@@ -4,8 +4,12 @@ use Rattle.std.specs.List.{slice_get}
 use Rattle.hub_core.specs.declared.step.Action.TheVariants as action
 use Rattle.hub_core.specs.Unchanged.{changes_nothing}
 use Rattle.hub_core.proofs.Frames.{Stepped}
-use Rattle.hub_core.proofs.Stepping.{stepped, ok_both, along, enter_same, leave_same, take_same}
-use Rattle.hub_core.proofs.Makes.{agent_shown, channel_shown}
+use Rattle.hub_core.proofs.Frames.{along}
+use Rattle.hub_core.proofs.Stepping.{stepped, ok_both, ok_all, enter_same, leave_same, take_same}
+use Rattle.hub_core.proofs.Makes.{agent_shown, channel_shown, client_shown, worker_shown}
+use Rattle.hub_core.proofs.Holds.{line_shown, line_same, back_shown, back_same}
+use Rattle.hub_core.proofs.Hands.{hand_shown, hand_same, hand_agents_same}
+use Rattle.hub_core.specs.Kept.{close_agents}
 use Rattle.hub_core.proofs.Entering.{enter_shown, leave_shown}
 use Rattle.hub_core.proofs.Pushes.{push_shown}
 use Rattle.hub_core.proofs.Takes.{start_shown, take_shown}
@@ -13,9 +17,9 @@ use Rattle.hub_core.proofs.Orders.{shows_in_order}
 use Rattle.hub_core.proofs.machine.Core.step.Goals as goal
 use Rattle.hub_core.proofs.Hops.{hop_shown, hop_same}
 use Rattle.hub_core.proofs.Looks.{look_shown, look_same}
-use Rattle.hub_core.proofs.Adopts.{adopt_shown, adopt_same}
+use Rattle.hub_core.proofs.Adopts.{adopt_shown, adopt_same, adopt_agents_same}
 use Rattle.hub_core.proofs.Notices.{notice_shown}
-use Rattle.hub_core.proofs.Closes.{close_shown, close_same}
+use Rattle.hub_core.proofs.Closes.{close_shown, close_same, close_agents_same}
 use Rattle.hub_core.proofs.Sweeps.{sweep_shown, sweep_same}
 
 pub returns-in-Agent-clause-fits : goal.returns-in-Agent-clause-fits
@@ -103,17 +107,64 @@ returns-in-Look-clause-unchanged c = λ h.
           ∙ look_same c.args.self.now.ends.items c.in-Look.end (slice_get c.args.self.now.ends.items c.in-Look.end.0) refl (subst (λ o. changes_nothing o (action.Look c.in-Look.end) ≡ true) c.look.ensures.outcome nothing),
     )
 
+pub returns-in-Client-clause-fits : goal.returns-in-Client-clause-fits
+returns-in-Client-clause-fits c = ok_both c.make_queue.result _ _ _ c.make_queue.ensures.outcome (ok_all c.make_queue.result _ _ c.make_queue.ensures.ends c.make_queue.ensures.agents) (λ o is made.
+    stepped _ _ _ _ c.args.step o (action.Client c.in-Client.agent) c.in-Client.is (λ f s.
+    client_shown c.args.self.now.agents.items c.make_queue.new.self.agents.items c.args.self.now.ends.items c.make_queue.new.self.ends.items f c.in-Client.agent c.args.step.memory_refused o s is made.0 made.1))
+
+pub returns-in-Worker-clause-fits : goal.returns-in-Worker-clause-fits
+returns-in-Worker-clause-fits c = ok_both c.make_queue-in-Worker.result _ _ _ c.make_queue-in-Worker.ensures.outcome (ok_all c.make_queue-in-Worker.result _ _ c.make_queue-in-Worker.ensures.ends c.make_queue-in-Worker.ensures.agents) (λ o is made.
+    stepped _ _ _ _ c.args.step o (action.Worker c.in-Worker.agent) c.in-Worker.is (λ f s.
+    worker_shown c.args.self.now.agents.items c.make_queue-in-Worker.new.self.agents.items c.args.self.now.ends.items c.make_queue-in-Worker.new.self.ends.items f c.in-Worker.agent c.args.step.memory_refused o s is made.0 made.1))
+
+pub returns-in-Line-clause-fits : goal.returns-in-Line-clause-fits
+returns-in-Line-clause-fits c = stepped _ _ _ _ c.args.step c.hold.result (action.Line c.in-Line.end c.in-Line.agent) c.in-Line.is (λ f s.
+    along (λ gs es o. Stepped gs es f (action.Line c.in-Line.end c.in-Line.agent) c.args.step.memory_refused o) (ap (λ v. v.items) c.hold.ensures.agents) c.hold.ensures.ends c.hold.ensures.outcome
+    (line_shown c.args.self.now.agents.items c.args.self.now.ends.items f c.in-Line.end c.in-Line.agent c.args.step.memory_refused s))
+
+pub returns-in-Line-clause-unchanged : goal.returns-in-Line-clause-unchanged
+returns-in-Line-clause-unchanged c = λ h.
+    let nothing : changes_nothing c.hold.result (action.Line c.in-Line.end c.in-Line.agent) ≡ true = subst (λ a. changes_nothing c.hold.result a ≡ true) c.in-Line.is h in (
+      ap (λ v. v.items) c.hold.ensures.agents,
+      c.hold.ensures.ends
+          ∙ line_same c.args.self.now.ends.items c.in-Line.end c.in-Line.agent _ (slice_get c.args.self.now.ends.items c.in-Line.end.0) refl (subst (λ o. changes_nothing o (action.Line c.in-Line.end c.in-Line.agent) ≡ true) c.hold.ensures.outcome nothing),
+    )
+
+pub returns-in-Back-clause-fits : goal.returns-in-Back-clause-fits
+returns-in-Back-clause-fits c = stepped _ _ _ _ c.args.step c.give_back.result (action.Back c.in-Back.sender) c.in-Back.is (λ f s.
+    along (λ gs es o. Stepped gs es f (action.Back c.in-Back.sender) c.args.step.memory_refused o) (ap (λ v. v.items) c.give_back.ensures.agents) c.give_back.ensures.ends c.give_back.ensures.outcome
+    (back_shown c.args.self.now.agents.items c.args.self.now.ends.items f c.in-Back.sender c.args.step.memory_refused s))
+
+pub returns-in-Back-clause-unchanged : goal.returns-in-Back-clause-unchanged
+returns-in-Back-clause-unchanged c = λ h.
+    let nothing : changes_nothing c.give_back.result (action.Back c.in-Back.sender) ≡ true = subst (λ a. changes_nothing c.give_back.result a ≡ true) c.in-Back.is h in (
+      ap (λ v. v.items) c.give_back.ensures.agents,
+      c.give_back.ensures.ends
+          ∙ back_same c.args.self.now.ends.items c.in-Back.sender (slice_get c.args.self.now.ends.items c.in-Back.sender.end.0) refl (subst (λ o. changes_nothing o (action.Back c.in-Back.sender) ≡ true) c.give_back.ensures.outcome nothing),
+    )
+
+pub returns-in-Hand-clause-fits : goal.returns-in-Hand-clause-fits
+returns-in-Hand-clause-fits c = stepped _ _ _ _ c.args.step c.hand.result (action.Hand c.in-Hand.end c.in-Hand.agent) c.in-Hand.is (λ f s.
+    hand_shown c.args.self.now.agents.items c.hand.new.self.agents.items c.args.self.now.ends.items f c.in-Hand.end c.in-Hand.agent c.args.step.memory_refused c.hand.result s c.hand.ensures.outcome c.hand.new.self.ends.items c.hand.ensures.ends c.hand.ensures.agents)
+
+pub returns-in-Hand-clause-unchanged : goal.returns-in-Hand-clause-unchanged
+returns-in-Hand-clause-unchanged c = λ h.
+    let nothing : changes_nothing c.hand.result (action.Hand c.in-Hand.end c.in-Hand.agent) ≡ true = subst (λ a. changes_nothing c.hand.result a ≡ true) c.in-Hand.is h in (
+      c.hand.ensures.agents ∙ hand_agents_same c.args.self.now.agents.items c.in-Hand.end c.in-Hand.agent (slice_get c.args.self.now.ends.items c.in-Hand.end.0) c.hand.result nothing,
+      c.hand.ensures.ends
+          ∙ hand_same c.args.self.now.ends.items c.in-Hand.end c.in-Hand.agent _ (slice_get c.args.self.now.ends.items c.in-Hand.end.0) refl (subst (λ o. changes_nothing o (action.Hand c.in-Hand.end c.in-Hand.agent) ≡ true) c.hand.ensures.outcome nothing),
+    )
+
 pub returns-in-Adopt-clause-fits : goal.returns-in-Adopt-clause-fits
-returns-in-Adopt-clause-fits c = ok_both c.adopt.result _ _ _ c.adopt.ensures.outcome c.adopt.ensures.ends (λ o is leaves.
+returns-in-Adopt-clause-fits c = ok_both c.adopt.result _ _ _ (ok_all c.adopt.result _ _ c.adopt.ensures.outcome c.adopt.ensures.agents) c.adopt.ensures.ends (λ o is leaves.
     stepped _ _ _ _ c.args.step o (action.Adopt c.in-Adopt.end c.in-Adopt.agent) c.in-Adopt.is (λ f s.
-    subst (λ gs. Stepped gs c.adopt.new.self.ends.items f (action.Adopt c.in-Adopt.end c.in-Adopt.agent) c.args.step.memory_refused o) (sym (ap (λ v. v.items) c.adopt.ensures.agents))
-    (adopt_shown c.args.self.now.agents.items c.args.self.now.ends.items c.adopt.new.self.ends.items f c.in-Adopt.end c.in-Adopt.agent c.args.step.memory_refused o s is leaves)))
+    adopt_shown c.args.self.now.agents.items c.adopt.new.self.agents.items c.args.self.now.ends.items c.adopt.new.self.ends.items f c.in-Adopt.end c.in-Adopt.agent c.args.step.memory_refused o s is.0 leaves is.1))
 
 pub returns-in-Adopt-clause-unchanged : goal.returns-in-Adopt-clause-unchanged
-returns-in-Adopt-clause-unchanged c = ok_both c.adopt.result _ _ _ c.adopt.ensures.outcome c.adopt.ensures.ends (λ o is leaves. λ h.
+returns-in-Adopt-clause-unchanged c = ok_both c.adopt.result _ _ _ (ok_all c.adopt.result _ _ c.adopt.ensures.outcome c.adopt.ensures.agents) c.adopt.ensures.ends (λ o is leaves. λ h.
     let nothing : changes_nothing o (action.Adopt c.in-Adopt.end c.in-Adopt.agent) ≡ true = subst (λ a. changes_nothing o a ≡ true) c.in-Adopt.is h in (
-      ap (λ v. v.items) c.adopt.ensures.agents,
-      leaves ∙ adopt_same c.args.self.now.ends.items c.in-Adopt.end c.in-Adopt.agent _ c.args.step.memory_refused (slice_get c.args.self.now.ends.items c.in-Adopt.end.0) refl (subst (λ p. changes_nothing p (action.Adopt c.in-Adopt.end c.in-Adopt.agent) ≡ true) is nothing),
+      is.1 ∙ adopt_agents_same c.args.self.now.agents.items c.in-Adopt.end c.in-Adopt.agent (slice_get c.args.self.now.ends.items c.in-Adopt.end.0) o nothing,
+      leaves ∙ adopt_same c.args.self.now.ends.items c.in-Adopt.end c.in-Adopt.agent _ c.args.step.memory_refused (slice_get c.args.self.now.ends.items c.in-Adopt.end.0) refl (subst (λ p. changes_nothing p (action.Adopt c.in-Adopt.end c.in-Adopt.agent) ≡ true) is.0 nothing),
     ))
 
 pub returns-in-Notice-clause-fits : goal.returns-in-Notice-clause-fits
@@ -124,13 +175,14 @@ returns-in-Notice-clause-fits c = ok_both c.notice.result _ _ _ c.notice.ensures
 
 pub returns-in-Close-clause-fits : goal.returns-in-Close-clause-fits
 returns-in-Close-clause-fits c = stepped _ _ _ _ c.args.step c.close.result (action.Close c.in-Close.end) c.in-Close.is (λ f s.
-    along (λ gs es o. Stepped gs es f (action.Close c.in-Close.end) c.args.step.memory_refused o) (ap (λ v. v.items) c.close.ensures.agents) c.close.ensures.ends c.close.ensures.outcome
+    along (λ gs es o. Stepped gs es f (action.Close c.in-Close.end) c.args.step.memory_refused o)
+    (c.close.ensures.agents ∙ ap (close_agents c.args.self.now.agents.items (slice_get c.args.self.now.ends.items c.in-Close.end.0)) c.close.ensures.outcome) c.close.ensures.ends c.close.ensures.outcome
     (close_shown c.args.self.now.agents.items c.args.self.now.ends.items f c.in-Close.end c.args.step.memory_refused s))
 
 pub returns-in-Close-clause-unchanged : goal.returns-in-Close-clause-unchanged
 returns-in-Close-clause-unchanged c = λ h.
     let nothing : changes_nothing c.close.result (action.Close c.in-Close.end) ≡ true = subst (λ a. changes_nothing c.close.result a ≡ true) c.in-Close.is h in (
-      ap (λ v. v.items) c.close.ensures.agents,
+      c.close.ensures.agents ∙ close_agents_same c.args.self.now.agents.items c.in-Close.end (slice_get c.args.self.now.ends.items c.in-Close.end.0) c.close.result nothing,
       c.close.ensures.ends
           ∙ close_same c.args.self.now.ends.items c.in-Close.end _ (slice_get c.args.self.now.ends.items c.in-Close.end.0) refl (subst (λ o. changes_nothing o (action.Close c.in-Close.end) ≡ true) c.close.ensures.outcome nothing),
     )
@@ -186,3 +238,18 @@ returns-in-Close-clause-in_order c = shows_in_order c.close.new.self
 
 pub returns-in-Sweep-clause-in_order : goal.returns-in-Sweep-clause-in_order
 returns-in-Sweep-clause-in_order c = shows_in_order c.sweep.new.self
+
+pub returns-in-Client-clause-in_order : goal.returns-in-Client-clause-in_order
+returns-in-Client-clause-in_order c = shows_in_order c.make_queue.new.self
+
+pub returns-in-Worker-clause-in_order : goal.returns-in-Worker-clause-in_order
+returns-in-Worker-clause-in_order c = shows_in_order c.make_queue-in-Worker.new.self
+
+pub returns-in-Line-clause-in_order : goal.returns-in-Line-clause-in_order
+returns-in-Line-clause-in_order c = shows_in_order c.hold.new.self
+
+pub returns-in-Back-clause-in_order : goal.returns-in-Back-clause-in_order
+returns-in-Back-clause-in_order c = shows_in_order c.give_back.new.self
+
+pub returns-in-Hand-clause-in_order : goal.returns-in-Hand-clause-in_order
+returns-in-Hand-clause-in_order c = shows_in_order c.hand.new.self

@@ -1,7 +1,7 @@
 use Rattle.std.proofs.Common.{subst}
 use Rattle.messagehub.specs.Performed.{ComputesAt}
 use Rattle.messagehub.specs.Unfolding.{enter}
-use Rattle.messagehub.proofs.Computing.{sent_in, sent_closed, sent_moved}
+use Rattle.messagehub.proofs.Computing.{sent_in, sent_closed, sent_moved, sent_nothing}
 use Rattle.messagehub.proofs.steps.posting.send.Goals as goal
 
 pub returns-in_ok-take_step-in-In : goal.returns-in_ok-take_step-in-In
@@ -24,3 +24,8 @@ returns-in_ok-take_step-in-Moved c =
     let s = c.args.sender in
     let entered = subst (λ o. ComputesAt c.args.core.now c.enter.new.core (enter 4 refused s) o) c.in-Moved.is c.in_ok-entered.ensures in
     sent_moved c.args.core.now c.enter.new.core c.take_step-in-Moved.new.core refused c.args.ports.items c.args.body s c.in_ok-take_step-in-Moved.field-0 entered c.in_ok-take_step-in-Moved.ensures.answer
+
+pub returns-in_default : goal.returns-in_default
+returns-in_default c =
+    let nothing = c.in_default in
+    sent_nothing c.args.core.now c.enter.new.core c.args.memory_refused c.args.ports.items c.args.body c.args.sender c.in_ok-entered.entered nothing.not-In nothing.not-Closed nothing.not-Moved c.in_ok-entered.ensures

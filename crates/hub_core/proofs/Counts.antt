@@ -1,0 +1,373 @@
+-- How many queues of clients and workers an agent has: what the core counts is what the facts say.
+use Rattle.std.proofs.Common.{◌≡◌, ℕ, zero, suc, ◌+◌, ◌-◌, ◌<◌, ◌≤◌, Bool, true, false, cond, eqb, List, [], ◌∷◌, ◌++◌, length, set, Option, Some, None, refl, sym, ap, subst, ◌∙◌, arith, length-set}
+use Rattle.std.specs.Prelude.{◌&&◌, ◌||◌, not, is_some, option_map}
+use Rattle.std.specs.List.{slice_get}
+use Rattle.std.proofs.lemmas.Bool.{false≢true, eqb-true, eqb-false, ne_eqb}
+use Rattle.hub_envelope.specs.declared.ids.AgentId.{AgentId}
+use Rattle.hub_envelope.specs.declared.ids.EndId.{EndId}
+use Rattle.hub_core.specs.declared.agent.Agent.{Agent}
+use Rattle.hub_core.specs.declared.kind.Kind.{Kind}
+use Rattle.hub_core.specs.declared.kind.Kind.TheVariants.{Port, Client, Worker}
+use Rattle.hub_core.specs.declared.end.End.{End}
+use Rattle.hub_core.specs.declared.end.Place.{Place}
+use Rattle.hub_core.specs.declared.end.Place.TheVariants.{With, InFlight, Arrived, Swept, Gone}
+use Rattle.hub_core.specs.Facts.{EndNow, Facts, AgentNow}
+use Rattle.hub_core.specs.Made.{peer_of}
+use Rattle.hub_core.specs.Making.{is_client, is_worker, has_one}
+use Rattle.hub_core.specs.Looking.{any_below}
+use Rattle.hub_core.specs.Posting.{is_with}
+use Rattle.hub_core.specs.Sound.{total}
+use Rattle.hub_core.specs.Shows.{kept_clients, kept_workers, count_with, ShowsFacts, agent_now}
+use Rattle.hub_core.specs.Kept.{one_more, one_less, set_agent, change_agent, come, gone}
+use Rattle.hub_core.proofs.Lists.{slice_get-set_same, slice_get-set_other, eqb_same, is_there}
+use Rattle.std.proofs.lemmas.Option.{slice_get_within}
+use Rattle.std.proofs.lemmas.Bool.Decides.{nat_tests}
+use Rattle.hub_core.proofs.Totals.{bit, total_same}
+
+-- what the core keeps of these counts
+pub record Counted (agents : List Agent) (f : Facts) : Type 0 where
+  pub clients : (a : AgentId) → kept_clients (slice_get agents a.0) ≡ count_with is_client a f
+  pub workers : (a : AgentId) → kept_workers (slice_get agents a.0) ≡ count_with is_worker a f
+
+pub counts_of : (agents : List Agent) (ends : List End) (f : Facts) → ShowsFacts agents ends f → Counted agents f
+counts_of agents ends f h = record { clients = h.clients; workers = h.workers }
+
+-- whether the agent has the end, and its kind passes the test
+abbrev pub counts_at : (Option Kind → Bool) → AgentId → EndNow → Bool
+counts_at test a x = test x.kind && is_with a x.place
+
+-- ---- sums
+
+last_of : (e n : ℕ) → e < suc n → (e ≡ n → ⊥) → e < n
+last_of e n below other = grind (arith, nat_tests)
+
+-- one term changes
+pub total_change : (w u : ℕ → ℕ) (n e : ℕ) → e < n → ((d : ℕ) → (d ≡ e → ⊥) → u d ≡ w d) → total w n + u e ≡ total u n + w e
+total_change w u zero e below others = absurd (omega arith)
+total_change w u (suc n) e below others = elim (eqb e n) as (λ b. eqb e n ≡ b → (total w n + w n) + u e ≡ (total u n + u n) + w e) [
+  | true ↦ λ is.
+      let same : e ≡ n = eqb-true e n is in
+      let new : u e ≡ u n = ap u same in
+      let old : w e ≡ w n = ap w same in
+      let rest : total u n ≡ total w n = total_same w u n (λ d less. others d (λ at. let no : d ≡ n = at ∙ same in omega arith)) in
+      omega arith
+  | false ↦ λ is.
+      let other : e ≡ n → ⊥ = eqb-false e n is in
+      let last : u n ≡ w n = others n (λ at. other (sym at)) in
+      let rest : total w n + u e ≡ total u n + w e = total_change w u n e (last_of e n below other) others in
+      omega arith
+] refl
+
+bit_of : (b : Bool) → cond b 1 0 ≡ bit b
+bit_of true = refl
+bit_of false = refl
+
+-- the count of an agent, where one end changes
+count_change : (test : Option Kind → Bool) (a : AgentId) (f g : Facts) (e : ℕ) → e < f.ends → g.ends ≡ f.ends → ((d : ℕ) → (d ≡ e → ⊥) → counts_at test a (g.end d) ≡ counts_at test a (f.end d)) → count_with test a f + bit (counts_at test a (g.end e)) ≡ count_with test a g + bit (counts_at test a (f.end e))
+count_change test a f g e made ends others =
+    let w : ℕ → ℕ = λ x. cond (counts_at test a (f.end x)) 1 0 in
+    let u : ℕ → ℕ = λ x. cond (counts_at test a (g.end x)) 1 0 in
+    let sum : total w f.ends + u e ≡ total u f.ends + w e = total_change w u f.ends e made (λ d other. ap (λ b. cond b 1 0) (others d other)) in
+    let old : w e ≡ bit (counts_at test a (f.end e)) = bit_of (counts_at test a (f.end e)) in
+    let new : u e ≡ bit (counts_at test a (g.end e)) = bit_of (counts_at test a (g.end e)) in
+    let range : total u g.ends ≡ total u f.ends = ap (total u) ends in
+    omega arith
+
+-- the count of an agent, where no end changes in what is counted
+count_same : (test : Option Kind → Bool) (a : AgentId) (f g : Facts) → g.ends ≡ f.ends → ((d : ℕ) → counts_at test a (g.end d) ≡ counts_at test a (f.end d)) → count_with test a g ≡ count_with test a f
+count_same test a f g ends each =
+    let w : ℕ → ℕ = λ x. cond (counts_at test a (f.end x)) 1 0 in
+    let u : ℕ → ℕ = λ x. cond (counts_at test a (g.end x)) 1 0 in
+    ap (total u) ends ∙ total_same w u f.ends (λ d less. ap (λ b. cond b 1 0) (each d))
+
+-- the count of an agent, with one end more
+count_more_by : (test : Option Kind → Bool) (a : AgentId) (f g : Facts) → g.ends ≡ f.ends + 1 → ((d : ℕ) → d < f.ends → counts_at test a (g.end d) ≡ counts_at test a (f.end d)) → count_with test a g ≡ count_with test a f + bit (counts_at test a (g.end f.ends))
+count_more_by test a f g ends each =
+    let w : ℕ → ℕ = λ x. cond (counts_at test a (f.end x)) 1 0 in
+    let u : ℕ → ℕ = λ x. cond (counts_at test a (g.end x)) 1 0 in
+    let next_one : g.ends ≡ suc f.ends = omega (arith, ends) in
+    let range : total u g.ends ≡ total u f.ends + u f.ends = ap (total u) next_one in
+    let rest : total u f.ends ≡ total w f.ends = total_same w u f.ends (λ d less. ap (λ b. cond b 1 0) (each d less)) in
+    let last : u f.ends ≡ bit (counts_at test a (g.end f.ends)) = bit_of (counts_at test a (g.end f.ends)) in
+    omega arith
+
+never_none : (b : Bool) → false ≡ not (b || true)
+never_none true = refl
+never_none false = refl
+
+either_none : (b : Bool) → not b ≡ not (b || false)
+either_none true = refl
+either_none false = refl
+
+-- some number passes a test where the count isn't nothing
+none_counted : (test : ℕ → Bool) (n : ℕ) → eqb (total (λ x. cond (test x) 1 0) n) 0 ≡ not (any_below test n)
+none_counted test zero = refl
+none_counted test (suc n) = elim (test n) as (λ b. eqb (total (λ x. cond (test x) 1 0) n + cond b 1 0) 0 ≡ not (any_below test n || b)) [
+  | true ↦ ne_eqb (total (λ x. cond (test x) 1 0) n + 1) 0 (λ is. omega arith) ∙ never_none (any_below test n)
+  | false ↦ let same : total (λ x. cond (test x) 1 0) n + 0 ≡ total (λ x. cond (test x) 1 0) n = omega arith in ap (λ m. eqb m 0) same ∙ none_counted test n ∙ either_none (any_below test n)
+]
+
+-- an agent has no end of a kind where its count is nothing
+pub none_of_kind : (test : Option Kind → Bool) (a : AgentId) (f : Facts) → eqb (count_with test a f) 0 ≡ not (has_one test a f)
+none_of_kind test a f = none_counted (λ x. counts_at test a (f.end x)) f.ends
+
+-- ---- agents
+
+-- an agent of those of which one was changed
+change_get : (change : Agent → Agent) (agents : List Agent) (b a : ℕ) → slice_get (change_agent change b agents) a ≡ cond (eqb a b) (option_map change (slice_get agents a)) (slice_get agents a)
+change_get change agents b a = elim (eqb a b) as (λ c. eqb a b ≡ c → slice_get (change_agent change b agents) a ≡ cond c (option_map change (slice_get agents a)) (slice_get agents a)) [
+  | true ↦ λ is. let same : a ≡ b = eqb-true a b is in
+      ap (slice_get (change_agent change b agents)) same ∙ mine (slice_get agents b) refl ∙ ap (λ n. option_map change (slice_get agents n)) (sym same)
+  | false ↦ λ is. other (slice_get agents b) (eqb-false a b is)
+] refl
+  where
+    mine : (o : Option Agent) → slice_get agents b ≡ o → slice_get (set_agent b agents (option_map change o)) b ≡ option_map change (slice_get agents b)
+    mine None at = at ∙ sym (ap (option_map change) at)
+    mine (Some x) at = slice_get-set_same agents b (change x) (slice_get_within agents b x at) ∙ sym (ap (option_map change) at)
+
+    other : (o : Option Agent) → (a ≡ b → ⊥) → slice_get (set_agent b agents (option_map change o)) a ≡ slice_get agents a
+    other None far = refl
+    other (Some x) far = slice_get-set_other agents b a (change x) far
+
+-- how many agents there are
+pub change_length : (change : Agent → Agent) (agents : List Agent) (b : ℕ) → length (change_agent change b agents) ≡ length agents
+change_length change agents b = elim (slice_get agents b) as (λ o. length (set_agent b agents (option_map change o)) ≡ length agents) [
+  | None ↦ refl
+  | Some x ↦ length-set agents b (change x)
+]
+
+-- whether an agent runs isn't changed
+still_now : (change : Agent → Agent) → ((x : Agent) → (change x).is_running ≡ x.is_running) → (o : Option Agent) → agent_now (option_map change o) ≡ agent_now o
+still_now change same None = refl
+still_now change same (Some x) = ap (λ b. let y : AgentNow = record { runs = b } in y) (same x)
+
+change_now : (change : Agent → Agent) (agents : List Agent) (b a : ℕ) → ((x : Agent) → (change x).is_running ≡ x.is_running) → agent_now (slice_get (change_agent change b agents) a) ≡ agent_now (slice_get agents a)
+change_now change agents b a same = ap agent_now (change_get change agents b a) ∙ elim (eqb a b) as (λ c. agent_now (cond c (option_map change (slice_get agents a)) (slice_get agents a)) ≡ agent_now (slice_get agents a)) [
+  | true ↦ still_now change same (slice_get agents a)
+  | false ↦ refl
+]
+
+more_runs : (k : Kind) (x : Agent) → (one_more k x).is_running ≡ x.is_running
+more_runs (Port q) x = refl
+more_runs Client x = refl
+more_runs Worker x = refl
+
+less_runs : (k : Kind) (x : Agent) → (one_less k x).is_running ≡ x.is_running
+less_runs (Port q) x = refl
+less_runs Client x = refl
+less_runs Worker x = refl
+
+pub come_now : (k : Kind) (b : AgentId) (agents : List Agent) (a : ℕ) → agent_now (slice_get (come k b agents) a) ≡ agent_now (slice_get agents a)
+come_now k b agents a = change_now (one_more k) agents b.0 a (more_runs k)
+
+pub gone_now : (k : Kind) (p : Place) (agents : List Agent) (a : ℕ) → agent_now (slice_get (gone k p agents) a) ≡ agent_now (slice_get agents a)
+gone_now k (With b) agents a = change_now (one_less k) agents b.0 a (less_runs k)
+gone_now k InFlight agents a = refl
+gone_now k (Arrived b) agents a = refl
+gone_now k Swept agents a = refl
+gone_now k Gone agents a = refl
+
+pub come_length : (k : Kind) (b : AgentId) (agents : List Agent) → length (come k b agents) ≡ length agents
+come_length k b agents = change_length (one_more k) agents b.0
+
+pub gone_length : (k : Kind) (p : Place) (agents : List Agent) → length (gone k p agents) ≡ length agents
+gone_length k (With b) agents = change_length (one_less k) agents b.0
+gone_length k InFlight agents = refl
+gone_length k (Arrived b) agents = refl
+gone_length k Swept agents = refl
+gone_length k Gone agents = refl
+
+-- what is counted of an agent, and by which test
+record CountsBy (kept : Option Agent → ℕ) (test : Option Kind → Bool) : Type 0 where
+  less : (k : Kind) (o : Option Agent) → kept (option_map (one_less k) o) ≡ kept o - bit (test (Some k))
+  more : (k : Kind) (x : Agent) → kept (Some (one_more k x)) ≡ kept (Some x) + bit (test (Some k))
+
+clients_by : CountsBy kept_clients is_client
+clients_by = record {
+  less = λ k o. clients_less k o;
+  more = λ k x. clients_more k x;
+}
+  where
+    clients_less : (k : Kind) (o : Option Agent) → kept_clients (option_map (one_less k) o) ≡ kept_clients o - bit (is_client (Some k))
+    clients_less k None = elim k as (λ j. 0 ≡ 0 - bit (is_client (Some j))) [ Port q ↦ refl | Client ↦ refl | Worker ↦ refl ]
+    clients_less (Port q) (Some x) = omega arith
+    clients_less Client (Some x) = refl
+    clients_less Worker (Some x) = omega arith
+
+    clients_more : (k : Kind) (x : Agent) → kept_clients (Some (one_more k x)) ≡ x.clients + bit (is_client (Some k))
+    clients_more (Port q) x = omega arith
+    clients_more Client x = refl
+    clients_more Worker x = omega arith
+
+workers_by : CountsBy kept_workers is_worker
+workers_by = record {
+  less = λ k o. workers_less k o;
+  more = λ k x. workers_more k x;
+}
+  where
+    workers_less : (k : Kind) (o : Option Agent) → kept_workers (option_map (one_less k) o) ≡ kept_workers o - bit (is_worker (Some k))
+    workers_less k None = elim k as (λ j. 0 ≡ 0 - bit (is_worker (Some j))) [ Port q ↦ refl | Client ↦ refl | Worker ↦ refl ]
+    workers_less (Port q) (Some x) = omega arith
+    workers_less Client (Some x) = omega arith
+    workers_less Worker (Some x) = refl
+
+    workers_more : (k : Kind) (x : Agent) → kept_workers (Some (one_more k x)) ≡ x.workers + bit (is_worker (Some k))
+    workers_more (Port q) x = omega arith
+    workers_more Client x = omega arith
+    workers_more Worker x = refl
+
+bit_and : (b c : Bool) (n : ℕ) → cond c (n - bit b) n ≡ n - bit (b && c)
+bit_and true true n = refl
+bit_and true false n = omega arith
+bit_and false true n = refl
+bit_and false false n = omega arith
+
+bit_plus : (b c : Bool) (n : ℕ) → cond c (n + bit b) n ≡ n + bit (b && c)
+bit_plus true true n = refl
+bit_plus true false n = omega arith
+bit_plus false true n = refl
+bit_plus false false n = omega arith
+
+under : {A B : Type 0} (g : A → B) (c : Bool) (x y : A) → g (cond c x y) ≡ cond c (g x) (g y)
+under g true x y = refl
+under g false x y = refl
+
+nowhere : (b : Bool) (n : ℕ) → n ≡ n - bit (b && false)
+nowhere true n = omega arith
+nowhere false n = omega arith
+
+never : (b : Bool) → bit (b && false) ≡ 0
+never true = refl
+never false = refl
+
+-- the count of an agent after an end went
+gone_count : (kept : Option Agent → ℕ) (test : Option Kind → Bool) → CountsBy kept test → (k : Kind) (p : Place) (agents : List Agent) (a : AgentId) → kept (slice_get (gone k p agents) a.0) ≡ kept (slice_get agents a.0) - bit (test (Some k) && is_with a (Some p))
+gone_count kept test by k (With b) agents a =
+    ap kept (change_get (one_less k) agents b.0 a.0)
+    ∙ under kept (eqb a.0 b.0) (option_map (one_less k) (slice_get agents a.0)) (slice_get agents a.0)
+    ∙ ap (λ n. cond (eqb a.0 b.0) n (kept (slice_get agents a.0))) (by.less k (slice_get agents a.0))
+    ∙ bit_and (test (Some k)) (eqb a.0 b.0) (kept (slice_get agents a.0))
+gone_count kept test by k InFlight agents a = nowhere (test (Some k)) (kept (slice_get agents a.0))
+gone_count kept test by k (Arrived b) agents a = nowhere (test (Some k)) (kept (slice_get agents a.0))
+gone_count kept test by k Swept agents a = nowhere (test (Some k)) (kept (slice_get agents a.0))
+gone_count kept test by k Gone agents a = nowhere (test (Some k)) (kept (slice_get agents a.0))
+
+-- the count of an agent after an end came
+come_count : (kept : Option Agent → ℕ) (test : Option Kind → Bool) → CountsBy kept test → (k : Kind) (b : AgentId) (agents : List Agent) (a : AgentId) → b.0 < length agents → kept (slice_get (come k b agents) a.0) ≡ kept (slice_get agents a.0) + bit (test (Some k) && is_with a (Some (With b)))
+come_count kept test by k b agents a known =
+    ap kept (change_get (one_more k) agents b.0 a.0)
+    ∙ under kept (eqb a.0 b.0) (option_map (one_more k) (slice_get agents a.0)) (slice_get agents a.0)
+    ∙ elim (eqb a.0 b.0) as (λ c. eqb a.0 b.0 ≡ c → cond c (kept (option_map (one_more k) (slice_get agents a.0))) (kept (slice_get agents a.0)) ≡ kept (slice_get agents a.0) + bit (test (Some k) && c)) [
+      | true ↦ λ is. let same : a.0 ≡ b.0 = eqb-true a.0 b.0 is in there (slice_get agents a.0) (is_there agents a.0 (omega arith)) ∙ bit_plus (test (Some k)) true (kept (slice_get agents a.0))
+      | false ↦ λ is. bit_plus (test (Some k)) false (kept (slice_get agents a.0))
+    ] refl
+  where
+    there : (o : Option Agent) → (o ≡ None → ⊥) → kept (option_map (one_more k) o) ≡ kept o + bit (test (Some k))
+    there None some = absurd (some refl)
+    there (Some x) some = by.more k x
+
+-- ---- what steps make of the counts
+
+-- no end changes in what is counted
+pub counted_same : (agents : List Agent) (f g : Facts) → g.ends ≡ f.ends → ((a : AgentId) (d : ℕ) → counts_at is_client a (g.end d) ≡ counts_at is_client a (f.end d)) → ((a : AgentId) (d : ℕ) → counts_at is_worker a (g.end d) ≡ counts_at is_worker a (f.end d)) → Counted agents f → Counted agents g
+counted_same agents f g ends clients workers h = record {
+  clients = λ a. h.clients a ∙ sym (count_same is_client a f g ends (clients a));
+  workers = λ a. h.workers a ∙ sym (count_same is_worker a f g ends (workers a));
+}
+
+-- ports alone went to another place
+moved_port : (test : Option Kind → Bool) → ((k : Option Kind) → is_some (peer_of k) ≡ true → test k ≡ false) → (a : AgentId) (b : Bool) (q p : Option Place) (k : Option Kind) → (b ≡ true → is_some (peer_of k) ≡ true) → (test k && is_with a (cond b q p)) ≡ (test k && is_with a p)
+moved_port test never a true q p k port = ap (λ t. t && is_with a q) (never k (port refl)) ∙ sym (ap (λ t. t && is_with a p) (never k (port refl)))
+moved_port test never a false q p k port = refl
+
+no_client : (k : Option Kind) → is_some (peer_of k) ≡ true → is_client k ≡ false
+no_client (Some (Port q)) h = refl
+no_client (Some Client) h = absurd (false≢true h)
+no_client (Some Worker) h = refl
+no_client None h = refl
+
+no_worker : (k : Option Kind) → is_some (peer_of k) ≡ true → is_worker k ≡ false
+no_worker (Some (Port q)) h = refl
+no_worker (Some Client) h = refl
+no_worker (Some Worker) h = absurd (false≢true h)
+no_worker None h = refl
+
+pub counts_still : (agents : List Agent) (ends : List End) (f g : Facts) → ShowsFacts agents ends f → g.ends ≡ f.ends → ((d : ℕ) → (g.end d).kind ≡ (f.end d).kind) → ((d : ℕ) → (g.end d).place ≡ (f.end d).place) → Counted agents g
+counts_still agents ends f g h same kinds places = counted_same agents f g same (λ a d. rw (kinds d, places d) refl) (λ a d. rw (kinds d, places d) refl) (counts_of agents ends f h)
+
+pub counted_ports : (agents : List Agent) (f g : Facts) (moved : ℕ → Bool) (place : ℕ → Option Place) → g.ends ≡ f.ends → ((d : ℕ) → (g.end d).kind ≡ (f.end d).kind) → ((d : ℕ) → (g.end d).place ≡ cond (moved d) (place d) (f.end d).place) → ((d : ℕ) → moved d ≡ true → is_some (peer_of (f.end d).kind) ≡ true) → Counted agents f → Counted agents g
+counted_ports agents f g moved place ends kinds places ports h = counted_same agents f g ends
+    (λ a d. rw (kinds d, places d) (moved_port is_client no_client a (moved d) (place d) (f.end d).place (f.end d).kind (ports d)))
+    (λ a d. rw (kinds d, places d) (moved_port is_worker no_worker a (moved d) (place d) (f.end d).place (f.end d).kind (ports d))) h
+
+-- one end went from an agent to a place where no agent has it
+pub record Went (f g : Facts) (e : ℕ) (k : Kind) (p : Place) : Type 0 where
+  pub made : e < f.ends
+  pub ends : g.ends ≡ f.ends
+  pub was : (f.end e).kind ≡ Some k
+  pub from : (f.end e).place ≡ Some p
+  pub is : (g.end e).kind ≡ Some k
+  pub nowhere : (a : AgentId) → is_with a (g.end e).place ≡ false
+  pub kinds : (d : ℕ) → (d ≡ e → ⊥) → (g.end d).kind ≡ (f.end d).kind
+  pub places : (d : ℕ) → (d ≡ e → ⊥) → (g.end d).place ≡ (f.end d).place
+
+pub counted_went : (agents : List Agent) (f g : Facts) (e : ℕ) (k : Kind) (p : Place) → Went f g e k p → Counted agents f → Counted (gone k p agents) g
+counted_went agents f g e k p w h = record {
+  clients = λ a. by_test kept_clients is_client clients_by a (h.clients a);
+  workers = λ a. by_test kept_workers is_worker workers_by a (h.workers a);
+}
+  where
+    by_test : (kept : Option Agent → ℕ) (test : Option Kind → Bool) → CountsBy kept test → (a : AgentId) → kept (slice_get agents a.0) ≡ count_with test a f → kept (slice_get (gone k p agents) a.0) ≡ count_with test a g
+    by_test kept test by a old =
+        let others : (d : ℕ) → (d ≡ e → ⊥) → counts_at test a (g.end d) ≡ counts_at test a (f.end d) = λ d far. rw (w.kinds d far, w.places d far) refl in
+        let sum : count_with test a f + bit (counts_at test a (g.end e)) ≡ count_with test a g + bit (counts_at test a (f.end e)) = count_change test a f g e w.made w.ends others in
+        let now : bit (counts_at test a (g.end e)) ≡ 0 = ap (λ c. bit (test (g.end e).kind && c)) (w.nowhere a) ∙ never (test (g.end e).kind) in
+        let then : bit (counts_at test a (f.end e)) ≡ bit (test (Some k) && is_with a (Some p)) = ap (λ q. bit (test q && is_with a (f.end e).place)) w.was ∙ ap (λ q. bit (test (Some k) && is_with a q)) w.from in
+        let less : kept (slice_get (gone k p agents) a.0) ≡ kept (slice_get agents a.0) - bit (test (Some k) && is_with a (Some p)) = gone_count kept test by k p agents a in
+        omega arith
+
+-- one end that no agent had came to an agent
+pub record Came (f g : Facts) (e : ℕ) (k : Kind) (b : AgentId) : Type 0 where
+  pub made : e < f.ends
+  pub ends : g.ends ≡ f.ends
+  pub was : (a : AgentId) → is_with a (f.end e).place ≡ false
+  pub is : (g.end e).kind ≡ Some k
+  pub to : (g.end e).place ≡ Some (With b)
+  pub kinds : (d : ℕ) → (d ≡ e → ⊥) → (g.end d).kind ≡ (f.end d).kind
+  pub places : (d : ℕ) → (d ≡ e → ⊥) → (g.end d).place ≡ (f.end d).place
+
+pub counted_came : (agents : List Agent) (f g : Facts) (e : ℕ) (k : Kind) (b : AgentId) → b.0 < length agents → Came f g e k b → Counted agents f → Counted (come k b agents) g
+counted_came agents f g e k b known w h = record {
+  clients = λ a. by_test kept_clients is_client clients_by a (h.clients a);
+  workers = λ a. by_test kept_workers is_worker workers_by a (h.workers a);
+}
+  where
+    by_test : (kept : Option Agent → ℕ) (test : Option Kind → Bool) → CountsBy kept test → (a : AgentId) → kept (slice_get agents a.0) ≡ count_with test a f → kept (slice_get (come k b agents) a.0) ≡ count_with test a g
+    by_test kept test by a old =
+        let others : (d : ℕ) → (d ≡ e → ⊥) → counts_at test a (g.end d) ≡ counts_at test a (f.end d) = λ d far. rw (w.kinds d far, w.places d far) refl in
+        let sum : count_with test a f + bit (counts_at test a (g.end e)) ≡ count_with test a g + bit (counts_at test a (f.end e)) = count_change test a f g e w.made w.ends others in
+        let then : bit (counts_at test a (f.end e)) ≡ 0 = ap (λ c. bit (test (f.end e).kind && c)) (w.was a) ∙ never (test (f.end e).kind) in
+        let now : bit (counts_at test a (g.end e)) ≡ bit (test (Some k) && is_with a (Some (With b))) = ap (λ q. bit (test q && is_with a (g.end e).place)) w.is ∙ ap (λ q. bit (test (Some k) && is_with a q)) w.to in
+        let more : kept (slice_get (come k b agents) a.0) ≡ kept (slice_get agents a.0) + bit (test (Some k) && is_with a (Some (With b))) = come_count kept test by k b agents a known in
+        omega arith
+
+-- one end more, which an agent made
+pub record New (f g : Facts) (k : Kind) (b : AgentId) : Type 0 where
+  pub ends : g.ends ≡ f.ends + 1
+  pub is : (g.end f.ends).kind ≡ Some k
+  pub to : (g.end f.ends).place ≡ Some (With b)
+  pub kinds : (d : ℕ) → d < f.ends → (g.end d).kind ≡ (f.end d).kind
+  pub places : (d : ℕ) → d < f.ends → (g.end d).place ≡ (f.end d).place
+
+pub counted_new : (agents : List Agent) (f g : Facts) (k : Kind) (b : AgentId) → b.0 < length agents → New f g k b → Counted agents f → Counted (come k b agents) g
+counted_new agents f g k b known w h = record {
+  clients = λ a. by_test kept_clients is_client clients_by a (h.clients a);
+  workers = λ a. by_test kept_workers is_worker workers_by a (h.workers a);
+}
+  where
+    by_test : (kept : Option Agent → ℕ) (test : Option Kind → Bool) → CountsBy kept test → (a : AgentId) → kept (slice_get agents a.0) ≡ count_with test a f → kept (slice_get (come k b agents) a.0) ≡ count_with test a g
+    by_test kept test by a old =
+        let sum : count_with test a g ≡ count_with test a f + bit (counts_at test a (g.end f.ends)) = count_more_by test a f g w.ends (λ d less. rw (w.kinds d less, w.places d less) refl) in
+        let now : bit (counts_at test a (g.end f.ends)) ≡ bit (test (Some k) && is_with a (Some (With b))) = ap (λ q. bit (test q && is_with a (g.end f.ends).place)) w.is ∙ ap (λ q. bit (test (Some k) && is_with a q)) w.to in
+        let more : kept (slice_get (come k b agents) a.0) ≡ kept (slice_get agents a.0) + bit (test (Some k) && is_with a (Some (With b))) = come_count kept test by k b agents a known in
+        omega arith

@@ -1,0 +1,187 @@
+-- Line and Back: what the core answers fits, and it shows the facts with the answered step.
+use Rattle.std.proofs.Common.{◌≡◌, ℕ, zero, suc, ◌+◌, ◌<◌, ◌≤◌, Bool, true, false, cond, eqb, set, List, [], ◌∷◌, length, Option, Some, None, refl, sym, ap, subst, ◌∙◌, arith, rules, length-set}
+use Rattle.std.specs.Prelude.{◌&&◌, ◌++◌, not, is_some, nat_lt}
+use Rattle.std.specs.List.{slice_get, position, position_from}
+use Rattle.std.proofs.lemmas.Iterator.Adapters.{position_from-zero}
+use Rattle.std.proofs.lemmas.Bool.{false≢true, ne_eqb, lt-ltb}
+use Rattle.std.proofs.lemmas.Option.{slice_get_within}
+use Rattle.hub_envelope.specs.declared.ids.AgentId.{AgentId}
+use Rattle.hub_envelope.specs.declared.ids.EndId.{EndId}
+use Rattle.hub_envelope.specs.declared.ids.LineId.{LineId}
+use Rattle.hub_envelope.specs.declared.envelope.Envelope.{Envelope}
+use Rattle.hub_core.specs.declared.limits.TheConstants.{MAX_LINES}
+use Rattle.hub_core.specs.declared.agent.Agent.{Agent}
+use Rattle.hub_core.specs.declared.kind.Kind.{Kind}
+use Rattle.hub_core.specs.declared.kind.Kind.TheVariants.{Port, Client, Worker}
+use Rattle.hub_core.specs.declared.line.Line.{Line}
+use Rattle.hub_core.specs.declared.end.End.{End}
+use Rattle.hub_core.specs.declared.sender.Sender.{Sender}
+use Rattle.hub_core.specs.declared.step.Action.TheVariants as action
+use Rattle.hub_core.specs.declared.outcome.Outcome.{Outcome}
+use Rattle.hub_core.specs.declared.outcome.Outcome.TheVariants as outcome
+use Rattle.hub_core.specs.Facts.{EndNow, LineNow, Facts}
+use Rattle.hub_core.specs.Made.{is_queue, lines_of}
+use Rattle.hub_core.specs.Looking.{first_failing}
+use Rattle.hub_core.specs.Posting.{is_out, phase_of_line}
+use Rattle.hub_core.specs.Holding.{free_line, line_found, line_answer, back_answer}
+use Rattle.hub_core.specs.Unchanged.{changes_nothing}
+use Rattle.hub_core.specs.Sound.{no_end, no_line}
+use Rattle.hub_core.specs.Shows.{line_now, end_now, ShowsPut, ShowsEnd, ShowsFacts}
+use Rattle.hub_core.specs.Kept.{kept_running, line_within, first_free, hold_outcome_of, hold_outcome, held_lines, held_end, line_outcome_at, line_ends_at, may_give_back, back_outcome, back_end, back_outcome_at, back_ends_at}
+use Rattle.hub_core.proofs.Lists.{set_again, each_set, eqb_same, is_there}
+use Rattle.hub_core.proofs.Fitting.{line_got_of, first_failing_of}
+use Rattle.hub_core.proofs.SoundLines.{held_line_as, queue_lines}
+use Rattle.hub_core.proofs.Frames.{ShownAt, Stepped, changed, unchanged}
+use Rattle.hub_core.proofs.Counts.{counts_still}
+use Rattle.hub_core.proofs.Holders.{runs_kept}
+
+-- ---- a line with another holder
+
+-- the end with a line that this agent holds, or none
+abbrev with_holder : End → Line → ℕ → Option AgentId → End
+with_holder x y l holder = record x { lines = set x.lines l (record y { held_by = holder }) }
+
+held_end_shown : (now : EndNow) (old : ℕ → LineNow) (clear : ℕ → Bool) (vs ts : List Envelope) (x : End) (y : Line) (k : ℕ) (holder : Option AgentId) → slice_get x.lines k ≡ Some y → ShowsEnd now old clear vs ts (Some x) → ShowsEnd now (λ l. record { phase = (old l).phase; stand = (old l).stand; noticed = (old l).noticed; held_by = cond (eqb l k) holder (old l).held_by }) clear vs ts (Some (with_holder x y k holder))
+held_end_shown now old clear vs ts x y k holder is h =
+    let within : k < length x.lines = slice_get_within x.lines k y is in
+    record {
+      same = h.same;
+      count = length-set x.lines k (record y { held_by = holder }) ∙ h.count;
+      lines = each_set (λ l o. (let z : LineNow = record { phase = (old l).phase; stand = (old l).stand; noticed = (old l).noticed; held_by = cond (eqb l k) holder (old l).held_by } in z ≡ line_now o)) x.lines k (record y { held_by = holder }) within
+          (ap (λ b. let z : LineNow = record { phase = (old k).phase; stand = (old k).stand; noticed = (old k).noticed; held_by = cond b holder (old k).held_by } in z) (eqb_same k) ∙ ap (λ (z : LineNow). let w : LineNow = record { phase = z.phase; stand = z.stand; noticed = z.noticed; held_by = holder } in w) (h.lines k ∙ ap line_now is))
+          (λ l other. ap (λ b. let z : LineNow = record { phase = (old l).phase; stand = (old l).stand; noticed = (old l).noticed; held_by = cond b holder (old l).held_by } in z) (ne_eqb l k other) ∙ h.lines l);
+      put = each_set (ShowsPut vs) x.lines k (record y { held_by = holder }) within
+          (subst (ShowsPut vs k) is (h.put k))
+          (λ l other. h.put l);
+      queues = record { reached = h.queues.reached; clear_below = h.queues.clear_below; count = h.queues.count; inside = h.queues.inside; behind = h.queues.behind; each = h.queues.each };
+    }
+
+-- every end, with this holder of the line
+held_shown : (agents : List Agent) (ends : List End) (f : Facts) (s : Sender) (holder : Option AgentId) (x : End) (y : Line) → ShowsFacts agents ends f → slice_get ends s.end.0 ≡ Some x → slice_get x.lines s.line.0 ≡ Some y → (d : ℕ) → ShowsEnd (f.end d) (held_line_as f s holder d) (f.clear d) (f.accepted d) (f.taken d ++ f.discarded d) (slice_get (set ends s.end.0 (with_holder x y s.line.0 holder)) d)
+held_shown agents ends f s holder x y h at is =
+    each_set (λ d o. ShowsEnd (f.end d) (held_line_as f s holder d) (f.clear d) (f.accepted d) (f.taken d ++ f.discarded d) o) ends s.end.0 (with_holder x y s.line.0 holder) (slice_get_within ends s.end.0 x at)
+    (subst (λ b. ShowsEnd (f.end s.end.0) (λ l. record { phase = (f.line s.end.0 l).phase; stand = (f.line s.end.0 l).stand; noticed = (f.line s.end.0 l).noticed; held_by = cond (b && eqb l s.line.0) holder (f.line s.end.0 l).held_by }) (f.clear s.end.0) (f.accepted s.end.0) (f.taken s.end.0 ++ f.discarded s.end.0) (Some (with_holder x y s.line.0 holder))) (sym (eqb_same s.end.0))
+    (held_end_shown (f.end s.end.0) (f.line s.end.0) (f.clear s.end.0) (f.accepted s.end.0) (f.taken s.end.0 ++ f.discarded s.end.0) x y s.line.0 holder is (subst (ShownAt f s.end.0) at (h.end s.end.0))))
+    (λ d other. subst (λ b. ShowsEnd (f.end d) (λ l. record { phase = (f.line d l).phase; stand = (f.line d l).stand; noticed = (f.line d l).noticed; held_by = cond (b && eqb l s.line.0) holder (f.line d l).held_by }) (f.clear d) (f.accepted d) (f.taken d ++ f.discarded d) (slice_get ends d)) (sym (ne_eqb d s.end.0 other)) (h.end d))
+
+-- ---- the first line that no agent holds
+
+abbrev is_free : Line → Bool
+is_free y = not (is_some y.held_by)
+
+free_step : (b : Bool) (p q : Option ℕ) (k : ℕ) → p ≡ q → cond b p (Some k) ≡ cond (not b) (Some k) q
+free_step true p q k same = same
+free_step false p q k same = refl
+
+free_from : (test : ℕ → Bool) (ys : List Line) (k : ℕ) → ((i : ℕ) (y : Line) → slice_get ys i ≡ Some y → test (k + i) ≡ is_some y.held_by) → first_failing test k (length ys) ≡ position_from is_free k ys
+free_from test [] k same = refl
+free_from test (y ∷ ys) k same =
+    let first : k + 0 ≡ k = omega arith in
+    let here : test k ≡ is_some y.held_by = ap test (sym first) ∙ same 0 y refl in
+    let rest : first_failing test (k + 1) (length ys) ≡ position_from is_free (k + 1) ys = free_from test ys (k + 1) (λ i z at. let one : k + 1 + i ≡ k + suc i = omega arith in ap test one ∙ same (suc i) z at) in
+    ap (λ b. cond b (first_failing test (k + 1) (length ys)) (Some k)) here ∙ free_step (is_some y.held_by) (first_failing test (k + 1) (length ys)) (position_from is_free (k + 1) ys) k rest
+
+-- what is found, within the lines
+within_lines : (q : Option ℕ) (n : ℕ) → n ≡ MAX_LINES → ((l : ℕ) → q ≡ Some l → l < n) → hold_outcome_of (line_within q) ≡ line_found q
+within_lines None n many less = refl
+within_lines (Some l) n many less =
+    let low : l < n = less l refl in
+    let under : nat_lt l MAX_LINES ≡ true = lt-ltb l MAX_LINES (omega arith) in
+    ap (λ b. hold_outcome_of (cond b (Some (record { 0 = l })) None)) under
+
+free_line_kept : (f : Facts) (e : ℕ) (x : End) → ShownAt f e (Some x) → is_queue (f.end e).kind ≡ true → hold_outcome_of (first_free x.lines) ≡ line_found (free_line f e)
+free_line_kept f e x h queue =
+    let many : length x.lines ≡ MAX_LINES = h.count ∙ queue_lines (f.end e).kind queue in
+    let held : first_failing (λ l. is_some (f.line e l).held_by) 0 (length x.lines) ≡ position_from is_free 0 x.lines = free_from (λ l. is_some (f.line e l).held_by) x.lines 0 (λ i y at. let none_more : 0 + i ≡ i = omega arith in ap (λ n. is_some (f.line e n).held_by) none_more ∙ ap (λ (z : LineNow). is_some z.held_by) (h.lines i ∙ ap line_now at)) in
+    let same : position is_free x.lines ≡ free_line f e = position_from-zero is_free x.lines ∙ sym held ∙ ap (first_failing (λ l. is_some (f.line e l).held_by) 0) many in
+    ap (λ q. hold_outcome_of (line_within q)) same ∙ within_lines (free_line f e) MAX_LINES refl (λ l is.
+    let found = first_failing_of (λ i. is_some (f.line e i).held_by) 0 MAX_LINES l is in
+    let below : l < 0 + MAX_LINES = found.below in
+    omega arith)
+
+-- ---- Line
+
+line_not_running : (f : Facts) (e : EndId) (a : AgentId) → (f.agent a.0).runs ≡ false → outcome.NotNow ≡ line_answer f e a
+line_not_running f e a rests = ap (λ b. cond (not b) outcome.NotNow (cond (not (is_queue (f.end e.0).kind)) outcome.NoSuchEnd (line_found (free_line f e.0)))) (sym rests)
+
+line_no_queue : (f : Facts) (e : EndId) (a : AgentId) → (f.agent a.0).runs ≡ true → is_queue (f.end e.0).kind ≡ false → outcome.NoSuchEnd ≡ line_answer f e a
+line_no_queue f e a runs none = rw (runs, none) refl
+
+line_queue : (f : Facts) (e : EndId) (a : AgentId) → (f.agent a.0).runs ≡ true → is_queue (f.end e.0).kind ≡ true → line_found (free_line f e.0) ≡ line_answer f e a
+line_queue f e a runs queue = rw (runs, queue) refl
+
+line_kept_at : (f : Facts) (e : EndId) (l : LineId) (x : End) → ShownAt f e.0 (Some x) → is_queue (f.end e.0).kind ≡ true → l.0 < MAX_LINES → slice_get x.lines l.0 ≡ None → ⊥
+line_kept_at f e l x h queue low none =
+    let many : length x.lines ≡ MAX_LINES = h.count ∙ queue_lines (f.end e.0).kind queue in
+    is_there x.lines l.0 (omega arith) none
+
+-- a line that the agent got
+got_line : (agents : List Agent) (ends : List End) (f : Facts) (e : EndId) (a : AgentId) (refused : Bool) (x : End) (l : LineId) → ShowsFacts agents ends f → slice_get ends e.0 ≡ Some x → ShownAt f e.0 (Some x) → outcome.Line l ≡ line_answer f e a → (o : Option Line) → slice_get x.lines l.0 ≡ o → Stepped agents (set ends e.0 (record x { lines = held_lines (Some a) l.0 x.lines o })) f (action.Line e a) refused (outcome.Line l)
+got_line agents ends f e a refused x l h at shown answer None is =
+    let gets = line_got_of f e a l answer in
+    absurd (line_kept_at f e l x shown gets.queue gets.low is)
+got_line agents ends f e a refused x l h at shown answer (Some y) is =
+    changed agents ends _ f (action.Line e a) refused (outcome.Line l) h answer refl refl refl (length-set ends e.0 (with_holder x y l.0 (Some a))) (counts_still agents ends f _ h refl (λ d. refl) (λ d. refl))
+    (held_shown agents ends f (record { end = e; line = l }) (Some a) x y h at is)
+
+-- what is found at a queue
+line_found_at : (agents : List Agent) (ends : List End) (f : Facts) (e : EndId) (a : AgentId) (refused : Bool) (x : End) → ShowsFacts agents ends f → slice_get ends e.0 ≡ Some x → ShownAt f e.0 (Some x) → (q : Option LineId) → hold_outcome_of q ≡ line_answer f e a → Stepped agents (set ends e.0 (held_end a x (hold_outcome_of q))) f (action.Line e a) refused (hold_outcome_of q)
+line_found_at agents ends f e a refused x h at shown None answer = unchanged agents ends _ f (action.Line e a) refused outcome.NoLine outcome.NoLine h refl refl (set_again ends e.0 x at) answer
+line_found_at agents ends f e a refused x h at shown (Some l) answer = got_line agents ends f e a refused x l h at shown answer (slice_get x.lines l.0) refl
+
+line_end : (agents : List Agent) (ends : List End) (f : Facts) (e : EndId) (a : AgentId) (refused : Bool) (x : End) → ShowsFacts agents ends f → slice_get ends e.0 ≡ Some x → ShownAt f e.0 (Some x) → (f.agent a.0).runs ≡ true → (queue : Bool) → is_queue (Some x.kind) ≡ queue → Stepped agents (set ends e.0 (held_end a x (cond queue (hold_outcome_of (first_free x.lines)) outcome.NoSuchEnd))) f (action.Line e a) refused (cond queue (hold_outcome_of (first_free x.lines)) outcome.NoSuchEnd)
+line_end agents ends f e a refused x h at shown runs true is =
+    let queue : is_queue (f.end e.0).kind ≡ true = ap (λ (y : EndNow). is_queue y.kind) shown.same ∙ is in
+    line_found_at agents ends f e a refused x h at shown (first_free x.lines) (free_line_kept f e.0 x shown queue ∙ line_queue f e a runs queue)
+line_end agents ends f e a refused x h at shown runs false is =
+    unchanged agents ends _ f (action.Line e a) refused outcome.NoSuchEnd outcome.NoSuchEnd h refl refl (set_again ends e.0 x at) (line_no_queue f e a runs (ap (λ (y : EndNow). is_queue y.kind) shown.same ∙ is))
+
+line_at : (agents : List Agent) (ends : List End) (f : Facts) (e : EndId) (a : AgentId) (refused : Bool) → ShowsFacts agents ends f → (runs : Bool) → runs ≡ (f.agent a.0).runs → (o : Option End) → slice_get ends e.0 ≡ o → ShownAt f e.0 o → Stepped agents (line_ends_at runs a e.0 ends o) f (action.Line e a) refused (line_outcome_at runs o)
+line_at agents ends f e a refused h false is o at shown = unchanged agents ends ends f (action.Line e a) refused outcome.NotNow outcome.NotNow h refl refl refl (line_not_running f e a (sym is))
+line_at agents ends f e a refused h true is None at shown = unchanged agents ends ends f (action.Line e a) refused outcome.NoSuchEnd outcome.NoSuchEnd h refl refl refl (line_no_queue f e a (sym is) (ap (λ (y : EndNow). is_queue y.kind) shown.same))
+line_at agents ends f e a refused h true is (Some x) at shown = line_end agents ends f e a refused x h at shown (sym is) (is_queue (Some x.kind)) refl
+
+pub line_shown : (agents : List Agent) (ends : List End) (f : Facts) (e : EndId) (a : AgentId) (refused : Bool) → ShowsFacts agents ends f → Stepped agents (line_ends_at (kept_running agents a.0) a e.0 ends (slice_get ends e.0)) f (action.Line e a) refused (line_outcome_at (kept_running agents a.0) (slice_get ends e.0))
+line_shown agents ends f e a refused h = line_at agents ends f e a refused h (kept_running agents a.0) (runs_kept agents ends f a.0 h) (slice_get ends e.0) refl (h.end e.0)
+
+-- ---- Back
+
+back_as : (f : Facts) (s : Sender) (y : LineNow) → f.line s.end.0 s.line.0 ≡ y → cond (is_some y.held_by && is_out y.phase) outcome.Done outcome.NotNow ≡ back_answer f s
+back_as f s y line = ap (λ (z : LineNow). cond (is_some z.held_by && is_out z.phase) outcome.Done outcome.NotNow) (sym line)
+
+back_line : (agents : List Agent) (ends : List End) (f : Facts) (s : Sender) (refused : Bool) (x : End) → ShowsFacts agents ends f → slice_get ends s.end.0 ≡ Some x → (o : Option Line) → slice_get x.lines s.line.0 ≡ o → f.line s.end.0 s.line.0 ≡ line_now o → Stepped agents (set ends s.end.0 (back_end x s.line.0 o)) f (action.Back s) refused (back_outcome o)
+back_line agents ends f s refused x h at None is line = unchanged agents ends _ f (action.Back s) refused outcome.NotNow outcome.NotNow h refl refl (set_again ends s.end.0 x at) (back_as f s no_line line)
+back_line agents ends f s refused x h at (Some y) is line =
+    elim (may_give_back y) as (λ b. cond b outcome.Done outcome.NotNow ≡ back_answer f s → Stepped agents (set ends s.end.0 (cond b (with_holder x y s.line.0 None) x)) f (action.Back s) refused (cond b outcome.Done outcome.NotNow)) [
+      | true ↦ λ answer. changed agents ends _ f (action.Back s) refused outcome.Done h answer refl refl refl (length-set ends s.end.0 (with_holder x y s.line.0 None)) (counts_still agents ends f _ h refl (λ d. refl) (λ d. refl)) (held_shown agents ends f s None x y h at is)
+      | false ↦ λ answer. unchanged agents ends _ f (action.Back s) refused outcome.NotNow outcome.NotNow h refl refl (set_again ends s.end.0 x at) answer
+    ] (back_as f s (line_now (Some y)) line)
+
+back_at : (agents : List Agent) (ends : List End) (f : Facts) (s : Sender) (refused : Bool) → ShowsFacts agents ends f → (o : Option End) → slice_get ends s.end.0 ≡ o → ShownAt f s.end.0 o → Stepped agents (back_ends_at s ends o) f (action.Back s) refused (back_outcome_at s.line.0 o)
+back_at agents ends f s refused h None at shown = unchanged agents ends ends f (action.Back s) refused outcome.NotNow outcome.NotNow h refl refl refl (back_as f s no_line (shown.lines s.line.0))
+back_at agents ends f s refused h (Some x) at shown = back_line agents ends f s refused x h at (slice_get x.lines s.line.0) refl (shown.lines s.line.0)
+
+pub back_shown : (agents : List Agent) (ends : List End) (f : Facts) (s : Sender) (refused : Bool) → ShowsFacts agents ends f → Stepped agents (back_ends_at s ends (slice_get ends s.end.0)) f (action.Back s) refused (back_outcome_at s.line.0 (slice_get ends s.end.0))
+back_shown agents ends f s refused h = back_at agents ends f s refused h (slice_get ends s.end.0) refl (h.end s.end.0)
+
+-- ---- what changes nothing leaves the ends
+
+held_same : (e : EndId) (a : AgentId) (x : End) (o : Outcome) → changes_nothing o (action.Line e a) ≡ true → held_end a x o ≡ x
+held_same e a x (outcome.Line l) h = absurd (false≢true h)
+held_same e a x o h = refl
+
+pub line_same : (ends : List End) (e : EndId) (a : AgentId) (runs : Bool) (q : Option End) → slice_get ends e.0 ≡ q → changes_nothing (line_outcome_at runs q) (action.Line e a) ≡ true → line_ends_at runs a e.0 ends q ≡ ends
+line_same ends e a false q at h = refl
+line_same ends e a true None at h = refl
+line_same ends e a true (Some x) at h = ap (set ends e.0) (held_same e a x (hold_outcome x) h) ∙ set_again ends e.0 x at
+
+back_line_same : (ends : List End) (s : Sender) (x : End) → slice_get ends s.end.0 ≡ Some x → (q : Option Line) → changes_nothing (back_outcome q) (action.Back s) ≡ true → set ends s.end.0 (back_end x s.line.0 q) ≡ ends
+back_line_same ends s x at None h = set_again ends s.end.0 x at
+back_line_same ends s x at (Some y) h = elim (may_give_back y) as (λ b. changes_nothing (cond b outcome.Done outcome.NotNow) (action.Back s) ≡ true → set ends s.end.0 (cond b (with_holder x y s.line.0 None) x) ≡ ends) [
+  | true ↦ λ no. absurd (false≢true no)
+  | false ↦ λ _. set_again ends s.end.0 x at
+] h
+
+pub back_same : (ends : List End) (s : Sender) (q : Option End) → slice_get ends s.end.0 ≡ q → changes_nothing (back_outcome_at s.line.0 q) (action.Back s) ≡ true → back_ends_at s ends q ≡ ends
+back_same ends s None at h = refl
+back_same ends s (Some x) at h = back_line_same ends s x at (slice_get x.lines s.line.0) h

@@ -1,0 +1,94 @@
+ghost use Rattle.std.specs.Prelude.{◌≡◌, option_map, slice_get, IfOk};
+ghost use Rattle.hub_core.specs.Kept.{count_of, one_more, set_agent, gone, kept_running, line_outcome_at, line_ends_at, back_outcome_at, back_ends_at};
+
+use crate::agent::Agent;
+use crate::end::Place;
+use crate::kind::Kind;
+use crate::machine::Core;
+use crate::outcome::Outcome;
+use crate::sender::Sender;
+use hub_envelope::{AgentId, EndId, OutOfMemory};
+
+impl Core {
+    pub(crate) fn hold(&mut self, end: EndId, agent: AgentId) -> Outcome
+        ensures outcome { let runs = kept_running self.old.agents.items agent.0 in
+            result ≡ line_outcome_at runs (slice_get self.old.ends.items end.0) }
+        ensures ends { let runs = kept_running self.old.agents.items agent.0 in
+            let ends = self.old.ends.items in
+            self.new.ends.items ≡ line_ends_at runs agent end.0 ends (slice_get ends end.0) }
+        ensures agents { self.new.agents ≡ self.old.agents }
+    {
+        if !self.is_running(agent) {
+            return Outcome::NotNow;
+        }
+        let Some(found) = self.ends.get_mut(end.0 as usize) else {
+            return Outcome::NoSuchEnd;
+        };
+        found.hold(agent)
+    }
+
+    pub(crate) fn give_back(&mut self, sender: Sender) -> Outcome
+        ensures outcome { let found = slice_get self.old.ends.items sender.end.0 in
+            result ≡ back_outcome_at sender.line.0 found }
+        ensures ends { let ends = self.old.ends.items in
+            self.new.ends.items ≡ back_ends_at sender ends (slice_get ends sender.end.0) }
+        ensures agents { self.new.agents ≡ self.old.agents }
+    {
+        let Some(end) = self.ends.get_mut(sender.end.0 as usize) else {
+            return Outcome::NotNow;
+        };
+        end.give_back(sender.line)
+    }
+
+    /// How many queues of a kind an agent has.
+    pub(crate) fn count_of(&self, kind: Kind, agent: AgentId) -> u32
+        ensures { result ≡ count_of kind (slice_get self.now.agents.items agent.0) }
+    {
+        match self.agents.get(agent.0 as usize) {
+            Some(found) => found.count(kind),
+            None => 0,
+        }
+    }
+
+    /// The agent with an end of this kind more.
+    pub(crate) fn with_one_more(
+        &self,
+        kind: Kind,
+        agent: AgentId,
+    ) -> Result<Option<Agent>, OutOfMemory>
+        ensures { IfOk result (λ found. found
+            ≡ option_map (one_more kind) (slice_get self.now.agents.items agent.0)) }
+    {
+        match self.agents.get(agent.0 as usize) {
+            Some(found) => Ok(Some(found.with_one_more(kind)?)),
+            None => Ok(None),
+        }
+    }
+
+    /// Changes what is kept of an agent.
+    pub(crate) fn set_agent(&mut self, agent: AgentId, value: Option<Agent>)
+        ensures agents { self.new.agents.items ≡ set_agent agent.0 self.old.agents.items value }
+        ensures ends { self.new.ends ≡ self.old.ends }
+    {
+        let Some(value) = value else {
+            return;
+        };
+        if let Some(kept) = self.agents.get_mut(agent.0 as usize) {
+            *kept = value;
+        }
+    }
+
+    /// An end of this kind went from this place.
+    pub(crate) fn went_from(&mut self, kind: Kind, place: Place)
+        ensures agents { self.new.agents.items ≡ gone kind place self.old.agents.items }
+        ensures ends { self.new.ends ≡ self.old.ends }
+    {
+        if let Place::With(agent) = place {
+            let counted = self
+                .agents
+                .get(agent.0 as usize)
+                .map(|found| found.with_one_less(kind));
+            self.set_agent(agent, counted);
+        }
+    }
+}

@@ -1,0 +1,46 @@
+ghost use Rattle.std.specs.Prelude.{◌≡◌, Some};
+ghost use Rattle.hub_core.specs.Kept.{source_of};
+ghost use Rattle.hub_core.specs.Made.{is_queue, lines_of};
+
+use crate::limits::MAX_LINES;
+use hub_envelope::EndId;
+
+/// What an end is.
+#[derive(Clone, Copy, Debug, PartialEq, Eq)]
+pub enum Kind {
+    /// A port, entangled with this one (WHATWG HTML, "Message ports").
+    Port(EndId),
+    /// The queue of the messages to a client (W3C Service Workers, "Client").
+    Client,
+    /// The queue of the messages to a worker (W3C Service Workers, "ServiceWorker").
+    Worker,
+}
+
+impl Kind {
+    /// The port that posts at an end of this kind, where one does.
+    pub(crate) fn source(self) -> Option<EndId>
+        ensures { result ≡ source_of self }
+    {
+        match self {
+            Kind::Port(peer) => Some(peer),
+            Kind::Client | Kind::Worker => None,
+        }
+    }
+
+    /// Whether it is a client's or a worker's queue.
+    pub(crate) fn is_queue(self) -> bool
+        ensures { result ≡ is_queue (Some self) }
+    {
+        matches!(self, Kind::Client | Kind::Worker)
+    }
+
+    /// How many lines an end of this kind has.
+    pub(crate) fn lines(self) -> usize
+        ensures { result ≡ lines_of (Some self) }
+    {
+        match self {
+            Kind::Port(_) => 1,
+            Kind::Client | Kind::Worker => MAX_LINES,
+        }
+    }
+}

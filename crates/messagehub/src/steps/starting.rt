@@ -1,0 +1,70 @@
+ghost use Rattle.std.specs.Prelude.{◌≡◌, IfOk, IsOk, OnOk};
+ghost use Rattle.messagehub.specs.Performed.{ComputesAt};
+ghost use Rattle.messagehub.specs.Unfolding.{adopt, load, start_worker, worker};
+
+use super::entering::{show_step, take_step};
+use super::shown::Shown;
+use hub_core::{Action, Core, Kind, OutOfMemory, Outcome};
+use hub_envelope::{AgentId, EndId};
+
+/// Makes the queue of a worker, and starts it.
+pub fn make_worker(
+    core: &mut Core,
+    agent: AgentId,
+    memory_refused: bool,
+) -> Result<Shown, OutOfMemory>
+    ensures { IfOk result (λ shown.
+        ComputesAt core.old core.new (worker memory_refused agent) shown) }
+{
+    match take_step(core, Action::Worker(agent), memory_refused)? {
+        Outcome::End(end) => {
+            take_step(core, Action::Start(end), memory_refused)?;
+            Ok(Shown::Answer(Outcome::End(end)))
+        }
+        answer => Ok(Shown::Answer(answer)),
+    }
+}
+
+/// Adopts an end, and starts it where it is a worker's queue.
+pub fn adopt(
+    core: &mut Core,
+    end: EndId,
+    agent: AgentId,
+    memory_refused: bool,
+) -> Result<Shown, OutOfMemory>
+    ensures { IfOk result (λ shown.
+        ComputesAt core.old core.new (adopt memory_refused end agent) shown) }
+{
+    match take_step(core, Action::Adopt(end, agent), memory_refused)? {
+        Outcome::Adopted(queue) => {
+            start_worker(core, end, memory_refused)?;
+            Ok(Shown::Answer(Outcome::Adopted(queue)))
+        }
+        answer => Ok(Shown::Answer(answer)),
+    }
+}
+
+/// Starts a worker's queue. Of any other end no step is taken.
+fn start_worker(core: &mut Core, end: EndId, memory_refused: bool) -> Result<(), OutOfMemory>
+    ensures { OnOk result (ComputesAt core.old core.new (start_worker memory_refused end) tt) }
+{
+    if matches!(core.kind_of(end), Some(Kind::Worker)) {
+        take_step(core, Action::Start(end), memory_refused)?;
+        Ok(())
+    } else {
+        Ok(())
+    }
+}
+
+/// Starts the queue of a client, whose document is parsed. Of any other end no step is taken.
+pub fn load(core: &mut Core, end: EndId, memory_refused: bool) -> Result<Shown, OutOfMemory>
+    ensures shown { IfOk result (λ shown.
+        ComputesAt core.old core.new (load memory_refused end) shown) }
+    ensures memory { IsOk result }
+{
+    if matches!(core.kind_of(end), Some(Kind::Client)) {
+        show_step(core, Action::Start(end), memory_refused)
+    } else {
+        Ok(Shown::Answer(Outcome::NotNow))
+    }
+}
