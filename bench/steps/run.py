@@ -1,12 +1,12 @@
 #!/usr/bin/env python3
-"""Times `messagehub steps` beside a Node program of the same job, on the same files.
+"""Times `messagehub steps` beside a Node program and a plain Rust program of the same job, on the same files.
 
 Usage: run.py BINARY [REPEATS]
 
 Two shapes, each with 1,000,000 and 2,000,000 lines of `post` and `take` with bodies of about 20
 bytes: takes that follow their posts, and all the posts before all the takes. It prints seconds (the
 least of the repeats), ratios, processor seconds, and peak memory a line. Growth is judged by wall
-time. It ends with 1 where a bound is missed or the two programs write different bytes.
+time. It ends with 1 where a bound is missed or the programs write different bytes.
 """
 
 import os
@@ -15,8 +15,9 @@ import sys
 import tempfile
 import time
 
-MOST_TO_NODE = 1.0
-MOST_BYTES_A_LINE = 400
+MOST_TO_NODE = 0.25
+MOST_TO_RUST = 1.4
+MOST_BYTES_A_LINE = 120
 MOST_GROWTH = 2.3
 HEADER = "agent -\nchannel 0\nstart 1\n"
 # Files in memory where there is such a folder, so that no disk is timed.
@@ -67,37 +68,45 @@ def same(first, second):
 def main():
     binary = os.path.abspath(sys.argv[1])
     repeats = int(sys.argv[2]) if len(sys.argv) > 2 else 3
-    reference = os.path.join(os.path.dirname(os.path.abspath(__file__)), "reference.mjs")
+    here = os.path.dirname(os.path.abspath(__file__))
     missed = []
+
+    def judge(name, figure, value, bound, is_met):
+        row(f"steps, {name}", figure, bound, is_met)
+        if not is_met:
+            missed.append(f"{name}: {value}")
+
     with tempfile.TemporaryDirectory(dir=FOLDER) as folder:
-        paths = [os.path.join(folder, name) for name in ("input", "ours", "theirs")]
-        source, ours, theirs = paths
-        for name, shape in (("alternating", alternating), ("posts first", posts_first)):
+        source, ours, theirs = (os.path.join(folder, name) for name in ("input", "ours", "theirs"))
+        rust = os.path.join(folder, "reference")
+        subprocess.run(["rustc", "-O", "-o", rust, os.path.join(here, "reference.rs")], check=True)
+        node = ["node", os.path.join(here, "reference.mjs")]
+        for shape_name, shape in (("alternating", alternating), ("posts first", posts_first)):
             before = None
             for count in (1_000_000, 2_000_000):
+                name = f"{shape_name}, {count} lines"
                 with open(source, "w") as file:
                     file.write(HEADER + shape(count))
                 seconds, processor, peak = least([binary, "steps"], source, ours, repeats)
-                node, _, node_peak = least(["node", reference], source, theirs, repeats)
+                by_node, _, node_peak = least(node, source, theirs, repeats)
+                differs = not same(ours, theirs)
+                by_rust, rust_processor, rust_peak = least([rust], source, theirs, repeats)
+                differs = differs or not same(ours, theirs)
                 growth = seconds / before if before else None
                 print(
-                    f"{name}, {count} lines: {seconds:.2f} s, node {node:.2f} s, "
-                    f"ratio {seconds / node:.2f}; {processor:.2f} processor s; {peak / count:.0f} bytes a line, "
-                    f"node {node_peak / count:.0f}"
-                    + (f"; {growth:.2f} times the half" if growth else "")
+                    f"{name}: {seconds:.2f} s; node {by_node:.2f} s, ratio {seconds / by_node:.2f}; "
+                    f"rust {by_rust:.2f} s, ratio {seconds / by_rust:.2f}; {processor:.2f} processor s, "
+                    f"rust {rust_processor:.2f}; {peak / count:.0f} bytes a line, node {node_peak / count:.0f}, "
+                    f"rust {rust_peak / count:.0f}" + (f"; {growth:.2f} times the half" if growth else "")
                 )
-                row(f"steps, {name}, {count} lines", f"{seconds / node:.2f} of node", "1", seconds <= MOST_TO_NODE * node)
-                row(f"steps, {name}, {count} lines", f"{peak / count:.0f} bytes a line", "400", peak <= MOST_BYTES_A_LINE * count)
+                to_node, to_rust = seconds / by_node, seconds / by_rust
+                judge(name, f"{to_node:.2f} of node", "against node", f"{MOST_TO_NODE}", to_node <= MOST_TO_NODE)
+                judge(name, f"{to_rust:.2f} of rust", "against rust", f"{MOST_TO_RUST}", to_rust <= MOST_TO_RUST)
+                judge(name, f"{peak / count:.0f} bytes a line", "memory", f"{MOST_BYTES_A_LINE}", peak <= MOST_BYTES_A_LINE * count)
                 if growth:
-                    row(f"steps, {name}, {count} lines", f"{growth:.2f}x the half", "2.3", growth <= MOST_GROWTH)
-                if not same(ours, theirs):
-                    missed.append(f"{name} {count}: different output")
-                if seconds > MOST_TO_NODE * node:
-                    missed.append(f"{name} {count}: slower than node")
-                if peak > MOST_BYTES_A_LINE * count:
-                    missed.append(f"{name} {count}: memory")
-                if growth and growth > MOST_GROWTH:
-                    missed.append(f"{name} {count}: growth")
+                    judge(name, f"{growth:.2f}x the half", "growth", f"{MOST_GROWTH}", growth <= MOST_GROWTH)
+                if differs:
+                    missed.append(f"{name}: different output")
                 before = seconds
     for line in missed:
         print("missed:", line)
