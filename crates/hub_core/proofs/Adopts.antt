@@ -16,20 +16,22 @@ use Rattle.hub_core.specs.declared.step.Action.TheVariants as action
 use Rattle.hub_core.specs.declared.outcome.Outcome.{Outcome}
 use Rattle.hub_core.specs.declared.outcome.Outcome.TheVariants as outcome
 use Rattle.hub_core.specs.Facts.{EndNow, LineNow, Facts}
-use Rattle.hub_core.specs.Moving.{is_arrived, adopt_answer}
+use Rattle.hub_core.specs.Moving.{is_arrived, adopt_answer, is_released}
 use Rattle.hub_core.specs.Sound.{no_end, SoundPlaces}
 use Rattle.hub_core.specs.Shows.{end_now, ShowsEnd, ShowsFacts}
 use Rattle.hub_core.specs.Unchanged.{changes_nothing}
-use Rattle.hub_core.specs.Kept.{adopted_end, adopt_outcome, adopted_by, adopt_outcome_at, adopt_ends_at, kept_running, one_more, adopt_agents, come}
+use Rattle.hub_core.specs.Kept.{adopted_end, adopt_outcome, adopted_by, adopt_outcome_at, adopt_ends_at, kept_running, one_more, adopt_agents, come, change_agent, adopting, kept_released}
 use Rattle.hub_core.proofs.Lists.{eqb_same, set_again, each_set}
 use Rattle.hub_core.proofs.Frames.{ShownAt, Stepped, changed, unchanged, along, recounted}
 use Rattle.hub_core.proofs.Holders.{runs_kept}
 use Rattle.hub_core.specs.Sender.{in_queue}
-use Rattle.hub_core.proofs.Counts.{Came, come_length, come_now, counted_came, counts_of}
+use Rattle.hub_core.proofs.Counts.{Came, come_length, come_now, counted_came, counts_of, change_length, adopted_now}
 use Rattle.hub_core.proofs.Speakers.{running_made, placed_made}
 use Rattle.hub_core.proofs.Fitting.{adopted_of}
 use Rattle.hub_core.proofs.Nexts.{next}
 use Rattle.hub_core.specs.Posting.{is_with}
+use Rattle.hub_core.proofs.Calms.{came_away}
+use Rattle.hub_core.proofs.Closes.{released_kept}
 
 -- ---- an end with a new queue
 
@@ -62,7 +64,7 @@ adopted_one now line clear vs ts x a h = record {
 }
 
 -- the end came to the agent
-adopted_came : (f : Facts) (e : EndId) (a : AgentId) (refused : Bool) (x : End) (k : ℕ) → SoundPlaces f → f.end e.0 ≡ end_now (Some x) → outcome.Adopted k ≡ adopt_answer f e a refused → Came f (next f (action.Adopt e a) (outcome.Adopted k)) e.0 x.kind a
+adopted_came : (f : Facts) (e : EndId) (a : AgentId) (refused : Bool) (x : End) (k : ℕ) → SoundPlaces f → f.end e.0 ≡ end_now (Some x) → outcome.Adopted k ≡ adopt_answer f e a refused → Came f (next f (action.Adopt e a) (outcome.Adopted k)) e.0 x.kind a (is_released f (f.end e.0).kind)
 adopted_came f e a refused x k h same answer =
     let adopts = adopted_of f e a refused k answer in
     record {
@@ -73,26 +75,29 @@ adopted_came f e a refused x k h same answer =
       to = ap (λ b. cond b (Some (With a)) (f.end e.0).place) (eqb_same e.0);
       kinds = λ d far. refl;
       places = λ d far. ap (λ b. cond b (Some (With a)) (f.end d).place) (ne_eqb d e.0 far);
+      away = λ c. came_away c a f (next f (action.Adopt e a) (outcome.Adopted k)) e.0 h (placed_made f e.0 x.place h (ap (λ (y : EndNow). y.place) same)) refl (λ d. refl) (λ d l. refl) (λ q. refl) (ap (is_with c) adopts.arrived) (f.end e.0).kind refl;
     }
 
-adopted_shown : (agents : List Agent) (ends : List End) (f : Facts) (e : EndId) (a : AgentId) (refused : Bool) (x : End) (k : ℕ) → ShowsFacts agents ends f → slice_get ends e.0 ≡ Some x → outcome.Adopted k ≡ adopt_answer f e a refused → Stepped (come x.kind a agents) (set ends e.0 (adopted_end a x)) f (action.Adopt e a) refused (outcome.Adopted k)
+adopted_shown : (agents : List Agent) (ends : List End) (f : Facts) (e : EndId) (a : AgentId) (refused : Bool) (x : End) (k : ℕ) → ShowsFacts agents ends f → slice_get ends e.0 ≡ Some x → outcome.Adopted k ≡ adopt_answer f e a refused → Stepped (change_agent (adopting (kept_released ends x.kind) x.kind) a.0 agents) (set ends e.0 (adopted_end a x)) f (action.Adopt e a) refused (outcome.Adopted k)
 adopted_shown agents ends f e a refused x k h at answer =
     let shown : ShownAt f e.0 (Some x) = subst (ShownAt f e.0) at (h.end e.0) in
     let count : f.agents ≡ length agents = h.agents in
+    let free : kept_released ends x.kind ≡ is_released f (f.end e.0).kind = released_kept agents ends f e.0 h x.kind (ap (λ (y : EndNow). y.kind) shown.same) ∙ ap (is_released f) (sym (ap (λ (y : EndNow). y.kind) shown.same)) in
     let known : a.0 < f.agents = running_made f a h.sound.places (adopted_of f e a refused k answer).runs in
-    recounted agents (come x.kind a agents) ends (set ends e.0 (adopted_end a x)) f (action.Adopt e a) refused (outcome.Adopted k) h answer refl refl
-    (come_length x.kind a agents) (come_now x.kind a agents) (h.ends ∙ sym (length-set ends e.0 (adopted_end a x)))
-    (counted_came agents f (next f (action.Adopt e a) (outcome.Adopted k)) e.0 x.kind a (omega arith) (adopted_came f e a refused x k h.sound.places shown.same answer) (counts_of agents ends f h))
+    subst (λ c. Stepped (change_agent (adopting c x.kind) a.0 agents) (set ends e.0 (adopted_end a x)) f (action.Adopt e a) refused (outcome.Adopted k)) (sym free)
+    (recounted agents (change_agent (adopting (is_released f (f.end e.0).kind) x.kind) a.0 agents) ends (set ends e.0 (adopted_end a x)) f (action.Adopt e a) refused (outcome.Adopted k) h answer refl refl
+    (change_length (adopting (is_released f (f.end e.0).kind) x.kind) agents a.0) (adopted_now (is_released f (f.end e.0).kind) x.kind agents a) (h.ends ∙ sym (length-set ends e.0 (adopted_end a x)))
+    (counted_came agents f (next f (action.Adopt e a) (outcome.Adopted k)) e.0 x.kind a (is_released f (f.end e.0).kind) h.sound.places.few (omega arith) (adopted_came f e a refused x k h.sound.places shown.same answer) (counts_of agents ends f h))
     (each_set (λ d q. ShowsEnd (record (f.end d) { place = cond (eqb d e.0) (Some (With a)) (f.end d).place; enabled = cond (eqb d e.0) false (f.end d).enabled; newest = cond (eqb d e.0) ((f.end d).newest + 1) (f.end d).newest }) (f.line d) (f.clear d) (f.accepted d) (f.taken d ++ f.discarded d) q) ends e.0 (adopted_end a x) (slice_get_within ends e.0 x at)
     (subst (λ b. ShowsEnd (record (f.end e.0) { place = cond b (Some (With a)) (f.end e.0).place; enabled = cond b false (f.end e.0).enabled; newest = cond b ((f.end e.0).newest + 1) (f.end e.0).newest }) (f.line e.0) (f.clear e.0) (f.accepted e.0) (f.taken e.0 ++ f.discarded e.0) (Some (adopted_end a x))) (sym (eqb_same e.0)) (adopted_one (f.end e.0) (f.line e.0) (f.clear e.0) (f.accepted e.0) (f.taken e.0 ++ f.discarded e.0) x a shown))
-    (λ d other. subst (λ b. ShowsEnd (record (f.end d) { place = cond b (Some (With a)) (f.end d).place; enabled = cond b false (f.end d).enabled; newest = cond b ((f.end d).newest + 1) (f.end d).newest }) (f.line d) (f.clear d) (f.accepted d) (f.taken d ++ f.discarded d) (slice_get ends d)) (sym (ne_eqb d e.0 other)) (h.end d)))
+    (λ d other. subst (λ b. ShowsEnd (record (f.end d) { place = cond b (Some (With a)) (f.end d).place; enabled = cond b false (f.end d).enabled; newest = cond b ((f.end d).newest + 1) (f.end d).newest }) (f.line d) (f.clear d) (f.accepted d) (f.taken d ++ f.discarded d) (slice_get ends d)) (sym (ne_eqb d e.0 other)) (h.end d))))
 
 -- ---- what is answered
 
 abbrev answer_by : Bool → Bool → Bool → Bool → ℕ → Outcome
 answer_by closed there full refused n = cond closed outcome.Closed (cond (not there) outcome.NotNow (cond full outcome.TooManyMoves (cond refused outcome.NoMemory (outcome.Adopted n))))
 
-adopt_by : (agents : List Agent) (ends : List End) (f : Facts) (e : EndId) (a : AgentId) (refused : Bool) (x : End) → ShowsFacts agents ends f → slice_get ends e.0 ≡ Some x → (closed there full memory : Bool) (n : ℕ) → answer_by closed there full memory n ≡ adopt_answer f e a refused → Stepped (adopt_agents a agents (Some x) (answer_by closed there full memory n)) (set ends e.0 (adopted_by a x (answer_by closed there full memory n))) f (action.Adopt e a) refused (answer_by closed there full memory n)
+adopt_by : (agents : List Agent) (ends : List End) (f : Facts) (e : EndId) (a : AgentId) (refused : Bool) (x : End) → ShowsFacts agents ends f → slice_get ends e.0 ≡ Some x → (closed there full memory : Bool) (n : ℕ) → answer_by closed there full memory n ≡ adopt_answer f e a refused → Stepped (adopt_agents ends a agents (Some x) (answer_by closed there full memory n)) (set ends e.0 (adopted_by a x (answer_by closed there full memory n))) f (action.Adopt e a) refused (answer_by closed there full memory n)
 adopt_by agents ends f e a refused x h at true there full memory n answer = unchanged agents ends _ f (action.Adopt e a) refused outcome.Closed outcome.Closed h refl refl (set_again ends e.0 x at) answer
 adopt_by agents ends f e a refused x h at false false full memory n answer = unchanged agents ends _ f (action.Adopt e a) refused outcome.NotNow outcome.NotNow h refl refl (set_again ends e.0 x at) answer
 adopt_by agents ends f e a refused x h at false true true memory n answer = unchanged agents ends _ f (action.Adopt e a) refused outcome.TooManyMoves outcome.TooManyMoves h refl refl (set_again ends e.0 x at) answer
@@ -104,15 +109,15 @@ adopt_as f e a refused runs x end is =
     ap (λ r. answer_by x.closed (is_arrived a x.place && r) (nat_le MAX_MOVES x.newest) refused (x.newest + 1)) is
     ∙ ap (λ (y : EndNow). answer_by y.closed (is_arrived a y.place && (f.agent a.0).runs) (nat_le MAX_MOVES y.newest) refused (y.newest + 1)) (sym end)
 
-adopt_at : (agents : List Agent) (ends : List End) (f : Facts) (e : EndId) (a : AgentId) (refused runs : Bool) → ShowsFacts agents ends f → runs ≡ (f.agent a.0).runs → (o : Option End) → slice_get ends e.0 ≡ o → ShownAt f e.0 o → Stepped (adopt_agents a agents o (adopt_outcome_at runs a refused o)) (adopt_ends_at runs a refused e.0 ends o) f (action.Adopt e a) refused (adopt_outcome_at runs a refused o)
+adopt_at : (agents : List Agent) (ends : List End) (f : Facts) (e : EndId) (a : AgentId) (refused runs : Bool) → ShowsFacts agents ends f → runs ≡ (f.agent a.0).runs → (o : Option End) → slice_get ends e.0 ≡ o → ShownAt f e.0 o → Stepped (adopt_agents ends a agents o (adopt_outcome_at runs a refused o)) (adopt_ends_at runs a refused e.0 ends o) f (action.Adopt e a) refused (adopt_outcome_at runs a refused o)
 adopt_at agents ends f e a refused runs h is None at shown = unchanged agents ends ends f (action.Adopt e a) refused outcome.NotNow outcome.NotNow h refl refl refl (adopt_as f e a refused runs no_end shown.same is)
 adopt_at agents ends f e a refused runs h is (Some x) at shown =
     adopt_by agents ends f e a refused x h at x.is_closed (is_arrived a (Some x.place) && runs) (nat_le MAX_MOVES x.newest) refused (x.newest + 1) (adopt_as f e a refused runs (end_now (Some x)) shown.same is)
 
-pub adopt_shown : (agents new_agents : List Agent) (ends new : List End) (f : Facts) (e : EndId) (a : AgentId) (refused : Bool) (o : Outcome) → ShowsFacts agents ends f → o ≡ adopt_outcome_at (kept_running agents a.0) a refused (slice_get ends e.0) → new ≡ adopt_ends_at (kept_running agents a.0) a refused e.0 ends (slice_get ends e.0) → new_agents ≡ adopt_agents a agents (slice_get ends e.0) o → Stepped new_agents new f (action.Adopt e a) refused o
+pub adopt_shown : (agents new_agents : List Agent) (ends new : List End) (f : Facts) (e : EndId) (a : AgentId) (refused : Bool) (o : Outcome) → ShowsFacts agents ends f → o ≡ adopt_outcome_at (kept_running agents a.0) a refused (slice_get ends e.0) → new ≡ adopt_ends_at (kept_running agents a.0) a refused e.0 ends (slice_get ends e.0) → new_agents ≡ adopt_agents ends a agents (slice_get ends e.0) o → Stepped new_agents new f (action.Adopt e a) refused o
 adopt_shown agents new_agents ends new f e a refused o h says leaves counts =
     let p : Outcome = adopt_outcome_at (kept_running agents a.0) a refused (slice_get ends e.0) in
-    along (λ gs es q. Stepped gs es f (action.Adopt e a) refused q) (counts ∙ ap (adopt_agents a agents (slice_get ends e.0)) says) leaves says
+    along (λ gs es q. Stepped gs es f (action.Adopt e a) refused q) (counts ∙ ap (adopt_agents ends a agents (slice_get ends e.0)) says) leaves says
     (adopt_at agents ends f e a refused (kept_running agents a.0) h (runs_kept agents ends f a.0 h) (slice_get ends e.0) refl (h.end e.0))
 
 -- ---- what changes nothing leaves the ends
@@ -125,7 +130,7 @@ pub adopt_same : (ends : List End) (e : EndId) (a : AgentId) (runs refused : Boo
 adopt_same ends e a runs refused None at h = refl
 adopt_same ends e a runs refused (Some x) at h = ap (set ends e.0) (adopted_same e a x (adopt_outcome runs a refused x) h) ∙ set_again ends e.0 x at
 
-pub adopt_agents_same : (agents : List Agent) (e : EndId) (a : AgentId) (q : Option End) (o : Outcome) → changes_nothing o (action.Adopt e a) ≡ true → adopt_agents a agents q o ≡ agents
-adopt_agents_same agents e a None o h = refl
-adopt_agents_same agents e a (Some x) (outcome.Adopted k) h = absurd (false≢true h)
-adopt_agents_same agents e a (Some x) o h = refl
+pub adopt_agents_same : (ends : List End) (agents : List Agent) (e : EndId) (a : AgentId) (q : Option End) (o : Outcome) → changes_nothing o (action.Adopt e a) ≡ true → adopt_agents ends a agents q o ≡ agents
+adopt_agents_same ends agents e a None o h = refl
+adopt_agents_same ends agents e a (Some x) (outcome.Adopted k) h = absurd (false≢true h)
+adopt_agents_same ends agents e a (Some x) o h = refl

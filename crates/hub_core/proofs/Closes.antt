@@ -29,11 +29,13 @@ use Rattle.hub_core.proofs.Counts.{Went, gone_length, gone_now, counted_went, co
 use Rattle.hub_core.proofs.Nexts.{next}
 use Rattle.hub_core.proofs.Speakers.{placed_made}
 use Rattle.hub_core.specs.declared.kind.Kind.TheVariants.{Port, Client, Worker}
+use Rattle.hub_core.proofs.Calms.{calm_gone}
+use Rattle.hub_core.proofs.Fitting.{closed_of}
 
 -- ---- whether an end can be closed
 
 -- whether the own poster of an end is out, where the end is a port
-released_kept : (agents : List Agent) (ends : List End) (f : Facts) (e : ℕ) → ShowsFacts agents ends f → (k : Kind) → (f.end e).kind ≡ Some k → kept_released ends k ≡ is_released f (Some k)
+pub released_kept : (agents : List Agent) (ends : List End) (f : Facts) (e : ℕ) → ShowsFacts agents ends f → (k : Kind) → (f.end e).kind ≡ Some k → kept_released ends k ≡ is_released f (Some k)
 released_kept agents ends f e h (Port q) is =
     let back = h.sound.places.peers e q.0 (ap peer_of is) in
     let made : q.0 < f.ends = back.0 in
@@ -63,8 +65,8 @@ shut_one now line clear vs ts x h = record {
 }
 
 -- the end went
-shut_went : (f : Facts) (e : EndId) (x : End) → SoundPlaces f → f.end e.0 ≡ end_now (Some x) → Went f (next f (action.Close e) outcome.Done) e.0 x.kind x.place
-shut_went f e x h same = record {
+shut_went : (f : Facts) (e : EndId) (x : End) → SoundPlaces f → is_released f (f.end e.0).kind ≡ true → f.end e.0 ≡ end_now (Some x) → Went f (next f (action.Close e) outcome.Done) e.0 x.kind x.place
+shut_went f e x h free same = record {
   made = placed_made f e.0 x.place h (ap (λ (y : EndNow). y.place) same);
   ends = refl;
   was = ap (λ (y : EndNow). y.kind) same;
@@ -73,6 +75,7 @@ shut_went f e x h same = record {
   nowhere = λ a. ap (λ b. is_with a (cond b (Some Gone) (f.end e.0).place)) (eqb_same e.0);
   kinds = λ d far. refl;
   places = λ d far. ap (λ b. cond b (Some Gone) (f.end d).place) (ne_eqb d e.0 far);
+  calm = λ a y less. calm_gone a f (next f (action.Close e) outcome.Done) e.0 (Some Gone) y h refl (λ l. refl) (λ q. refl) free;
 }
 
 shut_shown : (agents : List Agent) (ends : List End) (f : Facts) (e : EndId) (refused : Bool) (x : End) → ShowsFacts agents ends f → slice_get ends e.0 ≡ Some x → outcome.Done ≡ close_answer f e → Stepped (gone x.kind x.place agents) (set ends e.0 (closed_end x)) f (action.Close e) refused outcome.Done
@@ -80,7 +83,7 @@ shut_shown agents ends f e refused x h at answer =
     let shown : ShownAt f e.0 (Some x) = subst (ShownAt f e.0) at (h.end e.0) in
     recounted agents (gone x.kind x.place agents) ends (set ends e.0 (closed_end x)) f (action.Close e) refused outcome.Done h answer refl refl
     (gone_length x.kind x.place agents) (gone_now x.kind x.place agents) (h.ends ∙ sym (length-set ends e.0 (closed_end x)))
-    (counted_went agents f (next f (action.Close e) outcome.Done) e.0 x.kind x.place (shut_went f e x h.sound.places shown.same) (counts_of agents ends f h))
+    (counted_went agents f (next f (action.Close e) outcome.Done) e.0 x.kind x.place (shut_went f e x h.sound.places (closed_of f e answer).released shown.same) (counts_of agents ends f h))
     (each_set (λ d q. ShowsEnd (record (f.end d) { closed = cond (eqb d e.0) true (f.end d).closed; place = cond (eqb d e.0) (Some Gone) (f.end d).place }) (f.line d) (f.clear d) (f.accepted d) (f.taken d ++ f.discarded d) q) ends e.0 (closed_end x) (slice_get_within ends e.0 x at)
     (subst (λ b. ShowsEnd (record (f.end e.0) { closed = cond b true (f.end e.0).closed; place = cond b (Some Gone) (f.end e.0).place }) (f.line e.0) (f.clear e.0) (f.accepted e.0) (f.taken e.0 ++ f.discarded e.0) (Some (closed_end x))) (sym (eqb_same e.0)) (shut_one (f.end e.0) (f.line e.0) (f.clear e.0) (f.accepted e.0) (f.taken e.0 ++ f.discarded e.0) x shown))
     (λ d other. subst (λ b. ShowsEnd (record (f.end d) { closed = cond b true (f.end d).closed; place = cond b (Some Gone) (f.end d).place }) (f.line d) (f.clear d) (f.accepted d) (f.taken d ++ f.discarded d) (slice_get ends d)) (sym (ne_eqb d e.0 other)) (h.end d)))

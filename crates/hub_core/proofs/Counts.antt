@@ -1,5 +1,5 @@
 -- How many queues of clients and workers an agent has: what the core counts is what the facts say.
-use Rattle.std.proofs.Common.{◌≡◌, ℕ, zero, suc, ◌+◌, ◌-◌, ◌<◌, ◌≤◌, Bool, true, false, cond, eqb, List, [], ◌∷◌, ◌++◌, length, set, Option, Some, None, refl, sym, ap, subst, ◌∙◌, arith, length-set}
+use Rattle.std.proofs.Common.{◌≡◌, ℕ, zero, suc, ◌+◌, ◌-◌, ◌*◌, ◌<◌, ◌≤◌, Bool, true, false, cond, eqb, List, [], ◌∷◌, ◌++◌, length, set, Option, Some, None, refl, sym, ap, subst, ◌∙◌, arith, length-set, nat_lt, lt-ltb}
 use Rattle.std.specs.Prelude.{◌&&◌, ◌||◌, not, is_some, option_map}
 use Rattle.std.specs.List.{slice_get}
 use Rattle.std.proofs.lemmas.Bool.{false≢true, eqb-true, eqb-false, ne_eqb}
@@ -12,25 +12,28 @@ use Rattle.hub_core.specs.declared.end.End.{End}
 use Rattle.hub_core.specs.declared.end.Place.{Place}
 use Rattle.hub_core.specs.declared.end.Place.TheVariants.{With, InFlight, Arrived, Swept, Gone}
 use Rattle.hub_core.specs.Facts.{EndNow, Facts, AgentNow}
-use Rattle.hub_core.specs.Made.{peer_of}
+use Rattle.hub_core.specs.Made.{peer_of, lines_of}
 use Rattle.hub_core.specs.Making.{is_client, is_worker, has_one}
 use Rattle.hub_core.specs.Looking.{any_below}
-use Rattle.hub_core.specs.Posting.{is_with}
+use Rattle.hub_core.specs.Posting.{is_with, is_out}
 use Rattle.hub_core.specs.Sound.{total}
-use Rattle.hub_core.specs.Shows.{kept_clients, kept_workers, count_with, ShowsFacts, agent_now}
-use Rattle.hub_core.specs.Kept.{one_more, one_less, set_agent, change_agent, come, gone}
+use Rattle.hub_core.specs.Shows.{kept_clients, kept_workers, count_with, ShowsFacts, agent_now, count_away, kept_away}
+use Rattle.hub_core.specs.Kept.{one_more, one_less, set_agent, change_agent, come, gone, adopting, one_away, change_owner, one_out}
 use Rattle.hub_core.proofs.Lists.{slice_get-set_same, slice_get-set_other, eqb_same, is_there}
 use Rattle.std.proofs.lemmas.Option.{slice_get_within}
 use Rattle.std.proofs.lemmas.Bool.Decides.{nat_tests}
-use Rattle.hub_core.proofs.Totals.{bit, total_same}
+use Rattle.hub_core.proofs.Totals.{bit, total_same, total_nothing}
+use Rattle.hub_core.specs.declared.limits.TheConstants.{MAX_ENDS}
+use Rattle.hub_core.specs.Ending.{is_away_of, has_poster}
 
 -- what the core keeps of these counts
 pub record Counted (agents : List Agent) (f : Facts) : Type 0 where
   pub clients : (a : AgentId) → kept_clients (slice_get agents a.0) ≡ count_with is_client a f
   pub workers : (a : AgentId) → kept_workers (slice_get agents a.0) ≡ count_with is_worker a f
+  pub away : (a : AgentId) → kept_away (slice_get agents a.0) ≡ count_away a f
 
 pub counts_of : (agents : List Agent) (ends : List End) (f : Facts) → ShowsFacts agents ends f → Counted agents f
-counts_of agents ends f h = record { clients = h.clients; workers = h.workers }
+counts_of agents ends f h = record { clients = h.clients; workers = h.workers; away = h.away }
 
 -- whether the agent has the end, and its kind passes the test
 abbrev pub counts_at : (Option Kind → Bool) → AgentId → EndNow → Bool
@@ -80,6 +83,48 @@ count_same test a f g ends each =
     let u : ℕ → ℕ = λ x. cond (counts_at test a (g.end x)) 1 0 in
     ap (total u) ends ∙ total_same w u f.ends (λ d less. ap (λ b. cond b 1 0) (each d))
 
+-- how many posters of the agent are away at an end
+abbrev pub away_at : AgentId → Facts → ℕ → ℕ
+away_at a f x = total (λ l. cond (is_away_of f a x l) 1 0) (lines_of (f.end x).kind)
+
+-- the facts say the same of who is away at an end
+abbrev pub IsCalmAt : AgentId → Facts → Facts → ℕ → Type 0
+IsCalmAt a f g x = (lines_of (g.end x).kind ≡ lines_of (f.end x).kind) × ((l : ℕ) → is_away_of g a x l ≡ is_away_of f a x l)
+
+pub calm_count : (a : AgentId) (f g : Facts) (x : ℕ) → IsCalmAt a f g x → away_at a g x ≡ away_at a f x
+calm_count a f g x calm =
+    ap (total (λ l. cond (is_away_of g a x l) 1 0)) calm.0 ∙ total_same (λ l. cond (is_away_of f a x l) 1 0) (λ l. cond (is_away_of g a x l) 1 0) (lines_of (f.end x).kind) (λ l less. ap (λ b. cond b 1 0) (calm.1 l))
+
+-- who is away stays where it is so at every end
+pub away_same : (a : AgentId) (f g : Facts) → g.ends ≡ f.ends → ((x : ℕ) → x < f.ends → IsCalmAt a f g x) → count_away a g ≡ count_away a f
+away_same a f g ends calm = ap (total (away_at a g)) ends ∙ total_same (away_at a f) (away_at a g) f.ends (λ x less. calm_count a f g x (calm x less))
+
+-- with one end more, at which nobody is away
+pub away_more : (a : AgentId) (f g : Facts) → g.ends ≡ f.ends + 1 → ((x : ℕ) → x < f.ends → IsCalmAt a f g x) → away_at a g f.ends ≡ 0 → count_away a g ≡ count_away a f
+away_more a f g ends calm none =
+    let next_one : g.ends ≡ suc f.ends = omega (arith, ends) in
+    let rest : total (away_at a g) f.ends ≡ total (away_at a f) f.ends = total_same (away_at a f) (away_at a g) f.ends (λ x less. calm_count a f g x (calm x less)) in
+    ap (total (away_at a g)) next_one ∙ omega arith
+
+-- nobody is away where every line is out
+pub none_at : (a : AgentId) (f : Facts) (x : ℕ) → ((l : ℕ) → is_out (f.line x l).phase ≡ true) → away_at a f x ≡ 0
+none_at a f x out =
+    total_same (λ _. 0) (λ l. cond (is_away_of f a x l) 1 0) (lines_of (f.end x).kind) (λ l less. ap (λ b. cond (not b && has_poster f a x l) 1 0) (out l)) ∙ total_nothing (lines_of (f.end x).kind)
+
+-- one line changes
+pub away_change : (a : AgentId) (f g : Facts) (x k : ℕ) → x < f.ends → k < lines_of (f.end x).kind → g.ends ≡ f.ends → ((d : ℕ) → (g.end d).kind ≡ (f.end d).kind) → ((d l : ℕ) → (d ≡ x → l ≡ k → ⊥) → is_away_of g a d l ≡ is_away_of f a d l) → count_away a f + bit (is_away_of g a x k) ≡ count_away a g + bit (is_away_of f a x k)
+away_change a f g x k made low ends kinds others =
+    let w : ℕ → ℕ = λ l. cond (is_away_of f a x l) 1 0 in
+    let u : ℕ → ℕ = λ l. cond (is_away_of g a x l) 1 0 in
+    let n : ℕ = lines_of (f.end x).kind in
+    let lines : away_at a g x ≡ total u n = ap (λ p. total u (lines_of p)) (kinds x) in
+    let at : total w n + u k ≡ total u n + w k = total_change w u n k low (λ l other. ap (λ b. cond b 1 0) (others x l (λ _ same. other same))) in
+    let sum : total (away_at a f) f.ends + away_at a g x ≡ total (away_at a g) f.ends + away_at a f x = total_change (away_at a f) (away_at a g) f.ends x made (λ d other. calm_count a f g d (ap lines_of (kinds d), λ l. others d l (λ same _. other same))) in
+    let range : count_away a g ≡ total (away_at a g) f.ends = ap (total (away_at a g)) ends in
+    let new : u k ≡ bit (is_away_of g a x k) = bit_of (is_away_of g a x k) in
+    let old : w k ≡ bit (is_away_of f a x k) = bit_of (is_away_of f a x k) in
+    omega arith
+
 -- the count of an agent, with one end more
 count_more_by : (test : Option Kind → Bool) (a : AgentId) (f g : Facts) → g.ends ≡ f.ends + 1 → ((d : ℕ) → d < f.ends → counts_at test a (g.end d) ≡ counts_at test a (f.end d)) → count_with test a g ≡ count_with test a f + bit (counts_at test a (g.end f.ends))
 count_more_by test a f g ends each =
@@ -100,7 +145,7 @@ either_none true = refl
 either_none false = refl
 
 -- some number passes a test where the count isn't nothing
-none_counted : (test : ℕ → Bool) (n : ℕ) → eqb (total (λ x. cond (test x) 1 0) n) 0 ≡ not (any_below test n)
+pub none_counted : (test : ℕ → Bool) (n : ℕ) → eqb (total (λ x. cond (test x) 1 0) n) 0 ≡ not (any_below test n)
 none_counted test zero = refl
 none_counted test (suc n) = elim (test n) as (λ b. eqb (total (λ x. cond (test x) 1 0) n + cond b 1 0) 0 ≡ not (any_below test n || b)) [
   | true ↦ ne_eqb (total (λ x. cond (test x) 1 0) n + 1) 0 (λ is. omega arith) ∙ never_none (any_below test n)
@@ -114,7 +159,7 @@ none_of_kind test a f = none_counted (λ x. counts_at test a (f.end x)) f.ends
 -- ---- agents
 
 -- an agent of those of which one was changed
-change_get : (change : Agent → Agent) (agents : List Agent) (b a : ℕ) → slice_get (change_agent change b agents) a ≡ cond (eqb a b) (option_map change (slice_get agents a)) (slice_get agents a)
+pub change_get : (change : Agent → Agent) (agents : List Agent) (b a : ℕ) → slice_get (change_agent change b agents) a ≡ cond (eqb a b) (option_map change (slice_get agents a)) (slice_get agents a)
 change_get change agents b a = elim (eqb a b) as (λ c. eqb a b ≡ c → slice_get (change_agent change b agents) a ≡ cond c (option_map change (slice_get agents a)) (slice_get agents a)) [
   | true ↦ λ is. let same : a ≡ b = eqb-true a b is in
       ap (slice_get (change_agent change b agents)) same ∙ mine (slice_get agents b) refl ∙ ap (λ n. option_map change (slice_get agents n)) (sym same)
@@ -136,32 +181,32 @@ change_length change agents b = elim (slice_get agents b) as (λ o. length (set_
   | Some x ↦ length-set agents b (change x)
 ]
 
--- whether an agent runs isn't changed
-still_now : (change : Agent → Agent) → ((x : Agent) → (change x).is_running ≡ x.is_running) → (o : Option Agent) → agent_now (option_map change o) ≡ agent_now o
+-- whether an agent runs, and was ordered to end, isn't changed
+still_now : (change : Agent → Agent) → ((x : Agent) → agent_now (Some (change x)) ≡ agent_now (Some x)) → (o : Option Agent) → agent_now (option_map change o) ≡ agent_now o
 still_now change same None = refl
-still_now change same (Some x) = ap (λ b. let y : AgentNow = record { runs = b } in y) (same x)
+still_now change same (Some x) = same x
 
-change_now : (change : Agent → Agent) (agents : List Agent) (b a : ℕ) → ((x : Agent) → (change x).is_running ≡ x.is_running) → agent_now (slice_get (change_agent change b agents) a) ≡ agent_now (slice_get agents a)
+change_now : (change : Agent → Agent) (agents : List Agent) (b a : ℕ) → ((x : Agent) → agent_now (Some (change x)) ≡ agent_now (Some x)) → agent_now (slice_get (change_agent change b agents) a) ≡ agent_now (slice_get agents a)
 change_now change agents b a same = ap agent_now (change_get change agents b a) ∙ elim (eqb a b) as (λ c. agent_now (cond c (option_map change (slice_get agents a)) (slice_get agents a)) ≡ agent_now (slice_get agents a)) [
   | true ↦ still_now change same (slice_get agents a)
   | false ↦ refl
 ]
 
-more_runs : (k : Kind) (x : Agent) → (one_more k x).is_running ≡ x.is_running
-more_runs (Port q) x = refl
-more_runs Client x = refl
-more_runs Worker x = refl
+more_now : (k : Kind) (x : Agent) → agent_now (Some (one_more k x)) ≡ agent_now (Some x)
+more_now (Port q) x = refl
+more_now Client x = refl
+more_now Worker x = refl
 
-less_runs : (k : Kind) (x : Agent) → (one_less k x).is_running ≡ x.is_running
-less_runs (Port q) x = refl
-less_runs Client x = refl
-less_runs Worker x = refl
+less_now : (k : Kind) (x : Agent) → agent_now (Some (one_less k x)) ≡ agent_now (Some x)
+less_now (Port q) x = refl
+less_now Client x = refl
+less_now Worker x = refl
 
 pub come_now : (k : Kind) (b : AgentId) (agents : List Agent) (a : ℕ) → agent_now (slice_get (come k b agents) a) ≡ agent_now (slice_get agents a)
-come_now k b agents a = change_now (one_more k) agents b.0 a (more_runs k)
+come_now k b agents a = change_now (one_more k) agents b.0 a (more_now k)
 
 pub gone_now : (k : Kind) (p : Place) (agents : List Agent) (a : ℕ) → agent_now (slice_get (gone k p agents) a) ≡ agent_now (slice_get agents a)
-gone_now k (With b) agents a = change_now (one_less k) agents b.0 a (less_runs k)
+gone_now k (With b) agents a = change_now (one_less k) agents b.0 a (less_now k)
 gone_now k InFlight agents a = refl
 gone_now k (Arrived b) agents a = refl
 gone_now k Swept agents a = refl
@@ -176,6 +221,37 @@ gone_length k InFlight agents = refl
 gone_length k (Arrived b) agents = refl
 gone_length k Swept agents = refl
 gone_length k Gone agents = refl
+
+-- whether a change of agents leaves who is away
+keeps_away : (change : Agent → Agent) → ((x : Agent) → (change x).away ≡ x.away) → (o : Option Agent) → kept_away (option_map change o) ≡ kept_away o
+keeps_away change same None = refl
+keeps_away change same (Some x) = same x
+
+pub change_away : (change : Agent → Agent) (agents : List Agent) (b a : ℕ) → ((x : Agent) → (change x).away ≡ x.away) → kept_away (slice_get (change_agent change b agents) a) ≡ kept_away (slice_get agents a)
+change_away change agents b a same = ap kept_away (change_get change agents b a) ∙ elim (eqb a b) as (λ c. kept_away (cond c (option_map change (slice_get agents a)) (slice_get agents a)) ≡ kept_away (slice_get agents a)) [
+  | true ↦ keeps_away change same (slice_get agents a)
+  | false ↦ refl
+]
+
+more_away : (k : Kind) (x : Agent) → (one_more k x).away ≡ x.away
+more_away (Port q) x = refl
+more_away Client x = refl
+more_away Worker x = refl
+
+less_away : (k : Kind) (x : Agent) → (one_less k x).away ≡ x.away
+less_away (Port q) x = refl
+less_away Client x = refl
+less_away Worker x = refl
+
+come_away : (k : Kind) (b : AgentId) (agents : List Agent) (a : ℕ) → kept_away (slice_get (come k b agents) a) ≡ kept_away (slice_get agents a)
+come_away k b agents a = change_away (one_more k) agents b.0 a (more_away k)
+
+gone_away : (k : Kind) (p : Place) (agents : List Agent) (a : ℕ) → kept_away (slice_get (gone k p agents) a) ≡ kept_away (slice_get agents a)
+gone_away k (With b) agents a = change_away (one_less k) agents b.0 a (less_away k)
+gone_away k InFlight agents a = refl
+gone_away k (Arrived b) agents a = refl
+gone_away k Swept agents a = refl
+gone_away k Gone agents a = refl
 
 -- what is counted of an agent, and by which test
 record CountsBy (kept : Option Agent → ℕ) (test : Option Kind → Bool) : Type 0 where
@@ -269,10 +345,11 @@ come_count kept test by k b agents a known =
 -- ---- what steps make of the counts
 
 -- no end changes in what is counted
-pub counted_same : (agents : List Agent) (f g : Facts) → g.ends ≡ f.ends → ((a : AgentId) (d : ℕ) → counts_at is_client a (g.end d) ≡ counts_at is_client a (f.end d)) → ((a : AgentId) (d : ℕ) → counts_at is_worker a (g.end d) ≡ counts_at is_worker a (f.end d)) → Counted agents f → Counted agents g
-counted_same agents f g ends clients workers h = record {
+pub counted_same : (agents : List Agent) (f g : Facts) → g.ends ≡ f.ends → ((a : AgentId) (d : ℕ) → counts_at is_client a (g.end d) ≡ counts_at is_client a (f.end d)) → ((a : AgentId) (d : ℕ) → counts_at is_worker a (g.end d) ≡ counts_at is_worker a (f.end d)) → ((a : AgentId) (x : ℕ) → x < f.ends → IsCalmAt a f g x) → Counted agents f → Counted agents g
+counted_same agents f g ends clients workers calm h = record {
   clients = λ a. h.clients a ∙ sym (count_same is_client a f g ends (clients a));
   workers = λ a. h.workers a ∙ sym (count_same is_worker a f g ends (workers a));
+  away = λ a. h.away a ∙ sym (away_same a f g ends (calm a));
 }
 
 -- ports alone went to another place
@@ -292,13 +369,13 @@ no_worker (Some Client) h = refl
 no_worker (Some Worker) h = absurd (false≢true h)
 no_worker None h = refl
 
-pub counts_still : (agents : List Agent) (ends : List End) (f g : Facts) → ShowsFacts agents ends f → g.ends ≡ f.ends → ((d : ℕ) → (g.end d).kind ≡ (f.end d).kind) → ((d : ℕ) → (g.end d).place ≡ (f.end d).place) → Counted agents g
-counts_still agents ends f g h same kinds places = counted_same agents f g same (λ a d. rw (kinds d, places d) refl) (λ a d. rw (kinds d, places d) refl) (counts_of agents ends f h)
+pub counts_still : (agents : List Agent) (ends : List End) (f g : Facts) → ShowsFacts agents ends f → g.ends ≡ f.ends → ((d : ℕ) → (g.end d).kind ≡ (f.end d).kind) → ((d : ℕ) → (g.end d).place ≡ (f.end d).place) → ((a : AgentId) (d l : ℕ) → is_away_of g a d l ≡ is_away_of f a d l) → Counted agents g
+counts_still agents ends f g h same kinds places calm = counted_same agents f g same (λ a d. rw (kinds d, places d) refl) (λ a d. rw (kinds d, places d) refl) (λ a x less. (ap lines_of (kinds x), calm a x)) (counts_of agents ends f h)
 
-pub counted_ports : (agents : List Agent) (f g : Facts) (moved : ℕ → Bool) (place : ℕ → Option Place) → g.ends ≡ f.ends → ((d : ℕ) → (g.end d).kind ≡ (f.end d).kind) → ((d : ℕ) → (g.end d).place ≡ cond (moved d) (place d) (f.end d).place) → ((d : ℕ) → moved d ≡ true → is_some (peer_of (f.end d).kind) ≡ true) → Counted agents f → Counted agents g
-counted_ports agents f g moved place ends kinds places ports h = counted_same agents f g ends
+pub counted_ports : (agents : List Agent) (f g : Facts) (moved : ℕ → Bool) (place : ℕ → Option Place) → g.ends ≡ f.ends → ((d : ℕ) → (g.end d).kind ≡ (f.end d).kind) → ((d : ℕ) → (g.end d).place ≡ cond (moved d) (place d) (f.end d).place) → ((d : ℕ) → moved d ≡ true → is_some (peer_of (f.end d).kind) ≡ true) → ((a : AgentId) (x : ℕ) → x < f.ends → IsCalmAt a f g x) → Counted agents f → Counted agents g
+counted_ports agents f g moved place ends kinds places ports calm h = counted_same agents f g ends
     (λ a d. rw (kinds d, places d) (moved_port is_client no_client a (moved d) (place d) (f.end d).place (f.end d).kind (ports d)))
-    (λ a d. rw (kinds d, places d) (moved_port is_worker no_worker a (moved d) (place d) (f.end d).place (f.end d).kind (ports d))) h
+    (λ a d. rw (kinds d, places d) (moved_port is_worker no_worker a (moved d) (place d) (f.end d).place (f.end d).kind (ports d))) calm h
 
 -- one end went from an agent to a place where no agent has it
 pub record Went (f g : Facts) (e : ℕ) (k : Kind) (p : Place) : Type 0 where
@@ -310,11 +387,13 @@ pub record Went (f g : Facts) (e : ℕ) (k : Kind) (p : Place) : Type 0 where
   pub nowhere : (a : AgentId) → is_with a (g.end e).place ≡ false
   pub kinds : (d : ℕ) → (d ≡ e → ⊥) → (g.end d).kind ≡ (f.end d).kind
   pub places : (d : ℕ) → (d ≡ e → ⊥) → (g.end d).place ≡ (f.end d).place
+  pub calm : (a : AgentId) (x : ℕ) → x < f.ends → IsCalmAt a f g x
 
 pub counted_went : (agents : List Agent) (f g : Facts) (e : ℕ) (k : Kind) (p : Place) → Went f g e k p → Counted agents f → Counted (gone k p agents) g
 counted_went agents f g e k p w h = record {
   clients = λ a. by_test kept_clients is_client clients_by a (h.clients a);
   workers = λ a. by_test kept_workers is_worker workers_by a (h.workers a);
+  away = λ a. gone_away k p agents a.0 ∙ h.away a ∙ sym (away_same a f g w.ends (w.calm a));
 }
   where
     by_test : (kept : Option Agent → ℕ) (test : Option Kind → Bool) → CountsBy kept test → (a : AgentId) → kept (slice_get agents a.0) ≡ count_with test a f → kept (slice_get (gone k p agents) a.0) ≡ count_with test a g
@@ -326,8 +405,143 @@ counted_went agents f g e k p w h = record {
         let less : kept (slice_get (gone k p agents) a.0) ≡ kept (slice_get agents a.0) - bit (test (Some k) && is_with a (Some p)) = gone_count kept test by k p agents a in
         omega arith
 
--- one end that no agent had came to an agent
-pub record Came (f g : Facts) (e : ℕ) (k : Kind) (b : AgentId) : Type 0 where
+-- ---- posters that come and go
+
+-- one more for this agent, or for none
+abbrev pub owns_it : Option AgentId → AgentId → Bool
+owns_it None a = false
+owns_it (Some b) a = eqb a.0 b.0
+
+total_bound : (w : ℕ → ℕ) (n k : ℕ) → k ≡ 32 → ((x : ℕ) → w x ≤ k) → total w n ≤ 32 * n
+total_bound w zero k is each = omega arith
+total_bound w (suc n) k is each =
+    let rest : total w n ≤ 32 * n = total_bound w n k is each in
+    let last : w n ≤ k = each n in
+    omega arith
+
+one_bit : (b : Bool) → cond b 1 0 ≤ 1
+one_bit true = omega arith
+one_bit false = omega arith
+
+bits_bound : (test : ℕ → Bool) (n : ℕ) → total (λ l. cond (test l) 1 0) n ≤ n
+bits_bound test zero = omega arith
+bits_bound test (suc n) =
+    let rest : total (λ l. cond (test l) 1 0) n ≤ n = bits_bound test n in
+    let last : cond (test n) 1 0 ≤ 1 = one_bit (test n) in
+    omega arith
+
+lines_bound : (k : Option Kind) → lines_of k ≤ 32
+lines_bound (Some (Port q)) = omega arith
+lines_bound (Some Client) = omega arith
+lines_bound (Some Worker) = omega arith
+lines_bound None = omega arith
+
+at_bound : (a : AgentId) (f : Facts) (x : ℕ) → away_at a f x ≤ 32
+at_bound a f x =
+    let most : away_at a f x ≤ lines_of (f.end x).kind = bits_bound (is_away_of f a x) (lines_of (f.end x).kind) in
+    let few : lines_of (f.end x).kind ≤ 32 = lines_bound (f.end x).kind in
+    omega arith
+
+-- so many posters the core can count
+away_bound : (a : AgentId) (f : Facts) → f.ends ≤ MAX_ENDS → count_away a f < 4294967295
+away_bound a f few =
+    let most : count_away a f ≤ 32 * f.ends = total_bound (away_at a f) f.ends 32 refl (at_bound a f) in
+    omega arith
+
+kept_one_away : (x : Agent) → x.away < 4294967295 → (one_away x).away ≡ x.away + 1
+kept_one_away x less = ap (λ b. (cond b (record x { away = x.away + 1 }) x).away) (lt-ltb x.away 4294967295 less)
+
+-- what else is kept of the agent stays
+away_clients : (x : Agent) → (one_away x).clients ≡ x.clients
+away_clients x = elim (nat_lt x.away 4294967295) as (λ b. (cond b (record x { away = x.away + 1 }) x).clients ≡ x.clients) [ true ↦ refl | false ↦ refl ]
+
+away_workers : (x : Agent) → (one_away x).workers ≡ x.workers
+away_workers x = elim (nat_lt x.away 4294967295) as (λ b. (cond b (record x { away = x.away + 1 }) x).workers ≡ x.workers) [ true ↦ refl | false ↦ refl ]
+
+away_now : (x : Agent) → agent_now (Some (one_away x)) ≡ agent_now (Some x)
+away_now x = elim (nat_lt x.away 4294967295) as (λ b. agent_now (Some (cond b (record x { away = x.away + 1 }) x)) ≡ agent_now (Some x)) [ true ↦ refl | false ↦ refl ]
+
+-- what is kept of each agent, where one is changed
+pub change_each : {A : Type 0} (kept : Option Agent → A) (change : Agent → Agent) (agents : List Agent) (b a : ℕ) → ((x : Agent) → kept (Some (change x)) ≡ kept (Some x)) → kept (slice_get (change_agent change b agents) a) ≡ kept (slice_get agents a)
+change_each kept change agents b a same = ap kept (change_get change agents b a) ∙ elim (eqb a b) as (λ c. kept (cond c (option_map change (slice_get agents a)) (slice_get agents a)) ≡ kept (slice_get agents a)) [
+  | true ↦ each (slice_get agents a)
+  | false ↦ refl
+]
+  where
+    each : (o : Option Agent) → kept (option_map change o) ≡ kept o
+    each None = refl
+    each (Some x) = same x
+
+-- the same of the owner of a poster, where there is one
+owner_each : {A : Type 0} (kept : Option Agent → A) (change : Agent → Agent) (owner : Option AgentId) (agents : List Agent) (a : ℕ) → ((x : Agent) → kept (Some (change x)) ≡ kept (Some x)) → kept (slice_get (change_owner change owner agents) a) ≡ kept (slice_get agents a)
+owner_each kept change None agents a same = refl
+owner_each kept change (Some b) agents a same = change_each kept change agents b.0 a same
+
+pub owner_length : (change : Agent → Agent) (owner : Option AgentId) (agents : List Agent) → length (change_owner change owner agents) ≡ length agents
+owner_length change None agents = refl
+owner_length change (Some b) agents = change_length change agents b.0
+
+pub owner_now_away : (owner : Option AgentId) (agents : List Agent) (a : ℕ) → agent_now (slice_get (change_owner one_away owner agents) a) ≡ agent_now (slice_get agents a)
+owner_now_away owner agents a = owner_each agent_now one_away owner agents a away_now
+
+pub owner_now_out : (owner : Option AgentId) (agents : List Agent) (a : ℕ) → agent_now (slice_get (change_owner one_out owner agents) a) ≡ agent_now (slice_get agents a)
+owner_now_out owner agents a = owner_each agent_now one_out owner agents a (λ x. refl)
+
+-- the count of the owner's posters, one more
+owner_away : (owner : Option AgentId) (agents : List Agent) (a : AgentId) → ((b : AgentId) → owner ≡ Some b → b.0 < length agents) → kept_away (slice_get agents a.0) < 4294967295 → kept_away (slice_get (change_owner one_away owner agents) a.0) ≡ kept_away (slice_get agents a.0) + bit (owns_it owner a)
+owner_away None agents a known less = omega arith
+owner_away (Some b) agents a known less =
+    ap kept_away (change_get one_away agents b.0 a.0)
+    ∙ elim (eqb a.0 b.0) as (λ c. eqb a.0 b.0 ≡ c → kept_away (cond c (option_map one_away (slice_get agents a.0)) (slice_get agents a.0)) ≡ kept_away (slice_get agents a.0) + bit c) [
+      | true ↦ λ is.
+          let same : a.0 ≡ b.0 = eqb-true a.0 b.0 is in
+          let made : b.0 < length agents = known b refl in
+          there (slice_get agents a.0) less (is_there agents a.0 (omega arith))
+      | false ↦ λ is. omega arith
+    ] refl
+  where
+    there : (o : Option Agent) → kept_away o < 4294967295 → (o ≡ None → ⊥) → kept_away (option_map one_away o) ≡ kept_away o + 1
+    there None under some = absurd (some refl)
+    there (Some x) under some = kept_one_away x under
+
+-- one less
+owner_out : (owner : Option AgentId) (agents : List Agent) (a : AgentId) → kept_away (slice_get (change_owner one_out owner agents) a.0) ≡ kept_away (slice_get agents a.0) - bit (owns_it owner a)
+owner_out None agents a = omega arith
+owner_out (Some b) agents a =
+    ap kept_away (change_get one_out agents b.0 a.0)
+    ∙ elim (eqb a.0 b.0) as (λ c. kept_away (cond c (option_map one_out (slice_get agents a.0)) (slice_get agents a.0)) ≡ kept_away (slice_get agents a.0) - bit c) [
+      | true ↦ less (slice_get agents a.0)
+      | false ↦ omega arith
+    ]
+  where
+    less : (o : Option Agent) → kept_away (option_map one_out o) ≡ kept_away o - 1
+    less None = refl
+    less (Some x) = refl
+
+-- a poster came inside or is being turned back
+pub counted_entered : (agents : List Agent) (f g : Facts) (owner : Option AgentId) → f.ends ≤ MAX_ENDS → ((b : AgentId) → owner ≡ Some b → b.0 < length agents) → g.ends ≡ f.ends → ((d : ℕ) → (g.end d).kind ≡ (f.end d).kind) → ((d : ℕ) → (g.end d).place ≡ (f.end d).place) → ((a : AgentId) → count_away a g ≡ count_away a f + bit (owns_it owner a)) → Counted agents f → Counted (change_owner one_away owner agents) g
+counted_entered agents f g owner few known ends kinds places more h = record {
+  clients = λ a. owner_each kept_clients one_away owner agents a.0 away_clients ∙ h.clients a ∙ sym (count_same is_client a f g ends (λ d. rw (kinds d, places d) refl));
+  workers = λ a. owner_each kept_workers one_away owner agents a.0 away_workers ∙ h.workers a ∙ sym (count_same is_worker a f g ends (λ d. rw (kinds d, places d) refl));
+  away = λ a.
+      let under : count_away a f < 4294967295 = away_bound a f few in
+      let kept : kept_away (slice_get agents a.0) ≡ count_away a f = h.away a in
+      owner_away owner agents a known (omega arith) ∙ ap (λ n. n + bit (owns_it owner a)) kept ∙ sym (more a);
+}
+
+-- a poster left
+pub counted_left : (agents : List Agent) (f g : Facts) (owner : Option AgentId) → g.ends ≡ f.ends → ((d : ℕ) → (g.end d).kind ≡ (f.end d).kind) → ((d : ℕ) → (g.end d).place ≡ (f.end d).place) → ((a : AgentId) → count_away a f ≡ count_away a g + bit (owns_it owner a)) → Counted agents f → Counted (change_owner one_out owner agents) g
+counted_left agents f g owner ends kinds places less h = record {
+  clients = λ a. owner_each kept_clients one_out owner agents a.0 (λ x. refl) ∙ h.clients a ∙ sym (count_same is_client a f g ends (λ d. rw (kinds d, places d) refl));
+  workers = λ a. owner_each kept_workers one_out owner agents a.0 (λ x. refl) ∙ h.workers a ∙ sym (count_same is_worker a f g ends (λ d. rw (kinds d, places d) refl));
+  away = λ a.
+      let kept : kept_away (slice_get agents a.0) ≡ count_away a f = h.away a in
+      let fewer : count_away a f ≡ count_away a g + bit (owns_it owner a) = less a in
+      owner_out owner agents a ∙ omega arith;
+}
+
+-- one end that no agent had came to an agent, which has its own poster away or not
+pub record Came (f g : Facts) (e : ℕ) (k : Kind) (b : AgentId) (released : Bool) : Type 0 where
   pub made : e < f.ends
   pub ends : g.ends ≡ f.ends
   pub was : (a : AgentId) → is_with a (f.end e).place ≡ false
@@ -335,11 +549,44 @@ pub record Came (f g : Facts) (e : ℕ) (k : Kind) (b : AgentId) : Type 0 where
   pub to : (g.end e).place ≡ Some (With b)
   pub kinds : (d : ℕ) → (d ≡ e → ⊥) → (g.end d).kind ≡ (f.end d).kind
   pub places : (d : ℕ) → (d ≡ e → ⊥) → (g.end d).place ≡ (f.end d).place
+  pub away : (a : AgentId) → count_away a g ≡ count_away a f + bit (not released && eqb a.0 b.0)
 
-pub counted_came : (agents : List Agent) (f g : Facts) (e : ℕ) (k : Kind) (b : AgentId) → b.0 < length agents → Came f g e k b → Counted agents f → Counted (come k b agents) g
-counted_came agents f g e k b known w h = record {
-  clients = λ a. by_test kept_clients is_client clients_by a (h.clients a);
-  workers = λ a. by_test kept_workers is_worker workers_by a (h.workers a);
+-- the agent that it came to, changed once or twice
+adopted_get : (released : Bool) (k : Kind) (agents : List Agent) (b : AgentId) (a : ℕ) → slice_get (change_agent (adopting released k) b.0 agents) a ≡ slice_get (cond released (come k b agents) (change_agent one_away b.0 (come k b agents))) a
+adopted_get true k agents b a = refl
+adopted_get false k agents b a =
+    change_get (adopting false k) agents b.0 a ∙ twice (eqb a b.0) (slice_get agents a)
+    ∙ ap (λ o. cond (eqb a b.0) (option_map one_away o) o) (sym (change_get (one_more k) agents b.0 a)) ∙ sym (change_get one_away (come k b agents) b.0 a)
+  where
+    twice : (c : Bool) (o : Option Agent) → cond c (option_map (adopting false k) o) o ≡ cond c (option_map one_away (cond c (option_map (one_more k) o) o)) (cond c (option_map (one_more k) o) o)
+    twice true None = refl
+    twice true (Some x) = refl
+    twice false o = refl
+
+adopted_each : {A : Type 0} (kept : Option Agent → A) → ((x : Agent) → kept (Some (one_away x)) ≡ kept (Some x)) → (released : Bool) (k : Kind) (agents : List Agent) (b : AgentId) (a : ℕ) → kept (slice_get (change_agent (adopting released k) b.0 agents) a) ≡ kept (slice_get (come k b agents) a)
+adopted_each kept same true k agents b a = refl
+adopted_each kept same false k agents b a = ap kept (adopted_get false k agents b a) ∙ change_each kept one_away (come k b agents) b.0 a same
+
+pub adopted_now : (released : Bool) (k : Kind) (agents : List Agent) (b : AgentId) (a : ℕ) → agent_now (slice_get (change_agent (adopting released k) b.0 agents) a) ≡ agent_now (slice_get agents a)
+adopted_now released k agents b a = adopted_each agent_now away_now released k agents b a ∙ come_now k b agents a
+
+adopted_away : (released : Bool) (k : Kind) (agents : List Agent) (b a : AgentId) → b.0 < length agents → kept_away (slice_get agents a.0) < 4294967295 → kept_away (slice_get (change_agent (adopting released k) b.0 agents) a.0) ≡ kept_away (slice_get agents a.0) + bit (not released && eqb a.0 b.0)
+adopted_away true k agents b a known less = come_away k b agents a.0 ∙ omega arith
+adopted_away false k agents b a known less =
+    let same : kept_away (slice_get (come k b agents) a.0) ≡ kept_away (slice_get agents a.0) = come_away k b agents a.0 in
+    let many : length (come k b agents) ≡ length agents = come_length k b agents in
+    ap kept_away (adopted_get false k agents b a.0)
+    ∙ owner_away (Some b) (come k b agents) a (λ c is. let one : b ≡ c = cc in subst (λ (d : AgentId). d.0 < length (come k b agents)) one (omega arith)) (omega arith)
+    ∙ ap (λ n. n + bit (eqb a.0 b.0)) same
+
+pub counted_came : (agents : List Agent) (f g : Facts) (e : ℕ) (k : Kind) (b : AgentId) (released : Bool) → f.ends ≤ MAX_ENDS → b.0 < length agents → Came f g e k b released → Counted agents f → Counted (change_agent (adopting released k) b.0 agents) g
+counted_came agents f g e k b released few known w h = record {
+  clients = λ a. adopted_each kept_clients away_clients released k agents b a.0 ∙ by_test kept_clients is_client clients_by a (h.clients a);
+  workers = λ a. adopted_each kept_workers away_workers released k agents b a.0 ∙ by_test kept_workers is_worker workers_by a (h.workers a);
+  away = λ a.
+      let under : count_away a f < 4294967295 = away_bound a f few in
+      let kept : kept_away (slice_get agents a.0) ≡ count_away a f = h.away a in
+      adopted_away released k agents b a known (omega arith) ∙ ap (λ n. n + bit (not released && eqb a.0 b.0)) kept ∙ sym (w.away a);
 }
   where
     by_test : (kept : Option Agent → ℕ) (test : Option Kind → Bool) → CountsBy kept test → (a : AgentId) → kept (slice_get agents a.0) ≡ count_with test a f → kept (slice_get (come k b agents) a.0) ≡ count_with test a g
@@ -358,11 +605,14 @@ pub record New (f g : Facts) (k : Kind) (b : AgentId) : Type 0 where
   pub to : (g.end f.ends).place ≡ Some (With b)
   pub kinds : (d : ℕ) → d < f.ends → (g.end d).kind ≡ (f.end d).kind
   pub places : (d : ℕ) → d < f.ends → (g.end d).place ≡ (f.end d).place
+  pub calm : (a : AgentId) (x : ℕ) → x < f.ends → IsCalmAt a f g x
+  pub nobody : (l : ℕ) → is_out (g.line f.ends l).phase ≡ true
 
 pub counted_new : (agents : List Agent) (f g : Facts) (k : Kind) (b : AgentId) → b.0 < length agents → New f g k b → Counted agents f → Counted (come k b agents) g
 counted_new agents f g k b known w h = record {
   clients = λ a. by_test kept_clients is_client clients_by a (h.clients a);
   workers = λ a. by_test kept_workers is_worker workers_by a (h.workers a);
+  away = λ a. come_away k b agents a.0 ∙ h.away a ∙ sym (away_more a f g w.ends (w.calm a) (none_at a g f.ends w.nobody));
 }
   where
     by_test : (kept : Option Agent → ℕ) (test : Option Kind → Bool) → CountsBy kept test → (a : AgentId) → kept (slice_get agents a.0) ≡ count_with test a f → kept (slice_get (come k b agents) a.0) ≡ count_with test a g

@@ -28,7 +28,7 @@ use Rattle.hub_core.specs.Posting.{phase_of_line, is_inside}
 use Rattle.hub_core.specs.Sound.{IsOfEnd, total, naming, flights, Sound}
 use Rattle.hub_core.specs.Laws.{NoticeIsLast}
 use Rattle.hub_core.specs.Fates.{waiting, sweep_of, Fates}
-use Rattle.hub_core.proofs.Nexts.{next, facts_next, by_change, Change, agent_made, channel_made, let_in, found_moved, found_closed, put, notice_put, left, hopped, started, got, went_on, cleared, adopted, end_closed, end_swept, client_made, worker_made, line_got, line_back, handed}
+use Rattle.hub_core.proofs.Nexts.{next, facts_next, by_change, Change, agent_made, channel_made, let_in, found_moved, found_closed, put, notice_put, left, hopped, started, got, went_on, cleared, adopted, end_closed, end_swept, client_made, worker_made, line_got, line_back, handed, agent_ordered, agent_ended}
 use Rattle.hub_core.proofs.Legals.{by_pairs, legal_at}
 use Rattle.hub_core.proofs.Lists.{eqb_same}
 use Rattle.hub_core.proofs.Totals.{total_same, count_append, count_lines}
@@ -154,6 +154,8 @@ quiet_change f refused x whole h fits (worker_made a e) = h
 quiet_change f refused x whole h fits (line_got e a l) = h
 quiet_change f refused x whole h fits (line_back s) = h
 quiet_change f refused x whole h fits (handed e b) = h
+quiet_change f refused x whole h fits (agent_ordered a) = h
+quiet_change f refused x whole h fits (agent_ended a es) = h
 quiet_change f refused x whole h fits (let_in s) = quiet_phased f x whole h s Inside (λ _. not_open f x whole h s.end.0 (let_in_of f s fits).2)
 quiet_change f refused x whole h fits (found_moved s) = quiet_phased f x whole h s Turned (λ is. cc)
 quiet_change f refused x whole h fits (found_closed s) = quiet_phased f x whole h s Turned (λ is. cc)

@@ -1,5 +1,5 @@
 -- What an answer that fits says of the facts.
-use Rattle.std.proofs.Common.{◌≡◌, ◌+◌, Bool, true, false, cond, List, length, Option, Some, None, refl, ap, ℕ, zero, suc, ◌<◌, ◌≤◌, eqb, sym, ◌∙◌, arith, rules, inl, inr, ltb-true}
+use Rattle.std.proofs.Common.{◌≡◌, ◌+◌, Bool, true, false, cond, List, length, Option, Some, None, refl, ap, ℕ, zero, suc, ◌<◌, ◌≤◌, eqb, sym, ◌∙◌, arith, rules, inl, inr, ltb-true, leb-false, ltb-false}
 use Rattle.std.specs.Prelude.{◌&&◌, not, is_some, nat_lt, ◌||◌, ◌⊎◌, nat_le}
 use Rattle.std.specs.Bool.{MatchBool}
 use Rattle.hub_envelope.specs.declared.ids.AgentId.{AgentId}
@@ -22,10 +22,11 @@ use Rattle.hub_core.specs.Looking.{any_below, someone_at, first_failing, lookabl
 use Rattle.hub_core.specs.Moving.{hop_answer, is_arrived, adopt_answer, close_answer, is_released, hand_answer, may_take_over}
 use Rattle.std.proofs.lemmas.Bool.Decides.{nat_tests}
 use Rattle.hub_core.proofs.Lists.{both_of}
-use Rattle.hub_core.specs.Made.{peer_of, is_queue}
+use Rattle.hub_core.specs.Made.{peer_of, is_queue, lines_of}
 use Rattle.hub_envelope.specs.declared.ids.LineId.{LineId}
 use Rattle.hub_core.specs.declared.kind.Kind.{Kind}
 use Rattle.hub_core.specs.Holding.{back_answer, line_found, line_answer, free_line}
+use Rattle.hub_core.specs.Ending.{see_answer, has_away, ends_at, has_poster, is_away_of}
 
 -- ---- tests
 
@@ -51,14 +52,16 @@ agent_of false false a b h = cc
 pub new_agent : (f : Facts) (refused : Bool) (a : AgentId) → outcome.Agent a ≡ agent_answer f refused → a.0 ≡ f.agents
 new_agent f refused a h = ap (λ (b : AgentId). b.0) (agent_of refused _ a (record { 0 = f.agents }) h)
 
-channel_of : (runs full refused : Bool) (e e' n n' : EndId) → outcome.Ends e e' ≡ cond (not runs) outcome.NotNow (cond full outcome.TooManyEnds (cond refused outcome.NoMemory (outcome.Ends n n'))) → (runs ≡ true) × (e ≡ n) × (e' ≡ n')
+channel_of : (runs full refused : Bool) (e e' n n' : EndId) → outcome.Ends e e' ≡ cond (not runs) outcome.NotNow (cond full outcome.TooManyEnds (cond refused outcome.NoMemory (outcome.Ends n n'))) → (runs ≡ true) × (e ≡ n) × (e' ≡ n') × (full ≡ false)
 channel_of false full refused e e' n n' h = cc
 channel_of true true refused e e' n n' h = cc
 channel_of true false true e e' n n' h = cc
-channel_of true false false e e' n n' h = (refl, cc, cc)
+channel_of true false false e e' n n' h = (refl, cc, cc, refl)
 
-pub new_ends : (f : Facts) (a : AgentId) (refused : Bool) (e e' : EndId) → outcome.Ends e e' ≡ channel_answer f a refused → ((f.agent a.0).runs ≡ true) × (e ≡ record { 0 = f.ends }) × (e' ≡ record { 0 = f.ends + 1 })
-new_ends f a refused e e' h = channel_of (f.agent a.0).runs _ refused e e' (record { 0 = f.ends }) (record { 0 = f.ends + 1 }) h
+pub new_ends : (f : Facts) (a : AgentId) (refused : Bool) (e e' : EndId) → outcome.Ends e e' ≡ channel_answer f a refused → ((f.agent a.0).runs ≡ true) × (e ≡ record { 0 = f.ends }) × (e' ≡ record { 0 = f.ends + 1 }) × (f.ends + 2 ≤ MAX_ENDS)
+new_ends f a refused e e' h =
+    let r = channel_of (f.agent a.0).runs (nat_lt MAX_ENDS (f.ends + 2)) refused e e' (record { 0 = f.ends }) (record { 0 = f.ends + 1 }) h in
+    (r.0, r.1, r.2, ltb-false MAX_ENDS (f.ends + 2) r.3)
 
 not_both : (b c : Bool) → not (b && not c) ≡ false → (b ≡ true) × (c ≡ false)
 not_both true true h = cc
@@ -76,17 +79,21 @@ both_tests true false h = (refl, refl)
 both_tests true true h = cc
 both_tests false c h = cc
 
+under_one : (n : ℕ) → n < MAX_ENDS → n + 1 ≤ MAX_ENDS
+under_one n less = omega arith
+
 -- a queue that was made
 pub record MakesQueue (f : Facts) (test : Option Kind → Bool) (a : AgentId) (e : EndId) : Type 0 where
   pub runs : (f.agent a.0).runs ≡ true
   pub first : has_one test a f ≡ false
+  pub few : f.ends + 1 ≤ MAX_ENDS
   pub number : e ≡ record { 0 = f.ends }
 
 pub queue_made_of : (f : Facts) (test : Option Kind → Bool) (a : AgentId) (refused : Bool) (e : EndId) → outcome.End e ≡ queue_answer test f a refused → MakesQueue f test a e
 queue_made_of f test a refused e h =
     let r = queue_of ((f.agent a.0).runs && not (has_one test a f)) (nat_le MAX_ENDS f.ends) refused e (record { 0 = f.ends }) h in
     let both = both_tests (f.agent a.0).runs (has_one test a f) r.0 in
-    record { runs = both.0; first = both.1; number = r.2 }
+    record { runs = both.0; first = both.1; few = under_one f.ends (leb-false MAX_ENDS f.ends r.1); number = r.2 }
 
 -- ---- entering and leaving
 
@@ -497,3 +504,21 @@ handed_of f e b h =
     let r = handed_when (f.end e.0).closed (is_queue (f.end e.0).kind) (may_take_over f b (holder f e.0)) h in
     let over = taken_over f b (holder f e.0) r.2 in
     record { is_open = r.0; queue = r.1; agent = over.0; holds = over.1; known = over.2 }
+
+-- ---- ending
+
+see_when : (made away ordered : Bool) (es fs : List EndId) → outcome.Ending es ≡ cond (not (made && not away)) outcome.NotNow (cond ordered (outcome.Ending fs) outcome.GoingOn) → (made ≡ true) × (away ≡ false)
+see_when true false true es fs h = (refl, refl)
+see_when true false false es fs h = cc
+see_when true true ordered es fs h = cc
+see_when false away ordered es fs h = cc
+
+pub see_of : (f : Facts) (a : AgentId) (es : List EndId) → outcome.Ending es ≡ see_answer f a → has_away f a ≡ false
+see_of f a es h = (see_when (nat_lt a.0 f.agents) (has_away f a) (f.agent a.0).ordered es (ends_at f a) h).1
+
+-- no poster of the agent is away
+pub none_away : (f : Facts) (a : AgentId) (x l : ℕ) → has_away f a ≡ false → x < f.ends → l < lines_of (f.end x).kind → is_out (f.line x l).phase ≡ false → has_poster f a x l ≡ false
+none_away f a x l none made low away =
+    let at : any_below (is_away_of f a x) (lines_of (f.end x).kind) ≡ false = none_of_any (λ y. any_below (is_away_of f a y) (lines_of (f.end y).kind)) f.ends x none made in
+    let here : is_away_of f a x l ≡ false = none_of_any (is_away_of f a x) (lines_of (f.end x).kind) l at low in
+    sym (ap (λ b. not b && has_poster f a x l) away) ∙ here

@@ -32,6 +32,7 @@ changed agents ends after f a refused o h fits same_agents same_agent same_ends 
     end = each;
     clients = counted.clients;
     workers = counted.workers;
+    away = counted.away;
     sound = sound_next f a refused o h.sound fits;
   };
 }
@@ -47,6 +48,7 @@ recounted agents new ends after f a refused o h fits same_agents same_agent same
     end = each;
     clients = counted.clients;
     workers = counted.workers;
+    away = counted.away;
     sound = sound_next f a refused o h.sound fits;
   };
 }
@@ -66,6 +68,7 @@ shows_first agents ends none nothing = rw (none, nothing) (record {
   end = λ e. record { same = refl; count = refl; lines = λ l. refl; put = λ l. tt; queues = tt };
   clients = λ a. refl;
   workers = λ a. refl;
+  away = λ a. refl;
   sound = sound_first;
 })
 

@@ -146,7 +146,7 @@ left_shown agents ends new f e refused x o h at shown opened empty fits false tr
     let answer : FitsTake f e outcome.Again = fits outcome.Again (left_of f e x ((h.sound.waiting e.0).kept opened) shown empty is, settled) in
     let base : List End = set ends e.0 (advanced_end x) in
     let stepped : Stepped agents base f (action.Take e) refused outcome.Again =
-    changed agents ends base f (action.Take e) refused outcome.Again h answer refl refl refl (length-set ends e.0 (advanced_end x)) (counts_still agents ends f _ h refl (λ d. refl) (λ d. refl))
+    changed agents ends base f (action.Take e) refused outcome.Again h answer refl refl refl (length-set ends e.0 (advanced_end x)) (counts_still agents ends f _ h refl (λ d. refl) (λ d. refl) (λ a d l. refl))
     (each_set (λ d q. ShowsEnd (record (f.end d) { taker_stand = cond (eqb d e.0) ((f.end d).taker_stand + 1) (f.end d).taker_stand }) (f.line d) (f.clear d) (f.accepted d) (f.taken d ++ f.discarded d) q) ends e.0 (advanced_end x) (slice_get_within ends e.0 x at)
     (subst (λ b. ShowsEnd (record (f.end e.0) { taker_stand = cond b ((f.end e.0).taker_stand + 1) (f.end e.0).taker_stand }) (f.line e.0) (f.clear e.0) (f.accepted e.0) (f.taken e.0 ++ f.discarded e.0) (Some (advanced_end x))) (sym (eqb_same e.0)) (advanced_shown (f.end e.0) (f.line e.0) (f.clear e.0) (f.accepted e.0) (f.taken e.0 ++ f.discarded e.0) x still low empty shown))
     (λ d other. subst (λ b. ShowsEnd (record (f.end d) { taker_stand = cond b ((f.end d).taker_stand + 1) (f.end d).taker_stand }) (f.line d) (f.clear d) (f.accepted d) (f.taken d ++ f.discarded d) (slice_get ends d)) (sym (ne_eqb d e.0 other)) (h.end d)))

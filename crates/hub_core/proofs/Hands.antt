@@ -17,7 +17,7 @@ use Rattle.hub_core.specs.declared.outcome.Outcome.TheVariants as outcome
 use Rattle.hub_core.specs.Facts.{EndNow, LineNow, Facts}
 use Rattle.hub_core.specs.Made.{is_queue}
 use Rattle.hub_core.specs.Posting.{is_with, holder}
-use Rattle.hub_core.specs.Moving.{may_take_over, hand_answer}
+use Rattle.hub_core.specs.Moving.{may_take_over, hand_answer, is_released}
 use Rattle.hub_core.specs.Unchanged.{changes_nothing}
 use Rattle.hub_core.specs.Sound.{no_end, SoundPlaces}
 use Rattle.hub_core.specs.Shows.{end_now, ShowsEnd, ShowsFacts}
@@ -28,6 +28,10 @@ use Rattle.hub_core.proofs.Speakers.{placed_made}
 use Rattle.hub_core.proofs.Frames.{ShownAt, Stepped, unchanged, recounted, along}
 use Rattle.hub_core.proofs.Counts.{Went, counted_went, counts_of, gone_length, gone_now}
 use Rattle.hub_core.proofs.Holders.{holder_kept}
+use Rattle.hub_core.proofs.Fitting.{handed_of}
+use Rattle.hub_core.specs.declared.kind.Kind.{Kind}
+use Rattle.hub_core.proofs.Calms.{calm_gone}
+use Rattle.hub_core.specs.declared.kind.Kind.TheVariants.{Port, Client, Worker}
 
 -- ---- an end that was handed on
 
@@ -44,8 +48,15 @@ moved_one now line clear vs ts x b h = record {
   queues = record { reached = h.queues.reached; clear_below = h.queues.clear_below; count = h.queues.count; inside = h.queues.inside; behind = h.queues.behind; each = h.queues.each };
 }
 
-moved_went : (f : Facts) (e : EndId) (b : AgentId) (x : End) → SoundPlaces f → f.end e.0 ≡ end_now (Some x) → Went f (next f (action.Hand e b) outcome.Handed) e.0 x.kind x.place
-moved_went f e b x h same = record {
+-- a queue has no poster of its own
+queue_released : (f : Facts) (k : Option Kind) → is_queue k ≡ true → is_released f k ≡ true
+queue_released f (Some (Port q)) h = absurd (false≢true h)
+queue_released f (Some Client) h = refl
+queue_released f (Some Worker) h = refl
+queue_released f None h = refl
+
+moved_went : (f : Facts) (e : EndId) (b : AgentId) (x : End) → SoundPlaces f → is_released f (f.end e.0).kind ≡ true → f.end e.0 ≡ end_now (Some x) → Went f (next f (action.Hand e b) outcome.Handed) e.0 x.kind x.place
+moved_went f e b x h free same = record {
   made = placed_made f e.0 x.place h (ap (λ (y : EndNow). y.place) same);
   ends = refl;
   was = ap (λ (y : EndNow). y.kind) same;
@@ -54,6 +65,7 @@ moved_went f e b x h same = record {
   nowhere = λ a. ap (λ c. is_with a (cond c (Some (Arrived b)) (f.end e.0).place)) (eqb_same e.0);
   kinds = λ d far. refl;
   places = λ d far. ap (λ c. cond c (Some (Arrived b)) (f.end d).place) (ne_eqb d e.0 far);
+  calm = λ a y less. calm_gone a f (next f (action.Hand e b) outcome.Handed) e.0 (Some (Arrived b)) y h refl (λ l. refl) (λ q. refl) free;
 }
 
 moved_shown : (agents : List Agent) (ends : List End) (f : Facts) (e : EndId) (b : AgentId) (refused : Bool) (x : End) → ShowsFacts agents ends f → slice_get ends e.0 ≡ Some x → outcome.Handed ≡ hand_answer f e b → Stepped (gone x.kind x.place agents) (set ends e.0 (moved_to b x)) f (action.Hand e b) refused outcome.Handed
@@ -61,7 +73,7 @@ moved_shown agents ends f e b refused x h at answer =
     let shown : ShownAt f e.0 (Some x) = subst (ShownAt f e.0) at (h.end e.0) in
     recounted agents (gone x.kind x.place agents) ends (set ends e.0 (moved_to b x)) f (action.Hand e b) refused outcome.Handed h answer refl refl
     (gone_length x.kind x.place agents) (gone_now x.kind x.place agents) (h.ends ∙ sym (length-set ends e.0 (moved_to b x)))
-    (counted_went agents f (next f (action.Hand e b) outcome.Handed) e.0 x.kind x.place (moved_went f e b x h.sound.places shown.same) (counts_of agents ends f h))
+    (counted_went agents f (next f (action.Hand e b) outcome.Handed) e.0 x.kind x.place (moved_went f e b x h.sound.places (queue_released f (f.end e.0).kind (handed_of f e b answer).queue) shown.same) (counts_of agents ends f h))
     (each_set (λ d q. ShowsEnd (record (f.end d) { place = cond (eqb d e.0) (Some (Arrived b)) (f.end d).place }) (f.line d) (f.clear d) (f.accepted d) (f.taken d ++ f.discarded d) q) ends e.0 (moved_to b x) (slice_get_within ends e.0 x at)
     (subst (λ c. ShowsEnd (record (f.end e.0) { place = cond c (Some (Arrived b)) (f.end e.0).place }) (f.line e.0) (f.clear e.0) (f.accepted e.0) (f.taken e.0 ++ f.discarded e.0) (Some (moved_to b x))) (sym (eqb_same e.0)) (moved_one (f.end e.0) (f.line e.0) (f.clear e.0) (f.accepted e.0) (f.taken e.0 ++ f.discarded e.0) x b shown))
     (λ d other. subst (λ c. ShowsEnd (record (f.end d) { place = cond c (Some (Arrived b)) (f.end d).place }) (f.line d) (f.clear d) (f.accepted d) (f.taken d ++ f.discarded d) (slice_get ends d)) (sym (ne_eqb d e.0 other)) (h.end d)))

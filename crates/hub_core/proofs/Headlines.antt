@@ -30,7 +30,7 @@ use Rattle.hub_core.specs.Sound.{Sound}
 use Rattle.hub_core.specs.Headline.{take_of, enter_of, is_line, leaves, posts, IsTurned, IsDrainedAt, Headline, IsBusyAt}
 use Rattle.hub_core.specs.Laws.{KeepsTheLine, TurnedPutsNothing, SameIsJoined}
 use Rattle.hub_core.proofs.Lists.{both_of, eqb_same}
-use Rattle.hub_core.proofs.Nexts.{next, facts_next, effect, Change, agent_made, channel_made, let_in, found_moved, found_closed, put, left, started, got, hopped, went_on, cleared, adopted, notice_put, end_closed, end_swept, client_made, worker_made, line_got, line_back, handed}
+use Rattle.hub_core.proofs.Nexts.{next, facts_next, effect, Change, agent_made, channel_made, let_in, found_moved, found_closed, put, left, started, got, hopped, went_on, cleared, adopted, notice_put, end_closed, end_swept, client_made, worker_made, line_got, line_back, handed, agent_ordered, agent_ended}
 use Rattle.hub_core.proofs.Legals.{legal_apart, legal_joined, legal_at}
 use Rattle.hub_core.proofs.Fitting.{let_in_of, found_moved_of, found_closed_of, pushed_of, empty_of, any_of, busy_of, noticed_of}
 use Rattle.hub_core.proofs.SoundLines.{Numbered}
@@ -107,6 +107,8 @@ stays_turned f refused s fits turned stays (worker_made a e) = turned
 stays_turned f refused s fits turned stays (line_got e a l) = turned
 stays_turned f refused s fits turned stays (line_back t) = turned
 stays_turned f refused s fits turned stays (handed e b) = turned
+stays_turned f refused s fits turned stays (agent_ordered a) = turned
+stays_turned f refused s fits turned stays (agent_ended a es) = turned
 stays_turned f refused s fits turned stays (let_in t) = on_line_turned (is_line s t) Inside (phase_of_line f s) (not_out f s t turned (let_in_of f t fits).0.out) turned
 stays_turned f refused s fits turned stays (found_moved t) = on_line_turned (is_line s t) Turned (phase_of_line f s) (not_out f s t turned (found_moved_of f t fits).0.out) turned
 stays_turned f refused s fits turned stays (found_closed t) = on_line_turned (is_line s t) Turned (phase_of_line f s) (not_out f s t turned (found_closed_of f t fits).0.out) turned
@@ -141,6 +143,8 @@ no_posts f refused s fits turned (worker_made a e) = refl
 no_posts f refused s fits turned (line_got e a l) = refl
 no_posts f refused s fits turned (line_back t) = refl
 no_posts f refused s fits turned (handed e b) = refl
+no_posts f refused s fits turned (agent_ordered a) = refl
+no_posts f refused s fits turned (agent_ended a es) = refl
 no_posts f refused s fits turned (let_in t) = refl
 no_posts f refused s fits turned (found_moved t) = refl
 no_posts f refused s fits turned (found_closed t) = refl

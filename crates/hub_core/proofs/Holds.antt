@@ -29,11 +29,13 @@ use Rattle.hub_core.specs.Sound.{no_end, no_line}
 use Rattle.hub_core.specs.Shows.{line_now, end_now, ShowsPut, ShowsEnd, ShowsFacts}
 use Rattle.hub_core.specs.Kept.{kept_running, line_within, first_free, hold_outcome_of, hold_outcome, held_lines, held_end, line_outcome_at, line_ends_at, may_give_back, back_outcome, back_end, back_outcome_at, back_ends_at}
 use Rattle.hub_core.proofs.Lists.{set_again, each_set, eqb_same, is_there}
-use Rattle.hub_core.proofs.Fitting.{line_got_of, first_failing_of}
+use Rattle.hub_core.proofs.Fitting.{line_got_of, first_failing_of, back_of}
 use Rattle.hub_core.proofs.SoundLines.{held_line_as, queue_lines}
 use Rattle.hub_core.proofs.Frames.{ShownAt, Stepped, changed, unchanged}
 use Rattle.hub_core.proofs.Counts.{counts_still}
 use Rattle.hub_core.proofs.Holders.{runs_kept}
+use Rattle.hub_core.proofs.Nexts.{next}
+use Rattle.hub_core.proofs.Calms.{calm_held, free_out}
 
 -- ---- a line with another holder
 
@@ -121,7 +123,8 @@ got_line agents ends f e a refused x l h at shown answer None is =
     let gets = line_got_of f e a l answer in
     absurd (line_kept_at f e l x shown gets.queue gets.low is)
 got_line agents ends f e a refused x l h at shown answer (Some y) is =
-    changed agents ends _ f (action.Line e a) refused (outcome.Line l) h answer refl refl refl (length-set ends e.0 (with_holder x y l.0 (Some a))) (counts_still agents ends f _ h refl (λ d. refl) (λ d. refl))
+    changed agents ends _ f (action.Line e a) refused (outcome.Line l) h answer refl refl refl (length-set ends e.0 (with_holder x y l.0 (Some a)))
+    (counts_still agents ends f (next f (action.Line e a) (outcome.Line l)) h refl (λ d. refl) (λ d. refl) (λ b. calm_held b f (next f (action.Line e a) (outcome.Line l)) (record { end = e; line = l }) (Some a) (let gets = line_got_of f e a l answer in free_out f (record { end = e; line = l }) h.sound.places gets.queue gets.free) (λ d. refl) (λ d. refl) (λ d i. refl) (λ d i. refl)))
     (held_shown agents ends f (record { end = e; line = l }) (Some a) x y h at is)
 
 -- what is found at a queue
@@ -153,7 +156,7 @@ back_line : (agents : List Agent) (ends : List End) (f : Facts) (s : Sender) (re
 back_line agents ends f s refused x h at None is line = unchanged agents ends _ f (action.Back s) refused outcome.NotNow outcome.NotNow h refl refl (set_again ends s.end.0 x at) (back_as f s no_line line)
 back_line agents ends f s refused x h at (Some y) is line =
     elim (may_give_back y) as (λ b. cond b outcome.Done outcome.NotNow ≡ back_answer f s → Stepped agents (set ends s.end.0 (cond b (with_holder x y s.line.0 None) x)) f (action.Back s) refused (cond b outcome.Done outcome.NotNow)) [
-      | true ↦ λ answer. changed agents ends _ f (action.Back s) refused outcome.Done h answer refl refl refl (length-set ends s.end.0 (with_holder x y s.line.0 None)) (counts_still agents ends f _ h refl (λ d. refl) (λ d. refl)) (held_shown agents ends f s None x y h at is)
+      | true ↦ λ answer. changed agents ends _ f (action.Back s) refused outcome.Done h answer refl refl refl (length-set ends s.end.0 (with_holder x y s.line.0 None)) (counts_still agents ends f (next f (action.Back s) outcome.Done) h refl (λ d. refl) (λ d. refl) (λ b. calm_held b f (next f (action.Back s) outcome.Done) s None (back_of f s answer).1 (λ d. refl) (λ d. refl) (λ d i. refl) (λ d i. refl))) (held_shown agents ends f s None x y h at is)
       | false ↦ λ answer. unchanged agents ends _ f (action.Back s) refused outcome.NotNow outcome.NotNow h refl refl (set_again ends s.end.0 x at) answer
     ] (back_as f s (line_now (Some y)) line)
 

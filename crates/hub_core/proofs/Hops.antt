@@ -88,7 +88,7 @@ hop_line agents ends f s refused x h at shown may None is line =
     absurd (line_is_kept f s x (h.sound.lines s.end.0) shown may is)
 hop_line agents ends f s refused x h at shown may (Some y) is line =
     elim (may_hop x y) as (λ b. cond b (outcome.Hopped (y.epoch + 1)) outcome.NotNow ≡ hop_answer f s → Stepped agents (set ends s.end.0 (cond b (hopped_end x s.line.0 y) x)) f (action.Hop s) refused (cond b (outcome.Hopped (y.epoch + 1)) outcome.NotNow)) [
-      | true ↦ λ answer. changed agents ends _ f (action.Hop s) refused (outcome.Hopped (y.epoch + 1)) h answer refl refl refl (length-set ends s.end.0 (hopped_end x s.line.0 y)) (counts_still agents ends f _ h refl (λ d. refl) (λ d. refl)) (gone_shown agents ends f s x y h at is (hopped_of f s (y.epoch + 1) answer).out)
+      | true ↦ λ answer. changed agents ends _ f (action.Hop s) refused (outcome.Hopped (y.epoch + 1)) h answer refl refl refl (length-set ends s.end.0 (hopped_end x s.line.0 y)) (counts_still agents ends f _ h refl (λ d. refl) (λ d. refl) (λ a d l. refl)) (gone_shown agents ends f s x y h at is (hopped_of f s (y.epoch + 1) answer).out)
       | false ↦ λ answer. unchanged agents ends _ f (action.Hop s) refused outcome.NotNow outcome.NotNow h refl refl (set_again ends s.end.0 x at) answer
     ] (hop_as f s (end_now (Some x)) (line_now (Some y)) shown.same line may)
 

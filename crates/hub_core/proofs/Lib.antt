@@ -15,6 +15,7 @@ pub mod SweepOrders
 pub mod Orders
 pub mod Sames
 pub mod Counts
+pub mod Calms
 pub mod Frames
 pub mod Holders
 pub mod Entering
@@ -34,6 +35,7 @@ pub mod Notices
 pub mod Makes
 pub mod Holds
 pub mod Hands
+pub mod Endings
 pub mod Stepping
 pub mod Items
 pub mod Queueing

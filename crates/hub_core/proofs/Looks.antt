@@ -106,7 +106,7 @@ cleared_end now line clear vs ts x h = record { same = h.same; count = h.count; 
 cleared_shown : (agents : List Agent) (ends : List End) (f : Facts) (e : EndId) (refused : Bool) (x : End) → ShowsFacts agents ends f → slice_get ends e.0 ≡ Some x → outcome.Clear (Some x.looked) ≡ look_answer f e → Stepped agents (set ends e.0 (record x { looked = x.looked + 1 })) f (action.Look e) refused (outcome.Clear (Some x.looked))
 cleared_shown agents ends f e refused x h at answer =
     let y : End = record x { looked = x.looked + 1 } in
-    changed agents ends (set ends e.0 y) f (action.Look e) refused (outcome.Clear (Some x.looked)) h answer refl refl refl (length-set ends e.0 y) (counts_still agents ends f _ h refl (λ d. refl) (λ d. refl))
+    changed agents ends (set ends e.0 y) f (action.Look e) refused (outcome.Clear (Some x.looked)) h answer refl refl refl (length-set ends e.0 y) (counts_still agents ends f _ h refl (λ d. refl) (λ d. refl) (λ a d l. refl))
     (each_set (λ d q. ShowsEnd (f.end d) (f.line d) (λ i. cond (eqb d e.0 && eqb i x.looked) true (f.clear d i)) (f.accepted d) (f.taken d ++ f.discarded d) q) ends e.0 y (slice_get_within ends e.0 x at)
     (subst (λ b. ShowsEnd (f.end e.0) (f.line e.0) (λ i. cond (b && eqb i x.looked) true (f.clear e.0 i)) (f.accepted e.0) (f.taken e.0 ++ f.discarded e.0) (Some y)) (sym (eqb_same e.0)) (cleared_end (f.end e.0) (f.line e.0) (f.clear e.0) (f.accepted e.0) (f.taken e.0 ++ f.discarded e.0) x (subst (ShownAt f e.0) at (h.end e.0))))
     (λ d other. subst (λ b. ShowsEnd (f.end d) (f.line d) (λ i. cond (b && eqb i x.looked) true (f.clear d i)) (f.accepted d) (f.taken d ++ f.discarded d) (slice_get ends d)) (sym (ne_eqb d e.0 other)) (h.end d)))

@@ -20,7 +20,7 @@ use Rattle.hub_core.specs.GateMachine.{enter, enable, look, close, lets_in, says
 use Rattle.hub_core.specs.Mailbox.{Mailbox}
 use Rattle.hub_core.specs.MailboxSteps.{MailboxEvent, at_gate, push, pop, hop, advance, add, IsSettled, HoldsNothing}
 use Rattle.hub_core.specs.MailboxPairs.{OneRight, leaving, finds_busy, finds_busy_at, rights_of, events_of, HoldsAll, HoldsWhatLeaves, sweeping, PairsAreEvents}
-use Rattle.hub_core.proofs.Nexts.{next, Change, agent_made, channel_made, let_in, found_moved, found_closed, put, left, hopped, started, got, went_on, cleared, adopted, notice_put, end_closed, end_swept, client_made, worker_made, line_got, line_back, handed}
+use Rattle.hub_core.proofs.Nexts.{next, Change, agent_made, channel_made, let_in, found_moved, found_closed, put, left, hopped, started, got, went_on, cleared, adopted, notice_put, end_closed, end_swept, client_made, worker_made, line_got, line_back, handed, agent_ordered, agent_ended}
 use Rattle.hub_core.proofs.Fitting.{new_ends, pushed_of, noticed_of, hopped_of, got_of, empty_of, busy_of, went_on_of, cleared_of, FindsBusy, look_busy_of, adopted_of, swept_of, queue_made_of}
 use Rattle.hub_core.proofs.Sounds.{sound_legal}
 use Rattle.hub_core.proofs.MailboxShown.{View, view, ShownAt, IsShown, Leads, of_history, with_pair, at_end_or}
@@ -52,6 +52,8 @@ kind_of f e m (outcome.End x) (action.Worker a) = inr (changes _ _ (worker_made 
 kind_of f e m (outcome.Line l) (action.Line x a) = inr (changes _ _ (line_got x a l))
 kind_of f e m outcome.Done (action.Back s) = inr (changes _ _ (line_back s))
 kind_of f e m outcome.Handed (action.Hand x b) = inr (changes _ _ (handed x b))
+kind_of f e m outcome.Ordered (action.Order a) = inr (changes _ _ (agent_ordered a))
+kind_of f e m (outcome.Ending es) (action.See a) = inr (changes _ _ (agent_ended a es))
 kind_of f e m outcome.In (action.Enter s) = inr (changes _ _ (let_in s))
 kind_of f e m outcome.Moved (action.Enter s) = inr (changes _ _ (found_moved s))
 kind_of f e m outcome.Closed (action.Enter s) = inr (changes _ _ (found_closed s))
@@ -166,6 +168,8 @@ module _ (f : Facts) (e : ℕ) (m : Mailbox OneRight) (sound : Sound f) (shown :
   changed refused fits made (line_got x a l) first = (m, refl, held_shown (λ i. on_line e i (record { end = x; line = l }) (Some a) (f.line e i).held_by))
   changed refused fits made (line_back s) first = (m, refl, held_shown (λ i. on_line e i s None (f.line e i).held_by))
   changed refused fits made (handed x b) first = (m, refl, shown)
+  changed refused fits made (agent_ordered a) first = (m, refl, shown)
+  changed refused fits made (agent_ended a es) first = (m, refl, shown)
   changed refused fits made (let_in s) first =
       at_step s.end.0 (λ y. at_gate ((f.line y s.line.0).stand) (enter s.line.0) (lets_in tt) ∷ []) (λ y. with_line f y s.line.0 Inside) shown (λ there. entered f s m there (sound.lines s.end.0) fits)
   changed refused fits made (found_moved s) first =

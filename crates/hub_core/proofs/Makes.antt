@@ -19,49 +19,51 @@ use Rattle.hub_core.specs.declared.outcome.Outcome.TheVariants as outcome
 use Rattle.hub_core.specs.Facts.{AgentNow, EndNow, LineNow, Facts}
 use Rattle.hub_core.specs.Making.{agent_answer, channel_answer, queue_answer, is_client, is_worker, has_one}
 use Rattle.hub_core.specs.Sound.{no_end, no_line, total, Sound}
-use Rattle.hub_core.specs.Shows.{agent_now, end_now, line_now, ShowsPut, ShowsEnd, ShowsFacts, kept_clients, count_with, kept_workers}
-use Rattle.hub_core.specs.Kept.{queue_made, kept_running, kept_agent_answer, agents_made, kept_channel_answer, ends_made, first_line, kept_queue_answer, new_end, count_of, queue_counted, come}
+use Rattle.hub_core.specs.Shows.{agent_now, end_now, line_now, ShowsPut, ShowsEnd, ShowsFacts, kept_clients, count_with, kept_workers, count_away, kept_away}
+use Rattle.hub_core.specs.Kept.{queue_made, kept_running, kept_agent_answer, agents_made, kept_channel_answer, ends_made, first_line, kept_queue_answer, new_end, count_of, queue_counted, come, first_agent}
 use Rattle.hub_core.proofs.Lists.{slice_get-append_front, slice_get-append_back, eqb_same}
 use Rattle.hub_core.proofs.Frames.{Stepped, unchanged, along}
 use Rattle.hub_core.proofs.Holders.{runs_kept}
 use Rattle.hub_core.proofs.Sounds.{sound_next}
-use Rattle.hub_core.proofs.Speakers.{nothing_accepted, nothing_removed, running_made}
+use Rattle.hub_core.proofs.Speakers.{nothing_accepted, nothing_removed, running_made, entangled_made}
 use Rattle.hub_core.specs.Made.{lines_of, peer_of}
 use Rattle.hub_core.specs.declared.kind.Kind.{Kind}
 use Rattle.hub_core.specs.declared.step.Action.{Action}
 use Rattle.hub_core.specs.declared.kind.Kind.TheVariants.{Port, Client, Worker}
 use Rattle.hub_core.proofs.Nexts.{next}
-use Rattle.hub_core.proofs.Counts.{New, counts_at, Counted, counted_new, none_of_kind, counts_of, come_length, come_now}
+use Rattle.hub_core.proofs.Counts.{New, counts_at, Counted, counted_new, none_of_kind, counts_of, come_length, come_now, IsCalmAt, away_at, calm_count, none_at}
 use Rattle.hub_core.specs.Unchanged.{changes_nothing}
 use Rattle.hub_core.proofs.Sames.{nothing_next}
 use Rattle.hub_core.specs.Fits.{Answers}
 use Rattle.hub_core.proofs.Totals.{total_same}
 use Rattle.std.proofs.lemmas.List.{length-replicate}
-use Rattle.hub_core.specs.Posting.{is_with}
+use Rattle.hub_core.specs.Posting.{is_with, is_out}
 use Rattle.hub_core.proofs.Fitting.{queue_made_of}
+use Rattle.hub_core.proofs.Calms.{calm_places}
 
 next_up : (n a : ℕ) → n ≤ a → (a ≡ n → ⊥) → n + 1 ≤ a
 next_up n a from other = grind (arith, nat_tests)
 
 -- ---- Agent
 
-past_one : (agents : List Agent) (a : ℕ) → (a ≡ length agents → ⊥) → length agents ≤ a → length (agents ++ record { is_running = true; clients = 0; workers = 0 } ∷ []) ≤ a
+past_one : (agents : List Agent) (a : ℕ) → (a ≡ length agents → ⊥) → length agents ≤ a → length (agents ++ first_agent ∷ []) ≤ a
 past_one agents a other from = let beyond : length agents + 1 ≤ a = next_up (length agents) a from other in simp length-append (omega arith)
 
 -- each agent after one was made
-agent_each : (agents : List Agent) (f : Facts) (a : ℕ) → ((b : ℕ) → f.agent b ≡ agent_now (slice_get agents b)) → (before same : Bool) → nat_lt a (length agents) ≡ before → eqb a (length agents) ≡ same → (let y : AgentNow = record { runs = cond same true (f.agent a).runs } in y ≡ agent_now (slice_get (agents ++ record { is_running = true; clients = 0; workers = 0 } ∷ []) a))
+agent_each : (agents : List Agent) (f : Facts) (a : ℕ) → ((b : ℕ) → f.agent b ≡ agent_now (slice_get agents b)) → (before same : Bool) → nat_lt a (length agents) ≡ before → eqb a (length agents) ≡ same → (let y : AgentNow = record { runs = cond same true (f.agent a).runs; ordered = (f.agent a).ordered } in y ≡ agent_now (slice_get (agents ++ first_agent ∷ []) a))
 agent_each agents f a h before true is here =
     let at : a ≡ length agents + 0 = eqb-true a (length agents) here ∙ omega arith in
-    ap agent_now (sym (slice_get-append_back agents (record { is_running = true; clients = 0; workers = 0 } ∷ []) a 0 at))
-agent_each agents f a h true false is here = h a ∙ ap agent_now (sym (slice_get-append_front agents (record { is_running = true; clients = 0; workers = 0 } ∷ []) a (ltb-true a (length agents) is)))
+    ap (λ (x : AgentNow). let y : AgentNow = record { runs = true; ordered = x.ordered } in y) (h a ∙ ap agent_now (slice_get_past agents a (omega arith)))
+    ∙ ap agent_now (sym (slice_get-append_back agents (first_agent ∷ []) a 0 at))
+agent_each agents f a h true false is here = h a ∙ ap agent_now (sym (slice_get-append_front agents (first_agent ∷ []) a (ltb-true a (length agents) is)))
 agent_each agents f a h false false is here =
     let other : a ≡ length agents → ⊥ = eqb-false a (length agents) here in
     let from : length agents ≤ a = ltb-false a (length agents) is in
-    let past : length (agents ++ record { is_running = true; clients = 0; workers = 0 } ∷ []) ≤ a = past_one agents a other from in
-    h a ∙ ap agent_now (slice_get_past agents a from ∙ sym (slice_get_past (agents ++ record { is_running = true; clients = 0; workers = 0 } ∷ []) a past))
+    let past : length (agents ++ first_agent ∷ []) ≤ a = past_one agents a other from in
+    h a ∙ ap agent_now (slice_get_past agents a from ∙ sym (slice_get_past (agents ++ first_agent ∷ []) a past))
 
 -- of a new agent nothing is counted, as of none
-none_kept : (kept : Option Agent → ℕ) (agents : List Agent) (a : ℕ) → kept None ≡ 0 → kept (Some (record { is_running = true; clients = 0; workers = 0 })) ≡ 0 → kept (slice_get (agents ++ record { is_running = true; clients = 0; workers = 0 } ∷ []) a) ≡ kept (slice_get agents a)
+none_kept : (kept : Option Agent → ℕ) (agents : List Agent) (a : ℕ) → kept None ≡ 0 → kept (Some (first_agent)) ≡ 0 → kept (slice_get (agents ++ first_agent ∷ []) a) ≡ kept (slice_get agents a)
 none_kept kept [] zero none first = first ∙ sym none
 none_kept kept [] (suc a) none first = refl
 none_kept kept (x ∷ agents) zero none first = refl
@@ -76,12 +78,13 @@ agent_by agents ends f false h false is fits =
     rw is (record {
       fits = answer;
       shows = record {
-        agents = ap (λ m. m + 1) h.agents ∙ sym (length-append agents (record { is_running = true; clients = 0; workers = 0 } ∷ []));
+        agents = ap (λ m. m + 1) h.agents ∙ sym (length-append agents (first_agent ∷ []));
         agent = λ a. agent_each agents f a h.agent (nat_lt a (length agents)) (eqb a (length agents)) refl refl;
         ends = h.ends;
         end = h.end;
         clients = λ a. none_kept kept_clients agents a.0 refl refl ∙ h.clients a;
         workers = λ a. none_kept kept_workers agents a.0 refl refl ∙ h.workers a;
+        away = λ a. none_kept kept_away agents a.0 refl refl ∙ h.away a;
         sound = sound_next f action.Agent false (outcome.Agent n) h.sound answer;
       };
     })
@@ -213,6 +216,31 @@ ports_counted test never f a b =
     let range : f.ends + 2 ≡ suc (suc f.ends) = omega arith in
     ap (total u) range ∙ omega arith
 
+-- nobody is away at new ports
+ports_away : (agents : List Agent) (ends : List End) (f : Facts) (a b : AgentId) → ShowsFacts agents ends f → count_away b (next f (action.Channel a) (outcome.Ends (record { 0 = f.ends }) (record { 0 = f.ends + 1 }))) ≡ count_away b f
+ports_away agents ends f a b h =
+    let g : Facts = next f (action.Channel a) (outcome.Ends (record { 0 = f.ends }) (record { 0 = f.ends + 1 })) in
+    let rest : total (away_at b g) f.ends ≡ total (away_at b f) f.ends = total_same (away_at b f) (away_at b g) f.ends (λ x less. calm_count b f g x (calm x less)) in
+    let first : away_at b g f.ends ≡ 0 = none_at b g f.ends (λ l. ap (λ (y : LineNow). is_out y.phase) (new_lines f.ends (omega arith) l)) in
+    let second : away_at b g (f.ends + 1) ≡ 0 = none_at b g (f.ends + 1) (λ l. ap (λ (y : LineNow). is_out y.phase) (new_lines (f.ends + 1) (omega arith) l)) in
+    let next_one : f.ends + 1 ≡ suc f.ends = omega arith in
+    let last : away_at b g (suc f.ends) ≡ 0 = ap (away_at b g) (sym next_one) ∙ second in
+    let range : f.ends + 2 ≡ suc (suc f.ends) = omega arith in
+    ap (total (away_at b g)) range ∙ omega arith
+  where
+    new_lines : (x : ℕ) → f.ends ≤ x → (l : ℕ) → f.line x l ≡ no_line
+    new_lines x past l = (h.sound.lines x).none l (subst (λ p. lines_of p ≤ l) (sym (ap (λ (y : EndNow). y.kind) (h.sound.places.ends x past))) (omega arith))
+
+    calm : (x : ℕ) → x < f.ends → IsCalmAt b f (next f (action.Channel a) (outcome.Ends (record { 0 = f.ends }) (record { 0 = f.ends + 1 }))) x
+    calm x less =
+        let one : eqb x f.ends ≡ false = ne_eqb x f.ends (λ is. omega arith) in
+        let two : eqb x (f.ends + 1) ≡ false = ne_eqb x (f.ends + 1) (λ is. omega arith) in
+        calm_places b f (next f (action.Channel a) (outcome.Ends (record { 0 = f.ends }) (record { 0 = f.ends + 1 }))) x (ap (λ c. cond c (Some (Port (record { 0 = f.ends + 1 }))) (cond (eqb x (f.ends + 1)) (Some (Port (record { 0 = f.ends }))) (f.end x).kind)) one ∙ ap (λ c. cond c (Some (Port (record { 0 = f.ends }))) (f.end x).kind) two) (λ l. refl) (λ q is.
+        let there : q.0 < f.ends = entangled_made f q.0 x h.sound.places (h.sound.places.peers x q.0 (ap peer_of is)).1 in
+        let first : eqb q.0 f.ends ≡ false = ne_eqb q.0 f.ends (λ same. omega arith) in
+        let second : eqb q.0 (f.ends + 1) ≡ false = ne_eqb q.0 (f.ends + 1) (λ same. omega arith) in
+        inr (ap (is_with b) (ap (λ c. cond (c || eqb q.0 (f.ends + 1)) (Some (With a)) (f.end q.0).place) first ∙ ap (λ c. cond c (Some (With a)) (f.end q.0).place) second)))
+
 ports_made : (agents : List Agent) (ends : List End) (f : Facts) (a : AgentId) → ShowsFacts agents ends f → outcome.Ends (record { 0 = length ends }) (record { 0 = length ends + 1 }) ≡ channel_answer f a false → Stepped agents (ends ++ two_ports a (length ends)) f (action.Channel a) false (outcome.Ends (record { 0 = length ends }) (record { 0 = length ends + 1 }))
 ports_made agents ends f a h answer = record {
   fits = answer;
@@ -223,6 +251,7 @@ ports_made agents ends f a h answer = record {
     end = λ d. port_at agents ends f a h d (nat_lt d (length ends)) (eqb d (length ends)) (eqb d (length ends + 1)) refl refl refl;
     clients = λ b. h.clients b ∙ sym (counted is_client (λ q. refl) b);
     workers = λ b. h.workers b ∙ sym (counted is_worker (λ q. refl) b);
+    away = λ b. h.away b ∙ sym (ap (λ n. count_away b (next f (action.Channel a) (outcome.Ends (record { 0 = n }) (record { 0 = n + 1 })))) (sym h.ends) ∙ ports_away agents ends f a b h);
     sound = sound_next f (action.Channel a) false (outcome.Ends (record { 0 = length ends }) (record { 0 = length ends + 1 })) h.sound answer;
   };
 }
@@ -269,20 +298,27 @@ data Makes : Action → Kind → (Option Kind → Bool) → AgentId → Type 0 w
   makes_client : (a : AgentId) → Makes (action.Client a) Client is_client a
   makes_worker : (a : AgentId) → Makes (action.Worker a) Worker is_worker a
 
-queue_new : (f : Facts) {b : Action} {k : Kind} {test : Option Kind → Bool} {a : AgentId} → Makes b k test a → New f (next f b (outcome.End (record { 0 = f.ends }))) k a
-queue_new f (makes_client a) = record {
+unmade_lines : (f : Facts) → Sound f → (l : ℕ) → f.line f.ends l ≡ no_line
+unmade_lines f h l = (h.lines f.ends).none l (subst (λ p. lines_of p ≤ l) (sym (ap (λ (y : EndNow). y.kind) (h.places.ends f.ends (omega arith)))) (omega arith))
+
+queue_new : (agents : List Agent) (ends : List End) (f : Facts) {b : Action} {k : Kind} {test : Option Kind → Bool} {a : AgentId} → ShowsFacts agents ends f → Makes b k test a → New f (next f b (outcome.End (record { 0 = f.ends }))) k a
+queue_new agents ends f h (makes_client a) = record {
   ends = refl;
   is = ap (λ c. cond c (Some Client) (f.end f.ends).kind) (eqb_same f.ends);
   to = ap (λ c. cond c (Some (With a)) (f.end f.ends).place) (eqb_same f.ends);
   kinds = λ d less. ap (λ c. cond c (Some Client) (f.end d).kind) (ne_eqb d f.ends (λ is. omega arith));
   places = λ d less. ap (λ c. cond c (Some (With a)) (f.end d).place) (ne_eqb d f.ends (λ is. omega arith));
+  calm = λ b x less. calm_places b f (next f (action.Client a) (outcome.End (record { 0 = f.ends }))) x (ap (λ c. cond c (Some Client) (f.end x).kind) (ne_eqb x f.ends (λ is. omega arith))) (λ l. refl) (λ q is. inr (ap (is_with b) (ap (λ c. cond c (Some (With a)) (f.end q.0).place) (ne_eqb q.0 f.ends (λ same. let less_than : q.0 < f.ends = entangled_made f q.0 x h.sound.places (h.sound.places.peers x q.0 (ap peer_of is)).1 in omega arith)))));
+  nobody = λ l. ap (λ (y : LineNow). is_out y.phase) (unmade_lines f h.sound l);
 }
-queue_new f (makes_worker a) = record {
+queue_new agents ends f h (makes_worker a) = record {
   ends = refl;
   is = ap (λ c. cond c (Some Worker) (f.end f.ends).kind) (eqb_same f.ends);
   to = ap (λ c. cond c (Some (With a)) (f.end f.ends).place) (eqb_same f.ends);
   kinds = λ d less. ap (λ c. cond c (Some Worker) (f.end d).kind) (ne_eqb d f.ends (λ is. omega arith));
   places = λ d less. ap (λ c. cond c (Some (With a)) (f.end d).place) (ne_eqb d f.ends (λ is. omega arith));
+  calm = λ b x less. calm_places b f (next f (action.Worker a) (outcome.End (record { 0 = f.ends }))) x (ap (λ c. cond c (Some Worker) (f.end x).kind) (ne_eqb x f.ends (λ is. omega arith))) (λ l. refl) (λ q is. inr (ap (is_with b) (ap (λ c. cond c (Some (With a)) (f.end q.0).place) (ne_eqb q.0 f.ends (λ same. let less_than : q.0 < f.ends = entangled_made f q.0 x h.sound.places (h.sound.places.peers x q.0 (ap peer_of is)).1 in omega arith)))));
+  nobody = λ l. ap (λ (y : LineNow). is_out y.phase) (unmade_lines f h.sound l);
 }
 
 queue_fits : (f : Facts) {b : Action} {k : Kind} {test : Option Kind → Bool} {a : AgentId} (refused : Bool) (o : Outcome) → Makes b k test a → o ≡ queue_answer test f a refused → Answers f b refused o
@@ -306,7 +342,7 @@ queue_shows agents ends f {b = b} {k = k} {test = test} {a = a} makes h answer =
     let g : Facts = record f { ends = f.ends + 1; end = λ d. queue_now f a k d (eqb d (length ends)) } in
     let count : f.agents ≡ length agents = h.agents in
     let known : a.0 < f.agents = running_made f a h.sound.places (queue_made_of f test a false e answer).runs in
-    let counted : Counted (come k a agents) (next f b (outcome.End (record { 0 = f.ends }))) = counted_new agents f (next f b (outcome.End (record { 0 = f.ends }))) k a (omega arith) (queue_new f makes) (counts_of agents ends f h) in
+    let counted : Counted (come k a agents) (next f b (outcome.End (record { 0 = f.ends }))) = counted_new agents f (next f b (outcome.End (record { 0 = f.ends }))) k a (omega arith) (queue_new agents ends f h makes) (counts_of agents ends f h) in
     let here : Counted (come k a agents) g = subst (Counted (come k a agents)) (ap (λ n. next f b (outcome.End (record { 0 = n }))) h.ends ∙ queue_rest f e makes) counted in
     record {
       fits = queue_fits f false (outcome.End e) makes answer;
@@ -317,6 +353,7 @@ queue_shows agents ends f {b = b} {k = k} {test = test} {a = a} makes h answer =
         end = λ d. queue_at agents ends f a k h d (nat_lt d (length ends)) (eqb d (length ends)) refl refl;
         clients = here.clients;
         workers = here.workers;
+        away = here.away;
         sound = subst Sound (queue_rest f e makes) (sound_next f b false (outcome.End e) h.sound (queue_fits f false (outcome.End e) makes answer));
       });
     }

@@ -21,7 +21,7 @@ use Rattle.hub_core.specs.History.{Pair, History}
 use Rattle.hub_core.specs.Facts.{Facts, facts}
 use Rattle.hub_core.specs.Accepted.{named_envelope, accepted_by, named_notice}
 use Rattle.hub_core.specs.Taken.{taken_by}
-use Rattle.hub_core.specs.Made.{agents_after, runs_after, ends_after, kind_after}
+use Rattle.hub_core.specs.Made.{agents_after, runs_after, ordered_after, ends_after, kind_after}
 use Rattle.hub_core.specs.Place.{place_after}
 use Rattle.hub_core.specs.Closed.{closed_after}
 use Rattle.hub_core.specs.Enabled.{enabled_after}
@@ -48,7 +48,7 @@ abbrev pub next : Facts → Action → Outcome → Facts
 next f a o = record {
   agents = agents_after f.agents o a;
   ends = ends_after f.ends o a;
-  agent = λ x. record { runs = runs_after x (f.agent x).runs o a };
+  agent = λ x. record { runs = runs_after x (f.agent x).runs o a; ordered = ordered_after x (f.agent x).ordered o a };
   end = λ x. record {
     kind = kind_after x (f.end x).kind o a;
     place = place_after x (λ y. (f.end y).place) o a;
@@ -103,7 +103,7 @@ pub facts_next : (h : History) (p : Pair) → facts (h ++ p ∷ []) ≡ next (fa
 facts_next h p = λ i. record {
   agents = fold_one (λ n q. agents_after n q.1 q.0.action) 0 h p i;
   ends = fold_one (λ n q. ends_after n q.1 q.0.action) 0 h p i;
-  agent = λ x. record { runs = fold_one (λ r q. runs_after x r q.1 q.0.action) false h p i };
+  agent = λ x. record { runs = fold_one (λ r q. runs_after x r q.1 q.0.action) false h p i; ordered = fold_one (λ r q. ordered_after x r q.1 q.0.action) false h p i };
   end = λ x. record {
     kind = fold_one (λ r q. kind_after x r q.1 q.0.action) None h p i;
     place = fold_one {B = ℕ → Option Place} (λ r q y. place_after y r q.1 q.0.action) (λ _. None) h p i x;
@@ -148,6 +148,8 @@ pub data Change : Action → Outcome → Type 0 where
   end_closed : (e : EndId) → Change (action.Close e) outcome.Done
   end_swept : (e : EndId) (vs : List Envelope) → Change (action.Sweep e) (outcome.Discarded vs)
   handed : (e : EndId) (b : AgentId) → Change (action.Hand e b) outcome.Handed
+  agent_ordered : (a : AgentId) → Change (action.Order a) outcome.Ordered
+  agent_ended : (a : AgentId) (es : List EndId) → Change (action.See a) (outcome.Ending es)
 
 -- every other pair leaves the facts as they are
 pub effect : (f : Facts) (o : Outcome) (a : Action) → (next f a o ≡ f) ⊎ Change a o
@@ -172,6 +174,8 @@ effect f (outcome.Adopted k) (action.Adopt e a) = inr (adopted e a k)
 effect f outcome.Done (action.Close e) = inr (end_closed e)
 effect f (outcome.Discarded vs) (action.Sweep e) = inr (end_swept e vs)
 effect f outcome.Handed (action.Hand e b) = inr (handed e b)
+effect f outcome.Ordered (action.Order a) = inr (agent_ordered a)
+effect f (outcome.Ending es) (action.See a) = inr (agent_ended a es)
 effect f o a = inl refl
 
 -- what holds of the facts and is kept by each pair that changes something is kept by every pair

@@ -42,7 +42,7 @@ told_elsewhere f s d other = λ i l. record { phase = (f.line d l).phase; stand 
 noticed_shown : (agents : List Agent) (ends new : List End) (f : Facts) (s : Sender) (refused : Bool) (n : Acceptance) (x : End) (y : Line) → ShowsFacts agents ends f → slice_get ends s.end.0 ≡ Some x → slice_get x.lines s.line.0 ≡ Some y → f.line s.end.0 s.line.0 ≡ line_now (Some y) → n.epoch ≡ y.epoch → has_queue x y.epoch ≡ true → outcome.Accepted n ≡ notice_answer f s refused → Moves [] InFlight (set ends s.end.0 (put_end x y (named_notice s n))) new → Stepped agents new f (action.Notice s) refused (outcome.Accepted n)
 noticed_shown agents ends new f s refused n x y h at is line epoch queue fits moves =
     let v : Envelope = named_notice s n in
-    changed agents ends new f (action.Notice s) refused (outcome.Accepted n) h fits refl refl refl (put_count ends new s.end.0 (put_end x y v) [] moves) (counts_still agents ends f _ h refl (λ d. refl) (λ d. refl))
+    changed agents ends new f (action.Notice s) refused (outcome.Accepted n) h fits refl refl refl (put_count ends new s.end.0 (put_end x y v) [] moves) (counts_still agents ends f _ h refl (λ d. refl) (λ d. refl) (λ a d l. refl))
     (each_shown agents ends new f v x y (told_line f s) h at is epoch queue (told_mine f s y line) (told_other f s) (λ l. refl) (λ l. refl) (told_elsewhere f s) (λ d named. absurd (false≢true named)) moves)
 
 -- ---- the tests of a notice

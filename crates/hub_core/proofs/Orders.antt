@@ -49,6 +49,7 @@ use Rattle.hub_core.specs.Moving.{hop_answer, adopt_answer, close_answer, hand_a
 use Rattle.hub_core.proofs.SweepOrders.{sweep_one}
 use Rattle.hub_core.specs.Legal.{LegalAfter}
 use Rattle.hub_core.specs.Holding.{line_answer, back_answer}
+use Rattle.hub_core.specs.Ending.{order_answer, see_answer}
 
 -- ---- what a core shows is in order
 
@@ -169,6 +170,8 @@ answers_one h k first second s t (action.Client g) o p same is it refused x y l 
 answers_one h k first second s t (action.Worker g) o p same is it refused x y l m a b i j = a ∙ ap (λ f. queue_answer is_worker f g s.memory_refused) same ∙ ap (queue_answer is_worker (facts k) g) refused ∙ sym b
 answers_one h k first second s t (action.Line e g) o p same is it refused x y l m a b i j = a ∙ ap (λ f. line_answer f e g) same ∙ sym b
 answers_one h k first second s t (action.Back u) o p same is it refused x y l m a b i j = a ∙ ap (λ f. back_answer f u) same ∙ sym b
+answers_one h k first second s t (action.Order g) o p same is it refused x y l m a b i j = a ∙ ap (λ f. order_answer f g) same ∙ sym b
+answers_one h k first second s t (action.See g) o p same is it refused x y l m a b i j = a ∙ ap (λ f. see_answer f g) same ∙ sym b
 answers_one h k first second s t (action.Hand e g) o p same is it refused x y l m a b i j = a ∙ ap (λ f. hand_answer f e g) same ∙ sym b
 answers_one h k first second s t (action.Enter u) o p same is it refused x y l m a b i j = a ∙ ap (λ f. enter_answer f u) same ∙ sym b
 answers_one h k first second s t (action.Push u ports body) o p same is it refused x y l m a b i j = a ∙ ap (λ f. push_answer f u ports.items s.memory_refused) same ∙ ap (push_answer (facts k) u ports.items) refused ∙ sym b

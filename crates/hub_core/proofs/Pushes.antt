@@ -35,6 +35,7 @@ use Rattle.hub_core.proofs.Counts.{counted_ports, counts_of}
 use Rattle.hub_core.proofs.Nexts.{next}
 use Rattle.hub_core.specs.Place.{names}
 use Rattle.hub_core.proofs.SoundPlaces.{some_own}
+use Rattle.hub_core.proofs.Calms.{calm_sent}
 
 -- every end, with the message put and its ports in flight
 pushed_shown : (agents : List Agent) (ends new : List End) (f : Facts) (s : Sender) (ports : Vec EndId Global) (body : List ℕ) (refused : Bool) (n : Acceptance) (x : End) (y : Line) → ShowsFacts agents ends f → slice_get ends s.end.0 ≡ Some x → slice_get x.lines s.line.0 ≡ Some y → f.line s.end.0 s.line.0 ≡ line_now (Some y) → n.epoch ≡ y.epoch → has_queue x y.epoch ≡ true → outcome.Accepted n ≡ push_answer f s ports.items refused → Moves ports.items InFlight (set ends s.end.0 (put_end x y (named_envelope s n body ports.items))) new → Stepped agents new f (action.Push s ports body) refused (outcome.Accepted n)
@@ -43,7 +44,7 @@ pushed_shown agents ends new f s ports body refused n x y h at is line epoch que
     let p = pushed_of f s ports.items refused n fits in
     let plain : y.has_noticed ≡ false = sym (ap (λ (z : LineNow). z.noticed) line) ∙ p.plain in
     changed agents ends new f (action.Push s ports body) refused (outcome.Accepted n) h fits refl refl refl (put_count ends new s.end.0 (put_end x y v) ports.items moves)
-    (counted_ports agents f (next f (action.Push s ports body) (outcome.Accepted n)) (names ports.items) (λ d. Some InFlight) refl (λ d. refl) (λ d. refl) (λ d named. some_own f (peer_of (f.end d).kind) (travels f p.agent s d ports.items (all_good f s ports.items n p) named).1) (counts_of agents ends f h))
+    (counted_ports agents f (next f (action.Push s ports body) (outcome.Accepted n)) (names ports.items) (λ d. Some InFlight) refl (λ d. refl) (λ d. refl) (λ d named. some_own f (peer_of (f.end d).kind) (travels f p.agent s d ports.items (all_good f s ports.items n p) named).1) (λ a x less. calm_sent a f (next f (action.Push s ports body) (outcome.Accepted n)) (names ports.items) x h.sound.places refl (λ l. refl) (λ q. refl) (λ q named. (travels f p.agent s q ports.items (all_good f s ports.items n p) named).1)) (counts_of agents ends f h))
     (each_shown agents ends new f v x y f.line h at is epoch queue (line ∙ ap (λ b. let z : LineNow = record { phase = y.phase; stand = y.epoch; noticed = b; held_by = y.held_by } in z) plain) (λ l other. refl) (λ l. refl) (λ l. refl) (λ d other. refl)
     (λ d named. placed_made f d (With p.agent) h.sound.places (travels f p.agent s d ports.items (all_good f s ports.items n p) named).0) moves)
 

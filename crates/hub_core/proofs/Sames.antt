@@ -41,6 +41,7 @@ nothing_next f outcome.Busy a h = refl
 nothing_next f outcome.TooManyMoves a h = refl
 nothing_next f outcome.NoSuchEnd a h = refl
 nothing_next f outcome.NoLine a h = refl
+nothing_next f outcome.GoingOn a h = refl
 nothing_next f (outcome.Clear None) a h = refl
 nothing_next f outcome.Closed (action.Start e) h = refl
 nothing_next f outcome.Closed (action.Take e) h = refl

@@ -23,7 +23,7 @@ use Rattle.hub_core.specs.Posting.{holder, poster, is_distinct, may_travel, is_o
 use Rattle.hub_core.specs.Numbers.{up_to, numbers}
 use Rattle.hub_core.specs.Sound.{no_line, IsOfEnd, SoundLines, no_end}
 use Rattle.hub_core.proofs.Lists.{both_of, AllByRecursion-append, AllByRecursion-weaker, eqb_same}
-use Rattle.hub_core.proofs.Nexts.{next, Change, agent_made, channel_made, let_in, found_moved, found_closed, put, left, started, got, hopped, went_on, cleared, adopted, notice_put, end_closed, end_swept, client_made, worker_made, line_got, line_back, handed}
+use Rattle.hub_core.proofs.Nexts.{next, Change, agent_made, channel_made, let_in, found_moved, found_closed, put, left, started, got, hopped, went_on, cleared, adopted, notice_put, end_closed, end_swept, client_made, worker_made, line_got, line_back, handed, agent_ordered, agent_ended}
 use Rattle.hub_core.proofs.Fitting.{Entered, let_in_of, found_moved_of, found_closed_of, is_retired, Pushed, pushed_of, hopped_of, went_on_of, Clears, cleared_of, adopted_of, looked_where, none_of_any, Noticed, noticed_of, new_ends, queue_made_of, line_got_of}
 use Rattle.hub_core.specs.Made.{lines_of, peer_of, is_queue}
 use Rattle.std.proofs.lemmas.Bool.Decides.{nat_tests}
@@ -651,6 +651,8 @@ lines_next f refused none h fits (line_got e a l) x =
     held f (record { end = e; line = l }) (Some a) x (inl (subst (λ n. l.0 < n) (sym (queue_lines (f.end e.0).kind gets.queue)) gets.low)) (h x)
 lines_next f refused none h fits (line_back s) x = held f s None x (inr refl) (h x)
 lines_next f refused none h fits (handed e b) x = h x
+lines_next f refused none h fits (agent_ordered a) x = h x
+lines_next f refused none h fits (agent_ended a es) x = h x
 lines_next f refused none h fits (let_in s) x = let r = let_in_of f s fits in phased f s Inside x (may_come_in f s r.0 r.1 r.2 (h s.end.0)) (h x)
 lines_next f refused none h fits (found_moved s) x = let r = found_moved_of f s fits in phased f s Turned x (may_turn_moved f s r.0 r.1 (h s.end.0)) (h x)
 lines_next f refused none h fits (found_closed s) x = let r = found_closed_of f s fits in phased f s Turned x (may_turn_closed f s r.0 r.2 (h s.end.0)) (h x)

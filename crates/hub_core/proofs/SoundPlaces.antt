@@ -26,13 +26,14 @@ use Rattle.hub_core.specs.Taking.{IsNext}
 use Rattle.hub_core.specs.Sound.{no_end, total, naming, flights, SoundPlaces, Sound, is_gone}
 use Rattle.hub_core.proofs.Lists.{both_of, eqb_same}
 use Rattle.hub_core.proofs.Totals.{total_more, bit, count_more, count_between}
-use Rattle.hub_core.proofs.Nexts.{next, Change, agent_made, channel_made, let_in, found_moved, found_closed, put, left, started, got, hopped, went_on, cleared, adopted, notice_put, end_closed, end_swept, client_made, worker_made, line_got, line_back, handed}
+use Rattle.hub_core.proofs.Nexts.{next, Change, agent_made, channel_made, let_in, found_moved, found_closed, put, left, started, got, hopped, went_on, cleared, adopted, notice_put, end_closed, end_swept, client_made, worker_made, line_got, line_back, handed, agent_ended, agent_ordered}
 use Rattle.hub_core.proofs.Fitting.{new_agent, new_ends, let_in_of, found_moved_of, found_closed_of, pushed_of, started_of, got_of, went_on_of, adopted_of, noticed_of, closed_of, SweptWith, swept_of, handed_of, queue_made_of}
 use Rattle.hub_core.proofs.Speakers.{made_of, placed_made, entangled_made, nothing_accepted, nothing_removed, runs_there, speaks_of, travels, all_good, taken_flies, named_count, unnamed_count, swept_total, closed_made, swept_within, swept_flies, old_end, holder_made, hears_of, or_true, may_next, same_sender, heard_of, queue_is_made, no_port, old_one, Speaks, HoldsLine}
 use Rattle.hub_core.specs.Made.{peer_of, is_queue}
 use Rattle.hub_core.specs.declared.kind.Kind.TheVariants.{Port, Client, Worker}
 use Rattle.hub_core.specs.declared.kind.Kind.{Kind}
 use Rattle.hub_core.specs.Making.{is_client, is_worker}
+use Rattle.hub_core.specs.declared.limits.TheConstants.{MAX_ENDS}
 
 -- ---- who is away after a pair
 
@@ -180,6 +181,7 @@ channel_places : (f : Facts) (b : AgentId) (refused : Bool) (e e' : EndId) → S
 channel_places f b refused e e' h fits =
     let made = new_ends f b refused e e' fits in
     record {
+      few = made.3;
       ends = λ x past. ends_channel f b e e' x h.places made.1 made.2 past;
       agents = h.places.agents;
       peers = λ x y is. peers_channel f e e' h.places made.1 made.2 x y (eqb x e.0) (eqb x e'.0) refl refl is;
@@ -206,6 +208,7 @@ channel_places f b refused e e' h fits =
 -- a pair that changes lines alone
 lines_alone : (f : Facts) (line : ℕ → ℕ → LineNow) → SoundPlaces f → ((s : Sender) → is_out ((line s.end.0 s.line.0).phase) ≡ false → may_enter (record f { line = line }) s ≡ true) → SoundPlaces (record f { line = line })
 lines_alone f line h away = record {
+  few = h.few;
   ends = h.ends;
   agents = h.agents;
   peers = h.peers;
@@ -226,6 +229,7 @@ agent_places : (f : Facts) (refused : Bool) (n : AgentId) → Sound f → Answer
 agent_places f refused n h fits =
     let number : n.0 ≡ f.agents = new_agent f refused n fits in
     record {
+      few = h.places.few;
       ends = h.places.ends;
       agents = λ a past.
           let other : eqb a n.0 ≡ false = ne_eqb a n.0 (λ same. omega arith) in
@@ -275,6 +279,7 @@ put_places : (f : Facts) (refused : Bool) (s : Sender) (ports : Vec EndId Global
 put_places f refused s ports body n h fits =
     let p = pushed_of f s ports.items refused n fits in
     record {
+      few = h.places.few;
       ends = λ x past. moved_none f x (names ports.items x) (Some InFlight) (h.places.ends x past) (λ named. none_with f x (With p.agent) (h.places.ends x past) (travels f p.agent s x ports.items (all_good f s ports.items n p) named).0);
       agents = h.places.agents;
       peers = h.places.peers;
@@ -303,6 +308,7 @@ got_places f refused e v h fits =
     let made = holder_made f e.0 h.places served.held in
     let there = runs_there f (f.end e.0).place served.held in
     record {
+      few = h.places.few;
       ends = λ x past. moved_none f x (names v.ports x) (arrived ((f.end e.0).place) ((f.end x).place)) (h.places.ends x past) (λ named. none_with f x InFlight (h.places.ends x past) (taken_flies f e v x h served.serves served.is_open made named));
       agents = h.places.agents;
       peers = h.places.peers;
@@ -322,6 +328,7 @@ started_places : (f : Facts) (refused : Bool) (e : EndId) → Sound f → Answer
 started_places f refused e h fits =
     let made = holder_made f e.0 h.places (started_of f e fits).1 in
     record {
+      few = h.places.few;
       ends = λ x past. started_none f e.0 x (eqb x e.0) refl made past (h.places.ends x past);
       agents = h.places.agents;
       peers = h.places.peers;
@@ -336,6 +343,7 @@ started_places f refused e h fits =
 -- a pair that changes which queues are clear alone
 clear_alone : (f : Facts) (clear : ℕ → ℕ → Bool) → SoundPlaces f → SoundPlaces (record f { clear = clear })
 clear_alone f clear h = record {
+  few = h.few;
   ends = h.ends;
   agents = h.agents;
   peers = h.peers;
@@ -355,6 +363,7 @@ went_places : (f : Facts) (refused : Bool) (e : EndId) → Sound f → Answers f
 went_places f refused e h fits =
     let made = holder_made f e.0 h.places (went_on_of f e fits).held in
     record {
+      few = h.places.few;
       ends = λ x past. went_none f e.0 x (eqb x e.0) refl made past (h.places.ends x past);
       agents = h.places.agents;
       peers = h.places.peers;
@@ -379,6 +388,7 @@ adopted_places f refused e a k h fits =
     let adopts = adopted_of f e a refused k fits in
     let made : e.0 < f.ends = placed_made f e.0 (Arrived a) h.places adopts.arrived in
     record {
+      few = h.places.few;
       ends = λ x past. adopted_none f e.0 x a (eqb x e.0) refl made past (h.places.ends x past);
       agents = h.places.agents;
       peers = h.places.peers;
@@ -397,6 +407,7 @@ notice_places f refused s n h fits =
     let p = noticed_of f s refused n fits in
     let k = heard_of f s p.hears in
     record {
+      few = h.places.few;
       ends = h.places.ends;
       agents = h.places.agents;
       peers = h.places.peers;
@@ -441,6 +452,7 @@ closed_places f refused e h fits =
     let closes = closed_of f e fits in
     let made = here_made f e.0 h.places closes.here in
     record {
+      few = h.places.few;
       ends = λ x past. closed_none f e.0 x (eqb x e.0) refl made past (h.places.ends x past);
       agents = h.places.agents;
       peers = h.places.peers;
@@ -457,6 +469,7 @@ swept_places f refused e vs h fits =
     let w = swept_of f e vs fits in
     let made = closed_made f e.0 h.places w.is_closed in
     record {
+      few = h.places.few;
       ends = λ x past. moved_none f x (is_named vs x) (Some Swept) (h.places.ends x past) (λ named. none_with f x InFlight (h.places.ends x past) (swept_flies f e vs x h w named));
       agents = h.places.agents;
       peers = h.places.peers;
@@ -501,8 +514,9 @@ one_flying : (b : Bool) (a : AgentId) (u : Kind) (p : Option Place) (k : Option 
 one_flying true a u p k old is = absurd (search (rules, is))
 one_flying false a u p k old is = old is
 
-queue_places : (f : Facts) (b : AgentId) (k : Kind) (e : EndId) → Sound f → is_queue (Some k) ≡ true → (f.agent b.0).runs ≡ true → e ≡ record { 0 = f.ends } → ((s : Sender) → is_out ((f.line s.end.0 s.line.0).phase) ≡ false → may_enter (one_made f b k e) s ≡ true) → SoundPlaces (one_made f b k e)
-queue_places f b k e h queue runs first away = record {
+queue_places : (f : Facts) (b : AgentId) (k : Kind) (e : EndId) → Sound f → is_queue (Some k) ≡ true → (f.agent b.0).runs ≡ true → f.ends + 1 ≤ MAX_ENDS → e ≡ record { 0 = f.ends } → ((s : Sender) → is_out ((f.line s.end.0 s.line.0).phase) ≡ false → may_enter (one_made f b k e) s ≡ true) → SoundPlaces (one_made f b k e)
+queue_places f b k e h queue runs few first away = record {
+  few = few;
   ends = λ x past. one_none f b k e x h.places first past;
   agents = h.places.agents;
   peers = λ x y is. one_peers f b k e h.places queue first x y (eqb x e.0) refl is;
@@ -536,6 +550,7 @@ handed_places f refused e b h fits =
     let made : e.0 < f.ends = queue_is_made f e.0 h.places hands.queue in
     let there = runs_there f (f.end e.0).place (ap is_some hands.holds) in
     record {
+      few = h.places.few;
       ends = λ x past. handed_none f e.0 x b (eqb x e.0) refl made past (h.places.ends x past);
       agents = h.places.agents;
       peers = h.places.peers;
@@ -546,6 +561,40 @@ handed_places f refused e b h fits =
       gone = λ x. gone_moved (eqb x e.0) (f.end x).closed (Some (Arrived b)) (f.end x).place refl (λ is. h.places.gone x ∙ ap (λ y. is_gone (f.end y).place) (eqb-true x e.0 is) ∙ ap is_gone there.1) (h.places.gone x);
       flights = λ x. h.places.flights x ∙ ap (λ n. total (λ d. naming x (f.taken d ++ f.discarded d)) f.ends + n) (sym (same_flights (eqb x e.0) (Some (Arrived b)) (f.end x).place refl (λ is. ap (λ y. flights (f.end y).place) (eqb-true x e.0 is) ∙ ap flights there.1)));
     }
+
+-- a pair that changes who was ordered alone
+ordered_places : (f : Facts) (a : AgentId) → Sound f → SoundPlaces (next f (action.Order a) outcome.Ordered)
+ordered_places f a h = record {
+  few = h.places.few;
+  ends = h.places.ends;
+  agents = h.places.agents;
+  peers = h.places.peers;
+  with_made = h.places.with_made;
+  arrived_made = h.places.arrived_made;
+  away = h.places.away;
+  flying = h.places.flying;
+  gone = h.places.gone;
+  flights = h.places.flights;
+}
+
+rests : (b r : Bool) → r ≡ false → cond b false r ≡ false
+rests true r h = refl
+rests false r h = h
+
+-- a pair after which an agent runs no more
+ended_places : (f : Facts) (refused : Bool) (a : AgentId) (es : List EndId) → Sound f → Answers f (action.See a) refused (outcome.Ending es) → SoundPlaces (next f (action.See a) (outcome.Ending es))
+ended_places f refused a es h fits = record {
+  few = h.places.few;
+  ends = h.places.ends;
+  agents = λ b past. rests (eqb b a.0) (f.agent b).runs (h.places.agents b past);
+  peers = h.places.peers;
+  with_made = h.places.with_made;
+  arrived_made = h.places.arrived_made;
+  away = λ s away. may_next f refused h fits (agent_ended a es) s away (h.places.away s away);
+  flying = h.places.flying;
+  gone = h.places.gone;
+  flights = h.places.flights;
+}
 
 pub places_next : (f : Facts) {a : Action} (refused : Bool) {o : Outcome} → Sound f → Answers f a refused o → Change a o → SoundPlaces (next f a o)
 places_next f refused h fits (agent_made n) = agent_places f refused n h fits
@@ -570,10 +619,12 @@ places_next f refused h fits (end_closed e) = closed_places f refused e h fits
 places_next f refused h fits (end_swept e vs) = swept_places f refused e vs h fits
 places_next f refused h fits (client_made b e) =
     let made = queue_made_of f is_client b refused e fits in
-    queue_places f b Client e h refl made.runs made.number (λ s away. may_next f refused h fits (client_made b e) s away (h.places.away s away))
+    queue_places f b Client e h refl made.runs made.few made.number (λ s away. may_next f refused h fits (client_made b e) s away (h.places.away s away))
 places_next f refused h fits (worker_made b e) =
     let made = queue_made_of f is_worker b refused e fits in
-    queue_places f b Worker e h refl made.runs made.number (λ s away. may_next f refused h fits (worker_made b e) s away (h.places.away s away))
+    queue_places f b Worker e h refl made.runs made.few made.number (λ s away. may_next f refused h fits (worker_made b e) s away (h.places.away s away))
 places_next f refused h fits (line_got e a l) = lines_alone f (next f (action.Line e a) (outcome.Line l)).line h.places (λ s away. may_next f refused h fits (line_got e a l) s away (h.places.away s away))
 places_next f refused h fits (line_back t) = lines_alone f (next f (action.Back t) outcome.Done).line h.places (λ s away. may_next f refused h fits (line_back t) s away (h.places.away s away))
 places_next f refused h fits (handed e b) = handed_places f refused e b h fits
+places_next f refused h fits (agent_ordered a) = ordered_places f a h
+places_next f refused h fits (agent_ended a es) = ended_places f refused a es h fits

@@ -16,7 +16,7 @@ use Rattle.hub_core.specs.Sender.{by, in_queue, Prefix, Rises}
 use Rattle.hub_core.specs.Posting.{phase_of_line, is_inside}
 use Rattle.hub_core.specs.Taking.{IsNext, IsLeft}
 use Rattle.hub_core.specs.Sound.{SoundWaiting}
-use Rattle.hub_core.proofs.Nexts.{next, Change, agent_made, channel_made, let_in, found_moved, found_closed, put, left, started, got, hopped, went_on, cleared, adopted, notice_put, end_closed, end_swept, client_made, worker_made, line_got, line_back, handed}
+use Rattle.hub_core.proofs.Nexts.{next, Change, agent_made, channel_made, let_in, found_moved, found_closed, put, left, started, got, hopped, went_on, cleared, adopted, notice_put, end_closed, end_swept, client_made, worker_made, line_got, line_back, handed, agent_ordered, agent_ended}
 use Rattle.hub_core.proofs.Fitting.{pushed_of, got_of, let_in_of, went_on_of, below_last, noticed_of, SweptWith, swept_of, each_of}
 use Rattle.hub_core.proofs.SoundLines.{LinesAt, by_more, phased_line, gone_line, rises_more, MayPut, message_may, notice_may, told_line, inside_unsettled}
 use Rattle.std.specs.Prelude.{◌&&◌}
@@ -263,3 +263,5 @@ waiting_next f refused lines h fits (worker_made a e) x = h x
 waiting_next f refused lines h fits (line_got e a l) x = waiting_held f x _ (h x)
 waiting_next f refused lines h fits (line_back s) x = waiting_held f x _ (h x)
 waiting_next f refused lines h fits (handed e b) x = h x
+waiting_next f refused lines h fits (agent_ordered a) x = h x
+waiting_next f refused lines h fits (agent_ended a es) x = h x

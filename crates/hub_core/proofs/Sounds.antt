@@ -43,6 +43,7 @@ sound_first = record {
   };
   waiting = λ x. record { prefix = λ l. ([], refl); rising = tt; reached = tt; behind = λ l k less. refl; kept = λ is. refl; nobody = λ l is. refl; swept = inl refl };
   places = record {
+    few = omega arith;
     ends = λ x past. refl;
     agents = λ a past. refl;
     peers = λ x y is. cc;

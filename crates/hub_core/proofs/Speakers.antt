@@ -23,9 +23,9 @@ use Rattle.hub_core.specs.Taking.{IsNext}
 use Rattle.hub_core.specs.Sound.{no_end, IsOfEnd, total, naming, flights, SoundPlaces, Sound}
 use Rattle.hub_core.proofs.Lists.{both_of, eqb_same}
 use Rattle.hub_core.proofs.Totals.{total_less, total_more, count, bit, count_more, count_lines, count_append}
-use Rattle.hub_core.proofs.Nexts.{next, Change, agent_made, channel_made, let_in, found_moved, found_closed, put, left, started, got, hopped, went_on, cleared, adopted, notice_put, end_closed, end_swept, client_made, worker_made, line_got, line_back, handed}
-use Rattle.hub_core.proofs.Fitting.{new_ends, Pushed, pushed_of, got_of, adopted_of, closed_of, SweptWith, swept_of, queue_made_of, handed_of, line_got_of, back_of}
-use Rattle.hub_core.proofs.SoundLines.{LinesAt}
+use Rattle.hub_core.proofs.Nexts.{next, Change, agent_made, channel_made, let_in, found_moved, found_closed, put, left, started, got, hopped, went_on, cleared, adopted, notice_put, end_closed, end_swept, client_made, worker_made, line_got, line_back, handed, agent_ordered, agent_ended}
+use Rattle.hub_core.proofs.Fitting.{new_ends, Pushed, pushed_of, got_of, adopted_of, closed_of, SweptWith, swept_of, queue_made_of, handed_of, line_got_of, back_of, none_away, see_of}
+use Rattle.hub_core.proofs.SoundLines.{LinesAt, line_there}
 use Rattle.hub_core.proofs.SoundWaiting.{WaitingAt, got_prefix, nothing_more, all_removed}
 use Rattle.hub_core.specs.Made.{lines_of, peer_of, is_queue}
 use Rattle.hub_core.specs.Looking.{IsAllWaiting}
@@ -34,6 +34,7 @@ use Rattle.hub_core.specs.Lines.{on_line}
 use Rattle.hub_core.specs.Moving.{is_released}
 use Rattle.hub_core.specs.declared.kind.Kind.TheVariants.{Port, Client, Worker}
 use Rattle.hub_core.specs.Making.{is_client, is_worker}
+use Rattle.hub_core.specs.Ending.{has_poster, has_poster_of, is_holder}
 
 -- ---- ends that were not made
 
@@ -302,6 +303,24 @@ old_one f e x first less = ap (λ (d : EndId). eqb x d.0) first ∙ ne_eqb x f.e
 pub queue_is_made : (f : Facts) (x : ℕ) → SoundPlaces f → is_queue (f.end x).kind ≡ true → x < f.ends
 queue_is_made f x s is = made_of f x s.ends (λ none. false≢true (sym (ap (λ (e : EndNow). is_queue e.kind) none) ∙ is))
 
+-- an agent that isn't the one that ends runs on
+runs_on : (b r : Bool) → (b ≡ true → ⊥) → r ≡ true → cond b false r ≡ true
+runs_on true r never h = absurd (never refl)
+runs_on false r never h = h
+
+-- the poster of a port's line is that of the agent that has the port
+port_owned : (f : Facts) (a : AgentId) (s : Sender) (k : Speaks f s) → k.agent.0 ≡ a.0 → has_poster f a s.end.0 s.line.0 ≡ true
+port_owned f a s k same =
+    let port = port_of (f.end s.end.0).kind k.peer k.entangled in
+    rw (port, k.line, k.has) (ap (eqb a.0) same ∙ eqb_same a.0)
+
+-- the poster of a queue's line is that of the agent that holds it
+line_owned : (f : Facts) (a : AgentId) (s : Sender) (p : Option Kind) → is_queue p ≡ true → (b : AgentId) → (f.line s.end.0 s.line.0).held_by ≡ Some b → b.0 ≡ a.0 → has_poster_of f a s.end.0 s.line.0 p ≡ true
+line_owned f a s (Some (Port q)) queue b held same = absurd (false≢true queue)
+line_owned f a s (Some Client) queue b held same = ap (is_holder a) held ∙ ap (eqb a.0) same ∙ eqb_same a.0
+line_owned f a s (Some Worker) queue b held same = ap (is_holder a) held ∙ ap (eqb a.0) same ∙ eqb_same a.0
+line_owned f a s None queue b held same = absurd (false≢true queue)
+
 -- a queue is no port
 pub no_port : (p : Option Kind) (q : ℕ) → is_queue p ≡ true → peer_of p ≡ Some q → ⊥
 no_port (Some (Port r)) q h is = false≢true h
@@ -348,6 +367,11 @@ port_speaker_next f refused h fits (handed e b) s away k =
     no_port (f.end k.peer).kind s.end.0 (ap (λ y. is_queue (f.end y).kind) (eqb-true k.peer e.0 same) ∙ hands.queue) back
     in
     poster_as (next f (action.Hand e b) outcome.Handed) s k.peer k.agent k.line k.entangled (unmoved (eqb k.peer e.0) _ _ _ stays k.has) k.runs ∙ sym (poster_is f s k)
+port_speaker_next f refused h fits (agent_ordered a) s away k = poster_as (next f (action.Order a) outcome.Ordered) s k.peer k.agent k.line k.entangled k.has k.runs ∙ sym (poster_is f s k)
+port_speaker_next f refused h fits (agent_ended a es) s away k =
+    let none : has_poster f a s.end.0 s.line.0 ≡ false = none_away f a s.end.0 s.line.0 (see_of f a es fits) (entangled_made f s.end.0 k.peer h.places k.entangled) (line_there f s (h.lines s.end.0) (h.places.away s away)) away in
+    let stays : eqb k.agent.0 a.0 ≡ true → ⊥ = λ same. false≢true (sym none ∙ port_owned f a s k (eqb-true k.agent.0 a.0 same)) in
+    poster_as (next f (action.See a) (outcome.Ending es)) s k.peer k.agent k.line k.entangled k.has (runs_on (eqb k.agent.0 a.0) (f.agent k.agent.0).runs stays k.runs) ∙ sym (poster_is f s k)
 port_speaker_next f refused h fits (let_in t) s away k = refl
 port_speaker_next f refused h fits (found_moved t) s away k = refl
 port_speaker_next f refused h fits (found_closed t) s away k = refl
@@ -412,6 +436,11 @@ held_next f refused h fits (line_back t) s away k =
     let back = back_of f t fits in
     record { queue = k.queue; agent = k.agent; held = still_held f s t None k.agent k.held (λ same. absurd (false≢true (sym away ∙ (ap (λ (u : Sender). is_out (phase_of_line f u)) same ∙ back.1)))); runs = k.runs }
 held_next f refused h fits (handed e b) s away k = record { queue = k.queue; agent = k.agent; held = k.held; runs = k.runs }
+held_next f refused h fits (agent_ordered a) s away k = record { queue = k.queue; agent = k.agent; held = k.held; runs = k.runs }
+held_next f refused h fits (agent_ended a es) s away k =
+    let none : has_poster f a s.end.0 s.line.0 ≡ false = none_away f a s.end.0 s.line.0 (see_of f a es fits) (queue_is_made f s.end.0 h.places k.queue) (line_there f s (h.lines s.end.0) (h.places.away s away)) away in
+    let stays : eqb k.agent.0 a.0 ≡ true → ⊥ = λ same. false≢true (sym none ∙ line_owned f a s (f.end s.end.0).kind k.queue k.agent k.held (eqb-true k.agent.0 a.0 same)) in
+    record { queue = k.queue; agent = k.agent; held = k.held; runs = runs_on (eqb k.agent.0 a.0) (f.agent k.agent.0).runs stays k.runs }
 held_next f refused h fits (let_in t) s away k = record { queue = k.queue; agent = k.agent; held = k.held; runs = k.runs }
 held_next f refused h fits (found_moved t) s away k = record { queue = k.queue; agent = k.agent; held = k.held; runs = k.runs }
 held_next f refused h fits (found_closed t) s away k = record { queue = k.queue; agent = k.agent; held = k.held; runs = k.runs }
@@ -437,6 +466,8 @@ held_same f refused h fits (worker_made b e) s away k = refl
 held_same f refused h fits (line_got e a l) s away k = refl
 held_same f refused h fits (line_back t) s away k = refl
 held_same f refused h fits (handed e b) s away k = refl
+held_same f refused h fits (agent_ordered a) s away k = refl
+held_same f refused h fits (agent_ended a es) s away k = refl
 held_same f refused h fits (let_in t) s away k = refl
 held_same f refused h fits (found_moved t) s away k = refl
 held_same f refused h fits (found_closed t) s away k = refl
@@ -518,6 +549,8 @@ port_may_next f refused h fits (worker_made b e) s away k =
     may_as (next f (action.Worker b) (outcome.End e)) s k.peer k.line (rw target k.entangled) (rw source k.here)
 port_may_next f refused h fits (line_got e a l) s away k = may_as (next f (action.Line e a) (outcome.Line l)) s k.peer k.line k.entangled k.here
 port_may_next f refused h fits (line_back t) s away k = may_as (next f (action.Back t) outcome.Done) s k.peer k.line k.entangled k.here
+port_may_next f refused h fits (agent_ordered a) s away k = may_as (next f (action.Order a) outcome.Ordered) s k.peer k.line k.entangled k.here
+port_may_next f refused h fits (agent_ended a es) s away k = may_as (next f (action.See a) (outcome.Ending es)) s k.peer k.line k.entangled k.here
 port_may_next f refused h fits (handed e b) s away k = may_as (next f (action.Hand e b) outcome.Handed) s k.peer k.line k.entangled (still_here (eqb k.peer e.0) _ _ (λ _. refl) k.here)
 port_may_next f refused h fits (let_in t) s away k = may_as f s k.peer k.line k.entangled k.here
 port_may_next f refused h fits (found_moved t) s away k = may_as f s k.peer k.line k.entangled k.here

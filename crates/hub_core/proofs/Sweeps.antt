@@ -37,6 +37,7 @@ use Rattle.hub_core.proofs.SweepOrders.{rises_one}
 use Rattle.hub_core.specs.Unchanged.{changes_nothing}
 use Rattle.hub_core.proofs.Counts.{counted_ports, counts_of}
 use Rattle.hub_core.proofs.Nexts.{next}
+use Rattle.hub_core.proofs.Calms.{calm_landed}
 
 -- ---- tests
 
@@ -266,7 +267,7 @@ swept_shown agents ends new f e refused x h at closed settled fits moves =
     let same_count : length base ≡ length ends = length-set ends e.0 y in
     let count : f.ends ≡ length ends = h.ends in
     changed agents ends new f (action.Sweep e) refused (outcome.Discarded vs) h fits refl refl refl (moves.count ∙ same_count)
-    (counted_ports agents f (next f (action.Sweep e) (outcome.Discarded vs)) (is_named vs) (λ d. Some Swept) refl (λ d. refl) (λ d. refl) (λ d named. h.sound.places.flying d (swept_flies f e vs d h.sound (swept_of f e vs fits) named)) (counts_of agents ends f h)) (λ d.
+    (counted_ports agents f (next f (action.Sweep e) (outcome.Discarded vs)) (is_named vs) (λ d. Some Swept) refl (λ d. refl) (λ d. refl) (λ d named. h.sound.places.flying d (swept_flies f e vs d h.sound (swept_of f e vs fits) named)) (λ b x less. calm_landed b f (next f (action.Sweep e) (outcome.Discarded vs)) (is_named vs) (λ d. Some Swept) x refl (λ l. refl) (λ q. refl) (λ q named. swept_flies f e vs q h.sound (swept_of f e vs fits) named) (λ q. refl)) (counts_of agents ends f h)) (λ d.
     subst (ShowsEnd _ _ _ _ _) (sym (moves.each d))
     (subst (λ b. ShowsEnd (record (f.end d) { place = cond b (Some Swept) (f.end d).place }) (f.line d) (f.clear d) (f.accepted d) (f.taken d ++ cond (eqb d e.0) (f.discarded d ++ vs) (f.discarded d)) (option_map (moved_end (ports_of vs) Swept d) (slice_get base d))) (named_ports d vs)
     (moved_shown (f.end d) (f.line d) (f.clear d) (f.accepted d) (f.taken d ++ cond (eqb d e.0) (f.discarded d ++ vs) (f.discarded d)) (slice_get base d) (ports_of vs) Swept (Some Swept) d (λ named. (

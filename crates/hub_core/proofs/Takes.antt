@@ -19,7 +19,7 @@ use Rattle.hub_core.specs.declared.outcome.Outcome.TheVariants as outcome
 use Rattle.hub_core.specs.Facts.{EndNow, LineNow, Facts}
 use Rattle.hub_core.specs.Place.{arrived, names}
 use Rattle.hub_core.specs.Sender.{in_queue}
-use Rattle.hub_core.specs.Posting.{running_at, holder}
+use Rattle.hub_core.specs.Posting.{running_at, holder, is_with}
 use Rattle.hub_core.specs.Taking.{IsNext, Serves, FitsTake, start_answer}
 use Rattle.hub_core.specs.Sound.{no_end, IsOfEnd, Sound}
 use Rattle.hub_core.specs.Shows.{end_now, ShowsEnd, ShowsFacts}
@@ -34,6 +34,7 @@ use Rattle.hub_core.proofs.GoingOn.{taker_queue_at, nothing_shown}
 use Rattle.hub_core.proofs.SoundWaiting.{nothing_more, taken_prefix}
 use Rattle.hub_core.proofs.Counts.{counts_of, counted_ports, counts_still}
 use Rattle.hub_core.proofs.Nexts.{next}
+use Rattle.hub_core.proofs.Calms.{calm_landed}
 
 -- ---- Start
 
@@ -54,7 +55,7 @@ start_end : (agents : List Agent) (ends : List End) (f : Facts) (e : EndId) (ref
 start_end agents ends f e refused x h at true P answer = unchanged agents ends ends f (action.Start e) refused outcome.Closed outcome.Closed h refl refl refl answer
 start_end agents ends f e refused x h at false None answer = unchanged agents ends ends f (action.Start e) refused outcome.NotNow outcome.NotNow h refl refl refl answer
 start_end agents ends f e refused x h at false (Some a) answer =
-    changed agents ends _ f (action.Start e) refused outcome.Started h answer refl refl refl (length-set ends e.0 (record x { is_enabled = true })) (counts_still agents ends f _ h refl (λ d. refl) (λ d. refl))
+    changed agents ends _ f (action.Start e) refused outcome.Started h answer refl refl refl (length-set ends e.0 (record x { is_enabled = true })) (counts_still agents ends f _ h refl (λ d. refl) (λ d. refl) (λ a d l. refl))
     (each_set (λ d o. ShowsEnd (record (f.end d) { enabled = cond (eqb d e.0) true (f.end d).enabled }) (f.line d) (f.clear d) (f.accepted d) (f.taken d ++ f.discarded d) o) ends e.0 (record x { is_enabled = true }) (slice_get_within ends e.0 x at)
     (subst (λ b. ShowsEnd (record (f.end e.0) { enabled = cond b true (f.end e.0).enabled }) (f.line e.0) (f.clear e.0) (f.accepted e.0) (f.taken e.0 ++ f.discarded e.0) (Some (record x { is_enabled = true }))) (sym (eqb_same e.0)) (enabled_end (f.end e.0) (f.line e.0) (f.clear e.0) (f.accepted e.0) (f.taken e.0 ++ f.discarded e.0) x (subst (ShownAt f e.0) at (h.end e.0))))
     (λ d other. subst (λ b. ShowsEnd (record (f.end d) { enabled = cond b true (f.end d).enabled }) (f.line d) (f.clear d) (f.accepted d) (f.taken d ++ f.discarded d) (slice_get ends d)) (sym (ne_eqb d e.0 other)) (h.end d)))
@@ -145,7 +146,7 @@ got_shown agents ends new f e refused x a v rest h at has opened fits front n mo
     let made : e.0 < f.ends = placed_made f e.0 (With a) h.sound.places has in
     let same_count : length base ≡ length ends = length-set ends e.0 (with_taker_queue x rest) in
     changed agents ends new f (action.Take e) refused (outcome.Got v) h fits refl refl refl (moves.count ∙ same_count)
-    (counted_ports agents f (next f (action.Take e) (outcome.Got v)) (names v.ports) (λ d. arrived (f.end e.0).place (f.end d).place) refl (λ d. refl) (λ d. refl) (λ d named. h.sound.places.flying d (taken_flies f e v d h.sound n opened made named)) (counts_of agents ends f h)) (λ d.
+    (counted_ports agents f (next f (action.Take e) (outcome.Got v)) (names v.ports) (λ d. arrived (f.end e.0).place (f.end d).place) refl (λ d. refl) (λ d. refl) (λ d named. h.sound.places.flying d (taken_flies f e v d h.sound n opened made named)) (λ b x less. calm_landed b f (next f (action.Take e) (outcome.Got v)) (names v.ports) (λ d. arrived (f.end e.0).place (f.end d).place) x refl (λ l. refl) (λ q. refl) (λ q named. taken_flies f e v q h.sound n opened made named) (λ q. ap (λ p. is_with b (arrived p (f.end q).place)) has)) (counts_of agents ends f h)) (λ d.
     subst (ShowsEnd _ _ _ _ _) (sym (moves.each d))
     (moved_shown (f.end d) (f.line d) (f.clear d) (f.accepted d) (cond (eqb d e.0) (f.taken d ++ v ∷ []) (f.taken d) ++ f.discarded d) (slice_get base d) v.ports (Arrived a) (arrived ((f.end e.0).place) ((f.end d).place)) d (λ named. (
       ap (λ p. arrived p ((f.end d).place)) has,

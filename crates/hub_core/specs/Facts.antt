@@ -19,6 +19,7 @@ use Rattle.hub_core.specs.Discarded as discarded
 -- an agent now
 pub record AgentNow : Type 0 where
   pub runs : Bool
+  pub ordered : Bool
 
 -- an end now; a number that no end has yet has no kind, no place and nothing else
 pub record EndNow : Type 0 where
@@ -54,7 +55,7 @@ abbrev pub facts : History → Facts
 facts h = record {
   agents = made.agents h;
   ends = made.ends h;
-  agent = λ a. record { runs = made.runs h a };
+  agent = λ a. record { runs = made.runs h a; ordered = made.ordered h a };
   end = λ x. record {
     kind = made.kind h x;
     place = place.place h x;

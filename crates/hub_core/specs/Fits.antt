@@ -10,6 +10,7 @@ use Rattle.hub_core.specs.Posting.{enter_answer, leave_answer, push_answer, noti
 use Rattle.hub_core.specs.Taking.{start_answer, FitsTake}
 use Rattle.hub_core.specs.Moving.{hop_answer, adopt_answer, close_answer, hand_answer}
 use Rattle.hub_core.specs.Holding.{line_answer, back_answer}
+use Rattle.hub_core.specs.Ending.{order_answer, see_answer}
 use Rattle.hub_core.specs.Looking.{look_answer, FitsSweep}
 
 -- the last but one argument says whether memory is refused in the step
@@ -32,6 +33,8 @@ Answers f (action.Adopt e a) refused o = o ≡ adopt_answer f e a refused
 Answers f (action.Close e) refused o = o ≡ close_answer f e
 Answers f (action.Sweep e) refused o = FitsSweep f e o
 Answers f (action.Hand e b) refused o = o ≡ hand_answer f e b
+Answers f (action.Order a) refused o = o ≡ order_answer f a
+Answers f (action.See a) refused o = o ≡ see_answer f a
 
 -- the pair fits the history
 abbrev pub Fits : History → Pair → Type 0

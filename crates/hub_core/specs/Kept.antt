@@ -14,6 +14,7 @@ use Rattle.hub_core.specs.declared.kind.Kind.{Kind}
 use Rattle.hub_core.specs.declared.kind.Kind.TheVariants.{Port, Client, Worker}
 use Rattle.hub_core.specs.Made.{lines_of, is_queue}
 use Rattle.hub_core.specs.Moving.{is_arrived}
+use Rattle.hub_core.specs.Ending.{ends_below}
 use Rattle.hub_core.specs.declared.sender.Sender.{Sender}
 use Rattle.hub_envelope.specs.declared.envelope.Envelope.{Envelope}
 use Rattle.hub_core.specs.declared.line.Line.{Line}
@@ -241,6 +242,15 @@ abbrev pub kept_hears_by : List End → Kind → Bool
 kept_hears_by ends (Port q) = is_here (kept_place ends q.0)
 kept_hears_by ends Client = false
 kept_hears_by ends Worker = false
+
+-- the agent, running or ending, that has an end of this place
+abbrev pub with_agent : Option Place → Option AgentId
+with_agent (Some (With a)) = Some a
+with_agent (Some InFlight) = None
+with_agent (Some (Arrived a)) = None
+with_agent (Some Swept) = None
+with_agent (Some Gone) = None
+with_agent None = None
 
 abbrev pub kept_hears_of : List End → ℕ → Option End → Bool
 kept_hears_of ends l None = false
@@ -503,8 +513,12 @@ kept_agent_answer n refused =
     else (if nat_le MAX_AGENTS n then outcome.TooManyAgents
     else outcome.Agent (record { 0 = n }))
 
+-- an agent that has no end
+abbrev pub first_agent : Agent
+first_agent = record { is_running = true; is_ordered = false; away = 0; clients = 0; workers = 0 }
+
 abbrev pub agents_made : List Agent → Outcome → List Agent
-agents_made old (outcome.Agent a) = old ++ record { is_running = true; clients = 0; workers = 0 } ∷ []
+agents_made old (outcome.Agent a) = old ++ first_agent ∷ []
 agents_made old _ = old
 
 -- a line that has put nothing
@@ -567,6 +581,32 @@ kept_listing_at ends s ports poster (Some x) = kept_listing_by ends s ports x po
 abbrev pub kept_listing : List Agent → List End → Sender → List EndId → Listing
 kept_listing agents ends s ports = kept_listing_at ends s ports (kept_poster agents ends s) (slice_get ends s.end.0)
 
+-- ---- posters that are away
+
+abbrev pub set_agent : ℕ → List Agent → Option Agent → List Agent
+set_agent a agents None = agents
+set_agent a agents (Some x) = slice_set agents a x
+
+-- the agents, one of them changed
+abbrev pub change_agent : (Agent → Agent) → ℕ → List Agent → List Agent
+change_agent change a agents = set_agent a agents (option_map change (slice_get agents a))
+
+abbrev pub one_away : Agent → Agent
+one_away x = if nat_lt x.away 4294967295 then record x { away = x.away + 1 } else x
+
+abbrev pub one_out : Agent → Agent
+one_out x = record x { away = x.away - 1 }
+
+-- the agent, running or ending, whose poster a line of an end of this kind has
+abbrev pub kept_owner : List End → Kind → Line → Option AgentId
+kept_owner ends (Port q) y = with_agent (kept_place ends q.0)
+kept_owner ends Client y = y.held_by
+kept_owner ends Worker y = y.held_by
+
+abbrev pub change_owner : (Agent → Agent) → Option AgentId → List Agent → List Agent
+change_owner change None agents = agents
+change_owner change (Some a) agents = change_agent change a.0 agents
+
 -- ---- queues of clients and workers
 
 -- an agent with another count of its queues of this kind
@@ -579,14 +619,6 @@ abbrev pub one_less : Kind → Agent → Agent
 one_less (Port q) x = x
 one_less Client x = record x { clients = x.clients - 1 }
 one_less Worker x = record x { workers = x.workers - 1 }
-
-abbrev pub set_agent : ℕ → List Agent → Option Agent → List Agent
-set_agent a agents None = agents
-set_agent a agents (Some x) = slice_set agents a x
-
--- the agents, one of them changed
-abbrev pub change_agent : (Agent → Agent) → ℕ → List Agent → List Agent
-change_agent change a agents = set_agent a agents (option_map change (slice_get agents a))
 
 -- the agents after an end of this kind came to an agent, and after it went from this place
 abbrev pub come : Kind → AgentId → List Agent → List Agent
@@ -707,6 +739,60 @@ abbrev pub close_agents : List Agent → Option End → Outcome → List Agent
 close_agents agents (Some x) outcome.Done = gone x.kind x.place agents
 close_agents agents x _ = agents
 
-abbrev pub adopt_agents : AgentId → List Agent → Option End → Outcome → List Agent
-adopt_agents a agents (Some x) (outcome.Adopted k) = come x.kind a agents
-adopt_agents a agents x _ = agents
+-- an agent that an end of this kind came to; of a port with its own poster away that poster is the agent's now
+abbrev pub adopting : Bool → Kind → Agent → Agent
+adopting released kind x = if released then one_more kind x else one_away (one_more kind x)
+
+abbrev pub adopt_agents : List End → AgentId → List Agent → Option End → Outcome → List Agent
+adopt_agents ends a agents (Some x) (outcome.Adopted k) = change_agent (adopting (kept_released ends x.kind) x.kind) a.0 agents
+adopt_agents ends a agents x _ = agents
+
+-- ---- entering, leaving and ending
+
+abbrev pub kept_owner_on : List End → Kind → Option Line → Option AgentId
+kept_owner_on ends kind None = None
+kept_owner_on ends kind (Some y) = kept_owner ends kind y
+
+abbrev pub kept_owner_at : List End → ℕ → Option End → Option AgentId
+kept_owner_at ends l None = None
+kept_owner_at ends l (Some x) = kept_owner_on ends x.kind (slice_get x.lines l)
+
+-- the agent, running or ending, whose poster the line has
+abbrev pub kept_owner_of : List End → Sender → Option AgentId
+kept_owner_of ends s = kept_owner_at ends s.line.0 (slice_get ends s.end.0)
+
+-- the agents after an Enter, and after a Leave, got this answer
+abbrev pub enter_agents : Option AgentId → List Agent → Outcome → List Agent
+enter_agents owner agents outcome.In = change_owner one_away owner agents
+enter_agents owner agents outcome.Moved = change_owner one_away owner agents
+enter_agents owner agents outcome.Closed = change_owner one_away owner agents
+enter_agents owner agents _ = agents
+
+abbrev pub leave_agents : Option AgentId → List Agent → Outcome → List Agent
+leave_agents owner agents outcome.Left = change_owner one_out owner agents
+leave_agents owner agents _ = agents
+
+abbrev pub order_outcome_at : Option Agent → Outcome
+order_outcome_at None = outcome.NotNow
+order_outcome_at (Some x) = outcome.Ordered
+
+abbrev pub order_agents : ℕ → List Agent → List Agent
+order_agents a agents = change_agent (λ x. record x { is_ordered = true }) a agents
+
+abbrev pub is_kept_at : AgentId → Option End → Bool
+is_kept_at a None = false
+is_kept_at a (Some x) = is_with a (Some x.place) || is_arrived a (Some x.place)
+
+-- of so many ends those that the agent has, and those that have arrived at it
+abbrev pub kept_ends_at : AgentId → List End → ℕ → List EndId
+kept_ends_at a ends n = ends_below (λ k. is_kept_at a (slice_get ends k)) n
+
+abbrev pub see_outcome : AgentId → List End → Option Agent → Outcome
+see_outcome a ends None = outcome.NotNow
+see_outcome a ends (Some x) =
+    if not (x.away == 0) then outcome.NotNow
+    else (if x.is_ordered then outcome.Ending (kept_ends_at a ends (length ends)) else outcome.GoingOn)
+
+abbrev pub see_agents : ℕ → List Agent → Outcome → List Agent
+see_agents a agents (outcome.Ending es) = change_agent (λ x. record x { is_running = false }) a agents
+see_agents a agents _ = agents

@@ -15,6 +15,7 @@ pub mod Posting
 pub mod Looking
 pub mod Moving
 pub mod Holding
+pub mod Ending
 pub mod Taking
 pub mod Memory
 pub mod Fits

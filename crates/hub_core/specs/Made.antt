@@ -22,11 +22,20 @@ agents h = fold (λ n p. agents_after n p.1 p.0.action) 0 h
 
 abbrev pub runs_after : ℕ → Bool → Outcome → Action → Bool
 runs_after x runs (outcome.Agent a) action.Agent = if x == a.0 then true else runs
+runs_after x runs (outcome.Ending es) (action.See a) = if x == a.0 then false else runs
 runs_after x runs _ _ = runs
 
--- An agent runs from its making on.
+-- An agent runs from its making on, until a See of it is answered Ending: then it is ending.
 abbrev pub runs : History → ℕ → Bool
 runs h x = fold (λ r p. runs_after x r p.1 p.0.action) false h
+
+abbrev pub ordered_after : ℕ → Bool → Outcome → Action → Bool
+ordered_after x ordered outcome.Ordered (action.Order a) = if x == a.0 then true else ordered
+ordered_after x ordered _ _ = ordered
+
+-- the agent was ordered to end
+abbrev pub ordered : History → ℕ → Bool
+ordered h x = fold (λ r p. ordered_after x r p.1 p.0.action) false h
 
 abbrev pub ends_after : ℕ → Outcome → Action → ℕ
 ends_after n (outcome.Ends e f) (action.Channel a) = n + 2

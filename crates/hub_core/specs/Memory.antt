@@ -4,7 +4,7 @@ use Rattle.hub_core.specs.declared.step.Action.{Action}
 use Rattle.hub_core.specs.declared.step.Action.TheVariants as action
 
 -- the steps after which more is kept than before: a new agent, new ends, an envelope, a new queue; and a
--- Sweep, which answers a list
+-- Sweep and a See, which answer a list
 abbrev pub takes_memory : Action → Bool
 takes_memory action.Agent = true
 takes_memory (action.Channel a) = true
@@ -24,3 +24,5 @@ takes_memory (action.Adopt e a) = true
 takes_memory (action.Close e) = false
 takes_memory (action.Sweep e) = true
 takes_memory (action.Hand e a) = false
+takes_memory (action.Order a) = false
+takes_memory (action.See a) = true

@@ -15,14 +15,15 @@ use Rattle.hub_core.specs.Fits.{Fits}
 use Rattle.hub_core.specs.Sender.{in_queue, count_in_queue}
 use Rattle.hub_core.specs.Sound.{no_end, no_line, total, Sound}
 use Rattle.hub_core.specs.Making.{is_client, is_worker}
+use Rattle.hub_core.specs.Ending.{is_away_of}
 use Rattle.hub_core.specs.Posting.{is_with}
 use Rattle.hub_core.specs.Made.{lines_of}
 use Rattle.hub_core.specs.declared.line.Phase.TheVariants.{Inside}
 
 -- an agent, an end and a line now, as the core keeps them, or as there is none
 abbrev pub agent_now : Option Agent → AgentNow
-agent_now None = record { runs = false }
-agent_now (Some x) = record { runs = x.is_running }
+agent_now None = record { runs = false; ordered = false }
+agent_now (Some x) = record { runs = x.is_running; ordered = x.is_ordered }
 
 abbrev pub end_now : Option End → EndNow
 end_now None = no_end
@@ -79,11 +80,20 @@ abbrev pub kept_workers : Option Agent → ℕ
 kept_workers None = 0
 kept_workers (Some x) = x.workers
 
+abbrev pub kept_away : Option Agent → ℕ
+kept_away None = 0
+kept_away (Some x) = x.away
+
+-- how many posters of the agent are inside or being turned back
+abbrev pub count_away : AgentId → Facts → ℕ
+count_away a f = total (λ x. total (λ l. if is_away_of f a x l then 1 else 0) (lines_of (f.end x).kind)) f.ends
+
 -- how many ends the agent has whose kind passes the test
 abbrev pub count_with : (Option Kind → Bool) → AgentId → Facts → ℕ
 count_with test a f = total (λ x. if test (f.end x).kind && is_with a (f.end x).place then 1 else 0) f.ends
 
--- agents and ends are those of the facts, which are sound; of each agent it is kept how many queues it has
+-- agents and ends are those of the facts, which are sound; of each agent it is kept how many queues it has, and how many
+-- of its posters are away
 pub record ShowsFacts (kept_agents : List Agent) (kept_ends : List End) (f : Facts) : Type 0 where
   pub agents : f.agents ≡ length kept_agents
   pub agent : (a : ℕ) → f.agent a ≡ agent_now (slice_get kept_agents a)
@@ -91,6 +101,7 @@ pub record ShowsFacts (kept_agents : List Agent) (kept_ends : List End) (f : Fac
   pub end : (e : ℕ) → ShowsEnd (f.end e) (f.line e) (f.clear e) (f.accepted e) (f.taken e ++ f.discarded e) (slice_get kept_ends e)
   pub clients : (a : AgentId) → kept_clients (slice_get kept_agents a.0) ≡ count_with is_client a f
   pub workers : (a : AgentId) → kept_workers (slice_get kept_agents a.0) ≡ count_with is_worker a f
+  pub away : (a : AgentId) → kept_away (slice_get kept_agents a.0) ≡ count_away a f
   pub sound : Sound f
 
 -- the core's agents and ends are those of the history

@@ -3,6 +3,7 @@ use Rattle.std.specs.Prelude.{◌≡◌, ℕ, zero, suc, ◌+◌, ◌<◌, ◌�
 use Rattle.std.specs.List.{AllByRecursion, filter}
 use Rattle.hub_envelope.specs.declared.ids.AgentId.{AgentId}
 use Rattle.hub_envelope.specs.declared.envelope.Envelope.{Envelope}
+use Rattle.hub_core.specs.declared.limits.TheConstants.{MAX_ENDS}
 use Rattle.hub_core.specs.declared.end.Place.{Place}
 use Rattle.hub_core.specs.declared.end.Place.TheVariants.{With, InFlight, Arrived, Swept, Gone}
 use Rattle.hub_core.specs.declared.line.Phase.TheVariants.{Out, Inside, Turned}
@@ -87,12 +88,13 @@ is_gone (Some (Arrived a)) = false
 is_gone (Some Swept) = false
 is_gone None = false
 
--- Where ends are. A number that no end or agent has stands for nothing. Ports are entangled both ways. The agents that
--- have ends were made. A line whose poster is inside or being turned back is one that may be entered. An end is closed
--- exactly where it is gone. Ports alone are in flight.
+-- Where ends are. There are at most as many as there are numbers for. A number that no end or agent has stands for
+-- nothing. Ports are entangled both ways. The agents that have ends were made. A line whose poster is inside or being
+-- turned back is one that may be entered. An end is closed exactly where it is gone. Ports alone are in flight.
 -- A port is in flight exactly where one envelope that waits names it, accepted and neither taken nor discarded, and at
 -- most one does.
 pub record SoundPlaces (f : Facts) : Type 0 where
+  pub few : f.ends ≤ MAX_ENDS
   pub ends : (x : ℕ) → f.ends ≤ x → f.end x ≡ no_end
   pub agents : (a : ℕ) → f.agents ≤ a → (f.agent a).runs ≡ false
   pub peers : (x y : ℕ) → peer_of (f.end x).kind ≡ Some y → (y < f.ends) × (peer_of (f.end y).kind ≡ Some x)

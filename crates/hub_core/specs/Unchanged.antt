@@ -21,6 +21,7 @@ changes_nothing outcome.Busy a = true
 changes_nothing outcome.TooManyMoves a = true
 changes_nothing outcome.NoSuchEnd a = true
 changes_nothing outcome.NoLine a = true
+changes_nothing outcome.GoingOn a = true
 changes_nothing (outcome.Clear None) a = true
 changes_nothing outcome.Closed (action.Start e) = true
 changes_nothing outcome.Closed (action.Take e) = true

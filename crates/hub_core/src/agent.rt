@@ -1,5 +1,5 @@
 ghost use Rattle.std.specs.Prelude.{◌≡◌, Some, IfOk};
-ghost use Rattle.hub_core.specs.Kept.{count_of, one_more, one_less};
+ghost use Rattle.hub_core.specs.Kept.{count_of, one_more, one_less, one_away, one_out};
 
 use crate::kind::Kind;
 use hub_envelope::OutOfMemory;
@@ -9,6 +9,10 @@ use hub_envelope::OutOfMemory;
 pub(crate) struct Agent {
     /// An agent runs until it has found the order to end.
     pub(crate) is_running: bool,
+    /// The agent was ordered to end.
+    pub(crate) is_ordered: bool,
+    /// How many posters of the agent are inside or being turned back.
+    pub(crate) away: u32,
     /// How many client queues the agent has.
     pub(crate) clients: u32,
     /// How many worker queues the agent has.
@@ -19,6 +23,8 @@ impl Agent {
     /// An agent that has no end.
     pub(crate) const FIRST: Agent = Agent {
         is_running: true,
+        is_ordered: false,
+        away: 0,
         clients: 0,
         workers: 0,
     };
@@ -55,6 +61,24 @@ impl Agent {
             Kind::Client => self.clients = self.clients.saturating_sub(1),
             Kind::Worker => self.workers = self.workers.saturating_sub(1),
         }
+        self
+    }
+
+    /// The agent with a poster more that is inside or being turned back.
+    pub(crate) fn with_one_away(mut self) -> Agent
+        ensures { result ≡ one_away self }
+    {
+        if self.away < u32::MAX {
+            self.away += 1;
+        }
+        self
+    }
+
+    /// The agent with a poster less that is inside or being turned back.
+    pub(crate) fn with_one_out(mut self) -> Agent
+        ensures { result ≡ one_out self }
+    {
+        self.away = self.away.saturating_sub(1);
         self
     }
 }

@@ -1,7 +1,8 @@
-ghost use Rattle.std.specs.Prelude.{◌≡◌, ◌∷◌, ◌<◌, [], slice_get, IfOk, OnOk, OnErr, MatchOption, false, true, List, Some};
+ghost use Rattle.std.specs.Prelude.{◌≡◌, ◌||◌, ◌∷◌, ◌<◌, [], slice_get, IfOk, OnOk, OnErr, MatchOption, false, true, List, Some};
 ghost use Rattle.hub_envelope.specs.declared.envelope.Envelope.{Envelope as EnvelopeValue};
 ghost use Rattle.hub_core.specs.declared.limits.TheConstants.{MAX_MOVES};
-ghost use Rattle.hub_core.specs.Posting.{is_here};
+ghost use Rattle.hub_core.specs.Moving.{is_arrived};
+ghost use Rattle.hub_core.specs.Posting.{is_here, is_with};
 ghost use Rattle.hub_core.specs.Kept.{new_end, hold_outcome, held_end, back_outcome, back_end, hand_outcome, handed_end, close_outcome, close_end, hop_outcome, hop_end, kept_looked, kept_settled, left_outcome, left_end, look_outcome, look_end, advanced_end, adopted_end, adopt_outcome, adopt_end, enter_outcome, enter_end, leave_outcome, leave_end, has_queue, posting_line, put_end, sweep_outcome, swept_end, taker_queue, with_taker_queue};
 
 use crate::kind::Kind;
@@ -28,6 +29,13 @@ pub enum Place {
 }
 
 impl Place {
+    /// Whether an agent has an end of this place, or the end has arrived at it.
+    pub(crate) fn is_at(self, agent: AgentId) -> bool
+        ensures { result ≡ (is_with agent (Some self) || is_arrived agent (Some self)) }
+    {
+        matches!(self, Place::With(holder) | Place::Arrived(holder) if holder == agent)
+    }
+
     /// Whether an end of this place can be closed.
     pub(crate) fn is_here(self) -> bool
         ensures { result ≡ is_here (Some self) }

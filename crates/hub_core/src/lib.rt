@@ -6,6 +6,8 @@
 
 mod agent;
 mod end;
+mod end_ids;
+mod ending;
 mod envelopes;
 mod holding;
 mod kind;
@@ -26,6 +28,7 @@ mod sender;
 mod step;
 mod taking;
 
+pub use end_ids::EndIds;
 pub use envelopes::Envelopes;
 pub use hub_envelope::{MAX_PORTS, OutOfMemory};
 pub use kind::Kind;

@@ -73,6 +73,8 @@ impl Core {
             Action::Close(end) => Ok(self.close(end)),
             Action::Sweep(end) => self.sweep(end),
             Action::Hand(end, agent) => Ok(self.hand(end, agent)),
+            Action::Order(agent) => Ok(self.order(agent)),
+            Action::See(agent) => self.see(agent),
         }
     }
 

@@ -24,7 +24,8 @@ impl Core {
         ensures err { OnErr result (self.new.ends.items ≡ self.old.ends.items) }
         ensures agents { let agents = self.old.agents.items in
             let found = slice_get self.old.ends.items end.0 in
-            IfOk result (λ o. self.new.agents.items ≡ adopt_agents agent agents found o) }
+            let ends = self.old.ends.items in
+            IfOk result (λ o. self.new.agents.items ≡ adopt_agents ends agent agents found o) }
         ensures err_agents { OnErr result (self.new.agents.items ≡ self.old.agents.items) }
     {
         let Some(kind) = self.kind_at(end) else {
@@ -32,6 +33,10 @@ impl Core {
         };
         let is_running = self.is_running(agent);
         let counted = self.with_one_more(kind, agent)?;
+        let counted = match counted {
+            Some(counted) if !self.is_released(kind) => Some(counted.with_one_away()),
+            counted => counted,
+        };
         let found = &mut self.ends[end.0 as usize];
         let outcome = found.adopt(self.alloc, agent, is_running, memory_refused)?;
         if matches!(outcome, Outcome::Adopted(_)) {

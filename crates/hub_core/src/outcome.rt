@@ -1,3 +1,4 @@
+use crate::end_ids::EndIds;
 use crate::envelopes::Envelopes;
 use hub_envelope::{AgentId, EndId, Envelope, LineId};
 
@@ -72,6 +73,13 @@ pub enum Outcome {
     Done,
     /// The end has arrived at the other agent.
     Handed,
+    /// The agent was ordered to end.
+    Ordered,
+    /// The agent wasn't ordered to end. Nothing changed.
+    GoingOn,
+    /// The agent found the order and is ending; these ends are with it or have arrived at it, in
+    /// rising order.
+    Ending(EndIds),
     /// What waited at the end, in order of the queues and then of acceptance. It waits no more.
     Discarded(Envelopes),
 }

@@ -1,5 +1,5 @@
 ghost use Rattle.std.specs.Prelude.{◌≡◌, ◌<◌, ◌≤◌, ◌∷◌, [], length, slice_get, IfOk, OnOk, OnErr};
-ghost use Rattle.hub_core.specs.Kept.{enter_outcome_at, enter_ends_at, leave_outcome_at, leave_ends_at, hop_outcome_at, hop_ends_at, kept_may_enter, kept_noticing, notice_outcome, NoticeLeaves, kept_posting, kept_good, kept_may_travel, kept_may_leave, kept_own_free, push_outcome, HasQueue, AcceptLeaves, PushLeaves, Moves};
+ghost use Rattle.hub_core.specs.Kept.{kept_owner_of, enter_agents, leave_agents, enter_outcome_at, enter_ends_at, leave_outcome_at, leave_ends_at, hop_outcome_at, hop_ends_at, kept_may_enter, kept_noticing, notice_outcome, NoticeLeaves, kept_posting, kept_good, kept_may_travel, kept_may_leave, kept_own_free, push_outcome, HasQueue, AcceptLeaves, PushLeaves, Moves};
 
 use crate::end::Place;
 use crate::kind::Kind;
@@ -17,15 +17,21 @@ impl Core {
         ensures ends { let ends = self.old.ends.items in
             let may = kept_may_enter self.old.agents.items ends sender in
             self.new.ends.items ≡ enter_ends_at may sender ends (slice_get ends sender.end.0) }
-        ensures agents { self.new.agents ≡ self.old.agents }
+        ensures agents { let owner = kept_owner_of self.old.ends.items sender in
+            self.new.agents.items ≡ enter_agents owner self.old.agents.items result }
     {
         if !self.may_enter(sender) {
             return Outcome::NotNow;
         }
+        let owner = self.owner_of(sender);
         let Some(end) = self.ends.get_mut(sender.end.0 as usize) else {
             return Outcome::NotNow;
         };
-        end.enter(sender.line)
+        let outcome = end.enter(sender.line);
+        if !matches!(outcome, Outcome::NotNow) {
+            self.count_away(owner);
+        }
+        outcome
     }
 
     pub(crate) fn leave(&mut self, sender: Sender) -> Outcome
@@ -33,12 +39,18 @@ impl Core {
             result ≡ leave_outcome_at sender.line.0 (slice_get ends sender.end.0) }
         ensures ends { let ends = self.old.ends.items in
             self.new.ends.items ≡ leave_ends_at sender ends (slice_get ends sender.end.0) }
-        ensures agents { self.new.agents ≡ self.old.agents }
+        ensures agents { let owner = kept_owner_of self.old.ends.items sender in
+            self.new.agents.items ≡ leave_agents owner self.old.agents.items result }
     {
+        let owner = self.owner_of(sender);
         let Some(end) = self.ends.get_mut(sender.end.0 as usize) else {
             return Outcome::NotNow;
         };
-        end.leave(sender.line)
+        let outcome = end.leave(sender.line);
+        if matches!(outcome, Outcome::Left) {
+            self.count_out(owner);
+        }
+        outcome
     }
 
     pub(crate) fn hop(&mut self, sender: Sender) -> Outcome

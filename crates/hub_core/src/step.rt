@@ -45,6 +45,10 @@ pub enum Action {
     /// The agent that has a client's or worker's queue hands it to another agent, at which it
     /// arrives.
     Hand(EndId, AgentId),
+    /// The agent is ordered to end (WHATWG HTML, "terminate a worker").
+    Order(AgentId),
+    /// The agent looks whether it was ordered to end. One that was is ending from now on.
+    See(AgentId),
 }
 
 /// An event, and whether memory is refused in it. Refused memory has no effect on an event that

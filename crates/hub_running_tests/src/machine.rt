@@ -85,6 +85,14 @@ fn sweep(end: u32) -> Step {
     step(Action::Sweep(EndId(end)))
 }
 
+fn order(agent: u8) -> Step {
+    step(Action::Order(AgentId(agent)))
+}
+
+fn see(agent: u8) -> Step {
+    step(Action::See(AgentId(agent)))
+}
+
 /// Adds an envelope's name in its end, its text and its ports.
 fn tell_envelope(words: &mut String, envelope: &Envelope) -> Result<(), Fail> {
     let text = envelope.body.text();
@@ -107,6 +115,12 @@ fn tell(words: &mut String, outcome: &Outcome) -> Result<(), Fail> {
             words.push_str("Discarded")?;
             for envelope in envelopes.as_slice() {
                 tell_envelope(words, envelope)?;
+            }
+        }
+        Outcome::Ending(ends) => {
+            words.push_str("Ending")?;
+            for end in ends.as_slice() {
+                write!(words, " {}", end.0)?;
             }
         }
         other => write!(words, "{other:?}")?,
@@ -313,8 +327,48 @@ const HANDED: &str = "Agent(AgentId(0)); Agent(AgentId(1)); End(EndId(0)); NotNo
     Line(LineId(0)); NoSuchEnd; Started; NotNow; Handed; NotNow; End(EndId(2)); Adopted(1); \
     Started; Got 0:0 7 with; Again; NotNow; Done; End(EndId(3)); Closed; ";
 
+/// Agent 0 is ordered to end while one of its posters is inside, and ends with two ports.
+fn ending(alloc: Global) -> Result<Vec<Step>, OutOfMemory> {
+    Ok(vec![in alloc;
+        step(Action::Agent),
+        step(Action::Agent),
+        step(Action::Channel(AgentId(0))),
+        order(2),
+        see(2),
+        see(0),
+        enter(0),
+        order(0),
+        see(0),
+        push(alloc, 0, &[], "7")?,
+        leave(0),
+        see(0),
+        see(1),
+        start(1),
+        take(1),
+        step(Action::Channel(AgentId(0))),
+        order(0),
+        enter(0),
+        push(alloc, 0, &[], "8")?,
+        notice(0),
+        see(0),
+        leave(0),
+        close(0),
+        see(0),
+        close(1),
+        sweep(1),
+        see(0),
+    ]?)
+}
+
+const ENDED: &str = "Agent(AgentId(0)); Agent(AgentId(1)); Ends(EndId(0), EndId(1)); NotNow; \
+    NotNow; GoingOn; In; Ordered; NotNow; \
+    Accepted(Acceptance { agent: AgentId(0), epoch: 0, number: 0 }); Left; Ending 0 1; GoingOn; \
+    NotNow; NotNow; NotNow; Ordered; In; NotNow; \
+    Accepted(Acceptance { agent: AgentId(0), epoch: 0, number: 1 }); NotNow; Left; Done; \
+    Ending 1; Done; Discarded 0:0 7 with 0:1 null with; Ending; ";
+
 #[test]
-fn moves_closes_hands_and_discards(rt: HostRuntime) -> Result<(), Fail> {
+fn moves_closes_hands_ends_and_discards(rt: HostRuntime) -> Result<(), Fail> {
     let alloc = rt.alloc();
     let moved = outcomes_of(&rt, alloc, moving(alloc)?)?;
     assert_eq!(rt; moved.as_str(), MOVED);
@@ -322,6 +376,8 @@ fn moves_closes_hands_and_discards(rt: HostRuntime) -> Result<(), Fail> {
     assert_eq!(rt; closed.as_str(), CLOSED);
     let handed = outcomes_of(&rt, alloc, handing(alloc)?)?;
     assert_eq!(rt; handed.as_str(), HANDED);
+    let ended = outcomes_of(&rt, alloc, ending(alloc)?)?;
+    assert_eq!(rt; ended.as_str(), ENDED);
     Ok(())
 }
 
@@ -385,6 +441,7 @@ enum About {
     Moving,
     Closing,
     Handing,
+    Ending,
 }
 
 fn steps_of(alloc: Global, about: About) -> Result<Vec<Step>, OutOfMemory> {
@@ -392,6 +449,7 @@ fn steps_of(alloc: Global, about: About) -> Result<Vec<Step>, OutOfMemory> {
         About::Moving => moving(alloc),
         About::Closing => closing(alloc),
         About::Handing => handing(alloc),
+        About::Ending => ending(alloc),
     }
 }
 
@@ -412,6 +470,7 @@ fn goes_on_whichever_allocation_is_refused(rt: HostRuntime) -> Result<(), Fail> 
         (About::Moving, MOVED),
         (About::Closing, CLOSED),
         (About::Handing, HANDED),
+        (About::Ending, ENDED),
     ] {
         let steps = steps_again(alloc, about)?;
         let same = steps_again(alloc, about)?;

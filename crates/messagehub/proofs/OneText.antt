@@ -259,6 +259,8 @@ line_agrees refused (command.Hand e a) = shown_step_agrees refused (action.Hand 
 line_agrees refused (command.Adopt e a) = adopt_agrees refused e a
 line_agrees refused (command.Close e) = close_agrees refused e
 line_agrees refused (command.Sweep e) = sweep_agrees refused e
+line_agrees refused (command.Order a) = shown_step_agrees refused (action.Order a) refl
+line_agrees refused (command.See a) = shown_step_agrees refused (action.See a) refl
 
 -- ---- all lines
 

@@ -35,6 +35,15 @@ abbrev pub discarded_line : List Envelope → List ℕ
 discarded_line [] = codes "discarded nothing\n"
 discarded_line (v ∷ vs) = codes "discarded" ++ names_text (v ∷ vs) ++ codes "\n"
 
+-- a space and the number of each end
+abbrev pub numbers_text : List EndId → List ℕ
+numbers_text es = flat_map (λ e. codes " " ++ decimal e.0) es
+
+-- the ends of an agent that ends, or that it has none
+abbrev pub ending_line : List EndId → List ℕ
+ending_line [] = codes "ending nothing\n"
+ending_line (e ∷ es) = codes "ending" ++ numbers_text (e ∷ es) ++ codes "\n"
+
 -- the line of an outcome, with its LF
 unfoldable pub outcome_line : Outcome → List ℕ
 outcome_line outcome.NotNow = codes "not-now\n"
@@ -65,4 +74,7 @@ outcome_line (outcome.Adopted k) = codes "adopted " ++ decimal k ++ codes "\n"
 outcome_line outcome.TooManyMoves = codes "too-many-moves\n"
 outcome_line outcome.Done = codes "done\n"
 outcome_line outcome.Handed = codes "handed\n"
+outcome_line outcome.Ordered = codes "ordered\n"
+outcome_line outcome.GoingOn = codes "going-on\n"
+outcome_line (outcome.Ending es) = ending_line es
 outcome_line (outcome.Discarded vs) = discarded_line vs

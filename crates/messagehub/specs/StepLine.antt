@@ -141,7 +141,9 @@ command_of name rest =
     else (if bytes_eq name (codes "adopt") then end_and_agent_after rest >>= (λ x. Ok (command.Adopt x.0 x.1))
     else (if bytes_eq name (codes "close") then number_after rest >>= (λ n. Ok (command.Close (record { 0 = n })))
     else (if bytes_eq name (codes "sweep") then number_after rest >>= (λ n. Ok (command.Sweep (record { 0 = n })))
-    else poster_command_of name rest))))))))))))
+    else (if bytes_eq name (codes "order") then number_after rest >>= (λ n. Ok (command.Order (agent_of n)))
+    else (if bytes_eq name (codes "see") then number_after rest >>= (λ n. Ok (command.See (agent_of n)))
+    else poster_command_of name rest))))))))))))))
 
 abbrev pub command_cut : List ℕ → Option (List ℕ × List ℕ) → Read Command
 command_cut text None = command_of text None

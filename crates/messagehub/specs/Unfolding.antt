@@ -51,6 +51,8 @@ command_takes_memory (command.Hand e a) = false
 command_takes_memory (command.Adopt e a) = true
 command_takes_memory (command.Close e) = true
 command_takes_memory (command.Sweep e) = true
+command_takes_memory (command.Order a) = false
+command_takes_memory (command.See a) = true
 
 -- a step whose outcome is shown
 abbrev pub shown_step : Bool → Action → Computation Shown
@@ -290,3 +292,5 @@ core_steps refused (command.Hand e a) = shown_step refused (action.Hand e a)
 core_steps refused (command.Adopt e a) = adopt refused e a
 core_steps refused (command.Close e) = close refused e
 core_steps refused (command.Sweep e) = sweep refused e
+core_steps refused (command.Order a) = shown_step refused (action.Order a)
+core_steps refused (command.See a) = shown_step refused (action.See a)

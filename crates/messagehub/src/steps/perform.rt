@@ -39,6 +39,8 @@ pub fn perform(core: &mut Core, line: StepLine) -> Result<Shown, OutOfMemory>
         Command::Adopt(end, agent) => adopt(core, end, agent, memory_refused),
         Command::Close(end) => close(core, end, memory_refused),
         Command::Sweep(end) => sweep(core, end, memory_refused),
+        Command::Order(agent) => show_step(core, Action::Order(agent), memory_refused),
+        Command::See(agent) => show_step(core, Action::See(agent), memory_refused),
     }
 }
 

@@ -75,6 +75,8 @@ fn command_of(alloc: Global, name: &str, rest: Option<&str>) -> Result<Command, 
         }
         "close" => Command::Close(EndId(number_after(rest)?)),
         "sweep" => Command::Sweep(EndId(number_after(rest)?)),
+        "order" => Command::Order(agent_of(number_after(rest)?)),
+        "see" => Command::See(agent_of(number_after(rest)?)),
         _ => return poster_command_of(alloc, name, rest),
     })
 }

@@ -48,6 +48,8 @@ pub enum Command {
     Close(EndId),
     /// Sweep, and the closing of each end that what was discarded names.
     Sweep(EndId),
+    Order(AgentId),
+    See(AgentId),
 }
 
 /// What a step line asks for, and whether memory is refused in its steps: the mark `!`.

@@ -1,5 +1,5 @@
 ghost use Rattle.std.specs.Prelude.{◌≡◌, ◌++◌, OnOk, string_bytes};
-ghost use Rattle.messagehub.specs.OutcomeText.{discarded_line, got_line, listed_name, names_text, outcome_line, ports_text};
+ghost use Rattle.messagehub.specs.OutcomeText.{discarded_line, ending_line, got_line, listed_name, names_text, numbers_text, outcome_line, ports_text};
 ghost use Rattle.messagehub.specs.ShownText.{shown_line};
 
 use super::shown::Shown;
@@ -57,8 +57,35 @@ fn write_outcome(text: &mut String, outcome: &Outcome) -> Result<(), AllocError>
         Outcome::TooManyMoves => text.push_str("too-many-moves\n"),
         Outcome::Done => text.push_str("done\n"),
         Outcome::Handed => text.push_str("handed\n"),
+        Outcome::Ordered => text.push_str("ordered\n"),
+        Outcome::GoingOn => text.push_str("going-on\n"),
+        Outcome::Ending(ends) => write_ending(text, ends.as_slice()),
         Outcome::Discarded(envelopes) => write_discarded(text, envelopes.as_slice()),
     }
+}
+
+/// Writes the line of the ends of an agent that ends.
+fn write_ending(text: &mut String, ends: &[EndId]) -> Result<(), AllocError>
+    ensures { OnOk result (string_bytes text.new
+        ≡ string_bytes text.old ++ ending_line ends.now) }
+{
+    if ends.is_empty() {
+        return text.push_str("ending nothing\n");
+    }
+    text.push_str("ending")?;
+    write_numbers(text, ends)?;
+    text.push_str("\n")
+}
+
+/// Writes a space and the number of each end.
+fn write_numbers(text: &mut String, ends: &[EndId]) -> Result<(), AllocError>
+    ensures { OnOk result (string_bytes text.new
+        ≡ string_bytes text.old ++ numbers_text ends.now) }
+{
+    for end in ends {
+        write!(text, " {}", end.0)?;
+    }
+    Ok(())
 }
 
 /// Writes the line of an envelope that was taken.

@@ -40,6 +40,19 @@ fn runs_the_worked_rows(rt: HostRuntime) {
     }
 }
 
+// The agent that ends has a worker's queue and a port; the other port was sent away.
+#[test]
+fn runs_orders_to_end(rt: HostRuntime) {
+    let input = b"agent -\nagent -\nworker 1\nchannel 1\nclient 0\nline 3 1\nline 0 0\nstart 3\n\
+        post 3/0 2 \"port\"\ntake 3\nadopt 2 0\nsee 1\norder 1\npost 0/0 - \"late\"\nsee 1\n\
+        take 0\nclose 0\nclose 1\nsweep 0\npost 0/0 - \"no\"\npost 2 - 1\nsee 1\norder 2\n";
+    let output = b"agent 0\nagent 1\nend 0\nends 1 2\nend 3\nline 0\nline 0\nstarted\n\
+        accepted 0:0\ngot 0:0 from 0 with 2 \"port\"\nadopted 1\ngoing-on\nordered\n\
+        accepted 0:0\nending 0 1\nnot-now\ndone\ndone\ndiscarded 0:0/0\nclosed\nclosed\n\
+        ending nothing\nnot-now\n";
+    expect_written(&rt, Mode::Steps, input, output, 0);
+}
+
 #[test]
 fn runs_the_queues_of_clients_and_workers(rt: HostRuntime) {
     let rows: [(&[u8], &[u8]); 3] = [
@@ -92,7 +105,7 @@ fn runs_two_hundred_posts_and_takes(rt: HostRuntime) -> Result<(), Fail> {
 
 #[test]
 fn tells_the_first_bad_line_alone(rt: HostRuntime) {
-    let rows: [(&[u8], &[u8]); 51] = [
+    let rows: [(&[u8], &[u8]); 53] = [
         (b"fly 0", b"line 1: UnknownStep\n"),
         (b"fly \xff", b"line 1: BadUtf8\n"),
         (b"agent -\n\xff\nfly", b"line 2: BadUtf8\n"),
@@ -121,6 +134,8 @@ fn tells_the_first_bad_line_alone(rt: HostRuntime) {
         (b"worker 0 1", b"line 1: BadWords\n"),
         (b"line x y", b"line 1: BadNumber\n"),
         (b"loaded 0/0", b"line 1: BadNumber\n"),
+        (b"order", b"line 1: BadWords\n"),
+        (b"see 0/0", b"line 1: BadNumber\n"),
         (b"hop x", b"line 1: BadPoster\n"),
         (b"take ", b"line 1: BadNumber\n"),
         (b"take 4294967296", b"line 1: BadNumber\n"),

@@ -9,8 +9,9 @@ use Rattle.hub_core.proofs.Stepping.{stepped, ok_both, ok_all, enter_same, leave
 use Rattle.hub_core.proofs.Makes.{agent_shown, channel_shown, client_shown, worker_shown}
 use Rattle.hub_core.proofs.Holds.{line_shown, line_same, back_shown, back_same}
 use Rattle.hub_core.proofs.Hands.{hand_shown, hand_same, hand_agents_same}
-use Rattle.hub_core.specs.Kept.{close_agents}
-use Rattle.hub_core.proofs.Entering.{enter_shown, leave_shown}
+use Rattle.hub_core.specs.Kept.{close_agents, enter_agents, leave_agents, kept_owner_of}
+use Rattle.hub_core.proofs.Entering.{enter_shown, enter_agents_same, leave_shown, leave_agents_same}
+use Rattle.hub_core.proofs.Endings.{order_shown, order_same, see_shown, see_same}
 use Rattle.hub_core.proofs.Pushes.{push_shown}
 use Rattle.hub_core.proofs.Takes.{start_shown, take_shown}
 use Rattle.hub_core.proofs.Orders.{shows_in_order}
@@ -36,13 +37,14 @@ returns-in-Channel-clause-fits c = ok_both c.make_channel.result _ _ _ c.make_ch
 
 pub returns-in-Enter-clause-fits : goal.returns-in-Enter-clause-fits
 returns-in-Enter-clause-fits c = stepped _ _ _ _ c.args.step c.enter.result (action.Enter c.in-Enter.sender) c.in-Enter.is (λ f s.
-    along (λ gs es o. Stepped gs es f (action.Enter c.in-Enter.sender) c.args.step.memory_refused o) (ap (λ v. v.items) c.enter.ensures.agents) c.enter.ensures.ends c.enter.ensures.outcome
+    along (λ gs es o. Stepped gs es f (action.Enter c.in-Enter.sender) c.args.step.memory_refused o)
+    (c.enter.ensures.agents ∙ ap (enter_agents (kept_owner_of c.args.self.now.ends.items c.in-Enter.sender) c.args.self.now.agents.items) c.enter.ensures.outcome) c.enter.ensures.ends c.enter.ensures.outcome
     (enter_shown c.args.self.now.agents.items c.args.self.now.ends.items f c.in-Enter.sender c.args.step.memory_refused s))
 
 pub returns-in-Enter-clause-unchanged : goal.returns-in-Enter-clause-unchanged
 returns-in-Enter-clause-unchanged c = λ h.
     let nothing : changes_nothing c.enter.result (action.Enter c.in-Enter.sender) ≡ true = subst (λ a. changes_nothing c.enter.result a ≡ true) c.in-Enter.is h in (
-      ap (λ v. v.items) c.enter.ensures.agents,
+      c.enter.ensures.agents ∙ enter_agents_same (kept_owner_of c.args.self.now.ends.items c.in-Enter.sender) c.args.self.now.agents.items c.in-Enter.sender c.enter.result nothing,
       c.enter.ensures.ends
           ∙ enter_same c.args.self.now.ends.items c.in-Enter.sender _ (slice_get c.args.self.now.ends.items c.in-Enter.sender.end.0) refl (subst (λ o. changes_nothing o (action.Enter c.in-Enter.sender) ≡ true) c.enter.ensures.outcome nothing),
     )
@@ -55,13 +57,14 @@ returns-in-Push-clause-fits c = ok_both c.push.result _ _ _ c.push.ensures.outco
 
 pub returns-in-Leave-clause-fits : goal.returns-in-Leave-clause-fits
 returns-in-Leave-clause-fits c = stepped _ _ _ _ c.args.step c.leave.result (action.Leave c.in-Leave.sender) c.in-Leave.is (λ f s.
-    along (λ gs es o. Stepped gs es f (action.Leave c.in-Leave.sender) c.args.step.memory_refused o) (ap (λ v. v.items) c.leave.ensures.agents) c.leave.ensures.ends c.leave.ensures.outcome
+    along (λ gs es o. Stepped gs es f (action.Leave c.in-Leave.sender) c.args.step.memory_refused o)
+    (c.leave.ensures.agents ∙ ap (leave_agents (kept_owner_of c.args.self.now.ends.items c.in-Leave.sender) c.args.self.now.agents.items) c.leave.ensures.outcome) c.leave.ensures.ends c.leave.ensures.outcome
     (leave_shown c.args.self.now.agents.items c.args.self.now.ends.items f c.in-Leave.sender c.args.step.memory_refused s))
 
 pub returns-in-Leave-clause-unchanged : goal.returns-in-Leave-clause-unchanged
 returns-in-Leave-clause-unchanged c = λ h.
     let nothing : changes_nothing c.leave.result (action.Leave c.in-Leave.sender) ≡ true = subst (λ a. changes_nothing c.leave.result a ≡ true) c.in-Leave.is h in (
-      ap (λ v. v.items) c.leave.ensures.agents,
+      c.leave.ensures.agents ∙ leave_agents_same (kept_owner_of c.args.self.now.ends.items c.in-Leave.sender) c.args.self.now.agents.items c.in-Leave.sender c.leave.result nothing,
       c.leave.ensures.ends
           ∙ leave_same c.args.self.now.ends.items c.in-Leave.sender (slice_get c.args.self.now.ends.items c.in-Leave.sender.end.0) refl (subst (λ o. changes_nothing o (action.Leave c.in-Leave.sender) ≡ true) c.leave.ensures.outcome nothing),
     )
@@ -155,6 +158,31 @@ returns-in-Hand-clause-unchanged c = λ h.
           ∙ hand_same c.args.self.now.ends.items c.in-Hand.end c.in-Hand.agent _ (slice_get c.args.self.now.ends.items c.in-Hand.end.0) refl (subst (λ o. changes_nothing o (action.Hand c.in-Hand.end c.in-Hand.agent) ≡ true) c.hand.ensures.outcome nothing),
     )
 
+pub returns-in-Order-clause-fits : goal.returns-in-Order-clause-fits
+returns-in-Order-clause-fits c = stepped _ _ _ _ c.args.step c.order.result (action.Order c.in-Order.agent) c.in-Order.is (λ f s.
+    along (λ gs es o. Stepped gs es f (action.Order c.in-Order.agent) c.args.step.memory_refused o) c.order.ensures.agents (ap (λ v. v.items) c.order.ensures.ends) c.order.ensures.outcome
+    (order_shown c.args.self.now.agents.items c.args.self.now.ends.items f c.in-Order.agent c.args.step.memory_refused s))
+
+pub returns-in-Order-clause-unchanged : goal.returns-in-Order-clause-unchanged
+returns-in-Order-clause-unchanged c = λ h.
+    let nothing : changes_nothing c.order.result (action.Order c.in-Order.agent) ≡ true = subst (λ a. changes_nothing c.order.result a ≡ true) c.in-Order.is h in (
+      c.order.ensures.agents ∙ order_same c.args.self.now.agents.items c.in-Order.agent (subst (λ o. changes_nothing o (action.Order c.in-Order.agent) ≡ true) c.order.ensures.outcome nothing),
+      ap (λ v. v.items) c.order.ensures.ends,
+    )
+
+pub returns-in-See-clause-fits : goal.returns-in-See-clause-fits
+returns-in-See-clause-fits c = ok_both c.see.result _ _ _ c.see.ensures.outcome c.see.ensures.agents (λ o is leaves.
+    stepped _ _ _ _ c.args.step o (action.See c.in-See.agent) c.in-See.is (λ f s.
+    subst (λ es. Stepped c.see.new.self.agents.items es f (action.See c.in-See.agent) c.args.step.memory_refused o) (sym (ap (λ v. v.items) c.see.ensures.ends))
+    (see_shown c.args.self.now.agents.items c.see.new.self.agents.items c.args.self.now.ends.items f c.in-See.agent c.args.step.memory_refused o s is leaves)))
+
+pub returns-in-See-clause-unchanged : goal.returns-in-See-clause-unchanged
+returns-in-See-clause-unchanged c = ok_both c.see.result _ _ _ c.see.ensures.outcome c.see.ensures.agents (λ o is leaves. λ h.
+    let nothing : changes_nothing o (action.See c.in-See.agent) ≡ true = subst (λ a. changes_nothing o a ≡ true) c.in-See.is h in (
+      leaves ∙ see_same c.args.self.now.agents.items c.in-See.agent o nothing,
+      ap (λ v. v.items) c.see.ensures.ends,
+    ))
+
 pub returns-in-Adopt-clause-fits : goal.returns-in-Adopt-clause-fits
 returns-in-Adopt-clause-fits c = ok_both c.adopt.result _ _ _ (ok_all c.adopt.result _ _ c.adopt.ensures.outcome c.adopt.ensures.agents) c.adopt.ensures.ends (λ o is leaves.
     stepped _ _ _ _ c.args.step o (action.Adopt c.in-Adopt.end c.in-Adopt.agent) c.in-Adopt.is (λ f s.
@@ -163,7 +191,7 @@ returns-in-Adopt-clause-fits c = ok_both c.adopt.result _ _ _ (ok_all c.adopt.re
 pub returns-in-Adopt-clause-unchanged : goal.returns-in-Adopt-clause-unchanged
 returns-in-Adopt-clause-unchanged c = ok_both c.adopt.result _ _ _ (ok_all c.adopt.result _ _ c.adopt.ensures.outcome c.adopt.ensures.agents) c.adopt.ensures.ends (λ o is leaves. λ h.
     let nothing : changes_nothing o (action.Adopt c.in-Adopt.end c.in-Adopt.agent) ≡ true = subst (λ a. changes_nothing o a ≡ true) c.in-Adopt.is h in (
-      is.1 ∙ adopt_agents_same c.args.self.now.agents.items c.in-Adopt.end c.in-Adopt.agent (slice_get c.args.self.now.ends.items c.in-Adopt.end.0) o nothing,
+      is.1 ∙ adopt_agents_same c.args.self.now.ends.items c.args.self.now.agents.items c.in-Adopt.end c.in-Adopt.agent (slice_get c.args.self.now.ends.items c.in-Adopt.end.0) o nothing,
       leaves ∙ adopt_same c.args.self.now.ends.items c.in-Adopt.end c.in-Adopt.agent _ c.args.step.memory_refused (slice_get c.args.self.now.ends.items c.in-Adopt.end.0) refl (subst (λ p. changes_nothing p (action.Adopt c.in-Adopt.end c.in-Adopt.agent) ≡ true) is.0 nothing),
     ))
 
@@ -253,3 +281,9 @@ returns-in-Back-clause-in_order c = shows_in_order c.give_back.new.self
 
 pub returns-in-Hand-clause-in_order : goal.returns-in-Hand-clause-in_order
 returns-in-Hand-clause-in_order c = shows_in_order c.hand.new.self
+
+pub returns-in-Order-clause-in_order : goal.returns-in-Order-clause-in_order
+returns-in-Order-clause-in_order c = shows_in_order c.order.new.self
+
+pub returns-in-See-clause-in_order : goal.returns-in-See-clause-in_order
+returns-in-See-clause-in_order c = shows_in_order c.see.new.self

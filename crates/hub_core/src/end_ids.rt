@@ -1,0 +1,28 @@
+ghost use Rattle.std.specs.Prelude.{◌≡◌};
+
+use hub_envelope::EndId;
+use std::marker::Model;
+
+/// The numbers of some ends, in order.
+#[derive(Debug, Drop)]
+pub struct EndIds {
+    pub(crate) ends: Vec<EndId>,
+}
+
+impl Model for EndIds {
+    ghost use Rattle.std.specs.Prelude.{List};
+    ghost use Rattle.hub_envelope.specs.declared.ids.EndId.{EndId};
+
+    ghost Value = { List EndId };
+
+    ghost view = { λ e. e.ends.items };
+}
+
+impl EndIds {
+    /// The numbers as a slice.
+    pub fn as_slice(&self) -> &[EndId]
+        ensures { result.now ≡ self.now }
+    {
+        self.ends.as_slice()
+    }
+}

@@ -1,0 +1,141 @@
+ghost use Rattle.std.specs.Prelude.{◌≡◌, ◌++◌, ◌∷◌, [], length, slice_get, if◌then◌else◌, IfOk, OnOk, OnErr};
+ghost use Rattle.hub_core.specs.Kept.{kept_owner, kept_place, with_agent, kept_owner_of, change_owner, one_away, one_out, order_outcome_at, order_agents, see_outcome, see_agents, kept_ends_at};
+
+use crate::agent::Agent;
+use crate::end::Place;
+use crate::end_ids::EndIds;
+use crate::kind::Kind;
+use crate::line::Line;
+use crate::machine::Core;
+use crate::outcome::Outcome;
+use crate::sender::Sender;
+use hub_envelope::{AgentId, EndId, OutOfMemory};
+
+impl Core {
+    pub(crate) fn order(&mut self, agent: AgentId) -> Outcome
+        ensures outcome { result ≡ order_outcome_at (slice_get self.old.agents.items agent.0) }
+        ensures agents { self.new.agents.items ≡ order_agents agent.0 self.old.agents.items }
+        ensures ends { self.new.ends ≡ self.old.ends }
+    {
+        let Some(found) = self.agents.get_mut(agent.0 as usize) else {
+            return Outcome::NotNow;
+        };
+        found.is_ordered = true;
+        Outcome::Ordered
+    }
+
+    /// An agent looks whether it was ordered to end.
+    pub(crate) fn see(&mut self, agent: AgentId) -> Result<Outcome, OutOfMemory>
+        ensures outcome { let found = slice_get self.old.agents.items agent.0 in
+            IfOk result (λ o. o ≡ see_outcome agent self.old.ends.items found) }
+        ensures agents { let agents = self.old.agents.items in
+            IfOk result (λ o. self.new.agents.items ≡ see_agents agent.0 agents o) }
+        ensures err { OnErr result (self.new.agents.items ≡ self.old.agents.items) }
+        ensures ends { self.new.ends ≡ self.old.ends }
+    {
+        let Some(found) = self.agents.get(agent.0 as usize).copied() else {
+            return Ok(Outcome::NotNow);
+        };
+        if found.away != 0 {
+            return Ok(Outcome::NotNow);
+        }
+        if !found.is_ordered {
+            return Ok(Outcome::GoingOn);
+        }
+        let ends = self.ends_at(agent)?;
+        let is_running = false;
+        self.set_agent(
+            agent,
+            Some(Agent {
+                is_running,
+                ..found
+            }),
+        );
+        Ok(Outcome::Ending(ends))
+    }
+
+    /// The ends that an agent has, and those that have arrived at it.
+    fn ends_at(&self, agent: AgentId) -> Result<EndIds, OutOfMemory>
+        ensures { let ends = self.now.ends.items in
+            IfOk result (λ found. found ≡ kept_ends_at agent ends (length ends)) }
+    {
+        let mut ends = Vec::new(self.alloc);
+        for (number, end) in self.ends.iter().enumerate() {
+            add_where(&mut ends, end.place.is_at(agent), number)?;
+        }
+        Ok(EndIds { ends })
+    }
+
+    /// The agent, running or ending, whose poster a line has.
+    pub(crate) fn owner_of(&self, sender: Sender) -> Option<AgentId>
+        ensures { result ≡ kept_owner_of self.now.ends.items sender }
+    {
+        let end = self.ends.get(sender.end.0 as usize)?;
+        let line = end.lines.get(sender.line)?;
+        self.owner_by(end.kind, line)
+    }
+
+    /// The agent, running or ending, whose poster a line of an end of this kind has.
+    fn owner_by(&self, kind: Kind, line: Line) -> Option<AgentId>
+        ensures { result ≡ kept_owner self.now.ends.items kind line }
+    {
+        match kind {
+            Kind::Port(peer) => self.agent_with(peer),
+            Kind::Client | Kind::Worker => line.held_by,
+        }
+    }
+
+    /// The agent, running or ending, that has an end.
+    fn agent_with(&self, end: EndId) -> Option<AgentId>
+        ensures { result ≡ with_agent (kept_place self.now.ends.items end.0) }
+    {
+        match self.ends.get(end.0 as usize)?.place {
+            Place::With(agent) => Some(agent),
+            _ => None,
+        }
+    }
+
+    /// A poster of the agent came inside, or is being turned back.
+    pub(crate) fn count_away(&mut self, owner: Option<AgentId>)
+        ensures agents { self.new.agents.items
+            ≡ change_owner one_away owner self.old.agents.items }
+        ensures ends { self.new.ends ≡ self.old.ends }
+    {
+        let Some(agent) = owner else {
+            return;
+        };
+        let counted = self
+            .agents
+            .get(agent.0 as usize)
+            .map(|found| found.with_one_away());
+        self.set_agent(agent, counted);
+    }
+
+    /// A poster of the agent left.
+    pub(crate) fn count_out(&mut self, owner: Option<AgentId>)
+        ensures agents { self.new.agents.items
+            ≡ change_owner one_out owner self.old.agents.items }
+        ensures ends { self.new.ends ≡ self.old.ends }
+    {
+        let Some(agent) = owner else {
+            return;
+        };
+        let counted = self
+            .agents
+            .get(agent.0 as usize)
+            .map(|found| found.with_one_out());
+        self.set_agent(agent, counted);
+    }
+}
+
+/// Adds the number of an end where it is asked for.
+fn add_where(ends: &mut Vec<EndId>, is_asked: bool, number: usize) -> Result<(), OutOfMemory>
+    ensures { OnOk result (ends.new.items
+        ≡ ends.old.items ++ (if is_asked then record { 0 = number } ∷ [] else [])) }
+{
+    if is_asked {
+        let number = u32::try_from(number).map_err(|_| OutOfMemory)?;
+        ends.push(EndId(number))?;
+    }
+    Ok(())
+}
