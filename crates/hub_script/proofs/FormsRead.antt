@@ -23,7 +23,8 @@ use Rattle.hub_script.specs.declared.keyword.TheConstants.{KEYWORDS}
 use Rattle.hub_script.specs.declared.script_error.ScriptError.TheVariants.{Syntax, UnknownAction}
 use Rattle.hub_script.specs.Context.{has_twice, stands_in}
 use Rattle.hub_script.specs.Fields.{ScriptRead, field_count, number_in, text_in}
-use Rattle.hub_script.specs.Form.{agent_form, at_agent, body_in, cast_form, channel_form, event_form, event_of, form_by, form_with, kind_of, loaded_form, member_form, names_at, names_from, object_form, pair_of, post_form, send_form, shown_fields, transfer_in}
+use Rattle.hub_life.specs.Word.{event_of}
+use Rattle.hub_script.specs.Form.{agent_form, at_agent, body_in, cast_form, channel_form, event_form, form_by, form_with, kind_of, loaded_form, member_form, names_at, names_from, object_form, pair_of, post_form, send_form, shown_fields, transfer_in}
 use Rattle.hub_script.specs.Keyword.{keyword_of, word_of}
 use Rattle.hub_script.specs.Shown.{AreFields, AreTexts, HasForm, IsBody, IsNumber, IsText, IsTransfer, event_word, fields_of, kind_word, strings}
 use Rattle.hub_script.proofs.OtherFields.{no_other_field}

@@ -25,7 +25,8 @@ use Rattle.hub_script.specs.declared.keyword.Keyword.TheVariants.{Agent, Channel
 use Rattle.hub_script.specs.declared.script_error.ScriptError.{ScriptError}
 use Rattle.hub_script.specs.declared.script_error.ScriptError.TheVariants.{Syntax}
 use Rattle.hub_script.specs.Fields.{ScriptRead, field_count, number_in, small, text_in, value_in}
-use Rattle.hub_script.specs.Form.{agent_form, at_agent, body_in, both, cast_form, channel_form, event_form, event_of, form_by, form_with, kind_of, loaded_form, member_form, names_at, names_from, names_of, pair_in, pair_of, post_form, send_form, shown_fields, transfer_in}
+use Rattle.hub_life.specs.Word.{event_of}
+use Rattle.hub_script.specs.Form.{agent_form, at_agent, body_in, both, cast_form, channel_form, event_form, form_by, form_with, kind_of, loaded_form, member_form, names_at, names_from, names_of, pair_in, pair_of, post_form, send_form, shown_fields, transfer_in}
 use Rattle.hub_script.specs.Shown.{AreFields, HasForm, IsBody, IsNumber, IsText, IsTransfer, event_word, fields_of, kind_word, strings}
 
 -- ---- fields

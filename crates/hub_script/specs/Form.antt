@@ -8,8 +8,7 @@ use Rattle.serde_json.specs.Read.{read}
 use Rattle.hub_broadcast.specs.Origin.{origin_answer}
 use Rattle.hub_envelope.specs.Answer.{answer_to}
 use Rattle.hub_envelope.specs.declared.body.BodyError.{BodyError}
-use Rattle.hub_life.specs.declared.event.Event.{Event}
-use Rattle.hub_life.specs.declared.event.Event.TheVariants as life
+use Rattle.hub_life.specs.Word.{event_of}
 use Rattle.hub_text.specs.Reading.{◌>>=◌, some_or}
 use Rattle.hub_script.specs.declared.agent_kind.AgentKind.{AgentKind}
 use Rattle.hub_script.specs.declared.agent_kind.AgentKind.TheVariants.{Window, Worker}
@@ -120,18 +119,6 @@ cast_form d = do
 -- `{"at":A,"loaded":"queue"}`
 abbrev pub loaded_form : Data → ScriptRead ActionForm
 loaded_form d = text_in (codes "loaded") d >>= λ word. if bytes_eq word (codes "queue") then Ok action.Loaded else Err Syntax
-
--- the words of the events of a worker's life
-abbrev pub event_of : List ℕ → Option Event
-event_of word =
-    if bytes_eq word (codes "install") then Some life.Install
-    else (if bytes_eq word (codes "activate") then Some life.Activate
-    else (if bytes_eq word (codes "extend") then Some life.Extend
-    else (if bytes_eq word (codes "settle") then Some life.Settle
-    else (if bytes_eq word (codes "fail") then Some life.Fail
-    else (if bytes_eq word (codes "returned") then Some life.Returned
-    else (if bytes_eq word (codes "discard") then Some life.Discard
-    else (if bytes_eq word (codes "terminate") then Some life.Terminate else None)))))))
 
 -- `{"at":A,"event":W}`
 abbrev pub event_form : Data → ScriptRead ActionForm

@@ -1,7 +1,7 @@
 ghost use Rattle.std.specs.Prelude.{◌≡◌, ◌≤◌, IfOk};
 ghost use Rattle.hub_broadcast.specs.Origin.{origin_answer};
 ghost use Rattle.hub_envelope.specs.Answer.{answer_of};
-ghost use Rattle.hub_script.specs.Form.{agent_form, at_agent, body_in, cast_form, channel_form, event_form, event_of, form_of, form_with, kind_of, loaded_form, member_form, names_from, names_of, object_in, pair_of, post_form, send_form, shown_fields, text_form, transfer_in};
+ghost use Rattle.hub_script.specs.Form.{agent_form, at_agent, body_in, cast_form, channel_form, event_form, form_of, form_with, kind_of, loaded_form, member_form, names_from, names_of, object_in, pair_of, post_form, send_form, shown_fields, text_form, transfer_in};
 ghost use Rattle.hub_text.specs.Reading.{IsReadAs};
 ghost use Rattle.serde_json.specs.Data.{depth};
 ghost use Rattle.serde_json.specs.Read.{max_depth};
@@ -300,25 +300,8 @@ fn loaded_form(line: &Value) -> Result<ActionForm, ScriptError>
 fn event_form(line: &Value) -> Result<ActionForm, ScriptError>
     ensures { IsReadAs ScriptError.OutOfMemory (λ x. x) result (event_form (view line.now)) }
 {
-    match event_of(text_in(line, "event")?) {
+    match Event::named(text_in(line, "event")?) {
         Some(event) => Ok(ActionForm::Event { event }),
         None => Err(ScriptError::Syntax),
-    }
-}
-
-/// The event of a worker's life that the word names.
-fn event_of(word: &str) -> Option<Event>
-    ensures { result ≡ event_of word.now }
-{
-    match word {
-        "install" => Some(Event::Install),
-        "activate" => Some(Event::Activate),
-        "extend" => Some(Event::Extend),
-        "settle" => Some(Event::Settle),
-        "fail" => Some(Event::Fail),
-        "returned" => Some(Event::Returned),
-        "discard" => Some(Event::Discard),
-        "terminate" => Some(Event::Terminate),
-        _ => None,
     }
 }

@@ -26,6 +26,7 @@ use Rattle.messagehub.specs.declared.steps.step_line.Command.{Command}
 use Rattle.messagehub.specs.declared.steps.step_line.StepLine.{StepLine}
 use Rattle.messagehub.specs.Computation.{Computation, pair, pure, ask, step, ◌>>=◌}
 use Rattle.messagehub.specs.Performed.{ComputesAt, PerformsAt}
+use Rattle.messagehub.specs.Lives.{AllLives}
 use Rattle.messagehub.specs.Unfolding.{shown_step, sender_of, on_line, on_line_of, push, shown_push, enter, go_on, send_inside, send, post_listing, post_count, post_may, post, start_made, worker, start_worker, start_adopted, adopt, notice_line, tell_inside, tell, close_shown, close_on, close, close_each, close_ports, close_swept, sweep, core_steps}
 
 -- ---- computations in general
@@ -67,8 +68,8 @@ asked_then old new f next x y is did = chained old old new (ask f) next x y (ask
 -- ---- a step line of one step
 
 -- a step line whose command it is
-pub performed : {E : Type 0} → (old new : Core) (line : StepLine) (c : Command) (r : Result Shown E) → line.command ≡ c → IfOk r (λ shown. ComputesAt old new (core_steps line.memory_refused c) shown) → IfOk r (λ shown. PerformsAt old new line shown)
-performed old new line c r is did = subst (λ (command : Command). IfOk r (λ shown. ComputesAt old new (core_steps line.memory_refused command) shown)) (sym is) did
+pub performed : {E : Type 0} → (old new : Core) (lives : AllLives) (line : StepLine) (c : Command) (r : Result Shown E) → line.command ≡ c → IfOk r (λ shown. ComputesAt old new (core_steps lives line.memory_refused c) shown) → IfOk r (λ shown. PerformsAt old new lives line shown)
+performed old new lives line c r is did = subst (λ (command : Command). IfOk r (λ shown. ComputesAt old new (core_steps lives line.memory_refused command) shown)) (sym is) did
 
 pub step_shown : (old new : Core) (refused : Bool) (a : Action) (o : Outcome) → FitsAndShows old new (record { action = a; memory_refused = refused }) o → ComputesAt old new (shown_step refused a) (Answer o)
 step_shown old new refused a o fits = shown_as old new (step refused a) Answer o (stepped old new refused a o fits)

@@ -4,7 +4,7 @@ use Rattle.hub_envelope.specs.declared.ids.AgentId.{AgentId}
 use Rattle.hub_envelope.specs.declared.ids.EndId.{EndId}
 use Rattle.hub_envelope.specs.declared.envelope.Envelope.{Envelope}
 use Rattle.hub_envelope.specs.declared.limits.TheConstants.{MAX_PORTS}
-use Rattle.std.specs.Prelude.{nat_lt}
+use Rattle.std.specs.Prelude.{nat_lt, slice_get}
 use Rattle.hub_core.specs.declared.sender.Sender.{Sender}
 use Rattle.hub_core.specs.declared.step.Action.{Action}
 use Rattle.hub_core.specs.declared.step.Action.TheVariants as action
@@ -29,6 +29,7 @@ use Rattle.messagehub.specs.declared.steps.step_line.Command.TheVariants as comm
 use Rattle.messagehub.specs.declared.steps.step_line.StepLine.{StepLine}
 use Rattle.messagehub.specs.ShownText.{shown_line}
 use Rattle.messagehub.specs.Computation.{Computation, pair, pure, ask, step, ◌>>=◌}
+use Rattle.messagehub.specs.Lives.{AllLives, event_shown, lives_after}
 use Rattle.messagehub.specs.Unfolding.{shown_step, sender_of, on_line, on_line_of, IsPush, push, go_on, enter, send_inside, send, notice_line, tell_inside, tell, close_shown, close_on, close, close_each, close_ports, close_swept, sweep, post_listing, post_count, post_may, post, start_made, worker, start_where, start_worker, start_adopted, adopt, load_client, load, line_steps, core_steps}
 use Rattle.messagehub.specs.StepText.{Runs, OneText}
 
@@ -244,43 +245,45 @@ line_steps_agrees refused poster.Hop s = shown_step_agrees refused (action.Hop s
 line_steps_agrees refused poster.Back s = shown_step_agrees refused (action.Back s) refl
 line_steps_agrees refused (poster.Post ports body) s = post_agrees refused ports body s
 
-line_agrees : (refused : Bool) (c : Command) → Agrees (core_steps refused c)
-line_agrees refused command.Agent = shown_step_agrees refused action.Agent refl
-line_agrees refused (command.Channel a) = shown_step_agrees refused (action.Channel a) refl
-line_agrees refused (command.Client a) = shown_step_agrees refused (action.Client a) refl
-line_agrees refused (command.Worker a) = worker_agrees refused a
-line_agrees refused (command.Line e a) = shown_step_agrees refused (action.Line e a) refl
-line_agrees refused (command.At p c) = on_line_of_agrees p (line_steps refused c) (line_steps_agrees refused c)
-line_agrees refused (command.Start e) = shown_step_agrees refused (action.Start e) refl
-line_agrees refused (command.Loaded e) = load_agrees refused e
-line_agrees refused (command.Take e) = shown_step_agrees refused (action.Take e) refl
-line_agrees refused (command.Look e) = shown_step_agrees refused (action.Look e) refl
-line_agrees refused (command.Hand e a) = shown_step_agrees refused (action.Hand e a) refl
-line_agrees refused (command.Adopt e a) = adopt_agrees refused e a
-line_agrees refused (command.Close e) = close_agrees refused e
-line_agrees refused (command.Sweep e) = sweep_agrees refused e
-line_agrees refused (command.Order a) = shown_step_agrees refused (action.Order a) refl
-line_agrees refused (command.See a) = shown_step_agrees refused (action.See a) refl
+line_agrees : (lives : AllLives) (refused : Bool) (c : Command) → Agrees (core_steps lives refused c)
+line_agrees lives refused command.Agent = shown_step_agrees refused action.Agent refl
+line_agrees lives refused (command.Channel a) = shown_step_agrees refused (action.Channel a) refl
+line_agrees lives refused (command.Client a) = shown_step_agrees refused (action.Client a) refl
+line_agrees lives refused (command.Worker a) = worker_agrees refused a
+line_agrees lives refused (command.Line e a) = shown_step_agrees refused (action.Line e a) refl
+line_agrees lives refused (command.At p c) = on_line_of_agrees p (line_steps refused c) (line_steps_agrees refused c)
+line_agrees lives refused (command.Start e) = shown_step_agrees refused (action.Start e) refl
+line_agrees lives refused (command.Loaded e) = load_agrees refused e
+line_agrees lives refused (command.Take e) = shown_step_agrees refused (action.Take e) refl
+line_agrees lives refused (command.Look e) = shown_step_agrees refused (action.Look e) refl
+line_agrees lives refused (command.Hand e a) = shown_step_agrees refused (action.Hand e a) refl
+line_agrees lives refused (command.Adopt e a) = adopt_agrees refused e a
+line_agrees lives refused (command.Close e) = close_agrees refused e
+line_agrees lives refused (command.Sweep e) = sweep_agrees refused e
+line_agrees lives refused (command.Order a) = shown_step_agrees refused (action.Order a) refl
+line_agrees lives refused (command.See a) = shown_step_agrees refused (action.See a) refl
+line_agrees lives refused (command.Event a event) = pure_agrees (event_shown event (slice_get lives a.0))
 
 -- ---- all lines
 
 -- the history of a run begins with the pairs before it
-runs_on : (past : History) (lines : List StepLine) (text : List ℕ) (after : History) → Runs past lines text after → (rest : History) × (after ≡ past ++ rest)
-runs_on past [] text after r = ([], r.1 ∙ sym (append-nil past))
-runs_on past (l ∷ lines) text after r =
-    let back = runs_on (past ++ r.0) lines r.2 after r.5 in
+runs_on : (past : History) (lives : AllLives) (lines : List StepLine) (text : List ℕ) (after : History) (last : AllLives) → Runs past lives lines text after last → (rest : History) × (after ≡ past ++ rest)
+runs_on past lives [] text after last r = ([], r.1 ∙ sym (append-nil past))
+runs_on past lives (l ∷ lines) text after last r =
+    let back = runs_on (past ++ r.0) (lives_after l.command r.1 lives) lines r.2 after last r.5 in
     (r.0 ++ back.0, back.1 ∙ append_assoc past r.0 back.0)
 
-texts_agree : (h k : History) (lines : List StepLine) (text words : List ℕ) (after end : History) → AreSamePairs h k → Runs h lines text after → Runs k lines words end → Whole after end → text ≡ words
-texts_agree h k [] text words after end past r s w = r.0 ∙ sym s.0
-texts_agree h k (l ∷ lines) text words after end past r s w =
-    let first = runs_on (h ++ r.0) lines r.2 after r.5 in
-    let second = runs_on (k ++ s.0) lines s.2 end s.5 in
+texts_agree : (h k : History) (lives : AllLives) (lines : List StepLine) (text words : List ℕ) (after end : History) (last final : AllLives) → AreSamePairs h k → Runs h lives lines text after last → Runs k lives lines words end final → Whole after end → text ≡ words
+texts_agree h k lives [] text words after end last final past r s w = r.0 ∙ sym s.0
+texts_agree h k lives (l ∷ lines) text words after end last final past r s w =
+    let first = runs_on (h ++ r.0) (lives_after l.command r.1 lives) lines r.2 after last r.5 in
+    let second = runs_on (k ++ s.0) (lives_after l.command s.1 lives) lines s.2 end final s.5 in
     let moved = whole_as (first.1 ∙ append_assoc h r.0 first.0) (second.1 ∙ append_assoc k s.0 second.0) w in
-    let agree = line_agrees l.memory_refused l.command h k first.0 second.0 r.0 s.0 r.1 s.1 past r.3.unfolds s.3.unfolds moved in
-    let rest : r.2 ≡ s.2 = texts_agree (h ++ r.0) (k ++ s.0) lines r.2 s.2 after end (same_joined h k r.0 s.0 past agree.pairs) r.5 s.5 w in
+    let agree = line_agrees lives l.memory_refused l.command h k first.0 second.0 r.0 s.0 r.1 s.1 past r.3.unfolds s.3.unfolds moved in
+    let runs = subst (λ o. Runs (k ++ s.0) (lives_after l.command o lives) lines s.2 end final) (sym agree.value) s.5 in
+    let rest : r.2 ≡ s.2 = texts_agree (h ++ r.0) (k ++ s.0) (lives_after l.command r.1 lives) lines r.2 s.2 after end last final (same_joined h k r.0 s.0 past agree.pairs) r.5 runs w in
     r.4 ∙ ap (λ o. shown_line o ++ r.2) agree.value ∙ ap (λ t. shown_line s.1 ++ t) rest ∙ sym s.4
 
 pub one_text : OneText
 one_text lines first second a b =
-    texts_agree [] [] lines first second a.history b.history tt a.runs b.runs (record { left = a.legal; right = b.legal; left_order = a.in_order; right_order = b.in_order })
+    texts_agree [] [] [] lines first second a.history b.history a.lives b.lives tt a.runs b.runs (record { left = a.legal; right = b.legal; left_order = a.in_order; right_order = b.in_order })

@@ -14,6 +14,7 @@ pub mod OutOfMemory
 pub mod Engine
 pub mod OutcomeText
 pub mod ShownText
+pub mod Lives
 pub mod Computation
 pub mod Unfolding
 pub mod Performed

@@ -7,6 +7,7 @@ use Rattle.hub_core.specs.Shows.{Shows}
 use Rattle.messagehub.specs.declared.steps.shown.Shown.{Shown}
 use Rattle.messagehub.specs.declared.steps.step_line.StepLine.{StepLine}
 use Rattle.messagehub.specs.Computation.{Computation}
+use Rattle.messagehub.specs.Lives.{AllLives}
 use Rattle.messagehub.specs.Unfolding.{core_steps}
 
 -- the pairs and the value are those of the computation after the history, and each pair fits
@@ -18,10 +19,10 @@ pub record Computes {X : Type 0} (steps : Computation X) (past more : History) (
 abbrev pub ComputesAt : {X : Type 0} → Core → Core → Computation X → X → Type 0
 ComputesAt old new steps value = (past : History) → Shows old past → (more : History) × Computes steps past more value × Shows new (past ++ more)
 
--- the pairs and what is shown are those that the line unfolds to after the history
-abbrev pub Performs : History → StepLine → History → Shown → Type 0
-Performs past line more shown = Computes (core_steps line.memory_refused line.command) past more shown
+-- the pairs and what is shown are those that the line unfolds to after the history, with these lives
+abbrev pub Performs : History → AllLives → StepLine → History → Shown → Type 0
+Performs past lives line more shown = Computes (core_steps lives line.memory_refused line.command) past more shown
 
 -- after every history that the core showed, it shows one that is longer by a line
-abbrev pub PerformsAt : Core → Core → StepLine → Shown → Type 0
-PerformsAt old new line shown = ComputesAt old new (core_steps line.memory_refused line.command) shown
+abbrev pub PerformsAt : Core → Core → AllLives → StepLine → Shown → Type 0
+PerformsAt old new lives line shown = ComputesAt old new (core_steps lives line.memory_refused line.command) shown

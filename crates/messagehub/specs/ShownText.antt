@@ -1,8 +1,26 @@
 -- The lines that step lines are answered with.
-use Rattle.std.specs.Prelude.{ℕ, List, codes}
+use Rattle.std.specs.Prelude.{ℕ, List, ◌++◌, codes}
 use Rattle.messagehub.specs.declared.steps.shown.Shown.{Shown}
-use Rattle.messagehub.specs.declared.steps.shown.Shown.TheVariants.{Answer, Moving, Doomed, DoneNoMemory, DoneMoving}
+use Rattle.messagehub.specs.declared.steps.shown.Shown.TheVariants.{Answer, Moving, Doomed, DoneNoMemory, DoneMoving, State, Refused}
 use Rattle.messagehub.specs.OutcomeText.{outcome_line}
+use Rattle.hub_life.specs.declared.state.State as life
+use Rattle.hub_life.specs.declared.state.State.TheVariants as state
+use Rattle.hub_life.specs.declared.life_error.LifeError.{LifeError}
+use Rattle.hub_life.specs.declared.life_error.LifeError.TheVariants.{WrongState, TooManyExtensions, NoExtension}
+
+abbrev pub state_text : life.State → List ℕ
+state_text state.Parsed = codes "parsed"
+state_text state.Installing = codes "installing"
+state_text state.Installed = codes "installed"
+state_text state.Activating = codes "activating"
+state_text state.Activated = codes "activated"
+state_text state.Redundant = codes "redundant"
+
+-- the line of an event that a life refused
+abbrev pub refused_line : LifeError → List ℕ
+refused_line WrongState = codes "wrong-state\n"
+refused_line TooManyExtensions = codes "too-many-extensions\n"
+refused_line NoExtension = codes "no-extension\n"
 
 -- the line of what is shown, with its LF
 unfoldable pub shown_line : Shown → List ℕ
@@ -11,3 +29,5 @@ shown_line Moving = codes "moving\n"
 shown_line Doomed = codes "doomed\n"
 shown_line DoneNoMemory = codes "done no-memory\n"
 shown_line DoneMoving = codes "done moving\n"
+shown_line (State s) = codes "state " ++ state_text s ++ codes "\n"
+shown_line (Refused e) = refused_line e

@@ -6,6 +6,8 @@ use Rattle.hub_envelope.specs.declared.body.BodyError.{BodyError}
 use Rattle.hub_envelope.specs.declared.ids.AgentId.{AgentId}
 use Rattle.hub_envelope.specs.declared.ids.EndId.{EndId}
 use Rattle.hub_envelope.specs.declared.ids.LineId.{LineId}
+use Rattle.hub_life.specs.declared.event.Event.{Event}
+use Rattle.hub_life.specs.Word.{event_of}
 use Rattle.hub_text.specs.EndList.{ends_of}
 use Rattle.hub_text.specs.Number as text
 use Rattle.hub_text.specs.Reading.{◌>>=◌, some_or}
@@ -17,7 +19,7 @@ use Rattle.messagehub.specs.declared.steps.step_line.Command.{Command}
 use Rattle.messagehub.specs.declared.steps.step_line.Command.TheVariants as command
 use Rattle.messagehub.specs.declared.steps.step_line.StepLine.{StepLine}
 use Rattle.messagehub.specs.declared.steps.step_line.StepLineError.{StepLineError}
-use Rattle.messagehub.specs.declared.steps.step_line.StepLineError.TheVariants.{BadUtf8, UnknownStep, BadWords, BadNumber, BadPoster, BadList}
+use Rattle.messagehub.specs.declared.steps.step_line.StepLineError.TheVariants.{BadUtf8, UnknownStep, BadWords, BadNumber, BadPoster, BadList, BadEvent}
 use Rattle.messagehub.specs.BodyKind.{body_kind}
 
 -- what is read, or what is wrong in a step line
@@ -94,6 +96,16 @@ end_and_agent_after rest = do
   agent ← some_or BadNumber (number_of word)
   Ok (record { 0 = end }, agent_of agent)
 
+-- an agent's number and the word of an event of its life are the rest of the step line
+unfoldable pub agent_and_event_after : Option (List ℕ) → Read (AgentId × Event)
+agent_and_event_after rest = do
+  text ← some_or BadWords rest
+  parts ← word_before text
+  word ← only_word (Some parts.1)
+  agent ← some_or BadNumber (number_of parts.0)
+  event ← some_or BadEvent (event_of word)
+  Ok (agent_of agent, event)
+
 -- the poster that is the rest of the step line
 abbrev pub poster_after : Option (List ℕ) → Read Poster
 poster_after rest = only_word rest >>= poster_of
@@ -143,7 +155,8 @@ command_of name rest =
     else (if bytes_eq name (codes "sweep") then number_after rest >>= (λ n. Ok (command.Sweep (record { 0 = n })))
     else (if bytes_eq name (codes "order") then number_after rest >>= (λ n. Ok (command.Order (agent_of n)))
     else (if bytes_eq name (codes "see") then number_after rest >>= (λ n. Ok (command.See (agent_of n)))
-    else poster_command_of name rest))))))))))))))
+    else (if bytes_eq name (codes "event") then agent_and_event_after rest >>= (λ x. Ok (command.Event x.0 x.1))
+    else poster_command_of name rest)))))))))))))))
 
 abbrev pub command_cut : List ℕ → Option (List ℕ × List ℕ) → Read Command
 command_cut text None = command_of text None

@@ -6,19 +6,21 @@ use Rattle.hub_core.specs.Laws.{InOrder}
 use Rattle.messagehub.specs.declared.steps.step_line.StepLine.{StepLine}
 use Rattle.messagehub.specs.declared.steps.shown.Shown.{Shown}
 use Rattle.messagehub.specs.ShownText.{shown_line}
+use Rattle.messagehub.specs.Lives.{AllLives, lives_after}
 use Rattle.messagehub.specs.Performed.{Performs}
 
--- the lines, run in order after a history, are answered with the text, a line for each, and
--- leave the history `after`
-abbrev pub Runs : History → List StepLine → List ℕ → History → Type 0
-Runs past [] text after = (text ≡ []) × (after ≡ past)
-Runs past (line ∷ lines) text after =
-    (more : History) × (shown : Shown) × (rest : List ℕ) × Performs past line more shown × (text ≡ shown_line shown ++ rest) × Runs (past ++ more) lines rest after
+-- the lines, run in order after a history and with these lives, are answered with the text, a line for
+-- each, and leave the history `after` and the lives `last`
+abbrev pub Runs : History → AllLives → List StepLine → List ℕ → History → AllLives → Type 0
+Runs past lives [] text after last = (text ≡ []) × (after ≡ past) × (last ≡ lives)
+Runs past lives (line ∷ lines) text after last =
+    (more : History) × (shown : Shown) × (rest : List ℕ) × Performs past lives line more shown × (text ≡ shown_line shown ++ rest) × Runs (past ++ more) (lives_after line.command shown lives) lines rest after last
 
 -- the text that the lines are answered with, by a legal history of their core steps, which is in order in each queue
 pub record IsStepText (lines : List StepLine) (text : List ℕ) : Type 0 where
   pub history : History
-  pub runs : Runs [] lines text history
+  pub lives : AllLives
+  pub runs : Runs [] [] lines text history lives
   pub legal : Legal history
   pub in_order : InOrder history
 

@@ -1,5 +1,5 @@
 -- The core steps that a step line unfolds to, and what it shows.
-use Rattle.std.specs.Prelude.{◌≡◌, ℕ, zero, suc, Bool, true, false, ◌&&◌, List, [], ◌∷◌, length, nat_lt, if◌then◌else◌, Option, Some, None, option_map}
+use Rattle.std.specs.Prelude.{◌≡◌, ℕ, zero, suc, Bool, true, false, ◌&&◌, List, [], ◌∷◌, length, nat_lt, if◌then◌else◌, Option, Some, None, option_map, slice_get}
 use Rattle.hub_envelope.specs.declared.ids.AgentId.{AgentId}
 use Rattle.hub_envelope.specs.declared.ids.EndId.{EndId}
 use Rattle.hub_envelope.specs.declared.envelope.Envelope.{Envelope}
@@ -25,6 +25,7 @@ use Rattle.messagehub.specs.declared.steps.step_line.PosterCommand.{PosterComman
 use Rattle.messagehub.specs.declared.steps.step_line.PosterCommand.TheVariants as poster
 use Rattle.messagehub.specs.declared.steps.step_line.Command.{Command}
 use Rattle.messagehub.specs.declared.steps.step_line.Command.TheVariants as command
+use Rattle.messagehub.specs.Lives.{AllLives, event_shown}
 use Rattle.messagehub.specs.Computation.{Computation, pure, ask, step, ◌>>=◌}
 
 abbrev pub poster_command_takes_memory : PosterCommand → Bool
@@ -53,6 +54,7 @@ command_takes_memory (command.Close e) = true
 command_takes_memory (command.Sweep e) = true
 command_takes_memory (command.Order a) = false
 command_takes_memory (command.See a) = true
+command_takes_memory (command.Event a event) = false
 
 -- a step whose outcome is shown
 abbrev pub shown_step : Bool → Action → Computation Shown
@@ -276,21 +278,22 @@ line_steps refused poster.Hop s = shown_step refused (action.Hop s)
 line_steps refused poster.Back s = shown_step refused (action.Back s)
 line_steps refused (poster.Post ports body) s = post refused ports body s
 
--- what a command unfolds to, with memory refused or not
-abbrev pub core_steps : Bool → Command → Computation Shown
-core_steps refused command.Agent = shown_step refused action.Agent
-core_steps refused (command.Channel a) = shown_step refused (action.Channel a)
-core_steps refused (command.Client a) = shown_step refused (action.Client a)
-core_steps refused (command.Worker a) = worker refused a
-core_steps refused (command.Line e a) = shown_step refused (action.Line e a)
-core_steps refused (command.At p c) = on_line_of p (line_steps refused c)
-core_steps refused (command.Start e) = shown_step refused (action.Start e)
-core_steps refused (command.Loaded e) = load refused e
-core_steps refused (command.Take e) = shown_step refused (action.Take e)
-core_steps refused (command.Look e) = shown_step refused (action.Look e)
-core_steps refused (command.Hand e a) = shown_step refused (action.Hand e a)
-core_steps refused (command.Adopt e a) = adopt refused e a
-core_steps refused (command.Close e) = close refused e
-core_steps refused (command.Sweep e) = sweep refused e
-core_steps refused (command.Order a) = shown_step refused (action.Order a)
-core_steps refused (command.See a) = shown_step refused (action.See a)
+-- what a command unfolds to, with memory refused or not. An event takes no step, and shows what the lives so far say.
+abbrev pub core_steps : AllLives → Bool → Command → Computation Shown
+core_steps lives refused command.Agent = shown_step refused action.Agent
+core_steps lives refused (command.Channel a) = shown_step refused (action.Channel a)
+core_steps lives refused (command.Client a) = shown_step refused (action.Client a)
+core_steps lives refused (command.Worker a) = worker refused a
+core_steps lives refused (command.Line e a) = shown_step refused (action.Line e a)
+core_steps lives refused (command.At p c) = on_line_of p (line_steps refused c)
+core_steps lives refused (command.Start e) = shown_step refused (action.Start e)
+core_steps lives refused (command.Loaded e) = load refused e
+core_steps lives refused (command.Take e) = shown_step refused (action.Take e)
+core_steps lives refused (command.Look e) = shown_step refused (action.Look e)
+core_steps lives refused (command.Hand e a) = shown_step refused (action.Hand e a)
+core_steps lives refused (command.Adopt e a) = adopt refused e a
+core_steps lives refused (command.Close e) = close refused e
+core_steps lives refused (command.Sweep e) = sweep refused e
+core_steps lives refused (command.Order a) = shown_step refused (action.Order a)
+core_steps lives refused (command.See a) = shown_step refused (action.See a)
+core_steps lives refused (command.Event a event) = pure (event_shown event (slice_get lives a.0))

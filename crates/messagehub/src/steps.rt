@@ -4,6 +4,7 @@ ghost use Rattle.std.specs.Prelude.{◌≡◌, ◌++◌, OnOk, OnErr};
 ghost use Rattle.messagehub.specs.Counted.{inner_reader, inner_writer, failed_writes};
 ghost use Rattle.messagehub.specs.Engine.{AnswersInput, CountsDevice, Writes};
 ghost use Rattle.messagehub.specs.Failures.{CountsFailure};
+ghost use Rattle.messagehub.specs.Lives.{lives_after};
 ghost use Rattle.messagehub.specs.Output.{IsRunOutput, IsStepsOutput};
 ghost use Rattle.messagehub.specs.Performed.{PerformsAt};
 ghost use Rattle.messagehub.specs.ShownText.{shown_line};
@@ -11,7 +12,9 @@ ghost use Rattle.messagehub.specs.StepText.{OneText};
 ghost use Rattle.messagehub.specs.declared.steps.shown.Shown.{Shown};
 
 mod closing;
+mod ending;
 mod entering;
+mod lives;
 mod perform;
 mod posting;
 mod read_step_line;
@@ -28,6 +31,7 @@ use crate::engine::{Engine, run_engine};
 use crate::output::{PIECE, end_out_of_memory, end_unread, write_kept};
 use crate::status::ExitStatus;
 use hub_core::{Core, OutOfMemory};
+use lives::Lives;
 use perform::perform;
 use read_steps::read_steps;
 use std::alloc::Global;
@@ -92,9 +96,11 @@ fn run_lines<W: Write>(
     ensures failures { CountsFailure result (failed_writes writer.old) (failed_writes writer.new) }
 {
     let mut core = Core::new(alloc);
+    let mut lives = Lives::new(alloc);
+    let mut text = String::new(alloc);
     let mut kept = Vec::new(alloc);
     for line in lines {
-        if answer_line(alloc, &mut core, line, &mut kept).is_err() {
+        if answer_line(&mut core, &mut lives, line, &mut text, &mut kept).is_err() {
             write_kept(writer, &mut kept)?;
             return end_out_of_memory(writer);
         }
@@ -107,20 +113,23 @@ fn run_lines<W: Write>(
     Ok(ExitStatus::Success)
 }
 
-/// Runs a step line and keeps its outcome line. An `Err` keeps nothing.
+/// Runs a step line and keeps its outcome line, which is written to `text` first. An `Err` keeps
+/// nothing.
 fn answer_line(
-    alloc: Global,
     core: &mut Core,
+    lives: &mut Lives,
     line: StepLine,
+    text: &mut String,
     kept: &mut Vec<u8>,
 ) -> Result<(), OutOfMemory>
-    ensures ok { OnOk result ((shown : Shown) × PerformsAt core.old core.new line shown
+    ensures ok { OnOk result ((shown : Shown) × PerformsAt core.old core.new lives.old line shown
+        × (lives.new ≡ lives_after line.command shown lives.old)
         × (kept.new.items ≡ kept.old.items ++ shown_line shown)) }
     ensures err { OnErr result (kept.new.items ≡ kept.old.items) }
 {
-    let shown = perform(core, line)?;
-    let mut text = String::new(alloc);
-    write_shown(&mut text, &shown)?;
+    let shown = perform(core, lives, line)?;
+    text.clear();
+    write_shown(text, &shown)?;
     kept.extend_from_slice(text.as_bytes())?;
     Ok(())
 }

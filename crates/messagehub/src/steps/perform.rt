@@ -2,21 +2,27 @@ ghost use Rattle.std.specs.Prelude.{◌≡◌, IfOk, OnErr, true};
 ghost use Rattle.hub_core.specs.Facts.{facts};
 ghost use Rattle.hub_core.specs.History.{History};
 ghost use Rattle.hub_core.specs.Shows.{Shows};
+ghost use Rattle.messagehub.specs.Lives.{lives_after};
 ghost use Rattle.messagehub.specs.Performed.{ComputesAt, PerformsAt};
 ghost use Rattle.messagehub.specs.Unfolding.{command_takes_memory, line_steps, on_line_of, poster_command_takes_memory, sender_of};
 
 use super::closing::{close, sweep};
+use super::ending::see;
 use super::entering::show_step;
+use super::lives::Lives;
 use super::posting::post;
 use super::shown::Shown;
-use super::starting::{adopt, load, make_worker};
+use super::starting::{adopt, load, make_agent, make_worker};
 use super::step_line::{Command, Poster, PosterCommand, StepLine};
 use hub_core::{Action, Core, Kind, MAX_LINES, OutOfMemory, Outcome, Sender};
 use hub_envelope::{EndId, LineId};
 
 /// Takes the core's steps of a line, and gives what the line shows.
-pub fn perform(core: &mut Core, line: StepLine) -> Result<Shown, OutOfMemory>
-    ensures performed { IfOk result (λ shown. PerformsAt core.old core.new line shown) }
+pub fn perform(core: &mut Core, lives: &mut Lives, line: StepLine) -> Result<Shown, OutOfMemory>
+    ensures performed { IfOk result (λ shown.
+        PerformsAt core.old core.new lives.old line shown) }
+    ensures lives { IfOk result (λ shown.
+        lives.new ≡ lives_after line.command shown lives.old) }
     // Steps that take no memory are never refused for want of it, with the mark or without.
     ensures memory { OnErr result (command_takes_memory line.command ≡ true) }
 {
@@ -25,10 +31,10 @@ pub fn perform(core: &mut Core, line: StepLine) -> Result<Shown, OutOfMemory>
         memory_refused,
     } = line;
     match command {
-        Command::Agent => show_step(core, Action::Agent, memory_refused),
+        Command::Agent => make_agent(core, lives, memory_refused),
         Command::Channel(agent) => show_step(core, Action::Channel(agent), memory_refused),
         Command::Client(agent) => show_step(core, Action::Client(agent), memory_refused),
-        Command::Worker(agent) => make_worker(core, agent, memory_refused),
+        Command::Worker(agent) => make_worker(core, lives, agent, memory_refused),
         Command::Line(end, agent) => show_step(core, Action::Line(end, agent), memory_refused),
         Command::At(poster, command) => perform_at(core, poster, command, memory_refused),
         Command::Start(end) => show_step(core, Action::Start(end), memory_refused),
@@ -40,7 +46,8 @@ pub fn perform(core: &mut Core, line: StepLine) -> Result<Shown, OutOfMemory>
         Command::Close(end) => close(core, end, memory_refused),
         Command::Sweep(end) => sweep(core, end, memory_refused),
         Command::Order(agent) => show_step(core, Action::Order(agent), memory_refused),
-        Command::See(agent) => show_step(core, Action::See(agent), memory_refused),
+        Command::See(agent) => see(core, lives, agent, memory_refused),
+        Command::Event(agent, event) => Ok(lives.event(agent, event)),
     }
 }
 

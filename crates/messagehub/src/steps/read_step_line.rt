@@ -1,9 +1,10 @@
 ghost use Rattle.std.specs.Prelude.{◌≡◌, option_map};
 ghost use Rattle.hub_text.specs.Reading.{IsReadAs};
-ghost use Rattle.messagehub.specs.StepLine.{agent_of, agent_after, command_in, command_of, end_and_agent_after, line_of, list_of, mark, number_after, number_of, only_word, poster_after, poster_command_of, poster_named, poster_of, posting_after, step_line_of, word_before};
+ghost use Rattle.messagehub.specs.StepLine.{agent_of, agent_after, agent_and_event_after, command_in, command_of, end_and_agent_after, line_of, list_of, mark, number_after, number_of, only_word, poster_after, poster_command_of, poster_named, poster_of, posting_after, step_line_of, word_before};
 
 use super::step_line::{Command, Poster, PosterCommand, StepLine, StepLineError};
 use hub_envelope::{AgentId, Body, EndId, LineId};
+use hub_life::Event;
 use hub_text::{EndList, next_word, number_of as number_up_to};
 use std::alloc::Global;
 
@@ -77,6 +78,10 @@ fn command_of(alloc: Global, name: &str, rest: Option<&str>) -> Result<Command, 
         "sweep" => Command::Sweep(EndId(number_after(rest)?)),
         "order" => Command::Order(agent_of(number_after(rest)?)),
         "see" => Command::See(agent_of(number_after(rest)?)),
+        "event" => {
+            let (agent, event) = agent_and_event_after(rest)?;
+            Command::Event(agent, event)
+        }
         _ => return poster_command_of(alloc, name, rest),
     })
 }
@@ -157,6 +162,25 @@ fn end_and_agent_after(rest: Option<&str>) -> Result<(EndId, AgentId), StepLineE
     match (number_of(end), number_of(agent)) {
         (Some(end), Some(agent)) => Ok((EndId(end), agent_of(agent))),
         _ => Err(StepLineError::BadNumber),
+    }
+}
+
+#[tactic(auto, unfolding(crate::specs::StepLine::agent_and_event_after))]
+fn agent_and_event_after(rest: Option<&str>) -> Result<(AgentId, Event), StepLineError>
+    ensures { IsReadAs StepLineError.OutOfMemory (λ x. x) result
+        (agent_and_event_after (option_map (λ x. x.now) rest.entry)) }
+{
+    let Some(text) = rest else {
+        return Err(StepLineError::BadWords);
+    };
+    let (agent, rest) = word_before(text)?;
+    let word = only_word(Some(rest))?;
+    let Some(agent) = number_of(agent) else {
+        return Err(StepLineError::BadNumber);
+    };
+    match Event::named(word) {
+        Some(event) => Ok((agent_of(agent), event)),
+        None => Err(StepLineError::BadEvent),
     }
 }
 

@@ -1,4 +1,5 @@
 use hub_core::Outcome;
+use hub_life::{LifeError, State};
 
 /// What a step line shows.
 #[derive(Debug, Drop)]
@@ -13,4 +14,8 @@ pub enum Shown {
     DoneNoMemory,
     /// A port was closed, and its line stood at a retired queue still after `MAX_HOPS` hops.
     DoneMoving,
+    /// The state of a worker agent after an event.
+    State(State),
+    /// The life of a worker agent refused an event.
+    Refused(LifeError),
 }

@@ -1,24 +1,50 @@
 ghost use Rattle.std.specs.Prelude.{◌≡◌, IfOk, IsOk, OnOk};
+ghost use Rattle.messagehub.specs.Lives.{lives_after};
 ghost use Rattle.messagehub.specs.Performed.{ComputesAt};
-ghost use Rattle.messagehub.specs.Unfolding.{adopt, load, start_worker, worker};
+ghost use Rattle.messagehub.specs.Unfolding.{adopt, load, shown_step, start_worker, worker};
 
 use super::entering::{show_step, take_step};
+use super::lives::Lives;
 use super::shown::Shown;
+use super::step_line::Command;
 use hub_core::{Action, Core, Kind, OutOfMemory, Outcome};
 use hub_envelope::{AgentId, EndId};
 
-/// Makes the queue of a worker, and starts it.
+/// Makes an agent.
+#[tactic(auto, using(crate::proofs::Computing::shown_as))]
+pub fn make_agent(
+    core: &mut Core,
+    lives: &mut Lives,
+    memory_refused: bool,
+) -> Result<Shown, OutOfMemory>
+    ensures shown { IfOk result (λ shown.
+        ComputesAt core.old core.new (shown_step memory_refused Action.Agent) shown) }
+    ensures lives { IfOk result (λ shown.
+        lives.new ≡ lives_after Command.Agent shown lives.old) }
+{
+    let answer = take_step(core, Action::Agent, memory_refused)?;
+    if matches!(answer, Outcome::Agent(_)) {
+        lives.add_agent()?;
+    }
+    Ok(Shown::Answer(answer))
+}
+
+/// Makes the queue of a worker, and starts it. The agent has a life from then on.
 pub fn make_worker(
     core: &mut Core,
+    lives: &mut Lives,
     agent: AgentId,
     memory_refused: bool,
 ) -> Result<Shown, OutOfMemory>
-    ensures { IfOk result (λ shown.
+    ensures shown { IfOk result (λ shown.
         ComputesAt core.old core.new (worker memory_refused agent) shown) }
+    ensures lives { IfOk result (λ shown.
+        lives.new ≡ lives_after (Command.Worker agent) shown lives.old) }
 {
     match take_step(core, Action::Worker(agent), memory_refused)? {
         Outcome::End(end) => {
             take_step(core, Action::Start(end), memory_refused)?;
+            lives.begin(agent);
             Ok(Shown::Answer(Outcome::End(end)))
         }
         answer => Ok(Shown::Answer(answer)),

@@ -1,6 +1,7 @@
 ghost use Rattle.std.specs.Prelude.{◌≡◌, option_map};
 
 use hub_envelope::{AgentId, Body, BodyError, EndId, LineId};
+use hub_life::Event;
 use hub_text::EndList;
 use std::alloc::{AllocError, AllocFailed};
 
@@ -49,7 +50,10 @@ pub enum Command {
     /// Sweep, and the closing of each end that what was discarded names.
     Sweep(EndId),
     Order(AgentId),
+    /// See, and the termination of the life of a worker agent that is found ending.
     See(AgentId),
+    /// No step: an event of the life of a worker agent.
+    Event(AgentId, Event),
 }
 
 /// What a step line asks for, and whether memory is refused in its steps: the mark `!`.
@@ -70,6 +74,7 @@ pub enum StepLineError {
     BadNumber,
     BadPoster,
     BadList,
+    BadEvent,
     NotJson,
     NotWhole,
     TooDeep,
@@ -92,6 +97,7 @@ impl StepLineError {
             StepLineError::BadNumber => Some("BadNumber"),
             StepLineError::BadPoster => Some("BadPoster"),
             StepLineError::BadList => Some("BadList"),
+            StepLineError::BadEvent => Some("BadEvent"),
             StepLineError::NotJson => Some("NotJson"),
             StepLineError::NotWhole => Some("NotWhole"),
             StepLineError::TooDeep => Some("TooDeep"),

@@ -1,10 +1,11 @@
 ghost use Rattle.std.specs.Prelude.{◌≡◌, ◌++◌, OnOk, string_bytes};
 ghost use Rattle.messagehub.specs.OutcomeText.{discarded_line, ending_line, got_line, listed_name, names_text, numbers_text, outcome_line, ports_text};
-ghost use Rattle.messagehub.specs.ShownText.{shown_line};
+ghost use Rattle.messagehub.specs.ShownText.{refused_line, shown_line, state_text};
 
 use super::shown::Shown;
 use hub_core::Outcome;
 use hub_envelope::{EndId, Envelope};
+use hub_life::{LifeError, State};
 use hub_text::EndListText;
 use std::alloc::AllocError;
 
@@ -19,6 +20,42 @@ pub fn write_shown(text: &mut String, shown: &Shown) -> Result<(), AllocError>
         Shown::Doomed => text.push_str("doomed\n"),
         Shown::DoneNoMemory => text.push_str("done no-memory\n"),
         Shown::DoneMoving => text.push_str("done moving\n"),
+        Shown::State(state) => write_state(text, *state),
+        Shown::Refused(error) => text.push_str(refused_line(*error)),
+    }
+}
+
+/// Writes the line of a worker's state.
+#[tactic(auto, unfolding(crate::specs::ShownText::shown_line))]
+fn write_state(text: &mut String, state: State) -> Result<(), AllocError>
+    ensures { OnOk result (string_bytes text.new
+        ≡ string_bytes text.old ++ shown_line (Shown.State state)) }
+{
+    let word = state_text(state);
+    writeln!(text, "state {word}")
+}
+
+fn state_text(state: State) -> &'static str
+    ensures { result.now ≡ state_text state }
+{
+    match state {
+        State::Parsed => "parsed",
+        State::Installing => "installing",
+        State::Installed => "installed",
+        State::Activating => "activating",
+        State::Activated => "activated",
+        State::Redundant => "redundant",
+    }
+}
+
+/// The line of an event that a life refused.
+fn refused_line(error: LifeError) -> &'static str
+    ensures { result.now ≡ refused_line error }
+{
+    match error {
+        LifeError::WrongState => "wrong-state\n",
+        LifeError::TooManyExtensions => "too-many-extensions\n",
+        LifeError::NoExtension => "no-extension\n",
     }
 }
 

@@ -54,6 +54,37 @@ fn runs_orders_to_end(rt: HostRuntime) {
 }
 
 #[test]
+fn runs_events_of_worker_agents(rt: HostRuntime) {
+    let rows: [(&[u8], &[u8]); 3] = [
+        // An agent has a life from its first worker's queue on.
+        (
+            b"agent -\nevent 0 install\n!worker 0\nevent 0 install\nworker 0\nevent 0 install\n\
+                event 0 extend\nevent 0 returned\nevent 0 fail\nevent 0 activate\nevent 0 settle\n",
+            b"agent 0\nnot-now\nno-memory\nnot-now\nend 0\nstate installing\n\
+                state installing\nstate installing\nstate redundant\nwrong-state\nwrong-state\n",
+        ),
+        // It keeps that life with a second queue.
+        (
+            b"agent -\nagent -\nworker 0\nevent 0 install\nhand 0 1\nworker 0\n\
+                event 0 settle\nevent 0 returned\nevent 1 install\n",
+            b"agent 0\nagent 1\nend 0\nstate installing\nhanded\nend 1\nno-extension\n\
+                state installed\nnot-now\n",
+        ),
+        // The life is terminated where the agent is first found ending, and not again.
+        (
+            b"agent -\nworker 0\norder 0\nevent 0 install\nsee 0\nsee 0\nevent 0 install\n\
+                agent -\nworker 1\norder 1\nsee 1\nevent 1 install\nsee 1\nevent 1 returned\n",
+            b"agent 0\nend 0\nordered\nstate installing\nending 0\nending 0\nwrong-state\n\
+                agent 1\nend 1\nordered\nending 1\nstate installing\nending 1\n\
+                state installed\n",
+        ),
+    ];
+    for (input, output) in rows {
+        expect_written(&rt, Mode::Steps, input, output, 0);
+    }
+}
+
+#[test]
 fn runs_the_queues_of_clients_and_workers(rt: HostRuntime) {
     let rows: [(&[u8], &[u8]); 3] = [
         // A worker's queue is started as it is made, a client's when its document is parsed.
@@ -105,7 +136,7 @@ fn runs_two_hundred_posts_and_takes(rt: HostRuntime) -> Result<(), Fail> {
 
 #[test]
 fn tells_the_first_bad_line_alone(rt: HostRuntime) {
-    let rows: [(&[u8], &[u8]); 53] = [
+    let rows: [(&[u8], &[u8]); 58] = [
         (b"fly 0", b"line 1: UnknownStep\n"),
         (b"fly \xff", b"line 1: BadUtf8\n"),
         (b"agent -\n\xff\nfly", b"line 2: BadUtf8\n"),
@@ -136,6 +167,11 @@ fn tells_the_first_bad_line_alone(rt: HostRuntime) {
         (b"loaded 0/0", b"line 1: BadNumber\n"),
         (b"order", b"line 1: BadWords\n"),
         (b"see 0/0", b"line 1: BadNumber\n"),
+        (b"event 0", b"line 1: BadWords\n"),
+        (b"event 0 install now", b"line 1: BadWords\n"),
+        (b"event x fly", b"line 1: BadNumber\n"),
+        (b"event 0 fly", b"line 1: BadEvent\n"),
+        (b"event 0 Install", b"line 1: BadEvent\n"),
         (b"hop x", b"line 1: BadPoster\n"),
         (b"take ", b"line 1: BadNumber\n"),
         (b"take 4294967296", b"line 1: BadNumber\n"),

@@ -5,8 +5,8 @@ use Rattle.messagehub.specs.Performed.{ComputesAt}
 use Rattle.messagehub.proofs.Computing.{made_and_started}
 use Rattle.messagehub.proofs.steps.starting.make_worker.Goals as goal
 
-pub returns-in_ok-take_step-in-End : goal.returns-in_ok-take_step-in-End
-returns-in_ok-take_step-in-End c =
+pub returns-in_ok-take_step-in-End-clause-shown : goal.returns-in_ok-take_step-in-End-clause-shown
+returns-in_ok-take_step-in-End-clause-shown c =
     let refused = c.args.memory_refused in
     let old = c.args.core.now in
     let first = c.take_step.new.core in
