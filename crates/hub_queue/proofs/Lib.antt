@@ -1,5 +1,7 @@
 pub mod Below
+pub mod Chains
 pub mod Hopping
+pub mod InTurn
 pub mod Lending
 pub mod NewPlaces
 pub mod Rights

@@ -1,5 +1,5 @@
 -- How a queue comes into being with its gate.
-use Rattle.std.proofs.Common.{◌≡◌, ℕ, zero, suc, ◌<◌, ◌≤◌, List, [], ◌∷◌, ◌++◌, map, length, refl, sym, ap, ◌∙◌, subst, inl, inr, ⊎_elim, arith, length-append, get_or, replicate}
+use Rattle.std.proofs.Common.{◌≡◌, ℕ, zero, suc, ◌<◌, ◌≤◌, Bool, List, [], ◌∷◌, ◌++◌, map, length, refl, sym, ap, ◌∙◌, subst, inl, inr, ⊎_elim, arith, length-append, get_or, replicate}
 use Rattle.std.proofs.lemmas.List.{map-append}
 use Rattle.atomic_blocks.specs.Laid.{WebId}
 use Rattle.hub_envelope.specs.declared.envelope.Envelope.{Envelope}
@@ -10,7 +10,7 @@ use Rattle.hub_queue.specs.declared.pass_view.TakeView.{TakeView}
 use Rattle.hub_queue.specs.declared.pass_view.PassView.{PassView}
 use Rattle.hub_queue.specs.declared.pass_view.PassView.TheVariants.{Takes}
 use Rattle.hub_queue.specs.Opening.{MayCut, new_right, new_rights, new_take, cut_so_far, IsOpenPlace}
-use Rattle.hub_queue.specs.Places.{CountsTaken, tags_of, HasTags}
+use Rattle.hub_queue.specs.Places.{CountsTaken, tags_of, HasTags, KnowsBy}
 use Rattle.hub_queue.specs.Seats.{LineSeat, tag_of, take_in}
 
 -- the end and epoch that a proof picks are those of the call
@@ -31,7 +31,7 @@ cut_named e k (suc n) some = refl
 
 -- the taker's pass and the keeper of a gate that was opened are those of a place
 pub place_holds : (web : WebId) (e k n : ℕ) (w : PassView) (rights : List LineSeat) (keeper : KeeperSeat LineSeat) (entries : List (EntrySeat LineSeat)) → 0 < n → n ≤ MAX_LINES → w ≡ Takes (cut_so_far e k n) → rights ≡ new_rights web e k n → IsOpened tag_of rights keeper entries
-    → (w ≡ Takes (take_in w)) × HasTags web (take_in w) keeper × IsOpenPlace e k n (record { queue = web; at = take_in w; keeper = keeper }) entries
+    → (w ≡ Takes (take_in w)) × HasTags web (take_in w) keeper × KnowsBy keeper.at.collected (take_in w) × IsOpenPlace e k n (record { queue = web; at = take_in w; keeper = keeper }) entries
 place_holds web e k n w rights keeper entries some few is rights_are opened =
     let view : take_in w ≡ new_take e k n = ap take_in is ∙ cut_named e k n some in
     let lines : (take_in w).lines ≡ n = ap (λ (t : TakeView). t.lines) view in
@@ -41,6 +41,7 @@ place_holds web e k n w rights keeper entries some few is rights_are opened =
         tags = ap (λ k. k.tags) opened_now.keeper_is ∙ tags_are web e k n ∙ ap (tags_of web) (sym lines);
         few = subst (λ (m : ℕ). m ≤ MAX_LINES) (sym lines) few;
       },
+      subst (λ (b : Bool). KnowsBy b (take_in w)) (sym (ap (λ k. k.collected) opened_now.keeper_is)) (ap (λ (t : TakeView). t.known) view),
       record { at = view; keeper = opened_now.keeper_is; entries_are = opened_now.entries_are },
     )
 

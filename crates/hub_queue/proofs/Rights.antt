@@ -1,8 +1,9 @@
 -- The rights of all lines of a queue, and what the taker knows once it has taken in their passes.
-use Rattle.std.proofs.Common.{◌≡◌, ℕ, zero, suc, ◌<◌, List, [], ◌∷◌, ◌++◌, map, length, get_or, refl, sym, ap, ◌∙◌, arith, length-append, Some}
+use Rattle.std.proofs.Common.{◌≡◌, ℕ, zero, suc, ◌<◌, ◌≤◌, List, [], ◌∷◌, ◌++◌, map, length, get_or, refl, sym, ap, ◌∙◌, subst, arith, length-append, Some}
 use Rattle.std.specs.Prelude.{slice_get}
 use Rattle.std.proofs.lemmas.List.{map-append}
 use Rattle.atomic_blocks.specs.Laid.{WebId}
+use Rattle.hub_core.specs.declared.limits.TheConstants.{MAX_LINES}
 use Rattle.hub_gate.specs.GateSeats.{KeeperSeat}
 use Rattle.hub_gate.proofs.Got.{some_is, got_there, got-map, len-map}
 use Rattle.hub_queue.specs.declared.pass_view.PutView.{PutView}
@@ -10,9 +11,9 @@ use Rattle.hub_queue.specs.declared.pass_view.TakeView.{TakeView}
 use Rattle.hub_queue.specs.declared.pass_view.PassView.{PassView}
 use Rattle.hub_queue.specs.declared.pass_view.PassView.TheVariants.{Takes, Puts}
 use Rattle.hub_queue.specs.PassSteps.{taken_in}
-use Rattle.hub_queue.specs.Places.{tags_of, HasTags}
+use Rattle.hub_queue.specs.Places.{tags_of, HasTags, KnowsAll}
 use Rattle.hub_queue.specs.Seats.{LineSeat, tag_of}
-use Rattle.hub_queue.specs.Settling.{knowing, KnowsAll}
+use Rattle.hub_queue.specs.Settling.{knowing}
 use Rattle.hub_queue.proofs.Below.{parts_snoc, many_below, at_below}
 
 many_tags : (web : WebId) (n : ℕ) → length (tags_of web n) ≡ n
@@ -27,6 +28,10 @@ tags_by_count web at keeper rights has is =
     let all : map tag_of rights ≡ tags_of web at.lines = is ∙ has.tags in
     let many : at.lines ≡ length rights = sym (many_tags web at.lines) ∙ sym (ap length all) ∙ len-map tag_of rights in
     all ∙ ap (tags_of web) many
+
+-- the tags stay while neither they nor the number of lines change
+pub tags_stay : (web : WebId) (t t' : TakeView) (k k' : KeeperSeat LineSeat) → t'.lines ≡ t.lines → k'.at.tags ≡ k.at.tags → HasTags web t k → HasTags web t' k'
+tags_stay web t t' k k' lines tags has = record { tags = tags ∙ has.tags ∙ ap (tags_of web) (sym lines); few = subst (λ (n : ℕ). n ≤ MAX_LINES) (sym lines) has.few }
 
 -- the right of the last line, and those of the lines before it
 pub last_tag : (web : WebId) (rs : List LineSeat) (r : LineSeat) (all : List LineSeat) → all ≡ rs ++ r ∷ [] → map tag_of all ≡ tags_of web (length all) → (map tag_of rs ≡ tags_of web (length rs)) × (tag_of r ≡ web.0 ∷ web.1 ∷ length rs ∷ [])

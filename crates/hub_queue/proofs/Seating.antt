@@ -1,4 +1,4 @@
--- The posters of a mailbox that was just opened.
+-- The posters of a queue that was just opened.
 use Rattle.std.proofs.Common.{◌≡◌, ℕ, suc, ◌+◌, ◌<◌, List, [], ◌∷◌, ◌++◌, map, length, reverse, get_or, refl, sym, ap, ◌∙◌, subst, arith, append_assoc, Some}
 use Rattle.std.specs.Prelude.{slice_get}
 use Rattle.std.proofs.lemmas.List.{reverse-append}
@@ -8,10 +8,10 @@ use Rattle.hub_envelope.specs.declared.ids.EndId.{EndId}
 use Rattle.hub_gate.specs.GateRule.{Tags, new_line, keeper_at}
 use Rattle.hub_gate.specs.GateSeats.{EntrySeat, first_entries}
 use Rattle.hub_gate.proofs.Got.{some_is, got_or, got-map, len-map}
-use Rattle.hub_queue.specs.Mailboxes.{new_stand, new_stands, IsOpenMailbox}
+use Rattle.hub_queue.specs.Mailboxes.{new_stand, new_stands, IsNewPlace, IsOpenMailbox}
 use Rattle.hub_queue.specs.Opening.{new_right, new_rights, IsOpenPlace}
 use Rattle.hub_queue.specs.Places.{PlaceSeat}
-use Rattle.hub_queue.specs.Standing.{StandSeat, IsStand}
+use Rattle.hub_queue.specs.Standing.{StandSeat, IsStand, IsUnused}
 use Rattle.hub_queue.specs.Seats.{LineSeat, tag_of}
 use Rattle.hub_queue.proofs.Below.{many_below, at_below}
 use Rattle.hub_queue.proofs.NewPlaces.{tags_are, as_many}
@@ -24,25 +24,25 @@ abbrev entry_of : TableId → Tags → List LineSeat → ℕ → EntrySeat LineS
 entry_of gate tags rights i = record { gate = gate; at = new_line i (get_or tags i []) (slice_get rights i) }
 
 -- the entries of a new place are those of its lines, in order
-pub entry_at : (end : EndId) (lines : ℕ) (p : PlaceSeat) (entries : List (EntrySeat LineSeat)) → IsOpenPlace end.0 0 lines p entries → (i : ℕ) → i < length entries → slice_get entries i ≡ Some (new_stand p.keeper.gate p.queue end i).entry
-entry_at end lines p entries opened i low =
-    let rights : List LineSeat = new_rights p.queue end.0 0 lines in
+pub entry_at : (end : EndId) (epoch lines : ℕ) (p : PlaceSeat) (entries : List (EntrySeat LineSeat)) → IsOpenPlace end.0 epoch lines p entries → (i : ℕ) → i < length entries → slice_get entries i ≡ Some (new_stand p.keeper.gate p.queue end epoch i).entry
+entry_at end epoch lines p entries opened i low =
+    let rights : List LineSeat = new_rights p.queue end.0 epoch lines in
     let tags : Tags = map tag_of rights in
-    let many : length rights ≡ lines = as_many p.queue end.0 0 lines in
+    let many : length rights ≡ lines = as_many p.queue end.0 epoch lines in
     let same_count : length entries ≡ length rights = ap length opened.entries_are ∙ many_below (entry_of p.keeper.gate tags rights) (λ n. first_entries p.keeper.gate tags rights n) refl (λ n. refl) (length rights) in
-    let own : slice_get rights i ≡ Some (new_right p.queue end.0 0 i) = right_at p.queue end.0 0 lines i (omega arith) in
+    let own : slice_get rights i ≡ Some (new_right p.queue end.0 epoch i) = right_at p.queue end.0 epoch lines i (omega arith) in
     let longer = len-map tag_of rights in
-    let tagged : slice_get tags i ≡ Some (tag_of (new_right p.queue end.0 0 i)) = got-map tag_of rights i _ own in
-    let tag_is : get_or tags i [] ≡ tag_of (new_right p.queue end.0 0 i) = some_is _ _ (sym (got_or tags i [] (omega arith)) ∙ tagged) in
+    let tagged : slice_get tags i ≡ Some (tag_of (new_right p.queue end.0 epoch i)) = got-map tag_of rights i _ own in
+    let tag_is : get_or tags i [] ≡ tag_of (new_right p.queue end.0 epoch i) = some_is _ _ (sym (got_or tags i [] (omega arith)) ∙ tagged) in
     ap (λ (l : List (EntrySeat LineSeat)). slice_get l i) opened.entries_are
     ∙ at_below (entry_of p.keeper.gate tags rights) (λ n. first_entries p.keeper.gate tags rights n) refl (λ n. refl) (length rights) i (omega arith)
     ∙ (λ j. Some (record { gate = p.keeper.gate; at = new_line i (tag_is j) (own j) }))
 
 -- as many entries as lines
-pub many_entries : (end : EndId) (lines : ℕ) (p : PlaceSeat) (entries : List (EntrySeat LineSeat)) → IsOpenPlace end.0 0 lines p entries → length entries ≡ lines
-many_entries end lines p entries opened =
-    let rights : List LineSeat = new_rights p.queue end.0 0 lines in
-    ap length opened.entries_are ∙ many_below (entry_of p.keeper.gate (map tag_of rights) rights) (λ n. first_entries p.keeper.gate (map tag_of rights) rights n) refl (λ n. refl) (length rights) ∙ as_many p.queue end.0 0 lines
+pub many_entries : (end : EndId) (epoch lines : ℕ) (p : PlaceSeat) (entries : List (EntrySeat LineSeat)) → IsOpenPlace end.0 epoch lines p entries → length entries ≡ lines
+many_entries end epoch lines p entries opened =
+    let rights : List LineSeat = new_rights p.queue end.0 epoch lines in
+    ap length opened.entries_are ∙ many_below (entry_of p.keeper.gate (map tag_of rights) rights) (λ n. first_entries p.keeper.gate (map tag_of rights) rights n) refl (λ n. refl) (length rights) ∙ as_many p.queue end.0 epoch lines
 
 -- what is popped off the list that was turned round is the next of the list
 pub next_is : {A : Type 0} (all done before left : List A) (x : A) → all ≡ done ++ reverse before → before ≡ left ++ x ∷ [] → (all ≡ (done ++ x ∷ []) ++ reverse left) × (slice_get all (length done) ≡ Some x)
@@ -56,24 +56,35 @@ next_is {A = A} all done before left x is last =
     here (z ∷ xs) y ys = here xs y ys
 
 -- the first lines of an end, and one more
-pub stands_more : (gate : TableId) (web : WebId) (end : EndId) (line : ℕ) → new_stands gate web end (line + 1) ≡ new_stands gate web end line ++ new_stand gate web end line ∷ []
+pub stands_more : (gate : TableId) (web : WebId) (end : EndId) (line : ℕ) → new_stands gate web end (line + 1) ≡ new_stands gate web end line ++ new_stand gate web end 0 line ∷ []
 stands_more gate web end line = let e : line + 1 ≡ suc line = omega arith in ap (new_stands gate web end) e
 
--- a line that has just got its entry stands at the queue
-pub stand_holds : (gate : TableId) (web : WebId) (end : EndId) (line : ℕ) (entry : EntrySeat LineSeat) → entry ≡ (new_stand gate web end line).entry → IsStand (record { name = record { end = end; epoch = 0; line = record { 0 = line } }; entry = entry })
-stand_holds gate web end line entry is = subst (λ (x : EntrySeat LineSeat). IsStand (record { name = record { end = end; epoch = 0; line = record { 0 = line } }; entry = x })) (sym is) (record {
-  home = refl;
-  name = record { end = refl; epoch = refl; line = refl };
-  line = refl;
-})
+-- a line with this entry, at a queue of this epoch
+abbrev pub stand_of : EndId → ℕ → ℕ → EntrySeat LineSeat → StandSeat
+stand_of end epoch line entry = record { name = record { end = end; epoch = epoch; line = record { 0 = line } }; entry = entry }
 
-pub mailbox_opened : (end : EndId) (lines : ℕ) (p : PlaceSeat) (entries : List (EntrySeat LineSeat)) (posters : List StandSeat) → IsOpenPlace end.0 0 lines p entries → posters ≡ new_stands p.keeper.gate p.queue end p.at.lines → IsOpenMailbox end lines (record { end = end.0; epoch = 0; places = p ∷ [] }) posters
+-- a line that has just got its entry stands at the queue, and has put nothing
+pub stand_holds : (gate : TableId) (web : WebId) (end : EndId) (epoch line : ℕ) (entry : EntrySeat LineSeat) → entry ≡ (new_stand gate web end epoch line).entry → IsStand (stand_of end epoch line entry) × IsUnused (stand_of end epoch line entry)
+stand_holds gate web end epoch line entry is = subst (λ (x : EntrySeat LineSeat). IsStand (stand_of end epoch line x) × IsUnused (stand_of end epoch line x)) (sym is) (
+  record {
+    home = refl;
+    name = record { end = refl; epoch = refl; line = refl };
+    line = refl;
+  },
+  record { put = refl; enters = refl },
+)
+
+-- the queue is new
+pub new_place : (e k n : ℕ) (p : PlaceSeat) (entries : List (EntrySeat LineSeat)) → IsOpenPlace e k n p entries → IsNewPlace e k n p
+new_place e k n p entries opened = record {
+  at = opened.at;
+  keeper = opened.keeper ∙ (λ i. keeper_at (tags_are p.queue e k n i) (new_rights p.queue e k n) (as_many p.queue e k n i));
+}
+
+pub mailbox_opened : (end : EndId) (lines : ℕ) (p : PlaceSeat) (entries : List (EntrySeat LineSeat)) (posters : List StandSeat) → IsOpenPlace end.0 0 lines p entries → posters ≡ new_stands p.keeper.gate p.queue end p.at.lines → IsOpenMailbox end lines (record { end = end.0; epoch = 0; retired = []; newest = p }) posters
 mailbox_opened end lines p entries posters opened posters_are =
-    let same : p.at.lines ≡ lines = ap (λ t. t.lines) opened.at in
-    let rights : List LineSeat = new_rights p.queue end.0 0 lines in record {
-      place = p;
+    let same : p.at.lines ≡ lines = ap (λ t. t.lines) opened.at in record {
       taker_is = refl;
-      at = opened.at;
-      keeper = opened.keeper ∙ (λ i. keeper_at (tags_are p.queue end.0 0 lines i) rights (as_many p.queue end.0 0 lines i));
+      newest = new_place end.0 0 lines p entries opened;
       posters_are = posters_are ∙ ap (new_stands p.keeper.gate p.queue end) same;
     }

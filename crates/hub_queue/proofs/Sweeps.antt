@@ -1,62 +1,91 @@
--- What the looks and the takes of a sweep come to.
-use Rattle.std.proofs.Common.{◌≡◌, ℕ, ◌<◌, Bool, true, false, List, [], ◌++◌, refl, sym, ap, ◌∙◌, subst, arith, append-nil}
-use Rattle.std.specs.Prelude.{nat_lt}
-use Rattle.std.proofs.lemmas.Bool.Decides.{nat_tests}
+-- What the looks and the takes at one queue come to.
+use Rattle.std.proofs.Common.{◌≡◌, ℕ, Bool, true, false, List, [], ◌++◌, refl, sym, ap, ◌∙◌, subst, append-nil}
+use Rattle.std.specs.Prelude.{None}
 use Rattle.hub_envelope.specs.declared.envelope.Envelope.{Envelope}
 use Rattle.hub_core.specs.Sender.{by}
-use Rattle.hub_gate.specs.GatePlays.{has_shut}
-use Rattle.std.proofs.lemmas.Bool.{or_right}
-use Rattle.hub_queue.specs.Graves.{IsGrave, IsHeldUp, TakesMore, Settles}
-use Rattle.hub_queue.specs.Places.{PlaceSeat}
-use Rattle.hub_queue.specs.Settling.{knowing, KnowsAll, looked, IsSettling, got_all, HoldsNothing}
-use Rattle.hub_queue.specs.Sweeping.{IsSettled}
+use Rattle.hub_gate.specs.GateSeats.{KeeperSeat}
+use Rattle.hub_queue.specs.declared.pass_view.TakeView.{TakeView}
+use Rattle.hub_queue.specs.PassSteps.{got_more, IsPopped, AccountsFor}
+use Rattle.hub_queue.specs.Places.{PlaceSeat, KnowsAll, KnowsBy, IsShut, SameGate, TakesMore, IsSettled}
+use Rattle.hub_queue.specs.Seats.{LineSeat}
+use Rattle.hub_queue.specs.Settling.{looked, IsSettling, IsPlacePop, got_all, HoldsNothing}
 
-positive : (n : ℕ) → 0 < n → nat_lt 0 n ≡ true
-positive n h = grind (arith, nat_tests)
+-- what a pass knows of its lines stays while envelopes are taken
+pub knows_got : (b : Bool) (t : TakeView) (x : Envelope) → KnowsBy b t → KnowsBy b (got_more t x)
+knows_got true t x knows = knows
+knows_got false t x knows = knows
 
--- a gate that was closed is shut
-pub shut_by_closed : (settled : Bool) (p : PlaceSeat) → IsGrave settled p → has_shut p.keeper.at ≡ true
-shut_by_closed settled p grave = or_right (nat_lt 0 p.keeper.at.retires) (nat_lt 0 p.keeper.at.closes) (positive p.keeper.at.closes grave.closed)
+-- a pop takes in no pass
+pub knows_pop : (b : Bool) (old new : TakeView) (x : Envelope) → (new ≡ got_more old x) × IsPopped old x → KnowsBy b old → KnowsBy b new
+knows_pop b old new x did knows = subst (KnowsBy b) (sym did.0) (knows_got b old x knows)
 
-pub none_known : (settled : Bool) (p : PlaceSeat) → settled ≡ false → IsGrave settled p → (p.keeper.at.collected ≡ false) × (p.at.known ≡ [])
-none_known settled p is grave = let now = subst (λ (b : Bool). IsGrave b p) is grave in (now.collected, now.known)
+pub knows_all_got : (b : Bool) (t : TakeView) (more : List Envelope) → KnowsBy b t → KnowsBy b (got_all t more)
+knows_all_got true t more knows = knows
+knows_all_got false t more knows = knows
 
--- what is settled already stays so
-pub settled_already : (settled : Bool) (p : PlaceSeat) → settled ≡ true → IsGrave settled p → Settles p p true
-settled_already settled p is grave = (refl, refl, refl, subst (λ (b : Bool). IsGrave b p) is grave)
+-- the gate is shut after a look as before
+pub shut_looked : (old new : PlaceSeat) (settled : Bool) → IsSettling old new settled → IsShut old → IsShut new
+shut_looked old new true did shut = subst IsShut (sym did.2) shut
+shut_looked old new false did shut = subst IsShut (sym did.1) shut
 
-pub settles : (settled : Bool) (old new : PlaceSeat) (result : Bool) → settled ≡ false → IsGrave settled old → IsSettling old new result → Settles old new result
-settles settled old new true is grave did =
-    let after : PlaceSeat = record { queue = old.queue; at = knowing old.at did.1; keeper = looked old.keeper did.0 true } in
-    let all : KnowsAll after.at = subst (λ (p : PlaceSeat). KnowsAll p.at) did.2 did.3 in
-    let kept : IsGrave true after = record { closed = grave.closed; collected = refl; known = all } in
-    subst (λ (p : PlaceSeat). Settles old p true) (sym did.2) (refl, refl, refl, kept)
-settles settled old new false is grave did =
-    let now = subst (λ (b : Bool). IsGrave b old) is grave in
-    let after : PlaceSeat = record { queue = old.queue; at = old.at; keeper = looked old.keeper did.0 old.keeper.at.collected } in
-    let found : 0 < after.keeper.at.found = subst (λ (p : PlaceSeat). 0 < p.keeper.at.found) did.1 did.2 in
-    let kept : IsGrave false after = record { closed = now.closed; collected = now.collected; known = now.known } in
-    let held : IsHeldUp old after = record { queue = refl; at = refl; looks = refl; found = found } in
-    subst (λ (p : PlaceSeat). Settles old p false) (sym did.1) (held, kept)
+-- the gate of a queue whose keeper is this
+gate_of : (old new : PlaceSeat) (keeper : KeeperSeat LineSeat) → new.keeper ≡ keeper → SameGate old (record { queue = old.queue; at = old.at; keeper = keeper }) → SameGate old new
+gate_of old new keeper is same = record {
+  gate = ap (λ (k : KeeperSeat LineSeat). k.gate) is ∙ same.gate;
+  enables = ap (λ (k : KeeperSeat LineSeat). k.at.enables) is ∙ same.enables;
+  retires = ap (λ (k : KeeperSeat LineSeat). k.at.retires) is ∙ same.retires;
+  closes = ap (λ (k : KeeperSeat LineSeat). k.at.closes) is ∙ same.closes;
+}
 
-module _ (old mid new : PlaceSeat) (more : List Envelope) (before : Settles old mid true) (did : new ≡ record { queue = mid.queue; at = got_all mid.at more; keeper = mid.keeper }) where
-  -- what a sweep took of the queue
+-- a look takes nothing
+pub look_takes : (old new : PlaceSeat) → IsSettling old new true → TakesMore old new [] × (new.keeper.at.collected ≡ true) × KnowsAll new.at
+look_takes old new did = (
+  record {
+    queue = ap (λ (p : PlaceSeat). p.queue) did.2;
+    same_gate = gate_of old new (looked old.keeper did.0 true) (ap (λ (p : PlaceSeat). p.keeper) did.2) (record { gate = refl; enables = refl; retires = refl; closes = refl });
+    end = ap (λ (p : PlaceSeat). p.at.end) did.2;
+    epoch = ap (λ (p : PlaceSeat). p.at.epoch) did.2;
+    lines = ap (λ (p : PlaceSeat). p.at.lines) did.2;
+    got = ap (λ (p : PlaceSeat). p.at.got) did.2 ∙ sym (append-nil old.at.got);
+  },
+  ap (λ (p : PlaceSeat). p.keeper.at.collected) did.2,
+  did.3,
+)
+
+-- where all rights are in hand and the queue holds nothing, everything that was put was taken
+pub is_settled : (p : PlaceSeat) → p.keeper.at.collected ≡ true → KnowsAll p.at → AccountsFor p.at [] → IsSettled p
+is_settled p collected knows nothing = record {
+  collected = collected;
+  each = λ line low.
+      let known = knows line low in
+      let all = nothing known.0 known.1 known.2 in
+      (known.0, known.1, known.2, known.3, ap (λ (l : ℕ). by l p.at.got) (sym known.3) ∙ ap (by known.1.line) (sym (append-nil p.at.got)) ∙ all);
+}
+
+-- a look that settles, and then a pop of none
+pub leaves : (old mid new : PlaceSeat) → IsSettling old mid true → IsPlacePop mid new None → TakesMore old new [] × IsSettled new
+leaves old mid new looked popped =
+    let same : new ≡ mid = popped.0 ∙ (λ i. record { queue = mid.queue; at = popped.1.0 i; keeper = mid.keeper }) in
+    let took = look_takes old mid looked in
+    subst (λ (p : PlaceSeat). TakesMore old p [] × IsSettled p) (sym same) (took.0, is_settled mid took.1 took.2 popped.1.2)
+
+-- a look that settles, and then all that the queue holds
+module _ (old mid new : PlaceSeat) (more : List Envelope) (looked : IsSettling old mid true) (did : new ≡ record { queue = mid.queue; at = got_all mid.at more; keeper = mid.keeper }) where
   pub takes_more : TakesMore old new more
-  takes_more = (
-    ap (λ (p : PlaceSeat). p.queue) did ∙ before.0,
-    ap (λ (p : PlaceSeat). p.at.lines) did ∙ before.1,
-    ap (λ (p : PlaceSeat). p.at.got) did ∙ ap (λ (l : List Envelope). l ++ more) before.2,
-  )
+  takes_more =
+      let took = look_takes old mid looked in subst (λ (p : PlaceSeat). TakesMore old p more) (sym did) (record {
+        queue = took.0.queue;
+        same_gate = record { gate = took.0.same_gate.gate; enables = took.0.same_gate.enables; retires = took.0.same_gate.retires; closes = took.0.same_gate.closes };
+        end = took.0.end;
+        epoch = took.0.epoch;
+        lines = took.0.lines;
+        got = ap (λ (l : List Envelope). l ++ more) (took.0.got ∙ append-nil old.at.got);
+      })
 
-  pub still_grave : IsGrave true new
-  still_grave = subst (IsGrave true) (sym did) (record { closed = before.3.closed; collected = before.3.collected; known = before.3.known })
+  pub still_shut : IsShut old → IsShut new
+  still_shut shut = subst IsShut (sym did) (shut_looked old mid true looked shut)
 
-  -- where the queue holds nothing more, everything that was put was taken
-  pub is_settled : HoldsNothing new.at → IsSettled new
-  is_settled nothing = record {
-    collected = still_grave.collected;
-    each = λ line low.
-        let known = still_grave.known line low in
-        let all = nothing.1 known.0 known.1 known.2 in
-        (known.0, known.1, known.2, known.3, ap (λ (l : ℕ). by l new.at.got) (sym known.3) ∙ ap (by known.1.line) (sym (append-nil new.at.got)) ∙ all);
-  }
+  pub settled_now : HoldsNothing new.at → IsSettled new
+  settled_now nothing =
+      let took = look_takes old mid looked in
+      is_settled new (ap (λ (p : PlaceSeat). p.keeper.at.collected) did ∙ took.1) (subst (λ (p : PlaceSeat). KnowsAll p.at) (sym did) took.2) nothing.1

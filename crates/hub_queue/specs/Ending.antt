@@ -1,8 +1,8 @@
 -- What the closing of an end does.
-use Rattle.std.specs.Prelude.{◌≡◌, ◌+◌, []}
+use Rattle.std.specs.Prelude.{◌≡◌, ◌+◌, [], ◌∷◌, ◌++◌}
 use Rattle.hub_queue.specs.Graves.{GraveSeat}
 use Rattle.hub_queue.specs.Places.{PlaceSeat}
-use Rattle.hub_queue.specs.Taking.{TakerSeat, on_newest}
+use Rattle.hub_queue.specs.Taking.{TakerSeat}
 
 -- the queue, whose gate was closed once more
 abbrev pub closed_place : PlaceSeat → PlaceSeat
@@ -10,4 +10,4 @@ closed_place p = record p { keeper = record p.keeper { at = record p.keeper.at {
 
 -- the newest gate was closed once more, nothing was collected yet, and nothing else has changed
 abbrev pub IsClosed : TakerSeat → GraveSeat → Type 0
-IsClosed t g = g ≡ record { end = t.end; epoch = t.epoch; places = on_newest closed_place t.places; envelopes = [] }
+IsClosed t g = g ≡ record { end = t.end; epoch = t.epoch; places = t.retired ++ closed_place t.newest ∷ []; envelopes = [] }

@@ -1,6 +1,8 @@
+pub mod Adopting
 pub mod Counting
 pub mod Ending
 pub mod Graves
+pub mod Laws
 pub mod Mailboxes
 pub mod Meetings
 pub mod Opening

@@ -10,22 +10,25 @@ use Rattle.hub_queue.specs.Seats.{tag_of}
 use Rattle.hub_queue.specs.Standing.{StandSeat}
 use Rattle.hub_queue.specs.Taking.{TakerSeat}
 
--- a line at the first queue of an end, which has put nothing there
-abbrev pub new_stand : TableId → WebId → EndId → ℕ → StandSeat
-new_stand gate web end line = record {
-  name = record { end = end; epoch = 0; line = record { 0 = line } };
-  entry = record { gate = gate; at = new_line line (tag_of (new_right web end.0 0 line)) (Some (new_right web end.0 0 line)) };
+-- a line at a queue of an end, which has put nothing there
+abbrev pub new_stand : TableId → WebId → EndId → ℕ → ℕ → StandSeat
+new_stand gate web end epoch line = record {
+  name = record { end = end; epoch = epoch; line = record { 0 = line } };
+  entry = record { gate = gate; at = new_line line (tag_of (new_right web end.0 epoch line)) (Some (new_right web end.0 epoch line)) };
 }
 
--- the first lines of an end
+-- the first lines of an end, at its first queue
 abbrev pub new_stands : TableId → WebId → EndId → ℕ → List StandSeat
 new_stands gate web end zero = []
-new_stands gate web end (suc line) = new_stands gate web end line ++ new_stand gate web end line ∷ []
+new_stands gate web end (suc line) = new_stands gate web end line ++ new_stand gate web end 0 line ∷ []
+
+-- a queue of this end and epoch in which nothing was put, with a gate that is disabled and has the rights of its lines
+pub record IsNewPlace (end epoch lines : ℕ) (p : PlaceSeat) : Type 0 where
+  pub at : p.at ≡ new_take end epoch lines
+  pub keeper : p.keeper.at ≡ keeper_at (tags_of p.queue lines) (new_rights p.queue end epoch lines) lines
 
 -- The end has one queue, of epoch 0, in which nothing was put and which is disabled; its gate is that of the posters, one for each line.
 pub record IsOpenMailbox (end : EndId) (lines : ℕ) (taker : TakerSeat) (posters : List StandSeat) : Type 0 where
-  pub place : PlaceSeat
-  pub taker_is : taker ≡ record { end = end.0; epoch = 0; places = place ∷ [] }
-  pub at : place.at ≡ new_take end.0 0 lines
-  pub keeper : place.keeper.at ≡ keeper_at (tags_of place.queue lines) (new_rights place.queue end.0 0 lines) lines
-  pub posters_are : posters ≡ new_stands place.keeper.gate place.queue end lines
+  pub taker_is : taker ≡ record { end = end.0; epoch = 0; retired = []; newest = taker.newest }
+  pub newest : IsNewPlace end.0 0 lines taker.newest
+  pub posters_are : posters ≡ new_stands taker.newest.keeper.gate taker.newest.queue end lines

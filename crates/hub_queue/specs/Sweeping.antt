@@ -1,20 +1,35 @@
 -- What a sweep of a closed end comes to.
-use Rattle.std.specs.Prelude.{◌≡◌, ℕ, ◌<◌, true, List, [], ◌∷◌, ◌++◌, slice_get, Some}
+use Rattle.std.specs.Prelude.{◌≡◌, ◌⊎◌, List, [], ◌∷◌, ◌++◌, Result, Ok, Err}
+use Rattle.std.specs.List.{AllByRecursion}
 use Rattle.hub_envelope.specs.declared.envelope.Envelope.{Envelope}
-use Rattle.hub_core.specs.Sender.{by}
 use Rattle.hub_queue.specs.declared.grave.Sweep.{Sweep}
 use Rattle.hub_queue.specs.declared.grave.Sweep.TheVariants.{Discarded, StillInside, NoRoom}
-use Rattle.hub_queue.specs.declared.pass_view.PutView.{PutView}
-use Rattle.hub_queue.specs.Graves.{GraveSeat, TakesMore, IsHeldUp}
-use Rattle.hub_queue.specs.Places.{PlaceSeat}
+use Rattle.hub_queue.specs.declared.settling.Stop.{Stop}
+use Rattle.hub_queue.specs.declared.settling.Stop.TheVariants as stop
+use Rattle.hub_queue.specs.Graves.{GraveSeat}
+use Rattle.hub_queue.specs.Places.{PlaceSeat, TakesMore, IsHeldUp, IsSettled}
 
--- All rights of the queue are in hand, and line by line what was taken is all that was put.
-pub record IsSettled (p : PlaceSeat) : Type 0 where
-  pub collected : p.keeper.at.collected ≡ true
-  pub each : (line : ℕ) → line < p.at.lines → (i : ℕ) × (k : PutView) × (slice_get p.at.known i ≡ Some k) × (k.line ≡ line) × (by line p.at.got ≡ k.put)
+-- the same queues, one for one; what was taken more of each, joined in their order, is this
+abbrev pub TakesOfEach : List PlaceSeat → List PlaceSeat → List Envelope → Type 0
+TakesOfEach [] [] more = more ≡ []
+TakesOfEach [] (q ∷ qs) more = ⊥
+TakesOfEach (p ∷ ps) [] more = ⊥
+TakesOfEach (p ∷ ps) (q ∷ qs) more = (here : List Envelope) × (rest : List Envelope) × (more ≡ here ++ rest) × TakesMore p q here × TakesOfEach ps qs rest
 
--- What a sweep of an end with one queue comes to. Discarded: everything that was put there was taken, and what this call took joins what was collected before; it is what is discarded. Still inside: a look of this call found somebody, and nothing was taken. No room: what was taken is kept.
+-- at one of the queues a look found somebody
+abbrev pub OneIsHeldUp : List PlaceSeat → List PlaceSeat → Type 0
+OneIsHeldUp [] qs = ⊥
+OneIsHeldUp (p ∷ ps) [] = ⊥
+OneIsHeldUp (p ∷ ps) (q ∷ qs) = IsHeldUp p q ⊎ OneIsHeldUp ps qs
+
+-- What a sweep of the queues of a closed end comes to. Ok: all are settled, so everything that was put was taken. Still inside: a look found somebody at one of them. What was taken joins what was collected before, queue after queue.
+abbrev pub AreSwept : List PlaceSeat → List PlaceSeat → List Envelope → List Envelope → Result (Unit {0}) Stop → Type 0
+AreSwept old new before after (Ok done) = (more : List Envelope) × (after ≡ before ++ more) × TakesOfEach old new more × AllByRecursion IsSettled new
+AreSwept old new before after (Err stop.StillInside) = (more : List Envelope) × (after ≡ before ++ more) × TakesOfEach old new more × OneIsHeldUp old new
+AreSwept old new before after (Err stop.NoRoom) = (more : List Envelope) × (after ≡ before ++ more) × TakesOfEach old new more
+
+-- What a sweep comes to. Discarded: what is left are all queues of the grave and all that was collected from them, now and before. Still inside and no room: so is the grave that comes back.
 abbrev pub IsSwept : GraveSeat → Sweep → Type 0
-IsSwept g (Discarded s) = (p : PlaceSeat) × (q : PlaceSeat) × (more : List Envelope) × (g.places ≡ p ∷ []) × (s ≡ record { end = g.end; envelopes = g.envelopes ++ more; places = q ∷ [] }) × TakesMore p q more × IsSettled q
-IsSwept g (StillInside h) = (p : PlaceSeat) × (q : PlaceSeat) × (g.places ≡ p ∷ []) × (h ≡ record { end = g.end; epoch = g.epoch; places = q ∷ []; envelopes = g.envelopes }) × IsHeldUp p q
-IsSwept g (NoRoom h) = (p : PlaceSeat) × (q : PlaceSeat) × (more : List Envelope) × (g.places ≡ p ∷ []) × (h ≡ record { end = g.end; epoch = g.epoch; places = q ∷ []; envelopes = g.envelopes ++ more }) × TakesMore p q more
+IsSwept g (Discarded s) = (s.end ≡ g.end) × AreSwept g.places s.places g.envelopes s.envelopes (Ok tt)
+IsSwept g (StillInside h) = (h.end ≡ g.end) × (h.epoch ≡ g.epoch) × AreSwept g.places h.places g.envelopes h.envelopes (Err stop.StillInside)
+IsSwept g (NoRoom h) = (h.end ≡ g.end) × (h.epoch ≡ g.epoch) × AreSwept g.places h.places g.envelopes h.envelopes (Err stop.NoRoom)

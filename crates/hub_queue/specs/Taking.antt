@@ -1,11 +1,12 @@
 -- What a take comes to.
-use Rattle.std.specs.Prelude.{◌≡◌, ℕ, ◌+◌, ◌<◌, true, false, List, [], ◌∷◌}
+use Rattle.std.specs.Prelude.{◌≡◌, ◌⊎◌, ℕ, ◌+◌, ◌<◌, ◌≤◌, true, false, List, [], ◌∷◌, length, Option, Some, None}
 use Rattle.hub_envelope.specs.declared.envelope.Envelope.{Envelope}
+use Rattle.hub_core.specs.declared.limits.TheConstants.{MAX_MOVES}
 use Rattle.hub_queue.specs.declared.took.Took.{Took}
 use Rattle.hub_queue.specs.declared.took.Took.TheVariants.{Got, Empty, Busy, Again, Disabled, Closed}
 use Rattle.hub_queue.specs.Counting.{Count, counted}
 use Rattle.hub_queue.specs.PassSteps.{got_more, IsPopped, ShowsHeld}
-use Rattle.hub_queue.specs.Places.{PlaceSeat}
+use Rattle.hub_queue.specs.Places.{PlaceSeat, TakesMore, IsHeldUp, IsSettled, IsQueueOf}
 
 -- the gate of the queue is enabled
 abbrev pub IsEnabled : PlaceSeat → Type 0
@@ -15,42 +16,88 @@ IsEnabled p = 0 < p.keeper.at.enables
 abbrev pub taken_from : PlaceSeat → Envelope → PlaceSeat
 taken_from p v = record { queue = p.queue; at = got_more p.at v; keeper = p.keeper }
 
--- A take at the newest queue of an end. Disabled: exactly where its gate isn't enabled, and then nothing is popped. Got: one pop. Empty: one pop, which found none; at that moment the queue held nothing, and line by line what was taken was all that was put.
+-- A take at the newest queue of an end. Got: one pop. Empty: one pop, which found none; at that moment the queue held nothing, and line by line what was taken was all that was put.
 abbrev pub IsTakenAt : PlaceSeat → PlaceSeat → Count → Count → Took → Type 0
-IsTakenAt old new before after (Got v) = IsEnabled old × (new ≡ taken_from old v) × IsPopped old.at v × (after ≡ counted before false)
-IsTakenAt old new before after Empty = IsEnabled old × (new ≡ old) × ShowsHeld old.at [] × (after ≡ counted before true)
-IsTakenAt old new before after Disabled = (old.keeper.at.enables ≡ 0) × (new ≡ old) × (after ≡ before)
+IsTakenAt old new before after (Got v) = (new ≡ taken_from old v) × IsPopped old.at v × (after ≡ counted before false)
+IsTakenAt old new before after Empty = (new ≡ old) × ShowsHeld old.at [] × (after ≡ counted before true)
+IsTakenAt old new before after Disabled = ⊥
 IsTakenAt old new before after Busy = ⊥
 IsTakenAt old new before after Again = ⊥
 IsTakenAt old new before after Closed = ⊥
 
--- the end, the epoch of the taker's queue, and the queues from the taker's to the newest
+-- A take at a retired queue. Got: one pop. Busy: a look of this call found somebody, and then one pop found none. Again: all rights are in hand, and one pop found none, so that line by line what was taken is all that was put.
+abbrev pub IsTakenOff : PlaceSeat → PlaceSeat → Count → Count → Took → Type 0
+IsTakenOff old new before after (Got v) = TakesMore old new (v ∷ []) × IsPopped old.at v × (after ≡ counted before false)
+IsTakenOff old new before after Busy = IsHeldUp old new × (after ≡ counted before true)
+IsTakenOff old new before after Again = TakesMore old new [] × IsSettled new × (after ≡ counted before true)
+IsTakenOff old new before after Empty = ⊥
+IsTakenOff old new before after Disabled = ⊥
+IsTakenOff old new before after Closed = ⊥
+
+-- the end, the epoch of the taker's queue, the retired queues from the taker's on, and the newest queue
 pub record TakerSeat : Type 0 where
   pub end : ℕ
   pub epoch : ℕ
-  pub places : List PlaceSeat
+  pub retired : List PlaceSeat
+  pub newest : PlaceSeat
 
--- the queue is of this end and epoch, no pass of a line was taken in, and the taker has neither retired nor closed its gate
-pub record IsTakers (end epoch : ℕ) (p : PlaceSeat) : Type 0 where
-  pub end_is : p.at.end ≡ end
-  pub epoch_is : p.at.epoch ≡ epoch
-  pub known : p.at.known ≡ []
-  pub collected : p.keeper.at.collected ≡ false
+-- the queue where the taker stands, which is its oldest
+abbrev pub first_of : List PlaceSeat → PlaceSeat → PlaceSeat
+first_of [] newest = newest
+first_of (p ∷ ps) newest = p
 
--- another newest queue
-abbrev pub on_newest : (PlaceSeat → PlaceSeat) → List PlaceSeat → List PlaceSeat
-on_newest f [] = []
-on_newest f (p ∷ []) = f p ∷ []
-on_newest f (p ∷ q ∷ ps) = p ∷ on_newest f (q ∷ ps)
+abbrev pub first_place : TakerSeat → PlaceSeat
+first_place t = first_of t.retired t.newest
+
+-- the queues are those of the end, from this epoch on, and the gate of each is retired
+abbrev pub AreRetired : ℕ → ℕ → List PlaceSeat → Type 0
+AreRetired end epoch [] = Unit {0}
+AreRetired end epoch (p ∷ ps) = IsQueueOf end epoch p × (0 < p.keeper.at.retires) × AreRetired end (epoch + 1) ps
+
+-- an end with so many lines, which was adopted at most as often as it may be
+pub record IsTakers (lines : ℕ) (t : TakerSeat) : Type 0 where
+  pub some : 0 < lines
+  pub lines_are : t.newest.at.lines ≡ lines
+  pub moves : t.epoch + length t.retired ≤ MAX_MOVES
+  pub retired : AreRetired t.end t.epoch t.retired
+  pub newest : IsQueueOf t.end (t.epoch + length t.retired) t.newest
 
 -- the queue, whose gate was enabled once more
 abbrev pub enabled_place : PlaceSeat → PlaceSeat
 enabled_place p = record p { keeper = record p.keeper { at = record p.keeper.at { enables = p.keeper.at.enables + 1 } } }
 
--- the end was enabled once more, and nothing else has changed
+-- the newest gate was enabled once more, and nothing else has changed
 abbrev pub started : TakerSeat → TakerSeat
-started t = record { end = t.end; epoch = t.epoch; places = on_newest enabled_place t.places }
+started t = record t { newest = enabled_place t.newest }
 
--- the end has one queue, and this is what a take there comes to
+-- the retired queues after a take at the first of them: where it answers Again the taker has left that queue
+abbrev pub left_after : PlaceSeat → List PlaceSeat → Took → List PlaceSeat
+left_after q rest Again = rest
+left_after q rest _ = q ∷ rest
+
+-- this is what a take at the first of these queues comes to, and no other is touched
+abbrev pub IsTakenFirst : List PlaceSeat → List PlaceSeat → Count → Count → Took → Type 0
+IsTakenFirst old new before after took = (p : PlaceSeat) × (q : PlaceSeat) × (rest : List PlaceSeat) × (old ≡ p ∷ rest) × (new ≡ left_after q rest took) × IsTakenOff p q before after took
+
+-- there is no queue, or the first was taken from
+abbrev pub IsTakenOldest : List PlaceSeat → List PlaceSeat → Count → Count → Option Took → Type 0
+IsTakenOldest old new before after None = (old ≡ []) × (new ≡ old) × (after ≡ before)
+IsTakenOldest old new before after (Some took) = IsTakenFirst old new before after took
+
+-- the epoch of the taker's queue after a take that answers this
+abbrev pub epoch_after : ℕ → Took → ℕ
+epoch_after epoch Again = epoch + 1
+epoch_after epoch _ = epoch
+
+-- there is no retired queue, and this is what a take at the newest one comes to
+abbrev pub TakesNewest : TakerSeat → TakerSeat → Count → Count → Took → Type 0
+TakesNewest old new before after took = (q : PlaceSeat) × (old.retired ≡ []) × (new ≡ record { end = old.end; epoch = old.epoch; retired = []; newest = q }) × IsTakenAt old.newest q before after took
+
+-- there are retired queues, and this is what a take at the first of them comes to
+abbrev pub TakesRetired : TakerSeat → TakerSeat → Count → Count → Took → Type 0
+TakesRetired old new before after took = (new ≡ record { end = old.end; epoch = epoch_after old.epoch took; retired = new.retired; newest = old.newest }) × IsTakenFirst old.retired new.retired before after took
+
+-- Disabled: exactly where the newest gate isn't enabled, and then nothing is popped. Else the taker takes at its own queue, the oldest one.
 abbrev pub IsTaken : TakerSeat → TakerSeat → Count → Count → Took → Type 0
-IsTaken old new before after took = (p : PlaceSeat) × (q : PlaceSeat) × (old.places ≡ p ∷ []) × (new ≡ record { end = old.end; epoch = old.epoch; places = q ∷ [] }) × IsTakenAt p q before after took
+IsTaken old new before after Disabled = (old.newest.keeper.at.enables ≡ 0) × (new ≡ old) × (after ≡ before)
+IsTaken old new before after took = IsEnabled old.newest × (TakesNewest old new before after took ⊎ TakesRetired old new before after took)

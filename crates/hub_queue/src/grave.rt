@@ -1,36 +1,42 @@
+ghost use Rattle.std.specs.Prelude.{◌≡◌, ◌∷◌, [], ◌++◌};
+ghost use Rattle.std.specs.List.{AllByRecursion};
+ghost use Rattle.hub_queue.specs.Places.{IsShut};
+ghost use Rattle.hub_queue.specs.Sweeping.{AreSwept};
+
 use crate::place::Place;
-use crate::settling::collect;
+use crate::settling::{Stop, empty};
 use crate::swept::Swept;
 use hub_envelope::{EndId, Envelope};
-use std::marker::{Brand, Model};
+use std::collections::VecDeque;
+use std::marker::Model;
 use std::sync::Wait;
-use std::sync::ledger::Blank;
 
 /// A closed end: its queues from the taker's on, and the envelopes that were collected from them.
 #[derive(Drop)]
 pub struct Grave {
     pub(crate) end: EndId,
     pub(crate) epoch: u32,
+    pub(crate) retired: VecDeque<Place>,
     pub(crate) newest: Place,
-    /// Whether the passes of all lines are in hand.
-    pub(crate) settled: bool,
     pub(crate) envelopes: Vec<Envelope>,
 }
 
 impl Model for Grave {
-    ghost use Rattle.std.specs.Prelude.{[], ◌∷◌};
-    ghost use Rattle.hub_queue.specs.Graves.{GraveSeat, IsGrave};
+    ghost use Rattle.std.specs.Prelude.{[], ◌∷◌, ◌++◌};
+    ghost use Rattle.std.specs.List.{AllByRecursion};
+    ghost use Rattle.hub_queue.specs.Graves.{GraveSeat};
+    ghost use Rattle.hub_queue.specs.Places.{IsShut};
 
     ghost Value = { GraveSeat };
 
     ghost view = { λ g. record {
       end = g.end.0;
       epoch = g.epoch;
-      places = g.newest ∷ [];
+      places = g.retired.items ++ g.newest ∷ [];
       envelopes = g.envelopes.items;
     } };
 
-    ghost invariant = { λ g. IsGrave g.settled g.newest };
+    ghost invariant = { λ g. AllByRecursion IsShut (g.retired.items ++ g.newest ∷ []) };
 }
 
 /// What a sweep came to.
@@ -44,44 +50,67 @@ pub enum Sweep {
     NoRoom(Grave),
 }
 
+// Empties each of the queues, the oldest first, and stops at the first that can't be emptied.
+fn empty_all<R: Wait>(
+    rt: &R,
+    retired: &mut VecDeque<Place>,
+    newest: &mut Place,
+    envelopes: &mut Vec<Envelope>,
+) -> Result<(), Stop>
+    requires { AllByRecursion IsShut (retired.old.items ++ newest.old ∷ []) }
+    ensures shut { AllByRecursion IsShut (retired.new.items ++ newest.new ∷ []) }
+    ensures swept { AreSwept (retired.old.items ++ newest.old ∷ [])
+        (retired.new.items ++ newest.new ∷ []) envelopes.old.items envelopes.new.items result }
+{
+    for index in 0..retired.len() {
+        let Some(place) = retired.get_mut(index) else {
+            unreachable!();
+        };
+        empty(rt, place, envelopes)?;
+    }
+    empty(rt, newest, envelopes)
+}
+
 impl Grave {
     ghost use Rattle.hub_queue.specs.Sweeping.{IsSwept};
 
-    /// Discards what is left at the closed end. It looks at the gate until all rights came into
-    /// hand, and then takes what the queue holds, which nobody can add to any more.
+    /// Discards what is left at the closed end, queue after queue, the oldest first. At each it
+    /// looks at the gate until all rights came into hand, and then takes what the queue holds, which
+    /// nobody can add to any more.
     ///
-    /// `Discarded` only with all rights in hand: line by line, what was taken followed by what was
-    /// discarded is all that was put. `StillInside` only where a look of this call found somebody.
+    /// `Discarded` only with all rights of all queues in hand: line by line, what was taken
+    /// followed by what was discarded is all that was put. `StillInside` only where a look of this
+    /// call found somebody.
     pub fn sweep<R: Wait>(self, rt: &R) -> Sweep
         ensures { IsSwept self result }
     {
         let Grave {
             end,
             epoch,
+            mut retired,
             mut newest,
-            settled,
             mut envelopes,
         } = self;
-        if !newest.settle_once(settled) {
-            return Sweep::StillInside(Grave {
-                end,
-                epoch,
-                newest,
-                settled: false,
-                envelopes,
-            });
-        }
-        match collect::<Brand, R>(rt, &mut newest, &mut envelopes, Blank::new(2)) {
+        let stop = empty_all(rt, &mut retired, &mut newest, &mut envelopes);
+        match stop {
             Ok(()) => Sweep::Discarded(Swept {
                 end,
                 envelopes,
+                retired,
                 newest,
             }),
-            Err(_) => Sweep::NoRoom(Grave {
+            Err(Stop::StillInside) => Sweep::StillInside(Grave {
                 end,
                 epoch,
+                retired,
                 newest,
-                settled: true,
+                envelopes,
+            }),
+            Err(Stop::NoRoom) => Sweep::NoRoom(Grave {
+                end,
+                epoch,
+                retired,
+                newest,
                 envelopes,
             }),
         }

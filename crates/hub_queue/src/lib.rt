@@ -2,12 +2,17 @@
 //! line, and a taker that takes them.
 //!
 //! A gate stands before each queue and keeps for each line the right to push, so that an end can be
-//! closed while posters are inside, and swept once none is. A mailbox has one queue so far.
+//! adopted or closed while posters are inside, and a queue left or swept once none is. An adoption
+//! adds a queue: the taker leaves the older ones in turn, and each line goes on once it is turned
+//! there.
 #![tactic(auto)]
 
+mod adopt_error;
+mod adopting;
 mod bell;
 mod ends;
 mod grave;
+mod laws;
 mod limits;
 mod line_right;
 mod mailbox;
@@ -31,10 +36,12 @@ mod swept;
 mod taker;
 mod took;
 
+pub use adopt_error::AdoptError;
 pub use bell::Bell;
 pub use ends::Ends;
 pub use grave::{Grave, Sweep};
-pub use hub_core::{MAX_HOPS, MAX_LINES};
+pub use hub_core::{MAX_HOPS, MAX_LINES, MAX_MOVES};
+pub use laws::queue_chain_laws;
 pub use limits::MAX_PUT;
 pub use line_right::LineRight;
 pub use mailbox::Mailbox;

@@ -15,6 +15,7 @@ use hub_depot::Key;
 use hub_envelope::{EndId, LineId};
 use hub_gate::Entry;
 use std::alloc::Global;
+use std::collections::VecDeque;
 
 /// The queues of one end. `Mailbox::open` makes one; its parts are the taker and the posters.
 pub struct Mailbox;
@@ -67,6 +68,8 @@ impl Mailbox {
             alloc,
             end,
             epoch: 0,
+            lines,
+            retired: VecDeque::new(alloc),
             newest,
         };
         Ok((taker, posters))

@@ -1,6 +1,7 @@
 ghost use Rattle.std.specs.Prelude.{◌≡◌, length};
 ghost use Rattle.hub_core.specs.Sender.{by, Prefix};
-ghost use Rattle.hub_queue.specs.Meetings.{AreOfOne, HaveMet};
+ghost use Rattle.hub_queue.specs.Meetings.{AreOfOne, HaveMet, HaveMetAt};
+ghost use Rattle.hub_queue.specs.Standing.{right_of};
 
 use crate::line_right::LineRight;
 use crate::place::Place;
@@ -40,6 +41,23 @@ fn compare<R: Wait>(rt: &R, place: &mut Place, right: &mut LineRight) -> (u64, u
     (right.number, place.taken[right.name.line.0 as usize])
 }
 
+// Goes in at the gate, compares, and comes out again.
+fn meet_at<R: Wait>(rt: &R, stand: Stand, place: &mut Place) -> (Stand, Meeting)
+    requires { (right_of stand).queue ≡ place.old.queue }
+    ensures same { place.new ≡ place.old }
+    ensures met { HaveMetAt stand result.0 place.old result.1 }
+{
+    let Stand { name, entry, bell } = stand;
+    match entry.enter() {
+        Entered::In(mut inside) => {
+            let (put, got) = compare(rt, place, inside.right_mut());
+            let (entry, _) = inside.leave();
+            (Stand { name, entry, bell }, Meeting::Met { put, got })
+        }
+        Entered::Turned(entry, _) => (Stand { name, entry, bell }, Meeting::Turned),
+    }
+}
+
 /// Compares what a poster has put with what a taker has taken, where both stand at one queue. The
 /// poster goes in and out for it.
 ///
@@ -54,17 +72,10 @@ pub fn meet<R: Wait>(rt: &R, poster: &mut Poster, taker: &mut Taker) -> Meeting
         poster.stand = Some(stand);
         return Meeting::Strangers;
     }
-    let Stand { name, entry, bell } = stand;
-    match entry.enter() {
-        Entered::In(mut inside) => {
-            let (put, got) = compare(rt, &mut taker.newest, inside.right_mut());
-            let (entry, _) = inside.leave();
-            poster.stand = Some(Stand { name, entry, bell });
-            Meeting::Met { put, got }
-        }
-        Entered::Turned(entry, _) => {
-            poster.stand = Some(Stand { name, entry, bell });
-            Meeting::Turned
-        }
-    }
+    let (stand, meeting) = match taker.retired.front_mut() {
+        Some(place) => meet_at(rt, stand, place),
+        None => meet_at(rt, stand, &mut taker.newest),
+    };
+    poster.stand = Some(stand);
+    meeting
 }

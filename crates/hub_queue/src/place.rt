@@ -1,7 +1,10 @@
-ghost use Rattle.std.specs.Prelude.{◌≡◌, is_none};
+ghost use Rattle.std.specs.Prelude.{◌≡◌, is_none, nat_lt};
 ghost use Rattle.hub_queue.specs.Counting.{counted};
+ghost use Rattle.hub_queue.specs.Places.{IsShut};
 ghost use Rattle.hub_queue.specs.Settling.{IsPlacePop};
-ghost use Rattle.hub_queue.specs.Taking.{IsTakenAt};
+ghost use Rattle.hub_queue.specs.Adopting.{retired_place};
+ghost use Rattle.hub_queue.specs.Ending.{closed_place};
+ghost use Rattle.hub_queue.specs.Taking.{IsTakenAt, IsTakenOff, enabled_place};
 
 use crate::line_right::LineRight;
 use crate::pop::pop;
@@ -31,7 +34,7 @@ impl Model for Place {
     ghost use Rattle.crossbeam_queue.specs.SegTies.{IsSegPassOf};
     ghost use Rattle.hub_queue.specs.declared.pass_view.PassView.TheVariants.{Takes};
     ghost use Rattle.hub_queue.specs.Seats.{known_by, take_in};
-    ghost use Rattle.hub_queue.specs.Places.{PlaceSeat, CountsTaken, HasTags};
+    ghost use Rattle.hub_queue.specs.Places.{PlaceSeat, CountsTaken, HasTags, KnowsBy};
 
     ghost Value = { PlaceSeat };
 
@@ -44,10 +47,39 @@ impl Model for Place {
     ghost invariant = { λ p. IsSegPassOf (arc_value p.store).lines p.pass
         × (known_by p.pass ≡ Takes (take_in (known_by p.pass)))
         × HasTags (arc_value p.store).lines.web (take_in (known_by p.pass)) p.keeper
-        × CountsTaken (take_in (known_by p.pass)).got p.taken };
+        × CountsTaken (take_in (known_by p.pass)).got p.taken
+        × KnowsBy p.keeper.at.collected (take_in (known_by p.pass)) };
 }
 
 impl Place {
+    /// Whether the gate is enabled.
+    pub(crate) fn enabled(&self) -> bool
+        ensures { result ≡ nat_lt 0 self.now.keeper.at.enables }
+    {
+        self.keeper.enabled()
+    }
+
+    /// Enables the gate.
+    pub(crate) fn enable(&mut self)
+        ensures { self.new ≡ enabled_place self.old }
+    {
+        self.keeper.enable();
+    }
+
+    /// Retires the gate: every later entry is turned with `Moved`.
+    pub(crate) fn retire(&mut self)
+        ensures { self.new ≡ retired_place self.old }
+    {
+        self.keeper.retire();
+    }
+
+    /// Closes the gate: every later entry is turned.
+    pub(crate) fn close(&mut self)
+        ensures { self.new ≡ closed_place self.old }
+    {
+        self.keeper.close();
+    }
+
     /// Pops once, and counts the envelope for its line.
     pub(crate) fn pop<L: Ledger, R: Wait>(
         &mut self,
@@ -66,12 +98,23 @@ impl Place {
     pub(crate) fn take_newest<L: Ledger, R: Wait>(&mut self, rt: &R, steps: &mut Steps<L>) -> Took
         ensures { IsTakenAt self.old self.new steps.old steps.new result }
     {
-        if !self.keeper.enabled() {
-            return Took::Disabled;
-        }
         match self.pop(rt, steps) {
             Some(envelope) => Took::Got(envelope),
             None => Took::Empty,
+        }
+    }
+
+    /// Takes from a retired queue. The look comes before the pop: where it found nobody, nothing is
+    /// put there any more, and a pop of none shows that everything was taken.
+    pub(crate) fn take_retired<L: Ledger, R: Wait>(&mut self, rt: &R, steps: &mut Steps<L>) -> Took
+        requires { IsShut self.old }
+        ensures { IsTakenOff self.old self.new steps.old steps.new result }
+    {
+        let settled = self.settle();
+        match self.pop(rt, steps) {
+            Some(envelope) => Took::Got(envelope),
+            None if settled => Took::Again,
+            None => Took::Busy,
         }
     }
 }

@@ -1,12 +1,10 @@
 //! How the passes of all lines of a queue come into the taker's hand, and what is left is taken.
-ghost use Rattle.std.specs.Prelude.{◌≡◌, true, false, [], map, length};
+ghost use Rattle.std.specs.Prelude.{◌≡◌, map, length};
 ghost use Rattle.crossbeam_queue.specs.SegTies.{IsSegPassOf};
-ghost use Rattle.hub_gate.specs.GatePlays.{has_shut};
 ghost use Rattle.hub_queue.specs.declared.pass_view.PassView.TheVariants.{Takes};
-ghost use Rattle.hub_queue.specs.Graves.{IsGrave, Settles};
-ghost use Rattle.hub_queue.specs.Places.{tags_of};
+ghost use Rattle.hub_queue.specs.Places.{IsShut, tags_of};
 ghost use Rattle.hub_queue.specs.Seats.{known_by, tag_of, take_in};
-ghost use Rattle.hub_queue.specs.Settling.{IsCollected, IsSettling, knowing};
+ghost use Rattle.hub_queue.specs.Settling.{IsCollected, IsEmptied, IsSettling, knowing};
 
 use crate::line_right::LineRight;
 use crate::place::Place;
@@ -16,6 +14,7 @@ use crate::store::{Pass, Store};
 use hub_envelope::Envelope;
 use hub_gate::Looked;
 use std::alloc::AllocError;
+use std::marker::Brand;
 use std::sync::Wait;
 use std::sync::ledger::{Blank, Ledger};
 
@@ -40,10 +39,9 @@ fn take_in_all(store: &Store, pass: &mut Pass, mut rights: Vec<LineRight>)
 
 impl Place {
     /// Looks at the gate, which is retired or closed. Where nobody is inside it takes in the passes
-    /// of all lines, and says so.
+    /// of all lines, unless an earlier call did, and says so.
     pub(crate) fn settle(&mut self) -> bool
-        requires shut { has_shut self.old.keeper.at ≡ true }
-        requires first { (self.old.keeper.at.collected ≡ false) × (self.old.at.known ≡ []) }
+        requires { IsShut self.old }
         ensures { IsSettling self.old self.new result }
     {
         match self.keeper.look() {
@@ -51,20 +49,10 @@ impl Place {
                 take_in_all(&self.store, &mut self.pass, rights);
                 true
             }
+            Looked::Given => true,
             Looked::StillInside(_) => false,
-            Looked::Open | Looked::Given => unreachable!(),
+            Looked::Open => unreachable!(),
         }
-    }
-
-    /// The same for the queue of a closed end, where the passes aren't in hand already.
-    pub(crate) fn settle_once(&mut self, settled: bool) -> bool
-        requires { IsGrave settled self.old }
-        ensures { Settles self.old self.new result }
-    {
-        if settled {
-            return true;
-        }
-        self.settle()
     }
 }
 
@@ -88,4 +76,32 @@ pub(crate) fn collect<L: Ledger, R: Wait>(
         }
     }
     unreachable!()
+}
+
+/// Why a closed queue isn't empty for good yet.
+#[derive(Drop)]
+pub(crate) enum Stop {
+    /// A look found a line inside or being turned back.
+    StillInside,
+    /// There was no memory for the next envelope.
+    NoRoom,
+}
+
+/// Empties one queue whose gate is retired or closed: it takes in the passes of all lines, and then
+/// what the queue holds, which nobody can add to any more.
+pub(crate) fn empty<R: Wait>(
+    rt: &R,
+    place: &mut Place,
+    envelopes: &mut Vec<Envelope>,
+) -> Result<(), Stop>
+    requires { IsShut place.old }
+    ensures { IsEmptied place.old place.new envelopes.old.items envelopes.new.items result }
+{
+    if !place.settle() {
+        return Err(Stop::StillInside);
+    }
+    match collect::<Brand, R>(rt, place, envelopes, Blank::new(2)) {
+        Ok(()) => Ok(()),
+        Err(_) => Err(Stop::NoRoom),
+    }
 }

@@ -1,5 +1,6 @@
 use crate::place::Place;
 use hub_envelope::{EndId, Envelope};
+use std::collections::VecDeque;
 use std::marker::Model;
 
 /// What is left of an end that is closed and empty. Only `Grave::sweep` makes one.
@@ -7,11 +8,12 @@ use std::marker::Model;
 pub struct Swept {
     pub(crate) end: EndId,
     pub(crate) envelopes: Vec<Envelope>,
+    pub(crate) retired: VecDeque<Place>,
     pub(crate) newest: Place,
 }
 
 impl Model for Swept {
-    ghost use Rattle.std.specs.Prelude.{[], ◌∷◌};
+    ghost use Rattle.std.specs.Prelude.{[], ◌∷◌, ◌++◌};
     ghost use Rattle.hub_queue.specs.Graves.{SweptSeat};
 
     ghost Value = { SweptSeat };
@@ -19,7 +21,7 @@ impl Model for Swept {
     ghost view = { λ s. record {
       end = s.end.0;
       envelopes = s.envelopes.items;
-      places = s.newest ∷ [];
+      places = s.retired.items ++ s.newest ∷ [];
     } };
 }
 
@@ -33,7 +35,8 @@ impl Swept {
         self.end
     }
 
-    /// The envelopes that were discarded, in the order in which the queue held them.
+    /// The envelopes that were discarded, queue after queue, the oldest first, in the
+    /// order in which each held them.
     pub fn envelopes(&self) -> &[Envelope]
         ensures { result.now ≡ self.now.envelopes }
     {
@@ -47,6 +50,7 @@ impl Swept {
         let Swept {
             end: _,
             envelopes,
+            retired: _,
             newest: _,
         } = self;
         envelopes

@@ -1,36 +1,82 @@
-ghost use Rattle.std.specs.Prelude.{◌≡◌};
+ghost use Rattle.std.specs.Prelude.{◌≡◌, length};
+ghost use Rattle.std.specs.List.{AllByRecursion};
+ghost use Rattle.hub_queue.specs.Adopting.{IsAdopted};
 ghost use Rattle.hub_queue.specs.Ending.{IsClosed};
-ghost use Rattle.hub_queue.specs.Taking.{IsTaken, started};
+ghost use Rattle.hub_queue.specs.Places.{IsShut};
+ghost use Rattle.hub_queue.specs.Taking.{IsTaken, IsTakenOldest, started};
 
+use crate::adopt_error::AdoptError;
+use crate::adopting::open_next;
+use crate::bell::Bell;
 use crate::grave::Grave;
+use crate::onward::Onward;
 use crate::place::Place;
 use crate::steps::Steps;
 use crate::took::Took;
+use hub_core::MAX_MOVES;
+use hub_depot::Depot;
 use hub_envelope::EndId;
 use std::alloc::Global;
+use std::collections::VecDeque;
 use std::marker::Model;
+use std::mem::replace;
 use std::sync::Wait;
 use std::sync::ledger::Ledger;
 
 /// Whoever takes from an end.
+///
+/// An adoption gives the end a new queue. The queues before it stay, with what they hold, and the
+/// taker leaves each once everything that was put there was taken.
 #[derive(Drop)]
 pub struct Taker {
     pub(crate) alloc: Global,
     pub(crate) end: EndId,
-    /// The epoch of the taker's queue.
+    /// The epoch of the taker's queue, which is the oldest one.
     pub(crate) epoch: u32,
+    pub(crate) lines: u8,
+    /// The retired queues from the taker's on, the oldest first.
+    pub(crate) retired: VecDeque<Place>,
     pub(crate) newest: Place,
 }
 
 impl Model for Taker {
-    ghost use Rattle.std.specs.Prelude.{[], ◌∷◌};
     ghost use Rattle.hub_queue.specs.Taking.{TakerSeat, IsTakers};
 
     ghost Value = { TakerSeat };
 
-    ghost view = { λ t. record { end = t.end.0; epoch = t.epoch; places = t.newest ∷ [] } };
+    ghost view = { λ t. record {
+      end = t.end.0;
+      epoch = t.epoch;
+      retired = t.retired.items;
+      newest = t.newest;
+    } };
 
-    ghost invariant = { λ t. IsTakers t.end.0 t.epoch t.newest };
+    ghost invariant = { λ t. IsTakers t.lines (record {
+      end = t.end.0;
+      epoch = t.epoch;
+      retired = t.retired.items;
+      newest = t.newest;
+    }) };
+}
+
+// Takes from the oldest of these queues, which are retired, and frees it once it was left. `None`
+// where there is none.
+fn take_oldest<L: Ledger, R: Wait>(
+    rt: &R,
+    retired: &mut VecDeque<Place>,
+    steps: &mut Steps<L>,
+) -> Option<Took>
+    requires { AllByRecursion IsShut retired.old.items }
+    ensures { IsTakenOldest retired.old.items retired.new.items steps.old steps.new result }
+{
+    let place = retired.front_mut()?;
+    match place.take_retired(rt, steps) {
+        Took::Again => {
+            retired.pop_front();
+            Some(Took::Again)
+        }
+        took => Some(took),
+    }
 }
 
 impl Taker {
@@ -39,18 +85,71 @@ impl Taker {
     pub fn start(&mut self)
         ensures { self.new ≡ started self.old }
     {
-        self.newest.keeper.enable();
+        self.newest.enable();
     }
 
-    /// Takes the first envelope of the taker's queue.
+    /// Takes the first envelope of the taker's queue. It never takes from a newer queue before it
+    /// has left the older one.
     ///
-    /// `Disabled` exactly where the end isn't enabled, and then nothing is popped. `Empty` only by
-    /// a pop of this call that found none: at that moment everything that was put was taken. The
-    /// last parameter counts the pops.
+    /// `Disabled` exactly where the newest gate isn't enabled, and then nothing is popped. `Empty`
+    /// and `Busy` only by a pop of this call that found none, `Busy` also by a look of this call
+    /// that found somebody. At `Again` the queue that was left is freed; its gate's word stays for
+    /// the lines that still stand there. The last parameter counts the pops.
     pub fn take<L: Ledger, R: Wait>(&mut self, rt: &R, steps: &mut Steps<L>) -> Took
         ensures { IsTaken self.old self.new steps.old steps.new result }
     {
-        self.newest.take_newest(rt, steps)
+        if !self.newest.enabled() {
+            return Took::Disabled;
+        }
+        let Some(took) = take_oldest(rt, &mut self.retired, steps) else {
+            return self.newest.take_newest(rt, steps);
+        };
+        match took {
+            Took::Again => {
+                self.epoch += 1;
+                Took::Again
+            }
+            took => took,
+        }
+    }
+
+    /// How many queues there are from the taker's to the newest, that one not counted.
+    pub fn behind(&self) -> u32
+        ensures { result ≡ length self.now.retired }
+    {
+        self.retired.len() as u32
+    }
+
+    /// Moves the end to another loop (WHATWG HTML, "Message ports": the transfer-receiving steps,
+    /// in which the port message queue moves along). There is one queue more, new and disabled,
+    /// whose posters ring this bell, and the yard has an onward poster for each line. Only then the
+    /// old gate is retired, so that no line can be turned before it has one.
+    ///
+    /// After an error the taker is as it was, and the onward posters were taken back from the yard.
+    pub fn adopt<R: Wait>(
+        mut self,
+        rt: &R,
+        yard: &Depot<Onward>,
+        bell: Bell,
+    ) -> Result<Taker, (AdoptError, Taker)>
+        ensures { IsAdopted self result }
+    {
+        let moves = self.epoch + self.behind();
+        if moves == MAX_MOVES {
+            return Err((AdoptError::TooManyMoves, self));
+        }
+        if self.retired.reserve(1).is_err() {
+            return Err((AdoptError::OutOfMemory, self));
+        }
+        match open_next(rt, yard, self.alloc, self.end, moves + 1, self.lines, &bell) {
+            Ok(place) => {
+                self.newest.retire();
+                let older = replace(&mut self.newest, place);
+                self.retired.push_back_reserved(older);
+                Ok(self)
+            }
+            Err(error) => Err((error, self)),
+        }
     }
 
     /// Closes the end: every later entry is turned. Whoever is inside may still put an envelope;
@@ -62,14 +161,16 @@ impl Taker {
             alloc,
             end,
             epoch,
+            lines: _,
+            retired,
             mut newest,
         } = self;
-        newest.keeper.close();
+        newest.close();
         Grave {
             end,
             epoch,
+            retired,
             newest,
-            settled: false,
             envelopes: Vec::new(alloc),
         }
     }

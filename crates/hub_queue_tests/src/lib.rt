@@ -6,11 +6,17 @@
 #[cfg(test)]
 mod held;
 #[cfg(test)]
+mod held_moves;
+#[cfg(test)]
 mod mailboxes;
 #[cfg(test)]
 mod meetings;
 #[cfg(test)]
 mod memory;
+#[cfg(test)]
+mod moves;
+#[cfg(test)]
+mod moves_under_fire;
 #[cfg(test)]
 mod parts;
 #[cfg(test)]

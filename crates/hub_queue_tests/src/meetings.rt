@@ -55,12 +55,15 @@ fn take_one<L: Ledger, R: Wait>(
     taker: &mut Taker,
     poster: &Poster,
     steps: &mut Steps<L>,
-) -> Took
+) -> Result<(), Fail>
     requires { AreTogether poster.now taker.old }
-    ensures { AreTogether poster.now taker.new }
+    ensures { IfOk result (λ _. AreTogether poster.now taker.new) }
 {
     let _ = poster;
-    taker.take(rt, steps)
+    let Took::Got(_) = taker.take(rt, steps) else {
+        return Err(Fail::from("nothing was taken"));
+    };
+    Ok(())
 }
 
 fn meets<L: Ledger, R: Abort + Wait>(rt: &R, alloc: Global, blank: Blank) -> Result<(), Fail>
@@ -73,10 +76,9 @@ fn meets<L: Ledger, R: Abort + Wait>(rt: &R, alloc: Global, blank: Blank) -> Res
     post_one(rt, alloc, &yard, &mut poster, &taker)?;
     post_one(rt, alloc, &yard, &mut poster, &taker)?;
     start(&mut taker, &poster);
-    let first = take_one(rt, &mut taker, &poster, &mut steps);
-    let second = take_one(rt, &mut taker, &poster, &mut steps);
+    take_one(rt, &mut taker, &poster, &mut steps)?;
+    take_one(rt, &mut taker, &poster, &mut steps)?;
     let met = meet(rt, &mut poster, &mut taker);
-    assert!(rt; matches!(first, Took::Got(_)) && matches!(second, Took::Got(_)));
     assert_eq!(rt; met, Meeting::Met { put: 3, got: 2 });
     Ok(())
 }
@@ -101,5 +103,35 @@ fn strangers_do_not_meet(rt: HostRuntime) -> Result<(), Fail> {
     let (_taker, mut poster) = opened(rt.alloc(), EndId(0))?;
     let (mut other, _poster) = opened(rt.alloc(), EndId(1))?;
     assert_eq!(rt; meet(&rt, &mut poster, &mut other), Meeting::Strangers);
+    Ok(())
+}
+
+// Moves the end on.
+fn adopt_one<R: Wait>(
+    rt: &R,
+    alloc: Global,
+    yard: &Depot<Onward>,
+    taker: Taker,
+    poster: &Poster,
+) -> Result<Taker, Fail>
+    requires { AreTogether poster.now taker }
+    ensures { IfOk result (λ moved. AreTogether poster.now moved) }
+{
+    let _ = poster;
+    match taker.adopt(rt, yard, bell(alloc)?) {
+        Ok(moved) => Ok(moved),
+        Err((error, _)) => Err(Fail::from(error)),
+    }
+}
+
+#[test]
+fn a_poster_that_went_on_is_a_stranger(rt: HostRuntime) -> Result<(), Fail> {
+    let alloc = rt.alloc();
+    let yard = Depot::new(alloc);
+    let (taker, mut poster) = opened(alloc, EndId(0))?;
+    let mut taker = adopt_one(&rt, alloc, &yard, taker, &poster)?;
+    assert_eq!(rt; meet(&rt, &mut poster, &mut taker), Meeting::Turned);
+    post_one(&rt, alloc, &yard, &mut poster, &taker)?;
+    assert_eq!(rt; meet(&rt, &mut poster, &mut taker), Meeting::Strangers);
     Ok(())
 }

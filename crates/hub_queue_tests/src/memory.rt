@@ -1,7 +1,7 @@
-use crate::parts::{draft_of, try_one_line};
+use crate::parts::{draft_of, try_bell, try_one_line};
 use hub_depot::Depot;
 use hub_envelope::Draft;
-use hub_queue::{Onward, PostError, Poster, Sweep, Swept, Taker};
+use hub_queue::{AdoptError, Bell, Onward, PostError, Poster, Sweep, Swept, Taker};
 use std::alloc::Global;
 use std::process::Abort;
 use std::sync::Wait;
@@ -68,5 +68,50 @@ fn posts_and_sweeps_whichever_allocation_is_refused(rt: HostRuntime) -> Result<(
     for (number, envelope) in swept.envelopes().iter().enumerate() {
         assert_eq!(rt; envelope.number, number as u64);
     }
+    Ok(())
+}
+
+fn belled(alloc: Global) -> Option<Bell> {
+    match try_bell(alloc) {
+        Some(bell) => Some(bell),
+        None => try_bell(alloc),
+    }
+}
+
+// Moves the end on, and once more where there was no memory: then the taker is as it was, a post
+// goes to the old queue, and the yard keeps nothing.
+fn moved<R: Abort + Wait>(
+    rt: &R,
+    alloc: Global,
+    yard: &Depot<Onward>,
+    taker: Taker,
+    poster: &mut Poster,
+) -> Option<Taker> {
+    match taker.adopt(rt, yard, belled(alloc)?) {
+        Ok(taker) => Some(taker),
+        Err((error, taker)) => {
+            assert_eq!(rt; error, AdoptError::OutOfMemory);
+            assert_eq!(rt; taker.behind(), 0);
+            assert!(rt; yard.take_any(rt).is_none());
+            assert_eq!(rt; post(rt, yard, poster, drafted(alloc)?), Some(0));
+            taker.adopt(rt, yard, belled(alloc)?).ok()
+        }
+    }
+}
+
+#[test]
+fn moves_and_sweeps_whichever_allocation_is_refused(rt: HostRuntime) -> Result<(), Fail> {
+    let alloc = rt.alloc();
+    let yard = Depot::new(alloc);
+    let (taker, mut poster) = opened(alloc).ok_or("no mailbox")?;
+    let taker = moved(&rt, alloc, &yard, taker, &mut poster).ok_or("not adopted")?;
+    assert_eq!(rt; taker.behind(), 1);
+    let draft = drafted(alloc).ok_or("no draft")?;
+    assert_eq!(rt; post(&rt, &yard, &mut poster, draft), Some(0));
+    let swept = swept(&rt, taker).ok_or("not swept")?;
+    assert_eq!(rt;
+        swept.envelopes().last().map(|envelope| envelope.epoch),
+        Some(1)
+    );
     Ok(())
 }

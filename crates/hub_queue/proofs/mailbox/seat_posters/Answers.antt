@@ -8,7 +8,7 @@ use Rattle.hub_queue.proofs.mailbox.seat_posters.Goals as goal
 
 pub overflow_cast-name : goal.overflow_cast-name
 overflow_cast-name c =
-    let many = many_entries _ _ _ _ c.requires.open in
+    let many = many_entries _ _ _ _ _ c.requires.open in
     let count = c.loop-line.invariant.count in
     omega arith
 
@@ -20,7 +20,7 @@ invariant_of-stand c =
     let count = kept.count in
     let longer = ap length last in
     let low : c.loop-line.line < length c.args.entries.items = omega (arith, length-append c.pop.new.self.items (c.unwrap-entry.result ∷ [])) in
-    stand_holds _ _ _ _ _ (some_is _ _ (sym next.1 ∙ ap (slice_get c.args.entries.items) kept.split.2 ∙ entry_at _ _ _ _ c.requires.open c.loop-line.line low))
+    (stand_holds _ _ _ _ _ _ (some_is _ _ (sym next.1 ∙ ap (slice_get c.args.entries.items) kept.split.2 ∙ entry_at _ _ _ _ _ c.requires.open c.loop-line.line low))).0
 
 pub loop-line-preserved : goal.loop-line-preserved
 loop-line-preserved c =
@@ -30,7 +30,7 @@ loop-line-preserved c =
     let count = kept.count in
     let longer = ap length last in
     let low : c.loop-line.line < length c.args.entries.items = omega (arith, length-append c.pop.new.self.items (c.unwrap-entry.result ∷ [])) in
-    let entry_is = some_is _ _ (sym next.1 ∙ ap (slice_get c.args.entries.items) kept.split.2 ∙ entry_at _ _ _ _ c.requires.open c.loop-line.line low) in
+    let entry_is = some_is _ _ (sym next.1 ∙ ap (slice_get c.args.entries.items) kept.split.2 ∙ entry_at _ _ _ _ _ c.requires.open c.loop-line.line low) in
     record {
       count = omega (arith, length-append c.pop.new.self.items (c.unwrap-entry.result ∷ []));
       split = (kept.split.0 ++ c.unwrap-entry.result ∷ [], next.0, length-append kept.split.0 (c.unwrap-entry.result ∷ []) ∙ ap (λ n. n + 1) kept.split.2);
@@ -39,7 +39,7 @@ loop-line-preserved c =
 
 pub returns : goal.returns
 returns c =
-    let many = many_entries _ _ _ _ c.requires.open in
+    let many = many_entries _ _ _ _ _ c.requires.open in
     let count = c.loop-line.invariant.count in
     let at_end : c.loop-line.line ≡ c.args.place.now.at.lines = omega arith in
     c.loop-line.invariant.posters ∙ ap (new_stands c.args.place.now.keeper.gate c.args.place.now.queue c.args.end) at_end

@@ -9,4 +9,4 @@ with_rule-requires c = begins
 pub invariant_of-place : goal.invariant_of-place
 invariant_of-place c =
     let is = place_holds _ _ _ _ _ _ _ _ c.requires.lines.0 c.requires.lines.1 c.in_ok-rights.ensures.taker c.in_ok-rights.ensures.rights c.in-Ok.ensures.opened in
-    (c.in_ok-rights.ensures.queue, is.0, is.1, none_counted _ _ (ap (λ t. t.got) is.2.at) refl)
+    (c.in_ok-rights.ensures.queue, is.0, is.1, none_counted _ _ (ap (λ t. t.got) is.3.at) refl, is.2)

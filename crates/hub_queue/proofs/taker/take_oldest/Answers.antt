@@ -1,0 +1,15 @@
+use Rattle.std.proofs.Common.{◌<◌, refl, sym, subst, ◌∙◌}
+use Rattle.hub_queue.proofs.Chains.{at_front, set_front, stays_after}
+use Rattle.hub_queue.proofs.taker.take_oldest.Goals as goal
+
+pub returns-in_default : goal.returns-in_default
+returns-in_default g c =
+    let low = subst (λ n. 0 < n) c.args.retired.now.ok.0 (c.in_ok-place.ensures.variant.0 refl) in
+    let front = at_front _ _ low c.in_ok-place.ensures.value in (
+      c.in_ok-place.place.now,
+      c.take_retired.new.self,
+      front.0,
+      front.1,
+      set_front _ _ c.take_retired.new.self _ front.1 ∙ sym (stays_after _ _ _ c.in_default.not-Again),
+      c.take_retired.ensures,
+    )

@@ -1,0 +1,38 @@
+-- What an adoption comes to.
+use Rattle.std.specs.Prelude.{◌≡◌, ◌≢◌, ℕ, ◌+◌, [], ◌∷◌, ◌++◌, length, Result, Ok, Err}
+use Rattle.hub_core.specs.declared.limits.TheConstants.{MAX_MOVES}
+use Rattle.hub_queue.specs.declared.adopt_error.AdoptError.{AdoptError}
+use Rattle.hub_queue.specs.declared.adopt_error.AdoptError.TheVariants.{TooManyMoves, Taken, OutOfMemory}
+use Rattle.hub_queue.specs.Mailboxes.{IsNewPlace}
+use Rattle.hub_queue.specs.Places.{PlaceSeat}
+use Rattle.hub_queue.specs.Taking.{TakerSeat}
+
+-- the queue, whose gate was retired once more
+abbrev pub retired_place : PlaceSeat → PlaceSeat
+retired_place p = record p { keeper = record p.keeper { at = record p.keeper.at { retires = p.keeper.at.retires + 1 } } }
+
+-- the epoch of the newest queue, which is how often the end was adopted
+abbrev pub newest_epoch : TakerSeat → ℕ
+newest_epoch t = t.epoch + length t.retired
+
+-- the gate that was newest was retired once more, and there is one queue more, which is new; the older queues are as they were
+pub record IsMoved (old new : TakerSeat) : Type 0 where
+  pub new_is : new ≡ record { end = old.end; epoch = old.epoch; retired = old.retired ++ retired_place old.newest ∷ []; newest = new.newest }
+  pub newest : IsNewPlace old.end (newest_epoch old + 1) old.newest.at.lines new.newest
+
+-- the adoption was refused for another reason than too many moves
+abbrev pub IsRefused : AdoptError → Type 0
+IsRefused TooManyMoves = ⊥
+IsRefused Taken = Unit {0}
+IsRefused OutOfMemory = Unit {0}
+
+-- too many moves is answered where the end was adopted as often as it may be, and the others elsewhere
+abbrev pub IsRefusedAs : ℕ → AdoptError → Type 0
+IsRefusedAs moves TooManyMoves = moves ≡ MAX_MOVES
+IsRefusedAs moves Taken = moves ≢ MAX_MOVES
+IsRefusedAs moves OutOfMemory = moves ≢ MAX_MOVES
+
+-- Ok: the end has moved, and was not adopted as often as it may be. Err: the taker is as it was.
+abbrev pub IsAdopted : TakerSeat → Result TakerSeat (AdoptError × TakerSeat) → Type 0
+IsAdopted old (Ok new) = IsMoved old new × (newest_epoch old ≢ MAX_MOVES)
+IsAdopted old (Err refused) = (refused.1 ≡ old) × IsRefusedAs (newest_epoch old) refused.0
