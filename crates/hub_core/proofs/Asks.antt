@@ -19,6 +19,7 @@ use Rattle.hub_core.proofs.Frames.{ShownAt}
 use Rattle.hub_core.proofs.Holders.{poster_kept}
 use Rattle.hub_core.proofs.Travels.{leave_kept}
 use Rattle.hub_core.specs.Made.{peer_of}
+use Rattle.hub_core.specs.Roster.{CastNow}
 
 -- ---- posting
 
@@ -33,16 +34,16 @@ post_line : (f : Facts) (s : Sender) (p : Option AgentId) (o : Option Line) → 
 post_line f s p None line missing = rw (missing refl) refl
 post_line f s p (Some y) line missing = third (is_some p) (is_out y.phase) (not y.has_noticed) ∙ ap (λ (z : LineNow). is_some p && is_out z.phase && not z.noticed) (sym line)
 
-no_line_no_poster : (agents : List Agent) (ends : List End) (l : ℕ) (x : End) → slice_get x.lines l ≡ None → is_some (kept_poster_of agents ends l (Some x)) ≡ false
-no_line_no_poster agents ends l x none = rw none refl
+no_line_no_poster : (agents : List Agent) (ends : List End) (c : Option CastNow) (s : Sender) (x : End) → slice_get x.lines s.line.0 ≡ None → is_some (kept_poster_of agents ends c s (Some x)) ≡ false
+no_line_no_poster agents ends c s x none = rw none refl
 
-post_end : (agents : List Agent) (ends : List End) (f : Facts) (s : Sender) → (o : Option End) → ShownAt f s.end.0 o → (is_some (kept_poster_of agents ends s.line.0 o) && kept_comes_at s.line.0 o) ≡ (is_some (kept_poster_of agents ends s.line.0 o) && is_out (phase_of_line f s) && not (f.line s.end.0 s.line.0).noticed)
-post_end agents ends f s None shown = refl
-post_end agents ends f s (Some x) shown = post_line f s (kept_poster_of agents ends s.line.0 (Some x)) (slice_get x.lines s.line.0) (shown.lines s.line.0) (λ none. no_line_no_poster agents ends s.line.0 x none)
+post_end : (agents : List Agent) (ends : List End) (f : Facts) (c : Option CastNow) (s : Sender) → (o : Option End) → ShownAt f s.end.0 o → (is_some (kept_poster_of agents ends c s o) && kept_comes_at s.line.0 o) ≡ (is_some (kept_poster_of agents ends c s o) && is_out (phase_of_line f s) && not (f.line s.end.0 s.line.0).noticed)
+post_end agents ends f c s None shown = refl
+post_end agents ends f c s (Some x) shown = post_line f s (kept_poster_of agents ends c s (Some x)) (slice_get x.lines s.line.0) (shown.lines s.line.0) (λ none. no_line_no_poster agents ends c s x none)
 
-pub post_kept : (agents : List Agent) (ends : List End) (f : Facts) (s : Sender) → ShowsFacts agents ends f → kept_may_post agents ends s ≡ may_post f s
-post_kept agents ends f s h =
-    post_end agents ends f s (slice_get ends s.end.0) (h.end s.end.0) ∙ ap (λ p. is_some p && is_out (phase_of_line f s) && not (f.line s.end.0 s.line.0).noticed) (poster_kept agents ends f s h)
+pub post_kept : (agents : List Agent) (ends : List End) (f : Facts) (c : Option CastNow) (s : Sender) → ShowsFacts agents ends f → f.roster.cast ≡ c → kept_may_post agents ends c s ≡ may_post f s
+post_kept agents ends f c s h cast =
+    post_end agents ends f c s (slice_get ends s.end.0) (h.end s.end.0) ∙ ap (λ p. is_some p && is_out (phase_of_line f s) && not (f.line s.end.0 s.line.0).noticed) (poster_kept agents ends f c s h cast)
 
 -- ---- lists
 
@@ -63,10 +64,10 @@ list_by agents ends f s ports x h shown None = refl
 list_by agents ends f s ports x h shown (Some a) =
     ap (λ b. cond (not b) Bad (cond (names ports s.end.0) HoldsTarget Good)) (all_leave agents ends f a s x.kind h (ap (λ (z : EndNow). z.kind) shown.same) ports)
 
-list_end : (agents : List Agent) (ends : List End) (f : Facts) (s : Sender) (ports : List EndId) → ShowsFacts agents ends f → (o : Option End) → ShownAt f s.end.0 o → kept_listing_at ends s ports (kept_poster_of agents ends s.line.0 o) o ≡ listing_of f s ports (kept_poster_of agents ends s.line.0 o)
-list_end agents ends f s ports h None shown = refl
-list_end agents ends f s ports h (Some x) shown = list_by agents ends f s ports x h shown (kept_poster_of agents ends s.line.0 (Some x))
+list_end : (agents : List Agent) (ends : List End) (f : Facts) (c : Option CastNow) (s : Sender) (ports : List EndId) → ShowsFacts agents ends f → (o : Option End) → ShownAt f s.end.0 o → kept_listing_at ends s ports (kept_poster_of agents ends c s o) o ≡ listing_of f s ports (kept_poster_of agents ends c s o)
+list_end agents ends f c s ports h None shown = refl
+list_end agents ends f c s ports h (Some x) shown = list_by agents ends f s ports x h shown (kept_poster_of agents ends c s (Some x))
 
-pub listing_kept : (agents : List Agent) (ends : List End) (f : Facts) (s : Sender) (ports : List EndId) → ShowsFacts agents ends f → kept_listing agents ends s ports ≡ listing f s ports
-listing_kept agents ends f s ports h =
-    list_end agents ends f s ports h (slice_get ends s.end.0) (h.end s.end.0) ∙ ap (listing_of f s ports) (poster_kept agents ends f s h)
+pub listing_kept : (agents : List Agent) (ends : List End) (f : Facts) (c : Option CastNow) (s : Sender) (ports : List EndId) → ShowsFacts agents ends f → f.roster.cast ≡ c → kept_listing agents ends c s ports ≡ listing f s ports
+listing_kept agents ends f c s ports h cast =
+    list_end agents ends f c s ports h (slice_get ends s.end.0) (h.end s.end.0) ∙ ap (listing_of f s ports) (poster_kept agents ends f c s h cast)

@@ -5,7 +5,7 @@ use Rattle.std.proofs.lemmas.Bool.{false≢true, eqb-true, eqb-false, ne_eqb}
 use Rattle.hub_envelope.specs.declared.ids.AgentId.{AgentId}
 use Rattle.hub_envelope.specs.declared.ids.EndId.{EndId}
 use Rattle.hub_core.specs.declared.kind.Kind.{Kind}
-use Rattle.hub_core.specs.declared.kind.Kind.TheVariants.{Port, Client, Worker}
+use Rattle.hub_core.specs.declared.kind.Kind.TheVariants.{Port, Client, Worker, Member}
 use Rattle.hub_core.specs.declared.end.Place.{Place}
 use Rattle.hub_core.specs.declared.end.Place.TheVariants.{With, InFlight, Arrived, Swept, Gone}
 use Rattle.hub_core.specs.declared.sender.Sender.{Sender}
@@ -20,7 +20,7 @@ use Rattle.hub_core.specs.Shows.{count_away}
 use Rattle.hub_core.proofs.Lists.{eqb_same, both_of}
 use Rattle.hub_core.proofs.Totals.{bit}
 use Rattle.hub_core.proofs.Counts.{IsCalmAt, away_same, away_change}
-use Rattle.hub_core.proofs.Speakers.{no_port, port_of, hears_of}
+use Rattle.hub_core.proofs.Speakers.{no_port, port_of, hears_of, no_member}
 use Rattle.hub_core.specs.declared.line.Phase.{Phase}
 
 -- a line of a port counts for the agent that has the port, where its poster is away
@@ -42,6 +42,7 @@ calm_line a f g x l line (Some (Port q)) places =
     ])
 calm_line a f g x l line (Some Client) places = ap (λ (y : LineNow). not (is_out y.phase) && is_holder a y.held_by) line
 calm_line a f g x l line (Some Worker) places = ap (λ (y : LineNow). not (is_out y.phase) && is_holder a y.held_by) line
+calm_line a f g x l line (Some (Member b)) places = ap (λ (y : LineNow). not (is_out y.phase) && false) line
 calm_line a f g x l line None places = ap (λ (y : LineNow). not (is_out y.phase) && false) line
 
 pub calm_places : (a : AgentId) (f g : Facts) (x : ℕ) → (g.end x).kind ≡ (f.end x).kind → ((l : ℕ) → g.line x l ≡ f.line x l) → ((q : EndId) → (f.end x).kind ≡ Some (Port q) → (is_out (f.line x 0).phase ≡ true) ⊎ (is_with a (g.end q.0).place ≡ is_with a (f.end q.0).place)) → IsCalmAt a f g x
@@ -83,6 +84,7 @@ calm_gone a f g e p x h kind lines places free = calm_places a f g x kind lines 
     out_of_released (Some (Port r)) is out = let same : r.0 ≡ x = cc in subst (λ y. is_out (f.line y 0).phase ≡ true) same out
     out_of_released (Some Client) is out = absurd (search (rules, is))
     out_of_released (Some Worker) is out = absurd (search (rules, is))
+    out_of_released (Some (Member b)) is out = absurd (search (rules, is))
     out_of_released None is out = absurd (search (rules, is))
 
 -- a number that no line of a port has counts for nobody
@@ -93,6 +95,7 @@ far_line a f g d l kind line far = ap (λ k. not (is_out (g.line d l).phase) && 
     by_kind (Some (Port q)) = ap (λ c. not (is_out (g.line d l).phase) && (c && is_with a (g.end q.0).place)) far ∙ ap (λ (y : LineNow). not (is_out y.phase) && false) line ∙ sym (ap (λ c. not (is_out (f.line d l).phase) && (c && is_with a (f.end q.0).place)) far)
     by_kind (Some Client) = ap (λ (y : LineNow). not (is_out y.phase) && is_holder a y.held_by) line
     by_kind (Some Worker) = ap (λ (y : LineNow). not (is_out y.phase) && is_holder a y.held_by) line
+    by_kind (Some (Member b)) = ap (λ (y : LineNow). not (is_out y.phase) && false) line
     by_kind None = ap (λ (y : LineNow). not (is_out y.phase) && false) line
 
 -- one end came to an agent: a port brings its own poster along
@@ -124,6 +127,8 @@ came_away a b f g e h made ends kinds lines places nowhere (Some Client) is =
     away_same a f g ends (λ x less. calm_gone a f g e (Some (With b)) x h (kinds x) (lines x) places (ap (is_released f) is)) ∙ omega arith
 came_away a b f g e h made ends kinds lines places nowhere (Some Worker) is =
     away_same a f g ends (λ x less. calm_gone a f g e (Some (With b)) x h (kinds x) (lines x) places (ap (is_released f) is)) ∙ omega arith
+came_away a b f g e h made ends kinds lines places nowhere (Some (Member c)) is =
+    away_same a f g ends (λ x less. calm_gone a f g e (Some (With b)) x h (kinds x) (lines x) places (ap (is_released f) is)) ∙ omega arith
 came_away a b f g e h made ends kinds lines places nowhere None is =
     away_same a f g ends (λ x less. calm_gone a f g e (Some (With b)) x h (kinds x) (lines x) places (ap (is_released f) is)) ∙ omega arith
 
@@ -137,6 +142,7 @@ has_same a f g d l kind places held = ap (has_poster_of g a d l) kind ∙ by_kin
     by_kind (Some (Port q)) = ap (λ p. eqb l 0 && is_with a p) (places q.0)
     by_kind (Some Client) = ap (is_holder a) held
     by_kind (Some Worker) = ap (is_holder a) held
+    by_kind (Some (Member b)) = refl
     by_kind None = refl
 
 either_place : (x e l k : ℕ) → (x ≡ e → l ≡ k → ⊥) → (eqb x e && eqb l k) ≡ false
@@ -177,6 +183,9 @@ free_out f s h queue free = elim (is_out (f.line s.end.0 s.line.0).phase) as (λ
   | true ↦ λ is. refl
   | false ↦ λ away. elim (hears_of f s (h.away s away)) [
     | inl k ↦ absurd (no_port (f.end s.end.0).kind k.peer queue k.entangled)
-    | inr k ↦ absurd (search (rules, sym free ∙ k.held))
+    | inr other ↦ elim other [
+      | inl k ↦ absurd (search (rules, sym free ∙ k.held))
+      | inr k ↦ absurd (no_member (f.end s.end.0).kind k.1.maker queue k.1.member)
+    ]
   ]
 ] refl

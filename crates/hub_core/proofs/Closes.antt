@@ -28,7 +28,7 @@ use Rattle.hub_core.specs.declared.outcome.Outcome.{Outcome}
 use Rattle.hub_core.proofs.Counts.{Went, gone_length, gone_now, counted_went, counts_of}
 use Rattle.hub_core.proofs.Nexts.{next}
 use Rattle.hub_core.proofs.Speakers.{placed_made}
-use Rattle.hub_core.specs.declared.kind.Kind.TheVariants.{Port, Client, Worker}
+use Rattle.hub_core.specs.declared.kind.Kind.TheVariants.{Port, Client, Worker, Member}
 use Rattle.hub_core.proofs.Calms.{calm_gone}
 use Rattle.hub_core.proofs.Fitting.{closed_of}
 
@@ -43,6 +43,7 @@ released_kept agents ends f e h (Port q) is =
     own_end f q.0 e (slice_get ends q.0) (h.end q.0) back.1 (is_there ends q.0 (omega arith))
 released_kept agents ends f e h Client is = refl
 released_kept agents ends f e h Worker is = refl
+released_kept agents ends f e h (Member a) is = refl
 
 may_end : (agents : List Agent) (ends : List End) (f : Facts) (e : ℕ) → ShowsFacts agents ends f → (o : Option End) → ShownAt f e o → kept_may_close_of ends o ≡ may_close f e
 may_end agents ends f e h None at = sym (ap (λ (y : EndNow). is_here y.place && is_released f y.kind) at.same)

@@ -7,7 +7,7 @@ use Rattle.hub_envelope.specs.declared.ids.AgentId.{AgentId}
 use Rattle.hub_envelope.specs.declared.ids.EndId.{EndId}
 use Rattle.hub_core.specs.declared.agent.Agent.{Agent}
 use Rattle.hub_core.specs.declared.kind.Kind.{Kind}
-use Rattle.hub_core.specs.declared.kind.Kind.TheVariants.{Port, Client, Worker}
+use Rattle.hub_core.specs.declared.kind.Kind.TheVariants.{Port, Client, Worker, Member}
 use Rattle.hub_core.specs.declared.end.End.{End}
 use Rattle.hub_core.specs.declared.end.Place.{Place}
 use Rattle.hub_core.specs.declared.end.Place.TheVariants.{With, InFlight, Arrived, Swept, Gone}
@@ -196,11 +196,13 @@ more_now : (k : Kind) (x : Agent) → agent_now (Some (one_more k x)) ≡ agent_
 more_now (Port q) x = refl
 more_now Client x = refl
 more_now Worker x = refl
+more_now (Member a) x = refl
 
 less_now : (k : Kind) (x : Agent) → agent_now (Some (one_less k x)) ≡ agent_now (Some x)
 less_now (Port q) x = refl
 less_now Client x = refl
 less_now Worker x = refl
+less_now (Member a) x = refl
 
 pub come_now : (k : Kind) (b : AgentId) (agents : List Agent) (a : ℕ) → agent_now (slice_get (come k b agents) a) ≡ agent_now (slice_get agents a)
 come_now k b agents a = change_now (one_more k) agents b.0 a (more_now k)
@@ -237,11 +239,13 @@ more_away : (k : Kind) (x : Agent) → (one_more k x).away ≡ x.away
 more_away (Port q) x = refl
 more_away Client x = refl
 more_away Worker x = refl
+more_away (Member a) x = refl
 
 less_away : (k : Kind) (x : Agent) → (one_less k x).away ≡ x.away
 less_away (Port q) x = refl
 less_away Client x = refl
 less_away Worker x = refl
+less_away (Member a) x = refl
 
 come_away : (k : Kind) (b : AgentId) (agents : List Agent) (a : ℕ) → kept_away (slice_get (come k b agents) a) ≡ kept_away (slice_get agents a)
 come_away k b agents a = change_away (one_more k) agents b.0 a (more_away k)
@@ -265,15 +269,17 @@ clients_by = record {
 }
   where
     clients_less : (k : Kind) (o : Option Agent) → kept_clients (option_map (one_less k) o) ≡ kept_clients o - bit (is_client (Some k))
-    clients_less k None = elim k as (λ j. 0 ≡ 0 - bit (is_client (Some j))) [ Port q ↦ refl | Client ↦ refl | Worker ↦ refl ]
+    clients_less k None = elim k as (λ j. 0 ≡ 0 - bit (is_client (Some j))) [ Port q ↦ refl | Client ↦ refl | Worker ↦ refl | Member a ↦ refl ]
     clients_less (Port q) (Some x) = omega arith
     clients_less Client (Some x) = refl
     clients_less Worker (Some x) = omega arith
+    clients_less (Member a) (Some x) = omega arith
 
     clients_more : (k : Kind) (x : Agent) → kept_clients (Some (one_more k x)) ≡ x.clients + bit (is_client (Some k))
     clients_more (Port q) x = omega arith
     clients_more Client x = refl
     clients_more Worker x = omega arith
+    clients_more (Member a) x = omega arith
 
 workers_by : CountsBy kept_workers is_worker
 workers_by = record {
@@ -282,15 +288,17 @@ workers_by = record {
 }
   where
     workers_less : (k : Kind) (o : Option Agent) → kept_workers (option_map (one_less k) o) ≡ kept_workers o - bit (is_worker (Some k))
-    workers_less k None = elim k as (λ j. 0 ≡ 0 - bit (is_worker (Some j))) [ Port q ↦ refl | Client ↦ refl | Worker ↦ refl ]
+    workers_less k None = elim k as (λ j. 0 ≡ 0 - bit (is_worker (Some j))) [ Port q ↦ refl | Client ↦ refl | Worker ↦ refl | Member a ↦ refl ]
     workers_less (Port q) (Some x) = omega arith
     workers_less Client (Some x) = omega arith
     workers_less Worker (Some x) = refl
+    workers_less (Member a) (Some x) = omega arith
 
     workers_more : (k : Kind) (x : Agent) → kept_workers (Some (one_more k x)) ≡ x.workers + bit (is_worker (Some k))
     workers_more (Port q) x = omega arith
     workers_more Client x = omega arith
     workers_more Worker x = refl
+    workers_more (Member a) x = omega arith
 
 bit_and : (b c : Bool) (n : ℕ) → cond c (n - bit b) n ≡ n - bit (b && c)
 bit_and true true n = refl
@@ -361,12 +369,14 @@ no_client : (k : Option Kind) → is_some (peer_of k) ≡ true → is_client k �
 no_client (Some (Port q)) h = refl
 no_client (Some Client) h = absurd (false≢true h)
 no_client (Some Worker) h = refl
+no_client (Some (Member a)) h = refl
 no_client None h = refl
 
 no_worker : (k : Option Kind) → is_some (peer_of k) ≡ true → is_worker k ≡ false
 no_worker (Some (Port q)) h = refl
 no_worker (Some Client) h = refl
 no_worker (Some Worker) h = absurd (false≢true h)
+no_worker (Some (Member a)) h = refl
 no_worker None h = refl
 
 pub counts_still : (agents : List Agent) (ends : List End) (f g : Facts) → ShowsFacts agents ends f → g.ends ≡ f.ends → ((d : ℕ) → (g.end d).kind ≡ (f.end d).kind) → ((d : ℕ) → (g.end d).place ≡ (f.end d).place) → ((a : AgentId) (d l : ℕ) → is_away_of g a d l ≡ is_away_of f a d l) → Counted agents g
@@ -434,6 +444,7 @@ lines_bound : (k : Option Kind) → lines_of k ≤ 32
 lines_bound (Some (Port q)) = omega arith
 lines_bound (Some Client) = omega arith
 lines_bound (Some Worker) = omega arith
+lines_bound (Some (Member a)) = omega arith
 lines_bound None = omega arith
 
 at_bound : (a : AgentId) (f : Facts) (x : ℕ) → away_at a f x ≤ 32

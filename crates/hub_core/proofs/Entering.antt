@@ -11,6 +11,7 @@ use Rattle.hub_core.specs.declared.agent.Agent.{Agent}
 use Rattle.hub_core.specs.declared.line.Line.{Line}
 use Rattle.hub_core.specs.declared.line.Phase.{Phase}
 use Rattle.hub_core.specs.declared.line.Phase.TheVariants.{Out, Inside, Turned}
+use Rattle.hub_core.specs.Roster.{CastNow}
 use Rattle.hub_core.specs.declared.sender.Sender.{Sender}
 use Rattle.hub_core.specs.declared.end.End.{End}
 use Rattle.hub_core.specs.declared.step.Action.TheVariants as action
@@ -31,11 +32,11 @@ use Rattle.hub_core.specs.Ending.{is_holder, has_poster, has_poster_of, is_away_
 use Rattle.hub_core.specs.declared.end.Place.{Place}
 use Rattle.hub_core.specs.declared.kind.Kind.{Kind}
 use Rattle.hub_core.specs.declared.outcome.Outcome.{Outcome}
-use Rattle.hub_core.proofs.Speakers.{hears_of, no_port, made_of, running_made}
+use Rattle.hub_core.proofs.Speakers.{hears_of, no_port, made_of, running_made, no_member}
 use Rattle.hub_core.specs.Unchanged.{changes_nothing}
 use Rattle.hub_core.proofs.Nexts.{next}
 use Rattle.hub_core.specs.declared.end.Place.TheVariants.{With, Arrived, InFlight, Swept, Gone}
-use Rattle.hub_core.specs.declared.kind.Kind.TheVariants.{Port, Client, Worker}
+use Rattle.hub_core.specs.declared.kind.Kind.TheVariants.{Port, Client, Worker, Member}
 use Rattle.hub_core.proofs.Totals.{bit}
 use Rattle.hub_core.proofs.Calms.{phase_away}
 
@@ -118,6 +119,7 @@ owner_by_kind agents ends f l ls y held a h (Port q) count is same x line =
     ap (λ n. eqb n 0 && is_with a (f.end q.0).place) first ∙ with_owned a (f.end q.0).place ∙ ap (λ p. owns_it (with_agent p) a) (sym (place_kept agents ends f q.0 h))
 owner_by_kind agents ends f l ls y held a h Client count is same x line = ap (is_holder a) (line ∙ same) ∙ held_owned a y.held_by
 owner_by_kind agents ends f l ls y held a h Worker count is same x line = ap (is_holder a) (line ∙ same) ∙ held_owned a y.held_by
+owner_by_kind agents ends f l ls y held a h (Member b) count is same x line = refl
 
 owner_kept : (agents : List Agent) (ends : List End) (f : Facts) (s : Sender) (x : End) (y : Line) (a : AgentId) → ShowsFacts agents ends f → ShownAt f s.end.0 (Some x) → slice_get x.lines s.line.0 ≡ Some y → has_poster f a s.end.0 s.line.0 ≡ owns_it (kept_owner ends x.kind y) a
 owner_kept agents ends f s x y a h shown is =
@@ -129,11 +131,14 @@ owner_kept agents ends f s x y a h shown is =
 held_made : (agents : List Agent) (ends : List End) (f : Facts) (s : Sender) → ShowsFacts agents ends f → is_queue (f.end s.end.0).kind ≡ true → may_enter f s ≡ true → (b : AgentId) → (f.line s.end.0 s.line.0).held_by ≡ Some b → b.0 < length agents
 held_made agents ends f s h queue may b is = elim (hears_of f s may) [
   | inl k ↦ absurd (no_port (f.end s.end.0).kind k.peer queue k.entangled)
-  | inr k ↦
-      let same : k.agent ≡ b = search (rules, sym k.held ∙ is) in
-      let made : k.agent.0 < f.agents = running_made f k.agent h.sound.places k.runs in
-      let count : f.agents ≡ length agents = h.agents in
-      subst (λ (c : AgentId). c.0 < length agents) same (omega arith)
+  | inr other ↦ elim other [
+    | inl k ↦
+        let same : k.agent ≡ b = search (rules, sym k.held ∙ is) in
+        let made : k.agent.0 < f.agents = running_made f k.agent h.sound.places k.runs in
+        let count : f.agents ≡ length agents = h.agents in
+        subst (λ (c : AgentId). c.0 < length agents) same (omega arith)
+    | inr k ↦ absurd (no_member (f.end s.end.0).kind k.1.maker queue k.1.member)
+  ]
 ]
 
 -- it is one that was made
@@ -152,6 +157,7 @@ owner_made agents ends f s y h (Port q) kind line may b is =
     omega arith
 owner_made agents ends f s y h Client kind line may b is = held_made agents ends f s h (ap is_queue kind) may b (line ∙ is)
 owner_made agents ends f s y h Worker kind line may b is = held_made agents ends f s h (ap is_queue kind) may b (line ∙ is)
+owner_made agents ends f s y h (Member a) kind line may b is = absurd (search (rules, is))
 
 -- one poster more is away, of the line's owner
 entered_counts : (agents : List Agent) (ends : List End) (f : Facts) (s : Sender) (x : End) (y : Line) (o : Outcome) (p : Phase) → ShowsFacts agents ends f → ShownAt f s.end.0 (Some x) → slice_get x.lines s.line.0 ≡ Some y → Entered f s → is_out p ≡ false → ((d : ℕ) → ((next f (action.Enter s) o).end d) ≡ f.end d) → ((d l : ℕ) → (next f (action.Enter s) o).line d l ≡ phased_line f s p d l) → (next f (action.Enter s) o).ends ≡ f.ends → Counted (change_owner one_away (kept_owner ends x.kind y) agents) (next f (action.Enter s) o)
@@ -209,8 +215,8 @@ enter_end_shown agents ends f s refused h (Some x) at shown false is = unchanged
 enter_end_shown agents ends f s refused h (Some x) at shown true is =
     enter_line agents ends f s refused x h at (sym is) (slice_get x.lines s.line.0) refl (shown.lines s.line.0) shown.same (line_is_kept f s x (h.sound.lines s.end.0) shown (sym is))
 
-pub enter_shown : (agents : List Agent) (ends : List End) (f : Facts) (s : Sender) (refused : Bool) → ShowsFacts agents ends f → (let o : Outcome = enter_outcome_at (kept_may_enter agents ends s) s.line.0 (slice_get ends s.end.0) in Stepped (enter_agents (kept_owner_of ends s) agents o) (enter_ends_at (kept_may_enter agents ends s) s ends (slice_get ends s.end.0)) f (action.Enter s) refused o)
-enter_shown agents ends f s refused h = enter_end_shown agents ends f s refused h (slice_get ends s.end.0) refl (h.end s.end.0) (kept_may_enter agents ends s) (may_kept agents ends f s h)
+pub enter_shown : (agents : List Agent) (ends : List End) (f : Facts) (c : Option CastNow) (s : Sender) (refused : Bool) → ShowsFacts agents ends f → f.roster.cast ≡ c → (let o : Outcome = enter_outcome_at (kept_may_enter agents ends c s) s.line.0 (slice_get ends s.end.0) in Stepped (enter_agents (kept_owner_of ends s) agents o) (enter_ends_at (kept_may_enter agents ends c s) s ends (slice_get ends s.end.0)) f (action.Enter s) refused o)
+enter_shown agents ends f c s refused h cast = enter_end_shown agents ends f s refused h (slice_get ends s.end.0) refl (h.end s.end.0) (kept_may_enter agents ends c s) (may_kept agents ends f c s h cast)
 
 pub enter_agents_same : (owner : Option AgentId) (agents : List Agent) (s : Sender) (o : Outcome) → changes_nothing o (action.Enter s) ≡ true → enter_agents owner agents o ≡ agents
 enter_agents_same owner agents s outcome.In h = absurd (false≢true h)

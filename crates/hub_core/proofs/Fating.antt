@@ -28,7 +28,7 @@ use Rattle.hub_core.specs.Posting.{phase_of_line, is_inside}
 use Rattle.hub_core.specs.Sound.{IsOfEnd, total, naming, flights, Sound}
 use Rattle.hub_core.specs.Laws.{NoticeIsLast}
 use Rattle.hub_core.specs.Fates.{waiting, sweep_of, Fates}
-use Rattle.hub_core.proofs.Nexts.{next, facts_next, by_change, Change, agent_made, channel_made, let_in, found_moved, found_closed, put, notice_put, left, hopped, started, got, went_on, cleared, adopted, end_closed, end_swept, client_made, worker_made, line_got, line_back, handed, agent_ordered, agent_ended}
+use Rattle.hub_core.proofs.Nexts.{next, facts_next, by_change, Change, agent_made, channel_made, let_in, found_moved, found_closed, put, notice_put, left, hopped, started, got, went_on, cleared, adopted, end_closed, end_swept, client_made, worker_made, line_got, line_back, handed, agent_ordered, agent_ended, member_joined, cast_begun, member_parted}
 use Rattle.hub_core.proofs.Legals.{by_pairs, legal_at}
 use Rattle.hub_core.proofs.Lists.{eqb_same}
 use Rattle.hub_core.proofs.Totals.{total_same, count_append, count_lines}
@@ -147,7 +147,7 @@ module _ (f : Facts) (x : ℕ) (whole : List Envelope) (h : QuietAt f x whole) w
 
 -- it stays so with every pair that fits
 quiet_change : (f : Facts) {a : Action} (refused : Bool) {o : Outcome} (x : ℕ) (whole : List Envelope) → QuietAt f x whole → Answers f a refused o → Change a o → QuietAt (next f a o) x whole
-quiet_change f refused x whole h fits (agent_made n) = h
+quiet_change f refused x whole h fits (agent_made origin n) = h
 quiet_change f refused x whole h fits (channel_made a e e') = h
 quiet_change f refused x whole h fits (client_made a e) = h
 quiet_change f refused x whole h fits (worker_made a e) = h
@@ -155,11 +155,14 @@ quiet_change f refused x whole h fits (line_got e a l) = h
 quiet_change f refused x whole h fits (line_back s) = h
 quiet_change f refused x whole h fits (handed e b) = h
 quiet_change f refused x whole h fits (agent_ordered a) = h
+quiet_change f refused x whole h fits (member_joined a name e) = h
+quiet_change f refused x whole h fits (cast_begun e ports body ends) = h
+quiet_change f refused x whole h fits (member_parted e) = h
 quiet_change f refused x whole h fits (agent_ended a es) = h
 quiet_change f refused x whole h fits (let_in s) = quiet_phased f x whole h s Inside (λ _. not_open f x whole h s.end.0 (let_in_of f s fits).2)
 quiet_change f refused x whole h fits (found_moved s) = quiet_phased f x whole h s Turned (λ is. cc)
 quiet_change f refused x whole h fits (found_closed s) = quiet_phased f x whole h s Turned (λ is. cc)
-quiet_change f refused x whole h fits (put s ports body n) = quiet_put f x whole h (eqb x s.end.0) _ (not_inside f x whole h s (pushed_of f s ports.items refused n fits).inside)
+quiet_change f refused x whole h fits (put s ports body n) = quiet_put f x whole h (eqb x s.end.0) _ (not_inside f x whole h s (pushed_of f s ports.items body refused n fits).inside)
 quiet_change f refused x whole h fits (notice_put s n) = quiet_put f x whole h (eqb x s.end.0) _ (not_inside f x whole h s (noticed_of f s refused n fits).inside)
 quiet_change f refused x whole h fits (left s) = quiet_phased f x whole h s Out (λ is. cc)
 quiet_change f refused x whole h fits (hopped s k) = h

@@ -12,7 +12,7 @@ use Rattle.hub_core.specs.declared.outcome.Outcome.{Outcome}
 use Rattle.hub_core.specs.declared.outcome.Outcome.TheVariants as outcome
 use Rattle.hub_core.specs.Facts.{Facts}
 use Rattle.hub_core.specs.Making.{agent_answer, channel_answer, queue_answer, has_one}
-use Rattle.hub_core.specs.Posting.{holder, poster, phase_of_line, is_out, is_inside, is_good, enter_answer, leave_answer, push_answer_of, push_answer, may_enter, hears_notice, is_here, own_poster_out, next_name, notice_answer}
+use Rattle.hub_core.specs.Posting.{holder, poster, phase_of_line, is_out, is_inside, is_good, enter_answer, leave_answer, push_answer_of, push_answer, may_enter, hears_notice, is_here, own_poster_out, next_name, notice_answer, is_fitting, is_empty}
 use Rattle.hub_core.specs.Taking.{Serves, FitsTake, start_answer}
 use Rattle.std.proofs.lemmas.Bool.{false≢true, eqb-true, eqb-false}
 use Rattle.hub_core.specs.declared.limits.TheConstants.{MAX_MOVES, MAX_LINES, MAX_ENDS}
@@ -26,6 +26,9 @@ use Rattle.hub_core.specs.Made.{peer_of, is_queue, lines_of}
 use Rattle.hub_envelope.specs.declared.ids.LineId.{LineId}
 use Rattle.hub_core.specs.declared.kind.Kind.{Kind}
 use Rattle.hub_core.specs.Holding.{back_answer, line_found, line_answer, free_line}
+use Rattle.hub_core.specs.Casting.{member_answer, cast_answer, part_answer, is_casting, destinations}
+use Rattle.hub_core.specs.Roster.{has_end}
+use Rattle.hub_core.specs.Made.{maker_of}
 use Rattle.hub_core.specs.Ending.{see_answer, has_away, ends_at, has_poster, is_away_of}
 
 -- ---- tests
@@ -94,6 +97,46 @@ queue_made_of f test a refused e h =
     let r = queue_of ((f.agent a.0).runs && not (has_one test a f)) (nat_le MAX_ENDS f.ends) refused e (record { 0 = f.ends }) h in
     let both = both_tests (f.agent a.0).runs (has_one test a f) r.0 in
     record { runs = both.0; first = both.1; few = under_one f.ends (leb-false MAX_ENDS f.ends r.1); number = r.2 }
+
+-- ---- broadcast channels
+
+member_of : (may named full refused : Bool) (e n : EndId) → outcome.End e ≡ cond (not may) outcome.NotNow (cond (not named) outcome.NoOrigin (cond full outcome.TooManyEnds (cond refused outcome.NoMemory (outcome.End n)))) → (may ≡ true) × (named ≡ true) × (full ≡ false) × (e ≡ n)
+member_of false named full refused e n h = cc
+member_of true false full refused e n h = cc
+member_of true true true refused e n h = cc
+member_of true true false true e n h = cc
+member_of true true false false e n h = (refl, refl, refl, cc)
+
+-- a broadcast channel that was made
+pub record MakesMember (f : Facts) (a : AgentId) (e : EndId) : Type 0 where
+  pub runs : (f.agent a.0).runs ≡ true
+  pub over : is_casting f ≡ false
+  pub named : is_some (f.roster.origin a.0) ≡ true
+  pub few : f.ends + 1 ≤ MAX_ENDS
+  pub number : e ≡ record { 0 = f.ends }
+
+pub member_made_of : (f : Facts) (a : AgentId) (refused : Bool) (e : EndId) → outcome.End e ≡ member_answer f a refused → MakesMember f a e
+member_made_of f a refused e h =
+    let r = member_of ((f.agent a.0).runs && not (is_casting f)) (is_some (f.roster.origin a.0)) (nat_le MAX_ENDS f.ends) refused e (record { 0 = f.ends }) h in
+    let both = both_tests (f.agent a.0).runs (is_casting f) r.0 in
+    record { runs = both.0; over = both.1; named = r.1; few = under_one f.ends (leb-false MAX_ENDS f.ends r.2); number = r.3 }
+
+cast_when : (may seated held none : Bool) (es ds : List EndId) → outcome.Destinations es ≡ cond (not may) outcome.NotNow (cond (not seated) outcome.InvalidState (cond (not held) outcome.NotNow (cond (not none) outcome.NotTransferable (outcome.Destinations ds)))) → (may ≡ true) × (seated ≡ true) × (held ≡ true) × (none ≡ true) × (es ≡ ds)
+cast_when false seated held none es ds h = cc
+cast_when true false held none es ds h = cc
+cast_when true true false none es ds h = cc
+cast_when true true true false es ds h = cc
+cast_when true true true true es ds h = (refl, refl, refl, refl, cc)
+
+-- a cast that began
+pub record Begins (f : Facts) (e : EndId) (ends : List EndId) : Type 0 where
+  pub over : is_casting f ≡ false
+  pub all : ends ≡ destinations f e.0
+
+pub cast_of : (f : Facts) (e : EndId) (ports ends : List EndId) → outcome.Destinations ends ≡ cast_answer f e ports → Begins f e ends
+cast_of f e ports ends h =
+    let r = cast_when (is_some (maker_of (f.end e.0).kind) && not (is_casting f)) (has_end e.0 f.roster.members && not (f.end e.0).closed) (is_some (holder f e.0)) (is_empty ports) ends (destinations f e.0) h in
+    record { over = (both_tests (is_some (maker_of (f.end e.0).kind)) (is_casting f) r.0).1; all = r.4 }
 
 -- ---- entering and leaving
 
@@ -173,16 +216,17 @@ passed false noticed n o h = cc
 passed true true n o h = cc
 passed true false n o h = (refl, refl, h)
 
-pushed_by : (f : Facts) (s : Sender) (ports : List EndId) (refused : Bool) (n : Acceptance) (q : Option AgentId) → is_inside (phase_of_line f s) ≡ true → (f.line s.end.0 s.line.0).noticed ≡ false → poster f s ≡ q → outcome.Accepted n ≡ push_answer_of f s ports refused q → Pushed f s ports n
-pushed_by f s ports refused n None inside plain is h = cc
-pushed_by f s ports refused n (Some a) inside plain is h =
-    let r = granted (nat_lt MAX_PORTS (length ports)) (is_good f a s ports) refused n (next_name f s a) h in
-    record { inside = inside; plain = plain; agent = a; speaks = is; good = r.0; name = r.1 }
+pushed_by : (f : Facts) (s : Sender) (ports : List EndId) (fitting refused : Bool) (n : Acceptance) (q : Option AgentId) → is_inside (phase_of_line f s) ≡ true → (f.line s.end.0 s.line.0).noticed ≡ false → poster f s ≡ q → outcome.Accepted n ≡ push_answer_of f s ports fitting refused q → Pushed f s ports n
+pushed_by f s ports fitting refused n None inside plain is h = cc
+pushed_by f s ports fitting refused n (Some a) inside plain is h =
+    let r = granted (nat_lt MAX_PORTS (length ports)) (is_good f a s ports && fitting) refused n (next_name f s a) h in
+    record { inside = inside; plain = plain; agent = a; speaks = is; good = (both_of (is_good f a s ports) fitting r.0).0; name = r.1 }
 
-pub pushed_of : (f : Facts) (s : Sender) (ports : List EndId) (refused : Bool) (n : Acceptance) → outcome.Accepted n ≡ push_answer f s ports refused → Pushed f s ports n
-pushed_of f s ports refused n h =
-    let r = passed (is_inside (phase_of_line f s)) (f.line s.end.0 s.line.0).noticed n (push_answer_of f s ports refused (poster f s)) h in
-    pushed_by f s ports refused n (poster f s) r.0 r.1 refl r.2
+pub pushed_of : (f : Facts) (s : Sender) (ports : List EndId) (body : List ℕ) (refused : Bool) (n : Acceptance) → outcome.Accepted n ≡ push_answer f s ports body refused → Pushed f s ports n
+pushed_of f s ports body refused n h =
+    let fitting : Bool = is_fitting f.roster.cast (f.end s.end.0).kind ports body in
+    let r = passed (is_inside (phase_of_line f s)) (f.line s.end.0 s.line.0).noticed n (push_answer_of f s ports fitting refused (poster f s)) h in
+    pushed_by f s ports fitting refused n (poster f s) r.0 r.1 refl r.2
 
 -- a notice that was accepted
 pub record Noticed (f : Facts) (s : Sender) (n : Acceptance) : Type 0 where

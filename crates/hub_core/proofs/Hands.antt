@@ -31,7 +31,7 @@ use Rattle.hub_core.proofs.Holders.{holder_kept}
 use Rattle.hub_core.proofs.Fitting.{handed_of}
 use Rattle.hub_core.specs.declared.kind.Kind.{Kind}
 use Rattle.hub_core.proofs.Calms.{calm_gone}
-use Rattle.hub_core.specs.declared.kind.Kind.TheVariants.{Port, Client, Worker}
+use Rattle.hub_core.specs.declared.kind.Kind.TheVariants.{Port, Client, Worker, Member}
 
 -- ---- an end that was handed on
 
@@ -53,6 +53,7 @@ queue_released : (f : Facts) (k : Option Kind) → is_queue k ≡ true → is_re
 queue_released f (Some (Port q)) h = absurd (false≢true h)
 queue_released f (Some Client) h = refl
 queue_released f (Some Worker) h = refl
+queue_released f (Some (Member a)) h = refl
 queue_released f None h = refl
 
 moved_went : (f : Facts) (e : EndId) (b : AgentId) (x : End) → SoundPlaces f → is_released f (f.end e.0).kind ≡ true → f.end e.0 ≡ end_now (Some x) → Went f (next f (action.Hand e b) outcome.Handed) e.0 x.kind x.place

@@ -30,7 +30,7 @@ use Rattle.hub_core.specs.Sound.{Sound}
 use Rattle.hub_core.specs.Headline.{take_of, enter_of, is_line, leaves, posts, IsTurned, IsDrainedAt, Headline, IsBusyAt}
 use Rattle.hub_core.specs.Laws.{KeepsTheLine, TurnedPutsNothing, SameIsJoined}
 use Rattle.hub_core.proofs.Lists.{both_of, eqb_same}
-use Rattle.hub_core.proofs.Nexts.{next, facts_next, effect, Change, agent_made, channel_made, let_in, found_moved, found_closed, put, left, started, got, hopped, went_on, cleared, adopted, notice_put, end_closed, end_swept, client_made, worker_made, line_got, line_back, handed, agent_ordered, agent_ended}
+use Rattle.hub_core.proofs.Nexts.{next, facts_next, effect, Change, agent_made, channel_made, let_in, found_moved, found_closed, put, left, started, got, hopped, went_on, cleared, adopted, notice_put, end_closed, end_swept, client_made, worker_made, line_got, line_back, handed, agent_ordered, agent_ended, member_joined, cast_begun, member_parted}
 use Rattle.hub_core.proofs.Legals.{legal_apart, legal_joined, legal_at}
 use Rattle.hub_core.proofs.Fitting.{let_in_of, found_moved_of, found_closed_of, pushed_of, empty_of, any_of, busy_of, noticed_of}
 use Rattle.hub_core.proofs.SoundLines.{Numbered}
@@ -100,7 +100,7 @@ not_out f s t turned out is = absurd (search (rules, false≢true, sym (ap is_ou
 
 -- it stays so until it leaves
 stays_turned : (f : Facts) {a : Action} (refused : Bool) {o : Outcome} (s : Sender) → Answers f a refused o → phase_of_line f s ≡ Turned → leaves s o a ≡ false → Change a o → phase_of_line (next f a o) s ≡ Turned
-stays_turned f refused s fits turned stays (agent_made n) = turned
+stays_turned f refused s fits turned stays (agent_made origin n) = turned
 stays_turned f refused s fits turned stays (channel_made a e e') = turned
 stays_turned f refused s fits turned stays (client_made a e) = turned
 stays_turned f refused s fits turned stays (worker_made a e) = turned
@@ -108,6 +108,9 @@ stays_turned f refused s fits turned stays (line_got e a l) = turned
 stays_turned f refused s fits turned stays (line_back t) = turned
 stays_turned f refused s fits turned stays (handed e b) = turned
 stays_turned f refused s fits turned stays (agent_ordered a) = turned
+stays_turned f refused s fits turned stays (member_joined a name e) = turned
+stays_turned f refused s fits turned stays (cast_begun e ports body ends) = turned
+stays_turned f refused s fits turned stays (member_parted e) = turned
 stays_turned f refused s fits turned stays (agent_ended a es) = turned
 stays_turned f refused s fits turned stays (let_in t) = on_line_turned (is_line s t) Inside (phase_of_line f s) (not_out f s t turned (let_in_of f t fits).0.out) turned
 stays_turned f refused s fits turned stays (found_moved t) = on_line_turned (is_line s t) Turned (phase_of_line f s) (not_out f s t turned (found_moved_of f t fits).0.out) turned
@@ -136,7 +139,7 @@ posts_inside f s t turned inside false is = refl
 posts_inside f s t turned inside true is = absurd (search (rules, false≢true, sym (ap is_inside (sym (phase_there f s t is) ∙ turned)) ∙ inside))
 
 no_posts : (f : Facts) {a : Action} (refused : Bool) {o : Outcome} (s : Sender) → Answers f a refused o → phase_of_line f s ≡ Turned → Change a o → posts s o a ≡ false
-no_posts f refused s fits turned (agent_made n) = refl
+no_posts f refused s fits turned (agent_made origin n) = refl
 no_posts f refused s fits turned (channel_made a e e') = refl
 no_posts f refused s fits turned (client_made a e) = refl
 no_posts f refused s fits turned (worker_made a e) = refl
@@ -144,11 +147,14 @@ no_posts f refused s fits turned (line_got e a l) = refl
 no_posts f refused s fits turned (line_back t) = refl
 no_posts f refused s fits turned (handed e b) = refl
 no_posts f refused s fits turned (agent_ordered a) = refl
+no_posts f refused s fits turned (member_joined a name e) = refl
+no_posts f refused s fits turned (cast_begun e ports body ends) = refl
+no_posts f refused s fits turned (member_parted e) = refl
 no_posts f refused s fits turned (agent_ended a es) = refl
 no_posts f refused s fits turned (let_in t) = refl
 no_posts f refused s fits turned (found_moved t) = refl
 no_posts f refused s fits turned (found_closed t) = refl
-no_posts f refused s fits turned (put t ports body n) = posts_inside f s t turned (pushed_of f t ports.items refused n fits).inside (is_line s t) refl
+no_posts f refused s fits turned (put t ports body n) = posts_inside f s t turned (pushed_of f t ports.items body refused n fits).inside (is_line s t) refl
 no_posts f refused s fits turned (notice_put t n) = posts_inside f s t turned (noticed_of f t refused n fits).inside (is_line s t) refl
 no_posts f refused s fits turned (left t) = refl
 no_posts f refused s fits turned (hopped t k) = refl
@@ -245,24 +251,24 @@ headline h l =
           front_numbered (numbers line epoch (taken h e)) p.0 (subst Numbered p.1 ((s.lines e).numbered line epoch));
       closed = λ before after e refused o is closed. closed_takes h before after e refused o l is closed;
       turned = λ before middle after t refused o turned is stays. turned_from h before middle after t refused o l turned is stays;
-      same = λ before after t refused again o turned is. turned_same before t refused again o turned (legal_at h before after (enter_of t refused o) l is).1;
+      same = λ before after t refused again o turned nowhere is. turned_same before t refused again o turned nowhere (legal_at h before after (enter_of t refused o) l is).1;
       empty = λ before after e refused is. empty_at h before after e refused l is;
       busy = λ before after e refused is. busy_at h before after e refused l is;
     }
 
 -- ---- the laws beside it
 
-kept_next : (f : Facts) (a : Action) (refused : Bool) (o : Outcome) (s : Sender) → Sound f → Answers f a refused o → is_out (phase_of_line f s) ≡ false → is_some (poster f s) ≡ true → poster (next f a o) s ≡ poster f s
-kept_next f a refused o s h fits away speaks = elim (effect f o a) [
+kept_next : (f : Facts) (a : Action) (refused : Bool) (o : Outcome) (s : Sender) → Sound f → Answers f a refused o → is_out (phase_of_line f s) ≡ false → is_out (phase_of_line (next f a o) s) ≡ false → is_some (poster f s) ≡ true → poster (next f a o) s ≡ poster f s
+kept_next f a refused o s h fits away after speaks = elim (effect f o a) [
   | inl same ↦ ap (λ (g : Facts). poster g s) same
-  | inr change ↦ speaker_next f refused h fits change s away speaks
+  | inr change ↦ speaker_next f refused h fits change s away after speaks
 ]
 
 pub keeps_the_line : KeepsTheLine
 keeps_the_line = record {
   held = λ h s l away. (sound_legal h l).places.away s away;
   kept = λ h p s a l fits away still posts.
-      ap (λ (f : Facts). poster f s) (facts_next h p) ∙ kept_next (facts h) p.0.action p.0.memory_refused p.1 s (sound_legal h l) fits away (ap is_some posts) ∙ posts;
+      ap (λ (f : Facts). poster f s) (facts_next h p) ∙ kept_next (facts h) p.0.action p.0.memory_refused p.1 s (sound_legal h l) fits away (ap (λ (f : Facts). is_out (phase_of_line f s)) (sym (facts_next h p)) ∙ still) (ap is_some posts) ∙ posts;
 }
 
 turned_push : (inside noticed : Bool) (rest o : Outcome) → inside ≡ false → o ≡ cond (not (inside && not noticed)) outcome.NotNow rest → o ≡ outcome.NotNow

@@ -8,6 +8,7 @@ use Rattle.std.proofs.lemmas.Option.{slice_get_within}
 use Rattle.hub_envelope.specs.declared.envelope.Envelope.{Envelope}
 use Rattle.hub_core.specs.declared.agent.Agent.{Agent}
 use Rattle.hub_core.specs.declared.line.Line.{Line}
+use Rattle.hub_core.specs.Roster.{CastNow}
 use Rattle.hub_core.specs.declared.sender.Sender.{Sender}
 use Rattle.hub_core.specs.declared.end.End.{End}
 use Rattle.hub_core.specs.declared.step.Action.TheVariants as action
@@ -98,8 +99,8 @@ hop_end_shown agents ends f s refused h (Some x) at shown false is = unchanged a
 hop_end_shown agents ends f s refused h (Some x) at shown true is =
     hop_line agents ends f s refused x h at shown (sym is) (slice_get x.lines s.line.0) refl (shown.lines s.line.0)
 
-pub hop_shown : (agents : List Agent) (ends : List End) (f : Facts) (s : Sender) (refused : Bool) → ShowsFacts agents ends f → Stepped agents (hop_ends_at (kept_may_enter agents ends s) s ends (slice_get ends s.end.0)) f (action.Hop s) refused (hop_outcome_at (kept_may_enter agents ends s) s.line.0 (slice_get ends s.end.0))
-hop_shown agents ends f s refused h = hop_end_shown agents ends f s refused h (slice_get ends s.end.0) refl (h.end s.end.0) (kept_may_enter agents ends s) (may_kept agents ends f s h)
+pub hop_shown : (agents : List Agent) (ends : List End) (f : Facts) (c : Option CastNow) (s : Sender) (refused : Bool) → ShowsFacts agents ends f → f.roster.cast ≡ c → Stepped agents (hop_ends_at (kept_may_enter agents ends c s) s ends (slice_get ends s.end.0)) f (action.Hop s) refused (hop_outcome_at (kept_may_enter agents ends c s) s.line.0 (slice_get ends s.end.0))
+hop_shown agents ends f c s refused h cast = hop_end_shown agents ends f s refused h (slice_get ends s.end.0) refl (h.end s.end.0) (kept_may_enter agents ends c s) (may_kept agents ends f c s h cast)
 
 -- ---- what changes nothing leaves the ends
 

@@ -33,6 +33,10 @@ pub mod Puts
 pub mod Pushes
 pub mod Notices
 pub mod Makes
+pub mod Seating
+pub mod Seats
+pub mod Casts
+pub mod Broadcasts
 pub mod Holds
 pub mod Hands
 pub mod Endings

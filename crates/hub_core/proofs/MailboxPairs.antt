@@ -20,8 +20,8 @@ use Rattle.hub_core.specs.GateMachine.{enter, enable, look, close, lets_in, says
 use Rattle.hub_core.specs.Mailbox.{Mailbox}
 use Rattle.hub_core.specs.MailboxSteps.{MailboxEvent, at_gate, push, pop, hop, advance, add, IsSettled, HoldsNothing}
 use Rattle.hub_core.specs.MailboxPairs.{OneRight, leaving, finds_busy, finds_busy_at, rights_of, events_of, HoldsAll, HoldsWhatLeaves, sweeping, PairsAreEvents}
-use Rattle.hub_core.proofs.Nexts.{next, Change, agent_made, channel_made, let_in, found_moved, found_closed, put, left, hopped, started, got, went_on, cleared, adopted, notice_put, end_closed, end_swept, client_made, worker_made, line_got, line_back, handed, agent_ordered, agent_ended}
-use Rattle.hub_core.proofs.Fitting.{new_ends, pushed_of, noticed_of, hopped_of, got_of, empty_of, busy_of, went_on_of, cleared_of, FindsBusy, look_busy_of, adopted_of, swept_of, queue_made_of}
+use Rattle.hub_core.proofs.Nexts.{next, Change, agent_made, channel_made, let_in, found_moved, found_closed, put, left, hopped, started, got, went_on, cleared, adopted, notice_put, end_closed, end_swept, client_made, worker_made, line_got, line_back, handed, agent_ordered, agent_ended, member_joined, cast_begun, member_parted}
+use Rattle.hub_core.proofs.Fitting.{new_ends, pushed_of, noticed_of, hopped_of, got_of, empty_of, busy_of, went_on_of, cleared_of, FindsBusy, look_busy_of, adopted_of, swept_of, queue_made_of, member_made_of}
 use Rattle.hub_core.proofs.Sounds.{sound_legal}
 use Rattle.hub_core.proofs.MailboxShown.{View, view, ShownAt, IsShown, Leads, of_history, with_pair, at_end_or}
 use Rattle.hub_core.proofs.PairGates.{with_line, entered, turned_moved, turned_closed, left_line, started_there, closed_there}
@@ -30,7 +30,7 @@ use Rattle.hub_core.proofs.PairLooks.{settled_there, busy_there, look_busy_there
 use Rattle.hub_core.proofs.PairSweeps.{swept_there}
 use Rattle.hub_core.proofs.PairMoves.{with_next, hopped_there, with_taker_at, went_on_there, with_queue_new, adopted_there}
 use Rattle.hub_core.specs.declared.kind.Kind.{Kind}
-use Rattle.hub_core.specs.declared.kind.Kind.TheVariants.{Port, Client, Worker}
+use Rattle.hub_core.specs.declared.kind.Kind.TheVariants.{Port, Client, Worker, Member}
 use Rattle.hub_envelope.specs.declared.ids.AgentId.{AgentId}
 use Rattle.hub_core.specs.Making.{is_client, is_worker}
 use Rattle.hub_core.specs.Lines.{on_line}
@@ -45,14 +45,17 @@ data Happens : Action → Outcome → Type 0 where
 
 -- every other pair is none, and changes nothing
 kind_of : (f : Facts) (e : ℕ) (m : Mailbox OneRight) (o : Outcome) (a : Action) → ((events_of f e m o a ≡ []) × (next f a o ≡ f)) ⊎ Happens a o
-kind_of f e m (outcome.Agent n) action.Agent = inr (changes _ _ (agent_made n))
+kind_of f e m (outcome.Agent n) (action.Agent origin) = inr (changes _ _ (agent_made origin n))
 kind_of f e m (outcome.Ends x y) (action.Channel a) = inr (changes _ _ (channel_made a x y))
 kind_of f e m (outcome.End x) (action.Client a) = inr (changes _ _ (client_made a x))
 kind_of f e m (outcome.End x) (action.Worker a) = inr (changes _ _ (worker_made a x))
+kind_of f e m (outcome.End x) (action.Member a name) = inr (changes _ _ (member_joined a name x))
 kind_of f e m (outcome.Line l) (action.Line x a) = inr (changes _ _ (line_got x a l))
 kind_of f e m outcome.Done (action.Back s) = inr (changes _ _ (line_back s))
 kind_of f e m outcome.Handed (action.Hand x b) = inr (changes _ _ (handed x b))
 kind_of f e m outcome.Ordered (action.Order a) = inr (changes _ _ (agent_ordered a))
+kind_of f e m (outcome.Destinations ends) (action.Cast x ports body) = inr (changes _ _ (cast_begun x ports body ends))
+kind_of f e m outcome.Done (action.Part x) = inr (changes _ _ (member_parted x))
 kind_of f e m (outcome.Ending es) (action.See a) = inr (changes _ _ (agent_ended a es))
 kind_of f e m outcome.In (action.Enter s) = inr (changes _ _ (let_in s))
 kind_of f e m outcome.Moved (action.Enter s) = inr (changes _ _ (found_moved s))
@@ -159,16 +162,19 @@ module _ (f : Facts) (e : ℕ) (m : Mailbox OneRight) (sound : Sound f) (shown :
   -- ---- all pairs
 
   changed : {a : Action} (refused : Bool) {o : Outcome} → Answers f a refused o → e < f.ends → Change a o → HoldsWhatLeaves e (record { action = a; memory_refused = refused }, o) m → Leads e (lines e) m (events_of f e m o a) (view (next f a o) e)
-  changed refused fits made (agent_made n) first = (m, refl, shown)
+  changed refused fits made (agent_made origin n) first = (m, refl, shown)
   changed refused fits made (channel_made a x y) first =
       let new = new_ends f a refused x y fits in
       (m, refl, made_channel x y made (ap (λ (n : EndId). n.0) new.1) (ap (λ (n : EndId). n.0) new.2))
   changed refused fits made (client_made a x) first = (m, refl, made_queue x Client made (ap (λ (n : EndId). n.0) (queue_made_of f is_client a refused x fits).number))
   changed refused fits made (worker_made a x) first = (m, refl, made_queue x Worker made (ap (λ (n : EndId). n.0) (queue_made_of f is_worker a refused x fits).number))
+  changed refused fits made (member_joined a name x) first = (m, refl, made_queue x (Member a) made (ap (λ (n : EndId). n.0) (member_made_of f a refused x fits).number))
   changed refused fits made (line_got x a l) first = (m, refl, held_shown (λ i. on_line e i (record { end = x; line = l }) (Some a) (f.line e i).held_by))
   changed refused fits made (line_back s) first = (m, refl, held_shown (λ i. on_line e i s None (f.line e i).held_by))
   changed refused fits made (handed x b) first = (m, refl, shown)
   changed refused fits made (agent_ordered a) first = (m, refl, shown)
+  changed refused fits made (cast_begun x ports body ends) first = (m, refl, shown)
+  changed refused fits made (member_parted x) first = (m, refl, shown)
   changed refused fits made (agent_ended a es) first = (m, refl, shown)
   changed refused fits made (let_in s) first =
       at_step s.end.0 (λ y. at_gate ((f.line y s.line.0).stand) (enter s.line.0) (lets_in tt) ∷ []) (λ y. with_line f y s.line.0 Inside) shown (λ there. entered f s m there (sound.lines s.end.0) fits)
@@ -179,7 +185,7 @@ module _ (f : Facts) (e : ℕ) (m : Mailbox OneRight) (sound : Sound f) (shown :
   changed refused fits made (put s ports body n) first =
       at_step s.end.0 (λ y. push (named_envelope s n body ports.items) ∷ [])
       (λ y b. record (view f y) { accepted = cond b (f.accepted y ++ named_envelope s n body ports.items ∷ []) (f.accepted y) }) shown
-      (λ there. pushed_there f s ports.items body n m there (sound.lines s.end.0) (pushed_of f s ports.items refused n fits))
+      (λ there. pushed_there f s ports.items body n m there (sound.lines s.end.0) (pushed_of f s ports.items body refused n fits))
   changed refused fits made (notice_put s n) first =
       at_step s.end.0 (λ y. push (named_notice s n) ∷ []) (λ y. with_notice f y s n) shown (λ there. noticed_there f s n m there (noticed_of f s refused n fits))
   changed refused fits made (left s) first =

@@ -85,5 +85,5 @@ module _ (h : History) (e : ℕ) (held : ℕ → List Envelope) (sound : Sound (
 
 pub mailboxes_show : (core : Core) (h : History) → Shows core h → MailboxesShow core h
 mailboxes_show core h s = λ e x is.
-    let at : EndShown (facts h) e x = subst (ShowsEnd ((facts h).end e) ((facts h).line e) ((facts h).clear e) ((facts h).accepted e) ((facts h).taken e ++ (facts h).discarded e)) is (s.end e) in
-    (mailbox_of (facts h) e (kept_of x), keeps_kept (facts h) e x at s.sound, shown h e (kept_of x) s.sound (kept_holds (facts h) e x at))
+    let at : EndShown (facts h) e x = subst (ShowsEnd ((facts h).end e) ((facts h).line e) ((facts h).clear e) ((facts h).accepted e) ((facts h).taken e ++ (facts h).discarded e)) is (s.0.end e) in
+    (mailbox_of (facts h) e (kept_of x), keeps_kept (facts h) e x at s.0.sound, shown h e (kept_of x) s.0.sound (kept_holds (facts h) e x at))

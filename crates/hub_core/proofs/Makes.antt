@@ -1,6 +1,6 @@
 -- Agent and Channel: what the core answers fits, and it shows the facts with the answered step.
 use Rattle.std.proofs.Common.{◌≡◌, ℕ, ◌+◌, ◌≤◌, Bool, true, false, cond, eqb, List, [], ◌∷◌, ◌++◌, length, get_or, Some, zero, suc, refl, sym, ap, subst, ◌∙◌, arith, length-append, inl, inr, rules, ◌<◌, Option, not, replicate, None, ne_eqb}
-use Rattle.std.specs.Prelude.{◌&&◌, nat_lt, nat_le, ◌||◌}
+use Rattle.std.specs.Prelude.{◌&&◌, nat_lt, nat_le, ◌||◌, is_some, option_map}
 use Rattle.std.specs.List.{slice_get}
 use Rattle.std.proofs.lemmas.Option.{slice_get_past}
 use Rattle.std.proofs.lemmas.Bool.Decides.{nat_tests}
@@ -29,7 +29,7 @@ use Rattle.hub_core.proofs.Speakers.{nothing_accepted, nothing_removed, running_
 use Rattle.hub_core.specs.Made.{lines_of, peer_of}
 use Rattle.hub_core.specs.declared.kind.Kind.{Kind}
 use Rattle.hub_core.specs.declared.step.Action.{Action}
-use Rattle.hub_core.specs.declared.kind.Kind.TheVariants.{Port, Client, Worker}
+use Rattle.hub_core.specs.declared.kind.Kind.TheVariants.{Port, Client, Worker, Member}
 use Rattle.hub_core.proofs.Nexts.{next}
 use Rattle.hub_core.proofs.Counts.{New, counts_at, Counted, counted_new, none_of_kind, counts_of, come_length, come_now, IsCalmAt, away_at, calm_count, none_at}
 use Rattle.hub_core.specs.Unchanged.{changes_nothing}
@@ -38,10 +38,13 @@ use Rattle.hub_core.specs.Fits.{Answers}
 use Rattle.hub_core.proofs.Totals.{total_same}
 use Rattle.std.proofs.lemmas.List.{length-replicate}
 use Rattle.hub_core.specs.Posting.{is_with, is_out}
-use Rattle.hub_core.proofs.Fitting.{queue_made_of}
+use Rattle.hub_core.proofs.Fitting.{queue_made_of, member_made_of}
+use Rattle.hub_core.specs.Casting.{member_answer, is_casting}
+use Rattle.hub_core.specs.Kept.{kept_member_answer, member_made, set_agent, one_more}
+use Rattle.hub_core.proofs.Lists.{set_again}
 use Rattle.hub_core.proofs.Calms.{calm_places}
 
-next_up : (n a : ℕ) → n ≤ a → (a ≡ n → ⊥) → n + 1 ≤ a
+pub next_up : (n a : ℕ) → n ≤ a → (a ≡ n → ⊥) → n + 1 ≤ a
 next_up n a from other = grind (arith, nat_tests)
 
 -- ---- Agent
@@ -69,10 +72,10 @@ none_kept kept [] (suc a) none first = refl
 none_kept kept (x ∷ agents) zero none first = refl
 none_kept kept (x ∷ agents) (suc a) none first = none_kept kept agents a none first
 
-agent_by : (agents : List Agent) (ends : List End) (f : Facts) (refused : Bool) → ShowsFacts agents ends f → (full : Bool) → nat_le MAX_AGENTS (length agents) ≡ full → kept_agent_answer (length agents) refused ≡ agent_answer f refused → Stepped (agents_made agents (kept_agent_answer (length agents) refused)) ends f action.Agent refused (kept_agent_answer (length agents) refused)
-agent_by agents ends f true h full is fits = unchanged agents ends ends f action.Agent true outcome.NoMemory outcome.NoMemory h refl refl refl fits
-agent_by agents ends f false h true is fits = rw is (unchanged agents ends ends f action.Agent false outcome.TooManyAgents outcome.TooManyAgents h refl refl refl (sym (ap (λ b. cond b outcome.TooManyAgents (outcome.Agent (record { 0 = length agents }))) is) ∙ fits))
-agent_by agents ends f false h false is fits =
+agent_by : (agents : List Agent) (ends : List End) (f : Facts) (origin : Option (List ℕ)) (refused : Bool) → ShowsFacts agents ends f → (full : Bool) → nat_le MAX_AGENTS (length agents) ≡ full → kept_agent_answer (length agents) refused ≡ agent_answer f refused → Stepped (agents_made agents (kept_agent_answer (length agents) refused)) ends f (action.Agent origin) refused (kept_agent_answer (length agents) refused)
+agent_by agents ends f origin true h full is fits = unchanged agents ends ends f (action.Agent origin) true outcome.NoMemory outcome.NoMemory h refl refl refl fits
+agent_by agents ends f origin false h true is fits = rw is (unchanged agents ends ends f (action.Agent origin) false outcome.TooManyAgents outcome.TooManyAgents h refl refl refl (sym (ap (λ b. cond b outcome.TooManyAgents (outcome.Agent (record { 0 = length agents }))) is) ∙ fits))
+agent_by agents ends f origin false h false is fits =
     let n : AgentId = record { 0 = length agents } in
     let answer : outcome.Agent n ≡ agent_answer f false = sym (ap (λ b. cond b outcome.TooManyAgents (outcome.Agent n)) is) ∙ fits in
     rw is (record {
@@ -85,15 +88,15 @@ agent_by agents ends f false h false is fits =
         clients = λ a. none_kept kept_clients agents a.0 refl refl ∙ h.clients a;
         workers = λ a. none_kept kept_workers agents a.0 refl refl ∙ h.workers a;
         away = λ a. none_kept kept_away agents a.0 refl refl ∙ h.away a;
-        sound = sound_next f action.Agent false (outcome.Agent n) h.sound answer;
+        sound = sound_next f (action.Agent origin) false (outcome.Agent n) h.sound answer;
       };
     })
 
-pub agent_shown : (agents new : List Agent) (ends : List End) (f : Facts) (refused : Bool) (o : Outcome) → ShowsFacts agents ends f → o ≡ kept_agent_answer (length agents) refused → new ≡ agents_made agents o → Stepped new ends f action.Agent refused o
-agent_shown agents new ends f refused o h is made =
-    let at = agent_by agents ends f refused h (nat_le MAX_AGENTS (length agents)) refl (ap (λ n. kept_agent_answer n refused) (sym h.agents)) in
+pub agent_shown : (agents new : List Agent) (ends : List End) (f : Facts) (origin : Option (List ℕ)) (refused : Bool) (o : Outcome) → ShowsFacts agents ends f → o ≡ kept_agent_answer (length agents) refused → new ≡ agents_made agents o → Stepped new ends f (action.Agent origin) refused o
+agent_shown agents new ends f origin refused o h is made =
+    let at = agent_by agents ends f origin refused h (nat_le MAX_AGENTS (length agents)) refl (ap (λ n. kept_agent_answer n refused) (sym h.agents)) in
     let written : new ≡ agents_made agents (kept_agent_answer (length agents) refused) = made ∙ ap (agents_made agents) is in
-    subst (λ n. Stepped n ends f action.Agent refused o) (sym written) (subst (λ p. Stepped (agents_made agents (kept_agent_answer (length agents) refused)) ends f action.Agent refused p) (sym is) at)
+    subst (λ n. Stepped n ends f (action.Agent origin) refused o) (sym written) (subst (λ p. Stepped (agents_made agents (kept_agent_answer (length agents) refused)) ends f (action.Agent origin) refused p) (sym is) at)
 
 -- ---- Channel
 
@@ -395,3 +398,62 @@ client_shown agents new_agents ends new f a refused o h says leaves counts = que
 
 pub worker_shown : (agents new_agents : List Agent) (ends new : List End) (f : Facts) (a : AgentId) (refused : Bool) (o : Outcome) → ShowsFacts agents ends f → o ≡ kept_queue_answer (kept_running agents a.0) (count_of Worker (slice_get agents a.0)) (length ends) refused → new ≡ queue_made a Worker ends o → new_agents ≡ queue_counted a Worker agents o → Stepped new_agents new f (action.Worker a) refused o
 worker_shown agents new_agents ends new f a refused o h says leaves counts = queue_whole agents new_agents ends new f refused o (makes_worker a) h says leaves counts
+
+-- ---- Member
+
+-- a member counts for no agent
+come_same : (agents : List Agent) (k a : AgentId) → come (Member k) a agents ≡ agents
+come_same agents k a = elim (slice_get agents a.0) as (λ q. slice_get agents a.0 ≡ q → set_agent a.0 agents (option_map (one_more (Member k)) q) ≡ agents) [
+  | Some x ↦ λ at. set_again agents a.0 x at
+  | None ↦ λ _. refl
+] refl
+
+member_new : (agents : List Agent) (ends : List End) (f : Facts) (a : AgentId) (name : List ℕ) → ShowsFacts agents ends f → New f (next f (action.Member a name) (outcome.End (record { 0 = f.ends }))) (Member a) a
+member_new agents ends f a name h = record {
+  ends = refl;
+  is = ap (λ c. cond c (Some (Member a)) (f.end f.ends).kind) (eqb_same f.ends);
+  to = ap (λ c. cond c (Some (With a)) (f.end f.ends).place) (eqb_same f.ends);
+  kinds = λ d less. ap (λ c. cond c (Some (Member a)) (f.end d).kind) (ne_eqb d f.ends (λ is. omega arith));
+  places = λ d less. ap (λ c. cond c (Some (With a)) (f.end d).place) (ne_eqb d f.ends (λ is. omega arith));
+  calm = λ b x less. calm_places b f (next f (action.Member a name) (outcome.End (record { 0 = f.ends }))) x (ap (λ c. cond c (Some (Member a)) (f.end x).kind) (ne_eqb x f.ends (λ is. omega arith))) (λ l. refl) (λ q is. inr (ap (is_with b) (ap (λ c. cond c (Some (With a)) (f.end q.0).place) (ne_eqb q.0 f.ends (λ same. let less_than : q.0 < f.ends = entangled_made f q.0 x h.sound.places (h.sound.places.peers x q.0 (ap peer_of is)).1 in omega arith)))));
+  nobody = λ l. ap (λ (y : LineNow). is_out y.phase) (unmade_lines f h.sound l);
+}
+
+member_shows : (agents : List Agent) (ends : List End) (f : Facts) (a : AgentId) (name : List ℕ) → ShowsFacts agents ends f → outcome.End (record { 0 = length ends }) ≡ member_answer f a false → Stepped agents (ends ++ new_end a (Member a) ∷ []) f (action.Member a name) false (outcome.End (record { 0 = length ends }))
+member_shows agents ends f a name h answer =
+    let e : EndId = record { 0 = length ends } in
+    let count : f.agents ≡ length agents = h.agents in
+    let known : a.0 < f.agents = running_made f a h.sound.places (member_made_of f a false e answer).runs in
+    let counted : Counted (come (Member a) a agents) (next f (action.Member a name) (outcome.End (record { 0 = f.ends }))) = counted_new agents f (next f (action.Member a name) (outcome.End (record { 0 = f.ends }))) (Member a) a (omega arith) (member_new agents ends f a name h) (counts_of agents ends f h) in
+    let here : Counted agents (next f (action.Member a name) (outcome.End e)) = subst (λ n. Counted agents (next f (action.Member a name) (outcome.End (record { 0 = n })))) h.ends (subst (λ gs. Counted gs (next f (action.Member a name) (outcome.End (record { 0 = f.ends })))) (come_same agents a a) counted) in
+    record {
+      fits = answer;
+      shows = record {
+        agents = h.agents;
+        agent = h.agent;
+        ends = ap (λ n. n + 1) h.ends ∙ sym (length-append ends (new_end a (Member a) ∷ []));
+        end = λ d. queue_at agents ends f a (Member a) h d (nat_lt d (length ends)) (eqb d (length ends)) refl refl;
+        clients = here.clients;
+        workers = here.workers;
+        away = here.away;
+        sound = sound_next f (action.Member a name) false (outcome.End e) h.sound answer;
+      };
+    }
+
+abbrev joined_by : Bool → Bool → Bool → Bool → ℕ → Outcome
+joined_by may named full refused n = cond (not may) outcome.NotNow (cond (not named) outcome.NoOrigin (cond full outcome.TooManyEnds (cond refused outcome.NoMemory (outcome.End (record { 0 = n })))))
+
+member_step : (agents : List Agent) (ends : List End) (f : Facts) (a : AgentId) (name : List ℕ) (refused : Bool) → ShowsFacts agents ends f → (may named full : Bool) → (memory : Bool) → refused ≡ memory → joined_by may named full memory (length ends) ≡ member_answer f a refused → Stepped agents (member_made a ends (joined_by may named full memory (length ends))) f (action.Member a name) refused (joined_by may named full memory (length ends))
+member_step agents ends f a name refused h false named full memory is answer = unchanged agents ends ends f (action.Member a name) refused outcome.NotNow outcome.NotNow h refl refl refl answer
+member_step agents ends f a name refused h true false full memory is answer = unchanged agents ends ends f (action.Member a name) refused outcome.NoOrigin outcome.NoOrigin h refl refl refl answer
+member_step agents ends f a name refused h true true true memory is answer = unchanged agents ends ends f (action.Member a name) refused outcome.TooManyEnds outcome.TooManyEnds h refl refl refl answer
+member_step agents ends f a name refused h true true false true is answer = unchanged agents ends ends f (action.Member a name) refused outcome.NoMemory outcome.NoMemory h refl refl refl answer
+member_step agents ends f a name refused h true true false false is answer =
+    subst (λ r. outcome.End (record { 0 = length ends }) ≡ member_answer f a r → Stepped agents (ends ++ new_end a (Member a) ∷ []) f (action.Member a name) r (outcome.End (record { 0 = length ends }))) (sym is) (member_shows agents ends f a name h) answer
+
+pub member_shown : (agents : List Agent) (ends new : List End) (f : Facts) (a : AgentId) (name : List ℕ) (may named refused : Bool) (o : Outcome) → ShowsFacts agents ends f → may ≡ ((f.agent a.0).runs && not (is_casting f)) → named ≡ is_some (f.roster.origin a.0) → o ≡ kept_member_answer may named (length ends) refused → new ≡ member_made a ends o → Stepped agents new f (action.Member a name) refused o
+member_shown agents ends new f a name may named refused o h mays names says leaves =
+    let full : Bool = nat_le MAX_ENDS (length ends) in
+    let answer : joined_by may named full refused (length ends) ≡ member_answer f a refused = ap (λ c. joined_by c named full refused (length ends)) mays ∙ ap (λ c. joined_by ((f.agent a.0).runs && not (is_casting f)) c full refused (length ends)) names ∙ ap (λ n. joined_by ((f.agent a.0).runs && not (is_casting f)) (is_some (f.roster.origin a.0)) (nat_le MAX_ENDS n) refused n) (sym h.ends) in
+    along (λ gs es q. Stepped gs es f (action.Member a name) refused q) (let same : agents ≡ agents = refl in same) (leaves ∙ ap (member_made a ends) says) says
+    (member_step agents ends f a name refused h may named full refused refl answer)

@@ -28,6 +28,7 @@ use Rattle.hub_core.specs.Enabled.{enabled_after}
 use Rattle.hub_core.specs.Lines.{phase_after, adoptions_after, hops_after, passed_after, noticed_after, held_after}
 use Rattle.hub_core.specs.Clear.{clear_after}
 use Rattle.hub_core.specs.Discarded.{discarded_by}
+use Rattle.hub_core.specs.Roster.{roster_after, no_roster}
 
 -- the list with what an answered step puts at its end
 abbrev pub accepted_after : ℕ → List Envelope → Outcome → Action → List Envelope
@@ -67,6 +68,7 @@ next f a o = record {
   accepted = λ x. accepted_after x (f.accepted x) o a;
   taken = λ x. taken_after x (f.taken x) o a;
   discarded = λ x. discarded_after x (f.discarded x) o a;
+  roster = roster_after f.roster o a;
 }
 
 -- a fold over one more pair
@@ -122,15 +124,17 @@ facts_next h p = λ i. record {
   accepted = λ x. (flat_map_one (λ q. accepted_by x q.1 q.0.action) h p ∙ accepted_one x (flat_map (λ q. accepted_by x q.1 q.0.action) h) p.1 p.0.action) i;
   taken = λ x. (flat_map_one (λ q. taken_by x q.1 q.0.action) h p ∙ taken_one x (flat_map (λ q. taken_by x q.1 q.0.action) h) p.1 p.0.action) i;
   discarded = λ x. (flat_map_one (λ q. discarded_by x q.1 q.0.action) h p ∙ discarded_one x (flat_map (λ q. discarded_by x q.1 q.0.action) h) p.1 p.0.action) i;
+  roster = fold_one (λ r q. roster_after r q.1 q.0.action) no_roster h p i;
 }
 
 -- ---- the pairs that change something
 
 pub data Change : Action → Outcome → Type 0 where
-  agent_made : (a : AgentId) → Change action.Agent (outcome.Agent a)
+  agent_made : (origin : Option (List ℕ)) (a : AgentId) → Change (action.Agent origin) (outcome.Agent a)
   channel_made : (a : AgentId) (e e' : EndId) → Change (action.Channel a) (outcome.Ends e e')
   client_made : (a : AgentId) (e : EndId) → Change (action.Client a) (outcome.End e)
   worker_made : (a : AgentId) (e : EndId) → Change (action.Worker a) (outcome.End e)
+  member_joined : (a : AgentId) (name : List ℕ) (e : EndId) → Change (action.Member a name) (outcome.End e)
   line_got : (e : EndId) (a : AgentId) (l : LineId) → Change (action.Line e a) (outcome.Line l)
   line_back : (s : Sender) → Change (action.Back s) outcome.Done
   let_in : (s : Sender) → Change (action.Enter s) outcome.In
@@ -150,13 +154,16 @@ pub data Change : Action → Outcome → Type 0 where
   handed : (e : EndId) (b : AgentId) → Change (action.Hand e b) outcome.Handed
   agent_ordered : (a : AgentId) → Change (action.Order a) outcome.Ordered
   agent_ended : (a : AgentId) (es : List EndId) → Change (action.See a) (outcome.Ending es)
+  cast_begun : (e : EndId) (ports : Vec EndId Global) (body : List ℕ) (ends : List EndId) → Change (action.Cast e ports body) (outcome.Destinations ends)
+  member_parted : (e : EndId) → Change (action.Part e) outcome.Done
 
 -- every other pair leaves the facts as they are
 pub effect : (f : Facts) (o : Outcome) (a : Action) → (next f a o ≡ f) ⊎ Change a o
-effect f (outcome.Agent n) action.Agent = inr (agent_made n)
+effect f (outcome.Agent n) (action.Agent origin) = inr (agent_made origin n)
 effect f (outcome.Ends e e') (action.Channel a) = inr (channel_made a e e')
 effect f (outcome.End e) (action.Client a) = inr (client_made a e)
 effect f (outcome.End e) (action.Worker a) = inr (worker_made a e)
+effect f (outcome.End e) (action.Member a name) = inr (member_joined a name e)
 effect f (outcome.Line l) (action.Line e a) = inr (line_got e a l)
 effect f outcome.Done (action.Back s) = inr (line_back s)
 effect f outcome.In (action.Enter s) = inr (let_in s)
@@ -176,6 +183,8 @@ effect f (outcome.Discarded vs) (action.Sweep e) = inr (end_swept e vs)
 effect f outcome.Handed (action.Hand e b) = inr (handed e b)
 effect f outcome.Ordered (action.Order a) = inr (agent_ordered a)
 effect f (outcome.Ending es) (action.See a) = inr (agent_ended a es)
+effect f (outcome.Destinations ends) (action.Cast e ports body) = inr (cast_begun e ports body ends)
+effect f outcome.Done (action.Part e) = inr (member_parted e)
 effect f o a = inl refl
 
 -- what holds of the facts and is kept by each pair that changes something is kept by every pair

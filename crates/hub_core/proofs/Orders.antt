@@ -27,6 +27,8 @@ use Rattle.hub_core.specs.Fits.{Answers}
 use Rattle.hub_core.specs.Accepted.{accepted, accepted_by, named_envelope}
 use Rattle.hub_core.specs.Taken.{taken, taken_by}
 use Rattle.hub_core.specs.Sender.{by, in_queue, Prefix}
+use Rattle.hub_core.specs.Roster.{cast_to}
+use Rattle.hub_core.specs.Casting.{member_answer, cast_answer, part_answer}
 use Rattle.hub_core.specs.Posting.{holder, enter_answer, leave_answer, push_answer, notice_answer}
 use Rattle.hub_core.specs.Making.{agent_answer, channel_answer, queue_answer, is_client, is_worker}
 use Rattle.hub_core.specs.Taking.{IsNext, IsDrained, Serves, FitsTake, start_answer, IsLeft}
@@ -68,7 +70,7 @@ end_in_order f e k None s h =
 end_in_order f e k (Some x) s h = queue_in_order (f.line e) (f.clear e) (f.accepted e) (f.taken e ++ f.discarded e) x k h.queues (nat_lt k x.taker) refl
 
 pub shows_in_order : (core : Core) (h : History) → Shows core h → InOrder h
-shows_in_order core h s = record { each = λ e k. end_in_order (facts h) e k (slice_get core.ends.items e) s.sound (s.end e) }
+shows_in_order core h s = record { each = λ e k. end_in_order (facts h) e k (slice_get core.ends.items e) s.0.sound (s.0.end e) }
 
 -- ---- one answer
 
@@ -164,17 +166,20 @@ take_one false false enabled P Q o p k a b = a ∙ sym b
 
 -- an answer that is a function of the facts
 answers_one : (h k first second : History) (s t : Step) (a : Action) (o p : Outcome) → facts h ≡ facts k → s.action ≡ a → t.action ≡ a → s.memory_refused ≡ t.memory_refused → Sound (facts h) → Sound (facts k) → LegalAfter h ((s, o) ∷ first) → LegalAfter k ((t, p) ∷ second) → Answers (facts h) a s.memory_refused o → Answers (facts k) a t.memory_refused p → InOrder (h ++ (s, o) ∷ first) → InOrder (k ++ (t, p) ∷ second) → o ≡ p
-answers_one h k first second s t action.Agent o p same is it refused x y l m a b i j = a ∙ ap (λ f. agent_answer f s.memory_refused) same ∙ ap (agent_answer (facts k)) refused ∙ sym b
+answers_one h k first second s t (action.Agent origin) o p same is it refused x y l m a b i j = a ∙ ap (λ f. agent_answer f s.memory_refused) same ∙ ap (agent_answer (facts k)) refused ∙ sym b
 answers_one h k first second s t (action.Channel g) o p same is it refused x y l m a b i j = a ∙ ap (λ f. channel_answer f g s.memory_refused) same ∙ ap (channel_answer (facts k) g) refused ∙ sym b
 answers_one h k first second s t (action.Client g) o p same is it refused x y l m a b i j = a ∙ ap (λ f. queue_answer is_client f g s.memory_refused) same ∙ ap (queue_answer is_client (facts k) g) refused ∙ sym b
 answers_one h k first second s t (action.Worker g) o p same is it refused x y l m a b i j = a ∙ ap (λ f. queue_answer is_worker f g s.memory_refused) same ∙ ap (queue_answer is_worker (facts k) g) refused ∙ sym b
+answers_one h k first second s t (action.Member g name) o p same is it refused x y l m a b i j = a ∙ ap (λ f. member_answer f g s.memory_refused) same ∙ ap (member_answer (facts k) g) refused ∙ sym b
+answers_one h k first second s t (action.Cast e ports body) o p same is it refused x y l m a b i j = a ∙ ap (λ f. cast_answer f e ports.items) same ∙ sym b
+answers_one h k first second s t (action.Part e) o p same is it refused x y l m a b i j = a ∙ ap (λ f. part_answer f e) same ∙ sym b
 answers_one h k first second s t (action.Line e g) o p same is it refused x y l m a b i j = a ∙ ap (λ f. line_answer f e g) same ∙ sym b
 answers_one h k first second s t (action.Back u) o p same is it refused x y l m a b i j = a ∙ ap (λ f. back_answer f u) same ∙ sym b
 answers_one h k first second s t (action.Order g) o p same is it refused x y l m a b i j = a ∙ ap (λ f. order_answer f g) same ∙ sym b
 answers_one h k first second s t (action.See g) o p same is it refused x y l m a b i j = a ∙ ap (λ f. see_answer f g) same ∙ sym b
 answers_one h k first second s t (action.Hand e g) o p same is it refused x y l m a b i j = a ∙ ap (λ f. hand_answer f e g) same ∙ sym b
 answers_one h k first second s t (action.Enter u) o p same is it refused x y l m a b i j = a ∙ ap (λ f. enter_answer f u) same ∙ sym b
-answers_one h k first second s t (action.Push u ports body) o p same is it refused x y l m a b i j = a ∙ ap (λ f. push_answer f u ports.items s.memory_refused) same ∙ ap (push_answer (facts k) u ports.items) refused ∙ sym b
+answers_one h k first second s t (action.Push u ports body) o p same is it refused x y l m a b i j = a ∙ ap (λ f. push_answer f u ports.items body s.memory_refused) same ∙ ap (push_answer (facts k) u ports.items body) refused ∙ sym b
 answers_one h k first second s t (action.Leave u) o p same is it refused x y l m a b i j = a ∙ ap (λ f. leave_answer f u) same ∙ sym b
 answers_one h k first second s t (action.Hop u) o p same is it refused x y l m a b i j = a ∙ ap (λ f. hop_answer f u) same ∙ sym b
 answers_one h k first second s t (action.Notice u) o p same is it refused x y l m a b i j = a ∙ ap (λ f. notice_answer f u s.memory_refused) same ∙ ap (notice_answer (facts k) u) refused ∙ sym b
@@ -190,8 +195,10 @@ answers_one h k first second s t (action.Sweep e) o p same is it refused x y l m
 -- the same, for two actions that are one but for where a list lies
 alike_one : (h k first second : History) (s t : Step) (a b : Action) (o p : Outcome) → facts h ≡ facts k → s.action ≡ a → t.action ≡ b → IsSameAction a b → s.memory_refused ≡ t.memory_refused → Sound (facts h) → Sound (facts k) → LegalAfter h ((s, o) ∷ first) → LegalAfter k ((t, p) ∷ second) → Answers (facts h) a s.memory_refused o → Answers (facts k) b t.memory_refused p → InOrder (h ++ (s, o) ∷ first) → InOrder (k ++ (t, p) ∷ second) → o ≡ p
 alike_one h k first second s t (action.Push u ports body) (action.Push v listed text) o p same is it alike refused x y c d m n i j =
-    m ∙ ap (λ f. push_answer f u ports.items s.memory_refused) same ∙ ap (push_answer (facts k) u ports.items) refused
-    ∙ ap (λ w. push_answer (facts k) w ports.items t.memory_refused) alike.0 ∙ ap (λ w. push_answer (facts k) v w t.memory_refused) alike.1 ∙ sym n
+    m ∙ ap (λ f. push_answer f u ports.items body s.memory_refused) same ∙ ap (push_answer (facts k) u ports.items body) refused
+    ∙ ap (λ w. push_answer (facts k) w ports.items body t.memory_refused) alike.0 ∙ ap (λ w. push_answer (facts k) v w body t.memory_refused) alike.1 ∙ ap (λ w. push_answer (facts k) v listed.items w t.memory_refused) alike.2 ∙ sym n
+alike_one h k first second s t (action.Cast e ports body) (action.Cast g listed text) o p same is it alike refused x y c d m n i j =
+    m ∙ ap (λ f. cast_answer f e ports.items) same ∙ ap (λ w. cast_answer (facts k) w ports.items) alike.0 ∙ ap (cast_answer (facts k) g) alike.1 ∙ sym n
 alike_one h k first second s t a b o p same is it alike refused x y c d m n i j =
     answers_one h k first second s t a o p same is (it ∙ sym alike) refused x y c d m (subst (λ q. Answers (facts k) q t.memory_refused p) (sym alike) n) i j
 
@@ -204,10 +211,17 @@ next_push f u v ports listed body text (outcome.Clear None) same items bodies = 
 next_push f u v ports listed body text (outcome.Clear (Some k)) same items bodies = refl
 next_push f u v ports listed body text o same items bodies = refl
 
+next_cast : (f : Facts) (e g : EndId) (ports listed : Vec EndId Global) (body text : List ℕ) (o : Outcome) → e ≡ g → body ≡ text → next f (action.Cast e ports body) o ≡ next f (action.Cast g listed text) o
+next_cast f e g ports listed body text (outcome.Destinations ends) same bodies = λ i. record f { roster = record f.roster { cast = cast_to (same i) (bodies i) ends } }
+next_cast f e g ports listed body text (outcome.Clear None) same bodies = refl
+next_cast f e g ports listed body text (outcome.Clear (Some k)) same bodies = refl
+next_cast f e g ports listed body text o same bodies = refl
+
 -- what a pair makes of the facts doesn't tell where a list lies
 next_alike : (f : Facts) (a b : Action) (o : Outcome) → IsSameAction a b → next f a o ≡ next f b o
 next_alike f (action.Push u ports body) (action.Push v listed text) o alike =
     next_push f u v ports listed body text o alike.0 alike.1 alike.2
+next_alike f (action.Cast e ports body) (action.Cast g listed text) o alike = next_cast f e g ports listed body text o alike.0 alike.2
 next_alike f a b o alike = ap (λ c. next f c o) alike
 
 facts_from : (h k : History) → AreSamePairs h k → (front : History) (back : History) → facts front ≡ facts back → facts (front ++ h) ≡ facts (back ++ k)

@@ -1,6 +1,6 @@
 -- Histories that can't be told apart.
 use Rattle.std.proofs.Common.{◌≡◌, ℕ, Bool, true, false, cond, eqb, [], ◌∷◌, ◌++◌, refl, sym, ap, subst, ◌∙◌, inl, inr, rules, append_assoc, None}
-use Rattle.std.specs.Prelude.{◌&&◌, ◌⊎◌, not}
+use Rattle.std.specs.Prelude.{◌&&◌, ◌⊎◌, not, Option, Some, None, drop}
 use Rattle.std.proofs.lemmas.Bool.{false≢true}
 use Rattle.hub_core.specs.declared.line.Phase.{Phase}
 use Rattle.hub_core.specs.declared.line.Phase.TheVariants.{Out, Inside, Turned}
@@ -14,6 +14,7 @@ use Rattle.hub_core.specs.Facts.{Facts, facts}
 use Rattle.hub_core.specs.Fits.{Answers, Fits}
 use Rattle.hub_core.specs.Legal.{LegalAfter, Same}
 use Rattle.hub_core.specs.Posting.{is_out, phase_of_line, may_enter}
+use Rattle.hub_core.specs.Roster.{CastNow, cast_to, cast_after, goes_next, roster}
 use Rattle.hub_core.specs.Unchanged.{changes_nothing}
 use Rattle.hub_core.proofs.Lists.{both_of}
 use Rattle.hub_core.proofs.Nexts.{next, facts_next}
@@ -41,6 +42,9 @@ nothing_next f outcome.Busy a h = refl
 nothing_next f outcome.TooManyMoves a h = refl
 nothing_next f outcome.NoSuchEnd a h = refl
 nothing_next f outcome.NoLine a h = refl
+nothing_next f outcome.NoOrigin a h = refl
+nothing_next f outcome.InvalidState a h = refl
+nothing_next f outcome.NotTransferable a h = refl
 nothing_next f outcome.GoingOn a h = refl
 nothing_next f (outcome.Clear None) a h = refl
 nothing_next f outcome.Closed (action.Start e) h = refl
@@ -74,12 +78,18 @@ line_was_out f s x l out h =
     ap (λ y. (f.line y l).phase) here ∙ ap (λ k. (f.line s.end.0 k).phase) line ∙ out
 
 -- the facts after a turned poster has left
-turned_facts : (f : Facts) (s : Sender) (o : Outcome) → (o ≡ outcome.Closed) ⊎ (o ≡ outcome.Moved) → phase_of_line f s ≡ Out → next (next f (action.Enter s) o) (action.Leave s) outcome.Left ≡ f
-turned_facts f s o (inl is) out = rw is (λ i. record f {
+cast_stays : (x : ℕ) (c : Option CastNow) → goes_next x c ≡ false → cast_after x c ≡ c
+cast_stays x None h = refl
+cast_stays x (Some c) h = ap (λ b. cond b (cast_to c.source c.body (drop 1 c.left)) (Some c)) h
+
+turned_facts : (f : Facts) (s : Sender) (o : Outcome) → (o ≡ outcome.Closed) ⊎ (o ≡ outcome.Moved) → phase_of_line f s ≡ Out → goes_next s.end.0 f.roster.cast ≡ false → next (next f (action.Enter s) o) (action.Leave s) outcome.Left ≡ f
+turned_facts f s o (inl is) out nowhere = rw is (λ i. record f {
   line = λ x l. record { phase = line_again s Turned (f.line x l).phase x l (eqb x s.end.0 && eqb l s.line.0) (line_was_out f s x l out) i; stand = (f.line x l).stand; noticed = (f.line x l).noticed; held_by = (f.line x l).held_by };
+  roster = record f.roster { cast = cast_stays s.end.0 f.roster.cast nowhere i };
 })
-turned_facts f s o (inr is) out = rw is (λ i. record f {
+turned_facts f s o (inr is) out nowhere = rw is (λ i. record f {
   line = λ x l. record { phase = line_again s Turned (f.line x l).phase x l (eqb x s.end.0 && eqb l s.line.0) (line_was_out f s x l out) i; stand = (f.line x l).stand; noticed = (f.line x l).noticed; held_by = (f.line x l).held_by };
+  roster = record f.roster { cast = cast_stays s.end.0 f.roster.cast nowhere i };
 })
 
 -- an Enter that was turned back found its line out
@@ -94,11 +104,11 @@ not_refused o (inl is) h = cc
 not_refused o (inr is) h = cc
 
 -- a poster that was turned back and has left leaves the same
-pub turned_same : (h : History) (s : Sender) (r q : Bool) (o : Outcome) → (o ≡ outcome.Closed) ⊎ (o ≡ outcome.Moved) → Fits h (record { action = action.Enter s; memory_refused = r }, o) → Same (h ++ (record { action = action.Enter s; memory_refused = r }, o) ∷ (record { action = action.Leave s; memory_refused = q }, outcome.Left) ∷ []) h
-turned_same h s r q o turned fits =
+pub turned_same : (h : History) (s : Sender) (r q : Bool) (o : Outcome) → (o ≡ outcome.Closed) ⊎ (o ≡ outcome.Moved) → goes_next s.end.0 (roster h).cast ≡ false → Fits h (record { action = action.Enter s; memory_refused = r }, o) → Same (h ++ (record { action = action.Enter s; memory_refused = r }, o) ∷ (record { action = action.Leave s; memory_refused = q }, outcome.Left) ∷ []) h
+turned_same h s r q o turned nowhere fits =
     let a : Pair = (record { action = action.Enter s; memory_refused = r }, o) in
     let b : Pair = (record { action = action.Leave s; memory_refused = q }, outcome.Left) in
     let f : Facts = facts h in
     let out : phase_of_line f s ≡ Out = out_of (phase_of_line f s) (entered_out (may_enter f s) (is_out (phase_of_line f s)) (f.line s.end.0 s.line.0).noticed o _ (not_refused o turned) fits) in
     same_facts (h ++ a ∷ b ∷ []) h
-    (ap facts (sym (append_assoc h (a ∷ []) (b ∷ []))) ∙ facts_next (h ++ a ∷ []) b ∙ ap (λ g. next g (action.Leave s) outcome.Left) (facts_next h a) ∙ turned_facts f s o turned out)
+    (ap facts (sym (append_assoc h (a ∷ []) (b ∷ []))) ∙ facts_next (h ++ a ∷ []) b ∙ ap (λ g. next g (action.Leave s) outcome.Left) (facts_next h a) ∙ turned_facts f s o turned out nowhere)

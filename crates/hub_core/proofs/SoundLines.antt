@@ -19,19 +19,19 @@ use Rattle.hub_core.specs.Fits.{Answers}
 use Rattle.hub_core.specs.Lines.{on_line}
 use Rattle.hub_core.specs.Accepted.{named_envelope, named_notice}
 use Rattle.hub_core.specs.Sender.{by, count_in_queue, Rises}
-use Rattle.hub_core.specs.Posting.{holder, poster, is_distinct, may_travel, is_out, phase_of_line, may_enter, hears_notice, is_here, is_inside, running, poster_of}
+use Rattle.hub_core.specs.Posting.{holder, poster, is_distinct, may_travel, is_out, phase_of_line, may_enter, hears_notice, is_here, is_inside, running, poster_of, speaker}
 use Rattle.hub_core.specs.Numbers.{up_to, numbers}
 use Rattle.hub_core.specs.Sound.{no_line, IsOfEnd, SoundLines, no_end}
 use Rattle.hub_core.proofs.Lists.{both_of, AllByRecursion-append, AllByRecursion-weaker, eqb_same}
-use Rattle.hub_core.proofs.Nexts.{next, Change, agent_made, channel_made, let_in, found_moved, found_closed, put, left, started, got, hopped, went_on, cleared, adopted, notice_put, end_closed, end_swept, client_made, worker_made, line_got, line_back, handed, agent_ordered, agent_ended}
-use Rattle.hub_core.proofs.Fitting.{Entered, let_in_of, found_moved_of, found_closed_of, is_retired, Pushed, pushed_of, hopped_of, went_on_of, Clears, cleared_of, adopted_of, looked_where, none_of_any, Noticed, noticed_of, new_ends, queue_made_of, line_got_of}
+use Rattle.hub_core.proofs.Nexts.{next, Change, agent_made, channel_made, let_in, found_moved, found_closed, put, left, started, got, hopped, went_on, cleared, adopted, notice_put, end_closed, end_swept, client_made, worker_made, line_got, line_back, handed, agent_ordered, agent_ended, member_joined, cast_begun, member_parted}
+use Rattle.hub_core.proofs.Fitting.{Entered, let_in_of, found_moved_of, found_closed_of, is_retired, Pushed, pushed_of, hopped_of, went_on_of, Clears, cleared_of, adopted_of, looked_where, none_of_any, Noticed, noticed_of, new_ends, queue_made_of, member_made_of, line_got_of}
 use Rattle.hub_core.specs.Made.{lines_of, peer_of, is_queue}
 use Rattle.std.proofs.lemmas.Bool.Decides.{nat_tests}
 use Rattle.hub_core.specs.Looking.{someone_at, is_away_at, is_settled}
 use Rattle.hub_core.specs.Taking.{IsLeft}
 use Rattle.hub_core.specs.Kept.{come}
 use Rattle.hub_core.specs.declared.kind.Kind.{Kind}
-use Rattle.hub_core.specs.declared.kind.Kind.TheVariants.{Port, Client, Worker}
+use Rattle.hub_core.specs.declared.kind.Kind.TheVariants.{Port, Client, Worker, Member}
 use Rattle.hub_core.specs.declared.limits.TheConstants.{MAX_LINES}
 use Rattle.hub_core.specs.Making.{is_client, is_worker}
 
@@ -169,12 +169,17 @@ some_line f s h (Some (Port q)) is speaks = elim (eqb s.line.0 0) as (λ b. eqb 
 ] refl speaks
 some_line f s h (Some Client) is speaks = subst (λ p. s.line.0 < lines_of p) is (held_line f s h speaks)
 some_line f s h (Some Worker) is speaks = subst (λ p. s.line.0 < lines_of p) is (held_line f s h speaks)
+some_line f s h (Some (Member a)) is speaks = elim (eqb s.line.0 0) as (λ b. eqb s.line.0 0 ≡ b → is_some (cond b (speaker f s.end.0) None) ≡ true → s.line.0 < 1) [
+  | true ↦ λ zeroth _. let first : s.line.0 ≡ 0 = eqb-true s.line.0 0 zeroth in omega arith
+  | false ↦ λ _ no. absurd (false≢true no)
+] refl speaks
 
 heard_line : (f : Facts) (l : ℕ) (p : Option Kind) → (eqb l 0 && is_here (option_and_then (λ q. (f.end q).place) (peer_of p))) ≡ true → l < lines_of p
 heard_line f l None h = absurd (false≢true ((both_of (eqb l 0) false h).1))
 heard_line f l (Some (Port q)) h = let zeroth : l ≡ 0 = eqb-true l 0 (both_of (eqb l 0) (is_here (f.end q.0).place) h).0 in omega arith
 heard_line f l (Some Client) h = absurd (false≢true ((both_of (eqb l 0) false h).1))
 heard_line f l (Some Worker) h = absurd (false≢true ((both_of (eqb l 0) false h).1))
+heard_line f l (Some (Member a)) h = absurd (false≢true ((both_of (eqb l 0) false h).1))
 
 -- a line that may be entered is one of its end
 pub line_there : (f : Facts) (s : Sender) → LinesAt f s.end.0 → may_enter f s ≡ true → s.line.0 < lines_of ((f.end s.end.0).kind)
@@ -631,12 +636,13 @@ pub queue_lines : (p : Option Kind) → is_queue p ≡ true → lines_of p ≡ M
 queue_lines (Some (Port q)) h = absurd (false≢true h)
 queue_lines (Some Client) h = refl
 queue_lines (Some Worker) h = refl
+queue_lines (Some (Member a)) h = absurd (false≢true h)
 queue_lines None h = absurd (false≢true h)
 
 -- ---- every pair that changes something
 
 pub lines_next : (f : Facts) {a : Action} (refused : Bool) {o : Outcome} → IsUnmade f → ((x : ℕ) → LinesAt f x) → Answers f a refused o → Change a o → (x : ℕ) → LinesAt (next f a o) x
-lines_next f refused none h fits (agent_made n) x = h x
+lines_next f refused none h fits (agent_made origin n) x = h x
 lines_next f refused none h fits (channel_made a e e') x =
     let made = new_ends f a refused e e' fits in
     grown x (lines_of ((f.end x).kind)) _ _ _ _ (f.line x) (f.clear x) (f.accepted x) (more_lines (eqb x e.0) (eqb x e'.0) (Port e') (Port e) (f.end x).kind (either_new f e e' x none made.1 made.2)) (h x)
@@ -646,17 +652,22 @@ lines_next f refused none h fits (client_made a e) x =
 lines_next f refused none h fits (worker_made a e) x =
     let made = queue_made_of f is_worker a refused e fits in
     grown x (lines_of ((f.end x).kind)) _ _ _ _ (f.line x) (f.clear x) (f.accepted x) (one_more_line (eqb x e.0) Worker (f.end x).kind (one_new f e x none made.number)) (h x)
+lines_next f refused none h fits (member_joined a name e) x =
+    let made = member_made_of f a refused e fits in
+    grown x (lines_of ((f.end x).kind)) _ _ _ _ (f.line x) (f.clear x) (f.accepted x) (one_more_line (eqb x e.0) (Member a) (f.end x).kind (one_new f e x none made.number)) (h x)
 lines_next f refused none h fits (line_got e a l) x =
     let gets = line_got_of f e a l fits in
     held f (record { end = e; line = l }) (Some a) x (inl (subst (λ n. l.0 < n) (sym (queue_lines (f.end e.0).kind gets.queue)) gets.low)) (h x)
 lines_next f refused none h fits (line_back s) x = held f s None x (inr refl) (h x)
 lines_next f refused none h fits (handed e b) x = h x
 lines_next f refused none h fits (agent_ordered a) x = h x
+lines_next f refused none h fits (cast_begun e ports body ends) x = h x
+lines_next f refused none h fits (member_parted e) x = h x
 lines_next f refused none h fits (agent_ended a es) x = h x
 lines_next f refused none h fits (let_in s) x = let r = let_in_of f s fits in phased f s Inside x (may_come_in f s r.0 r.1 r.2 (h s.end.0)) (h x)
 lines_next f refused none h fits (found_moved s) x = let r = found_moved_of f s fits in phased f s Turned x (may_turn_moved f s r.0 r.1 (h s.end.0)) (h x)
 lines_next f refused none h fits (found_closed s) x = let r = found_closed_of f s fits in phased f s Turned x (may_turn_closed f s r.0 r.2 (h s.end.0)) (h x)
-lines_next f refused none h fits (put s ports body n) x = put_at f s (named_envelope s n body ports.items) x (message_may f s ports.items body n (h s.end.0) (pushed_of f s ports.items refused n fits)) refl (h x) (eqb x s.end.0) refl
+lines_next f refused none h fits (put s ports body n) x = put_at f s (named_envelope s n body ports.items) x (message_may f s ports.items body n (h s.end.0) (pushed_of f s ports.items body refused n fits)) refl (h x) (eqb x s.end.0) refl
 lines_next f refused none h fits (notice_put s n) x = notice_at f s (named_notice s n) x (notice_may f s n (noticed_of f s refused n fits)) (h x) (eqb x s.end.0) refl
 lines_next f refused none h fits (left s) x = phased f s Out x (may_leave f s) (h x)
 lines_next f refused none h fits (hopped s k) x =

@@ -12,6 +12,7 @@ use Rattle.hub_core.specs.declared.end.Place.TheVariants.{With, InFlight, Arrive
 use Rattle.hub_core.specs.declared.line.Phase.{Phase}
 use Rattle.hub_core.specs.declared.line.Phase.TheVariants.{Out, Inside, Turned}
 use Rattle.hub_core.specs.declared.sender.Sender.{Sender}
+use Rattle.hub_core.specs.Roster.{RosterNow}
 use Rattle.hub_core.specs.declared.step.Action.{Action}
 use Rattle.hub_core.specs.declared.step.Action.TheVariants as action
 use Rattle.hub_core.specs.declared.outcome.Acceptance.{Acceptance}
@@ -21,16 +22,16 @@ use Rattle.hub_core.specs.Facts.{EndNow, Facts, LineNow}
 use Rattle.hub_core.specs.Fits.{Answers}
 use Rattle.hub_core.specs.Place.{names, arrived, is_named}
 use Rattle.hub_core.specs.Accepted.{named_envelope, named_notice}
-use Rattle.hub_core.specs.Posting.{poster, is_out, may_enter, hears_notice, is_here, own_poster_out}
+use Rattle.hub_core.specs.Posting.{poster, is_out, may_enter, hears_notice, is_here, own_poster_out, phase_of_line}
 use Rattle.hub_core.specs.Taking.{IsNext}
 use Rattle.hub_core.specs.Sound.{no_end, total, naming, flights, SoundPlaces, Sound, is_gone}
 use Rattle.hub_core.proofs.Lists.{both_of, eqb_same}
 use Rattle.hub_core.proofs.Totals.{total_more, bit, count_more, count_between}
-use Rattle.hub_core.proofs.Nexts.{next, Change, agent_made, channel_made, let_in, found_moved, found_closed, put, left, started, got, hopped, went_on, cleared, adopted, notice_put, end_closed, end_swept, client_made, worker_made, line_got, line_back, handed, agent_ended, agent_ordered}
-use Rattle.hub_core.proofs.Fitting.{new_agent, new_ends, let_in_of, found_moved_of, found_closed_of, pushed_of, started_of, got_of, went_on_of, adopted_of, noticed_of, closed_of, SweptWith, swept_of, handed_of, queue_made_of}
-use Rattle.hub_core.proofs.Speakers.{made_of, placed_made, entangled_made, nothing_accepted, nothing_removed, runs_there, speaks_of, travels, all_good, taken_flies, named_count, unnamed_count, swept_total, closed_made, swept_within, swept_flies, old_end, holder_made, hears_of, or_true, may_next, same_sender, heard_of, queue_is_made, no_port, old_one, Speaks, HoldsLine}
+use Rattle.hub_core.proofs.Nexts.{next, Change, agent_made, channel_made, let_in, found_moved, found_closed, put, left, started, got, hopped, went_on, cleared, adopted, notice_put, end_closed, end_swept, client_made, worker_made, line_got, line_back, handed, agent_ended, agent_ordered, member_joined, cast_begun, member_parted}
+use Rattle.hub_core.proofs.Fitting.{new_agent, new_ends, let_in_of, found_moved_of, found_closed_of, pushed_of, started_of, got_of, went_on_of, adopted_of, noticed_of, closed_of, SweptWith, swept_of, handed_of, queue_made_of, member_made_of}
+use Rattle.hub_core.proofs.Speakers.{made_of, placed_made, entangled_made, nothing_accepted, nothing_removed, runs_there, speaks_of, travels, all_good, taken_flies, named_count, unnamed_count, swept_total, closed_made, swept_within, swept_flies, old_end, holder_made, hears_of, or_true, may_next, same_sender, heard_of, queue_is_made, no_port, old_one, Speaks, HoldsLine, SomeCasts}
 use Rattle.hub_core.specs.Made.{peer_of, is_queue}
-use Rattle.hub_core.specs.declared.kind.Kind.TheVariants.{Port, Client, Worker}
+use Rattle.hub_core.specs.declared.kind.Kind.TheVariants.{Port, Client, Worker, Member}
 use Rattle.hub_core.specs.declared.kind.Kind.{Kind}
 use Rattle.hub_core.specs.Making.{is_client, is_worker}
 use Rattle.hub_core.specs.declared.limits.TheConstants.{MAX_ENDS}
@@ -187,7 +188,7 @@ channel_places f b refused e e' h fits =
       peers = λ x y is. peers_channel f e e' h.places made.1 made.2 x y (eqb x e.0) (eqb x e'.0) refl refl is;
       with_made = λ x a is. with_channel f b x (eqb x e.0 || eqb x e'.0) a h.places made.0 is;
       arrived_made = λ x a is. arrived_channel f b x (eqb x e.0 || eqb x e'.0) a h.places is;
-      away = λ s away. may_next f refused h fits (channel_made b e e') s away (h.places.away s away);
+      away = λ s away. may_next f refused h fits (channel_made b e e') s away away (h.places.away s away);
       flying = λ x is. channel_flying (eqb x e.0) (eqb x e'.0) b e' e (f.end x).place (f.end x).kind (h.places.flying x) is;
       gone = λ x. gone_made (eqb x e.0 || eqb x e'.0) b (f.end x).closed (f.end x).place (λ is. ap (λ (d : EndNow). d.closed) (unmade_end f e e' x h.places made.1 made.2 is)) (h.places.gone x);
       flights = λ x.
@@ -225,8 +226,8 @@ moved_flying : (b : Bool) (q p : Option Place) (k : Option Kind) → (q ≡ Some
 moved_flying true q p k never old is = absurd (never is)
 moved_flying false q p k never old is = old is
 
-agent_places : (f : Facts) (refused : Bool) (n : AgentId) → Sound f → Answers f action.Agent refused (outcome.Agent n) → SoundPlaces (next f action.Agent (outcome.Agent n))
-agent_places f refused n h fits =
+agent_places : (f : Facts) (origin : Option (List ℕ)) (refused : Bool) (n : AgentId) → Sound f → Answers f (action.Agent origin) refused (outcome.Agent n) → SoundPlaces (next f (action.Agent origin) (outcome.Agent n))
+agent_places f origin refused n h fits =
     let number : n.0 ≡ f.agents = new_agent f refused n fits in
     record {
       few = h.places.few;
@@ -237,7 +238,7 @@ agent_places f refused n h fits =
       peers = h.places.peers;
       with_made = λ x a is. let less : a.0 < f.agents = h.places.with_made x a is in omega arith;
       arrived_made = λ x a is. let less : a.0 < f.agents = h.places.arrived_made x a is in omega arith;
-      away = λ s away. may_next f refused h fits (agent_made n) s away (h.places.away s away);
+      away = λ s away. may_next f refused h fits (agent_made origin n) s away away (h.places.away s away);
       flying = h.places.flying;
       gone = h.places.gone;
       flights = h.places.flights;
@@ -263,9 +264,10 @@ put_arrived : (x : Option Place) (named : Bool) (a : AgentId) → cond named (So
 put_arrived x true a is = absurd (search (rules, is))
 put_arrived x false a is = is
 
-posted_made : (f : Facts) (s : Sender) → SoundPlaces f → Speaks f s ⊎ HoldsLine f s → s.end.0 < f.ends
+posted_made : (f : Facts) (s : Sender) → SoundPlaces f → Speaks f s ⊎ (HoldsLine f s ⊎ SomeCasts f s) → s.end.0 < f.ends
 posted_made f s h (inl k) = entangled_made f s.end.0 k.peer h k.entangled
-posted_made f s h (inr k) = queue_is_made f s.end.0 h k.queue
+posted_made f s h (inr (inl k)) = queue_is_made f s.end.0 h k.queue
+posted_made f s h (inr (inr k)) = made_of f s.end.0 h.ends (λ none. absurd (search (rules, sym (ap (λ (d : EndNow). d.kind) none) ∙ k.1.member)))
 
 pub some_own : (f : Facts) (q : Option ℕ) → own_poster_out f q ≡ true → is_some q ≡ true
 some_own f (Some q) h = refl
@@ -277,7 +279,7 @@ put_flying false p k port old is = old is
 
 put_places : (f : Facts) (refused : Bool) (s : Sender) (ports : Vec EndId Global) (body : List ℕ) (n : Acceptance) → Sound f → Answers f (action.Push s ports body) refused (outcome.Accepted n) → SoundPlaces (next f (action.Push s ports body) (outcome.Accepted n))
 put_places f refused s ports body n h fits =
-    let p = pushed_of f s ports.items refused n fits in
+    let p = pushed_of f s ports.items body refused n fits in
     record {
       few = h.places.few;
       ends = λ x past. moved_none f x (names ports.items x) (Some InFlight) (h.places.ends x past) (λ named. none_with f x (With p.agent) (h.places.ends x past) (travels f p.agent s x ports.items (all_good f s ports.items n p) named).0);
@@ -285,7 +287,7 @@ put_places f refused s ports body n h fits =
       peers = h.places.peers;
       with_made = λ x a is. h.places.with_made x a (put_with ((f.end x).place) (names ports.items x) a is);
       arrived_made = λ x a is. h.places.arrived_made x a (put_arrived ((f.end x).place) (names ports.items x) a is);
-      away = λ t away. may_next f refused h fits (put s ports body n) t away (h.places.away t away);
+      away = λ t away. may_next f refused h fits (put s ports body n) t away away (h.places.away t away);
       flying = λ x is. put_flying (names ports.items x) (f.end x).place (f.end x).kind (λ named. some_own f (peer_of (f.end x).kind) (travels f p.agent s x ports.items (all_good f s ports.items n p) named).1) (h.places.flying x) is;
       gone = λ x. gone_moved (names ports.items x) (f.end x).closed (Some InFlight) (f.end x).place refl (λ named. h.places.gone x ∙ ap is_gone (travels f p.agent s x ports.items (all_good f s ports.items n p) named).0) (h.places.gone x);
       flights = λ x. put_flights f s (named_envelope s n body ports.items) x h.places (posted_made f s h.places (speaks_of f s (ap is_some p.speaks))) (names ports.items x) refl (λ named. no_flights ((f.end x).place) p.agent (travels f p.agent s x ports.items (all_good f s ports.items n p) named).0);
@@ -314,7 +316,7 @@ got_places f refused e v h fits =
       peers = h.places.peers;
       with_made = λ x a is. h.places.with_made x a (got_with ((f.end x).place) ((f.end e.0).place) there.0 (names v.ports x) a there.1 is);
       arrived_made = λ x a is. got_arrived f x ((f.end e.0).place) there.0 (names v.ports x) a h.places (h.places.with_made e.0 there.0 there.1) there.1 is;
-      away = λ t away. may_next f refused h fits (got e v) t away (h.places.away t away);
+      away = λ t away. may_next f refused h fits (got e v) t away away (h.places.away t away);
       flying = λ x is. moved_flying (names v.ports x) (arrived ((f.end e.0).place) ((f.end x).place)) (f.end x).place (f.end x).kind (λ same. search (rules, sym (ap (λ q. arrived q (f.end x).place) there.1) ∙ same)) (h.places.flying x) is;
       gone = λ x. gone_moved (names v.ports x) (f.end x).closed (arrived ((f.end e.0).place) ((f.end x).place)) (f.end x).place (ap (λ q. is_gone (arrived q ((f.end x).place))) there.1) (λ named. h.places.gone x ∙ ap is_gone (taken_flies f e v x h served.serves served.is_open made named)) (h.places.gone x);
       flights = λ x. got_flights f e v x there.0 h served.serves served.is_open made there.1 (names v.ports x) refl;
@@ -394,7 +396,7 @@ adopted_places f refused e a k h fits =
       peers = h.places.peers;
       with_made = λ x b is. with_channel f a x (eqb x e.0) b h.places adopts.runs is;
       arrived_made = λ x b is. arrived_channel f a x (eqb x e.0) b h.places is;
-      away = λ s away. may_next f refused h fits (adopted e a k) s away (h.places.away s away);
+      away = λ s away. may_next f refused h fits (adopted e a k) s away away (h.places.away s away);
       flying = λ x is. moved_flying (eqb x e.0) (Some (With a)) (f.end x).place (f.end x).kind (λ same. search (rules, same)) (h.places.flying x) is;
       gone = λ x. gone_moved (eqb x e.0) (f.end x).closed (Some (With a)) (f.end x).place refl (λ is. h.places.gone x ∙ ap (λ y. is_gone (f.end y).place) (eqb-true x e.0 is) ∙ ap is_gone adopts.arrived) (h.places.gone x);
       flights = λ x.
@@ -458,7 +460,7 @@ closed_places f refused e h fits =
       peers = h.places.peers;
       with_made = λ x a is. h.places.with_made x a (gone_nowhere (eqb x e.0) (f.end x).place (Some Gone) (With a) is (λ same. search (rules, same)));
       arrived_made = λ x a is. h.places.arrived_made x a (gone_nowhere (eqb x e.0) (f.end x).place (Some Gone) (Arrived a) is (λ same. search (rules, same)));
-      away = λ s away. may_next f refused h fits (end_closed e) s away (h.places.away s away);
+      away = λ s away. may_next f refused h fits (end_closed e) s away away (h.places.away s away);
       flying = λ x is. moved_flying (eqb x e.0) (Some Gone) (f.end x).place (f.end x).kind (λ same. search (rules, same)) (h.places.flying x) is;
       gone = λ x. closed_gone (eqb x e.0) (f.end x).closed (f.end x).place (h.places.gone x);
       flights = λ x. h.places.flights x ∙ ap (λ n. total (λ d. naming x (f.taken d ++ f.discarded d)) f.ends + n) (sym (same_flights (eqb x e.0) (Some Gone) (f.end x).place refl (λ is. no_flight (f.end x).place (ap (λ y. is_here (f.end y).place) (eqb-true x e.0 is) ∙ closes.here))));
@@ -475,7 +477,7 @@ swept_places f refused e vs h fits =
       peers = h.places.peers;
       with_made = λ x a is. h.places.with_made x a (gone_nowhere (is_named vs x) (f.end x).place (Some Swept) (With a) is (λ same. search (rules, same)));
       arrived_made = λ x a is. h.places.arrived_made x a (gone_nowhere (is_named vs x) (f.end x).place (Some Swept) (Arrived a) is (λ same. search (rules, same)));
-      away = λ s away. may_next f refused h fits (end_swept e vs) s away (h.places.away s away);
+      away = λ s away. may_next f refused h fits (end_swept e vs) s away away (h.places.away s away);
       flying = λ x is. moved_flying (is_named vs x) (Some Swept) (f.end x).place (f.end x).kind (λ same. search (rules, same)) (h.places.flying x) is;
       gone = λ x. gone_moved (is_named vs x) (f.end x).closed (Some Swept) (f.end x).place refl (λ named. h.places.gone x ∙ ap is_gone (swept_flies f e vs x h w named)) (h.places.gone x);
       flights = λ x. swept_flights f e vs x h w made (is_named vs x) refl;
@@ -494,9 +496,9 @@ one_none f b k e x h first past =
     let other : eqb x e.0 ≡ false = ne_eqb x e.0 (λ same. omega arith) in
     rw other (h.ends x (omega arith))
 
-one_peers : (f : Facts) (b : AgentId) (k : Kind) (e : EndId) → SoundPlaces f → is_queue (Some k) ≡ true → e ≡ record { 0 = f.ends } → (x y : ℕ) → (c : Bool) → eqb x e.0 ≡ c → peer_of (cond c (Some k) (f.end x).kind) ≡ Some y → (y < f.ends + 1) × (peer_of (cond (eqb y e.0) (Some k) (f.end y).kind) ≡ Some x)
-one_peers f b k e h queue first x y true is at = absurd (no_port (Some k) y queue at)
-one_peers f b k e h queue first x y false is at =
+one_peers : (f : Facts) (b : AgentId) (k : Kind) (e : EndId) → SoundPlaces f → peer_of (Some k) ≡ None → e ≡ record { 0 = f.ends } → (x y : ℕ) → (c : Bool) → eqb x e.0 ≡ c → peer_of (cond c (Some k) (f.end x).kind) ≡ Some y → (y < f.ends + 1) × (peer_of (cond (eqb y e.0) (Some k) (f.end y).kind) ≡ Some x)
+one_peers f b k e h alone first x y true is at = absurd (search (rules, sym alone ∙ at))
+one_peers f b k e h alone first x y false is at =
     let old = h.peers x y at in
     let less : y < f.ends = old.0 in
     (omega arith, rw (old_one f e y first less) old.1)
@@ -514,12 +516,12 @@ one_flying : (b : Bool) (a : AgentId) (u : Kind) (p : Option Place) (k : Option 
 one_flying true a u p k old is = absurd (search (rules, is))
 one_flying false a u p k old is = old is
 
-queue_places : (f : Facts) (b : AgentId) (k : Kind) (e : EndId) → Sound f → is_queue (Some k) ≡ true → (f.agent b.0).runs ≡ true → f.ends + 1 ≤ MAX_ENDS → e ≡ record { 0 = f.ends } → ((s : Sender) → is_out ((f.line s.end.0 s.line.0).phase) ≡ false → may_enter (one_made f b k e) s ≡ true) → SoundPlaces (one_made f b k e)
-queue_places f b k e h queue runs few first away = record {
+queue_places : (f : Facts) (b : AgentId) (k : Kind) (e : EndId) → Sound f → peer_of (Some k) ≡ None → (f.agent b.0).runs ≡ true → f.ends + 1 ≤ MAX_ENDS → e ≡ record { 0 = f.ends } → ((s : Sender) → is_out ((f.line s.end.0 s.line.0).phase) ≡ false → may_enter (one_made f b k e) s ≡ true) → SoundPlaces (one_made f b k e)
+queue_places f b k e h alone runs few first away = record {
   few = few;
   ends = λ x past. one_none f b k e x h.places first past;
   agents = h.places.agents;
-  peers = λ x y is. one_peers f b k e h.places queue first x y (eqb x e.0) refl is;
+  peers = λ x y is. one_peers f b k e h.places alone first x y (eqb x e.0) refl is;
   with_made = λ x a is. with_channel f b x (eqb x e.0) a h.places runs is;
   arrived_made = λ x a is. arrived_channel f b x (eqb x e.0) a h.places is;
   away = away;
@@ -556,7 +558,7 @@ handed_places f refused e b h fits =
       peers = h.places.peers;
       with_made = λ x a is. h.places.with_made x a (gone_nowhere (eqb x e.0) (f.end x).place (Some (Arrived b)) (With a) is (λ same. search (rules, same)));
       arrived_made = λ x a is. handed_known (eqb x e.0) b a f.agents (f.end x).place hands.known (h.places.arrived_made x a) is;
-      away = λ s away. may_next f refused h fits (handed e b) s away (h.places.away s away);
+      away = λ s away. may_next f refused h fits (handed e b) s away away (h.places.away s away);
       flying = λ x is. moved_flying (eqb x e.0) (Some (Arrived b)) (f.end x).place (f.end x).kind (λ same. search (rules, same)) (h.places.flying x) is;
       gone = λ x. gone_moved (eqb x e.0) (f.end x).closed (Some (Arrived b)) (f.end x).place refl (λ is. h.places.gone x ∙ ap (λ y. is_gone (f.end y).place) (eqb-true x e.0 is) ∙ ap is_gone there.1) (h.places.gone x);
       flights = λ x. h.places.flights x ∙ ap (λ n. total (λ d. naming x (f.taken d ++ f.discarded d)) f.ends + n) (sym (same_flights (eqb x e.0) (Some (Arrived b)) (f.end x).place refl (λ is. ap (λ y. flights (f.end y).place) (eqb-true x e.0 is) ∙ ap flights there.1)));
@@ -590,14 +592,38 @@ ended_places f refused a es h fits = record {
   peers = h.places.peers;
   with_made = h.places.with_made;
   arrived_made = h.places.arrived_made;
-  away = λ s away. may_next f refused h fits (agent_ended a es) s away (h.places.away s away);
+  away = λ s away. may_next f refused h fits (agent_ended a es) s away away (h.places.away s away);
   flying = h.places.flying;
   gone = h.places.gone;
   flights = h.places.flights;
 }
 
+-- another roster
+with_roster : (f : Facts) (roster : RosterNow) → SoundPlaces f → ((s : Sender) → is_out (phase_of_line f s) ≡ false → may_enter (record f { roster = roster }) s ≡ true) → SoundPlaces (record f { roster = roster })
+with_roster f roster h away = record {
+  few = h.few;
+  ends = h.ends;
+  agents = h.agents;
+  peers = h.peers;
+  with_made = h.with_made;
+  arrived_made = h.arrived_made;
+  away = away;
+  flying = h.flying;
+  gone = h.gone;
+  flights = h.flights;
+}
+
+-- a line that is away after another one was left was away
+was_away : (b : Bool) (p : Phase) → is_out (cond b Out p) ≡ false → is_out p ≡ false
+was_away true p h = absurd (false≢true (sym h))
+was_away false p h = h
+
+-- who may enter doesn't ask for the members of the roster
+may_made : (f : Facts) (s : Sender) (b : AgentId) (name : List ℕ) (e : EndId) → may_enter (next f (action.Member b name) (outcome.End e)) s ≡ true → may_enter (one_made f b (Member b) e) s ≡ true
+may_made f s b name e h = h
+
 pub places_next : (f : Facts) {a : Action} (refused : Bool) {o : Outcome} → Sound f → Answers f a refused o → Change a o → SoundPlaces (next f a o)
-places_next f refused h fits (agent_made n) = agent_places f refused n h fits
+places_next f refused h fits (agent_made origin n) = agent_places f origin refused n h fits
 places_next f refused h fits (channel_made b e e') = channel_places f b refused e e' h fits
 places_next f refused h fits (let_in s) =
     lines_alone f (next f (action.Enter s) outcome.In).line h.places (λ t away. away_entered f t s Inside h.places (let_in_of f s fits).0.may (eqb t.end.0 s.end.0 && eqb t.line.0 s.line.0) refl away)
@@ -608,7 +634,9 @@ places_next f refused h fits (found_closed s) =
 places_next f refused h fits (put s ports body n) = put_places f refused s ports body n h fits
 places_next f refused h fits (notice_put s n) = notice_places f refused s n h fits
 places_next f refused h fits (left s) =
-    lines_alone f (next f (action.Leave s) outcome.Left).line h.places (λ t away. away_left f t (eqb t.end.0 s.end.0 && eqb t.line.0 s.line.0) h.places away)
+    with_roster (record f { line = (next f (action.Leave s) outcome.Left).line }) (next f (action.Leave s) outcome.Left).roster
+    (lines_alone f (next f (action.Leave s) outcome.Left).line h.places (λ t away. away_left f t (eqb t.end.0 s.end.0 && eqb t.line.0 s.line.0) h.places away))
+    (λ t away. let before : is_out (phase_of_line f t) ≡ false = was_away (eqb t.end.0 s.end.0 && eqb t.line.0 s.line.0) (phase_of_line f t) away in may_next f refused h fits (left s) t before away (h.places.away t before))
 places_next f refused h fits (hopped s k) = lines_alone f (next f (action.Hop s) (outcome.Hopped k)).line h.places h.places.away
 places_next f refused h fits (started e) = started_places f refused e h fits
 places_next f refused h fits (got e v) = got_places f refused e v h fits
@@ -619,12 +647,21 @@ places_next f refused h fits (end_closed e) = closed_places f refused e h fits
 places_next f refused h fits (end_swept e vs) = swept_places f refused e vs h fits
 places_next f refused h fits (client_made b e) =
     let made = queue_made_of f is_client b refused e fits in
-    queue_places f b Client e h refl made.runs made.few made.number (λ s away. may_next f refused h fits (client_made b e) s away (h.places.away s away))
+    queue_places f b Client e h refl made.runs made.few made.number (λ s away. may_next f refused h fits (client_made b e) s away away (h.places.away s away))
 places_next f refused h fits (worker_made b e) =
     let made = queue_made_of f is_worker b refused e fits in
-    queue_places f b Worker e h refl made.runs made.few made.number (λ s away. may_next f refused h fits (worker_made b e) s away (h.places.away s away))
-places_next f refused h fits (line_got e a l) = lines_alone f (next f (action.Line e a) (outcome.Line l)).line h.places (λ s away. may_next f refused h fits (line_got e a l) s away (h.places.away s away))
-places_next f refused h fits (line_back t) = lines_alone f (next f (action.Back t) outcome.Done).line h.places (λ s away. may_next f refused h fits (line_back t) s away (h.places.away s away))
+    queue_places f b Worker e h refl made.runs made.few made.number (λ s away. may_next f refused h fits (worker_made b e) s away away (h.places.away s away))
+places_next f refused h fits (member_joined b name e) =
+    let made = member_made_of f b refused e fits in
+    with_roster (one_made f b (Member b) e) (next f (action.Member b name) (outcome.End e)).roster
+    (queue_places f b (Member b) e h refl made.runs made.few made.number (λ s away. may_made f s b name e (may_next f refused h fits (member_joined b name e) s away away (h.places.away s away))))
+    (λ s away. may_next f refused h fits (member_joined b name e) s away away (h.places.away s away))
+places_next f refused h fits (cast_begun e ports body ends) =
+    with_roster f (next f (action.Cast e ports body) (outcome.Destinations ends)).roster h.places (λ s away. may_next f refused h fits (cast_begun e ports body ends) s away away (h.places.away s away))
+places_next f refused h fits (member_parted e) =
+    with_roster f (next f (action.Part e) outcome.Done).roster h.places (λ s away. may_next f refused h fits (member_parted e) s away away (h.places.away s away))
+places_next f refused h fits (line_got e a l) = lines_alone f (next f (action.Line e a) (outcome.Line l)).line h.places (λ s away. may_next f refused h fits (line_got e a l) s away away (h.places.away s away))
+places_next f refused h fits (line_back t) = lines_alone f (next f (action.Back t) outcome.Done).line h.places (λ s away. may_next f refused h fits (line_back t) s away away (h.places.away s away))
 places_next f refused h fits (handed e b) = handed_places f refused e b h fits
 places_next f refused h fits (agent_ordered a) = ordered_places f a h
 places_next f refused h fits (agent_ended a es) = ended_places f refused a es h fits

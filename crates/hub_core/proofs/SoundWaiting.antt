@@ -16,7 +16,7 @@ use Rattle.hub_core.specs.Sender.{by, in_queue, Prefix, Rises}
 use Rattle.hub_core.specs.Posting.{phase_of_line, is_inside}
 use Rattle.hub_core.specs.Taking.{IsNext, IsLeft}
 use Rattle.hub_core.specs.Sound.{SoundWaiting}
-use Rattle.hub_core.proofs.Nexts.{next, Change, agent_made, channel_made, let_in, found_moved, found_closed, put, left, started, got, hopped, went_on, cleared, adopted, notice_put, end_closed, end_swept, client_made, worker_made, line_got, line_back, handed, agent_ordered, agent_ended}
+use Rattle.hub_core.proofs.Nexts.{next, Change, agent_made, channel_made, let_in, found_moved, found_closed, put, left, started, got, hopped, went_on, cleared, adopted, notice_put, end_closed, end_swept, client_made, worker_made, line_got, line_back, handed, agent_ordered, agent_ended, member_joined, cast_begun, member_parted}
 use Rattle.hub_core.proofs.Fitting.{pushed_of, got_of, let_in_of, went_on_of, below_last, noticed_of, SweptWith, swept_of, each_of}
 use Rattle.hub_core.proofs.SoundLines.{LinesAt, by_more, phased_line, gone_line, rises_more, MayPut, message_may, notice_may, told_line, inside_unsettled}
 use Rattle.std.specs.Prelude.{◌&&◌}
@@ -242,12 +242,12 @@ waiting_held : (f : Facts) (x : ℕ) (holder : ℕ → Option AgentId) → Waiti
 waiting_held f x holder h = record { prefix = h.prefix; rising = h.rising; reached = h.reached; behind = h.behind; kept = h.kept; nobody = h.nobody; swept = h.swept }
 
 pub waiting_next : (f : Facts) {a : Action} (refused : Bool) {o : Outcome} → ((x : ℕ) → LinesAt f x) → ((x : ℕ) → WaitingAt f x) → Answers f a refused o → Change a o → (x : ℕ) → WaitingAt (next f a o) x
-waiting_next f refused lines h fits (agent_made n) x = h x
+waiting_next f refused lines h fits (agent_made origin n) x = h x
 waiting_next f refused lines h fits (channel_made a e e') x = h x
 waiting_next f refused lines h fits (let_in s) x = waiting_phased f s Inside x (λ _. (h s.end.0).kept (let_in_of f s fits).2) (h x)
 waiting_next f refused lines h fits (found_moved s) x = waiting_phased f s Turned x (λ is. cc) (h x)
 waiting_next f refused lines h fits (found_closed s) x = waiting_phased f s Turned x (λ is. cc) (h x)
-waiting_next f refused lines h fits (put s ports body n) x = waiting_put f s (named_envelope s n body ports.items) x (message_may f s ports.items body n (lines s.end.0) (pushed_of f s ports.items refused n fits)) (lines s.end.0) (h x) (eqb x s.end.0) refl
+waiting_next f refused lines h fits (put s ports body n) x = waiting_put f s (named_envelope s n body ports.items) x (message_may f s ports.items body n (lines s.end.0) (pushed_of f s ports.items body refused n fits)) (lines s.end.0) (h x) (eqb x s.end.0) refl
 waiting_next f refused lines h fits (notice_put s n) x = waiting_told f s x _ (waiting_put f s (named_notice s n) x (notice_may f s n (noticed_of f s refused n fits)) (lines s.end.0) (h x) (eqb x s.end.0) refl)
 waiting_next f refused lines h fits (left s) x = waiting_phased f s Out x (λ is. cc) (h x)
 waiting_next f refused lines h fits (hopped s k) x = waiting_gone f s x (h x)
@@ -264,4 +264,7 @@ waiting_next f refused lines h fits (line_got e a l) x = waiting_held f x _ (h x
 waiting_next f refused lines h fits (line_back s) x = waiting_held f x _ (h x)
 waiting_next f refused lines h fits (handed e b) x = h x
 waiting_next f refused lines h fits (agent_ordered a) x = h x
+waiting_next f refused lines h fits (member_joined a name e) x = h x
+waiting_next f refused lines h fits (cast_begun e ports body ends) x = h x
+waiting_next f refused lines h fits (member_parted e) x = h x
 waiting_next f refused lines h fits (agent_ended a es) x = h x

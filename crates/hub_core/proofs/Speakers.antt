@@ -1,6 +1,6 @@
 -- Who posts on a line, who may enter, and which ports are in flight.
 use Rattle.std.proofs.Common.{◌≡◌, ℕ, ◌+◌, ◌<◌, ◌≤◌, Bool, true, false, cond, eqb, List, [], ◌∷◌, ◌++◌, Option, Some, None, refl, sym, ap, subst, ◌∙◌, arith, rules, length, append_assoc, append-nil, inl, inr}
-use Rattle.std.specs.Prelude.{◌⊎◌, ◌&&◌, ◌||◌, not, is_some, option_and_then, nat_le}
+use Rattle.std.specs.Prelude.{◌⊎◌, ◌&&◌, ◌||◌, not, is_some, option_and_then, nat_le, drop}
 use Rattle.std.specs.List.{AllByRecursion, list_all, filter}
 use Rattle.std.proofs.lemmas.Bool.{false≢true, ne_eqb, eqb-true, leb-true, leb-false}
 use Rattle.hub_envelope.specs.declared.ids.AgentId.{AgentId}
@@ -9,6 +9,7 @@ use Rattle.hub_envelope.specs.declared.envelope.Envelope.{Envelope}
 use Rattle.hub_core.specs.declared.end.Place.{Place}
 use Rattle.hub_core.specs.declared.end.Place.TheVariants.{With, InFlight, Arrived, Swept, Gone}
 use Rattle.hub_core.specs.declared.sender.Sender.{Sender}
+use Rattle.hub_core.specs.declared.line.Phase.TheVariants.{Out}
 use Rattle.hub_core.specs.declared.step.Action.{Action}
 use Rattle.hub_core.specs.declared.step.Action.TheVariants as action
 use Rattle.hub_core.specs.declared.outcome.Acceptance.{Acceptance}
@@ -18,13 +19,13 @@ use Rattle.hub_core.specs.Facts.{EndNow, LineNow, Facts}
 use Rattle.hub_core.specs.Fits.{Answers}
 use Rattle.hub_core.specs.Place.{names, is_named}
 use Rattle.hub_core.specs.Sender.{by, Prefix}
-use Rattle.hub_core.specs.Posting.{running_at, holder, poster, phase_of_line, is_out, is_distinct, is_with, own_poster_out, is_at, may_travel, may_enter, hears_notice, is_here, may_leave_agent, own_line_plain, running, poster_of}
+use Rattle.hub_core.specs.Posting.{running_at, holder, poster, phase_of_line, is_out, is_distinct, is_with, own_poster_out, is_at, may_travel, may_enter, hears_notice, is_here, may_leave_agent, own_line_plain, running, poster_of, speaker_in}
 use Rattle.hub_core.specs.Taking.{IsNext}
 use Rattle.hub_core.specs.Sound.{no_end, IsOfEnd, total, naming, flights, SoundPlaces, Sound}
 use Rattle.hub_core.proofs.Lists.{both_of, eqb_same}
 use Rattle.hub_core.proofs.Totals.{total_less, total_more, count, bit, count_more, count_lines, count_append}
-use Rattle.hub_core.proofs.Nexts.{next, Change, agent_made, channel_made, let_in, found_moved, found_closed, put, left, started, got, hopped, went_on, cleared, adopted, notice_put, end_closed, end_swept, client_made, worker_made, line_got, line_back, handed, agent_ordered, agent_ended}
-use Rattle.hub_core.proofs.Fitting.{new_ends, Pushed, pushed_of, got_of, adopted_of, closed_of, SweptWith, swept_of, queue_made_of, handed_of, line_got_of, back_of, none_away, see_of}
+use Rattle.hub_core.proofs.Nexts.{next, Change, agent_made, channel_made, let_in, found_moved, found_closed, put, left, started, got, hopped, went_on, cleared, adopted, notice_put, end_closed, end_swept, client_made, worker_made, line_got, line_back, handed, agent_ordered, agent_ended, member_joined, cast_begun, member_parted}
+use Rattle.hub_core.proofs.Fitting.{new_ends, Pushed, pushed_of, got_of, adopted_of, closed_of, SweptWith, swept_of, queue_made_of, handed_of, line_got_of, back_of, none_away, see_of, member_made_of, cast_of, left_of}
 use Rattle.hub_core.proofs.SoundLines.{LinesAt, line_there}
 use Rattle.hub_core.proofs.SoundWaiting.{WaitingAt, got_prefix, nothing_more, all_removed}
 use Rattle.hub_core.specs.Made.{lines_of, peer_of, is_queue}
@@ -32,8 +33,10 @@ use Rattle.hub_core.specs.Looking.{IsAllWaiting}
 use Rattle.hub_core.specs.declared.kind.Kind.{Kind}
 use Rattle.hub_core.specs.Lines.{on_line}
 use Rattle.hub_core.specs.Moving.{is_released}
-use Rattle.hub_core.specs.declared.kind.Kind.TheVariants.{Port, Client, Worker}
+use Rattle.hub_core.specs.declared.kind.Kind.TheVariants.{Port, Client, Worker, Member}
 use Rattle.hub_core.specs.Making.{is_client, is_worker}
+use Rattle.hub_core.specs.Roster.{CastNow, is_first, cast_to, cast_after}
+use Rattle.hub_core.specs.Made.{maker_of}
 use Rattle.hub_core.specs.Ending.{has_poster, has_poster_of, is_holder}
 
 -- ---- ends that were not made
@@ -87,6 +90,16 @@ pub record HoldsLine (f : Facts) (s : Sender) : Type 0 where
   pub held : (f.line s.end.0 s.line.0).held_by ≡ Some agent
   pub runs : (f.agent agent.0).runs ≡ true
 
+-- what the poster of a broadcast channel's line says: the line is line 0, and the agent's cast goes there next
+pub record Casts (f : Facts) (s : Sender) (agent : AgentId) : Type 0 where
+  pub line : s.line.0 ≡ 0
+  pub maker : AgentId
+  pub member : (f.end s.end.0).kind ≡ Some (Member maker)
+  pub cast : CastNow
+  pub is_open : f.roster.cast ≡ Some cast
+  pub first : is_first s.end.0 cast.left ≡ true
+  pub source : (f.end cast.source.0).kind ≡ Some (Member agent)
+
 pub runs_there : (f : Facts) (p : Option Place) → is_some (running_at (λ a. (f.agent a).runs) p) ≡ true → (a : AgentId) × (p ≡ Some (With a)) × ((f.agent a.0).runs ≡ true)
 runs_there f (Some (With a)) h = (a, refl, elim ((f.agent a.0).runs) as (λ b. is_some (cond b (Some a) None) ≡ true → b ≡ true) [ true ↦ λ _. refl | false ↦ λ no. absurd (false≢true no) ] h)
 runs_there f (Some InFlight) h = absurd (false≢true h)
@@ -102,18 +115,42 @@ runs_held f (Some a) h = (a, refl, elim ((f.agent a.0).runs) as (λ b. is_some (
 held_by_one : (f : Facts) (s : Sender) → is_queue (f.end s.end.0).kind ≡ true → is_some (running f (f.line s.end.0 s.line.0).held_by) ≡ true → HoldsLine f s
 held_by_one f s queue h = let r = runs_held f (f.line s.end.0 s.line.0).held_by h in record { queue = queue; agent = r.0; held = r.1; runs = r.2 }
 
-speaks_by : (f : Facts) (s : Sender) (p : Option Kind) → (f.end s.end.0).kind ≡ p → is_some (poster_of f s p) ≡ true → Speaks f s ⊎ HoldsLine f s
+-- a kind with a maker
+pub made_by : (p : Option Kind) → is_some (maker_of p) ≡ true → (a : AgentId) × (p ≡ Some (Member a))
+made_by (Some (Member a)) h = (a, refl)
+made_by (Some (Port q)) h = absurd (false≢true h)
+made_by (Some Client) h = absurd (false≢true h)
+made_by (Some Worker) h = absurd (false≢true h)
+made_by None h = absurd (false≢true h)
+
+casts_by : (f : Facts) (s : Sender) (a : AgentId) → (f.end s.end.0).kind ≡ Some (Member a) → s.line.0 ≡ 0 → (o : Option CastNow) → f.roster.cast ≡ o → is_some (speaker_in f s.end.0 o) ≡ true → (b : AgentId) × Casts f s b
+casts_by f s a kind line None is h = absurd (false≢true h)
+casts_by f s a kind line (Some c) is h = elim (is_first s.end.0 c.left) as (λ b. is_first s.end.0 c.left ≡ b → is_some (cond b (maker_of (f.end c.source.0).kind) None) ≡ true → (b : AgentId) × Casts f s b) [
+  | true ↦ λ first made.
+      let by = made_by (f.end c.source.0).kind made in
+      (by.0, record { line = line; maker = a; member = kind; cast = c; is_open = is; first = first; source = by.1 })
+  | false ↦ λ _ none. absurd (false≢true none)
+] refl h
+
+abbrev pub SomeCasts : Facts → Sender → Type 0
+SomeCasts f s = (b : AgentId) × Casts f s b
+
+speaks_by : (f : Facts) (s : Sender) (p : Option Kind) → (f.end s.end.0).kind ≡ p → is_some (poster_of f s p) ≡ true → Speaks f s ⊎ (HoldsLine f s ⊎ SomeCasts f s)
 speaks_by f s None is h = absurd (false≢true h)
-speaks_by f s (Some (Port q)) is h = elim (eqb s.line.0 0) as (λ b. eqb s.line.0 0 ≡ b → is_some (cond b (holder f q.0) None) ≡ true → Speaks f s ⊎ HoldsLine f s) [
+speaks_by f s (Some (Port q)) is h = elim (eqb s.line.0 0) as (λ b. eqb s.line.0 0 ≡ b → is_some (cond b (holder f q.0) None) ≡ true → Speaks f s ⊎ (HoldsLine f s ⊎ SomeCasts f s)) [
   | true ↦ λ line held.
       let there = runs_there f (f.end q.0).place held in
       inl (record { line = eqb-true s.line.0 0 line; peer = q.0; entangled = ap peer_of is; agent = there.0; has = there.1; runs = there.2 })
   | false ↦ λ line none. absurd (false≢true none)
 ] refl h
-speaks_by f s (Some Client) is h = inr (held_by_one f s (ap is_queue is) h)
-speaks_by f s (Some Worker) is h = inr (held_by_one f s (ap is_queue is) h)
+speaks_by f s (Some Client) is h = inr (inl (held_by_one f s (ap is_queue is) h))
+speaks_by f s (Some Worker) is h = inr (inl (held_by_one f s (ap is_queue is) h))
+speaks_by f s (Some (Member a)) is h = elim (eqb s.line.0 0) as (λ b. eqb s.line.0 0 ≡ b → is_some (cond b (speaker_in f s.end.0 f.roster.cast) None) ≡ true → Speaks f s ⊎ (HoldsLine f s ⊎ SomeCasts f s)) [
+  | true ↦ λ line speaks. inr (inr (casts_by f s a is (eqb-true s.line.0 0 line) f.roster.cast refl speaks))
+  | false ↦ λ line none. absurd (false≢true none)
+] refl h
 
-pub speaks_of : (f : Facts) (s : Sender) → is_some (poster f s) ≡ true → Speaks f s ⊎ HoldsLine f s
+pub speaks_of : (f : Facts) (s : Sender) → is_some (poster f s) ≡ true → Speaks f s ⊎ (HoldsLine f s ⊎ SomeCasts f s)
 speaks_of f s h = speaks_by f s (f.end s.end.0).kind refl h
 
 -- a port is entangled
@@ -121,6 +158,7 @@ pub port_of : (p : Option Kind) (q : ℕ) → peer_of p ≡ Some q → p ≡ Som
 port_of (Some (Port r)) q h = let same : r.0 ≡ q = cc in ap (λ n. Some (Port (record { 0 = n }))) same
 port_of (Some Client) q h = absurd (search (rules, h))
 port_of (Some Worker) q h = absurd (search (rules, h))
+port_of (Some (Member a)) q h = absurd (search (rules, h))
 port_of None q h = absurd (search (rules, h))
 
 -- the poster, by what it is read off
@@ -131,10 +169,14 @@ queue_poster : (g : Facts) (s : Sender) (p : Option Kind) → is_queue p ≡ tru
 queue_poster g s (Some (Port q)) h = absurd (false≢true h)
 queue_poster g s (Some Client) h = refl
 queue_poster g s (Some Worker) h = refl
+queue_poster g s (Some (Member a)) h = absurd (false≢true h)
 queue_poster g s None h = absurd (false≢true h)
 
 pub holds_as : (g : Facts) (s : Sender) (k : HoldsLine g s) → poster g s ≡ Some k.agent
 holds_as g s k = queue_poster g s (g.end s.end.0).kind k.queue ∙ ap (running g) k.held ∙ ap (λ b. cond b (Some k.agent) None) k.runs
+
+pub casts_as : (g : Facts) (s : Sender) (b : AgentId) → Casts g s b → poster g s ≡ Some b
+casts_as g s b k = rw (k.member, k.line, k.is_open, k.first, k.source) refl
 
 pub poster_is : (f : Facts) (s : Sender) (k : Speaks f s) → poster f s ≡ Some k.agent
 poster_is f s k = poster_as f s k.peer k.agent k.line k.entangled k.has k.runs
@@ -254,6 +296,7 @@ released_out : (f : Facts) (p : Option Kind) (x : ℕ) → is_released f p ≡ t
 released_out f (Some (Port q)) x h is = h
 released_out f (Some Client) x h is = absurd (search (rules, is))
 released_out f (Some Worker) x h is = absurd (search (rules, is))
+released_out f (Some (Member a)) x h is = absurd (search (rules, is))
 released_out f None x h is = absurd (search (rules, is))
 
 own_out : (f : Facts) (s : Sender) (q : ℕ) → s.line.0 ≡ 0 → own_poster_out f (peer_of (f.end q).kind) ≡ true → peer_of (f.end q).kind ≡ Some s.end.0 → is_out (phase_of_line f s) ≡ true
@@ -319,6 +362,7 @@ line_owned : (f : Facts) (a : AgentId) (s : Sender) (p : Option Kind) → is_que
 line_owned f a s (Some (Port q)) queue b held same = absurd (false≢true queue)
 line_owned f a s (Some Client) queue b held same = ap (is_holder a) held ∙ ap (eqb a.0) same ∙ eqb_same a.0
 line_owned f a s (Some Worker) queue b held same = ap (is_holder a) held ∙ ap (eqb a.0) same ∙ eqb_same a.0
+line_owned f a s (Some (Member c)) queue b held same = absurd (false≢true queue)
 line_owned f a s None queue b held same = absurd (false≢true queue)
 
 -- a queue is no port
@@ -326,6 +370,7 @@ pub no_port : (p : Option Kind) (q : ℕ) → is_queue p ≡ true → peer_of p 
 no_port (Some (Port r)) q h is = false≢true h
 no_port (Some Client) q h is = absurd (search (rules, is))
 no_port (Some Worker) q h is = absurd (search (rules, is))
+no_port (Some (Member a)) q h is = false≢true h
 no_port None q h is = false≢true h
 
 -- two senders with the same numbers are one
@@ -341,8 +386,8 @@ still_held f s t holder a held other = elim (eqb s.end.0 t.end.0 && eqb s.line.0
 
 -- the poster of a port's line that is away is the same after every pair that fits
 port_speaker_next : (f : Facts) {a : Action} (refused : Bool) {o : Outcome} → Sound f → Answers f a refused o → Change a o → (s : Sender) → is_out (phase_of_line f s) ≡ false → Speaks f s → poster (next f a o) s ≡ poster f s
-port_speaker_next f refused h fits (agent_made n) s away k =
-    poster_as (next f action.Agent (outcome.Agent n)) s k.peer k.agent k.line k.entangled k.has (still_runs (eqb k.agent.0 n.0) (f.agent k.agent.0).runs k.runs) ∙ sym (poster_is f s k)
+port_speaker_next f refused h fits (agent_made origin n) s away k =
+    poster_as (next f (action.Agent origin) (outcome.Agent n)) s k.peer k.agent k.line k.entangled k.has (still_runs (eqb k.agent.0 n.0) (f.agent k.agent.0).runs k.runs) ∙ sym (poster_is f s k)
 port_speaker_next f refused h fits (channel_made b e e') s away k =
     let made = new_ends f b refused e e' fits in
     let target = old_end f e e' s.end.0 made.1 made.2 (entangled_made f s.end.0 k.peer h.places k.entangled) in
@@ -358,6 +403,13 @@ port_speaker_next f refused h fits (worker_made b e) s away k =
     let target = old_one f e s.end.0 made.number (entangled_made f s.end.0 k.peer h.places k.entangled) in
     let source = old_one f e k.peer made.number (placed_made f k.peer (With k.agent) h.places k.has) in
     poster_as (next f (action.Worker b) (outcome.End e)) s k.peer k.agent k.line (rw target k.entangled) (rw source k.has) k.runs ∙ sym (poster_is f s k)
+port_speaker_next f refused h fits (member_joined b name e) s away k =
+    let made = member_made_of f b refused e fits in
+    let target = old_one f e s.end.0 made.number (entangled_made f s.end.0 k.peer h.places k.entangled) in
+    let source = old_one f e k.peer made.number (placed_made f k.peer (With k.agent) h.places k.has) in
+    poster_as (next f (action.Member b name) (outcome.End e)) s k.peer k.agent k.line (rw target k.entangled) (rw source k.has) k.runs ∙ sym (poster_is f s k)
+port_speaker_next f refused h fits (cast_begun e ports body ends) s away k = poster_as (next f (action.Cast e ports body) (outcome.Destinations ends)) s k.peer k.agent k.line k.entangled k.has k.runs ∙ sym (poster_is f s k)
+port_speaker_next f refused h fits (member_parted e) s away k = poster_as (next f (action.Part e) outcome.Done) s k.peer k.agent k.line k.entangled k.has k.runs ∙ sym (poster_is f s k)
 port_speaker_next f refused h fits (line_got e a l) s away k = poster_as (next f (action.Line e a) (outcome.Line l)) s k.peer k.agent k.line k.entangled k.has k.runs ∙ sym (poster_is f s k)
 port_speaker_next f refused h fits (line_back t) s away k = poster_as (next f (action.Back t) outcome.Done) s k.peer k.agent k.line k.entangled k.has k.runs ∙ sym (poster_is f s k)
 port_speaker_next f refused h fits (handed e b) s away k =
@@ -376,14 +428,14 @@ port_speaker_next f refused h fits (let_in t) s away k = refl
 port_speaker_next f refused h fits (found_moved t) s away k = refl
 port_speaker_next f refused h fits (found_closed t) s away k = refl
 port_speaker_next f refused h fits (put t ports body n) s away k =
-    let p = pushed_of f t ports.items refused n fits in
+    let p = pushed_of f t ports.items body refused n fits in
     let stays : names ports.items k.peer ≡ true → ⊥ = λ named.
     let out = own_out f s k.peer k.line (travels f p.agent t k.peer ports.items (all_good f t ports.items n p) named).1 (h.places.peers s.end.0 k.peer k.entangled).1 in
     false≢true (sym away ∙ out)
     in
     poster_as (next f (action.Push t ports body) (outcome.Accepted n)) s k.peer k.agent k.line k.entangled (unmoved (names ports.items k.peer) _ _ _ stays k.has) k.runs ∙ sym (poster_is f s k)
 port_speaker_next f refused h fits (notice_put t n) s away k = refl
-port_speaker_next f refused h fits (left t) s away k = refl
+port_speaker_next f refused h fits (left t) s away k = poster_as (next f (action.Leave t) outcome.Left) s k.peer k.agent k.line k.entangled k.has k.runs ∙ sym (poster_is f s k)
 port_speaker_next f refused h fits (hopped t n) s away k = refl
 port_speaker_next f refused h fits (started e) s away k = refl
 port_speaker_next f refused h fits (went_on e) s away k = refl
@@ -416,7 +468,7 @@ port_speaker_next f refused h fits (end_swept e vs) s away k =
 
 -- an agent that holds a queue's line that is away holds it after every pair that fits
 held_next : (f : Facts) {a : Action} (refused : Bool) {o : Outcome} → Sound f → Answers f a refused o → Change a o → (s : Sender) → is_out (phase_of_line f s) ≡ false → (k : HoldsLine f s) → HoldsLine (next f a o) s
-held_next f refused h fits (agent_made n) s away k = record { queue = k.queue; agent = k.agent; held = k.held; runs = still_runs (eqb k.agent.0 n.0) (f.agent k.agent.0).runs k.runs }
+held_next f refused h fits (agent_made origin n) s away k = record { queue = k.queue; agent = k.agent; held = k.held; runs = still_runs (eqb k.agent.0 n.0) (f.agent k.agent.0).runs k.runs }
 held_next f refused h fits (channel_made b e e') s away k =
     let made = new_ends f b refused e e' fits in
     let target = old_end f e e' s.end.0 made.1 made.2 (queue_is_made f s.end.0 h.places k.queue) in
@@ -429,6 +481,12 @@ held_next f refused h fits (worker_made b e) s away k =
     let made = queue_made_of f is_worker b refused e fits in
     let target = old_one f e s.end.0 made.number (queue_is_made f s.end.0 h.places k.queue) in
     record { queue = rw target k.queue; agent = k.agent; held = k.held; runs = k.runs }
+held_next f refused h fits (member_joined b name e) s away k =
+    let made = member_made_of f b refused e fits in
+    let target = old_one f e s.end.0 made.number (queue_is_made f s.end.0 h.places k.queue) in
+    record { queue = rw target k.queue; agent = k.agent; held = k.held; runs = k.runs }
+held_next f refused h fits (cast_begun e ports body ends) s away k = record { queue = k.queue; agent = k.agent; held = k.held; runs = k.runs }
+held_next f refused h fits (member_parted e) s away k = record { queue = k.queue; agent = k.agent; held = k.held; runs = k.runs }
 held_next f refused h fits (line_got e a l) s away k =
     let gets = line_got_of f e a l fits in
     record { queue = k.queue; agent = k.agent; held = still_held f s (record { end = e; line = l }) (Some a) k.agent k.held (λ same. absurd (search (rules, sym k.held ∙ (ap (λ (t : Sender). (f.line t.end.0 t.line.0).held_by) same ∙ gets.free)))); runs = k.runs }
@@ -459,10 +517,13 @@ held_next f refused h fits (end_swept e vs) s away k = record { queue = k.queue;
 -- the agent that holds it is the same one
 held_same : (f : Facts) {a : Action} (refused : Bool) {o : Outcome} (h : Sound f) (fits : Answers f a refused o) (c : Change a o) (s : Sender) (away : is_out (phase_of_line f s) ≡ false) (k : HoldsLine f s) → (held_next f refused h fits c s away k).agent ≡ k.agent
 unfolding held_next
-held_same f refused h fits (agent_made n) s away k = refl
+held_same f refused h fits (agent_made origin n) s away k = refl
 held_same f refused h fits (channel_made b e e') s away k = refl
 held_same f refused h fits (client_made b e) s away k = refl
 held_same f refused h fits (worker_made b e) s away k = refl
+held_same f refused h fits (member_joined b name e) s away k = refl
+held_same f refused h fits (cast_begun e ports body ends) s away k = refl
+held_same f refused h fits (member_parted e) s away k = refl
 held_same f refused h fits (line_got e a l) s away k = refl
 held_same f refused h fits (line_back t) s away k = refl
 held_same f refused h fits (handed e b) s away k = refl
@@ -483,11 +544,95 @@ held_same f refused h fits (adopted e a n) s away k = refl
 held_same f refused h fits (end_closed e) s away k = refl
 held_same f refused h fits (end_swept e vs) s away k = refl
 
+-- ---- broadcast channels
+
+-- an end of some kind was made
+pub kind_made : (f : Facts) (x : ℕ) (k : Kind) → SoundPlaces f → (f.end x).kind ≡ Some k → x < f.ends
+kind_made f x k s is = made_of f x s.ends (λ none. absurd (search (rules, sym (ap (λ (e : EndNow). e.kind) none) ∙ is)))
+
+-- a cast stays where the kinds of ends and the cast do
+casts_still : (f g : Facts) (s : Sender) (b : AgentId) → ((x : ℕ) (k : Kind) → (f.end x).kind ≡ Some k → (g.end x).kind ≡ Some k) → g.roster.cast ≡ f.roster.cast → Casts f s b → Casts g s b
+casts_still f g s b kinds same k = record {
+  line = k.line;
+  maker = k.maker;
+  member = kinds s.end.0 (Member k.maker) k.member;
+  cast = k.cast;
+  is_open = same ∙ k.is_open;
+  first = k.first;
+  source = kinds k.cast.source.0 (Member b) k.source;
+}
+
+-- no cast is open, so no line is spoken on
+none_open : (f : Facts) (s : Sender) (b : AgentId) → Casts f s b → is_some f.roster.cast ≡ false → ⊥
+none_open f s b k over = false≢true (sym over ∙ ap is_some k.is_open)
+
+-- one end alone is the first
+not_first : (x y : ℕ) (left : List EndId) → is_first y left ≡ true → (x ≡ y → ⊥) → is_first x left ≡ false
+not_first x y [] first other = refl
+not_first x y (z ∷ zs) first other = ne_eqb x z.0 (λ is. other (is ∙ sym (eqb-true y z.0 first)))
+
+-- what a poster left that isn't this one
+left_other : (f : Facts) (t s : Sender) (b : AgentId) → Sound f → is_out (phase_of_line f t) ≡ false → Casts f s b → is_out (on_line s.end.0 s.line.0 t Out (f.line s.end.0 s.line.0).phase) ≡ false → t.end.0 ≡ s.end.0 → ⊥
+left_other f t s b h away k after same =
+    let low : t.line.0 < lines_of (f.end t.end.0).kind = line_there f t (h.lines t.end.0) (h.places.away t away) in
+    let one : lines_of (f.end t.end.0).kind ≡ 1 = ap (λ x. lines_of (f.end x).kind) same ∙ ap lines_of k.member in
+    let first : s.line.0 ≡ t.line.0 = let zeroth : s.line.0 ≡ 0 = k.line in omega arith in
+    let here : (eqb s.end.0 t.end.0 && eqb s.line.0 t.line.0) ≡ true = rw (sym same, first) (ap (λ c. c && eqb t.line.0 t.line.0) (eqb_same t.end.0) ∙ eqb_same t.line.0) in
+    false≢true (sym after ∙ ap (λ c. is_out (cond c Out (f.line s.end.0 s.line.0).phase)) here)
+
+-- the agent whose cast goes to a line that is away speaks there until the poster leaves
+cast_next : (f : Facts) {a : Action} (refused : Bool) {o : Outcome} → Sound f → Answers f a refused o → Change a o → (s : Sender) → is_out (phase_of_line (next f a o) s) ≡ false → (b : AgentId) → Casts f s b → Casts (next f a o) s b
+cast_next f refused h fits (agent_made origin n) s after b k = casts_still f (next f (action.Agent origin) (outcome.Agent n)) s b (λ x u is. is) refl k
+cast_next f refused h fits (channel_made c e e') s after b k =
+    let made = new_ends f c refused e e' fits in
+    casts_still f (next f (action.Channel c) (outcome.Ends e e')) s b (λ x u is. let old = old_end f e e' x made.1 made.2 (kind_made f x u h.places is) in rw (old.0, old.1) is) refl k
+cast_next f refused h fits (client_made c e) s after b k =
+    let made = queue_made_of f is_client c refused e fits in
+    casts_still f (next f (action.Client c) (outcome.End e)) s b (λ x u is. rw (old_one f e x made.number (kind_made f x u h.places is)) is) refl k
+cast_next f refused h fits (worker_made c e) s after b k =
+    let made = queue_made_of f is_worker c refused e fits in
+    casts_still f (next f (action.Worker c) (outcome.End e)) s b (λ x u is. rw (old_one f e x made.number (kind_made f x u h.places is)) is) refl k
+cast_next f refused h fits (member_joined c name e) s after b k =
+    let made = member_made_of f c refused e fits in
+    casts_still f (next f (action.Member c name) (outcome.End e)) s b (λ x u is. rw (old_one f e x made.number (kind_made f x u h.places is)) is) refl k
+cast_next f refused h fits (cast_begun e ports body ends) s after b k = absurd (none_open f s b k (cast_of f e ports.items ends fits).over)
+cast_next f refused h fits (left t) s after b k = record {
+  line = k.line;
+  maker = k.maker;
+  member = k.member;
+  cast = k.cast;
+  is_open = ap (cast_after t.end.0) k.is_open ∙ ap (λ c. cond c (cast_to k.cast.source k.cast.body (drop 1 k.cast.left)) (Some k.cast)) (not_first t.end.0 s.end.0 k.cast.left k.first (left_other f t s b h (left_of f t fits) k after));
+  first = k.first;
+  source = k.source;
+}
+cast_next f refused h fits (line_got e a l) s after b k = casts_still f (next f (action.Line e a) (outcome.Line l)) s b (λ x u is. is) refl k
+cast_next f refused h fits (line_back t) s after b k = casts_still f (next f (action.Back t) outcome.Done) s b (λ x u is. is) refl k
+cast_next f refused h fits (handed e c) s after b k = casts_still f (next f (action.Hand e c) outcome.Handed) s b (λ x u is. is) refl k
+cast_next f refused h fits (agent_ordered a) s after b k = casts_still f (next f (action.Order a) outcome.Ordered) s b (λ x u is. is) refl k
+cast_next f refused h fits (agent_ended a es) s after b k = casts_still f (next f (action.See a) (outcome.Ending es)) s b (λ x u is. is) refl k
+cast_next f refused h fits (member_parted e) s after b k = casts_still f (next f (action.Part e) outcome.Done) s b (λ x u is. is) refl k
+cast_next f refused h fits (let_in t) s after b k = casts_still f (next f (action.Enter t) outcome.In) s b (λ x u is. is) refl k
+cast_next f refused h fits (found_moved t) s after b k = casts_still f (next f (action.Enter t) outcome.Moved) s b (λ x u is. is) refl k
+cast_next f refused h fits (found_closed t) s after b k = casts_still f (next f (action.Enter t) outcome.Closed) s b (λ x u is. is) refl k
+cast_next f refused h fits (put t ports body n) s after b k = casts_still f (next f (action.Push t ports body) (outcome.Accepted n)) s b (λ x u is. is) refl k
+cast_next f refused h fits (notice_put t n) s after b k = casts_still f (next f (action.Notice t) (outcome.Accepted n)) s b (λ x u is. is) refl k
+cast_next f refused h fits (hopped t n) s after b k = casts_still f (next f (action.Hop t) (outcome.Hopped n)) s b (λ x u is. is) refl k
+cast_next f refused h fits (started e) s after b k = casts_still f (next f (action.Start e) outcome.Started) s b (λ x u is. is) refl k
+cast_next f refused h fits (got e v) s after b k = casts_still f (next f (action.Take e) (outcome.Got v)) s b (λ x u is. is) refl k
+cast_next f refused h fits (went_on e) s after b k = casts_still f (next f (action.Take e) outcome.Again) s b (λ x u is. is) refl k
+cast_next f refused h fits (cleared e n) s after b k = casts_still f (next f (action.Look e) (outcome.Clear (Some n))) s b (λ x u is. is) refl k
+cast_next f refused h fits (adopted e a n) s after b k = casts_still f (next f (action.Adopt e a) (outcome.Adopted n)) s b (λ x u is. is) refl k
+cast_next f refused h fits (end_closed e) s after b k = casts_still f (next f (action.Close e) outcome.Done) s b (λ x u is. is) refl k
+cast_next f refused h fits (end_swept e vs) s after b k = casts_still f (next f (action.Sweep e) (outcome.Discarded vs)) s b (λ x u is. is) refl k
+
 -- the poster of a line that is away is the same after every pair that fits
-pub speaker_next : (f : Facts) {a : Action} (refused : Bool) {o : Outcome} → Sound f → Answers f a refused o → Change a o → (s : Sender) → is_out (phase_of_line f s) ≡ false → is_some (poster f s) ≡ true → poster (next f a o) s ≡ poster f s
-speaker_next f {a = a} refused {o = o} h fits c s away speaks = elim (speaks_of f s speaks) [
+pub speaker_next : (f : Facts) {a : Action} (refused : Bool) {o : Outcome} → Sound f → Answers f a refused o → Change a o → (s : Sender) → is_out (phase_of_line f s) ≡ false → is_out (phase_of_line (next f a o) s) ≡ false → is_some (poster f s) ≡ true → poster (next f a o) s ≡ poster f s
+speaker_next f {a = a} refused {o = o} h fits c s away after speaks = elim (speaks_of f s speaks) [
   | inl k ↦ port_speaker_next f refused h fits c s away k
-  | inr k ↦ holds_as (next f a o) s (held_next f refused h fits c s away k) ∙ (ap Some (held_same f refused h fits c s away k) ∙ sym (holds_as f s k))
+  | inr other ↦ elim other [
+    | inl k ↦ holds_as (next f a o) s (held_next f refused h fits c s away k) ∙ (ap Some (held_same f refused h fits c s away k) ∙ sym (holds_as f s k))
+    | inr k ↦ casts_as (next f a o) s k.0 (cast_next f refused h fits c s after k.0 k.1) ∙ sym (casts_as f s k.0 k.1)
+  ]
 ]
 
 -- ---- whoever is away may enter
@@ -506,8 +651,8 @@ heard_by f s (Some q) is h = let both = both_of (eqb s.line.0 0) (is_here (f.end
 pub heard_of : (f : Facts) (s : Sender) → hears_notice f s ≡ true → Hears f s
 heard_of f s h = heard_by f s (peer_of (f.end s.end.0).kind) refl h
 
-pub hears_of : (f : Facts) (s : Sender) → may_enter f s ≡ true → Hears f s ⊎ HoldsLine f s
-hears_of f s h = elim (is_some (poster f s)) as (λ b. is_some (poster f s) ≡ b → (b || hears_notice f s) ≡ true → Hears f s ⊎ HoldsLine f s) [
+pub hears_of : (f : Facts) (s : Sender) → may_enter f s ≡ true → Hears f s ⊎ (HoldsLine f s ⊎ SomeCasts f s)
+hears_of f s h = elim (is_some (poster f s)) as (λ b. is_some (poster f s) ≡ b → (b || hears_notice f s) ≡ true → Hears f s ⊎ (HoldsLine f s ⊎ SomeCasts f s)) [
   | true ↦ λ speaks _. elim (speaks_of f s speaks) [
     | inl k ↦ inl (record { line = k.line; peer = k.peer; entangled = k.entangled; here = ap is_here k.has })
     | inr k ↦ inr k
@@ -531,7 +676,7 @@ not_here p is h = false≢true (sym (ap is_here is) ∙ h)
 
 -- a port's line that is away may be entered after every pair that fits
 port_may_next : (f : Facts) {a : Action} (refused : Bool) {o : Outcome} → Sound f → Answers f a refused o → Change a o → (s : Sender) → is_out (phase_of_line f s) ≡ false → Hears f s → may_enter (next f a o) s ≡ true
-port_may_next f refused h fits (agent_made n) s away k = may_as (next f action.Agent (outcome.Agent n)) s k.peer k.line k.entangled k.here
+port_may_next f refused h fits (agent_made origin n) s away k = may_as (next f (action.Agent origin) (outcome.Agent n)) s k.peer k.line k.entangled k.here
 port_may_next f refused h fits (channel_made b e e') s away k =
     let made = new_ends f b refused e e' fits in
     let target = old_end f e e' s.end.0 made.1 made.2 (entangled_made f s.end.0 k.peer h.places k.entangled) in
@@ -547,6 +692,13 @@ port_may_next f refused h fits (worker_made b e) s away k =
     let target = old_one f e s.end.0 made.number (entangled_made f s.end.0 k.peer h.places k.entangled) in
     let source = old_one f e k.peer made.number (h.places.peers s.end.0 k.peer k.entangled).0 in
     may_as (next f (action.Worker b) (outcome.End e)) s k.peer k.line (rw target k.entangled) (rw source k.here)
+port_may_next f refused h fits (member_joined b name e) s away k =
+    let made = member_made_of f b refused e fits in
+    let target = old_one f e s.end.0 made.number (entangled_made f s.end.0 k.peer h.places k.entangled) in
+    let source = old_one f e k.peer made.number (h.places.peers s.end.0 k.peer k.entangled).0 in
+    may_as (next f (action.Member b name) (outcome.End e)) s k.peer k.line (rw target k.entangled) (rw source k.here)
+port_may_next f refused h fits (cast_begun e ports body ends) s away k = may_as (next f (action.Cast e ports body) (outcome.Destinations ends)) s k.peer k.line k.entangled k.here
+port_may_next f refused h fits (member_parted e) s away k = may_as (next f (action.Part e) outcome.Done) s k.peer k.line k.entangled k.here
 port_may_next f refused h fits (line_got e a l) s away k = may_as (next f (action.Line e a) (outcome.Line l)) s k.peer k.line k.entangled k.here
 port_may_next f refused h fits (line_back t) s away k = may_as (next f (action.Back t) outcome.Done) s k.peer k.line k.entangled k.here
 port_may_next f refused h fits (agent_ordered a) s away k = may_as (next f (action.Order a) outcome.Ordered) s k.peer k.line k.entangled k.here
@@ -556,14 +708,14 @@ port_may_next f refused h fits (let_in t) s away k = may_as f s k.peer k.line k.
 port_may_next f refused h fits (found_moved t) s away k = may_as f s k.peer k.line k.entangled k.here
 port_may_next f refused h fits (found_closed t) s away k = may_as f s k.peer k.line k.entangled k.here
 port_may_next f refused h fits (put t ports body n) s away k =
-    let p = pushed_of f t ports.items refused n fits in
+    let p = pushed_of f t ports.items body refused n fits in
     let stays : names ports.items k.peer ≡ true → ⊥ = λ named.
     let out = own_out f s k.peer k.line (travels f p.agent t k.peer ports.items (all_good f t ports.items n p) named).1 (h.places.peers s.end.0 k.peer k.entangled).1 in
     false≢true (sym away ∙ out)
     in
     may_as (next f (action.Push t ports body) (outcome.Accepted n)) s k.peer k.line k.entangled (still_here (names ports.items k.peer) _ _ (λ named. absurd (stays named)) k.here)
 port_may_next f refused h fits (notice_put t n) s away k = may_as f s k.peer k.line k.entangled k.here
-port_may_next f refused h fits (left t) s away k = may_as f s k.peer k.line k.entangled k.here
+port_may_next f refused h fits (left t) s away k = may_as (next f (action.Leave t) outcome.Left) s k.peer k.line k.entangled k.here
 port_may_next f refused h fits (hopped t n) s away k = may_as f s k.peer k.line k.entangled k.here
 port_may_next f refused h fits (started e) s away k = may_as f s k.peer k.line k.entangled k.here
 port_may_next f refused h fits (got e v) s away k =
@@ -589,8 +741,19 @@ port_may_next f refused h fits (end_swept e vs) s away k =
 held_may : (g : Facts) (s : Sender) → HoldsLine g s → may_enter g s ≡ true
 held_may g s k = ap (λ q. is_some q || hears_notice g s) (holds_as g s k)
 
-pub may_next : (f : Facts) {a : Action} (refused : Bool) {o : Outcome} → Sound f → Answers f a refused o → Change a o → (s : Sender) → is_out (phase_of_line f s) ≡ false → may_enter f s ≡ true → may_enter (next f a o) s ≡ true
-may_next f {a = a} refused {o = o} h fits c s away may = elim (hears_of f s may) [
+-- a line to which a cast goes next may be entered
+casts_may : (g : Facts) (s : Sender) (b : AgentId) → Casts g s b → may_enter g s ≡ true
+casts_may g s b k = ap (λ q. is_some q || hears_notice g s) (casts_as g s b k)
+
+pub may_next : (f : Facts) {a : Action} (refused : Bool) {o : Outcome} → Sound f → Answers f a refused o → Change a o → (s : Sender) → is_out (phase_of_line f s) ≡ false → is_out (phase_of_line (next f a o) s) ≡ false → may_enter f s ≡ true → may_enter (next f a o) s ≡ true
+may_next f {a = a} refused {o = o} h fits c s away after may = elim (hears_of f s may) [
   | inl k ↦ port_may_next f refused h fits c s away k
-  | inr k ↦ held_may (next f a o) s (held_next f refused h fits c s away k)
+  | inr other ↦ elim other [
+    | inl k ↦ held_may (next f a o) s (held_next f refused h fits c s away k)
+    | inr k ↦ casts_may (next f a o) s k.0 (cast_next f refused h fits c s after k.0 k.1)
+  ]
 ]
+
+-- a queue is no broadcast channel
+pub no_member : (p : Option Kind) (a : AgentId) → is_queue p ≡ true → p ≡ Some (Member a) → ⊥
+no_member p a queue is = false≢true (sym (ap is_queue is) ∙ queue)

@@ -20,7 +20,9 @@ use Rattle.hub_core.specs.History.{History}
 use Rattle.hub_core.specs.Facts.{Facts, facts}
 use Rattle.hub_core.specs.Fits.{Answers, Fits}
 use Rattle.hub_core.specs.Posting.{is_out}
-use Rattle.hub_core.specs.Shows.{ShowsFacts}
+use Rattle.hub_core.specs.Shows.{ShowsFacts, ShowsRoster}
+use Rattle.hub_core.specs.declared.roster.Roster.{Roster}
+use Rattle.hub_core.proofs.Casts.{leaves_roster, roster_stays}
 use Rattle.hub_core.specs.Unchanged.{changes_nothing}
 use Rattle.hub_core.specs.Kept.{gate_answer, phase_of, enter_outcome, enter_end, enter_outcome_at, enter_ends_at, leave_outcome, leave_end, leave_outcome_at, leave_ends_at, TakeServes, TakeHeld, TakeLeaves, advanced_end, kept_settled, may_come}
 use Rattle.hub_core.proofs.Lists.{set_again}
@@ -28,12 +30,20 @@ use Rattle.hub_core.proofs.Nexts.{next, facts_next}
 use Rattle.hub_core.proofs.Frames.{Stepped}
 
 -- what a step answers and leaves, after every history that is shown
-pub stepped : (agents after_agents : List Agent) (ends after_ends : List End) (step : Step) (o : Outcome) (a : Action) → step.action ≡ a → ((f : Facts) → ShowsFacts agents ends f → Stepped after_agents after_ends f a step.memory_refused o) → (h : History) → ShowsFacts agents ends (facts h) → Fits h (step, o) × ShowsFacts after_agents after_ends (facts (h ++ (step, o) ∷ []))
-stepped agents after_agents ends after_ends step o a is k h s =
-    let r = k (facts h) s in (
-      subst (λ b. Answers (facts h) b step.memory_refused o) (sym is) r.fits,
-      subst (ShowsFacts after_agents after_ends) (sym (facts_next h (step, o))) (subst (λ b. ShowsFacts after_agents after_ends (next (facts h) b o)) (sym is) r.shows),
+pub stepped_with : (agents after_agents : List Agent) (ends after_ends : List End) (r after_r : Roster) (step : Step) (o : Outcome) (a : Action) → step.action ≡ a → ((f : Facts) → ShowsFacts agents ends f → ShowsRoster r f → Stepped after_agents after_ends f a step.memory_refused o × ShowsRoster after_r (next f a o)) → (h : History) → ShowsFacts agents ends (facts h) × ShowsRoster r (facts h) → Fits h (step, o) × (ShowsFacts after_agents after_ends (facts (h ++ (step, o) ∷ [])) × ShowsRoster after_r (facts (h ++ (step, o) ∷ [])))
+stepped_with agents after_agents ends after_ends r after_r step o a is k h s =
+    let at = k (facts h) s.0 s.1 in
+    let longer : facts (h ++ (step, o) ∷ []) ≡ next (facts h) a o = facts_next h (step, o) ∙ ap (λ b. next (facts h) b o) is in (
+      subst (λ b. Answers (facts h) b step.memory_refused o) (sym is) at.0.fits,
+      (subst (ShowsFacts after_agents after_ends) (sym longer) at.0.shows, subst (ShowsRoster after_r) (sym longer) at.1),
     )
+
+-- the same for a step that leaves the roster
+pub stepped : (agents after_agents : List Agent) (ends after_ends : List End) (r after_r : Roster) (step : Step) (o : Outcome) (a : Action) → step.action ≡ a → after_r ≡ r → leaves_roster a ≡ true → ((f : Facts) → ShowsFacts agents ends f → ShowsRoster r f → Stepped after_agents after_ends f a step.memory_refused o) → (h : History) → ShowsFacts agents ends (facts h) × ShowsRoster r (facts h) → Fits h (step, o) × (ShowsFacts after_agents after_ends (facts (h ++ (step, o) ∷ [])) × ShowsRoster after_r (facts (h ++ (step, o) ∷ [])))
+stepped agents after_agents ends after_ends r after_r step o a is same leaves k =
+    stepped_with agents after_agents ends after_ends r after_r step o a is (λ f s w.
+    let at = k f s w in
+    (at, subst (λ t. ShowsRoster t (next f a o)) (sym same) (roster_stays r f a step.memory_refused o s.sound at.fits leaves w)))
 
 -- two facts of what was answered Ok give a third
 pub ok_both : {E : Type 0} (r : Result Outcome E) (P Q R : Outcome → Type 0) → IfOk r P → IfOk r Q → ((o : Outcome) → P o → Q o → R o) → IfOk r R

@@ -18,7 +18,7 @@ use Rattle.hub_core.proofs.Frames.{ShownAt}
 use Rattle.hub_core.proofs.Speakers.{travels}
 use Rattle.hub_core.specs.Made.{peer_of, lines_of}
 use Rattle.hub_core.specs.declared.kind.Kind.{Kind}
-use Rattle.hub_core.specs.declared.kind.Kind.TheVariants.{Port, Client, Worker}
+use Rattle.hub_core.specs.declared.kind.Kind.TheVariants.{Port, Client, Worker, Member}
 
 own_line : (o : Option Line) (p : LineNow) → p ≡ line_now o → (o ≡ None → ⊥) → line_is_out o ≡ is_out p.phase
 own_line None p is there = absurd (there refl)
@@ -29,6 +29,7 @@ has_line : (k : Option Kind) (p : ℕ) → peer_of k ≡ Some p → 0 < lines_of
 has_line (Some (Port q)) p is = omega arith
 has_line (Some Client) p is = absurd (search (rules, is))
 has_line (Some Worker) p is = absurd (search (rules, is))
+has_line (Some (Member a)) p is = absurd (search (rules, is))
 has_line None p is = absurd (search (rules, is))
 
 pub own_end : (f : Facts) (q p : ℕ) (o : Option End) → ShownAt f q o → peer_of (f.end q).kind ≡ Some p → (o ≡ None → ⊥) → kept_own_out o ≡ is_out ((f.line q 0).phase)
@@ -54,6 +55,7 @@ source_kept : (k : Kind) (p : EndId) → is_source p (source_of k) ≡ is_at p.0
 source_kept (Port q) p = refl
 source_kept Client p = refl
 source_kept Worker p = refl
+source_kept (Member a) p = refl
 
 -- whether the own poster of a port is out, with no notice of it
 free_kept : (agents : List Agent) (ends : List End) (f : Facts) (e : ℕ) → ShowsFacts agents ends f → (k : Kind) → (f.end e).kind ≡ Some k → kept_own_free ends k ≡ (own_poster_out f (peer_of (Some k)) && own_line_plain f (peer_of (Some k)))
@@ -65,6 +67,7 @@ free_kept agents ends f e h (Port q) is =
     rw (own_end f q.0 e (slice_get ends q.0) (h.end q.0) back.1 there, plain_end f q.0 e (slice_get ends q.0) (h.end q.0) back.1 there) refl
 free_kept agents ends f e h Client is = refl
 free_kept agents ends f e h Worker is = refl
+free_kept agents ends f e h (Member a) is = refl
 
 -- the tests of a port, with what is found for each
 leave_tests : (w s o n t w2 s2 : Bool) → w ≡ w2 → t ≡ (o && n) → s ≡ s2 → (w && t && not s) ≡ (w2 && o && n && not s2)

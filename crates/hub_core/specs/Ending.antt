@@ -4,7 +4,7 @@ use Rattle.std.specs.Prelude.{ℕ, zero, suc, ◌==◌, ◌&&◌, ◌||◌, ◌+
 use Rattle.hub_envelope.specs.declared.ids.AgentId.{AgentId}
 use Rattle.hub_envelope.specs.declared.ids.EndId.{EndId}
 use Rattle.hub_core.specs.declared.kind.Kind.{Kind}
-use Rattle.hub_core.specs.declared.kind.Kind.TheVariants.{Port, Client, Worker}
+use Rattle.hub_core.specs.declared.kind.Kind.TheVariants.{Port, Client, Worker, Member}
 use Rattle.hub_core.specs.declared.outcome.Outcome.{Outcome}
 use Rattle.hub_core.specs.declared.outcome.Outcome.TheVariants as outcome
 use Rattle.hub_core.specs.Facts.{Facts}
@@ -21,9 +21,11 @@ abbrev pub has_poster_of : Facts → AgentId → ℕ → ℕ → Option Kind →
 has_poster_of f a x l (Some (Port q)) = l == 0 && is_with a (f.end q.0).place
 has_poster_of f a x l (Some Client) = is_holder a (f.line x l).held_by
 has_poster_of f a x l (Some Worker) = is_holder a (f.line x l).held_by
+has_poster_of f a x l (Some (Member b)) = false
 has_poster_of f a x l None = false
 
--- whether the line's poster is the agent's: the agent, running or ending, holds the line, or has the port that posts there
+-- whether the line's poster is the agent's: the agent, running or ending, holds the line, or has the port that posts there;
+-- that of a cast is no agent's
 abbrev pub has_poster : Facts → AgentId → ℕ → ℕ → Bool
 has_poster f a x l = has_poster_of f a x l (f.end x).kind
 

@@ -15,6 +15,8 @@ use Rattle.hub_core.specs.Enabled as enabled
 use Rattle.hub_core.specs.Lines as lines
 use Rattle.hub_core.specs.Clear as clear
 use Rattle.hub_core.specs.Discarded as discarded
+use Rattle.hub_core.specs.Roster.{RosterNow}
+use Rattle.hub_core.specs.Roster as roster
 
 -- an agent now
 pub record AgentNow : Type 0 where
@@ -38,7 +40,7 @@ pub record LineNow : Type 0 where
   pub held_by : Option AgentId
 
 -- how many agents and ends there are; each of them, by number; which queues of an
--- end are clear; and by end what was accepted, taken and discarded there
+-- end are clear; by end what was accepted, taken and discarded there; and the roster of broadcast channels
 pub record Facts : Type 0 where
   pub agents : ℕ
   pub ends : ℕ
@@ -49,6 +51,7 @@ pub record Facts : Type 0 where
   pub accepted : ℕ → List Envelope
   pub taken : ℕ → List Envelope
   pub discarded : ℕ → List Envelope
+  pub roster : RosterNow
 
 -- the notions of a history
 abbrev pub facts : History → Facts
@@ -74,4 +77,5 @@ facts h = record {
   accepted = accepted.accepted h;
   taken = taken.taken h;
   discarded = discarded.discarded h;
+  roster = roster.roster h;
 }

@@ -11,18 +11,20 @@ use Rattle.hub_core.specs.Taking.{start_answer, FitsTake}
 use Rattle.hub_core.specs.Moving.{hop_answer, adopt_answer, close_answer, hand_answer}
 use Rattle.hub_core.specs.Holding.{line_answer, back_answer}
 use Rattle.hub_core.specs.Ending.{order_answer, see_answer}
+use Rattle.hub_core.specs.Casting.{member_answer, cast_answer, part_answer}
 use Rattle.hub_core.specs.Looking.{look_answer, FitsSweep}
 
 -- the last but one argument says whether memory is refused in the step
 abbrev pub Answers : Facts → Action → Bool → Outcome → Type 0
-Answers f action.Agent refused o = o ≡ agent_answer f refused
+Answers f (action.Agent origin) refused o = o ≡ agent_answer f refused
 Answers f (action.Channel a) refused o = o ≡ channel_answer f a refused
 Answers f (action.Client a) refused o = o ≡ queue_answer is_client f a refused
 Answers f (action.Worker a) refused o = o ≡ queue_answer is_worker f a refused
+Answers f (action.Member a name) refused o = o ≡ member_answer f a refused
 Answers f (action.Line e a) refused o = o ≡ line_answer f e a
 Answers f (action.Back s) refused o = o ≡ back_answer f s
 Answers f (action.Enter s) refused o = o ≡ enter_answer f s
-Answers f (action.Push s ports body) refused o = o ≡ push_answer f s ports.items refused
+Answers f (action.Push s ports body) refused o = o ≡ push_answer f s ports.items body refused
 Answers f (action.Notice s) refused o = o ≡ notice_answer f s refused
 Answers f (action.Leave s) refused o = o ≡ leave_answer f s
 Answers f (action.Hop s) refused o = o ≡ hop_answer f s
@@ -35,6 +37,8 @@ Answers f (action.Sweep e) refused o = FitsSweep f e o
 Answers f (action.Hand e b) refused o = o ≡ hand_answer f e b
 Answers f (action.Order a) refused o = o ≡ order_answer f a
 Answers f (action.See a) refused o = o ≡ see_answer f a
+Answers f (action.Cast e ports body) refused o = o ≡ cast_answer f e ports.items
+Answers f (action.Part e) refused o = o ≡ part_answer f e
 
 -- the pair fits the history
 abbrev pub Fits : History → Pair → Type 0

@@ -11,8 +11,10 @@ use Rattle.hub_envelope.specs.declared.ids.EndId.{EndId}
 use Rattle.hub_envelope.specs.declared.ids.AgentId.{AgentId}
 use Rattle.hub_core.specs.declared.agent.Agent.{Agent}
 use Rattle.hub_core.specs.declared.kind.Kind.{Kind}
-use Rattle.hub_core.specs.declared.kind.Kind.TheVariants.{Port, Client, Worker}
-use Rattle.hub_core.specs.Made.{lines_of, is_queue}
+use Rattle.hub_core.specs.declared.kind.Kind.TheVariants.{Port, Client, Worker, Member}
+use Rattle.hub_core.specs.Made.{lines_of, is_queue, maker_of}
+use Rattle.hub_core.specs.Roster.{CastNow, is_first}
+use Rattle.hub_core.specs.KeptRoster.{source_for}
 use Rattle.hub_core.specs.Moving.{is_arrived}
 use Rattle.hub_core.specs.Ending.{ends_below}
 use Rattle.hub_core.specs.declared.sender.Sender.{Sender}
@@ -25,7 +27,7 @@ use Rattle.hub_core.specs.declared.end.Place.{Place}
 use Rattle.hub_core.specs.declared.outcome.Outcome.{Outcome}
 use Rattle.hub_core.specs.declared.outcome.Outcome.TheVariants as outcome
 use Rattle.hub_core.specs.Place.{names}
-use Rattle.hub_core.specs.Posting.{is_out, is_inside, is_here, is_with, running_at}
+use Rattle.hub_core.specs.Posting.{is_out, is_inside, is_here, is_with, running_at, is_fitting}
 use Rattle.hub_core.specs.declared.listing.Listing.{Listing}
 use Rattle.hub_core.specs.declared.listing.Listing.TheVariants.{Good, HoldsTarget, Bad}
 
@@ -216,23 +218,37 @@ abbrev pub kept_runs : List Agent → Option AgentId → Option AgentId
 kept_runs agents None = None
 kept_runs agents (Some a) = if kept_running agents a.0 then Some a else None
 
--- the running agent that holds a line of an end of this kind
-abbrev pub kept_poster_by : List Agent → List End → Kind → Line → Option AgentId
-kept_poster_by agents ends (Port q) y = kept_holder agents ends q.0
-kept_poster_by agents ends Client y = kept_runs agents y.held_by
-kept_poster_by agents ends Worker y = kept_runs agents y.held_by
+-- the agent that made a broadcast channel
+abbrev pub kept_maker : Option End → Option AgentId
+kept_maker None = None
+kept_maker (Some x) = maker_of (Some x.kind)
 
-abbrev pub kept_poster_on : List Agent → List End → End → Option Line → Option AgentId
-kept_poster_on agents ends x None = None
-kept_poster_on agents ends x (Some y) = kept_poster_by agents ends x.kind y
+abbrev pub kept_maker_at : List End → Option EndId → Option AgentId
+kept_maker_at ends None = None
+kept_maker_at ends (Some e) = kept_maker (slice_get ends e.0)
 
-abbrev pub kept_poster_of : List Agent → List End → ℕ → Option End → Option AgentId
-kept_poster_of agents ends l None = None
-kept_poster_of agents ends l (Some x) = kept_poster_on agents ends x (slice_get x.lines l)
+-- the agent whose cast goes to the end next
+abbrev pub kept_speaker : List End → Option CastNow → ℕ → Option AgentId
+kept_speaker ends c x = kept_maker_at ends (source_for c x)
 
--- the running agent that holds the line
-abbrev pub kept_poster : List Agent → List End → Sender → Option AgentId
-kept_poster agents ends s = kept_poster_of agents ends s.line.0 (slice_get ends s.end.0)
+-- the agent that posts on a line of an end of this kind
+abbrev pub kept_poster_by : List Agent → List End → Option CastNow → ℕ → Kind → Line → Option AgentId
+kept_poster_by agents ends c x (Port q) y = kept_holder agents ends q.0
+kept_poster_by agents ends c x Client y = kept_runs agents y.held_by
+kept_poster_by agents ends c x Worker y = kept_runs agents y.held_by
+kept_poster_by agents ends c x (Member a) y = kept_speaker ends c x
+
+abbrev pub kept_poster_on : List Agent → List End → Option CastNow → ℕ → End → Option Line → Option AgentId
+kept_poster_on agents ends c e x None = None
+kept_poster_on agents ends c e x (Some y) = kept_poster_by agents ends c e x.kind y
+
+abbrev pub kept_poster_of : List Agent → List End → Option CastNow → Sender → Option End → Option AgentId
+kept_poster_of agents ends c s None = None
+kept_poster_of agents ends c s (Some x) = kept_poster_on agents ends c s.end.0 x (slice_get x.lines s.line.0)
+
+-- the agent that posts on the line
+abbrev pub kept_poster : List Agent → List End → Option CastNow → Sender → Option AgentId
+kept_poster agents ends c s = kept_poster_of agents ends c s (slice_get ends s.end.0)
 
 abbrev pub kept_place : List End → ℕ → Option Place
 kept_place ends e = option_map (λ x. x.place) (slice_get ends e)
@@ -242,6 +258,7 @@ abbrev pub kept_hears_by : List End → Kind → Bool
 kept_hears_by ends (Port q) = is_here (kept_place ends q.0)
 kept_hears_by ends Client = false
 kept_hears_by ends Worker = false
+kept_hears_by ends (Member a) = false
 
 -- the agent, running or ending, that has an end of this place
 abbrev pub with_agent : Option Place → Option AgentId
@@ -261,6 +278,7 @@ abbrev pub source_of : Kind → Option EndId
 source_of (Port q) = Some q
 source_of Client = None
 source_of Worker = None
+source_of (Member a) = None
 
 -- the line that a port posts on
 abbrev pub kept_line_of_port : Option End → Option Sender
@@ -271,8 +289,8 @@ kept_line_of_port (Some x) = option_map (λ q. record { end = q; line = record {
 abbrev pub kept_hears : List End → Sender → Bool
 kept_hears ends s = kept_hears_of ends s.line.0 (slice_get ends s.end.0)
 
-abbrev pub kept_may_enter : List Agent → List End → Sender → Bool
-kept_may_enter agents ends s = is_some (kept_poster agents ends s) || kept_hears ends s
+abbrev pub kept_may_enter : List Agent → List End → Option CastNow → Sender → Bool
+kept_may_enter agents ends c s = is_some (kept_poster agents ends c s) || kept_hears ends s
 
 abbrev pub enter_outcome_at : Bool → ℕ → Option End → Outcome
 enter_outcome_at may l None = outcome.NotNow
@@ -326,6 +344,7 @@ abbrev pub kept_own_free : List End → Kind → Bool
 kept_own_free ends (Port q) = kept_own_out (slice_get ends q.0) && kept_own_plain (slice_get ends q.0)
 kept_own_free ends Client = false
 kept_own_free ends Worker = false
+kept_own_free ends (Member a) = false
 
 abbrev pub is_source : EndId → Option EndId → Bool
 is_source p None = false
@@ -355,23 +374,23 @@ abbrev pub HasQueue : List End → Sender → Line → Type 0
 HasQueue ends s y = IfSome (slice_get ends s.end.0) (λ x. has_queue x y.epoch ≡ true)
 
 -- a line that may push, and the agent that posts, or why it may not
-abbrev pub kept_posting_by : List End → Option EndId → EndId → List EndId → Bool → Line → Option AgentId → Result (Line × AgentId) Outcome
-kept_posting_by ends source target ports refused y None = Err outcome.NotNow
-kept_posting_by ends source target ports refused y (Some a) =
+abbrev pub kept_posting_by : List End → Option EndId → EndId → List EndId → Bool → Bool → Line → Option AgentId → Result (Line × AgentId) Outcome
+kept_posting_by ends source target ports fitting refused y None = Err outcome.NotNow
+kept_posting_by ends source target ports fitting refused y (Some a) =
     if nat_lt MAX_PORTS (length ports) then Err outcome.TooManyPorts
-    else (if kept_good ends a source target ports then (if refused then Err outcome.NoMemory else Ok (y, a)) else Err outcome.NotNow)
+    else (if kept_good ends a source target ports && fitting then (if refused then Err outcome.NoMemory else Ok (y, a)) else Err outcome.NotNow)
 
-abbrev pub kept_posting_line : List Agent → List End → Sender → List EndId → Bool → End → Option Line → Result (Line × AgentId) Outcome
-kept_posting_line agents ends s ports refused x None = Err outcome.NotNow
-kept_posting_line agents ends s ports refused x (Some y) =
-    kept_posting_by ends (source_of x.kind) s.end ports refused y (kept_poster_by agents ends x.kind y)
+abbrev pub kept_posting_line : List Agent → List End → Option CastNow → Sender → List EndId → List ℕ → Bool → End → Option Line → Result (Line × AgentId) Outcome
+kept_posting_line agents ends c s ports body refused x None = Err outcome.NotNow
+kept_posting_line agents ends c s ports body refused x (Some y) =
+    kept_posting_by ends (source_of x.kind) s.end ports (is_fitting c (Some x.kind) ports body) refused y (kept_poster_by agents ends c s.end.0 x.kind y)
 
-abbrev pub kept_posting_at : List Agent → List End → Sender → List EndId → Bool → Option End → Result (Line × AgentId) Outcome
-kept_posting_at agents ends s ports refused None = Err outcome.NotNow
-kept_posting_at agents ends s ports refused (Some x) = kept_posting_line agents ends s ports refused x (posting_line x (slice_get x.lines s.line.0))
+abbrev pub kept_posting_at : List Agent → List End → Option CastNow → Sender → List EndId → List ℕ → Bool → Option End → Result (Line × AgentId) Outcome
+kept_posting_at agents ends c s ports body refused None = Err outcome.NotNow
+kept_posting_at agents ends c s ports body refused (Some x) = kept_posting_line agents ends c s ports body refused x (posting_line x (slice_get x.lines s.line.0))
 
-abbrev pub kept_posting : List Agent → List End → Sender → List EndId → Bool → Result (Line × AgentId) Outcome
-kept_posting agents ends s ports refused = kept_posting_at agents ends s ports refused (slice_get ends s.end.0)
+abbrev pub kept_posting : List Agent → List End → Option CastNow → Sender → List EndId → List ℕ → Bool → Result (Line × AgentId) Outcome
+kept_posting agents ends c s ports body refused = kept_posting_at agents ends c s ports body refused (slice_get ends s.end.0)
 
 abbrev pub push_outcome : Result (Line × AgentId) Outcome → Outcome
 push_outcome (Ok p) = outcome.Accepted (record { agent = p.1; epoch = p.0.epoch; number = p.0.put })
@@ -417,6 +436,7 @@ abbrev pub kept_released : List End → Kind → Bool
 kept_released ends (Port q) = kept_own_out (slice_get ends q.0)
 kept_released ends Client = true
 kept_released ends Worker = true
+kept_released ends (Member a) = true
 
 -- whether an open end can be closed
 abbrev pub kept_may_close_of : List End → Option End → Bool
@@ -559,8 +579,8 @@ kept_comes_at l None = false
 kept_comes_at l (Some x) = kept_comes (slice_get x.lines l)
 
 -- whether a message may be posted on the line
-abbrev pub kept_may_post : List Agent → List End → Sender → Bool
-kept_may_post agents ends s = is_some (kept_poster agents ends s) && kept_comes_at s.line.0 (slice_get ends s.end.0)
+abbrev pub kept_may_post : List Agent → List End → Option CastNow → Sender → Bool
+kept_may_post agents ends c s = is_some (kept_poster agents ends c s) && kept_comes_at s.line.0 (slice_get ends s.end.0)
 
 -- distinct ports that may leave an agent
 abbrev pub kept_all_leave : List End → AgentId → Option EndId → List EndId → Bool
@@ -578,8 +598,8 @@ kept_listing_at ends s ports poster None = Bad
 kept_listing_at ends s ports poster (Some x) = kept_listing_by ends s ports x poster
 
 -- what a list of ports is to a message on the line
-abbrev pub kept_listing : List Agent → List End → Sender → List EndId → Listing
-kept_listing agents ends s ports = kept_listing_at ends s ports (kept_poster agents ends s) (slice_get ends s.end.0)
+abbrev pub kept_listing : List Agent → List End → Option CastNow → Sender → List EndId → Listing
+kept_listing agents ends c s ports = kept_listing_at ends s ports (kept_poster agents ends c s) (slice_get ends s.end.0)
 
 -- ---- posters that are away
 
@@ -602,6 +622,7 @@ abbrev pub kept_owner : List End → Kind → Line → Option AgentId
 kept_owner ends (Port q) y = with_agent (kept_place ends q.0)
 kept_owner ends Client y = y.held_by
 kept_owner ends Worker y = y.held_by
+kept_owner ends (Member a) y = None
 
 abbrev pub change_owner : (Agent → Agent) → Option AgentId → List Agent → List Agent
 change_owner change None agents = agents
@@ -614,11 +635,13 @@ abbrev pub one_more : Kind → Agent → Agent
 one_more (Port q) x = x
 one_more Client x = record x { clients = x.clients + 1 }
 one_more Worker x = record x { workers = x.workers + 1 }
+one_more (Member a) x = x
 
 abbrev pub one_less : Kind → Agent → Agent
 one_less (Port q) x = x
 one_less Client x = record x { clients = x.clients - 1 }
 one_less Worker x = record x { workers = x.workers - 1 }
+one_less (Member a) x = x
 
 -- the agents after an end of this kind came to an agent, and after it went from this place
 abbrev pub come : Kind → AgentId → List Agent → List Agent
@@ -637,6 +660,7 @@ count_of kind None = 0
 count_of (Port q) (Some x) = 0
 count_of Client (Some x) = x.clients
 count_of Worker (Some x) = x.workers
+count_of (Member a) (Some x) = 0
 
 abbrev pub kept_queue_answer : Bool → ℕ → ℕ → Bool → Outcome
 kept_queue_answer runs held n refused =
@@ -796,3 +820,33 @@ see_outcome a ends (Some x) =
 abbrev pub see_agents : ℕ → List Agent → Outcome → List Agent
 see_agents a agents (outcome.Ending es) = change_agent (λ x. record x { is_running = false }) a agents
 see_agents a agents _ = agents
+
+-- ---- broadcast channels
+
+abbrev pub kept_member_answer : Bool → Bool → ℕ → Bool → Outcome
+kept_member_answer may has_origin n refused =
+    if not may then outcome.NotNow
+    else (if not has_origin then outcome.NoOrigin
+    else (if nat_le MAX_ENDS n then outcome.TooManyEnds
+    else (if refused then outcome.NoMemory
+    else outcome.End (record { 0 = n }))))
+
+-- the tests of a Cast at an end, and what it is answered
+abbrev pub kept_cast_answer : Bool → Bool → Option AgentId → Bool → List EndId → Outcome
+kept_cast_answer may seated holder none others =
+    if not may then outcome.NotNow
+    else (if not seated then outcome.InvalidState
+    else (if not (is_some holder) then outcome.NotNow
+    else (if not none then outcome.NotTransferable
+    else outcome.Destinations others)))
+
+abbrev pub is_kept_open : Option End → Bool
+is_kept_open None = false
+is_kept_open (Some x) = not x.is_closed
+
+abbrev pub part_outcome : Bool → Outcome
+part_outcome may = if may then outcome.Done else outcome.NotNow
+
+abbrev pub member_made : AgentId → List End → Outcome → List End
+member_made a old (outcome.End e) = old ++ new_end a (Member a) ∷ []
+member_made a old _ = old

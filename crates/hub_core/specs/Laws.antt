@@ -62,6 +62,7 @@ pub record InOrder (h : History) : Type 0 where
 -- the two actions are one, but for where a list of ports lies in memory
 abbrev pub IsSameAction : Action → Action → Type 0
 IsSameAction (action.Push s ports body) (action.Push t listed text) = (s ≡ t) × (ports.items ≡ listed.items) × (body ≡ text)
+IsSameAction (action.Cast e ports body) (action.Cast g listed text) = (e ≡ g) × (ports.items ≡ listed.items) × (body ≡ text)
 IsSameAction a b = a ≡ b
 
 pub record IsSameStep (s t : Step) : Type 0 where

@@ -9,6 +9,7 @@ pub mod Enabled
 pub mod Lines
 pub mod Clear
 pub mod Discarded
+pub mod Roster
 pub mod Facts
 pub mod Making
 pub mod Posting
@@ -16,6 +17,7 @@ pub mod Looking
 pub mod Moving
 pub mod Holding
 pub mod Ending
+pub mod Casting
 pub mod Taking
 pub mod Memory
 pub mod Fits
@@ -23,6 +25,7 @@ pub mod Legal
 pub mod Sound
 pub mod Shows
 pub mod Kept
+pub mod KeptRoster
 pub mod Unchanged
 pub mod Numbers
 pub mod Headline

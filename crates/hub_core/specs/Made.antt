@@ -3,8 +3,9 @@
 use Rattle.std.specs.Prelude.{ℕ, ◌+◌, ◌==◌, if◌then◌else◌, Bool, true, false, Option, Some, None, option_map}
 use Rattle.hub_core.specs.declared.limits.TheConstants.{MAX_LINES}
 use Rattle.hub_core.specs.declared.kind.Kind.{Kind}
-use Rattle.hub_core.specs.declared.kind.Kind.TheVariants.{Port, Client, Worker}
+use Rattle.hub_core.specs.declared.kind.Kind.TheVariants.{Port, Client, Worker, Member}
 use Rattle.hub_core.specs.declared.sender.Sender.{Sender}
+use Rattle.hub_envelope.specs.declared.ids.AgentId.{AgentId}
 use Rattle.std.specs.List.{fold}
 use Rattle.hub_core.specs.declared.step.Action.{Action}
 use Rattle.hub_core.specs.declared.step.Action.TheVariants as action
@@ -13,7 +14,7 @@ use Rattle.hub_core.specs.declared.outcome.Outcome.TheVariants as outcome
 use Rattle.hub_core.specs.History.{History}
 
 abbrev pub agents_after : ℕ → Outcome → Action → ℕ
-agents_after n (outcome.Agent a) action.Agent = n + 1
+agents_after n (outcome.Agent a) (action.Agent origin) = n + 1
 agents_after n _ _ = n
 
 -- how many agents were made
@@ -21,7 +22,7 @@ abbrev pub agents : History → ℕ
 agents h = fold (λ n p. agents_after n p.1 p.0.action) 0 h
 
 abbrev pub runs_after : ℕ → Bool → Outcome → Action → Bool
-runs_after x runs (outcome.Agent a) action.Agent = if x == a.0 then true else runs
+runs_after x runs (outcome.Agent a) (action.Agent origin) = if x == a.0 then true else runs
 runs_after x runs (outcome.Ending es) (action.See a) = if x == a.0 then false else runs
 runs_after x runs _ _ = runs
 
@@ -41,6 +42,7 @@ abbrev pub ends_after : ℕ → Outcome → Action → ℕ
 ends_after n (outcome.Ends e f) (action.Channel a) = n + 2
 ends_after n (outcome.End e) (action.Client a) = n + 1
 ends_after n (outcome.End e) (action.Worker a) = n + 1
+ends_after n (outcome.End e) (action.Member a name) = n + 1
 ends_after n _ _ = n
 
 -- how many ends were made
@@ -51,10 +53,11 @@ abbrev pub kind_after : ℕ → Option Kind → Outcome → Action → Option Ki
 kind_after x kind (outcome.Ends e f) (action.Channel a) = if x == e.0 then Some (Port f) else (if x == f.0 then Some (Port e) else kind)
 kind_after x kind (outcome.End e) (action.Client a) = if x == e.0 then Some Client else kind
 kind_after x kind (outcome.End e) (action.Worker a) = if x == e.0 then Some Worker else kind
+kind_after x kind (outcome.End e) (action.Member a name) = if x == e.0 then Some (Member a) else kind
 kind_after x kind _ _ = kind
 
--- What an end is, by the step that made it: a port that is entangled with the other one of its Channel, or a client's
--- or a worker's queue.
+-- What an end is, by the step that made it: a port that is entangled with the other one of its Channel, a client's or a
+-- worker's queue, or a broadcast channel of its agent.
 abbrev pub kind : History → ℕ → Option Kind
 kind h x = fold (λ q p. kind_after x q p.1 p.0.action) None h
 
@@ -63,6 +66,7 @@ abbrev pub peer_of : Option Kind → Option ℕ
 peer_of (Some (Port q)) = Some q.0
 peer_of (Some Client) = None
 peer_of (Some Worker) = None
+peer_of (Some (Member a)) = None
 peer_of None = None
 
 abbrev pub peer : History → ℕ → Option ℕ
@@ -73,7 +77,16 @@ abbrev pub is_queue : Option Kind → Bool
 is_queue (Some (Port q)) = false
 is_queue (Some Client) = true
 is_queue (Some Worker) = true
+is_queue (Some (Member a)) = false
 is_queue None = false
+
+-- the agent that made a broadcast channel
+abbrev pub maker_of : Option Kind → Option AgentId
+maker_of (Some (Port q)) = None
+maker_of (Some Client) = None
+maker_of (Some Worker) = None
+maker_of (Some (Member a)) = Some a
+maker_of None = None
 
 -- the line that a port posts on: line 0 of its peer
 abbrev pub line_of_port : History → ℕ → Option Sender
@@ -84,4 +97,5 @@ abbrev pub lines_of : Option Kind → ℕ
 lines_of (Some (Port q)) = 1
 lines_of (Some Client) = MAX_LINES
 lines_of (Some Worker) = MAX_LINES
+lines_of (Some (Member a)) = 1
 lines_of None = 0

@@ -6,7 +6,7 @@ use Rattle.hub_core.specs.declared.limits.TheConstants.{MAX_AGENTS, MAX_ENDS}
 use Rattle.hub_core.specs.declared.outcome.Outcome.{Outcome}
 use Rattle.hub_core.specs.declared.outcome.Outcome.TheVariants as outcome
 use Rattle.hub_core.specs.declared.kind.Kind.{Kind}
-use Rattle.hub_core.specs.declared.kind.Kind.TheVariants.{Port, Client, Worker}
+use Rattle.hub_core.specs.declared.kind.Kind.TheVariants.{Port, Client, Worker, Member}
 use Rattle.hub_core.specs.Facts.{Facts}
 use Rattle.hub_core.specs.Posting.{is_with}
 use Rattle.hub_core.specs.Looking.{any_below}
@@ -31,12 +31,14 @@ abbrev pub is_client : Option Kind → Bool
 is_client (Some Client) = true
 is_client (Some (Port q)) = false
 is_client (Some Worker) = false
+is_client (Some (Member a)) = false
 is_client None = false
 
 abbrev pub is_worker : Option Kind → Bool
 is_worker (Some Worker) = true
 is_worker (Some (Port q)) = false
 is_worker (Some Client) = false
+is_worker (Some (Member a)) = false
 is_worker None = false
 
 -- whether the agent has an end whose kind passes the test

@@ -4,12 +4,13 @@ use Rattle.hub_core.specs.declared.step.Action.{Action}
 use Rattle.hub_core.specs.declared.step.Action.TheVariants as action
 
 -- the steps after which more is kept than before: a new agent, new ends, an envelope, a new queue; and a
--- Sweep and a See, which answer a list
+-- Sweep, a See and a Cast, which answer a list
 abbrev pub takes_memory : Action → Bool
-takes_memory action.Agent = true
+takes_memory (action.Agent origin) = true
 takes_memory (action.Channel a) = true
 takes_memory (action.Client a) = true
 takes_memory (action.Worker a) = true
+takes_memory (action.Member a name) = true
 takes_memory (action.Line e a) = false
 takes_memory (action.Back s) = false
 takes_memory (action.Enter s) = false
@@ -26,3 +27,5 @@ takes_memory (action.Sweep e) = true
 takes_memory (action.Hand e a) = false
 takes_memory (action.Order a) = false
 takes_memory (action.See a) = true
+takes_memory (action.Cast e ports body) = true
+takes_memory (action.Part e) = false

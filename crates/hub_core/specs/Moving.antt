@@ -7,7 +7,7 @@ use Rattle.hub_core.specs.declared.limits.TheConstants.{MAX_MOVES}
 use Rattle.hub_core.specs.declared.end.Place.{Place}
 use Rattle.hub_core.specs.declared.end.Place.TheVariants.{With, InFlight, Arrived, Swept, Gone}
 use Rattle.hub_core.specs.declared.kind.Kind.{Kind}
-use Rattle.hub_core.specs.declared.kind.Kind.TheVariants.{Port, Client, Worker}
+use Rattle.hub_core.specs.declared.kind.Kind.TheVariants.{Port, Client, Worker, Member}
 use Rattle.hub_core.specs.declared.sender.Sender.{Sender}
 use Rattle.hub_core.specs.declared.outcome.Outcome.{Outcome}
 use Rattle.hub_core.specs.declared.outcome.Outcome.TheVariants as outcome
@@ -45,6 +45,7 @@ abbrev pub is_released : Facts → Option Kind → Bool
 is_released f (Some (Port q)) = is_out (f.line q.0 0).phase
 is_released f (Some Client) = true
 is_released f (Some Worker) = true
+is_released f (Some (Member a)) = true
 is_released f None = true
 
 -- whether an open end can be closed: it has a place where it can, and of a port its own poster is out

@@ -1,6 +1,6 @@
 -- What the steps of a poster are answered (WHATWG HTML, "Message ports", the message port post message steps
 -- with their transfer list; entering and leaving a gate are this project's own).
-use Rattle.std.specs.Prelude.{ℕ, ◌==◌, ◌&&◌, if◌then◌else◌, nat_lt, Bool, true, false, not, is_some, List, [], ◌∷◌, length, Option, Some, None, option_and_then, ◌||◌}
+use Rattle.std.specs.Prelude.{ℕ, ◌==◌, ◌&&◌, if◌then◌else◌, nat_lt, Bool, true, false, not, is_some, List, [], ◌∷◌, length, Option, Some, None, option_and_then, ◌||◌, bytes_eq}
 use Rattle.std.specs.List.{list_all}
 use Rattle.hub_envelope.specs.declared.ids.AgentId.{AgentId}
 use Rattle.hub_envelope.specs.declared.ids.EndId.{EndId}
@@ -8,7 +8,7 @@ use Rattle.hub_envelope.specs.declared.limits.TheConstants.{MAX_PORTS}
 use Rattle.hub_core.specs.declared.end.Place.{Place}
 use Rattle.hub_core.specs.declared.end.Place.TheVariants.{With, InFlight, Arrived, Swept, Gone}
 use Rattle.hub_core.specs.declared.kind.Kind.{Kind}
-use Rattle.hub_core.specs.declared.kind.Kind.TheVariants.{Port, Client, Worker}
+use Rattle.hub_core.specs.declared.kind.Kind.TheVariants.{Port, Client, Worker, Member}
 use Rattle.hub_core.specs.declared.line.Phase.{Phase}
 use Rattle.hub_core.specs.declared.line.Phase.TheVariants.{Out, Inside, Turned}
 use Rattle.hub_core.specs.declared.sender.Sender.{Sender}
@@ -16,7 +16,8 @@ use Rattle.hub_core.specs.declared.outcome.Outcome.{Outcome}
 use Rattle.hub_core.specs.declared.outcome.Outcome.TheVariants as outcome
 use Rattle.hub_core.specs.Facts.{Facts}
 use Rattle.hub_core.specs.Place.{names}
-use Rattle.hub_core.specs.Made.{peer_of}
+use Rattle.hub_core.specs.Made.{peer_of, maker_of}
+use Rattle.hub_core.specs.Roster.{CastNow, is_first}
 use Rattle.hub_core.specs.Sender.{count_in_queue}
 use Rattle.hub_core.specs.declared.outcome.Acceptance.{Acceptance}
 use Rattle.hub_core.specs.declared.listing.Listing.{Listing}
@@ -54,14 +55,24 @@ abbrev pub running : Facts → Option AgentId → Option AgentId
 running f None = None
 running f (Some a) = if (f.agent a.0).runs then Some a else None
 
+-- the agent whose cast goes to the end next: the one that made the source, running or ending
+abbrev pub speaker_in : Facts → ℕ → Option CastNow → Option AgentId
+speaker_in f x None = None
+speaker_in f x (Some c) = if is_first x c.left then maker_of (f.end c.source.0).kind else None
+
+abbrev pub speaker : Facts → ℕ → Option AgentId
+speaker f x = speaker_in f x f.roster.cast
+
 abbrev pub poster_of : Facts → Sender → Option Kind → Option AgentId
 poster_of f s (Some (Port q)) = if s.line.0 == 0 then holder f q.0 else None
 poster_of f s (Some Client) = running f (f.line s.end.0 s.line.0).held_by
 poster_of f s (Some Worker) = running f (f.line s.end.0 s.line.0).held_by
+poster_of f s (Some (Member a)) = if s.line.0 == 0 then speaker f s.end.0 else None
 poster_of f s None = None
 
--- the running agent that holds the line: for line 0 of a port the one that has the port that it is
--- entangled with
+-- the agent that posts on the line: for line 0 of a port the running one that has the port that it is entangled
+-- with, for a line of a queue the running one that holds it, and for line 0 of a broadcast channel the one whose cast goes
+-- there next
 abbrev pub poster : Facts → Sender → Option AgentId
 poster f s = poster_of f s (f.end s.end.0).kind
 
@@ -141,11 +152,28 @@ next_name f s a = record {
   number = count_in_queue s.line.0 (f.line s.end.0 s.line.0).stand (f.accepted s.end.0);
 }
 
-abbrev pub push_answer_of : Facts → Sender → List EndId → Bool → Option AgentId → Outcome
-push_answer_of f s ports refused None = outcome.NotNow
-push_answer_of f s ports refused (Some a) =
+abbrev pub is_empty : List EndId → Bool
+is_empty [] = true
+is_empty (p ∷ ps) = false
+
+abbrev pub is_of_cast : List EndId → List ℕ → Option CastNow → Bool
+is_of_cast ports body None = false
+is_of_cast ports body (Some c) = is_empty ports && bytes_eq body c.body
+
+-- whether a message may go to an end of this kind: to a broadcast channel only the body of the cast, with no ports
+abbrev pub is_fitting : Option CastNow → Option Kind → List EndId → List ℕ → Bool
+is_fitting cast (Some (Member a)) ports body = is_of_cast ports body cast
+is_fitting cast (Some (Port q)) ports body = true
+is_fitting cast (Some Client) ports body = true
+is_fitting cast (Some Worker) ports body = true
+is_fitting cast None ports body = true
+
+-- the last but two argument says whether the message may go to the end
+abbrev pub push_answer_of : Facts → Sender → List EndId → Bool → Bool → Option AgentId → Outcome
+push_answer_of f s ports fitting refused None = outcome.NotNow
+push_answer_of f s ports fitting refused (Some a) =
     if nat_lt MAX_PORTS (length ports) then outcome.TooManyPorts
-    else (if not (is_good f a s ports) then outcome.NotNow
+    else (if not (is_good f a s ports && fitting) then outcome.NotNow
     else (if refused then outcome.NoMemory
     else outcome.Accepted (next_name f s a)))
 
@@ -154,11 +182,11 @@ abbrev pub is_posting : Facts → Sender → Bool
 is_posting f s = is_inside (phase_of_line f s) && not (f.line s.end.0 s.line.0).noticed
 
 -- A Push tests that its poster is inside with no notice put, and that a running agent holds the line; then the number
--- of ports, that the agent may send them, and memory.
-abbrev pub push_answer : Facts → Sender → List EndId → Bool → Outcome
-push_answer f s ports refused =
+-- of ports, that the agent may send them and the message may go to the end, and memory.
+abbrev pub push_answer : Facts → Sender → List EndId → List ℕ → Bool → Outcome
+push_answer f s ports body refused =
     if not (is_posting f s) then outcome.NotNow
-    else push_answer_of f s ports refused (poster f s)
+    else push_answer_of f s ports (is_fitting f.roster.cast (f.end s.end.0).kind ports body) refused (poster f s)
 
 -- A Notice tests that its poster is inside with no notice put, and that the port's place lets it; then memory. The
 -- envelope is of agent 0, whichever agent the port is with.

@@ -7,6 +7,12 @@ use Rattle.hub_core.specs.declared.agent.Agent.{Agent}
 use Rattle.hub_core.specs.declared.line.Line.{Line}
 use Rattle.hub_core.specs.declared.end.End.{End}
 use Rattle.hub_core.specs.declared.machine.Core.{Core}
+use Rattle.hub_core.specs.declared.group.Group.{Group}
+use Rattle.hub_core.specs.declared.roster.Roster.{Roster}
+use Rattle.hub_core.specs.KeptRoster.{origin_at, group_of, numbers_of, numbers_with, cast_now}
+use Rattle.std.specs.List.{AllByRecursion}
+use Rattle.hub_envelope.specs.declared.ids.EndId.{EndId}
+use Rattle.hub_core.specs.declared.kind.Kind.TheVariants.{Member}
 use Rattle.hub_core.specs.declared.step.Step.{Step}
 use Rattle.hub_core.specs.declared.outcome.Outcome.{Outcome}
 use Rattle.hub_core.specs.History.{History}
@@ -104,9 +110,26 @@ pub record ShowsFacts (kept_agents : List Agent) (kept_ends : List End) (f : Fac
   pub away : (a : AgentId) → kept_away (slice_get kept_agents a.0) ≡ count_away a f
   pub sound : Sound f
 
--- the core's agents and ends are those of the history
+-- a member of the roster is a broadcast channel, with an origin and a name
+pub record IsMemberNow (f : Facts) (y : EndId) : Type 0 where
+  pub maker : AgentId
+  pub kind : (f.end y.0).kind ≡ Some (Member maker)
+  pub group : Group
+  pub is : f.roster.group y.0 ≡ Some group
+
+-- What is kept of the roster is the roster of the facts: the origin of each agent, the origin and name of each broadcast
+-- channel, of each origin and name the members, and the cast that isn't over.
+pub record ShowsRoster (kept : Roster) (f : Facts) : Type 0 where
+  pub agents : length kept.members.origins.items ≡ f.agents
+  pub origins : (a : ℕ) → f.roster.origin a ≡ origin_at (slice_get kept.members.origins.items a)
+  pub groups : (x : ℕ) (a : AgentId) → (f.end x).kind ≡ Some (Member a) → f.roster.group x ≡ group_of kept.members x
+  pub seated : (k : Group) → numbers_of kept.members k ≡ numbers_with f.roster k f.roster.members
+  pub each : AllByRecursion (IsMemberNow f) f.roster.members
+  pub cast : f.roster.cast ≡ cast_now kept.cast
+
+-- the core's agents, ends and roster are those of the history
 abbrev pub Shows : Core → History → Type 0
-Shows core h = ShowsFacts core.agents.items core.ends.items (facts h)
+Shows core h = ShowsFacts core.agents.items core.ends.items (facts h) × ShowsRoster core.roster (facts h)
 
 -- After every history that the old core shows the outcome of the step fits, and the new core shows the longer history.
 abbrev pub FitsAndShows : Core → Core → Step → Outcome → Type 0

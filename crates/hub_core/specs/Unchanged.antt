@@ -1,10 +1,11 @@
 -- Which answers leave everything as it was.
-use Rattle.std.specs.Prelude.{◌≡◌, Bool, true, false, None}
+use Rattle.std.specs.Prelude.{◌≡◌, Bool, true, false, None, length}
 use Rattle.hub_core.specs.declared.step.Action.{Action}
 use Rattle.hub_core.specs.declared.step.Action.TheVariants as action
 use Rattle.hub_core.specs.declared.outcome.Outcome.{Outcome}
 use Rattle.hub_core.specs.declared.outcome.Outcome.TheVariants as outcome
 use Rattle.hub_core.specs.declared.machine.Core.{Core}
+use Rattle.hub_core.specs.KeptRoster.{SameRoster}
 
 -- Refusals, Empty, Busy, a Look that found no queue, and Closed of any step but an Enter
 -- change nothing. An Enter that was turned back changes where its
@@ -21,6 +22,9 @@ changes_nothing outcome.Busy a = true
 changes_nothing outcome.TooManyMoves a = true
 changes_nothing outcome.NoSuchEnd a = true
 changes_nothing outcome.NoLine a = true
+changes_nothing outcome.NoOrigin a = true
+changes_nothing outcome.InvalidState a = true
+changes_nothing outcome.NotTransferable a = true
 changes_nothing outcome.GoingOn a = true
 changes_nothing (outcome.Clear None) a = true
 changes_nothing outcome.Closed (action.Start e) = true
@@ -30,6 +34,6 @@ changes_nothing outcome.Closed (action.Close e) = true
 changes_nothing outcome.Closed (action.Hand e b) = true
 changes_nothing _ _ = false
 
--- the core's agents and ends are as before
+-- the core's agents, ends and roster are as before
 abbrev pub SameContent : Core → Core → Type 0
-SameContent old new = (new.agents.items ≡ old.agents.items) × (new.ends.items ≡ old.ends.items)
+SameContent old new = (new.agents.items ≡ old.agents.items) × (new.ends.items ≡ old.ends.items) × SameRoster (length old.ends.items) old.roster new.roster

@@ -34,7 +34,7 @@ impl Agent {
         ensures { result ≡ count_of kind (Some self) }
     {
         match kind {
-            Kind::Port(_) => 0,
+            Kind::Port(_) | Kind::Member(_) => 0,
             Kind::Client => self.clients,
             Kind::Worker => self.workers,
         }
@@ -45,7 +45,7 @@ impl Agent {
         ensures { IfOk result (λ x. x ≡ one_more kind self) }
     {
         match kind {
-            Kind::Port(_) => {}
+            Kind::Port(_) | Kind::Member(_) => {}
             Kind::Client => self.clients = self.clients.checked_add(1).ok_or(OutOfMemory)?,
             Kind::Worker => self.workers = self.workers.checked_add(1).ok_or(OutOfMemory)?,
         }
@@ -57,7 +57,7 @@ impl Agent {
         ensures { result ≡ one_less kind self }
     {
         match kind {
-            Kind::Port(_) => {}
+            Kind::Port(_) | Kind::Member(_) => {}
             Kind::Client => self.clients = self.clients.saturating_sub(1),
             Kind::Worker => self.workers = self.workers.saturating_sub(1),
         }

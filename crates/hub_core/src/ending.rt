@@ -16,6 +16,7 @@ impl Core {
         ensures outcome { result ≡ order_outcome_at (slice_get self.old.agents.items agent.0) }
         ensures agents { self.new.agents.items ≡ order_agents agent.0 self.old.agents.items }
         ensures ends { self.new.ends ≡ self.old.ends }
+        ensures roster { self.new.roster ≡ self.old.roster }
     {
         let Some(found) = self.agents.get_mut(agent.0 as usize) else {
             return Outcome::NotNow;
@@ -32,6 +33,7 @@ impl Core {
             IfOk result (λ o. self.new.agents.items ≡ see_agents agent.0 agents o) }
         ensures err { OnErr result (self.new.agents.items ≡ self.old.agents.items) }
         ensures ends { self.new.ends ≡ self.old.ends }
+        ensures roster { self.new.roster ≡ self.old.roster }
     {
         let Some(found) = self.agents.get(agent.0 as usize).copied() else {
             return Ok(Outcome::NotNow);
@@ -82,6 +84,7 @@ impl Core {
         match kind {
             Kind::Port(peer) => self.agent_with(peer),
             Kind::Client | Kind::Worker => line.held_by,
+            Kind::Member(_) => None,
         }
     }
 
@@ -100,6 +103,7 @@ impl Core {
         ensures agents { self.new.agents.items
             ≡ change_owner one_away owner self.old.agents.items }
         ensures ends { self.new.ends ≡ self.old.ends }
+        ensures roster { self.new.roster ≡ self.old.roster }
     {
         let Some(agent) = owner else {
             return;
@@ -116,6 +120,7 @@ impl Core {
         ensures agents { self.new.agents.items
             ≡ change_owner one_out owner self.old.agents.items }
         ensures ends { self.new.ends ≡ self.old.ends }
+        ensures roster { self.new.roster ≡ self.old.roster }
     {
         let Some(agent) = owner else {
             return;

@@ -17,6 +17,7 @@ impl Core {
             let ends = self.old.ends.items in
             self.new.ends.items ≡ line_ends_at runs agent end.0 ends (slice_get ends end.0) }
         ensures agents { self.new.agents ≡ self.old.agents }
+        ensures roster { self.new.roster ≡ self.old.roster }
     {
         if !self.is_running(agent) {
             return Outcome::NotNow;
@@ -33,6 +34,7 @@ impl Core {
         ensures ends { let ends = self.old.ends.items in
             self.new.ends.items ≡ back_ends_at sender ends (slice_get ends sender.end.0) }
         ensures agents { self.new.agents ≡ self.old.agents }
+        ensures roster { self.new.roster ≡ self.old.roster }
     {
         let Some(end) = self.ends.get_mut(sender.end.0 as usize) else {
             return Outcome::NotNow;
@@ -69,6 +71,7 @@ impl Core {
     pub(crate) fn set_agent(&mut self, agent: AgentId, value: Option<Agent>)
         ensures agents { self.new.agents.items ≡ set_agent agent.0 self.old.agents.items value }
         ensures ends { self.new.ends ≡ self.old.ends }
+        ensures roster { self.new.roster ≡ self.old.roster }
     {
         let Some(value) = value else {
             return;
@@ -82,6 +85,7 @@ impl Core {
     pub(crate) fn went_from(&mut self, kind: Kind, place: Place)
         ensures agents { self.new.agents.items ≡ gone kind place self.old.agents.items }
         ensures ends { self.new.ends ≡ self.old.ends }
+        ensures roster { self.new.roster ≡ self.old.roster }
     {
         if let Place::With(agent) = place {
             let counted = self

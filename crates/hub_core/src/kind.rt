@@ -1,9 +1,9 @@
 ghost use Rattle.std.specs.Prelude.{◌≡◌, Some};
 ghost use Rattle.hub_core.specs.Kept.{source_of};
-ghost use Rattle.hub_core.specs.Made.{is_queue, lines_of};
+ghost use Rattle.hub_core.specs.Made.{is_queue, lines_of, maker_of};
 
 use crate::limits::MAX_LINES;
-use hub_envelope::EndId;
+use hub_envelope::{AgentId, EndId};
 
 /// What an end is.
 #[derive(Clone, Copy, Debug, PartialEq, Eq)]
@@ -14,6 +14,9 @@ pub enum Kind {
     Client,
     /// The queue of the messages to a worker (W3C Service Workers, "ServiceWorker").
     Worker,
+    /// The queue of a broadcast channel that this agent made, a member of the roster (WHATWG HTML,
+    /// "Broadcasting to other browsing contexts").
+    Member(AgentId),
 }
 
 impl Kind {
@@ -23,7 +26,17 @@ impl Kind {
     {
         match self {
             Kind::Port(peer) => Some(peer),
-            Kind::Client | Kind::Worker => None,
+            Kind::Client | Kind::Worker | Kind::Member(_) => None,
+        }
+    }
+
+    /// The agent that made an end of this kind, where it is a member of the roster.
+    pub(crate) fn maker(self) -> Option<AgentId>
+        ensures { result ≡ maker_of (Some self) }
+    {
+        match self {
+            Kind::Member(agent) => Some(agent),
+            Kind::Port(_) | Kind::Client | Kind::Worker => None,
         }
     }
 
@@ -39,7 +52,7 @@ impl Kind {
         ensures { result ≡ lines_of (Some self) }
     {
         match self {
-            Kind::Port(_) => 1,
+            Kind::Port(_) | Kind::Member(_) => 1,
             Kind::Client | Kind::Worker => MAX_LINES,
         }
     }

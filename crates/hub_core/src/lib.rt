@@ -5,10 +5,12 @@
 #![tactic(auto)]
 
 mod agent;
+mod casting;
 mod end;
 mod end_ids;
 mod ending;
 mod envelopes;
+mod group;
 mod holding;
 mod kind;
 mod laws;
@@ -18,15 +20,18 @@ mod listing;
 mod looking;
 mod machine;
 mod making;
+mod members;
 mod moving;
 mod outcome;
 mod posting;
 mod queries;
 mod queues;
+mod roster;
 mod runs;
 mod sender;
 mod step;
 mod taking;
+mod text;
 
 pub use end_ids::EndIds;
 pub use envelopes::Envelopes;
@@ -40,3 +45,4 @@ pub use outcome::{Acceptance, Outcome};
 pub use runs::run;
 pub use sender::Sender;
 pub use step::{Action, Step};
+pub use text::Text;

@@ -12,6 +12,7 @@ impl Core {
         ensures ends { let ends = self.old.ends.items in
             self.new.ends.items ≡ look_ends_at end.0 ends (slice_get ends end.0) }
         ensures agents { self.new.agents ≡ self.old.agents }
+        ensures roster { self.new.roster ≡ self.old.roster }
     {
         let Some(found) = self.ends.get_mut(end.0 as usize) else {
             return Outcome::NotNow;
@@ -27,6 +28,7 @@ impl Core {
             OnOk result (SweepLeaves end.0 ends (slice_get ends end.0) self.new.ends.items) }
         ensures err { OnErr result (self.new.ends.items ≡ self.old.ends.items) }
         ensures agents { self.new.agents ≡ self.old.agents }
+        ensures roster { self.new.roster ≡ self.old.roster }
     {
         let alloc = self.alloc;
         let Some(found) = self.ends.get_mut(end.0 as usize) else {
@@ -44,6 +46,7 @@ impl Core {
         ensures ends { Moves (ports_of envelopes.now) Place.Swept self.old.ends.items
             self.new.ends.items }
         ensures agents { self.new.agents ≡ self.old.agents }
+        ensures roster { self.new.roster ≡ self.old.roster }
     {
         for envelope in envelopes {
             self.place_each(envelope.ports.as_slice(), Place::Swept);

@@ -1,11 +1,12 @@
 ghost use Rattle.std.specs.Prelude.{◌≡◌, [], true, slice_get, IfOk, OnErr};
-ghost use Rattle.hub_core.specs.Kept.{kept_running, kept_runs, kept_holder, kept_line_of_port, kept_poster_by, kept_poster, kept_place, kept_hears, kept_may_enter};
+ghost use Rattle.hub_core.specs.Kept.{kept_running, kept_runs, kept_holder, kept_line_of_port, kept_poster_by, kept_poster, kept_place, kept_hears, kept_may_enter, kept_speaker};
 ghost use Rattle.hub_core.specs.Posting.{is_here};
 ghost use Rattle.hub_core.specs.History.{History};
 ghost use Rattle.hub_core.specs.Laws.{InOrder};
 ghost use Rattle.hub_core.specs.Made.{line_of_port};
 ghost use Rattle.hub_core.specs.Memory.{takes_memory};
 ghost use Rattle.hub_core.specs.Shows.{Shows, FitsAndShows};
+ghost use Rattle.hub_core.specs.KeptRoster.{cast_now};
 ghost use Rattle.hub_core.specs.Unchanged.{changes_nothing, SameContent};
 
 use crate::agent::Agent;
@@ -13,6 +14,7 @@ use crate::end::{End, Place};
 use crate::kind::Kind;
 use crate::line::Line;
 use crate::outcome::Outcome;
+use crate::roster::Roster;
 use crate::sender::Sender;
 use crate::step::{Action, Step};
 use hub_envelope::{AgentId, EndId, LineId, OutOfMemory};
@@ -24,6 +26,7 @@ pub struct Core {
     pub(crate) alloc: Global,
     pub(crate) agents: Vec<Agent>,
     pub(crate) ends: Vec<End>,
+    pub(crate) roster: Roster,
 }
 
 impl Core {
@@ -35,11 +38,14 @@ impl Core {
             alloc,
             agents: Vec::new(alloc),
             ends: Vec::new(alloc),
+            roster: Roster::new(alloc),
         }
     }
 
     /// Takes a step, in time that doesn't grow with the number of ends, lines and waiting envelopes
-    /// beyond what a growing list costs; a `Sweep` takes time for each envelope that it discards.
+    /// beyond what a growing list costs and the logarithm of the members of the roster; a `Sweep`
+    /// takes time for each envelope that it discards, a `Cast` for each destination, and a `See` that
+    /// is answered `Ending` for each end.
     /// An `Err` says that memory can't be had, or that a line has put 2^62 envelopes in its queue.
     pub fn step(&mut self, step: Step) -> Result<Outcome, OutOfMemory>
         ensures fits { IfOk result (λ o. FitsAndShows self.old self.new step o) }
@@ -55,10 +61,11 @@ impl Core {
             memory_refused,
         } = step;
         match action {
-            Action::Agent => self.make_agent(memory_refused),
+            Action::Agent(origin) => self.make_agent(origin, memory_refused),
             Action::Channel(agent) => self.make_channel(agent, memory_refused),
             Action::Client(agent) => self.make_queue(Kind::Client, agent, memory_refused),
             Action::Worker(agent) => self.make_queue(Kind::Worker, agent, memory_refused),
+            Action::Member(agent, name) => self.make_member(agent, name, memory_refused),
             Action::Line(end, agent) => Ok(self.hold(end, agent)),
             Action::Back(sender) => Ok(self.give_back(sender)),
             Action::Enter(sender) => Ok(self.enter(sender)),
@@ -75,6 +82,8 @@ impl Core {
             Action::Hand(end, agent) => Ok(self.hand(end, agent)),
             Action::Order(agent) => Ok(self.order(agent)),
             Action::See(agent) => self.see(agent),
+            Action::Cast(end, ports, body) => self.cast(end, ports, body),
+            Action::Part(end) => Ok(self.part(end)),
         }
     }
 
@@ -120,25 +129,37 @@ impl Core {
         agent.filter(|agent| self.is_running(*agent))
     }
 
-    /// The running agent that holds a line of an end of this kind, where one does: for a port's
-    /// line the agent that has the port at the other side.
-    pub(crate) fn poster_by(&self, kind: Kind, line: Line) -> Option<AgentId>
+    /// The agent whose cast goes to the end next, running or ending.
+    fn speaker(&self, end: EndId) -> Option<AgentId>
+        ensures { let cast = cast_now self.now.roster.cast in
+            result ≡ kept_speaker self.now.ends.items cast end.0 }
+    {
+        let source = self.roster.source_for(end)?;
+        self.maker_of(source)
+    }
+
+    /// The agent that posts on a line of an end of this kind, where one does: for a port's line the
+    /// running one that has the port at the other side.
+    pub(crate) fn poster_by(&self, end: EndId, kind: Kind, line: Line) -> Option<AgentId>
         ensures { let ends = self.now.ends.items in
-            result ≡ kept_poster_by self.now.agents.items ends kind line }
+            let cast = cast_now self.now.roster.cast in
+            result ≡ kept_poster_by self.now.agents.items ends cast end.0 kind line }
     {
         match kind {
             Kind::Port(peer) => self.running_holder(peer),
             Kind::Client | Kind::Worker => self.running(line.held_by),
+            Kind::Member(_) => self.speaker(end),
         }
     }
 
-    /// The running agent that holds a line, where one does.
+    /// The agent that posts on a line, where one does.
     pub(crate) fn poster_of(&self, sender: Sender) -> Option<AgentId>
-        ensures { result ≡ kept_poster self.now.agents.items self.now.ends.items sender }
+        ensures { let cast = cast_now self.now.roster.cast in
+            result ≡ kept_poster self.now.agents.items self.now.ends.items cast sender }
     {
         let end = self.ends.get(sender.end.0 as usize)?;
         let line = end.lines.get(sender.line)?;
-        self.poster_by(end.kind, line)
+        self.poster_by(sender.end, end.kind, line)
     }
 
     /// Whether an end has a place where it can be closed.
@@ -160,13 +181,14 @@ impl Core {
         };
         match end.kind {
             Kind::Port(peer) => sender.line.0 == 0 && self.is_here(peer),
-            Kind::Client | Kind::Worker => false,
+            Kind::Client | Kind::Worker | Kind::Member(_) => false,
         }
     }
 
     /// Whether a poster may enter: to post, or to put a notice alone.
     pub(crate) fn may_enter(&self, sender: Sender) -> bool
-        ensures { result ≡ kept_may_enter self.now.agents.items self.now.ends.items sender }
+        ensures { let cast = cast_now self.now.roster.cast in
+            result ≡ kept_may_enter self.now.agents.items self.now.ends.items cast sender }
     {
         self.poster_of(sender).is_some() || self.hears_notice(sender)
     }

@@ -1,4 +1,5 @@
 ghost use Rattle.std.specs.Prelude.{◌≡◌, length, slice_get, IfOk, OnErr};
+ghost use Rattle.hub_core.specs.KeptRoster.{AgentLeaves, SameRoster};
 ghost use Rattle.hub_core.specs.Kept.{kept_running, kept_agent_answer, agents_made, kept_channel_answer, ends_made, count_of, kept_queue_answer, queue_made, queue_counted};
 
 use crate::agent::Agent;
@@ -7,15 +8,23 @@ use crate::kind::Kind;
 use crate::limits::{MAX_AGENTS, MAX_ENDS};
 use crate::machine::Core;
 use crate::outcome::Outcome;
+use crate::text::Text;
 use hub_envelope::{AgentId, EndId, OutOfMemory};
 
 impl Core {
-    pub(crate) fn make_agent(&mut self, memory_refused: bool) -> Result<Outcome, OutOfMemory>
+    pub(crate) fn make_agent(
+        &mut self,
+        origin: Option<Text>,
+        memory_refused: bool,
+    ) -> Result<Outcome, OutOfMemory>
         ensures outcome { IfOk result (λ o. o
             ≡ kept_agent_answer (length self.old.agents.items) memory_refused) }
         ensures agents { IfOk result (λ o. self.new.agents.items
             ≡ agents_made self.old.agents.items o) }
+        ensures roster { IfOk result (λ o. AgentLeaves origin self.old.roster o self.new.roster) }
         ensures err { OnErr result (self.new.agents.items ≡ self.old.agents.items) }
+        ensures err_roster { let count = length self.old.ends.items in
+            OnErr result (SameRoster count self.old.roster self.new.roster) }
         ensures ends { self.new.ends ≡ self.old.ends }
     {
         if memory_refused {
@@ -25,7 +34,9 @@ impl Core {
         if number >= MAX_AGENTS {
             return Ok(Outcome::TooManyAgents);
         }
-        self.agents.push(Agent::FIRST)?;
+        self.agents.reserve(1)?;
+        self.roster.members.enrol(origin)?;
+        self.agents.push(Agent::FIRST).unwrap();
         Ok(Outcome::Agent(AgentId(number as u8)))
     }
 
@@ -41,6 +52,7 @@ impl Core {
             ≡ ends_made agent self.old.ends.items o) }
         ensures err { OnErr result (self.new.ends.items ≡ self.old.ends.items) }
         ensures agents { self.new.agents ≡ self.old.agents }
+        ensures roster { self.new.roster ≡ self.old.roster }
     {
         if !self.is_running(agent) {
             return Ok(Outcome::NotNow);
@@ -81,6 +93,7 @@ impl Core {
             ≡ queue_counted agent kind self.old.agents.items o) }
         ensures err_ends { OnErr result (self.new.ends.items ≡ self.old.ends.items) }
         ensures err_agents { OnErr result (self.new.agents.items ≡ self.old.agents.items) }
+        ensures roster { self.new.roster ≡ self.old.roster }
     {
         if !self.is_running(agent) || self.count_of(kind, agent) != 0 {
             return Ok(Outcome::NotNow);

@@ -27,6 +27,7 @@ impl Core {
             let ends = self.old.ends.items in
             IfOk result (λ o. self.new.agents.items ≡ adopt_agents ends agent agents found o) }
         ensures err_agents { OnErr result (self.new.agents.items ≡ self.old.agents.items) }
+        ensures roster { self.new.roster ≡ self.old.roster }
     {
         let Some(kind) = self.kind_at(end) else {
             return Ok(Outcome::NotNow);
@@ -53,6 +54,7 @@ impl Core {
             self.new.ends.items ≡ close_ends_at may end.0 ends (slice_get ends end.0) }
         ensures agents { let found = slice_get self.old.ends.items end.0 in
             self.new.agents.items ≡ close_agents self.old.agents.items found result }
+        ensures roster { self.new.roster ≡ self.old.roster }
     {
         let may = self.can_close(end);
         let Some(found) = self.ends.get_mut(end.0 as usize) else {
@@ -109,6 +111,7 @@ impl Core {
             self.new.ends.items ≡ hand_ends_at may agent end.0 ends (slice_get ends end.0) }
         ensures agents { let found = slice_get self.old.ends.items end.0 in
             self.new.agents.items ≡ hand_agents self.old.agents.items found result }
+        ensures roster { self.new.roster ≡ self.old.roster }
     {
         let may = self.may_take_over(agent, self.running_holder(end));
         let Some(found) = self.ends.get_mut(end.0 as usize) else {

@@ -32,6 +32,12 @@ pub enum Outcome {
     TooManyEnds,
     /// The agent holds this line of the end.
     Line(LineId),
+    /// The agent has no origin. Nothing changed.
+    NoOrigin,
+    /// The member has parted or is closed. Nothing changed.
+    InvalidState,
+    /// A cast has ports. Nothing changed.
+    NotTransferable,
     /// The end is no client's or worker's queue. Nothing changed.
     NoSuchEnd,
     /// Agents hold all `MAX_LINES` lines of the end. Nothing changed.
@@ -69,7 +75,8 @@ pub enum Outcome {
     Adopted(u32),
     /// The end was adopted `MAX_MOVES` times. Nothing changed.
     TooManyMoves,
-    /// The end is closed from now on; or the line that was given back is held by no agent.
+    /// The end is closed from now on; or the line that was given back is held by no agent; or the
+    /// member has left the roster.
     Done,
     /// The end has arrived at the other agent.
     Handed,
@@ -80,6 +87,8 @@ pub enum Outcome {
     /// The agent found the order and is ending; these ends are with it or have arrived at it, in
     /// rising order.
     Ending(EndIds),
+    /// The ends to which the cast goes, in the order in which they were made.
+    Destinations(EndIds),
     /// What waited at the end, in order of the queues and then of acceptance. It waits no more.
     Discarded(Envelopes),
 }

@@ -1,4 +1,6 @@
-ghost use Rattle.std.specs.Prelude.{◌≡◌, ◌<◌, ◌≤◌, ◌∷◌, [], length, slice_get, IfOk, OnOk, OnErr};
+ghost use Rattle.std.specs.Prelude.{◌≡◌, ◌<◌, ◌≤◌, ◌∷◌, [], length, slice_get, Some, IfOk, OnOk, OnErr};
+ghost use Rattle.hub_core.specs.KeptRoster.{cast_now, cast_left};
+ghost use Rattle.hub_core.specs.Posting.{is_fitting};
 ghost use Rattle.hub_core.specs.Kept.{kept_owner_of, enter_agents, leave_agents, enter_outcome_at, enter_ends_at, leave_outcome_at, leave_ends_at, hop_outcome_at, hop_ends_at, kept_may_enter, kept_noticing, notice_outcome, NoticeLeaves, kept_posting, kept_good, kept_may_travel, kept_may_leave, kept_own_free, push_outcome, HasQueue, AcceptLeaves, PushLeaves, Moves};
 
 use crate::end::Place;
@@ -12,13 +14,16 @@ use hub_envelope::{AgentId, Body, EndId, Envelope, MAX_PORTS, OutOfMemory, Ports
 impl Core {
     pub(crate) fn enter(&mut self, sender: Sender) -> Outcome
         ensures outcome { let ends = self.old.ends.items in
-            let may = kept_may_enter self.old.agents.items ends sender in
+            let cast = cast_now self.old.roster.cast in
+            let may = kept_may_enter self.old.agents.items ends cast sender in
             result ≡ enter_outcome_at may sender.line.0 (slice_get ends sender.end.0) }
         ensures ends { let ends = self.old.ends.items in
-            let may = kept_may_enter self.old.agents.items ends sender in
+            let cast = cast_now self.old.roster.cast in
+            let may = kept_may_enter self.old.agents.items ends cast sender in
             self.new.ends.items ≡ enter_ends_at may sender ends (slice_get ends sender.end.0) }
         ensures agents { let owner = kept_owner_of self.old.ends.items sender in
             self.new.agents.items ≡ enter_agents owner self.old.agents.items result }
+        ensures roster { self.new.roster ≡ self.old.roster }
     {
         if !self.may_enter(sender) {
             return Outcome::NotNow;
@@ -41,6 +46,9 @@ impl Core {
             self.new.ends.items ≡ leave_ends_at sender ends (slice_get ends sender.end.0) }
         ensures agents { let owner = kept_owner_of self.old.ends.items sender in
             self.new.agents.items ≡ leave_agents owner self.old.agents.items result }
+        ensures cast { let cast = cast_now self.old.roster.cast in
+            cast_now self.new.roster.cast ≡ cast_left sender.end.0 result cast }
+        ensures members { self.new.roster.members ≡ self.old.roster.members }
     {
         let owner = self.owner_of(sender);
         let Some(end) = self.ends.get_mut(sender.end.0 as usize) else {
@@ -49,18 +57,22 @@ impl Core {
         let outcome = end.leave(sender.line);
         if matches!(outcome, Outcome::Left) {
             self.count_out(owner);
+            self.roster.leave(sender.end);
         }
         outcome
     }
 
     pub(crate) fn hop(&mut self, sender: Sender) -> Outcome
         ensures outcome { let ends = self.old.ends.items in
-            let may = kept_may_enter self.old.agents.items ends sender in
+            let cast = cast_now self.old.roster.cast in
+            let may = kept_may_enter self.old.agents.items ends cast sender in
             result ≡ hop_outcome_at may sender.line.0 (slice_get ends sender.end.0) }
         ensures ends { let ends = self.old.ends.items in
-            let may = kept_may_enter self.old.agents.items ends sender in
+            let cast = cast_now self.old.roster.cast in
+            let may = kept_may_enter self.old.agents.items ends cast sender in
             self.new.ends.items ≡ hop_ends_at may sender ends (slice_get ends sender.end.0) }
         ensures agents { self.new.agents ≡ self.old.agents }
+        ensures roster { self.new.roster ≡ self.old.roster }
     {
         if !self.may_enter(sender) {
             return Outcome::NotNow;
@@ -80,16 +92,19 @@ impl Core {
     ) -> Result<Outcome, OutOfMemory>
         ensures outcome { let agents = self.old.agents.items in
             let ends = self.old.ends.items in
-            let posting = kept_posting agents ends sender ports.items memory_refused in
+            let cast = cast_now self.old.roster.cast in
+            let posting = kept_posting agents ends cast sender ports.items body memory_refused in
             IfOk result (λ o. o ≡ push_outcome posting) }
         ensures ends { let agents = self.old.agents.items in
             let ends = self.old.ends.items in
-            let posting = kept_posting agents ends sender ports.items memory_refused in
+            let cast = cast_now self.old.roster.cast in
+            let posting = kept_posting agents ends cast sender ports.items body memory_refused in
             OnOk result (PushLeaves sender ports.items body ends posting self.new.ends.items) }
         ensures err { OnErr result (self.new.ends.items ≡ self.old.ends.items) }
         ensures agents { self.new.agents ≡ self.old.agents }
+        ensures roster { self.new.roster ≡ self.old.roster }
     {
-        match self.posting(sender, &ports, memory_refused) {
+        match self.posting(sender, &ports, &body, memory_refused) {
             Ok((line, agent)) => {
                 let ports = Ports::of_list(ports).unwrap();
                 let accepted = Acceptance {
@@ -120,10 +135,13 @@ impl Core {
         &self,
         sender: Sender,
         ports: &[EndId],
+        body: &Body,
         memory_refused: bool,
     ) -> Result<(Line, AgentId), Outcome>
-        ensures answer { let ends = self.now.ends.items in
-            result ≡ kept_posting self.now.agents.items ends sender ports.now memory_refused }
+        ensures answer { let agents = self.now.agents.items in
+            let ends = self.now.ends.items in
+            let cast = cast_now self.now.roster.cast in
+            result ≡ kept_posting agents ends cast sender ports.now body.now memory_refused }
         ensures few { OnOk result (length ports.now ≤ MAX_PORTS) }
         ensures there { IfOk result (λ p. (sender.end.0 < length self.now.ends.items)
             × HasQueue self.now.ends.items sender p.0) }
@@ -134,19 +152,33 @@ impl Core {
         let Some(line) = end.posting_line(sender.line) else {
             return Err(Outcome::NotNow);
         };
-        let Some(agent) = self.poster_by(end.kind, line) else {
+        let Some(agent) = self.poster_by(sender.end, end.kind, line) else {
             return Err(Outcome::NotNow);
         };
         if ports.len() > MAX_PORTS {
             return Err(Outcome::TooManyPorts);
         }
-        if !self.may_be_sent(agent, end.kind.source(), sender.end, ports) {
+        if !self.may_be_sent(agent, end.kind.source(), sender.end, ports)
+            || !self.is_fitting(end.kind, ports, body)
+        {
             return Err(Outcome::NotNow);
         }
         if memory_refused {
             return Err(Outcome::NoMemory);
         }
         Ok((line, agent))
+    }
+
+    /// Whether a message may go to an end of this kind: to a broadcast channel only the body of the
+    /// cast, with no ports.
+    fn is_fitting(&self, kind: Kind, ports: &[EndId], body: &Body) -> bool
+        ensures { let cast = cast_now self.now.roster.cast in
+            result ≡ is_fitting cast (Some kind) ports.now body.now }
+    {
+        match kind {
+            Kind::Port(_) | Kind::Client | Kind::Worker => true,
+            Kind::Member(_) => ports.is_empty() && self.roster.is_cast(body),
+        }
     }
 
     /// Puts a notice, where its poster may put it now.
@@ -163,6 +195,7 @@ impl Core {
             OnOk result (NoticeLeaves sender ends noticing self.new.ends.items) }
         ensures err { OnErr result (self.new.ends.items ≡ self.old.ends.items) }
         ensures agents { self.new.agents ≡ self.old.agents }
+        ensures roster { self.new.roster ≡ self.old.roster }
     {
         match self.noticing(sender, memory_refused) {
             Ok(line) => {
@@ -218,6 +251,7 @@ impl Core {
             self.new.ends.items) }
         ensures err { OnErr result (self.new.ends.items ≡ self.old.ends.items) }
         ensures agents { self.new.agents ≡ self.old.agents }
+        ensures roster { self.new.roster ≡ self.old.roster }
     {
         // The ports are placed once the envelope is in its queue, which takes the list.
         let travelling = Vec::from_slice(self.alloc, envelope.ports.as_slice())?;
@@ -280,6 +314,7 @@ impl Core {
     pub(crate) fn place_each(&mut self, ports: &[EndId], place: Place)
         ensures ends { Moves ports.now place self.old.ends.items self.new.ends.items }
         ensures agents { self.new.agents ≡ self.old.agents }
+        ensures roster { self.new.roster ≡ self.old.roster }
     {
         for port in ports {
             self.place(*port, place);
@@ -290,6 +325,7 @@ impl Core {
     fn place(&mut self, port: EndId, place: Place)
         ensures ends { Moves (port ∷ []) place self.old.ends.items self.new.ends.items }
         ensures agents { self.new.agents ≡ self.old.agents }
+        ensures roster { self.new.roster ≡ self.old.roster }
     {
         if let Some(end) = self.ends.get_mut(port.0 as usize) {
             end.place = place;

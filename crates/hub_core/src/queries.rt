@@ -1,6 +1,7 @@
 ghost use Rattle.std.specs.Prelude.{◌≡◌, length, option_map, slice_get};
 ghost use Rattle.hub_core.specs.Facts.{facts};
 ghost use Rattle.hub_core.specs.History.{History};
+ghost use Rattle.hub_core.specs.KeptRoster.{cast_now};
 ghost use Rattle.hub_core.specs.Kept.{kept_may_post, kept_all_leave, kept_listing};
 ghost use Rattle.hub_core.specs.Made.{kind};
 ghost use Rattle.hub_core.specs.Moving.{may_close};
@@ -24,7 +25,8 @@ impl Core {
     }
 
     fn can_post(&self, sender: Sender) -> bool
-        ensures { result ≡ kept_may_post self.now.agents.items self.now.ends.items sender }
+        ensures { let cast = cast_now self.now.roster.cast in
+            result ≡ kept_may_post self.now.agents.items self.now.ends.items cast sender }
     {
         let Some(end) = self.ends.get(sender.end.0 as usize) else {
             return false;
@@ -45,7 +47,8 @@ impl Core {
 
     fn kind_of_list(&self, sender: Sender, ports: &[EndId]) -> Listing
         ensures { let ends = self.now.ends.items in
-            result ≡ kept_listing self.now.agents.items ends sender ports.now }
+            let cast = cast_now self.now.roster.cast in
+            result ≡ kept_listing self.now.agents.items ends cast sender ports.now }
     {
         let Some(end) = self.ends.get(sender.end.0 as usize) else {
             return Listing::Bad;

@@ -1,11 +1,13 @@
 use crate::sender::Sender;
+use crate::text::Text;
 use hub_envelope::{AgentId, Body, EndId};
 
 /// One event of the hub. A number that names nothing is answered by `NotNow`.
 #[derive(Debug, Drop)]
 pub enum Action {
-    /// A new agent begins to run.
-    Agent,
+    /// A new agent begins to run. Its origin says which broadcast channels its own ones reach; an
+    /// agent with none makes no broadcast channel.
+    Agent(Option<Text>),
     /// The agent makes two entangled ports (WHATWG HTML, "Message channels").
     Channel(AgentId),
     /// The agent makes its queue of the messages to a client (W3C Service Workers, "Client").
@@ -13,6 +15,9 @@ pub enum Action {
     /// The agent makes its queue of the messages to a worker (W3C Service Workers,
     /// "ServiceWorker").
     Worker(AgentId),
+    /// The agent makes a broadcast channel of this name, a member of the roster (WHATWG HTML,
+    /// "Broadcasting to other browsing contexts").
+    Member(AgentId, Text),
     /// The agent gets a line of a client's or worker's queue, and holds it until it gives it back.
     Line(EndId, AgentId),
     /// A line is given back.
@@ -45,6 +50,11 @@ pub enum Action {
     /// The agent that has a client's or worker's queue hands it to another agent, at which it
     /// arrives.
     Hand(EndId, AgentId),
+    /// A member casts a body to the others of its origin and name, which are fixed now; each gets it
+    /// by an `Enter`, `Push` and `Leave` on its line 0, one destination after the other.
+    Cast(EndId, Vec<EndId>, Body),
+    /// A member leaves the roster, and is no destination of later casts.
+    Part(EndId),
     /// The agent is ordered to end (WHATWG HTML, "terminate a worker").
     Order(AgentId),
     /// The agent looks whether it was ordered to end. One that was is ending from now on.

@@ -15,6 +15,7 @@ impl Core {
             let holder = kept_holder self.old.agents.items ends end.0 in
             self.new.ends.items ≡ start_ends holder end.0 ends (slice_get ends end.0) }
         ensures agents { self.new.agents ≡ self.old.agents }
+        ensures roster { self.new.roster ≡ self.old.roster }
     {
         let at = end.0 as usize;
         let Some(found) = self.ends.get(at) else {
@@ -35,6 +36,7 @@ impl Core {
             let holder = kept_holder self.old.agents.items ends end.0 in
             TakeLeaves holder end.0 ends (slice_get ends end.0) result self.new.ends.items }
         ensures agents { self.new.agents ≡ self.old.agents }
+        ensures roster { self.new.roster ≡ self.old.roster }
     {
         let at = end.0 as usize;
         let Some(found) = self.ends.get(at) else {

@@ -1,6 +1,6 @@
 use hub_core::{
-    Action, Core, Kind, Listing, OutOfMemory, Outcome, Sender, Step, chain_laws, gate_machine_laws,
-    history_laws, mailbox_laws, pair_laws, queue_laws, run,
+    Action, Core, Kind, Listing, OutOfMemory, Outcome, Sender, Step, Text, chain_laws,
+    gate_machine_laws, history_laws, mailbox_laws, pair_laws, queue_laws, run,
 };
 use hub_envelope::{AgentId, Body, EndId, Envelope, LineId};
 use std::alloc::Global;
@@ -123,6 +123,12 @@ fn tell(words: &mut String, outcome: &Outcome) -> Result<(), Fail> {
                 write!(words, " {}", end.0)?;
             }
         }
+        Outcome::Destinations(ends) => {
+            words.push_str("Destinations")?;
+            for end in ends.as_slice() {
+                write!(words, " {}", end.0)?;
+            }
+        }
         other => write!(words, "{other:?}")?,
     }
     words.push_str("; ")?;
@@ -143,7 +149,7 @@ fn outcomes_of(rt: &impl Abort, alloc: Global, steps: Vec<Step>) -> Result<Strin
 fn runs_posts_and_takes(rt: HostRuntime) -> Result<(), Fail> {
     let alloc = rt.alloc();
     let steps = vec![in alloc;
-        step(Action::Agent),
+        step(Action::Agent(None)),
         step(Action::Channel(AgentId(0))),
         enter(0),
         Step {
@@ -171,7 +177,7 @@ fn runs_posts_and_takes(rt: HostRuntime) -> Result<(), Fail> {
 fn sends_ports(rt: HostRuntime) -> Result<(), Fail> {
     let alloc = rt.alloc();
     let steps = vec![in alloc;
-        step(Action::Agent),
+        step(Action::Agent(None)),
         step(Action::Channel(AgentId(0))),
         step(Action::Channel(AgentId(0))),
         start(1),
@@ -200,7 +206,7 @@ fn sends_ports(rt: HostRuntime) -> Result<(), Fail> {
 /// Port 1 is sent while an envelope waits and a poster is inside, and adopted.
 fn moving(alloc: Global) -> Result<Vec<Step>, OutOfMemory> {
     Ok(vec![in alloc;
-        step(Action::Agent),
+        step(Action::Agent(None)),
         step(Action::Channel(AgentId(0))),
         step(Action::Channel(AgentId(0))),
         start(3),
@@ -247,7 +253,7 @@ const MOVED: &str = "Agent(AgentId(0)); Ends(EndId(0), EndId(1)); Ends(EndId(2),
 /// there, is closed and swept too.
 fn closing(alloc: Global) -> Result<Vec<Step>, OutOfMemory> {
     Ok(vec![in alloc;
-        step(Action::Agent),
+        step(Action::Agent(None)),
         step(Action::Channel(AgentId(0))),
         step(Action::Channel(AgentId(0))),
         step(Action::Channel(AgentId(0))),
@@ -291,8 +297,8 @@ const CLOSED: &str = "Agent(AgentId(0)); Ends(EndId(0), EndId(1)); Ends(EndId(2)
 fn handing(alloc: Global) -> Result<Vec<Step>, OutOfMemory> {
     let body = Body::read(alloc, "7").ok().ok_or(OutOfMemory)?;
     Ok(vec![in alloc;
-        step(Action::Agent),
-        step(Action::Agent),
+        step(Action::Agent(None)),
+        step(Action::Agent(None)),
         step(Action::Client(AgentId(0))),
         step(Action::Client(AgentId(0))),
         step(Action::Worker(AgentId(1))),
@@ -330,8 +336,8 @@ const HANDED: &str = "Agent(AgentId(0)); Agent(AgentId(1)); End(EndId(0)); NotNo
 /// Agent 0 is ordered to end while one of its posters is inside, and ends with two ports.
 fn ending(alloc: Global) -> Result<Vec<Step>, OutOfMemory> {
     Ok(vec![in alloc;
-        step(Action::Agent),
-        step(Action::Agent),
+        step(Action::Agent(None)),
+        step(Action::Agent(None)),
         step(Action::Channel(AgentId(0))),
         order(2),
         see(2),
@@ -367,8 +373,95 @@ const ENDED: &str = "Agent(AgentId(0)); Agent(AgentId(1)); Ends(EndId(0), EndId(
     Accepted(Acceptance { agent: AgentId(0), epoch: 0, number: 1 }); NotNow; Left; Done; \
     Ending 1; Done; Discarded 0:0 7 with 0:1 null with; Ending; ";
 
+fn origin(alloc: Global, text: &str) -> Result<Step, OutOfMemory> {
+    Ok(step(Action::Agent(Some(Text::of(alloc, text)?))))
+}
+
+fn member(alloc: Global, agent: u8, name: &str) -> Result<Step, OutOfMemory> {
+    Ok(step(Action::Member(AgentId(agent), Text::of(alloc, name)?)))
+}
+
+fn cast(alloc: Global, end: u32, ports: &[EndId], text: &str) -> Result<Step, OutOfMemory> {
+    let body = Body::read(alloc, text).ok().ok_or(OutOfMemory)?;
+    let ports = Vec::from_slice(alloc, ports)?;
+    Ok(step(Action::Cast(EndId(end), ports, body)))
+}
+
+/// A push on line 0 of a broadcast channel.
+fn push_at(alloc: Global, end: u32, text: &str) -> Result<Step, OutOfMemory> {
+    let body = Body::read(alloc, text).ok().ok_or(OutOfMemory)?;
+    Ok(step(Action::Push(line_at(end, 0), Vec::new(alloc), body)))
+}
+
+fn enter_at(end: u32) -> Step {
+    step(Action::Enter(line_at(end, 0)))
+}
+
+fn leave_at(end: u32) -> Step {
+    step(Action::Leave(line_at(end, 0)))
+}
+
+fn part(end: u32) -> Step {
+    step(Action::Part(EndId(end)))
+}
+
+/// Three agents of two origins and one of none make broadcast channels, and cast to each other.
+fn casting(alloc: Global) -> Result<Vec<Step>, OutOfMemory> {
+    Ok(vec![in alloc;
+        origin(alloc, "https://a.test")?,
+        origin(alloc, "https://a.test")?,
+        origin(alloc, "https://b.test")?,
+        step(Action::Agent(None)),
+        member(alloc, 0, "news")?,
+        member(alloc, 1, "news")?,
+        member(alloc, 2, "news")?,
+        member(alloc, 0, "old")?,
+        member(alloc, 1, "news")?,
+        member(alloc, 3, "news")?,
+        start(1),
+        start(2),
+        start(4),
+        cast(alloc, 0, &[], "7")?,
+        enter_at(4),
+        member(alloc, 0, "news")?,
+        cast(alloc, 0, &[], "8")?,
+        part(4),
+        enter_at(1),
+        push_at(alloc, 1, "8")?,
+        push_at(alloc, 1, "7")?,
+        leave_at(1),
+        enter_at(1),
+        enter_at(4),
+        push_at(alloc, 4, "7")?,
+        leave_at(4),
+        enter_at(4),
+        take(1),
+        take(2),
+        take(4),
+        cast(alloc, 0, &[EndId(3)], "7")?,
+        close(1),
+        part(4),
+        part(4),
+        cast(alloc, 0, &[], "9")?,
+        enter_at(1),
+        leave_at(1),
+        cast(alloc, 4, &[], "9")?,
+        cast(alloc, 3, &[], "9")?,
+        close(0),
+        cast(alloc, 0, &[], "9")?,
+    ]?)
+}
+
+const CAST: &str = "Agent(AgentId(0)); Agent(AgentId(1)); Agent(AgentId(2)); Agent(AgentId(3)); \
+    End(EndId(0)); End(EndId(1)); End(EndId(2)); End(EndId(3)); End(EndId(4)); NoOrigin; \
+    Started; Started; Started; Destinations 1 4; NotNow; NotNow; NotNow; NotNow; In; NotNow; \
+    Accepted(Acceptance { agent: AgentId(0), epoch: 0, number: 0 }); Left; NotNow; In; \
+    Accepted(Acceptance { agent: AgentId(0), epoch: 0, number: 0 }); Left; NotNow; \
+    Got 0:0 7 with; Empty; Got 0:0 7 with; NotTransferable; Done; Done; NotNow; \
+    Destinations 1; Closed; Left; InvalidState; Destinations; Done; InvalidState; ";
+
 #[test]
-fn moves_closes_hands_ends_and_discards(rt: HostRuntime) -> Result<(), Fail> {
+fn moves_closes_hands_ends_casts_and_discards(rt: HostRuntime) -> Result<(), Fail> {
     let alloc = rt.alloc();
     let moved = outcomes_of(&rt, alloc, moving(alloc)?)?;
     assert_eq!(rt; moved.as_str(), MOVED);
@@ -378,6 +471,8 @@ fn moves_closes_hands_ends_and_discards(rt: HostRuntime) -> Result<(), Fail> {
     assert_eq!(rt; handed.as_str(), HANDED);
     let ended = outcomes_of(&rt, alloc, ending(alloc)?)?;
     assert_eq!(rt; ended.as_str(), ENDED);
+    let cast = outcomes_of(&rt, alloc, casting(alloc)?)?;
+    assert_eq!(rt; cast.as_str(), CAST);
     Ok(())
 }
 
@@ -387,7 +482,7 @@ fn says_what_may_be_done(rt: HostRuntime) -> Result<(), Fail> {
     let (here, there) = (line_of(0), line_of(1));
     assert!(rt; !core.may_post(here) && !core.may_close(EndId(0)));
     for action in [
-        Action::Agent,
+        Action::Agent(None),
         Action::Channel(AgentId(0)),
         Action::Channel(AgentId(0)),
     ] {
@@ -442,6 +537,7 @@ enum About {
     Closing,
     Handing,
     Ending,
+    Casting,
 }
 
 fn steps_of(alloc: Global, about: About) -> Result<Vec<Step>, OutOfMemory> {
@@ -450,6 +546,7 @@ fn steps_of(alloc: Global, about: About) -> Result<Vec<Step>, OutOfMemory> {
         About::Closing => closing(alloc),
         About::Handing => handing(alloc),
         About::Ending => ending(alloc),
+        About::Casting => casting(alloc),
     }
 }
 
@@ -471,6 +568,7 @@ fn goes_on_whichever_allocation_is_refused(rt: HostRuntime) -> Result<(), Fail> 
         (About::Closing, CLOSED),
         (About::Handing, HANDED),
         (About::Ending, ENDED),
+        (About::Casting, CAST),
     ] {
         let steps = steps_again(alloc, about)?;
         let same = steps_again(alloc, about)?;
@@ -488,10 +586,10 @@ fn goes_on_whichever_allocation_is_refused(rt: HostRuntime) -> Result<(), Fail> 
 fn has_sixteen_agents(rt: HostRuntime) -> Result<(), Fail> {
     let mut core = Core::new(rt.alloc());
     for _ in 0..16 {
-        let outcome = core.step(step(Action::Agent))?;
+        let outcome = core.step(step(Action::Agent(None)))?;
         assert!(rt; matches!(outcome, Outcome::Agent(_)));
     }
-    let outcome = core.step(step(Action::Agent))?;
+    let outcome = core.step(step(Action::Agent(None)))?;
     assert!(rt; matches!(outcome, Outcome::TooManyAgents));
     let made = core.step(step(Action::Channel(AgentId(15))))?;
     assert!(rt; matches!(made, Outcome::Ends(EndId(0), EndId(1))));

@@ -177,6 +177,15 @@ sent_nothing old new refused ports body s o i k m a =
 not_more : (n m : ℕ) → n ≤ m → nat_lt m n ≡ false
 not_more n m few = grind (arith, nat_tests)
 
+more_than : (n m : ℕ) → n < m → nat_lt n m ≡ true
+more_than n m more = grind (arith, nat_tests)
+
+-- a post whose list is too long
+pub post_long : (core : Core) (refused : Bool) (ports : List EndId) (body : List ℕ) (s : Sender) (may : Bool) → ((h : History) → Shows core h → may ≡ may_post (facts h) s) → may ≡ true → 16 < length ports → ComputesAt core core (post refused ports body s) (Answer outcome.TooManyPorts)
+post_long core refused ports body s may is some many =
+    asked_then core core (λ f. may_post f s) (post_may refused ports body s) true (Answer outcome.TooManyPorts) (λ h shows. sym some ∙ is h shows)
+    (subst (λ b. ComputesAt core core (post_count refused ports body s b) (Answer outcome.TooManyPorts)) (sym (more_than 16 (length ports) many)) (given core (Answer outcome.TooManyPorts)))
+
 -- a post that no test refuses before its list is looked at
 pub post_listed : (old new : Core) (refused : Bool) (ports given_ports : List EndId) (body : List ℕ) (s : Sender) (may : Bool) (list kind : Listing) (shown : Shown) → ((h : History) → Shows old h → may ≡ may_post (facts h) s) → may ≡ true → length ports ≤ 16 → given_ports ≡ ports
     → ((h : History) → Shows old h → list ≡ listing (facts h) s given_ports) → list ≡ kind → ComputesAt old new (post_listing refused ports body s kind) shown → ComputesAt old new (post refused ports body s) shown

@@ -246,7 +246,7 @@ line_steps_agrees refused poster.Back s = shown_step_agrees refused (action.Back
 line_steps_agrees refused (poster.Post ports body) s = post_agrees refused ports body s
 
 line_agrees : (lives : AllLives) (refused : Bool) (c : Command) → Agrees (core_steps lives refused c)
-line_agrees lives refused command.Agent = shown_step_agrees refused action.Agent refl
+line_agrees lives refused command.Agent = shown_step_agrees refused (action.Agent None) refl
 line_agrees lives refused (command.Channel a) = shown_step_agrees refused (action.Channel a) refl
 line_agrees lives refused (command.Client a) = shown_step_agrees refused (action.Client a) refl
 line_agrees lives refused (command.Worker a) = worker_agrees refused a

@@ -44,6 +44,11 @@ abbrev pub ending_line : List EndId → List ℕ
 ending_line [] = codes "ending nothing\n"
 ending_line (e ∷ es) = codes "ending" ++ numbers_text (e ∷ es) ++ codes "\n"
 
+-- the ends to which a cast goes, or that it goes to none
+abbrev pub destinations_line : List EndId → List ℕ
+destinations_line [] = codes "cast nobody\n"
+destinations_line (e ∷ es) = codes "cast" ++ numbers_text (e ∷ es) ++ codes "\n"
+
 -- the line of an outcome, with its LF
 unfoldable pub outcome_line : Outcome → List ℕ
 outcome_line outcome.NotNow = codes "not-now\n"
@@ -54,6 +59,9 @@ outcome_line (outcome.Ends e f) = codes "ends " ++ decimal e.0 ++ codes " " ++ d
 outcome_line (outcome.End e) = codes "end " ++ decimal e.0 ++ codes "\n"
 outcome_line outcome.TooManyEnds = codes "too-many-ends\n"
 outcome_line (outcome.Line l) = codes "line " ++ decimal l.0 ++ codes "\n"
+outcome_line outcome.NoOrigin = codes "no-origin\n"
+outcome_line outcome.InvalidState = codes "invalid-state\n"
+outcome_line outcome.NotTransferable = codes "not-transferable\n"
 outcome_line outcome.NoSuchEnd = codes "no-such-end\n"
 outcome_line outcome.NoLine = codes "no-line\n"
 outcome_line outcome.In = codes "in\n"
@@ -77,4 +85,5 @@ outcome_line outcome.Handed = codes "handed\n"
 outcome_line outcome.Ordered = codes "ordered\n"
 outcome_line outcome.GoingOn = codes "going-on\n"
 outcome_line (outcome.Ending es) = ending_line es
+outcome_line (outcome.Destinations es) = destinations_line es
 outcome_line (outcome.Discarded vs) = discarded_line vs

@@ -280,7 +280,7 @@ line_steps refused (poster.Post ports body) s = post refused ports body s
 
 -- what a command unfolds to, with memory refused or not. An event takes no step, and shows what the lives so far say.
 abbrev pub core_steps : AllLives → Bool → Command → Computation Shown
-core_steps lives refused command.Agent = shown_step refused action.Agent
+core_steps lives refused command.Agent = shown_step refused (action.Agent None)
 core_steps lives refused (command.Channel a) = shown_step refused (action.Channel a)
 core_steps lives refused (command.Client a) = shown_step refused (action.Client a)
 core_steps lives refused (command.Worker a) = worker refused a

@@ -1,4 +1,4 @@
-ghost use Rattle.std.specs.Prelude.{◌≡◌, IfOk, IsOk, OnOk};
+ghost use Rattle.std.specs.Prelude.{◌≡◌, None, IfOk, IsOk, OnOk};
 ghost use Rattle.messagehub.specs.Lives.{lives_after};
 ghost use Rattle.messagehub.specs.Performed.{ComputesAt};
 ghost use Rattle.messagehub.specs.Unfolding.{adopt, load, shown_step, start_worker, worker};
@@ -18,11 +18,11 @@ pub fn make_agent(
     memory_refused: bool,
 ) -> Result<Shown, OutOfMemory>
     ensures shown { IfOk result (λ shown.
-        ComputesAt core.old core.new (shown_step memory_refused Action.Agent) shown) }
+        ComputesAt core.old core.new (shown_step memory_refused (Action.Agent None)) shown) }
     ensures lives { IfOk result (λ shown.
         lives.new ≡ lives_after Command.Agent shown lives.old) }
 {
-    let answer = take_step(core, Action::Agent, memory_refused)?;
+    let answer = take_step(core, Action::Agent(None), memory_refused)?;
     if matches!(answer, Outcome::Agent(_)) {
         lives.add_agent()?;
     }

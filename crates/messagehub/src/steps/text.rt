@@ -1,5 +1,5 @@
 ghost use Rattle.std.specs.Prelude.{◌≡◌, ◌++◌, OnOk, string_bytes};
-ghost use Rattle.messagehub.specs.OutcomeText.{discarded_line, ending_line, got_line, listed_name, names_text, numbers_text, outcome_line, ports_text};
+ghost use Rattle.messagehub.specs.OutcomeText.{destinations_line, discarded_line, ending_line, got_line, listed_name, names_text, numbers_text, outcome_line, ports_text};
 ghost use Rattle.messagehub.specs.ShownText.{refused_line, shown_line, state_text};
 
 use super::shown::Shown;
@@ -74,6 +74,9 @@ fn write_outcome(text: &mut String, outcome: &Outcome) -> Result<(), AllocError>
         Outcome::End(end) => writeln!(text, "end {}", end.0),
         Outcome::TooManyEnds => text.push_str("too-many-ends\n"),
         Outcome::Line(line) => writeln!(text, "line {}", line.0),
+        Outcome::NoOrigin => text.push_str("no-origin\n"),
+        Outcome::InvalidState => text.push_str("invalid-state\n"),
+        Outcome::NotTransferable => text.push_str("not-transferable\n"),
         Outcome::NoSuchEnd => text.push_str("no-such-end\n"),
         Outcome::NoLine => text.push_str("no-line\n"),
         Outcome::In => text.push_str("in\n"),
@@ -97,6 +100,7 @@ fn write_outcome(text: &mut String, outcome: &Outcome) -> Result<(), AllocError>
         Outcome::Ordered => text.push_str("ordered\n"),
         Outcome::GoingOn => text.push_str("going-on\n"),
         Outcome::Ending(ends) => write_ending(text, ends.as_slice()),
+        Outcome::Destinations(ends) => write_destinations(text, ends.as_slice()),
         Outcome::Discarded(envelopes) => write_discarded(text, envelopes.as_slice()),
     }
 }
@@ -110,6 +114,19 @@ fn write_ending(text: &mut String, ends: &[EndId]) -> Result<(), AllocError>
         return text.push_str("ending nothing\n");
     }
     text.push_str("ending")?;
+    write_numbers(text, ends)?;
+    text.push_str("\n")
+}
+
+/// Writes the line of the destinations of a cast.
+fn write_destinations(text: &mut String, ends: &[EndId]) -> Result<(), AllocError>
+    ensures { OnOk result (string_bytes text.new
+        ≡ string_bytes text.old ++ destinations_line ends.now) }
+{
+    if ends.is_empty() {
+        return text.push_str("cast nobody\n");
+    }
+    text.push_str("cast")?;
     write_numbers(text, ends)?;
     text.push_str("\n")
 }

@@ -1,6 +1,7 @@
 -- A hub with no agent and no end shows the history with no pair.
 use Rattle.hub_core.proofs.Frames.{shows_first}
+use Rattle.hub_core.proofs.Casts.{roster_first}
 use Rattle.hub_core.proofs.machine.Core.new.Goals as goal
 
 pub returns : goal.returns
-returns c = shows_first _ _ c.new.ensures.items c.new-2.ensures.items
+returns c = (shows_first _ _ c.new.ensures.items c.new-2.ensures.items, roster_first _ c.new-3.ensures)

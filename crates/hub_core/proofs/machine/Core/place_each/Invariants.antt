@@ -7,4 +7,5 @@ abbrev pub invariant-loop-port : goal.invariant-loop-port
 invariant-loop-port l = record {
   ends : Moves (take l.port-index l.ports) l.place l.fn.self.ends.items l.self.ends.items;
   agents : l.self.agents ≡ l.fn.self.agents;
+  roster : l.self.roster ≡ l.fn.self.roster;
 }

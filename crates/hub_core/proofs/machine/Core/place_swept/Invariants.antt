@@ -8,4 +8,5 @@ abbrev pub invariant-loop-envelope : goal.invariant-loop-envelope
 invariant-loop-envelope l = record {
   ends : Moves (ports_of (take l.envelope-index l.envelopes)) Swept l.fn.self.ends.items l.self.ends.items;
   agents : l.self.agents ≡ l.fn.self.agents;
+  roster : l.self.roster ≡ l.fn.self.roster;
 }

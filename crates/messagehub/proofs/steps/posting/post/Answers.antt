@@ -1,11 +1,17 @@
-use Rattle.std.proofs.Common.{◌≤◌, length, arith}
+use Rattle.std.proofs.Common.{◌<◌, ◌≤◌, length, arith}
 use Rattle.hub_core.specs.declared.listing.Listing.TheVariants.{Good, HoldsTarget, Bad}
 use Rattle.hub_core.specs.declared.outcome.Outcome.TheVariants as outcome
 use Rattle.messagehub.specs.declared.steps.shown.Shown.TheVariants.{Answer, Doomed}
 use Rattle.messagehub.specs.Performed.{ComputesAt}
 use Rattle.messagehub.specs.Unfolding.{send, post}
-use Rattle.messagehub.proofs.Computing.{if_ok, given, post_listed, doomed}
+use Rattle.messagehub.proofs.Computing.{if_ok, given, post_long, post_listed, doomed}
 use Rattle.messagehub.proofs.steps.posting.post.Goals as goal
+
+pub returns-then-len-gt-MAX_PORTS : goal.returns-then-len-gt-MAX_PORTS
+returns-then-len-gt-MAX_PORTS c =
+    let ports = c.args.ports.items in
+    let many : 16 < length ports = omega arith in
+    post_long c.args.core.now c.args.memory_refused ports c.args.body c.args.sender c.may_post.result c.may_post.ensures c.if-not-may_post.false many
 
 pub returns-in-Good : goal.returns-in-Good
 returns-in-Good c =

@@ -1,0 +1,376 @@
+-- Broadcast channels: what their steps are answered, and the roster that they and the other steps leave.
+use Rattle.std.proofs.Common.{◌≡◌, ℕ, ◌+◌, ◌<◌, ◌≤◌, Bool, true, false, cond, eqb, set, List, [], ◌∷◌, ◌++◌, length, map, Option, Some, None, zero, suc, refl, sym, ap, subst, ◌∙◌, arith, rules, inl, inr}
+use Rattle.std.specs.Prelude.{◌&&◌, ◌||◌, ◌==◌, not, is_some, nat_le, nat_lt, option_map, bytes_eq, Vec}
+use Rattle.std.specs.declared.alloc.Global.{Global}
+use Rattle.std.specs.List.{AllByRecursion, filter, list_any, slice_get}
+use Rattle.std.specs.BTreeMap.{get}
+use Rattle.std.specs.BTreeSet.{insert_key}
+use Rattle.std.specs.Ordering.{is_eq, nat_cmp, match_ordering}
+use Rattle.std.proofs.lemmas.Bool.{false≢true, ne_eqb, eqb-true, eqb-false, ltb-true, ltb-false}
+use Rattle.std.proofs.Common.{append-nil}
+use Rattle.std.proofs.lemmas.Bool.Decides.{nat_tests}
+use Rattle.hub_envelope.specs.declared.ids.AgentId.{AgentId}
+use Rattle.hub_envelope.specs.declared.ids.EndId.{EndId}
+use Rattle.hub_core.specs.declared.agent.Agent.{Agent}
+use Rattle.hub_core.specs.declared.end.End.{End}
+use Rattle.hub_core.specs.declared.group.Group.{Group}
+use Rattle.hub_core.specs.declared.kind.Kind.{Kind}
+use Rattle.hub_core.specs.declared.kind.Kind.TheVariants.{Port, Client, Worker, Member}
+use Rattle.hub_core.specs.declared.limits.TheConstants.{MAX_ENDS}
+use Rattle.hub_core.specs.declared.members.Members.{Members}
+use Rattle.hub_core.specs.declared.roster.Roster.{Roster}
+use Rattle.hub_core.specs.declared.sender.Sender.{Sender}
+use Rattle.hub_core.specs.declared.step.Action.{Action}
+use Rattle.hub_core.specs.declared.step.Action.TheVariants as action
+use Rattle.hub_core.specs.declared.outcome.Outcome.{Outcome}
+use Rattle.hub_core.specs.declared.outcome.Outcome.TheVariants as outcome
+use Rattle.hub_core.specs.Facts.{EndNow, Facts, facts}
+use Rattle.hub_core.specs.Fits.{Answers}
+use Rattle.hub_core.specs.Roster.{CastNow, RosterNow, is_same_group, is_of_group, has_end, without, group_named, cast_after}
+use Rattle.hub_core.specs.Sound.{Sound, SoundPlaces}
+use Rattle.hub_core.specs.Unchanged.{changes_nothing}
+use Rattle.hub_core.specs.Shows.{IsMemberNow, ShowsFacts, ShowsRoster}
+use Rattle.hub_core.specs.Casting.{destinations, destinations_of, is_casting, part_answer}
+use Rattle.hub_core.specs.KeptRoster.{AgentLeaves, CastLeaves, IsFirst, JoinsGroup, MemberLeaves, PartLeaves, SameRoster, cast_left, cast_now, group_cmp, group_of, is_in, is_seated_in, kept_destinations, numbers_in, numbers_of, numbers_with, origin_at, others_of, parted, seated_without}
+use Rattle.hub_core.proofs.Lists.{eqb_same, slice_get-append_front, slice_get-append_back}
+use Rattle.std.proofs.lemmas.Option.{slice_get_past}
+use Rattle.std.proofs.Common.{length-append}
+use Rattle.hub_core.proofs.Makes.{next_up}
+use Rattle.hub_core.proofs.Seats.{group_same, group_flips, insert_last, numbers_more, numbers_below, numbers_same, numbers_less, is_in_with, others_with, all_more, all_without, all_at}
+use Rattle.hub_core.proofs.Fitting.{new_agent, new_ends, queue_made_of, member_made_of}
+use Rattle.hub_core.proofs.Nexts.{next, effect, Change, agent_made, channel_made, let_in, found_moved, found_closed, put, left, started, got, hopped, went_on, cleared, adopted, notice_put, end_closed, end_swept, client_made, worker_made, line_got, line_back, handed, agent_ordered, agent_ended, member_joined, cast_begun, member_parted}
+use Rattle.hub_core.proofs.Speakers.{kind_made, old_end, old_one}
+use Rattle.hub_core.specs.Making.{is_client, is_worker}
+
+-- ---- the first roster
+
+no_agent : (xs : List (Option (List ℕ))) (a : ℕ) → xs ≡ [] → origin_at (slice_get xs a) ≡ None
+no_agent xs a none = ap (λ ys. origin_at (slice_get ys a)) none
+
+pub roster_first : (r : Roster) → IsFirst r → ShowsRoster r (facts [])
+roster_first r h = record {
+  agents = ap length h.origins;
+  origins = λ a. sym (no_agent r.members.origins.items a h.origins);
+  groups = λ x a is. absurd (search (rules, is));
+  seated = h.seated;
+  each = tt;
+  cast = sym (ap cast_now h.cast);
+}
+
+pub same_members : (n : ℕ) (r s : Roster) → s ≡ r → SameRoster n r s
+same_members n r s same = record {
+  members = record {
+    origins = ap (λ (t : Roster). t.members.origins.items) same;
+    groups = λ x _. ap (λ (t : Roster). group_of t.members x) same;
+    seated = λ k. ap (λ (t : Roster). numbers_of t.members k) same;
+  };
+  cast = ap (λ (t : Roster). cast_now t.cast) same;
+}
+
+pub same_cast : (n : ℕ) (r s : Roster) → s.members ≡ r.members → cast_now s.cast ≡ cast_now r.cast → SameRoster n r s
+same_cast n r s same cast = record {
+  members = record {
+    origins = ap (λ (m : Members). m.origins.items) same;
+    groups = λ x _. ap (λ (m : Members). group_of m x) same;
+    seated = λ k. ap (λ (m : Members). numbers_of m k) same;
+  };
+  cast = cast;
+}
+
+-- the same agents, and the same members
+pub same_enrolled : (n : ℕ) (r s : Roster) → s.members.origins.items ≡ r.members.origins.items → s.members.groups ≡ r.members.groups → s.members.seated ≡ r.members.seated → s.cast ≡ r.cast → SameRoster n r s
+same_enrolled n r s origins groups seated cast = record {
+  members = record {
+    origins = origins;
+    groups = λ x _. ap (λ m. get nat_cmp m x) groups;
+    seated = λ k. ap (λ m. numbers_in (get group_cmp m k)) seated;
+  };
+  cast = ap cast_now cast;
+}
+
+-- a Leave that changes nothing leaves the cast
+pub left_same : (t : Sender) (o : Outcome) (c : Option CastNow) → changes_nothing o (action.Leave t) ≡ true → cast_left t.end.0 o c ≡ c
+left_same t outcome.Left c h = absurd (false≢true h)
+left_same t (outcome.Clear None) c h = refl
+left_same t (outcome.Clear (Some k)) c h = refl
+left_same t o c h = refl
+
+-- ---- steps that leave the roster
+
+-- the actions that leave the roster as it is
+abbrev pub leaves_roster : Action → Bool
+leaves_roster (action.Agent origin) = false
+leaves_roster (action.Member a name) = false
+leaves_roster (action.Leave s) = false
+leaves_roster (action.Cast e ports body) = false
+leaves_roster (action.Part e) = false
+leaves_roster (action.Channel a) = true
+leaves_roster (action.Client a) = true
+leaves_roster (action.Worker a) = true
+leaves_roster (action.Line e a) = true
+leaves_roster (action.Back s) = true
+leaves_roster (action.Enter s) = true
+leaves_roster (action.Push s ports body) = true
+leaves_roster (action.Notice s) = true
+leaves_roster (action.Hop s) = true
+leaves_roster (action.Start e) = true
+leaves_roster (action.Take e) = true
+leaves_roster (action.Look e) = true
+leaves_roster (action.Adopt e a) = true
+leaves_roster (action.Close e) = true
+leaves_roster (action.Sweep e) = true
+leaves_roster (action.Hand e a) = true
+leaves_roster (action.Order a) = true
+leaves_roster (action.See a) = true
+
+-- what stays of the facts: roster and agents, and which ends are broadcast channels
+record Stays (f g : Facts) : Type 0 where
+  roster : g.roster ≡ f.roster
+  agents : g.agents ≡ f.agents
+  kept : (x : ℕ) (k : Kind) → (f.end x).kind ≡ Some k → (g.end x).kind ≡ Some k
+  old : (x : ℕ) (a : AgentId) → (g.end x).kind ≡ Some (Member a) → (f.end x).kind ≡ Some (Member a)
+
+still : (f g : Facts) → g.roster ≡ f.roster → g.agents ≡ f.agents → ((x : ℕ) → (g.end x).kind ≡ (f.end x).kind) → Stays f g
+still f g roster agents kinds = record { roster = roster; agents = agents; kept = λ x k is. kinds x ∙ is; old = λ x a is. sym (kinds x) ∙ is }
+
+-- an end that isn't the new one
+not_new : (b : Bool) (u : Kind) (p : Option Kind) (a : AgentId) → (Some u ≡ Some (Member a) → ⊥) → cond b (Some u) p ≡ Some (Member a) → p ≡ Some (Member a)
+not_new true u p a other is = absurd (other is)
+not_new false u p a other is = is
+
+stays_by : (f : Facts) {a : Action} (refused : Bool) {o : Outcome} → Sound f → Answers f a refused o → Change a o → leaves_roster a ≡ true → Stays f (next f a o)
+stays_by f refused h fits (agent_made origin n) leaves = absurd (false≢true leaves)
+stays_by f refused h fits (member_joined a name e) leaves = absurd (false≢true leaves)
+stays_by f refused h fits (left s) leaves = absurd (false≢true leaves)
+stays_by f refused h fits (cast_begun e ports body ends) leaves = absurd (false≢true leaves)
+stays_by f refused h fits (member_parted e) leaves = absurd (false≢true leaves)
+stays_by f refused h fits (channel_made c e e') leaves =
+    let made = new_ends f c refused e e' fits in
+    record {
+      roster = refl;
+      agents = refl;
+      kept = λ x k is. let old = old_end f e e' x made.1 made.2 (kind_made f x k h.places is) in rw (old.0, old.1) is;
+      old = λ x a is. not_new (eqb x e'.0) (Port e) (f.end x).kind a (λ no. cc) (not_new (eqb x e.0) (Port e') (cond (eqb x e'.0) (Some (Port e)) (f.end x).kind) a (λ no. cc) is);
+    }
+stays_by f refused h fits (client_made c e) leaves =
+    let made = queue_made_of f is_client c refused e fits in
+    record {
+      roster = refl;
+      agents = refl;
+      kept = λ x k is. rw (old_one f e x made.number (kind_made f x k h.places is)) is;
+      old = λ x a is. not_new (eqb x e.0) Client (f.end x).kind a (λ no. cc) is;
+    }
+stays_by f refused h fits (worker_made c e) leaves =
+    let made = queue_made_of f is_worker c refused e fits in
+    record {
+      roster = refl;
+      agents = refl;
+      kept = λ x k is. rw (old_one f e x made.number (kind_made f x k h.places is)) is;
+      old = λ x a is. not_new (eqb x e.0) Worker (f.end x).kind a (λ no. cc) is;
+    }
+stays_by f refused h fits (line_got e a l) leaves = still f (next f (action.Line e a) (outcome.Line l)) refl refl (λ x. refl)
+stays_by f refused h fits (line_back t) leaves = still f (next f (action.Back t) outcome.Done) refl refl (λ x. refl)
+stays_by f refused h fits (handed e c) leaves = still f (next f (action.Hand e c) outcome.Handed) refl refl (λ x. refl)
+stays_by f refused h fits (agent_ordered a) leaves = still f (next f (action.Order a) outcome.Ordered) refl refl (λ x. refl)
+stays_by f refused h fits (agent_ended a es) leaves = still f (next f (action.See a) (outcome.Ending es)) refl refl (λ x. refl)
+stays_by f refused h fits (let_in t) leaves = still f (next f (action.Enter t) outcome.In) refl refl (λ x. refl)
+stays_by f refused h fits (found_moved t) leaves = still f (next f (action.Enter t) outcome.Moved) refl refl (λ x. refl)
+stays_by f refused h fits (found_closed t) leaves = still f (next f (action.Enter t) outcome.Closed) refl refl (λ x. refl)
+stays_by f refused h fits (put t ports body n) leaves = still f (next f (action.Push t ports body) (outcome.Accepted n)) refl refl (λ x. refl)
+stays_by f refused h fits (notice_put t n) leaves = still f (next f (action.Notice t) (outcome.Accepted n)) refl refl (λ x. refl)
+stays_by f refused h fits (hopped t n) leaves = still f (next f (action.Hop t) (outcome.Hopped n)) refl refl (λ x. refl)
+stays_by f refused h fits (started e) leaves = still f (next f (action.Start e) outcome.Started) refl refl (λ x. refl)
+stays_by f refused h fits (got e v) leaves = still f (next f (action.Take e) (outcome.Got v)) refl refl (λ x. refl)
+stays_by f refused h fits (went_on e) leaves = still f (next f (action.Take e) outcome.Again) refl refl (λ x. refl)
+stays_by f refused h fits (cleared e n) leaves = still f (next f (action.Look e) (outcome.Clear (Some n))) refl refl (λ x. refl)
+stays_by f refused h fits (adopted e a n) leaves = still f (next f (action.Adopt e a) (outcome.Adopted n)) refl refl (λ x. refl)
+stays_by f refused h fits (end_closed e) leaves = still f (next f (action.Close e) outcome.Done) refl refl (λ x. refl)
+stays_by f refused h fits (end_swept e vs) leaves = still f (next f (action.Sweep e) (outcome.Discarded vs)) refl refl (λ x. refl)
+
+stays : (f : Facts) (a : Action) (refused : Bool) (o : Outcome) → Sound f → Answers f a refused o → leaves_roster a ≡ true → Stays f (next f a o)
+stays f a refused o h fits leaves = elim (effect f o a) [
+  | inl same ↦ still f (next f a o) (ap (λ (g : Facts). g.roster) same) (ap (λ (g : Facts). g.agents) same) (λ x. ap (λ (g : Facts). (g.end x).kind) same)
+  | inr change ↦ stays_by f refused h fits change leaves
+]
+
+-- the members where what is said of them stays
+members_still : (f g : Facts) → ((x : ℕ) (k : Kind) → (f.end x).kind ≡ Some k → (g.end x).kind ≡ Some k) → ((x : ℕ) (a : AgentId) → (f.end x).kind ≡ Some (Member a) → g.roster.group x ≡ f.roster.group x) → (ys : List EndId) → AllByRecursion (IsMemberNow f) ys → AllByRecursion (IsMemberNow g) ys
+members_still f g kinds groups [] h = tt
+members_still f g kinds groups (y ∷ ys) h = (
+  record { maker = h.0.maker; kind = kinds y.0 (Member h.0.maker) h.0.kind; group = h.0.group; is = groups y.0 h.0.maker h.0.kind ∙ h.0.is },
+  members_still f g kinds groups ys h.1,
+)
+
+shows_still : (r : Roster) (f g : Facts) → ShowsRoster r f → Stays f g → ShowsRoster r g
+shows_still r f g h s = record {
+  agents = h.agents ∙ sym s.agents;
+  origins = λ a. ap (λ (w : RosterNow). w.origin a) s.roster ∙ h.origins a;
+  groups = λ x a is. ap (λ (w : RosterNow). w.group x) s.roster ∙ h.groups x a (s.old x a is);
+  seated = λ k. h.seated k ∙ ap (λ (w : RosterNow). numbers_with w k w.members) (sym s.roster);
+  each = subst (AllByRecursion (IsMemberNow g)) (ap (λ (w : RosterNow). w.members) (sym s.roster)) (members_still f g s.kept (λ x a _. ap (λ (w : RosterNow). w.group x) s.roster) f.roster.members h.each);
+  cast = ap (λ (w : RosterNow). w.cast) s.roster ∙ h.cast;
+}
+
+pub roster_stays : (r : Roster) (f : Facts) (a : Action) (refused : Bool) (o : Outcome) → Sound f → Answers f a refused o → leaves_roster a ≡ true → ShowsRoster r f → ShowsRoster r (next f a o)
+roster_stays r f a refused o sound fits leaves h = shows_still r f (next f a o) h (stays f a refused o sound fits leaves)
+
+-- ---- an agent more
+
+past_origins : (xs : List (Option (List ℕ))) (o : Option (List ℕ)) (a : ℕ) → length xs ≤ a → (a ≡ length xs → ⊥) → length (xs ++ o ∷ []) ≤ a
+past_origins xs o a from other = let beyond : length xs + 1 ≤ a = next_up (length xs) a from other in simp length-append (omega arith)
+
+origin_more : (xs : List (Option (List ℕ))) (o : Option (List ℕ)) (a : ℕ) → (before same : Bool) → nat_lt a (length xs) ≡ before → eqb a (length xs) ≡ same → cond same o (origin_at (slice_get xs a)) ≡ origin_at (slice_get (xs ++ o ∷ []) a)
+origin_more xs o a before true is here =
+    let at : a ≡ length xs + 0 = eqb-true a (length xs) here ∙ omega arith in
+    ap origin_at (sym (slice_get-append_back xs (o ∷ []) a 0 at))
+origin_more xs o a true false is here = ap origin_at (sym (slice_get-append_front xs (o ∷ []) a (ltb-true a (length xs) is)))
+origin_more xs o a false false is here =
+    let from : length xs ≤ a = ltb-false a (length xs) is in
+    ap origin_at (slice_get_past xs a from ∙ sym (slice_get_past (xs ++ o ∷ []) a (past_origins xs o a from (eqb-false a (length xs) here))))
+
+pub roster_agent : (r s : Roster) (f : Facts) (origin : Option (List ℕ)) (refused : Bool) (o : Outcome) → ShowsRoster r f → Answers f (action.Agent origin) refused o → AgentLeaves origin r o s → ShowsRoster s (next f (action.Agent origin) o)
+roster_agent r s f origin refused (outcome.Agent n) h fits leaves =
+    let number : n.0 ≡ f.agents = new_agent f refused n fits in
+    record {
+      agents = ap length leaves.0 ∙ length-append r.members.origins.items (origin ∷ []) ∙ ap (λ m. m + 1) h.agents;
+      origins = λ a.
+          ap (λ b. cond b origin (f.roster.origin a)) (ap (eqb a) (number ∙ sym h.agents)) ∙ ap (cond (eqb a (length r.members.origins.items)) origin) (h.origins a)
+          ∙ origin_more r.members.origins.items origin a (nat_lt a (length r.members.origins.items)) (eqb a (length r.members.origins.items)) refl refl
+          ∙ ap (λ xs. origin_at (slice_get xs a)) (sym leaves.0);
+      groups = λ x a is. h.groups x a is ∙ ap (λ m. get nat_cmp m x) (sym leaves.1);
+      seated = λ k. ap (λ m. numbers_in (get group_cmp m k)) leaves.2 ∙ h.seated k;
+      each = members_still f (next f (action.Agent origin) (outcome.Agent n)) (λ x k is. is) (λ x a is. refl) f.roster.members h.each;
+      cast = h.cast ∙ sym (ap cast_now leaves.3);
+    }
+roster_agent r s f origin refused (outcome.Clear None) h fits leaves = subst (λ t. ShowsRoster t f) (sym leaves) h
+roster_agent r s f origin refused (outcome.Clear (Some k)) h fits leaves = subst (λ t. ShowsRoster t f) (sym leaves) h
+roster_agent r s f origin refused o h fits leaves = subst (λ t. ShowsRoster t f) (sym leaves) h
+
+-- ---- another cast
+
+-- the same members, and another cast
+recast : (r s : Roster) (f g : Facts) → ShowsRoster r f → s.members ≡ r.members → g.agents ≡ f.agents → ((x : ℕ) → (g.end x).kind ≡ (f.end x).kind) → g.roster ≡ record f.roster { cast = g.roster.cast } → g.roster.cast ≡ cast_now s.cast → ShowsRoster s g
+recast r s f g h same agents kinds roster cast = record {
+  agents = ap (λ (m : Members). length m.origins.items) same ∙ h.agents ∙ sym agents;
+  origins = λ a. ap (λ (w : RosterNow). w.origin a) roster ∙ h.origins a ∙ ap (λ (m : Members). origin_at (slice_get m.origins.items a)) (sym same);
+  groups = λ x a is. ap (λ (w : RosterNow). w.group x) roster ∙ h.groups x a (sym (kinds x) ∙ is) ∙ ap (λ (m : Members). group_of m x) (sym same);
+  seated = λ k. ap (λ (m : Members). numbers_of m k) same ∙ h.seated k ∙ ap (λ (w : RosterNow). numbers_with w k w.members) (sym roster);
+  each = subst (AllByRecursion (IsMemberNow g)) (ap (λ (w : RosterNow). w.members) (sym roster)) (members_still f g (λ x k is. kinds x ∙ is) (λ x a _. ap (λ (w : RosterNow). w.group x) roster) f.roster.members h.each);
+  cast = cast;
+}
+
+pub roster_leave : (r s : Roster) (f : Facts) (t : Sender) (o : Outcome) → ShowsRoster r f → s.members ≡ r.members → cast_now s.cast ≡ cast_left t.end.0 o (cast_now r.cast) → ShowsRoster s (next f (action.Leave t) o)
+roster_leave r s f t outcome.Left h same cast = recast r s f (next f (action.Leave t) outcome.Left) h same refl (λ x. refl) refl (ap (cast_after t.end.0) h.cast ∙ sym cast)
+roster_leave r s f t (outcome.Clear None) h same cast = recast r s f f h same refl (λ x. refl) refl (h.cast ∙ sym cast)
+roster_leave r s f t (outcome.Clear (Some k)) h same cast = recast r s f f h same refl (λ x. refl) refl (h.cast ∙ sym cast)
+roster_leave r s f t o h same cast = recast r s f f h same refl (λ x. refl) refl (h.cast ∙ sym cast)
+
+pub roster_cast : (r s : Roster) (f : Facts) (e : EndId) (ports : Vec EndId Global) (body : List ℕ) (o : Outcome) → ShowsRoster r f → CastLeaves e body r o s → ShowsRoster s (next f (action.Cast e ports body) o)
+roster_cast r s f e ports body (outcome.Destinations ends) h leaves = recast r s f (next f (action.Cast e ports body) (outcome.Destinations ends)) h leaves.0 refl (λ x. refl) refl (sym leaves.1)
+roster_cast r s f e ports body (outcome.Clear None) h leaves = subst (λ t. ShowsRoster t f) (sym leaves) h
+roster_cast r s f e ports body (outcome.Clear (Some k)) h leaves = subst (λ t. ShowsRoster t f) (sym leaves) h
+roster_cast r s f e ports body o h leaves = subst (λ t. ShowsRoster t f) (sym leaves) h
+
+-- ---- a member more
+
+-- the members are below the number of a new end
+below_new : (f : Facts) → SoundPlaces f → (ys : List EndId) → AllByRecursion (IsMemberNow f) ys → AllByRecursion (λ (y : EndId). y.0 < f.ends) ys
+below_new f h [] each = tt
+below_new f h (y ∷ ys) each = (kind_made f y.0 (Member each.0.maker) h each.0.kind, below_new f h ys each.1)
+
+same_groups : (f g : Facts) (n : ℕ) → ((x : ℕ) → x < n → g.roster.group x ≡ f.roster.group x) → (ys : List EndId) → AllByRecursion (λ (y : EndId). y.0 < n) ys → AllByRecursion (λ (y : EndId). g.roster.group y.0 ≡ f.roster.group y.0) ys
+same_groups f g n same [] low = tt
+same_groups f g n same (y ∷ ys) low = (same y.0 low.0, same_groups f g n same ys low.1)
+
+insert_new : (b : Bool) (numbers with_them : List ℕ) (n : ℕ) → numbers ≡ with_them → AllByRecursion (λ x. x < n) with_them → cond b (insert_key nat_cmp numbers n) numbers ≡ with_them ++ cond b (n ∷ []) []
+insert_new true numbers with_them n same low = ap (λ ns. insert_key nat_cmp ns n) same ∙ insert_last with_them n low
+insert_new false numbers with_them n same low = same ∙ sym (append-nil with_them)
+
+eqb-flips : (a b : ℕ) → eqb a b ≡ eqb b a
+eqb-flips a b = grind (arith, nat_tests)
+
+module _ (r s : Roster) (f : Facts) (a : AgentId) (name : List ℕ) (refused : Bool) (e : EndId) (sound : Sound f) (h : ShowsRoster r f) (fits : Answers f (action.Member a name) refused (outcome.End e)) where
+  member_joins : (q : Option Group) → group_named (f.roster.origin a.0) name ≡ q → JoinsGroup e.0 q r.members s.members → s.cast ≡ r.cast → ShowsRoster s (next f (action.Member a name) (outcome.End e))
+  member_joins None named joins cast = absurd joins
+  member_joins (Some k) named joins cast =
+      let made = member_made_of f a refused e fits in
+      let first : e.0 ≡ f.ends = ap (λ (d : EndId). d.0) made.number in
+      let low = below_new f sound.places f.roster.members h.each in
+      let lower : AllByRecursion (λ (y : EndId). y.0 < e.0) f.roster.members = subst (λ n. AllByRecursion (λ (y : EndId). y.0 < n) f.roster.members) (sym first) low in
+      let after : Facts = next f (action.Member a name) (outcome.End e) in
+      let old : (x : ℕ) → x < e.0 → after.roster.group x ≡ f.roster.group x = λ x less. ap (λ b. cond b (group_named (f.roster.origin a.0) name) (f.roster.group x)) (ne_eqb x e.0 (λ same. omega arith)) in
+      let here : after.roster.group e.0 ≡ Some k = ap (λ b. cond b (group_named (f.roster.origin a.0) name) (f.roster.group e.0)) (eqb_same e.0) ∙ named in
+      record {
+        agents = ap length joins.origins ∙ h.agents;
+        origins = λ b. h.origins b ∙ ap (λ xs. origin_at (slice_get xs b)) (sym joins.origins);
+        groups = λ x b is. elim (eqb x e.0) as (λ c. eqb x e.0 ≡ c → cond c (Some (Member a)) (f.end x).kind ≡ Some (Member b) → cond c (group_named (f.roster.origin a.0) name) (f.roster.group x) ≡ group_of s.members x) [
+          | true ↦ λ same _. named ∙ sym (joins.groups x ∙ ap (λ c. cond c (Some k) (group_of r.members x)) (eqb-flips e.0 x ∙ same))
+          | false ↦ λ other kind. h.groups x b kind ∙ sym (joins.groups x ∙ ap (λ c. cond c (Some k) (group_of r.members x)) (eqb-flips e.0 x ∙ other))
+        ] refl is;
+        seated = λ u.
+            joins.seated u ∙ insert_new (is_same_group k u) (numbers_of r.members u) (numbers_with f.roster u f.roster.members) e.0 (h.seated u) (numbers_below f.roster u e.0 f.roster.members lower)
+            ∙ ap (λ ns. ns ++ cond (is_same_group k u) (e.0 ∷ []) []) (sym (numbers_same f.roster after.roster u f.roster.members (same_groups f after e.0 old f.roster.members lower)))
+            ∙ ap (λ b. numbers_with after.roster u f.roster.members ++ cond b (e.0 ∷ []) []) (group_flips k u ∙ ap (is_of_group u) (sym here))
+            ∙ sym (numbers_more after.roster u f.roster.members e);
+        each = all_more (IsMemberNow after) f.roster.members e
+            (members_still f after (λ x u is. rw (old_one f e x made.number (kind_made f x u sound.places is)) is) (λ x b is. old x (let less : x < f.ends = kind_made f x (Member b) sound.places is in omega arith)) f.roster.members h.each)
+            (record { maker = a; kind = ap (λ c. cond c (Some (Member a)) (f.end e.0).kind) (eqb_same e.0); group = k; is = here });
+        cast = h.cast ∙ sym (ap cast_now cast);
+      }
+
+pub roster_member : (r s : Roster) (f : Facts) (a : AgentId) (name : List ℕ) (refused : Bool) (o : Outcome) → Sound f → ShowsRoster r f → Answers f (action.Member a name) refused o → MemberLeaves a.0 name r o s → ShowsRoster s (next f (action.Member a name) o)
+roster_member r s f a name refused (outcome.End e) sound h fits leaves =
+    member_joins r s f a name refused e sound h fits (group_named (origin_at (slice_get r.members.origins.items a.0)) name) (ap (λ q. group_named q name) (h.origins a.0)) leaves.0 leaves.1
+roster_member r s f a name refused (outcome.Clear None) sound h fits leaves = subst (λ t. ShowsRoster t f) (sym leaves) h
+roster_member r s f a name refused (outcome.Clear (Some k)) sound h fits leaves = subst (λ t. ShowsRoster t f) (sym leaves) h
+roster_member r s f a name refused o sound h fits leaves = subst (λ t. ShowsRoster t f) (sym leaves) h
+
+-- ---- who has a seat
+
+-- whether a member has its seat is what the facts say
+pub seated_kept : (r : Roster) (f : Facts) (x : ℕ) → ShowsRoster r f → is_seated_in r.members x (group_of r.members x) ≡ has_end x f.roster.members
+seated_kept r f x h = elim (has_end x f.roster.members) as (λ b. has_end x f.roster.members ≡ b → is_seated_in r.members x (group_of r.members x) ≡ b) [
+  | true ↦ λ there.
+      let at = all_at (IsMemberNow f) x f.roster.members h.each there in
+      ap (is_seated_in r.members x) (sym (h.groups x at.maker at.kind) ∙ at.is) ∙ ap (is_in x) (h.seated at.group) ∙ is_in_with f.roster at.group x f.roster.members
+      ∙ ap (λ c. c && is_of_group at.group (f.roster.group x)) there ∙ ap (is_of_group at.group) at.is ∙ group_same at.group
+  | false ↦ λ none. never_seated none (group_of r.members x)
+] refl
+  where
+    never_seated : has_end x f.roster.members ≡ false → (o : Option Group) → is_seated_in r.members x o ≡ false
+    never_seated none None = refl
+    never_seated none (Some g) = ap (is_in x) (h.seated g) ∙ is_in_with f.roster g x f.roster.members ∙ ap (λ c. c && is_of_group g (f.roster.group x)) none
+
+destinations_by : (r : Roster) (f : Facts) (x : ℕ) → ShowsRoster r f → (o : Option Group) → map (λ n. let e : EndId = record { 0 = n } in e) (others_of r.members x o) ≡ destinations_of f x o
+destinations_by r f x h None = refl
+destinations_by r f x h (Some g) = ap (λ ns. map (λ n. let e : EndId = record { 0 = n } in e) (filter (λ n. not (n == x)) ns)) (h.seated g) ∙ others_with f.roster g x f.roster.members
+
+pub destinations_kept : (r : Roster) (f : Facts) (x : ℕ) (a : AgentId) → ShowsRoster r f → (f.end x).kind ≡ Some (Member a) → kept_destinations r.members x ≡ destinations f x
+destinations_kept r f x a h kind = destinations_by r f x h (group_of r.members x) ∙ ap (destinations_of f x) (sym (h.groups x a kind))
+
+-- ---- a member less
+
+pub roster_part : (r s : Roster) (f : Facts) (e : EndId) (o : Outcome) → ShowsRoster r f → o ≡ part_answer f e → PartLeaves e.0 r o s → ShowsRoster s (next f (action.Part e) o)
+roster_part r s f e outcome.Done h fits leaves =
+    let there : has_end e.0 f.roster.members ≡ true = parts_when (has_end e.0 f.roster.members) (is_casting f) fits in
+    let at = all_at (IsMemberNow f) e.0 f.roster.members h.each there in
+    let after : Facts = next f (action.Part e) outcome.Done in
+    let group : group_of r.members e.0 ≡ Some at.group = sym (h.groups e.0 at.maker at.kind) ∙ at.is in
+    record {
+      agents = ap length leaves.0.origins ∙ h.agents;
+      origins = λ b. h.origins b ∙ ap (λ xs. origin_at (slice_get xs b)) (sym leaves.0.origins);
+      groups = λ x a is. h.groups x a is ∙ ap (λ m. get nat_cmp m x) (sym leaves.0.groups);
+      seated = λ k.
+          leaves.0.seated k ∙ ap (λ q. parted e.0 q k (numbers_of r.members k)) group ∙ ap (λ ns. cond (is_same_group at.group k) (seated_without e.0 ns) ns) (h.seated k)
+          ∙ ap (λ b. cond b (seated_without e.0 (numbers_with f.roster k f.roster.members)) (numbers_with f.roster k f.roster.members)) (group_flips at.group k ∙ ap (is_of_group k) (sym at.is))
+          ∙ sym (numbers_less f.roster k e.0 f.roster.members);
+      each = all_without (IsMemberNow after) e.0 f.roster.members (members_still f after (λ x k is. is) (λ x a is. refl) f.roster.members h.each);
+      cast = h.cast ∙ sym (ap cast_now leaves.1);
+    }
+  where
+    parts_when : (there casting : Bool) → outcome.Done ≡ cond (there && not casting) outcome.Done outcome.NotNow → there ≡ true
+    parts_when true casting is = refl
+    parts_when false casting is = cc
+roster_part r s f e (outcome.Clear None) h fits leaves = subst (λ t. ShowsRoster t f) (sym leaves) h
+roster_part r s f e (outcome.Clear (Some k)) h fits leaves = subst (λ t. ShowsRoster t f) (sym leaves) h
+roster_part r s f e o h fits leaves = subst (λ t. ShowsRoster t f) (sym leaves) h

@@ -1,0 +1,9 @@
+use Rattle.std.proofs.Common.{◌≡◌, ◌++◌, ℕ, not, map}
+use Rattle.std.specs.Prelude.{◌==◌}
+use Rattle.std.specs.List.{filter}
+use Rattle.hub_core.specs.KeptRoster.{kept_destinations}
+use Rattle.hub_core.proofs.members.Members.others.Given as goal
+
+-- those that were found, and those that are still to be gone through, are the others
+abbrev pub invariant-loop-other : goal.invariant-loop-other
+invariant-loop-other l = l.others.items ++ map (λ n. record { 0 = n }) (filter (λ x. not (x == l.number)) l.other-iterator) ≡ kept_destinations l.initial.self l.number

@@ -1,0 +1,50 @@
+-- What the steps of broadcast channels are answered (WHATWG HTML, "Broadcasting to other browsing contexts", the steps of
+-- `new BroadcastChannel(name)`, `postMessage(message)` and `close()`).
+use Rattle.std.specs.Prelude.{ℕ, ◌==◌, ◌&&◌, if◌then◌else◌, nat_le, not, is_some, Bool, true, false, List, [], ◌∷◌, Option, Some, None}
+use Rattle.std.specs.List.{filter}
+use Rattle.hub_envelope.specs.declared.ids.AgentId.{AgentId}
+use Rattle.hub_envelope.specs.declared.ids.EndId.{EndId}
+use Rattle.hub_core.specs.declared.limits.TheConstants.{MAX_ENDS}
+use Rattle.hub_core.specs.declared.group.Group.{Group}
+use Rattle.hub_core.specs.declared.outcome.Outcome.{Outcome}
+use Rattle.hub_core.specs.declared.outcome.Outcome.TheVariants as outcome
+use Rattle.hub_core.specs.Facts.{Facts}
+use Rattle.hub_core.specs.Made.{maker_of}
+use Rattle.hub_core.specs.Roster.{has_end, is_of_group}
+use Rattle.hub_core.specs.Posting.{holder, is_empty}
+
+-- whether a cast has destinations left
+abbrev pub is_casting : Facts → Bool
+is_casting f = is_some f.roster.cast
+
+-- A Member tests that its agent runs and no cast has destinations left, that the agent has an origin, then the limit, then
+-- memory.
+abbrev pub member_answer : Facts → AgentId → Bool → Outcome
+member_answer f a refused =
+    if not ((f.agent a.0).runs && not (is_casting f)) then outcome.NotNow
+    else (if not (is_some (f.roster.origin a.0)) then outcome.NoOrigin
+    else (if nat_le MAX_ENDS f.ends then outcome.TooManyEnds
+    else (if refused then outcome.NoMemory
+    else outcome.End (record { 0 = f.ends }))))
+
+abbrev pub destinations_of : Facts → ℕ → Option Group → List EndId
+destinations_of f x None = []
+destinations_of f x (Some g) = filter (λ y. is_of_group g (f.roster.group y.0) && not (y.0 == x)) f.roster.members
+
+-- the members of the end's origin and name but the end, in the order in which they joined, closed ones among them
+abbrev pub destinations : Facts → ℕ → List EndId
+destinations f x = destinations_of f x (f.roster.group x)
+
+-- A Cast tests that the end is a broadcast channel and no cast has destinations left; that it hasn't parted and isn't
+-- closed; that a running agent has it; and that no ports are listed.
+abbrev pub cast_answer : Facts → EndId → List EndId → Outcome
+cast_answer f e ports =
+    if not (is_some (maker_of (f.end e.0).kind) && not (is_casting f)) then outcome.NotNow
+    else (if not (has_end e.0 f.roster.members && not (f.end e.0).closed) then outcome.InvalidState
+    else (if not (is_some (holder f e.0)) then outcome.NotNow
+    else (if not (is_empty ports) then outcome.NotTransferable
+    else outcome.Destinations (destinations f e.0))))
+
+-- A Part tests that the end is a member, and that no cast has destinations left.
+abbrev pub part_answer : Facts → EndId → Outcome
+part_answer f e = if has_end e.0 f.roster.members && not (is_casting f) then outcome.Done else outcome.NotNow

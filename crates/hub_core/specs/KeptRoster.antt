@@ -1,0 +1,149 @@
+-- For private clauses: what the core keeps of the roster.
+use Rattle.std.specs.Prelude.{◌≡◌, ℕ, ◌&&◌, ◌==◌, ◌<◌, Bool, true, false, List, [], ◌∷◌, ◌++◌, Option, Some, None, cond, if◌then◌else◌}
+use Rattle.std.specs.Ordering.{nat_cmp, ordering_then}
+use Rattle.std.specs.Cmp.Lexicographic.{slice_cmp}
+use Rattle.std.specs.declared.cmp.Ordering.{Ordering}
+use Rattle.std.specs.Prelude.{bytes_eq}
+use Rattle.std.specs.BTreeMap.{BTreeMap, get}
+use Rattle.std.specs.BTreeSet.{BTreeSet, insert_key}
+use Rattle.std.specs.List.{filter, list_any}
+use Rattle.std.specs.Prelude.{not, map, is_some, slice_get}
+use Rattle.hub_core.specs.declared.group.Group.{Group}
+use Rattle.hub_core.specs.declared.members.Members.{Members}
+use Rattle.hub_core.specs.declared.roster.Cast.{Cast}
+use Rattle.hub_core.specs.declared.roster.Roster.{Roster}
+use Rattle.hub_envelope.specs.declared.ids.EndId.{EndId}
+use Rattle.hub_core.specs.Roster.{CastNow, RosterNow, is_same_group, is_of_group, is_first, group_named, cast_to, cast_after}
+use Rattle.hub_core.specs.declared.outcome.Outcome.{Outcome}
+use Rattle.hub_core.specs.declared.outcome.Outcome.TheVariants as outcome
+
+-- by origin, then by name
+abbrev pub group_cmp : Group → Group → Ordering
+group_cmp x y = ordering_then (slice_cmp nat_cmp x.origin y.origin) (slice_cmp nat_cmp x.name y.name)
+
+abbrev pub numbers_in : Option (BTreeSet ℕ) → List ℕ
+numbers_in None = []
+numbers_in (Some s) = s.keys
+
+abbrev pub numbers_of : Members → Group → List ℕ
+numbers_of m k = numbers_in (get group_cmp m.seated k)
+
+abbrev pub group_of : Members → ℕ → Option Group
+group_of m x = get nat_cmp m.groups x
+
+abbrev pub seated_with : Group → ℕ → Group → List ℕ → List ℕ
+seated_with g n k numbers = if is_same_group g k then insert_key nat_cmp numbers n else numbers
+
+-- the numbers without the first that is this one
+abbrev pub seated_without : ℕ → List ℕ → List ℕ
+seated_without n [] = []
+seated_without n (x ∷ xs) = if n == x then xs else x ∷ seated_without n xs
+
+abbrev pub is_in : ℕ → List ℕ → Bool
+is_in n xs = list_any (λ x. n == x) xs
+
+-- whether a member of this group has its seat
+abbrev pub is_seated_in : Members → ℕ → Option Group → Bool
+is_seated_in m n None = false
+is_seated_in m n (Some g) = is_in n (numbers_of m g)
+
+-- an end has joined a group
+pub record Joins (n : ℕ) (g : Group) (old new : Members) : Type 0 where
+  pub origins : new.origins.items ≡ old.origins.items
+  pub groups : (x : ℕ) → group_of new x ≡ (if n == x then Some g else group_of old x)
+  pub seated : (k : Group) → numbers_of new k ≡ seated_with g n k (numbers_of old k)
+
+-- the same members, among the ends below a number
+pub record SameMembers (n : ℕ) (old new : Members) : Type 0 where
+  pub origins : new.origins.items ≡ old.origins.items
+  pub groups : (x : ℕ) → x < n → group_of new x ≡ group_of old x
+  pub seated : (k : Group) → numbers_of new k ≡ numbers_of old k
+
+-- the numbers of the group without those that have parted
+abbrev pub parted : ℕ → Option Group → Group → List ℕ → List ℕ
+parted n None k numbers = numbers
+parted n (Some g) k numbers = if is_same_group g k then seated_without n numbers else numbers
+
+pub record Parts (n : ℕ) (old new : Members) : Type 0 where
+  pub origins : new.origins.items ≡ old.origins.items
+  pub groups : new.groups ≡ old.groups
+  pub seated : (k : Group) → numbers_of new k ≡ parted n (group_of old n) k (numbers_of old k)
+
+-- the other members of the end's group that have their seats
+abbrev pub others_of : Members → ℕ → Option Group → List ℕ
+others_of m n None = []
+others_of m n (Some g) = filter (λ x. not (x == n)) (numbers_of m g)
+
+-- the origin that is kept of an agent
+abbrev pub origin_at : Option (Option (List ℕ)) → Option (List ℕ)
+origin_at None = None
+origin_at (Some o) = o
+
+-- the cast that is kept
+abbrev pub cast_now : Option Cast → Option CastNow
+cast_now None = None
+cast_now (Some c) = Some (record { source = c.source; body = c.body; left = c.left })
+
+-- the numbers of those of the ends that are of the group
+abbrev pub numbers_with : RosterNow → Group → List EndId → List ℕ
+numbers_with r k ends = map (λ y. y.0) (filter (λ y. is_of_group k (r.group y.0)) ends)
+
+-- the source of a cast that goes to the end next
+abbrev pub source_for : Option CastNow → ℕ → Option EndId
+source_for None x = None
+source_for (Some c) x = if is_first x c.left then Some c.source else None
+
+abbrev pub has_body : List ℕ → Option CastNow → Bool
+has_body body None = false
+has_body body (Some c) = bytes_eq body c.body
+
+-- the same roster, among the ends below a number
+pub record SameRoster (n : ℕ) (old new : Roster) : Type 0 where
+  pub members : SameMembers n old.members new.members
+  pub cast : cast_now new.cast ≡ cast_now old.cast
+
+abbrev pub is_none : List EndId → Bool
+is_none [] = true
+is_none (y ∷ ys) = false
+
+-- the destinations of a cast of the end
+abbrev pub kept_destinations : Members → ℕ → List EndId
+kept_destinations m x = map (λ n. record { 0 = n }) (others_of m x (group_of m x))
+
+-- a roster with no agent, no member and no cast
+pub record IsFirst (r : Roster) : Type 0 where
+  pub origins : r.members.origins.items ≡ []
+  pub seated : (k : Group) → numbers_of r.members k ≡ []
+  pub cast : r.cast ≡ None
+
+abbrev pub JoinsGroup : ℕ → Option Group → Members → Members → Type 0
+JoinsGroup n None old new = ⊥
+JoinsGroup n (Some g) old new = Joins n g old new
+
+-- the roster after the agent made a channel of this name, or no change
+abbrev pub MemberLeaves : ℕ → List ℕ → Roster → Outcome → Roster → Type 0
+MemberLeaves a name old (outcome.End e) new =
+    JoinsGroup e.0 (group_named (origin_at (slice_get old.members.origins.items a)) name) old.members new.members × (new.cast ≡ old.cast)
+MemberLeaves a name old _ new = new ≡ old
+
+-- the roster after a cast, or no change
+abbrev pub CastLeaves : EndId → List ℕ → Roster → Outcome → Roster → Type 0
+CastLeaves e body old (outcome.Destinations ends) new = (new.members ≡ old.members) × (cast_now new.cast ≡ cast_to e body ends)
+CastLeaves e body old _ new = new ≡ old
+
+-- the roster after a member parted, or no change
+abbrev pub PartLeaves : ℕ → Roster → Outcome → Roster → Type 0
+PartLeaves x old outcome.Done new = Parts x old.members new.members × (new.cast ≡ old.cast)
+PartLeaves x old _ new = new ≡ old
+
+-- the roster after an agent of this origin was made, or no change
+abbrev pub AgentLeaves : Option (List ℕ) → Roster → Outcome → Roster → Type 0
+AgentLeaves origin old (outcome.Agent a) new =
+    (new.members.origins.items ≡ old.members.origins.items ++ origin ∷ []) × (new.members.groups ≡ old.members.groups)
+    × (new.members.seated ≡ old.members.seated) × (new.cast ≡ old.cast)
+AgentLeaves origin old _ new = new ≡ old
+
+-- the cast after a Leave of a line of this end got its answer
+abbrev pub cast_left : ℕ → Outcome → Option CastNow → Option CastNow
+cast_left x outcome.Left c = cast_after x c
+cast_left x _ c = c

@@ -1,0 +1,131 @@
+ghost use Rattle.std.specs.Prelude.{◌≡◌, ◌++◌, ◌∷◌, ◌&&◌, [], length, not, is_some, slice_get, IfOk, OnOk, OnErr};
+ghost use Rattle.hub_core.specs.Kept.{kept_running, kept_holder, kept_member_answer, kept_maker, is_kept_open, kept_cast_answer, member_made, part_outcome};
+ghost use Rattle.hub_core.specs.KeptRoster.{cast_now, origin_at, group_of, is_seated_in, kept_destinations, MemberLeaves, CastLeaves, PartLeaves, SameRoster};
+ghost use Rattle.hub_core.specs.Posting.{is_empty};
+
+use crate::end::End;
+use crate::end_ids::EndIds;
+use crate::kind::Kind;
+use crate::limits::MAX_ENDS;
+use crate::machine::Core;
+use crate::outcome::Outcome;
+use crate::roster::Destinations;
+use crate::text::Text;
+use hub_envelope::{AgentId, Body, EndId, OutOfMemory};
+
+impl Core {
+    /// The agent makes a broadcast channel of this name.
+    pub(crate) fn make_member(
+        &mut self,
+        agent: AgentId,
+        name: Text,
+        memory_refused: bool,
+    ) -> Result<Outcome, OutOfMemory>
+        ensures outcome { let origin = origin_at
+            (slice_get self.old.roster.members.origins.items agent.0) in
+            let casting = is_some (cast_now self.old.roster.cast) in
+            let may = kept_running self.old.agents.items agent.0 && not casting in
+            let count = length self.old.ends.items in
+            IfOk result (λ o. o ≡ kept_member_answer may (is_some origin) count memory_refused) }
+        ensures ends { IfOk result (λ o. self.new.ends.items
+            ≡ member_made agent self.old.ends.items o) }
+        ensures roster { IfOk result (λ o. MemberLeaves agent.0 name self.old.roster o
+            self.new.roster) }
+        ensures err_ends { OnErr result (self.new.ends.items ≡ self.old.ends.items) }
+        ensures err_roster { let count = length self.old.ends.items in
+            OnErr result (SameRoster count self.old.roster self.new.roster) }
+        ensures agents { self.new.agents ≡ self.old.agents }
+    {
+        if !self.is_running(agent) || self.roster.is_casting() {
+            return Ok(Outcome::NotNow);
+        }
+        let number = self.ends.len();
+        let Some(group) = self.roster.members.group_named(agent, name)? else {
+            return Ok(Outcome::NoOrigin);
+        };
+        if number >= MAX_ENDS {
+            return Ok(Outcome::TooManyEnds);
+        }
+        if memory_refused {
+            return Ok(Outcome::NoMemory);
+        }
+        let end = End::new(self.alloc, agent, Kind::Member(agent))?;
+        self.ends.reserve(1)?;
+        self.roster.members.join(self.alloc, number as u32, group)?;
+        self.ends.push(end).unwrap();
+        Ok(Outcome::End(EndId(number as u32)))
+    }
+
+    /// A member casts a body to the others of its origin and name.
+    pub(crate) fn cast(
+        &mut self,
+        end: EndId,
+        ports: Vec<EndId>,
+        body: Body,
+    ) -> Result<Outcome, OutOfMemory>
+        ensures outcome { let ends = self.old.ends.items in
+            let members = self.old.roster.members in
+            let found = slice_get ends end.0 in
+            let casting = is_some (cast_now self.old.roster.cast) in
+            let may = is_some (kept_maker found) && not casting in
+            let seated = is_seated_in members end.0 (group_of members end.0) in
+            let holder = kept_holder self.old.agents.items ends end.0 in
+            let others = kept_destinations members end.0 in
+            IfOk result (λ o. o ≡ kept_cast_answer may (seated && is_kept_open found) holder
+            (is_empty ports.items) others) }
+        ensures roster { IfOk result (λ o. CastLeaves end body self.old.roster o self.new.roster) }
+        ensures err { OnErr result (self.new.roster ≡ self.old.roster) }
+        ensures ends { self.new.ends ≡ self.old.ends }
+        ensures agents { self.new.agents ≡ self.old.agents }
+    {
+        if self.maker_of(end).is_none() || self.roster.is_casting() {
+            return Ok(Outcome::NotNow);
+        }
+        if !self.roster.members.has(end.0) || !self.is_open(end) {
+            return Ok(Outcome::InvalidState);
+        }
+        if self.running_holder(end).is_none() {
+            return Ok(Outcome::NotNow);
+        }
+        if !ports.is_empty() {
+            return Ok(Outcome::NotTransferable);
+        }
+        let ends = self.roster.members.others(self.alloc, end.0)?;
+        let left = Destinations::of(self.alloc, &ends)?;
+        self.roster.begin(end, body, left);
+        Ok(Outcome::Destinations(EndIds { ends }))
+    }
+
+    /// The agent that made a broadcast channel.
+    pub(crate) fn maker_of(&self, end: EndId) -> Option<AgentId>
+        ensures { result ≡ kept_maker (slice_get self.now.ends.items end.0) }
+    {
+        self.ends.get(end.0 as usize)?.kind.maker()
+    }
+
+    fn is_open(&self, end: EndId) -> bool
+        ensures { result ≡ is_kept_open (slice_get self.now.ends.items end.0) }
+    {
+        match self.ends.get(end.0 as usize) {
+            Some(end) => !end.is_closed,
+            None => false,
+        }
+    }
+
+    /// A member leaves the roster.
+    pub(crate) fn part(&mut self, end: EndId) -> Outcome
+        ensures outcome { let members = self.old.roster.members in
+            let casting = is_some (cast_now self.old.roster.cast) in
+            let seated = is_seated_in members end.0 (group_of members end.0) in
+            result ≡ part_outcome (seated && not casting) }
+        ensures roster { PartLeaves end.0 self.old.roster result self.new.roster }
+        ensures ends { self.new.ends ≡ self.old.ends }
+        ensures agents { self.new.agents ≡ self.old.agents }
+    {
+        if self.roster.is_casting() || !self.roster.members.has(end.0) {
+            return Outcome::NotNow;
+        }
+        self.roster.members.part(end.0);
+        Outcome::Done
+    }
+}

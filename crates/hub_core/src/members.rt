@@ -1,0 +1,149 @@
+ghost use Rattle.std.specs.Prelude.{◌≡◌, ◌++◌, ◌∷◌, ◌<◌, ◌==◌, ℕ, [], if◌then◌else◌, map, not, slice_get, option_map, IfOk, OnOk, OnErr};
+ghost use Rattle.std.specs.BTreeMap.{get};
+ghost use Rattle.std.specs.Ordering.{nat_cmp};
+ghost use Rattle.hub_core.specs.KeptRoster.{group_cmp, numbers_of, numbers_in, seated_with, group_of, is_seated_in, kept_destinations, origin_at, Joins, SameMembers, Parts};
+ghost use Rattle.hub_core.specs.Roster.{group_named};
+ghost use Rattle.hub_core.specs.declared.group.Group.{Group as GroupValue};
+
+use crate::group::Group;
+use crate::text::Text;
+use hub_envelope::{AgentId, EndId, OutOfMemory};
+use std::alloc::Global;
+use std::collections::{BTreeMap, BTreeSet};
+
+/// The members of the roster.
+#[derive(Drop)]
+pub struct Members {
+    /// The origin of each agent.
+    pub(crate) origins: Vec<Option<Text>>,
+    /// The group of each member, by the number of its end; of those that have parted too.
+    groups: BTreeMap<u32, Group>,
+    /// The members of each group that haven't parted, by the numbers of their ends.
+    seated: BTreeMap<Group, BTreeSet<u32>>,
+}
+
+impl Members {
+    pub(crate) fn new(alloc: Global) -> Members
+        ensures origins { result.origins.items ≡ [] }
+        ensures seated { (k : GroupValue) → numbers_of result k ≡ [] }
+    {
+        Members {
+            origins: Vec::new(alloc),
+            groups: BTreeMap::new(alloc),
+            seated: BTreeMap::new(alloc),
+        }
+    }
+
+    /// One more agent, of this origin or of none.
+    pub(crate) fn enrol(&mut self, origin: Option<Text>) -> Result<(), OutOfMemory>
+        ensures ok { OnOk result (self.new.origins.items ≡ self.old.origins.items ++ origin ∷ []) }
+        ensures err { OnErr result (self.new.origins.items ≡ self.old.origins.items) }
+        ensures groups { self.new.groups ≡ self.old.groups }
+        ensures seated { self.new.seated ≡ self.old.seated }
+    {
+        self.origins.push(origin)?;
+        Ok(())
+    }
+
+    /// The group of the agent's channels of a name; `None` where the agent has no origin.
+    pub(crate) fn group_named(
+        &self,
+        agent: AgentId,
+        name: Text,
+    ) -> Result<Option<Group>, OutOfMemory>
+        ensures { let origin = origin_at (slice_get self.now.origins.items agent.0) in
+            IfOk result (λ group. group ≡ group_named origin name) }
+    {
+        match self.origins.get(agent.0 as usize) {
+            Some(Some(origin)) => {
+                let origin = origin.clone()?;
+                Ok(Some(Group { origin, name }))
+            }
+            _ => Ok(None),
+        }
+    }
+
+    /// The end joins a group, of which it has the greatest number.
+    pub(crate) fn join(
+        &mut self,
+        alloc: Global,
+        number: u32,
+        group: Group,
+    ) -> Result<(), OutOfMemory>
+        ensures ok { OnOk result (Joins number group self.old self.new) }
+        ensures err { OnErr result (SameMembers number self.old self.new) }
+    {
+        self.groups.insert(number, group.clone()?)?;
+        let seated = seat(alloc, &mut self.seated, number, group);
+        if seated.is_err() {
+            self.groups.remove(&number);
+        }
+        seated
+    }
+
+    /// The member parts, where it hasn't.
+    pub(crate) fn part(&mut self, number: u32)
+        ensures { Parts number self.old self.new }
+    {
+        let Some(group) = self.groups.get(&number) else {
+            return;
+        };
+        if let Some(numbers) = self.seated.get_mut(group) {
+            numbers.remove(&number);
+        }
+    }
+
+    /// Whether a member hasn't parted.
+    pub(crate) fn has(&self, number: u32) -> bool
+        ensures { result ≡ is_seated_in self.now number (group_of self.now number) }
+    {
+        let Some(group) = self.groups.get(&number) else {
+            return false;
+        };
+        match self.seated.get(group) {
+            Some(numbers) => numbers.contains(&number),
+            None => false,
+        }
+    }
+
+    /// The other members of a member's group that haven't parted, in rising order.
+    pub(crate) fn others(&self, alloc: Global, number: u32) -> Result<Vec<EndId>, OutOfMemory>
+        ensures { IfOk result (λ found. found.items ≡ kept_destinations self.now number) }
+    {
+        let mut others = Vec::new(alloc);
+        let Some(group) = self.groups.get(&number) else {
+            return Ok(others);
+        };
+        let Some(numbers) = self.seated.get(group) else {
+            return Ok(others);
+        };
+        for other in numbers {
+            if *other != number {
+                others.push(EndId(*other))?;
+            }
+        }
+        Ok(others)
+    }
+}
+
+/// The end has a seat in its group.
+fn seat(
+    alloc: Global,
+    seated: &mut BTreeMap<Group, BTreeSet<u32>>,
+    number: u32,
+    group: Group,
+) -> Result<(), OutOfMemory>
+    ensures ok { OnOk result ((k : GroupValue) → numbers_in (get group_cmp seated.new k)
+        ≡ seated_with group number k (numbers_in (get group_cmp seated.old k))) }
+    ensures err { OnErr result ((k : GroupValue) → numbers_in (get group_cmp seated.new k)
+        ≡ numbers_in (get group_cmp seated.old k)) }
+{
+    if let Some(numbers) = seated.get_mut(&group) {
+        numbers.insert(number)?;
+        return Ok(());
+    }
+    let mut numbers = BTreeSet::new(alloc);
+    numbers.insert(number)?;
+    seated.insert(group, numbers)?;
+    Ok(())
+}
