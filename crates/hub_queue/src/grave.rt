@@ -75,8 +75,8 @@ impl Grave {
     ghost use Rattle.hub_queue.specs.Sweeping.{IsSwept};
 
     /// Discards what is left at the closed end, queue after queue, the oldest first. At each it
-    /// looks at the gate until all rights came into hand, and then takes what the queue holds, which
-    /// nobody can add to any more.
+    /// looks at the gate until all rights came into hand, and then takes what the queue holds,
+    /// which nobody can add to any more.
     ///
     /// `Discarded` only with all rights of all queues in hand: line by line, what was taken
     /// followed by what was discarded is all that was put. `StillInside` only where a look of this
