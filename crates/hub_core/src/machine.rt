@@ -44,8 +44,8 @@ impl Core {
 
     /// Takes a step, in time that doesn't grow with the number of ends, lines and waiting envelopes
     /// beyond what a growing list costs and the logarithm of the members of the roster; a `Sweep`
-    /// takes time for each envelope that it discards, a `Cast` for each destination, and a `See` that
-    /// is answered `Ending` for each end.
+    /// takes time for each envelope that it discards, a `Cast` for each destination, and a `See`
+    /// that is answered `Ending` for each end.
     /// An `Err` says that memory can't be had, or that a line has put 2^62 envelopes in its queue.
     pub fn step(&mut self, step: Step) -> Result<Outcome, OutOfMemory>
         ensures fits { IfOk result (λ o. FitsAndShows self.old self.new step o) }

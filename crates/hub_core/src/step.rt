@@ -50,8 +50,8 @@ pub enum Action {
     /// The agent that has a client's or worker's queue hands it to another agent, at which it
     /// arrives.
     Hand(EndId, AgentId),
-    /// A member casts a body to the others of its origin and name, which are fixed now; each gets it
-    /// by an `Enter`, `Push` and `Leave` on its line 0, one destination after the other.
+    /// A member casts a body to the others of its origin and name, which are fixed now; each gets
+    /// it by an `Enter`, `Push` and `Leave` on its line 0, one destination after the other.
     Cast(EndId, Vec<EndId>, Body),
     /// A member leaves the roster, and is no destination of later casts.
     Part(EndId),
