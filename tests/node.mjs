@@ -1,11 +1,13 @@
-// Random step files, done by the program and on Node's MessageChannel: see tests/node.
-import { MessageChannel, receiveMessageOnPort } from 'node:worker_threads';
+// Random step files, done by the program and on Node's MessageChannel and BroadcastChannel: see tests/node.
+import { BroadcastChannel, MessageChannel, receiveMessageOnPort } from 'node:worker_threads';
 import { spawnSync } from 'node:child_process';
 import { isDeepStrictEqual } from 'node:util';
 
 const [program, files, lines, seed] = process.argv.slice(2).map((word, at) => (at === 0 ? word : Number(word)));
 const AGENTS = 3;
 const MAX_HELD = 40;
+const MAX_MEMBERS = 12;
+const NAMES = ['news', 'a "name"', ''];
 const MAX_HOPS = 4;
 
 // A small generator with a seed, so that a difference can be seen again.
@@ -19,13 +21,14 @@ function randomOf(seed) {
 
 class Run {
   constructor(seed) {
+    this.seed = seed;
     this.random = randomOf(seed);
     // The step lines, and beside each what Node says of it: nothing, or what a take found.
     this.steps = [];
-    // By end: the Node port, the agent, where it is ('with', 'flying', 'arrived', 'closed'), and of its
+    // By end: a broadcast channel, or the Node port, the agent, where it is ('with', 'flying', 'arrived', 'closed'), and of its
     // mailbox the envelopes of each queue from the taker's on.
     this.ends = [];
-    for (let agent = 0; agent < AGENTS; agent += 1) this.step('agent -');
+    for (let agent = 0; agent < AGENTS; agent += 1) this.step('agent https://a.test');
   }
 
   step(line, expected = null) {
@@ -38,6 +41,54 @@ class Run {
 
   held() {
     return this.ends.filter((end) => end.place === 'with');
+  }
+
+  // The broadcast channels that haven't parted. One that was closed hasn't, until it parts.
+  members() {
+    return this.ends.filter((end) => end.place === 'member');
+  }
+
+  member() {
+    if (this.members().length >= MAX_MEMBERS) return;
+    const agent = this.random(AGENTS);
+    const name = this.pick(NAMES);
+    const number = this.ends.length;
+    this.step(`member ${agent} ${JSON.stringify(name)}`);
+    // No other file has this name.
+    const port = new BroadcastChannel(`${this.seed} ${name}`);
+    this.ends.push({ number, agent, port, place: 'member', is_closed: false });
+  }
+
+  cast() {
+    const from = this.pick(this.members());
+    if (!from) return;
+    const body = this.value(0);
+    let refused = null;
+    try {
+      from.port.postMessage({ body, numbers: [], ports: [] });
+    } catch (error) {
+      refused = error.name;
+    }
+    this.step(`cast ${from.number} - ${JSON.stringify(body)}`, { refused });
+  }
+
+  take_of_member() {
+    const end = this.pick(this.members().filter((one) => !one.is_closed));
+    if (!end) return;
+    this.step(`take ${end.number}`, { found: receiveMessageOnPort(end.port)?.message });
+  }
+
+  close_member() {
+    const end = this.pick(this.members());
+    if (!end) return;
+    if (end.is_closed) {
+      this.step(`part ${end.number}`);
+      end.place = 'parted';
+      return;
+    }
+    this.step(`close ${end.number}`);
+    end.port.close();
+    end.is_closed = true;
   }
 
   channel() {
@@ -135,10 +186,14 @@ class Run {
 
   act() {
     const turn = this.random(100);
-    if (turn < 5) this.channel();
-    else if (turn < 45) this.post();
-    else if (turn < 85) this.take();
-    else if (turn < 98) this.adopt();
+    if (turn < 4) this.channel();
+    else if (turn < 34) this.post();
+    else if (turn < 62) this.take();
+    else if (turn < 72) this.adopt();
+    else if (turn < 74) this.member();
+    else if (turn < 82) this.cast();
+    else if (turn < 97) this.take_of_member();
+    else if (turn < 98) this.close_member();
     else this.close();
   }
 
@@ -156,6 +211,7 @@ function told(outcome) {
 
 function differs(expected, outcome) {
   const { word, numbers, body } = told(outcome);
+  if ('refused' in expected) return word !== (expected.refused === 'InvalidStateError' ? 'invalid-state' : 'cast');
   if (expected.again) return word !== 'again';
   if (!expected.found) return word !== 'empty' && word !== 'notice';
   return word !== 'got' || !isDeepStrictEqual(numbers, expected.found.numbers) || !isDeepStrictEqual(body, expected.found.body)
@@ -164,6 +220,7 @@ function differs(expected, outcome) {
 
 let takes = 0;
 let bodies = 0;
+let casts = 0;
 for (let file = 0; file < files; file += 1) {
   const run = new Run(seed * 1_000_003 + file);
   while (run.steps.length < lines) run.act();
@@ -177,8 +234,9 @@ for (let file = 0; file < files; file += 1) {
     console.log(`tests/node: file ${file} of seed ${seed}, step line ${at + 1}: the program says ${outcomes[at]}, Node ${JSON.stringify(run.steps[at]?.expected)}`);
     process.exit(1);
   }
-  takes += run.steps.filter(({ expected }) => expected && !expected.again).length;
+  takes += run.steps.filter(({ expected }) => expected && 'found' in expected).length;
+  casts += run.steps.filter(({ expected }) => expected && 'refused' in expected).length;
   bodies += run.steps.filter(({ expected }) => expected?.found).length;
 }
-console.log(`tests/node: ${files} files of ${lines} step lines, ${takes} takes, ${bodies} of them with a body: 0 differences`);
+console.log(`tests/node: ${files} files of ${lines} step lines, ${takes} takes, ${bodies} of them with a body, ${casts} casts: 0 differences`);
 process.exit(0);

@@ -20,14 +20,15 @@ use Rattle.hub_core.specs.Posting.{may_post, listing}
 use Rattle.hub_core.specs.Legal.{LegalAfter}
 use Rattle.hub_core.specs.Shows.{Shows, FitsAndShows}
 use Rattle.messagehub.specs.declared.steps.shown.Shown.{Shown}
-use Rattle.messagehub.specs.declared.steps.shown.Shown.TheVariants.{Answer, Moving, Doomed}
+use Rattle.messagehub.specs.declared.steps.shown.Shown.TheVariants.{Answer, Moving, Doomed, Cast}
 use Rattle.messagehub.specs.declared.steps.step_line.Poster.{Poster}
 use Rattle.messagehub.specs.declared.steps.step_line.Command.{Command}
 use Rattle.messagehub.specs.declared.steps.step_line.StepLine.{StepLine}
 use Rattle.messagehub.specs.Computation.{Computation, pair, pure, ask, step, ◌>>=◌}
 use Rattle.messagehub.specs.Performed.{ComputesAt, PerformsAt}
 use Rattle.messagehub.specs.Lives.{AllLives}
-use Rattle.messagehub.specs.Unfolding.{shown_step, sender_of, on_line, on_line_of, push, shown_push, enter, go_on, send_inside, send, post_listing, post_count, post_may, post, start_made, worker, start_worker, start_adopted, adopt, notice_line, tell_inside, tell, close_shown, close_on, close, close_each, close_ports, close_swept, sweep, core_steps}
+use Rattle.messagehub.specs.Unfolding.{shown_step, sender_of, on_line, on_line_of, push, shown_push, enter, go_on, send_inside, send, post_listing, post_count, post_may, post, start_made, worker, start_worker, start_adopted, adopt, notice_line, tell_inside, tell, close_shown, close_on, close, close_each, close_ports, close_swept, sweep, core_steps, member, cast_inside, line_zero, cast_to, cast_each, cast_all, cast_step, cast}
+use Rattle.messagehub.specs.declared.steps.cast_posts.CastPost.{CastPost}
 
 -- ---- computations in general
 
@@ -288,3 +289,70 @@ adopts_nothing core refused e o other = given core (Answer o)
 
 pub adopted_nothing : (old new : Core) (refused : Bool) (e : EndId) (a : AgentId) (o : Outcome) → ((k : ℕ) → o ≡ outcome.Adopted k → ⊥) → ComputesAt old new (step refused (action.Adopt e a)) o → ComputesAt old new (adopt refused e a) (Answer o)
 adopted_nothing old new refused e a o other did = chained old new new (step refused (action.Adopt e a)) (start_adopted refused e) o (Answer o) did (adopts_nothing new refused e o other)
+
+-- ---- casts
+
+pub member_started : (old first new : Core) (refused : Bool) (a : AgentId) (name : List ℕ) (e : EndId) (o : Outcome) → ComputesAt old first (step refused (action.Member a name)) (outcome.End e) → ComputesAt first new (step refused (action.Start e)) o → ComputesAt old new (member refused a name) (Answer (outcome.End e))
+member_started old first new refused a name e o made did =
+    chained old first new (step refused (action.Member a name)) (start_made refused) (outcome.End e) (Answer (outcome.End e)) made
+    (shown_as first new (step refused (action.Start e)) (λ started. Answer (outcome.End e)) o did)
+
+pub no_member : (old new : Core) (refused : Bool) (a : AgentId) (name : List ℕ) (o : Outcome) → ((e : EndId) → o ≡ outcome.End e → ⊥) → ComputesAt old new (step refused (action.Member a name)) o → ComputesAt old new (member refused a name) (Answer o)
+no_member old new refused a name o other did = chained old new new (step refused (action.Member a name)) (start_made refused) o (Answer o) did (makes_nothing new refused o other)
+
+pub pushes_inside : (old new : Core) (refused : Bool) (body : List ℕ) (s : Sender) (ports : Vec EndId Global) (o : Outcome) → ports.items ≡ [] → ComputesAt old new (step refused (action.Push s ports body)) o → ComputesAt old new (cast_inside refused body s outcome.In) o
+pushes_inside old new refused body s ports o none did = subst (λ listed. ComputesAt old new (push refused listed body s) o) none (pushed_as old new refused s ports body o did)
+
+pub pushes_nothing : (core : Core) (refused : Bool) (body : List ℕ) (s : Sender) (o : Outcome) → (o ≡ outcome.In → ⊥) → ComputesAt core core (cast_inside refused body s o) o
+pushes_nothing core refused body s outcome.In other = absurd (other refl)
+pushes_nothing core refused body s o other = given core o
+
+pub cast_there : (old first second new : Core) (refused : Bool) (body : List ℕ) (e : EndId) (entered answer left : Outcome) → ComputesAt old first (step refused (action.Enter (line_zero e))) entered → ComputesAt first second (cast_inside refused body (line_zero e) entered) answer → ComputesAt second new (step refused (action.Leave (line_zero e))) left → ComputesAt old new (cast_to refused body e) answer
+cast_there old first second new refused body e entered answer left a b c =
+    let s : Sender = line_zero e in
+    let last : Outcome → Computation Outcome = λ told. step refused (action.Leave s) >>= λ l. pure told in
+    chained old first new (step refused (action.Enter s)) (λ told. cast_inside refused body s told >>= last) entered answer a
+    (chained first second new (cast_inside refused body s entered) last answer answer b
+    (chained second new new (step refused (action.Leave s)) (λ l. pure answer) left answer c (given new answer)))
+
+-- what is posted from here on comes behind what was posted
+abbrev pub CastFirst : Core → Core → ℕ → Bool → List ℕ → List EndId → List CastPost → Type 0
+CastFirst old now done refused body ends posts = (later : Core) (rest : List CastPost) → ComputesAt now later (cast_each refused body (drop done ends)) rest → ComputesAt old later (cast_each refused body ends) (posts ++ rest)
+
+pub cast_none : (core : Core) (refused : Bool) (body : List ℕ) (ends : List EndId) → CastFirst core core 0 refused body ends []
+cast_none core refused body ends = λ later rest did. did
+
+pub cast_more : (done : ℕ) (old now new : Core) (refused : Bool) (body : List ℕ) (ends : List EndId) (e : EndId) (o : Outcome) (posts : List CastPost) → drop done ends ≡ e ∷ drop (suc done) ends → CastFirst old now done refused body ends posts → ComputesAt now new (cast_to refused body e) o → CastFirst old new (done + 1) refused body ends (posts ++ record { end = e; outcome = o } ∷ [])
+cast_more done old now new refused body ends e o posts here h did = λ later rest more.
+    let left : ComputesAt new later (cast_each refused body (drop (suc done) ends)) rest = subst (λ k. ComputesAt new later (cast_each refused body (drop k ends)) rest) (add-one done) more in
+    let p : CastPost = record { end = e; outcome = o } in
+    let next : Outcome → Computation (List CastPost) = λ answer. cast_each refused body (drop (suc done) ends) >>= λ others. pure (record { end = e; outcome = answer } ∷ others) in
+    let both : ComputesAt now later (cast_each refused body (e ∷ drop (suc done) ends)) (p ∷ rest) =
+    chained now new later (cast_to refused body e) next o (p ∷ rest) did (chained new later later (cast_each refused body (drop (suc done) ends)) (λ others. pure (p ∷ others)) rest (p ∷ rest) left (given later (p ∷ rest)))
+    in
+    subst (ComputesAt old later (cast_each refused body ends)) (sym (append_assoc posts (p ∷ []) rest)) (h later (p ∷ rest) (subst (λ es. ComputesAt now later (cast_each refused body es) (p ∷ rest)) (sym here) both))
+
+pub cast_done : (done : ℕ) (old now : Core) (refused : Bool) (body : List ℕ) (ends : List EndId) (posts : List CastPost) → drop done ends ≡ [] → CastFirst old now done refused body ends posts → ComputesAt old now (cast_each refused body ends) posts
+cast_done done old now refused body ends posts none h =
+    subst (ComputesAt old now (cast_each refused body ends)) (append-nil posts) (h now [] (subst (λ es. ComputesAt now now (cast_each refused body es) []) (sym none) (given now [])))
+
+cast_as : (old new : Core) (refused : Bool) (e : EndId) (ports : Vec EndId Global) (body : List ℕ) (o : Outcome) → ComputesAt old new (step refused (action.Cast e ports body)) o → ComputesAt old new (cast_step refused e ports.items body) o
+cast_as old new refused e ports body o did = λ past shows.
+    let x = did past shows in
+    (x.0, record { unfolds = (action.Cast e ports body, (refl, refl, refl), x.1.unfolds); legal = x.1.legal }, x.2)
+
+pub cast_on : (old first new : Core) (refused : Bool) (e : EndId) (ports : Vec EndId Global) (body text : List ℕ) (ends listed : List EndId) (posts : List CastPost) (answer : Outcome) → text ≡ body → listed ≡ ends → answer ≡ outcome.Destinations ends → ComputesAt old first (step refused (action.Cast e ports text)) answer
+    → ComputesAt first new (cast_each refused body listed) posts → ComputesAt old new (cast refused e ports.items body) (Cast posts)
+cast_on old first new refused e ports body text ends listed posts answer same all is a b =
+    let did = subst (λ told. ComputesAt old first (cast_step refused e ports.items body) told) is (cast_as old first refused e ports body answer (subst (λ t. ComputesAt old first (step refused (action.Cast e ports t)) answer) same a)) in
+    chained old first new (cast_step refused e ports.items body) (cast_all refused body) (outcome.Destinations ends) (Cast posts) did
+    (chained first new new (cast_each refused body ends) (λ told. pure (Cast told)) posts (Cast posts) (subst (λ es. ComputesAt first new (cast_each refused body es) posts) all b) (given new (Cast posts)))
+
+casts_nothing : (core : Core) (refused : Bool) (body : List ℕ) (o : Outcome) → ((ends : List EndId) → o ≡ outcome.Destinations ends → ⊥) → ComputesAt core core (cast_all refused body o) (Answer o)
+casts_nothing core refused body (outcome.Destinations ends) other = absurd (other ends refl)
+casts_nothing core refused body o other = given core (Answer o)
+
+pub cast_refused : (old new : Core) (refused : Bool) (e : EndId) (ports : Vec EndId Global) (body text : List ℕ) (o : Outcome) → text ≡ body → ((ends : List EndId) → o ≡ outcome.Destinations ends → ⊥) → ComputesAt old new (step refused (action.Cast e ports text)) o → ComputesAt old new (cast refused e ports.items body) (Answer o)
+cast_refused old new refused e ports body text o same other did =
+    let a = subst (λ t. ComputesAt old new (step refused (action.Cast e ports t)) o) same did in
+    chained old new new (cast_step refused e ports.items body) (cast_all refused body) o (Answer o) (cast_as old new refused e ports body o a) (casts_nothing new refused body o other)

@@ -30,7 +30,12 @@ use Rattle.messagehub.specs.declared.steps.step_line.StepLine.{StepLine}
 use Rattle.messagehub.specs.ShownText.{shown_line}
 use Rattle.messagehub.specs.Computation.{Computation, pair, pure, ask, step, ◌>>=◌}
 use Rattle.messagehub.specs.Lives.{AllLives, event_shown, lives_after}
-use Rattle.messagehub.specs.Unfolding.{shown_step, sender_of, on_line, on_line_of, IsPush, push, go_on, enter, send_inside, send, notice_line, tell_inside, tell, close_shown, close_on, close, close_each, close_ports, close_swept, sweep, post_listing, post_count, post_may, post, start_made, worker, start_where, start_worker, start_adopted, adopt, load_client, load, line_steps, core_steps}
+use Rattle.messagehub.specs.Unfolding.{shown_step, sender_of, on_line, on_line_of, IsPush, push, go_on, enter, send_inside, send, notice_line, tell_inside, tell, close_shown, close_on, close, close_each, close_ports, close_swept, sweep, post_listing, post_count, post_may, post, start_made, worker, start_where, start_worker, start_adopted, adopt, load_client, load, agent, member, cast_inside, line_zero, cast_to, cast_each, cast_all, IsCast, cast_step, cast, line_steps, core_steps}
+use Rattle.messagehub.specs.declared.steps.shown.Shown.TheVariants as shown
+use Rattle.messagehub.specs.declared.steps.shown.Shown.TheVariants.{Cast}
+use Rattle.messagehub.specs.declared.steps.cast_posts.CastPost.{CastPost}
+use Rattle.messagehub.specs.declared.steps.step_line.AgentUrl.{AgentUrl}
+use Rattle.messagehub.specs.declared.steps.step_line.AgentUrl.TheVariants.{NoUrl, Origin, BadUrl, OpaqueOrigin}
 use Rattle.messagehub.specs.StepText.{Runs, OneText}
 
 -- ---- the same pairs
@@ -235,6 +240,52 @@ load_agrees refused e =
     let of_client : Facts → Bool = λ f. is_client (f.end e.0).kind in
     chain_agrees (ask of_client) (load_client refused e) (ask_agrees of_client) (load_client_agrees refused e)
 
+member_agrees : (refused : Bool) (a : AgentId) (name : List ℕ) → Agrees (member refused a name)
+member_agrees refused a name = chain_agrees (step refused (action.Member a name)) (start_made refused) (plain_agrees refused (action.Member a name) refl) (start_made_agrees refused)
+
+agent_agrees : (refused : Bool) (url : AgentUrl) → Agrees (agent refused url)
+agent_agrees refused NoUrl = shown_step_agrees refused (action.Agent None) refl
+agent_agrees refused (Origin o) = shown_step_agrees refused (action.Agent (Some o)) refl
+agent_agrees refused BadUrl = pure_agrees shown.BadUrl
+agent_agrees refused OpaqueOrigin = pure_agrees shown.OpaqueOrigin
+
+-- ---- a cast
+
+cast_inside_agrees : (refused : Bool) (body : List ℕ) (s : Sender) (o : Outcome) → Agrees (cast_inside refused body s o)
+cast_inside_agrees refused body s outcome.In = push_agrees refused [] body s
+cast_inside_agrees refused body s o = pure_agrees o
+
+cast_to_agrees : (refused : Bool) (body : List ℕ) (e : EndId) → Agrees (cast_to refused body e)
+cast_to_agrees refused body e =
+    let s : Sender = line_zero e in
+    let last : Outcome → Computation Outcome = λ answer. step refused (action.Leave s) >>= λ left. pure answer in
+    chain_agrees (step refused (action.Enter s)) (λ entered. cast_inside refused body s entered >>= last) (plain_agrees refused (action.Enter s) refl)
+    (λ entered. chain_agrees (cast_inside refused body s entered) last (cast_inside_agrees refused body s entered)
+    (λ answer. chain_agrees (step refused (action.Leave s)) (λ left. pure answer) (plain_agrees refused (action.Leave s) refl) (λ left. pure_agrees answer)))
+
+cast_each_agrees : (refused : Bool) (body : List ℕ) (ends : List EndId) → Agrees (cast_each refused body ends)
+cast_each_agrees refused body [] = pure_agrees []
+cast_each_agrees refused body (e ∷ ends) =
+    let post : Outcome → List CastPost → List CastPost = λ answer rest. record { end = e; outcome = answer } ∷ rest in
+    chain_agrees (cast_to refused body e) (λ answer. cast_each refused body ends >>= λ rest. pure (post answer rest)) (cast_to_agrees refused body e)
+    (λ answer. chain_agrees (cast_each refused body ends) (λ rest. pure (post answer rest)) (cast_each_agrees refused body ends) (λ rest. pure_agrees (post answer rest)))
+
+cast_all_agrees : (refused : Bool) (body : List ℕ) (o : Outcome) → Agrees (cast_all refused body o)
+cast_all_agrees refused body (outcome.Destinations ends) = shown_agrees (cast_each refused body ends) Cast (cast_each_agrees refused body ends)
+cast_all_agrees refused body o = pure_agrees (Answer o)
+
+same_cast : (e : EndId) (ports : List EndId) (body : List ℕ) (a b : Action) → IsCast e ports body a → IsCast e ports body b → IsSameAction a b
+same_cast e ports body (action.Cast d listed text) (action.Cast f list words) x y = (x.0 ∙ sym y.0, x.1 ∙ sym y.1, x.2 ∙ sym y.2)
+same_cast e ports body (action.Cast d listed text) _ x y = absurd y
+same_cast e ports body _ b x y = absurd x
+
+cast_step_agrees : (refused : Bool) (e : EndId) (ports : List EndId) (body : List ℕ) → Agrees (cast_step refused e ports body)
+cast_step_agrees refused e ports body h k first second more also o p past is it w =
+    step_agrees h k first second more also refused is.0 it.0 o p (same_cast e ports body is.0 it.0 is.1 it.1) past is.2 it.2 w
+
+cast_agrees : (refused : Bool) (e : EndId) (ports : List EndId) (body : List ℕ) → Agrees (cast refused e ports body)
+cast_agrees refused e ports body = chain_agrees (cast_step refused e ports body) (cast_all refused body) (cast_step_agrees refused e ports body) (cast_all_agrees refused body)
+
 -- ---- a line
 
 line_steps_agrees : (refused : Bool) (c : PosterCommand) (s : Sender) → Agrees (line_steps refused c s)
@@ -246,10 +297,11 @@ line_steps_agrees refused poster.Back s = shown_step_agrees refused (action.Back
 line_steps_agrees refused (poster.Post ports body) s = post_agrees refused ports body s
 
 line_agrees : (lives : AllLives) (refused : Bool) (c : Command) → Agrees (core_steps lives refused c)
-line_agrees lives refused command.Agent = shown_step_agrees refused (action.Agent None) refl
+line_agrees lives refused (command.Agent url) = agent_agrees refused url
 line_agrees lives refused (command.Channel a) = shown_step_agrees refused (action.Channel a) refl
 line_agrees lives refused (command.Client a) = shown_step_agrees refused (action.Client a) refl
 line_agrees lives refused (command.Worker a) = worker_agrees refused a
+line_agrees lives refused (command.Member a name) = member_agrees refused a name
 line_agrees lives refused (command.Line e a) = shown_step_agrees refused (action.Line e a) refl
 line_agrees lives refused (command.At p c) = on_line_of_agrees p (line_steps refused c) (line_steps_agrees refused c)
 line_agrees lives refused (command.Start e) = shown_step_agrees refused (action.Start e) refl
@@ -262,6 +314,8 @@ line_agrees lives refused (command.Close e) = close_agrees refused e
 line_agrees lives refused (command.Sweep e) = sweep_agrees refused e
 line_agrees lives refused (command.Order a) = shown_step_agrees refused (action.Order a) refl
 line_agrees lives refused (command.See a) = shown_step_agrees refused (action.See a) refl
+line_agrees lives refused (command.Cast e ports body) = cast_agrees refused e ports body
+line_agrees lives refused (command.Part e) = shown_step_agrees refused (action.Part e) refl
 line_agrees lives refused (command.Event a event) = pure_agrees (event_shown event (slice_get lives a.0))
 
 -- ---- all lines

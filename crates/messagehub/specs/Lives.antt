@@ -49,9 +49,14 @@ event_shown event None = Answer outcome.NotNow
 event_shown event (Some None) = Answer outcome.NotNow
 event_shown event (Some (Some x)) = answer_shown (answer x.life event)
 
+-- the lives after a new agent was asked for, and this shown
+abbrev pub agent_lives : Shown → AllLives → AllLives
+agent_lives (Answer (outcome.Agent a)) lives = lives ++ None ∷ []
+agent_lives shown lives = lives
+
 -- the lives after a command that showed this
 abbrev pub lives_after : Command → Shown → AllLives → AllLives
-lives_after command.Agent (Answer (outcome.Agent a)) lives = lives ++ None ∷ []
+lives_after (command.Agent url) shown lives = agent_lives shown lives
 lives_after (command.Worker a) (Answer (outcome.End e)) lives = change_life begun a.0 lives
 lives_after (command.See a) (Answer (outcome.Ending es)) lives = change_life ended a.0 lives
 lives_after (command.Event a event) shown lives = change_life (happened event) a.0 lives

@@ -19,8 +19,15 @@ use Rattle.messagehub.specs.declared.steps.step_line.Command.{Command}
 use Rattle.messagehub.specs.declared.steps.step_line.Command.TheVariants as command
 use Rattle.messagehub.specs.declared.steps.step_line.StepLine.{StepLine}
 use Rattle.messagehub.specs.declared.steps.step_line.StepLineError.{StepLineError}
-use Rattle.messagehub.specs.declared.steps.step_line.StepLineError.TheVariants.{BadUtf8, UnknownStep, BadWords, BadNumber, BadPoster, BadList, BadEvent}
+use Rattle.messagehub.specs.declared.steps.step_line.StepLineError.TheVariants.{BadUtf8, UnknownStep, BadWords, BadNumber, BadPoster, BadList, BadName, BadEvent}
 use Rattle.messagehub.specs.BodyKind.{body_kind}
+use Rattle.messagehub.specs.declared.steps.step_line.AgentUrl.{AgentUrl}
+use Rattle.messagehub.specs.declared.steps.step_line.AgentUrl.TheVariants.{NoUrl, Origin, BadUrl, OpaqueOrigin}
+use Rattle.hub_broadcast.specs.Origin.{origin_answer}
+use Rattle.hub_broadcast.specs.declared.origin_error.OriginError.{OriginError}
+use Rattle.hub_broadcast.specs.declared.origin_error.OriginError.TheVariants as why
+use Rattle.serde_json.specs.Find.{as_str}
+use Rattle.serde_json.specs.Read.{read}
 
 -- what is read, or what is wrong in a step line
 abbrev pub Read : Type 0 → Type 0
@@ -121,10 +128,43 @@ posting_after rest = do
   body ← body_of second.1
   Ok (poster, ports, body)
 
--- `-`: an agent with no URL
-abbrev pub agent_after : Option (List ℕ) → Read Command
-agent_after None = Err BadWords
-agent_after (Some text) = if bytes_eq text (codes "-") then Ok command.Agent else Err BadWords
+abbrev pub url_told : Result (List ℕ) OriginError → AgentUrl
+url_told (Ok origin) = Origin origin
+url_told (Err why.BadUrl) = BadUrl
+url_told (Err why.OpaqueOrigin) = OpaqueOrigin
+url_told (Err why.OutOfMemory) = BadUrl
+
+-- `-`, or the origin of a URL
+unfoldable pub url_of : List ℕ → AgentUrl
+url_of word = if bytes_eq word (codes "-") then NoUrl else url_told (origin_answer word)
+
+-- the URL that is the rest of the step line
+unfoldable pub url_after : Option (List ℕ) → Read AgentUrl
+url_after rest = only_word rest >>= λ word. Ok (url_of word)
+
+-- the JSON string that a text is
+unfoldable pub name_of : List ℕ → Read (List ℕ)
+name_of text = some_or BadName (read text) >>= λ value. some_or BadName (as_str value)
+
+-- an agent's number and a name, which is the rest of the step line
+unfoldable pub agent_and_name_after : Option (List ℕ) → Read (AgentId × List ℕ)
+agent_and_name_after rest = do
+  text ← some_or BadWords rest
+  parts ← word_before text
+  agent ← some_or BadNumber (number_of parts.0)
+  name ← name_of parts.1
+  Ok (agent_of agent, name)
+
+-- an end's number, list and body, the body being the rest of the step line
+unfoldable pub cast_after : Option (List ℕ) → Read (EndId × List EndId × List ℕ)
+cast_after rest = do
+  text ← some_or BadWords rest
+  first ← word_before text
+  second ← word_before first.1
+  end ← some_or BadNumber (number_of first.0)
+  ports ← list_of second.0
+  body ← body_of second.1
+  Ok (record { 0 = end }, ports, body)
 
 -- what the step of that name and the rest of the step line ask of a poster
 unfoldable pub poster_command_of : List ℕ → Option (List ℕ) → Read Command
@@ -140,10 +180,11 @@ poster_command_of name rest =
 -- what the step of that name and the rest of the step line ask for
 unfoldable pub command_of : List ℕ → Option (List ℕ) → Read Command
 command_of name rest =
-    if bytes_eq name (codes "agent") then agent_after rest
+    if bytes_eq name (codes "agent") then url_after rest >>= (λ u. Ok (command.Agent u))
     else (if bytes_eq name (codes "channel") then number_after rest >>= (λ n. Ok (command.Channel (agent_of n)))
     else (if bytes_eq name (codes "client") then number_after rest >>= (λ n. Ok (command.Client (agent_of n)))
     else (if bytes_eq name (codes "worker") then number_after rest >>= (λ n. Ok (command.Worker (agent_of n)))
+    else (if bytes_eq name (codes "member") then agent_and_name_after rest >>= (λ x. Ok (command.Member x.0 x.1))
     else (if bytes_eq name (codes "line") then end_and_agent_after rest >>= (λ x. Ok (command.Line x.0 x.1))
     else (if bytes_eq name (codes "start") then number_after rest >>= (λ n. Ok (command.Start (record { 0 = n })))
     else (if bytes_eq name (codes "loaded") then number_after rest >>= (λ n. Ok (command.Loaded (record { 0 = n })))
@@ -155,8 +196,10 @@ command_of name rest =
     else (if bytes_eq name (codes "sweep") then number_after rest >>= (λ n. Ok (command.Sweep (record { 0 = n })))
     else (if bytes_eq name (codes "order") then number_after rest >>= (λ n. Ok (command.Order (agent_of n)))
     else (if bytes_eq name (codes "see") then number_after rest >>= (λ n. Ok (command.See (agent_of n)))
+    else (if bytes_eq name (codes "cast") then cast_after rest >>= (λ x. Ok (command.Cast x.0 x.1 x.2))
+    else (if bytes_eq name (codes "part") then number_after rest >>= (λ n. Ok (command.Part (record { 0 = n })))
     else (if bytes_eq name (codes "event") then agent_and_event_after rest >>= (λ x. Ok (command.Event x.0 x.1))
-    else poster_command_of name rest)))))))))))))))
+    else poster_command_of name rest))))))))))))))))))
 
 abbrev pub command_cut : List ℕ → Option (List ℕ × List ℕ) → Read Command
 command_cut text None = command_of text None

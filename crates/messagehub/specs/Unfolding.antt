@@ -1,10 +1,10 @@
 -- The core steps that a step line unfolds to, and what it shows.
-use Rattle.std.specs.Prelude.{◌≡◌, ℕ, zero, suc, Bool, true, false, ◌&&◌, List, [], ◌∷◌, length, nat_lt, if◌then◌else◌, Option, Some, None, option_map, slice_get}
+use Rattle.std.specs.Prelude.{◌≡◌, ℕ, zero, suc, Bool, true, false, ◌&&◌, List, [], ◌∷◌, length, nat_lt, if◌then◌else◌, Option, Some, None, option_map, is_some, slice_get, ◌||◌}
 use Rattle.hub_envelope.specs.declared.ids.AgentId.{AgentId}
 use Rattle.hub_envelope.specs.declared.ids.EndId.{EndId}
 use Rattle.hub_envelope.specs.declared.envelope.Envelope.{Envelope}
 use Rattle.hub_envelope.specs.declared.limits.TheConstants.{MAX_PORTS}
-use Rattle.hub_core.specs.declared.limits.TheConstants.{MAX_HOPS, MAX_LINES}
+use Rattle.hub_core.specs.declared.limits.TheConstants.{MAX_HOPS}
 use Rattle.hub_core.specs.declared.sender.Sender.{Sender}
 use Rattle.hub_core.specs.declared.step.Action.{Action}
 use Rattle.hub_core.specs.declared.step.Action.TheVariants as action
@@ -13,12 +13,16 @@ use Rattle.hub_core.specs.declared.outcome.Outcome.TheVariants as outcome
 use Rattle.hub_core.specs.declared.listing.Listing.{Listing}
 use Rattle.hub_core.specs.declared.listing.Listing.TheVariants.{Good, HoldsTarget, Bad}
 use Rattle.hub_core.specs.Facts.{Facts}
-use Rattle.hub_core.specs.Made.{is_queue, peer_of}
+use Rattle.hub_core.specs.Made.{is_queue, lines_of, maker_of, peer_of}
 use Rattle.hub_core.specs.Making.{is_client, is_worker}
 use Rattle.hub_core.specs.Moving.{may_close}
 use Rattle.hub_core.specs.Posting.{may_post, listing}
 use Rattle.messagehub.specs.declared.steps.shown.Shown.{Shown}
-use Rattle.messagehub.specs.declared.steps.shown.Shown.TheVariants.{Answer, Moving, Doomed, DoneNoMemory, DoneMoving}
+use Rattle.messagehub.specs.declared.steps.shown.Shown.TheVariants as shown
+use Rattle.messagehub.specs.declared.steps.shown.Shown.TheVariants.{Answer, Moving, Doomed, DoneNoMemory, DoneMoving, Cast}
+use Rattle.messagehub.specs.declared.steps.cast_posts.CastPost.{CastPost}
+use Rattle.messagehub.specs.declared.steps.step_line.AgentUrl.{AgentUrl}
+use Rattle.messagehub.specs.declared.steps.step_line.AgentUrl.TheVariants.{NoUrl, Origin, BadUrl, OpaqueOrigin}
 use Rattle.messagehub.specs.declared.steps.step_line.Poster.{Poster}
 use Rattle.messagehub.specs.declared.steps.step_line.Poster.TheVariants.{Port, Line}
 use Rattle.messagehub.specs.declared.steps.step_line.PosterCommand.{PosterCommand}
@@ -38,10 +42,11 @@ poster_command_takes_memory (poster.Post ports body) = true
 
 -- the commands whose steps may be answered want of memory
 abbrev pub command_takes_memory : Command → Bool
-command_takes_memory command.Agent = true
+command_takes_memory (command.Agent url) = true
 command_takes_memory (command.Channel a) = true
 command_takes_memory (command.Client a) = true
 command_takes_memory (command.Worker a) = true
+command_takes_memory (command.Member a name) = true
 command_takes_memory (command.Line e a) = false
 command_takes_memory (command.At p c) = poster_command_takes_memory c
 command_takes_memory (command.Start e) = false
@@ -54,6 +59,8 @@ command_takes_memory (command.Close e) = true
 command_takes_memory (command.Sweep e) = true
 command_takes_memory (command.Order a) = false
 command_takes_memory (command.See a) = true
+command_takes_memory (command.Cast e ports body) = true
+command_takes_memory (command.Part e) = false
 command_takes_memory (command.Event a event) = false
 
 -- a step whose outcome is shown
@@ -63,10 +70,10 @@ shown_step refused a = do
   pure (Answer answer)
 
 -- the line that the poster posts on: for a port's poster line 0 of the port that it is entangled with, else that line
--- of a client's or worker's queue
+-- of a client's or worker's queue or of a broadcast channel
 abbrev pub sender_of : Poster → Facts → Option Sender
 sender_of (Port p) f = option_map (λ q. record { end = record { 0 = q }; line = record { 0 = 0 } }) (peer_of (f.end p.0).kind)
-sender_of (Line e l) f = if is_queue (f.end e.0).kind && nat_lt l.0 MAX_LINES then Some (record { end = e; line = l }) else None
+sender_of (Line e l) f = if (is_queue (f.end e.0).kind || is_some (maker_of (f.end e.0).kind)) && nat_lt l.0 (lines_of (f.end e.0).kind) then Some (record { end = e; line = l }) else None
 
 abbrev pub on_line : (Sender → Computation Shown) → Option Sender → Computation Shown
 on_line steps None = pure (Answer outcome.NotNow)
@@ -257,6 +264,12 @@ adopt refused e a = do
   answer ← step refused (action.Adopt e a)
   start_adopted refused e answer
 
+-- Member, and then Start of the broadcast channel that it made
+abbrev pub member : Bool → AgentId → List ℕ → Computation Shown
+member refused a name = do
+  answer ← step refused (action.Member a name)
+  start_made refused answer
+
 abbrev pub load_client : Bool → EndId → Bool → Computation Shown
 load_client refused e true = shown_step refused (action.Start e)
 load_client refused e false = pure (Answer outcome.NotNow)
@@ -267,7 +280,60 @@ load refused e = do
   of_client ← ask (λ f. is_client (f.end e.0).kind)
   load_client refused e of_client
 
+-- ---- casts
+
+-- What follows an Enter at a destination: inside, the Push of the body.
+abbrev pub cast_inside : Bool → List ℕ → Sender → Outcome → Computation Outcome
+cast_inside refused body s outcome.In = push refused [] body s
+cast_inside refused body s entered = pure entered
+
+abbrev pub line_zero : EndId → Sender
+line_zero e = record { end = e; line = record { 0 = 0 } }
+
+-- Enter, the Push of the body, and Leave at a destination: the answer of that Push, or else of the Enter
+abbrev pub cast_to : Bool → List ℕ → EndId → Computation Outcome
+cast_to refused body e = do
+  entered ← step refused (action.Enter (line_zero e))
+  answer ← cast_inside refused body (line_zero e) entered
+  left ← step refused (action.Leave (line_zero e))
+  pure answer
+
+-- each destination, in order, with what was answered there
+abbrev pub cast_each : Bool → List ℕ → List EndId → Computation (List CastPost)
+cast_each refused body [] = pure []
+cast_each refused body (e ∷ ends) = do
+  answer ← cast_to refused body e
+  rest ← cast_each refused body ends
+  pure (record { end = e; outcome = answer } ∷ rest)
+
+abbrev pub cast_all : Bool → List ℕ → Outcome → Computation Shown
+cast_all refused body (outcome.Destinations ends) = do
+  posts ← cast_each refused body ends
+  pure (Cast posts)
+cast_all refused body answer = pure (Answer answer)
+
+-- a Cast of the listed ports, wherever their list lies in memory
+abbrev pub IsCast : EndId → List EndId → List ℕ → Action → Type 0
+IsCast e ports body (action.Cast d listed text) = (d ≡ e) × (listed.items ≡ ports) × (text ≡ body)
+IsCast e ports body _ = ⊥
+
+abbrev pub cast_step : Bool → EndId → List EndId → List ℕ → Computation Outcome
+cast_step refused e ports body past more answer = (a : Action) × IsCast e ports body a × step refused a past more answer
+
+-- Cast, and then the posts at its destinations
+abbrev pub cast : Bool → EndId → List EndId → List ℕ → Computation Shown
+cast refused e ports body = do
+  answer ← cast_step refused e ports body
+  cast_all refused body answer
+
 -- ---- a step line
+
+-- a new agent, where its URL is one with an origin, or there is none
+abbrev pub agent : Bool → AgentUrl → Computation Shown
+agent refused NoUrl = shown_step refused (action.Agent None)
+agent refused (Origin o) = shown_step refused (action.Agent (Some o))
+agent refused BadUrl = pure shown.BadUrl
+agent refused OpaqueOrigin = pure shown.OpaqueOrigin
 
 -- what a command of a poster unfolds to on its line
 abbrev pub line_steps : Bool → PosterCommand → Sender → Computation Shown
@@ -280,10 +346,11 @@ line_steps refused (poster.Post ports body) s = post refused ports body s
 
 -- what a command unfolds to, with memory refused or not. An event takes no step, and shows what the lives so far say.
 abbrev pub core_steps : AllLives → Bool → Command → Computation Shown
-core_steps lives refused command.Agent = shown_step refused (action.Agent None)
+core_steps lives refused (command.Agent url) = agent refused url
 core_steps lives refused (command.Channel a) = shown_step refused (action.Channel a)
 core_steps lives refused (command.Client a) = shown_step refused (action.Client a)
 core_steps lives refused (command.Worker a) = worker refused a
+core_steps lives refused (command.Member a name) = member refused a name
 core_steps lives refused (command.Line e a) = shown_step refused (action.Line e a)
 core_steps lives refused (command.At p c) = on_line_of p (line_steps refused c)
 core_steps lives refused (command.Start e) = shown_step refused (action.Start e)
@@ -296,4 +363,6 @@ core_steps lives refused (command.Close e) = close refused e
 core_steps lives refused (command.Sweep e) = sweep refused e
 core_steps lives refused (command.Order a) = shown_step refused (action.Order a)
 core_steps lives refused (command.See a) = shown_step refused (action.See a)
+core_steps lives refused (command.Cast e ports body) = cast refused e ports body
+core_steps lives refused (command.Part e) = shown_step refused (action.Part e)
 core_steps lives refused (command.Event a event) = pure (event_shown event (slice_get lives a.0))

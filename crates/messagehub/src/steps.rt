@@ -11,6 +11,8 @@ ghost use Rattle.messagehub.specs.ShownText.{shown_line};
 ghost use Rattle.messagehub.specs.StepText.{OneText};
 ghost use Rattle.messagehub.specs.declared.steps.shown.Shown.{Shown};
 
+mod cast_posts;
+mod casting;
 mod closing;
 mod ending;
 mod entering;
@@ -100,7 +102,7 @@ fn run_lines<W: Write>(
     let mut text = String::new(alloc);
     let mut kept = Vec::new(alloc);
     for line in lines {
-        if answer_line(&mut core, &mut lives, line, &mut text, &mut kept).is_err() {
+        if answer_line(alloc, &mut core, &mut lives, line, &mut text, &mut kept).is_err() {
             write_kept(writer, &mut kept)?;
             return end_out_of_memory(writer);
         }
@@ -116,6 +118,7 @@ fn run_lines<W: Write>(
 /// Runs a step line and keeps its outcome line, which is written to `text` first. An `Err` keeps
 /// nothing.
 fn answer_line(
+    alloc: Global,
     core: &mut Core,
     lives: &mut Lives,
     line: StepLine,
@@ -127,7 +130,7 @@ fn answer_line(
         × (kept.new.items ≡ kept.old.items ++ shown_line shown)) }
     ensures err { OnErr result (kept.new.items ≡ kept.old.items) }
 {
-    let shown = perform(core, lives, line)?;
+    let shown = perform(alloc, core, lives, line)?;
     text.clear();
     write_shown(text, &shown)?;
     kept.extend_from_slice(text.as_bytes())?;

@@ -6,19 +6,26 @@ ghost use Rattle.messagehub.specs.Lives.{lives_after};
 ghost use Rattle.messagehub.specs.Performed.{ComputesAt, PerformsAt};
 ghost use Rattle.messagehub.specs.Unfolding.{command_takes_memory, line_steps, on_line_of, poster_command_takes_memory, sender_of};
 
+use super::casting::cast;
 use super::closing::{close, sweep};
 use super::ending::see;
 use super::entering::show_step;
 use super::lives::Lives;
 use super::posting::post;
 use super::shown::Shown;
-use super::starting::{adopt, load, make_agent, make_worker};
+use super::starting::{adopt, load, make_agent, make_member, make_worker};
 use super::step_line::{Command, Poster, PosterCommand, StepLine};
 use hub_core::{Action, Core, Kind, MAX_LINES, OutOfMemory, Outcome, Sender};
 use hub_envelope::{EndId, LineId};
+use std::alloc::Global;
 
 /// Takes the core's steps of a line, and gives what the line shows.
-pub fn perform(core: &mut Core, lives: &mut Lives, line: StepLine) -> Result<Shown, OutOfMemory>
+pub fn perform(
+    alloc: Global,
+    core: &mut Core,
+    lives: &mut Lives,
+    line: StepLine,
+) -> Result<Shown, OutOfMemory>
     ensures performed { IfOk result (λ shown.
         PerformsAt core.old core.new lives.old line shown) }
     ensures lives { IfOk result (λ shown.
@@ -31,10 +38,11 @@ pub fn perform(core: &mut Core, lives: &mut Lives, line: StepLine) -> Result<Sho
         memory_refused,
     } = line;
     match command {
-        Command::Agent => make_agent(core, lives, memory_refused),
+        Command::Agent(url) => make_agent(core, lives, url, memory_refused),
         Command::Channel(agent) => show_step(core, Action::Channel(agent), memory_refused),
         Command::Client(agent) => show_step(core, Action::Client(agent), memory_refused),
         Command::Worker(agent) => make_worker(core, lives, agent, memory_refused),
+        Command::Member(agent, name) => make_member(core, agent, name, memory_refused),
         Command::Line(end, agent) => show_step(core, Action::Line(end, agent), memory_refused),
         Command::At(poster, command) => perform_at(core, poster, command, memory_refused),
         Command::Start(end) => show_step(core, Action::Start(end), memory_refused),
@@ -47,6 +55,10 @@ pub fn perform(core: &mut Core, lives: &mut Lives, line: StepLine) -> Result<Sho
         Command::Sweep(end) => sweep(core, end, memory_refused),
         Command::Order(agent) => show_step(core, Action::Order(agent), memory_refused),
         Command::See(agent) => see(core, lives, agent, memory_refused),
+        Command::Cast(end, ports, body) => {
+            cast(alloc, core, end, ports.into_ends(), body, memory_refused)
+        }
+        Command::Part(end) => show_step(core, Action::Part(end), memory_refused),
         Command::Event(agent, event) => Ok(lives.event(agent, event)),
     }
 }
@@ -89,13 +101,17 @@ fn sender_of(core: &Core, poster: Poster) -> Option<Sender>
     }
 }
 
-/// A line of a client's or worker's queue.
+/// A line of a client's or worker's queue, or of a broadcast channel.
 fn line_of_queue(core: &Core, end: EndId, line: LineId) -> Option<Sender>
     ensures { (h : History) → Shows core.now h
         → result ≡ sender_of (Poster.Line end line) (facts h) }
 {
-    let is_queue = matches!(core.kind_of(end), Some(Kind::Client | Kind::Worker));
-    if is_queue && usize::from(line.0) < MAX_LINES {
+    let count = match core.kind_of(end) {
+        Some(Kind::Client | Kind::Worker) => MAX_LINES,
+        Some(Kind::Member(_)) => 1,
+        Some(Kind::Port(_)) | None => 0,
+    };
+    if usize::from(line.0) < count {
         Some(Sender { end, line })
     } else {
         None

@@ -1,11 +1,14 @@
-ghost use Rattle.std.specs.Prelude.{◌≡◌, option_map};
+ghost use Rattle.std.specs.Prelude.{◌≡◌, Ok, option_map};
 ghost use Rattle.hub_text.specs.Reading.{IsReadAs};
-ghost use Rattle.messagehub.specs.StepLine.{agent_of, agent_after, agent_and_event_after, command_in, command_of, end_and_agent_after, line_of, list_of, mark, number_after, number_of, only_word, poster_after, poster_command_of, poster_named, poster_of, posting_after, step_line_of, word_before};
+ghost use Rattle.messagehub.specs.StepLine.{agent_of, agent_and_event_after, agent_and_name_after, cast_after, name_of, url_after, url_of, command_in, command_of, end_and_agent_after, line_of, list_of, mark, number_after, number_of, only_word, poster_after, poster_command_of, poster_named, poster_of, posting_after, step_line_of, word_before};
 
-use super::step_line::{Command, Poster, PosterCommand, StepLine, StepLineError};
+use super::step_line::{AgentUrl, Command, Poster, PosterCommand, StepLine, StepLineError};
+use hub_broadcast::{OriginError, origin_of};
+use hub_core::Text;
 use hub_envelope::{AgentId, Body, EndId, LineId};
 use hub_life::Event;
 use hub_text::{EndList, next_word, number_of as number_up_to};
+use serde_json::Value;
 use std::alloc::Global;
 
 /// The step line that a text line is. Its tests come in the order of `StepLineError`, and from the
@@ -54,10 +57,14 @@ fn command_of(alloc: Global, name: &str, rest: Option<&str>) -> Result<Command, 
         (command_of name.now (option_map (λ x. x.now) rest.entry)) }
 {
     Ok(match name {
-        "agent" => agent_after(rest)?,
+        "agent" => Command::Agent(url_after(alloc, rest)?),
         "channel" => Command::Channel(agent_of(number_after(rest)?)),
         "client" => Command::Client(agent_of(number_after(rest)?)),
         "worker" => Command::Worker(agent_of(number_after(rest)?)),
+        "member" => {
+            let (agent, name) = agent_and_name_after(alloc, rest)?;
+            Command::Member(agent, name)
+        }
         "line" => {
             let (end, agent) = end_and_agent_after(rest)?;
             Command::Line(end, agent)
@@ -78,6 +85,11 @@ fn command_of(alloc: Global, name: &str, rest: Option<&str>) -> Result<Command, 
         "sweep" => Command::Sweep(EndId(number_after(rest)?)),
         "order" => Command::Order(agent_of(number_after(rest)?)),
         "see" => Command::See(agent_of(number_after(rest)?)),
+        "cast" => {
+            let (end, ports, body) = cast_after(alloc, rest)?;
+            Command::Cast(end, ports, body)
+        }
+        "part" => Command::Part(EndId(number_after(rest)?)),
         "event" => {
             let (agent, event) = agent_and_event_after(rest)?;
             Command::Event(agent, event)
@@ -128,15 +140,82 @@ fn only_word(rest: Option<&str>) -> Result<&str, StepLineError>
     }
 }
 
-/// `-`: an agent with no URL.
-fn agent_after(rest: Option<&str>) -> Result<Command, StepLineError>
+/// `-`, or the URL of an agent.
+#[tactic(auto, unfolding(crate::specs::StepLine::url_after))]
+fn url_after(alloc: Global, rest: Option<&str>) -> Result<AgentUrl, StepLineError>
     ensures { IsReadAs StepLineError.OutOfMemory (λ x. x) result
-        (agent_after (option_map (λ x. x.now) rest.entry)) }
+        (url_after (option_map (λ x. x.now) rest.entry)) }
 {
-    match rest {
-        Some("-") => Ok(Command::Agent),
-        _ => Err(StepLineError::BadWords),
+    let word = only_word(rest)?;
+    url_of(alloc, word)
+}
+
+/// The origin of a URL, or why it gives none.
+#[tactic(auto, unfolding(crate::specs::StepLine::url_of))]
+fn url_of(alloc: Global, word: &str) -> Result<AgentUrl, StepLineError>
+    ensures { IsReadAs StepLineError.OutOfMemory (λ x. x) result (Ok (url_of word.now)) }
+{
+    if word == "-" {
+        return Ok(AgentUrl::NoUrl);
     }
+    match origin_of(alloc, word) {
+        Ok(origin) => Ok(AgentUrl::Origin(Text::of(alloc, origin.as_str())?)),
+        Err(OriginError::BadUrl) => Ok(AgentUrl::BadUrl),
+        Err(OriginError::OpaqueOrigin) => Ok(AgentUrl::OpaqueOrigin),
+        Err(OriginError::OutOfMemory) => Err(StepLineError::OutOfMemory),
+    }
+}
+
+/// An agent's number, and the name of a broadcast channel, which is the rest of the text line.
+#[tactic(auto, unfolding(crate::specs::StepLine::agent_and_name_after))]
+fn agent_and_name_after(alloc: Global, rest: Option<&str>) -> Result<(AgentId, Text), StepLineError>
+    ensures { IsReadAs StepLineError.OutOfMemory (λ x. x) result
+        (agent_and_name_after (option_map (λ x. x.now) rest.entry)) }
+{
+    let Some(text) = rest else {
+        return Err(StepLineError::BadWords);
+    };
+    let (agent, name) = word_before(text)?;
+    let Some(agent) = number_of(agent) else {
+        return Err(StepLineError::BadNumber);
+    };
+    let name = name_of(alloc, name)?;
+    Ok((agent_of(agent), name))
+}
+
+/// The JSON string that a text is.
+#[tactic(auto, unfolding(crate::specs::StepLine::name_of))]
+fn name_of(alloc: Global, text: &str) -> Result<Text, StepLineError>
+    ensures { IsReadAs StepLineError.OutOfMemory (λ x. x) result (name_of text.now) }
+{
+    let value = match Value::from_str(alloc, text) {
+        Ok(value) => value,
+        Err(error) if error.is_memory() => return Err(StepLineError::OutOfMemory),
+        Err(_) => return Err(StepLineError::BadName),
+    };
+    match value.as_str() {
+        Some(name) => Ok(Text::of(alloc, name)?),
+        None => Err(StepLineError::BadName),
+    }
+}
+
+/// An end's number, list and body, the body being the rest of the text line.
+#[tactic(auto, unfolding(crate::specs::StepLine::cast_after))]
+fn cast_after(alloc: Global, rest: Option<&str>) -> Result<(EndId, EndList, Body), StepLineError>
+    ensures { IsReadAs StepLineError.OutOfMemory (λ x. x) result
+        (cast_after (option_map (λ x. x.now) rest.entry)) }
+{
+    let Some(text) = rest else {
+        return Err(StepLineError::BadWords);
+    };
+    let (end, rest) = word_before(text)?;
+    let (list, body) = word_before(rest)?;
+    let Some(end) = number_of(end) else {
+        return Err(StepLineError::BadNumber);
+    };
+    let ports = list_of(alloc, list)?;
+    let body = Body::read(alloc, body)?;
+    Ok((EndId(end), ports, body))
 }
 
 fn number_after(rest: Option<&str>) -> Result<u32, StepLineError>

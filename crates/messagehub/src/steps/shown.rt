@@ -1,3 +1,4 @@
+use super::cast_posts::CastPosts;
 use hub_core::Outcome;
 use hub_life::{LifeError, State};
 
@@ -14,6 +15,11 @@ pub enum Shown {
     DoneNoMemory,
     /// A port was closed, and its line stood at a retired queue still after `MAX_HOPS` hops.
     DoneMoving,
+    /// The URL of a new agent is none, or its origin is opaque. No step was taken.
+    BadUrl,
+    OpaqueOrigin,
+    /// What was posted at each destination of a cast.
+    Cast(CastPosts),
     /// The state of a worker agent after an event.
     State(State),
     /// The life of a worker agent refused an event.

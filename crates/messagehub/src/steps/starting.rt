@@ -1,28 +1,47 @@
-ghost use Rattle.std.specs.Prelude.{◌≡◌, None, IfOk, IsOk, OnOk};
-ghost use Rattle.messagehub.specs.Lives.{lives_after};
+ghost use Rattle.std.specs.Prelude.{◌≡◌, IfOk, IsOk, OnOk};
+ghost use Rattle.messagehub.specs.Lives.{agent_lives, lives_after};
 ghost use Rattle.messagehub.specs.Performed.{ComputesAt};
-ghost use Rattle.messagehub.specs.Unfolding.{adopt, load, shown_step, start_worker, worker};
+ghost use Rattle.messagehub.specs.Unfolding.{adopt, agent, load, member, shown_step, start_worker, worker};
 
 use super::entering::{show_step, take_step};
 use super::lives::Lives;
 use super::shown::Shown;
-use super::step_line::Command;
-use hub_core::{Action, Core, Kind, OutOfMemory, Outcome};
+use super::step_line::{AgentUrl, Command};
+use hub_core::{Action, Core, Kind, OutOfMemory, Outcome, Text};
 use hub_envelope::{AgentId, EndId};
 
-/// Makes an agent.
-#[tactic(auto, using(crate::proofs::Computing::shown_as))]
+/// Makes an agent, where its URL is one with an origin, or there is none.
 pub fn make_agent(
     core: &mut Core,
     lives: &mut Lives,
+    url: AgentUrl,
     memory_refused: bool,
 ) -> Result<Shown, OutOfMemory>
     ensures shown { IfOk result (λ shown.
-        ComputesAt core.old core.new (shown_step memory_refused (Action.Agent None)) shown) }
-    ensures lives { IfOk result (λ shown.
-        lives.new ≡ lives_after Command.Agent shown lives.old) }
+        ComputesAt core.old core.new (agent memory_refused url) shown) }
+    ensures lives { IfOk result (λ shown. lives.new ≡ agent_lives shown lives.old) }
 {
-    let answer = take_step(core, Action::Agent(None), memory_refused)?;
+    match url {
+        AgentUrl::NoUrl => add_agent(core, lives, None, memory_refused),
+        AgentUrl::Origin(origin) => add_agent(core, lives, Some(origin), memory_refused),
+        AgentUrl::BadUrl => Ok(Shown::BadUrl),
+        AgentUrl::OpaqueOrigin => Ok(Shown::OpaqueOrigin),
+    }
+}
+
+/// Makes an agent of this origin, or of none.
+#[tactic(auto, using(crate::proofs::Computing::shown_as))]
+fn add_agent(
+    core: &mut Core,
+    lives: &mut Lives,
+    origin: Option<Text>,
+    memory_refused: bool,
+) -> Result<Shown, OutOfMemory>
+    ensures shown { IfOk result (λ shown. ComputesAt core.old core.new
+        (shown_step memory_refused (Action.Agent origin)) shown) }
+    ensures lives { IfOk result (λ shown. lives.new ≡ agent_lives shown lives.old) }
+{
+    let answer = take_step(core, Action::Agent(origin), memory_refused)?;
     if matches!(answer, Outcome::Agent(_)) {
         lives.add_agent()?;
     }
@@ -46,6 +65,25 @@ pub fn make_worker(
             take_step(core, Action::Start(end), memory_refused)?;
             lives.begin(agent);
             Ok(Shown::Answer(Outcome::End(end)))
+        }
+        answer => Ok(Shown::Answer(answer)),
+    }
+}
+
+/// Makes a broadcast channel, and starts it.
+pub fn make_member(
+    core: &mut Core,
+    agent: AgentId,
+    name: Text,
+    memory_refused: bool,
+) -> Result<Shown, OutOfMemory>
+    ensures { IfOk result (λ shown.
+        ComputesAt core.old core.new (member memory_refused agent name) shown) }
+{
+    match take_step(core, Action::Member(agent, name), memory_refused)? {
+        Outcome::End(member) => {
+            take_step(core, Action::Start(member), memory_refused)?;
+            Ok(Shown::Answer(Outcome::End(member)))
         }
         answer => Ok(Shown::Answer(answer)),
     }

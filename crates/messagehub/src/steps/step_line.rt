@@ -1,6 +1,7 @@
 ghost use Rattle.std.specs.Prelude.{◌≡◌, option_map};
 
-use hub_envelope::{AgentId, Body, BodyError, EndId, LineId};
+use hub_core::Text;
+use hub_envelope::{AgentId, Body, BodyError, EndId, LineId, OutOfMemory};
 use hub_life::Event;
 use hub_text::EndList;
 use std::alloc::{AllocError, AllocFailed};
@@ -10,7 +11,7 @@ use std::alloc::{AllocError, AllocFailed};
 pub enum Poster {
     /// The poster that a port holds, to line 0 of the port that it is entangled with.
     Port(EndId),
-    /// The poster of a line of a client's or worker's queue.
+    /// The poster of a line of a client's or worker's queue, or of a broadcast channel.
     Line(EndId, LineId),
 }
 
@@ -27,14 +28,27 @@ pub enum PosterCommand {
     Post(EndList, Body),
 }
 
+/// The origin that the URL of a new agent gives, or why it gives none.
+#[derive(Debug, Drop)]
+pub enum AgentUrl {
+    /// `-`, for an agent with no origin.
+    NoUrl,
+    Origin(Text),
+    BadUrl,
+    OpaqueOrigin,
+}
+
 /// What a step line asks for.
 #[derive(Debug, Drop)]
 pub enum Command {
-    Agent,
+    /// Agent, where the URL gives an origin or there is none.
+    Agent(AgentUrl),
     Channel(AgentId),
     Client(AgentId),
     /// A worker's queue, and its Start.
     Worker(AgentId),
+    /// A broadcast channel of this name, and its Start.
+    Member(AgentId, Text),
     Line(EndId, AgentId),
     At(Poster, PosterCommand),
     Start(EndId),
@@ -52,6 +66,9 @@ pub enum Command {
     Order(AgentId),
     /// See, and the termination of the life of a worker agent that is found ending.
     See(AgentId),
+    /// Cast, and then Enter, Push and Leave at each destination.
+    Cast(EndId, EndList, Body),
+    Part(EndId),
     /// No step: an event of the life of a worker agent.
     Event(AgentId, Event),
 }
@@ -74,6 +91,7 @@ pub enum StepLineError {
     BadNumber,
     BadPoster,
     BadList,
+    BadName,
     BadEvent,
     NotJson,
     NotWhole,
@@ -97,6 +115,7 @@ impl StepLineError {
             StepLineError::BadNumber => Some("BadNumber"),
             StepLineError::BadPoster => Some("BadPoster"),
             StepLineError::BadList => Some("BadList"),
+            StepLineError::BadName => Some("BadName"),
             StepLineError::BadEvent => Some("BadEvent"),
             StepLineError::NotJson => Some("NotJson"),
             StepLineError::NotWhole => Some("NotWhole"),
@@ -104,6 +123,17 @@ impl StepLineError {
             StepLineError::TooLong => Some("TooLong"),
             StepLineError::OutOfMemory => None,
         }
+    }
+}
+
+impl From<OutOfMemory> for StepLineError {
+    ghost use Rattle.messagehub.specs.declared.steps.step_line.StepLineError.TheVariants.{OutOfMemory};
+    ghost use Rattle.std.specs.Prelude.{◌≡◌};
+
+    ghost from_gives = { λ _ kind. kind ≡ OutOfMemory };
+
+    fn from(_error: OutOfMemory) -> StepLineError {
+        StepLineError::OutOfMemory
     }
 }
 

@@ -1,7 +1,8 @@
 ghost use Rattle.std.specs.Prelude.{◌≡◌, ◌++◌, OnOk, string_bytes};
 ghost use Rattle.messagehub.specs.OutcomeText.{destinations_line, discarded_line, ending_line, got_line, listed_name, names_text, numbers_text, outcome_line, ports_text};
-ghost use Rattle.messagehub.specs.ShownText.{refused_line, shown_line, state_text};
+ghost use Rattle.messagehub.specs.ShownText.{cast_line, post_text, posts_text, refused_line, shown_line, state_text};
 
+use super::cast_posts::CastPost;
 use super::shown::Shown;
 use hub_core::Outcome;
 use hub_envelope::{EndId, Envelope};
@@ -20,8 +21,50 @@ pub fn write_shown(text: &mut String, shown: &Shown) -> Result<(), AllocError>
         Shown::Doomed => text.push_str("doomed\n"),
         Shown::DoneNoMemory => text.push_str("done no-memory\n"),
         Shown::DoneMoving => text.push_str("done moving\n"),
+        Shown::BadUrl => text.push_str("bad-url\n"),
+        Shown::OpaqueOrigin => text.push_str("opaque-origin\n"),
+        Shown::Cast(posts) => write_cast(text, posts.as_slice()),
         Shown::State(state) => write_state(text, *state),
         Shown::Refused(error) => text.push_str(refused_line(*error)),
+    }
+}
+
+/// Writes the line of what a cast posted.
+fn write_cast(text: &mut String, posts: &[CastPost]) -> Result<(), AllocError>
+    ensures { OnOk result (string_bytes text.new
+        ≡ string_bytes text.old ++ cast_line posts.now) }
+{
+    if posts.is_empty() {
+        return text.push_str("cast nobody\n");
+    }
+    text.push_str("cast")?;
+    write_posts(text, posts)?;
+    text.push_str("\n")
+}
+
+fn write_posts(text: &mut String, posts: &[CastPost]) -> Result<(), AllocError>
+    ensures { OnOk result (string_bytes text.new
+        ≡ string_bytes text.old ++ posts_text posts.now) }
+{
+    for post in posts {
+        write_post(text, post)?;
+    }
+    Ok(())
+}
+
+/// Writes a space, the number of a destination, and what was answered there.
+fn write_post(text: &mut String, post: &CastPost) -> Result<(), AllocError>
+    ensures { OnOk result (string_bytes text.new
+        ≡ string_bytes text.old ++ post_text post.now) }
+{
+    let end = post.end.0;
+    match &post.outcome {
+        Outcome::Accepted(name) => {
+            write!(text, " {end} accepted {}:{}", name.epoch, name.number)
+        }
+        Outcome::NoMemory => write!(text, " {end} no-memory"),
+        Outcome::Closed => write!(text, " {end} closed"),
+        _ => write!(text, " {end} not-now"),
     }
 }
 

@@ -54,6 +54,35 @@ fn runs_orders_to_end(rt: HostRuntime) {
 }
 
 #[test]
+fn runs_casts(rt: HostRuntime) {
+    let rows: [(&[u8], &[u8]); 3] = [
+        (
+            b"agent https://a.test\nagent https://a.test:443\nagent https://b.test/x\n\
+                member 0 \"news\"\nmember 1 \"news\"\nmember 2 \"news\"\nmember 0 \"old\"\n\
+                cast 0 - \"x\"\ntake 1\ntake 2\ntake 0\ncast 0 3 \"x\"\nclose 1\n\
+                cast 0 - \"y\"\npart 1\ncast 0 - \"z\"\nclose 0\ncast 0 - \"z\"\n",
+            b"agent 0\nagent 1\nagent 2\nend 0\nend 1\nend 2\nend 3\n\
+                cast 1 accepted 0:0\ngot 0:0 from 0 \"x\"\nempty\nempty\nnot-transferable\n\
+                done\ncast 1 closed\ndone\ncast nobody\ndone\ninvalid-state\n",
+        ),
+        (
+            b"agent https://a.test\nmember 0 \"n\"\nmember 0 \"n\"\nmember 0 \"n\"\n\
+                !cast 0 - 1\ncast 0 - 2\nagent -\nmember 1 \"n\"\n",
+            b"agent 0\nend 0\nend 1\nend 2\ncast 1 no-memory 2 no-memory\n\
+                cast 1 accepted 0:0 2 accepted 0:0\nagent 1\nno-origin\n",
+        ),
+        // A URL that gives no origin makes no agent.
+        (
+            b"agent x\nagent data:,x\nagent -\nmember 0 \"\\ud83d\\ude00\"\ncast 0 - 1\npart 0\n",
+            b"bad-url\nopaque-origin\nagent 0\nno-origin\nnot-now\nnot-now\n",
+        ),
+    ];
+    for (input, output) in rows {
+        expect_written(&rt, Mode::Steps, input, output, 0);
+    }
+}
+
+#[test]
 fn runs_events_of_worker_agents(rt: HostRuntime) {
     let rows: [(&[u8], &[u8]); 3] = [
         // An agent has a life from its first worker's queue on.
@@ -136,7 +165,7 @@ fn runs_two_hundred_posts_and_takes(rt: HostRuntime) -> Result<(), Fail> {
 
 #[test]
 fn tells_the_first_bad_line_alone(rt: HostRuntime) {
-    let rows: [(&[u8], &[u8]); 58] = [
+    let rows: [(&[u8], &[u8]); 62] = [
         (b"fly 0", b"line 1: UnknownStep\n"),
         (b"fly \xff", b"line 1: BadUtf8\n"),
         (b"agent -\n\xff\nfly", b"line 2: BadUtf8\n"),
@@ -152,8 +181,6 @@ fn tells_the_first_bad_line_alone(rt: HostRuntime) {
         (b"take 0 1", b"line 1: BadWords\n"),
         (b"take  0", b"line 1: BadWords\n"),
         (b"agent", b"line 1: BadWords\n"),
-        (b"agent https://a.test", b"line 1: BadWords\n"),
-        (b"agent -\r\nchannel 0", b"line 1: BadWords\n"),
         (b"post 0 -", b"line 1: BadWords\n"),
         (b"post x", b"line 1: BadWords\n"),
         (b"adopt 0", b"line 1: BadWords\n"),
@@ -172,6 +199,12 @@ fn tells_the_first_bad_line_alone(rt: HostRuntime) {
         (b"event x fly", b"line 1: BadNumber\n"),
         (b"event 0 fly", b"line 1: BadEvent\n"),
         (b"event 0 Install", b"line 1: BadEvent\n"),
+        (b"agent - -", b"line 1: BadWords\n"),
+        (b"member 0 news", b"line 1: BadName\n"),
+        (b"member x news", b"line 1: BadNumber\n"),
+        (b"cast 0 x [", b"line 1: BadList\n"),
+        (b"cast 0 - [", b"line 1: NotJson\n"),
+        (b"part 0 -", b"line 1: BadWords\n"),
         (b"hop x", b"line 1: BadPoster\n"),
         (b"take ", b"line 1: BadNumber\n"),
         (b"take 4294967296", b"line 1: BadNumber\n"),
