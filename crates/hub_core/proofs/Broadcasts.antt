@@ -23,7 +23,8 @@ use Rattle.hub_core.specs.Sound.{Sound}
 use Rattle.hub_core.proofs.Sounds.{sound_next}
 use Rattle.hub_core.specs.Casting.{cast_answer, destinations, is_casting, part_answer}
 use Rattle.hub_core.specs.Shows.{ShowsFacts, ShowsRoster, end_now}
-use Rattle.hub_core.specs.Kept.{is_kept_open, kept_cast_answer, kept_holder, kept_maker, kept_member_answer, kept_running, member_made, part_outcome}
+use Rattle.hub_core.specs.Kept.{kept_holder, kept_maker, kept_running}
+use Rattle.hub_core.specs.KeptCasting.{is_kept_open, kept_cast_answer, kept_member_answer, member_made, part_outcome}
 use Rattle.hub_core.specs.KeptRoster.{cast_now, group_of, is_seated_in, kept_destinations, origin_at}
 use Rattle.hub_core.proofs.Casts.{destinations_kept, seated_kept}
 use Rattle.hub_core.proofs.Frames.{Stepped, unchanged}

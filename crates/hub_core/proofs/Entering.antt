@@ -20,7 +20,8 @@ use Rattle.hub_core.specs.Facts.{EndNow, LineNow, Facts}
 use Rattle.hub_core.specs.Posting.{is_out, holder, enter_answer, leave_answer, may_enter, is_here, poster_of, is_with}
 use Rattle.hub_core.specs.Sound.{no_end, no_line, Sound}
 use Rattle.hub_core.specs.Shows.{end_now, line_now, ShowsPut, ShowsEnd, ShowsFacts, count_away}
-use Rattle.hub_core.specs.Kept.{gate_answer, phase_of, enter_outcome, enter_end, enter_outcome_at, enter_ends_at, leave_outcome, leave_end, leave_outcome_at, leave_ends_at, may_come, kept_may_enter, enter_agents, leave_agents, kept_owner_of, kept_owner_at, kept_owner_on, change_owner, kept_owner, with_agent, one_out, one_away, kept_place}
+use Rattle.hub_core.specs.Kept.{gate_answer, phase_of, enter_outcome, enter_end, enter_outcome_at, enter_ends_at, leave_outcome, leave_end, leave_outcome_at, leave_ends_at, may_come, kept_may_enter, change_owner, kept_owner, with_agent, one_out, one_away, kept_place}
+use Rattle.hub_core.specs.KeptEnding.{enter_agents, leave_agents, kept_owner_of, kept_owner_at, kept_owner_on}
 use Rattle.hub_core.proofs.Lists.{eqb_same, set_again, each_set, is_there}
 use Rattle.hub_core.proofs.Frames.{ShownAt, Stepped, changed, unchanged, recounted}
 use Rattle.hub_core.proofs.Holders.{may_kept, place_kept}

@@ -40,7 +40,8 @@ use Rattle.std.proofs.lemmas.List.{length-replicate}
 use Rattle.hub_core.specs.Posting.{is_with, is_out}
 use Rattle.hub_core.proofs.Fitting.{queue_made_of, member_made_of}
 use Rattle.hub_core.specs.Casting.{member_answer, is_casting}
-use Rattle.hub_core.specs.Kept.{kept_member_answer, member_made, set_agent, one_more}
+use Rattle.hub_core.specs.Kept.{set_agent, one_more}
+use Rattle.hub_core.specs.KeptCasting.{kept_member_answer, member_made}
 use Rattle.hub_core.proofs.Lists.{set_again}
 use Rattle.hub_core.proofs.Calms.{calm_places}
 

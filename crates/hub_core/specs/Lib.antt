@@ -25,6 +25,8 @@ pub mod Legal
 pub mod Sound
 pub mod Shows
 pub mod Kept
+pub mod KeptCasting
+pub mod KeptEnding
 pub mod KeptRoster
 pub mod Unchanged
 pub mod Numbers

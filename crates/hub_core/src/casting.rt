@@ -1,5 +1,6 @@
 ghost use Rattle.std.specs.Prelude.{◌≡◌, ◌++◌, ◌∷◌, ◌&&◌, [], length, not, is_some, slice_get, IfOk, OnOk, OnErr};
-ghost use Rattle.hub_core.specs.Kept.{kept_running, kept_holder, kept_member_answer, kept_maker, is_kept_open, kept_cast_answer, member_made, part_outcome};
+ghost use Rattle.hub_core.specs.Kept.{kept_running, kept_holder, kept_maker};
+ghost use Rattle.hub_core.specs.KeptCasting.{kept_member_answer, is_kept_open, kept_cast_answer, member_made, part_outcome};
 ghost use Rattle.hub_core.specs.KeptRoster.{cast_now, origin_at, group_of, is_seated_in, kept_destinations, MemberLeaves, CastLeaves, PartLeaves, SameRoster};
 ghost use Rattle.hub_core.specs.Posting.{is_empty};
 

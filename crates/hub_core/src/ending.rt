@@ -1,5 +1,6 @@
 ghost use Rattle.std.specs.Prelude.{◌≡◌, ◌++◌, ◌∷◌, [], length, slice_get, if◌then◌else◌, IfOk, OnOk, OnErr};
-ghost use Rattle.hub_core.specs.Kept.{kept_owner, kept_place, with_agent, kept_owner_of, change_owner, one_away, one_out, order_outcome_at, order_agents, see_outcome, see_agents, kept_ends_at};
+ghost use Rattle.hub_core.specs.Kept.{kept_owner, kept_place, with_agent, change_owner, one_away, one_out};
+ghost use Rattle.hub_core.specs.KeptEnding.{kept_owner_of, order_outcome_at, order_agents, see_outcome, see_agents, kept_ends_at};
 
 use crate::agent::Agent;
 use crate::end::Place;

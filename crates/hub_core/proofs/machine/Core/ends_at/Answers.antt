@@ -5,7 +5,7 @@ use Rattle.std.proofs.lemmas.Option.{slice_get_read}
 use Rattle.hub_envelope.specs.declared.ids.EndId.{EndId}
 use Rattle.hub_core.specs.declared.end.End.{End}
 use Rattle.hub_core.specs.Ending.{ends_below}
-use Rattle.hub_core.specs.Kept.{is_kept_at, kept_ends_at}
+use Rattle.hub_core.specs.KeptEnding.{is_kept_at, kept_ends_at}
 use Rattle.hub_core.proofs.machine.Core.ends_at.Goals as goal
 
 pub loop-number-preserved : goal.loop-number-preserved

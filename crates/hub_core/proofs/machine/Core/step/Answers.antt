@@ -12,7 +12,8 @@ use Rattle.hub_core.proofs.Stepping.{stepped, stepped_with, ok_both, ok_all, ent
 use Rattle.hub_core.proofs.Makes.{agent_shown, channel_shown, client_shown, worker_shown}
 use Rattle.hub_core.proofs.Holds.{line_shown, line_same, back_shown, back_same}
 use Rattle.hub_core.proofs.Hands.{hand_shown, hand_same, hand_agents_same}
-use Rattle.hub_core.specs.Kept.{close_agents, enter_agents, leave_agents, kept_owner_of}
+use Rattle.hub_core.specs.Kept.{close_agents}
+use Rattle.hub_core.specs.KeptEnding.{enter_agents, leave_agents, kept_owner_of}
 use Rattle.hub_core.proofs.Entering.{enter_shown, enter_agents_same, leave_shown, leave_agents_same}
 use Rattle.hub_core.proofs.Endings.{order_shown, order_same, see_shown, see_same}
 use Rattle.hub_core.proofs.Pushes.{push_shown}
