@@ -26,6 +26,13 @@ impl<V: Named> Depot<V> {
         }
     }
 
+    /// The map that `into_kept` gave, behind a lock again. It takes no memory.
+    pub fn holding(kept: Kept<V>) -> Depot<V> {
+        Depot {
+            kept: Mutex::new(kept),
+        }
+    }
+
     /// Keeps a value under its name: `Kept::put` under the lock.
     ///
     /// `Taken` where a value of that name was kept, else `OutOfMemory` where there was no memory.

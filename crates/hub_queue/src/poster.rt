@@ -1,3 +1,4 @@
+ghost use Rattle.std.specs.Prelude.{◌≡◌};
 ghost use Rattle.hub_queue.specs.Posting.{IsPosted};
 
 use crate::onward::Onward;
@@ -6,7 +7,7 @@ use crate::post_error::PostError;
 use crate::posted::Posted;
 use crate::posting::post_from;
 use crate::stand::Stand;
-use hub_depot::Depot;
+use hub_depot::{Depot, Key};
 use hub_envelope::Draft;
 use std::marker::Model;
 use std::sync::Wait;
@@ -30,6 +31,16 @@ impl Model for Poster {
 }
 
 impl Poster {
+    /// The end, the queue and the line that it posts at.
+    pub fn name(&self) -> Key
+        ensures { result ≡ self.now.name }
+    {
+        match &self.stand {
+            Some(stand) => stand.name,
+            None => unreachable!(),
+        }
+    }
+
     /// Posts a draft at the end (WHATWG HTML, "Message ports": the message port post message
     /// steps, of which this is the last, the adding to the port message queue). Where the queue was
     /// retired, the line goes on to the next one, whose onward poster it takes from the yard.

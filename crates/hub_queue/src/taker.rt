@@ -1,6 +1,6 @@
 ghost use Rattle.std.specs.Prelude.{◌≡◌, length};
 ghost use Rattle.std.specs.List.{AllByRecursion};
-ghost use Rattle.hub_queue.specs.Adopting.{IsAdopted};
+ghost use Rattle.hub_queue.specs.Adopting.{IsAdopted, newest_epoch};
 ghost use Rattle.hub_queue.specs.Ending.{IsClosed};
 ghost use Rattle.hub_queue.specs.Places.{IsShut};
 ghost use Rattle.hub_queue.specs.Taking.{IsTaken, IsTakenOldest, started};
@@ -111,6 +111,20 @@ impl Taker {
             }
             took => took,
         }
+    }
+
+    /// The end that it takes from.
+    pub fn end(&self) -> EndId
+        ensures { result.0 ≡ self.now.end }
+    {
+        self.end
+    }
+
+    /// How often the end was adopted, which is the epoch of its newest queue.
+    pub fn moves(&self) -> u32
+        ensures { result ≡ newest_epoch self.now }
+    {
+        self.epoch + self.behind()
     }
 
     /// How many queues there are from the taker's to the newest, that one not counted.

@@ -1,0 +1,4 @@
+pub mod Closes
+pub mod Listed
+pub mod Refused
+pub mod Splits

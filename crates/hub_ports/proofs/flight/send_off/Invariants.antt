@@ -1,0 +1,11 @@
+use Rattle.std.proofs.Common.{◌≡◌, ◌≤◌, take, vec_len, vec_capacity}
+use Rattle.hub_ports.proofs.flight.send_off.Given as goal
+
+abbrev pub invariant-loop-port : goal.invariant-loop-port
+invariant-loop-port g l = record {
+  stayed : l.ports.items ≡ take (vec_len l.ports) l.fn.ports.items;
+  room : vec_len l.fn.ports ≤ vec_capacity l.ports;
+}
+
+abbrev pub decreases-loop-port : goal.decreases-loop-port
+decreases-loop-port g l = vec_len l.ports

@@ -1,0 +1,76 @@
+//! How a port is closed, and how all ports of a list are.
+ghost use Rattle.std.specs.Prelude.{◌≡◌, ◌≤◌, length};
+ghost use Rattle.hub_envelope.specs.declared.limits.TheConstants.{MAX_PORTS};
+ghost use Rattle.hub_queue.specs.Ending.{IsClosed};
+ghost use Rattle.hub_ports.specs.Closing.{IsNoticed, IsClosedAs, AreClosed};
+
+use crate::closings::Closings;
+use crate::noticed::Noticed;
+use crate::port::Port;
+use crate::spent::Spent;
+use hub_depot::Depot;
+use hub_envelope::{Draft, EndId};
+use hub_queue::{Grave, Onward, PostError, Poster};
+use std::alloc::Global;
+use std::sync::Wait;
+
+// Puts the notice on the line.
+fn put_notice<R: Wait>(rt: &R, alloc: Global, yard: &Depot<Onward>, poster: &mut Poster) -> Noticed
+    ensures { IsNoticed poster.old poster.new result }
+{
+    let Ok(draft) = Draft::notice(alloc) else {
+        return Noticed::OutOfMemory;
+    };
+    match poster.post(rt, yard, draft) {
+        Ok(posted) => Noticed::Put(posted),
+        Err((PostError::Closed, _)) => Noticed::PeerClosed,
+        Err((PostError::Moving, _)) => Noticed::Moving,
+        Err((PostError::OutOfMemory, _)) => Noticed::OutOfMemory,
+    }
+}
+
+/// Closes a port: the notice first, and then the port's own end.
+pub(crate) fn close_port<R: Wait>(
+    rt: &R,
+    alloc: Global,
+    yard: &Depot<Onward>,
+    port: Port,
+) -> (Grave, Spent, Noticed)
+    ensures grave { IsClosed port.taker result.0 }
+    ensures notice { IsNoticed port.poster result.1 result.2 }
+{
+    let Port { taker, mut poster } = port;
+    let noticed = put_notice(rt, alloc, yard, &mut poster);
+    (taker.close(), Spent { poster }, noticed)
+}
+
+// Closes a port and drops what is left of its end: its number, and what became of its notice.
+fn close_unswept<R: Wait>(
+    rt: &R,
+    alloc: Global,
+    yard: &Depot<Onward>,
+    port: Port,
+) -> (EndId, Noticed)
+    ensures { IsClosedAs port result }
+{
+    let end = port.end();
+    let (_grave, _spent, noticed) = close_port(rt, alloc, yard, port);
+    (end, noticed)
+}
+
+/// Closes the ports of a list in order. What waits for them is dropped.
+pub(crate) fn close_all<R: Wait>(
+    rt: &R,
+    alloc: Global,
+    yard: &Depot<Onward>,
+    ports: Vec<Port>,
+) -> Closings
+    requires { length ports.items ≤ MAX_PORTS }
+    ensures { AreClosed ports.items result }
+{
+    let mut closings = Closings::none();
+    for port in ports {
+        closings.push(close_unswept(rt, alloc, yard, port));
+    }
+    closings
+}

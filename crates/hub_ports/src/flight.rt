@@ -1,0 +1,74 @@
+//! Ports in flight: how the ports of a list are put there, and how they are taken back.
+ghost use Rattle.std.specs.Prelude.{◌≡◌, ◌+◌, ◌<◌, ◌≤◌, [], take, length, vec_len, vec_capacity, OnOk, IfErr};
+ghost use Rattle.hub_ports.specs.Refusing.{IsOfFlight};
+ghost use Rattle.hub_ports.specs.Seats.{ends_of, place_of};
+ghost use Rattle.hub_ports.specs.Splitting.{IsSplit};
+
+use crate::port::Port;
+use crate::send_refusal::SendRefusal;
+use hub_depot::{Depot, DepotError, Key};
+use hub_envelope::{EndId, LineId};
+use std::sync::Wait;
+
+/// The name under which a port waits in flight: its number, with epoch 0 and line 0.
+pub(crate) fn place(end: EndId) -> Key
+    ensures { result ≡ place_of end }
+{
+    Key {
+        end,
+        epoch: 0,
+        line: LineId(0),
+    }
+}
+
+/// Puts the ports of a list in flight, from the last to the first, so that what is still in hand is
+/// always a beginning of the list. After an error the port that was refused is the last in hand.
+pub(crate) fn send_off<R: Wait>(
+    rt: &R,
+    flight: &Depot<Port>,
+    ports: &mut Vec<Port>,
+) -> Result<(), SendRefusal>
+    ensures all { OnOk result (ports.new.items ≡ []) }
+    ensures refusal { IfErr result IsOfFlight }
+    ensures stayed { ports.new.items ≡ take (vec_len ports.new) ports.old.items }
+    ensures room { vec_len ports.old ≤ vec_capacity ports.new }
+{
+    while let Some(port) = ports.pop() {
+        match flight.put(rt, port) {
+            Ok(()) => {}
+            Err(DepotError::Taken(port)) => {
+                ports.push_reserved(port);
+                return Err(SendRefusal::Taken);
+            }
+            Err(DepotError::OutOfMemory(port)) => {
+                ports.push_reserved(port);
+                return Err(SendRefusal::OutOfMemory);
+            }
+        }
+    }
+    Ok(())
+}
+
+/// Takes the ports of a list back from flight, in order. Those that it begins with are in hand
+/// still.
+pub(crate) fn call_back<R: Wait>(
+    rt: &R,
+    flight: &Depot<Port>,
+    numbers: &[EndId],
+    ports: &mut Vec<Port>,
+    missing: &mut Vec<EndId>,
+)
+    requires begun { ends_of ports.old.items ≡ take (vec_len ports.old) numbers.now }
+    requires none { missing.old.items ≡ [] }
+    requires ports { length numbers.now ≤ vec_capacity ports.old }
+    requires missing { length numbers.now ≤ vec_capacity missing.old }
+    ensures { IsSplit numbers.now (ends_of ports.new.items) missing.new.items }
+{
+    for index in ports.len()..numbers.len() {
+        let number = numbers[index];
+        match flight.take(rt, place(number)) {
+            Some(port) => ports.push_reserved(port),
+            None => missing.push_reserved(number),
+        }
+    }
+}

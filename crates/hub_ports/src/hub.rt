@@ -1,0 +1,86 @@
+use crate::arrival::Arrival;
+use crate::arrived::Arrived;
+use crate::ending::close_flight;
+use crate::flight::place;
+use crate::port::Port;
+use hub_depot::Depot;
+use hub_envelope::{Envelope, OutOfMemory};
+use hub_queue::{Grave, Onward};
+use std::alloc::{AllocError, Global};
+use std::sync::Wait;
+
+/// What the agents of a hub share: the ports that were sent and not yet received, and the onward
+/// posters of ends that were adopted. Ports that use one hub have different numbers.
+///
+/// `flight` and `yard` each have a lock. No call takes one while it holds the other, and nothing
+/// else is locked inside.
+#[derive(Drop)]
+pub struct Hub {
+    /// The ports that were sent, under their numbers.
+    pub flight: Depot<Port>,
+    /// The onward posters that wait for the lines of ends that were adopted.
+    pub yard: Depot<Onward>,
+    pub(crate) alloc: Global,
+    /// An end that a refused `end` has closed and not yet emptied.
+    grave: Option<Grave>,
+}
+
+impl Hub {
+    ghost use Rattle.std.specs.Prelude.{IfOk};
+    ghost use Rattle.hub_ports.specs.Seats.{ends_of};
+    ghost use Rattle.hub_ports.specs.Splitting.{IsSplit};
+
+    /// No port is in flight, and the yard is empty. It takes no memory. What the calls on this hub
+    /// want of it is had from this allocator.
+    pub fn new(alloc: Global) -> Hub {
+        Hub {
+            flight: Depot::new(alloc),
+            yard: Depot::new(alloc),
+            alloc,
+            grave: None,
+        }
+    }
+
+    /// Takes the ports that a received envelope names out of flight (WHATWG HTML, "Transferable
+    /// objects": the transfer-receiving steps begin with it). After an error no port was taken.
+    pub fn arrive<R: Wait>(&self, rt: &R, envelope: &Envelope) -> Result<Arrival, OutOfMemory>
+        ensures { IfOk result (λ arrival.
+            IsSplit envelope.now.ports (ends_of arrival.found.items) arrival.missing.items) }
+    {
+        let numbers = envelope.ports.as_slice();
+        let mut found = Vec::with_capacity(self.alloc, numbers.len())?;
+        let mut missing = Vec::with_capacity(self.alloc, numbers.len())?;
+        for number in numbers {
+            match self.flight.take(rt, place(*number)) {
+                Some(port) => found.push_reserved(Arrived { port }),
+                None => missing.push_reserved(*number),
+            }
+        }
+        Ok(Arrival { found, missing })
+    }
+
+    /// Ends the hub: closes every port that is in flight, each with its notice, and discards what
+    /// waits for it. A port that a discarded envelope names is in flight, and so is among them.
+    ///
+    /// It waits for whoever is inside at such an end. After want of memory the next call on the hub
+    /// that comes back goes on.
+    pub fn end<R: Wait>(self, rt: &R) -> Result<(), (OutOfMemory, Hub)> {
+        let Hub {
+            flight,
+            yard,
+            alloc,
+            grave,
+        } = self;
+        let mut kept = flight.into_kept();
+        let Err(grave) = close_flight(rt, alloc, &yard, grave, &mut kept) else {
+            return Ok(());
+        };
+        let hub = Hub {
+            flight: Depot::holding(kept),
+            yard,
+            alloc,
+            grave: Some(grave),
+        };
+        Err((AllocError, hub))
+    }
+}

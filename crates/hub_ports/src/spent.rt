@@ -1,0 +1,17 @@
+use hub_queue::Poster;
+use std::marker::Model;
+
+/// The poster of a port that was closed. Contracts see by it what the notice came to; it has no
+/// call, so nothing is put on its line after the notice.
+#[derive(Drop)]
+pub struct Spent {
+    pub(crate) poster: Poster,
+}
+
+impl Model for Spent {
+    ghost use Rattle.hub_queue.specs.Standing.{StandSeat};
+
+    ghost Value = { StandSeat };
+
+    ghost view = { λ s. s.poster };
+}

@@ -1,0 +1,91 @@
+//! What the tests make their ports of. Each call is made again where an allocation was refused,
+//! since the next one has the memory.
+ghost use Rattle.std.specs.Prelude.{◌≡◌};
+
+use crossbeam_utils::sync::Parker;
+use hub_envelope::{Body, EndId};
+use hub_ports::{Port, channel};
+use hub_queue::{Bell, Ends, Steps, Took};
+use std::alloc::Global;
+use std::marker::Brand;
+use std::sync::Wait;
+use std::sync::ledger::{Blank, Ledger};
+
+fn try_bell(alloc: Global) -> Option<Bell> {
+    let parker = Parker::new(alloc).ok()?;
+    Some(Bell::new(parker.unparker().clone().ok()?))
+}
+
+/// A bell that nobody sleeps at.
+pub(crate) fn bell(alloc: Global) -> Option<Bell> {
+    match try_bell(alloc) {
+        Some(bell) => Some(bell),
+        None => try_bell(alloc),
+    }
+}
+
+fn try_entangled(alloc: Global, ends: &mut Ends) -> Option<(Port, Port)> {
+    channel(alloc, ends, bell(alloc)?).ok()
+}
+
+/// Two ports of the next two numbers, entangled with each other.
+pub(crate) fn entangled(alloc: Global, ends: &mut Ends) -> Option<(Port, Port)> {
+    match try_entangled(alloc, ends) {
+        Some(ports) => Some(ports),
+        None => try_entangled(alloc, ends),
+    }
+}
+
+/// The body that a text stands for.
+pub(crate) fn body(alloc: Global, text: &str) -> Option<Body> {
+    match Body::read(alloc, text) {
+        Ok(body) => Some(body),
+        Err(_) => Body::read(alloc, text).ok(),
+    }
+}
+
+/// An empty list with room for so many ports.
+pub(crate) fn room(alloc: Global, count: usize) -> Option<Vec<Port>> {
+    match Vec::with_capacity(alloc, count) {
+        Ok(ports) => Some(ports),
+        Err(_) => Vec::with_capacity(alloc, count).ok(),
+    }
+}
+
+fn take_counted<L: Ledger, R: Wait>(rt: &R, port: &mut Port, blank: Blank) -> Took
+    requires { (blank.name ≡ L.name) × (blank.parts ≡ L.parts) × (L.parts ≡ 2) }
+{
+    let mut steps = Steps::<L>::begin(blank);
+    port.take(rt, &mut steps)
+}
+
+/// Takes once, with a count of pops of its own.
+pub(crate) fn take<R: Wait>(rt: &R, port: &mut Port) -> Took {
+    take_counted::<Brand, R>(rt, port, Blank::new(2))
+}
+
+/// Whether these numbers are these, in order.
+pub(crate) fn are_numbers(ends: &[EndId], numbers: &[u32]) -> bool {
+    if ends.len() != numbers.len() {
+        return false;
+    }
+    for (end, number) in ends.iter().zip(numbers) {
+        if end.0 != *number {
+            return false;
+        }
+    }
+    true
+}
+
+/// Whether the numbers of these ports are these, in order.
+pub(crate) fn are_numbered(ports: &[Port], numbers: &[u32]) -> bool {
+    if ports.len() != numbers.len() {
+        return false;
+    }
+    for (port, number) in ports.iter().zip(numbers) {
+        if port.end() != EndId(*number) {
+            return false;
+        }
+    }
+    true
+}
