@@ -1,0 +1,4 @@
+pub mod Handing
+pub mod Listings
+pub mod Lines
+pub mod NewQueues

@@ -1,0 +1,171 @@
+ghost use Rattle.std.specs.Prelude.{◌≡◌, ◌+◌, ◌<◌, ◌≤◌, ◌↔◌};
+ghost use Rattle.std.specs.Prelude.{IfSome, IfOk, OnOk, IfErr, OnErr, IsErrOf};
+ghost use Rattle.std.specs.FinMap as map;
+ghost use Rattle.hub_core.specs.declared.limits.TheConstants.{MAX_ENDS, MAX_LINES};
+ghost use Rattle.hub_clients.specs.Handing.{taker_of};
+ghost use Rattle.hub_clients.specs.NewQueues.{IsNewClientQueue, IsNewWorkerQueue};
+
+use crate::client_queue::ClientQueue;
+use crate::directory_error::DirectoryError;
+use crate::hand_error::HandError;
+use crate::handed::Handed;
+use crate::handed_queue::HandedQueue;
+use crate::listed::Listed;
+use crate::listing::Listing;
+use crate::queue_error::QueueError;
+use crate::worker_queue::WorkerQueue;
+use hub_core::MAX_LINES;
+use hub_depot::{Depot, DepotError, Kept};
+use hub_envelope::{AgentId, EndId};
+use hub_queue::{Bell, Ends, Mailbox, Poster, Taker};
+use std::alloc::Global;
+use std::sync::{Mutex, Wait};
+
+/// Where agents find the queues of clients and workers, and where a queue waits that goes from one
+/// agent to another. Threads share it.
+///
+/// `line_to` and `give_back` are the calls of that name on the `Listing` behind the lock, under one
+/// taking of the lock. What is listed at that moment no contract of these calls can say, since
+/// another thread may act between any two of them.
+#[derive(Drop)]
+pub struct Directory {
+    alloc: Global,
+    listing: Mutex<Listing>,
+    handed: Depot<Handed>,
+}
+
+impl Directory {
+    /// Nothing is listed, and no queue is handed on. It takes no memory.
+    pub fn new(alloc: Global) -> Directory {
+        Directory {
+            alloc,
+            listing: Mutex::new(Listing::new(alloc)),
+            handed: Depot::new(alloc),
+        }
+    }
+
+    // A queue of the next number, which is listed with all its lines at home. All that can be
+    // refused but the place in the listing is made before the lock is taken, and the number is used
+    // up last.
+    fn open<R: Wait>(&self, rt: &R, ends: &mut Ends, bell: Bell) -> Result<Taker, QueueError>
+        ensures queue { IfOk result (IsNewClientQueue ends.old.drawn) }
+        ensures drawn { OnOk result (ends.new.drawn ≡ ends.old.drawn + 1) }
+        ensures err { OnErr result (ends.new ≡ ends.old) }
+        ensures many { IsErrOf result QueueError.TooManyEnds ↔ (MAX_ENDS ≤ ends.old.drawn) }
+    {
+        let mut drawn = *ends;
+        let Some(end) = drawn.draw() else {
+            return Err(QueueError::TooManyEnds);
+        };
+        let (taker, posters) = Mailbox::open(self.alloc, end, MAX_LINES as u8, bell)?;
+        let listed = Listed::new(self.alloc, end, posters)?;
+        self.listing.lock(rt).list(listed)?;
+        *ends = drawn;
+        Ok(taker)
+    }
+
+    /// Makes and lists the message queue of a client, which is empty and disabled (W3C Service
+    /// Workers, "client message queue"). It stays listed as long as the directory stands.
+    ///
+    /// `TooManyEnds` exactly where no number is left; else `OutOfMemory` where there was no memory.
+    /// After either no number is used, and nothing more is listed.
+    pub fn client<R: Wait>(
+        &self,
+        rt: &R,
+        ends: &mut Ends,
+        bell: Bell,
+    ) -> Result<ClientQueue, QueueError>
+        ensures queue { IfOk result (IsNewClientQueue ends.old.drawn) }
+        ensures drawn { OnOk result (ends.new.drawn ≡ ends.old.drawn + 1) }
+        ensures err { OnErr result (ends.new ≡ ends.old) }
+        ensures many { IsErrOf result QueueError.TooManyEnds ↔ (MAX_ENDS ≤ ends.old.drawn) }
+    {
+        let taker = self.open(rt, ends, bell)?;
+        Ok(ClientQueue { taker })
+    }
+
+    /// Makes and lists the message queue of a worker, which is empty and enabled. All else is as of
+    /// `client`.
+    pub fn worker<R: Wait>(
+        &self,
+        rt: &R,
+        ends: &mut Ends,
+        bell: Bell,
+    ) -> Result<WorkerQueue, QueueError>
+        ensures queue { IfOk result (IsNewWorkerQueue ends.old.drawn) }
+        ensures drawn { OnOk result (ends.new.drawn ≡ ends.old.drawn + 1) }
+        ensures err { OnErr result (ends.new ≡ ends.old) }
+        ensures many { IsErrOf result QueueError.TooManyEnds ↔ (MAX_ENDS ≤ ends.old.drawn) }
+    {
+        let mut taker = self.open(rt, ends, bell)?;
+        taker.start();
+        Ok(WorkerQueue { taker })
+    }
+
+    /// Lends a line to an end, the least that is at home: `Listing::line_to` under the lock. The
+    /// poster is the line's only one, so nobody else can post over it until it is given back. What
+    /// the line has put goes on from the agent that had it before.
+    ///
+    /// `NoSuchEnd` where no queue of that number is listed, `NoLine` where each of its lines is
+    /// lent. It takes no memory.
+    pub fn line_to<R: Wait>(&self, rt: &R, end: EndId) -> Result<Poster, DirectoryError>
+        ensures { IfOk result (λ p. (p.name.end ≡ end) × (p.name.line.0 < MAX_LINES)) }
+    {
+        self.listing.lock(rt).line_to(end)
+    }
+
+    /// Takes a line back: `Listing::give_back` under the lock. The poster comes back where no
+    /// listed queue has that line out. It takes no memory.
+    pub fn give_back<R: Wait>(&self, rt: &R, poster: Poster) -> Result<(), Poster>
+        ensures { IfErr result (λ back. back ≡ poster) }
+    {
+        self.listing.lock(rt).give_back(poster)
+    }
+
+    /// Keeps a queue until that agent fetches it.
+    pub(crate) fn keep<R: Wait>(
+        &self,
+        rt: &R,
+        queue: HandedQueue,
+        to: AgentId,
+    ) -> Result<(), (HandError, HandedQueue)>
+        ensures { IfErr result (λ refused. refused.1 ≡ queue) }
+    {
+        match self.handed.put(rt, Handed { queue, to }) {
+            Ok(()) => Ok(()),
+            Err(DepotError::Taken(Handed { queue, to: _ })) => Err((HandError::Taken, queue)),
+            Err(DepotError::OutOfMemory(Handed { queue, to: _ })) => {
+                Err((HandError::OutOfMemory, queue))
+            }
+        }
+    }
+
+    /// Takes out the queue of that number that was handed to that agent. `None` where none waits.
+    /// It takes no memory.
+    pub fn fetch<R: Wait>(&self, rt: &R, end: EndId, to: AgentId) -> Option<Handed>
+        ensures { IfSome result (λ h. ((taker_of h.queue).end ≡ end.0) × (h.to ≡ to)) }
+    {
+        self.handed.take(rt, Handed::name_for(end, to))
+    }
+
+    /// Closes every queue that still waits for an agent. What is left of them is discarded: ports
+    /// that are named there stay where they wait. It takes no memory.
+    pub fn end<R: Wait>(self, _rt: &R) {
+        let Directory {
+            alloc: _,
+            listing: _,
+            handed,
+        } = self;
+        let mut waiting = handed.into_kept();
+        close_all(&mut waiting);
+    }
+}
+
+// Closes all queues that wait.
+fn close_all(waiting: &mut Kept<Handed>)
+    ensures { waiting.new ≡ map.empty }
+{
+    while let Some(Handed { queue, to: _ }) = waiting.take_any() {
+        queue.close();
+    }
+}

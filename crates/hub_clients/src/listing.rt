@@ -1,0 +1,104 @@
+ghost use Rattle.std.specs.Prelude.{◌≡◌, ◌<◌, [], IfOk, OnOk, OnErr};
+ghost use Rattle.hub_core.specs.declared.limits.TheConstants.{MAX_LINES};
+ghost use Rattle.hub_clients.specs.Lines.{IsLent, IsGivenBack};
+ghost use Rattle.hub_clients.specs.Listings.{IsInOrder, IsListed, IsPlaceBehind, IsPlaceOf};
+
+use crate::directory_error::DirectoryError;
+use crate::listed::Listed;
+use hub_core::OutOfMemory;
+use hub_envelope::EndId;
+use hub_queue::Poster;
+use std::alloc::Global;
+use std::marker::Model;
+
+/// The listed queues, in the order of their numbers: what a `Directory` holds behind its lock.
+///
+/// A poster is lent by being taken out of its line, so nobody else can have it until it comes back.
+#[derive(Drop)]
+pub struct Listing {
+    queues: Vec<Listed>,
+}
+
+impl Model for Listing {
+    ghost use Rattle.std.specs.Prelude.{List};
+    ghost use Rattle.hub_clients.specs.Listings.{ListedSeat, IsInOrder};
+
+    ghost Value = { List ListedSeat };
+
+    ghost view = { λ l. l.queues.items };
+
+    ghost invariant = { λ l. IsInOrder l.queues.items };
+}
+
+// Where the first queue of that number is listed.
+fn place_of(queues: &[Listed], end: EndId) -> Option<usize>
+    requires { IsInOrder queues.now }
+    ensures { IsPlaceOf queues.now end result }
+{
+    let place = queues.partition_point(|queue| queue.end().0 < end.0);
+    let queue = queues.get(place)?;
+    if queue.end() == end {
+        Some(place)
+    } else {
+        None
+    }
+}
+
+// Where a queue of that number is to be listed.
+fn place_behind(queues: &[Listed], end: EndId) -> usize
+    requires { IsInOrder queues.now }
+    ensures { IsPlaceBehind queues.now end result }
+{
+    queues.partition_point(|queue| queue.end().0 <= end.0)
+}
+
+impl Listing {
+    /// Nothing is listed. It takes no memory.
+    pub fn new(alloc: Global) -> Listing
+        ensures { result ≡ [] }
+    {
+        Listing {
+            queues: Vec::new(alloc),
+        }
+    }
+
+    /// Lists a queue, behind those of its own or a lower number. Where its number is the greatest,
+    /// as of queues that are listed in the order in which they are made, no other is moved.
+    /// `OutOfMemory` where there was no memory for one more; then what is listed is as it was.
+    pub fn list(&mut self, queue: Listed) -> Result<(), OutOfMemory>
+        ensures ok { OnOk result (IsListed self.old self.new queue) }
+        ensures err { OnErr result (self.new ≡ self.old) }
+    {
+        let place = place_behind(&self.queues, queue.end());
+        self.queues.insert(place, queue)?;
+        Ok(())
+    }
+
+    /// Lends the poster of the least line at home of the first queue of that number.
+    ///
+    /// `NoSuchEnd` exactly where no queue of that number is listed, `NoLine` exactly where all
+    /// lines of the queue are out. It costs the logarithm of the queues and a look at each line,
+    /// and takes no memory.
+    pub fn line_to(&mut self, end: EndId) -> Result<Poster, DirectoryError>
+        ensures lent { IsLent self.old self.new end result }
+        ensures poster { IfOk result (λ p. (p.name.end ≡ end) × (p.name.line.0 < MAX_LINES)) }
+    {
+        let Some(place) = place_of(&self.queues, end) else {
+            return Err(DirectoryError::NoSuchEnd);
+        };
+        let queue = &mut self.queues[place];
+        queue.take_out().ok_or(DirectoryError::NoLine)
+    }
+
+    /// Puts a poster back to its line at the first queue of its number. The poster comes back where
+    /// that line isn't out there. It costs the logarithm of the queues, and takes no memory.
+    pub fn give_back(&mut self, poster: Poster) -> Result<(), Poster>
+        ensures { IsGivenBack self.old self.new poster result }
+    {
+        let Some(place) = place_of(&self.queues, poster.name().end) else {
+            return Err(poster);
+        };
+        let queue = &mut self.queues[place];
+        queue.put_back(poster)
+    }
+}
