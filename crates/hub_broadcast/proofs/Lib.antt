@@ -1,1 +1,4 @@
+pub mod Casts
+pub mod Joins
+pub mod Ranking
 pub mod Refusals

@@ -1,2 +1,7 @@
-pub mod Refusal
+pub mod Casting
+pub mod Destinations
+pub mod Joining
+pub mod Members
 pub mod Origin
+pub mod Ranks
+pub mod Refusal

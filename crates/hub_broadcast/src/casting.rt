@@ -1,0 +1,66 @@
+//! The parts of a cast: a draft for each destination, and a post of it there.
+ghost use Rattle.std.specs.Prelude.{◌≡◌, All, vec_len, IfOk, OnErr};
+ghost use Rattle.hub_broadcast.specs.Casting.{IsBroadcast, cast_draft};
+
+use crate::cast_outcome::CastOutcome;
+use crate::member::Member;
+use crate::subscription::Subscription;
+use hub_depot::Depot;
+use hub_envelope::{Body, Draft, EndId, OutOfMemory, Ports};
+use hub_queue::Onward;
+use std::alloc::Global;
+use std::sync::Wait;
+
+/// So many drafts of what the source casts.
+pub(crate) fn drafts_of(
+    alloc: Global,
+    source: &Member,
+    body: &Body,
+    count: usize,
+) -> Result<Vec<Draft>, OutOfMemory>
+    ensures len { IfOk result (λ drafts. vec_len drafts ≡ count) }
+    ensures same { IfOk result
+        (λ drafts. All (λ draft. draft ≡ cast_draft source.now body.now) drafts.items) }
+{
+    let mut drafts = Vec::with_capacity(alloc, count)?;
+    for _ in 0..count {
+        drafts.push(Draft {
+            agent: source.agent,
+            body: body.clone()?,
+            ports: Ports::none(alloc),
+            notice: false,
+        })?;
+    }
+    Ok(drafts)
+}
+
+/// Posts the body at each destination of the source, in order: what became of it there. It makes
+/// all that can be refused before the first post.
+pub(crate) fn cast_all<R: Wait>(
+    rt: &R,
+    alloc: Global,
+    yard: &Depot<Onward>,
+    source: &Member,
+    body: &Body,
+    subscriptions: &mut [Subscription],
+) -> Result<Vec<(EndId, CastOutcome)>, OutOfMemory>
+    ensures ok { IfOk result (λ outcomes. IsBroadcast source.now (cast_draft source.now body.now)
+        subscriptions.old subscriptions.new outcomes.items) }
+    ensures err { OnErr result (subscriptions.new ≡ subscriptions.old) }
+{
+    let count = subscriptions
+        .iter()
+        .filter(|subscription| subscription.is_destination(source))
+        .count();
+    let mut drafts = drafts_of(alloc, source, body, count)?;
+    let mut outcomes = Vec::with_capacity(alloc, count)?;
+    for subscription in subscriptions.iter_mut() {
+        if subscription.is_destination(source) {
+            let draft = drafts.pop().unwrap();
+            let end = subscription.end();
+            let outcome = subscription.deliver(rt, yard, draft);
+            outcomes.push_reserved((end, outcome));
+        }
+    }
+    Ok(outcomes)
+}

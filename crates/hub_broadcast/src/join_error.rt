@@ -1,0 +1,25 @@
+use hub_envelope::OutOfMemory;
+use thiserror::Error;
+
+/// Why no member was made. `TooManyEnds` is tested first. After either the roster is as it was, and
+/// no number of an end is used.
+#[derive(Clone, Copy, Debug, PartialEq, Eq, Drop, Error)]
+pub enum JoinError {
+    /// All numbers of ends were drawn.
+    #[error("too many ends")]
+    TooManyEnds,
+    /// An allocation failed.
+    #[error("out of memory")]
+    OutOfMemory,
+}
+
+impl From<OutOfMemory> for JoinError {
+    ghost use Rattle.std.specs.Prelude.{◌≡◌};
+    ghost use Rattle.hub_broadcast.specs.declared.join_error.JoinError.TheVariants.{OutOfMemory};
+
+    ghost from_gives = { λ _ e. e ≡ OutOfMemory };
+
+    fn from(_error: OutOfMemory) -> JoinError {
+        JoinError::OutOfMemory
+    }
+}

@@ -1,0 +1,68 @@
+ghost use Rattle.std.specs.Prelude.{◌≡◌};
+ghost use Rattle.hub_queue.specs.Ending.{IsClosed};
+ghost use Rattle.hub_queue.specs.Taking.{IsTaken};
+
+use crate::origin::Origin;
+use hub_envelope::{AgentId, EndId};
+use hub_queue::{Grave, Steps, Taker, Took};
+use std::marker::Model;
+use std::sync::Wait;
+use std::sync::ledger::Ledger;
+
+/// A broadcast channel as its agent holds it: its end, from which it takes, and the origin and the
+/// name of those that it casts to and that cast to it.
+///
+/// `Roster::join` makes one, which is enabled. A member that is dropped or closed stays in the
+/// roster until `Roster::leave`.
+#[derive(Drop)]
+pub struct Member {
+    pub(crate) taker: Taker,
+    pub(crate) agent: AgentId,
+    pub(crate) origin: Origin,
+    pub(crate) name: String,
+}
+
+impl Model for Member {
+    ghost use Rattle.std.specs.Prelude.{string_bytes};
+    ghost use Rattle.hub_broadcast.specs.Members.{MemberSeat};
+
+    ghost Value = { MemberSeat };
+
+    ghost view = { λ m. record {
+      taker = m.taker;
+      agent = m.agent;
+      origin = m.origin;
+      name = string_bytes m.name;
+    } };
+}
+
+impl Member {
+    /// The number of its end, under which it leaves the roster.
+    pub fn end(&self) -> EndId
+        ensures { result.0 ≡ self.now.taker.end }
+    {
+        self.taker.end()
+    }
+
+    /// Takes the first message that was cast to it and not taken yet: `Taker::take` of its end.
+    pub fn take<L: Ledger, R: Wait>(&mut self, rt: &R, steps: &mut Steps<L>) -> Took
+        ensures taken { IsTaken self.old.taker self.new.taker steps.old steps.new result }
+        ensures same { self.new ≡ record self.old { taker = self.new.taker } }
+    {
+        self.taker.take(rt, steps)
+    }
+
+    /// Closes its end: `Taker::close`. It stays a destination until it leaves the roster, and what
+    /// is cast there is answered `Closed`.
+    pub fn close(self) -> Grave
+        ensures { IsClosed self.taker result }
+    {
+        let Member {
+            taker,
+            agent: _,
+            origin: _,
+            name: _,
+        } = self;
+        taker.close()
+    }
+}

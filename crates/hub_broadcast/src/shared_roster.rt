@@ -1,0 +1,73 @@
+ghost use Rattle.std.specs.Prelude.{◌≡◌, ◌+◌, ◌<◌, ◌≤◌, ◌↔◌, [], length, string_bytes, IfOk, OnOk, OnErr, IsErrOf};
+ghost use Rattle.hub_core.specs.declared.limits.TheConstants.{MAX_ENDS};
+ghost use Rattle.hub_broadcast.specs.Joining.{IsNewMember};
+
+use crate::cast_error::CastError;
+use crate::cast_outcome::CastOutcome;
+use crate::join_error::JoinError;
+use crate::member::Member;
+use crate::origin::Origin;
+use crate::roster::Roster;
+use hub_depot::Depot;
+use hub_envelope::{AgentId, Body, EndId};
+use hub_queue::{Bell, Ends, Onward};
+use std::alloc::Global;
+use std::sync::{Mutex, Wait};
+
+/// A roster that threads share.
+///
+/// Each call is the call of that name on the `Roster` behind the lock, under one taking of the
+/// lock. Who is a member at that moment no contract of these calls can say, since another thread
+/// may act between any two of them. A cast keeps the lock during all its posts, of which each hop
+/// takes the yard's; whoever holds the yard's lock must not take this one.
+#[derive(Drop)]
+pub struct SharedRoster {
+    roster: Mutex<Roster>,
+}
+
+impl SharedRoster {
+    /// A roster with no member. It takes no memory.
+    pub fn new(alloc: Global) -> SharedRoster {
+        SharedRoster {
+            roster: Mutex::new(Roster::new(alloc)),
+        }
+    }
+
+    /// Makes a broadcast channel: `Roster::join` under the lock.
+    pub fn join(
+        &self,
+        rt: &impl Wait,
+        ends: &mut Ends,
+        agent: AgentId,
+        origin: Origin,
+        name: String,
+        bell: Bell,
+    ) -> Result<Member, JoinError>
+        ensures ok { IfOk result (IsNewMember ends.old.drawn agent origin (string_bytes name)) }
+        ensures drawn { OnOk result (ends.new.drawn ≡ ends.old.drawn + 1) }
+        ensures too_many { IsErrOf result JoinError.TooManyEnds ↔ (MAX_ENDS ≤ ends.old.drawn) }
+        ensures err { OnErr result (ends.new ≡ ends.old) }
+    {
+        self.roster.lock(rt).join(ends, agent, origin, name, bell)
+    }
+
+    /// Takes a member out of the roster: `Roster::leave` under the lock. It takes no memory.
+    pub fn leave(&self, rt: &impl Wait, end: EndId) {
+        self.roster.lock(rt).leave(end);
+    }
+
+    /// Casts from a member: `Roster::cast` under the lock.
+    pub fn cast<R: Wait>(
+        &self,
+        rt: &R,
+        yard: &Depot<Onward>,
+        source: &Member,
+        body: Body,
+        list: &[EndId],
+    ) -> Result<Vec<(EndId, CastOutcome)>, CastError>
+        ensures list { IsErrOf result CastError.NotTransferable → 0 < length list.now }
+        ensures no_list { OnOk result (list.now ≡ []) }
+    {
+        self.roster.lock(rt).cast(rt, yard, source, body, list)
+    }
+}

@@ -1,0 +1,107 @@
+//! Joins and casts of which each allocation is refused in turn.
+use crate::parts::{NO_PORTS, is_first, take, try_bell, try_body, try_key};
+use hub_broadcast::{CastError, CastOutcome, JoinError, Member, Origin, Roster};
+use hub_depot::Depot;
+use hub_envelope::{AgentId, Body, EndId};
+use hub_queue::{Bell, Ends, Onward, Took};
+use std::alloc::Global;
+use std::sync::Wait;
+use std::test::Fail;
+
+const URL: &str = "https://a.test";
+
+// Tries again where an allocation was refused: the next call has the memory.
+fn key(alloc: Global) -> Option<(Origin, String)> {
+    match try_key(alloc, URL, "news") {
+        Some(key) => Some(key),
+        None => try_key(alloc, URL, "news"),
+    }
+}
+
+fn bell(alloc: Global) -> Option<Bell> {
+    match try_bell(alloc) {
+        Some(bell) => Some(bell),
+        None => try_bell(alloc),
+    }
+}
+
+fn body(alloc: Global) -> Option<Body> {
+    match try_body(alloc, "[1]") {
+        Some(body) => Some(body),
+        None => try_body(alloc, "[1]"),
+    }
+}
+
+fn try_join(
+    alloc: Global,
+    roster: &mut Roster,
+    ends: &mut Ends,
+) -> Option<Result<Member, JoinError>> {
+    let (origin, name) = key(alloc)?;
+    Some(roster.join(ends, AgentId(7), origin, name, bell(alloc)?))
+}
+
+// One more member, by a second call where the first was refused and used no number.
+fn join(alloc: Global, roster: &mut Roster, ends: &mut Ends) -> Option<Member> {
+    let drawn = ends.drawn;
+    match try_join(alloc, roster, ends)? {
+        Ok(member) => Some(member),
+        Err(error) => {
+            if error != JoinError::OutOfMemory || ends.drawn != drawn {
+                return None;
+            }
+            try_join(alloc, roster, ends)?.ok()
+        }
+    }
+}
+
+// What the members take is what they were told: the first envelope where it was accepted.
+fn are_told<R: Wait>(rt: &R, members: &mut [Member], outcomes: &[(EndId, CastOutcome)]) -> bool {
+    for (member, (end, outcome)) in members.iter_mut().zip(outcomes.iter()) {
+        let took = take(rt, member);
+        let is_told = match outcome {
+            CastOutcome::Accepted(posted) => posted.end == *end && is_first(took, 7, "[1]"),
+            CastOutcome::OutOfMemory => matches!(took, Took::Empty),
+            _ => false,
+        };
+        if *end != member.end() || !is_told {
+            return false;
+        }
+    }
+    members.len() == outcomes.len()
+}
+
+fn took_nothing<R: Wait>(rt: &R, members: &mut [Member]) -> bool {
+    for member in members.iter_mut() {
+        if !matches!(take(rt, member), Took::Empty) {
+            return false;
+        }
+    }
+    true
+}
+
+// A cast with three destinations is refused and nothing was posted, or each is told what it takes.
+fn casts_to_three<R: Wait>(rt: &R, alloc: Global) -> Option<bool> {
+    let yard = Depot::<Onward>::new(alloc);
+    let mut roster = Roster::new(alloc);
+    let mut ends = Ends::new();
+    let source = join(alloc, &mut roster, &mut ends)?;
+    let one = join(alloc, &mut roster, &mut ends)?;
+    let two = join(alloc, &mut roster, &mut ends)?;
+    let three = join(alloc, &mut roster, &mut ends)?;
+    let mut members = [one, two, three];
+    Some(
+        match roster.cast(rt, &yard, &source, body(alloc)?, NO_PORTS.as_slice()) {
+            Ok(outcomes) => are_told(rt, members.as_mut_slice(), outcomes.as_slice()),
+            Err(error) => error == CastError::OutOfMemory
+                && took_nothing(rt, members.as_mut_slice()),
+        },
+    )
+}
+
+#[test]
+fn joins_and_casts_whichever_allocation_is_refused(rt: HostRuntime) -> Result<(), Fail> {
+    let are_right = casts_to_three(&rt, rt.alloc());
+    assert_eq!(rt; are_right, Some(true));
+    Ok(())
+}
