@@ -13,7 +13,7 @@ use Rattle.hub_ports.specs.declared.send_refusal.SendRefusal.{SendRefusal}
 use Rattle.hub_ports.specs.declared.send_refusal.SendRefusal.TheVariants.{Closed, Moving, OutOfMemory, Taken}
 use Rattle.hub_ports.specs.Refusing.{refusal_of, IsOfFlight, whole_error}
 use Rattle.hub_ports.specs.Seats.{PortSeat, ends_of}
-use Rattle.hub_ports.specs.Sending.{IsRefused, CameBack, IsUnsent}
+use Rattle.hub_ports.specs.Sending.{IsRefusedAtLine, CameBack, IsUnsent}
 use Rattle.hub_ports.specs.Splitting.{IsSplit}
 use Rattle.hub_ports.proofs.Splits.{split-whole}
 
@@ -23,11 +23,11 @@ not_tried s draft =
     (put_of s, s.entry.at.enters, inl (record { name = refl; gate = refl; queue = refl }, refl, refl), refl, refl, tt)
 
 -- what was refused came back
-pub same_draft : (old new : StandSeat) (sent back draft : Draft) (why : PostError) → IsPosted old new sent (Err (why, back)) → IsRefused old new draft why
+pub same_draft : (old new : StandSeat) (sent back draft : Draft) (why : PostError) → IsPosted old new sent (Err (why, back)) → IsRefusedAtLine old new draft why
 same_draft old new sent back draft why h = (h.0, h.1, h.2, h.3, refl, h.5)
 
 -- the error where all ports came back from a line
-whole_line : (old new : StandSeat) (draft : Draft) (ports : List PortSeat) (body : List ℕ) (back : Vec PortSeat Global) (why : PostError) → IsRefused old new draft why → CameBack draft body back.items → IsUnsent old new draft ports (whole_error (refusal_of why) body back)
+whole_line : (old new : StandSeat) (draft : Draft) (ports : List PortSeat) (body : List ℕ) (back : Vec PortSeat Global) (why : PostError) → IsRefusedAtLine old new draft why → CameBack draft body back.items → IsUnsent old new draft ports (whole_error (refusal_of why) body back)
 whole_line old new draft ports body back why.Closed h came = (h, came)
 whole_line old new draft ports body back why.Moving h came = (h, came)
 whole_line old new draft ports body back why.OutOfMemory h came = (h, came)
@@ -40,7 +40,7 @@ whole_flight s draft ports body back OutOfMemory h came = (not_tried s draft, ca
 whole_flight s draft ports body back Taken h came = (refl, came)
 
 -- the error that is told: the whole one, or which ports are missing
-told : (old new : StandSeat) (draft : Draft) (ports : List PortSeat) (body : List ℕ) (back : Vec PortSeat Global) (missing : Vec EndId Global) (whole e : PortError) (why : PostError) (ms : List EndId) → missing.items ≡ ms → body ≡ draft.body → IsSplit draft.ports (ends_of back.items) missing.items → IsRefused old new draft why → (CameBack draft body back.items → IsUnsent old new draft ports whole) → (missing.items ≡ [] → e ≡ whole) → (0 < length missing.items → e ≡ error.Strayed missing body back) → IsUnsent old new draft ports e
+told : (old new : StandSeat) (draft : Draft) (ports : List PortSeat) (body : List ℕ) (back : Vec PortSeat Global) (missing : Vec EndId Global) (whole e : PortError) (why : PostError) (ms : List EndId) → missing.items ≡ ms → body ≡ draft.body → IsSplit draft.ports (ends_of back.items) missing.items → IsRefusedAtLine old new draft why → (CameBack draft body back.items → IsUnsent old new draft ports whole) → (missing.items ≡ [] → e ≡ whole) → (0 < length missing.items → e ≡ error.Strayed missing body back) → IsUnsent old new draft ports e
 told old new draft ports body back missing whole e why [] is same split h came all some =
     subst (IsUnsent old new draft ports) (sym (all is)) (came (same, split-whole draft.ports (ends_of back.items) missing.items split is))
 told old new draft ports body back missing whole e why (m ∷ ms) is same split h came all some =
@@ -49,7 +49,7 @@ told old new draft ports body back missing whole e why (m ∷ ms) is same split 
     subst (IsUnsent old new draft ports) (sym (some count)) ((why, h), same, count, split)
 
 -- the line refused the message
-pub refused_by_line : (old new : StandSeat) (draft : Draft) (ports : List PortSeat) (body : List ℕ) (back : Vec PortSeat Global) (missing : Vec EndId Global) (r : SendRefusal) (e : PortError) (why : PostError) → r ≡ refusal_of why → body ≡ draft.body → IsSplit draft.ports (ends_of back.items) missing.items → IsRefused old new draft why → (missing.items ≡ [] → e ≡ whole_error r body back) → (0 < length missing.items → e ≡ error.Strayed missing body back) → IsUnsent old new draft ports e
+pub refused_by_line : (old new : StandSeat) (draft : Draft) (ports : List PortSeat) (body : List ℕ) (back : Vec PortSeat Global) (missing : Vec EndId Global) (r : SendRefusal) (e : PortError) (why : PostError) → r ≡ refusal_of why → body ≡ draft.body → IsSplit draft.ports (ends_of back.items) missing.items → IsRefusedAtLine old new draft why → (missing.items ≡ [] → e ≡ whole_error r body back) → (0 < length missing.items → e ≡ error.Strayed missing body back) → IsUnsent old new draft ports e
 refused_by_line old new draft ports body back missing r e why which same split h all some =
     told old new draft ports body back missing (whole_error (refusal_of why) body back) e why missing.items refl same split h (whole_line old new draft ports body back why h)
     (λ none. all none ∙ ap (λ x. whole_error x body back) which) some

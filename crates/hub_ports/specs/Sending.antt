@@ -18,8 +18,8 @@ abbrev pub draft_of : AgentId → List ℕ → List PortSeat → Draft
 draft_of agent body ports = record { agent = agent; body = body; ports = ends_of ports; notice = false }
 
 -- the draft was refused at the line for this reason: nothing more was put on it, and closed and moving only where the line was turned in this call and found that flag
-abbrev pub IsRefused : StandSeat → StandSeat → Draft → PostError → Type 0
-IsRefused old new draft why = IsPosted old new draft (Err (why, draft))
+abbrev pub IsRefusedAtLine : StandSeat → StandSeat → Draft → PostError → Type 0
+IsRefusedAtLine old new draft why = IsPosted old new draft (Err (why, draft))
 
 -- the body and all ports came back, the ports in order
 abbrev pub CameBack : Draft → List ℕ → List PortSeat → Type 0
@@ -27,13 +27,13 @@ CameBack draft body back = (body ≡ draft.body) × (ends_of back ≡ draft.port
 
 -- The line has put nothing more, whatever the error. Doomed and too many ports: nothing was posted or put in flight; the ports were closed in order, or came back as they were. Taken: nothing was posted. Strayed: each port came back or is named.
 abbrev pub IsUnsent : StandSeat → StandSeat → Draft → List PortSeat → PortError → Type 0
-IsUnsent old new draft ports (Closed body back) = IsRefused old new draft why.Closed × CameBack draft body back.items
-IsUnsent old new draft ports (Moving body back) = IsRefused old new draft why.Moving × CameBack draft body back.items
-IsUnsent old new draft ports (OutOfMemory body back) = IsRefused old new draft why.OutOfMemory × CameBack draft body back.items
+IsUnsent old new draft ports (Closed body back) = IsRefusedAtLine old new draft why.Closed × CameBack draft body back.items
+IsUnsent old new draft ports (Moving body back) = IsRefusedAtLine old new draft why.Moving × CameBack draft body back.items
+IsUnsent old new draft ports (OutOfMemory body back) = IsRefusedAtLine old new draft why.OutOfMemory × CameBack draft body back.items
 IsUnsent old new draft ports (Doomed closings) = (new ≡ old) × AreClosed ports closings
 IsUnsent old new draft ports (TooManyPorts body back) = (new ≡ old) × (body ≡ draft.body) × (back.items ≡ ports)
 IsUnsent old new draft ports (Strayed missing body back) =
-    ((why : PostError) × IsRefused old new draft why) × (body ≡ draft.body) × (0 < length missing.items) × IsSplit draft.ports (ends_of back.items) missing.items
+    ((why : PostError) × IsRefusedAtLine old new draft why) × (body ≡ draft.body) × (0 < length missing.items) × IsSplit draft.ports (ends_of back.items) missing.items
 IsUnsent old new draft ports (Taken body back) = (new ≡ old) × CameBack draft body back.items
 
 -- Ok: what the line has put grew by one envelope with this agent, this body and these ports, in order.
