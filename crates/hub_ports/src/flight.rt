@@ -1,5 +1,5 @@
 //! Ports in flight: how the ports of a list are put there, and how they are taken back.
-ghost use Rattle.std.specs.Prelude.{◌≡◌, ◌+◌, ◌<◌, ◌≤◌, [], take, length, vec_len, vec_capacity, OnOk, IfErr};
+ghost use Rattle.std.specs.Prelude.{◌≡◌, ◌+◌, ◌<◌, ◌≤◌, [], take, length, vec_len, vec_capacity, OnOk, OnErr, IfErr};
 ghost use Rattle.hub_ports.specs.Refusing.{IsOfFlight};
 ghost use Rattle.hub_ports.specs.Seats.{ends_of, place_of};
 ghost use Rattle.hub_ports.specs.Splitting.{IsSplit};
@@ -30,6 +30,8 @@ pub(crate) fn send_off<R: Wait>(
 ) -> Result<(), SendRefusal>
     ensures all { OnOk result (ports.new.items ≡ []) }
     ensures refusal { IfErr result IsOfFlight }
+    // The port that was refused is in hand again.
+    ensures kept { OnErr result (0 < vec_len ports.new) }
     ensures stayed { ports.new.items ≡ take (vec_len ports.new) ports.old.items }
     ensures room { vec_len ports.old ≤ vec_capacity ports.new }
 {

@@ -1,5 +1,5 @@
-//! Rows in which each allocation may be refused, and what stands after it. The table makes each call
-//! again where there was no memory, and looks before that whether what came back is whole.
+//! Rows in which each allocation may be refused, and what stands after it. The table makes each
+//! call again where there was no memory, and looks before that whether what came back is whole.
 use crate::table::{Answer, Step, Table};
 use std::test::Fail;
 
