@@ -1,4 +1,4 @@
-ghost use Rattle.std.specs.Prelude.{◌≡◌};
+ghost use Rattle.std.specs.Prelude.{◌≡◌, length};
 ghost use Rattle.hub_queue.specs.Ending.{IsClosed};
 ghost use Rattle.hub_queue.specs.Taking.{IsTaken};
 
@@ -50,6 +50,13 @@ impl Member {
         ensures same { self.new ≡ record self.old { taker = self.new.taker } }
     {
         self.taker.take(rt, steps)
+    }
+
+    /// How many queues there are from the taker's to the newest, that one not counted.
+    pub fn behind(&self) -> u32
+        ensures { result ≡ length self.now.taker.retired }
+    {
+        self.taker.behind()
     }
 
     /// Closes its end: `Taker::close`. It stays a destination until it leaves the roster, and what

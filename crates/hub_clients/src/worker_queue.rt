@@ -1,4 +1,4 @@
-ghost use Rattle.std.specs.Prelude.{◌≡◌, IfErr};
+ghost use Rattle.std.specs.Prelude.{◌≡◌, IfErr, length};
 ghost use Rattle.hub_queue.specs.Adopting.{newest_epoch};
 ghost use Rattle.hub_queue.specs.Ending.{IsClosed};
 ghost use Rattle.hub_queue.specs.Taking.{IsTaken};
@@ -51,6 +51,13 @@ impl WorkerQueue {
         ensures { result ≡ newest_epoch self.now }
     {
         self.taker.moves()
+    }
+
+    /// How many queues there are from the taker's to the newest, that one not counted.
+    pub fn behind(&self) -> u32
+        ensures { result ≡ length self.now.retired }
+    {
+        self.taker.behind()
     }
 
     /// Hands the queue on to an agent, with all its lines and all that waits in it: the directory

@@ -11,3 +11,7 @@ mod lines;
 mod memory;
 #[cfg(test)]
 mod parts;
+#[cfg(test)]
+mod shared;
+#[cfg(test)]
+mod table;

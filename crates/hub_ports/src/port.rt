@@ -70,6 +70,13 @@ impl Port {
         self.taker.moves()
     }
 
+    /// How many queues there are from the taker's to the newest, that one not counted.
+    pub fn behind(&self) -> u32
+        ensures { result ≡ length self.now.taker.retired }
+    {
+        self.taker.behind()
+    }
+
     /// Enables the port (WHATWG HTML, "Message ports": `start()`, which enables the port message
     /// queue). What its queues hold stays.
     pub fn start(&mut self)

@@ -1,8 +1,10 @@
 //! A table of ports by number, on which the rows act step by step.
+//!
+//! A function that drops a port costs some seconds of the check, so few do.
 use crate::parts::{are_numbered, are_numbers, bell, body, entangled, room, take};
-use hub_envelope::{AgentId, Envelope};
-use hub_ports::{Arrival, Arrived, Hub, Noticed, Port, PortError};
-use hub_queue::{AdoptError, Ends, Posted, Took};
+use hub_envelope::{AgentId, Body, EndId, Envelope};
+use hub_ports::{Arrival, Arrived, Hub, Noticed, Port, PortError, Spent};
+use hub_queue::{AdoptError, Ends, Grave, Posted, Took};
 use std::alloc::Global;
 use std::mem::replace;
 use std::sync::Wait;
@@ -54,7 +56,7 @@ pub(crate) enum Step {
 
 /// The ports by number, where they are at hand, and those that arrived.
 #[derive(Drop)]
-pub(crate) struct Table {
+struct Table {
     alloc: Global,
     hub: Hub,
     ends: Ends,
@@ -81,27 +83,27 @@ fn told(alloc: Global, error: PortError) -> (Answer, Vec<Port>) {
     }
 }
 
-// Posts a body with the ports of a list, and once more where there was no memory: then body and
-// ports come back, the ports in order. `None` where they don't.
+// Posts a body with the ports of a list, and once more where there was no memory and body and ports
+// have come back, the ports in order.
 fn post_again<R: Wait>(
     rt: &R,
-    alloc: Global,
     hub: &Hub,
     port: &mut Port,
-    text: &str,
+    body: Body,
     transfer: Vec<Port>,
-    list: &[u32],
-) -> Option<Result<Posted, PortError>> {
-    let first = body(alloc, text)?;
-    match port.post(rt, hub, AgentId(0), first, transfer) {
-        Ok(posted) => Some(Ok(posted)),
+    row: (&str, &[u32]),
+) -> Result<Posted, PortError> {
+    let (text, list) = row;
+    match port.post(rt, hub, AgentId(0), body, transfer) {
+        Ok(posted) => Ok(posted),
         Err(PortError::OutOfMemory(back, ports)) => {
-            if back.text() != text || !are_numbered(ports.as_slice(), list) {
-                return None;
+            if back.text() == text && are_numbered(ports.as_slice(), list) {
+                port.post(rt, hub, AgentId(0), back, ports)
+            } else {
+                Err(PortError::OutOfMemory(back, ports))
             }
-            Some(port.post(rt, hub, AgentId(0), back, ports))
         }
-        Err(error) => Some(Err(error)),
+        Err(error) => Err(error),
     }
 }
 
@@ -120,9 +122,83 @@ fn is_put(noticed: Noticed, epoch: u32, number: u64) -> bool {
     }
 }
 
+// What a closing tells, with the rest dropped.
+fn noticed(closed: (Grave, Spent, Noticed)) -> Noticed {
+    closed.2
+}
+
+// Drops a port that arrived, and is `None`.
+fn lose(_arrived: Arrived) -> Option<u32> {
+    None
+}
+
+fn add(ports: &mut Vec<Option<Port>>, port: Port) -> bool {
+    ports.push(Some(port)).is_ok()
+}
+
+fn take_out(ports: &mut [Option<Port>], end: u32) -> Option<Port> {
+    ports.get_mut(end as usize)?.take()
+}
+
+fn put_in(ports: &mut [Option<Port>], port: Port) {
+    let end = port.end().0 as usize;
+    if let Some(place) = ports.get_mut(end) {
+        *place = Some(port);
+    }
+}
+
+fn put_all_in(ports: &mut [Option<Port>], back: Vec<Port>) {
+    for port in back {
+        put_in(ports, port);
+    }
+}
+
+// The ports of a list, where they are at hand.
+fn take_all_out(alloc: Global, ports: &mut [Option<Port>], list: &[u32]) -> Option<Vec<Port>> {
+    let mut taken = room(alloc, list.len())?;
+    for end in list {
+        if let Some(port) = take_out(ports, *end) {
+            taken.push(port).ok()?;
+        }
+    }
+    Some(taken)
+}
+
+fn take_arrived(all: &mut Vec<Arrived>, end: u32) -> Option<Arrived> {
+    for index in 0..all.len() {
+        if all[index].end().0 == end {
+            return Some(all.remove(index));
+        }
+    }
+    None
+}
+
+// Whether these ports arrived, in order. They are all that stays of those that arrived.
+fn keep(all: &mut Vec<Arrived>, arrival: Arrival, listed: &[EndId]) -> bool {
+    let Arrival { found, missing } = arrival;
+    let mut in_order = missing.is_empty() && found.len() == listed.len();
+    for (arrived, end) in found.iter().zip(listed) {
+        in_order = in_order && arrived.end() == *end;
+    }
+    *all = found;
+    in_order
+}
+
+fn has_nothing<R: Wait>(rt: &R, hub: &Hub) -> bool {
+    hub.yard.take_any(rt).is_none()
+}
+
+// Ends the hub, and once more where there was no memory.
+fn end_hub<R: Wait>(rt: &R, hub: Hub) -> bool {
+    match hub.end(rt) {
+        Ok(()) => true,
+        Err((_, hub)) => hub.end(rt).is_ok(),
+    }
+}
+
 impl Table {
-    /// No port was made.
-    pub(crate) fn new(alloc: Global) -> Table {
+    // No port was made.
+    fn new(alloc: Global) -> Table {
         Table {
             alloc,
             hub: Hub::new(alloc),
@@ -132,212 +208,208 @@ impl Table {
         }
     }
 
-    fn channel(&mut self) -> Option<bool> {
-        let (first, second) = entangled(self.alloc, &mut self.ends)?;
-        let has_first = self.ports.push(Some(first)).is_ok();
-        let has_second = self.ports.push(Some(second)).is_ok();
-        Some(has_first && has_second)
-    }
-
-    fn take_out(&mut self, end: u32) -> Option<Port> {
-        self.ports.get_mut(end as usize)?.take()
-    }
-
-    fn put_in(&mut self, port: Port) {
-        let end = port.end().0 as usize;
-        if let Some(place) = self.ports.get_mut(end) {
-            *place = Some(port);
-        }
-    }
-
-    fn listed(&mut self, list: &[u32]) -> Option<Vec<Port>> {
-        let mut ports = room(self.alloc, list.len())?;
-        for end in list {
-            if let Some(port) = self.take_out(*end) {
-                ports.push(port).ok()?;
+    fn channel(&mut self) -> bool {
+        match entangled(self.alloc, &mut self.ends) {
+            Some((first, second)) => {
+                let has_first = add(&mut self.ports, first);
+                let has_second = add(&mut self.ports, second);
+                has_first && has_second
             }
-        }
-        Some(ports)
-    }
-
-    fn put_all_in(&mut self, ports: Vec<Port>) {
-        for port in ports {
-            self.put_in(port);
+            None => false,
         }
     }
 
     fn post<R: Wait>(&mut self, rt: &R, end: u32, list: &[u32], text: &str) -> Option<Answer> {
-        let transfer = self.listed(list)?;
-        let mut port = self.take_out(end)?;
-        let posted = post_again(rt, self.alloc, &self.hub, &mut port, text, transfer, list);
-        self.put_in(port);
-        match posted? {
+        let body = body(self.alloc, text)?;
+        let transfer = take_all_out(self.alloc, &mut self.ports, list)?;
+        let Some(mut port) = take_out(&mut self.ports, end) else {
+            put_all_in(&mut self.ports, transfer);
+            return None;
+        };
+        let posted = post_again(rt, &self.hub, &mut port, body, transfer, (text, list));
+        put_in(&mut self.ports, port);
+        match posted {
             Ok(posted) => Some(Answer::Accepted(posted.epoch, posted.number)),
             Err(error) => {
                 let (answer, back) = told(self.alloc, error);
-                self.put_all_in(back);
+                put_all_in(&mut self.ports, back);
                 Some(answer)
             }
         }
     }
 
     fn take<R: Wait>(&mut self, rt: &R, end: u32) -> Option<Took> {
-        let mut port = self.take_out(end)?;
-        let took = take(rt, &mut port);
-        self.put_in(port);
-        Some(took)
+        match take_out(&mut self.ports, end) {
+            Some(mut port) => {
+                let took = take(rt, &mut port);
+                put_in(&mut self.ports, port);
+                Some(took)
+            }
+            None => None,
+        }
     }
 
     // Whether the ports that an envelope names all arrive, in order.
-    fn arrives<R: Wait>(&mut self, rt: &R, envelope: &Envelope) -> Option<bool> {
-        let arrival = arrival_of(rt, &self.hub, envelope)?;
-        let Arrival { found, missing } = arrival;
-        let listed = envelope.ports.as_slice();
-        let mut in_order = missing.is_empty() && found.len() == listed.len();
-        for (arrived, end) in found.iter().zip(listed) {
-            in_order = in_order && arrived.end() == *end;
+    fn arrives<R: Wait>(&mut self, rt: &R, envelope: &Envelope) -> bool {
+        match arrival_of(rt, &self.hub, envelope) {
+            Some(arrival) => keep(&mut self.arrived, arrival, envelope.ports.as_slice()),
+            None => false,
         }
-        self.arrived = found;
-        Some(in_order)
-    }
-
-    fn take_arrived(&mut self, end: u32) -> Option<Arrived> {
-        for index in 0..self.arrived.len() {
-            if self.arrived[index].end().0 == end {
-                return Some(self.arrived.remove(index));
-            }
-        }
-        None
     }
 
     // Whether an adoption that was refused has left the port as it was: the yard has nothing new,
     // and a post of its peer goes to its old queue.
     fn is_unmoved<R: Wait>(&mut self, rt: &R, end: u32, error: AdoptError) -> bool {
-        let has_nothing = self.hub.yard.take_any(rt).is_none();
+        let has_nothing = has_nothing(rt, &self.hub);
         let answer = self.post(rt, end ^ 1, &[], "0");
         error == AdoptError::OutOfMemory
             && has_nothing
             && matches!(answer, Some(Answer::Accepted(0, _)))
     }
 
+    // Puts an adopted port in. How often it has moved.
+    fn moved(&mut self, port: Port) -> Option<u32> {
+        let moves = port.moves();
+        put_in(&mut self.ports, port);
+        Some(moves)
+    }
+
     // Adopts a port that arrived, and once more where there was no memory. How often it has moved.
     fn adopt<R: Wait>(&mut self, rt: &R, end: u32) -> Option<u32> {
-        let arrived = self.take_arrived(end)?;
         let first = bell(self.alloc)?;
+        let second = bell(self.alloc)?;
+        let arrived = take_arrived(&mut self.arrived, end)?;
         match arrived.adopt(rt, &self.hub, first) {
-            Ok(port) => {
-                let moves = port.moves();
-                self.put_in(port);
-                Some(moves)
-            }
+            Ok(port) => self.moved(port),
             Err((error, arrived)) => {
                 if !self.is_unmoved(rt, end, error) {
-                    return None;
+                    return lose(arrived);
                 }
-                let second = bell(self.alloc)?;
-                let port = arrived.adopt(rt, &self.hub, second).ok()?;
-                let moves = port.moves();
-                self.put_in(port);
-                Some(moves)
+                match arrived.adopt(rt, &self.hub, second) {
+                    Ok(port) => self.moved(port),
+                    Err((_, arrived)) => lose(arrived),
+                }
             }
         }
     }
 
     fn close<R: Wait>(&mut self, rt: &R, end: u32) -> Option<Noticed> {
-        let (_grave, _spent, noticed) = self.take_out(end)?.close(rt, &self.hub);
-        Some(noticed)
+        match take_out(&mut self.ports, end) {
+            Some(port) => Some(noticed(port.close(rt, &self.hub))),
+            None => None,
+        }
     }
 
-    fn start(&mut self, end: u32) -> Option<bool> {
-        let mut port = self.take_out(end)?;
-        port.start();
-        self.put_in(port);
-        Some(true)
+    fn start(&mut self, end: u32) -> bool {
+        match take_out(&mut self.ports, end) {
+            Some(mut port) => {
+                port.start();
+                put_in(&mut self.ports, port);
+                true
+            }
+            None => false,
+        }
     }
 
     // Whether a take gives this message, and its ports arrive.
-    fn is_got<R: Wait>(&mut self, rt: &R, step: Step) -> Option<bool> {
+    fn is_got<R: Wait>(&mut self, rt: &R, step: Step) -> bool {
         let Step::Got(end, epoch, number, list, text) = step else {
-            return None;
+            return false;
         };
-        let Took::Got(envelope) = self.take(rt, end)? else {
-            return Some(false);
-        };
-        let is_named = envelope.epoch == epoch && envelope.number == number && !envelope.notice;
-        let is_said = envelope.body.text() == text;
-        let lists = are_numbers(envelope.ports.as_slice(), list);
-        Some(self.arrives(rt, &envelope)? && is_named && is_said && lists)
+        match self.take(rt, end) {
+            Some(Took::Got(envelope)) => {
+                envelope.epoch == epoch
+                    && envelope.number == number
+                    && !envelope.notice
+                    && envelope.body.text() == text
+                    && are_numbers(envelope.ports.as_slice(), list)
+                    && self.arrives(rt, &envelope)
+            }
+            _ => false,
+        }
     }
 
-    fn is_notice<R: Wait>(&mut self, rt: &R, end: u32, epoch: u32, number: u64) -> Option<bool> {
-        let Took::Got(envelope) = self.take(rt, end)? else {
-            return Some(false);
-        };
-        Some(envelope.notice && envelope.epoch == epoch && envelope.number == number)
+    fn is_notice<R: Wait>(&mut self, rt: &R, end: u32, epoch: u32, number: u64) -> bool {
+        match self.take(rt, end) {
+            Some(Took::Got(envelope)) => {
+                envelope.notice && envelope.epoch == epoch && envelope.number == number
+            }
+            _ => false,
+        }
     }
 
     // Whether the peer of a port that was closed has its notice, or else nothing, and finds it
     // closed.
-    fn is_closed<R: Wait>(&mut self, rt: &R, end: u32, noticed: Noticed) -> Option<bool> {
+    fn is_closed<R: Wait>(&mut self, rt: &R, end: u32, noticed: Noticed) -> bool {
         let peer = end ^ 1;
-        self.start(peer)?;
+        if !self.start(peer) {
+            return false;
+        }
         let came = match noticed {
-            Noticed::Put(_) => self.is_notice(rt, peer, 0, 0)?,
+            Noticed::Put(_) => self.is_notice(rt, peer, 0, 0),
             Noticed::OutOfMemory => true,
             _ => false,
         };
-        let is_last = matches!(self.take(rt, peer)?, Took::Empty);
-        Some(came && is_last && self.post(rt, peer, &[], "0")? == Answer::Closed)
+        came && matches!(self.take(rt, peer), Some(Took::Empty))
+            && self.post(rt, peer, &[], "0") == Some(Answer::Closed)
     }
 
-    fn close_either<R: Wait>(&mut self, rt: &R, end: u32) -> Option<bool> {
-        let noticed = self.close(rt, end)?;
-        self.is_closed(rt, end, noticed)
-    }
-
-    fn close_arrived<R: Wait>(&mut self, rt: &R, end: u32) -> Option<bool> {
-        let (_grave, _spent, noticed) = self.take_arrived(end)?.close(rt, &self.hub);
-        self.is_closed(rt, end, noticed)
-    }
-
-    // Ends the hub, and once more where there was no memory.
-    fn end<R: Wait>(&mut self, rt: &R) -> bool {
-        let hub = replace(&mut self.hub, Hub::new(self.alloc));
-        match hub.end(rt) {
-            Ok(()) => true,
-            Err((_, hub)) => hub.end(rt).is_ok(),
+    fn close_either<R: Wait>(&mut self, rt: &R, end: u32) -> bool {
+        match self.close(rt, end) {
+            Some(noticed) => self.is_closed(rt, end, noticed),
+            None => false,
         }
     }
 
-    // Whether a step came to what it is to come to. `None` where it could not be taken.
-    fn step<R: Wait>(&mut self, rt: &R, step: Step) -> Option<bool> {
+    fn close_arrived<R: Wait>(&mut self, rt: &R, end: u32) -> bool {
+        match take_arrived(&mut self.arrived, end) {
+            Some(arrived) => {
+                let notice = noticed(arrived.close(rt, &self.hub));
+                self.is_closed(rt, end, notice)
+            }
+            None => false,
+        }
+    }
+
+    fn end<R: Wait>(&mut self, rt: &R) -> bool {
+        let hub = replace(&mut self.hub, Hub::new(self.alloc));
+        end_hub(rt, hub)
+    }
+
+    // Whether a step came to what it is to come to.
+    fn step<R: Wait>(&mut self, rt: &R, step: Step) -> bool {
         match step {
             Step::Channel => self.channel(),
             Step::Start(end) => self.start(end),
-            Step::Post(end, list, text, answer) => {
-                Some(self.post(rt, end, list, text)? == answer)
-            }
+            Step::Post(end, list, text, answer) => self.post(rt, end, list, text) == Some(answer),
             Step::Got(..) => self.is_got(rt, step),
             Step::Notice(end, epoch, number) => self.is_notice(rt, end, epoch, number),
-            Step::Empty(end) => Some(matches!(self.take(rt, end)?, Took::Empty)),
-            Step::Again(end) => Some(matches!(self.take(rt, end)?, Took::Again)),
-            Step::Disabled(end) => Some(matches!(self.take(rt, end)?, Took::Disabled)),
-            Step::Adopt(end, moves) => Some(self.adopt(rt, end)? == moves),
-            Step::Close(end, epoch, number) => Some(is_put(self.close(rt, end)?, epoch, number)),
+            Step::Empty(end) => matches!(self.take(rt, end), Some(Took::Empty)),
+            Step::Again(end) => matches!(self.take(rt, end), Some(Took::Again)),
+            Step::Disabled(end) => matches!(self.take(rt, end), Some(Took::Disabled)),
+            Step::Adopt(end, moves) => self.adopt(rt, end) == Some(moves),
+            Step::Close(end, epoch, number) => match self.close(rt, end) {
+                Some(noticed) => is_put(noticed, epoch, number),
+                None => false,
+            },
             Step::CloseEither(end) => self.close_either(rt, end),
             Step::CloseArrived(end) => self.close_arrived(rt, end),
-            Step::CloseLast(end) => Some(self.close(rt, end)? == Noticed::PeerClosed),
-            Step::End => Some(self.end(rt)),
+            Step::CloseLast(end) => self.close(rt, end) == Some(Noticed::PeerClosed),
+            Step::End => self.end(rt),
         }
     }
 
-    /// How many of these steps came to what they are to come to, up to the first that didn't.
-    pub(crate) fn run<R: Wait>(&mut self, rt: &R, steps: &[Step]) -> usize {
+    fn walk<R: Wait>(&mut self, rt: &R, steps: &[Step]) -> usize {
         for (count, step) in steps.iter().enumerate() {
-            if self.step(rt, *step) != Some(true) {
+            if !self.step(rt, *step) {
                 return count;
             }
         }
         steps.len()
     }
+}
+
+/// How many of these steps came to what they are to come to, up to the first that didn't.
+pub(crate) fn run<R: Wait>(rt: &R, alloc: Global, steps: &[Step]) -> usize {
+    Table::new(alloc).walk(rt, steps)
 }

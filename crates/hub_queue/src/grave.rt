@@ -74,6 +74,13 @@ fn empty_all<R: Wait>(
 impl Grave {
     ghost use Rattle.hub_queue.specs.Sweeping.{IsSwept};
 
+    /// The end that was closed.
+    pub fn end(&self) -> EndId
+        ensures { result.0 ≡ self.now.end }
+    {
+        self.end
+    }
+
     /// Discards what is left at the closed end, queue after queue, the oldest first. At each it
     /// looks at the gate until all rights came into hand, and then takes what the queue holds,
     /// which nobody can add to any more.
