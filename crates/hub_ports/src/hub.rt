@@ -7,13 +7,14 @@ use hub_depot::Depot;
 use hub_envelope::{Envelope, OutOfMemory};
 use hub_queue::{Grave, Onward};
 use std::alloc::{AllocError, Global};
-use std::sync::Wait;
+use std::sync::{Mutex, Wait};
 
 /// What the agents of a hub share: the ports that were sent and not yet received, and the onward
 /// posters of ends that were adopted. Ports that use one hub have different numbers.
 ///
 /// `flight` and `yard` each have a lock. No call takes one while it holds the other, and nothing
-/// else is locked inside.
+/// else is locked inside. A third lock makes the hub one that threads may share. Only `end` reaches
+/// it, which has the hub for itself and takes no lock.
 #[derive(Drop)]
 pub struct Hub {
     /// The ports that were sent, under their numbers.
@@ -22,7 +23,7 @@ pub struct Hub {
     pub yard: Depot<Onward>,
     pub(crate) alloc: Global,
     /// An end that a refused `end` has closed and not yet emptied.
-    grave: Option<Grave>,
+    grave: Mutex<Option<Grave>>,
 }
 
 impl Hub {
@@ -37,7 +38,7 @@ impl Hub {
             flight: Depot::new(alloc),
             yard: Depot::new(alloc),
             alloc,
-            grave: None,
+            grave: Mutex::new(None),
         }
     }
 
@@ -72,14 +73,14 @@ impl Hub {
             grave,
         } = self;
         let mut kept = flight.into_kept();
-        let Err(grave) = close_flight(rt, alloc, &yard, grave, &mut kept) else {
+        let Err(grave) = close_flight(rt, alloc, &yard, grave.into_inner(), &mut kept) else {
             return Ok(());
         };
         let hub = Hub {
             flight: Depot::holding(kept),
             yard,
             alloc,
-            grave: Some(grave),
+            grave: Mutex::new(Some(grave)),
         };
         Err((AllocError, hub))
     }

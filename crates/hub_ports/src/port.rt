@@ -101,6 +101,7 @@ impl Port {
     /// envelope were not accepted. After an error the peer's end has nothing new from this port,
     /// and but for `Doomed` the body and the ports come back. What giving back wants of memory is
     /// reserved before the first port is in flight.
+    #[inline(always)]
     pub fn post<R: Wait>(
         &mut self,
         rt: &R,

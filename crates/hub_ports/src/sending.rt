@@ -1,8 +1,8 @@
 //! How a body is posted with the ports that are sent along.
-ghost use Rattle.std.specs.Prelude.{◌≡◌, ◌↔◌, ◌<◌, ◌≤◌, [], Contains, length, IfOk};
+ghost use Rattle.std.specs.Prelude.{◌≡◌, ◌↔◌, ◌<◌, ◌≤◌, [], Contains, length, Err, IfOk};
 ghost use Rattle.std.specs.List.{list_any};
 ghost use Rattle.hub_envelope.specs.declared.limits.TheConstants.{MAX_PORTS};
-ghost use Rattle.hub_ports.specs.Refusing.{whole_error};
+ghost use Rattle.hub_ports.specs.Refusing.{refusal_of, whole_error};
 ghost use Rattle.hub_ports.specs.Seats.{ends_of, has_end};
 ghost use Rattle.hub_ports.specs.Sending.{IsSent, IsDoomed, IsTooMany};
 
@@ -13,7 +13,7 @@ use crate::port::Port;
 use crate::port_error::PortError;
 use crate::send_refusal::SendRefusal;
 use hub_envelope::{AgentId, Body, Draft, EndId, MAX_PORTS, OutOfMemory, Ports};
-use hub_queue::{Posted, Poster};
+use hub_queue::{PostError, Posted, Poster};
 use std::alloc::Global;
 use std::sync::Wait;
 
@@ -35,20 +35,39 @@ fn numbers_of(alloc: Global, ports: &[Port]) -> Result<Vec<EndId>, OutOfMemory>
     Ok(numbers)
 }
 
-// The error of a message that was refused, once its ports were called back.
-fn refused(refusal: SendRefusal, missing: Vec<EndId>, body: Body, ports: Vec<Port>) -> PortError
-    ensures whole { missing.items ≡ [] → result ≡ whole_error refusal body ports }
-    ensures strayed { 0 < length missing.items → result ≡ PortError.Strayed missing body ports }
+// The error of a message that was refused, where all its ports are in hand.
+fn refused_whole(refusal: SendRefusal, body: Body, ports: Vec<Port>) -> PortError
+    ensures { result ≡ whole_error refusal body ports }
 {
-    if !missing.is_empty() {
-        return PortError::Strayed(missing, body, ports);
-    }
     match refusal {
         SendRefusal::Closed => PortError::Closed(body, ports),
         SendRefusal::Moving => PortError::Moving(body, ports),
         SendRefusal::OutOfMemory => PortError::OutOfMemory(body, ports),
         SendRefusal::Taken => PortError::Taken(body, ports),
     }
+}
+
+// The error of a message that was refused, once its ports were called back.
+fn refused(refusal: SendRefusal, missing: Vec<EndId>, body: Body, ports: Vec<Port>) -> PortError
+    ensures whole { missing.items ≡ [] → result ≡ whole_error refusal body ports }
+    ensures strayed { 0 < length missing.items → result ≡ PortError.Strayed missing body ports }
+{
+    if missing.is_empty() {
+        refused_whole(refusal, body, ports)
+    } else {
+        PortError::Strayed(missing, body, ports)
+    }
+}
+
+// The answer to a message without ports that its line refused. It is no part of `send`, as
+// `send_with_ports` isn't.
+#[cold]
+#[inline(never)]
+fn turned_back(error: PostError, draft: Draft, none: Vec<Port>) -> Result<Posted, PortError>
+    ensures { result ≡ Err (whole_error (refusal_of error) draft.body none) }
+{
+    let Draft { body, .. } = draft;
+    Err(refused_whole(SendRefusal::of_line(error), body, none))
 }
 
 // Posts a body with at most so many ports as an envelope may have. What giving them back wants is
@@ -106,13 +125,13 @@ fn post_with_ports<R: Wait>(
     }
 }
 
-/// Posts a body over a line, with ports that are sent along: `Port::post`, over a line of a queue
-/// (Service Workers, "client message queue") in place of a port's own. Where the line's end is no
-/// port, `Doomed` never comes.
-pub fn send<R: Wait>(
-    line: &mut Poster,
+// Posts a body with the ports of a list. It is no part of `send`, so that a post without ports
+// doesn't pay for the room that the errors of a list take on the stack.
+#[inline(never)]
+fn send_with_ports<R: Wait>(
     rt: &R,
     hub: &Hub,
+    line: &mut Poster,
     agent: AgentId,
     body: Body,
     transfer: Vec<Port>,
@@ -130,4 +149,39 @@ pub fn send<R: Wait>(
         return Err(PortError::Doomed(closings));
     }
     post_with_ports(rt, hub, line, agent, body, transfer)
+}
+
+/// Posts a body over a line, with ports that are sent along: `Port::post`, over a line of a queue
+/// (Service Workers, "client message queue") in place of a port's own. Where the line's end is no
+/// port, `Doomed` never comes.
+// It is inlined, and so is `Port::post`, since the answer has room for the closings of a whole list
+// and each return would copy it.
+#[inline(always)]
+pub fn send<R: Wait>(
+    line: &mut Poster,
+    rt: &R,
+    hub: &Hub,
+    agent: AgentId,
+    body: Body,
+    transfer: Vec<Port>,
+) -> Result<Posted, PortError>
+    ensures sent { IsSent line.old line.new agent body transfer.items result }
+    ensures many { IsTooMany result ↔ (MAX_PORTS < length transfer.items) }
+    ensures doomed { IsDoomed result ↔ ((length transfer.items ≤ MAX_PORTS)
+        × Contains (ends_of transfer.items) line.old.name.end) }
+{
+    if !transfer.is_empty() {
+        return send_with_ports(rt, hub, line, agent, body, transfer);
+    }
+    let draft = Draft {
+        agent,
+        body,
+        ports: Ports::none(hub.alloc),
+        notice: false,
+    };
+    let (error, draft) = match line.post(rt, &hub.yard, draft) {
+        Ok(posted) => return Ok(posted),
+        Err(refusal) => refusal,
+    };
+    turned_back(error, draft, transfer)
 }

@@ -4,7 +4,7 @@ use Rattle.hub_depot.specs.declared.key.Key.{Key}
 use Rattle.hub_envelope.specs.declared.limits.TheConstants.{MAX_PORTS}
 use Rattle.hub_ports.specs.Seats.{has_end}
 use Rattle.hub_ports.proofs.Listed.{found-listed, listed-found}
-use Rattle.hub_ports.proofs.sending.send.Goals as goal
+use Rattle.hub_ports.proofs.sending.send_with_ports.Goals as goal
 
 pub returns-then-holds-clause-doomed : goal.returns-then-holds-clause-doomed
 returns-then-holds-clause-doomed g c =
