@@ -4,6 +4,8 @@
 #![tactic(auto)]
 
 #[cfg(test)]
+mod end;
+#[cfg(test)]
 mod held;
 #[cfg(test)]
 mod held_moves;
@@ -19,5 +21,7 @@ mod moves;
 mod moves_under_fire;
 #[cfg(test)]
 mod parts;
+#[cfg(test)]
+mod table;
 #[cfg(test)]
 mod threads;

@@ -1,4 +1,4 @@
-ghost use Rattle.std.specs.Prelude.{◌≡◌, IfOk};
+ghost use Rattle.std.specs.Prelude.{◌≡◌};
 ghost use Rattle.hub_queue.specs.Meetings.{AreTogether};
 
 use crate::parts::{bell, draft};
@@ -10,35 +10,43 @@ use std::marker::Brand;
 use std::process::Abort;
 use std::sync::Wait;
 use std::sync::ledger::{Blank, Ledger};
-use std::test::Fail;
 
 // A mailbox of this end with one line.
-fn opened(alloc: Global, end: EndId) -> Result<(Taker, Poster), Fail>
-    ensures together { IfOk result (λ m. AreTogether m.1 m.0) }
-    ensures ends { IfOk result (λ m. (m.1.name.end ≡ end) × (m.0.end ≡ end.0)) }
+fn opened<R: Abort>(rt: &R, alloc: Global, end: EndId) -> (Taker, Poster)
+    ensures together { AreTogether result.1 result.0 }
+    ensures ends { (result.1.name.end ≡ end) × (result.0.end ≡ end.0) }
 {
-    let (taker, mut posters) = Mailbox::open(alloc, end, 1, bell(alloc)?)?;
-    match posters.pop() {
-        Some(poster) => Ok((taker, poster)),
-        None => Err(Fail::from("no poster")),
-    }
+    let Some(bell) = bell(alloc) else {
+        panic!(rt; "no bell");
+    };
+    let Ok((taker, mut posters)) = Mailbox::open(alloc, end, 1, bell) else {
+        panic!(rt; "no mailbox");
+    };
+    let Some(poster) = posters.pop() else {
+        panic!(rt; "no poster");
+    };
+    drop(posters);
+    (taker, poster)
 }
 
-// Posts one draft at the taker's end.
+// Posts one draft at the taker's end, and it is accepted.
 fn post_one<R: Abort + Wait>(
     rt: &R,
     alloc: Global,
     yard: &Depot<Onward>,
     poster: &mut Poster,
     taker: &Taker,
-) -> Result<(), Fail>
+)
     requires { AreTogether poster.old taker.now }
-    ensures { IfOk result (λ _. AreTogether poster.new taker.now) }
+    ensures { AreTogether poster.new taker.now }
 {
-    let draft = draft(alloc, "7")?;
-    let answer = poster.post(rt, yard, draft);
-    assert!(rt; answer.is_ok());
-    Ok(())
+    let _ = taker;
+    let Some(draft) = draft(alloc, "7") else {
+        panic!(rt; "no draft");
+    };
+    if poster.post(rt, yard, draft).is_err() {
+        panic!(rt; "a post was refused");
+    }
 }
 
 fn start(taker: &mut Taker, poster: &Poster)
@@ -50,88 +58,117 @@ fn start(taker: &mut Taker, poster: &Poster)
 }
 
 // Takes one envelope of the poster's end.
-fn take_one<L: Ledger, R: Wait>(
+fn take_one<L: Ledger, R: Abort + Wait>(
     rt: &R,
     taker: &mut Taker,
     poster: &Poster,
     steps: &mut Steps<L>,
-) -> Result<(), Fail>
+)
     requires { AreTogether poster.now taker.old }
-    ensures { IfOk result (λ _. AreTogether poster.now taker.new) }
+    ensures { AreTogether poster.now taker.new }
 {
     let _ = poster;
-    let Took::Got(_) = taker.take(rt, steps) else {
-        return Err(Fail::from("nothing was taken"));
-    };
-    Ok(())
+    match taker.take(rt, steps) {
+        Took::Got(envelope) => drop(envelope),
+        _ => panic!(rt; "nothing was taken"),
+    }
 }
 
-fn meets<L: Ledger, R: Abort + Wait>(rt: &R, alloc: Global, blank: Blank) -> Result<(), Fail>
-    requires { (blank.name ≡ L.name) × (blank.parts ≡ L.parts) × (L.parts ≡ 2) }
+// Posts three drafts and takes two of them.
+fn meets<L: Ledger, R: Abort + Wait>(
+    rt: &R,
+    alloc: Global,
+    taker: &mut Taker,
+    poster: &mut Poster,
+    blank: Blank,
+)
+    requires together { AreTogether poster.old taker.old }
+    requires blank { (blank.name ≡ L.name) × (blank.parts ≡ L.parts) × (L.parts ≡ 2) }
 {
     let yard = Depot::new(alloc);
     let mut steps = Steps::<L>::begin(blank);
-    let (mut taker, mut poster) = opened(alloc, EndId(0))?;
-    post_one(rt, alloc, &yard, &mut poster, &taker)?;
-    post_one(rt, alloc, &yard, &mut poster, &taker)?;
-    post_one(rt, alloc, &yard, &mut poster, &taker)?;
-    start(&mut taker, &poster);
-    take_one(rt, &mut taker, &poster, &mut steps)?;
-    take_one(rt, &mut taker, &poster, &mut steps)?;
-    let met = meet(rt, &mut poster, &mut taker);
-    assert_eq!(rt; met, Meeting::Met { put: 3, got: 2 });
-    Ok(())
+    post_one(rt, alloc, &yard, poster, taker);
+    post_one(rt, alloc, &yard, poster, taker);
+    post_one(rt, alloc, &yard, poster, taker);
+    start(taker, poster);
+    take_one(rt, taker, poster, &mut steps);
+    take_one(rt, taker, poster, &mut steps);
+    assert_eq!(rt; meet(rt, poster, taker), Meeting::Met { put: 3, got: 2 });
 }
 
 #[test]
-fn a_poster_meets_its_taker(rt: HostRuntime) -> Result<(), Fail> {
-    meets::<Brand, _>(&rt, rt.alloc(), Blank::new(2))
+fn a_poster_meets_its_taker(rt: HostRuntime) {
+    let (mut taker, mut poster) = opened(&rt, rt.alloc(), EndId(0));
+    meets::<Brand, _>(&rt, rt.alloc(), &mut taker, &mut poster, Blank::new(2));
+    drop(taker);
+    drop(poster);
 }
 
 #[test]
-fn nothing_put_is_met(rt: HostRuntime) -> Result<(), Fail> {
-    let (mut taker, mut poster) = opened(rt.alloc(), EndId(0))?;
+fn nothing_put_is_met(rt: HostRuntime) {
+    let (mut taker, mut poster) = opened(&rt, rt.alloc(), EndId(0));
     assert_eq!(rt;
         meet(&rt, &mut poster, &mut taker),
         Meeting::Met { put: 0, got: 0 }
     );
-    Ok(())
+    drop(taker);
+    drop(poster);
 }
 
 #[test]
-fn strangers_do_not_meet(rt: HostRuntime) -> Result<(), Fail> {
-    let (_taker, mut poster) = opened(rt.alloc(), EndId(0))?;
-    let (mut other, _poster) = opened(rt.alloc(), EndId(1))?;
+fn strangers_do_not_meet(rt: HostRuntime) {
+    let (taker, mut poster) = opened(&rt, rt.alloc(), EndId(0));
+    let (mut other, stranger) = opened(&rt, rt.alloc(), EndId(1));
     assert_eq!(rt; meet(&rt, &mut poster, &mut other), Meeting::Strangers);
-    Ok(())
+    drop(taker);
+    drop(poster);
+    drop(other);
+    drop(stranger);
 }
 
 // Moves the end on.
-fn adopt_one<R: Wait>(
+fn adopt_one<R: Abort + Wait>(
     rt: &R,
     alloc: Global,
     yard: &Depot<Onward>,
     taker: Taker,
     poster: &Poster,
-) -> Result<Taker, Fail>
+) -> Taker
     requires { AreTogether poster.now taker }
-    ensures { IfOk result (λ moved. AreTogether poster.now moved) }
+    ensures { AreTogether poster.now result }
 {
     let _ = poster;
-    match taker.adopt(rt, yard, bell(alloc)?) {
-        Ok(moved) => Ok(moved),
-        Err((error, _)) => Err(Fail::from(error)),
+    let Some(bell) = bell(alloc) else {
+        panic!(rt; "no bell");
+    };
+    match taker.adopt(rt, yard, bell) {
+        Ok(moved) => moved,
+        Err(_) => panic!(rt; "an adoption was refused"),
     }
 }
 
+// Posts from the old queue, where the poster is turned, and so goes on to a later queue than the
+// taker's.
+fn goes_on<R: Abort + Wait>(
+    rt: &R,
+    alloc: Global,
+    yard: &Depot<Onward>,
+    taker: &mut Taker,
+    poster: &mut Poster,
+)
+    requires { AreTogether poster.old taker.old }
+{
+    assert_eq!(rt; meet(rt, poster, taker), Meeting::Turned);
+    post_one(rt, alloc, yard, poster, taker);
+    assert_eq!(rt; meet(rt, poster, taker), Meeting::Strangers);
+}
+
 #[test]
-fn a_poster_that_went_on_is_a_stranger(rt: HostRuntime) -> Result<(), Fail> {
-    let alloc = rt.alloc();
-    let yard = Depot::new(alloc);
-    let (taker, mut poster) = opened(alloc, EndId(0))?;
-    let mut taker = adopt_one(&rt, alloc, &yard, taker, &poster)?;
-    assert_eq!(rt; meet(&rt, &mut poster, &mut taker), Meeting::Turned);
-    post_one(&rt, alloc, &yard, &mut poster, &taker)?;
-    assert_eq!(rt; meet(&rt, &mut poster, &mut taker), Meeting::Strangers);
-    Ok(())
+fn a_poster_that_went_on_is_a_stranger(rt: HostRuntime) {
+    let yard = Depot::new(rt.alloc());
+    let (taker, mut poster) = opened(&rt, rt.alloc(), EndId(0));
+    let mut taker = adopt_one(&rt, rt.alloc(), &yard, taker, &poster);
+    goes_on(&rt, rt.alloc(), &yard, &mut taker, &mut poster);
+    drop(taker);
+    drop(poster);
 }

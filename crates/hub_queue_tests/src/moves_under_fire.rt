@@ -1,12 +1,11 @@
 //! One thread posts while two others hand the taker to and fro, with an adoption at each turn.
-use crate::parts::{draft_of, one_line, take, try_adopted};
+use crate::end::End;
+use crate::parts::{draft, open};
 use hub_depot::Depot;
-use hub_envelope::Draft;
-use hub_queue::{Onward, PostError, Posted, Poster, Taker, Took};
+use hub_envelope::{Draft, Envelope};
+use hub_queue::{Onward, PostError, Posted, Poster};
 use std::alloc::Global;
-use std::process::Abort;
 use std::sync::{Mutex, Wait};
-use std::test::Fail;
 use std::thread;
 use std::thread::Threads;
 
@@ -27,133 +26,166 @@ type Name = (u32, u64, u64);
 // The end, how often it was adopted, and what was taken.
 #[derive(Drop)]
 struct Turn {
-    taker: Option<Taker>,
+    end: End,
     moves: u32,
     taken: Vec<Name>,
 }
 
-// Posts a draft until it is accepted, while posts are left.
-fn post_until<R: Wait>(
-    rt: &R,
-    yard: &Depot<Onward>,
-    poster: &mut Poster,
-    draft: Draft,
-    posts: &mut u32,
-) -> Option<Posted> {
-    let mut draft = draft;
-    for _ in 0..*posts {
-        *posts = posts.saturating_sub(1);
-        match poster.post(rt, yard, draft) {
-            Ok(posted) => return Some(posted),
-            Err((PostError::Moving, back)) => {
-                draft = back;
-                thread::yield_now();
-            }
-            Err(_) => return None,
-        }
-    }
-    None
-}
-
-// Posts the bodies 0, 1, 2 and so on. The names under which they were accepted.
-fn post_all<R: Wait>(
-    rt: &R,
+// What is posted, how many posts are left, and the names under which drafts were accepted.
+#[derive(Drop)]
+struct Fire {
     alloc: Global,
-    yard: &Depot<Onward>,
-    mut poster: Poster,
-) -> Option<Vec<Name>> {
-    let mut accepted = Vec::new(alloc);
-    let mut posts = POSTS;
-    for body in 0..BODIES {
-        let text = format!(in alloc; "{body}").ok()?;
-        let draft = draft_of(alloc, text.as_str())?;
-        let posted = post_until(rt, yard, &mut poster, draft, &mut posts)?;
-        accepted.push((posted.epoch, posted.number, body)).ok()?;
-    }
-    Some(accepted)
+    poster: Poster,
+    posts: u32,
+    accepted: Vec<Name>,
 }
 
-// Takes so often, or until all bodies were taken.
-fn take_some<R: Wait>(rt: &R, taker: &mut Taker, takes: u32, taken: &mut Vec<Name>) -> Option<()> {
-    for _ in 0..takes {
-        if taken.len() as u64 == BODIES {
-            return Some(());
-        }
-        if let Took::Got(envelope) = take(rt, taker) {
-            let body = envelope.body.text().parse::<u64>().ok()?;
-            taken.push((envelope.epoch, envelope.number, body)).ok()?;
-        }
-    }
-    Some(())
+fn name_of(envelope: &Envelope) -> Option<Name> {
+    let body = envelope.body.text().parse::<u64>().ok()?;
+    Some((envelope.epoch, envelope.number, body))
 }
 
-// One turn: the end is adopted and started, and its taker takes.
-fn turn_once<R: Wait>(rt: &R, alloc: Global, yard: &Depot<Onward>, turn: &mut Turn) -> Option<()> {
-    let mut taker = try_adopted(rt, alloc, yard, turn.taker.take()?)?;
-    taker.start();
-    take_some(rt, &mut taker, TAKES_A_TURN, &mut turn.taken)?;
-    turn.taker = Some(taker);
-    turn.moves = turn.moves.saturating_add(1);
-    Some(())
+impl Fire {
+    // Posts a draft until it is accepted, while posts are left.
+    fn post_until<R: Wait>(
+        &mut self,
+        rt: &R,
+        yard: &Depot<Onward>,
+        draft: Draft,
+    ) -> Option<Posted> {
+        let mut draft = draft;
+        for _ in 0..self.posts {
+            self.posts = self.posts.saturating_sub(1);
+            match self.poster.post(rt, yard, draft) {
+                Ok(posted) => return Some(posted),
+                Err((PostError::Moving, back)) => {
+                    draft = back;
+                    thread::yield_now();
+                }
+                Err(_) => return None,
+            }
+        }
+        None
+    }
+
+    fn post<R: Wait>(&mut self, rt: &R, yard: &Depot<Onward>, body: u64) -> Option<()> {
+        let text = format!(in self.alloc; "{body}").ok()?;
+        let draft = draft(self.alloc, text.as_str())?;
+        let posted = self.post_until(rt, yard, draft)?;
+        self.accepted.push((posted.epoch, posted.number, body)).ok()
+    }
+
+    // Posts the bodies 0, 1, 2 and so on.
+    fn post_all<R: Wait>(&mut self, rt: &R, yard: &Depot<Onward>) -> Option<()> {
+        for body in 0..BODIES {
+            self.post(rt, yard, body)?;
+        }
+        Some(())
+    }
+}
+
+impl Turn {
+    // Takes once, and keeps the name of what was taken.
+    fn take<R: Wait>(&mut self, rt: &R) -> Option<()> {
+        match self.end.take(rt) {
+            Some(envelope) => self.taken.push(name_of(&envelope)?).ok(),
+            None => Some(()),
+        }
+    }
+
+    // Takes so often, or until all bodies were taken.
+    fn take_some<R: Wait>(&mut self, rt: &R, takes: u32) -> Option<()> {
+        for _ in 0..takes {
+            if self.taken.len() as u64 == BODIES {
+                return Some(());
+            }
+            self.take(rt)?;
+        }
+        Some(())
+    }
+
+    // One turn: the end is adopted and started, and its taker takes.
+    fn once<R: Wait>(&mut self, rt: &R, yard: &Depot<Onward>) -> Option<()> {
+        if !self.end.is_adopted(rt, yard) || !self.end.start() {
+            return None;
+        }
+        self.take_some(rt, TAKES_A_TURN)?;
+        self.moves = self.moves.saturating_add(1);
+        Some(())
+    }
+
+    // Makes a turn where it is due, and none are due any more where one can't be made. Whether the
+    // last one was made, once none is due.
+    fn next<R: Wait>(&mut self, rt: &R, yard: &Depot<Onward>, mine: u32) -> Option<bool> {
+        if self.moves >= ADOPTIONS {
+            return Some(true);
+        }
+        if self.moves % 2 == mine && self.once(rt, yard).is_none() {
+            self.moves = ADOPTIONS;
+            return Some(false);
+        }
+        None
+    }
 }
 
 // Takes every second turn until all are done. Where one can't be made, all are done.
-fn take_turns<R: Wait>(
-    rt: &R,
-    alloc: Global,
-    yard: &Depot<Onward>,
-    turn: &Mutex<Turn>,
-    mine: u32,
-) -> bool {
+fn take_turns<R: Wait>(rt: &R, yard: &Depot<Onward>, turn: &Mutex<Turn>, mine: u32) -> bool {
     for _ in rt.forever() {
-        let mut turn = turn.lock(rt);
-        if turn.moves >= ADOPTIONS {
-            return true;
+        let next = turn.lock(rt).next(rt, yard, mine);
+        if let Some(ended) = next {
+            return ended;
         }
-        if turn.moves % 2 == mine && turn_once(rt, alloc, yard, &mut turn).is_none() {
-            turn.moves = ADOPTIONS;
-            return false;
-        }
-        drop(turn);
         thread::yield_now();
     }
     false
 }
 
-fn runs<R: Abort + Wait + Threads + Sync>(rt: &R, alloc: Global) -> Result<(), Fail> {
+// One thread fires, and two take turns. Whether each of them came to its end.
+fn race<R: Wait + Threads + Sync>(
+    rt: &R,
+    alloc: Global,
+    fire: &mut Fire,
+    turn: &Mutex<Turn>,
+) -> bool {
     let yard = Depot::new(alloc);
-    let (taker, poster) = one_line(alloc)?;
-    let turn = Mutex::new(Turn {
-        taker: Some(taker),
-        moves: 0,
-        taken: Vec::new(alloc),
-    });
-    let (accepted, turns) = thread::join(
+    let (is_posted, (is_first_done, is_second_done)) = thread::join(
         rt,
-        || post_all(rt, alloc, &yard, poster),
+        || fire.post_all(rt, &yard).is_some(),
         || {
             thread::join(
                 rt,
-                || take_turns(rt, alloc, &yard, &turn, 0),
-                || take_turns(rt, alloc, &yard, &turn, 1),
+                || take_turns(rt, &yard, turn, 0),
+                || take_turns(rt, &yard, turn, 1),
             )
         },
     );
-    let accepted = accepted.ok_or("not all were accepted")?;
-    assert_eq!(rt; turns, (true, true));
-    let Turn {
-        taker,
-        moves,
-        mut taken,
-    } = turn.into_inner();
-    assert_eq!(rt; moves, ADOPTIONS);
-    let mut taker = taker.ok_or("no taker")?;
-    take_some(rt, &mut taker, TAKES, &mut taken).ok_or("no memory")?;
-    assert_eq!(rt; taken.as_slice(), accepted.as_slice());
-    Ok(())
+    is_posted && is_first_done && is_second_done
 }
 
 #[test]
-fn a_taker_is_handed_to_and_fro(rt: HostRuntime) -> Result<(), Fail> {
-    runs(&rt, rt.alloc())
+fn a_taker_is_handed_to_and_fro(rt: HostRuntime) {
+    let alloc = rt.alloc();
+    let Some((taker, poster)) = open(alloc, 1) else {
+        panic!(rt; "no mailbox");
+    };
+    let mut end = End::new(alloc);
+    end.put(taker);
+    let mut fire = Fire {
+        alloc,
+        poster,
+        posts: POSTS,
+        accepted: Vec::new(alloc),
+    };
+    let turn = Mutex::new(Turn {
+        end,
+        moves: 0,
+        taken: Vec::new(alloc),
+    });
+    assert!(rt; race(&rt, alloc, &mut fire, &turn));
+    let mut turn = turn.into_inner();
+    assert!(rt; turn.take_some(&rt, TAKES).is_some());
+    assert_eq!(rt; turn.moves, ADOPTIONS);
+    assert!(rt; turn.taken.as_slice() == fire.accepted.as_slice());
+    drop(turn);
+    drop(fire);
 }

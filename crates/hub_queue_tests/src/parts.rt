@@ -2,22 +2,14 @@
 ghost use Rattle.std.specs.Prelude.{◌≡◌};
 
 use crossbeam_utils::sync::Parker;
-use hub_depot::Depot;
-use hub_envelope::{AgentId, Body, Draft, EndId, Ports};
-use hub_queue::{Bell, Mailbox, Onward, Poster, Steps, Taker, Took};
+use hub_envelope::{AgentId, Body, Draft, EndId, Envelope, Ports};
+use hub_queue::{Bell, MAX_LINES, Mailbox, Poster, Steps, Taker, Took};
 use std::alloc::Global;
 use std::marker::Brand;
 use std::sync::Wait;
 use std::sync::ledger::{Blank, Ledger};
-use std::test::Fail;
 
-/// A draft with this body.
-pub(crate) fn draft(alloc: Global, text: &str) -> Result<Draft, Fail> {
-    Ok(draft_of(alloc, text).ok_or("no draft")?)
-}
-
-/// The same, for a caller that can't fail.
-pub(crate) fn draft_of(alloc: Global, text: &str) -> Option<Draft> {
+fn try_draft(alloc: Global, text: &str) -> Option<Draft> {
     let body = Body::read(alloc, text).ok()?;
     Some(Draft {
         agent: AgentId(0),
@@ -27,27 +19,56 @@ pub(crate) fn draft_of(alloc: Global, text: &str) -> Option<Draft> {
     })
 }
 
-/// A bell that nobody sleeps at.
-pub(crate) fn bell(alloc: Global) -> Result<Bell, Fail> {
-    Ok(try_bell(alloc).ok_or("no bell")?)
+/// A draft with this body. It is made again where an allocation was refused, since the next one
+/// has the memory.
+pub(crate) fn draft(alloc: Global, text: &str) -> Option<Draft> {
+    match try_draft(alloc, text) {
+        Some(draft) => Some(draft),
+        None => try_draft(alloc, text),
+    }
 }
 
-/// The same, for a caller that tries again.
-pub(crate) fn try_bell(alloc: Global) -> Option<Bell> {
+fn try_bell(alloc: Global) -> Option<Bell> {
     let parker = Parker::new(alloc).ok()?;
     Some(Bell::new(parker.unparker().clone().ok()?))
 }
 
-/// A mailbox of the end 0 with one line.
-pub(crate) fn one_line(alloc: Global) -> Result<(Taker, Poster), Fail> {
-    Ok(try_one_line(alloc).ok_or("no mailbox")?)
+/// A bell that nobody sleeps at, in the same way.
+pub(crate) fn bell(alloc: Global) -> Option<Bell> {
+    match try_bell(alloc) {
+        Some(bell) => Some(bell),
+        None => try_bell(alloc),
+    }
 }
 
-/// The same, for a caller that tries again.
-pub(crate) fn try_one_line(alloc: Global) -> Option<(Taker, Poster)> {
-    let (taker, mut posters) = Mailbox::open(alloc, EndId(0), 1, try_bell(alloc)?).ok()?;
-    let poster = posters.pop()?;
-    Some((taker, poster))
+fn try_open(alloc: Global, lines: u8) -> Option<(Taker, Poster)> {
+    if lines == 0 || lines as usize > MAX_LINES {
+        return None;
+    }
+    let Some(bell) = bell(alloc) else {
+        return None;
+    };
+    let Ok((taker, mut posters)) = Mailbox::open(alloc, EndId(0), lines, bell) else {
+        return None;
+    };
+    let last = posters.pop();
+    drop(posters);
+    match last {
+        Some(poster) => Some((taker, poster)),
+        None => {
+            drop(taker);
+            None
+        }
+    }
+}
+
+/// A mailbox of the end 0 with so many lines, in the same way: its taker, and the poster of its
+/// last line.
+pub(crate) fn open(alloc: Global, lines: u8) -> Option<(Taker, Poster)> {
+    match try_open(alloc, lines) {
+        Some(parts) => Some(parts),
+        None => try_open(alloc, lines),
+    }
 }
 
 fn take_counted<L: Ledger, R: Wait>(rt: &R, taker: &mut Taker, blank: Blank) -> Took
@@ -73,60 +94,21 @@ pub(crate) enum Next {
     Disabled,
 }
 
+/// Whether an envelope has this epoch, this number and this text.
+pub(crate) fn is_named(envelope: &Envelope, epoch: u32, number: u64, text: &str) -> bool {
+    envelope.epoch == epoch && envelope.number == number && envelope.body.text() == text
+}
+
 /// Whether a take came to this.
-pub(crate) fn is_next(took: Took, next: Next) -> bool {
-    match (took, next) {
-        (Took::Got(envelope), Next::Got(epoch, number, text)) => {
-            envelope.epoch == epoch && envelope.number == number && envelope.body.text() == text
-        }
-        (Took::Empty, Next::Empty) => true,
-        (Took::Busy, Next::Busy) => true,
-        (Took::Again, Next::Again) => true,
-        (Took::Disabled, Next::Disabled) => true,
-        _ => false,
-    }
-}
-
-/// Takes as often as there are steps. Whether each take came to its step.
-pub(crate) fn takes<R: Wait>(rt: &R, taker: &mut Taker, steps: &[Next]) -> bool {
-    for step in steps {
-        if !is_next(take(rt, taker), *step) {
-            return false;
-        }
-    }
-    true
-}
-
-/// Moves the end on, to a loop at whose bell nobody sleeps.
-pub(crate) fn adopted<R: Wait>(
-    rt: &R,
-    alloc: Global,
-    yard: &Depot<Onward>,
-    taker: Taker,
-) -> Result<Taker, Fail> {
-    Ok(try_adopted(rt, alloc, yard, taker).ok_or("not adopted")?)
-}
-
-/// The same, for a caller that can't fail.
-pub(crate) fn try_adopted<R: Wait>(
-    rt: &R,
-    alloc: Global,
-    yard: &Depot<Onward>,
-    taker: Taker,
-) -> Option<Taker> {
-    taker.adopt(rt, yard, try_bell(alloc)?).ok()
-}
-
-/// Posts a draft with this body. The queue and the number under which it was accepted.
-pub(crate) fn posted<R: Wait>(
-    rt: &R,
-    alloc: Global,
-    yard: &Depot<Onward>,
-    poster: &mut Poster,
-    text: &str,
-) -> Result<(u32, u64), Fail> {
-    match poster.post(rt, yard, draft(alloc, text)?) {
-        Ok(posted) => Ok((posted.epoch, posted.number)),
-        Err((error, _)) => Err(Fail::from(error)),
+pub(crate) fn is_next(took: &Took, next: Next) -> bool {
+    match next {
+        Next::Got(epoch, number, text) => match took {
+            Took::Got(envelope) => is_named(envelope, epoch, number, text),
+            _ => false,
+        },
+        Next::Empty => matches!(took, Took::Empty),
+        Next::Busy => matches!(took, Took::Busy),
+        Next::Again => matches!(took, Took::Again),
+        Next::Disabled => matches!(took, Took::Disabled),
     }
 }

@@ -1,5 +1,5 @@
 use Rattle.hub_queue.proofs.Together.{moved_keeps}
 use Rattle.hub_queue_tests.proofs.meetings.adopt_one.Goals as goal
 
-pub returns-in-Ok : goal.returns-in-Ok
-returns-in-Ok g c = moved_keeps _ _ _ c.in-Ok.ensures.0 c.requires
+pub returns : goal.returns
+returns g c = moved_keeps _ _ _ c.in-Ok.ensures.0 c.requires

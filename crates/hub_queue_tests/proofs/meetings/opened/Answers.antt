@@ -4,13 +4,12 @@ use Rattle.hub_queue.proofs.Below.{parts_snoc}
 use Rattle.hub_queue.proofs.Together.{opened_together}
 use Rattle.hub_queue_tests.proofs.meetings.opened.Goals as goal
 
-pub returns-in-Some : goal.returns-in-Some
-returns-in-Some c =
-    let opened = c.in_ok-taker.ensures in
-    let last = c.in-Some.ensures.items in
-    let p = c.in_ok-taker.taker.newest in
-    let is = (parts_snoc (new_stands p.keeper.gate p.queue c.args.end 0) c.pop.new.self.items (new_stand p.keeper.gate p.queue c.args.end 0 0) c.in-Some.poster (sym opened.posters_are ∙ last)).1 in
-    record {
-      together = opened_together c.args.end 0 c.in_ok-taker.taker c.in_ok-taker.posters.items c.pop.new.self.items c.in-Some.poster opened last;
-      ends = (ap (λ s. s.name.end) (sym is), ap (λ t. t.end) opened.taker_is);
-    }
+pub returns-clause-together : goal.returns-clause-together
+returns-clause-together g c = opened_together c.args.end 0 c.in-Ok.taker c.in-Ok.posters.items c.pop.new.self.items c.in-Some-pop.poster c.in-Ok.ensures c.in-Some-pop.ensures.items
+
+pub returns-clause-ends : goal.returns-clause-ends
+returns-clause-ends g c =
+    let opened = c.in-Ok.ensures in
+    let p = c.in-Ok.taker.newest in
+    let is = (parts_snoc (new_stands p.keeper.gate p.queue c.args.end 0) c.pop.new.self.items (new_stand p.keeper.gate p.queue c.args.end 0 0) c.in-Some-pop.poster (sym opened.posters_are ∙ c.in-Some-pop.ensures.items)).1 in
+    (ap (λ s. s.name.end) (sym is), ap (λ t. t.end) opened.taker_is)
