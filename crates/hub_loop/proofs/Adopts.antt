@@ -1,0 +1,64 @@
+-- The ports of a delivery are adopted one after another.
+use Rattle.std.proofs.Common.{◌≡◌, List, [], ◌∷◌, ◌++◌, refl, sym, ap, ◌∙◌, subst, ⊎_elim, inl, inr, append_assoc, append-nil}
+use Rattle.slab.specs.Slab.{Slab, SameValues}
+use Rattle.hub_envelope.specs.declared.ids.EndId.{EndId}
+use Rattle.hub_ports.specs.Seats.{PortSeat}
+use Rattle.hub_loop.specs.declared.held.Held.{Held}
+use Rattle.hub_loop.specs.Adopting.{HoldsMore, IsOneAdopted, AreAdopted, ArePartlyAdopted}
+use Rattle.hub_loop.specs.declared.delivery.Receiving.{Receiving}
+
+-- what was held before may be told of another slab that holds the same
+holds-after : (old mid new : Slab Held) (h : Held) → SameValues old mid → HoldsMore mid new h → HoldsMore old new h
+holds-after old mid new h same more =
+    (more.0, sym (same more.0) ∙ more.1, record { changed = more.2.changed; others = λ k other. more.2.others k other ∙ same k })
+
+holds-before : (old mid new : Slab Held) (h : Held) → HoldsMore old mid h → SameValues mid new → HoldsMore old new h
+holds-before old mid new h more same =
+    (more.0, more.1, record { changed = same more.0 ∙ more.2.changed; others = λ k other. same k ∙ more.2.others k other })
+
+one-after : (p : PortSeat) (old mid new : Slab Held) (before after : List EndId) → SameValues old mid → IsOneAdopted p mid new before after → IsOneAdopted p old new before after
+one-after p old mid new before after same one =
+    ⊎_elim
+    (λ (held : _). inl (held.0, held.1, holds-after old mid new _ same held.2, held.3))
+    (λ (unfit : _). inr (unfit.0, unfit.1, unfit.2, (λ k. unfit.3 k ∙ same k), unfit.4))
+    one
+
+-- one port more
+pub adopts-more : (ps : List PortSeat) (p : PortSeat) (old mid new : Slab Held) (a b c : List EndId) → AreAdopted ps old mid a b → IsOneAdopted p mid new b c → AreAdopted (ps ++ p ∷ []) old new a c
+adopts-more [] p old mid new a b c did one =
+    (new, c, one-after p old mid new a c did.0 (subst (λ x. IsOneAdopted p mid new x c) did.1 one), ((λ k. refl), refl))
+adopts-more (q ∷ ps) p old mid new a b c did one =
+    (did.0, did.1, did.2, adopts-more ps p did.0 mid new did.1 b c did.3 one)
+
+-- the same is held afterwards
+pub adopts-same : (ps : List PortSeat) (old mid new : Slab Held) (a b : List EndId) → AreAdopted ps old mid a b → SameValues mid new → AreAdopted ps old new a b
+adopts-same [] old mid new a b did same = ((λ k. same k ∙ did.0 k), did.1)
+adopts-same (q ∷ ps) old mid new a b did same =
+    (did.0, did.1, did.2, adopts-same ps did.0 mid new did.1 b did.3 same)
+
+-- one port more was adopted or refused for good
+pub partly-more : (old mid new : Receiving) (before between after : Slab Held) (p : PortSeat) → ((done : List PortSeat) × ArePartlyAdopted old mid before between done) → mid.found.items ≡ p ∷ new.found.items → IsOneAdopted p between after mid.missing.items new.missing.items → (done : List PortSeat) × ArePartlyAdopted old new before after done
+partly-more old mid new before between after p partly first one = (
+  partly.0 ++ p ∷ [],
+  (
+    partly.1.0 ∙ ap (λ ps. partly.0 ++ ps) first ∙ sym (append_assoc partly.0 (p ∷ []) new.found.items),
+    adopts-more partly.0 p before between after old.missing.items mid.missing.items new.missing.items partly.1.1 one,
+  ),
+)
+
+-- nothing more was done
+pub partly-same : (old mid new : Receiving) (before between after : Slab Held) → ((done : List PortSeat) × ArePartlyAdopted old mid before between done) → new.found.items ≡ mid.found.items → SameValues between after → new.missing.items ≡ mid.missing.items → (done : List PortSeat) × ArePartlyAdopted old new before after done
+partly-same old mid new before between after partly found same missing = (
+  partly.0,
+  (
+    partly.1.0 ∙ ap (λ ps. partly.0 ++ ps) (sym found),
+    subst (λ m. AreAdopted partly.0 before after old.missing.items m) (sym missing)
+        (adopts-same partly.0 before between after old.missing.items mid.missing.items partly.1.1 same),
+  ),
+)
+
+-- no port is left
+pub all-done : (old new : Receiving) (before after : Slab Held) → ((done : List PortSeat) × ArePartlyAdopted old new before after done) → new.found.items ≡ [] → AreAdopted old.found.items before after old.missing.items new.missing.items
+all-done old new before after partly none =
+    let all : old.found.items ≡ partly.0 = partly.1.0 ∙ ap (λ ps. partly.0 ++ ps) none ∙ append-nil partly.0 in
+    subst (λ ps. AreAdopted ps before after old.missing.items new.missing.items) (sym all) partly.1.1

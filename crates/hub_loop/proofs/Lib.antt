@@ -1,0 +1,5 @@
+mod Adopts
+mod Asks
+mod Delivers
+mod Ends
+mod Serves

@@ -1,0 +1,10 @@
+use Rattle.std.proofs.Common.{◌≡◌}
+use Rattle.std.specs.VecDeque.{deque_len}
+use Rattle.hub_loop.specs.Ending.{closing_ends}
+use Rattle.hub_loop.proofs.closing.Closing.sweep_all.Given as goal
+
+abbrev pub invariant-loop-self : goal.invariant-loop-self
+invariant-loop-self g l = closing_ends l.self ≡ closing_ends l.fn.self
+
+abbrev pub decreases-loop-self : goal.decreases-loop-self
+decreases-loop-self g l = deque_len l.self.graves

@@ -1,0 +1,14 @@
+use Rattle.std.specs.VecDeque.{deque_len}
+use Rattle.std.proofs.Common.{◌≡◌, List}
+use Rattle.hub_ports.specs.Seats.{PortSeat}
+use Rattle.hub_loop.specs.Adopting.{ArePartlyAdopted}
+use Rattle.hub_loop.proofs.holding.Holding.adopt_all.Given as goal
+
+abbrev pub invariant-loop-error : goal.invariant-loop-error
+invariant-loop-error g l = record {
+  adopted : (done : List PortSeat) × ArePartlyAdopted l.fn.receiving l.receiving l.fn.self.held l.self.held done;
+  next : l.self.next ≡ l.fn.self.next;
+}
+
+abbrev pub decreases-loop-error : goal.decreases-loop-error
+decreases-loop-error g l = deque_len l.receiving.found

@@ -1,0 +1,213 @@
+//! How a loop ends: what it holds is closed and swept, and then each port that is named there.
+
+ghost use Rattle.std.specs.Prelude.{◌≡◌, ℕ, [], count_by, IfOk, IfErr, OnOk};
+ghost use Rattle.std.specs.List.Sorted.{IsNonDecreasing};
+ghost use Rattle.hub_loop.specs.Ending.{is_grave, grave_ends, closing_ends, GoesOn};
+
+use crate::delivery::Delivery;
+use crate::ending::Closed;
+use hub_clients::Directory;
+use hub_envelope::{EndId, OutOfMemory};
+use hub_ports::{Arrival, Arrived, Hub, Noticed};
+use hub_queue::{Grave, Poster, Sweep, Swept};
+use std::alloc::Global;
+use std::collections::VecDeque;
+use std::sync::Wait;
+use std::thread;
+
+/// What is left of a loop that has ended.
+#[derive(Drop)]
+pub struct Ended {
+    /// What was swept: first the ends that the loop held, in rising order of their numbers.
+    pub swept: Vec<Swept>,
+    /// The number of each port that was closed, and what became of its notice, in the order of
+    /// closing.
+    pub noticed: Vec<(EndId, Noticed)>,
+}
+
+/// How far the end of a loop has come. After want of memory the next call goes on from here.
+#[derive(Drop)]
+pub(crate) struct Closing {
+    /// The ports of the envelope that was looked at last, which are still to be closed.
+    found: VecDeque<Arrived>,
+    /// The closed ends that are still to be swept, in the order in which they are to be.
+    graves: VecDeque<Grave>,
+    swept: Vec<Swept>,
+    /// The discarded envelope whose ports are to be looked for next: of which swept end, and which
+    /// one there.
+    next: (usize, usize),
+    noticed: Vec<(EndId, Noticed)>,
+    lines: Vec<Poster>,
+}
+
+// Sweeps a closed end, again and again while somebody is inside.
+fn sweep_out<R: Wait>(rt: &R, grave: Grave) -> Result<Swept, Grave>
+    ensures ok { IfOk result (λ swept. swept.end ≡ grave.end) }
+    ensures err { IfErr result (λ back. back.end ≡ grave.end) }
+{
+    let mut grave = grave;
+    for _ in rt.forever() {
+        match grave.sweep(rt) {
+            Sweep::Discarded(swept) => return Ok(swept),
+            Sweep::StillInside(back) => {
+                grave = back;
+                thread::yield_now();
+            }
+            Sweep::NoRoom(back) => return Err(back),
+        }
+    }
+    unreachable!()
+}
+
+impl Closing {
+    /// These were closed, and nothing was swept yet.
+    pub(crate) fn new(alloc: Global, closed: Closed) -> Closing
+        ensures swept { result.swept.items ≡ [] }
+        ensures sorted { IsNonDecreasing (grave_ends result.graves.items) }
+        ensures same { (e : ℕ) → count_by (is_grave e) result.graves.items
+            ≡ count_by (is_grave e) closed.graves.items }
+    {
+        let Closed {
+            mut graves,
+            noticed,
+            lines,
+        } = closed;
+        graves.sort_unstable_by_key(|grave| grave.end().0);
+        Closing {
+            found: VecDeque::new(alloc),
+            graves: VecDeque::from_vec(graves),
+            swept: Vec::new(alloc),
+            next: (0, 0),
+            noticed,
+            lines,
+        }
+    }
+
+    /// What is left once all was swept.
+    pub(crate) fn into_ended(self) -> Ended
+        ensures { result.swept.items ≡ self.swept.items }
+    {
+        let Closing {
+            found: _,
+            graves: _,
+            swept,
+            next: _,
+            noticed,
+            lines: _,
+        } = self;
+        Ended { swept, noticed }
+    }
+
+    // Sweeps the closed ends, in order.
+    fn sweep_all<R: Wait>(&mut self, rt: &R) -> Result<(), OutOfMemory>
+        ensures same { closing_ends self.new ≡ closing_ends self.old }
+        ensures all { OnOk result (self.new.graves.items ≡ []) }
+    {
+        while !self.graves.is_empty() {
+            self.swept.reserve(1)?;
+            let grave = self.graves.pop_front().unwrap();
+            match sweep_out(rt, grave) {
+                Ok(swept) => self.swept.push_reserved(swept),
+                Err(grave) => {
+                    self.graves.push_front_reserved(grave);
+                    return Err(OutOfMemory);
+                }
+            }
+        }
+        Ok(())
+    }
+
+    // Closes the ports that were found, in order.
+    fn close_found<R: Wait>(&mut self, rt: &R, hub: &Hub) -> Result<(), OutOfMemory>
+        ensures { GoesOn (closing_ends self.old) (closing_ends self.new) }
+    {
+        while !self.found.is_empty() {
+            self.graves.reserve(1)?;
+            self.noticed.reserve(1)?;
+            let arrived = self.found.pop_front().unwrap();
+            let end = arrived.end();
+            let (grave, _spent, noticed) = arrived.close(rt, hub);
+            self.graves.push_back_reserved(grave);
+            self.noticed.push_reserved((end, noticed));
+        }
+        Ok(())
+    }
+
+    // Takes the ports of the next discarded envelope out of flight. Whether there was one.
+    fn look_further<R: Wait>(&mut self, rt: &R, hub: &Hub) -> Result<bool, OutOfMemory>
+        ensures graves { self.new.graves ≡ self.old.graves }
+        ensures swept { self.new.swept ≡ self.old.swept }
+    {
+        let (place, count) = self.next;
+        let Some(swept) = self.swept.get(place) else {
+            return Ok(false);
+        };
+        let Some(envelope) = swept.envelopes().get(count) else {
+            self.next = (place + 1, 0);
+            return Ok(true);
+        };
+        let Arrival { found, missing: _ } = hub.arrive(rt, envelope)?;
+        self.found = VecDeque::from_vec(found);
+        self.next = (place, count + 1);
+        Ok(true)
+    }
+
+    // Gives the lines back. One that the directory refuses is dropped.
+    fn give_back<R: Wait>(&mut self, rt: &R, directory: &Directory)
+        ensures graves { self.new.graves ≡ self.old.graves }
+        ensures swept { self.new.swept ≡ self.old.swept }
+    {
+        while let Some(poster) = self.lines.pop() {
+            let _refused = directory.give_back(rt, poster);
+        }
+    }
+
+    // Takes the ports of a kept delivery out of flight, if that wasn't done.
+    fn look_for_kept<R: Wait>(
+        &mut self,
+        rt: &R,
+        hub: &Hub,
+        kept: &mut Option<Delivery>,
+    ) -> Result<(), OutOfMemory>
+        ensures graves { self.new.graves ≡ self.old.graves }
+        ensures swept { self.new.swept ≡ self.old.swept }
+    {
+        if let Some(
+            Delivery {
+                envelope,
+                arrival: None,
+            },
+        ) = kept
+        {
+            let Arrival { found, missing: _ } = hub.arrive(rt, envelope)?;
+            self.found = VecDeque::from_vec(found);
+        }
+        *kept = None;
+        Ok(())
+    }
+
+    /// Sweeps what was closed, and gives the lines back. Then each port that is named by a kept
+    /// delivery or was discarded is closed and swept too, until none is named.
+    pub(crate) fn finish<R: Wait>(
+        &mut self,
+        rt: &R,
+        hub: &Hub,
+        directory: &Directory,
+        kept: &mut Option<Delivery>,
+    ) -> Result<(), OutOfMemory>
+        ensures further { GoesOn (closing_ends self.old) (closing_ends self.new) }
+        ensures all { OnOk result (self.new.graves.items ≡ []) }
+    {
+        self.sweep_all(rt)?;
+        self.give_back(rt, directory);
+        self.look_for_kept(rt, hub, kept)?;
+        for _ in rt.forever() {
+            self.close_found(rt, hub)?;
+            self.sweep_all(rt)?;
+            if !self.look_further(rt, hub)? {
+                return Ok(());
+            }
+        }
+        unreachable!()
+    }
+}

@@ -1,0 +1,101 @@
+ghost use Rattle.std.specs.Prelude.{◌≡◌, Some, None, IfOk, OnErr};
+ghost use Rattle.hub_ports.specs.Seats.{ends_of};
+ghost use Rattle.hub_ports.specs.Splitting.{IsSplit};
+ghost use Rattle.hub_loop.specs.Delivering.{IsDelivered, IsLookedFor};
+ghost use Rattle.hub_loop.specs.declared.delivery.Receiving.{Receiving};
+
+use crate::handler::Handler;
+use crate::holding::Holding;
+use hub_envelope::{EndId, Envelope, OutOfMemory};
+use hub_ports::{Arrival, Arrived, Hub};
+use std::collections::VecDeque;
+use std::sync::Wait;
+
+/// An envelope that was taken and of which the handler has not yet taken note.
+#[derive(Drop)]
+pub(crate) struct Delivery {
+    pub(crate) envelope: Envelope,
+    /// `None` where its ports were not looked for yet.
+    pub(crate) arrival: Option<Receiving>,
+}
+
+/// The ports of a delivery, once they were looked for.
+#[derive(Drop)]
+pub(crate) struct Receiving {
+    /// Those that are still to be adopted, in the order of the envelope's list.
+    pub(crate) found: VecDeque<Arrived>,
+    /// The numbers of those that were not found or could not be adopted.
+    pub(crate) missing: Vec<EndId>,
+}
+
+/// What a turn has to deliver.
+#[derive(Drop)]
+pub(crate) enum Due {
+    Delivery(Delivery),
+    /// No end gave anything. Whether one was busy.
+    Nothing(bool),
+}
+
+// Takes the ports of an envelope out of flight.
+fn look_for<R: Wait>(rt: &R, hub: &Hub, envelope: &Envelope) -> Result<Receiving, OutOfMemory>
+    ensures { IfOk result (λ r.
+        IsSplit envelope.now.ports (ends_of r.found.items) r.missing.items) }
+{
+    let Arrival { found, missing } = hub.arrive(rt, envelope)?;
+    Ok(Receiving {
+        found: VecDeque::from_vec(found),
+        missing,
+    })
+}
+
+impl Delivery {
+    /// The delivery of an envelope that was just taken.
+    pub(crate) fn new(envelope: Envelope) -> Delivery
+        ensures envelope { result.envelope ≡ envelope }
+        ensures arrival { result.arrival ≡ None }
+    {
+        Delivery {
+            envelope,
+            arrival: None,
+        }
+    }
+
+    // Looks for the ports, where that wasn't done before.
+    fn look<R: Wait>(&mut self, rt: &R, hub: &Hub) -> Result<(), OutOfMemory>
+        ensures envelope { self.new.envelope ≡ self.old.envelope }
+        ensures ok { IfOk result (λ _.
+            (r : Receiving) × (self.new.arrival ≡ Some r) × IsLookedFor self.old r) }
+        ensures err { OnErr result ((self.old.arrival ≡ None) × (self.new.arrival ≡ None)) }
+    {
+        match &self.arrival {
+            Some(_) => Ok(()),
+            None => {
+                self.arrival = Some(look_for(rt, hub, &self.envelope)?);
+                Ok(())
+            }
+        }
+    }
+
+    /// Looks for the ports, adopts them, and tells the handler. After an error the next call goes
+    /// on where this one has stopped.
+    pub(crate) fn deliver<H: Handler, R: Wait>(
+        &mut self,
+        rt: &R,
+        hub: &Hub,
+        holding: &mut Holding,
+        handler: &mut H,
+    ) -> Result<(), OutOfMemory>
+        ensures delivered { IsDelivered H.leaves self.old self.new holding.old.held
+            holding.new.held handler.old handler.new result }
+        ensures next { holding.new.next ≡ holding.old.next }
+    {
+        self.look(rt, hub)?;
+        let Some(receiving) = &mut self.arrival else {
+            unreachable!();
+        };
+        match holding.adopt_all(rt, hub, receiving) {
+            Ok(()) => handler.got(rt, &self.envelope, receiving.missing.as_slice()),
+            Err(error) => Err(error),
+        }
+    }
+}

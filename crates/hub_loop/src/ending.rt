@@ -1,0 +1,243 @@
+//! How all that a loop holds is closed, in rising order of the numbers.
+
+ghost use Rattle.slab.specs.Slab.{get};
+ghost use Rattle.std.specs.Prelude.{
+  ◌≡◌,
+  ◌≢◌,
+  ℕ,
+  None,
+  length,
+  ◌+◌,
+  ◌<◌,
+  ◌≤◌,
+  [],
+  ◌∷◌,
+  ◌++◌,
+  cond,
+  count_by,
+  OnOk,
+  vec_len,
+  vec_capacity,
+};
+ghost use Rattle.hub_loop.specs.Ending.{is_held, is_queue, is_port, is_grave, is_open, found_of};
+
+use crate::delivery::Delivery;
+use crate::held::Held;
+use hub_broadcast::SharedRoster;
+use hub_clients::HandedQueue;
+use hub_envelope::{EndId, OutOfMemory};
+use hub_ports::{Arrived, Hub, Noticed};
+use hub_queue::{Grave, Poster};
+use slab::Slab;
+use std::alloc::Global;
+use std::collections::VecDeque;
+use std::sync::Wait;
+
+/// What is closed when a loop ends.
+#[derive(Drop)]
+pub(crate) enum Open {
+    Held(Held),
+    /// A port that was received and not yet adopted.
+    Arrived(Arrived),
+}
+
+impl Open {
+    /// A queue that was fetched.
+    fn of_queue(queue: HandedQueue) -> Open
+        ensures { (e : ℕ) → is_open e result ≡ is_queue e queue }
+    {
+        match queue {
+            HandedQueue::Client(queue) => Open::Held(Held::Client(queue)),
+            HandedQueue::Worker(queue) => Open::Held(Held::Worker(queue)),
+        }
+    }
+
+    /// The number of the end, or of the end at which the line posts.
+    pub(crate) fn end(&self) -> EndId {
+        match self {
+            Open::Held(held) => held.end(),
+            Open::Arrived(arrived) => arrived.end(),
+        }
+    }
+}
+
+/// What has become of ends that were closed, and the lines that were held beside them.
+#[derive(Drop)]
+pub(crate) struct Closed {
+    pub(crate) graves: Vec<Grave>,
+    /// The notice of each port, in the order of closing.
+    pub(crate) noticed: Vec<(EndId, Noticed)>,
+    pub(crate) lines: Vec<Poster>,
+}
+
+impl Closed {
+    /// Nothing was closed.
+    pub(crate) fn new(alloc: Global) -> Closed {
+        Closed {
+            graves: Vec::new(alloc),
+            noticed: Vec::new(alloc),
+            lines: Vec::new(alloc),
+        }
+    }
+
+    /// Makes room for so many more of each.
+    pub(crate) fn reserve(&mut self, more: usize) -> Result<(), OutOfMemory>
+        ensures graves { OnOk result
+            (vec_len self.new.graves + more ≤ vec_capacity self.new.graves) }
+        ensures noticed { OnOk result
+            (vec_len self.new.noticed + more ≤ vec_capacity self.new.noticed) }
+        ensures lines { OnOk result
+            (vec_len self.new.lines + more ≤ vec_capacity self.new.lines) }
+        ensures same { self.new.graves.items ≡ self.old.graves.items }
+    {
+        self.graves.reserve(more)?;
+        self.noticed.reserve(more)?;
+        self.lines.reserve(more)?;
+        Ok(())
+    }
+
+    /// Keeps what a port was closed to.
+    pub(crate) fn bury(&mut self, end: EndId, grave: Grave, noticed: Noticed)
+        requires graves { vec_len self.old.graves < vec_capacity self.old.graves }
+        requires noticed { vec_len self.old.noticed < vec_capacity self.old.noticed }
+        ensures graves { self.new.graves.items ≡ self.old.graves.items ++ grave ∷ [] }
+        ensures noticed { self.new.noticed.items ≡ self.old.noticed.items ++ (end, noticed) ∷ [] }
+        ensures lines { self.new.lines ≡ self.old.lines }
+    {
+        self.graves.push_reserved(grave);
+        self.noticed.push_reserved((end, noticed));
+    }
+
+    /// Closes an end, a member once it has left the roster, or keeps a line.
+    pub(crate) fn close<R: Wait>(&mut self, rt: &R, hub: &Hub, roster: &SharedRoster, opened: Open)
+        requires graves { vec_len self.old.graves < vec_capacity self.old.graves }
+        requires noticed { vec_len self.old.noticed < vec_capacity self.old.noticed }
+        requires lines { vec_len self.old.lines < vec_capacity self.old.lines }
+        ensures { (e : ℕ) → count_by (is_grave e) self.new.graves.items
+            ≡ count_by (is_grave e) self.old.graves.items + cond (is_open e opened) 1 0 }
+    {
+        let end = opened.end();
+        match opened {
+            Open::Held(Held::Port(port)) => {
+                let (grave, _spent, noticed) = port.close(rt, hub);
+                self.bury(end, grave, noticed);
+            }
+            Open::Arrived(arrived) => {
+                let (grave, _spent, noticed) = arrived.close(rt, hub);
+                self.bury(end, grave, noticed);
+            }
+            Open::Held(Held::Client(queue)) => self.graves.push_reserved(queue.close()),
+            Open::Held(Held::Worker(queue)) => self.graves.push_reserved(queue.close()),
+            Open::Held(Held::Member(member)) => {
+                roster.leave(rt, end);
+                self.graves.push_reserved(member.close());
+            }
+            Open::Held(Held::Line(poster)) => self.lines.push_reserved(poster),
+        }
+    }
+
+    /// Closes the last of these and so on, up to the first. After an error the others are still
+    /// there.
+    pub(crate) fn close_all<R: Wait>(
+        &mut self,
+        rt: &R,
+        hub: &Hub,
+        roster: &SharedRoster,
+        all: &mut Vec<Open>,
+    ) -> Result<(), OutOfMemory>
+        ensures moved { (e : ℕ) →
+            count_by (is_grave e) self.new.graves.items + count_by (is_open e) all.new.items
+            ≡ count_by (is_grave e) self.old.graves.items + count_by (is_open e) all.old.items }
+        ensures all { OnOk result (all.new.items ≡ []) }
+    {
+        while !all.is_empty() {
+            self.reserve(1)?;
+            let opened = all.pop().unwrap();
+            self.close(rt, hub, roster, opened);
+        }
+        Ok(())
+    }
+}
+
+// Takes out what is held under a key.
+fn take_at(held: &mut Slab<Held>, key: usize, opened: &mut Vec<Open>)
+    requires { vec_len opened.old < vec_capacity opened.old }
+    ensures capacity { held.new.capacity ≡ held.old.capacity }
+    ensures length { length held.new.slots ≡ length held.old.slots }
+    ensures gone { get held.new key ≡ None }
+    ensures others { (other : ℕ) → other ≢ key → get held.new other ≡ get held.old other }
+    ensures moved { (e : ℕ) →
+        count_by (is_held e) held.new.slots + count_by (is_open e) opened.new.items
+        ≡ count_by (is_held e) held.old.slots + count_by (is_open e) opened.old.items }
+{
+    match held.try_remove(key) {
+        Some(held) => opened.push_reserved(Open::Held(held)),
+        None => {}
+    }
+}
+
+/// Takes out all that is held.
+pub(crate) fn take_held(held: &mut Slab<Held>, opened: &mut Vec<Open>) -> Result<(), OutOfMemory>
+    ensures capacity { held.new.capacity ≡ held.old.capacity }
+    ensures moved { (e : ℕ) →
+        count_by (is_held e) held.new.slots + count_by (is_open e) opened.new.items
+        ≡ count_by (is_held e) held.old.slots + count_by (is_open e) opened.old.items }
+    ensures all { OnOk result ((e : ℕ) → count_by (is_held e) held.new.slots ≡ 0) }
+{
+    for key in 0..held.capacity() {
+        opened.reserve(1)?;
+        take_at(held, key, opened);
+    }
+    Ok(())
+}
+
+/// Takes out the queues.
+pub(crate) fn take_queues(
+    queues: &mut Vec<HandedQueue>,
+    opened: &mut Vec<Open>,
+) -> Result<(), OutOfMemory>
+    ensures moved { (e : ℕ) →
+        count_by (is_queue e) queues.new.items + count_by (is_open e) opened.new.items
+        ≡ count_by (is_queue e) queues.old.items + count_by (is_open e) opened.old.items }
+    ensures all { OnOk result (queues.new.items ≡ []) }
+{
+    while !queues.is_empty() {
+        opened.reserve(1)?;
+        let queue = queues.pop().unwrap();
+        opened.push_reserved(Open::of_queue(queue));
+    }
+    Ok(())
+}
+
+/// Takes out the ports that were found for a delivery and not adopted yet.
+pub(crate) fn take_found(
+    kept: &mut Option<Delivery>,
+    opened: &mut Vec<Open>,
+) -> Result<(), OutOfMemory>
+    ensures moved { (e : ℕ) →
+        count_by (is_port e) (found_of kept.new) + count_by (is_open e) opened.new.items
+        ≡ count_by (is_port e) (found_of kept.old) + count_by (is_open e) opened.old.items }
+    ensures all { OnOk result (found_of kept.new ≡ []) }
+{
+    match kept {
+        Some(delivery) => match &mut delivery.arrival {
+            Some(receiving) => take_ports(&mut receiving.found, opened),
+            None => Ok(()),
+        },
+        None => Ok(()),
+    }
+}
+
+fn take_ports(found: &mut VecDeque<Arrived>, opened: &mut Vec<Open>) -> Result<(), OutOfMemory>
+    ensures moved { (e : ℕ) →
+        count_by (is_port e) found.new.items + count_by (is_open e) opened.new.items
+        ≡ count_by (is_port e) found.old.items + count_by (is_open e) opened.old.items }
+    ensures all { OnOk result (found.new.items ≡ []) }
+{
+    while !found.is_empty() {
+        opened.reserve(1)?;
+        let arrived = found.pop_front().unwrap();
+        opened.push_reserved(Open::Arrived(arrived));
+    }
+    Ok(())
+}

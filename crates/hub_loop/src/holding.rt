@@ -1,0 +1,311 @@
+ghost use Rattle.std.specs.Prelude.{
+  ◌≡◌,
+  [],
+  ◌≤◌,
+  ◌<◌,
+  ◌+◌,
+  IfOk,
+  OnOk,
+  IfErr,
+  OnErr,
+  IfSome,
+  IfNone,
+  vec_len,
+  vec_capacity,
+};
+ghost use Rattle.slab.specs.Slab.{HasRoomFor, SameValues};
+ghost use Rattle.hub_clients.specs.Handing.{taker_of};
+ghost use Rattle.hub_loop.specs.Adopting.{HoldsMore, IsFetched, IsFirstAdopted, AreAllAdopted};
+ghost use Rattle.hub_loop.specs.Holding.{number_of};
+ghost use Rattle.hub_loop.specs.Serving.{AreServed, next_after};
+
+use crate::delivery::Receiving;
+use crate::ending::Closed;
+use crate::held::Held;
+use crate::listed::Listed;
+use crate::serving::{Served, serve};
+use hub_clients::HandedQueue;
+use hub_envelope::{EndId, OutOfMemory};
+use hub_ports::{Arrived, Hub};
+use hub_queue::{AdoptError, Bell, Steps};
+use slab::Slab;
+use std::alloc::Global;
+use std::collections::BTreeSet;
+use std::sync::Wait;
+use std::sync::ledger::Ledger;
+
+/// What a loop holds, and the ports that it has closed because they could not be adopted.
+#[derive(Drop)]
+pub(crate) struct Holding {
+    pub(crate) bell: Bell,
+    /// The ends and the lines, each under its key.
+    pub(crate) held: Slab<Held>,
+    /// The key with which the next asking begins.
+    pub(crate) next: usize,
+    /// The keys of the ends by their numbers.
+    ends: BTreeSet<Listed>,
+    /// The keys of the lines by the numbers of the ends at which they post.
+    lines: BTreeSet<Listed>,
+    /// The ports that could not be adopted.
+    pub(crate) closed: Closed,
+    ghost room: { next ≤ held.capacity },
+}
+
+// The least key that is listed under this number.
+fn key_of(listed: &BTreeSet<Listed>, end: EndId) -> Option<usize> {
+    let first = Listed { end, key: 0 };
+    let last = Listed {
+        end,
+        key: usize::MAX,
+    };
+    let found = listed.range(first..=last).next()?;
+    Some(found.key)
+}
+
+// Adopts a queue for the loop that this bell wakes.
+fn adopt_handed<R: Wait>(
+    rt: &R,
+    hub: &Hub,
+    queue: HandedQueue,
+    bell: Bell,
+) -> Result<Held, (AdoptError, HandedQueue)>
+    ensures ok { IfOk result (λ held. number_of held ≡ record { 0 = (taker_of queue).end }) }
+    ensures err { IfErr result (λ refused. refused.1 ≡ queue) }
+{
+    match queue {
+        HandedQueue::Client(queue) => match queue.adopt(rt, &hub.yard, bell) {
+            Ok(queue) => Ok(Held::Client(queue)),
+            Err((error, queue)) => Err((error, HandedQueue::Client(queue))),
+        },
+        HandedQueue::Worker(queue) => match queue.adopt(rt, &hub.yard, bell) {
+            Ok(queue) => Ok(Held::Worker(queue)),
+            Err((error, queue)) => Err((error, HandedQueue::Worker(queue))),
+        },
+    }
+}
+
+impl Holding {
+    /// Nothing is held. It takes no memory.
+    pub(crate) fn new(alloc: Global, bell: Bell) -> Holding
+        ensures { result.held.slots ≡ [] }
+    {
+        Holding {
+            bell,
+            held: Slab::new(alloc),
+            next: 0,
+            ends: BTreeSet::new(alloc),
+            lines: BTreeSet::new(alloc),
+            closed: Closed::new(alloc),
+        }
+    }
+
+    /// Asks the ends in turn, beginning behind the one served last.
+    pub(crate) fn serve<L: Ledger, R: Wait>(&mut self, rt: &R, steps: &mut Steps<L>) -> Served
+        ensures served { AreServed self.old.next self.old.held self.new.held steps.old steps.new
+            result }
+        ensures next { self.new.next ≡ next_after self.old.next result }
+    {
+        let served = serve(rt, &mut self.held, self.next, steps);
+        self.next = served.next_after(self.next);
+        served
+    }
+
+    /// Holds one more, under a key where nothing was held. Where there was no memory it comes back.
+    pub(crate) fn hold(&mut self, held: Held) -> Result<(), Held>
+        ensures ok { OnOk result (HoldsMore self.old.held self.new.held held) }
+        ensures back { IfErr result (λ back. back ≡ held) }
+        ensures err { OnErr result (SameValues self.old.held self.new.held) }
+        ensures next { self.new.next ≡ self.old.next }
+    {
+        if self.held.reserve(1).is_err() {
+            return Err(held);
+        }
+        let listed = Listed {
+            end: held.end(),
+            key: self.held.vacant_key(),
+        };
+        let index = if held.is_line() {
+            self.lines.insert(listed)
+        } else {
+            self.ends.insert(listed)
+        };
+        if index.is_err() {
+            return Err(held);
+        }
+        self.held.insert_reserved(held);
+        Ok(())
+    }
+
+    /// Lends the end of this number.
+    pub(crate) fn end_mut(&mut self, end: EndId) -> Option<&mut Held> {
+        let key = key_of(&self.ends, end)?;
+        self.held.get_mut(key)
+    }
+
+    /// Lends the line that posts at the end of this number.
+    pub(crate) fn line_mut(&mut self, end: EndId) -> Option<&mut Held> {
+        let key = key_of(&self.lines, end)?;
+        self.held.get_mut(key)
+    }
+
+    /// Gives the end of this number out. `None` where it isn't held.
+    pub(crate) fn release(&mut self, end: EndId) -> Option<Held>
+        ensures given { IfSome result (λ held.
+            (number_of held ≡ end) × HoldsMore self.new.held self.old.held held) }
+        ensures none { IfNone result (self.new.held ≡ self.old.held) }
+        ensures next { self.new.next ≡ self.old.next }
+    {
+        let key = key_of(&self.ends, end)?;
+        if self.held.get(key)?.end() != end {
+            return None;
+        }
+        self.ends.remove(&Listed { end, key });
+        self.held.try_remove(key)
+    }
+
+    // Makes room for one more end that is held, or one more that is closed.
+    fn make_room(&mut self) -> Result<(), OutOfMemory>
+        ensures held { IfOk result (λ _. HasRoomFor self.new.held 1) }
+        ensures graves { OnOk result
+            (vec_len self.new.closed.graves + 1 ≤ vec_capacity self.new.closed.graves) }
+        ensures noticed { OnOk result
+            (vec_len self.new.closed.noticed + 1 ≤ vec_capacity self.new.closed.noticed) }
+        ensures same { SameValues self.old.held self.new.held }
+        ensures next { self.new.next ≡ self.old.next }
+    {
+        self.held.reserve(1)?;
+        self.closed.reserve(1)?;
+        Ok(())
+    }
+
+    // Closes a port that was refused for good, and lists it no more.
+    fn close_unfit<R: Wait>(&mut self, rt: &R, hub: &Hub, arrived: Arrived, listed: &Listed)
+        requires graves { vec_len self.old.closed.graves + 1 ≤ vec_capacity self.old.closed.graves }
+        requires noticed { vec_len self.old.closed.noticed + 1 ≤ vec_capacity self.old.closed.noticed }
+        ensures held { self.new.held ≡ self.old.held }
+        ensures next { self.new.next ≡ self.old.next }
+    {
+        self.ends.remove(listed);
+        let end = arrived.end();
+        let (grave, _spent, noticed) = arrived.close(rt, hub);
+        self.closed.bury(end, grave, noticed);
+    }
+
+    /// Adopts a queue that was fetched, and holds it. False where it was refused for good: then it
+    /// is closed. Where there was no memory it comes back.
+    pub(crate) fn adopt_queue<R: Wait>(
+        &mut self,
+        rt: &R,
+        hub: &Hub,
+        queue: HandedQueue,
+    ) -> Result<bool, HandedQueue>
+        ensures ok { IfOk result (λ held.
+            IsFetched held self.old.held self.new.held (record { 0 = (taker_of queue).end })) }
+        ensures back { IfErr result (λ back. back ≡ queue) }
+        ensures err { OnErr result (SameValues self.old.held self.new.held) }
+        ensures next { self.new.next ≡ self.old.next }
+    {
+        let listed = Listed {
+            end: queue.end(),
+            key: self.held.vacant_key(),
+        };
+        let Ok(bell) = self.prepare(listed) else {
+            return Err(queue);
+        };
+        match adopt_handed(rt, hub, queue, bell) {
+            Ok(held) => {
+                self.held.insert_reserved(held);
+                Ok(true)
+            }
+            Err((AdoptError::OutOfMemory, queue)) => {
+                self.ends.remove(&listed);
+                Err(queue)
+            }
+            Err((AdoptError::TooManyMoves | AdoptError::Taken, queue)) => {
+                self.ends.remove(&listed);
+                self.closed.graves.push_reserved(queue.close());
+                Ok(false)
+            }
+        }
+    }
+
+    // Makes room for an end that is to be adopted under this key, and lists it.
+    fn prepare(&mut self, listed: Listed) -> Result<Bell, OutOfMemory>
+        ensures held { OnOk result (HasRoomFor self.new.held 1) }
+        ensures graves { OnOk result
+            (vec_len self.new.closed.graves + 1 ≤ vec_capacity self.new.closed.graves) }
+        ensures noticed { OnOk result
+            (vec_len self.new.closed.noticed + 1 ≤ vec_capacity self.new.closed.noticed) }
+        ensures same { SameValues self.old.held self.new.held }
+        ensures next { self.new.next ≡ self.old.next }
+    {
+        self.make_room()?;
+        let bell = self.bell.clone()?;
+        self.ends.insert(listed)?;
+        Ok(bell)
+    }
+
+    // Adopts the first of the ports that were found and holds it. One that was adopted too often,
+    // or whose number the yard knows already, is closed and counts as missing.
+    fn adopt_first<R: Wait>(
+        &mut self,
+        rt: &R,
+        hub: &Hub,
+        receiving: &mut Receiving,
+    ) -> Result<bool, OutOfMemory>
+        ensures adopted { IsFirstAdopted receiving.old receiving.new self.old.held self.new.held result }
+        ensures next { self.new.next ≡ self.old.next }
+    {
+        let Some(first) = receiving.found.front() else {
+            return Ok(false);
+        };
+        let end = first.end();
+        receiving.missing.reserve(1)?;
+        let listed = Listed {
+            end,
+            key: self.held.vacant_key(),
+        };
+        let bell = self.prepare(listed)?;
+        let arrived = receiving.found.pop_front().unwrap();
+        match arrived.adopt(rt, hub, bell) {
+            Ok(port) => {
+                self.held.insert_reserved(Held::Port(port));
+                Ok(true)
+            }
+            Err((AdoptError::OutOfMemory, arrived)) => {
+                self.ends.remove(&listed);
+                receiving.found.push_front_reserved(arrived);
+                Err(OutOfMemory)
+            }
+            Err((AdoptError::TooManyMoves, arrived)) => {
+                self.close_unfit(rt, hub, arrived, &listed);
+                receiving.missing.push_reserved(end);
+                Ok(true)
+            }
+            Err((AdoptError::Taken, arrived)) => {
+                self.close_unfit(rt, hub, arrived, &listed);
+                receiving.missing.push_reserved(end);
+                Ok(true)
+            }
+        }
+    }
+
+    /// Adopts the ports that were found, in order, and holds them.
+    pub(crate) fn adopt_all<R: Wait>(
+        &mut self,
+        rt: &R,
+        hub: &Hub,
+        receiving: &mut Receiving,
+    ) -> Result<(), OutOfMemory>
+        ensures adopted { AreAllAdopted receiving.old receiving.new self.old.held self.new.held result }
+        ensures next { self.new.next ≡ self.old.next }
+    {
+        loop {
+            match self.adopt_first(rt, hub, receiving) {
+                Ok(true) => {}
+                Ok(false) => return Ok(()),
+                Err(error) => return Err(error),
+            }
+        }
+    }
+}
