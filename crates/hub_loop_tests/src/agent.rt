@@ -1,0 +1,436 @@
+//! An agent: its loop, and the calls that it makes there.
+//!
+//! A function that drops a port, a queue or a loop costs some seconds of the check, so few do.
+use crate::mail::Mail;
+use crate::parts::{Loop, again, body, room, turn};
+use crate::scribe::Scribe;
+use crate::shared::Shared;
+use crossbeam_utils::sync::Parker;
+use hub_broadcast::CastOutcome;
+use hub_clients::HandError;
+use hub_envelope::{AgentId, Body, EndId};
+use hub_life::Order;
+use hub_loop::{Ended, EventLoop, Held, LoopError, NoCheckpoint, Turn};
+use hub_ports::{Hub, Port, PortError, send};
+use hub_queue::{Bell, Posted};
+use std::alloc::Global;
+use std::sync::Wait;
+
+/// What a post is to come to.
+#[derive(Clone, Copy, PartialEq, Eq)]
+pub(crate) enum Answer {
+    /// Under this epoch and number.
+    Accepted(u32, u64),
+    Closed,
+    Other,
+}
+
+/// Which of what an agent holds posts.
+#[derive(Clone, Copy)]
+pub(crate) enum Way {
+    Port(u32),
+    /// The line to the queue of this number.
+    Line(u32),
+}
+
+/// An agent, whose loop is woken by the bell.
+#[derive(Drop)]
+pub(crate) struct Agent {
+    alloc: Global,
+    pub(crate) number: AgentId,
+    pub(crate) bell: Bell,
+    event_loop: Loop,
+    order: Order,
+    // Whether an allocation may be refused. Each call is then made again where one was.
+    may_refuse: bool,
+}
+
+fn are_ports(ports: &[Port], numbers: &[u32]) -> bool {
+    if ports.len() != numbers.len() {
+        return false;
+    }
+    for (port, number) in ports.iter().zip(numbers) {
+        if port.end().0 != *number {
+            return false;
+        }
+    }
+    true
+}
+
+fn try_open(alloc: Global, number: AgentId, may_refuse: bool) -> Option<Agent> {
+    let mut orders = Order::open(alloc, 3).ok()?;
+    let parker = Parker::new(alloc).ok()?;
+    let bell = Bell::new(parker.unparker().clone().ok()?);
+    let scribe = Scribe::new(alloc, orders.pop()?);
+    let order = orders.pop()?;
+    let seat = orders.pop()?;
+    let event_loop = EventLoop::open(alloc, number, seat, scribe, &NoCheckpoint, parker).ok()?;
+    Some(Agent {
+        alloc,
+        number,
+        bell,
+        event_loop,
+        order,
+        may_refuse,
+    })
+}
+
+impl Agent {
+    /// An agent that holds nothing.
+    pub(crate) fn open(alloc: Global, number: u8, may_refuse: bool) -> Option<Agent> {
+        match try_open(alloc, AgentId(number), may_refuse) {
+            Some(agent) => Some(agent),
+            None if may_refuse => try_open(alloc, AgentId(number), may_refuse),
+            None => None,
+        }
+    }
+
+    /// Holds an end or a line. After a refusal it has come back.
+    pub(crate) fn hold(&mut self, held: Held) -> bool {
+        let end = held.end();
+        match self.event_loop.hold(held) {
+            Ok(()) => true,
+            Err((LoopError::OutOfMemory, back)) => {
+                self.may_refuse && back.end() == end && self.event_loop.hold(back).is_ok()
+            }
+        }
+    }
+
+    fn hold_all(&mut self, ports: Vec<Port>) -> bool {
+        for port in ports {
+            if !self.hold(Held::Port(port)) {
+                return false;
+            }
+        }
+        true
+    }
+
+    /// Whether the end of this number is given out, is held no more, and is held again.
+    pub(crate) fn holds_again(&mut self, end: u32) -> bool {
+        match self.event_loop.release(EndId(end)) {
+            Some(held) => held.end().0 == end && self.lends_none(end) && self.hold(held),
+            None => false,
+        }
+    }
+
+    /// Whether no end of this number is held.
+    pub(crate) fn lends_none(&mut self, end: u32) -> bool {
+        let end = EndId(end);
+        self.event_loop.port_mut(end).is_none()
+            && self.event_loop.client_mut(end).is_none()
+            && self.event_loop.member_mut(end).is_none()
+            && self.event_loop.release(end).is_none()
+    }
+
+    /// Whether no line to this number is held.
+    pub(crate) fn lends_no_line(&mut self, end: u32) -> bool {
+        self.event_loop.line_mut(EndId(end)).is_none()
+    }
+
+    /// Whether this line to that number is held.
+    pub(crate) fn lends_line(&mut self, end: u32, line: u8) -> bool {
+        match self.event_loop.line_mut(EndId(end)) {
+            Some(poster) => poster.name().end.0 == end && poster.name().line.0 == line,
+            None => false,
+        }
+    }
+
+    /// How often the port or the client's queue of this number has moved.
+    pub(crate) fn moves(&mut self, end: u32) -> Option<u32> {
+        match self.event_loop.port_mut(EndId(end)) {
+            Some(port) => Some(port.moves()),
+            None => match self.event_loop.client_mut(EndId(end)) {
+                Some(queue) => Some(queue.moves()),
+                None => None,
+            },
+        }
+    }
+
+    /// Enables the port or the client's queue of this number.
+    pub(crate) fn start(&mut self, end: u32) -> bool {
+        match self.event_loop.port_mut(EndId(end)) {
+            Some(port) => {
+                port.start();
+                true
+            }
+            None => match self.event_loop.client_mut(EndId(end)) {
+                Some(queue) => {
+                    queue.start_messages();
+                    true
+                }
+                None => false,
+            },
+        }
+    }
+
+    fn release_port(&mut self, end: u32) -> Option<Port> {
+        match self.event_loop.release(EndId(end)) {
+            Some(Held::Port(port)) => Some(port),
+            _ => None,
+        }
+    }
+
+    fn release_all(&mut self, list: &[u32]) -> Option<Vec<Port>> {
+        let mut ports = room(self.alloc, list.len())?;
+        for end in list {
+            ports.push(self.release_port(*end)?).ok()?;
+        }
+        Some(ports)
+    }
+
+    fn send<R: Wait>(
+        &mut self,
+        rt: &R,
+        hub: &Hub,
+        way: Way,
+        body: Body,
+        transfer: Vec<Port>,
+    ) -> Option<Result<Posted, PortError>> {
+        match way {
+            Way::Port(end) => match self.event_loop.port_mut(EndId(end)) {
+                Some(port) => Some(port.post(rt, hub, self.number, body, transfer)),
+                None => None,
+            },
+            Way::Line(end) => match self.event_loop.line_mut(EndId(end)) {
+                Some(line) => Some(send(line, rt, hub, self.number, body, transfer)),
+                None => None,
+            },
+        }
+    }
+
+    // What a post has come to. The ports of one that was refused are held again.
+    fn answer(&mut self, posted: Result<Posted, PortError>) -> Answer {
+        match posted {
+            Ok(posted) => Answer::Accepted(posted.epoch, posted.number),
+            Err(PortError::Closed(_body, back)) => {
+                if self.hold_all(back) {
+                    Answer::Closed
+                } else {
+                    Answer::Other
+                }
+            }
+            Err(_) => Answer::Other,
+        }
+    }
+
+    /// Posts a body with the ports of a list.
+    pub(crate) fn post<R: Wait>(
+        &mut self,
+        rt: &R,
+        hub: &Hub,
+        way: Way,
+        list: &[u32],
+        text: &str,
+    ) -> Option<Answer> {
+        let body = body(self.alloc, text)?;
+        let transfer = self.release_all(list)?;
+        match self.send(rt, hub, way, body, transfer)? {
+            Err(PortError::OutOfMemory(body, back)) => {
+                if !self.may_refuse || body.text() != text || !are_ports(back.as_slice(), list) {
+                    return None;
+                }
+                let posted = self.send(rt, hub, way, body, back)?;
+                Some(self.answer(posted))
+            }
+            posted => Some(self.answer(posted)),
+        }
+    }
+
+    /// Whether a cast from the member of this number is accepted at these ends, each with its
+    /// epoch and number.
+    pub(crate) fn casts<R: Wait>(
+        &mut self,
+        rt: &R,
+        shared: &Shared,
+        source: u32,
+        text: &str,
+        row: &[(u32, u32, u64)],
+    ) -> bool {
+        let (Some(body), Some(member)) = (
+            body(self.alloc, text),
+            self.event_loop.member_mut(EndId(source)),
+        ) else {
+            return false;
+        };
+        match shared.roster.cast(rt, &shared.hub.yard, member, body, &[]) {
+            Ok(outcomes) => are_accepted(outcomes.as_slice(), row),
+            Err(_) => false,
+        }
+    }
+
+    /// How many envelopes the handler was told.
+    fn told(&mut self) -> usize {
+        self.event_loop.handler_mut().count()
+    }
+
+    // Makes a turn, and once more where there was no memory and the handler was told nothing.
+    fn turn<R: Wait>(&mut self, rt: &R, hub: &Hub) -> Option<Turn> {
+        let before = self.told();
+        match turn(rt, hub, &mut self.event_loop) {
+            Ok(turn) => Some(turn),
+            Err(LoopError::OutOfMemory) => {
+                if !self.may_refuse || self.told() != before {
+                    return None;
+                }
+                turn(rt, hub, &mut self.event_loop).ok()
+            }
+        }
+    }
+
+    /// Whether a turn delivers this, and the handler is told it once.
+    pub(crate) fn delivers<R: Wait>(
+        &mut self,
+        rt: &R,
+        hub: &Hub,
+        end: u32,
+        mail: Mail,
+        missing: &[u32],
+    ) -> bool {
+        let before = self.told();
+        self.turn(rt, hub) == Some(Turn::Delivered)
+            && self
+                .event_loop
+                .handler_mut()
+                .is_told(before, &[(end, mail, missing)])
+    }
+
+    /// Whether a turn comes to this, and the handler is told nothing.
+    pub(crate) fn turns<R: Wait>(&mut self, rt: &R, hub: &Hub, wanted: Turn) -> bool {
+        let before = self.told();
+        self.turn(rt, hub) == Some(wanted) && self.told() == before
+    }
+
+    /// Whether a turn fails whose delivery the handler refuses, and the handler is told nothing.
+    pub(crate) fn fails<R: Wait>(&mut self, rt: &R, hub: &Hub) -> bool {
+        let before = self.told();
+        self.event_loop.handler_mut().refuse();
+        turn(rt, hub, &mut self.event_loop).is_err() && self.told() == before
+    }
+
+    /// Rests after an idle turn in which no end was busy.
+    pub(crate) fn rests<R: Wait>(&mut self, rt: &R) -> bool {
+        self.event_loop.rest(rt, Turn::Idle { busy: false });
+        true
+    }
+
+    /// Makes turns until the handler has given the order, which it does after as many as these.
+    /// Whether these were delivered.
+    pub(crate) fn runs<R: Wait>(
+        &mut self,
+        rt: &R,
+        hub: &Hub,
+        rows: &[(u32, Mail, &[u32])],
+    ) -> bool {
+        let before = self.told();
+        let handler = self.event_loop.handler_mut();
+        handler.order_after(before.saturating_add(rows.len()));
+        let ran = match self.event_loop.run(rt, hub) {
+            Ok(()) => true,
+            Err(_) => self.may_refuse && self.event_loop.run(rt, hub).is_ok(),
+        };
+        ran && self.event_loop.handler_mut().is_told(before, rows)
+    }
+
+    /// Gives the order to end.
+    pub(crate) fn order(&mut self) -> bool {
+        self.order.give();
+        true
+    }
+
+    fn try_hand<R: Wait>(
+        &mut self,
+        rt: &R,
+        shared: &Shared,
+        held: Held,
+        to: AgentId,
+    ) -> Result<(), (HandError, Held)> {
+        match held {
+            Held::Client(queue) => match queue.hand(rt, &shared.directory, to) {
+                Ok(()) => Ok(()),
+                Err((error, queue)) => Err((error, Held::Client(queue))),
+            },
+            Held::Worker(queue) => match queue.hand(rt, &shared.directory, to) {
+                Ok(()) => Ok(()),
+                Err((error, queue)) => Err((error, Held::Worker(queue))),
+            },
+            other => Err((HandError::Taken, other)),
+        }
+    }
+
+    /// Hands the queue of this number on.
+    pub(crate) fn hands<R: Wait>(&mut self, rt: &R, shared: &Shared, end: u32, to: u8) -> bool {
+        let to = AgentId(to);
+        let Some(held) = self.event_loop.release(EndId(end)) else {
+            return false;
+        };
+        match self.try_hand(rt, shared, held, to) {
+            Ok(()) => true,
+            Err((error, back)) => {
+                self.may_refuse
+                    && error == HandError::OutOfMemory
+                    && self.try_hand(rt, shared, back, to).is_ok()
+            }
+        }
+    }
+
+    /// Tries once to fetch the queue of this number. Where there was no memory it is handed still,
+    /// or the loop keeps it.
+    pub(crate) fn tries_to_fetch<R: Wait>(&mut self, rt: &R, shared: &Shared, end: u32) -> bool {
+        let (hub, directory) = (&shared.hub, &shared.directory);
+        match self.event_loop.fetch(rt, hub, directory, EndId(end)) {
+            Ok(is_held) => is_held,
+            Err(LoopError::OutOfMemory) => self.may_refuse,
+        }
+    }
+
+    /// Whether the queue of this number is fetched.
+    pub(crate) fn fetches<R: Wait>(&mut self, rt: &R, shared: &Shared, end: u32) -> Option<bool> {
+        let (hub, directory) = (&shared.hub, &shared.directory);
+        match self.event_loop.fetch(rt, hub, directory, EndId(end)) {
+            Ok(is_held) => Some(is_held),
+            Err(LoopError::OutOfMemory) => {
+                if !self.may_refuse || !self.lends_none(end) {
+                    return None;
+                }
+                self.event_loop.fetch(rt, hub, directory, EndId(end)).ok()
+            }
+        }
+    }
+
+    /// What the loop leaves when it ends. Where there was no memory the next call goes on.
+    pub(crate) fn ended<R: Wait>(self, rt: &R, shared: &Shared) -> Option<Ended> {
+        let Agent {
+            event_loop,
+            may_refuse,
+            ..
+        } = self;
+        let (hub, directory, roster) = (&shared.hub, &shared.directory, &shared.roster);
+        match event_loop.end(rt, hub, directory, roster) {
+            Ok(ended) => Some(ended),
+            Err((LoopError::OutOfMemory, event_loop)) => {
+                if may_refuse {
+                    event_loop.end(rt, hub, directory, roster).ok()
+                } else {
+                    None
+                }
+            }
+        }
+    }
+}
+
+// Whether a cast came to these ends, each with the epoch and the number.
+fn are_accepted(outcomes: &[(EndId, CastOutcome)], row: &[(u32, u32, u64)]) -> bool {
+    if outcomes.len() != row.len() {
+        return false;
+    }
+    for ((end, outcome), (number, epoch, count)) in outcomes.iter().zip(row) {
+        let is_this = match outcome {
+            CastOutcome::Accepted(posted) => posted.epoch == *epoch && posted.number == *count,
+            _ => false,
+        };
+        if end.0 != *number || !is_this {
+            return false;
+        }
+    }
+    true
+}

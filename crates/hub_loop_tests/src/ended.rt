@@ -1,0 +1,80 @@
+//! What a loop leaves when it ends, as the rows write it.
+use crate::mail::{Mail, is_mail};
+use hub_envelope::{EndId, Envelope, LineId};
+use hub_loop::Ended;
+use hub_ports::Noticed;
+use hub_queue::{Posted, Swept};
+
+/// The number of a port that was closed, and what became of its notice.
+#[derive(Clone, Copy)]
+pub(crate) enum Closing {
+    /// It was accepted at this end, in this epoch, under this number.
+    Put(u32, u32, u32, u64),
+    /// The other port of the channel is closed.
+    PeerClosed(u32),
+}
+
+fn are_envelopes(envelopes: &[Envelope], end: u32, row: &[Mail]) -> bool {
+    if envelopes.len() != row.len() {
+        return false;
+    }
+    for (envelope, mail) in envelopes.iter().zip(row) {
+        if !is_mail(envelope, end, *mail) {
+            return false;
+        }
+    }
+    true
+}
+
+/// Whether these ends were swept, in order, and this was discarded there.
+pub(crate) fn are_swept(swept: &[Swept], rows: &[(u32, &[Mail])]) -> bool {
+    if swept.len() != rows.len() {
+        return false;
+    }
+    for (swept, (end, row)) in swept.iter().zip(rows) {
+        if swept.end().0 != *end || !are_envelopes(swept.envelopes(), *end, row) {
+            return false;
+        }
+    }
+    true
+}
+
+// A notice for which there was no memory is told so.
+fn is_closing(pair: (EndId, Noticed), row: Closing, may_refuse: bool) -> bool {
+    let (end, noticed) = pair;
+    match row {
+        Closing::Put(number, peer, epoch, count) => {
+            let put = Noticed::Put(Posted {
+                end: EndId(peer),
+                epoch,
+                line: LineId(0),
+                number: count,
+            });
+            end.0 == number && (noticed == put || may_refuse && noticed == Noticed::OutOfMemory)
+        }
+        Closing::PeerClosed(number) => end.0 == number && noticed == Noticed::PeerClosed,
+    }
+}
+
+fn are_closings(pairs: &[(EndId, Noticed)], rows: &[Closing], may_refuse: bool) -> bool {
+    if pairs.len() != rows.len() {
+        return false;
+    }
+    for (pair, row) in pairs.iter().zip(rows) {
+        if !is_closing(*pair, *row, may_refuse) {
+            return false;
+        }
+    }
+    true
+}
+
+/// Whether a loop has left this: what was swept, and the ports that were closed.
+pub(crate) fn is_left(
+    ended: &Ended,
+    swept: &[(u32, &[Mail])],
+    closings: &[Closing],
+    may_refuse: bool,
+) -> bool {
+    are_swept(ended.swept.as_slice(), swept)
+        && are_closings(ended.noticed.as_slice(), closings, may_refuse)
+}

@@ -1,0 +1,135 @@
+//! A client's queue is handed on while a post over one of its lines is held up.
+use crate::agent::{Answer, Way};
+use crate::mail::Mail;
+use crate::parts::draft;
+use crate::shared::Shared;
+use crate::table::{Step, Table, run};
+use hub_envelope::AgentId;
+use hub_queue::{Pause, Point, Poster};
+use std::alloc::Global;
+use std::sync::{Mutex, Wait};
+
+const NONE: &[u32] = &[];
+
+// The table, and how many of the steps that are taken meanwhile came to what they are to.
+#[derive(Drop)]
+struct Stage<'a> {
+    table: Table<'a>,
+    walked: usize,
+}
+
+// Takes these steps once the post is inside.
+#[derive(Drop)]
+struct Meanwhile<'a> {
+    steps: &'static [(u8, Step)],
+    stage: Mutex<Stage<'a>>,
+}
+
+impl Pause for Meanwhile<'_> {
+    fn at<R: Wait>(&self, rt: &R, point: Point) {
+        if point != Point::Inside {
+            return;
+        }
+        let mut stage = self.stage.lock(rt);
+        stage.walked = stage.table.walk(rt, self.steps);
+    }
+}
+
+// Posts a text of agent 1, held up for these steps. Under which epoch and number it was accepted,
+// and how many of the steps came to what they are to.
+fn post_held<'a, R: Wait>(
+    rt: &R,
+    shared: &Shared,
+    table: Table<'a>,
+    poster: &mut Poster,
+    text: &str,
+    steps: &'static [(u8, Step)],
+) -> Option<(u32, u64, Stage<'a>)> {
+    let draft = draft(shared.alloc, AgentId(1), text)?;
+    let meanwhile = Meanwhile {
+        steps,
+        stage: Mutex::new(Stage { table, walked: 0 }),
+    };
+    let posted = poster
+        .post_with(rt, &shared.hub.yard, draft, &meanwhile)
+        .ok()?;
+    Some((posted.epoch, posted.number, meanwhile.stage.into_inner()))
+}
+
+const BEFORE: &[(u8, Step)] = &[
+    (0, Step::Open),
+    (1, Step::Open),
+    (2, Step::Open),
+    (3, Step::Open),
+    (0, Step::Client(0)),
+];
+
+const LENT: &[(u8, Step)] = &[(2, Step::Line(0, 1)), (0, Step::Start(0))];
+
+const MEANWHILE: &[(u8, Step)] = &[
+    (
+        2,
+        Step::Post(Way::Line(0), NONE, "\"b\"", Answer::Accepted(0, 0)),
+    ),
+    (0, Step::Hand(0, 3)),
+    (0, Step::HasNone(0)),
+    (0, Step::Idle(false)),
+    (3, Step::Fetch(0, true)),
+    (3, Step::Moves(0, 1)),
+    (
+        2,
+        Step::Post(Way::Line(0), NONE, "\"c\"", Answer::Accepted(1, 0)),
+    ),
+    (3, Step::Idle(false)),
+    (3, Step::Start(0)),
+    (3, Step::Deliver(0, Mail::Text(1, 0, 0, "\"b\""))),
+    (3, Step::Idle(true)),
+];
+
+const AFTER: &[(u8, Step)] = &[
+    (3, Step::Deliver(0, Mail::Text(0, 0, 0, "\"a\""))),
+    (3, Step::Deliver(0, Mail::Text(1, 1, 0, "\"c\""))),
+    (3, Step::Idle(false)),
+    (0, Step::Client(1)),
+];
+
+// How many steps of each part came to what they are to, and the name of the post that was held up.
+fn walk_held<R: Wait>(rt: &R, alloc: Global) -> Option<([usize; 4], (u32, u64))> {
+    let shared = Shared::new(alloc);
+    let mut table = Table::new(&shared, false);
+    let before = table.walk(rt, BEFORE);
+    let mut poster = shared.line_to(rt, 0)?;
+    let lent = table.walk(rt, LENT);
+    let (epoch, number, stage) = post_held(rt, &shared, table, &mut poster, "\"a\"", MEANWHILE)?;
+    let Stage { mut table, walked } = stage;
+    let after = table.walk(rt, AFTER);
+    Some(([before, lent, walked, after], (epoch, number)))
+}
+
+#[test]
+fn handed_queue(rt: HostRuntime) {
+    assert_eq!(rt; walk_held(&rt, rt.alloc()), Some(([5, 2, 11, 4], (0, 0))));
+}
+
+// A queue waits for the agent that it was handed to, and for its number, alone.
+const NOT_THERE: &[(u8, Step)] = &[
+    (0, Step::Open),
+    (1, Step::Open),
+    (0, Step::Worker(0)),
+    (0, Step::Hand(0, 1)),
+    (0, Step::Fetch(0, false)),
+    (1, Step::Fetch(1, false)),
+    (1, Step::Fetch(0, true)),
+    (1, Step::Line(0, 0)),
+    (
+        1,
+        Step::Post(Way::Line(0), NONE, "1", Answer::Accepted(1, 0)),
+    ),
+    (1, Step::Deliver(0, Mail::Text(0, 1, 0, "1"))),
+    (1, Step::Fetch(0, false)),
+];
+
+#[test]
+fn a_queue_is_fetched_by_its_agent_alone(rt: HostRuntime) {
+    assert_eq!(rt; run(&rt, rt.alloc(), NOT_THERE), 11);
+}

@@ -1,0 +1,82 @@
+//! What the tests make their agents and their envelopes of. Each call is made again where an
+//! allocation was refused, since the next one has the memory.
+ghost use Rattle.std.specs.Prelude.{◌≡◌};
+
+use crate::scribe::Scribe;
+use hub_broadcast::{Origin, origin_of};
+use hub_envelope::{AgentId, Body, Draft, Ports};
+use hub_loop::{EventLoop, LoopError, NoCheckpoint, Turn};
+use hub_ports::{Hub, Port};
+use hub_queue::{Bell, Steps};
+use std::alloc::Global;
+use std::marker::Brand;
+use std::sync::Wait;
+use std::sync::ledger::{Blank, Ledger};
+
+/// The loop of the tests.
+pub(crate) type Loop = EventLoop<Scribe, &'static NoCheckpoint>;
+
+/// The body that a text stands for.
+pub(crate) fn body(alloc: Global, text: &str) -> Option<Body> {
+    match Body::read(alloc, text) {
+        Ok(body) => Some(body),
+        Err(_) => Body::read(alloc, text).ok(),
+    }
+}
+
+/// A draft of this agent with this body and no ports.
+pub(crate) fn draft(alloc: Global, agent: AgentId, text: &str) -> Option<Draft> {
+    Some(Draft {
+        agent,
+        body: body(alloc, text)?,
+        ports: Ports::none(alloc),
+        notice: false,
+    })
+}
+
+/// The same bell once more.
+pub(crate) fn again(bell: &Bell) -> Option<Bell> {
+    match bell.clone() {
+        Ok(bell) => Some(bell),
+        Err(_) => bell.clone().ok(),
+    }
+}
+
+/// An empty list with room for so many ports.
+pub(crate) fn room(alloc: Global, count: usize) -> Option<Vec<Port>> {
+    match Vec::with_capacity(alloc, count) {
+        Ok(ports) => Some(ports),
+        Err(_) => Vec::with_capacity(alloc, count).ok(),
+    }
+}
+
+fn try_key(alloc: Global) -> Option<(Origin, String)> {
+    let origin = origin_of(alloc, "https://a.test").ok()?;
+    let name = String::from_str(alloc, "news").ok()?;
+    Some((origin, name))
+}
+
+/// The origin and the name of all members.
+pub(crate) fn key(alloc: Global) -> Option<(Origin, String)> {
+    match try_key(alloc) {
+        Some(key) => Some(key),
+        None => try_key(alloc),
+    }
+}
+
+fn turn_counted<L: Ledger, R: Wait>(
+    rt: &R,
+    hub: &Hub,
+    event_loop: &mut Loop,
+    blank: Blank,
+) -> Result<Turn, LoopError>
+    requires { (blank.name ≡ L.name) × (blank.parts ≡ L.parts) × (L.parts ≡ 2) }
+{
+    let mut steps = Steps::<L>::begin(blank);
+    event_loop.turn(rt, hub, &mut steps)
+}
+
+/// Makes a turn, with a count of pops of its own.
+pub(crate) fn turn<R: Wait>(rt: &R, hub: &Hub, event_loop: &mut Loop) -> Result<Turn, LoopError> {
+    turn_counted::<Brand, R>(rt, hub, event_loop, Blank::new(2))
+}
