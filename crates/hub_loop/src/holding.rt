@@ -253,7 +253,8 @@ impl Holding {
         hub: &Hub,
         receiving: &mut Receiving,
     ) -> Result<bool, OutOfMemory>
-        ensures adopted { IsFirstAdopted receiving.old receiving.new self.old.held self.new.held result }
+        ensures adopted { IsFirstAdopted receiving.old receiving.new self.old.held self.new.held
+            result }
         ensures next { self.new.next ≡ self.old.next }
     {
         let Some(first) = receiving.found.front() else {
@@ -297,7 +298,8 @@ impl Holding {
         hub: &Hub,
         receiving: &mut Receiving,
     ) -> Result<(), OutOfMemory>
-        ensures adopted { AreAllAdopted receiving.old receiving.new self.old.held self.new.held result }
+        ensures adopted { AreAllAdopted receiving.old receiving.new self.old.held self.new.held
+            result }
         ensures next { self.new.next ≡ self.old.next }
     {
         loop {
