@@ -1,6 +1,7 @@
 use hub_envelope::{AgentId, Body, BodyError, EndId, Envelope, LineId, Ports};
 use hub_trace::{
-    FaultKind, LOG_HEADER, Label, Log, LogError, Verdict, check, is_port_list, read_logs,
+    FaultKind, LOG_HEADER, Label, Log, LogError, Verdict, check, deliveries, is_port_list,
+    read_logs,
 };
 use std::alloc::{AllocError, AllocFailed, Global};
 use std::fmt;
@@ -158,6 +159,51 @@ fn knows_notices(rt: HostRuntime) -> Result<(), Fail> {
         ),
     ];
     answers(&rt, &rows)
+}
+
+/// What was got of each line, a text line for each.
+fn deliveries_text(alloc: Global, bytes: &[u8]) -> Result<String, Fail> {
+    let logs = read_logs(alloc, bytes)?;
+    let mut text = String::new(alloc);
+    for line in &deliveries(alloc, &logs)? {
+        writeln!(text, "{line}")?;
+    }
+    Ok(text)
+}
+
+#[test]
+fn tells_the_deliveries_of_each_line(rt: HostRuntime) -> Result<(), Fail> {
+    let rows: [(&[u8], &str); 5] = [
+        (b"", ""),
+        (
+            b"hublog 3\nagent 0\nput 1 0 0:0 - 1\nput 1 0 0:1 - 2\n\
+            agent 1\ngot 1 0 0:0 - 1\ngot 1 0 0:1 - 2\n",
+            "end 1 line 0 0:0 0:1\n",
+        ),
+        // A line of which nothing was got stands nowhere.
+        (
+            b"hublog 3\nagent 0\nput 1 0 0:0 - 1\nadopted 2 1\nclosed 2\n",
+            "",
+        ),
+        // Agent 0 adopted end 10 after what agent 1 got there, and goes on with its older queue.
+        (
+            b"hublog 3\nagent 0\nadopted 10 1\ngot 10 12 0:2 - 7\ngot 10 12 1:0 - 7\n\
+            got 2 1 0:0 - 8\ngot 10 3 1:0 notice\n\
+            agent 1\ngot 10 12 0:0 - 5\ngot 10 3 0:0 - 6\ngot 10 12 0:1 - 5\n\
+            got 2 0 0:3 - 1\n",
+            "end 2 line 0 0:3\nend 2 line 1 0:0\nend 10 line 3 0:0 1:0\n\
+            end 10 line 12 0:0 0:1 0:2 1:0\n",
+        ),
+        // What was got twice stands twice, and what came after a closing stands too.
+        (
+            b"hublog 3\nagent 0\ngot 1 0 0:0 - 1\nclosed 1\ngot 1 0 0:0 - 1\n",
+            "end 1 line 0 0:0 0:0\n",
+        ),
+    ];
+    for (bytes, wanted) in &rows {
+        assert_eq!(rt; deliveries_text(rt.alloc(), *bytes)?.as_str(), *wanted);
+    }
+    Ok(())
 }
 
 #[test]

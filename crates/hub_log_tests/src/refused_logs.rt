@@ -1,6 +1,7 @@
-// Logs that are appended to, written, read and checked while one allocation is refused.
+// Logs that are appended to, written, read, checked and listed by their deliveries while one
+// allocation is refused.
 use hub_envelope::{AgentId, Body, BodyError, EndId, LineId};
-use hub_trace::{LOG_HEADER, Label, Log, LogError, check, is_port_list, read_logs};
+use hub_trace::{LOG_HEADER, Label, Log, LogError, check, deliveries, is_port_list, read_logs};
 use std::alloc::{AllocError, AllocFailed, Global};
 use std::fmt;
 
@@ -114,6 +115,18 @@ fn text_of(alloc: Global, logs: &[Log]) -> Result<String, Refused> {
     Ok(text)
 }
 
+/// What was got of each line by the logs of the test.
+const DELIVERIES: &str = "end 4 line 31 0:0 0:1 0:2 0:3\nend 6 line 31 0:0 0:1 0:2 0:3\n";
+
+/// What was got of each line, a text line for each.
+fn deliveries_text(alloc: Global, logs: &[Log]) -> Result<String, Refused> {
+    let mut text = String::new(alloc);
+    for line in &deliveries(alloc, logs)? {
+        writeln!(text, "{line}")?;
+    }
+    Ok(text)
+}
+
 /// Each call that meets a refusal answers want of memory, and made again it gives the right answer.
 #[test]
 fn logs_are_right_whichever_allocation_is_refused(rt: HostRuntime) -> Result<(), Refused> {
@@ -126,7 +139,11 @@ fn logs_are_right_whichever_allocation_is_refused(rt: HostRuntime) -> Result<(),
     let again = once_more(|| text_of(alloc, &logs))?;
     let verdict = once_more(|| Ok(check(alloc, &logs)?))?;
     let words = once_more(|| Ok(verdict.to_string(alloc)?))?;
-    if text != again || words.as_str() != "fault 6 31 1 AfterNotice" {
+    let told = once_more(|| deliveries_text(alloc, &logs))?;
+    if text != again
+        || words.as_str() != "fault 6 31 1 AfterNotice"
+        || told.as_str() != DELIVERIES
+    {
         return Err(Refused::Wrong);
     }
     Ok(())

@@ -112,17 +112,17 @@ IsLeft accepted arrivals rest end line =
     (got_in rest end line ≡ got_in arrivals end line)
     ⊎ (IsCleanLine (accepted_in accepted end line) (got_in arrivals end line) × (filter (λ a. is_of end line a.label) rest ≡ []))
 
-other_line : (a b e l x y : ℕ) → ((a == e) && (b == l)) ≡ true → ((e == x) && (l == y)) ≡ false → ((a == x) && (b == y)) ≡ false
+pub other_line : (a b e l x y : ℕ) → ((a == e) && (b == l)) ≡ true → ((e == x) && (l == y)) ≡ false → ((a == x) && (b == y)) ≡ false
 other_line a b e l x y h k = grind (arith, nat_tests)
 
-same_line : (e l x y : ℕ) → ((e == x) && (l == y)) ≡ true → (e ≡ x) × (l ≡ y)
+pub same_line : (e l x y : ℕ) → ((e == x) && (l == y)) ≡ true → (e ≡ x) × (l ≡ y)
 same_line e l x y h = grind (arith, nat_tests)
 
 append_nil_right : {X : Type 0} (xs ys : List X) → xs ++ ys ≡ [] → ys ≡ []
 append_nil_right [] ys h = h
 append_nil_right (x ∷ xs) ys h = cc
 
-self_append : {X : Type 0} (xs ys : List X) → xs ≡ xs ++ ys → ys ≡ []
+pub self_append : {X : Type 0} (xs ys : List X) → xs ≡ xs ++ ys → ys ≡ []
 self_append [] ys h = sym h
 self_append (x ∷ xs) ys h = let whole : x ∷ xs ≡ x ∷ (xs ++ ys) = h in let tails : xs ≡ xs ++ ys = cc in self_append xs ys tails
 

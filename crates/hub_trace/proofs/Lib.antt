@@ -17,3 +17,5 @@ pub mod PortTexts
 pub mod Utf8
 pub mod LogLinesBack
 pub mod WrittenLogs
+pub mod Listing
+pub mod OneListing

@@ -42,7 +42,7 @@ before_not_at a b e l h = grind (arith, nat_tests)
 after_not_at : (a b e l : ℕ) → (nat_lt e a || ((a == e) && nat_lt l b)) ≡ true → ((a == e) && (b == l)) ≡ false
 after_not_at a b e l h = grind (arith, nat_tests)
 
-neither_at : (a b e l : ℕ) → (nat_lt a e || ((a == e) && nat_lt b l)) ≡ false → (nat_lt e a || ((a == e) && nat_lt l b)) ≡ false → ((a == e) && (b == l)) ≡ true
+pub neither_at : (a b e l : ℕ) → (nat_lt a e || ((a == e) && nat_lt b l)) ≡ false → (nat_lt e a || ((a == e) && nat_lt l b)) ≡ false → ((a == e) && (b == l)) ≡ true
 neither_at a b e l h k = grind (arith, nat_tests)
 
 after_goes_up : (a b c d e l : ℕ) → (nat_lt a c || ((a == c) && nat_lt b d)) ≡ false → (nat_lt e c || ((c == e) && nat_lt l d)) ≡ true → (nat_lt e a || ((a == e) && nat_lt l b)) ≡ true

@@ -13,3 +13,4 @@ pub mod Closings
 pub mod LogLine
 pub mod Read
 pub mod Limits
+pub mod Deliveries

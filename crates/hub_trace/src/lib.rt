@@ -9,7 +9,10 @@
 mod accepted;
 mod checker;
 mod content;
+mod delivered;
+mod delivered_line;
 mod label;
+mod laws;
 mod limits;
 mod log;
 mod log_entry;
@@ -24,8 +27,11 @@ mod verdict;
 
 pub use checker::check;
 pub use content::Content;
+pub use delivered::deliveries;
+pub use delivered_line::DeliveredLine;
 pub use hub_envelope::OutOfMemory;
 pub use label::Label;
+pub use laws::delivery_laws;
 pub use limits::{MAX_AGENT, MAX_END, MAX_EPOCH, MAX_LINE, MAX_NUMBER};
 pub use log::{LOG_HEADER, Log};
 pub use log_entry::{Delivery, LogEntry};

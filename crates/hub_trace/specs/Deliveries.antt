@@ -1,0 +1,45 @@
+-- What was got of all lines, as `deliveries` tells it, and how it is written.
+use Rattle.std.specs.Prelude.{◌≡◌, ◌≢◌, ℕ, List, [], ◌++◌, ◌==◌, ◌&&◌, codes, map}
+use Rattle.std.specs.Fmt.{decimal}
+use Rattle.std.specs.List.{All, AllPairs, filter, flat_map}
+use Rattle.hub_envelope.specs.declared.ids.EndId.{EndId}
+use Rattle.hub_envelope.specs.declared.ids.LineId.{LineId}
+use Rattle.hub_trace.specs.declared.delivered_line.DeliveredLine.{DeliveredLine}
+use Rattle.hub_trace.specs.declared.label.Label.{Label}
+use Rattle.hub_trace.specs.Accepted.{AgentLog}
+use Rattle.hub_trace.specs.Got.{Receipt, got}
+use Rattle.hub_trace.specs.Verdict.{IsLineBefore}
+
+-- ` EP:N`
+abbrev pub name_text : Label → List ℕ
+name_text l = codes " " ++ decimal l.epoch ++ codes ":" ++ decimal l.number
+
+-- `end E line L EP:N EP:N ..`
+abbrev pub delivered_line_text : DeliveredLine → List ℕ
+delivered_line_text d = codes "end " ++ decimal d.end.0 ++ codes " line " ++ decimal d.line.0 ++ flat_map name_text d.labels.items
+
+-- the labels of what was got
+abbrev pub labels_of : List Receipt → List Label
+labels_of receipts = map (λ r. r.delivery.label) receipts
+
+-- the labels that stand under an end and a line number
+abbrev pub labels_under : ℕ → ℕ → List DeliveredLine → List Label
+labels_under end line lines = flat_map (λ d. d.labels.items) (filter (λ d. (d.end.0 == end) && (d.line.0 == line)) lines)
+
+-- the first comes before the second: by end, then by line number
+abbrev pub IsEarlierLine : DeliveredLine → DeliveredLine → Type 0
+IsEarlierLine a b = IsLineBefore a.end.0 a.line.0 b.end.0 b.line.0
+
+-- each line of which something was got, with the labels of all that was got of it
+pub record AreDeliveries (logs : List AgentLog) (lines : List DeliveredLine) : Type 0 where
+  pub rising : AllPairs IsEarlierLine lines
+  pub none_empty : All (λ d. d.labels.items ≢ []) lines
+  pub labels : (end line : ℕ) → labels_under end line lines ≡ labels_of (got logs end line)
+
+-- what is told of a line: its end, its number and its labels
+abbrev pub told : DeliveredLine → EndId × LineId × List Label
+told d = (d.end, d.line, d.labels.items)
+
+-- all deliveries of the same logs are told alike
+abbrev pub DeliveriesAreOne : Type 0
+DeliveriesAreOne = (logs : List AgentLog) (lines others : List DeliveredLine) → AreDeliveries logs lines → AreDeliveries logs others → map told lines ≡ map told others
