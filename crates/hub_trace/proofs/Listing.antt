@@ -1,13 +1,12 @@
 -- Lines that were told, and the arrivals that are left.
-use Rattle.std.proofs.Common.{◌≡◌, ◌≢◌, ℕ, ◌<◌, ◌≤◌, ◌+◌, ◌⊎◌, inl, inr, Bool, true, false, ◌&&◌, ◌||◌, cond, List, [], ◌∷◌, ◌++◌, map, length, length-append, length-drop, get_or, drop, refl, ap, sym, ◌∙◌, subst, arith, ◌==◌, nat_lt, append_assoc, append-nil}
+use Rattle.std.proofs.Common.{◌≡◌, ◌≢◌, ℕ, ◌<◌, ◌+◌, ◌⊎◌, inl, inr, Bool, true, false, ◌&&◌, ◌||◌, cond, List, [], ◌∷◌, ◌++◌, map, length, length-drop, get_or, drop, refl, ap, sym, ◌∙◌, subst, arith, ◌==◌, nat_lt, append_assoc, append-nil}
 use Rattle.std.specs.List.{All, AllPairs, filter, flat_map, AllByRecursion as Each}
 use Rattle.std.proofs.lemmas.Bool.Decides.{nat_tests}
 use Rattle.std.proofs.lemmas.List.{get_or-drop, get_or_default, length-map, map-append}
 use Rattle.std.proofs.lemmas.List.Concat.{flat_map-append}
-use Rattle.std.proofs.lemmas.List.Elements.{All-cons, All-drop, All-nil, All-push, All-weaker, All-from_recursion, filter-append, recursion_from_All}
+use Rattle.std.proofs.lemmas.List.Elements.{All-drop, All-push, All-weaker, All-from_recursion, filter-append}
 use Rattle.std.proofs.lemmas.List.Quantifiers.{all_pairs_push}
 use Rattle.hub_trace.specs.declared.delivered_line.DeliveredLine.{DeliveredLine}
-use Rattle.hub_trace.specs.declared.label.Label.{Label}
 use Rattle.hub_trace.specs.declared.received.Arrival.{Arrival}
 use Rattle.hub_trace.specs.Accepted.{is_of}
 use Rattle.hub_trace.specs.Deliveries.{IsEarlierLine, labels_of, labels_under}

@@ -1,13 +1,10 @@
 -- Logs have one list of deliveries.
-use Rattle.std.proofs.Common.{◌≡◌, ◌≢◌, ℕ, zero, suc, ◌<◌, ◌≤◌, ◌+◌, ◌⊎◌, inl, inr, Bool, true, false, ◌&&◌, cond, List, [], ◌∷◌, ◌++◌, map, length, refl, ap, sym, ◌∙◌, subst, arith, ◌==◌, nat_lt, append-nil}
-use Rattle.std.specs.List.{All, AllPairs, filter, flat_map, AllByRecursion as Each}
+use Rattle.std.proofs.Common.{◌≡◌, ◌≢◌, ℕ, suc, ◌<◌, ◌⊎◌, inl, inr, true, false, ◌&&◌, List, [], ◌∷◌, ◌++◌, map, refl, ap, sym, ◌∙◌, subst, arith, ◌==◌, nat_lt, append-nil}
+use Rattle.std.specs.List.{AllPairs, filter, flat_map, AllByRecursion as Each}
 use Rattle.std.proofs.lemmas.Bool.Decides.{nat_tests}
 use Rattle.std.proofs.lemmas.List.Elements.{recursion_from_All}
-use Rattle.hub_envelope.specs.declared.ids.EndId.{EndId}
-use Rattle.hub_envelope.specs.declared.ids.LineId.{LineId}
 use Rattle.hub_trace.specs.declared.delivered_line.DeliveredLine.{DeliveredLine}
-use Rattle.hub_trace.specs.declared.label.Label.{Label}
-use Rattle.hub_trace.specs.Deliveries.{AreDeliveries, DeliveriesAreOne, IsEarlierLine, labels_under, told}
+use Rattle.hub_trace.specs.Deliveries.{DeliveriesAreOne, IsEarlierLine, labels_under, parts_of}
 use Rattle.hub_trace.specs.Verdict.{IsLineBefore}
 use Rattle.hub_trace.proofs.Cases.{by_test, kept, dropped}
 use Rattle.hub_trace.proofs.Faults.{same_line}
@@ -85,8 +82,8 @@ three_ways : (a b c d : ℕ) → ((a < c) ⊎ ((a ≡ c) × (b < d))) ⊎ (((c <
 three_ways a b c d = elim (nat_cases a c) [ inl h ↦ inl (inl h) | inr h ↦ elim h [ inl k ↦ inr (inl (inl k)) | inr k ↦ same_end a b c d k ] ]
 
 one_by : (d e : DeliveredLine) (ds es : List DeliveredLine) → Rising (d ∷ ds) → Rising (e ∷ es) → d.labels.items ≢ [] → e.labels.items ≢ []
-    → ((x y : ℕ) → labels_under x y (d ∷ ds) ≡ labels_under x y (e ∷ es)) → (((x y : ℕ) → labels_under x y ds ≡ labels_under x y es) → map told ds ≡ map told es)
-    → IsEarlierLine d e ⊎ (IsEarlierLine e d ⊎ ((d.end.0 ≡ e.end.0) × (d.line.0 ≡ e.line.0))) → map told (d ∷ ds) ≡ map told (e ∷ es)
+    → ((x y : ℕ) → labels_under x y (d ∷ ds) ≡ labels_under x y (e ∷ es)) → (((x y : ℕ) → labels_under x y ds ≡ labels_under x y es) → map parts_of ds ≡ map parts_of es)
+    → IsEarlierLine d e ⊎ (IsEarlierLine e d ⊎ ((d.end.0 ≡ e.end.0) × (d.line.0 ≡ e.line.0))) → map parts_of (d ∷ ds) ≡ map parts_of (e ∷ es)
 one_by d e ds es rd re sd se same behind (inl h) =
     absurd (no_earlier d ds (e ∷ es) rd.0 sd (h, Each-weaker (IsEarlierLine e) (IsEarlierLine d) (λ o k. before_chain d.end.0 d.line.0 e.end.0 e.line.0 o.end.0 o.line.0 h k) es re.0) same)
 one_by d e ds es rd re sd se same behind (inr (inl h)) =
@@ -98,7 +95,7 @@ one_by d e ds es rd re sd se same behind (inr (inr h)) =
 
 -- two lists that rise by line, in which no line is without a label, and in which the same stands under each line
 one : (ds es : List DeliveredLine) → Rising ds → Rising es → Each (λ d. d.labels.items ≢ []) ds → Each (λ d. d.labels.items ≢ []) es
-    → ((x y : ℕ) → labels_under x y ds ≡ labels_under x y es) → map told ds ≡ map told es
+    → ((x y : ℕ) → labels_under x y ds ≡ labels_under x y es) → map parts_of ds ≡ map parts_of es
 one [] [] rd re sd se same = refl
 one (d ∷ ds) [] rd re sd se same = absurd (no_earlier d ds [] rd.0 sd.0 tt same)
 one [] (e ∷ es) rd re sd se same = absurd (no_earlier e es [] re.0 se.0 tt (λ x y. sym (same x y)))

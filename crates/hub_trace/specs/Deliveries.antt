@@ -16,7 +16,9 @@ name_text l = codes " " ++ decimal l.epoch ++ codes ":" ++ decimal l.number
 
 -- `end E line L EP:N EP:N ..`
 abbrev pub delivered_line_text : DeliveredLine → List ℕ
-delivered_line_text d = codes "end " ++ decimal d.end.0 ++ codes " line " ++ decimal d.line.0 ++ flat_map name_text d.labels.items
+delivered_line_text d =
+    codes "end " ++ decimal d.end.0 ++ codes " line " ++ decimal d.line.0
+    ++ flat_map name_text d.labels.items
 
 -- the labels of what was got
 abbrev pub labels_of : List Receipt → List Label
@@ -24,7 +26,8 @@ labels_of receipts = map (λ r. r.delivery.label) receipts
 
 -- the labels that stand under an end and a line number
 abbrev pub labels_under : ℕ → ℕ → List DeliveredLine → List Label
-labels_under end line lines = flat_map (λ d. d.labels.items) (filter (λ d. (d.end.0 == end) && (d.line.0 == line)) lines)
+labels_under end line lines =
+    flat_map (λ d. d.labels.items) (filter (λ d. (d.end.0 == end) && (d.line.0 == line)) lines)
 
 -- the first comes before the second: by end, then by line number
 abbrev pub IsEarlierLine : DeliveredLine → DeliveredLine → Type 0
@@ -36,10 +39,12 @@ pub record AreDeliveries (logs : List AgentLog) (lines : List DeliveredLine) : T
   pub none_empty : All (λ d. d.labels.items ≢ []) lines
   pub labels : (end line : ℕ) → labels_under end line lines ≡ labels_of (got logs end line)
 
--- what is told of a line: its end, its number and its labels
-abbrev pub told : DeliveredLine → EndId × LineId × List Label
-told d = (d.end, d.line, d.labels.items)
+-- the end, the line number and the labels
+abbrev pub parts_of : DeliveredLine → EndId × LineId × List Label
+parts_of d = (d.end, d.line, d.labels.items)
 
--- all deliveries of the same logs are told alike
+-- all deliveries of the same logs have the same parts in the same order
 abbrev pub DeliveriesAreOne : Type 0
-DeliveriesAreOne = (logs : List AgentLog) (lines others : List DeliveredLine) → AreDeliveries logs lines → AreDeliveries logs others → map told lines ≡ map told others
+DeliveriesAreOne =
+    (logs : List AgentLog) (lines others : List DeliveredLine)
+    → AreDeliveries logs lines → AreDeliveries logs others → map parts_of lines ≡ map parts_of others

@@ -10,12 +10,12 @@ use crate::received::{Arrival, arrivals_in_order, front_of_line};
 use hub_envelope::OutOfMemory;
 use std::alloc::Global;
 
-/// Reads the logs of one run together, and tells what was got of each line of each end: only the
-/// lines of which something was, ends rising, and within an end line numbers rising. A notice that
-/// was taken counts.
+/// Reads the logs of one run together, and tells what was got of each line of each end. A line of
+/// which nothing was got stands nowhere; a notice that was taken counts as got. The lines stand by
+/// ends, and within an end by their numbers, both rising.
 ///
-/// It judges nothing: what was got twice stands twice, and what was got after a closing stands
-/// too. It takes time in n log n for n entries.
+/// It judges nothing: what was got twice stands twice, and what was got after the end was closed
+/// or after a notice stands too. For n entries it takes a time in the order of n log n.
 pub fn deliveries(alloc: Global, logs: &[Log]) -> Result<Vec<DeliveredLine>, OutOfMemory>
     ensures { IfOk result (λ lines. AreDeliveries logs.now lines.items) }
 {

@@ -3,7 +3,8 @@
 //! Each agent keeps a log of the envelopes and notices that it had accepted and that it took, of
 //! the ends that it adopted and of those that it closed. The checker reads the logs of one run
 //! together, and says whether each line of each end was delivered in order, each envelope once and
-//! as it was posted, with nothing after a closing or a notice.
+//! as it was posted, with nothing after a closing or a notice. `deliveries` reads them in the same
+//! way, and lists what was got of each line.
 #![tactic(auto)]
 
 mod accepted;
