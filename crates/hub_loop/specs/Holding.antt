@@ -1,5 +1,6 @@
 -- What a loop holds.
-use Rattle.std.specs.Prelude.{ℕ, Option, Some, None, length}
+use Rattle.std.specs.Prelude.{ℕ, List, Option, Some, None, length, filter_map}
+use Rattle.slab.specs.Slab.{Slab, entries}
 use Rattle.hub_envelope.specs.declared.ids.EndId.{EndId}
 use Rattle.hub_queue.specs.Taking.{TakerSeat}
 use Rattle.hub_loop.specs.declared.held.Held.{Held}
@@ -33,3 +34,15 @@ number_of (Client t) = record { 0 = t.end }
 number_of (Worker t) = record { 0 = t.end }
 number_of (Member m) = record { 0 = m.taker.end }
 number_of (Line s) = s.name.end
+
+-- the number of the end; a line is no end
+abbrev pub end_held : Held → Option EndId
+end_held (Line s) = None
+end_held (Port p) = Some (number_of (Port p))
+end_held (Client t) = Some (number_of (Client t))
+end_held (Worker t) = Some (number_of (Worker t))
+end_held (Member m) = Some (number_of (Member m))
+
+-- the numbers of the ends that are held, in the order of their keys
+abbrev pub ends_held : Slab Held → List EndId
+ends_held held = filter_map (λ entry. end_held entry.1) (entries held)

@@ -31,7 +31,7 @@ ghost use Rattle.hub_loop.specs.Ending.{
   HasEnded,
   HasPaused,
 };
-ghost use Rattle.hub_loop.specs.Holding.{number_of};
+ghost use Rattle.hub_loop.specs.Holding.{ends_held, number_of};
 ghost use Rattle.hub_loop.specs.Turning.{IsDue, IsTurn};
 ghost use Rattle.hub_loop.specs.declared.turn.Turn.TheVariants.{Ending};
 
@@ -226,6 +226,21 @@ impl<H: Handler + Drop, C: Checkpoint + Drop> EventLoop<H, C> {
         ensures { result.now ≡ self.old.handler }
     {
         &mut self.handler
+    }
+
+    /// Shows the port, queue or member of this number, where the loop holds it.
+    pub fn held(&self, end: EndId) -> Option<&Held>
+        ensures { IfSome result (λ held. number_of held.now ≡ end) }
+    {
+        self.holding.held(end)
+    }
+
+    /// The numbers of the ports, queues and members that the loop holds, in the order of their
+    /// keys.
+    pub fn ends(&self) -> Result<Vec<EndId>, OutOfMemory>
+        ensures { IfOk result (λ ends. ends.items ≡ ends_held self.now.holding.held) }
+    {
+        self.holding.numbers(self.alloc)
     }
 
     /// Gives the port, queue or member of this number out. `None` where the loop doesn't hold it.

@@ -1,7 +1,7 @@
 ghost use Rattle.std.specs.Prelude.{◌≡◌, IfSome};
 ghost use Rattle.hub_ports.specs.Seats.{end_of};
 ghost use Rattle.hub_loop.specs.Asking.{IsHeldAsked, IsHeldTaken};
-ghost use Rattle.hub_loop.specs.Holding.{behind_of, number_of, seat_of};
+ghost use Rattle.hub_loop.specs.Holding.{behind_of, end_held, number_of, seat_of};
 
 use hub_broadcast::Member;
 use hub_clients::{ClientQueue, WorkerQueue};
@@ -32,6 +32,16 @@ impl Held {
             Held::Worker(queue) => queue.end(),
             Held::Member(member) => member.end(),
             Held::Line(poster) => poster.name().end,
+        }
+    }
+
+    /// The number of the end, where it is no line.
+    pub(crate) fn as_end(&self) -> Option<EndId>
+        ensures { result ≡ end_held self.now }
+    {
+        match self {
+            Held::Line(_) => None,
+            held => Some(held.end()),
         }
     }
 

@@ -16,7 +16,7 @@ ghost use Rattle.std.specs.Prelude.{
 ghost use Rattle.slab.specs.Slab.{HasRoomFor, SameValues};
 ghost use Rattle.hub_clients.specs.Handing.{taker_of};
 ghost use Rattle.hub_loop.specs.Adopting.{HoldsMore, IsFetched, IsFirstAdopted, AreAllAdopted};
-ghost use Rattle.hub_loop.specs.Holding.{number_of};
+ghost use Rattle.hub_loop.specs.Holding.{ends_held, number_of};
 ghost use Rattle.hub_loop.specs.Serving.{AreServed, next_after};
 
 use crate::delivery::Receiving;
@@ -146,6 +146,28 @@ impl Holding {
     pub(crate) fn line_mut(&mut self, end: EndId) -> Option<&mut Held> {
         let key = key_of(&self.lines, end)?;
         self.held.get_mut(key)
+    }
+
+    /// Shows the end of this number.
+    pub(crate) fn held(&self, end: EndId) -> Option<&Held>
+        ensures { IfSome result (λ held. number_of held.now ≡ end) }
+    {
+        let key = key_of(&self.ends, end)?;
+        let held = self.held.get(key)?;
+        if held.end() == end { Some(held) } else { None }
+    }
+
+    /// The numbers of the ends, in the order of their keys.
+    pub(crate) fn numbers(&self, alloc: Global) -> Result<Vec<EndId>, OutOfMemory>
+        ensures { IfOk result (λ ends. ends.items ≡ ends_held self.now.held) }
+    {
+        let mut numbers = Vec::new(alloc);
+        for (_, held) in self.held.iter() {
+            if let Some(end) = held.as_end() {
+                numbers.push(end)?;
+            }
+        }
+        Ok(numbers)
     }
 
     /// Gives the end of this number out. `None` where it isn't held.
