@@ -1,6 +1,6 @@
-/* Loaded before the C library: the REFUSED_ALLOCATION-th call of malloc or realloc fails, and says so
-   on standard error. Where REFUSED_READ or REFUSED_WRITE is set, standard input gives and standard
-   output takes one byte a call, and the call of that number fails. */
+/* Loaded before the C library: the REFUSED_ALLOCATION-th call of malloc or realloc, whichever thread
+   makes it, fails and says so on standard error. Where REFUSED_READ or REFUSED_WRITE is set, standard
+   input gives and standard output takes one byte a call, and the call of that number fails. */
 #define _GNU_SOURCE
 #include <dlfcn.h>
 #include <errno.h>
@@ -34,7 +34,7 @@ __attribute__((constructor)) static void begin(void) {
 }
 
 static int fails(unsigned long *calls, unsigned long refused, int error) {
-    if (++*calls != refused) return 0;
+    if (__sync_add_and_fetch(calls, 1) != refused) return 0;
     if (next_write(2, "refused\n", 8) != 8) abort();
     errno = error;
     return 1;

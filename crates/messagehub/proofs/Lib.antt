@@ -6,3 +6,4 @@ pub mod Running
 pub mod OneText
 pub mod Outputs
 pub mod Writing
+pub mod RunText

@@ -1,5 +1,5 @@
 -- What the engine of `check` writes for an input, by the exit status that it answers.
-use Rattle.std.specs.Prelude.{◌≡◌, ℕ, List, ◌++◌, Ok, Err, Option, Some, None, codes, refl}
+use Rattle.std.specs.Prelude.{◌≡◌, ℕ, List, ◌++◌, Bool, true, false, Ok, Err, Option, Some, None, codes, refl}
 use Rattle.hub_envelope.specs.declared.ids.EndId.{EndId}
 use Rattle.hub_envelope.specs.declared.ids.LineId.{LineId}
 use Rattle.hub_trace.specs.declared.log_error.LogError.{LogError}
@@ -29,6 +29,12 @@ IsVerdictLine logs status.Fault text =
     (end : EndId) × (line : LineId) × (place : ℕ) × (kind : FaultKind) × IsVerdict (accepted logs) (got logs) (Fault end line place kind) × (text ≡ verdict_text (Fault end line place kind) ++ codes "\n")
 IsVerdictLine logs status.OutOfMemory text = text ≡ out_of_memory
 IsVerdictLine logs _ text = ⊥
+
+-- whether a verdict was reached, which the logs have or haven't passed
+abbrev pub is_reached : ExitStatus → Bool
+is_reached status.Success = true
+is_reached status.Fault = true
+is_reached _ = false
 
 -- what is written for an input: the verdict on its logs, or the one line of bad input, or `out of memory`
 abbrev pub IsCheckOutput : List ℕ → ExitStatus → List ℕ → Type 0

@@ -21,3 +21,4 @@ pub mod Performed
 pub mod StepText
 pub mod Output
 pub mod CheckOutput
+pub mod RunOutput

@@ -4,17 +4,19 @@ use Rattle.messagehub.specs.declared.counted_reader.CountedReader.{CountedReader
 use Rattle.messagehub.specs.declared.counted_writer.CountedWriter.{CountedWriter}
 use Rattle.messagehub.specs.declared.device.Device.{Device}
 use Rattle.messagehub.specs.declared.mode.Mode.{Mode}
-use Rattle.messagehub.specs.declared.mode.Mode.TheVariants.{Steps, Check}
+use Rattle.messagehub.specs.declared.mode.Mode.TheVariants.{Steps, Run, Check}
 use Rattle.messagehub.specs.declared.status.ExitStatus.{ExitStatus}
 use Rattle.messagehub.specs.declared.status.ExitStatus.TheVariants.{Usage}
 use Rattle.messagehub.specs.CheckOutput.{IsCheckOutput}
 use Rattle.messagehub.specs.Counted.{inner_reader, inner_writer}
 use Rattle.messagehub.specs.Engine.{AnswersInput, CountsDevice}
 use Rattle.messagehub.specs.Output.{IsStepsOutput}
+use Rattle.messagehub.specs.RunOutput.{IsScriptOutput}
 
 -- what a mode's engine writes for an input, by the exit status
 abbrev pub output_of : Mode → List ℕ → ExitStatus → List ℕ → Type 0
 output_of Steps = IsStepsOutput
+output_of Run = IsScriptOutput
 output_of Check = IsCheckOutput
 
 -- The engine of the mode that is asked for has answered. Where none is asked for, the usage line is due,

@@ -1,8 +1,8 @@
 //! The engine of `messagehub check`.
 
-ghost use Rattle.std.specs.Prelude.{◌≡◌, IfOk, option_map, string_bytes};
+ghost use Rattle.std.specs.Prelude.{◌≡◌, IfOk, option_map, string_bytes, true};
 ghost use Rattle.messagehub.specs.Counted.{inner_reader, inner_writer, failed_writes};
-ghost use Rattle.messagehub.specs.CheckOutput.{IsCheckOutput, IsVerdictLine, log_kind_text};
+ghost use Rattle.messagehub.specs.CheckOutput.{IsCheckOutput, IsVerdictLine, is_reached, log_kind_text};
 ghost use Rattle.messagehub.specs.Engine.{AnswersInput, CountsDevice, Writes};
 ghost use Rattle.messagehub.specs.Failures.{CountsFailure};
 
@@ -71,8 +71,9 @@ fn answer_logs<W: Write>(
 }
 
 /// The line of the verdict, and how the program ends after it.
-fn verdict_line(alloc: Global, logs: &[Log]) -> Result<(String, ExitStatus), OutOfMemory>
-    ensures { IfOk result (λ line. IsVerdictLine logs.now line.1 (string_bytes line.0)) }
+pub fn verdict_line(alloc: Global, logs: &[Log]) -> Result<(String, ExitStatus), OutOfMemory>
+    ensures line { IfOk result (λ line. IsVerdictLine logs.now line.1 (string_bytes line.0)) }
+    ensures reached { IfOk result (λ line. is_reached line.1 ≡ true) }
 {
     let verdict = check(alloc, logs)?;
     let status = match verdict {

@@ -1,5 +1,5 @@
 //! The program `messagehub`: it runs step lines through the core and prints what each is answered,
-//! or checks the logs of a run.
+//! runs a script on threads and prints the logs of its agents, or checks the logs of a run.
 #![tactic(auto)]
 
 mod check;
@@ -12,6 +12,7 @@ mod input;
 mod mode;
 mod output;
 mod program;
+mod run;
 mod status;
 mod steps;
 #[cfg(test)]
@@ -31,7 +32,7 @@ fn main(rt: HostRuntime) -> ExitCode {
     let mut reader = CountedReader::new(rt.stdin());
     let mut writer = CountedWriter::new(io::writer(&rt));
     let answer = match words_after_name(&rt) {
-        Ok(words) => run_words(rt.alloc(), &words, &mut reader, &mut writer),
+        Ok(words) => run_words(rt.alloc(), &rt, &words, &mut reader, &mut writer),
         Err(AllocError) => end_out_of_memory(&mut writer),
     };
     let Ending { status, message } = Ending::of(answer);

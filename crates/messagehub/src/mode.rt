@@ -6,6 +6,8 @@ ghost use Rattle.messagehub.specs.Mode.{mode_asked};
 pub enum Mode {
     /// Run step lines.
     Steps,
+    /// Run a script.
+    Run,
     /// Check logs.
     Check,
 }
@@ -16,6 +18,7 @@ pub fn mode_of(words: &[String]) -> Option<Mode>
 {
     match words {
         [word] if word.as_str() == "steps" => Some(Mode::Steps),
+        [word] if word.as_str() == "run" => Some(Mode::Run),
         [word] if word.as_str() == "check" => Some(Mode::Check),
         _ => None,
     }

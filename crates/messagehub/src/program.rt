@@ -11,15 +11,20 @@ use crate::counted_reader::CountedReader;
 use crate::counted_writer::CountedWriter;
 use crate::device::Device;
 use crate::mode::{Mode, mode_of};
+use crate::run::run_file;
 use crate::status::ExitStatus;
 use crate::steps::run_steps;
+use hub_run::NoCheckpoint;
 use std::alloc::Global;
 use std::io::{Read, Write};
+use std::sync::Wait;
+use std::thread::Threads;
 
 /// Runs the mode that the words after the program's name ask for. Where they ask for none, nothing
 /// is read or written, and the usage line is due.
-pub fn run_words<R: Read, W: Write>(
+pub fn run_words<R: Read, W: Write, T: Threads + Wait + Sync>(
     alloc: Global,
+    rt: &T,
     words: &[String],
     reader: &mut CountedReader<R>,
     writer: &mut CountedWriter<W>,
@@ -28,14 +33,15 @@ pub fn run_words<R: Read, W: Write>(
         reader.old reader.new writer.old writer.new result }
 {
     match mode_of(words) {
-        Some(mode) => run_mode(alloc, mode, reader, writer),
+        Some(mode) => run_mode(alloc, rt, mode, reader, writer),
         None => Ok(ExitStatus::Usage),
     }
 }
 
-/// Runs the engine of a mode.
-pub fn run_mode<R: Read, W: Write>(
+/// Runs the engine of a mode, `run` with a checkpoint that holds nothing up.
+pub fn run_mode<R: Read, W: Write, T: Threads + Wait + Sync>(
     alloc: Global,
+    rt: &T,
     mode: Mode,
     reader: &mut CountedReader<R>,
     writer: &mut CountedWriter<W>,
@@ -46,6 +52,7 @@ pub fn run_mode<R: Read, W: Write>(
 {
     match mode {
         Mode::Steps => run_steps(alloc, reader, writer),
+        Mode::Run => run_file(alloc, rt, reader, &NoCheckpoint, writer),
         Mode::Check => run_check(alloc, reader, writer),
     }
 }

@@ -2,7 +2,9 @@ mod check;
 mod devices;
 mod engines;
 mod failures;
+mod scripts;
 mod steps;
+mod two_loops;
 
 use crate::counted_reader::CountedReader;
 use crate::counted_writer::CountedWriter;
@@ -15,11 +17,12 @@ use std::test::Fail;
 // The words as they are typed, what is read, what is written and how it is answered.
 #[test]
 fn runs_the_mode_that_is_named(rt: HostRuntime) -> Result<(), Fail> {
-    let rows: [(&[&str], &[u8], ExitStatus); 5] = [
+    let rows: [(&[&str], &[u8], ExitStatus); 6] = [
         (&[], b"", ExitStatus::Usage),
         (&["fly"], b"", ExitStatus::Usage),
         (&["steps", "steps"], b"", ExitStatus::Usage),
         (&["steps"], b"line 1: UnknownStep\n", ExitStatus::BadInput),
+        (&["run"], b"line 1: Syntax\n", ExitStatus::BadInput),
         (&["check"], b"line 1: BadHeader\n", ExitStatus::BadInput),
     ];
     for (words, output, status) in rows {
@@ -30,7 +33,7 @@ fn runs_the_mode_that_is_named(rt: HostRuntime) -> Result<(), Fail> {
         let input: &[u8] = b"hublog 9\n";
         let mut reader = CountedReader::new(input);
         let mut writer = CountedWriter::new(Vec::<u8>::new(rt.alloc()));
-        let answer = run_words(rt.alloc(), &typed, &mut reader, &mut writer);
+        let answer = run_words(rt.alloc(), &rt, &typed, &mut reader, &mut writer);
         assert_eq!(rt; answer, Ok(status));
         assert_eq!(rt; writer.into_inner().as_slice(), output);
     }

@@ -1,4 +1,4 @@
-// The readers and writers that fail, through the engines of both modes.
+// The readers and writers that fail, through the engines of all modes.
 use super::devices::{
     EndlessReader, FailingWriter, SlowReader, SlowWriter, StuckWriter, UnflushedWriter,
 };
@@ -9,13 +9,19 @@ use crate::status::ExitStatus;
 use std::test::Fail;
 
 /// For each mode an input, what is written for it, and the status.
-const RUNS: [(Mode, &[u8], &[u8], ExitStatus); 3] = [
+const RUNS: [(Mode, &[u8], &[u8], ExitStatus); 4] = [
     (Mode::Steps, b"agent -\n", b"agent 0\n", ExitStatus::Success),
     (
         Mode::Steps,
         b"agent -\nfly",
         b"line 2: UnknownStep\n",
         ExitStatus::BadInput,
+    ),
+    (
+        Mode::Run,
+        b"{\"agent\":\"window\",\"origin\":\"https://a.test\"}\n",
+        b"hublog 3\nagent 0\nclosed 0\ndeliveries\nclean\n",
+        ExitStatus::Success,
     ),
     (
         Mode::Check,
@@ -29,14 +35,20 @@ const RUNS: [(Mode, &[u8], &[u8], ExitStatus); 3] = [
 fn tells_that_a_write_failed(rt: HostRuntime) {
     for (mode, input, output, status) in RUNS {
         let size = output.len();
-        let (done, _) = run(rt.alloc(), mode, input, FailingWriter::with_room(size));
+        let (done, _) = run(rt.alloc(), &rt, mode, input, FailingWriter::with_room(size));
         assert_eq!(rt; done, Ok(status));
-        let (failed, _) = run(rt.alloc(), mode, input, FailingWriter::with_room(size - 1));
+        let (failed, _) = run(
+            rt.alloc(),
+            &rt,
+            mode,
+            input,
+            FailingWriter::with_room(size - 1),
+        );
         assert_eq!(rt; failed, Err(Device));
-        let (unflushed, _) = run(rt.alloc(), mode, input, UnflushedWriter);
+        let (unflushed, _) = run(rt.alloc(), &rt, mode, input, UnflushedWriter);
         assert_eq!(rt; unflushed, Err(Device));
         for is_interrupted in [false, true] {
-            let (stuck, _) = run(rt.alloc(), mode, input, StuckWriter { is_interrupted });
+            let (stuck, _) = run(rt.alloc(), &rt, mode, input, StuckWriter { is_interrupted });
             assert_eq!(rt; stuck, Err(Device));
         }
     }
@@ -52,6 +64,7 @@ fn tells_that_the_last_of_several_writes_failed(rt: HostRuntime) -> Result<(), F
     let size = 20_000 * "not-now\n".len();
     let (done, writer) = run(
         rt.alloc(),
+        &rt,
         Mode::Steps,
         input,
         FailingWriter::with_room(size),
@@ -59,7 +72,7 @@ fn tells_that_the_last_of_several_writes_failed(rt: HostRuntime) -> Result<(), F
     assert_eq!(rt; done, Ok(ExitStatus::Success));
     assert_eq!(rt; (writer.room, writer.writes), (0, 3));
     let small = FailingWriter::with_room(size - 1);
-    let (failed, writer) = run(rt.alloc(), Mode::Steps, input, small);
+    let (failed, writer) = run(rt.alloc(), &rt, Mode::Steps, input, small);
     assert_eq!(rt; failed, Err(Device));
     assert_eq!(rt; (writer.room, writer.writes), (size - 1 - 2 * 65_536, 2));
     Ok(())
@@ -70,7 +83,7 @@ fn reads_and_writes_a_byte_at_a_time(rt: HostRuntime) -> Result<(), Fail> {
     for (mode, input, output, status) in RUNS {
         let reader = SlowReader::new(rt.alloc(), input)?;
         let taken = Vec::new(rt.alloc());
-        let (answer, writer) = run(rt.alloc(), mode, reader, SlowWriter { taken });
+        let (answer, writer) = run(rt.alloc(), &rt, mode, reader, SlowWriter { taken });
         assert_eq!(rt; answer, Ok(status));
         assert_eq!(rt; writer.taken.as_slice(), output);
     }
@@ -82,7 +95,7 @@ fn writes_nothing_after_a_failed_read(rt: HostRuntime) -> Result<(), Fail> {
     for (mode, input, _, _) in RUNS {
         for fails_at in [0, 7, input.len()] {
             let reader = SlowReader::failing_at(rt.alloc(), input, fails_at)?;
-            let (answer, written) = run(rt.alloc(), mode, reader, Vec::<u8>::new(rt.alloc()));
+            let (answer, written) = run(rt.alloc(), &rt, mode, reader, Vec::<u8>::new(rt.alloc()));
             assert_eq!(rt; answer, Err(Device));
             assert_eq!(rt; written.len(), 0);
         }
@@ -94,7 +107,13 @@ fn writes_nothing_after_a_failed_read(rt: HostRuntime) -> Result<(), Fail> {
 fn an_input_that_never_ends_is_a_failed_read(rt: HostRuntime) {
     for is_interrupted in [false, true] {
         let reader = EndlessReader { is_interrupted };
-        let (answer, written) = run(rt.alloc(), Mode::Steps, reader, Vec::<u8>::new(rt.alloc()));
+        let (answer, written) = run(
+            rt.alloc(),
+            &rt,
+            Mode::Steps,
+            reader,
+            Vec::<u8>::new(rt.alloc()),
+        );
         assert_eq!(rt; answer, Err(Device));
         assert_eq!(rt; written.len(), 0);
     }

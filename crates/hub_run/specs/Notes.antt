@@ -1,0 +1,42 @@
+-- What the handler of an agent's loop writes down.
+use Rattle.std.specs.Prelude.{ℕ, ◌+◌, ◌%◌, ◌^◌, Bool, true, false, not, List, if◌then◌else◌}
+use Rattle.std.specs.List.{filter}
+use Rattle.hub_envelope.specs.declared.envelope.Envelope.{Envelope}
+use Rattle.hub_envelope.specs.declared.ids.EndId.{EndId}
+use Rattle.hub_queue.specs.declared.posted.Posted.{Posted}
+use Rattle.hub_trace.specs.Accepted.{AgentLog, label_of, log_with, message_at, notice_at}
+use Rattle.hub_trace.specs.PortList.{has_end}
+use Rattle.hub_trace.specs.declared.label.Label.{Label}
+use Rattle.hub_trace.specs.declared.log_entry.Delivery.{Delivery}
+use Rattle.hub_trace.specs.declared.log_entry.LogEntry.TheVariants.{Got}
+
+-- the log of the agent, the ports of the envelope that was delivered last which the loop holds, and how many messages were delivered
+pub record Notes : Type 0 where
+  pub log : AgentLog
+  pub adopted : List EndId
+  pub messages : ℕ
+
+-- the label of a post that was accepted
+abbrev pub posted_label : Posted → Label
+posted_label p = record { end = p.end; line = p.line; epoch = p.epoch; number = p.number }
+
+-- what the log says of an envelope that was delivered
+abbrev pub delivered : Envelope → Delivery
+delivered e = if e.notice then notice_at (label_of e) else message_at (label_of e) e.ports e.body
+
+-- a message counts, a notice doesn't; the count has 64 bits
+abbrev pub counted : Bool → ℕ → ℕ
+counted true messages = messages
+counted false messages = (messages + 1) % 2 ^ 64
+
+-- the ports of the list that aren't missing, in order
+abbrev pub not_missing : List EndId → List EndId → List EndId
+not_missing missing ports = filter (λ p. not (has_end missing p.0)) ports
+
+-- a delivery leaves one entry more in the log, and what was adopted with it
+abbrev pub notes_of : Notes → Envelope → List EndId → Notes
+notes_of notes e missing = record {
+  log = log_with notes.log (Got (delivered e));
+  adopted = not_missing missing e.ports;
+  messages = counted e.notice notes.messages;
+}

@@ -1,0 +1,142 @@
+//! The actions of an agent, in order. An action whose end isn't held any more is skipped.
+
+use crate::agent::Agent;
+use crate::awaited::Awaited;
+use crate::shared::Shared;
+use hub_clients::HandError;
+use hub_envelope::{AgentId, EndId, OutOfMemory};
+use hub_loop::{Checkpoint, Held};
+use hub_script::{Action, ActionKind, Script};
+use std::sync::Wait;
+
+impl<'s, C: Checkpoint> Agent<'s, C> {
+    /// Does its actions, up to the last or to the order to end, which is looked at before each.
+    pub(crate) fn act_all<R: Wait>(&mut self, rt: &R, script: &Script) -> Result<(), OutOfMemory> {
+        for Action { at, kind } in script.actions() {
+            if *at == self.number {
+                if self.order.seen() {
+                    return Ok(());
+                }
+                self.act(rt, kind)?;
+            }
+        }
+        Ok(())
+    }
+
+    fn act<R: Wait>(&mut self, rt: &R, action: &ActionKind) -> Result<(), OutOfMemory> {
+        match action {
+            ActionKind::Post {
+                port,
+                body,
+                transfer,
+            } => self.post(rt, *port, body, transfer),
+            ActionKind::Send {
+                queue,
+                body,
+                transfer,
+            } => self.send(rt, *queue, body, transfer),
+            ActionKind::Cast { member, body } => self.cast(rt, *member, body),
+            ActionKind::Start { end } => {
+                self.start(*end);
+                Ok(())
+            }
+            ActionKind::Loaded { queue } => {
+                if let Some(queue) = self.event_loop.client_mut(*queue) {
+                    queue.loaded();
+                }
+                Ok(())
+            }
+            ActionKind::Close { end } => self.close(rt, *end),
+            ActionKind::Wait { messages } => {
+                let after = self.scribe().messages();
+                let count = *messages;
+                self.turn_until(rt, Awaited::Messages { after, count })
+            }
+            ActionKind::Receive { port } => self.turn_until(rt, Awaited::Port(*port)),
+            ActionKind::Order { to } => {
+                self.give_order(*to);
+                Ok(())
+            }
+            ActionKind::Event { event } => {
+                if let Some(life) = &mut self.life {
+                    let _refused = life.event(*event);
+                }
+                Ok(())
+            }
+            ActionKind::Hand { to } => self.hand(rt, *to),
+            ActionKind::Fetch { queue } => self.turn_until(rt, Awaited::Queue(*queue)),
+        }
+    }
+
+    // Enables a port or a client's queue.
+    fn start(&mut self, end: EndId) {
+        if let Some(port) = self.event_loop.port_mut(end) {
+            port.start();
+        } else if let Some(queue) = self.event_loop.client_mut(end) {
+            queue.start_messages();
+        }
+    }
+
+    // Closes a port or a member, and logs it. What waits there is discarded once the loop has
+    // ended.
+    fn close<R: Wait>(&mut self, rt: &R, end: EndId) -> Result<(), OutOfMemory> {
+        self.graves.reserve(1)?;
+        match self.event_loop.release(end) {
+            Some(Held::Port(port)) => {
+                let (grave, _spent, noticed) = port.close(rt, &self.shared.hub);
+                self.graves.push(grave)?;
+                self.log_closed(end, noticed)
+            }
+            Some(Held::Member(member)) => {
+                self.shared.roster.leave(rt, end);
+                self.graves.push(member.close())?;
+                self.scribe().close(end)
+            }
+            Some(held) => self.hold(rt, held),
+            None => Ok(()),
+        }
+    }
+
+    fn give_order(&mut self, to: AgentId) {
+        if let Some(peer) = self.peers.get_mut(usize::from(to.0)) {
+            peer.order();
+        }
+    }
+
+    // Hands its own queue to an agent, which it wakes.
+    fn hand<R: Wait>(&mut self, rt: &R, to: AgentId) -> Result<(), OutOfMemory> {
+        let Shared { directory, .. } = self.shared;
+        let queue = self.queue();
+        let refused = match self.event_loop.release(queue) {
+            Some(Held::Client(queue)) => match queue.hand(rt, directory, to) {
+                Ok(()) => None,
+                Err((error, queue)) => Some((error, Held::Client(queue))),
+            },
+            Some(Held::Worker(queue)) => match queue.hand(rt, directory, to) {
+                Ok(()) => None,
+                Err((error, queue)) => Some((error, Held::Worker(queue))),
+            },
+            Some(held) => return self.hold(rt, held),
+            None => return Ok(()),
+        };
+        match refused {
+            None => {
+                self.wake(to);
+                Ok(())
+            }
+            Some((error, held)) => {
+                self.hold(rt, held)?;
+                match error {
+                    HandError::OutOfMemory => Err(OutOfMemory),
+                    HandError::Taken => Ok(()),
+                }
+            }
+        }
+    }
+
+    fn wake(&self, agent: AgentId) {
+        if let Some(peer) = self.peers.get(usize::from(agent.0)) {
+            peer.wake();
+        }
+    }
+}

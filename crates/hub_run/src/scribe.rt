@@ -1,0 +1,223 @@
+ghost use Rattle.std.specs.Prelude.{◌≡◌, ◌≤◌, [], OnOk, OnErr};
+ghost use Rattle.hub_run.specs.Notes.{delivered, posted_label};
+ghost use Rattle.hub_trace.specs.Accepted.{log_with, message_at, notice_at};
+ghost use Rattle.hub_trace.specs.PortList.{has_end};
+ghost use Rattle.hub_trace.specs.declared.limits.TheConstants.{MAX_AGENT};
+ghost use Rattle.hub_trace.specs.declared.log_entry.LogEntry.TheVariants.{Adopted, Closed, Got, Put};
+
+use hub_envelope::{AgentId, Body, EndId, Envelope, OutOfMemory};
+use hub_loop::Handler;
+use hub_queue::Posted;
+use hub_trace::{Label, Log, MAX_END, MAX_EPOCH, is_port_list};
+use std::alloc::Global;
+use std::collections::BTreeSet;
+use std::marker::Model;
+use std::mem::replace;
+use std::sync::Wait;
+
+/// The handler of an agent's loop, which keeps the agent's log.
+///
+/// A log has limits for what it names, which no call of the hub goes past. An entry that would is
+/// refused as for want of memory, since no log could hold it.
+#[derive(Drop)]
+pub(crate) struct Scribe {
+    alloc: Global,
+    log: Log,
+    /// The ends that the log closes.
+    closed: BTreeSet<u32>,
+    /// The ports of the envelope that was delivered last which the loop holds.
+    adopted: Vec<EndId>,
+    /// How many messages were delivered, notices not counted.
+    messages: u64,
+}
+
+impl Model for Scribe {
+    ghost use Rattle.std.specs.Prelude.{◌≡◌, ◌≤◌, ℕ, true};
+    ghost use Rattle.std.specs.BTreeSet.{contains};
+    ghost use Rattle.std.specs.Ordering.{nat_cmp};
+    ghost use Rattle.hub_run.specs.Notes.{Notes};
+    ghost use Rattle.hub_trace.specs.Closings.{is_closed_by};
+    ghost use Rattle.hub_trace.specs.declared.limits.TheConstants.{MAX_AGENT};
+
+    ghost Value = { Notes };
+
+    ghost view = { λ s. record { log = s.log; adopted = s.adopted.items; messages = s.messages } };
+
+    ghost invariant = { λ s. (s.log.0.0 ≤ MAX_AGENT)
+        × ((end : ℕ) → is_closed_by s.log.1 end ≡ true → contains nat_cmp s.closed end ≡ true) };
+}
+
+// The label of a post that was accepted.
+fn label_of(posted: Posted) -> Label
+    ensures { result ≡ posted_label posted }
+{
+    Label {
+        end: posted.end,
+        line: posted.line,
+        epoch: posted.epoch,
+        number: posted.number,
+    }
+}
+
+// Whether the end stands in the list.
+fn is_listed(ends: &[EndId], end: EndId) -> bool
+    ensures { result ≡ has_end ends.now end.0 }
+{
+    ends.iter().any(|other| other.0 == end.0)
+}
+
+impl Scribe {
+    /// Nothing is logged yet. It takes no memory.
+    pub(crate) fn new(alloc: Global, agent: AgentId) -> Scribe
+        requires { agent.0 ≤ MAX_AGENT }
+        ensures { result ≡ record { log = (agent, []); adopted = []; messages = 0 } }
+    {
+        Scribe {
+            alloc,
+            log: Log::new(alloc, agent),
+            closed: BTreeSet::new(alloc),
+            adopted: Vec::new(alloc),
+            messages: 0,
+        }
+    }
+
+    /// Takes it out, and leaves one that has logged nothing.
+    pub(crate) fn take(&mut self) -> Scribe
+        ensures given { result ≡ self.old }
+        ensures left { self.new ≡ record { log = (self.old.log.0, []); adopted = []; messages = 0 } }
+    {
+        let agent = self.log.agent();
+        replace(self, Scribe::new(self.alloc, agent))
+    }
+
+    /// The log.
+    pub(crate) fn into_log(self) -> Log
+        ensures { result ≡ self.log }
+    {
+        self.log
+    }
+
+    /// How many messages were delivered, notices not counted.
+    pub(crate) fn messages(&self) -> u64
+        ensures { result ≡ self.now.messages }
+    {
+        self.messages
+    }
+
+    /// Takes out the ports of the envelope that was delivered last which the loop holds.
+    pub(crate) fn take_adopted(&mut self) -> Vec<EndId>
+        ensures given { result.items ≡ self.old.adopted }
+        ensures taken { self.new ≡ record self.old { adopted = [] } }
+    {
+        replace(&mut self.adopted, Vec::new(self.alloc))
+    }
+
+    /// Logs a post that was accepted. An error changes nothing.
+    #[tactic(auto, using(crate::proofs::Notes::closed_more))]
+    pub(crate) fn put(
+        &mut self,
+        posted: Posted,
+        ports: &[EndId],
+        body: &Body,
+    ) -> Result<(), OutOfMemory>
+        ensures ok { OnOk result (self.new ≡ record self.old {
+          log = log_with self.old.log (Put (message_at (posted_label posted) ports.now body.now));
+        }) }
+        ensures err { OnErr result (self.new ≡ self.old) }
+    {
+        let label = label_of(posted);
+        if !label.is_within() || !is_port_list(ports) {
+            return Err(OutOfMemory);
+        }
+        self.log.put(self.alloc, label, ports, body)
+    }
+
+    /// Logs a notice that was put. An error changes nothing.
+    #[tactic(auto, using(crate::proofs::Notes::closed_more))]
+    pub(crate) fn put_notice(&mut self, posted: Posted) -> Result<(), OutOfMemory>
+        ensures ok { OnOk result (self.new ≡ record self.old {
+          log = log_with self.old.log (Put (notice_at (posted_label posted)));
+        }) }
+        ensures err { OnErr result (self.new ≡ self.old) }
+    {
+        let label = label_of(posted);
+        if !label.is_within() {
+            return Err(OutOfMemory);
+        }
+        self.log.put_notice(label)
+    }
+
+    // Logs an envelope that was delivered. An error changes nothing.
+    #[tactic(auto, using(crate::proofs::Notes::closed_more))]
+    fn log_delivery(&mut self, envelope: &Envelope) -> Result<(), OutOfMemory>
+        ensures ok { OnOk result (self.new ≡ record self.old {
+          log = log_with self.old.log (Got (delivered envelope.now));
+        }) }
+        ensures err { OnErr result (self.new ≡ self.old) }
+    {
+        let label = Label::of(envelope);
+        let ports = envelope.ports.as_slice();
+        if !label.is_within() || !is_port_list(ports) {
+            return Err(OutOfMemory);
+        }
+        if envelope.notice {
+            self.log.got_notice(label)
+        } else {
+            self.log.got(self.alloc, label, ports, &envelope.body)
+        }
+    }
+
+    /// Logs that the end was adopted, and how often it has moved. An error changes nothing.
+    #[tactic(auto, using(crate::proofs::Notes::closed_more))]
+    pub(crate) fn adopt(&mut self, end: EndId, epoch: u32) -> Result<(), OutOfMemory>
+        ensures ok { OnOk result (self.new ≡ record self.old {
+          log = log_with self.old.log (Adopted end epoch);
+        }) }
+        ensures err { OnErr result (self.new ≡ self.old) }
+    {
+        if u64::from(end.0) > MAX_END || u64::from(epoch) > MAX_EPOCH {
+            return Err(OutOfMemory);
+        }
+        self.log.adopted(end, epoch)
+    }
+
+    /// Logs that the end was closed. It is refused where the log closes it already. An error
+    /// changes nothing.
+    #[tactic(auto, using(crate::proofs::Notes::closed_more))]
+    pub(crate) fn close(&mut self, end: EndId) -> Result<(), OutOfMemory>
+        ensures ok { OnOk result (self.new ≡ record self.old {
+          log = log_with self.old.log (Closed end);
+        }) }
+        ensures err { OnErr result (self.new ≡ self.old) }
+    {
+        if u64::from(end.0) > MAX_END || !self.closed.insert(end.0)? {
+            return Err(OutOfMemory);
+        }
+        self.log.closed(end)
+    }
+}
+
+impl Handler for Scribe {
+    ghost use Rattle.std.specs.Prelude.{◌≡◌};
+    ghost use Rattle.hub_run.specs.Notes.{notes_of};
+
+    ghost leaves = { λ before envelope missing after. after ≡ notes_of before envelope missing };
+
+    fn got<R: Wait>(
+        &mut self,
+        _rt: &R,
+        envelope: &Envelope,
+        missing: &[EndId],
+    ) -> Result<(), OutOfMemory> {
+        let ports = envelope.ports.as_slice().iter().copied();
+        let adopted = ports
+            .filter(|port| !is_listed(missing, *port))
+            .collect::<Vec<EndId>>(self.alloc)?;
+        self.log_delivery(envelope)?;
+        self.adopted = adopted;
+        if !envelope.notice {
+            self.messages = self.messages.wrapping_add(1);
+        }
+        Ok(())
+    }
+}
