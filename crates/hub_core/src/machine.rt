@@ -1,3 +1,17 @@
+//! The core, its dispatch, and what several families of steps ask of agents, ends and lines.
+//!
+//! A post is the steps Enter, Push and Leave of one line. `Core::enter` (`posting.rt`) asks
+//! `Core::may_enter`; then `End::enter` (`end.rt`) answers `In`, or `Moved` at a retired queue and
+//! `Closed` at a closed end, where the poster isn't inside but has to leave as well. `Core::push`
+//! makes its tests in `Core::posting`. `Core::accept` puts the envelope in its queue (`End::put`)
+//! and its ports in flight, which is answered `Accepted`; `TooManyPorts` and `NoMemory` change
+//! nothing. `Core::leave` and `End::leave` answer `Left`. Each of the three is answered `NotNow`,
+//! with nothing changed, where it can't be taken.
+//!
+//! It is three steps and not one because agents on threads of their own act between them: an end
+//! may be adopted or closed while the poster is inside, whose Push may still be accepted. So a
+//! Look, a Sweep, and a Take at a retired queue with nothing left are `Busy` while it is there.
+
 ghost use Rattle.std.specs.Prelude.{◌≡◌, [], true, slice_get, IfOk, OnErr};
 ghost use Rattle.hub_core.specs.Kept.{kept_running, kept_runs, kept_holder, kept_line_of_port, kept_poster_by, kept_poster, kept_place, kept_hears, kept_may_enter, kept_speaker};
 ghost use Rattle.hub_core.specs.Posting.{is_here};

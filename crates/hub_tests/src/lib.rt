@@ -1,8 +1,8 @@
 //! Tests of the crates of values and texts through their public calls.
 //!
 //! A crate with tests is proved twice, once with them and once without. So what a test can see from
-//! outside its crate stands in this crate or in one of the two beside it, which have nothing but
-//! tests; there are three because the gate proves them side by side.
+//! outside its crate stands in a crate that has nothing but tests, as this one; there are eight
+//! because the gate proves them side by side.
 #![tactic(auto)]
 
 #[cfg(test)]

@@ -9,10 +9,10 @@ use Rattle.hub_trace.specs.Accepted.{AgentLog}
 use Rattle.hub_trace.specs.Deliveries.{AreDeliveries}
 use Rattle.hub_trace.specs.Text.{file_text}
 use Rattle.hub_trace.specs.declared.delivered_line.DeliveredLine.{DeliveredLine}
-use Rattle.messagehub.specs.declared.status.ExitStatus.{ExitStatus}
-use Rattle.messagehub.specs.declared.status.ExitStatus.TheVariants as status
+use Rattle.hub_engine.specs.declared.status.ExitStatus.{ExitStatus}
+use Rattle.hub_engine.specs.declared.status.ExitStatus.TheVariants as status
 use Rattle.messagehub.specs.CheckOutput.{IsVerdictLine, is_reached}
-use Rattle.messagehub.specs.Engine.{IsBadLine, SaysUnread}
+use Rattle.hub_engine.specs.Engine.{IsBadLine, SaysUnread}
 use Rattle.messagehub.specs.RunOutput.{IsRunText, IsScriptOutput, SaysRun, delivered_text, script_kind_text}
 
 -- the logs, their deliveries and a verdict that was reached are what a run prints

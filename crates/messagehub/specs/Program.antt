@@ -1,16 +1,16 @@
 -- What the program does for its arguments.
 use Rattle.std.specs.Prelude.{◌≡◌, ℕ, List, Option, Some, None, Result, Ok}
-use Rattle.messagehub.specs.declared.counted_reader.CountedReader.{CountedReader}
-use Rattle.messagehub.specs.declared.counted_writer.CountedWriter.{CountedWriter}
-use Rattle.messagehub.specs.declared.device.Device.{Device}
+use Rattle.hub_engine.specs.declared.counted_reader.CountedReader.{CountedReader}
+use Rattle.hub_engine.specs.declared.counted_writer.CountedWriter.{CountedWriter}
+use Rattle.hub_engine.specs.declared.device.Device.{Device}
 use Rattle.messagehub.specs.declared.mode.Mode.{Mode}
 use Rattle.messagehub.specs.declared.mode.Mode.TheVariants.{Steps, Run, Check}
-use Rattle.messagehub.specs.declared.status.ExitStatus.{ExitStatus}
-use Rattle.messagehub.specs.declared.status.ExitStatus.TheVariants.{Usage}
+use Rattle.hub_engine.specs.declared.status.ExitStatus.{ExitStatus}
+use Rattle.hub_engine.specs.declared.status.ExitStatus.TheVariants.{Usage}
 use Rattle.messagehub.specs.CheckOutput.{IsCheckOutput}
-use Rattle.messagehub.specs.Counted.{inner_reader, inner_writer}
-use Rattle.messagehub.specs.Engine.{AnswersInput, CountsDevice}
-use Rattle.messagehub.specs.Output.{IsStepsOutput}
+use Rattle.hub_engine.specs.Counted.{inner_reader, inner_writer}
+use Rattle.hub_engine.specs.Engine.{AnswersInput, CountsDevice}
+use Rattle.hub_steps.specs.Output.{IsStepsOutput}
 use Rattle.messagehub.specs.RunOutput.{IsScriptOutput}
 
 -- what a mode's engine writes for an input, by the exit status

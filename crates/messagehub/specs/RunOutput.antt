@@ -10,11 +10,11 @@ use Rattle.hub_trace.specs.Accepted.{AgentLog}
 use Rattle.hub_trace.specs.Deliveries.{AreDeliveries, delivered_line_text}
 use Rattle.hub_trace.specs.Text.{file_text}
 use Rattle.hub_trace.specs.declared.delivered_line.DeliveredLine.{DeliveredLine}
-use Rattle.messagehub.specs.declared.status.ExitStatus.{ExitStatus}
-use Rattle.messagehub.specs.declared.status.ExitStatus.TheVariants as status
+use Rattle.hub_engine.specs.declared.status.ExitStatus.{ExitStatus}
+use Rattle.hub_engine.specs.declared.status.ExitStatus.TheVariants as status
 use Rattle.messagehub.specs.CheckOutput.{IsVerdictLine}
-use Rattle.messagehub.specs.Engine.{IsBadLine}
-use Rattle.messagehub.specs.OutOfMemory.{out_of_memory}
+use Rattle.hub_engine.specs.Engine.{IsBadLine}
+use Rattle.hub_engine.specs.OutOfMemory.{out_of_memory}
 
 -- the kinds of bad script lines, as they are printed. Want of memory is no kind of bad line.
 abbrev pub script_kind_text : ScriptError → Option (List ℕ)

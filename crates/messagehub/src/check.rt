@@ -1,17 +1,15 @@
 //! The engine of `messagehub check`.
 
 ghost use Rattle.std.specs.Prelude.{◌≡◌, IfOk, option_map, string_bytes, true};
-ghost use Rattle.messagehub.specs.Counted.{inner_reader, inner_writer, failed_writes};
+ghost use Rattle.hub_engine.specs.Counted.{inner_reader, inner_writer, failed_writes};
 ghost use Rattle.messagehub.specs.CheckOutput.{IsCheckOutput, IsVerdictLine, is_reached, log_kind_text};
-ghost use Rattle.messagehub.specs.Engine.{AnswersInput, CountsDevice, Writes};
-ghost use Rattle.messagehub.specs.Failures.{CountsFailure};
+ghost use Rattle.hub_engine.specs.Engine.{AnswersInput, CountsDevice, Writes};
+ghost use Rattle.hub_engine.specs.Failures.{CountsFailure};
 
-use crate::counted_reader::CountedReader;
-use crate::counted_writer::CountedWriter;
-use crate::device::Device;
-use crate::engine::{Engine, run_engine};
-use crate::output::{end_out_of_memory, end_unread, end_with};
-use crate::status::ExitStatus;
+use hub_engine::{
+    CountedReader, CountedWriter, Device, Engine, ExitStatus, end_out_of_memory, end_unread,
+    end_with, run_engine,
+};
 use hub_trace::{Log, LogError, OutOfMemory, Verdict, check, read_logs};
 use std::alloc::Global;
 use std::io::{Read, Write};

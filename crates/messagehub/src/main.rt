@@ -3,25 +3,13 @@
 #![tactic(auto)]
 
 mod check;
-mod counted_reader;
-mod counted_writer;
-mod device;
-mod ending;
-mod engine;
-mod input;
 mod mode;
-mod output;
 mod program;
 mod run;
-mod status;
-mod steps;
 #[cfg(test)]
 mod tests;
 
-use counted_reader::CountedReader;
-use counted_writer::CountedWriter;
-use ending::Ending;
-use output::end_out_of_memory;
+use hub_engine::{CountedReader, CountedWriter, Ending, end_out_of_memory};
 use program::run_words;
 use std::alloc::AllocError;
 use std::io::ErrorKind;

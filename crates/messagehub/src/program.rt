@@ -1,20 +1,17 @@
 //! What the program does for its arguments.
 
 ghost use Rattle.std.specs.Prelude.{◌≡◌, map, string_bytes};
-ghost use Rattle.messagehub.specs.Counted.{inner_reader, inner_writer};
-ghost use Rattle.messagehub.specs.Engine.{AnswersInput, CountsDevice};
+ghost use Rattle.hub_engine.specs.Counted.{inner_reader, inner_writer};
+ghost use Rattle.hub_engine.specs.Engine.{AnswersInput, CountsDevice};
 ghost use Rattle.messagehub.specs.Mode.{mode_asked};
 ghost use Rattle.messagehub.specs.Program.{AnswersWords, output_of};
 
 use crate::check::run_check;
-use crate::counted_reader::CountedReader;
-use crate::counted_writer::CountedWriter;
-use crate::device::Device;
 use crate::mode::{Mode, mode_of};
 use crate::run::run_file;
-use crate::status::ExitStatus;
-use crate::steps::run_steps;
+use hub_engine::{CountedReader, CountedWriter, Device, ExitStatus};
 use hub_run::NoCheckpoint;
+use hub_steps::run_steps;
 use std::alloc::Global;
 use std::io::{Read, Write};
 use std::sync::Wait;

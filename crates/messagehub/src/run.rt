@@ -3,9 +3,9 @@
 ghost use Rattle.std.specs.Prelude.{◌≡◌, ◌++◌, IfOk, OnOk, option_map, string_bytes};
 ghost use Rattle.std.specs.List.{flat_map};
 ghost use Rattle.hub_trace.specs.Text.{log_text};
-ghost use Rattle.messagehub.specs.Counted.{failed_writes, inner_reader, inner_writer};
-ghost use Rattle.messagehub.specs.Engine.{AnswersInput, CountsDevice, Writes};
-ghost use Rattle.messagehub.specs.Failures.{CountsFailure};
+ghost use Rattle.hub_engine.specs.Counted.{failed_writes, inner_reader, inner_writer};
+ghost use Rattle.hub_engine.specs.Engine.{AnswersInput, CountsDevice, Writes};
+ghost use Rattle.hub_engine.specs.Failures.{CountsFailure};
 ghost use Rattle.messagehub.specs.RunOutput.{
   IsRunText,
   IsScriptOutput,
@@ -15,12 +15,10 @@ ghost use Rattle.messagehub.specs.RunOutput.{
 };
 
 use crate::check::verdict_line;
-use crate::counted_reader::CountedReader;
-use crate::counted_writer::CountedWriter;
-use crate::device::Device;
-use crate::input::{InputError, read_input};
-use crate::output::{end_out_of_memory, end_unread, end_with};
-use crate::status::ExitStatus;
+use hub_engine::{
+    CountedReader, CountedWriter, Device, ExitStatus, InputError, end_out_of_memory, end_unread,
+    end_with, read_input,
+};
 use hub_run::{Checkpoint, run_agents};
 use hub_script::{DataCloneCause, Script, ScriptError};
 use hub_trace::{DeliveredLine, LOG_HEADER, LOGS_END, Log, OutOfMemory, deliveries};

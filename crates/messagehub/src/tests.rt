@@ -6,12 +6,8 @@ mod scripts;
 mod steps;
 mod two_loops;
 
-use crate::counted_reader::CountedReader;
-use crate::counted_writer::CountedWriter;
-use crate::device::Device;
-use crate::ending::Ending;
 use crate::program::run_words;
-use crate::status::ExitStatus;
+use hub_engine::{CountedReader, CountedWriter, Device, Ending, ExitStatus};
 use std::test::Fail;
 
 // The words as they are typed, what is read, what is written and how it is answered.

@@ -1,9 +1,6 @@
-use crate::counted_reader::CountedReader;
-use crate::counted_writer::CountedWriter;
-use crate::device::Device;
 use crate::mode::Mode;
 use crate::program::run_mode;
-use crate::status::ExitStatus;
+use hub_engine::{CountedReader, CountedWriter, Device, ExitStatus};
 use std::alloc::Global;
 use std::io::{Read, Write};
 use std::process::Abort;

@@ -3,9 +3,8 @@ use super::devices::{
     EndlessReader, FailingWriter, SlowReader, SlowWriter, StuckWriter, UnflushedWriter,
 };
 use super::engines::run;
-use crate::device::Device;
 use crate::mode::Mode;
-use crate::status::ExitStatus;
+use hub_engine::{Device, ExitStatus};
 use std::test::Fail;
 
 /// For each mode an input, what is written for it, and the status.

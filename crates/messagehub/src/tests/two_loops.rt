@@ -1,7 +1,6 @@
 // The loops of two agents run at once: each is held up in turn until the other has gone on.
-use crate::counted_writer::CountedWriter;
 use crate::run::run_script;
-use crate::status::ExitStatus;
+use hub_engine::{CountedWriter, ExitStatus};
 use hub_envelope::AgentId;
 use hub_run::Checkpoint;
 use hub_script::Script;

@@ -1,10 +1,10 @@
 use Rattle.std.proofs.Common.{refl}
-use Rattle.messagehub.specs.OutOfMemory.{out_of_memory}
+use Rattle.hub_engine.specs.OutOfMemory.{out_of_memory}
 use Rattle.messagehub.specs.RunOutput.{IsScriptOutput}
-use Rattle.messagehub.specs.declared.status.ExitStatus.TheVariants as exit
-use Rattle.messagehub.proofs.Bytes.{begins_nothing}
-use Rattle.messagehub.proofs.Outputs.{is_told, told}
-use Rattle.messagehub.proofs.Writing.{says_so, writes_weaker}
+use Rattle.hub_engine.specs.declared.status.ExitStatus.TheVariants as exit
+use Rattle.hub_engine.proofs.Bytes.{begins_nothing}
+use Rattle.hub_engine.proofs.Outputs.{is_told, told}
+use Rattle.hub_engine.proofs.Writing.{says_so, writes_weaker}
 use Rattle.messagehub.proofs.run.run_file.Goals as goal
 
 pub returns-in-Err-Device-clause-written : goal.returns-in-Err-Device-clause-written

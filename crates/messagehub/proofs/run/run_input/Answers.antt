@@ -1,6 +1,6 @@
 use Rattle.messagehub.specs.RunOutput.{IsScriptOutput}
 use Rattle.messagehub.proofs.RunText.{runs_say}
-use Rattle.messagehub.proofs.Writing.{writes_weaker}
+use Rattle.hub_engine.proofs.Writing.{writes_weaker}
 use Rattle.messagehub.proofs.run.run_input.Goals as goal
 
 pub returns-in-Ok-clause-written : goal.returns-in-Ok-clause-written

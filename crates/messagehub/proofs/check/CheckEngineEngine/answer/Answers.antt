@@ -2,8 +2,9 @@ use Rattle.std.proofs.Common.{◌≡◌, Ok, Err, sym, ap, subst, ◌∙◌, ◌
 use Rattle.hub_trace.specs.declared.log_error.LogError.TheVariants as log
 use Rattle.hub_trace.specs.Read.{logs_of}
 use Rattle.messagehub.specs.CheckOutput.{IsCheckOutput, IsVerdictLine}
-use Rattle.messagehub.specs.Engine.{SaysUnread, Writes}
-use Rattle.messagehub.proofs.Writing.{unread_logs, verdicts_say, writes_weaker}
+use Rattle.hub_engine.specs.Engine.{SaysUnread, Writes}
+use Rattle.hub_engine.proofs.Writing.{writes_weaker}
+use Rattle.messagehub.proofs.Saying.{unread_logs, verdicts_say}
 use Rattle.messagehub.proofs.check.CheckEngineEngine.answer.Goals as goal
 
 pub returns-in-Ok-clause-written : goal.returns-in-Ok-clause-written

@@ -1,0 +1,19 @@
+-- Counts of failed reads and writes.
+use Rattle.std.specs.Prelude.{◌≡◌, ℕ, ◌+◌, ◌%◌, ◌^◌, Result, Ok, Err}
+use Rattle.hub_engine.specs.declared.input.InputError.{InputError}
+use Rattle.hub_engine.specs.declared.input.InputError.TheVariants as input
+
+-- one more, where the count has 64 bits
+abbrev pub one_more : ℕ → ℕ
+one_more count = (count + 1) % 2 ^ 64
+
+-- what answers an error has failed once more, and else the count stays
+abbrev pub CountsFailure : {T E : Type 0} → Result T E → ℕ → ℕ → Type 0
+CountsFailure (Ok x) old new = new ≡ old
+CountsFailure (Err e) old new = new ≡ one_more old
+
+-- the same, where want of memory is no failed read
+abbrev pub CountsFailedRead : {T : Type 0} → Result T InputError → ℕ → ℕ → Type 0
+CountsFailedRead (Ok x) old new = new ≡ old
+CountsFailedRead (Err input.OutOfMemory) old new = new ≡ old
+CountsFailedRead (Err input.Device) old new = new ≡ one_more old

@@ -1,0 +1,80 @@
+ghost use Rattle.std.specs.Prelude.{◌≡◌, ◌≢◌, ◌≤◌, ◌<◌, ◌+◌, length, Some, None, Ok, IfOk, IfErr, IfSome, IsErr, OnOk};
+ghost use Rattle.std.specs.IoError.{error_kind};
+ghost use Rattle.hub_engine.specs.IsInput.{GivesBytes};
+ghost use Rattle.hub_engine.specs.Failures.{CountsFailure, one_more};
+ghost use Rattle.hub_engine.specs.Counted.{inner_reader, reads_made, failed_reads};
+
+use crate::device::Device;
+use std::io;
+use std::io::{ErrorKind, Read};
+
+/// An input that hasn't ended after so many reads counts as one that fails.
+pub const MAX_READS: u32 = 1_048_576;
+
+/// A reader of one input, with the count of its reads and of those that failed.
+#[derive(Drop)]
+pub struct CountedReader<R> {
+    reader: R,
+    reads: u32,
+    /// It would wrap at 2^64; callers stop at the first failure.
+    failures: u64,
+}
+
+impl<R: Read> CountedReader<R> {
+    pub fn new(reader: R) -> CountedReader<R>
+        ensures reader { inner_reader result ≡ reader }
+        ensures reads { reads_made result ≡ 0 }
+        ensures failures { failed_reads result ≡ 0 }
+    {
+        CountedReader {
+            reader,
+            reads: 0,
+            failures: 0,
+        }
+    }
+
+    /// One read: the count of bytes that it gave, 0 at the end of the input, or `None` where it was
+    /// interrupted. `Device` comes where the reader fails otherwise, and in place of a read after
+    /// `MAX_READS` of them.
+    pub fn read(&mut self, piece: &mut [u8]) -> Result<Option<usize>, Device>
+        ensures bound { IfOk result (λ got. IfSome got (λ count. count ≤ length piece.new)) }
+        ensures bytes { GivesBytes (R.remaining (inner_reader self.old))
+            (R.remaining (inner_reader self.new)) result piece.new }
+        ensures failures { CountsFailure result (failed_reads self.old) (failed_reads self.new) }
+        ensures reads { OnOk result ((reads_made self.old < MAX_READS)
+            × (reads_made self.new ≡ reads_made self.old + 1)) }
+        ensures no_more { MAX_READS ≤ reads_made self.old →
+            IsErr result × (inner_reader self.new ≡ inner_reader self.old) }
+    {
+        if self.reads >= MAX_READS {
+            return Err(self.failed());
+        }
+        self.reads += 1;
+        let answer = self.reader.read(piece);
+        self.result_of_read(answer)
+    }
+
+    /// What the reader's answer means: a failure is counted, an interruption is none.
+    fn result_of_read(&mut self, answer: io::Result<usize>) -> Result<Option<usize>, Device>
+        ensures ok { IfOk answer (λ count. result ≡ Ok (Some count)) }
+        ensures interrupted { IfErr answer (λ error.
+            error_kind error ≡ ErrorKind.Interrupted → result ≡ Ok None) }
+        ensures err { IfErr answer (λ error.
+            error_kind error ≢ ErrorKind.Interrupted → IsErr result) }
+        ensures failures { CountsFailure result (failed_reads self.old) (failed_reads self.new) }
+        ensures others { self.new ≡ record self.old { failures = failed_reads self.new } }
+    {
+        match answer {
+            Ok(count) => Ok(Some(count)),
+            Err(error) if error.kind() == ErrorKind::Interrupted => Ok(None),
+            Err(_) => Err(self.failed()),
+        }
+    }
+
+    fn failed(&mut self) -> Device
+        ensures { self.new ≡ record self.old { failures = one_more self.old.failures } }
+    {
+        self.failures = self.failures.wrapping_add(1);
+        Device
+    }
+}

@@ -1,0 +1,94 @@
+ghost use Rattle.std.specs.Prelude.{◌≡◌, ◌≤◌, ◌<◌, length, take, Ok, IfOk, IsOk, IsErr, OnOk, OnErr};
+ghost use Rattle.std.specs.Io.KnownBytes.{Appends, Keeps};
+ghost use Rattle.hub_engine.specs.Failures.{CountsFailure, one_more};
+ghost use Rattle.hub_engine.specs.Counted.{inner_writer, failed_writes};
+
+use crate::device::Device;
+use std::io;
+use std::io::Write;
+
+/// A writer, with the count of its writes and flushes that failed.
+#[derive(Drop)]
+pub struct CountedWriter<W> {
+    writer: W,
+    /// It would wrap at 2^64; callers stop at the first failure.
+    failures: u64,
+}
+
+impl<W: Write> CountedWriter<W> {
+    pub fn new(writer: W) -> CountedWriter<W>
+        ensures writer { inner_writer result ≡ writer }
+        ensures failures { failed_writes result ≡ 0 }
+    {
+        CountedWriter {
+            writer,
+            failures: 0,
+        }
+    }
+
+    /// One write: how many of the bytes the writer took. `Device` comes where it fails, is
+    /// interrupted or takes no byte.
+    pub fn write(&mut self, bytes: &[u8]) -> Result<usize, Device>
+        ensures bound { IfOk result (λ count. (0 < count) × (count ≤ length bytes.now)) }
+        ensures bytes { IfOk result (λ count.
+            Appends (W.contents (inner_writer self.old))
+            (W.contents (inner_writer self.new)) (take count bytes.now)) }
+        ensures kept { OnErr result (Keeps (W.contents (inner_writer self.old))
+            (W.contents (inner_writer self.new))) }
+        ensures failures { CountsFailure result (failed_writes self.old) (failed_writes self.new) }
+    {
+        let answer = self.writer.write(bytes);
+        self.result_of_write(answer)
+    }
+
+    /// Sees that what was written has gone out. `Device` comes where it may not have.
+    pub fn flush(&mut self) -> Result<(), Device>
+        ensures kept { Keeps (W.contents (inner_writer self.old))
+            (W.contents (inner_writer self.new)) }
+        ensures failures { CountsFailure result (failed_writes self.old) (failed_writes self.new) }
+    {
+        let answer = self.writer.flush();
+        self.result_of_flush(answer)
+    }
+
+    /// What the answer to a write means: an error, or that no byte was taken, is a failure.
+    fn result_of_write(&mut self, answer: io::Result<usize>) -> Result<usize, Device>
+        ensures ok { IfOk answer (λ count. 0 < count → result ≡ Ok count) }
+        ensures none_taken { IfOk answer (λ count. count ≡ 0 → IsErr result) }
+        ensures err { OnErr answer (IsErr result) }
+        ensures failures { CountsFailure result (failed_writes self.old) (failed_writes self.new) }
+        ensures others { self.new ≡ record self.old { failures = failed_writes self.new } }
+    {
+        match answer {
+            Ok(count) if count > 0 => Ok(count),
+            _ => Err(self.failed()),
+        }
+    }
+
+    /// What the answer to a flush means: an error is a failure.
+    fn result_of_flush(&mut self, answer: io::Result<()>) -> Result<(), Device>
+        ensures ok { OnOk answer (IsOk result) }
+        ensures err { OnErr answer (IsErr result) }
+        ensures failures { CountsFailure result (failed_writes self.old) (failed_writes self.new) }
+        ensures others { self.new ≡ record self.old { failures = failed_writes self.new } }
+    {
+        match answer {
+            Ok(()) => Ok(()),
+            Err(_) => Err(self.failed()),
+        }
+    }
+
+    fn failed(&mut self) -> Device
+        ensures { self.new ≡ record self.old { failures = one_more self.old.failures } }
+    {
+        self.failures = self.failures.wrapping_add(1);
+        Device
+    }
+
+    /// The writer, with what it took.
+    pub fn into_inner(self) -> W
+        ensures { result ≡ inner_writer self }
+    {
+        self.writer
+    }
+}

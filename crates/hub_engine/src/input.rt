@@ -1,0 +1,86 @@
+ghost use Rattle.std.specs.Prelude.{◌≡◌, ◌<◌, ◌+◌, IfOk, OnOk, length, vec_len};
+ghost use Rattle.hub_engine.specs.IsInput.{IsInput, ReadsMore};
+ghost use Rattle.hub_engine.specs.Failures.{CountsFailedRead};
+ghost use Rattle.hub_engine.specs.Counted.{inner_reader, reads_made, failed_reads};
+ghost use Rattle.hub_engine.specs.declared.counted_reader.TheConstants.{MAX_READS};
+
+use crate::counted_reader::CountedReader;
+use crate::device::Device;
+use std::alloc::{AllocError, Global};
+use std::io::Read;
+
+/// How many bytes a read asks for.
+const PIECE: usize = 65_536;
+
+/// Why an input wasn't read.
+#[derive(Clone, Copy, Debug, PartialEq, Eq, Drop)]
+pub enum InputError {
+    Device,
+    OutOfMemory,
+}
+
+impl From<AllocError> for InputError {
+    ghost use Rattle.hub_engine.specs.declared.input.InputError.TheVariants.{OutOfMemory};
+    ghost use Rattle.std.specs.Prelude.{◌≡◌};
+
+    ghost from_gives = { λ _ e. e ≡ OutOfMemory };
+
+    fn from(_error: AllocError) -> InputError {
+        InputError::OutOfMemory
+    }
+}
+
+impl From<Device> for InputError {
+    ghost use Rattle.hub_engine.specs.declared.input.InputError.TheVariants as input;
+    ghost use Rattle.std.specs.Prelude.{◌≡◌};
+
+    ghost from_gives = { λ _ e. e ≡ input.Device };
+
+    fn from(_error: Device) -> InputError {
+        InputError::Device
+    }
+}
+
+/// Reads the whole input, in large pieces. A read that is interrupted is made again.
+/// `Device` comes where a read failed, or where the input hadn't ended after the most reads.
+pub fn read_input<R: Read>(
+    alloc: Global,
+    reader: &mut CountedReader<R>,
+) -> Result<Vec<u8>, InputError>
+    ensures input { IfOk result (λ v. IsInput (R.remaining (inner_reader reader.old)) v.items) }
+    ensures failures { CountsFailedRead result (failed_reads reader.old) (failed_reads reader.new) }
+{
+    let mut input = Vec::new(alloc);
+    let mut piece = zeros(alloc, PIECE)?;
+    loop {
+        if read_more(reader, &mut piece, &mut input)? {
+            return Ok(input);
+        }
+    }
+}
+
+/// One read. It tells whether the input has ended; a read that is interrupted adds nothing.
+fn read_more<R: Read>(
+    reader: &mut CountedReader<R>,
+    piece: &mut [u8],
+    input: &mut Vec<u8>,
+) -> Result<bool, InputError>
+    requires { 0 < length piece.old }
+    ensures bytes { IfOk result (λ has_ended. ReadsMore (R.remaining (inner_reader reader.old))
+        (R.remaining (inner_reader reader.new)) input.old.items input.new.items has_ended) }
+    ensures reads { OnOk result ((reads_made reader.old < MAX_READS)
+        × (reads_made reader.new ≡ reads_made reader.old + 1)) }
+    ensures failures { CountsFailedRead result (failed_reads reader.old) (failed_reads reader.new) }
+{
+    let Some(count) = reader.read(piece)? else {
+        return Ok(false);
+    };
+    input.extend_from_slice(&piece[..count])?;
+    Ok(count == 0)
+}
+
+fn zeros(alloc: Global, len: usize) -> Result<Vec<u8>, AllocError>
+    ensures { IfOk result (λ v. vec_len v ≡ len) }
+{
+    vec![in alloc; 0u8; len]
+}

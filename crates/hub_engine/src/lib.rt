@@ -1,0 +1,21 @@
+//! What the modes of the program have in common: streams that count their failures, a whole input
+//! that is read and answered, and how the program ends.
+#![tactic(auto)]
+
+mod counted_reader;
+mod counted_writer;
+mod device;
+mod ending;
+mod engine;
+mod input;
+mod output;
+mod status;
+
+pub use counted_reader::{CountedReader, MAX_READS};
+pub use counted_writer::CountedWriter;
+pub use device::Device;
+pub use ending::Ending;
+pub use engine::{Engine, run_engine};
+pub use input::{InputError, read_input};
+pub use output::{PIECE, end_out_of_memory, end_unread, end_with, write_kept, write_whole};
+pub use status::ExitStatus;

@@ -1,0 +1,6 @@
+pub mod Marks
+pub mod Numbered
+pub mod Computing
+pub mod Running
+pub mod OneText
+pub mod Saying

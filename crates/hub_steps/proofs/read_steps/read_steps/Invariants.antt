@@ -1,0 +1,16 @@
+use Rattle.std.proofs.Common.{◌≡◌, ◌+◌, ◌≤◌, length}
+use Rattle.hub_text.specs.TextLines.{text_lines_of}
+use Rattle.hub_steps.specs.Steps.{steps_from, steps_of}
+use Rattle.hub_steps.proofs.Numbered.{with_front}
+use Rattle.hub_steps.proofs.read_steps.read_steps.Given as goal
+
+-- the step lines so far and what is read of the rest are what is read of all; each took a byte
+abbrev pub invariant-loop-rest : goal.invariant-loop-rest
+invariant-loop-rest l = record {
+  so_far : with_front l.lines.items (steps_from (l.number + 1) (text_lines_of l.rest)) ≡ steps_of l.input;
+  room : l.number + length l.rest ≤ length l.input;
+}
+
+-- what is left to read
+abbrev pub decreases-loop-rest : goal.decreases-loop-rest
+decreases-loop-rest l = length l.rest

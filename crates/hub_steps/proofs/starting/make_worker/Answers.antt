@@ -1,0 +1,14 @@
+use Rattle.std.proofs.Common.{subst}
+use Rattle.hub_core.specs.declared.step.Action.TheVariants as action
+use Rattle.hub_steps.specs.Computation.{step}
+use Rattle.hub_steps.specs.Performed.{ComputesAt}
+use Rattle.hub_steps.proofs.Computing.{made_and_started}
+use Rattle.hub_steps.proofs.starting.make_worker.Goals as goal
+
+pub returns-in_ok-take_step-in-End-clause-shown : goal.returns-in_ok-take_step-in-End-clause-shown
+returns-in_ok-take_step-in-End-clause-shown c =
+    let refused = c.args.memory_refused in
+    let old = c.args.core.now in
+    let first = c.take_step.new.core in
+    let made = subst (λ o. ComputesAt old first (step refused (action.Worker c.args.agent)) o) c.in-End.is c.in_ok-answer.ensures.answer in
+    made_and_started old first c.take_step-in-End.new.core refused c.args.agent c.in-End.end c.in_ok-take_step-in-End.field-0 made c.in_ok-take_step-in-End.ensures.answer

@@ -1,0 +1,12 @@
+pub mod BodyKind
+pub mod StepLineKind
+pub mod StepLine
+pub mod Steps
+pub mod OutcomeText
+pub mod ShownText
+pub mod Lives
+pub mod Computation
+pub mod Unfolding
+pub mod Performed
+pub mod StepText
+pub mod Output

@@ -1,0 +1,93 @@
+ghost use Rattle.std.specs.Prelude.{IfOk};
+ghost use Rattle.hub_steps.specs.Performed.{ComputesAt};
+ghost use Rattle.hub_steps.specs.Unfolding.{cast, cast_each, cast_inside, cast_to};
+
+use crate::cast_posts::{CastPost, CastPosts};
+use crate::entering::take_step;
+use crate::shown::Shown;
+use hub_core::{Action, Core, OutOfMemory, Outcome, Sender};
+use hub_envelope::{Body, EndId, LineId};
+use std::alloc::Global;
+
+/// Casts a body, and posts it at each destination.
+pub fn cast(
+    alloc: Global,
+    core: &mut Core,
+    end: EndId,
+    ports: Vec<EndId>,
+    body: Body,
+    memory_refused: bool,
+) -> Result<Shown, OutOfMemory>
+    ensures { IfOk result (λ shown.
+        ComputesAt core.old core.new (cast memory_refused end ports.items body) shown) }
+{
+    let action = Action::Cast(end, ports, body.clone()?);
+    match take_step(core, action, memory_refused)? {
+        Outcome::Destinations(ends) => {
+            let posts = cast_each(alloc, core, ends.as_slice(), &body, memory_refused)?;
+            Ok(Shown::Cast(posts))
+        }
+        answer => Ok(Shown::Answer(answer)),
+    }
+}
+
+/// Posts a body at each end, in order.
+fn cast_each(
+    alloc: Global,
+    core: &mut Core,
+    ends: &[EndId],
+    body: &Body,
+    memory_refused: bool,
+) -> Result<CastPosts, OutOfMemory>
+    ensures { IfOk result (λ posts.
+        ComputesAt core.old core.new (cast_each memory_refused body.now ends.now) posts) }
+{
+    let mut posts = Vec::with_capacity(alloc, ends.len())?;
+    for end in ends {
+        let outcome = cast_to(alloc, core, *end, body, memory_refused)?;
+        let end = *end;
+        posts.push(CastPost { end, outcome })?;
+    }
+    Ok(CastPosts { posts })
+}
+
+/// Enters, pushes where the poster is inside, and leaves.
+fn cast_to(
+    alloc: Global,
+    core: &mut Core,
+    end: EndId,
+    body: &Body,
+    memory_refused: bool,
+) -> Result<Outcome, OutOfMemory>
+    ensures { IfOk result (λ answer.
+        ComputesAt core.old core.new (cast_to memory_refused body.now end) answer) }
+{
+    let line = LineId(0);
+    let sender = Sender { end, line };
+    let entered = take_step(core, Action::Enter(sender), memory_refused)?;
+    let answer = push_inside(alloc, core, sender, body, entered, memory_refused)?;
+    // It leaves whatever it was answered.
+    take_step(core, Action::Leave(sender), memory_refused)?;
+    Ok(answer)
+}
+
+/// Pushes where the poster is inside. Answers the outcome of that, or else that of the Enter.
+fn push_inside(
+    alloc: Global,
+    core: &mut Core,
+    sender: Sender,
+    body: &Body,
+    entered: Outcome,
+    memory_refused: bool,
+) -> Result<Outcome, OutOfMemory>
+    ensures { IfOk result (λ answer. ComputesAt core.old core.new
+        (cast_inside memory_refused body.now sender entered) answer) }
+{
+    match entered {
+        Outcome::In => {
+            let push = Action::Push(sender, Vec::new(alloc), body.clone()?);
+            take_step(core, push, memory_refused)
+        }
+        entered => Ok(entered),
+    }
+}

@@ -1,0 +1,97 @@
+ghost use Rattle.std.specs.Prelude.{◌≡◌, IfOk, OnOk};
+ghost use Rattle.hub_core.specs.Facts.{facts};
+ghost use Rattle.hub_core.specs.History.{History};
+ghost use Rattle.hub_core.specs.Shows.{Shows};
+ghost use Rattle.hub_steps.specs.Performed.{ComputesAt};
+ghost use Rattle.hub_steps.specs.Unfolding.{close, close_each, close_ports, close_shown, notice_line, sweep, tell};
+
+use crate::entering::{enter, show_step, take_step};
+use crate::shown::Shown;
+use hub_core::{Action, Core, OutOfMemory, Outcome, Sender};
+use hub_envelope::{EndId, Envelope};
+
+/// Closes an end. Where it is a port whose Close would be answered `Done`, its own poster puts the
+/// notice before.
+pub fn close(core: &mut Core, end: EndId, memory_refused: bool) -> Result<Shown, OutOfMemory>
+    ensures { IfOk result (λ shown.
+        ComputesAt core.old core.new (close memory_refused end) shown) }
+{
+    let Some(line) = notice_line(core, end) else {
+        return show_step(core, Action::Close(end), memory_refused);
+    };
+    let told = tell(core, line, memory_refused)?;
+    take_step(core, Action::Leave(line), memory_refused)?;
+    let closed = take_step(core, Action::Close(end), memory_refused)?;
+    Ok(close_shown(told, closed))
+}
+
+/// The line on which the closing of a port puts its notice, where its Close would be answered
+/// `Done` now. No other end has one.
+fn notice_line(core: &Core, end: EndId) -> Option<Sender>
+    ensures { (h : History) → Shows core.now h → result ≡ notice_line end (facts h) }
+{
+    if core.may_close(end) {
+        core.sender_of(end)
+    } else {
+        None
+    }
+}
+
+/// Enters, and puts the notice where the poster is inside. Answers the outcome of that, or else of
+/// the last Enter.
+fn tell(core: &mut Core, line: Sender, memory_refused: bool) -> Result<Outcome, OutOfMemory>
+    ensures { IfOk result (λ told. ComputesAt core.old core.new (tell memory_refused line) told) }
+{
+    match enter(core, line, memory_refused)? {
+        Outcome::In => take_step(core, Action::Notice(line), memory_refused),
+        entered => Ok(entered),
+    }
+}
+
+/// What a closing shows, by what came of the notice.
+fn close_shown(told: Outcome, closed: Outcome) -> Shown
+    ensures { result ≡ close_shown told closed }
+{
+    match told {
+        Outcome::NoMemory => Shown::DoneNoMemory,
+        Outcome::Moved => Shown::DoneMoving,
+        _ => Shown::Answer(closed),
+    }
+}
+
+/// Closes each end, in order.
+pub fn close_each(core: &mut Core, ends: &[EndId], memory_refused: bool) -> Result<(), OutOfMemory>
+    ensures { OnOk result (ComputesAt core.old core.new (close_each memory_refused ends.now) tt) }
+{
+    for end in ends {
+        close(core, *end, memory_refused)?;
+    }
+    Ok(())
+}
+
+/// Sweeps an end, and closes each end that the discarded envelopes name, in order.
+pub fn sweep(core: &mut Core, end: EndId, memory_refused: bool) -> Result<Shown, OutOfMemory>
+    ensures { IfOk result (λ shown.
+        ComputesAt core.old core.new (sweep memory_refused end) shown) }
+{
+    let answer = take_step(core, Action::Sweep(end), memory_refused)?;
+    if let Outcome::Discarded(envelopes) = &answer {
+        close_ports(core, envelopes.as_slice(), memory_refused)?;
+    }
+    Ok(Shown::Answer(answer))
+}
+
+/// Closes the ports of each envelope, in order.
+fn close_ports(
+    core: &mut Core,
+    envelopes: &[Envelope],
+    memory_refused: bool,
+) -> Result<(), OutOfMemory>
+    ensures { OnOk result (ComputesAt core.old core.new
+        (close_ports memory_refused envelopes.now) tt) }
+{
+    for envelope in envelopes {
+        close_each(core, envelope.ports.as_slice(), memory_refused)?;
+    }
+    Ok(())
+}

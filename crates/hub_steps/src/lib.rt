@@ -1,0 +1,20 @@
+//! Step lines run through the hub's machine, one outcome line for each.
+#![tactic(auto)]
+
+mod cast_posts;
+mod casting;
+mod closing;
+mod ending;
+mod engine;
+mod entering;
+mod lives;
+mod perform;
+mod posting;
+mod read_step_line;
+mod read_steps;
+mod shown;
+mod starting;
+mod step_line;
+mod text;
+
+pub use engine::{run_steps, step_text_laws};

@@ -1,0 +1,119 @@
+ghost use Rattle.std.specs.Prelude.{◌≡◌, IfOk, OnErr, true};
+ghost use Rattle.hub_core.specs.Facts.{facts};
+ghost use Rattle.hub_core.specs.History.{History};
+ghost use Rattle.hub_core.specs.Shows.{Shows};
+ghost use Rattle.hub_steps.specs.Lives.{lives_after};
+ghost use Rattle.hub_steps.specs.Performed.{ComputesAt, PerformsAt};
+ghost use Rattle.hub_steps.specs.Unfolding.{command_takes_memory, line_steps, on_line_of, poster_command_takes_memory, sender_of};
+
+use crate::casting::cast;
+use crate::closing::{close, sweep};
+use crate::ending::see;
+use crate::entering::show_step;
+use crate::lives::Lives;
+use crate::posting::post;
+use crate::shown::Shown;
+use crate::starting::{adopt, load, make_agent, make_member, make_worker};
+use crate::step_line::{Command, Poster, PosterCommand, StepLine};
+use hub_core::{Action, Core, Kind, MAX_LINES, OutOfMemory, Outcome, Sender};
+use hub_envelope::{EndId, LineId};
+use std::alloc::Global;
+
+/// Takes the core's steps of a line, and gives what the line shows.
+pub fn perform(
+    alloc: Global,
+    core: &mut Core,
+    lives: &mut Lives,
+    line: StepLine,
+) -> Result<Shown, OutOfMemory>
+    ensures performed { IfOk result (λ shown.
+        PerformsAt core.old core.new lives.old line shown) }
+    ensures lives { IfOk result (λ shown.
+        lives.new ≡ lives_after line.command shown lives.old) }
+    // Steps that take no memory are never refused for want of it, with the mark or without.
+    ensures memory { OnErr result (command_takes_memory line.command ≡ true) }
+{
+    let StepLine {
+        command,
+        memory_refused,
+    } = line;
+    match command {
+        Command::Agent(url) => make_agent(core, lives, url, memory_refused),
+        Command::Channel(agent) => show_step(core, Action::Channel(agent), memory_refused),
+        Command::Client(agent) => show_step(core, Action::Client(agent), memory_refused),
+        Command::Worker(agent) => make_worker(core, lives, agent, memory_refused),
+        Command::Member(agent, name) => make_member(core, agent, name, memory_refused),
+        Command::Line(end, agent) => show_step(core, Action::Line(end, agent), memory_refused),
+        Command::At(poster, command) => perform_at(core, poster, command, memory_refused),
+        Command::Start(end) => show_step(core, Action::Start(end), memory_refused),
+        Command::Loaded(end) => load(core, end, memory_refused),
+        Command::Take(end) => show_step(core, Action::Take(end), memory_refused),
+        Command::Look(end) => show_step(core, Action::Look(end), memory_refused),
+        Command::Hand(end, agent) => show_step(core, Action::Hand(end, agent), memory_refused),
+        Command::Adopt(end, agent) => adopt(core, end, agent, memory_refused),
+        Command::Close(end) => close(core, end, memory_refused),
+        Command::Sweep(end) => sweep(core, end, memory_refused),
+        Command::Order(agent) => show_step(core, Action::Order(agent), memory_refused),
+        Command::See(agent) => see(core, lives, agent, memory_refused),
+        Command::Cast(end, ports, body) => {
+            cast(alloc, core, end, ports.into_ends(), body, memory_refused)
+        }
+        Command::Part(end) => show_step(core, Action::Part(end), memory_refused),
+        Command::Event(agent, event) => Ok(lives.event(agent, event)),
+    }
+}
+
+/// Takes the core's steps of a line about a poster. One that names nothing takes none.
+#[tactic(auto, using(crate::proofs::Computing::on_lines))]
+fn perform_at(
+    core: &mut Core,
+    poster: Poster,
+    command: PosterCommand,
+    memory_refused: bool,
+) -> Result<Shown, OutOfMemory>
+    ensures performed { IfOk result (λ shown. ComputesAt core.old core.new
+        (on_line_of poster (line_steps memory_refused command)) shown) }
+    ensures memory { OnErr result (poster_command_takes_memory command ≡ true) }
+{
+    let Some(sender) = sender_of(core, poster) else {
+        return Ok(Shown::Answer(Outcome::NotNow));
+    };
+    let action = match command {
+        PosterCommand::Enter => Action::Enter(sender),
+        PosterCommand::Push(ports, body) => Action::Push(sender, ports.into_ends(), body),
+        PosterCommand::Leave => Action::Leave(sender),
+        PosterCommand::Hop => Action::Hop(sender),
+        PosterCommand::Back => Action::Back(sender),
+        PosterCommand::Post(ports, body) => {
+            return post(core, sender, ports.into_ends(), body, memory_refused);
+        }
+    };
+    show_step(core, action, memory_refused)
+}
+
+/// The line that a poster posts on. `None` where it names nothing.
+fn sender_of(core: &Core, poster: Poster) -> Option<Sender>
+    ensures { (h : History) → Shows core.now h → result ≡ sender_of poster (facts h) }
+{
+    match poster {
+        Poster::Port(port) => core.sender_of(port),
+        Poster::Line(end, line) => line_of_queue(core, end, line),
+    }
+}
+
+/// A line of a client's or worker's queue, or of a broadcast channel.
+fn line_of_queue(core: &Core, end: EndId, line: LineId) -> Option<Sender>
+    ensures { (h : History) → Shows core.now h
+        → result ≡ sender_of (Poster.Line end line) (facts h) }
+{
+    let count = match core.kind_of(end) {
+        Some(Kind::Client | Kind::Worker) => MAX_LINES,
+        Some(Kind::Member(_)) => 1,
+        Some(Kind::Port(_)) | None => 0,
+    };
+    if usize::from(line.0) < count {
+        Some(Sender { end, line })
+    } else {
+        None
+    }
+}

@@ -1,0 +1,68 @@
+ghost use Rattle.std.specs.Prelude.{IfOk};
+ghost use Rattle.hub_steps.specs.Performed.{ComputesAt};
+ghost use Rattle.hub_steps.specs.Unfolding.{post, send};
+
+use crate::closing::close_each;
+use crate::entering::{enter, take_step};
+use crate::shown::Shown;
+use hub_core::{Action, Core, Listing, MAX_PORTS, OutOfMemory, Outcome, Sender};
+use hub_envelope::{Body, EndId};
+
+/// Posts a message, where its tests don't refuse it before the first step. A list that holds the
+/// end to which the message goes has each of its ports closed.
+pub fn post(
+    core: &mut Core,
+    sender: Sender,
+    ports: Vec<EndId>,
+    body: Body,
+    memory_refused: bool,
+) -> Result<Shown, OutOfMemory>
+    ensures { IfOk result (λ shown.
+        ComputesAt core.old core.new (post memory_refused ports.items body sender) shown) }
+{
+    if !core.may_post(sender) {
+        return Ok(Shown::Answer(Outcome::NotNow));
+    }
+    if ports.len() > MAX_PORTS {
+        return Ok(Shown::Answer(Outcome::TooManyPorts));
+    }
+    match core.listing(sender, &ports) {
+        Listing::Good => send(core, sender, ports, body, memory_refused),
+        Listing::HoldsTarget => {
+            close_each(core, &ports, memory_refused)?;
+            Ok(Shown::Doomed)
+        }
+        Listing::Bad => Ok(Shown::Answer(Outcome::NotNow)),
+    }
+}
+
+/// Enters, pushes where the poster is inside, and leaves.
+fn send(
+    core: &mut Core,
+    sender: Sender,
+    ports: Vec<EndId>,
+    body: Body,
+    memory_refused: bool,
+) -> Result<Shown, OutOfMemory>
+    ensures { IfOk result (λ shown.
+        ComputesAt core.old core.new (send memory_refused ports.items body sender) shown) }
+{
+    match enter(core, sender, memory_refused)? {
+        Outcome::In => {
+            let push = Action::Push(sender, ports, body);
+            let answer = take_step(core, push, memory_refused)?;
+            // It leaves whatever the push was answered.
+            take_step(core, Action::Leave(sender), memory_refused)?;
+            Ok(Shown::Answer(answer))
+        }
+        Outcome::Closed => {
+            take_step(core, Action::Leave(sender), memory_refused)?;
+            Ok(Shown::Answer(Outcome::Closed))
+        }
+        Outcome::Moved => {
+            take_step(core, Action::Leave(sender), memory_refused)?;
+            Ok(Shown::Moving)
+        }
+        entered => Ok(Shown::Answer(entered)),
+    }
+}

@@ -1,0 +1,27 @@
+use crate::cast_posts::CastPosts;
+use hub_core::Outcome;
+use hub_life::{LifeError, State};
+
+/// What a step line shows.
+#[derive(Debug, Drop)]
+pub enum Shown {
+    /// The outcome of one of its core steps, or what its first failed test says.
+    Answer(Outcome),
+    /// The line of a post stood at a retired queue still after `MAX_HOPS` hops.
+    Moving,
+    /// The list of a post held the end to which it went, and each listed port was closed.
+    Doomed,
+    /// A port was closed, and its notice found no memory.
+    DoneNoMemory,
+    /// A port was closed, and its line stood at a retired queue still after `MAX_HOPS` hops.
+    DoneMoving,
+    /// The URL of a new agent is none, or its origin is opaque. No step was taken.
+    BadUrl,
+    OpaqueOrigin,
+    /// What was posted at each destination of a cast.
+    Cast(CastPosts),
+    /// The state of a worker agent after an event.
+    State(State),
+    /// The life of a worker agent refused an event.
+    Refused(LifeError),
+}

@@ -1,0 +1,134 @@
+ghost use Rattle.std.specs.Prelude.{◌≡◌, IfOk, IsOk, OnOk};
+ghost use Rattle.hub_steps.specs.Lives.{agent_lives, lives_after};
+ghost use Rattle.hub_steps.specs.Performed.{ComputesAt};
+ghost use Rattle.hub_steps.specs.Unfolding.{adopt, agent, load, member, shown_step, start_worker, worker};
+
+use crate::entering::{show_step, take_step};
+use crate::lives::Lives;
+use crate::shown::Shown;
+use crate::step_line::{AgentUrl, Command};
+use hub_core::{Action, Core, Kind, OutOfMemory, Outcome, Text};
+use hub_envelope::{AgentId, EndId};
+
+/// Makes an agent, where its URL is one with an origin, or there is none.
+pub fn make_agent(
+    core: &mut Core,
+    lives: &mut Lives,
+    url: AgentUrl,
+    memory_refused: bool,
+) -> Result<Shown, OutOfMemory>
+    ensures shown { IfOk result (λ shown.
+        ComputesAt core.old core.new (agent memory_refused url) shown) }
+    ensures lives { IfOk result (λ shown. lives.new ≡ agent_lives shown lives.old) }
+{
+    match url {
+        AgentUrl::NoUrl => add_agent(core, lives, None, memory_refused),
+        AgentUrl::Origin(origin) => add_agent(core, lives, Some(origin), memory_refused),
+        AgentUrl::BadUrl => Ok(Shown::BadUrl),
+        AgentUrl::OpaqueOrigin => Ok(Shown::OpaqueOrigin),
+    }
+}
+
+/// Makes an agent of this origin, or of none.
+#[tactic(auto, using(crate::proofs::Computing::shown_as))]
+fn add_agent(
+    core: &mut Core,
+    lives: &mut Lives,
+    origin: Option<Text>,
+    memory_refused: bool,
+) -> Result<Shown, OutOfMemory>
+    ensures shown { IfOk result (λ shown. ComputesAt core.old core.new
+        (shown_step memory_refused (Action.Agent origin)) shown) }
+    ensures lives { IfOk result (λ shown. lives.new ≡ agent_lives shown lives.old) }
+{
+    let answer = take_step(core, Action::Agent(origin), memory_refused)?;
+    if matches!(answer, Outcome::Agent(_)) {
+        lives.add_agent()?;
+    }
+    Ok(Shown::Answer(answer))
+}
+
+/// Makes the queue of a worker, and starts it. The agent has a life from then on.
+pub fn make_worker(
+    core: &mut Core,
+    lives: &mut Lives,
+    agent: AgentId,
+    memory_refused: bool,
+) -> Result<Shown, OutOfMemory>
+    ensures shown { IfOk result (λ shown.
+        ComputesAt core.old core.new (worker memory_refused agent) shown) }
+    ensures lives { IfOk result (λ shown.
+        lives.new ≡ lives_after (Command.Worker agent) shown lives.old) }
+{
+    match take_step(core, Action::Worker(agent), memory_refused)? {
+        Outcome::End(end) => {
+            take_step(core, Action::Start(end), memory_refused)?;
+            lives.begin(agent);
+            Ok(Shown::Answer(Outcome::End(end)))
+        }
+        answer => Ok(Shown::Answer(answer)),
+    }
+}
+
+/// Makes a broadcast channel, and starts it.
+pub fn make_member(
+    core: &mut Core,
+    agent: AgentId,
+    name: Text,
+    memory_refused: bool,
+) -> Result<Shown, OutOfMemory>
+    ensures { IfOk result (λ shown.
+        ComputesAt core.old core.new (member memory_refused agent name) shown) }
+{
+    match take_step(core, Action::Member(agent, name), memory_refused)? {
+        Outcome::End(member) => {
+            take_step(core, Action::Start(member), memory_refused)?;
+            Ok(Shown::Answer(Outcome::End(member)))
+        }
+        answer => Ok(Shown::Answer(answer)),
+    }
+}
+
+/// Adopts an end, and starts it where it is a worker's queue.
+pub fn adopt(
+    core: &mut Core,
+    end: EndId,
+    agent: AgentId,
+    memory_refused: bool,
+) -> Result<Shown, OutOfMemory>
+    ensures { IfOk result (λ shown.
+        ComputesAt core.old core.new (adopt memory_refused end agent) shown) }
+{
+    match take_step(core, Action::Adopt(end, agent), memory_refused)? {
+        Outcome::Adopted(queue) => {
+            start_worker(core, end, memory_refused)?;
+            Ok(Shown::Answer(Outcome::Adopted(queue)))
+        }
+        answer => Ok(Shown::Answer(answer)),
+    }
+}
+
+/// Starts a worker's queue. Of any other end no step is taken.
+fn start_worker(core: &mut Core, end: EndId, memory_refused: bool) -> Result<(), OutOfMemory>
+    ensures { OnOk result (ComputesAt core.old core.new (start_worker memory_refused end) tt) }
+{
+    if matches!(core.kind_of(end), Some(Kind::Worker)) {
+        take_step(core, Action::Start(end), memory_refused)?;
+        Ok(())
+    } else {
+        Ok(())
+    }
+}
+
+/// Starts the queue of a client, whose document is parsed. Of any other end no step is taken.
+pub fn load(core: &mut Core, end: EndId, memory_refused: bool) -> Result<Shown, OutOfMemory>
+    ensures shown { IfOk result (λ shown.
+        ComputesAt core.old core.new (load memory_refused end) shown) }
+    ensures memory { IsOk result }
+{
+    if matches!(core.kind_of(end), Some(Kind::Client)) {
+        show_step(core, Action::Start(end), memory_refused)
+    } else {
+        Ok(Shown::Answer(Outcome::NotNow))
+    }
+}
