@@ -40,8 +40,8 @@ pub(crate) struct Closing {
     lines: Vec<Poster>,
 }
 
-/// Sweeps a closed end, again and again while somebody is inside. Where there was no memory it comes
-/// back.
+/// Sweeps a closed end, again and again while somebody is inside. Where there was no memory it
+/// comes back.
 pub fn sweep_out<R: Wait>(rt: &R, grave: Grave) -> Result<Swept, Grave>
     ensures ok { IfOk result (λ swept. swept.end ≡ grave.end) }
     ensures err { IfErr result (λ back. back.end ≡ grave.end) }

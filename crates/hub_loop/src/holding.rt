@@ -203,7 +203,8 @@ impl Holding {
     // Closes a port that was refused for good, and lists it no more.
     fn close_unfit<R: Wait>(&mut self, rt: &R, hub: &Hub, arrived: Arrived, listed: &Listed)
         requires graves { vec_len self.old.closed.graves + 1 ≤ vec_capacity self.old.closed.graves }
-        requires noticed { vec_len self.old.closed.noticed + 1 ≤ vec_capacity self.old.closed.noticed }
+        requires noticed { vec_len self.old.closed.noticed + 1
+            ≤ vec_capacity self.old.closed.noticed }
         ensures held { self.new.held ≡ self.old.held }
         ensures next { self.new.next ≡ self.old.next }
     {

@@ -84,7 +84,8 @@ impl Scribe {
     /// Takes it out, and leaves one that has logged nothing.
     pub(crate) fn take(&mut self) -> Scribe
         ensures given { result ≡ self.old }
-        ensures left { self.new ≡ record { log = (self.old.log.0, []); adopted = []; messages = 0 } }
+        ensures left { self.new
+            ≡ record { log = (self.old.log.0, []); adopted = []; messages = 0 } }
     {
         let agent = self.log.agent();
         replace(self, Scribe::new(self.alloc, agent))
