@@ -2,10 +2,10 @@ ghost use Rattle.std.specs.Prelude.{◌≡◌};
 
 use crate::awaited::Awaited;
 use crate::peer::Peer;
-use crate::scribe::Scribe;
 use crate::shared::Shared;
 use hub_envelope::{AgentId, EndId, OutOfMemory};
 use hub_life::{Life, Order};
+use hub_logging::Scribe;
 use hub_loop::{Checkpoint, EventLoop, Held, LoopError, Turn};
 use hub_queue::{Grave, Steps};
 use std::alloc::Global;

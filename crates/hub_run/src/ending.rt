@@ -2,9 +2,9 @@
 
 use crate::agent::{Agent, AgentLoop};
 use crate::peer::order_all;
-use crate::scribe::Scribe;
 use crate::shared::Shared;
 use hub_envelope::{EndId, OutOfMemory};
+use hub_logging::Scribe;
 use hub_loop::{Checkpoint, Ended, LoopError, sweep_out};
 use hub_ports::Noticed;
 use hub_queue::{Grave, Posted};

@@ -14,7 +14,6 @@ mod making;
 mod peer;
 mod posting;
 mod run;
-mod scribe;
 mod shared;
 
 pub use hub_envelope::OutOfMemory;

@@ -7,11 +7,11 @@ ghost use Rattle.hub_trace.specs.declared.limits.TheConstants.{MAX_AGENT};
 
 use crate::agent::Agent;
 use crate::peer::Peer;
-use crate::scribe::Scribe;
 use crate::shared::Shared;
 use crossbeam_utils::sync::{Parker, Unparker};
 use hub_envelope::{AgentId, OutOfMemory};
 use hub_life::{Life, Order};
+use hub_logging::Scribe;
 use hub_loop::{Checkpoint, EventLoop, Held};
 use hub_ports::channel;
 use hub_queue::{Bell, Ends};

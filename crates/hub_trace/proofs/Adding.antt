@@ -59,7 +59,7 @@ all_closings_more [] e some = absurd (omega arith)
 all_closings_more (l ∷ []) e some = append_nil (closings (l.1 ++ e ∷ [])) ∙ closings_more l.1 e ∙ ap (λ xs. xs ++ closings (e ∷ [])) (sym (append_nil (closings l.1)))
 all_closings_more (l ∷ next ∷ logs) e some = ap (λ xs. closings l.1 ++ xs) (all_closings_more (next ∷ logs) e (omega arith)) ∙ sym (append_assoc (closings l.1) (all_closings (next ∷ logs)) (closings (e ∷ [])))
 
-closed_by : (e : LogEntry) (end : ℕ) → list_any (λ x. x.0 == end) (closings (e ∷ [])) ≡ closes_one (λ x. x == end) e
+pub closed_by : (e : LogEntry) (end : ℕ) → list_any (λ x. x.0 == end) (closings (e ∷ [])) ≡ closes_one (λ x. x == end) e
 closed_by (Put d) end = refl
 closed_by (Got d) end = refl
 closed_by (Adopted x k) end = refl

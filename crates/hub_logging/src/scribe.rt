@@ -1,5 +1,5 @@
 ghost use Rattle.std.specs.Prelude.{◌≡◌, ◌≤◌, [], OnOk, OnErr};
-ghost use Rattle.hub_run.specs.Notes.{delivered, posted_label};
+ghost use Rattle.hub_logging.specs.Notes.{delivered, posted_label};
 ghost use Rattle.hub_trace.specs.Accepted.{log_with, message_at, notice_at};
 ghost use Rattle.hub_trace.specs.PortList.{has_end};
 ghost use Rattle.hub_trace.specs.declared.limits.TheConstants.{MAX_AGENT};
@@ -20,7 +20,7 @@ use std::sync::Wait;
 /// A log has limits for what it names, which no call of the hub goes past. An entry that would is
 /// refused as for want of memory, since no log could hold it.
 #[derive(Drop)]
-pub(crate) struct Scribe {
+pub struct Scribe {
     alloc: Global,
     log: Log,
     /// The ends that the log closes.
@@ -35,7 +35,7 @@ impl Model for Scribe {
     ghost use Rattle.std.specs.Prelude.{◌≡◌, ◌≤◌, ℕ, true};
     ghost use Rattle.std.specs.BTreeSet.{contains};
     ghost use Rattle.std.specs.Ordering.{nat_cmp};
-    ghost use Rattle.hub_run.specs.Notes.{Notes};
+    ghost use Rattle.hub_logging.specs.Notes.{Notes};
     ghost use Rattle.hub_trace.specs.Closings.{is_closed_by};
     ghost use Rattle.hub_trace.specs.declared.limits.TheConstants.{MAX_AGENT};
 
@@ -68,7 +68,7 @@ fn is_listed(ends: &[EndId], end: EndId) -> bool
 
 impl Scribe {
     /// Nothing is logged yet. It takes no memory.
-    pub(crate) fn new(alloc: Global, agent: AgentId) -> Scribe
+    pub fn new(alloc: Global, agent: AgentId) -> Scribe
         requires { agent.0 ≤ MAX_AGENT }
         ensures { result ≡ record { log = (agent, []); adopted = []; messages = 0 } }
     {
@@ -82,7 +82,7 @@ impl Scribe {
     }
 
     /// Takes it out, and leaves one that has logged nothing.
-    pub(crate) fn take(&mut self) -> Scribe
+    pub fn take(&mut self) -> Scribe
         ensures given { result ≡ self.old }
         ensures left { self.new
             ≡ record { log = (self.old.log.0, []); adopted = []; messages = 0 } }
@@ -92,21 +92,21 @@ impl Scribe {
     }
 
     /// The log.
-    pub(crate) fn into_log(self) -> Log
+    pub fn into_log(self) -> Log
         ensures { result ≡ self.log }
     {
         self.log
     }
 
     /// How many messages were delivered, notices not counted.
-    pub(crate) fn messages(&self) -> u64
+    pub fn messages(&self) -> u64
         ensures { result ≡ self.now.messages }
     {
         self.messages
     }
 
     /// Takes out the ports of the envelope that was delivered last which the loop holds.
-    pub(crate) fn take_adopted(&mut self) -> Vec<EndId>
+    pub fn take_adopted(&mut self) -> Vec<EndId>
         ensures given { result.items ≡ self.old.adopted }
         ensures taken { self.new ≡ record self.old { adopted = [] } }
     {
@@ -115,12 +115,7 @@ impl Scribe {
 
     /// Logs a post that was accepted. An error changes nothing.
     #[tactic(auto, using(crate::proofs::Notes::closed_more))]
-    pub(crate) fn put(
-        &mut self,
-        posted: Posted,
-        ports: &[EndId],
-        body: &Body,
-    ) -> Result<(), OutOfMemory>
+    pub fn put(&mut self, posted: Posted, ports: &[EndId], body: &Body) -> Result<(), OutOfMemory>
         ensures ok { OnOk result (self.new ≡ record self.old {
           log = log_with self.old.log (Put (message_at (posted_label posted) ports.now body.now));
         }) }
@@ -135,7 +130,7 @@ impl Scribe {
 
     /// Logs a notice that was put. An error changes nothing.
     #[tactic(auto, using(crate::proofs::Notes::closed_more))]
-    pub(crate) fn put_notice(&mut self, posted: Posted) -> Result<(), OutOfMemory>
+    pub fn put_notice(&mut self, posted: Posted) -> Result<(), OutOfMemory>
         ensures ok { OnOk result (self.new ≡ record self.old {
           log = log_with self.old.log (Put (notice_at (posted_label posted)));
         }) }
@@ -170,7 +165,7 @@ impl Scribe {
 
     /// Logs that the end was adopted, and how often it has moved. An error changes nothing.
     #[tactic(auto, using(crate::proofs::Notes::closed_more))]
-    pub(crate) fn adopt(&mut self, end: EndId, epoch: u32) -> Result<(), OutOfMemory>
+    pub fn adopt(&mut self, end: EndId, epoch: u32) -> Result<(), OutOfMemory>
         ensures ok { OnOk result (self.new ≡ record self.old {
           log = log_with self.old.log (Adopted end epoch);
         }) }
@@ -182,10 +177,11 @@ impl Scribe {
         self.log.adopted(end, epoch)
     }
 
-    /// Logs that the end was closed. It is refused where the log closes it already. An error
-    /// changes nothing.
+    /// Logs that the end was closed. It is refused where the log closes it already, and where an
+    /// earlier call for the same end was refused for want of memory. An error changes nothing that
+    /// is logged.
     #[tactic(auto, using(crate::proofs::Notes::closed_more))]
-    pub(crate) fn close(&mut self, end: EndId) -> Result<(), OutOfMemory>
+    pub fn close(&mut self, end: EndId) -> Result<(), OutOfMemory>
         ensures ok { OnOk result (self.new ≡ record self.old {
           log = log_with self.old.log (Closed end);
         }) }
@@ -200,7 +196,7 @@ impl Scribe {
 
 impl Handler for Scribe {
     ghost use Rattle.std.specs.Prelude.{◌≡◌};
-    ghost use Rattle.hub_run.specs.Notes.{notes_of};
+    ghost use Rattle.hub_logging.specs.Notes.{notes_of};
 
     ghost leaves = { λ before envelope missing after. after ≡ notes_of before envelope missing };
 
