@@ -31,7 +31,7 @@ NothingLeavesTheSame = (h : History) (p : Pair) → changes_nothing p.1 p.0.acti
 abbrev pub SameIsJoined : Type 0
 SameIsJoined = (h k : History) → Legal h → Legal k → Same h k ↔ ((g : History) → Legal (h ++ g) ↔ Legal (k ++ g))
 
--- the running agent that posts on the line after the history
+-- the agent that may post on the line after the history
 abbrev pub Posts : History → Sender → AgentId → Type 0
 Posts h s a = poster (facts h) s ≡ Some a
 
@@ -39,7 +39,7 @@ Posts h s a = poster (facts h) s ≡ Some a
 abbrev pub IsAway : History → Sender → Type 0
 IsAway h s = is_out (phase_of_line (facts h) s) ≡ false
 
--- A line whose poster is away is one that may be entered; and the running agent that posts on it, where there is one,
+-- A line whose poster is away is one that may be entered; and the agent that may post on it, where there is one,
 -- keeps it with every pair that fits, until the poster leaves.
 pub record KeepsTheLine : Type 0 where
   pub held : (h : History) (s : Sender) → Legal h → IsAway h s → may_enter (facts h) s ≡ true

@@ -1,6 +1,5 @@
 -- A mailbox, the queues of one end, as a machine (this project's own): queue by queue its gate and what was put,
--- held and taken there, and where the lines and the taker stand. The ends of the core are mailboxes, and so are
--- those of running threads.
+-- held and taken there, and where the lines and the taker stand. The ends of the core are such mailboxes.
 use Rattle.std.specs.Prelude.{◌≡◌, ◌≢◌, ◌⊎◌, ℕ, ◌+◌, ◌<◌, ◌≤◌, true, false, List, [], ◌∷◌, length, map, slice_get, flat_map, Some}
 use Rattle.hub_envelope.specs.declared.envelope.Envelope.{Envelope}
 use Rattle.hub_core.specs.declared.line.Phase.TheVariants.{Out, Inside}

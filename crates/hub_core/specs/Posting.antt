@@ -181,7 +181,7 @@ push_answer_of f s ports fitting refused (Some a) =
 abbrev pub is_posting : Facts → Sender → Bool
 is_posting f s = is_inside (phase_of_line f s) && not (f.line s.end.0 s.line.0).noticed
 
--- A Push tests that its poster is inside with no notice put, and that a running agent holds the line; then the number
+-- A Push tests that its poster is inside with no notice put, and that an agent that may post holds the line; then the number
 -- of ports, that the agent may send them and the message may go to the end, and memory.
 abbrev pub push_answer : Facts → Sender → List EndId → List ℕ → Bool → Outcome
 push_answer f s ports body refused =
@@ -196,7 +196,7 @@ notice_answer f s refused =
     else (if refused then outcome.NoMemory
     else outcome.Accepted (next_name f s (record { 0 = 0 })))
 
--- whether a message may be posted on the line: a running agent holds it, its poster is out, and no notice was put
+-- whether a message may be posted on the line: an agent that may post holds it, its poster is out, and no notice was put
 abbrev pub may_post : Facts → Sender → Bool
 may_post f s = is_some (poster f s) && is_out (phase_of_line f s) && not (f.line s.end.0 s.line.0).noticed
 

@@ -34,16 +34,15 @@ pub fn queue_laws()
     ensures { QueueLaws }
 {}
 
-/// What holds of every gate with rights `R`, in the core and among running threads: the right of a
-/// line is at home unless the line is inside or the rights were collected. The function does
-/// nothing; the laws are its contract.
+/// What holds of every gate machine with rights `R`: the right of a line is at home unless the line
+/// is inside or the rights were collected. The function does nothing; the laws are its contract.
 pub fn gate_machine_laws<R>()
     ensures { GateMachineLaws R }
 {}
 
-/// What holds of every mailbox whose gates have rights `R`, in the core and among running threads:
-/// line by line, what was taken out of its chain of queues is a prefix of what was put there. The
-/// function does nothing; the laws are its contract.
+/// What holds of every mailbox machine whose gates have rights `R`: line by line, what was taken
+/// out of its chain of queues is a prefix of what was put there. The function does nothing; the
+/// laws are its contract.
 pub fn chain_laws<R>()
     ensures { ChainLaws R }
 {}

@@ -60,7 +60,8 @@ impl Core {
     /// beyond what a growing list costs and the logarithm of the members of the roster; a `Sweep`
     /// takes time for each envelope that it discards, a `Cast` for each destination, and a `See`
     /// that is answered `Ending` for each end.
-    /// An `Err` says that memory can't be had, or that a line has put 2^62 envelopes in its queue.
+    /// An `Err` says that memory can't be had, that a line has put 2^62 envelopes in its queue, or
+    /// that an agent has 2^32 queues.
     pub fn step(&mut self, step: Step) -> Result<Outcome, OutOfMemory>
         ensures fits { IfOk result (λ o. FitsAndShows self.old self.new step o) }
         ensures unchanged { IfOk result (λ o. changes_nothing o step.action ≡ true

@@ -16,8 +16,8 @@ use crate::sender::Sender;
 use hub_envelope::{AgentId, EndId};
 
 impl Core {
-    /// Whether a message may be posted on a line now: a running agent holds it, its poster is out,
-    /// and no notice was put.
+    /// Whether a message may be posted on a line now: an agent that may post holds it, its poster
+    /// is out, and no notice was put.
     pub fn may_post(&self, sender: Sender) -> bool
         ensures { (h : History) → Shows self.now h → result ≡ may_post (facts h) sender }
     {
@@ -37,8 +37,8 @@ impl Core {
         self.poster_of(sender).is_some() && line.phase == Phase::Out && !line.has_noticed
     }
 
-    /// What a list of ports is to a message on a line now. Where no running agent holds the line
-    /// each list is bad.
+    /// What a list of ports is to a message on a line now. Where no agent that may post holds the
+    /// line each list is bad.
     pub fn listing(&self, sender: Sender, ports: &[EndId]) -> Listing
         ensures { (h : History) → Shows self.now h → result ≡ listing (facts h) sender ports.now }
     {

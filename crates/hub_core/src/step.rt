@@ -61,8 +61,8 @@ pub enum Action {
     See(AgentId),
 }
 
-/// An event, and whether memory is refused in it. Refused memory has no effect on an event that
-/// takes none.
+/// An event, and whether memory is refused in it. The refusal is asked for by a test of what comes
+/// of it: it has no effect on an event that takes no memory, and none on `Sweep`, `See` and `Cast`.
 #[derive(Debug, Drop)]
 pub struct Step {
     pub action: Action,

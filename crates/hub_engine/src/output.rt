@@ -64,7 +64,7 @@ pub fn end_with<W: Write>(
     Ok(status)
 }
 
-/// Ends for want of memory: `out of memory` is the last line of the output.
+/// Ends for want of memory: `out of memory` is the last text line of the output.
 pub fn end_out_of_memory<W: Write>(writer: &mut CountedWriter<W>) -> Result<ExitStatus, Device>
     ensures written { Writes (Says exit.OutOfMemory out_of_memory)
         (W.contents (inner_writer writer.old)) (W.contents (inner_writer writer.new)) result }

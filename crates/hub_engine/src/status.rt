@@ -12,9 +12,9 @@ pub enum ExitStatus {
     Fault,
     /// The arguments weren't understood, and the usage line was printed.
     Usage,
-    /// The input was bad, and one line says where.
+    /// The input was bad, and one text line says where.
     BadInput,
-    /// `out of memory` is the last line of the output.
+    /// `out of memory` is the last text line of the output.
     OutOfMemory,
     /// A read or a write failed.
     Device,

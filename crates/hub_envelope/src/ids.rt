@@ -1,4 +1,4 @@
-/// The number of an end: a port, a queue of a client or worker, or a member of a broadcast channel.
+/// The number of an end: a port, a queue of a client or worker, or a broadcast channel.
 /// Ends are numbered from 0 in the order in which they are made.
 #[derive(Clone, Copy, Debug, PartialEq, Eq, PartialOrd, Ord, Hash)]
 pub struct EndId(pub u32);

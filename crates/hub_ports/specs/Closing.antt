@@ -20,7 +20,7 @@ IsNoticed old new OutOfMemory = IsPosted old new notice_draft (Err (why.OutOfMem
 abbrev pub IsClosedAs : PortSeat → EndId × Noticed → Type 0
 IsClosedAs p closing = (closing.0 ≡ end_of p) × ((spent : StandSeat) × IsNoticed p.poster spent closing.1)
 
--- the ports were closed in this order, each as the list of closings says
+-- the closings of the ports, in this order: the number of each, and what became of its notice
 abbrev pub AreClosed : List PortSeat → List (EndId × Noticed) → Type 0
 AreClosed [] closings = closings ≡ []
 AreClosed (p ∷ ps) closings =

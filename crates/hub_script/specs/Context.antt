@@ -44,7 +44,7 @@ has_no_action (x ∷ xs) = false
 abbrev pub declares : Known → ScriptRead ⊤
 declares k = require Syntax (has_no_action (actions k.script))
 
--- the script has room for a line more
+-- the script has room for a text line more
 abbrev pub has_room : Known → ScriptRead ⊤
 has_room k = require TooLarge (nat_lt (line_count k.script) MAX_SCRIPT_LINES)
 
@@ -310,7 +310,7 @@ after_action k at (EventForm e) = after_event k at e
 after_action k at (Hand to) = after_hand k at to
 after_action k at (Fetch from) = after_fetch k at from
 
--- what is known after a line of that form, or the first test that it fails
+-- what is known after a text line of that form, or the first test that it fails
 abbrev pub after_form : Known → Form → ScriptRead Known
 after_form k (form.Agent kind answer) = after_agent k kind answer
 after_form k (form.Channel first second at) = after_channel k first second at

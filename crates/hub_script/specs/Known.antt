@@ -24,7 +24,7 @@ with_names k names = record { script = k.script; names = names; holds = k.holds;
 abbrev pub with_holds : Known → ((Holding → Bool) → Holding → Bool) → Known
 with_holds k f = record { script = k.script; names = k.names; holds = f k.holds; handed = k.handed }
 
--- before the first line
+-- before the first text line
 abbrev pub nothing : Known
 nothing = record { script = empty; names = λ _. None; holds = λ _. false; handed = λ _. false }
 

@@ -1,4 +1,4 @@
--- The lines that step lines are answered with.
+-- The outcome lines that step lines are answered with.
 use Rattle.std.specs.Prelude.{ℕ, List, [], ◌∷◌, ◌++◌, codes}
 use Rattle.hub_steps.specs.declared.shown.Shown.{Shown}
 use Rattle.hub_steps.specs.declared.shown.Shown.TheVariants.{Answer, Moving, Doomed, DoneNoMemory, DoneMoving, BadUrl, OpaqueOrigin, Cast, State, Refused}
@@ -21,7 +21,7 @@ state_text state.Activating = codes "activating"
 state_text state.Activated = codes "activated"
 state_text state.Redundant = codes "redundant"
 
--- the line of an event that a life refused
+-- the outcome line of an event that a life refused
 abbrev pub refused_line : LifeError → List ℕ
 refused_line WrongState = codes "wrong-state\n"
 refused_line TooManyExtensions = codes "too-many-extensions\n"

@@ -1,11 +1,11 @@
--- The step lines of an input, or its first bad line.
+-- The step lines of an input, or its first bad text line.
 use Rattle.std.specs.Prelude.{ℕ, ◌+◌, List, [], ◌∷◌, Result, Ok, Err}
 use Rattle.hub_text.specs.TextLines.{text_lines_of}
 use Rattle.hub_steps.specs.declared.step_line.StepLine.{StepLine}
 use Rattle.hub_steps.specs.declared.step_line.StepLineError.{StepLineError}
 use Rattle.hub_steps.specs.StepLine.{Read, step_line_of}
 
--- step lines, or the number of the first bad line and what is wrong with it
+-- step lines, or the number of the first bad text line and what is wrong with it
 abbrev pub ReadSteps : Type 0
 ReadSteps = Result (List StepLine) (ℕ × StepLineError)
 
@@ -20,6 +20,6 @@ unfoldable pub steps_from : ℕ → List (List ℕ) → ReadSteps
 steps_from n [] = Ok []
 steps_from n (bytes ∷ more) = at_line n (step_line_of bytes) (steps_from (n + 1) more)
 
--- the step lines of an input, or the first bad line, counted from 1
+-- the step lines of an input, or the first bad text line, counted from 1
 abbrev pub steps_of : List ℕ → ReadSteps
 steps_of bytes = steps_from 1 (text_lines_of bytes)

@@ -145,7 +145,7 @@ close_on refused e (Some s) = do
   pure (close_shown told closed)
 
 -- The closing of an end. A port's own poster enters, puts the notice where it is inside, and leaves; and then Close. At
--- a client's or worker's queue, and where the Close would be answered Closed or NotNow, that is the only step.
+-- a client's or worker's queue or a broadcast channel, and where the Close would be answered Closed or NotNow, that is the only step.
 abbrev pub close : Bool → EndId → Computation Shown
 close refused e = do
   line ← ask (notice_line e)

@@ -63,7 +63,7 @@ pub fn perform(
     }
 }
 
-/// Takes the core's steps of a line about a poster. One that names nothing takes none.
+/// Takes the core's steps of a step line about a poster. One that names nothing takes none.
 #[tactic(auto, using(crate::proofs::Computing::on_lines))]
 fn perform_at(
     core: &mut Core,

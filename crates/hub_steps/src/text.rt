@@ -10,7 +10,7 @@ use hub_life::{LifeError, State};
 use hub_text::EndListText;
 use std::alloc::AllocError;
 
-/// Writes the line of what a step line shows, with its LF.
+/// Writes the outcome line of what a step line shows, with its LF.
 #[tactic(auto, unfolding(crate::specs::ShownText::shown_line))]
 pub fn write_shown(text: &mut String, shown: &Shown) -> Result<(), AllocError>
     ensures { OnOk result (string_bytes text.new ≡ string_bytes text.old ++ shown_line shown.now) }
@@ -29,7 +29,7 @@ pub fn write_shown(text: &mut String, shown: &Shown) -> Result<(), AllocError>
     }
 }
 
-/// Writes the line of what a cast posted.
+/// Writes the outcome line of what a cast posted.
 fn write_cast(text: &mut String, posts: &[CastPost]) -> Result<(), AllocError>
     ensures { OnOk result (string_bytes text.new
         ≡ string_bytes text.old ++ cast_line posts.now) }

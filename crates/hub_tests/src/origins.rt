@@ -41,7 +41,7 @@ fn texts_with_no_origin_are_refused(rt: HostRuntime) -> Result<(), Fail> {
 }
 
 #[test]
-fn no_origin_is_given_whichever_allocation_is_refused(rt: HostRuntime) -> Result<(), Fail> {
+fn no_wrong_origin_is_given_whichever_allocation_is_refused(rt: HostRuntime) -> Result<(), Fail> {
     match origin_of(rt.alloc(), "https://b\u{fc}cher.test:8080/x") {
         Ok(origin) => assert_eq!(rt; origin.as_str(), "https://xn--bcher-kva.test:8080"),
         Err(error) => assert_eq!(rt; error, OriginError::OutOfMemory),

@@ -1,7 +1,8 @@
 //! What the hub's text formats share: an input cut into text lines, a text line into words, numbers
 //! in decimal, and lists of ends.
 //!
-//! A text line is what stands between two LFs of an input: a step line, a log line.
+//! A text line is what stands between two LFs of an input: a step line, a log
+//! line, a line of a script.
 #![tactic(auto)]
 
 mod end_list;

@@ -14,7 +14,7 @@ use Rattle.hub_trace.specs.Accepted.{AgentLog}
 use Rattle.hub_trace.specs.Closings.{closes_again, is_closed_in}
 use Rattle.hub_trace.specs.LogLine.{LogRead, log_line_of}
 
--- logs, or the number of the first bad line and what is wrong with it
+-- logs, or the number of the first bad text line and what is wrong with it
 abbrev pub LogsRead : Type 0
 LogsRead = Result (List AgentLog) (ℕ × LogError)
 
@@ -54,7 +54,7 @@ abbrev pub below_header : List (List ℕ) → LogsRead
 below_header [] = Ok []
 below_header (header ∷ lines) = logs_below (version_of header) lines
 
--- the logs, or the first bad line and what is wrong with it. No bytes are no logs
+-- the logs, or the first bad text line and what is wrong with it. No bytes are no logs
 abbrev pub logs_of : List ℕ → LogsRead
 logs_of bytes = below_header (text_lines_of bytes)
 
@@ -62,19 +62,19 @@ logs_of bytes = below_header (text_lines_of bytes)
 abbrev pub TellsClosed : (ℕ → Bool) → List AgentLog → Type 0
 TellsClosed test logs = (end : ℕ) → test end ≡ is_closed_in logs end
 
--- the first line is the header of that version
+-- the first text line is the header of that version
 abbrev pub HasHeaderOf : LogVersion → List ℕ → Type 0
 HasHeaderOf v bytes = (rest : List (List ℕ)) × (text_lines_of bytes ≡ header_of v ∷ rest)
 
--- the first line is the header of a version
+-- the first text line is the header of a version
 abbrev pub HasHeader : List ℕ → Type 0
 HasHeader bytes = (v : LogVersion) × HasHeaderOf v bytes
 
--- there is a first line, and it is the header of no version
+-- there is a first text line, and it is the header of no version
 abbrev pub HasOtherHeader : List ℕ → Type 0
 HasOtherHeader bytes = (header : List ℕ) × (rest : List (List ℕ)) × (text_lines_of bytes ≡ header ∷ rest) × ((v : LogVersion) → header ≢ header_of v)
 
--- where each error comes: BadHeader at the first line alone, the others below a header
+-- where each error comes: BadHeader at the first text line alone, the others below a header
 abbrev pub ComesAt : List ℕ → ℕ → LogError → Type 0
 ComesAt bytes n error.BadHeader = (n ≡ 1) × HasOtherHeader bytes
 ComesAt bytes n error.BadLine = (2 ≤ n) × HasHeader bytes

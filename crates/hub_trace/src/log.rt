@@ -16,7 +16,7 @@ use std::alloc::Global;
 use std::fmt;
 use std::marker::Model;
 
-/// The first line of a file of logs, as logs are written.
+/// The first text line of a file of logs, as logs are written.
 pub const LOG_HEADER: &str = "hublog 3";
 
 /// What one agent did, oldest first. The agent's own thread appends to it. All that it holds is

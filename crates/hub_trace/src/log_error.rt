@@ -6,11 +6,11 @@ use thiserror::Error;
 /// name.
 #[derive(Clone, Copy, Debug, PartialEq, Eq, Drop, Error)]
 pub enum LogError {
-    /// The first line isn't the header.
+    /// The first text line isn't the header.
     #[error("BadHeader")]
     BadHeader,
-    /// A later line isn't an `agent` line or an entry, goes past a limit, is an entry before the
-    /// first `agent` line, or closes an end that an earlier line closed.
+    /// A later text line isn't an `agent` line or an entry, goes past a limit, is an entry before
+    /// the first `agent` line, or closes an end that an earlier one closed.
     #[error("BadLine")]
     BadLine,
     #[error("OutOfMemory")]

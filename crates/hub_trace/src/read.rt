@@ -24,10 +24,10 @@ use std::collections::BTreeSet;
 /// The text line at which the logs end, where the input goes on.
 pub const LOGS_END: &str = "deliveries";
 
-/// The logs that the bytes spell, in any of the three versions, up to a line `deliveries` or the
-/// end. Lines end at LF; the last LF may be missing. No bytes at all are no logs. An error comes
-/// with the number of its line, from 1; of several bad lines the first is told. Memory may run out
-/// at any line below the header.
+/// The logs that the bytes spell, in any of the three versions, up to a text line `deliveries` or
+/// the end. Text lines end at LF; the last LF may be missing. No bytes at all are no logs. An error
+/// comes with the number of its text line, from 1; of several bad ones the first is told. Memory
+/// may run out at any text line below the header.
 pub fn read_logs(alloc: Global, bytes: &[u8]) -> Result<Vec<Log>, (usize, LogError)>
     ensures empty { length bytes.now ≡ 0 → IsOkAnd result (λ logs. logs.items ≡ []) }
     ensures header { OnOk result (0 < length bytes.now → HasHeader bytes.now) }

@@ -14,10 +14,11 @@ use hub_trace::{Log, LogError, OutOfMemory, Verdict, check, read_logs};
 use std::alloc::Global;
 use std::io::{Read, Write};
 
-/// Reads logs to the end of the input, and writes what the checker says of those before a line
-/// `deliveries`: `clean`, or `fault END LINE PLACE KIND`.
+/// Reads logs to the end of the input, and writes what the checker says of those before a text
+/// line `deliveries`: `clean`, or `fault END LINE PLACE KIND`.
 ///
-/// Bad input writes `line N: KIND` of the first bad line alone, and want of memory `out of memory`.
+/// Bad input writes `line N: KIND` of the first bad text line alone, and want of memory
+/// `out of memory`.
 pub fn run_check<R: Read, W: Write>(
     alloc: Global,
     reader: &mut CountedReader<R>,

@@ -69,9 +69,9 @@ fn run_input<C: Checkpoint, W: Write, T: Threads + Wait + Sync>(
     }
 }
 
-/// Runs a script, each agent on a thread of its own, and writes the logs of the agents, a line
-/// `deliveries`, a line for each sender's line of which something was delivered, and the verdict of
-/// the checker on these logs.
+/// Runs a script, each agent on a thread of its own, and writes the logs of the agents, a text
+/// line `deliveries`, one for each sender's line of which something was delivered, and the verdict
+/// of the checker on these logs.
 ///
 /// For want of memory, or where a thread can't be made, it writes `out of memory` alone. It waits
 /// for the agents.
