@@ -165,7 +165,7 @@ fn add_rounds(entry: Entry<u64>, rounds: u64) -> Entry<u64> {
 }
 
 #[test]
-fn sixteen_entries(rt: HostRuntime) -> Result<(), Fail> {
+fn thirty_two_entries(rt: HostRuntime) -> Result<(), Fail> {
     let alloc = rt.alloc();
     let zeros = vec![in alloc; 0u64; 32]?;
     let Ok((mut keeper, entries)) = Gate::open(alloc, zeros) else {

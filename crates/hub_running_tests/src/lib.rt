@@ -13,3 +13,5 @@ mod lives;
 mod machine;
 #[cfg(test)]
 mod orders;
+#[cfg(test)]
+mod steps;
