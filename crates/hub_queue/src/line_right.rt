@@ -73,6 +73,7 @@ fn draft_of(envelope: Envelope) -> Draft
 impl LineRight {
     /// Puts the draft in the queue, under the next name of the line. `Err`: there was no memory, or
     /// the line has put `MAX_PUT` envelopes there. The draft comes back, and nothing was put.
+    #[inline(always)]
     pub(crate) fn put<R: Wait>(&mut self, rt: &R, draft: Draft) -> Result<Posted, Draft>
         ensures queue { self.new.queue ≡ self.old.queue }
         ensures put { IsPut self.old.at self.new.at draft result }

@@ -81,6 +81,9 @@ impl Place {
     }
 
     /// Pops once, and counts the envelope for its line.
+    // It is inlined, and so are `take_newest`, `Taker::take` and `pop`, since an envelope is large
+    // and each return copies it.
+    #[inline(always)]
     pub(crate) fn pop<L: Ledger, R: Wait>(
         &mut self,
         rt: &R,
@@ -95,6 +98,7 @@ impl Place {
     }
 
     /// Takes from the newest queue of an end.
+    #[inline(always)]
     pub(crate) fn take_newest<L: Ledger, R: Wait>(&mut self, rt: &R, steps: &mut Steps<L>) -> Took
         ensures { IsTakenAt self.old self.new steps.old steps.new result }
     {

@@ -13,6 +13,7 @@ use std::sync::Wait;
 use std::sync::ledger::Ledger;
 
 /// Pops with the taker's pass, and counts the pop. No other function of the crate pops.
+#[inline(always)]
 pub(crate) fn pop<L: Ledger, R: Wait>(
     rt: &R,
     store: &Store,

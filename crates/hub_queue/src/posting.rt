@@ -22,7 +22,10 @@ pub(crate) enum Tried {
     Moved(Stand, Draft),
 }
 
-// Posts at the queue where the line stands. Whoever has left an enabled gate rings the bell.
+// Posts at the queue where the line stands. Whoever has left an enabled gate rings the bell. It is
+// inlined, and so are `post_from` and `LineRight::put`, since drafts and answers are large and each
+// call copies them.
+#[inline(always)]
 fn try_post<P: Pause, R: Wait>(rt: &R, stand: Stand, draft: Draft, pause: &P) -> Tried
     ensures { IsTried stand draft result }
 {
@@ -53,6 +56,7 @@ fn try_post<P: Pause, R: Wait>(rt: &R, stand: Stand, draft: Draft, pause: &P) ->
 
 /// Posts the draft from a stand, and goes on to the next queue where it was retired, at most
 /// `MAX_HOPS` times.
+#[inline(always)]
 pub(crate) fn post_from<P: Pause, R: Wait>(
     rt: &R,
     yard: &Depot<Onward>,

@@ -95,6 +95,7 @@ impl Taker {
     /// and `Busy` only by a pop of this call that found none, `Busy` also by a look of this call
     /// that found somebody. At `Again` the queue that was left is freed; its gate's word stays for
     /// the lines that still stand there. The last parameter counts the pops.
+    #[inline(always)]
     pub fn take<L: Ledger, R: Wait>(&mut self, rt: &R, steps: &mut Steps<L>) -> Took
         ensures { IsTaken self.old self.new steps.old steps.new result }
     {
