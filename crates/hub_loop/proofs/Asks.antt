@@ -26,21 +26,21 @@ member-taken old m n before after took is taken same =
     (m.taker, n.taker, ap seat_of is, ap Member same ∙ sym (ap (λ h. with_seat h n.taker) is), taken)
 
 -- whoever takes is put in, and is then who takes
-seat-with : (h : Held) (s t : TakerSeat) → seat_of h ≡ Some s → seat_of (with_seat h t) ≡ Some t
+pub seat-with : (h : Held) (s t : TakerSeat) → seat_of h ≡ Some s → seat_of (with_seat h t) ≡ Some t
 seat-with (Port p) s t is = refl
 seat-with (Client u) s t is = refl
 seat-with (Worker u) s t is = refl
 seat-with (Member m) s t is = refl
 seat-with (Line l) s t is = absurd cc
 
-with-twice : (h : Held) (t u : TakerSeat) → with_seat (with_seat h t) u ≡ with_seat h u
+pub with-twice : (h : Held) (t u : TakerSeat) → with_seat (with_seat h t) u ≡ with_seat h u
 with-twice (Port p) t u = refl
 with-twice (Client s) t u = refl
 with-twice (Worker s) t u = refl
 with-twice (Member m) t u = refl
 with-twice (Line l) t u = refl
 
-with-own : (h : Held) (s : TakerSeat) → seat_of h ≡ Some s → h ≡ with_seat h s
+pub with-own : (h : Held) (s : TakerSeat) → seat_of h ≡ Some s → h ≡ with_seat h s
 with-own (Port p) s is = let same : p.taker ≡ s = cc in ap (λ t. Port (record { taker = t; poster = p.poster })) same
 with-own (Client u) s is = let same : u ≡ s = cc in ap Client same
 with-own (Worker u) s is = let same : u ≡ s = cc in ap Worker same

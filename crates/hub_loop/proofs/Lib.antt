@@ -2,4 +2,7 @@ mod Adopts
 mod Asks
 mod Delivers
 mod Ends
+mod Notices
+mod Pops
 mod Serves
+mod TakesNothing

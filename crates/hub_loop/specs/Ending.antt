@@ -3,6 +3,7 @@ use Rattle.std.specs.Prelude.{◌≡◌, ℕ, ◌+◌, ◌==◌, Bool, false, Li
 use Rattle.std.specs.List.Sorted.{IsNonDecreasing}
 use Rattle.slab.specs.Slab.{Slab}
 use Rattle.hub_clients.specs.declared.handed_queue.HandedQueue.{HandedQueue}
+use Rattle.hub_clients.specs.declared.handed_queue.HandedQueue.TheVariants as handed
 use Rattle.hub_clients.specs.Handing.{taker_of}
 use Rattle.hub_ports.specs.Seats.{PortSeat}
 use Rattle.hub_queue.specs.Graves.{GraveSeat, SweptSeat}
@@ -13,6 +14,7 @@ use Rattle.hub_loop.specs.declared.delivery.Receiving.{Receiving}
 use Rattle.hub_loop.specs.declared.ending.Open.{Open}
 use Rattle.hub_loop.specs.declared.ending.Open.TheVariants as opens
 use Rattle.hub_loop.specs.declared.held.Held.{Held}
+use Rattle.hub_loop.specs.declared.held.Held.TheVariants.{Client, Worker}
 use Rattle.hub_loop.specs.Holding.{seat_of}
 
 -- whoever takes here takes from the end of this number
@@ -38,6 +40,18 @@ is_grave e g = g.end == e
 abbrev pub is_open : ℕ → Open → Bool
 is_open e (opens.Held h) = is_seat_of e (seat_of h)
 is_open e (opens.Arrived p) = is_port e p
+
+-- what is held under this key, this queue or this port passes, once it is taken out
+abbrev pub slot_passes : (Open → Bool) → Option Held → Bool
+slot_passes passes None = false
+slot_passes passes (Some h) = passes (opens.Held h)
+
+abbrev pub queue_passes : (Open → Bool) → HandedQueue → Bool
+queue_passes passes (handed.Client t) = passes (opens.Held (Client t))
+queue_passes passes (handed.Worker t) = passes (opens.Held (Worker t))
+
+abbrev pub arrived_passes : (Open → Bool) → PortSeat → Bool
+arrived_passes passes p = passes (opens.Arrived p)
 
 -- the ports that were found for a delivery and not adopted yet
 abbrev pub found_in : Option Receiving → List PortSeat

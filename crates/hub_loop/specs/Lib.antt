@@ -3,5 +3,8 @@ pub mod Asking
 pub mod Delivering
 pub mod Ending
 pub mod Holding
+pub mod Noticing
+pub mod Popping
 pub mod Serving
+pub mod TakingNothing
 pub mod Turning

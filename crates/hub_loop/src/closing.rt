@@ -2,7 +2,8 @@
 
 ghost use Rattle.std.specs.Prelude.{◌≡◌, ℕ, [], count_by, IfOk, IfErr, OnOk};
 ghost use Rattle.std.specs.List.Sorted.{IsNonDecreasing};
-ghost use Rattle.hub_loop.specs.Ending.{is_grave, grave_ends, closing_ends, GoesOn};
+ghost use Rattle.hub_loop.specs.Ending.{is_grave, grave_ends, closing_ends};
+ghost use Rattle.hub_loop.specs.Noticing.{NamedBehind};
 
 use crate::delivery::Delivery;
 use crate::ending::Closed;
@@ -67,6 +68,7 @@ impl Closing {
         ensures sorted { IsNonDecreasing (grave_ends result.graves.items) }
         ensures same { (e : ℕ) → count_by (is_grave e) result.graves.items
             ≡ count_by (is_grave e) closed.graves.items }
+        ensures noticed { result.noticed.items ≡ closed.noticed.items }
     {
         let Closed {
             mut graves,
@@ -86,7 +88,8 @@ impl Closing {
 
     /// What is left once all was swept.
     pub(crate) fn into_ended(self) -> Ended
-        ensures { result.swept.items ≡ self.swept.items }
+        ensures swept { result.swept.items ≡ self.swept.items }
+        ensures noticed { result.noticed.items ≡ self.noticed.items }
     {
         let Closing {
             found: _,
@@ -102,6 +105,7 @@ impl Closing {
     // Sweeps the closed ends, in order.
     fn sweep_all<R: Wait>(&mut self, rt: &R) -> Result<(), OutOfMemory>
         ensures same { closing_ends self.new ≡ closing_ends self.old }
+        ensures noticed { self.new.noticed ≡ self.old.noticed }
         ensures all { OnOk result (self.new.graves.items ≡ []) }
     {
         while !self.graves.is_empty() {
@@ -120,7 +124,8 @@ impl Closing {
 
     // Closes the ports that were found, in order.
     fn close_found<R: Wait>(&mut self, rt: &R, hub: &Hub) -> Result<(), OutOfMemory>
-        ensures { GoesOn (closing_ends self.old) (closing_ends self.new) }
+        ensures { NamedBehind (closing_ends self.old) (closing_ends self.new)
+            self.old.noticed.items self.new.noticed.items }
     {
         while !self.found.is_empty() {
             self.graves.reserve(1)?;
@@ -138,6 +143,7 @@ impl Closing {
     fn look_further<R: Wait>(&mut self, rt: &R, hub: &Hub) -> Result<bool, OutOfMemory>
         ensures graves { self.new.graves ≡ self.old.graves }
         ensures swept { self.new.swept ≡ self.old.swept }
+        ensures noticed { self.new.noticed ≡ self.old.noticed }
     {
         let (place, count) = self.next;
         let Some(swept) = self.swept.get(place) else {
@@ -157,6 +163,7 @@ impl Closing {
     fn give_back<R: Wait>(&mut self, rt: &R, directory: &Directory)
         ensures graves { self.new.graves ≡ self.old.graves }
         ensures swept { self.new.swept ≡ self.old.swept }
+        ensures noticed { self.new.noticed ≡ self.old.noticed }
     {
         while let Some(poster) = self.lines.pop() {
             let _refused = directory.give_back(rt, poster);
@@ -172,6 +179,7 @@ impl Closing {
     ) -> Result<(), OutOfMemory>
         ensures graves { self.new.graves ≡ self.old.graves }
         ensures swept { self.new.swept ≡ self.old.swept }
+        ensures noticed { self.new.noticed ≡ self.old.noticed }
     {
         if let Some(
             Delivery {
@@ -196,7 +204,8 @@ impl Closing {
         directory: &Directory,
         kept: &mut Option<Delivery>,
     ) -> Result<(), OutOfMemory>
-        ensures further { GoesOn (closing_ends self.old) (closing_ends self.new) }
+        ensures further { NamedBehind (closing_ends self.old) (closing_ends self.new)
+            self.old.noticed.items self.new.noticed.items }
         ensures all { OnOk result (self.new.graves.items ≡ []) }
     {
         self.sweep_all(rt)?;

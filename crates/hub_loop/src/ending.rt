@@ -5,6 +5,7 @@ ghost use Rattle.std.specs.Prelude.{
   ◌≡◌,
   ◌≢◌,
   ℕ,
+  Bool,
   None,
   length,
   ◌+◌,
@@ -19,7 +20,15 @@ ghost use Rattle.std.specs.Prelude.{
   vec_len,
   vec_capacity,
 };
-ghost use Rattle.hub_loop.specs.Ending.{is_held, is_queue, is_port, is_grave, is_open, found_of};
+ghost use Rattle.hub_loop.specs.Ending.{
+  is_grave,
+  is_open,
+  found_of,
+  arrived_passes,
+  queue_passes,
+  slot_passes,
+};
+ghost use Rattle.hub_loop.specs.Noticing.{ClosesLast, NoticesMore, open_number, port_in};
 
 use crate::delivery::Delivery;
 use crate::held::Held;
@@ -44,7 +53,7 @@ pub(crate) enum Open {
 impl Open {
     /// A queue that was fetched.
     fn of_queue(queue: HandedQueue) -> Open
-        ensures { (e : ℕ) → is_open e result ≡ is_queue e queue }
+        ensures { (passes : Open → Bool) → passes result ≡ queue_passes passes queue }
     {
         match queue {
             HandedQueue::Client(queue) => Open::Held(Held::Client(queue)),
@@ -53,7 +62,9 @@ impl Open {
     }
 
     /// The number of the end, or of the end at which the line posts.
-    pub(crate) fn end(&self) -> EndId {
+    pub(crate) fn end(&self) -> EndId
+        ensures { result ≡ open_number self.now }
+    {
         match self {
             Open::Held(held) => held.end(),
             Open::Arrived(arrived) => arrived.end(),
@@ -89,6 +100,7 @@ impl Closed {
         ensures lines { OnOk result
             (vec_len self.new.lines + more ≤ vec_capacity self.new.lines) }
         ensures same { self.new.graves.items ≡ self.old.graves.items }
+        ensures told { self.new.noticed.items ≡ self.old.noticed.items }
     {
         self.graves.reserve(more)?;
         self.noticed.reserve(more)?;
@@ -113,8 +125,9 @@ impl Closed {
         requires graves { vec_len self.old.graves < vec_capacity self.old.graves }
         requires noticed { vec_len self.old.noticed < vec_capacity self.old.noticed }
         requires lines { vec_len self.old.lines < vec_capacity self.old.lines }
-        ensures { (e : ℕ) → count_by (is_grave e) self.new.graves.items
+        ensures buried { (e : ℕ) → count_by (is_grave e) self.new.graves.items
             ≡ count_by (is_grave e) self.old.graves.items + cond (is_open e opened) 1 0 }
+        ensures told { NoticesMore (port_in opened) self.old.noticed.items self.new.noticed.items }
     {
         let end = opened.end();
         match opened {
@@ -148,6 +161,8 @@ impl Closed {
         ensures moved { (e : ℕ) →
             count_by (is_grave e) self.new.graves.items + count_by (is_open e) all.new.items
             ≡ count_by (is_grave e) self.old.graves.items + count_by (is_open e) all.old.items }
+        ensures told { ClosesLast all.old.items all.new.items self.old.noticed.items
+            self.new.noticed.items }
         ensures all { OnOk result (all.new.items ≡ []) }
     {
         while !all.is_empty() {
@@ -166,9 +181,9 @@ fn take_at(held: &mut Slab<Held>, key: usize, opened: &mut Vec<Open>)
     ensures length { length held.new.slots ≡ length held.old.slots }
     ensures gone { get held.new key ≡ None }
     ensures others { (other : ℕ) → other ≢ key → get held.new other ≡ get held.old other }
-    ensures moved { (e : ℕ) →
-        count_by (is_held e) held.new.slots + count_by (is_open e) opened.new.items
-        ≡ count_by (is_held e) held.old.slots + count_by (is_open e) opened.old.items }
+    ensures moved { (passes : Open → Bool) →
+        count_by (slot_passes passes) held.new.slots + count_by passes opened.new.items
+        ≡ count_by (slot_passes passes) held.old.slots + count_by passes opened.old.items }
 {
     match held.try_remove(key) {
         Some(held) => opened.push_reserved(Open::Held(held)),
@@ -179,10 +194,11 @@ fn take_at(held: &mut Slab<Held>, key: usize, opened: &mut Vec<Open>)
 /// Takes out all that is held.
 pub(crate) fn take_held(held: &mut Slab<Held>, opened: &mut Vec<Open>) -> Result<(), OutOfMemory>
     ensures capacity { held.new.capacity ≡ held.old.capacity }
-    ensures moved { (e : ℕ) →
-        count_by (is_held e) held.new.slots + count_by (is_open e) opened.new.items
-        ≡ count_by (is_held e) held.old.slots + count_by (is_open e) opened.old.items }
-    ensures all { OnOk result ((e : ℕ) → count_by (is_held e) held.new.slots ≡ 0) }
+    ensures moved { (passes : Open → Bool) →
+        count_by (slot_passes passes) held.new.slots + count_by passes opened.new.items
+        ≡ count_by (slot_passes passes) held.old.slots + count_by passes opened.old.items }
+    ensures all { OnOk result ((passes : Open → Bool) →
+        count_by (slot_passes passes) held.new.slots ≡ 0) }
 {
     for key in 0..held.capacity() {
         opened.reserve(1)?;
@@ -196,9 +212,9 @@ pub(crate) fn take_queues(
     queues: &mut Vec<HandedQueue>,
     opened: &mut Vec<Open>,
 ) -> Result<(), OutOfMemory>
-    ensures moved { (e : ℕ) →
-        count_by (is_queue e) queues.new.items + count_by (is_open e) opened.new.items
-        ≡ count_by (is_queue e) queues.old.items + count_by (is_open e) opened.old.items }
+    ensures moved { (passes : Open → Bool) →
+        count_by (queue_passes passes) queues.new.items + count_by passes opened.new.items
+        ≡ count_by (queue_passes passes) queues.old.items + count_by passes opened.old.items }
     ensures all { OnOk result (queues.new.items ≡ []) }
 {
     while !queues.is_empty() {
@@ -214,9 +230,9 @@ pub(crate) fn take_found(
     kept: &mut Option<Delivery>,
     opened: &mut Vec<Open>,
 ) -> Result<(), OutOfMemory>
-    ensures moved { (e : ℕ) →
-        count_by (is_port e) (found_of kept.new) + count_by (is_open e) opened.new.items
-        ≡ count_by (is_port e) (found_of kept.old) + count_by (is_open e) opened.old.items }
+    ensures moved { (passes : Open → Bool) →
+        count_by (arrived_passes passes) (found_of kept.new) + count_by passes opened.new.items
+        ≡ count_by (arrived_passes passes) (found_of kept.old) + count_by passes opened.old.items }
     ensures all { OnOk result (found_of kept.new ≡ []) }
 {
     match kept {
@@ -229,9 +245,9 @@ pub(crate) fn take_found(
 }
 
 fn take_ports(found: &mut VecDeque<Arrived>, opened: &mut Vec<Open>) -> Result<(), OutOfMemory>
-    ensures moved { (e : ℕ) →
-        count_by (is_port e) found.new.items + count_by (is_open e) opened.new.items
-        ≡ count_by (is_port e) found.old.items + count_by (is_open e) opened.old.items }
+    ensures moved { (passes : Open → Bool) →
+        count_by (arrived_passes passes) found.new.items + count_by passes opened.new.items
+        ≡ count_by (arrived_passes passes) found.old.items + count_by passes opened.old.items }
     ensures all { OnOk result (found.new.items ≡ []) }
 {
     while !found.is_empty() {

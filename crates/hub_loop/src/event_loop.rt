@@ -17,6 +17,7 @@ ghost use Rattle.std.specs.Prelude.{
   ℕ,
   [],
   count_by,
+  length,
 };
 ghost use Rattle.hub_clients.specs.Handing.{taker_of};
 ghost use Rattle.slab.specs.Slab.{SameValues};
@@ -32,6 +33,15 @@ ghost use Rattle.hub_loop.specs.Ending.{
   HasPaused,
 };
 ghost use Rattle.hub_loop.specs.Holding.{ends_held, number_of};
+ghost use Rattle.hub_loop.specs.Noticing.{
+  AllClosed,
+  HasNoticed,
+  HasNoticedSome,
+  ports_in,
+  SomeClosed,
+};
+ghost use Rattle.hub_loop.specs.Popping.{PopsEach};
+ghost use Rattle.hub_loop.specs.TakingNothing.{Gave, TookNothingBut};
 ghost use Rattle.hub_loop.specs.Turning.{IsDue, IsTurn};
 ghost use Rattle.hub_loop.specs.declared.turn.Turn.TheVariants.{Ending};
 
@@ -124,6 +134,8 @@ impl<H: Handler + Drop, C: Checkpoint + Drop> EventLoop<H, C> {
     fn take_up<L: Ledger, R: Wait>(&mut self, rt: &R, steps: &mut Steps<L>) -> Due
         ensures due { IsDue self.old.kept self.old.holding self.new.holding steps.old steps.new
             result }
+        ensures keys { self.old.kept ≡ None →
+            length self.old.holding.held.slots ≤ self.old.holding.held.capacity }
         ensures kept { self.new.kept ≡ None }
         ensures order { self.new.order ≡ self.old.order }
         ensures handler { self.new.handler ≡ self.old.handler }
@@ -158,6 +170,9 @@ impl<H: Handler + Drop, C: Checkpoint + Drop> EventLoop<H, C> {
         ensures ending { (result ≡ Ok Ending) ↔ (knows self.new.order ≡ true) }
         ensures turn { IsTurn H.leaves self.old.holding self.new.holding self.old.kept self.new.kept
             self.old.handler self.new.handler steps.old steps.new result }
+        ensures others { TookNothingBut (Gave self.old.kept self.new.holding.next result)
+            self.old.holding.held self.new.holding.held }
+        ensures pops { PopsEach result self.old.holding.held steps.old steps.new }
     {
         if self.order.seen() {
             return Ok(Turn::Ending);
@@ -346,11 +361,22 @@ impl<H: Handler + Drop, C: Checkpoint + Drop> EventLoop<H, C> {
             (ends_in self.holding.held self.fetched.items self.kept self.opened.items
             self.holding.closed.graves.items)
             (swept_ends ended.swept.items)) }
+        ensures noticed { IfOk result (λ ended. HasNoticed self.closing
+            (ends_in self.holding.held self.fetched.items self.kept self.opened.items
+            self.holding.closed.graves.items)
+            (ports_in self.holding.held self.kept self.opened.items)
+            (swept_ends ended.swept.items) self.holding.closed.noticed.items ended.noticed.items) }
         ensures err { IfErr result (λ failed. HasPaused self.closing failed.1.closing
             (ends_in self.holding.held self.fetched.items self.kept self.opened.items
             self.holding.closed.graves.items)
             (ends_in failed.1.holding.held failed.1.fetched.items failed.1.kept
             failed.1.opened.items failed.1.holding.closed.graves.items)) }
+        ensures noticed_err { IfErr result (λ failed. HasNoticedSome self.closing failed.1.closing
+            (ends_in self.holding.held self.fetched.items self.kept self.opened.items
+            self.holding.closed.graves.items)
+            (ports_in self.holding.held self.kept self.opened.items)
+            (ports_in failed.1.holding.held failed.1.kept failed.1.opened.items)
+            self.holding.closed.noticed.items failed.1.holding.closed.noticed.items) }
     {
         match self.close_all(rt, hub, directory, roster) {
             Ok(ended) => Ok(ended),
@@ -375,12 +401,19 @@ impl<H: Handler + Drop, C: Checkpoint + Drop> EventLoop<H, C> {
             count_by (is_grave e) self.new.holding.closed.graves.items
             ≡ ends_in self.new.holding.held self.new.fetched.items self.new.kept
             self.new.opened.items self.new.holding.closed.graves.items e) }
+        ensures noticed { OnOk result (AllClosed
+            (ports_in self.old.holding.held self.old.kept self.old.opened.items)
+            self.old.holding.closed.noticed.items self.new.holding.closed.noticed.items) }
+        ensures noticed_err { OnErr result (SomeClosed
+            (ports_in self.old.holding.held self.old.kept self.old.opened.items)
+            (ports_in self.new.holding.held self.new.kept self.new.opened.items)
+            self.old.holding.closed.noticed.items self.new.holding.closed.noticed.items) }
         ensures closing { self.new.closing ≡ self.old.closing }
     {
         take_held(&mut self.holding.held, &mut self.opened)?;
         take_queues(&mut self.fetched, &mut self.opened)?;
         take_found(&mut self.kept, &mut self.opened)?;
-        self.opened.sort_unstable_by_key(|open| open.end());
+        self.opened.sort_unstable_by_key(|open| open.end().0);
         self.opened.reverse();
         self.holding
             .closed
@@ -398,11 +431,22 @@ impl<H: Handler + Drop, C: Checkpoint + Drop> EventLoop<H, C> {
             (ends_in self.old.holding.held self.old.fetched.items self.old.kept
             self.old.opened.items self.old.holding.closed.graves.items)
             (closing_ends closing)) }
+        ensures noticed { IfOk result (λ closing. HasNoticed self.old.closing
+            (ends_in self.old.holding.held self.old.fetched.items self.old.kept
+            self.old.opened.items self.old.holding.closed.graves.items)
+            (ports_in self.old.holding.held self.old.kept self.old.opened.items)
+            (closing_ends closing) self.old.holding.closed.noticed.items closing.noticed.items) }
         ensures err { OnErr result (HasPaused self.old.closing self.new.closing
             (ends_in self.old.holding.held self.old.fetched.items self.old.kept
             self.old.opened.items self.old.holding.closed.graves.items)
             (ends_in self.new.holding.held self.new.fetched.items self.new.kept
             self.new.opened.items self.new.holding.closed.graves.items)) }
+        ensures noticed_err { OnErr result (HasNoticedSome self.old.closing self.new.closing
+            (ends_in self.old.holding.held self.old.fetched.items self.old.kept
+            self.old.opened.items self.old.holding.closed.graves.items)
+            (ports_in self.old.holding.held self.old.kept self.old.opened.items)
+            (ports_in self.new.holding.held self.new.kept self.new.opened.items)
+            self.old.holding.closed.noticed.items self.new.holding.closed.noticed.items) }
     {
         match self.closing.take() {
             Some(closing) => Ok(closing),
@@ -426,11 +470,23 @@ impl<H: Handler + Drop, C: Checkpoint + Drop> EventLoop<H, C> {
             (ends_in self.old.holding.held self.old.fetched.items self.old.kept
             self.old.opened.items self.old.holding.closed.graves.items)
             (swept_ends ended.swept.items)) }
+        ensures noticed { IfOk result (λ ended. HasNoticed self.old.closing
+            (ends_in self.old.holding.held self.old.fetched.items self.old.kept
+            self.old.opened.items self.old.holding.closed.graves.items)
+            (ports_in self.old.holding.held self.old.kept self.old.opened.items)
+            (swept_ends ended.swept.items) self.old.holding.closed.noticed.items
+            ended.noticed.items) }
         ensures err { OnErr result (HasPaused self.old.closing self.new.closing
             (ends_in self.old.holding.held self.old.fetched.items self.old.kept
             self.old.opened.items self.old.holding.closed.graves.items)
             (ends_in self.new.holding.held self.new.fetched.items self.new.kept
             self.new.opened.items self.new.holding.closed.graves.items)) }
+        ensures noticed_err { OnErr result (HasNoticedSome self.old.closing self.new.closing
+            (ends_in self.old.holding.held self.old.fetched.items self.old.kept
+            self.old.opened.items self.old.holding.closed.graves.items)
+            (ports_in self.old.holding.held self.old.kept self.old.opened.items)
+            (ports_in self.new.holding.held self.new.kept self.new.opened.items)
+            self.old.holding.closed.noticed.items self.new.holding.closed.noticed.items) }
     {
         let mut closing = self.begin_closing(rt, hub, roster)?;
         match closing.finish(rt, hub, directory, &mut self.kept) {

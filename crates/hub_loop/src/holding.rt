@@ -12,6 +12,7 @@ ghost use Rattle.std.specs.Prelude.{
   IfNone,
   vec_len,
   vec_capacity,
+  length,
 };
 ghost use Rattle.slab.specs.Slab.{HasRoomFor, SameValues};
 ghost use Rattle.hub_clients.specs.Handing.{taker_of};
@@ -103,6 +104,7 @@ impl Holding {
     pub(crate) fn serve<L: Ledger, R: Wait>(&mut self, rt: &R, steps: &mut Steps<L>) -> Served
         ensures served { AreServed self.old.next self.old.held self.new.held steps.old steps.new
             result }
+        ensures keys { length self.old.held.slots ≤ self.old.held.capacity }
         ensures next { self.new.next ≡ next_after self.old.next result }
     {
         let served = serve(rt, &mut self.held, self.next, steps);

@@ -1,5 +1,5 @@
 //! How a loop asks the ends that it holds, in the order of their keys.
-ghost use Rattle.std.specs.Prelude.{◌≡◌, ◌+◌, ◌^◌, ◌<◌, ◌≤◌};
+ghost use Rattle.std.specs.Prelude.{◌≡◌, ◌+◌, ◌^◌, ◌<◌, ◌≤◌, length};
 ghost use Rattle.hub_loop.specs.Serving.{
   asked_by,
   next_after,
@@ -116,6 +116,7 @@ pub(crate) fn serve<L: Ledger, R: Wait>(
 ) -> Served
     requires { next ≤ held.old.capacity }
     ensures served { AreServed next held.old held.new steps.old steps.new result }
+    ensures keys { length held.old.slots ≤ held.old.capacity }
     ensures room { next_after next result ≤ held.new.capacity }
     ensures fits { next_after next result < 2 ^ 64 }
 {

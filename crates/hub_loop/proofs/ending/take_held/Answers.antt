@@ -1,14 +1,14 @@
 use Rattle.std.proofs.Common.{◌≡◌, ◌+◌, ◌∙◌, ◌≤◌, length, refl, sym, ap, subst, arith}
 use Rattle.std.specs.Prelude.{count_by}
 use Rattle.slab.specs.Slab.{get}
-use Rattle.hub_loop.specs.Ending.{is_held, is_open}
+use Rattle.hub_loop.specs.Ending.{slot_passes}
 use Rattle.hub_loop.proofs.Ends.{count-none, empty-more, empty-all}
 use Rattle.hub_loop.proofs.ending.take_held.Goals as goal
 
 pub returns-in_err-reserve-clause-moved : goal.returns-in_err-reserve-clause-moved
-returns-in_err-reserve-clause-moved c e =
-    subst (λ items. count_by (is_held e) c.loop-key.held.slots + count_by (is_open e) items ≡ count_by (is_held e) c.args.held.now.slots + count_by (is_open e) c.args.opened.now.items)
-    (sym c.reserve.ensures.items) (c.loop-key.invariant.moved e)
+returns-in_err-reserve-clause-moved c passes =
+    subst (λ items. count_by (slot_passes passes) c.loop-key.held.slots + count_by passes items ≡ count_by (slot_passes passes) c.args.held.now.slots + count_by passes c.args.opened.now.items)
+    (sym c.reserve.ensures.items) (c.loop-key.invariant.moved passes)
 
 pub loop-key-preserved : goal.loop-key-preserved
 loop-key-preserved c =
@@ -16,16 +16,16 @@ loop-key-preserved c =
     record {
       capacity = c.take_at.ensures.capacity ∙ kept.capacity;
       length = c.take_at.ensures.length ∙ kept.length;
-      moved = λ e.
-          let same = ap (count_by (is_open e)) c.reserve.ensures.items in
-          let one = c.take_at.ensures.moved e in
-          let all = kept.moved e in
+      moved = λ passes.
+          let same = ap (count_by passes) c.reserve.ensures.items in
+          let one = c.take_at.ensures.moved passes in
+          let all = kept.moved passes in
           omega (arith, same, one, all);
       empty = empty-more (get c.loop-key.held) (get c.take_at.new.held) c.loop-key.key c.take_at.ensures.gone c.take_at.ensures.others kept.empty;
     }
 
 pub returns-clause-all : goal.returns-clause-all
-returns-clause-all c e =
+returns-clause-all c passes =
     let kept = c.loop-key.invariant in
     let fits : length c.loop-key.held.slots ≤ c.loop-key.key = omega (arith, kept.length, c.capacity-key-end.ensures.slots, c.loop-key-test.false) in
-    count-none (is_held e) c.loop-key.held.slots refl (empty-all c.loop-key.held.slots c.loop-key.key fits kept.empty)
+    count-none (slot_passes passes) c.loop-key.held.slots refl (empty-all c.loop-key.held.slots c.loop-key.key fits kept.empty)

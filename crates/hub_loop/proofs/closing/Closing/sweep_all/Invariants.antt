@@ -4,7 +4,10 @@ use Rattle.hub_loop.specs.Ending.{closing_ends}
 use Rattle.hub_loop.proofs.closing.Closing.sweep_all.Given as goal
 
 abbrev pub invariant-loop-self : goal.invariant-loop-self
-invariant-loop-self g l = closing_ends l.self ≡ closing_ends l.fn.self
+invariant-loop-self g l = record {
+  same : closing_ends l.self ≡ closing_ends l.fn.self;
+  noticed : l.self.noticed ≡ l.fn.self.noticed;
+}
 
 abbrev pub decreases-loop-self : goal.decreases-loop-self
 decreases-loop-self g l = deque_len l.self.graves

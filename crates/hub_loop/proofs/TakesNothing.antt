@@ -1,0 +1,241 @@
+-- Of the ends that give no envelope nothing is taken.
+use Rattle.std.proofs.Common.{◌≡◌, ◌≢◌, ℕ, zero, suc, ◌+◌, ◌-◌, Bool, List, [], ◌∷◌, ◌++◌, map, refl, sym, ap, ◌∙◌, subst, ⊎_elim, arith, append_assoc, length-append, Option, Some, None}
+use Rattle.std.specs.Prelude.{Result, Ok, Err}
+use Rattle.slab.specs.Slab.{Slab, get}
+use Rattle.hub_envelope.specs.declared.envelope.Envelope.{Envelope}
+use Rattle.hub_envelope.specs.declared.ids.EndId.{EndId}
+use Rattle.hub_ports.specs.Seats.{PortSeat}
+use Rattle.hub_queue.specs.declared.took.Took.{Took}
+use Rattle.hub_queue.specs.declared.took.Took.TheVariants.{Got, Empty, Busy, Again, Disabled, Closed}
+use Rattle.hub_queue.specs.Counting.{Count}
+use Rattle.hub_queue.specs.Taking.{TakerSeat, IsTaken}
+use Rattle.hub_loop.specs.Adopting.{IsOneAdopted, AreAdopted}
+use Rattle.hub_loop.specs.Asking.{Leaves, IsAsked, IsHeldAsked}
+use Rattle.hub_loop.specs.Delivering.{IsDelivered}
+use Rattle.hub_loop.specs.Holding.{seat_of, with_seat}
+use Rattle.hub_loop.specs.Serving.{asked_by, IsSlotAsked, IsAskedAt, GaveNone, AreAskedBetween, AreServed}
+use Rattle.hub_loop.specs.TakingNothing.{got_of, TookNothing, SeatTookNothing, HeldTookNothing, SlotTookNothing, TookNothingBut, Gave}
+use Rattle.hub_loop.specs.Turning.{IsDue, IsTurn}
+use Rattle.hub_loop.specs.declared.delivery.Delivery.{Delivery}
+use Rattle.hub_loop.specs.declared.delivery.Due.TheVariants as turn_has
+use Rattle.hub_loop.specs.declared.held.Held.{Held}
+use Rattle.hub_loop.specs.declared.holding.Holding.{Holding}
+use Rattle.hub_loop.specs.declared.serving.Asked.TheVariants as asked
+use Rattle.hub_loop.specs.declared.serving.Served.TheVariants.{Given, Nothing}
+use Rattle.hub_loop.specs.declared.turn.Turn.{Turn}
+use Rattle.hub_loop.specs.declared.turn.Turn.TheVariants.{Delivered, Idle, Ending}
+use Rattle.hub_loop.proofs.Asks.{seat-with, with-twice, with-own}
+use Rattle.std.proofs.lemmas.Bool.{cases_eq}
+
+-- a taker that is as it was took nothing
+took-none : (s : TakerSeat) → TookNothing s s
+took-none s = record { end = refl; left = []; retired = refl; newest = refl; epoch = omega arith }
+
+-- it took nothing, and then nothing
+took-twice : (s t u : TakerSeat) → TookNothing s t → TookNothing t u → TookNothing s u
+took-twice s t u first second = record {
+  end = second.end ∙ first.end;
+  left = first.left ++ second.left;
+  retired = first.retired ∙ ap (λ ps. first.left ++ ps) second.retired ∙ sym (append_assoc first.left second.left (map got_of u.retired));
+  newest = second.newest ∙ first.newest;
+  epoch = let both = length-append first.left second.left in omega (arith, first.epoch, second.epoch, both);
+}
+
+-- a queue was left
+took-again : (s t : TakerSeat) (before after : Count) → IsTaken s t before after Again → TookNothing s t
+took-again s t before after taken =
+    ⊎_elim
+    (λ (newest : _). absurd newest.3)
+    (λ (retired : _). record {
+      end = ap (λ u. u.end) retired.0;
+      left = got_of retired.1.0 ∷ [];
+      retired = ap (map got_of) retired.1.3 ∙ ap (λ ps. got_of retired.1.0 ∷ map got_of ps) (sym retired.1.4);
+      newest = ap (λ u. got_of u.newest) retired.0;
+      epoch = ap (λ u. u.epoch) retired.0;
+    })
+    taken.1
+
+-- somebody was found inside the oldest queue
+took-busy : (s t : TakerSeat) (before after : Count) → IsTaken s t before after Busy → TookNothing s t
+took-busy s t before after taken =
+    ⊎_elim
+    (λ (newest : _). absurd newest.3)
+    (λ (retired : _). record {
+      end = ap (λ u. u.end) retired.0;
+      left = [];
+      retired = ap (map got_of) retired.1.3
+          ∙ ap (λ got. got ∷ map got_of retired.1.2) (sym (ap (λ at. at.got) retired.1.5.0.at))
+          ∙ ap (map got_of) (sym retired.1.4);
+      newest = ap (λ u. got_of u.newest) retired.0;
+      epoch = ap (λ u. u.epoch) retired.0 ∙ omega arith;
+    })
+    taken.1
+
+-- the newest queue held nothing
+took-empty : (s t : TakerSeat) (before after : Count) → IsTaken s t before after Empty → TookNothing s t
+took-empty s t before after taken =
+    ⊎_elim
+    (λ (newest : _). record {
+      end = ap (λ u. u.end) newest.2;
+      left = [];
+      retired = ap (map got_of) newest.1 ∙ sym (ap (λ u. map got_of u.retired) newest.2);
+      newest = ap (λ u. got_of u.newest) newest.2 ∙ ap got_of newest.3.0;
+      epoch = ap (λ u. u.epoch) newest.2 ∙ omega arith;
+    })
+    (λ (retired : _). absurd retired.1.5)
+    taken.1
+
+-- an answer that gives no envelope
+took-answer : (s t : TakerSeat) (before after : Count) (took : Took) (busy : Bool) → IsTaken s t before after took → asked.Nothing busy ≡ asked_by (Some took) → TookNothing s t
+took-answer s t before after (Got v) busy taken none = absurd cc
+took-answer s t before after Empty busy taken none = took-empty s t before after taken
+took-answer s t before after Busy busy taken none = took-busy s t before after taken
+took-answer s t before after Again busy taken none = took-again s t before after taken
+took-answer s t before after Disabled busy taken none = subst (TookNothing s) (sym taken.1) (took-none s)
+took-answer s t before after Closed busy taken none = ⊎_elim (λ (newest : _). absurd newest.3) (λ (retired : _). absurd retired.1.5) taken.1
+
+-- so many queues were left
+took-leaving : (n : ℕ) (s t : TakerSeat) (before after : Count) → Leaves n s t before after → TookNothing s t
+took-leaving zero s t before after left = subst (TookNothing s) (sym left.0) (took-none s)
+took-leaving (suc n) s t before after left =
+    took-twice s left.0 t (took-leaving n s left.0 before left.1 left.2) (took-again left.0 t left.1 after left.3)
+
+-- an end that was asked and gave no envelope
+took-asked : (s t : TakerSeat) (before after : Count) (took : Took) (busy : Bool) → IsAsked s t before after took → asked.Nothing busy ≡ asked_by (Some took) → TookNothing s t
+took-asked s t before after took busy came none =
+    took-twice s came.at t (took-leaving came.queues s came.at before came.count came.left) (took-answer came.at t came.count after took busy came.taken none)
+
+held-asked : (old new : Held) (before after : Count) (answer : Option Took) (busy : Bool) → IsHeldAsked old new before after answer → asked.Nothing busy ≡ asked_by answer → HeldTookNothing old new
+held-asked old new before after None busy came none = subst (λ o. SeatTookNothing o old new) (sym came.0) came.1
+held-asked old new before after (Some took) busy came none =
+    subst (λ o. SeatTookNothing o old new) (sym came.2) (came.1, came.3, took-asked came.0 came.1 before after took busy came.4 none)
+
+slot-asked : (old new : Option Held) (before after : Count) (answer : Option Took) (busy : Bool) → IsSlotAsked old new before after answer → asked.Nothing busy ≡ asked_by answer → SlotTookNothing old new
+slot-asked None new before after answer busy came none = tt
+slot-asked (Some h) new before after answer busy came none = (came.0, came.1, held-asked h came.0 before after answer busy came.2 none)
+
+-- what is held is as it was
+held-same : (o : Option TakerSeat) (h : Held) → seat_of h ≡ o → SeatTookNothing o h h
+held-same None h is = refl
+held-same (Some s) h is = (s, with-own h s is, took-none s)
+
+slot-same : (old new : Option Held) → new ≡ old → SlotTookNothing old new
+slot-same None new same = tt
+slot-same (Some h) new same = (h, same, held-same (seat_of h) h refl)
+
+-- of what is held nothing was taken, and then nothing
+held-twice : (o : Option TakerSeat) (a b c : Held) → seat_of a ≡ o → SeatTookNothing o a b → HeldTookNothing b c → SeatTookNothing o a c
+held-twice None a b c is first second =
+    let here : seat_of b ≡ None = ap seat_of first ∙ is in
+    let then : c ≡ b = subst (λ o. SeatTookNothing o b c) here second in
+    then ∙ first
+held-twice (Some s) a b c is first second =
+    let t = first.0 in
+    let here : seat_of b ≡ Some t = ap seat_of first.1 ∙ seat-with a s t is in
+    let then : SeatTookNothing (Some t) b c = subst (λ o. SeatTookNothing o b c) here second in (
+      then.0,
+      then.1 ∙ ap (λ h. with_seat h then.0) first.1 ∙ with-twice a t then.0,
+      took-twice s t then.0 first.2 then.2,
+    )
+
+slot-twice : (a b c : Option Held) → SlotTookNothing a b → SlotTookNothing b c → SlotTookNothing a c
+slot-twice None b c first second = tt
+slot-twice (Some h) b c first second =
+    let then : SlotTookNothing (Some first.0) c = subst (λ o. SlotTookNothing o c) first.1 second in
+    (then.0, then.1, held-twice (seat_of h) h first.0 then.0 refl first.2 then.2)
+
+-- what was held is held unchanged
+slot-kept : (a b c : Option Held) → SlotTookNothing a b → ((h : Held) → b ≡ Some h → c ≡ Some h) → SlotTookNothing a c
+slot-kept None b c first kept = tt
+slot-kept (Some h) b c first kept = (first.0, kept first.0 first.1, first.2)
+
+-- under one key an end was asked, and under the others all is as it was
+others-asked : (old new : Slab Held) (key : ℕ) (before after : Count) (came : _) → IsAskedAt old new key before after came → (other : ℕ) → other ≢ key → SlotTookNothing (get old other) (get new other)
+others-asked old new key before after came at other differs = slot-same (get old other) (get new other) (at.1.others other differs)
+
+all-asked : (old new : Slab Held) (key : ℕ) (before after : Count) (busy : Bool) → IsAskedAt old new key before after (asked.Nothing busy) → (other : ℕ) → SlotTookNothing (get old other) (get new other)
+all-asked old new key before after busy at other =
+    ⊎_elim
+    (λ same. subst (λ k. SlotTookNothing (get old k) (get new k)) (sym same) (slot-asked (get old key) (get new key) before after at.0 busy at.1.at at.2))
+    (λ differs. others-asked old new key before after (asked.Nothing busy) at other differs)
+    (cases_eq other key)
+
+all-gave-none : (low n : ℕ) (old new : Slab Held) (before after : Count) (busy : Bool) → GaveNone low n old new before after busy → (other : ℕ) → SlotTookNothing (get old other) (get new other)
+all-gave-none low zero old new before after busy gave other = slot-same (get old other) (get new other) (ap (λ s. get s other) gave.0)
+all-gave-none low (suc n) old new before after busy gave other =
+    slot-twice (get old other) (get gave.0 other) (get new other)
+    (all-gave-none low n old gave.0 before gave.1 gave.2 gave.4 other)
+    (all-asked gave.0 new (low + n) gave.1 after gave.3 gave.5 other)
+
+-- of the ends under the other keys nothing was taken
+others-between : (low high key : ℕ) (v : Envelope) (old new : Slab Held) (before after : Count) → AreAskedBetween low high old new before after (Given key v) → (other : ℕ) → other ≢ key → SlotTookNothing (get old other) (get new other)
+others-between low high key v old new before after given other differs =
+    let came = given.2 in
+    slot-twice (get old other) (get came.0 other) (get new other)
+    (all-gave-none low (key - low) old came.0 before came.1 came.2 came.3 other)
+    (others-asked came.0 new key came.1 after (asked.Given v) came.4 other differs)
+
+others-served : (next key : ℕ) (v : Envelope) (old new : Slab Held) (before after : Count) → AreServed next old new before after (Given key v) → (other : ℕ) → other ≢ key → SlotTookNothing (get old other) (get new other)
+others-served next key v old new before after served other differs =
+    ⊎_elim
+    (λ (ahead : _). others-between next old.capacity key v old new before after ahead other differs)
+    (λ (behind : _). slot-twice (get old other) (get behind.0 other) (get new other)
+    (all-gave-none next (old.capacity - next) old behind.0 before behind.1 behind.2 behind.3 other)
+    (others-between 0 next key v behind.0 new behind.1 after behind.4 other differs))
+    served
+
+all-served : (next : ℕ) (busy : Bool) (old new : Slab Held) (before after : Count) → AreServed next old new before after (Nothing busy) → (other : ℕ) → SlotTookNothing (get old other) (get new other)
+all-served next busy old new before after served other =
+    slot-twice (get old other) (get served.0 other) (get new other)
+    (all-gave-none next (old.capacity - next) old served.0 before served.1 served.2 served.4 other)
+    (all-gave-none 0 next served.0 new served.1 after served.3 served.5 other)
+
+-- what was held before ports were adopted is held afterwards
+one-kept : (p : PortSeat) (old new : Slab Held) (before after : List EndId) (key : ℕ) (h : Held) → IsOneAdopted p old new before after → get old key ≡ Some h → get new key ≡ Some h
+one-kept p old new before after key h one there =
+    ⊎_elim
+    (λ (held : _).
+    let more = held.2 in
+    let differs : key ≢ more.0 = λ same. let none : get old key ≡ None = ap (get old) same ∙ more.1 in absurd cc in
+    more.2.others key differs ∙ there)
+    (λ (unfit : _). unfit.3 key ∙ there)
+    one
+
+adopted-kept : (ps : List PortSeat) (old new : Slab Held) (before after : List EndId) (key : ℕ) (h : Held) → AreAdopted ps old new before after → get old key ≡ Some h → get new key ≡ Some h
+adopted-kept [] old new before after key h did there = did.0 key ∙ there
+adopted-kept (p ∷ ps) old new before after key h did there =
+    adopted-kept ps did.0 new did.1 after key h did.3 (one-kept p old did.0 before did.1 key h did.2 there)
+
+-- of the ends under the other keys nothing was taken before the delivery
+others-due : (kept : Option Delivery) (old new : Holding) (before after : Count) (d : Delivery) (key : ℕ) → IsDue kept old new before after (turn_has.Delivery d) → (kept ≡ None → new.next ≡ key + 1 → ⊥) → SlotTookNothing (get old.held key) (get new.held key)
+others-due (Some k) old new before after d key due gave = slot-same (get old.held key) (get new.held key) (ap (λ holding. get holding.held key) due.1)
+others-due None old new before after d key due gave =
+    others-served old.next due.0 due.1 old.held new.held before after due.3 key
+    (λ same. gave refl (due.4 ∙ ap (λ k. k + 1) (sym same)))
+
+-- of no end anything was taken where nothing is due
+pub all-due : (kept : Option Delivery) (old new : Holding) (before after : Count) (busy : Bool) (key : ℕ) → IsDue kept old new before after (turn_has.Nothing busy) → SlotTookNothing (get old.held key) (get new.held key)
+all-due (Some k) old new before after busy key due = slot-same (get old.held key) (get new.held key) (ap (λ holding. get holding.held key) due.1)
+all-due None old new before after busy key due = all-served old.next busy old.held new.held before after due.0 key
+
+module _ {H E : Type 0} (leaves : H → Envelope → List EndId → H → Type 0) where
+  delivered-kept : (d e : Delivery) (before after : Slab Held) (h left : H) (result : Result (Unit {0}) E) → IsDelivered {E = E} leaves d e before after h left result → (key : ℕ) (held : Held) → get before key ≡ Some held → get after key ≡ Some held
+  delivered-kept d e before after h left (Ok done) did key held there = adopted-kept did.0.found.items before after did.0.missing.items did.1 key held did.3 there
+  delivered-kept d e before after h left (Err error) did key held there =
+      ⊎_elim
+      (λ (none : _). ap (λ s. get s key) none.2 ∙ there)
+      (λ (partly : _). adopted-kept partly.2 before after partly.0.missing.items partly.1.missing.items key held partly.5.1 there)
+      did.1
+
+  -- a turn takes of no end but the one that gave its envelope
+  pub others-turn : (old new : Holding) (kept keeps : Option Delivery) (h left : H) (before after : Count) (result : Result Turn E) → IsTurn leaves old new kept keeps h left before after result → TookNothingBut (Gave kept new.next result) old.held new.held
+  others-turn old new kept keeps h left before after (Ok Ending) turn key gave = slot-same (get old.held key) (get new.held key) (ap (λ holding. get holding.held key) turn.0)
+  others-turn old new kept keeps h left before after (Ok (Idle busy)) turn key gave = all-due kept old new before after busy key turn.0
+  others-turn old new kept keeps h left before after (Ok Delivered) turn key gave =
+      slot-kept (get old.held key) (get turn.2.held key) (get new.held key)
+      (others-due kept old turn.2 before after turn.0 key turn.3 (λ is behind. gave (subst (λ k. Gave {E = E} k new.next (Ok Delivered) key) (sym is) (turn.6 ∙ behind))))
+      (λ held there. delivered-kept turn.0 turn.1 turn.2.held new.held h left (Ok tt) turn.4 key held there)
+  others-turn old new kept keeps h left before after (Err error) turn key gave =
+      slot-kept (get old.held key) (get turn.2.held key) (get new.held key)
+      (others-due kept old turn.2 before after turn.0 key turn.3 (λ is behind. gave (subst (λ k. Gave k new.next (Err error) key) (sym is) (turn.6 ∙ behind))))
+      (λ held there. delivered-kept turn.0 turn.1 turn.2.held new.held h left (Err error) turn.4 key held there)
