@@ -1,3 +1,4 @@
+pub mod StoredBytes
 pub mod Everywhere
 pub mod Whole
 pub mod KeyOrder

@@ -8,6 +8,7 @@ ghost use Rattle.hub_envelope.specs.Compact.{IsCompact};
 use crate::compact::is_compact;
 use crate::limits::{MAX_BODY_BYTES, MAX_NESTING};
 use crate::profile::{is_whole, nests_within};
+use crate::stored_text::StoredText;
 use serde_json::Value;
 use std::alloc::{AllocError, Global};
 use std::marker::Model;
@@ -16,21 +17,23 @@ use thiserror::Error;
 /// A message body: a JSON value (RFC 8259) whose numbers are whole and fit in `i64` or `u64`, whose
 /// arrays and objects nest at most `MAX_NESTING` deep, and whose compact text has at most
 /// `MAX_BODY_BYTES` bytes. It is kept as that text: no space, the members of an object in byte
-/// order of their keys, and of equal keys the last one.
+/// order of their keys, and of equal keys the last one. A text of at most `INLINE_BYTES` bytes lies
+/// in the value itself, so that such a body is read, copied and dropped without the allocator.
 #[derive(Debug, Drop)]
 pub struct Body {
-    text: String,
+    text: StoredText,
 }
 
 impl Model for Body {
-    ghost use Rattle.std.specs.Prelude.{List, ℕ, string_bytes};
+    ghost use Rattle.std.specs.Prelude.{List, ℕ};
     ghost use Rattle.hub_envelope.specs.BodyText.{IsBodyText};
+    ghost use Rattle.hub_envelope.specs.StoredBytes.{stored_bytes};
 
     ghost Value = { List ℕ };
 
-    ghost view = { λ b. string_bytes b.text };
+    ghost view = { λ b. stored_bytes b.text };
 
-    ghost invariant = { λ b. IsBodyText (string_bytes b.text) };
+    ghost invariant = { λ b. IsBodyText (stored_bytes b.text) };
 }
 
 /// Why a text is no body. The refusals are tested in this order; memory may fail at any point.
@@ -80,7 +83,7 @@ impl Body {
     pub fn null(alloc: Global) -> Result<Body, AllocError>
         ensures { IfOk result (λ body. body ≡ codes "null") }
     {
-        let text = String::from_str(alloc, "null")?;
+        let text = StoredText::copy_of(alloc, "null")?;
         Ok(Body { text })
     }
 
@@ -91,7 +94,7 @@ impl Body {
         ensures some { 0 < length text.now }
         ensures err { IfErr result (λ e. e ≡ BodyError.OutOfMemory) }
     {
-        match String::from_str(alloc, text) {
+        match StoredText::copy_of(alloc, text) {
             Ok(copy) => Ok(Body { text: copy }),
             Err(_) => Err(BodyError::OutOfMemory),
         }
@@ -127,7 +130,9 @@ impl Body {
         if text.len() > MAX_BODY_BYTES {
             return Err(BodyError::TooLong);
         }
-        Ok(Body { text })
+        Ok(Body {
+            text: StoredText::of_string(text),
+        })
     }
 
     /// The compact text.
@@ -161,7 +166,7 @@ impl PartialEq for Body {
         ensures value { result ≡ bytes_eq self.now other.now }
         ensures same { IsTrue result ↔ (self.now ≡ other.now) }
     {
-        self.text == other.text
+        self.text() == other.text()
     }
 }
 

@@ -11,12 +11,12 @@ use std::alloc::{AllocError, Global};
 /// What a sender hands over to be posted.
 #[derive(Debug, Drop)]
 pub struct Draft {
-    /// The agent that posts.
-    pub agent: AgentId,
     /// What is said.
     pub body: Body,
     /// The ports that are transferred. A draft names them and doesn't hold them.
     pub ports: Ports,
+    /// The agent that posts.
+    pub agent: AgentId,
     /// Whether it is the notice by which a closed port says that nothing more comes on its line.
     pub notice: bool,
 }
@@ -75,23 +75,25 @@ impl Eq for Draft {
     ghost laws = { Prim.search (comparing, rules) depth 12 };
 }
 
-/// A draft that was accepted, under its name.
+/// A draft that was accepted, under its name: end, epoch, line and number.
+// Fields lie in memory in the order in which they stand here; in this one they leave no gaps, and an
+// envelope is copied wherever it goes.
 #[derive(Debug, Drop)]
 pub struct Envelope {
+    /// What is said.
+    pub body: Body,
+    /// The ports that travel with it. An envelope names them and doesn't hold them.
+    pub ports: Ports,
+    /// How many envelopes of its line stood in that queue before it.
+    pub number: u64,
     /// The end that it was put at.
     pub end: EndId,
     /// The queue of that end: how many adoptions of the end came before.
     pub epoch: u32,
     /// The line that it came by.
     pub line: LineId,
-    /// How many envelopes of its line stood in that queue before it.
-    pub number: u64,
     /// The agent that posted it.
     pub agent: AgentId,
-    /// What is said.
-    pub body: Body,
-    /// The ports that travel with it. An envelope names them and doesn't hold them.
-    pub ports: Ports,
     /// Whether it is a notice, the last envelope of its line.
     pub notice: bool,
 }

@@ -12,6 +12,7 @@ mod ids;
 mod limits;
 mod ports;
 mod profile;
+mod stored_text;
 
 pub use body::{Body, BodyError};
 pub use envelope::{Draft, Envelope};

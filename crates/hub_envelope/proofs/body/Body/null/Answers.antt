@@ -6,4 +6,4 @@ use Rattle.hub_envelope.proofs.ReadCompact.{IsBodyText-compact}
 use Rattle.hub_envelope.proofs.body.Body.null.Goals as goal
 
 pub invariant_of-result : goal.invariant_of-result
-invariant_of-result c = subst IsBodyText (sym c.in_ok-text.ensures.ok) (IsBodyText-compact (codes "null") (IsUtf8-are_ascii (codes "null") refl) (front-null 64 (codes "null") [] refl) (lit≤ tt))
+invariant_of-result c = subst IsBodyText (sym c.in_ok-text.ensures) (IsBodyText-compact (codes "null") (IsUtf8-are_ascii (codes "null") refl) (front-null 64 (codes "null") [] refl) (lit≤ tt))

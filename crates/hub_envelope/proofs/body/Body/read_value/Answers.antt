@@ -1,8 +1,9 @@
 use Rattle.std.proofs.lemmas.Str.{IsUtf8-string_bytes}
-use Rattle.std.proofs.Common.{◌<◌, ◌≤◌, length, Ok, Err, ap, sym, ◌∙◌, inl, inr, arith, true≢false}
+use Rattle.std.proofs.Common.{◌<◌, ◌≤◌, length, Ok, Err, ap, sym, subst, ◌∙◌, inl, inr, arith, true≢false}
 use Rattle.serde_json.specs.Data.{depth}
 use Rattle.serde_json.specs.View.{view}
 use Rattle.serde_json.specs.Written.{has_float, compact_text}
+use Rattle.hub_envelope.specs.BodyText.{IsBodyText}
 use Rattle.hub_envelope.specs.declared.limits.TheConstants.{MAX_NESTING, MAX_BODY_BYTES}
 use Rattle.hub_envelope.proofs.Answers.{answer_of-not_json, answer_of-not_whole, answer_of-too_deep, answer_of-too_long, answer_of-body, IsInProfile-read, IsAnswerTo-equal, read-nonempty, from_not_true, from_not_false}
 use Rattle.hub_envelope.proofs.body.Body.read_value.Goals as goal
@@ -67,7 +68,7 @@ invariant_of-result c =
     let nested : depth d ≤ MAX_NESTING = grind arith in
     let text = c.in-Ok-to_string.ensures.text whole in
     let short : length (compact_text d) ≤ MAX_BODY_BYTES = grind (arith, ap length text) in
-    record { value = d; reads = c.in-Ok-to_string.ensures.reads_back (omega arith); profile = IsInProfile-read c.args.text.now d c.in-Ok.ensures.ok whole nested short; compact = text; utf8 = IsUtf8-string_bytes c.in-Ok-to_string.text }
+    subst IsBodyText (sym c.of_string.ensures) (record { value = d; reads = c.in-Ok-to_string.ensures.reads_back (omega arith); profile = IsInProfile-read c.args.text.now d c.in-Ok.ensures.ok whole nested short; compact = text; utf8 = IsUtf8-string_bytes c.in-Ok-to_string.text })
 
 pub returns-clause-ok : goal.returns-clause-ok
 returns-clause-ok c =
@@ -76,7 +77,7 @@ returns-clause-ok c =
     let nested : depth d ≤ MAX_NESTING = grind arith in
     let text = c.in-Ok-to_string.ensures.text whole in
     let short : length (compact_text d) ≤ MAX_BODY_BYTES = grind (arith, ap length text) in
-    answer_of-body c.args.text.now d c.in-Ok.ensures.ok (IsInProfile-read c.args.text.now d c.in-Ok.ensures.ok whole nested short) ∙ ap Ok (sym text)
+    answer_of-body c.args.text.now d c.in-Ok.ensures.ok (IsInProfile-read c.args.text.now d c.in-Ok.ensures.ok whole nested short) ∙ ap Ok (sym (c.of_string.ensures ∙ text))
 
 pub returns-clause-cases : goal.returns-clause-cases
 returns-clause-cases c = IsAnswerTo-equal c.args.text.now _ (returns-clause-ok c)
