@@ -62,6 +62,9 @@ impl Core {
     /// that is answered `Ending` for each end.
     /// An `Err` says that memory can't be had, that a line has put 2^62 envelopes in its queue, or
     /// that an agent has 2^32 queues.
+    // It is inlined since most callers know which step they take, and need no room for the answers
+    // of the others.
+    #[inline(always)]
     pub fn step(&mut self, step: Step) -> Result<Outcome, OutOfMemory>
         ensures fits { IfOk result (λ o. FitsAndShows self.old self.new step o) }
         ensures unchanged { IfOk result (λ o. changes_nothing o step.action ≡ true
