@@ -4,3 +4,4 @@ pub mod Computing
 pub mod Running
 pub mod OneText
 pub mod Saying
+pub mod UnderWay

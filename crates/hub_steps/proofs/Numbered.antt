@@ -1,5 +1,5 @@
 -- Reading lines one after the other, as a loop does.
-use Rattle.std.proofs.Common.{◌≡◌, ℕ, ◌+◌, List, [], ◌∷◌, ◌++◌, length, true, eqb, Ok, Err, refl, sym, ap, subst, ◌∙◌, append_assoc, arith}
+use Rattle.std.proofs.Common.{◌≡◌, ℕ, ◌+◌, List, [], ◌∷◌, ◌++◌, length, true, eqb, Ok, Err, refl, sym, ap, ◌∙◌, append_assoc, arith}
 use Rattle.std.proofs.lemmas.Bool.{eqb-true}
 use Rattle.hub_text.specs.TextLines.{text_lines_of}
 use Rattle.std.proofs.lemmas.List.{append-nil}
@@ -12,6 +12,11 @@ use Rattle.hub_steps.specs.Steps.{at_line, steps_from, ReadSteps}
 abbrev pub with_front : List StepLine → ReadSteps → ReadSteps
 with_front front (Ok lines) = Ok (front ++ lines)
 with_front front (Err bad) = Err bad
+
+-- nothing was read before
+pub starts_reading : (read : ReadSteps) → with_front [] read ≡ read
+starts_reading (Ok lines) = refl
+starts_reading (Err bad) = refl
 
 regroup : (front : List StepLine) (n : ℕ) (line : StepLine) (read : ReadSteps) → with_front front (at_line n (Ok line) read) ≡ with_front (front ++ line ∷ []) read
 regroup front n line (Ok lines) = ap (λ (xs : List StepLine). Ok xs) (sym (append_assoc front (line ∷ []) lines))
@@ -34,11 +39,6 @@ is_bad front n lines more bytes kind total cut read so_far =
 pub is_done : (front : List StepLine) (n : ℕ) (total : ReadSteps) → with_front front (steps_from n []) ≡ total → total ≡ Ok front
 unfolding steps_from
 is_done front n total so_far = sym so_far ∙ ap (λ (xs : List StepLine). Ok xs) (append-nil front)
-
-pub one_more : (xs front : List StepLine) (lines : List (List ℕ)) (total : ReadSteps) (line : StepLine) → length xs ≡ length front + 1 → xs ≡ front ++ line ∷ []
-    → with_front (front ++ line ∷ []) (steps_from (length front + 1 + 1) lines) ≡ total → with_front xs (steps_from (length xs + 1) lines) ≡ total
-one_more xs front lines total line longer items h =
-    subst (λ ys. with_front ys (steps_from (length xs + 1) lines) ≡ total) (sym items) (subst (λ n. with_front (front ++ line ∷ []) (steps_from (n + 1) lines) ≡ total) (sym longer) h)
 
 pub no_lines : (bytes : List ℕ) → eqb (length bytes) 0 ≡ true → text_lines_of bytes ≡ []
 unfolding text_lines_of

@@ -1,5 +1,5 @@
 -- Lines that were run, and what has gone out of their text.
-use Rattle.std.proofs.Common.{◌≡◌, ℕ, List, [], ◌∷◌, ◌++◌, length, Bool, true, false, Option, Result, Ok, Err, refl, sym, ap, subst, ◌∙◌, append_assoc, append-nil, arith}
+use Rattle.std.proofs.Common.{◌≡◌, ℕ, List, [], ◌∷◌, ◌++◌, Bool, true, false, Option, Result, Ok, Err, refl, sym, ap, subst, ◌∙◌, append_assoc, append-nil}
 use Rattle.std.specs.Result.{is_err, OnOk, OnErr}
 use Rattle.std.specs.Io.KnownBytes.{Appends, Keeps}
 use Rattle.hub_core.specs.declared.machine.Core.{Core}
@@ -111,16 +111,6 @@ pub flush_failed : (old now next : Option (List ℕ)) (core : Core) (lives : All
 flush_failed old now next core lives kept front back lines a e none keeps =
     let text : a.sent ++ kept ≡ a.sent = ap (λ t. a.sent ++ t) none ∙ append-nil a.sent in
     (a.sent ++ out_of_memory, (front, back, a.sent, e, told_as a text, refl), begins_kept old now next a.sent out_of_memory a.out keeps)
-
-pub one_less : (lines done rest after : List StepLine) (line : StepLine) → lines ≡ done ++ rest → rest ≡ line ∷ after → lines ≡ (done ++ line ∷ []) ++ after
-one_less lines done rest after line e f = e ∙ ap (λ xs. done ++ xs) f ∙ sym (append_assoc done (line ∷ []) after)
-
-none_left : (rest : List StepLine) → length rest ≡ 0 → rest ≡ []
-none_left [] h = refl
-none_left (l ∷ rest) h = absurd (omega (arith, h))
-
-pub all_done : (lines done rest : List StepLine) (len : ℕ) → lines ≡ done ++ rest → len ≡ length rest → len ≡ 0 → done ≡ lines
-all_done lines done rest len e f g = sym (e ∙ ap (λ xs. done ++ xs) (none_left rest (sym f ∙ g)) ∙ append-nil done)
 
 pub err_says : {T E : Type 0} (r : Result T E) (P : Type 0) (b : Bool) → b ≡ is_err r → b ≡ true → OnErr r P → P
 err_says (Ok x) P b e f h = cc

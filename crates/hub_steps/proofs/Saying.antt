@@ -1,11 +1,11 @@
 -- What the engine of step lines has written, and what that stands for.
-use Rattle.std.proofs.Common.{◌≡◌, ◌⊎◌, ℕ, List, Option, Result, Ok, Err, sym, subst, inl, inr}
+use Rattle.std.proofs.Common.{◌≡◌, ◌⊎◌, ℕ, List, Ok, Err, subst, inl, inr}
 use Rattle.hub_engine.specs.declared.status.ExitStatus.{ExitStatus}
 use Rattle.hub_engine.specs.declared.status.ExitStatus.TheVariants as status
 use Rattle.hub_steps.specs.declared.step_line.StepLine.{StepLine}
 use Rattle.hub_steps.specs.declared.step_line.StepLineError.{StepLineError}
 use Rattle.hub_steps.specs.declared.step_line.StepLineError.TheVariants as kind
-use Rattle.hub_engine.specs.Engine.{IsBadLine, Says, SaysUnread, Writes}
+use Rattle.hub_engine.specs.Engine.{IsBadLine, SaysUnread}
 use Rattle.hub_steps.specs.Output.{IsRunOutput, IsStepsOutput}
 use Rattle.hub_steps.specs.StepLineKind.{step_kind_text}
 use Rattle.hub_steps.specs.Steps.{steps_of}

@@ -26,6 +26,8 @@ pub fn enter(core: &mut Core, sender: Sender, memory_refused: bool) -> Result<Ou
 }
 
 /// Takes a step, whose outcome is shown.
+// It is inlined, and so is `take_step`, since each caller knows which step it takes.
+#[inline(always)]
 #[tactic(auto, using(crate::proofs::Computing::shown_as))]
 pub fn show_step(
     core: &mut Core,
@@ -41,6 +43,7 @@ pub fn show_step(
 }
 
 /// Takes a step, with memory refused in it or not.
+#[inline(always)]
 pub fn take_step(
     core: &mut Core,
     action: Action,

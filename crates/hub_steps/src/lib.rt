@@ -11,10 +11,10 @@ mod lives;
 mod perform;
 mod posting;
 mod read_step_line;
-mod read_steps;
 mod shown;
 mod starting;
 mod step_line;
+mod test_steps;
 mod text;
 
 pub use engine::{run_steps, step_text_laws};

@@ -1,4 +1,4 @@
-ghost use Rattle.std.specs.Prelude.{◌≡◌, Ok, option_map};
+ghost use Rattle.std.specs.Prelude.{◌≡◌, Ok, option_map, bytes_eq, codes, false};
 ghost use Rattle.hub_text.specs.Reading.{IsReadAs};
 ghost use Rattle.hub_steps.specs.StepLine.{agent_of, agent_and_event_after, agent_and_name_after, cast_after, name_of, url_after, url_of, command_in, command_of, end_and_agent_after, line_of, list_of, mark, number_after, number_of, only_word, poster_after, poster_command_of, poster_named, poster_of, posting_after, step_line_of, word_before};
 
@@ -13,6 +13,9 @@ use std::alloc::Global;
 
 /// The step line that a text line is. Its tests come in the order of `StepLineError`, and from the
 /// left; want of memory may come at any body.
+// It is inlined, and so is what reads posts and takes on the way from here, since each call copies
+// what was read.
+#[inline(always)]
 #[tactic(auto, unfolding(crate::specs::StepLine::step_line_of))]
 pub fn read_step_line(alloc: Global, bytes: &[u8]) -> Result<StepLine, StepLineError>
     ensures { IsReadAs StepLineError.OutOfMemory (λ x. x) result (step_line_of bytes.now) }
@@ -39,6 +42,7 @@ fn marked(text: &str) -> (bool, &str)
 }
 
 /// What a text line with no mark asks for.
+#[inline(always)]
 #[tactic(auto, unfolding(crate::specs::StepLine::command_in))]
 fn command_in(alloc: Global, text: &str) -> Result<Command, StepLineError>
     ensures { IsReadAs StepLineError.OutOfMemory (λ x. x) result (command_in text.now) }
@@ -51,8 +55,29 @@ fn command_in(alloc: Global, text: &str) -> Result<Command, StepLineError>
 
 /// What the step of that name asks for. `rest` is what comes after the name and a space, where
 /// there is a space.
-#[tactic(auto, unfolding(crate::specs::StepLine::command_of))]
+// Posts and takes, which most step lines are, have a function of their own: one that reads each
+// kind of step clears room for what each of them asks for.
+#[inline(always)]
+#[tactic(auto, unfolding(crate::specs::StepLine::command_of, crate::specs::StepLine::poster_command_of))]
 fn command_of(alloc: Global, name: &str, rest: Option<&str>) -> Result<Command, StepLineError>
+    ensures { IsReadAs StepLineError.OutOfMemory (λ x. x) result
+        (command_of name.now (option_map (λ x. x.now) rest.entry)) }
+{
+    match name {
+        "post" => {
+            let (poster, ports, body) = posting_after(alloc, rest)?;
+            Ok(Command::At(poster, PosterCommand::Post(ports, body)))
+        }
+        "take" => Ok(Command::Take(EndId(number_after(rest)?))),
+        _ => rarer_command_of(alloc, name, rest),
+    }
+}
+
+/// What the step of that name asks for, where it is neither `post` nor `take`.
+#[tactic(auto, unfolding(crate::specs::StepLine::command_of))]
+fn rarer_command_of(alloc: Global, name: &str, rest: Option<&str>) -> Result<Command, StepLineError>
+    requires { (bytes_eq name.now (codes "post") ≡ false)
+        × (bytes_eq name.now (codes "take") ≡ false) }
     ensures { IsReadAs StepLineError.OutOfMemory (λ x. x) result
         (command_of name.now (option_map (λ x. x.now) rest.entry)) }
 {
@@ -71,7 +96,6 @@ fn command_of(alloc: Global, name: &str, rest: Option<&str>) -> Result<Command, 
         }
         "start" => Command::Start(EndId(number_after(rest)?)),
         "loaded" => Command::Loaded(EndId(number_after(rest)?)),
-        "take" => Command::Take(EndId(number_after(rest)?)),
         "look" => Command::Look(EndId(number_after(rest)?)),
         "hand" => {
             let (end, agent) = end_and_agent_after(rest)?;
@@ -98,13 +122,14 @@ fn command_of(alloc: Global, name: &str, rest: Option<&str>) -> Result<Command, 
     })
 }
 
-/// What the step of that name asks of a poster.
+/// What the step of that name asks of a poster, where it isn't `post`.
 #[tactic(auto, unfolding(crate::specs::StepLine::poster_command_of))]
 fn poster_command_of(
     alloc: Global,
     name: &str,
     rest: Option<&str>,
 ) -> Result<Command, StepLineError>
+    requires { bytes_eq name.now (codes "post") ≡ false }
     ensures { IsReadAs StepLineError.OutOfMemory (λ x. x) result
         (poster_command_of name.now (option_map (λ x. x.now) rest.entry)) }
 {
@@ -116,10 +141,6 @@ fn poster_command_of(
         "push" => {
             let (poster, ports, body) = posting_after(alloc, rest)?;
             Command::At(poster, PosterCommand::Push(ports, body))
-        }
-        "post" => {
-            let (poster, ports, body) = posting_after(alloc, rest)?;
-            Command::At(poster, PosterCommand::Post(ports, body))
         }
         _ => return Err(StepLineError::UnknownStep),
     })
@@ -279,6 +300,7 @@ fn poster_after(rest: Option<&str>) -> Result<Poster, StepLineError>
 }
 
 /// Poster, list and body, the body being the rest of the text line.
+#[inline(always)]
 #[tactic(auto, unfolding(crate::specs::StepLine::posting_after))]
 fn posting_after(
     alloc: Global,
@@ -346,6 +368,7 @@ fn poster_named(word: &str) -> Option<Poster>
     Some(Poster::Line(end, line))
 }
 
+#[inline(always)]
 fn list_of(alloc: Global, word: &str) -> Result<EndList, StepLineError>
     ensures { IsReadAs StepLineError.OutOfMemory (λ x. x) result (list_of word.now) }
 {

@@ -1,12 +1,15 @@
-use Rattle.std.proofs.Common.{◌≡◌, ◌++◌}
-use Rattle.std.specs.Vec.Iter.{into_iter_items}
-use Rattle.hub_steps.proofs.Running.{IsAnswered}
+use Rattle.std.proofs.Common.{◌≡◌, length}
+use Rattle.hub_text.specs.TextLines.{text_lines_of}
+use Rattle.hub_steps.proofs.UnderWay.{IsUnderWay}
 use Rattle.hub_steps.proofs.engine.run_lines.Given as goal
 
 -- the lines so far were answered
-abbrev pub invariant-loop-line : goal.invariant-loop-line
-invariant-loop-line g l = record {
-  answered : IsAnswered (g.W.Write.contents l.fn.writer.writer) (g.W.Write.contents l.writer.writer) l.core l.lives l.kept.items l.yielded;
+abbrev pub invariant-loop-rest : goal.invariant-loop-rest
+invariant-loop-rest g l = record {
+  run : IsUnderWay l.fn.input (text_lines_of l.rest) (g.W.Write.contents l.fn.writer.writer) (g.W.Write.contents l.writer.writer) l.core l.lives l.kept.items;
   failures : l.writer.failures ≡ l.fn.writer.failures;
-  left : l.fn.lines.items ≡ l.yielded ++ into_iter_items l.line-iterator;
 }
+
+-- what is left to read
+abbrev pub decreases-loop-rest : goal.decreases-loop-rest
+decreases-loop-rest g l = length l.rest

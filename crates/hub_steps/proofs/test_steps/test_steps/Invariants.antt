@@ -1,13 +1,14 @@
-use Rattle.std.proofs.Common.{◌≡◌, ◌+◌, ◌≤◌, length}
+use Rattle.std.proofs.Common.{◌≡◌, ◌+◌, ◌≤◌, List, length}
 use Rattle.hub_text.specs.TextLines.{text_lines_of}
+use Rattle.hub_steps.specs.declared.step_line.StepLine.{StepLine}
 use Rattle.hub_steps.specs.Steps.{steps_from, steps_of}
 use Rattle.hub_steps.proofs.Numbered.{with_front}
-use Rattle.hub_steps.proofs.read_steps.read_steps.Given as goal
+use Rattle.hub_steps.proofs.test_steps.test_steps.Given as goal
 
--- the step lines so far and what is read of the rest are what is read of all; each took a byte
+-- some step lines and what is read of the rest are what is read of all; each took a byte
 abbrev pub invariant-loop-rest : goal.invariant-loop-rest
 invariant-loop-rest l = record {
-  so_far : with_front l.lines.items (steps_from (l.number + 1) (text_lines_of l.rest)) ≡ steps_of l.input;
+  so_far : (front : List StepLine) × (with_front front (steps_from (l.number + 1) (text_lines_of l.rest)) ≡ steps_of l.input);
   room : l.number + length l.rest ≤ length l.input;
 }
 
