@@ -38,15 +38,17 @@ def posts_first(count):
 
 def timed(command, source, target):
     """Seconds, processor seconds and peak bytes of one run."""
-    with open(source, "rb") as reader, open(target, "wb") as writer:
-        start = time.perf_counter()
-        child = subprocess.Popen(command, stdin=reader, stdout=writer)
-        _, status, usage = os.wait4(child.pid, 0)
-        seconds = time.perf_counter() - start
-    child.returncode = os.waitstatus_to_exitcode(status)
-    if child.returncode != 0:
-        sys.exit(f"{command[0]} ended with {child.returncode}")
-    return seconds, usage.ru_utime + usage.ru_stime, usage.ru_maxrss * 1024
+    # Linux counts the memory of whoever forks to the program that comes after it, so a small one forks.
+    with tempfile.NamedTemporaryFile("r") as report:
+        words = ["/usr/bin/time", "-f", "%U %S %M", "-o", report.name, *command]
+        with open(source, "rb") as reader, open(target, "wb") as writer:
+            start = time.perf_counter()
+            status = subprocess.run(words, stdin=reader, stdout=writer).returncode
+            seconds = time.perf_counter() - start
+        if status != 0:
+            sys.exit(f"{command[0]} ended with {status}")
+        user, system, kilobytes = report.read().split()
+    return seconds, float(user) + float(system), int(kilobytes) * 1024
 
 
 def least(command, source, target, repeats):
