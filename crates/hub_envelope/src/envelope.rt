@@ -76,8 +76,8 @@ impl Eq for Draft {
 }
 
 /// A draft that was accepted, under its name: end, epoch, line and number.
-// Fields lie in memory in the order in which they stand here; in this one they leave no gaps, and an
-// envelope is copied wherever it goes.
+// Fields lie in memory in the order in which they stand here. In this one they leave no gaps, which
+// counts since an envelope is copied wherever it goes.
 #[derive(Debug, Drop)]
 pub struct Envelope {
     /// What is said.

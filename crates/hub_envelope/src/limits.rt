@@ -7,5 +7,6 @@ pub const MAX_BODY_BYTES: usize = 262_144;
 /// How many ports an envelope may carry.
 pub const MAX_PORTS: usize = 16;
 
-/// How long a text may be that lies in the body itself, in bytes. Most messages of programs are short.
+/// How long a text may be that lies in the body itself, in bytes. Most messages of programs are
+/// short.
 pub(crate) const INLINE_BYTES: usize = 24;

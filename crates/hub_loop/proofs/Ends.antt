@@ -5,7 +5,7 @@ use Rattle.std.specs.List.{count_by}
 use Rattle.std.specs.List.Sorted.{IsPermutation, IsNonDecreasing, IsNonDecreasingBy}
 use Rattle.std.proofs.lemmas.List.Sorted.{sum_by-IsPermutation}
 use Rattle.std.proofs.lemmas.Bool.{cases_lt}
-use Rattle.std.proofs.lemmas.List.{get_or_past, get_or-map, length-map, map_push}
+use Rattle.std.proofs.lemmas.List.{get_or_past, get_or-map, length-map}
 use Rattle.hub_queue.specs.Graves.{GraveSeat}
 use Rattle.hub_loop.specs.Ending.{is_grave, grave_ends, swept_ends, closing_ends, GoesOn, HasEnded}
 use Rattle.hub_loop.specs.declared.closing.Closing.{Closing}
@@ -80,17 +80,6 @@ rises n (x ∷ xs) up i j d le less =
     let first : i < length (x ∷ xs) = omega (arith, le, inside) in
     subst (λ k. k ≤ get_or (map n (x ∷ xs)) j d) (sym (get_or-map n (x ∷ xs) i x d first))
     (subst (λ k. n (get_or (x ∷ xs) i x) ≤ k) (sym (get_or-map n (x ∷ xs) j x d inside)) (up i j x le inside))
-
--- one closed end more
-pub goes-on : (begun swept : List ℕ) (old new : List GraveSeat) (g : GraveSeat) → GoesOn begun (swept ++ grave_ends old) → new ≡ old ++ g ∷ [] → GoesOn begun (swept ++ grave_ends new)
-goes-on begun swept old new g further more = (
-  further.0 ++ g.end ∷ [],
-  ap (λ graves. swept ++ grave_ends graves) more
-      ∙ ap (λ ends. swept ++ ends) (map_push (λ (h : GraveSeat). h.end) old g)
-      ∙ sym (append_assoc swept (grave_ends old) (g.end ∷ []))
-      ∙ ap (λ ends. ends ++ g.end ∷ []) further.1
-      ∙ append_assoc begun further.0 (g.end ∷ []),
-)
 
 pub on-ok : {A E : Type 0} {P Q : Type 0} (r : Result A E) → OnOk r P → (P → Q) → OnOk r Q
 on-ok (Ok x) holds then = then holds
