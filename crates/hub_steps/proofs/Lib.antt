@@ -5,3 +5,4 @@ pub mod Running
 pub mod OneText
 pub mod Saying
 pub mod UnderWay
+pub mod Held

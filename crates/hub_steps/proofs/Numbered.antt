@@ -7,11 +7,7 @@ use Rattle.hub_steps.specs.declared.step_line.StepLine.{StepLine}
 use Rattle.hub_steps.specs.declared.step_line.StepLineError.{StepLineError}
 use Rattle.hub_steps.specs.StepLine.{step_line_of}
 use Rattle.hub_steps.specs.Steps.{at_line, steps_from, ReadSteps}
-
--- the lines read before, and what is still read
-abbrev pub with_front : List StepLine → ReadSteps → ReadSteps
-with_front front (Ok lines) = Ok (front ++ lines)
-with_front front (Err bad) = Err bad
+use Rattle.hub_steps.specs.UnderWay.{with_front}
 
 -- nothing was read before
 pub starts_reading : (read : ReadSteps) → with_front [] read ≡ read
@@ -44,3 +40,12 @@ pub no_lines : (bytes : List ℕ) → eqb (length bytes) 0 ≡ true → text_lin
 unfolding text_lines_of
 no_lines [] h = refl
 no_lines (b ∷ bytes) h = absurd (let e : length (b ∷ bytes) ≡ 0 = eqb-true (length (b ∷ bytes)) 0 h in omega arith)
+
+-- lines were read before, and what is left was read without a bad line
+pub is_whole : (front back : List StepLine) (read total : ReadSteps) → with_front front read ≡ total → read ≡ Ok back → total ≡ Ok (front ++ back)
+is_whole front back (Ok lines) total so_far e = sym so_far ∙ ap (λ (r : ReadSteps). with_front front r) e
+is_whole front back (Err bad) total so_far e = cc
+
+-- a bad line is left
+pub is_unread : (front : List StepLine) (bad : ℕ × StepLineError) (read total : ReadSteps) → with_front front read ≡ total → read ≡ Err bad → total ≡ Err bad
+is_unread front bad read total so_far e = sym so_far ∙ ap (λ (r : ReadSteps). with_front front r) e

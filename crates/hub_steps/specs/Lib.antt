@@ -9,4 +9,5 @@ pub mod Computation
 pub mod Unfolding
 pub mod Performed
 pub mod StepText
+pub mod UnderWay
 pub mod Output

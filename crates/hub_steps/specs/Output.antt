@@ -23,7 +23,7 @@ IsRunOutput lines status.OutOfMemory text = IsCutShort lines text
 IsRunOutput lines _ text = ⊥
 
 -- what is written for an input: that text, or the one line of bad input, or for want of memory before
--- anything was run `out of memory` alone
+-- anything was written `out of memory` alone
 abbrev pub IsStepsOutput : List ℕ → ExitStatus → List ℕ → Type 0
 IsStepsOutput input status.Success text = (lines : List StepLine) × (steps_of input ≡ Ok lines) × IsStepText lines text
 IsStepsOutput input status.BadInput text = (n : ℕ) × (kind : StepLineError) × (steps_of input ≡ Err (n, kind)) × IsBadLine n (step_kind_text kind) text

@@ -11,6 +11,8 @@ mod lives;
 mod perform;
 mod posting;
 mod read_step_line;
+mod run;
+mod short_text;
 mod shown;
 mod starting;
 mod step_line;

@@ -1,0 +1,179 @@
+ghost use Rattle.std.specs.Prelude.{◌≡◌, ◌++◌, ◌+◌, ◌≤◌, ◌⊎◌, ℕ, List, [], Option, Ok, Err, IfOk, IfErr, OnOk, OnErr, length};
+ghost use Rattle.hub_core.specs.declared.machine.Core.{Core as TheCore};
+ghost use Rattle.hub_engine.specs.Counted.{inner_writer, failed_writes};
+ghost use Rattle.hub_engine.specs.Engine.{Writes};
+ghost use Rattle.hub_engine.specs.Failures.{CountsFailure};
+ghost use Rattle.hub_text.specs.TextLines.{text_lines_of};
+ghost use Rattle.hub_steps.specs.Lives.{AllLives, lives_after};
+ghost use Rattle.hub_steps.specs.Output.{IsRunOutput};
+ghost use Rattle.hub_steps.specs.Performed.{PerformsAt};
+ghost use Rattle.hub_steps.specs.ShownText.{shown_line};
+ghost use Rattle.hub_steps.specs.Steps.{steps_from, steps_of};
+ghost use Rattle.hub_steps.specs.UnderWay.{AreRun, AreTold, IsHeld};
+ghost use Rattle.hub_steps.specs.declared.shown.Shown.{Shown};
+ghost use Rattle.hub_steps.specs.declared.step_line.StepLine.{StepLine as Line};
+
+use crate::lives::Lives;
+use crate::perform::perform;
+use crate::read_step_line::read_step_line;
+use crate::short_text::{SHORT, short_text};
+use crate::step_line::{StepLine, StepLineError};
+use crate::text::write_shown;
+use hub_core::{Core, OutOfMemory};
+use hub_engine::{CountedWriter, Device, ExitStatus, PIECE, end_out_of_memory, write_kept};
+use hub_text::split_text_line;
+use std::alloc::Global;
+use std::io::Write;
+
+/// How many bytes of outcome lines are held back, at most, with the last line of them, before the
+/// text lines that are left are tested.
+const MAX_HELD: usize = 134_217_728;
+
+/// A run of step lines: the core and the lives after those so far, and their outcome lines, as far
+/// as they are kept.
+#[derive(Drop)]
+pub struct Run {
+    core: Core,
+    lives: Lives,
+    /// The last outcome line that didn't fit into an array. Its memory is used again.
+    text: String,
+    kept: Vec<u8>,
+}
+
+/// The first step lines of an input were run, and none of their outcome lines is written.
+#[derive(Drop)]
+pub struct Held<'a> {
+    pub run: Run,
+    /// How many text lines were run.
+    pub number: usize,
+    /// The text lines that are left.
+    pub rest: &'a [u8],
+    /// Memory ran out at the first step line that is left, where it's false: the run can't go on.
+    pub has_memory: bool,
+}
+
+/// Runs the step lines of an input, and holds their outcome lines back, since those of an input in
+/// which a bad text line comes later are never written. It stops where `MAX_HELD` bytes are kept,
+/// and where memory runs out at a step line. An error is that of the first bad text line, by its
+/// number from 1.
+pub fn hold_back<'a>(alloc: Global, input: &'a [u8]) -> Result<Held<'a>, (usize, StepLineError)>
+    ensures held { IfOk result (λ held. IsHeld input.now held) }
+    ensures room { IfOk result (λ held. held.number + length held.rest.now ≤ length input.now) }
+    ensures err { IfErr result (λ e. (e.1 ≡ StepLineError.OutOfMemory)
+        ⊎ (steps_of input.now ≡ Err e)) }
+{
+    let mut run = Run::new(alloc);
+    let mut number = 0;
+    let mut rest = input;
+    while !rest.is_empty() && run.kept.len() < MAX_HELD {
+        let (bytes, after) = split_text_line(rest);
+        let line = match read_step_line(alloc, bytes) {
+            Ok(line) => line,
+            Err(error) => return Err((number + 1, error)),
+        };
+        if run.answer(alloc, line).is_err() {
+            return Ok(Held {
+                run,
+                number,
+                rest,
+                has_memory: false,
+            });
+        }
+        number += 1;
+        rest = after;
+    }
+    Ok(Held {
+        run,
+        number,
+        rest,
+        has_memory: true,
+    })
+}
+
+impl Run {
+    fn new(alloc: Global) -> Run
+        ensures { AreRun result.core result.lives result.kept.items [] }
+    {
+        Run {
+            core: Core::new(alloc),
+            lives: Lives::new(alloc),
+            text: String::new(alloc),
+            kept: Vec::new(alloc),
+        }
+    }
+
+    /// Runs a step line, and keeps its outcome line, which is written to an array or to `text`
+    /// first. An `Err` keeps nothing.
+    // It is inlined, since a call copies the step line.
+    #[inline(always)]
+    fn answer(&mut self, alloc: Global, line: StepLine) -> Result<(), OutOfMemory>
+        ensures ok { OnOk result ((shown : Shown)
+            × PerformsAt self.old.core self.new.core self.old.lives line shown
+            × (self.new.lives ≡ lives_after line.command shown self.old.lives)
+            × (self.new.kept.items ≡ self.old.kept.items ++ shown_line shown)) }
+        ensures err { OnErr result (self.new.kept.items ≡ self.old.kept.items) }
+    {
+        let shown = perform(alloc, &mut self.core, &mut self.lives, line)?;
+        let mut bytes = [0; SHORT];
+        if let Some(start) = short_text(&shown, &mut bytes) {
+            self.kept.extend_from_slice(&bytes[start..])?;
+            return Ok(());
+        }
+        self.text.clear();
+        write_shown(&mut self.text, &shown)?;
+        self.kept.extend_from_slice(self.text.as_bytes())?;
+        Ok(())
+    }
+
+    /// Runs the step lines that are left, which were tested, and writes the outcome lines of all.
+    pub fn write_rest<W: Write>(
+        &mut self,
+        alloc: Global,
+        rest: &[u8],
+        writer: &mut CountedWriter<W>,
+    ) -> Result<ExitStatus, Device>
+        ensures written { (front back : List Line) → (n : ℕ)
+            → AreRun self.old.core self.old.lives self.old.kept.items front
+            → steps_from n (text_lines_of rest.now) ≡ Ok back
+            → Writes (IsRunOutput (front ++ back)) (W.contents (inner_writer writer.old))
+            (W.contents (inner_writer writer.new)) result }
+        ensures failures { CountsFailure result (failed_writes writer.old)
+            (failed_writes writer.new) }
+    {
+        let mut rest = rest;
+        while !rest.is_empty() {
+            let (bytes, after) = split_text_line(rest);
+            let Ok(line) = read_step_line(alloc, bytes) else {
+                return self.cut_short(writer);
+            };
+            if self.answer(alloc, line).is_err() {
+                return self.cut_short(writer);
+            }
+            rest = after;
+            if self.kept.len() >= PIECE {
+                write_kept(writer, &mut self.kept)?;
+            }
+        }
+        write_kept(writer, &mut self.kept)?;
+        writer.flush()?;
+        Ok(ExitStatus::Success)
+    }
+
+    /// Ends where memory ran out: the outcome lines so far are followed by `out of memory`.
+    pub fn cut_short<W: Write>(
+        &mut self,
+        writer: &mut CountedWriter<W>,
+    ) -> Result<ExitStatus, Device>
+        ensures written { (old : Option (List ℕ)) → (core : TheCore) → (lives : AllLives)
+            → (front back : List Line)
+            → AreTold old (W.contents (inner_writer writer.old)) core lives self.old.kept.items
+            front
+            → Writes (IsRunOutput (front ++ back)) old (W.contents (inner_writer writer.new))
+            result }
+        ensures failures { CountsFailure result (failed_writes writer.old)
+            (failed_writes writer.new) }
+    {
+        write_kept(writer, &mut self.kept)?;
+        end_out_of_memory(writer)
+    }
+}

@@ -1,0 +1,129 @@
+ghost use Rattle.std.specs.Prelude.{◌≡◌, ◌++◌, ◌+◌, ◌≤◌, codes, decimal, drop, length, IfSome};
+ghost use Rattle.hub_steps.specs.OutcomeText.{got_line, outcome_line};
+ghost use Rattle.hub_steps.specs.ShownText.{shown_line};
+
+use crate::shown::Shown;
+use hub_core::Outcome;
+use hub_envelope::Envelope;
+use itoa::write_digits;
+
+/// How many bytes the array has that a short outcome line is written into.
+pub const SHORT: usize = 128;
+
+/// How many bytes the body of a delivery has at most that is written so.
+const SHORT_BODY: usize = 40;
+
+/// Writes the outcome line of a post that was accepted, or of a delivery with a short body and no
+/// ports, to the end of the array. Where it begins. `None` for any other line.
+// Most outcome lines are these two. Written from the last byte to the first, such a line takes one
+// test for room where a format makes one for each piece.
+#[tactic(auto, unfolding(crate::specs::ShownText::shown_line))]
+pub fn short_text(shown: &Shown, line: &mut [u8; SHORT]) -> Option<usize>
+    ensures { IfSome result (λ start. (start ≤ 128)
+        × (drop start line.new ≡ shown_line shown.now)) }
+{
+    match shown {
+        Shown::Answer(outcome) => short_outcome(outcome, line),
+        _ => None,
+    }
+}
+
+/// The same of an outcome.
+#[tactic(auto, unfolding(crate::specs::OutcomeText::outcome_line))]
+fn short_outcome(outcome: &Outcome, line: &mut [u8; SHORT]) -> Option<usize>
+    ensures { IfSome result (λ start. (start ≤ 128)
+        × (drop start line.new ≡ outcome_line outcome.now)) }
+{
+    match outcome {
+        Outcome::Accepted(name) => {
+            let at = put_line_feed(line);
+            let at = put_pair_before(line, at, name.epoch, name.number);
+            Some(put_before(line, at, b"accepted "))
+        }
+        Outcome::Got(envelope) => short_delivery(envelope, line),
+        _ => None,
+    }
+}
+
+/// The same of a delivery.
+fn short_delivery(envelope: &Envelope, line: &mut [u8; SHORT]) -> Option<usize>
+    ensures { IfSome result (λ start. (start ≤ 128)
+        × (drop start line.new ≡ got_line envelope.now)) }
+{
+    let body = envelope.body.text().as_bytes();
+    if envelope.notice || !envelope.ports.as_slice().is_empty() || body.len() > SHORT_BODY {
+        return None;
+    }
+    Some(put_delivery(line, envelope.epoch, envelope.number, envelope.line.0, body))
+}
+
+/// Writes the outcome line of a delivery with no ports to the end of the array. Where it begins.
+fn put_delivery(line: &mut [u8; SHORT], epoch: u32, number: u64, from: u8, body: &[u8]) -> usize
+    requires { length body.now ≤ 40 }
+    ensures start { result ≤ 128 }
+    ensures written { drop result line.new ≡ codes "got " ++ decimal epoch ++ codes ":"
+        ++ decimal number ++ codes " from " ++ decimal from ++ codes " " ++ body.now
+        ++ codes "\n" }
+{
+    let at = put_body(line, from, body);
+    let at = put_pair_before(line, at, epoch, number);
+    put_before(line, at, b"got ")
+}
+
+/// Writes what stands in that line behind the name. Where it begins.
+#[inline(always)]
+fn put_body(line: &mut [u8; SHORT], from: u8, body: &[u8]) -> usize
+    requires { length body.now ≤ 40 }
+    ensures start { (result ≤ 128) × (128 ≤ result + 68) }
+    ensures written { drop result line.new ≡ codes " from " ++ decimal from ++ codes " "
+        ++ body.now ++ codes "\n" }
+{
+    let at = put_line_feed(line);
+    let at = put_before(line, at, body);
+    let at = put_before(line, at, b" ");
+    let at = put_number_before(line, at, u64::from(from));
+    put_before(line, at, b" from ")
+}
+
+/// Writes the LF, which comes last.
+#[inline(always)]
+fn put_line_feed(line: &mut [u8; SHORT]) -> usize
+    ensures start { result ≡ 127 }
+    ensures written { drop result line.new ≡ codes "\n" }
+{
+    put_before(line, SHORT, b"\n")
+}
+
+/// Writes the numbers of a queue and of an envelope in it, before what stands at `end`.
+fn put_pair_before(line: &mut [u8], end: usize, epoch: u32, number: u64) -> usize
+    requires { (41 ≤ end) × (end ≤ length line.old) }
+    ensures start { (result ≤ end) × (end ≤ result + 41) }
+    ensures written { drop result line.new
+        ≡ decimal epoch ++ codes ":" ++ decimal number ++ drop end line.old }
+{
+    let at = put_number_before(line, end, number);
+    let at = put_before(line, at, b":");
+    put_number_before(line, at, u64::from(epoch))
+}
+
+/// Writes a number before what stands at `end`. Where it begins.
+#[inline(always)]
+fn put_number_before(line: &mut [u8], end: usize, number: u64) -> usize
+    requires { (20 ≤ end) × (end ≤ length line.old) }
+    ensures start { (result ≤ end) × (end ≤ result + 20) }
+    ensures written { drop result line.new ≡ decimal number ++ drop end line.old }
+{
+    write_digits(number, line, end)
+}
+
+/// Writes a text before what stands at `end`. Where it begins.
+#[inline(always)]
+fn put_before(line: &mut [u8], end: usize, text: &[u8]) -> usize
+    requires { (length text.now ≤ end) × (end ≤ length line.old) }
+    ensures start { result + length text.now ≡ end }
+    ensures written { drop result line.new ≡ text.now ++ drop end line.old }
+{
+    let start = end - text.len();
+    line[start..end].copy_from_slice(text);
+    start
+}
