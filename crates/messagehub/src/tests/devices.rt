@@ -2,11 +2,14 @@ use std::alloc::{AllocError, Global};
 use std::io;
 use std::io::{Error, ErrorKind, Read, Write};
 
-/// Takes whole writes while there is room, and then fails.
+/// How many bytes of a write a failing writer takes at most, as a pipe does.
+const AT_ONCE: usize = 65_536;
+
+/// Takes what is written while there is room for it, and then fails.
 #[derive(Drop)]
 pub struct FailingWriter {
     pub room: usize,
-    /// How many writes were taken.
+    /// How often it took something.
     pub writes: usize,
 }
 
@@ -18,12 +21,13 @@ impl FailingWriter {
 
 impl Write for FailingWriter {
     fn write(&mut self, bytes: &[u8]) -> io::Result<usize> {
-        if self.room < bytes.len() {
+        let count = bytes.len().min(AT_ONCE);
+        if self.room < count {
             return Err(Error::from(ErrorKind::BrokenPipe));
         }
-        self.room -= bytes.len();
+        self.room -= count;
         self.writes = self.writes.saturating_add(1);
-        Ok(bytes.len())
+        Ok(count)
     }
 
     fn flush(&mut self) -> io::Result<()> {
