@@ -7,7 +7,7 @@ use hub_broadcast::{OriginError, origin_of};
 use hub_core::Text;
 use hub_envelope::{AgentId, Body, EndId, LineId};
 use hub_life::Event;
-use hub_text::{EndList, next_word, number_of as number_up_to};
+use hub_text::{EndList, cut_at, next_word, number_of as number_up_to};
 use serde_json::Value;
 use std::alloc::Global;
 
@@ -356,11 +356,10 @@ fn poster_of(word: &str) -> Result<Poster, StepLineError>
 
 /// The poster of the port that one number names, or of the line that two numbers joined by `/`
 /// name.
-#[tactic(auto, unfolding(hub_text::specs::Word::cut))]
 fn poster_named(word: &str) -> Option<Poster>
     ensures { result ≡ poster_named word.now }
 {
-    let Some((end, line)) = word.split_once('/') else {
+    let Some((end, line)) = cut_at(word, b'/') else {
         return Some(Poster::Port(EndId(number_of(word)?)));
     };
     let end = EndId(number_of(end)?);

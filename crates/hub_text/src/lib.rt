@@ -13,4 +13,4 @@ mod word;
 pub use end_list::{EndList, EndListText};
 pub use number::number_of;
 pub use text_lines::split_text_line;
-pub use word::next_word;
+pub use word::{cut_at, next_word};

@@ -14,7 +14,7 @@ use crate::log_version::LogVersion;
 use crate::message::Message;
 use crate::port_list::is_port_list;
 use hub_envelope::{AgentId, Body, BodyError, EndId, LineId};
-use hub_text::{EndList, next_word, number_of};
+use hub_text::{EndList, cut_at, next_word, number_of};
 use std::alloc::Global;
 
 /// What a log line below the header says.
@@ -163,12 +163,11 @@ fn first_word(text: &str) -> Result<(&str, &str), LogError>
 }
 
 /// The parts of `EP:N`.
-#[tactic(auto, unfolding(hub_text::specs::Word::cut))]
 fn name_parts(name: &str) -> Result<(&str, &str), LogError>
     ensures { IsReadAs LogError.OutOfMemory (λ x. (x.0.now, x.1.now)) result
         (parts_in 58 name.now) }
 {
-    match name.split_once(':') {
+    match cut_at(name, b':') {
         Some(parts) => Ok(parts),
         None => Err(LogError::BadLine),
     }

@@ -1,11 +1,10 @@
-use Rattle.std.proofs.Common.{◌≡◌, refl, length, lit<, true, false, sym, ap, ◌∙◌, arith, subst, bytes_eq, codes}
+use Rattle.std.proofs.Common.{◌≡◌, refl, length, lit<, true, false, sym, ◌∙◌, arith, subst, bytes_eq, codes}
 use Rattle.std.specs.Str.Iter.{split_text, split_has_more, split_pattern}
 use Rattle.std.proofs.lemmas.List.{length_push}
 use Rattle.std.proofs.lemmas.Iterator.Consumers.{YieldsList-turn, YieldsList-end}
 use Rattle.std.proofs.lemmas.Iterator.Splits.{YieldsList-from_str_split}
-use Rattle.hub_envelope.specs.declared.ids.EndId.{EndId}
-use Rattle.hub_text.specs.EndList.{Adds, ends_from}
-use Rattle.hub_text.proofs.EndLists.{all_read, one_more, refused, ReadSoFar, words_of}
+use Rattle.hub_text.specs.EndList.{Adds}
+use Rattle.hub_text.proofs.EndLists.{all_read, one_more, refused, ReadSoFar}
 use Rattle.hub_text.proofs.end_list.EndList.read.Goals as goal
 
 pub loop-number-init : goal.loop-number-init
