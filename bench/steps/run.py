@@ -1,12 +1,13 @@
 #!/usr/bin/env python3
-"""Times `messagehub steps` beside a Node program and a plain Rust program of the same job, on the same files.
+"""Times `messagehub steps` beside a Node program and a plain Rust program of the same job.
 
 Usage: run.py BINARY [REPEATS]
 
 Two shapes, each with 1,000,000 and 2,000,000 lines of `post` and `take` with bodies of about 20
-bytes: takes that follow their posts, and all the posts before all the takes. It prints seconds (the
-least of the repeats), ratios, processor seconds, and peak memory a line. Growth is judged by wall
-time. It ends with 1 where a bound is missed or the programs write different bytes.
+bytes: takes that follow their posts, and all the posts before all the takes. The programs read the
+same files and take turns. It prints seconds (the least of the repeats), ratios, processor seconds,
+and peak memory a line. Growth is judged by wall time. It ends with 1 where a bound is missed or the
+programs write different bytes.
 """
 
 import os
@@ -38,7 +39,8 @@ def posts_first(count):
 
 def timed(command, source, target):
     """Seconds, processor seconds and peak bytes of one run."""
-    # Linux counts the memory of whoever forks to the program that comes after it, so a small one forks.
+    # Linux counts the memory of whoever forks to the program that comes after it, so a small one
+    # forks.
     with tempfile.NamedTemporaryFile("r") as report:
         words = ["/usr/bin/time", "-f", "%U %S %M", "-o", report.name, *command]
         with open(source, "rb") as reader, open(target, "wb") as writer:
@@ -51,10 +53,11 @@ def timed(command, source, target):
     return seconds, float(user) + float(system), int(kilobytes) * 1024
 
 
-def least(command, source, target, repeats):
-    runs = [timed(command, source, target) for _ in range(repeats)]
-    seconds, processor, peaks = zip(*runs)
-    return min(seconds), min(processor), max(peaks)
+def least(jobs, source, repeats):
+    """The least seconds, processor seconds and the most bytes of each job, which take turns."""
+    turns = [[timed(command, source, target) for command, target in jobs] for _ in range(repeats)]
+    figures = (zip(*runs) for runs in zip(*turns))
+    return [(min(seconds), min(processor), max(peaks)) for seconds, processor, peaks in figures]
 
 
 def row(figure, value, bound, is_met):
@@ -73,13 +76,14 @@ def main():
     here = os.path.dirname(os.path.abspath(__file__))
     missed = []
 
-    def judge(name, figure, value, bound, is_met):
-        row(f"steps, {name}", figure, bound, is_met)
+    def judge(name, figure, bound, is_met):
+        row(f"steps, {name}", figure, str(bound), is_met)
         if not is_met:
-            missed.append(f"{name}: {value}")
+            missed.append(f"{name}: {figure}")
 
     with tempfile.TemporaryDirectory(dir=FOLDER) as folder:
-        source, ours, theirs = (os.path.join(folder, name) for name in ("input", "ours", "theirs"))
+        names = ("input", "ours", "node", "rust")
+        source, ours, by_node_file, by_rust_file = (os.path.join(folder, name) for name in names)
         rust = os.path.join(folder, "reference")
         subprocess.run(["rustc", "-O", "-o", rust, os.path.join(here, "reference.rs")], check=True)
         node = ["node", os.path.join(here, "reference.mjs")]
@@ -89,24 +93,27 @@ def main():
                 name = f"{shape_name}, {count} lines"
                 with open(source, "w") as file:
                     file.write(HEADER + shape(count))
-                seconds, processor, peak = least([binary, "steps"], source, ours, repeats)
-                by_node, _, node_peak = least(node, source, theirs, repeats)
-                differs = not same(ours, theirs)
-                by_rust, rust_processor, rust_peak = least([rust], source, theirs, repeats)
-                differs = differs or not same(ours, theirs)
+                jobs = [([binary, "steps"], ours), (node, by_node_file), ([rust], by_rust_file)]
+                figures = least(jobs, source, repeats)
+                (seconds, processor, peak), (by_node, _, node_peak) = figures[:2]
+                by_rust, rust_processor, rust_peak = figures[2]
+                differs = not (same(ours, by_node_file) and same(ours, by_rust_file))
                 growth = seconds / before if before else None
                 print(
-                    f"{name}: {seconds:.2f} s; node {by_node:.2f} s, ratio {seconds / by_node:.2f}; "
-                    f"rust {by_rust:.2f} s, ratio {seconds / by_rust:.2f}; {processor:.2f} processor s, "
-                    f"rust {rust_processor:.2f}; {peak / count:.0f} bytes a line, node {node_peak / count:.0f}, "
-                    f"rust {rust_peak / count:.0f}" + (f"; {growth:.2f} times the half" if growth else "")
+                    f"{name}: {seconds:.2f} s; node {by_node:.2f} s, ratio {seconds / by_node:.2f};"
+                    f" rust {by_rust:.2f} s, ratio {seconds / by_rust:.2f};"
+                    f" {processor:.2f} processor s, rust {rust_processor:.2f};"
+                    f" {peak / count:.0f} bytes a line, node {node_peak / count:.0f},"
+                    f" rust {rust_peak / count:.0f}"
+                    + (f"; {growth:.2f} times the half" if growth else "")
                 )
                 to_node, to_rust = seconds / by_node, seconds / by_rust
-                judge(name, f"{to_node:.2f} of node", "against node", f"{MOST_TO_NODE}", to_node <= MOST_TO_NODE)
-                judge(name, f"{to_rust:.2f} of rust", "against rust", f"{MOST_TO_RUST}", to_rust <= MOST_TO_RUST)
-                judge(name, f"{peak / count:.0f} bytes a line", "memory", f"{MOST_BYTES_A_LINE}", peak <= MOST_BYTES_A_LINE * count)
+                judge(name, f"{to_node:.2f} of node", MOST_TO_NODE, to_node <= MOST_TO_NODE)
+                judge(name, f"{to_rust:.2f} of rust", MOST_TO_RUST, to_rust <= MOST_TO_RUST)
+                judge(name, f"{peak / count:.0f} bytes a line", MOST_BYTES_A_LINE,
+                      peak <= MOST_BYTES_A_LINE * count)
                 if growth:
-                    judge(name, f"{growth:.2f}x the half", "growth", f"{MOST_GROWTH}", growth <= MOST_GROWTH)
+                    judge(name, f"{growth:.2f}x the half", MOST_GROWTH, growth <= MOST_GROWTH)
                 if differs:
                     missed.append(f"{name}: different output")
                 before = seconds
