@@ -1,9 +1,11 @@
-// Random step files, done by the program and on Node's MessageChannel and BroadcastChannel: see tests/node.
+// Random step files, done by the program and on Node's MessageChannel and BroadcastChannel: see
+// tests/node.
 import { BroadcastChannel, MessageChannel, receiveMessageOnPort } from 'node:worker_threads';
 import { spawnSync } from 'node:child_process';
 import { isDeepStrictEqual } from 'node:util';
 
-const [program, files, lines, seed] = process.argv.slice(2).map((word, at) => (at === 0 ? word : Number(word)));
+const program = process.argv[2];
+const [files, lines, seed] = process.argv.slice(3).map(Number);
 const AGENTS = 3;
 const MAX_HELD = 40;
 const MAX_MEMBERS = 12;
@@ -25,8 +27,8 @@ class Run {
     this.random = randomOf(seed);
     // The step lines, and beside each what Node says of it: nothing, or what a take found.
     this.steps = [];
-    // By end: a broadcast channel, or the Node port, the agent, where it is ('with', 'flying', 'arrived', 'closed'), and of its
-    // mailbox the envelopes of each queue from the taker's on.
+    // By end: a broadcast channel, or the Node port, the agent, where it is ('with', 'flying',
+    // 'arrived', 'closed'), and of its mailbox the envelopes of each queue from the taker's on.
     this.ends = [];
     for (let agent = 0; agent < AGENTS; agent += 1) this.step('agent https://a.test');
   }
@@ -113,7 +115,10 @@ class Run {
       case 2: return this.random(2_000_000) - 1_000_000;
       case 3: return 'a"\\\u00e9\u{1f600}\n'.slice(0, this.random(8)).toWellFormed();
       case 4: return Array.from({ length: this.random(4) }, () => this.value(depth + 1));
-      default: return Object.fromEntries(Array.from({ length: this.random(3) }, () => [`k${this.random(5)}`, this.value(depth + 1)]));
+      default: {
+        const member = () => [`k${this.random(5)}`, this.value(depth + 1)];
+        return Object.fromEntries(Array.from({ length: this.random(3) }, member));
+      }
     }
   }
 
@@ -121,10 +126,13 @@ class Run {
     const from = this.pick(this.held());
     if (!from) return;
     const to = this.ends[from.peer];
-    const listed = this.held().filter((end) => end.agent === from.agent && end !== from && end !== to && !end.is_shut && this.random(8) === 0).slice(0, 16);
+    const may_go = (end) => end.agent === from.agent && end !== from && end !== to && !end.is_shut;
+    const listed = this.held().filter((end) => may_go(end) && this.random(8) === 0).slice(0, 16);
     const body = this.value(0);
     // One post passes so many retired queues; the others are passed before.
-    for (let behind = to.newest - to.stand; behind > MAX_HOPS; behind -= 1) this.step(`hop ${from.number}`);
+    for (let behind = to.newest - to.stand; behind > MAX_HOPS; behind -= 1) {
+      this.step(`hop ${from.number}`);
+    }
     const list = listed.length === 0 ? '-' : listed.map((end) => end.number).join(',');
     this.step(`post ${from.number} ${list} ${JSON.stringify(body)}`);
     const ports = listed.map((end) => end.port);
@@ -157,7 +165,8 @@ class Run {
     if (first === 'notice') end.is_shut = true;
     if (!found) return;
     for (const [at, number] of found.message.numbers.entries()) {
-      Object.assign(this.ends[number], { place: 'arrived', agent: end.agent, port: found.message.ports[at] });
+      const port = found.message.ports[at];
+      Object.assign(this.ends[number], { place: 'arrived', agent: end.agent, port });
     }
   }
 
@@ -175,7 +184,9 @@ class Run {
     const end = this.pick(this.held());
     if (!end) return;
     const peer = this.ends[end.peer];
-    for (let behind = peer.newest - peer.stand; behind > MAX_HOPS; behind -= 1) this.step(`hop ${end.number}`);
+    for (let behind = peer.newest - peer.stand; behind > MAX_HOPS; behind -= 1) {
+      this.step(`hop ${end.number}`);
+    }
     this.step(`close ${end.number}`);
     end.port.close();
     end.place = 'closed';
@@ -206,15 +217,20 @@ class Run {
 function told(outcome) {
   const found = /^got \d+:\d+ from \d+ (?:with ([\d,]+) )?(.*)$/su.exec(outcome);
   if (!found) return { word: outcome.split(' ')[0] };
-  return { word: 'got', numbers: found[1] ? found[1].split(',').map(Number) : [], body: JSON.parse(found[2]) };
+  const numbers = found[1] ? found[1].split(',').map(Number) : [];
+  return { word: 'got', numbers, body: JSON.parse(found[2]) };
 }
 
 function differs(expected, outcome) {
   const { word, numbers, body } = told(outcome);
-  if ('refused' in expected) return word !== (expected.refused === 'InvalidStateError' ? 'invalid-state' : 'cast');
+  if ('refused' in expected) {
+    return word !== (expected.refused === 'InvalidStateError' ? 'invalid-state' : 'cast');
+  }
   if (expected.again) return word !== 'again';
   if (!expected.found) return word !== 'empty' && word !== 'notice';
-  return word !== 'got' || !isDeepStrictEqual(numbers, expected.found.numbers) || !isDeepStrictEqual(body, expected.found.body)
+  return word !== 'got'
+    || !isDeepStrictEqual(numbers, expected.found.numbers)
+    || !isDeepStrictEqual(body, expected.found.body)
     || expected.found.ports.length !== numbers.length;
 }
 
@@ -228,15 +244,20 @@ for (let file = 0; file < files; file += 1) {
   const input = run.steps.map(({ line }) => `${line}\n`).join('');
   const done = spawnSync(program, ['steps'], { input, encoding: 'utf8', maxBuffer: 1 << 28 });
   const outcomes = done.stdout.split('\n').slice(0, -1);
-  const at = run.steps.findIndex(({ expected }, line) => outcomes[line] === undefined || (expected && differs(expected, outcomes[line])));
+  const is_wrong = ({ expected }, line) =>
+    outcomes[line] === undefined || (expected && differs(expected, outcomes[line]));
+  const at = run.steps.findIndex(is_wrong);
   if (done.status !== 0 || at >= 0) {
     console.log(input);
-    console.log(`tests/node: file ${file} of seed ${seed}, step line ${at + 1}: the program says ${outcomes[at]}, Node ${JSON.stringify(run.steps[at]?.expected)}`);
+    const expected = JSON.stringify(run.steps[at]?.expected);
+    console.log(`tests/node: file ${file} of seed ${seed}, step line ${at + 1}: `
+      + `the program says ${outcomes[at]}, Node ${expected}`);
     process.exit(1);
   }
   takes += run.steps.filter(({ expected }) => expected && 'found' in expected).length;
   casts += run.steps.filter(({ expected }) => expected && 'refused' in expected).length;
   bodies += run.steps.filter(({ expected }) => expected?.found).length;
 }
-console.log(`tests/node: ${files} files of ${lines} step lines, ${takes} takes, ${bodies} of them with a body, ${casts} casts: 0 differences`);
+console.log(`tests/node: ${files} files of ${lines} step lines, ${takes} takes, `
+  + `${bodies} of them with a body, ${casts} casts: 0 differences`);
 process.exit(0);

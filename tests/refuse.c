@@ -1,6 +1,7 @@
-/* Loaded before the C library: the REFUSED_ALLOCATION-th call of malloc or realloc, whichever thread
-   makes it, fails and says so on standard error. Where REFUSED_READ or REFUSED_WRITE is set, standard
-   input gives and standard output takes one byte a call, and the call of that number fails. */
+/* Loaded before the C library: the REFUSED_ALLOCATION-th call of malloc or realloc, whichever
+   thread makes it, fails and says so on standard error. Where REFUSED_READ or REFUSED_WRITE is set,
+   standard input gives and standard output takes one byte a call, and the call of that number
+   fails. */
 #define _GNU_SOURCE
 #include <dlfcn.h>
 #include <errno.h>

@@ -1,7 +1,8 @@
-// The same pattern on a bare AtomicU64: a fetch_add and a fetch_sub a pair. What the words show is used as the
-// gate uses it, and threads are made as the gate's program makes them: half of the jobs in the caller's thread.
-// With `slots` each pair also takes a value out of its line's slot beside the word and puts it back, as the gate
-// does with the right of a line: what the slots cost without the gate.
+// The same pattern on a bare AtomicU64: a fetch_add and a fetch_sub a pair. What the words show is
+// used as the gate uses it, and threads are made as the gate's program makes them: half of the jobs
+// in the caller's thread. With `slots` each pair also takes a value out of its line's slot beside
+// the word and puts it back, as the gate does with the right of a line: what the slots cost without
+// the gate.
 // usage: reference THREADS PAIRS [slots]
 use std::cell::UnsafeCell;
 use std::sync::atomic::{AtomicU64, Ordering::SeqCst};
@@ -48,7 +49,8 @@ fn make_pairs<const SLOTS: bool>(zero: &Instant, shared: &Shared, line: usize, p
     Run { begin, end, let_in, found_enabled }
 }
 
-// Each job in a thread of its own: one half of the jobs from the caller's thread, the other from a new one.
+// Each job in a thread of its own: one half of the jobs from the caller's thread, the other from a
+// new one.
 fn map_halves<J: Send, X: Send>(mut jobs: Vec<J>, call: &(impl Fn(J) -> X + Sync)) -> Vec<X> {
     if jobs.len() < 2 {
         return jobs.into_iter().map(call).collect();

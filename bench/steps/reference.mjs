@@ -1,5 +1,5 @@
-// The same job as `messagehub steps` does for `agent -`, `channel A`, `start E`, `post P - BODY` and
-// `take E`, as plain Node: split, JSON.parse, an array queue, JSON.stringify.
+// The same job as `messagehub steps` does for `agent -`, `channel A`, `start E`, `post P - BODY`
+// and `take E`, as plain Node: split, JSON.parse, an array queue, JSON.stringify.
 import { readFileSync, writeSync } from "node:fs";
 
 const lines = readFileSync(0, "utf8").split("\n");
@@ -34,7 +34,9 @@ for (const line of lines) {
       break;
     case "channel": {
       const e = ends.length;
-      for (const peer of [e + 1, e]) ends.push({ peer, put: 0, queue: [], head: 0, enabled: false });
+      for (const peer of [e + 1, e]) {
+        ends.push({ peer, put: 0, queue: [], head: 0, enabled: false });
+      }
       output.push(`ends ${e} ${e + 1}`);
       break;
     }

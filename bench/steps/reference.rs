@@ -1,6 +1,6 @@
-// The same job as `messagehub steps` does for `agent -`, `channel A`, `start E`, `post P - BODY` and
-// `take E`, as plain Rust: the whole input is parsed first, a body is checked and kept as its compact
-// text, and the outcomes of all step lines are written at the end of a block.
+// The same job as `messagehub steps` does for `agent -`, `channel A`, `start E`, `post P - BODY`
+// and `take E`, as plain Rust: the whole input is parsed first, a body is checked and kept as its
+// compact text, and the outcomes of all step lines are written at the end of a block.
 use std::collections::{BTreeMap, VecDeque};
 use std::io::{self, Read, Write};
 use std::process::exit;
@@ -311,7 +311,9 @@ impl Hub {
                     return writeln!(output, "disabled");
                 }
                 match end.queue.pop_front() {
-                    Some(Envelope { number, body }) => writeln!(output, "got 0:{number} from 0 {body}"),
+                    Some(Envelope { number, body }) => {
+                        writeln!(output, "got 0:{number} from 0 {body}")
+                    }
                     None => writeln!(output, "empty"),
                 }
             }
@@ -324,7 +326,8 @@ fn main() -> io::Result<()> {
     let mut input = Vec::new();
     io::stdin().read_to_end(&mut input)?;
     let mut commands = Vec::new();
-    for (at, line) in input.strip_suffix(b"\n").unwrap_or(&input).split(|byte| *byte == b'\n').enumerate() {
+    let lines = input.strip_suffix(b"\n").unwrap_or(&input).split(|byte| *byte == b'\n');
+    for (at, line) in lines.enumerate() {
         match std::str::from_utf8(line).ok().and_then(command_of) {
             Some(command) => commands.push(command),
             None => {
