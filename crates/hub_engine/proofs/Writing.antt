@@ -1,10 +1,9 @@
 -- What an engine has written.
-use Rattle.std.proofs.Common.{◌≡◌, ◌⊎◌, ℕ, List, Option, Result, Ok, Err, sym, subst, inl, inr}
+use Rattle.std.proofs.Common.{◌≡◌, ℕ, List, Option, Result, Ok, Err, sym, subst}
 use Rattle.hub_engine.specs.declared.device.Device.{Device}
 use Rattle.hub_engine.specs.declared.status.ExitStatus.{ExitStatus}
-use Rattle.hub_engine.specs.declared.status.ExitStatus.TheVariants as status
 use Rattle.hub_engine.specs.Beginning.{AppendsBeginning}
-use Rattle.hub_engine.specs.Engine.{IsBadLine, Says, SaysUnread, Writes}
+use Rattle.hub_engine.specs.Engine.{Says, Writes}
 
 pub writes_weaker : (P Q : ExitStatus → List ℕ → Type 0) (old new : Option (List ℕ)) (r : Result ExitStatus Device) → ((s : ExitStatus) (t : List ℕ) → P s t → Q s t) → Writes P old new r → Writes Q old new r
 writes_weaker P Q old new (Ok s) f h = (h.0, f s h.0 h.1, h.2)

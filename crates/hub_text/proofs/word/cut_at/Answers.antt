@@ -1,4 +1,4 @@
-use Rattle.std.proofs.Common.{◌≡◌, ℕ, ◌<◌, length, get_or, true, false, eqb, option_map, rules, arith, sym, ap, ◌∙◌}
+use Rattle.std.proofs.Common.{◌≡◌, ℕ, ◌<◌, length, get_or, false, eqb, option_map, rules, arith, sym, ap, ◌∙◌}
 use Rattle.std.proofs.lemmas.Grind.{common_steps}
 use Rattle.std.proofs.lemmas.Str.{IsCharBoundary-after_ascii}
 use Rattle.hub_text.proofs.Cuts.{IsFirst, is_byte, cut_there, cut_nowhere}
@@ -14,20 +14,14 @@ pub range_from-requires : goal.range_from-requires
 range_from-requires c =
     let text = c.args.text.now in
     let end = c.in_ok-end.end in
-    let within : end < length text = search rules in
-    let here : eqb (get_or text end 0) c.args.byte ≡ true = search rules in
-    let before : (k : ℕ) → k < end → eqb (get_or text k 0) c.args.byte ≡ false = search rules in
-    let first : IsFirst c.args.byte text end = record { within = within; here = here; before = before } in
-    λ _. IsCharBoundary-after_ascii text end c.utf8.text within (omega (arith, c.requires, is_byte c.args.byte text end first))
+    let first : IsFirst c.args.byte text end = record { within = search rules; here = search rules; before = search rules } in
+    λ _. IsCharBoundary-after_ascii text end c.utf8.text first.within (omega (arith, c.requires, is_byte c.args.byte text end first))
 
 pub returns : goal.returns
 returns c =
     let text = c.args.text.now in
     let end = c.in_ok-end.end in
-    let within : end < length text = search rules in
-    let here : eqb (get_or text end 0) c.args.byte ≡ true = search rules in
-    let before : (k : ℕ) → k < end → eqb (get_or text k 0) c.args.byte ≡ false = search rules in
-    let first : IsFirst c.args.byte text end = record { within = within; here = here; before = before } in
+    let first : IsFirst c.args.byte text end = record { within = search rules; here = search rules; before = search rules } in
     let word = c.range.ensures.value in
     let rest = c.range_from.ensures.value in
     grind (arith, common_steps, word, rest, cut_there c.args.byte text end first)
