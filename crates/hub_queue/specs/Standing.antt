@@ -40,10 +40,7 @@ pub record IsNext (name : Key) (s : StandSeat) : Type 0 where
   pub named : IsNameOf (put_of s) s.name
   pub unused : IsUnused s
 
--- where the line of a poster stands
-abbrev pub stand_in : Option StandSeat → StandSeat
-stand_in (Some s) = s
-stand_in None = record {
-  name = record { end = record { 0 = 0 }; epoch = 0; line = record { 0 = 0 } };
-  entry = record { gate = record { words = 0; slots = 0; views_name = 0; atom = 0; block = 0; offset = 0; slot_names = [] }; at = new_line 0 [] None };
-}
+-- the entry of a line
+abbrev pub entry_in : Option (EntrySeat LineSeat) → EntrySeat LineSeat
+entry_in (Some e) = e
+entry_in None = record { gate = record { words = 0; slots = 0; views_name = 0; atom = 0; block = 0; offset = 0; slot_names = [] }; at = new_line 0 [] None }

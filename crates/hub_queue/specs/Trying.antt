@@ -1,15 +1,47 @@
--- What a post at the queue where the line stands comes to.
-use Rattle.std.specs.Prelude.{◌≡◌, Ok, Err}
+-- What a post at the queue where the line stands comes to, and what becomes of a line that was turned.
+use Rattle.std.specs.Prelude.{◌≡◌, ◌⊎◌, [], Bool, Option, Some, Result, Ok, Err}
 use Rattle.hub_envelope.specs.declared.envelope.Draft.{Draft}
+use Rattle.hub_gate.specs.declared.entered.Refusal.{Refusal}
 use Rattle.hub_gate.specs.declared.entered.Refusal.TheVariants as refusal
+use Rattle.hub_gate.specs.Entering.{left_seat}
+use Rattle.hub_gate.specs.GateSeats.{EntrySeat, InsideSeat, with_right}
+use Rattle.hub_queue.specs.declared.posted.Posted.{Posted}
 use Rattle.hub_queue.specs.declared.posting.Tried.{Tried}
-use Rattle.hub_queue.specs.declared.posting.Tried.TheVariants.{Answered, Moved}
-use Rattle.hub_queue.specs.Posting.{StaysAt, HasSeen, IsSeen}
+use Rattle.hub_queue.specs.declared.posting.Tried.TheVariants.{Answered, Turned}
+use Rattle.hub_queue.specs.declared.post_error.PostError.{PostError}
+use Rattle.hub_queue.specs.declared.post_error.PostError.TheVariants.{Closed, Moving, OutOfMemory}
+use Rattle.hub_queue.specs.declared.pass_view.PutView.{PutView}
+use Rattle.hub_queue.specs.Posting.{StaysAt, GoesTo, HasSeen, IsSeen}
 use Rattle.hub_queue.specs.Putting.{IsPut}
+use Rattle.hub_queue.specs.Seats.{LineSeat, IsNameOf}
 use Rattle.hub_queue.specs.Standing.{StandSeat, put_of}
 
--- The line stays where it stands. It was answered there, or was turned because the queue is retired.
-abbrev pub IsTried : StandSeat → Draft → Tried → Type 0
-IsTried old draft (Answered new (Ok posted)) = StaysAt old new × IsPut (put_of old) (put_of new) draft (Ok posted)
-IsTried old draft (Answered new (Err refused)) = StaysAt old new × (put_of new ≡ put_of old) × (refused.1 ≡ draft) × IsSeen new old.entry.at.enters refused.0
-IsTried old draft (Moved new back) = StaysAt old new × (put_of new ≡ put_of old) × (back ≡ draft) × HasSeen new old.entry.at.enters refusal.Moved
+-- the draft was put, or there was no memory for it
+abbrev pub IsAnswered : PutView → PutView → Draft → Result Posted (PostError × Draft) → Type 0
+IsAnswered old new draft (Ok posted) = IsPut old new draft (Ok posted)
+IsAnswered old new draft (Err refused) = (new ≡ old) × (refused.1 ≡ draft) × (refused.0 ≡ OutOfMemory)
+
+-- the line has left with the right that it had inside, by which the draft was put or not
+abbrev pub IsPutInside : InsideSeat LineSeat → Option (EntrySeat LineSeat) → Draft → Result Posted (PostError × Draft) → Type 0
+IsPutInside inside entry draft answer = (enabled : Bool) × (right : LineSeat) × (entry ≡ Some (left_seat (with_right inside right) enabled)) × (right.queue ≡ inside.right.queue) × IsAnswered inside.right.at right.at draft answer
+
+-- The line stays where it stands. The draft was put, or there was no memory for it, or the line was turned.
+abbrev pub IsTried : StandSeat → StandSeat → Draft → Tried → Type 0
+IsTried old new draft (Answered answer) = StaysAt old new × IsAnswered (put_of old) (put_of new) draft answer
+IsTried old new draft (Turned found back) = StaysAt old new × (put_of new ≡ put_of old) × (back ≡ draft) × HasSeen new old.entry.at.enters found
+
+-- the line has gone on to a later queue of its end, in which it had put this, which is nothing
+pub record GoesToUnused (old new : StandSeat) (before : PutView) : Type 0 where
+  pub goes : GoesTo old new
+  pub named : IsNameOf before new.name
+  pub unused : before.put ≡ []
+
+-- the error where a line goes on no further
+abbrev pub error_of : Refusal → PostError
+error_of refusal.Moved = Moving
+error_of refusal.Closed = Closed
+
+-- A line that was turned goes on. Ok: at a later queue, where the draft is all that it has put. Err: the draft comes back, and the line stands where it was turned, or at a later queue where it has put nothing.
+abbrev pub IsPostedOnward : StandSeat → StandSeat → Refusal → Draft → Result Posted (PostError × Draft) → Type 0
+IsPostedOnward turned new found draft (Ok posted) = (before : PutView) × GoesToUnused turned new before × IsPut before (put_of new) draft (Ok posted)
+IsPostedOnward turned new found draft (Err refused) = (refused.1 ≡ draft) × (((new ≡ turned) × (refused.0 ≡ error_of found)) ⊎ (GoesToUnused turned new (put_of new) × IsSeen new 0 refused.0))

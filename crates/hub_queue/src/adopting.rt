@@ -34,6 +34,7 @@ fn put_onward<R: Wait>(
     let Ok(bell) = bell.clone() else {
         return Err(AdoptError::OutOfMemory);
     };
+    let entry = Some(entry);
     let stand = Stand { name, entry, bell };
     match yard.put(rt, Onward { stand }) {
         Ok(()) => Ok(()),

@@ -1,5 +1,6 @@
 ghost use Rattle.std.specs.Prelude.{◌≡◌};
 ghost use Rattle.hub_queue.specs.Putting.{IsPut, unnamed};
+ghost use Rattle.hub_queue.specs.Seats.{IsNameOf};
 
 use crate::limits::MAX_PUT;
 use crate::posted::Posted;
@@ -13,11 +14,11 @@ use std::sync::{Arc, Wait};
 
 /// What the gate of a queue keeps for a line: the line's pass, with the queue that it is of.
 /// Whoever is inside has it in hand, so that a line pushes only between entering and leaving.
+// It is two words, since each post moves it out of its slot and back.
 #[derive(Drop)]
 pub struct LineRight {
     pub(crate) store: Arc<Store>,
     pub(crate) pass: Pass,
-    pub(crate) name: Key,
     /// How many envelopes the line has put in this queue.
     pub(crate) number: u64,
 }
@@ -27,7 +28,7 @@ impl Model for LineRight {
     ghost use Rattle.std.specs.Arc.{arc_value};
     ghost use Rattle.crossbeam_queue.specs.SegTies.{IsSegPassOf};
     ghost use Rattle.hub_queue.specs.declared.pass_view.PassView.TheVariants.{Puts};
-    ghost use Rattle.hub_queue.specs.Seats.{LineSeat, IsNameOf, known_by, put_in};
+    ghost use Rattle.hub_queue.specs.Seats.{LineSeat, known_by, put_in};
 
     ghost Value = { LineSeat };
 
@@ -38,7 +39,6 @@ impl Model for LineRight {
 
     ghost invariant = { λ r. IsSegPassOf (arc_value r.store).lines r.pass
         × (known_by r.pass ≡ Puts (put_in (known_by r.pass)))
-        × IsNameOf (put_in (known_by r.pass)) r.name
         × (r.number ≡ length (put_in (known_by r.pass)).put) };
 }
 
@@ -71,10 +71,12 @@ fn draft_of(envelope: Envelope) -> Draft
 }
 
 impl LineRight {
-    /// Puts the draft in the queue, under the next name of the line. `Err`: there was no memory, or
-    /// the line has put `MAX_PUT` envelopes there. The draft comes back, and nothing was put.
+    /// Puts the draft in the queue, under the next name of the line. `name` is the line's name at
+    /// this queue. `Err`: there was no memory, or the line has put `MAX_PUT` envelopes there. The
+    /// draft comes back, and nothing was put.
     #[inline(always)]
-    pub(crate) fn put<R: Wait>(&mut self, rt: &R, draft: Draft) -> Result<Posted, Draft>
+    pub(crate) fn put<R: Wait>(&mut self, rt: &R, name: Key, draft: Draft) -> Result<Posted, Draft>
+        requires { IsNameOf self.old.at name }
         ensures queue { self.new.queue ≡ self.old.queue }
         ensures put { IsPut self.old.at self.new.at draft result }
     {
@@ -82,7 +84,7 @@ impl LineRight {
         if number >= MAX_PUT {
             return Err(draft);
         }
-        let Key { end, epoch, line } = self.name;
+        let Key { end, epoch, line } = name;
         let envelope = Envelope {
             end,
             epoch,

@@ -43,8 +43,9 @@ fn seat_posters(
             line: LineId(line as u8),
         };
         let bell = bell.clone()?;
+        let entry = Some(entry);
         let stand = Stand { name, entry, bell };
-        posters.push(Poster { stand: Some(stand) })?;
+        posters.push(Poster { stand })?;
     }
     Ok(posters)
 }

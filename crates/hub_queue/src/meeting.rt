@@ -9,6 +9,7 @@ use crate::poster::Poster;
 use crate::queue_rule::{Compare, GiveBack, Lend};
 use crate::stand::Stand;
 use crate::taker::Taker;
+use hub_envelope::LineId;
 use hub_gate::Entered;
 use std::sync::Wait;
 
@@ -26,8 +27,9 @@ pub enum Meeting {
 
 // Lends the pass of a line to the taker's for one look at the queue: what was taken of the line is
 // a prefix of what it has put. It says how many were put and taken. Both passes are as they were.
-fn compare<R: Wait>(rt: &R, place: &mut Place, right: &mut LineRight) -> (u64, u64)
+fn compare<R: Wait>(rt: &R, place: &mut Place, right: &mut LineRight, line: LineId) -> (u64, u64)
     requires queue { right.old.queue ≡ place.old.queue }
+    requires line { line.0 ≡ right.old.at.line }
     ensures same { (place.new ≡ place.old) × (right.new ≡ right.old) }
     ensures prefix { Prefix (by right.old.at.line place.old.at.got) right.old.at.put }
     ensures put { result.0 ≡ length right.old.at.put }
@@ -38,23 +40,27 @@ fn compare<R: Wait>(rt: &R, place: &mut Place, right: &mut LineRight) -> (u64, u
     lines.absorb::<Compare>(&mut place.pass, lent);
     lines.len_as::<Compare, R>(rt, &mut place.pass);
     right.pass = lines.another::<GiveBack>(&mut place.pass);
-    (right.number, place.taken[right.name.line.0 as usize])
+    (right.number, place.taken[line.0 as usize])
 }
 
 // Goes in at the gate, compares, and comes out again.
-fn meet_at<R: Wait>(rt: &R, stand: Stand, place: &mut Place) -> (Stand, Meeting)
-    requires { (right_of stand).queue ≡ place.old.queue }
+fn meet_at<R: Wait>(rt: &R, stand: &mut Stand, place: &mut Place) -> Meeting
+    requires { (right_of stand.old).queue ≡ place.old.queue }
     ensures same { place.new ≡ place.old }
-    ensures met { HaveMetAt stand result.0 place.old result.1 }
+    ensures met { HaveMetAt stand.old stand.new place.old result }
 {
-    let Stand { name, entry, bell } = stand;
-    match entry.enter() {
+    let line = stand.name.line;
+    match stand.entry.take().unwrap().enter() {
         Entered::In(mut inside) => {
-            let (put, got) = compare(rt, place, inside.right_mut());
+            let (put, got) = compare(rt, place, inside.right_mut(), line);
             let (entry, _) = inside.leave();
-            (Stand { name, entry, bell }, Meeting::Met { put, got })
+            stand.entry = Some(entry);
+            Meeting::Met { put, got }
         }
-        Entered::Turned(entry, _) => (Stand { name, entry, bell }, Meeting::Turned),
+        Entered::Turned(entry, _) => {
+            stand.entry = Some(entry);
+            Meeting::Turned
+        }
     }
 }
 
@@ -67,15 +73,12 @@ pub fn meet<R: Wait>(rt: &R, poster: &mut Poster, taker: &mut Taker) -> Meeting
     requires { AreOfOne poster.old taker.old }
     ensures { HaveMet poster.old poster.new taker.old taker.new result }
 {
-    let stand = poster.stand.take().unwrap();
+    let stand = &mut poster.stand;
     if stand.name.end != taker.end || stand.name.epoch != taker.epoch {
-        poster.stand = Some(stand);
         return Meeting::Strangers;
     }
-    let (stand, meeting) = match taker.retired.front_mut() {
+    match taker.retired.front_mut() {
         Some(place) => meet_at(rt, stand, place),
         None => meet_at(rt, stand, &mut taker.newest),
-    };
-    poster.stand = Some(stand);
-    meeting
+    }
 }

@@ -14,8 +14,7 @@ use crate::place::Place;
 use crate::queue_rule::{NextLine, QueueName};
 use crate::store::{Lines, Pass, Store};
 use hub_core::MAX_LINES;
-use hub_depot::Key;
-use hub_envelope::{EndId, LineId};
+use hub_envelope::EndId;
 use hub_gate::{Entry, Gate};
 use std::alloc::{AllocError, Global};
 use std::marker::Brand;
@@ -51,17 +50,12 @@ fn cut_lines(
         rights.items ≡ new_rights (arc_value store.now).lines.web end.0 epoch lines) }
 {
     let mut rights = Vec::with_capacity(alloc, lines as usize)?;
-    for line in 0..lines {
+    for _line in 0..lines {
         let share = Arc::try_clone(store)?;
         let own = cut_line::<Brand>(store, pass, end, epoch);
         rights.push(LineRight {
             store: share,
             pass: own,
-            name: Key {
-                end,
-                epoch,
-                line: LineId(line),
-            },
             number: 0,
         })?;
     }

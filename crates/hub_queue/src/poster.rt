@@ -5,7 +5,6 @@ use crate::onward::Onward;
 use crate::pause::{NoPause, Pause};
 use crate::post_error::PostError;
 use crate::posted::Posted;
-use crate::posting::post_from;
 use crate::stand::Stand;
 use hub_depot::{Depot, Key};
 use hub_envelope::Draft;
@@ -15,19 +14,16 @@ use std::sync::Wait;
 /// Whoever posts at an end, over one line.
 #[derive(Drop)]
 pub struct Poster {
-    /// Where the line stands. It is `None` during a post alone.
-    pub(crate) stand: Option<Stand>,
+    /// Where the line stands.
+    pub(crate) stand: Stand,
 }
 
 impl Model for Poster {
-    ghost use Rattle.std.specs.Prelude.{◌≡◌, Some};
-    ghost use Rattle.hub_queue.specs.Standing.{StandSeat, stand_in};
+    ghost use Rattle.hub_queue.specs.Standing.{StandSeat};
 
     ghost Value = { StandSeat };
 
-    ghost view = { λ p. stand_in p.stand };
-
-    ghost invariant = { λ p. p.stand ≡ Some (stand_in p.stand) };
+    ghost view = { λ p. p.stand };
 }
 
 impl Poster {
@@ -35,10 +31,7 @@ impl Poster {
     pub fn name(&self) -> Key
         ensures { result ≡ self.now.name }
     {
-        match &self.stand {
-            Some(stand) => stand.name,
-            None => unreachable!(),
-        }
+        self.stand.name
     }
 
     /// Posts a draft at the end (WHATWG HTML, "Message ports": the message port post message
@@ -69,9 +62,6 @@ impl Poster {
     ) -> Result<Posted, (PostError, Draft)>
         ensures { IsPosted self.old self.new draft result }
     {
-        let stand = self.stand.take().unwrap();
-        let (stand, answer) = post_from(rt, yard, stand, draft, pause);
-        self.stand = Some(stand);
-        answer
+        self.stand.post(rt, yard, draft, pause)
     }
 }

@@ -1,90 +1,142 @@
 //! A post: enter the gate, put the draft, leave; and go on where the queue is retired.
+ghost use Rattle.std.specs.Prelude.{◌≡◌};
 ghost use Rattle.hub_queue.specs.Posting.{IsPosted};
-ghost use Rattle.hub_queue.specs.Trying.{IsTried};
+ghost use Rattle.hub_queue.specs.Seats.{IsNameOf, tag_of};
+ghost use Rattle.hub_queue.specs.Trying.{IsPostedOnward, IsPutInside, IsTried};
 
+use crate::bell::Bell;
+use crate::line_right::LineRight;
 use crate::onward::{Onward, next_stand};
 use crate::pause::{Pause, Point};
 use crate::post_error::PostError;
 use crate::posted::Posted;
 use crate::stand::Stand;
 use hub_core::MAX_HOPS;
-use hub_depot::Depot;
+use hub_depot::{Depot, Key};
 use hub_envelope::Draft;
-use hub_gate::{Entered, Refusal};
+use hub_gate::{Entered, Entry, Inside, Refusal};
 use std::sync::Wait;
 
 /// What became of a post at the queue where the line stands.
 #[derive(Drop)]
 pub(crate) enum Tried {
-    /// The draft was accepted or refused there.
-    Answered(Stand, Result<Posted, (PostError, Draft)>),
-    /// The queue is retired.
-    Moved(Stand, Draft),
+    /// The draft was accepted, or there was no memory.
+    Answered(Result<Posted, (PostError, Draft)>),
+    /// The line was turned.
+    Turned(Refusal, Draft),
 }
 
-// Posts at the queue where the line stands. Whoever has left an enabled gate rings the bell. It is
-// inlined, and so are `post_from` and `LineRight::put`, since drafts and answers are large and each
-// call copies them.
+// Puts the draft, leaves, and puts the entry back in its place. Whoever has left an enabled gate
+// rings the bell. It is inlined, and so are `Stand::post` and `LineRight::put`, since drafts and
+// answers are large and each call copies them.
 #[inline(always)]
-fn try_post<P: Pause, R: Wait>(rt: &R, stand: Stand, draft: Draft, pause: &P) -> Tried
-    ensures { IsTried stand draft result }
+fn post_inside<P: Pause, R: Wait>(
+    rt: &R,
+    mut inside: Inside<LineRight>,
+    name: Key,
+    place: &mut Option<Entry<LineRight>>,
+    bell: &Bell,
+    draft: Draft,
+    pause: &P,
+) -> Result<Posted, (PostError, Draft)>
+    requires name { IsNameOf inside.right.at name }
+    requires tag { tag_of inside.right ≡ inside.at.tag }
+    ensures { IsPutInside inside place.new draft result }
 {
-    pause.at(rt, Point::Before);
-    let Stand { name, entry, bell } = stand;
-    match entry.enter() {
-        Entered::In(mut inside) => {
-            pause.at(rt, Point::Inside);
-            let answer = inside.right_mut().put(rt, draft);
-            pause.at(rt, Point::Pushed);
-            let (entry, enabled) = inside.leave();
-            if enabled {
-                bell.ring();
-            }
-            let stand = Stand { name, entry, bell };
-            match answer {
-                Ok(posted) => Tried::Answered(stand, Ok(posted)),
-                Err(draft) => Tried::Answered(stand, Err((PostError::OutOfMemory, draft))),
-            }
-        }
-        Entered::Turned(entry, Refusal::Moved) => Tried::Moved(Stand { name, entry, bell }, draft),
-        Entered::Turned(entry, Refusal::Closed) => {
-            let stand = Stand { name, entry, bell };
-            Tried::Answered(stand, Err((PostError::Closed, draft)))
-        }
+    pause.at(rt, Point::Inside);
+    let put = inside.right_mut().put(rt, name, draft);
+    pause.at(rt, Point::Pushed);
+    let (entry, enabled) = inside.leave();
+    *place = Some(entry);
+    if enabled {
+        bell.ring();
+    }
+    match put {
+        Ok(posted) => Ok(posted),
+        Err(draft) => Err((PostError::OutOfMemory, draft)),
     }
 }
 
-/// Posts the draft from a stand, and goes on to the next queue where it was retired, at most
-/// `MAX_HOPS` times.
-#[inline(always)]
-pub(crate) fn post_from<P: Pause, R: Wait>(
-    rt: &R,
-    yard: &Depot<Onward>,
-    stand: Stand,
-    draft: Draft,
-    pause: &P,
-) -> (Stand, Result<Posted, (PostError, Draft)>)
-    ensures { IsPosted stand result.0 draft result.1 }
-{
-    let mut stand = stand;
-    let mut draft = draft;
-    for _hop in 0..MAX_HOPS {
-        match try_post(rt, stand, draft, pause) {
-            Tried::Answered(here, answer) => return (here, answer),
-            Tried::Moved(here, back) => {
-                pause.at(rt, Point::Hopping);
-                match next_stand(rt, yard, here.name) {
-                    Some(next) => {
-                        stand = next;
-                        draft = back;
-                    }
-                    None => return (here, Err((PostError::Moving, back))),
+impl Stand {
+    // Posts at the queue where the line stands.
+    fn try_post<P: Pause, R: Wait>(&mut self, rt: &R, draft: Draft, pause: &P) -> Tried
+        ensures { IsTried self.old self.new draft result }
+    {
+        pause.at(rt, Point::Before);
+        let (name, bell) = (self.name, &self.bell);
+        match self.entry.take().unwrap().enter() {
+            Entered::In(inside) => {
+                let answer = post_inside(rt, inside, name, &mut self.entry, bell, draft, pause);
+                Tried::Answered(answer)
+            }
+            Entered::Turned(entry, refusal) => {
+                self.entry = Some(entry);
+                Tried::Turned(refusal, draft)
+            }
+        }
+    }
+
+    /// Posts the draft, and goes on to the next queue where the one where the line stands was
+    /// retired, at most `MAX_HOPS` times.
+    // It doesn't call `try_post`, since what that comes to would be copied once more.
+    #[inline(always)]
+    pub(crate) fn post<P: Pause, R: Wait>(
+        &mut self,
+        rt: &R,
+        yard: &Depot<Onward>,
+        draft: Draft,
+        pause: &P,
+    ) -> Result<Posted, (PostError, Draft)>
+        ensures { IsPosted self.old self.new draft result }
+    {
+        pause.at(rt, Point::Before);
+        let (name, bell) = (self.name, &self.bell);
+        match self.entry.take().unwrap().enter() {
+            Entered::In(inside) => {
+                post_inside(rt, inside, name, &mut self.entry, bell, draft, pause)
+            }
+            Entered::Turned(entry, refusal) => {
+                self.entry = Some(entry);
+                self.post_onward(rt, yard, refusal, draft, pause)
+            }
+        }
+    }
+
+    // Goes on from where the line was turned. It isn't inlined, so that a post at the queue where
+    // its line stands doesn't pay for it.
+    #[inline(never)]
+    fn post_onward<P: Pause, R: Wait>(
+        &mut self,
+        rt: &R,
+        yard: &Depot<Onward>,
+        refusal: Refusal,
+        draft: Draft,
+        pause: &P,
+    ) -> Result<Posted, (PostError, Draft)>
+        ensures { IsPostedOnward self.old self.new refusal draft result }
+    {
+        let mut found = refusal;
+        let mut draft = draft;
+        for _hop in 0..MAX_HOPS {
+            if found == Refusal::Closed {
+                return Err((PostError::Closed, draft));
+            }
+            pause.at(rt, Point::Hopping);
+            let Some(next) = next_stand(rt, yard, self.name) else {
+                return Err((PostError::Moving, draft));
+            };
+            *self = next;
+            match self.try_post(rt, draft, pause) {
+                Tried::Answered(answer) => return answer,
+                Tried::Turned(refusal, back) => {
+                    found = refusal;
+                    draft = back;
                 }
             }
         }
-    }
-    match try_post(rt, stand, draft, pause) {
-        Tried::Answered(here, answer) => (here, answer),
-        Tried::Moved(here, back) => (here, Err((PostError::Moving, back))),
+        match found {
+            Refusal::Moved => Err((PostError::Moving, draft)),
+            Refusal::Closed => Err((PostError::Closed, draft)),
+        }
     }
 }

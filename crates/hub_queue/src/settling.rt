@@ -30,7 +30,6 @@ fn take_in_all(store: &Store, pass: &mut Pass, mut rights: Vec<LineRight>)
         let LineRight {
             store: _,
             pass: own,
-            name: _,
             number: _,
         } = rights.pop().unwrap();
         store.lines.absorb::<TakeIn>(pass, own);

@@ -8,16 +8,19 @@ use std::marker::Model;
 #[derive(Drop)]
 pub struct Stand {
     pub(crate) name: Key,
-    pub(crate) entry: Entry<LineRight>,
+    /// The line's entry. It is `None` during a post alone.
+    pub(crate) entry: Option<Entry<LineRight>>,
     pub(crate) bell: Bell,
 }
 
 impl Model for Stand {
-    ghost use Rattle.hub_queue.specs.Standing.{StandSeat, IsStand};
+    ghost use Rattle.std.specs.Prelude.{◌≡◌, Some};
+    ghost use Rattle.hub_queue.specs.Standing.{StandSeat, IsStand, entry_in};
 
     ghost Value = { StandSeat };
 
-    ghost view = { λ s. record { name = s.name; entry = s.entry } };
+    ghost view = { λ s. record { name = s.name; entry = entry_in s.entry } };
 
-    ghost invariant = { λ s. IsStand (record { name = s.name; entry = s.entry }) };
+    ghost invariant = { λ s. (s.entry ≡ Some (entry_in s.entry))
+        × IsStand (record { name = s.name; entry = entry_in s.entry }) };
 }

@@ -1,4 +1,4 @@
-use Rattle.std.proofs.Common.{arith, ◌≡◌, ◌<◌, ◌+◌, ◌++◌, ◌∷◌, [], length, ap, sym, ◌∙◌, length-append}
+use Rattle.std.proofs.Common.{arith, refl, ◌≡◌, ◌<◌, ◌+◌, ◌++◌, ◌∷◌, [], length, ap, sym, ◌∙◌, length-append}
 use Rattle.hub_gate.proofs.Filling.{popped_last}
 use Rattle.hub_gate.proofs.Got.{some_is}
 use Rattle.hub_queue.specs.Mailboxes.{new_stands}
@@ -20,7 +20,7 @@ invariant_of-stand c =
     let count = kept.count in
     let longer = ap length last in
     let low : c.loop-line.line < length c.args.entries.items = omega (arith, length-append c.pop.new.self.items (c.unwrap-entry.result ∷ [])) in
-    (stand_holds _ _ _ _ _ _ (some_is _ _ (sym next.1 ∙ ap (slice_get c.args.entries.items) kept.split.2 ∙ entry_at _ _ _ _ _ c.requires.open c.loop-line.line low))).0
+    (refl, (stand_holds _ _ _ _ _ _ (some_is _ _ (sym next.1 ∙ ap (slice_get c.args.entries.items) kept.split.2 ∙ entry_at _ _ _ _ _ c.requires.open c.loop-line.line low))).0)
 
 pub loop-line-preserved : goal.loop-line-preserved
 loop-line-preserved c =

@@ -19,12 +19,12 @@ another-requires-clause-rule g c =
     let both = are_joined _ _ (take_in c.place.inside.pass.me.view.client) (put_in c.right.inside.pass.me.view.client) c.place.invariant.1 (c.another-lent.ensures.rule.1 ∙ c.right.invariant.1) in
     gives_back_at _ _ (take_in c.place.inside.pass.me.view.client) (put_in c.right.inside.pass.me.view.client) (c.len_as.ensures.queue.2 ∙ c.absorb.ensures.rule ∙ both)
 
-pub bounds-place-inside-right-inside : goal.bounds-place-inside-right-inside
-bounds-place-inside-right-inside g c =
+pub bounds-place-inside-line : goal.bounds-place-inside-line
+bounds-place-inside-line g c =
     let both = are_joined _ _ (take_in c.place.inside.pass.me.view.client) (put_in c.right.inside.pass.me.view.client) c.place.invariant.1 (c.another-lent.ensures.rule.1 ∙ c.right.invariant.1) in
     let low = (compared _ (take_in c.place.inside.pass.me.view.client) (put_in c.right.inside.pass.me.view.client) _ (c.absorb.ensures.rule ∙ both) c.len_as.ensures.rule).0 in
     let few = c.place.invariant.2.few in
-    let name = c.right.invariant.2.line in
+    let line = c.requires.line ∙ sym (ap (λ r. r.at.line) c.right.view_is) in
     omega arith
 
 pub returns-clause-prefix : goal.returns-clause-prefix
@@ -38,6 +38,6 @@ returns-clause-got g c =
     let both = are_joined _ _ (take_in c.place.inside.pass.me.view.client) (put_in c.right.inside.pass.me.view.client) c.place.invariant.1 (c.another-lent.ensures.rule.1 ∙ c.right.invariant.1) in
     let low = (compared _ (take_in c.place.inside.pass.me.view.client) (put_in c.right.inside.pass.me.view.client) _ (c.absorb.ensures.rule ∙ both) c.len_as.ensures.rule).0 in
     let few = c.place.invariant.2.few in
-    let name = c.right.invariant.2.line in
-    let within : c.right.inside.name.line.0 < 32 = omega arith in
-    c.place.invariant.3 c.right.inside.name.line.0 within ∙ (λ i. length (by ((name ∙ ap (λ r. r.at.line) c.right.view_is) i) ((c.place.view_is i).at.got)))
+    let line = c.requires.line ∙ sym (ap (λ r. r.at.line) c.right.view_is) in
+    let within : c.args.line.0 < 32 = omega arith in
+    c.place.invariant.3 c.args.line.0 within ∙ (λ i. length (by (c.requires.line i) ((c.place.view_is i).at.got)))

@@ -4,8 +4,8 @@ use Rattle.hub_loop.specs.Noticing.{Notice}
 use Rattle.hub_loop.proofs.Notices.{behind-one, notices-one, push-same}
 use Rattle.hub_loop.proofs.closing.Closing.close_found.Goals as goal
 
-pub loop-self-preserved-in_ok-reserve-2 : goal.loop-self-preserved-in_ok-reserve-2
-loop-self-preserved-in_ok-reserve-2 g c =
+pub loop-self-preserved : goal.loop-self-preserved
+loop-self-preserved g c =
     let old = c.args.self.now in
     let self = c.loop-self.self in
     let grave = c.close-grave.result.0 in
