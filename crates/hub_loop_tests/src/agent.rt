@@ -1,13 +1,14 @@
 //! An agent: its loop, and the calls that it makes there.
 //!
-//! A function that drops a port, a queue or a loop costs some seconds of the check, so few do.
+//! A function that itself lets a port, a queue or a loop go costs some seconds of the check, so
+//! each is handed to `drop`.
 use crate::mail::Mail;
-use crate::parts::{Loop, again, body, room, turn};
+use crate::parts::{Loop, body, room, turn};
 use crate::scribe::Scribe;
 use crate::shared::Shared;
 use crossbeam_utils::sync::Parker;
 use hub_broadcast::CastOutcome;
-use hub_clients::HandError;
+use hub_clients::{ClientQueue, HandError, WorkerQueue};
 use hub_envelope::{AgentId, Body, EndId};
 use hub_life::Order;
 use hub_loop::{Ended, EventLoop, Held, LoopError, NoCheckpoint, Turn};
@@ -22,6 +23,7 @@ pub(crate) enum Answer {
     /// Under this epoch and number.
     Accepted(u32, u64),
     Closed,
+    OutOfMemory,
     Other,
 }
 
@@ -40,7 +42,10 @@ pub(crate) struct Agent {
     pub(crate) number: AgentId,
     pub(crate) bell: Bell,
     event_loop: Loop,
-    order: Order,
+    // Each is one more right to give the order.
+    orders: Vec<Order>,
+    // What a post that found no memory has given back.
+    returned: Option<(Body, Vec<Port>)>,
     // Whether an allocation may be refused. Each call is then made again where one was.
     may_refuse: bool,
 }
@@ -57,22 +62,46 @@ fn are_ports(ports: &[Port], numbers: &[u32]) -> bool {
     true
 }
 
+fn open_loop(
+    alloc: Global,
+    number: AgentId,
+    orders: &mut Vec<Order>,
+    parker: Parker,
+) -> Option<Loop> {
+    let seat = orders.pop()?;
+    let scribe = Scribe::new(alloc, orders.pop()?);
+    EventLoop::open(alloc, number, seat, scribe, &NoCheckpoint, parker).ok()
+}
+
 fn try_open(alloc: Global, number: AgentId, may_refuse: bool) -> Option<Agent> {
     let mut orders = Order::open(alloc, 3).ok()?;
     let parker = Parker::new(alloc).ok()?;
     let bell = Bell::new(parker.unparker().clone().ok()?);
-    let scribe = Scribe::new(alloc, orders.pop()?);
-    let order = orders.pop()?;
-    let seat = orders.pop()?;
-    let event_loop = EventLoop::open(alloc, number, seat, scribe, &NoCheckpoint, parker).ok()?;
+    let event_loop = open_loop(alloc, number, &mut orders, parker)?;
     Some(Agent {
         alloc,
         number,
         bell,
         event_loop,
-        order,
+        orders,
+        returned: None,
         may_refuse,
     })
+}
+
+// Ends a loop. Where there was no memory the next call goes on.
+fn end<R: Wait>(rt: &R, shared: &Shared, event_loop: Loop, may_refuse: bool) -> Option<Ended> {
+    let (hub, directory, roster) = (&shared.hub, &shared.directory, &shared.roster);
+    match event_loop.end(rt, hub, directory, roster) {
+        Ok(ended) => Some(ended),
+        Err((LoopError::OutOfMemory, event_loop)) => {
+            if may_refuse {
+                return event_loop.end(rt, hub, directory, roster).ok();
+            }
+            drop(event_loop);
+            None
+        }
+    }
 }
 
 impl Agent {
@@ -90,10 +119,17 @@ impl Agent {
         let end = held.end();
         match self.event_loop.hold(held) {
             Ok(()) => true,
-            Err((LoopError::OutOfMemory, back)) => {
-                self.may_refuse && back.end() == end && self.event_loop.hold(back).is_ok()
-            }
+            Err((LoopError::OutOfMemory, back)) => self.hold_back(back, end),
         }
+    }
+
+    // Holds what has come back, where it is what was to be held.
+    fn hold_back(&mut self, back: Held, end: EndId) -> bool {
+        if self.may_refuse && back.end() == end {
+            return self.event_loop.hold(back).ok().is_some();
+        }
+        drop(back);
+        false
     }
 
     fn hold_all(&mut self, ports: Vec<Port>) -> bool {
@@ -108,8 +144,24 @@ impl Agent {
     /// Whether the end of this number is given out, is held no more, and is held again.
     pub(crate) fn holds_again(&mut self, end: u32) -> bool {
         match self.event_loop.release(EndId(end)) {
-            Some(held) => held.end().0 == end && self.lends_none(end) && self.hold(held),
+            Some(held) => {
+                if held.end().0 == end && self.lends_none(end) {
+                    return self.hold(held);
+                }
+                drop(held);
+                false
+            }
             None => false,
+        }
+    }
+
+    fn releases_none(&mut self, end: EndId) -> bool {
+        match self.event_loop.release(end) {
+            Some(held) => {
+                drop(held);
+                false
+            }
+            None => true,
         }
     }
 
@@ -119,7 +171,7 @@ impl Agent {
         self.event_loop.port_mut(end).is_none()
             && self.event_loop.client_mut(end).is_none()
             && self.event_loop.member_mut(end).is_none()
-            && self.event_loop.release(end).is_none()
+            && self.releases_none(end)
     }
 
     /// Whether no line to this number is held.
@@ -164,9 +216,12 @@ impl Agent {
     }
 
     fn release_port(&mut self, end: u32) -> Option<Port> {
-        match self.event_loop.release(EndId(end)) {
-            Some(Held::Port(port)) => Some(port),
-            _ => None,
+        match self.event_loop.release(EndId(end))? {
+            Held::Port(port) => Some(port),
+            held => {
+                drop(held);
+                None
+            }
         }
     }
 
@@ -178,6 +233,29 @@ impl Agent {
         Some(ports)
     }
 
+    // What a post has come to. The ports that a closed end has refused are held again.
+    fn answer(&mut self, posted: Result<Posted, PortError>) -> Answer {
+        match posted {
+            Ok(posted) => Answer::Accepted(posted.epoch, posted.number),
+            Err(PortError::Closed(body, back)) => {
+                drop(body);
+                if self.hold_all(back) {
+                    Answer::Closed
+                } else {
+                    Answer::Other
+                }
+            }
+            Err(PortError::OutOfMemory(body, back)) => {
+                drop(self.returned.replace((body, back)));
+                Answer::OutOfMemory
+            }
+            Err(error) => {
+                drop(error);
+                Answer::Other
+            }
+        }
+    }
+
     fn send<R: Wait>(
         &mut self,
         rt: &R,
@@ -185,32 +263,32 @@ impl Agent {
         way: Way,
         body: Body,
         transfer: Vec<Port>,
-    ) -> Option<Result<Posted, PortError>> {
-        match way {
-            Way::Port(end) => match self.event_loop.port_mut(EndId(end)) {
-                Some(port) => Some(port.post(rt, hub, self.number, body, transfer)),
-                None => None,
-            },
-            Way::Line(end) => match self.event_loop.line_mut(EndId(end)) {
-                Some(line) => Some(send(line, rt, hub, self.number, body, transfer)),
-                None => None,
-            },
+    ) -> Option<Answer> {
+        let number = self.number;
+        let posted = match way {
+            Way::Port(end) => {
+                let port = self.event_loop.port_mut(EndId(end))?;
+                port.post(rt, hub, number, body, transfer)
+            }
+            Way::Line(end) => {
+                let line = self.event_loop.line_mut(EndId(end))?;
+                send(line, rt, hub, number, body, transfer)
+            }
+        };
+        Some(self.answer(posted))
+    }
+
+    // Whether this text and the ports of this list were given back.
+    fn is_returned(&self, list: &[u32], text: &str) -> bool {
+        match &self.returned {
+            Some((body, back)) => body.text() == text && are_ports(back.as_slice(), list),
+            None => false,
         }
     }
 
-    // What a post has come to. The ports of one that was refused are held again.
-    fn answer(&mut self, posted: Result<Posted, PortError>) -> Answer {
-        match posted {
-            Ok(posted) => Answer::Accepted(posted.epoch, posted.number),
-            Err(PortError::Closed(_body, back)) => {
-                if self.hold_all(back) {
-                    Answer::Closed
-                } else {
-                    Answer::Other
-                }
-            }
-            Err(_) => Answer::Other,
-        }
+    fn send_again<R: Wait>(&mut self, rt: &R, hub: &Hub, way: Way) -> Option<Answer> {
+        let (body, back) = self.returned.take()?;
+        self.send(rt, hub, way, body, back)
     }
 
     /// Posts a body with the ports of a list.
@@ -225,15 +303,23 @@ impl Agent {
         let body = body(self.alloc, text)?;
         let transfer = self.release_all(list)?;
         match self.send(rt, hub, way, body, transfer)? {
-            Err(PortError::OutOfMemory(body, back)) => {
-                if !self.may_refuse || body.text() != text || !are_ports(back.as_slice(), list) {
-                    return None;
-                }
-                let posted = self.send(rt, hub, way, body, back)?;
-                Some(self.answer(posted))
-            }
-            posted => Some(self.answer(posted)),
+            Answer::OutOfMemory if self.may_refuse && self.is_returned(list, text) =>
+                self.send_again(rt, hub, way),
+            answer => Some(answer),
         }
+    }
+
+    fn cast<R: Wait>(
+        &mut self,
+        rt: &R,
+        shared: &Shared,
+        source: u32,
+        text: &str,
+    ) -> Option<Vec<(EndId, CastOutcome)>> {
+        let body = body(self.alloc, text)?;
+        let member = self.event_loop.member_mut(EndId(source))?;
+        let cast = shared.roster.cast(rt, &shared.hub.yard, member, body, &[]);
+        cast.ok()
     }
 
     /// Whether a cast from the member of this number is accepted at these ends, each with its
@@ -246,15 +332,9 @@ impl Agent {
         text: &str,
         row: &[(u32, u32, u64)],
     ) -> bool {
-        let (Some(body), Some(member)) = (
-            body(self.alloc, text),
-            self.event_loop.member_mut(EndId(source)),
-        ) else {
-            return false;
-        };
-        match shared.roster.cast(rt, &shared.hub.yard, member, body, &[]) {
-            Ok(outcomes) => are_accepted(outcomes.as_slice(), row),
-            Err(_) => false,
+        match self.cast(rt, shared, source, text) {
+            Some(outcomes) => are_accepted(outcomes.as_slice(), row),
+            None => false,
         }
     }
 
@@ -333,43 +413,63 @@ impl Agent {
 
     /// Gives the order to end.
     pub(crate) fn order(&mut self) -> bool {
-        self.order.give();
-        true
+        match self.orders.last_mut() {
+            Some(order) => {
+                order.give();
+                true
+            }
+            None => false,
+        }
     }
 
-    fn try_hand<R: Wait>(
-        &mut self,
+    fn hand_client<R: Wait>(
+        &self,
         rt: &R,
         shared: &Shared,
-        held: Held,
+        queue: ClientQueue,
         to: AgentId,
-    ) -> Result<(), (HandError, Held)> {
-        match held {
-            Held::Client(queue) => match queue.hand(rt, &shared.directory, to) {
-                Ok(()) => Ok(()),
-                Err((error, queue)) => Err((error, Held::Client(queue))),
-            },
-            Held::Worker(queue) => match queue.hand(rt, &shared.directory, to) {
-                Ok(()) => Ok(()),
-                Err((error, queue)) => Err((error, Held::Worker(queue))),
-            },
-            other => Err((HandError::Taken, other)),
+    ) -> bool {
+        match queue.hand(rt, &shared.directory, to) {
+            Ok(()) => true,
+            Err((error, queue)) => {
+                if self.may_refuse && error == HandError::OutOfMemory {
+                    return queue.hand(rt, &shared.directory, to).ok().is_some();
+                }
+                drop(queue);
+                false
+            }
+        }
+    }
+
+    fn hand_worker<R: Wait>(
+        &self,
+        rt: &R,
+        shared: &Shared,
+        queue: WorkerQueue,
+        to: AgentId,
+    ) -> bool {
+        match queue.hand(rt, &shared.directory, to) {
+            Ok(()) => true,
+            Err((error, queue)) => {
+                if self.may_refuse && error == HandError::OutOfMemory {
+                    return queue.hand(rt, &shared.directory, to).ok().is_some();
+                }
+                drop(queue);
+                false
+            }
         }
     }
 
     /// Hands the queue of this number on.
     pub(crate) fn hands<R: Wait>(&mut self, rt: &R, shared: &Shared, end: u32, to: u8) -> bool {
-        let to = AgentId(to);
-        let Some(held) = self.event_loop.release(EndId(end)) else {
-            return false;
-        };
-        match self.try_hand(rt, shared, held, to) {
-            Ok(()) => true,
-            Err((error, back)) => {
-                self.may_refuse
-                    && error == HandError::OutOfMemory
-                    && self.try_hand(rt, shared, back, to).is_ok()
+        match self.event_loop.release(EndId(end)) {
+            Some(Held::Client(queue)) => self.hand_client(rt, shared, queue, AgentId(to)),
+            Some(Held::Worker(queue)) => self.hand_worker(rt, shared, queue, AgentId(to)),
+            Some(held) => {
+                drop(held);
+                false
             }
+            None => false,
         }
     }
 
@@ -397,24 +497,21 @@ impl Agent {
         }
     }
 
-    /// What the loop leaves when it ends. Where there was no memory the next call goes on.
+    /// What the loop leaves when it ends.
     pub(crate) fn ended<R: Wait>(self, rt: &R, shared: &Shared) -> Option<Ended> {
         let Agent {
+            alloc: _,
+            number: _,
+            bell,
             event_loop,
+            orders,
+            returned,
             may_refuse,
-            ..
         } = self;
-        let (hub, directory, roster) = (&shared.hub, &shared.directory, &shared.roster);
-        match event_loop.end(rt, hub, directory, roster) {
-            Ok(ended) => Some(ended),
-            Err((LoopError::OutOfMemory, event_loop)) => {
-                if may_refuse {
-                    event_loop.end(rt, hub, directory, roster).ok()
-                } else {
-                    None
-                }
-            }
-        }
+        drop(bell);
+        drop(orders);
+        drop(returned);
+        end(rt, shared, event_loop, may_refuse)
     }
 }
 

@@ -2,7 +2,7 @@
 use crate::agent::{Answer, Way};
 use crate::ended::Closing;
 use crate::mail::Mail;
-use crate::table::{Step, run};
+use crate::table::{Step, walks};
 
 const NONE: &[u32] = &[];
 
@@ -34,7 +34,7 @@ const A_PORT_IS_ADOPTED: &[(u8, Step)] = &[
 
 #[test]
 fn a_port_is_adopted(rt: HostRuntime) {
-    assert_eq!(rt; run(&rt, rt.alloc(), A_PORT_IS_ADOPTED), 17);
+    walks(&rt, rt.alloc(), A_PORT_IS_ADOPTED, 17);
 }
 
 // Of three ports the second is lost before the turn.
@@ -61,7 +61,7 @@ const A_PORT_IS_MISSING: &[(u8, Step)] = &[
 
 #[test]
 fn a_missing_port_is_told(rt: HostRuntime) {
-    assert_eq!(rt; run(&rt, rt.alloc(), A_PORT_IS_MISSING), 12);
+    walks(&rt, rt.alloc(), A_PORT_IS_MISSING, 12);
 }
 
 const SERVED_IN_TURN: &[(u8, Step)] = &[
@@ -96,7 +96,7 @@ const SERVED_IN_TURN: &[(u8, Step)] = &[
 
 #[test]
 fn ends_are_served_in_turn(rt: HostRuntime) {
-    assert_eq!(rt; run(&rt, rt.alloc(), SERVED_IN_TURN), 15);
+    walks(&rt, rt.alloc(), SERVED_IN_TURN, 15);
 }
 
 // A member that has left the roster is no destination.
@@ -129,7 +129,7 @@ const A_QUEUE_AND_A_MEMBER: &[(u8, Step)] = &[
 
 #[test]
 fn a_queue_and_a_member_are_served(rt: HostRuntime) {
-    assert_eq!(rt; run(&rt, rt.alloc(), A_QUEUE_AND_A_MEMBER), 18);
+    walks(&rt, rt.alloc(), A_QUEUE_AND_A_MEMBER, 18);
 }
 
 const GIVEN_OUT: &[(u8, Step)] = &[
@@ -161,7 +161,7 @@ const GIVEN_OUT: &[(u8, Step)] = &[
 
 #[test]
 fn what_was_given_out_is_held_again(rt: HostRuntime) {
-    assert_eq!(rt; run(&rt, rt.alloc(), GIVEN_OUT), 18);
+    walks(&rt, rt.alloc(), GIVEN_OUT, 18);
 }
 
 // The agent sends to itself. Beside its port there is a line to another end of the same number,
@@ -213,7 +213,7 @@ const LINES_BESIDE_ENDS: &[(u8, Step)] = &[
 
 #[test]
 fn lines_are_lent_beside_ends(rt: HostRuntime) {
-    assert_eq!(rt; run(&rt, rt.alloc(), LINES_BESIDE_ENDS), 27);
+    walks(&rt, rt.alloc(), LINES_BESIDE_ENDS, 27);
 }
 
 // What the handler has refused comes again before anything else, and its port is adopted once.
@@ -244,7 +244,7 @@ const REFUSED_ONCE: &[(u8, Step)] = &[
 
 #[test]
 fn what_was_refused_comes_again(rt: HostRuntime) {
-    assert_eq!(rt; run(&rt, rt.alloc(), REFUSED_ONCE), 16);
+    walks(&rt, rt.alloc(), REFUSED_ONCE, 16);
 }
 
 // Nobody else could wake the loop that rests: a test that hangs has failed.
@@ -264,7 +264,7 @@ const RUNG: &[(u8, Step)] = &[
 
 #[test]
 fn a_loop_that_was_rung_rests_no_more(rt: HostRuntime) {
-    assert_eq!(rt; run(&rt, rt.alloc(), RUNG), 8);
+    walks(&rt, rt.alloc(), RUNG, 8);
 }
 
 const RUN_UNTIL_ORDERED: &[(u8, Step)] = &[
@@ -304,5 +304,5 @@ const RUN_UNTIL_ORDERED: &[(u8, Step)] = &[
 
 #[test]
 fn a_loop_runs_until_the_order(rt: HostRuntime) {
-    assert_eq!(rt; run(&rt, rt.alloc(), RUN_UNTIL_ORDERED), 11);
+    walks(&rt, rt.alloc(), RUN_UNTIL_ORDERED, 11);
 }

@@ -3,29 +3,28 @@ use crate::agent::{Answer, Way};
 use crate::mail::Mail;
 use crate::parts::draft;
 use crate::shared::Shared;
-use crate::table::{Step, Table, run};
+use crate::table::{Step, Table, walks};
 use hub_envelope::AgentId;
 use hub_queue::{Pause, Point, Poster};
-use std::alloc::Global;
 use std::sync::{Mutex, Wait};
 
 const NONE: &[u32] = &[];
 
 // The table, and how many of the steps that are taken meanwhile came to what they are to.
 #[derive(Drop)]
-struct Stage<'a> {
-    table: Table<'a>,
+struct Stage<'t, 's> {
+    table: &'t mut Table<'s>,
     walked: usize,
 }
 
 // Takes these steps once the post is inside.
 #[derive(Drop)]
-struct Meanwhile<'a> {
+struct Meanwhile<'t, 's> {
     steps: &'static [(u8, Step)],
-    stage: Mutex<Stage<'a>>,
+    stage: Mutex<Stage<'t, 's>>,
 }
 
-impl Pause for Meanwhile<'_> {
+impl Pause for Meanwhile<'_, '_> {
     fn at<R: Wait>(&self, rt: &R, point: Point) {
         if point != Point::Inside {
             return;
@@ -37,14 +36,14 @@ impl Pause for Meanwhile<'_> {
 
 // Posts a text of agent 1, held up for these steps. Under which epoch and number it was accepted,
 // and how many of the steps came to what they are to.
-fn post_held<'a, R: Wait>(
+fn post_held<R: Wait>(
     rt: &R,
     shared: &Shared,
-    table: Table<'a>,
+    table: &mut Table<'_>,
     poster: &mut Poster,
     text: &str,
     steps: &'static [(u8, Step)],
-) -> Option<(u32, u64, Stage<'a>)> {
+) -> Option<(u32, u64, usize)> {
     let draft = draft(shared.alloc, AgentId(1), text)?;
     let meanwhile = Meanwhile {
         steps,
@@ -53,7 +52,11 @@ fn post_held<'a, R: Wait>(
     let posted = poster
         .post_with(rt, &shared.hub.yard, draft, &meanwhile)
         .ok()?;
-    Some((posted.epoch, posted.number, meanwhile.stage.into_inner()))
+    Some((
+        posted.epoch,
+        posted.number,
+        meanwhile.stage.into_inner().walked,
+    ))
 }
 
 const BEFORE: &[(u8, Step)] = &[
@@ -94,21 +97,29 @@ const AFTER: &[(u8, Step)] = &[
 ];
 
 // How many steps of each part came to what they are to, and the name of the post that was held up.
-fn walk_held<R: Wait>(rt: &R, alloc: Global) -> Option<([usize; 4], (u32, u64))> {
-    let shared = Shared::new(alloc);
-    let mut table = Table::new(&shared, false);
+fn walk_held<R: Wait>(
+    rt: &R,
+    shared: &Shared,
+    table: &mut Table<'_>,
+) -> Option<([usize; 4], (u32, u64))> {
     let before = table.walk(rt, BEFORE);
     let mut poster = shared.line_to(rt, 0)?;
     let lent = table.walk(rt, LENT);
-    let (epoch, number, stage) = post_held(rt, &shared, table, &mut poster, "\"a\"", MEANWHILE)?;
-    let Stage { mut table, walked } = stage;
+    let posted = post_held(rt, shared, table, &mut poster, "\"a\"", MEANWHILE);
     let after = table.walk(rt, AFTER);
+    drop(poster);
+    let (epoch, number, walked) = posted?;
     Some(([before, lent, walked, after], (epoch, number)))
 }
 
 #[test]
 fn handed_queue(rt: HostRuntime) {
-    assert_eq!(rt; walk_held(&rt, rt.alloc()), Some(([5, 2, 11, 4], (0, 0))));
+    let shared = Shared::new(rt.alloc());
+    let mut table = Table::new(&shared, false);
+    let walked = walk_held(&rt, &shared, &mut table);
+    drop(table);
+    drop(shared);
+    assert_eq!(rt; walked, Some(([5, 2, 11, 4], (0, 0))));
 }
 
 // A queue waits for the agent that it was handed to, and for its number, alone.
@@ -131,5 +142,5 @@ const NOT_THERE: &[(u8, Step)] = &[
 
 #[test]
 fn a_queue_is_fetched_by_its_agent_alone(rt: HostRuntime) {
-    assert_eq!(rt; run(&rt, rt.alloc(), NOT_THERE), 11);
+    walks(&rt, rt.alloc(), NOT_THERE, 11);
 }

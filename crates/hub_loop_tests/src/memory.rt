@@ -3,7 +3,7 @@
 use crate::agent::{Answer, Way};
 use crate::ended::Closing;
 use crate::mail::Mail;
-use crate::table::{Step, run_refused};
+use crate::table::{Step, walks_refused};
 
 const NONE: &[u32] = &[];
 
@@ -15,7 +15,7 @@ const OPENED: &[(u8, Step)] = &[
 
 #[test]
 fn a_loop_is_made_whichever_allocation_is_refused(rt: HostRuntime) {
-    assert_eq!(rt; run_refused(&rt, rt.alloc(), OPENED), 3);
+    walks_refused(&rt, rt.alloc(), OPENED, 3);
 }
 
 const HELD: &[(u8, Step)] = &[
@@ -40,7 +40,7 @@ const HELD: &[(u8, Step)] = &[
 
 #[test]
 fn each_kind_is_held_whichever_allocation_is_refused(rt: HostRuntime) {
-    assert_eq!(rt; run_refused(&rt, rt.alloc(), HELD), 14);
+    walks_refused(&rt, rt.alloc(), HELD, 14);
 }
 
 const THREE_PORTS: &[(u8, Step)] = &[
@@ -76,7 +76,7 @@ const THREE_PORTS: &[(u8, Step)] = &[
 
 #[test]
 fn three_ports_are_delivered_whichever_allocation_is_refused(rt: HostRuntime) {
-    assert_eq!(rt; run_refused(&rt, rt.alloc(), THREE_PORTS), 19);
+    walks_refused(&rt, rt.alloc(), THREE_PORTS, 19);
 }
 
 const FETCHED: &[(u8, Step)] = &[
@@ -104,7 +104,7 @@ const FETCHED: &[(u8, Step)] = &[
 
 #[test]
 fn a_queue_is_fetched_whichever_allocation_is_refused(rt: HostRuntime) {
-    assert_eq!(rt; run_refused(&rt, rt.alloc(), FETCHED), 14);
+    walks_refused(&rt, rt.alloc(), FETCHED, 14);
 }
 
 // A queue that the loop keeps is swept when it ends; one that is handed still is not.
@@ -125,7 +125,7 @@ const KEPT: &[(u8, Step)] = &[
 
 #[test]
 fn a_kept_queue_is_swept_whichever_allocation_is_refused(rt: HostRuntime) {
-    assert_eq!(rt; run_refused(&rt, rt.alloc(), KEPT), 9);
+    walks_refused(&rt, rt.alloc(), KEPT, 9);
 }
 
 // The delivery that is kept names port 2. Port 6, and in a message that waits there port 4, are
@@ -181,5 +181,5 @@ const ENDED: &[(u8, Step)] = &[
 
 #[test]
 fn a_loop_ends_whichever_allocation_is_refused(rt: HostRuntime) {
-    assert_eq!(rt; run_refused(&rt, rt.alloc(), ENDED), 18);
+    walks_refused(&rt, rt.alloc(), ENDED, 18);
 }

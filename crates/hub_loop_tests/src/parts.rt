@@ -1,4 +1,4 @@
-//! What the tests make their agents and their envelopes of. Each call is made again where an
+//! What the tests make their agents and their envelopes of. Most calls are made again where an
 //! allocation was refused, since the next one has the memory.
 ghost use Rattle.std.specs.Prelude.{◌≡◌};
 
@@ -7,7 +7,7 @@ use hub_broadcast::{Origin, origin_of};
 use hub_envelope::{AgentId, Body, Draft, Ports};
 use hub_loop::{EventLoop, LoopError, NoCheckpoint, Turn};
 use hub_ports::{Hub, Port};
-use hub_queue::{Bell, Steps};
+use hub_queue::Steps;
 use std::alloc::Global;
 use std::marker::Brand;
 use std::sync::Wait;
@@ -34,14 +34,6 @@ pub(crate) fn draft(alloc: Global, agent: AgentId, text: &str) -> Option<Draft> 
     })
 }
 
-/// The same bell once more.
-pub(crate) fn again(bell: &Bell) -> Option<Bell> {
-    match bell.clone() {
-        Ok(bell) => Some(bell),
-        Err(_) => bell.clone().ok(),
-    }
-}
-
 /// An empty list with room for so many ports.
 pub(crate) fn room(alloc: Global, count: usize) -> Option<Vec<Port>> {
     match Vec::with_capacity(alloc, count) {
@@ -50,18 +42,11 @@ pub(crate) fn room(alloc: Global, count: usize) -> Option<Vec<Port>> {
     }
 }
 
-fn try_key(alloc: Global) -> Option<(Origin, String)> {
+/// The origin and the name of all members. It tries once.
+pub(crate) fn key(alloc: Global) -> Option<(Origin, String)> {
     let origin = origin_of(alloc, "https://a.test").ok()?;
     let name = String::from_str(alloc, "news").ok()?;
     Some((origin, name))
-}
-
-/// The origin and the name of all members.
-pub(crate) fn key(alloc: Global) -> Option<(Origin, String)> {
-    match try_key(alloc) {
-        Some(key) => Some(key),
-        None => try_key(alloc),
-    }
 }
 
 fn turn_counted<L: Ledger, R: Wait>(

@@ -3,7 +3,7 @@
 use crate::agent::{Answer, Way};
 use crate::ended::Closing;
 use crate::mail::Mail;
-use crate::table::{Step, run};
+use crate::table::{Step, walks};
 
 const NONE: &[u32] = &[];
 
@@ -61,7 +61,7 @@ const A_PORT_IS_REFUSED: &[(u8, Step)] = &[
 
 #[test]
 fn a_port_whose_number_is_taken_is_closed(rt: HostRuntime) {
-    assert_eq!(rt; run(&rt, rt.alloc(), A_PORT_IS_REFUSED), 20);
+    walks(&rt, rt.alloc(), A_PORT_IS_REFUSED, 20);
 }
 
 // The queue is closed, and not there for another call. It is swept when the loop ends.
@@ -81,5 +81,5 @@ const A_QUEUE_IS_REFUSED: &[(u8, Step)] = &[
 
 #[test]
 fn a_queue_whose_number_is_taken_is_closed(rt: HostRuntime) {
-    assert_eq!(rt; run(&rt, rt.alloc(), A_QUEUE_IS_REFUSED), 11);
+    walks(&rt, rt.alloc(), A_QUEUE_IS_REFUSED, 11);
 }

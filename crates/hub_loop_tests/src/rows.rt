@@ -2,7 +2,7 @@
 use crate::agent::{Answer, Way};
 use crate::ended::Closing;
 use crate::mail::Mail;
-use crate::table::{Step, run};
+use crate::table::{Step, walks};
 
 const NONE: &[u32] = &[];
 
@@ -45,7 +45,7 @@ const WORKER_ENDS: &[(u8, Step)] = &[
 
 #[test]
 fn worker_ends(rt: HostRuntime) {
-    assert_eq!(rt; run(&rt, rt.alloc(), WORKER_ENDS), 22);
+    walks(&rt, rt.alloc(), WORKER_ENDS, 22);
 }
 
 const PORTS_IN_DISCARDED: &[(u8, Step)] = &[
@@ -84,7 +84,7 @@ const PORTS_IN_DISCARDED: &[(u8, Step)] = &[
 
 #[test]
 fn ports_in_discarded(rt: HostRuntime) {
-    assert_eq!(rt; run(&rt, rt.alloc(), PORTS_IN_DISCARDED), 11);
+    walks(&rt, rt.alloc(), PORTS_IN_DISCARDED, 11);
 }
 
 const THE_FIRST_PORT: &[(u8, Step)] = &[
@@ -117,7 +117,6 @@ const THE_SECOND_PORT: &[(u8, Step)] = &[
 
 #[test]
 fn either_end(rt: HostRuntime) {
-    let first = run(&rt, rt.alloc(), THE_FIRST_PORT);
-    let second = run(&rt, rt.alloc(), THE_SECOND_PORT);
-    assert_eq!(rt; (first, second), (8, 8));
+    walks(&rt, rt.alloc(), THE_FIRST_PORT, 8);
+    walks(&rt, rt.alloc(), THE_SECOND_PORT, 8);
 }

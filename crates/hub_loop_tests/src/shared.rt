@@ -1,9 +1,10 @@
-//! What the agents of a row share, and the ends that are made there.
-use crate::parts::{again, key};
-use hub_broadcast::{Member, SharedRoster};
-use hub_clients::{ClientQueue, Directory, WorkerQueue};
+//! What the agents of a row share, and the ends that are made there. Each call tries once.
+use crate::parts::key;
+use hub_broadcast::SharedRoster;
+use hub_clients::Directory;
 use hub_depot::Key;
 use hub_envelope::{AgentId, EndId, LineId};
+use hub_loop::Held;
 use hub_ports::{Hub, Port, channel};
 use hub_queue::{Bell, Ends, Mailbox, Poster};
 use std::alloc::Global;
@@ -16,11 +17,6 @@ pub(crate) struct Shared {
     pub(crate) hub: Hub,
     pub(crate) directory: Directory,
     pub(crate) roster: SharedRoster,
-}
-
-// Drops a port, and is true.
-fn lose(_port: Port) -> bool {
-    true
 }
 
 impl Shared {
@@ -37,7 +33,10 @@ impl Shared {
     /// Whether no port is in flight. One that is gets lost.
     pub(crate) fn has_none_in_flight<R: Wait>(&self, rt: &R) -> bool {
         match self.hub.flight.take_any(rt) {
-            Some(port) => !lose(port),
+            Some(port) => {
+                drop(port);
+                false
+            }
             None => true,
         }
     }
@@ -50,7 +49,10 @@ impl Shared {
             line: LineId(0),
         };
         match self.hub.flight.take(rt, name) {
-            Some(port) => lose(port),
+            Some(port) => {
+                drop(port);
+                true
+            }
             None => false,
         }
     }
@@ -59,7 +61,7 @@ impl Shared {
     pub(crate) fn closes_handed<R: Wait>(&self, rt: &R, end: u32, to: u8) -> bool {
         match self.directory.fetch(rt, EndId(end), AgentId(to)) {
             Some(handed) => {
-                let _grave = handed.queue.close();
+                drop(handed.queue.close());
                 true
             }
             None => false,
@@ -68,49 +70,21 @@ impl Shared {
 
     /// Two ports of the next two numbers, entangled with each other.
     pub(crate) fn channel(&self, ends: &mut Ends, bell: &Bell) -> Option<(Port, Port)> {
-        match channel(self.alloc, ends, again(bell)?) {
-            Ok(ports) => Some(ports),
-            Err(_) => channel(self.alloc, ends, again(bell)?).ok(),
-        }
+        channel(self.alloc, ends, bell.clone().ok()?).ok()
     }
 
     /// A client's queue of the next number.
-    pub(crate) fn client<R: Wait>(
-        &self,
-        rt: &R,
-        ends: &mut Ends,
-        bell: &Bell,
-    ) -> Option<ClientQueue> {
-        match self.directory.client(rt, ends, again(bell)?) {
-            Ok(queue) => Some(queue),
-            Err(_) => self.directory.client(rt, ends, again(bell)?).ok(),
-        }
+    pub(crate) fn client<R: Wait>(&self, rt: &R, ends: &mut Ends, bell: &Bell) -> Option<Held> {
+        let bell = bell.clone().ok()?;
+        let queue = self.directory.client(rt, ends, bell).ok()?;
+        Some(Held::Client(queue))
     }
 
     /// A worker's queue of the next number.
-    pub(crate) fn worker<R: Wait>(
-        &self,
-        rt: &R,
-        ends: &mut Ends,
-        bell: &Bell,
-    ) -> Option<WorkerQueue> {
-        match self.directory.worker(rt, ends, again(bell)?) {
-            Ok(queue) => Some(queue),
-            Err(_) => self.directory.worker(rt, ends, again(bell)?).ok(),
-        }
-    }
-
-    fn try_member<R: Wait>(
-        &self,
-        rt: &R,
-        ends: &mut Ends,
-        agent: AgentId,
-        bell: &Bell,
-    ) -> Option<Member> {
-        let (origin, name) = key(self.alloc)?;
-        self.roster
-            .join(rt, ends, agent, origin, name, again(bell)?)
-            .ok()
+    pub(crate) fn worker<R: Wait>(&self, rt: &R, ends: &mut Ends, bell: &Bell) -> Option<Held> {
+        let bell = bell.clone().ok()?;
+        let queue = self.directory.worker(rt, ends, bell).ok()?;
+        Some(Held::Worker(queue))
     }
 
     /// A member of the next number. All members have one origin and one name.
@@ -120,18 +94,20 @@ impl Shared {
         ends: &mut Ends,
         agent: AgentId,
         bell: &Bell,
-    ) -> Option<Member> {
-        match self.try_member(rt, ends, agent, bell) {
-            Some(member) => Some(member),
-            None => self.try_member(rt, ends, agent, bell),
-        }
+    ) -> Option<Held> {
+        let bell = bell.clone().ok()?;
+        let (origin, name) = key(self.alloc)?;
+        let joined = self.roster.join(rt, ends, agent, origin, name, bell);
+        Some(Held::Member(joined.ok()?))
     }
 
     /// A line to another end of this number.
-    pub(crate) fn strange_line(&self, end: u32, bell: &Bell) -> Option<Poster> {
-        let opened = Mailbox::open(self.alloc, EndId(end), 1, again(bell)?);
-        let (_taker, mut posters) = opened.ok()?;
-        posters.pop()
+    pub(crate) fn strange_line(&self, end: u32, bell: &Bell) -> Option<Held> {
+        let bell = bell.clone().ok()?;
+        let (taker, mut posters) = Mailbox::open(self.alloc, EndId(end), 1, bell).ok()?;
+        drop(taker);
+        let line = posters.pop()?;
+        Some(Held::Line(line))
     }
 
     /// The line that is lent to the queue of this number.

@@ -6,8 +6,10 @@ use crate::ended::{Closing, is_left};
 use crate::mail::Mail;
 use crate::shared::Shared;
 use hub_loop::{Ended, Held, Turn};
+use hub_ports::Port;
 use hub_queue::Ends;
 use std::alloc::Global;
+use std::process::Abort;
 use std::sync::Wait;
 
 /// What is done by an agent, and what it is to come to. The numbers are those of ends.
@@ -115,7 +117,7 @@ impl<'a> Table<'a> {
 
     fn open(&mut self, number: u8) -> bool {
         match Agent::open(self.alloc, number, self.may_refuse) {
-            Some(agent) => self.agents.push(agent).is_ok(),
+            Some(agent) => self.agents.push(agent).ok().is_some(),
             None => false,
         }
     }
@@ -123,16 +125,25 @@ impl<'a> Table<'a> {
     fn hold(&mut self, number: u8, held: Held) -> bool {
         match self.agent(number) {
             Some(agent) => agent.hold(held),
-            None => false,
+            None => {
+                drop(held);
+                false
+            }
         }
     }
 
+    fn ports(&mut self, second: u8) -> Option<(Port, Port)> {
+        let place = self.place_of(second)?;
+        let agent = self.agents.get(place)?;
+        self.shared.channel(&mut self.ends, &agent.bell)
+    }
+
     fn channel(&mut self, first: u8, second: u8) -> bool {
-        let Some(place) = self.place_of(second) else {
-            return false;
+        let made = match self.ports(second) {
+            None if self.may_refuse => self.ports(second),
+            made => made,
         };
-        let bell = &self.agents[place].bell;
-        match self.shared.channel(&mut self.ends, bell) {
+        match made {
             Some((one, other)) => {
                 let has_one = self.hold(first, Held::Port(one));
                 let has_other = self.hold(second, Held::Port(other));
@@ -142,34 +153,38 @@ impl<'a> Table<'a> {
         }
     }
 
-    fn made<R: Wait>(&mut self, rt: &R, number: u8, step: Step) -> Option<Held> {
+    fn try_make<R: Wait>(&mut self, rt: &R, number: u8, step: Step) -> Option<Held> {
         let place = self.place_of(number)?;
         let agent = self.agents.get(place)?;
+        let (shared, ends) = (self.shared, &mut self.ends);
         match step {
-            Step::Client(_) => {
-                let queue = self.shared.client(rt, &mut self.ends, &agent.bell)?;
-                Some(Held::Client(queue))
-            }
-            Step::Worker(_) => {
-                let queue = self.shared.worker(rt, &mut self.ends, &agent.bell)?;
-                Some(Held::Worker(queue))
-            }
-            Step::Member(_) => {
-                let member = self
-                    .shared
-                    .member(rt, &mut self.ends, agent.number, &agent.bell)?;
-                Some(Held::Member(member))
-            }
-            Step::Line(end, _) => Some(Held::Line(self.shared.line_to(rt, end)?)),
-            Step::StrangeLine(end) => Some(Held::Line(self.shared.strange_line(end, &agent.bell)?)),
+            Step::Client(_) => shared.client(rt, ends, &agent.bell),
+            Step::Worker(_) => shared.worker(rt, ends, &agent.bell),
+            Step::Member(_) => shared.member(rt, ends, agent.number, &agent.bell),
+            Step::Line(end, _) => Some(Held::Line(shared.line_to(rt, end)?)),
+            Step::StrangeLine(end) => shared.strange_line(end, &agent.bell),
             _ => None,
+        }
+    }
+
+    // The next try has the memory that this one may have been refused.
+    fn made<R: Wait>(&mut self, rt: &R, number: u8, step: Step) -> Option<Held> {
+        match self.try_make(rt, number, step) {
+            None if self.may_refuse => self.try_make(rt, number, step),
+            made => made,
         }
     }
 
     // Makes an end of this number or takes a line to it, which the agent holds then.
     fn make<R: Wait>(&mut self, rt: &R, number: u8, step: Step, end: u32) -> bool {
         match self.made(rt, number, step) {
-            Some(held) => held.end().0 == end && self.hold(number, held),
+            Some(held) => {
+                if held.end().0 == end {
+                    return self.hold(number, held);
+                }
+                drop(held);
+                false
+            }
             None => false,
         }
     }
@@ -275,14 +290,28 @@ impl<'a> Table<'a> {
     }
 }
 
-/// How many of these steps came to what they are to come to, up to the first that didn't.
-pub(crate) fn run<R: Wait>(rt: &R, alloc: Global, steps: &[(u8, Step)]) -> usize {
+// How many of these steps came to what they are to come to, on a table of their own.
+fn walk<R: Wait>(rt: &R, alloc: Global, may_refuse: bool, steps: &[(u8, Step)]) -> usize {
     let shared = Shared::new(alloc);
-    Table::new(&shared, false).walk(rt, steps)
+    let mut table = Table::new(&shared, may_refuse);
+    let count = table.walk(rt, steps);
+    drop(table);
+    drop(shared);
+    count
+}
+
+/// Asserts that so many of these steps came to what they are to come to, up to the first that
+/// didn't. The tests have no assertion of their own, since each would be proved anew.
+pub(crate) fn walks<R: Abort + Wait>(rt: &R, alloc: Global, steps: &[(u8, Step)], count: usize) {
+    assert_eq!(rt; walk(rt, alloc, false, steps), count);
 }
 
 /// The same, where an allocation may be refused.
-pub(crate) fn run_refused<R: Wait>(rt: &R, alloc: Global, steps: &[(u8, Step)]) -> usize {
-    let shared = Shared::new(alloc);
-    Table::new(&shared, true).walk(rt, steps)
+pub(crate) fn walks_refused<R: Abort + Wait>(
+    rt: &R,
+    alloc: Global,
+    steps: &[(u8, Step)],
+    count: usize,
+) {
+    assert_eq!(rt; walk(rt, alloc, true, steps), count);
 }

@@ -1,6 +1,6 @@
 //! A poster is held up at a point of its post while its end is closed and swept.
 use crate::end::Act;
-use crate::table::{Answer, Step, run};
+use crate::table::{Answer, Step, walks};
 use hub_queue::{Point, PostError};
 
 #[test]
@@ -14,7 +14,7 @@ fn a_post_before_a_closed_gate_is_refused(rt: HostRuntime) {
             Answer::Refused(PostError::Closed),
         ),
     ];
-    assert_eq!(rt; run(&rt, rt.alloc(), STEPS), 2);
+    walks(&rt, rt.alloc(), STEPS, 2);
 }
 
 #[test]
@@ -30,5 +30,5 @@ fn a_post_inside_a_closed_gate_is_discarded(rt: HostRuntime) {
         Step::Sweep(1),
         Step::Discarded(0, 0, 0, "7"),
     ];
-    assert_eq!(rt; run(&rt, rt.alloc(), STEPS), 4);
+    walks(&rt, rt.alloc(), STEPS, 4);
 }

@@ -1,7 +1,7 @@
 //! A poster is held up at a point of its post while its end is adopted and taken from.
 use crate::end::Act;
 use crate::parts::Next;
-use crate::table::{Answer, Step, run};
+use crate::table::{Answer, Step, walks};
 use hub_queue::{Point, PostError};
 
 #[test]
@@ -18,7 +18,7 @@ fn a_post_before_an_adopted_gate_goes_on(rt: HostRuntime) {
         Step::Take(Next::Got(1, 0, "5")),
         Step::Take(Next::Empty),
     ];
-    assert_eq!(rt; run(&rt, rt.alloc(), STEPS), 5);
+    walks(&rt, rt.alloc(), STEPS, 5);
 }
 
 #[test]
@@ -31,7 +31,7 @@ fn a_sleeping_poster_keeps_the_taker(rt: HostRuntime) {
         Step::Take(Next::Again),
         Step::Take(Next::Empty),
     ];
-    assert_eq!(rt; run(&rt, rt.alloc(), STEPS), 5);
+    walks(&rt, rt.alloc(), STEPS, 5);
 }
 
 #[test]
@@ -45,7 +45,7 @@ fn a_post_inside_is_taken_before_two_later_queues(rt: HostRuntime) {
         Step::Take(Next::Again),
         Step::Take(Next::Empty),
     ];
-    assert_eq!(rt; run(&rt, rt.alloc(), STEPS), 6);
+    walks(&rt, rt.alloc(), STEPS, 6);
 }
 
 #[test]
@@ -57,7 +57,7 @@ fn a_pushed_envelope_is_taken_while_its_poster_is_inside(rt: HostRuntime) {
         Step::Take(Next::Again),
         Step::Take(Next::Empty),
     ];
-    assert_eq!(rt; run(&rt, rt.alloc(), STEPS), 4);
+    walks(&rt, rt.alloc(), STEPS, 4);
 }
 
 #[test]
@@ -72,7 +72,7 @@ fn an_end_is_closed_before_a_hop(rt: HostRuntime) {
             Answer::Refused(PostError::Closed),
         ),
     ];
-    assert_eq!(rt; run(&rt, rt.alloc(), STEPS), 3);
+    walks(&rt, rt.alloc(), STEPS, 3);
 }
 
 #[test]
@@ -89,5 +89,5 @@ fn a_yard_is_emptied_before_a_hop(rt: HostRuntime) {
         Step::PutOnward,
         Step::Post("7", Answer::Accepted(1, 0)),
     ];
-    assert_eq!(rt; run(&rt, rt.alloc(), STEPS), 5);
+    walks(&rt, rt.alloc(), STEPS, 5);
 }

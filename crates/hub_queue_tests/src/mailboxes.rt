@@ -1,5 +1,5 @@
 use crate::parts::Next;
-use crate::table::{Answer, Step, run};
+use crate::table::{Answer, Step, walks};
 use hub_envelope::EndId;
 use hub_queue::{Ends, PostError};
 
@@ -13,7 +13,7 @@ fn takes_once_it_was_started(rt: HostRuntime) {
         Step::Take(Next::Got(0, 0, "{\"a\":1}")),
         Step::Take(Next::Empty),
     ];
-    assert_eq!(rt; run(&rt, rt.alloc(), STEPS), 6);
+    walks(&rt, rt.alloc(), STEPS, 6);
 }
 
 #[test]
@@ -24,7 +24,7 @@ fn a_closed_end_refuses_posts(rt: HostRuntime) {
         Step::Post("1", Answer::Refused(PostError::Closed)),
         Step::Post("1", Answer::Refused(PostError::Closed)),
     ];
-    assert_eq!(rt; run(&rt, rt.alloc(), STEPS), 4);
+    walks(&rt, rt.alloc(), STEPS, 4);
 }
 
 #[test]
@@ -41,7 +41,7 @@ fn what_is_left_is_discarded(rt: HostRuntime) {
         Step::Discarded(0, 0, 1, "2"),
         Step::Discarded(1, 0, 2, "3"),
     ];
-    assert_eq!(rt; run(&rt, rt.alloc(), STEPS), 10);
+    walks(&rt, rt.alloc(), STEPS, 10);
 }
 
 #[test]

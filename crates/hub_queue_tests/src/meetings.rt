@@ -44,7 +44,8 @@ fn post_one<R: Abort + Wait>(
     let Some(draft) = draft(alloc, "7") else {
         panic!(rt; "no draft");
     };
-    if poster.post(rt, yard, draft).is_err() {
+    if let Err((_, back)) = poster.post(rt, yard, draft) {
+        drop(back);
         panic!(rt; "a post was refused");
     }
 }
@@ -143,7 +144,10 @@ fn adopt_one<R: Abort + Wait>(
     };
     match taker.adopt(rt, yard, bell) {
         Ok(moved) => moved,
-        Err(_) => panic!(rt; "an adoption was refused"),
+        Err((_, taker)) => {
+            drop(taker);
+            panic!(rt; "an adoption was refused")
+        }
     }
 }
 

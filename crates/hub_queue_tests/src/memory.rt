@@ -1,6 +1,6 @@
 //! Rows in which each allocation may be refused. The table makes each call again where there was no
 //! memory, and looks before that whether what came back is whole.
-use crate::table::{Answer, Step, run};
+use crate::table::{Answer, Step, walks};
 
 #[test]
 fn posts_and_sweeps_whichever_allocation_is_refused(rt: HostRuntime) {
@@ -11,7 +11,7 @@ fn posts_and_sweeps_whichever_allocation_is_refused(rt: HostRuntime) {
         Step::Sweep(40),
         Step::DiscardedEach(40, "[1]"),
     ];
-    assert_eq!(rt; run(&rt, rt.alloc(), STEPS), 5);
+    walks(&rt, rt.alloc(), STEPS, 5);
 }
 
 #[test]
@@ -24,5 +24,5 @@ fn moves_and_sweeps_whichever_allocation_is_refused(rt: HostRuntime) {
         Step::Close,
         Step::SweepTo(1),
     ];
-    assert_eq!(rt; run(&rt, rt.alloc(), STEPS), 6);
+    walks(&rt, rt.alloc(), STEPS, 6);
 }

@@ -1,6 +1,6 @@
 //! Ends that are adopted: what their takers take, queue after queue.
 use crate::parts::Next;
-use crate::table::{Answer, Step, run};
+use crate::table::{Answer, Step, walks};
 use hub_queue::{AdoptError, MAX_HOPS, MAX_MOVES, PostError};
 
 #[test]
@@ -22,7 +22,7 @@ fn three_adoptions(rt: HostRuntime) {
         Step::Take(Next::Empty),
         Step::Behind(0),
     ];
-    assert_eq!(rt; run(&rt, rt.alloc(), STEPS), 15);
+    walks(&rt, rt.alloc(), STEPS, 15);
 }
 
 #[test]
@@ -33,7 +33,7 @@ fn a_new_queue_is_disabled(rt: HostRuntime) {
         Step::Adopt,
         Step::Take(Next::Disabled),
     ];
-    assert_eq!(rt; run(&rt, rt.alloc(), STEPS), 4);
+    walks(&rt, rt.alloc(), STEPS, 4);
 }
 
 // The yard keeps the name of the second line from the adoption of another end, and that of the
@@ -49,7 +49,7 @@ fn a_name_that_the_yard_keeps_refuses_the_adoption(rt: HostRuntime) {
         Step::Behind(0),
         Step::TakeOnward(false),
     ];
-    assert_eq!(rt; run(&rt, rt.alloc(), STEPS), 7);
+    walks(&rt, rt.alloc(), STEPS, 7);
 }
 
 #[test]
@@ -65,7 +65,7 @@ fn a_post_passes_four_retired_queues(rt: HostRuntime) {
         Step::Post("7", Answer::Refused(PostError::Moving)),
         Step::Post("7", Answer::Accepted(MAX_HOPS + 1, 0)),
     ];
-    assert_eq!(rt; run(&rt, rt.alloc(), STEPS), 9);
+    walks(&rt, rt.alloc(), STEPS, 9);
 }
 
 #[test]
@@ -82,7 +82,7 @@ fn a_chain_is_swept(rt: HostRuntime) {
         Step::Discarded(1, 2, 0, "10"),
         Step::Discarded(2, 3, 0, "10"),
     ];
-    assert_eq!(rt; run(&rt, rt.alloc(), STEPS), 10);
+    walks(&rt, rt.alloc(), STEPS, 10);
 }
 
 #[test]
@@ -99,5 +99,5 @@ fn as_many_adoptions_as_there_may_be(rt: HostRuntime) {
         Step::Close,
         Step::Sweep(25_536),
     ];
-    assert_eq!(rt; run(&rt, rt.alloc(), STEPS), 10);
+    walks(&rt, rt.alloc(), STEPS, 10);
 }

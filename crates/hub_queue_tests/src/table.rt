@@ -5,6 +5,7 @@ use hub_depot::{Depot, Key};
 use hub_envelope::{Draft, EndId, LineId};
 use hub_queue::{AdoptError, Onward, Pause, Point, PostError, Posted, Poster};
 use std::alloc::Global;
+use std::process::Abort;
 use std::sync::{Mutex, Wait};
 
 /// What a post is to come to.
@@ -298,10 +299,11 @@ impl Table {
     }
 }
 
-/// How many of these steps came to what they are to come to, up to the first that didn't.
-pub(crate) fn run<R: Wait>(rt: &R, alloc: Global, steps: &[Step]) -> usize {
+/// Asserts that so many of these steps came to what they are to come to, up to the first that
+/// didn't. The tests have no assertion of their own, since each would be proved anew.
+pub(crate) fn walks<R: Abort + Wait>(rt: &R, alloc: Global, steps: &[Step], count: usize) {
     let mut table = Table::new(alloc);
-    let count = table.run(rt, steps);
+    let came = table.run(rt, steps);
     drop(table);
-    count
+    assert_eq!(rt; came, count);
 }

@@ -28,7 +28,10 @@ fn post_one<R: Wait>(
     };
     match poster.post(rt, yard, draft) {
         Ok(posted) => posted.number == number,
-        Err(_) => false,
+        Err((_, back)) => {
+            drop(back);
+            false
+        }
     }
 }
 

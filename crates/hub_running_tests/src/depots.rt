@@ -11,7 +11,7 @@ const THREADS: u32 = 4;
 
 const EACH: u32 = 250;
 
-#[derive(Debug, Drop, PartialEq)]
+#[derive(Clone, Copy, Debug, PartialEq)]
 struct Ticket {
     name: Key,
     number: u32,
@@ -95,32 +95,35 @@ fn one_value_a_name(rt: HostRuntime) -> Result<(), Fail> {
     Ok(())
 }
 
-/// Names with the least and the greatest numbers.
+/// Tickets by number, end, epoch and line, with the least and the greatest numbers in their names.
+const EXTREMES: &[(u32, u32, u32, u8)] = &[
+    (0, 0, 0, 0),
+    (1, 0, 0, 255),
+    (2, 0, u32::MAX, 0),
+    (3, u32::MAX, 0, 0),
+    (4, u32::MAX, u32::MAX, 255),
+];
+
+fn ticket_of((number, end, epoch, line): (u32, u32, u32, u8)) -> Ticket {
+    Ticket {
+        name: Key {
+            end: EndId(end),
+            epoch,
+            line: LineId(line),
+        },
+        number,
+    }
+}
+
 #[test]
 fn keeps_names_at_the_ends_of_their_ranges(rt: HostRuntime) {
     let depot = Depot::new(rt.alloc());
-    let numbers = [
-        (0, 0, 0),
-        (0, 0, 255),
-        (0, u32::MAX, 0),
-        (u32::MAX, 0, 0),
-        (u32::MAX, u32::MAX, 255),
-    ];
-    for (number, (end, epoch, line)) in (0u32..).zip(numbers) {
-        let name = Key {
-            end: EndId(end),
-            epoch,
-            line: LineId(line),
-        };
-        assert!(rt; depot.put(&rt, Ticket { name, number }).is_ok());
+    for row in EXTREMES {
+        assert!(rt; depot.put(&rt, ticket_of(*row)).is_ok());
     }
-    for (number, (end, epoch, line)) in (0u32..).zip(numbers) {
-        let name = Key {
-            end: EndId(end),
-            epoch,
-            line: LineId(line),
-        };
-        assert_eq!(rt; depot.take(&rt, name), Some(Ticket { name, number }));
+    for row in EXTREMES {
+        let ticket = ticket_of(*row);
+        assert_eq!(rt; depot.take(&rt, ticket.name), Some(ticket));
     }
 }
 

@@ -17,28 +17,41 @@ fn rights(alloc: Global, count: usize, first: u64) -> Result<Vec<u64>, AllocErro
     Ok(rights)
 }
 
-// The keeper shows the gate's word, which no other call tells.
-fn assert_word(rt: &(impl Abort + AllocGlobal), keeper: &Keeper<u64>, word: u64) {
-    let shown = format!(in rt.alloc(); "{keeper:?}").expect(rt, "memory");
-    let wanted = format!(in rt.alloc(); "Keeper {{ word: {word} }}").expect(rt, "memory");
-    assert_eq!(rt; shown.as_str(), wanted.as_str());
+fn some_rights(rt: &(impl Abort + AllocGlobal), count: usize, first: u64) -> Vec<u64> {
+    rights(rt.alloc(), count, first).expect(rt, "memory")
 }
 
-// Both lines inside, where neither was turned.
-fn both_in(one: Entry<u64>, other: Entry<u64>) -> Option<(Inside<u64>, Inside<u64>)>
-    ensures { IfSome result (λ both. (both.0.at.tag ≡ []) × (both.1.at.tag ≡ [])) }
+// A gate with so many rights, as above.
+fn open(
+    rt: &(impl Abort + AllocGlobal),
+    count: usize,
+    first: u64,
+) -> (Keeper<u64>, Vec<Entry<u64>>) {
+    Gate::open(rt.alloc(), some_rights(rt, count, first)).expect(rt, "a gate")
+}
+
+// The keeper shows the gate's word, which no other call tells.
+fn assert_shows(rt: &(impl Abort + AllocGlobal), keeper: &Keeper<u64>, wanted: &str) {
+    let shown = format!(in rt.alloc(); "{keeper:?}").expect(rt, "memory");
+    assert_eq!(rt; shown.as_str(), wanted);
+}
+
+// The keeper finds these rights, and that they were given.
+fn assert_gives(rt: &impl Abort, keeper: &mut Keeper<u64>, wanted: &[u64]) {
+    match keeper.look() {
+        Looked::Rights(rights) => assert_eq!(rt; rights.as_slice(), wanted),
+        _ => panic!(rt; "no rights"),
+    }
+    assert!(rt; matches!(keeper.look(), Looked::Given));
+}
+
+// The line of the last entry inside, where it wasn't turned.
+fn enter_last(entries: &mut Vec<Entry<u64>>) -> Option<Inside<u64>>
+    ensures { IfSome result (λ inside. inside.at.tag ≡ []) }
 {
-    match (one.enter(), other.enter()) {
-        (Entered::In(one), Entered::In(other)) => Some((one, other)),
-        (Entered::In(inside), Entered::Turned(_, _)) => {
-            inside.leave();
-            None
-        }
-        (Entered::Turned(_, _), Entered::In(inside)) => {
-            inside.leave();
-            None
-        }
-        (Entered::Turned(_, _), Entered::Turned(_, _)) => None,
+    match entries.pop()?.enter() {
+        Entered::In(inside) => Some(inside),
+        Entered::Turned(_back, _refusal) => None,
     }
 }
 
@@ -53,98 +66,94 @@ fn refusal_of(entry: Entry<u64>) -> Option<Refusal> {
     }
 }
 
-#[test]
-fn gate_words(rt: HostRuntime) -> Result<(), Fail> {
-    let alloc = rt.alloc();
-    let Ok((mut keeper, mut entries)) = Gate::open(alloc, rights(alloc, 2, 5)?) else {
-        return Err(Fail::from("no gate"));
-    };
-    assert_eq!(rt; entries.len(), 2);
-    let other = entries.pop().ok_or("no entry")?;
-    let one = entries.pop().ok_or("one entry")?;
-    assert_word(&rt, &keeper, 0);
-    assert!(rt; !keeper.enabled() && matches!(keeper.look(), Looked::Open));
+// Leaves, where the word that was found had the flag ENABLED.
+fn leave_enabled(rt: &impl Abort, inside: Inside<u64>) -> Entry<u64>
+    requires { inside.at.tag ≡ [] }
+{
+    let (entry, was_enabled) = inside.leave();
+    assert!(rt; was_enabled);
+    entry
+}
+
+fn assert_enables(rt: &(impl Abort + AllocGlobal), keeper: &mut Keeper<u64>) {
+    assert_shows(rt, keeper, "Keeper { word: 0 }");
+    assert!(rt; !keeper.enabled());
+    assert!(rt; matches!(keeper.look(), Looked::Open));
     keeper.enable();
-    assert_word(&rt, &keeper, 1);
+    assert_shows(rt, keeper, "Keeper { word: 1 }");
     assert!(rt; keeper.enabled());
-    let (one, other) = both_in(one, other).ok_or("turned")?;
-    assert_word(&rt, &keeper, 513);
+}
+
+fn assert_retires(rt: &(impl Abort + AllocGlobal), keeper: &mut Keeper<u64>) {
+    assert_shows(rt, keeper, "Keeper { word: 513 }");
     keeper.retire();
-    assert_word(&rt, &keeper, 515);
+    assert_shows(rt, keeper, "Keeper { word: 515 }");
     assert!(rt; matches!(keeper.look(), Looked::StillInside(2)));
-    let (one, was_enabled) = one.leave();
-    assert_word(&rt, &keeper, 259);
-    assert!(rt; was_enabled);
-    let (_other, was_enabled) = other.leave();
-    assert_word(&rt, &keeper, 3);
-    assert!(rt; was_enabled);
-    let Looked::Rights(rights) = keeper.look() else {
-        return Err(Fail::from("no rights"));
-    };
-    assert_eq!(rt; rights.as_slice(), [5, 6].as_slice());
-    assert!(rt; matches!(keeper.look(), Looked::Given));
-    keeper.close();
-    assert_word(&rt, &keeper, 7);
-    assert_eq!(rt; refusal_of(one), Some(Refusal::Moved));
-    assert_word(&rt, &keeper, 7);
+}
+
+#[test]
+fn gate_words(rt: HostRuntime) {
     assert_eq!(rt; word_of(true, true, true, 16), 4103);
     assert_eq!(rt; word_of(true, true, true, 32), 8199);
-    Ok(())
-}
-
-#[test]
-fn a_closed_gate_turns_its_entries(rt: HostRuntime) -> Result<(), Fail> {
-    let alloc = rt.alloc();
-    let Ok((mut keeper, mut entries)) = Gate::open(alloc, rights(alloc, 1, 0)?) else {
-        return Err(Fail::from("no gate"));
-    };
+    let (mut keeper, mut entries) = open(&rt, 2, 5);
+    assert_eq!(rt; entries.len(), 2);
+    assert_enables(&rt, &mut keeper);
+    let other = enter_last(&mut entries).expect(&rt, "the second entry");
+    let one = enter_last(&mut entries).expect(&rt, "the first entry");
+    assert_retires(&rt, &mut keeper);
+    let one = leave_enabled(&rt, one);
+    assert_shows(&rt, &keeper, "Keeper { word: 259 }");
+    let _other = leave_enabled(&rt, other);
+    assert_shows(&rt, &keeper, "Keeper { word: 3 }");
+    assert_gives(&rt, &mut keeper, &[5, 6]);
     keeper.close();
-    let entry = entries.pop().ok_or("no entry")?;
-    assert_eq!(rt; refusal_of(entry), Some(Refusal::Closed));
-    assert_word(&rt, &keeper, 4);
-    Ok(())
+    assert_shows(&rt, &keeper, "Keeper { word: 7 }");
+    assert_eq!(rt; refusal_of(one), Some(Refusal::Moved));
+    assert_shows(&rt, &keeper, "Keeper { word: 7 }");
 }
 
 #[test]
-fn a_bad_count_gives_the_rights_back(rt: HostRuntime) -> Result<(), Fail> {
-    let alloc = rt.alloc();
+fn a_closed_gate_turns_its_entries(rt: HostRuntime) {
+    let (mut keeper, mut entries) = open(&rt, 1, 0);
+    keeper.close();
+    let entry = entries.pop().expect(&rt, "an entry");
+    assert_eq!(rt; refusal_of(entry), Some(Refusal::Closed));
+    assert_shows(&rt, &keeper, "Keeper { word: 4 }");
+}
+
+#[test]
+fn a_bad_count_gives_the_rights_back(rt: HostRuntime) {
     for count in [0, 33] {
-        match Gate::open(alloc, rights(alloc, count, 7)?) {
-            Ok(_) => return Err(Fail::from("a gate")),
-            Err((error, back)) => {
-                assert_eq!(rt; error, GateError::BadCount, "{count}");
-                assert_eq!(rt; back.as_slice(), rights(alloc, count, 7)?.as_slice());
-            }
+        let refused = Gate::open(rt.alloc(), some_rights(&rt, count, 7));
+        let (error, back) = refused.err().expect(&rt, "no gate");
+        assert_eq!(rt; error, GateError::BadCount, "{count}");
+        assert_eq!(rt; back.as_slice(), some_rights(&rt, count, 7).as_slice());
+    }
+}
+
+// A gate with the rights 1 to 3, opened again with what came back where memory was refused.
+fn open_again(rt: &(impl Abort + AllocGlobal), rights: Vec<u64>) -> (Keeper<u64>, Vec<Entry<u64>>) {
+    match Gate::open(rt.alloc(), rights) {
+        Ok(gate) => gate,
+        Err((error, back)) => {
+            assert_eq!(rt; error, GateError::OutOfMemory);
+            assert_eq!(rt; back.as_slice(), [1, 2, 3].as_slice());
+            Gate::open(rt.alloc(), back).expect(rt, "a gate")
         }
     }
-    Ok(())
 }
 
 // It passes whichever allocation is refused: the next call has the memory.
 #[test]
 fn gives_the_rights_back_whichever_allocation_is_refused(rt: HostRuntime) -> Result<(), Fail> {
-    let alloc = rt.alloc();
-    let first = match rights(alloc, 3, 1) {
+    let first = match rights(rt.alloc(), 3, 1) {
         Ok(rights) => rights,
-        Err(_) => rights(alloc, 3, 1)?,
+        Err(_) => rights(rt.alloc(), 3, 1)?,
     };
-    let (mut keeper, entries) = match Gate::open(alloc, first) {
-        Ok(gate) => gate,
-        Err((error, back)) => {
-            assert_eq!(rt; error, GateError::OutOfMemory);
-            assert_eq!(rt; back.as_slice(), [1, 2, 3].as_slice());
-            let Ok(gate) = Gate::open(alloc, back) else {
-                return Err(Fail::from("no gate"));
-            };
-            gate
-        }
-    };
+    let (mut keeper, entries) = open_again(&rt, first);
     assert_eq!(rt; entries.len(), 3);
     keeper.close();
-    let Looked::Rights(rights) = keeper.look() else {
-        return Err(Fail::from("no rights"));
-    };
-    assert_eq!(rt; rights.as_slice(), [1, 2, 3].as_slice());
+    assert_gives(&rt, &mut keeper, &[1, 2, 3]);
     Ok(())
 }
 
@@ -165,19 +174,13 @@ fn add_rounds(entry: Entry<u64>, rounds: u64) -> Entry<u64> {
 }
 
 #[test]
-fn thirty_two_entries(rt: HostRuntime) -> Result<(), Fail> {
-    let alloc = rt.alloc();
-    let zeros = vec![in alloc; 0u64; 32]?;
-    let Ok((mut keeper, entries)) = Gate::open(alloc, zeros) else {
-        return Err(Fail::from("no gate"));
-    };
-    let entries = thread::map_vec(&rt, entries, &|entry| add_rounds(entry, 1000))?;
+fn thirty_two_entries(rt: HostRuntime) {
+    let zeros = vec![in rt.alloc(); 0u64; 32].expect(&rt, "memory");
+    let (mut keeper, entries) = Gate::open(rt.alloc(), zeros).expect(&rt, "a gate");
+    let entries = thread::map_vec(&rt, entries, &|entry| add_rounds(entry, 1000)).expect(
+        &rt, "memory",
+    );
     assert_eq!(rt; entries.len(), 32);
     keeper.close();
-    let Looked::Rights(rights) = keeper.look() else {
-        return Err(Fail::from("no rights"));
-    };
-    assert_eq!(rt; rights.as_slice(), [1000; 32].as_slice());
-    assert!(rt; matches!(keeper.look(), Looked::Given));
-    Ok(())
+    assert_gives(&rt, &mut keeper, &[1000; 32]);
 }

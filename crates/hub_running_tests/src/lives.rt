@@ -1,3 +1,5 @@
+use Event::*;
+use State::*;
 use hub_life::{Event, Life, LifeError, MAX_EXTENSIONS, State};
 use std::process::Abort;
 
@@ -80,102 +82,96 @@ fn a_life_shows_what_it_waits_for(rt: HostRuntime) {
     assert!(rt; life.is_handling() && life.has_failed());
 }
 
+const COLUMNS: [Event; 8] = [
+    Install, Activate, Extend, Settle, Fail, Returned, Discard, Terminate,
+];
+
 // Each row is a way into a state, and the answers there to the events in the order of the columns.
+const ROWS: &[(&[Event], [Answer; 8])] = &[
+    (
+        &[],
+        [
+            Ok(Installing),
+            WRONG,
+            WRONG,
+            WRONG,
+            WRONG,
+            WRONG,
+            WRONG,
+            Ok(Parsed),
+        ],
+    ),
+    (
+        &[Install],
+        [
+            WRONG,
+            WRONG,
+            Ok(Installing),
+            NONE_OPEN,
+            NONE_OPEN,
+            Ok(Installed),
+            WRONG,
+            Ok(Redundant),
+        ],
+    ),
+    (
+        &[Install, Returned],
+        [
+            WRONG,
+            Ok(Activating),
+            WRONG,
+            WRONG,
+            WRONG,
+            WRONG,
+            Ok(Redundant),
+            Ok(Installed),
+        ],
+    ),
+    (
+        &[Install, Returned, Activate],
+        [
+            WRONG,
+            WRONG,
+            Ok(Activating),
+            NONE_OPEN,
+            NONE_OPEN,
+            Ok(Activated),
+            WRONG,
+            Ok(Activated),
+        ],
+    ),
+    (
+        &[Install, Returned, Activate, Returned],
+        [
+            WRONG,
+            WRONG,
+            WRONG,
+            WRONG,
+            WRONG,
+            WRONG,
+            Ok(Redundant),
+            Ok(Activated),
+        ],
+    ),
+    (
+        &[Install, Returned, Discard],
+        [
+            WRONG,
+            WRONG,
+            WRONG,
+            WRONG,
+            WRONG,
+            WRONG,
+            WRONG,
+            Ok(Redundant),
+        ],
+    ),
+];
+
 #[test]
 fn each_cell_of_the_table(rt: HostRuntime) {
-    use Event::*;
-    use State::*;
-    let columns = [
-        Install, Activate, Extend, Settle, Fail, Returned, Discard, Terminate,
-    ];
-    let install: &[Event] = &[Install];
-    let installed: &[Event] = &[Install, Returned];
-    let activate: &[Event] = &[Install, Returned, Activate];
-    let activated: &[Event] = &[Install, Returned, Activate, Returned];
-    let discarded: &[Event] = &[Install, Returned, Discard];
-    let parsed: &[Event] = &[];
-    let table = [
-        (
-            parsed,
-            [
-                Ok(Installing),
-                WRONG,
-                WRONG,
-                WRONG,
-                WRONG,
-                WRONG,
-                WRONG,
-                Ok(Parsed),
-            ],
-        ),
-        (
-            install,
-            [
-                WRONG,
-                WRONG,
-                Ok(Installing),
-                NONE_OPEN,
-                NONE_OPEN,
-                Ok(Installed),
-                WRONG,
-                Ok(Redundant),
-            ],
-        ),
-        (
-            installed,
-            [
-                WRONG,
-                Ok(Activating),
-                WRONG,
-                WRONG,
-                WRONG,
-                WRONG,
-                Ok(Redundant),
-                Ok(Installed),
-            ],
-        ),
-        (
-            activate,
-            [
-                WRONG,
-                WRONG,
-                Ok(Activating),
-                NONE_OPEN,
-                NONE_OPEN,
-                Ok(Activated),
-                WRONG,
-                Ok(Activated),
-            ],
-        ),
-        (
-            activated,
-            [
-                WRONG,
-                WRONG,
-                WRONG,
-                WRONG,
-                WRONG,
-                WRONG,
-                Ok(Redundant),
-                Ok(Activated),
-            ],
-        ),
-        (
-            discarded,
-            [
-                WRONG,
-                WRONG,
-                WRONG,
-                WRONG,
-                WRONG,
-                WRONG,
-                WRONG,
-                Ok(Redundant),
-            ],
-        ),
-    ];
-    for (way, answers) in &table {
-        for (event, answer) in columns.iter().zip(answers) {
+    for (way, answers) in ROWS {
+        for (event, answer) in COLUMNS.iter().zip(answers) {
             let mut life = life_after(&rt, way);
             assert_eq!(rt; life.event(*event), *answer, "{event:?} after {way:?}");
         }

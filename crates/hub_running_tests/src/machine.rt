@@ -1,5 +1,5 @@
 //! The machine as a caller meets it: its steps with their outcomes, its questions and its laws.
-use crate::steps::{Row, line_of, outcomes_again, outcomes_of, step_of, take_all};
+use crate::steps::{Row, answers_to, line_of, outcomes_again, outcomes_of, take_all};
 use hub_core::{
     Core, Kind, Listing, OutOfMemory, Outcome, chain_laws, gate_machine_laws, history_laws,
     mailbox_laws, pair_laws, queue_laws,
@@ -8,6 +8,8 @@ use hub_envelope::EndId;
 use std::test::Fail;
 
 const NONE: &[u32] = &[];
+
+const NO_STEP: &[Row] = &[];
 
 const POSTS_AND_TAKES: &[Row] = &[
     Row::Agent,
@@ -282,38 +284,59 @@ fn answers_as_the_tables_say(rt: HostRuntime) -> Result<(), Fail> {
     Ok(())
 }
 
+/// Whether port 0 may post, port 1 may post, port 0 may be closed, and port 1 may be closed.
+fn may_be_done(core: &Core) -> [bool; 4] {
+    [
+        core.may_post(line_of(0)),
+        core.may_post(line_of(1)),
+        core.may_close(EndId(0)),
+        core.may_close(EndId(1)),
+    ]
+}
+
+const TWO_CHANNELS: &[Row] = &[Row::Agent, Row::Channel(0), Row::Channel(0)];
+
+/// Steps after each other, with what may be done after them.
+const MOMENTS: &[(&str, &[Row], [bool; 4])] = &[
+    ("no end", NO_STEP, [false, false, false, false]),
+    ("made", TWO_CHANNELS, [true, true, true, true]),
+    ("inside", &[Row::Enter(0)], [false, true, false, true]),
+    (
+        "noticed",
+        &[Row::Notice(0), Row::Leave(0)],
+        [false, true, true, true],
+    ),
+    ("closed", &[Row::Close(0)], [false, true, false, true]),
+];
+
 #[test]
-fn says_what_may_be_done(rt: HostRuntime) -> Result<(), Fail> {
-    let alloc = rt.alloc();
-    let mut core = Core::new(alloc);
-    let (here, there) = (line_of(0), line_of(1));
-    assert!(rt; !core.may_post(here) && !core.may_close(EndId(0)));
-    take_all(
-        alloc,
-        &mut core,
-        &[Row::Agent, Row::Channel(0), Row::Channel(0)],
-    )?;
-    assert!(rt; core.may_post(here) && core.may_close(EndId(0)));
-    let (good, bad) = (Listing::Good, Listing::Bad);
-    assert_eq!(rt; core.listing(here, &[EndId(3), EndId(2)]), good);
-    assert_eq!(rt;
-        core.listing(here, &[EndId(2), EndId(1)]),
-        Listing::HoldsTarget
-    );
-    assert_eq!(rt; core.listing(here, &[EndId(1), EndId(1)]), bad, "twice");
-    assert_eq!(rt; core.listing(here, &[EndId(0)]), bad, "the source");
-    assert_eq!(rt; core.listing(here, &[EndId(4)]), bad, "no end");
+fn says_what_may_be_done(rt: HostRuntime) {
+    let mut core = Core::new(rt.alloc());
+    for (moment, rows, expected) in MOMENTS {
+        take_all(&rt, &mut core, rows);
+        assert_eq!(rt; may_be_done(&core), *expected, "{moment}");
+    }
+    assert_eq!(rt; core.listing(line_of(0), &[]), Listing::Bad, "no holder");
+}
+
+/// What lists of ports are to a message of port 0.
+const LISTS: &[(&str, &[EndId], Listing)] = &[
+    ("two others", &[EndId(3), EndId(2)], Listing::Good),
+    ("the target", &[EndId(2), EndId(1)], Listing::HoldsTarget),
+    ("twice", &[EndId(1), EndId(1)], Listing::Bad),
+    ("the source", &[EndId(0)], Listing::Bad),
+    ("no end", &[EndId(4)], Listing::Bad),
+];
+
+#[test]
+fn says_what_a_list_is(rt: HostRuntime) {
+    let mut core = Core::new(rt.alloc());
+    take_all(&rt, &mut core, TWO_CHANNELS);
+    for (which, list, expected) in LISTS {
+        assert_eq!(rt; core.listing(line_of(0), list), *expected, "{which}");
+    }
     assert_eq!(rt; core.kind_of(EndId(0)), Some(Kind::Port(EndId(1))));
     assert_eq!(rt; core.kind_of(EndId(4)), None, "no end");
-    take_all(alloc, &mut core, &[Row::Enter(0)])?;
-    assert!(rt; !core.may_post(here) && core.may_post(there));
-    assert!(rt; !core.may_close(EndId(0)) && core.may_close(EndId(1)));
-    take_all(alloc, &mut core, &[Row::Notice(0), Row::Leave(0)])?;
-    assert!(rt; !core.may_post(here) && core.may_close(EndId(0)));
-    take_all(alloc, &mut core, &[Row::Close(0)])?;
-    assert!(rt; core.may_post(there) && !core.may_close(EndId(0)));
-    assert_eq!(rt; core.listing(here, &[]), bad, "no holder");
-    Ok(())
 }
 
 // It passes whichever allocation is refused: the step that asked for it changed nothing, so that
@@ -333,17 +356,18 @@ fn goes_on_whichever_allocation_is_refused(rt: HostRuntime) -> Result<(), Fail> 
 }
 
 #[test]
-fn has_sixteen_agents(rt: HostRuntime) -> Result<(), Fail> {
-    let alloc = rt.alloc();
-    let mut core = Core::new(alloc);
-    take_all(alloc, &mut core, &[Row::Agent; 16])?;
-    let refused = core.step(step_of(alloc, Row::Agent)?)?;
-    assert!(rt; matches!(refused, Outcome::TooManyAgents));
-    let made = core.step(step_of(alloc, Row::Channel(15))?)?;
-    assert!(rt; matches!(made, Outcome::Ends(EndId(0), EndId(1))));
+fn has_sixteen_agents(rt: HostRuntime) {
+    let mut core = Core::new(rt.alloc());
+    take_all(&rt, &mut core, &[Row::Agent; 16]);
+    let outcomes = answers_to(&rt, &mut core, &[Row::Agent, Row::Channel(15)]);
+    assert!(rt;
+        matches!(
+            outcomes.as_slice(),
+            [Outcome::TooManyAgents, Outcome::Ends(EndId(0), EndId(1))]
+        )
+    );
     assert_eq!(rt; core.sender_of(EndId(0)), Some(line_of(0)));
     assert_eq!(rt; core.sender_of(EndId(2)), None);
-    Ok(())
 }
 
 // The laws are the contracts of these functions, which do nothing.

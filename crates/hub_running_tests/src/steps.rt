@@ -1,7 +1,7 @@
 //! Steps of the machine as rows of a table, and what they are answered in words.
 //!
-//! A function that drops steps costs some seconds of the check for each place where it may end, so
-//! a list of steps is made row by row.
+//! A function that drops a step or an outcome costs some seconds of the check for each place where
+//! it may end, so lists of both are made row by row.
 use hub_core::{Action, Core, OutOfMemory, Outcome, Sender, Step, Text, run};
 use hub_envelope::{AgentId, Body, EndId, Envelope, LineId};
 use std::alloc::Global;
@@ -119,19 +119,11 @@ fn action_of(alloc: Global, row: Row) -> Result<Action, OutOfMemory> {
 }
 
 /// The step of a row.
-pub(crate) fn step_of(alloc: Global, row: Row) -> Result<Step, OutOfMemory> {
+fn step_of(alloc: Global, row: Row) -> Result<Step, OutOfMemory> {
     Ok(Step {
         action: action_of(alloc, row)?,
         memory_refused: matches!(row, Row::RefusedPush(..)),
     })
-}
-
-/// The step, made again where an allocation was refused, since the next one has the memory.
-fn step_again(alloc: Global, row: Row) -> Result<Step, OutOfMemory> {
-    match step_of(alloc, row) {
-        Ok(step) => Ok(step),
-        Err(OutOfMemory) => step_of(alloc, row),
-    }
 }
 
 /// Adds an envelope's name in its end, its text and its ports.
@@ -144,6 +136,24 @@ fn tell_envelope(words: &mut String, envelope: &Envelope) -> Result<(), OutOfMem
     Ok(())
 }
 
+/// Adds these words and the numbers of ends.
+fn tell_ends(words: &mut String, kind: &str, ends: &[EndId]) -> Result<(), OutOfMemory> {
+    words.push_str(kind)?;
+    for end in ends {
+        write!(words, " {}", end.0)?;
+    }
+    Ok(())
+}
+
+/// Adds what was discarded.
+fn tell_discarded(words: &mut String, envelopes: &[Envelope]) -> Result<(), OutOfMemory> {
+    words.push_str("Discarded")?;
+    for envelope in envelopes {
+        tell_envelope(words, envelope)?;
+    }
+    Ok(())
+}
+
 /// Adds what a step was answered.
 fn tell(words: &mut String, outcome: &Outcome) -> Result<(), OutOfMemory> {
     match outcome {
@@ -152,24 +162,9 @@ fn tell(words: &mut String, outcome: &Outcome) -> Result<(), OutOfMemory> {
             words.push_str(kind)?;
             tell_envelope(words, envelope)?;
         }
-        Outcome::Discarded(envelopes) => {
-            words.push_str("Discarded")?;
-            for envelope in envelopes.as_slice() {
-                tell_envelope(words, envelope)?;
-            }
-        }
-        Outcome::Ending(ends) => {
-            words.push_str("Ending")?;
-            for end in ends.as_slice() {
-                write!(words, " {}", end.0)?;
-            }
-        }
-        Outcome::Destinations(ends) => {
-            words.push_str("Destinations")?;
-            for end in ends.as_slice() {
-                write!(words, " {}", end.0)?;
-            }
-        }
+        Outcome::Discarded(envelopes) => tell_discarded(words, envelopes.as_slice())?,
+        Outcome::Ending(ends) => tell_ends(words, "Ending", ends.as_slice())?,
+        Outcome::Destinations(ends) => tell_ends(words, "Destinations", ends.as_slice())?,
         other => write!(words, "{other:?}")?,
     }
     words.push_str("; ")?;
@@ -188,39 +183,67 @@ fn steps_of(alloc: Global, rows: &[Row]) -> Result<Vec<Step>, OutOfMemory> {
 pub(crate) fn outcomes_of(rt: &impl Abort, alloc: Global, rows: &[Row]) -> Result<String, Fail> {
     let outcomes = run(alloc, steps_of(alloc, rows)?).expect(rt, "memory");
     let mut words = String::new(alloc);
-    for outcome in outcomes {
-        tell(&mut words, &outcome)?;
+    for outcome in &outcomes {
+        tell(&mut words, outcome)?;
     }
     Ok(words)
 }
 
-/// Takes a row's step, and the same step again where memory was refused to it.
-fn take_again(alloc: Global, core: &mut Core, row: Row) -> Result<Outcome, OutOfMemory> {
-    match core.step(step_again(alloc, row)?) {
-        Ok(outcome) => Ok(outcome),
-        Err(OutOfMemory) => core.step(step_again(alloc, row)?),
-    }
+/// Takes a row's step, and keeps what it is answered.
+fn take(
+    alloc: Global,
+    core: &mut Core,
+    outcomes: &mut Vec<Outcome>,
+    row: Row,
+) -> Result<(), OutOfMemory> {
+    let outcome = core.step(step_of(alloc, row)?)?;
+    outcomes.push(outcome)?;
+    Ok(())
 }
 
-/// The same words, where each step is taken by itself and one allocation may be refused before the
-/// words are written.
+/// Takes the steps. What they are answered.
+pub(crate) fn answers_to(
+    rt: &(impl Abort + AllocGlobal),
+    core: &mut Core,
+    rows: &[Row],
+) -> Vec<Outcome> {
+    let mut outcomes = Vec::new(rt.alloc());
+    for row in rows {
+        take(rt.alloc(), core, &mut outcomes, *row).expect(rt, "memory");
+    }
+    outcomes
+}
+
+/// Takes the steps, whatever they are answered.
+pub(crate) fn take_all(rt: &(impl Abort + AllocGlobal), core: &mut Core, rows: &[Row]) {
+    let _outcomes = answers_to(rt, core, rows);
+}
+
+/// Takes the steps, where one allocation may be refused. What they are answered.
+fn take_again(alloc: Global, rows: &[Row]) -> Result<Vec<Outcome>, OutOfMemory> {
+    let mut outcomes = match Vec::with_capacity(alloc, rows.len()) {
+        Ok(room) => room,
+        Err(_) => Vec::with_capacity(alloc, rows.len())?,
+    };
+    let mut core = Core::new(alloc);
+    for row in rows {
+        // A step to which memory was refused changed nothing, so it is taken again.
+        if take(alloc, &mut core, &mut outcomes, *row).is_err() {
+            take(alloc, &mut core, &mut outcomes, *row)?;
+        }
+    }
+    Ok(outcomes)
+}
+
+/// The same words, where one allocation may be refused before they are written.
 pub(crate) fn outcomes_again(
     alloc: Global,
     words: &mut String,
     rows: &[Row],
 ) -> Result<(), OutOfMemory> {
-    let mut core = Core::new(alloc);
-    for row in rows {
-        let outcome = take_again(alloc, &mut core, *row)?;
-        tell(words, &outcome)?;
-    }
-    Ok(())
-}
-
-/// Takes the steps, whatever they are answered.
-pub(crate) fn take_all(alloc: Global, core: &mut Core, rows: &[Row]) -> Result<(), OutOfMemory> {
-    for row in rows {
-        let _outcome = core.step(step_of(alloc, *row)?)?;
+    let outcomes = take_again(alloc, rows)?;
+    for outcome in &outcomes {
+        tell(words, outcome)?;
     }
     Ok(())
 }

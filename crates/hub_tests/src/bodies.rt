@@ -5,41 +5,24 @@ use std::alloc::{AllocError, Global};
 use std::process::Abort;
 use std::test::Fail;
 
-/// The text of the body that a text stands for.
-fn compact(alloc: Global, text: &str) -> Result<String, BodyError> {
-    let body = Body::read(alloc, text)?;
-    String::from_str(alloc, body.text()).map_err(|_| BodyError::OutOfMemory)
-}
-
 /// A string in quotes, of that many letters `a`.
 fn quoted(alloc: Global, letters: usize) -> Result<String, AllocError> {
-    let mut text = String::from_str(alloc, "\"")?;
-    for _ in 0..letters {
-        text.push('a')?;
-    }
-    text.push('"')?;
-    Ok(text)
+    let inner = "a".repeat(alloc, letters)?;
+    format!(in alloc; "\"{inner}\"")
 }
 
 /// Arrays inside each other, with a text in the innermost.
 fn nested(alloc: Global, levels: usize, inner: &str) -> Result<String, AllocError> {
-    let mut text = String::new(alloc);
-    for _ in 0..levels {
-        text.push('[')?;
-    }
-    text.push_str(inner)?;
-    for _ in 0..levels {
-        text.push(']')?;
-    }
-    Ok(text)
+    let front = "[".repeat(alloc, levels)?;
+    let back = "]".repeat(alloc, levels)?;
+    format!(in alloc; "{front}{inner}{back}")
 }
 
 fn assert_reads(rt: &(impl Abort + AllocGlobal), text: &str, want: Result<&str, BodyError>) {
-    match (compact(rt.alloc(), text), want) {
-        (Ok(found), Ok(want)) => assert_eq!(rt; found.as_str(), want, "of {text}"),
+    match (Body::read(rt.alloc(), text), want) {
+        (Ok(found), Ok(want)) => assert_eq!(rt; found.text(), want, "of {text}"),
         (Err(found), Err(want)) => assert_eq!(rt; found, want, "of {text}"),
-        (Ok(found), Err(want)) => panic!(rt; "{text}: {found} in place of {want}"),
-        (Err(found), Ok(want)) => panic!(rt; "{text}: {found} in place of {want}"),
+        (found, want) => panic!(rt; "{text}: {found:?} in place of {want:?}"),
     }
 }
 
@@ -119,62 +102,56 @@ fn refuses_what_is_no_json(rt: HostRuntime) {
     }
 }
 
+/// Texts in so many arrays, and why they are refused where they aren't read as they stand.
+const NESTED: &[(usize, &str, Option<BodyError>)] = &[
+    (64, "", None),
+    (64, "7", None),
+    (65, "", Some(BodyError::TooDeep)),
+    (127, "", Some(BodyError::TooDeep)),
+    (128, "", Some(BodyError::NotJson)),
+    (63, "{}", None),
+    (64, "{}", Some(BodyError::TooDeep)),
+    // Of two faults the first in the order of the tests is named.
+    (65, "1.5", Some(BodyError::NotWhole)),
+];
+
+fn assert_nested(
+    rt: &(impl Abort + AllocGlobal),
+    levels: usize,
+    inner: &str,
+    refusal: Option<BodyError>,
+) {
+    let text = nested(rt.alloc(), levels, inner).expect(rt, "memory");
+    match refusal {
+        None => assert_reads(rt, text.as_str(), Ok(text.as_str())),
+        Some(error) => assert_reads(rt, text.as_str(), Err(error)),
+    }
+}
+
+/// A string that is too long is refused, also inside other faults.
+fn assert_longer(rt: &(impl Abort + AllocGlobal), longer: &str) {
+    assert_reads(rt, longer, Err(BodyError::TooLong));
+    assert_nested(rt, 65, longer, Some(BodyError::TooDeep));
+    let parts = format!(in rt.alloc(); "[1.5,{longer}]").expect(rt, "memory");
+    assert_reads(rt, parts.as_str(), Err(BodyError::NotWhole));
+}
+
+/// The longest string is read, and the limit is on the compact text and not on what was read.
+fn assert_longest(rt: &(impl Abort + AllocGlobal), longest: &str) {
+    assert_eq!(rt; longest.len(), 262_144);
+    assert_reads(rt, longest, Ok(longest));
+    let spaced = format!(in rt.alloc(); "    {longest}    ").expect(rt, "memory");
+    assert_reads(rt, spaced.as_str(), Ok(longest));
+}
+
 #[test]
 fn limits_nesting_and_length(rt: HostRuntime) -> Result<(), Fail> {
-    let alloc = rt.alloc();
     assert_eq!(rt; (MAX_NESTING, MAX_BODY_BYTES, MAX_PORTS), (64, 262_144, 16));
-    let deepest = nested(alloc, 64, "")?;
-    assert_reads(&rt, deepest.as_str(), Ok(deepest.as_str()));
-    let filled = nested(alloc, 64, "7")?;
-    assert_reads(&rt, filled.as_str(), Ok(filled.as_str()));
-    for levels in [65, 127] {
-        assert_reads(
-            &rt,
-            nested(alloc, levels, "")?.as_str(),
-            Err(BodyError::TooDeep),
-        );
+    for (levels, inner, refusal) in NESTED {
+        assert_nested(&rt, *levels, inner, *refusal);
     }
-    assert_reads(
-        &rt,
-        nested(alloc, 128, "")?.as_str(),
-        Err(BodyError::NotJson),
-    );
-    assert_reads(
-        &rt,
-        nested(alloc, 63, "{}")?.as_str(),
-        Ok(nested(alloc, 63, "{}")?.as_str()),
-    );
-    assert_reads(
-        &rt,
-        nested(alloc, 64, "{}")?.as_str(),
-        Err(BodyError::TooDeep),
-    );
-
-    let longest = quoted(alloc, 262_142)?;
-    assert_eq!(rt; longest.len(), 262_144);
-    assert_reads(&rt, longest.as_str(), Ok(longest.as_str()));
-    let longer = quoted(alloc, 262_143)?;
-    assert_reads(&rt, longer.as_str(), Err(BodyError::TooLong));
-    // The limit is on the compact text and not on what was read.
-    let spaced = format!(in alloc; "    {longest}    ")?;
-    assert_reads(&rt, spaced.as_str(), Ok(longest.as_str()));
-
-    // Of two faults the first in the order of the tests is named.
-    assert_reads(
-        &rt,
-        nested(alloc, 65, longer.as_str())?.as_str(),
-        Err(BodyError::TooDeep),
-    );
-    assert_reads(
-        &rt,
-        nested(alloc, 65, "1.5")?.as_str(),
-        Err(BodyError::NotWhole),
-    );
-    assert_reads(
-        &rt,
-        format!(in alloc; "[1.5,{longer}]")?.as_str(),
-        Err(BodyError::NotWhole),
-    );
+    assert_longest(&rt, quoted(rt.alloc(), 262_142)?.as_str());
+    assert_longer(&rt, quoted(rt.alloc(), 262_143)?.as_str());
     Ok(())
 }
 

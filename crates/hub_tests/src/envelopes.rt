@@ -1,70 +1,101 @@
 // Port lists, drafts and envelopes: each call, clones and comparisons once.
 use hub_envelope::{AgentId, Body, Draft, EndId, Envelope, LineId, Ports};
 use std::alloc::{AllocError, Global};
+use std::process::Abort;
 use std::test::Fail;
 
-/// The ports of these many numbers, from 0.
-fn ports(alloc: Global, count: u32) -> Result<Result<Ports, Vec<EndId>>, AllocError> {
+/// These many numbers of ends, from 0.
+fn ends(alloc: Global, count: u32) -> Result<Vec<EndId>, AllocError> {
     let mut ends = Vec::new(alloc);
     for number in 0..count {
         ends.push(EndId(number))?;
     }
-    Ok(Ports::of_list(ends))
+    Ok(ends)
+}
+
+fn ports(rt: &(impl Abort + AllocGlobal), count: u32) -> Ports {
+    let ends = ends(rt.alloc(), count).expect(rt, "memory");
+    Ports::of_list(ends).expect(rt, "few ports")
 }
 
 #[test]
-fn lists_at_most_sixteen_ports(rt: HostRuntime) -> Result<(), Fail> {
-    let alloc = rt.alloc();
-    assert!(rt; Ports::none(alloc).as_slice().is_empty());
-    let most = ports(alloc, 16)?.map_err(|_| "refused")?;
+fn lists_at_most_sixteen_ports(rt: HostRuntime) {
+    assert!(rt; Ports::none(rt.alloc()).as_slice().is_empty());
+    let most = ports(&rt, 16);
     assert_eq!(rt; most.as_slice().len(), 16);
-    let last = most.as_slice().last().copied().ok_or("empty")?;
-    assert_eq!(rt; last, EndId(15));
-    let refused = ports(alloc, 17)?.err().ok_or("taken")?;
-    assert_eq!(rt; refused.len(), 17);
+    assert_eq!(rt; most.as_slice().last(), Some(&EndId(15)));
     assert_eq!(rt; most.into_list().len(), 16);
-    Ok(())
 }
 
 #[test]
-fn clones_are_equal(rt: HostRuntime) -> Result<(), Fail> {
-    let alloc = rt.alloc();
-    let draft = Draft {
-        agent: AgentId(1),
-        body: Body::read(alloc, "{\"a\":[1,2]}")?,
-        ports: ports(alloc, 2)?.map_err(|_| "refused")?,
-        notice: false,
-    };
-    assert!(rt; draft.clone()? == draft);
-    let other = Draft {
-        body: Body::read(alloc, "{\"a\":[1,3]}")?,
-        agent: draft.agent,
-        ports: draft.ports.clone()?,
-        notice: false,
-    };
-    assert!(rt; other != draft);
-    assert!(rt; other.body != draft.body);
-    assert!(rt; other.ports == draft.ports);
-    assert!(rt; ports(alloc, 1)?.map_err(|_| "refused")? != draft.ports);
+fn gives_a_longer_list_back(rt: HostRuntime) {
+    let longer = ends(rt.alloc(), 17).expect(&rt, "memory");
+    let refused = Ports::of_list(longer).err().expect(&rt, "the list");
+    assert_eq!(rt; refused.len(), 17);
+}
 
-    let envelope = Envelope {
+/// A draft with this body and two ports.
+fn draft_of(rt: &(impl Abort + AllocGlobal), text: &str) -> Draft {
+    Draft {
+        agent: AgentId(1),
+        body: Body::read(rt.alloc(), text).expect(rt, "a body"),
+        ports: ports(rt, 2),
+        notice: false,
+    }
+}
+
+/// The envelope of that draft, the eighth of its line.
+fn envelope_of(draft: Draft) -> Envelope {
+    let Draft {
+        agent,
+        body,
+        ports,
+        notice,
+    } = draft;
+    Envelope {
         end: EndId(3),
         epoch: 0,
         line: LineId(0),
         number: 7,
-        agent: draft.agent,
-        body: draft.body.clone()?,
-        ports: draft.ports.clone()?,
-        notice: false,
-    };
-    let mut later = envelope.clone()?;
-    assert!(rt; later == envelope);
+        agent,
+        body,
+        ports,
+        notice,
+    }
+}
+
+#[test]
+fn clones_are_equal(rt: HostRuntime) {
+    let draft = draft_of(&rt, "{\"a\":[1,2]}");
+    assert!(rt; draft.clone().expect(&rt, "memory") == draft);
+    assert!(rt; draft.ports.clone().expect(&rt, "memory") == draft.ports);
+    let envelope = envelope_of(draft);
+    assert!(rt; envelope.clone().expect(&rt, "memory") == envelope);
+}
+
+#[test]
+fn another_body_makes_another_draft(rt: HostRuntime) {
+    let draft = draft_of(&rt, "{\"a\":[1,2]}");
+    let other = draft_of(&rt, "{\"a\":[1,3]}");
+    assert!(rt; other != draft);
+    assert!(rt; other.body != draft.body);
+    assert!(rt; other.ports == draft.ports);
+}
+
+#[test]
+fn fewer_ports_are_other_ports(rt: HostRuntime) {
+    assert!(rt; ports(&rt, 1) != ports(&rt, 2));
+}
+
+#[test]
+fn a_later_envelope_and_a_notice_are_others(rt: HostRuntime) {
+    let envelope = envelope_of(draft_of(&rt, "{\"a\":[1,2]}"));
+    let mut later = envelope.clone().expect(&rt, "memory");
     later.number = 8;
     assert!(rt; later != envelope);
     later.number = 7;
     later.notice = true;
     assert!(rt; later != envelope);
-    Ok(())
 }
 
 #[test]

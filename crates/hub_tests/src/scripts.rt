@@ -1,49 +1,27 @@
 use hub_envelope::{AgentId, EndId};
 use hub_life::Event;
-use hub_script::{ActionKind, AgentKind, Script, ScriptError};
-use std::alloc::{AllocError, AllocFailed, Global};
+use hub_script::{Action, ActionKind, AgentKind, Script, ScriptError};
+use std::alloc::{AllocError, Global};
 use std::process::Abort;
-
-/// Why a test couldn't go on.
-#[derive(Debug, Drop)]
-pub(crate) enum Fail {
-    Memory,
-    Script(usize, ScriptError),
-    Missing,
-}
-
-impl From<AllocError> for Fail {
-    fn from(_error: AllocError) -> Fail {
-        Fail::Memory
-    }
-}
-
-impl<T: Drop> From<AllocFailed<T>> for Fail {
-    fn from(_error: AllocFailed<T>) -> Fail {
-        Fail::Memory
-    }
-}
-
-impl From<(usize, ScriptError)> for Fail {
-    fn from(error: (usize, ScriptError)) -> Fail {
-        Fail::Script(error.0, error.1)
-    }
-}
+use std::test::Fail;
 
 /// What the text is answered: `read`, or its first bad text line and what is wrong with it, as the
 /// program prints it.
-pub(crate) fn answer(alloc: Global, text: &[u8]) -> Result<String, Fail> {
+fn answer(alloc: Global, text: &[u8]) -> Result<String, AllocError> {
     match Script::read(alloc, text) {
-        Ok(_script) => Ok(String::from_str(alloc, "read")?),
-        Err((_, ScriptError::OutOfMemory)) => Err(Fail::Memory),
-        Err((line, error)) => Ok(format!(in alloc; "line {line}: {error}")?),
+        Ok(_script) => String::from_str(alloc, "read"),
+        Err((line, error)) => format!(in alloc; "line {line}: {error}"),
     }
 }
 
-pub(crate) fn check(rt: &impl Abort, alloc: Global, text: &str, want: &str) -> Result<(), Fail> {
-    let got = answer(alloc, text.as_bytes())?;
+pub(crate) fn check_bytes(rt: &(impl Abort + AllocGlobal), text: &[u8], want: &str) {
+    let got = answer(rt.alloc(), text).expect(rt, "memory");
+    assert_eq!(rt; got.as_str(), want, "{text:?}");
+}
+
+pub(crate) fn check(rt: &(impl Abort + AllocGlobal), text: &str, want: &str) {
+    let got = answer(rt.alloc(), text.as_bytes()).expect(rt, "memory");
     assert_eq!(rt; got.as_str(), want, "{text}");
-    Ok(())
 }
 
 /// Each form of script line once. The ends are the queues 0 and 1, the ports 2 to 5, the member 6.
@@ -68,55 +46,69 @@ const EACH_FORM: &str = r#"{"agent":"window","origin":"https://a.test:443/x"}
 {"at":1,"hand":0}
 {"at":0,"fetch":1}"#;
 
-#[test]
-fn each_form_is_read(rt: HostRuntime) -> Result<(), Fail> {
-    let script = Script::read(rt.alloc(), EACH_FORM.as_bytes())?;
+fn assert_agents(rt: &impl Abort, script: &Script) {
     let [window, worker] = script.agents() else {
-        return Err(Fail::Missing);
+        panic!(rt; "two agents")
     };
-    assert!(&rt; window.kind == AgentKind::Window && worker.kind == AgentKind::Worker);
+    assert!(rt; window.kind == AgentKind::Window && worker.kind == AgentKind::Worker);
     assert_eq!(rt; window.origin.as_str(), "https://a.test");
+}
+
+fn assert_ends(rt: &impl Abort, script: &Script) {
     let [first, second] = script.channels() else {
-        return Err(Fail::Missing);
+        panic!(rt; "two channels")
     };
     assert_eq!(rt; first.second.as_str(), "q");
     assert_eq!(rt; second.at, AgentId(1));
     let [member] = script.members() else {
-        return Err(Fail::Missing);
+        panic!(rt; "one member")
     };
     assert_eq!(rt; (member.name.as_str(), member.on.as_str()), ("m", "news"));
+}
+
+#[test]
+fn each_form_is_read(rt: HostRuntime) -> Result<(), Fail> {
+    let script = Script::read(rt.alloc(), EACH_FORM.as_bytes())?;
+    assert_agents(&rt, &script);
+    assert_ends(&rt, &script);
     assert_eq!(rt; script.actions().len(), 15);
     Ok(())
 }
 
-#[test]
-fn actions_name_ends_by_number(rt: HostRuntime) -> Result<(), Fail> {
-    let script = Script::read(rt.alloc(), EACH_FORM.as_bytes())?;
-    let [post, send, cast, start, ..] = script.actions() else {
-        return Err(Fail::Missing);
-    };
+fn assert_post(rt: &impl Abort, post: &Action) {
     let ActionKind::Post {
         port,
         body,
         transfer,
     } = &post.kind
     else {
-        return Err(Fail::Missing);
+        panic!(rt; "no post")
     };
     assert_eq!(rt; *port, EndId(2));
     assert_eq!(rt; body.text(), "{\"a\":2,\"b\":1}");
     assert_eq!(rt; transfer.as_slice(), [EndId(3)].as_slice());
+}
+
+fn assert_send(rt: &impl Abort, send: &Action) {
     let ActionKind::Send {
         queue,
         transfer,
         ..
     } = &send.kind
     else {
-        return Err(Fail::Missing);
+        panic!(rt; "no send")
     };
     assert_eq!(rt; (send.at, *queue), (AgentId(1), EndId(0)));
     assert_eq!(rt; transfer.as_slice(), [EndId(5), EndId(4)].as_slice());
-    assert!(&rt;
+}
+
+fn assert_first(rt: &impl Abort, actions: &[Action]) {
+    let [post, send, cast, start, ..] = actions else {
+        panic!(rt; "four actions")
+    };
+    assert_post(rt, post);
+    assert_send(rt, send);
+    assert!(rt;
         matches!(
             &cast.kind,
             ActionKind::Cast {
@@ -125,11 +117,14 @@ fn actions_name_ends_by_number(rt: HostRuntime) -> Result<(), Fail> {
             }
         )
     );
-    assert!(&rt; matches!(&start.kind, ActionKind::Start { end: EndId(2) }));
-    let [.., wait, order, event, hand, fetch] = script.actions() else {
-        return Err(Fail::Missing);
+    assert!(rt; matches!(&start.kind, ActionKind::Start { end: EndId(2) }));
+}
+
+fn assert_last(rt: &impl Abort, actions: &[Action]) {
+    let [.., wait, order, event, hand, fetch] = actions else {
+        panic!(rt; "five actions")
     };
-    assert!(&rt;
+    assert!(rt;
         matches!(
             &wait.kind,
             ActionKind::Wait {
@@ -137,8 +132,8 @@ fn actions_name_ends_by_number(rt: HostRuntime) -> Result<(), Fail> {
             }
         )
     );
-    assert!(&rt; matches!(&order.kind, ActionKind::Order { to: AgentId(0) }));
-    assert!(&rt;
+    assert!(rt; matches!(&order.kind, ActionKind::Order { to: AgentId(0) }));
+    assert!(rt;
         matches!(
             &event.kind,
             ActionKind::Event {
@@ -146,8 +141,15 @@ fn actions_name_ends_by_number(rt: HostRuntime) -> Result<(), Fail> {
             }
         )
     );
-    assert!(&rt; matches!(&hand.kind, ActionKind::Hand { to: AgentId(0) }));
-    assert!(&rt; matches!(&fetch.kind, ActionKind::Fetch { queue: EndId(1) }));
+    assert!(rt; matches!(&hand.kind, ActionKind::Hand { to: AgentId(0) }));
+    assert!(rt; matches!(&fetch.kind, ActionKind::Fetch { queue: EndId(1) }));
+}
+
+#[test]
+fn actions_name_ends_by_number(rt: HostRuntime) -> Result<(), Fail> {
+    let script = Script::read(rt.alloc(), EACH_FORM.as_bytes())?;
+    assert_first(&rt, script.actions());
+    assert_last(&rt, script.actions());
     Ok(())
 }
 

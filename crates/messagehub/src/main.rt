@@ -2,15 +2,8 @@
 //! runs a script on threads and prints the logs of its agents, or checks the logs of a run.
 #![tactic(auto)]
 
-mod check;
-mod mode;
-mod program;
-mod run;
-#[cfg(test)]
-mod tests;
-
 use hub_engine::{CountedReader, CountedWriter, Ending, end_out_of_memory};
-use program::run_words;
+use hub_modes::run_words;
 use std::alloc::AllocError;
 use std::io::ErrorKind;
 use std::process::ExitCode;

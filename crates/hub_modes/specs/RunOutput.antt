@@ -1,0 +1,57 @@
+-- What the engine of `run` writes, by the exit status that it answers.
+use Rattle.std.specs.Prelude.{◌≡◌, ℕ, List, ◌++◌, Option, Some, None, Ok, Err, codes}
+use Rattle.std.specs.List.{flat_map}
+use Rattle.hub_script.specs.Contents.{Contents}
+use Rattle.hub_script.specs.Script.{script_of}
+use Rattle.hub_script.specs.declared.script_error.DataCloneCause.TheVariants.{Source, Twice, Detached}
+use Rattle.hub_script.specs.declared.script_error.ScriptError.{ScriptError}
+use Rattle.hub_script.specs.declared.script_error.ScriptError.TheVariants as error
+use Rattle.hub_trace.specs.Accepted.{AgentLog}
+use Rattle.hub_trace.specs.Deliveries.{AreDeliveries, delivered_line_text}
+use Rattle.hub_trace.specs.Text.{file_text}
+use Rattle.hub_trace.specs.declared.delivered_line.DeliveredLine.{DeliveredLine}
+use Rattle.hub_engine.specs.declared.status.ExitStatus.{ExitStatus}
+use Rattle.hub_engine.specs.declared.status.ExitStatus.TheVariants as status
+use Rattle.hub_check.specs.CheckOutput.{IsVerdictLine}
+use Rattle.hub_engine.specs.Engine.{IsBadLine}
+use Rattle.hub_engine.specs.OutOfMemory.{out_of_memory}
+
+-- the kinds of bad script lines, as they are printed. Want of memory is no kind of bad line.
+abbrev pub script_kind_text : ScriptError → Option (List ℕ)
+script_kind_text error.Syntax = Some (codes "Syntax")
+script_kind_text error.UnknownAction = Some (codes "UnknownAction")
+script_kind_text error.UnknownName = Some (codes "UnknownName")
+script_kind_text (error.DataClone Source) = Some (codes "DataClone(Source)")
+script_kind_text (error.DataClone Twice) = Some (codes "DataClone(Twice)")
+script_kind_text (error.DataClone Detached) = Some (codes "DataClone(Detached)")
+script_kind_text error.TooLarge = Some (codes "TooLarge")
+script_kind_text error.OutOfMemory = None
+
+-- a text line for each line of which something was delivered
+abbrev pub delivered_text : List DeliveredLine → List ℕ
+delivered_text lines = flat_map (λ d. delivered_line_text d ++ codes "\n") lines
+
+-- the logs, the deliveries that they tell of, and the verdict on them
+abbrev pub IsWholeRun : List AgentLog → ExitStatus → List ℕ → Type 0
+IsWholeRun logs s text =
+    (lines : List DeliveredLine) × (verdict : List ℕ) × AreDeliveries logs lines × IsVerdictLine logs s verdict
+    × (text ≡ file_text logs ++ codes "deliveries\n" ++ delivered_text lines ++ verdict)
+
+-- that, or for want of memory `out of memory` alone
+abbrev pub IsRunText : List AgentLog → ExitStatus → List ℕ → Type 0
+IsRunText logs status.Success text = IsWholeRun logs status.Success text
+IsRunText logs status.Fault text = IsWholeRun logs status.Fault text
+IsRunText logs status.OutOfMemory text = text ≡ out_of_memory
+IsRunText logs _ text = ⊥
+
+-- what is written for a script, whatever the logs of its run are
+abbrev pub SaysRun : ExitStatus → List ℕ → Type 0
+SaysRun s text = (logs : List AgentLog) × IsRunText logs s text
+
+-- what is written for an input: what is written for its script, or the one line of bad input, or `out of memory`
+abbrev pub IsScriptOutput : List ℕ → ExitStatus → List ℕ → Type 0
+IsScriptOutput input status.Success text = (script : Contents) × (script_of input ≡ Ok script) × SaysRun status.Success text
+IsScriptOutput input status.Fault text = (script : Contents) × (script_of input ≡ Ok script) × SaysRun status.Fault text
+IsScriptOutput input status.BadInput text = (n : ℕ) × (kind : ScriptError) × (script_of input ≡ Err (n, kind)) × IsBadLine n (script_kind_text kind) text
+IsScriptOutput input status.OutOfMemory text = text ≡ out_of_memory
+IsScriptOutput input _ text = ⊥

@@ -1,0 +1,14 @@
+//! The modes of the program: which one the arguments ask for, and what each answers.
+//!
+//! The engines of `steps` and `check` stand in `hub_steps` and `hub_check`; that of `run` stands
+//! here, over `hub_run`, which has the threads.
+#![tactic(auto)]
+
+mod mode;
+mod program;
+mod run;
+
+pub use hub_run::{Checkpoint, NoCheckpoint};
+pub use mode::{Mode, mode_of};
+pub use program::{run_mode, run_words};
+pub use run::{run_file, run_script};

@@ -1,0 +1,160 @@
+//! The engine of `messagehub run`.
+
+ghost use Rattle.std.specs.Prelude.{◌≡◌, ◌++◌, IfOk, OnOk, option_map, string_bytes};
+ghost use Rattle.std.specs.List.{flat_map};
+ghost use Rattle.hub_trace.specs.Text.{log_text};
+ghost use Rattle.hub_engine.specs.Counted.{failed_writes, inner_reader, inner_writer};
+ghost use Rattle.hub_engine.specs.Engine.{AnswersInput, CountsDevice, Writes};
+ghost use Rattle.hub_engine.specs.Failures.{CountsFailure};
+ghost use Rattle.hub_modes.specs.RunOutput.{
+  IsRunText,
+  IsScriptOutput,
+  SaysRun,
+  delivered_text,
+  script_kind_text,
+};
+
+use hub_check::verdict_line;
+use hub_engine::{
+    CountedReader, CountedWriter, Device, ExitStatus, InputError, end_out_of_memory, end_unread,
+    end_with, read_input,
+};
+use hub_run::{Checkpoint, run_agents};
+use hub_script::{DataCloneCause, Script, ScriptError};
+use hub_trace::{DeliveredLine, LOG_HEADER, LOGS_END, Log, OutOfMemory, deliveries};
+use std::alloc::{AllocError, Global};
+use std::fmt::Write as _;
+use std::io::{Read, Write};
+use std::sync::Wait;
+use std::thread::Threads;
+
+/// Reads a script to the end of the input, runs it, and writes what `run_script` writes. The
+/// checkpoint is called before each delivery.
+///
+/// The whole input is read before anything is run. Bad input writes `line N: KIND` of the first bad
+/// line alone, and want of memory `out of memory`. It waits for the agents of the script.
+pub fn run_file<C: Checkpoint, R: Read, W: Write, T: Threads + Wait + Sync>(
+    alloc: Global,
+    rt: &T,
+    reader: &mut CountedReader<R>,
+    checkpoint: &C,
+    writer: &mut CountedWriter<W>,
+) -> Result<ExitStatus, Device>
+    ensures written { AnswersInput IsScriptOutput (R.remaining (inner_reader reader.old))
+        (W.contents (inner_writer writer.old)) (W.contents (inner_writer writer.new)) result }
+    ensures failures { CountsDevice reader.old reader.new writer.old writer.new result }
+{
+    match read_input(alloc, reader) {
+        Ok(input) => run_input(alloc, rt, &input, checkpoint, writer),
+        Err(InputError::Device) => Err(Device),
+        Err(InputError::OutOfMemory) => end_out_of_memory(writer),
+    }
+}
+
+/// Runs the script that the input spells, or tells its first bad line.
+fn run_input<C: Checkpoint, W: Write, T: Threads + Wait + Sync>(
+    alloc: Global,
+    rt: &T,
+    input: &[u8],
+    checkpoint: &C,
+    writer: &mut CountedWriter<W>,
+) -> Result<ExitStatus, Device>
+    ensures written { Writes (IsScriptOutput input.now) (W.contents (inner_writer writer.old))
+        (W.contents (inner_writer writer.new)) result }
+    ensures failures { CountsFailure result (failed_writes writer.old) (failed_writes writer.new) }
+{
+    match Script::read(alloc, input) {
+        Ok(script) => run_script(alloc, rt, &script, checkpoint, writer),
+        Err((line, error)) => end_unread(alloc, writer, line, name_of(error)),
+    }
+}
+
+/// Runs a script, each agent on a thread of its own, and writes the logs of the agents, a text
+/// line `deliveries`, one for each sender's line of which something was delivered, and the verdict
+/// of the checker on these logs.
+///
+/// For want of memory, or where a thread can't be made, it writes `out of memory` alone. It waits
+/// for the agents.
+pub fn run_script<C: Checkpoint, W: Write, T: Threads + Wait + Sync>(
+    alloc: Global,
+    rt: &T,
+    script: &Script,
+    checkpoint: &C,
+    writer: &mut CountedWriter<W>,
+) -> Result<ExitStatus, Device>
+    ensures written { Writes SaysRun (W.contents (inner_writer writer.old))
+        (W.contents (inner_writer writer.new)) result }
+    ensures failures { CountsFailure result (failed_writes writer.old) (failed_writes writer.new) }
+{
+    match run_agents(alloc, rt, script, checkpoint) {
+        Ok(logs) => write_run(alloc, &logs, writer),
+        Err(_) => end_out_of_memory(writer),
+    }
+}
+
+/// Writes what a run with these logs prints.
+fn write_run<W: Write>(
+    alloc: Global,
+    logs: &[Log],
+    writer: &mut CountedWriter<W>,
+) -> Result<ExitStatus, Device>
+    ensures written { Writes (IsRunText logs.now) (W.contents (inner_writer writer.old))
+        (W.contents (inner_writer writer.new)) result }
+    ensures failures { CountsFailure result (failed_writes writer.old) (failed_writes writer.new) }
+{
+    match run_text(alloc, logs) {
+        Ok((text, status)) => end_with(writer, text.as_bytes(), status),
+        Err(_) => end_out_of_memory(writer),
+    }
+}
+
+/// What a run with these logs prints, and how the program ends after it.
+fn run_text(alloc: Global, logs: &[Log]) -> Result<(String, ExitStatus), OutOfMemory>
+    ensures { IfOk result (λ run. IsRunText logs.now run.1 (string_bytes run.0)) }
+{
+    let lines = deliveries(alloc, logs)?;
+    let (verdict, status) = verdict_line(alloc, logs)?;
+    let mut text = String::new(alloc);
+    writeln!(text, "{LOG_HEADER}")?;
+    write_logs(&mut text, logs)?;
+    writeln!(text, "{LOGS_END}")?;
+    write_deliveries(&mut text, &lines)?;
+    text.push_str(&verdict)?;
+    Ok((text, status))
+}
+
+fn write_logs(text: &mut String, logs: &[Log]) -> Result<(), AllocError>
+    ensures { OnOk result (string_bytes text.new
+        ≡ string_bytes text.old ++ flat_map log_text logs.now) }
+{
+    for log in logs {
+        write!(text, "{log}")?;
+    }
+    Ok(())
+}
+
+fn write_deliveries(text: &mut String, lines: &[DeliveredLine]) -> Result<(), AllocError>
+    ensures { OnOk result (string_bytes text.new
+        ≡ string_bytes text.old ++ delivered_text lines.now) }
+{
+    for line in lines {
+        writeln!(text, "{line}")?;
+    }
+    Ok(())
+}
+
+/// The name by which the kind of a bad line is printed. `None` where memory ran out.
+fn name_of(error: ScriptError) -> Option<&'static str>
+    ensures { option_map (λ name. name.now) result ≡ script_kind_text error }
+{
+    match error {
+        ScriptError::Syntax => Some("Syntax"),
+        ScriptError::UnknownAction => Some("UnknownAction"),
+        ScriptError::UnknownName => Some("UnknownName"),
+        ScriptError::DataClone(DataCloneCause::Source) => Some("DataClone(Source)"),
+        ScriptError::DataClone(DataCloneCause::Twice) => Some("DataClone(Twice)"),
+        ScriptError::DataClone(DataCloneCause::Detached) => Some("DataClone(Detached)"),
+        ScriptError::TooLarge => Some("TooLarge"),
+        ScriptError::OutOfMemory => None,
+    }
+}

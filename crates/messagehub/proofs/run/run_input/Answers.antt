@@ -1,8 +1,0 @@
-use Rattle.messagehub.specs.RunOutput.{IsScriptOutput}
-use Rattle.messagehub.proofs.RunText.{runs_say}
-use Rattle.hub_engine.proofs.Writing.{writes_weaker}
-use Rattle.messagehub.proofs.run.run_input.Goals as goal
-
-pub returns-in-Ok-clause-written : goal.returns-in-Ok-clause-written
-returns-in-Ok-clause-written g c =
-    writes_weaker _ (IsScriptOutput c.args.input.now) _ _ _ (runs_say c.args.input.now _ c.in-Ok.ensures.reads) c.run_script.ensures.written

@@ -1,4 +1,0 @@
-pub mod Mode
-pub mod CheckOutput
-pub mod RunOutput
-pub mod Program
