@@ -1,6 +1,6 @@
 """Changes one entry in the logs of a run, so that they are clean no more."""
 
-from judging import judge
+import hublog
 
 
 class Logs:
@@ -9,7 +9,7 @@ class Logs:
     def __init__(self, output, draw):
         self.lines = output.decode().split("\n")
         self.random = draw
-        self.logs = judge.read_logs(output)
+        self.logs = hublog.read_logs(output)
         entries = [pair for log in self.logs for pair in log.entries]
         self.got = [said for word, said in entries if word == "got"]
         self.put = [said for word, said in entries if word == "put"]
@@ -56,7 +56,7 @@ def swap(logs):
 
 def drop(logs):
     """A got entry behind which its line has another is missing."""
-    last = {entries[-1][0].at for entries in judge.got_lists(logs.logs).values()}
+    last = {entries[-1][0].at for entries in hublog.got_lists(logs.logs).values()}
     entry = logs.pick(it for it in logs.got if it.at not in last)
     if entry:
         del logs.lines[entry.at - 1]

@@ -5,7 +5,7 @@ import random
 
 import changes
 import fates
-from judging import judge
+import hublog
 from script import Script
 
 # A program's answer: its standard output, and its status, which is None where its time was over.
@@ -40,15 +40,15 @@ class Examination:
 
     def test_judge(self):
         try:
-            self.logs = judge.read_logs(self.answer.output)
-        except judge.BadInput as bad:
+            self.logs = hublog.read_logs(self.answer.output)
+        except hublog.BadInput as bad:
             self.complain("judge", f"tools/judge can't read the logs: {bad}")
             return
-        verdict = judge.judge(self.logs)
+        verdict = hublog.judge(self.logs)
         if verdict != "clean":
             self.complain("judge", f"tools/judge says {verdict}")
         _, mark, tail = self.answer.output.partition(b"\ndeliveries\n")
-        if not mark or tail.decode().split("\n")[:-2] != judge.deliveries(self.logs):
+        if not mark or tail.decode().split("\n")[:-2] != hublog.deliveries(self.logs):
             self.complain("deliveries", "the deliveries aren't those of the logs")
 
     def test_fates(self):
@@ -72,7 +72,7 @@ class Examination:
             return None
         output, name = changed
         answer = self.check(output)
-        verdict, status = judge.answer(output)
+        verdict, status = hublog.answer(output)
         if status != 1:
             self.complain("changed", f"tools/judge says {verdict} of {name}")
         if answer != (f"{verdict}\n".encode(), status):

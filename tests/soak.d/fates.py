@@ -23,7 +23,7 @@ It knows nothing of the schedule. A complaint is a text; `complaints` gives all 
 import collections
 import itertools
 
-from judging import judge
+import hublog
 
 MOST_HOPS = 4
 
@@ -182,7 +182,7 @@ class Fates:
     # All logs together
 
     def check_lists(self):
-        for (end, line), entries in judge.accepted_lists(self.logs).items():
+        for (end, line), entries in hublog.accepted_lists(self.logs).items():
             counts = collections.Counter()
             for place, entry in enumerate(entries):
                 if entry.number != counts[entry.epoch]:

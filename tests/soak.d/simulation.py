@@ -2,9 +2,9 @@
 
 import random
 
+import hublog
 from agent import Agent
 from hub import INSIDE, Hub
-from judging import judge
 
 
 class Stuck(Exception):
@@ -81,11 +81,11 @@ def logs_text(agents):
 
 
 def deliveries(logs):
-    return judge.deliveries(logs)
+    return hublog.deliveries(logs)
 
 
 def verdict_of(logs):
-    return judge.judge(logs)
+    return hublog.judge(logs)
 
 
 def simulate(script, seed):
@@ -94,7 +94,7 @@ def simulate(script, seed):
     agents = [Agent(number, script, hub) for number in range(len(script.agents))]
     run_agents(agents, hub, seed)
     text = logs_text(agents)
-    logs = judge.read_logs(text.encode())
+    logs = hublog.read_logs(text.encode())
     verdict = verdict_of(logs)
     lines = ["deliveries", *deliveries(logs), verdict]
     return text + "".join(f"{line}\n" for line in lines), 0 if verdict == "clean" else 1
@@ -102,5 +102,5 @@ def simulate(script, seed):
 
 def check(data):
     """What a check of the logs prints, and its status."""
-    verdict, status = judge.answer(data)
+    verdict, status = hublog.answer(data)
     return f"{verdict}\n", status

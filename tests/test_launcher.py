@@ -1,0 +1,211 @@
+"""Runs the launcher `./messagehub` and tools/build with a toolchain that only plays one."""
+
+import os
+import pathlib
+import shutil
+import signal
+import subprocess
+import tempfile
+import time
+
+import support
+from support import ROOT, outcome_of
+
+# Stands in for rt. It writes down what it was asked for, and builds a program that says its
+# arguments. A file `fails` in a crate has its proof fail, and `saved` a source change meanwhile.
+FAKE_RT = """#!/bin/sh
+echo "${PWD##*/} $*" >> "$RT_WAS_ASKED"
+case $1 in
+    version) cat "$(dirname "$0")/../KIT-ID"; exit 0 ;;
+    try) cat "$RT_SAYS" >&2; exit 1 ;;
+esac
+if [ -e fails ]; then echo "rt: a proof failed"; exit 1; fi
+if [ -e saved ]; then rm saved; echo '// more' >> src/lib.rt; fi
+echo "logic=proved functions=1"
+if [ "$1" = run ]; then
+    mkdir -p out
+    printf '#!/bin/sh\\necho ran "$@"\\n' > out/messagehub
+    chmod +x out/messagehub
+fi
+"""
+CRATES = """# A line a crate.
+low: std
+high: low
+beside: low
+messagehub: high beside
+other: low
+"""
+USAGE = b"usage: messagehub steps|run|check\n"
+
+
+class Launcher(support.TestCase):
+    """The launcher in a repository of four crates, below a path with spaces."""
+
+    shows = frozenset({"status 70"})
+
+    def setUp(self):
+        folder = tempfile.TemporaryDirectory(prefix="a launcher ")
+        self.addCleanup(folder.cleanup)
+        self.folder = pathlib.Path(folder.name).resolve()
+        self.root = self.make("a repository")
+        self.kit = self.folder / "kit"
+        (self.kit / "bin").mkdir(parents=True)
+        (self.kit / "KIT-ID").write_text("a kit\n", encoding="utf-8")
+        (self.kit / "bin" / "rt").write_text(FAKE_RT, encoding="utf-8")
+        (self.kit / "bin" / "rt").chmod(0o755)
+        self.asked, self.rt_says = self.folder / "asked", self.folder / "said"
+        self.settings = {
+            "PATH": f"{self.kit}/bin{os.pathsep}{os.defpath}",
+            "RT_WAS_ASKED": str(self.asked),
+            "RT_SAYS": str(self.rt_says),
+            "XDG_CACHE_HOME": str(self.folder / "cache"),
+            "TMPDIR": str(self.folder),
+        }
+
+    def make(self, name):
+        root = self.folder / name
+        for crate in ("low", "high", "beside", "messagehub", "other"):
+            (root / "crates" / crate / "src").mkdir(parents=True)
+            (root / "crates" / crate / "src" / "lib.rt").write_text("// code\n", encoding="utf-8")
+        (root / "tools").mkdir()
+        (root / "crates.txt").write_text(CRATES, encoding="utf-8")
+        (root / "HANDLES").write_text("Handles allowed: none.\n", encoding="utf-8")
+        shutil.copy(ROOT / "messagehub", root)
+        shutil.copy(ROOT / "tools" / "build", root / "tools")
+        return root
+
+    def launch(self, *words, root=None):
+        return outcome_of([(root or self.root) / "messagehub", *words], env=self.settings)
+
+    def calls(self):
+        """What rt was asked for since the last call of this."""
+        lines = self.asked.read_text(encoding="utf-8").splitlines() if self.asked.exists() else []
+        self.asked.unlink(missing_ok=True)
+        return [line for line in lines if not line.endswith(" version")]
+
+    def assert_runs(self, is_built, root=None):
+        """The program runs, and rt is asked for proofs exactly where it has to be built."""
+        found = self.launch("steps", root=root)
+        self.assertEqual((found.output, found.status), (b"ran steps\n", 0), found.errors)
+        self.assertEqual(bool(self.calls()), is_built, found.errors)
+        return found
+
+    def test_words(self):
+        settings = [self.settings, {**self.settings, "PATH": os.defpath}]
+        rows = [[], [""], ["fly"], ["-h"], ["steps", "run"], ["--unproved"], ["--unproved", "fly"]]
+        for self.settings in settings:
+            for words in rows:
+                with self.subTest(words=words):
+                    found = self.launch(*words)
+                    self.assertEqual(found, (b"", USAGE, 2))
+                    self.assertEqual(self.calls(), [])
+            found = self.launch("--help")
+            self.assertEqual((found.errors, found.status, self.calls()), (b"", 0, []))
+            self.assertTrue(found.output.startswith(b"usage: messagehub"), found.output)
+            self.assertLess(max(map(len, found.output.split(b"\n"))), 101)
+        self.says(len(rows) * len(settings), "wrong calls", 14)
+
+    def test_no_toolchain(self):
+        self.settings["PATH"] = os.defpath
+        for words in (["steps"], ["--unproved", "steps"]):
+            found = self.launch(*words)
+            self.assertEqual((found.output, found.status), (b"", 70))
+            self.assertIn(b"no `rt` on the path", found.errors)
+        self.says(2, "calls")
+
+    def test_build(self):
+        found = self.launch("check")
+        self.assertEqual((found.output, found.status), (b"ran check\n", 0), found.errors)
+        proved = [line.split()[0] for line in self.calls() if "--jobs 1" not in line]
+        self.assertEqual((proved[0], proved[-1]), ("low", "messagehub"))
+        for count in (b"\n1/4 low ", b"\n4/4 messagehub "):
+            self.assertIn(count, found.errors)
+        self.assertNotIn(b"other", found.errors)
+        self.assert_runs(is_built=False)
+        self.says(4, "crates")
+
+    def test_what_is_newer(self):
+        self.assert_runs(is_built=True)
+        source = self.root / "crates" / "low" / "src" / "lib.rt"
+        for change in (
+            lambda: source.write_text("// other code\n", encoding="utf-8"),
+            lambda: (source.parent / "more.rt").write_text("// more\n", encoding="utf-8"),
+            lambda: (source.parent / "more.rt").rename(self.folder / "more.rt"),
+            lambda: (self.root / "crates.txt").write_text(CRATES.replace("std", "std itoa")),
+            lambda: (self.kit / "KIT-ID").write_text("another kit\n"),
+        ):
+            change()
+            shutil.rmtree(self.folder / "cache")
+            self.assert_runs(is_built=True)
+            self.assert_runs(is_built=False)
+        self.says(5, "changes")
+
+    def test_saved_during_a_build(self):
+        (self.root / "crates" / "high" / "saved").touch()
+        self.assert_runs(is_built=True)
+        self.assert_runs(is_built=True)
+        self.assert_runs(is_built=False)
+        self.says(3, "runs")
+
+    def test_cache(self):
+        self.assert_runs(is_built=True)
+        other = self.make("another checkout")
+        self.assert_runs(is_built=False, root=other)
+        source = self.root / "crates" / "low" / "src" / "lib.rt"
+        source.touch()
+        self.assert_runs(is_built=False)
+        found = outcome_of([other / "tools" / "build", "--sum"], env=self.settings)
+        self.assertEqual((len(found.output), found.status), (65, 0))
+        self.says(3, "runs")
+
+    def test_build_that_fails(self):
+        fails = self.root / "crates" / "high" / "fails"
+        fails.touch()
+        found = self.launch("steps")
+        self.assertEqual((found.output, found.status), (b"", 70))
+        self.assertIn(b"rt: a proof failed", found.errors)
+        self.assertIn(b"high isn't proved", found.errors)
+        self.assertTrue(self.calls())
+        fails.unlink()
+        self.assert_runs(is_built=True)
+        self.says(2, "builds")
+
+    def test_unproved(self):
+        for said, status, words in (
+            ("usage\nrun=ended status=2 runners=1 proved=no\n", 2, b"usage\n"),
+            ("checked: ended status=0\nrun=ended status=0 runners=1 proved=no\n", 0, b""),
+            ("checked: no-answer: too long\nrun=no-answer proved=no\n", 70, b"run=no-answer"),
+            ("error[no-such-name]\nrun=none proved=no\n", 70, b"error[no-such-name]"),
+            ("run=ended status=0 proved=no\nrt: killed\n", 70, b"rt: killed"),
+            ("", 70, b""),
+        ):
+            self.rt_says.write_text(said, encoding="utf-8")
+            found = self.launch("--unproved", "run")
+            self.assertEqual((found.output, found.status), (b"", status), found.errors)
+            self.assertTrue(found.errors.startswith(b"messagehub: this program is NOT proved"))
+            self.assertIn(words, found.errors)
+            self.assertEqual(b"checked:" in found.errors, status == 70 and "checked" in said)
+        self.assertEqual(len(self.calls()), 6)
+        self.says(6, "runs")
+
+    def test_stopped(self):
+        # The crate `high` waits for a file, and Ctrl-C comes before that is there.
+        waits = (
+            'at=$(dirname "$RT_SAYS")\n[ "${PWD##*/}" != high ] || [ -e "$at/go" ] ||'
+            ' { touch "$at/waits"; sleep 30; exit 1; }\n'
+        )
+        rt = self.kit / "bin" / "rt"
+        rt.write_text(FAKE_RT.replace("case $1 in", f"{waits}case $1 in"), encoding="utf-8")
+        how = {"stdout": subprocess.PIPE, "stderr": subprocess.PIPE, "start_new_session": True}
+        words = [self.root / "messagehub", "steps"]
+        with subprocess.Popen(words, env=self.settings, **how) as build:
+            while not (self.folder / "waits").exists() and build.poll() is None:
+                time.sleep(0.02)
+            os.killpg(build.pid, signal.SIGINT)
+            output, errors = build.communicate(timeout=60)
+        self.assertEqual((output, build.returncode), (b"", 130), errors)
+        self.assertIn(b"the next call goes on", errors)
+        self.calls()
+        (self.folder / "go").touch()
+        self.assert_runs(is_built=True)
+        self.says(2, "builds")

@@ -1,0 +1,199 @@
+"""Refuses each allocation in turn, until one is reached that isn't made.
+
+It runs the built program on rows, and each test of a crate whose name ends in
+`whichever_allocation_is_refused`, out of the test programs that the gate has built. A library, made
+with cc from refuse.c, refuses the Nth call of malloc and realloc.
+"""
+
+import re
+
+import support
+from support import PROGRAM, ROOT, outcome_of
+
+SETTING = "REFUSED_ALLOCATION"
+ENDING = "whichever_allocation_is_refused"
+LAST_LINE = b"out of memory\n"
+# More than any of the runs asks for.
+MOST = 100_000
+
+# The rows of which each allocation is refused.
+ROWS = {
+    "steps": [
+        "bad-after-a-step", "casts-of-two-origins", "doomed-then-taken", "every", "long-body-taken",
+        "port-in-what-is-swept", "port-moved-by-hand", "queues-and-an-order",
+    ],
+    "check": ["log-twice-long-body"],
+    "run": [
+        "cast-to-two", "handed-queue", "ordered-while-waiting", "own-destination-in-list",
+        "ring-of-sixteen",
+    ],
+}
+
+# Bodies that are compact already, each of which is posted too in a list beside the string, and one
+# that isn't.
+COMPACT_BODIES = [
+    "[true,false]",
+    "[0,-12,123456789012345678]",
+    '"é 😀"',
+    '"\\"\\\\\\b\\f\\n\\r\\t/"',
+    '[[],{},[1,{"a":[2]}]]',
+    '{"":"x","a":{"b":null},"aa":1}',
+]
+LONG_STRING = '"more than 24 bytes of text"'
+SPACED_BODY = "[true, false]"
+# The text of a body of at most so many bytes lies in the body itself.
+INLINE_BYTES = 24
+
+
+class Refusing(support.TestCase):
+    """What refuses the allocations of a run."""
+
+    time_limit = 300
+
+    @classmethod
+    def setUpClass(cls):
+        cls.refuser = support.Refuser()
+        cls.addClassCleanup(cls.refuser.close)
+
+    def outcomes(self, words, text=b""):
+        """The outcome with the first call refused, with the second, and so on.
+
+        The last one is that of a run in which no call was refused. It is the whole outcome.
+        """
+        for number in range(1, MOST):
+            outcome, was_refused = self.refuser.outcome(words, text, SETTING, number)
+            yield number, outcome, was_refused
+            if not was_refused:
+                return
+        self.fail("there is no end of calls")
+
+
+def is_cut_short(mode, output, whole):
+    """Whether it is a beginning of the lines of the whole output, for `run` none, and the last."""
+    front = output.removesuffix(LAST_LINE)
+    if mode == "run" or front == output:
+        return output == LAST_LINE
+    return whole.startswith(front) and (not front or front.endswith(b"\n"))
+
+
+class Program(Refusing):
+    """The program in its modes.
+
+    Where a call was refused the program says so with status 3, or it gives the whole outcome: the
+    library does without that memory, as with a reserve that is tried first.
+    """
+
+    shows = frozenset({"status 3", "out of memory"})
+
+    def refuse(self, row):
+        """How many calls were refused."""
+        refused = 0
+        for number, found, was_refused in self.outcomes([PROGRAM, row.mode], row.text):
+            if was_refused and found != row.wanted():
+                self.assertEqual((found.errors, found.status), (b"", 3), f"call {number} refused")
+                is_short = is_cut_short(row.mode, found.output, row.output)
+                self.assertTrue(is_short, f"call {number} refused: {found.output}")
+            elif not was_refused:
+                self.assert_outcome(found, row.wanted())
+            refused += was_refused
+        return refused
+
+    def refuse_rows(self, mode, floor):
+        calls = 0
+        for name in ROWS[mode]:
+            with self.subTest(row=name):
+                count = self.refuse(support.row(mode, name))
+                self.assertGreater(count, 0, "no call was refused")
+                calls += count
+        self.says(len(ROWS[mode]), "rows")
+        self.says(calls, "calls", floor)
+
+    def test_steps(self):
+        self.refuse_rows("steps", 100)
+
+    def test_check(self):
+        self.refuse_rows("check", 10)
+
+    def test_run(self):
+        self.refuse_rows("run", 100)
+
+    def calls_for(self, body):
+        """How many calls a post of the body makes in all."""
+        text = f"agent -\nchannel 0\npost 0 - {body}\n".encode()
+        return self.refuse(
+            support.Row("steps", body, text, b"agent 0\nends 0 1\naccepted 0:0\n", 0)
+        )
+
+    def test_compact_bodies(self):
+        """A body whose text is compact is copied, and not taken apart.
+
+        It takes as few calls as the body `null`, or as a string of such a length.
+        """
+        fewest, more = self.calls_for("null"), self.calls_for(LONG_STRING)
+        self.assertGreater(more, fewest, LONG_STRING)
+        bodies = COMPACT_BODIES + [f"[{body},{LONG_STRING}]" for body in COMPACT_BODIES]
+        for body in bodies:
+            with self.subTest(body=body):
+                is_inline = len(body.encode()) <= INLINE_BYTES
+                self.assertEqual(self.calls_for(body), fewest if is_inline else more)
+        self.assertGreater(self.calls_for(SPACED_BODY), fewest, SPACED_BODY)
+        self.says(len(bodies), "bodies")
+
+
+def functions_of(crate):
+    """The names of the tests of that kind in the sources of a crate."""
+    head = re.compile(rf"^\s*fn (\w*{ENDING})\b", re.MULTILINE)
+    sources = sorted((crate / "src").rglob("*.rt"))
+    return sorted(name for path in sources for name in head.findall(path.read_text("utf-8")))
+
+
+CRATES = {
+    crate: names
+    for crate in sorted((ROOT / "crates").iterdir())
+    if (names := functions_of(crate))
+}
+
+
+class Crates(Refusing):
+    """The tests of the crates: each has to pass at each call. A method for each crate is below."""
+
+    def refuse_in(self, crate):
+        programs = sorted((crate / "out").glob("*_tests"))
+        self.assertEqual(len(programs), 1, f"test programs of {crate.name}: run rt ci first")
+        names = self.listed(programs[0])
+        self.assertEqual(sorted(name.rpartition("::")[2] for name in names), CRATES[crate])
+        calls = 0
+        for name in names:
+            with self.subTest(test=name):
+                calls += self.refuse(programs[0], name)
+        self.says(len(names), "tests")
+        self.says(calls, "calls", len(names))
+
+    def listed(self, program):
+        """The tests of that kind in a test program, by the names that it lists."""
+        found = outcome_of([program, "--list"])
+        self.assertEqual(found.status, 0, f"--list: {found}")
+        names = re.findall(r"^(.*): test$", found.output.decode(), re.MULTILINE)
+        return [name for name in names if name.endswith(ENDING)]
+
+    def refuse(self, program, name):
+        """How many calls were refused."""
+        refused = 0
+        for number, found, was_refused in self.outcomes([program, name]):
+            tail = (found.output + found.errors)[-300:]
+            self.assertEqual(found.status, 0, f"call {number} refused: {tail}")
+            refused += was_refused
+        self.assertGreater(refused, 0, "no call was refused")
+        return refused
+
+    def test_sources(self):
+        """No test of that kind is lost from the sources."""
+        self.says(sum(map(len, CRATES.values())), "tests in the sources", 26)
+
+
+def method_of(crate):
+    return lambda self: self.refuse_in(crate)
+
+
+for _crate in CRATES:
+    setattr(Crates, f"test_{_crate.name}", method_of(_crate))
