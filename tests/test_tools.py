@@ -64,8 +64,9 @@ class Costs(support.TestCase):
     def test_costs(self):
         with tempfile.NamedTemporaryFile() as report:
             found = outcome_of([ROOT / "tools" / "costs", report.name, "sh", "-c", "exit 3"])
-            self.assertEqual(found, (b"", b"", 3))
-            self.assertRegex(report.read(), rb"^gate: 0 processor minutes in 0 min;")
+            self.assertEqual((found.errors, found.status), (b"", 3))
+            for text in (found.output, report.read()):
+                self.assertRegex(text, rb"^gate: 0 processor minutes in 0 min; ")
         self.says(1, "run")
 
 
