@@ -1,8 +1,8 @@
 //! Tests of the program's modes through their public calls: the arguments, readers and writers that
 //! fail, and two agents whose loops go on at once.
 //!
-//! This crate has nothing but tests, as `hub_tests` says. Worked inputs of the modes are files, which
-//! the tests of the built program run.
+//! This crate has nothing but tests, as `hub_tests` says. Worked inputs of the modes are files, run
+//! on the built program.
 #![tactic(auto)]
 
 #[cfg(test)]
