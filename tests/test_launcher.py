@@ -11,7 +11,8 @@ import time
 import support
 from support import ROOT, outcome_of
 
-# Stands in for rt. It writes down what it was asked for, and builds a program that says its
+# Stands in for rt. It writes down what it was asked for and proves a crate where no library of its
+# sources lies in out/, as it does each that the crate stands on, and builds a program that says its
 # arguments. A file `fails` in a crate has its proof fail, and `saved` a source change meanwhile.
 FAKE_RT = """#!/bin/sh
 echo "${PWD##*/} $*" >> "$RT_WAS_ASKED"
@@ -20,8 +21,18 @@ case $1 in
     try) cat "$RT_SAYS" >&2; exit 1 ;;
 esac
 if [ -e fails ]; then echo "rt: a proof failed"; exit 1; fi
+for crate in $(sed -n "s/^${PWD##*/}: //p" ../../crates.txt) "${PWD##*/}"; do
+    cd "../$crate" 2> /dev/null || continue
+    sum=$(cat src/* "$(dirname "$0")/../KIT-ID" | cksum)
+    if [ "$(cat out/rlib/stamp 2> /dev/null)" != "$sum" ]; then
+        mkdir -p out/rlib
+        rm -f out/rlib/stamp
+        echo "$sum" > out/rlib/stamp
+        echo "proved $crate" >> "$RT_WAS_ASKED"
+        echo "logic=proved functions=1"
+    fi
+done
 if [ -e saved ]; then rm saved; echo '// more' >> src/lib.rt; fi
-echo "logic=proved functions=1"
 if [ "$1" = run ]; then
     mkdir -p out
     printf '#!/bin/sh\\necho ran "$@"\\n' > out/messagehub
@@ -31,8 +42,8 @@ fi
 CRATES = """# A line a crate.
 low: std
 high: low
-beside: low
-messagehub: high beside
+wide: low
+messagehub: high wide
 other: low
 """
 USAGE = b"usage: messagehub steps|run|check\n"
@@ -64,7 +75,7 @@ class Launcher(support.TestCase):
 
     def make(self, name):
         root = self.folder / name
-        for crate in ("low", "high", "beside", "messagehub", "other"):
+        for crate in ("low", "high", "wide", "messagehub", "other"):
             (root / "crates" / crate / "src").mkdir(parents=True)
             (root / "crates" / crate / "src" / "lib.rt").write_text("// code\n", encoding="utf-8")
         (root / "tools").mkdir()
@@ -116,8 +127,9 @@ class Launcher(support.TestCase):
     def test_build(self):
         found = self.launch("check")
         self.assertEqual((found.output, found.status), (b"ran check\n", 0), found.errors)
-        proved = [line.split()[0] for line in self.calls() if "--jobs 1" not in line]
+        proved = [line.split()[1] for line in self.calls() if line.startswith("proved ")]
         self.assertEqual((proved[0], proved[-1]), ("low", "messagehub"))
+        self.assertEqual(sorted(proved), ["high", "low", "messagehub", "wide"])
         for count in (b"\n1/4 low ", b"\n4/4 messagehub "):
             self.assertIn(count, found.errors)
         self.assertNotIn(b"other", found.errors)
