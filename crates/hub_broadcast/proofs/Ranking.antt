@@ -50,7 +50,7 @@ map_push (r ∷ rest) s = ap (λ l. r.poster.name.end.0 ∷ l) (map_push rest s)
 -- a post leaves the line at its end
 stood_end : (old new : StandSeat) (before : PutView) (entered : ℕ) → StoodAs old new before entered → new.name.end ≡ old.name.end
 stood_end old new before entered (inl stays) = ap (λ k. k.end) stays.0.name
-stood_end old new before entered (inr goes) = goes.0.end
+stood_end old new before entered (inr goes) = ap (λ k. k.end) goes.0.name
 
 posted_end : (old new : StandSeat) (draft : Draft) (answer : Result Posted (PostError × Draft)) → IsPosted old new draft answer → new.name.end ≡ old.name.end
 posted_end old new draft (Ok posted) is = stood_end old new is.0 is.1 is.2

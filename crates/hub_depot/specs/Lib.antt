@@ -1,3 +1,4 @@
 pub mod DepotError
 pub mod Key
 pub mod Named
+pub mod Putting

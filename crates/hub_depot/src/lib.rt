@@ -2,17 +2,23 @@
 //!
 //! A value that has left one place of the hub and has not yet reached the next waits in a depot
 //! under the name that it bears: the number of an end, of a queue of that end and of a line. `Kept`
-//! is the map itself, and `Depot` the same calls on a map that threads share.
+//! is the map itself, and `Depot` the same calls on a map that threads share. A `Shelf` is either.
 #![tactic(auto)]
 
 mod depot;
 mod depot_error;
 mod kept;
 mod key;
+mod laws;
 mod named;
+mod putting;
+mod shelf;
 
 pub use depot::Depot;
 pub use depot_error::DepotError;
 pub use kept::Kept;
 pub use key::Key;
+pub use laws::shelf_laws;
 pub use named::Named;
+pub use putting::put_all;
+pub use shelf::Shelf;

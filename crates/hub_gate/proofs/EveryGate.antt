@@ -6,7 +6,7 @@ use Rattle.hub_core.specs.GateMachine as machine
 use Rattle.hub_core.specs.GateMachine.{Gate, Steps, finds_moved, finds_closed, goes_in, goes_out, turns_back, enables, retires, closes}
 use Rattle.hub_gate.specs.declared.word.Flag.TheVariants as flag
 use Rattle.hub_gate.specs.declared.view.View.TheVariants.{Keeping, LineInside}
-use Rattle.hub_gate.specs.GateRule.{Owns}
+use Rattle.hub_gate.specs.GateRule.{Owns, IsGate}
 use Rattle.hub_gate.specs.GateLaws.{NoneInAfterRights, NoSeatInAfterRights, ChangesWord, EachStepChangesTheWord, TheWordShowsTheGate}
 use Rattle.hub_gate.proofs.AfterRights.{over, over_from}
 use Rattle.hub_gate.proofs.Found.{busy_le}
@@ -17,7 +17,7 @@ use Rattle.hub_gate.proofs.Words.{or_flag, reads_flag, reads_count}
 pub none_in : {T : Type 0} (tag : T → List ℕ) → NoneInAfterRights tag
 none_in tag tags g later reached given follows = over_from (Owns tag tags) g reached given later follows
 
-pub no_seat_in : {T : Type 0} (tag : T → List ℕ) → NoSeatInAfterRights tag
+pub no_seat_in : {T : Type 0} (tag : T → List ℕ) → NoSeatInAfterRights (IsGate tag)
 no_seat_in tag s kept keeper seat k v at given there =
     let shown = shown_where tag s keeper (Keeping k) refl at kept in
     let own = shown.seats keeper (Keeping k) at in

@@ -120,23 +120,23 @@ module _ {T : Type 0} (tag : T → List ℕ) (slots id : ℕ) (v : LineView T) (
 
   -- the line is being turned back
   turns : (refusal : Refusal) (answer : machine.Answer T) → machine.Steps (Owns tag shown.tags) shown.gate (machine.enter v.line) answer (machine.with_phase shown.gate v.line phase.Turned)
-      → IsGate tag (stepped s 0 word_then id [] (LineTurned (entered_line v (Some refusal))) keeps) × IsTurned tag v refusal answer found (LineTurned (entered_line v (Some refusal)), [])
+      → IsGate tag (stepped s 0 word_then id [] (LineTurned (entered_line v found (Some refusal))) keeps) × IsTurned tag v refusal answer found (LineTurned (entered_line v found (Some refusal)), [])
   turns refusal answer takes_step =
-      let went = goes tag s shown id v phase.Out own low phase.Turned shown.gate.homes (λ m other. refl) (machine.enter v.line) answer s.homes word_then (LineTurned (entered_line v (Some refusal))) takes_step
+      let went = goes tag s shown id v phase.Out own low phase.Turned shown.gate.homes (λ m other. refl) (machine.enter v.line) answer s.homes word_then (LineTurned (entered_line v found (Some refusal))) takes_step
       (up tag s shown id v phase.Out own low phase.Turned refl refl shown.gate.homes)
       shown.homes
-      (in_phase tag s shown id v phase.Out own low phase.Turned shown.gate.homes (entered_line v (Some refusal)) refl refl (λ out. own.home refl)) in
+      (in_phase tag s shown id v phase.Out own low phase.Turned shown.gate.homes (entered_line v found (Some refusal)) refl refl (λ out. own.home refl)) in
       (went.0, (went.1, refl))
 
   -- the line is inside, and has its right
   passes : (r : T) → slice_get shown.gate.homes v.line ≡ Some (Some r) → Owns tag shown.tags v.line r → v.home ≡ Some r → shown.gate.moved ≡ false → shown.gate.closed ≡ false
-      → Valid s.homes [] (takes v.line (Some r)) × IsGate tag (stepped s 0 word_then id [] (LineInside (entered_line v None)) (takes v.line (Some r))) × IsIn tag v found (LineInside (entered_line v None), (v.line, Some r) ∷ [])
+      → Valid s.homes [] (takes v.line (Some r)) × IsGate tag (stepped s 0 word_then id [] (LineInside (entered_line v found None)) (takes v.line (Some r))) × IsIn tag v found (LineInside (entered_line v found None), (v.line, Some r) ∷ [])
   passes r home owns own_home not_moved not_closed =
-      let went = goes tag s shown id v phase.Out own low phase.Inside (set shown.gate.homes v.line None) (λ m other. got_else shown.gate.homes v.line m None other) (machine.enter v.line) (machine.lets_in r) (set s.homes v.line none) word_then (LineInside (entered_line v None))
+      let went = goes tag s shown id v phase.Out own low phase.Inside (set shown.gate.homes v.line None) (λ m other. got_else shown.gate.homes v.line m None other) (machine.enter v.line) (machine.lets_in r) (set s.homes v.line none) word_then (LineInside (entered_line v found None))
       (machine.goes_in v.line r own.at not_moved not_closed home)
       (up tag s shown id v phase.Out own low phase.Inside refl refl (set shown.gate.homes v.line None))
       (ap (λ (h : List (maybe.Option (Option T))). set h v.line none) shown.homes ∙ set-map slot_of shown.gate.homes v.line None)
-      (in_phase tag s shown id v phase.Out own low phase.Inside (set shown.gate.homes v.line None) (entered_line v None) refl refl (λ out. absurd (true≢false out))) in (
+      (in_phase tag s shown id v phase.Out own low phase.Inside (set shown.gate.homes v.line None) (entered_line v found None) refl refl (λ out. absurd (true≢false out))) in (
         ap (λ (h : List (maybe.Option (Option T))). get_elem? h v.line) shown.homes ∙ home_there shown.gate.homes v.line r home,
         went.0,
         (r, went.1, some_is (tag r) v.tag (sym owns ∙ own.tag), own_home, refl),
@@ -158,14 +158,14 @@ module _ {T : Type 0} (tag : T → List ℕ) (slots id : ℕ) (v : LineView T) (
   enters_by : (m c : Bool) → shown.gate.moved ≡ m → shown.gate.closed ≡ c → Result
   enters_by true c is_m is_c =
       let t = turns Moved machine.says_moved (machine.finds_moved v.line own.at is_m) in
-      (LineTurned (entered_line v (Some Moved)), keeps, tt, t.0, match_true (machine.moved_in found) _ _ (found_flag tag s shown flag.Moved ∙ is_m) t.1)
+      (LineTurned (entered_line v found (Some Moved)), keeps, tt, t.0, match_true (machine.moved_in found) _ _ (found_flag tag s shown flag.Moved ∙ is_m) t.1)
   enters_by false true is_m is_c =
       let t = turns Closed machine.says_closed (machine.finds_closed v.line own.at is_m is_c) in
-      (LineTurned (entered_line v (Some Closed)), keeps, tt, t.0, match_false (machine.moved_in found) _ _ (found_flag tag s shown flag.Moved ∙ is_m) (match_true (machine.closed_in found) _ _ (found_flag tag s shown flag.Closed ∙ is_c) t.1))
+      (LineTurned (entered_line v found (Some Closed)), keeps, tt, t.0, match_false (machine.moved_in found) _ _ (found_flag tag s shown flag.Moved ∙ is_m) (match_true (machine.closed_in found) _ _ (found_flag tag s shown flag.Closed ∙ is_c) t.1))
   enters_by false false is_m is_c =
       let r = right_home is_m is_c in
       let p = passes r.0 r.1 r.2 r.3 is_m is_c in
-      (LineInside (entered_line v None), takes v.line (Some r.0), p.0, p.1, match_false (machine.moved_in found) _ _ (found_flag tag s shown flag.Moved ∙ is_m) (match_false (machine.closed_in found) _ _ (found_flag tag s shown flag.Closed ∙ is_c) p.2))
+      (LineInside (entered_line v found None), takes v.line (Some r.0), p.0, p.1, match_false (machine.moved_in found) _ _ (found_flag tag s shown flag.Moved ∙ is_m) (match_false (machine.closed_in found) _ _ (found_flag tag s shown flag.Closed ∙ is_c) p.2))
 
 pub enters : {T : Type 0} (tag : T → List ℕ) (slots id : ℕ) (v : LineView T) → Allows (IsGate tag) slots id (LineOut v, []) 0 (λ n. (n + 256) % 2 ^ 64) (Enters tag (step slots 0 256 0 none) (LineOut v, []))
 enters tag slots id v s kept fits at small =
@@ -187,7 +187,7 @@ leaves {T = T} tag slots id v r same_tag s kept fits at small =
     let own = shown.seats id (LineInside v) at in
     let low = at_within s.views id (LineInside v) at in
     let found : ℕ = get_or s.words 0 0 in
-    let then : LineView T = left_line v r (machine.enabled_in found) in
+    let then : LineView T = left_line v r found in
     let enabled_is : machine.enabled_in found ≡ shown.gate.enabled = found_flag tag s shown flag.Enabled in
     let went = goes tag s shown id v phase.Inside own low phase.Out (set shown.gate.homes v.line (Some r)) (λ m other. got_else shown.gate.homes v.line m (Some r) other) (machine.leave v.line r) (machine.lets_out shown.gate.enabled) (set s.homes v.line (some (Some r))) ((found + (2 ^ 64 - 256)) % 2 ^ 64) (LineOut then)
     (machine.goes_out v.line r own.at (own.tag ∙ ap Some (sym same_tag)))
@@ -199,7 +199,7 @@ leaves {T = T} tag slots id v r same_tag s kept fits at small =
       gives,
       tt,
       went.0,
-      λ right is. subst (λ (x : T). (◌≡◌ {A = Me (Option T) (View T)} (LineOut then, []) (LineOut (left_line v x (machine.enabled_in found)), [])) × Happens tag found (machine.leave v.line x) (machine.lets_out (machine.enabled_in found))) (one_right right is) (refl, happens),
+      λ right is. subst (λ (x : T). (◌≡◌ {A = Me (Option T) (View T)} (LineOut then, []) (LineOut (left_line v x found), [])) × Happens tag found (machine.leave v.line x) (machine.lets_out (machine.enabled_in found))) (one_right right is) (refl, happens),
     )
   where
     one_right : (right : T) → ◌≡◌ {A = List (ℕ × Option T)} ((v.line, Some r) ∷ []) ((v.line, Some right) ∷ []) → r ≡ right
@@ -215,12 +215,12 @@ turns_back {T = T} tag slots id v s kept fits at small =
     let shown = shown_where tag s id (LineTurned v) refl at kept in
     let own = shown.seats id (LineTurned v) at in
     let low = at_within s.views id (LineTurned v) at in
-    let went = goes tag s shown id v phase.Turned own low phase.Out shown.gate.homes (λ m other. refl) (machine.turn_back v.line) machine.says_done s.homes ((get_or s.words 0 0 + (2 ^ 64 - 256)) % 2 ^ 64) (LineOut (turned_line v))
+    let went = goes tag s shown id v phase.Turned own low phase.Out shown.gate.homes (λ m other. refl) (machine.turn_back v.line) machine.says_done s.homes ((get_or s.words 0 0 + (2 ^ 64 - 256)) % 2 ^ 64) (LineOut (turned_line v (get_or s.words 0 0)))
     (machine.turns_back v.line own.at)
     (down tag s shown id v phase.Turned own low refl shown.gate.homes)
     shown.homes
-    (in_phase tag s shown id v phase.Turned own low phase.Out shown.gate.homes (turned_line v) refl refl (λ out. own.home refl)) in
-    (LineOut (turned_line v), keeps, tt, went.0, (refl, went.1))
+    (in_phase tag s shown id v phase.Turned own low phase.Out shown.gate.homes (turned_line v (get_or s.words 0 0)) refl refl (λ out. own.home refl)) in
+    (LineOut (turned_line v (get_or s.words 0 0)), keeps, tt, went.0, (refl, went.1))
 
 pub turns_back_at : {T : Type 0} (tag : T → List ℕ) (slots id : ℕ) (me : Me (Option T) (View T)) (v : LineView T) → me ≡ (LineTurned v, []) → Allows (IsGate tag) slots id me 0 (λ n. (n + (2 ^ 64 - 256)) % 2 ^ 64) (TurnsBack tag (step slots 0 256 0 none) me)
 turns_back_at {T = T} tag slots id me v is = subst (λ (m : Me (Option T) (View T)). Allows (IsGate tag) slots id m 0 (λ n. (n + (2 ^ 64 - 256)) % 2 ^ 64) (TurnsBack tag (step slots 0 256 0 none) m)) (sym is) (turns_back tag slots id v)
@@ -241,22 +241,23 @@ module _ {T : Type 0} (tag : T → List ℕ) (v : LineView T) (word : ℕ) (afte
 
 -- the entry that let its line in, as callers see it
 pub entered_in : {T : Type 0} (tag : T → List ℕ) (entry : EntrySeat T) (gate gate1 : TableId) (v : LineView T) (word line : ℕ) (me me1 : Me (Option T) (View T)) (right : T) (taken : Option T) → record { gate = gate; at = v } ≡ entry → IsIn tag v word me → machine.moved_in word ≡ false → machine.closed_in word ≡ false
-    → me.1 ≡ (line, taken) ∷ rest me.1 → taken ≡ Some right → me1 ≡ (me.0, (line, None) ∷ rest me.1) → gate1 ≡ gate → (gate1 ≡ entry.gate) × (line_in me1.0 ≡ entered_line entry.at None) × (tag right ≡ entry.at.tag) × (entry.at.home ≡ Some right) × IsLetIn tag entry.at.line right
+    → me.1 ≡ (line, taken) ∷ rest me.1 → taken ≡ Some right → me1 ≡ (me.0, (line, None) ∷ rest me.1) → gate1 ≡ gate → (gate1 ≡ entry.gate) × (line_in me1.0 ≡ entered_line entry.at (line_in me1.0).found None) × (tag right ≡ entry.at.tag) × (entry.at.home ≡ Some right) × IsLetIn tag entry.at.line (line_in me1.0).found right
 entered_in {T = T} tag entry gate gate1 v word line me me1 right taken was told not_moved not_closed front got is1 stays =
     let same : told.0 ≡ right = ap (carried_right told.0) (sym (ap (λ (m : Me (Option T) (View T)). m.1) told.4) ∙ front) ∙ ap (λ (o : Option T). unwrap_or o told.0) got in
     let happens : Happens tag word (machine.enter v.line) (machine.lets_in right) = subst (λ (r : T). Happens tag word (machine.enter v.line) (machine.lets_in r)) same told.1 in
-    subst (λ (e : EntrySeat T). (gate1 ≡ e.gate) × (line_in me1.0 ≡ entered_line e.at None) × (tag right ≡ e.at.tag) × (e.at.home ≡ Some right) × IsLetIn tag e.at.line right) was (
+    let view : line_in me1.0 ≡ entered_line v word None = ap (λ (m : Me (Option T) (View T)). line_in m.0) is1 ∙ ap (λ (m : Me (Option T) (View T)). line_in m.0) told.4 in
+    let found : word ≡ (line_in me1.0).found = sym (ap (λ (u : LineView T). u.found) view) in
+    subst (λ (e : EntrySeat T). (gate1 ≡ e.gate) × (line_in me1.0 ≡ entered_line e.at (line_in me1.0).found None) × (tag right ≡ e.at.tag) × (e.at.home ≡ Some right) × IsLetIn tag e.at.line (line_in me1.0).found right) was (
       stays,
-      ap (λ (m : Me (Option T) (View T)). line_in m.0) is1 ∙ ap (λ (m : Me (Option T) (View T)). line_in m.0) told.4,
+      view ∙ (λ i. entered_line v (found i) None),
       ap tag (sym same) ∙ told.2,
       told.3 ∙ ap Some same,
-      record {
-        word = word;
+      subst (λ (n : ℕ). IsLetIn tag v.line n right) found (record {
         happens = happens;
         not_moved = not_moved;
         not_closed = not_closed;
         before_rights = let_in_before (Owns tag happens.tags) happens.before happens.after right happens.reached happens.step;
-      },
+      }),
     )
 
 -- the seat of a line that is inside, with its right back in the slot
@@ -272,20 +273,21 @@ holding {T = T} me me1 line right is at is1 =
 
 -- what the leave of a line comes to, as its callers see it
 pub let_out : {T : Type 0} (tag : T → List ℕ) (inside : InsideSeat T) (gate gate2 : TableId) (me me1 me2 : Me (Option T) (View T)) (right : T) (word : ℕ) (enabled : Bool) → record { gate = gate; at = line_in me.0; right = right } ≡ inside → me1.1 ≡ ((line_in me1.0).line, Some right) ∷ [] → line_in me1.0 ≡ line_in me.0
-    → ((x : T) → me1.1 ≡ ((line_in me1.0).line, Some x) ∷ [] → (me2 ≡ (LineOut (left_line (line_in me1.0) x (machine.enabled_in word)), [])) × Happens tag word (machine.leave (line_in me1.0).line x) (machine.lets_out (machine.enabled_in word)))
+    → ((x : T) → me1.1 ≡ ((line_in me1.0).line, Some x) ∷ [] → (me2 ≡ (LineOut (left_line (line_in me1.0) x word), [])) × Happens tag word (machine.leave (line_in me1.0).line x) (machine.lets_out (machine.enabled_in word)))
     → enabled ≡ machine.enabled_in word → gate2 ≡ gate
-    → (me2 ≡ (LineOut (line_in me2.0), [])) × ((line_in me2.0).line ≡ (line_in me.0).line) × (◌≡◌ {A = EntrySeat T} (record { gate = gate2; at = line_in me2.0 }) (left_seat inside enabled)) × IsLetOut tag inside enabled
+    → (me2 ≡ (LineOut (line_in me2.0), [])) × ((line_in me2.0).line ≡ (line_in me.0).line) × (◌≡◌ {A = EntrySeat T} (record { gate = gate2; at = line_in me2.0 }) (left_seat inside (line_in me2.0).left)) × IsLetOut tag inside (line_in me2.0).left enabled
 let_out {T = T} tag inside gate gate2 me me1 me2 right word enabled was held same told found stays =
     let then = told right held in
-    let v : LineView T = left_line (line_in me.0) right enabled in
-    let left : me2 ≡ (LineOut v, []) = then.0 ∙ (λ i. (LineOut (left_line (same i) right (sym found i)), [])) in
+    let v : LineView T = left_line (line_in me.0) right word in
+    let left : me2 ≡ (LineOut v, []) = then.0 ∙ (λ i. (LineOut (left_line (same i) right word), [])) in
     let at : line_in me2.0 ≡ v = ap (λ (m : Me (Option T) (View T)). line_in m.0) left in
+    let word_is : word ≡ (line_in me2.0).left = sym (ap (λ (u : LineView T). u.left) at) in
     let happens : Happens tag word (machine.leave (line_in me.0).line right) (machine.lets_out enabled) =
     subst (λ (u : LineView T). Happens tag word (machine.leave u.line right) (machine.lets_out enabled)) same (subst (λ (b : Bool). Happens tag word (machine.leave (line_in me1.0).line right) (machine.lets_out b)) (sym found) then.1) in (
       left ∙ (λ i. (LineOut (sym at i), [])),
       ap (λ (u : LineView T). u.line) at,
-      subst (λ (s : InsideSeat T). ◌≡◌ {A = EntrySeat T} (record { gate = gate2; at = line_in me2.0 }) (left_seat s enabled)) was (λ i. record { gate = stays i; at = at i }),
-      subst (λ (s : InsideSeat T). IsLetOut tag s enabled) was (word, happens, found),
+      subst (λ (s : InsideSeat T). ◌≡◌ {A = EntrySeat T} (record { gate = gate2; at = line_in me2.0 }) (left_seat s (line_in me2.0).left)) was (λ i. record { gate = stays i; at = (at ∙ (λ j. left_line (line_in me.0) right (word_is j))) i }),
+      subst (λ (s : InsideSeat T). IsLetOut tag s (line_in me2.0).left enabled) was (subst (λ (n : ℕ). Happens tag n (machine.leave (line_in me.0).line right) (machine.lets_out enabled)) word_is happens, found ∙ ap machine.enabled_in word_is),
     )
 
 -- the one slot of a seat stands in front

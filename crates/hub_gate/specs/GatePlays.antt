@@ -30,17 +30,17 @@ module _ {T : Type 0} where
   abbrev pub Opens : Step (Option T) → Me (Option T) (View T) → ℕ → Me (Option T) (View T) → Type 0
   Opens step before found after = after ≡ (Keeping (keeper_at (tags_in before.0) (values_in before.1) 0), [])
 
--- the view of a line that has added itself to the word, and the flag that turned it
-abbrev pub entered_line : {T : Type 0} → LineView T → Option Refusal → LineView T
-entered_line v refusal = record v { enters = v.enters + 1; refusal = refusal }
+-- the view of a line that has added itself to this word, and the flag that turned it
+abbrev pub entered_line : {T : Type 0} → LineView T → ℕ → Option Refusal → LineView T
+entered_line v word refusal = record v { enters = v.enters + 1; found = word; refusal = refusal }
 
--- the view of a line that has left with this right, taken itself off the word and found this flag ENABLED
-abbrev pub left_line : {T : Type 0} → LineView T → T → Bool → LineView T
-left_line v right enabled = record v { leaves = v.leaves + 1; enabled = enabled; home = Some right }
+-- the view of a line that has left with this right, and taken itself off this word
+abbrev pub left_line : {T : Type 0} → LineView T → T → ℕ → LineView T
+left_line v right word = record v { leaves = v.leaves + 1; left = word; home = Some right }
 
--- the view of a line that has turned back
-abbrev pub turned_line : {T : Type 0} → LineView T → LineView T
-turned_line v = record v { leaves = v.leaves + 1 }
+-- the view of a line that has turned back, and taken itself off this word
+abbrev pub turned_line : {T : Type 0} → LineView T → ℕ → LineView T
+turned_line v word = record v { leaves = v.leaves + 1; left = word }
 
 -- at one moment the gate's word was this one, and the gate machine took this one step
 pub record Happens {T : Type 0} (tag : T → List ℕ) (word : ℕ) (event : machine.Event T) (answer : machine.Answer T) : Type 0 where
@@ -51,10 +51,6 @@ pub record Happens {T : Type 0} (tag : T → List ℕ) (word : ℕ) (event : mac
   pub found : word ≡ machine.word before
   pub step : machine.Steps (Owns tag tags) before event answer after
 
--- at one moment the line that was turned took itself off the word
-abbrev pub HappensBack : {T : Type 0} → (T → List ℕ) → ℕ → Type 0
-HappensBack tag line = (word : ℕ) × Happens tag word (machine.turn_back line) machine.says_done
-
 -- one step of the keeper: its view shows the gate as it was found, and its new view the gate after the step
 pub record KeeperStep {T : Type 0} (tag : T → List ℕ) (old new : KeeperView T) (word : ℕ) (event : machine.Event T) (answer : machine.Answer T) : Type 0 where
   pub happens : Happens tag word event answer
@@ -64,11 +60,11 @@ pub record KeeperStep {T : Type 0} (tag : T → List ℕ) (old new : KeeperView 
 module _ {T : Type 0} (tag : T → List ℕ) where
   -- the line is being turned back, by this flag
   abbrev pub IsTurned : LineView T → Refusal → machine.Answer T → ℕ → Me (Option T) (View T) → Type 0
-  IsTurned v refusal answer found after = Happens tag found (machine.enter v.line) answer × (after ≡ (LineTurned (entered_line v (Some refusal)), []))
+  IsTurned v refusal answer found after = Happens tag found (machine.enter v.line) answer × (after ≡ (LineTurned (entered_line v found (Some refusal)), []))
 
   -- the line is inside, with the right that it had at home
   abbrev pub IsIn : LineView T → ℕ → Me (Option T) (View T) → Type 0
-  IsIn v found after = (right : T) × Happens tag found (machine.enter v.line) (machine.lets_in right) × (tag right ≡ v.tag) × (v.home ≡ Some right) × (after ≡ (LineInside (entered_line v None), (v.line, Some right) ∷ []))
+  IsIn v found after = (right : T) × Happens tag found (machine.enter v.line) (machine.lets_in right) × (tag right ≡ v.tag) × (v.home ≡ Some right) × (after ≡ (LineInside (entered_line v found None), (v.line, Some right) ∷ []))
 
   -- moved comes before closed, and where the word has neither flag the line is inside
   abbrev pub Enters : Step (Option T) → Me (Option T) (View T) → ℕ → Me (Option T) (View T) → Type 0
@@ -78,11 +74,11 @@ module _ {T : Type 0} (tag : T → List ℕ) where
   -- the line is out, and the right that it had in hand is at home
   abbrev pub Leaves : Step (Option T) → Me (Option T) (View T) → ℕ → Me (Option T) (View T) → Type 0
   Leaves step before found after = (right : T) → before.1 ≡ ((line_in before.0).line, Some right) ∷ []
-      → (after ≡ (LineOut (left_line (line_in before.0) right (machine.enabled_in found)), [])) × Happens tag found (machine.leave (line_in before.0).line right) (machine.lets_out (machine.enabled_in found))
+      → (after ≡ (LineOut (left_line (line_in before.0) right found), [])) × Happens tag found (machine.leave (line_in before.0).line right) (machine.lets_out (machine.enabled_in found))
 
   -- the line that was turned is out again
   abbrev pub TurnsBack : Step (Option T) → Me (Option T) (View T) → ℕ → Me (Option T) (View T) → Type 0
-  TurnsBack step before found after = (after ≡ (LineOut (turned_line (line_in before.0)), [])) × Happens tag found (machine.turn_back (line_in before.0).line) machine.says_done
+  TurnsBack step before found after = (after ≡ (LineOut (turned_line (line_in before.0) found), [])) × Happens tag found (machine.turn_back (line_in before.0).line) machine.says_done
 
 module _ {T : Type 0} (tag : T → List ℕ) where
   -- at one moment the keeper took this one step

@@ -21,7 +21,7 @@ keeper_at tags rights next = record { tags = tags; rights = rights; next = next;
 
 -- the view of a line that has done nothing yet, with this right at home
 abbrev pub new_line : {T : Type 0} → ℕ → List ℕ → Option T → LineView T
-new_line line tag home = record { line = line; tag = tag; home = home; enters = 0; leaves = 0; refusal = None; enabled = false }
+new_line line tag home = record { line = line; tag = tag; home = home; enters = 0; leaves = 0; found = 0; refusal = None; left = 0 }
 
 -- the keeper's view after it has cut off the seat of the next line
 abbrev pub cut_off : {T : Type 0} → KeeperView T → KeeperView T

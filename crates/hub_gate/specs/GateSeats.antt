@@ -1,5 +1,5 @@
 -- The seats of a gate, as callers see them.
-use Rattle.std.specs.Prelude.{◌≡◌, ℕ, zero, suc, List, [], ◌∷◌, ◌++◌, map, length, slice_index_or, slice_get, None}
+use Rattle.std.specs.Prelude.{◌≡◌, ℕ, zero, suc, List, [], ◌∷◌, ◌++◌, map, length, slice_index_or, slice_get, Option, Some, None}
 use Rattle.atomic_table.specs.Seated.{TableId}
 use Rattle.hub_gate.specs.declared.view.View.{View}
 use Rattle.hub_gate.specs.declared.view.View.TheVariants.{Keeping, LineOut, LineInside, LineTurned}
@@ -32,6 +32,11 @@ line_in (LineOut v) = v
 line_in (LineInside v) = v
 line_in (LineTurned v) = v
 line_in _ = new_line 0 [] None
+
+-- the entry that a view is of, if there is one
+abbrev pub witnessed : {T : Type 0} → TableId → List (View T) → Option (EntrySeat T)
+witnessed gate [] = None
+witnessed gate (v ∷ vs) = Some (record { gate = gate; at = line_in v })
 
 -- what the keeper's seat knows
 abbrev pub keeper_in : {T : Type 0} → View T → KeeperView T

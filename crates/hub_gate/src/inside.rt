@@ -52,8 +52,8 @@ impl<T: Right> Inside<T> {
     /// was left. It is one step on the word.
     pub fn leave(self) -> (Entry<T>, bool)
         requires { T.tag self.right ≡ self.at.tag }
-        ensures entry { result.0 ≡ left_seat self result.1 }
-        ensures step { IsLetOut T.tag self result.1 }
+        ensures entry { result.0 ≡ left_seat self result.0.at.left }
+        ensures step { IsLetOut T.tag self result.0.at.left result.1 }
     {
         let Inside {
             table,

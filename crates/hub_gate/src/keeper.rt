@@ -8,6 +8,7 @@ use crate::gate_table::{GateSeat, GateSteps, GateTable};
 use crate::looked::Looked;
 use crate::plays::{Look, SetFlag};
 use crate::right::Right;
+use crate::witness::KeeperWitness;
 use crate::word::{Flag, count_in, shut_in};
 use std::fmt;
 use std::marker::Model;
@@ -134,6 +135,16 @@ impl<T: Right> Keeper<T> {
         let lines = table.slot_count();
         take_out(&table.shared, &mut self.seat, &mut rights, lines);
         Looked::Rights(rights)
+    }
+}
+
+impl<T: Right> Keeper<T> {
+    /// What shows the gate, which nobody keeps from then on.
+    pub fn into_witness(self) -> KeeperWitness<T>
+        ensures { result ≡ self }
+    {
+        let Keeper { seat, .. } = self;
+        KeeperWitness { seat }
     }
 }
 

@@ -18,6 +18,7 @@ mod looked;
 mod plays;
 mod right;
 mod view;
+mod witness;
 mod word;
 
 pub use entered::{Entered, Refusal};
@@ -30,4 +31,5 @@ pub use keeper::Keeper;
 pub use laws::gate_laws;
 pub use looked::Looked;
 pub use right::Right;
+pub use witness::{EntryWitness, KeeperWitness};
 pub use word::{closed_in, count_in, enabled_in, moved_in, word_of};

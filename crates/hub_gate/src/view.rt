@@ -14,10 +14,12 @@ pub struct LineView<T> {
     pub enters: u64,
     /// How often the line has taken itself off the word, leaving or turning back.
     pub leaves: u64,
+    /// The word that the line found as it added itself last.
+    pub found: u64,
     /// The flag that the line's last entry found, if it was turned.
     pub refusal: Option<Refusal>,
-    /// The flag ENABLED in the word that the line found when it last left.
-    pub enabled: bool,
+    /// The word that the line found as it took itself off last.
+    pub left: u64,
 }
 
 /// What the keeper's seat knows.

@@ -11,7 +11,7 @@ use Rattle.hub_life.specs.declared.order_view.OrderView.{OrderView}
 use Rattle.hub_life.specs.Order.{unaware, gives_in, order_word, IsOrderKept, Gives, Looks}
 
 -- a sum after a change of one item
-sum_by-at_set : {A : Type 0} (f : A → ℕ) (l : List A) (i : ℕ) (v w : A) → get_elem? l i ≡ some v → sum_by f (set l i w) + f v ≡ sum_by f l + f w
+pub sum_by-at_set : {A : Type 0} (f : A → ℕ) (l : List A) (i : ℕ) (v w : A) → get_elem? l i ≡ some v → sum_by f (set l i w) + f v ≡ sum_by f l + f w
 sum_by-at_set f [] i v w e = absurd (some-ne-none v (sym e))
 sum_by-at_set f (x ∷ xs) zero v w e =
     let is : f x ≡ f v = ap f (some-injective x v e) in
@@ -21,7 +21,7 @@ sum_by-at_set f (x ∷ xs) (suc i) v w e =
     omega (arith, sum_by-cons f x (set xs i w), sum_by-cons f x xs)
 
 -- no item weighs more than all
-weight_le_sum_by : {A : Type 0} (f : A → ℕ) (l : List A) (i : ℕ) (v : A) → get_elem? l i ≡ some v → f v ≤ sum_by f l
+pub weight_le_sum_by : {A : Type 0} (f : A → ℕ) (l : List A) (i : ℕ) (v : A) → get_elem? l i ≡ some v → f v ≤ sum_by f l
 weight_le_sum_by f [] i v e = absurd (some-ne-none v (sym e))
 weight_le_sum_by f (x ∷ xs) zero v e =
     let is : f x ≡ f v = ap f (some-injective x v e) in

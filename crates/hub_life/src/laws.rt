@@ -3,6 +3,11 @@ ghost use Rattle.hub_life.specs.declared.event.Event.{Event};
 ghost use Rattle.hub_life.specs.declared.state.State.TheVariants.{Installing, Activating, Activated, Redundant};
 ghost use Rattle.hub_life.specs.Lifecycle.{Progress, start};
 ghost use Rattle.hub_life.specs.Course.{after, after_all, stage_of, IsSound};
+ghost use Rattle.hub_life.specs.OrderLaws.{RuleShowsOrder, StaysGiven};
+
+use crate::order_view::OrderView;
+use crate::order_word::{Give, Look, OneMore, OrderRule};
+use atomic_table::{Play, Split, TableRule};
 
 /// The laws of the table that `Life::event` answers by, over all events. It does nothing.
 ///
@@ -19,4 +24,18 @@ pub fn lifecycle_laws()
         → ((after_all p events).state ≡ Installing) ⊎ ((after_all p events).state ≡ Redundant) }
     ensures activation { (p : Progress) (event : Event) → p.state ≡ Activating
         → ((after p event).state ≡ Activating) ⊎ ((after p event).state ≡ Activated) }
+{}
+
+/// The laws of the rule that an order's word and its seats meet at every moment of any schedule. It
+/// does nothing.
+///
+/// `shows`: the word says whether some seat has given the order, and no seat has found an order
+/// that none gave.
+/// `stays`: whatever steps the seats make, an order that was given stays given, and the word with
+/// it.
+pub fn order_laws()
+    ensures shows { RuleShowsOrder (⟦<OrderRule as TableRule<(), OrderView, ()>>⟧.holds tt) }
+    ensures stays { StaysGiven (⟦<OrderRule as TableRule<(), OrderView, ()>>⟧.holds tt)
+        ⟦<Give as Play<(), OrderView>>⟧.then ⟦<Look as Play<(), OrderView>>⟧.then
+        ⟦<OneMore as Split<OrderView>>⟧.left ⟦<OneMore as Split<OrderView>>⟧.right }
 {}

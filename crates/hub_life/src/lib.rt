@@ -16,7 +16,7 @@ mod order_word;
 mod state;
 
 pub use event::Event;
-pub use laws::lifecycle_laws;
+pub use laws::{lifecycle_laws, order_laws};
 pub use life::Life;
 pub use life_error::LifeError;
 pub use limits::MAX_EXTENSIONS;

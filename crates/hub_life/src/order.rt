@@ -1,6 +1,5 @@
-ghost use Rattle.std.specs.Prelude.{◌≡◌, ◌+◌, IfOk, IsTrue, replicate};
+ghost use Rattle.std.specs.Prelude.{◌≡◌, ◌+◌, All, AllPairs, IfOk, IsTrue, vec_len};
 ghost use Rattle.std.specs.Arc.{arc_value};
-ghost use Rattle.atomic_table.specs.Seated.{TableId};
 
 use crate::OutOfMemory;
 use crate::order_view::OrderView;
@@ -35,8 +34,11 @@ impl Order {
 
     /// A new word, at which the order isn't given, and so many seats there.
     pub fn open(alloc: Global, seats: usize) -> Result<Vec<Order>, OutOfMemory>
-        ensures { IfOk result (λ orders.
-            (word : TableId) × (orders.items ≡ replicate seats (new_seat word))) }
+        ensures count { IfOk result (λ orders. vec_len orders ≡ seats) }
+        ensures new { IfOk result (λ orders.
+            All (λ order. order ≡ new_seat order.word) orders.items) }
+        ensures one_word { IfOk result (λ orders.
+            AllPairs (λ first second. first.word ≡ second.word) orders.items) }
     {
         let mut orders = Vec::with_capacity(alloc, seats)?;
         let (table, mut first) = OrderWord::of_words(alloc, &[0], &())?;

@@ -20,7 +20,7 @@ use Rattle.hub_ports.proofs.Splits.{split-whole}
 -- for want of memory a line may stay as it is
 pub not_tried : (s : StandSeat) (draft : Draft) → IsPosted s s draft (Err (why.OutOfMemory, draft))
 not_tried s draft =
-    (put_of s, s.entry.at.enters, inl (record { name = refl; gate = refl; queue = refl }, refl, refl), refl, refl, tt)
+    (put_of s, s.entry.at.enters, inl (record { name = refl; gate = refl; queue = refl; left = refl }, refl, refl), refl, refl, tt)
 
 -- what was refused came back
 pub same_draft : (old new : StandSeat) (sent back draft : Draft) (why : PostError) → IsPosted old new sent (Err (why, back)) → IsRefusedAtLine old new draft why

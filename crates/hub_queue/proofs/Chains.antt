@@ -1,6 +1,6 @@
 -- The queues of an end, one after another: what a take, an adoption and a sweep make of them.
 use Rattle.std.proofs.Common.{◌≡◌, ◌≢◌, ℕ, ◌+◌, ◌<◌, ◌≤◌, true, List, [], ◌∷◌, ◌++◌, length, get_or, set, refl, sym, ap, ◌∙◌, subst, inl, inr, arith, append_assoc, append-nil, length-append}
-use Rattle.std.specs.Prelude.{nat_lt, Result, Ok, Err}
+use Rattle.std.specs.Prelude.{nat_lt, Option, Result, Ok, Err}
 use Rattle.std.specs.List.{AllByRecursion}
 use Rattle.std.proofs.lemmas.Bool.{or_left, or_right}
 use Rattle.std.proofs.lemmas.Bool.Decides.{nat_tests}
@@ -17,7 +17,7 @@ use Rattle.hub_queue.specs.Settling.{IsEmptied}
 use Rattle.hub_queue.specs.Sweeping.{TakesOfEach, OneIsHeldUp, AreSwept}
 use Rattle.hub_queue.specs.declared.settling.Stop.{Stop}
 use Rattle.hub_queue.specs.declared.settling.Stop.TheVariants.{StillInside, NoRoom}
-use Rattle.hub_queue.specs.Taking.{TakerSeat, AreRetired, IsTakers, IsTakenOff, IsTakenFirst, left_after}
+use Rattle.hub_queue.specs.Taking.{TakerSeat, AreRetired, IsTakers, IsTakenOff, IsTakenFirst, left_after, left_last}
 
 positive : (n : ℕ) → 0 < n → nat_lt 0 n ≡ true
 positive n h = grind (arith, nat_tests)
@@ -53,6 +53,14 @@ stays_after q rest Again other = absurd (other refl)
 stays_after q rest Disabled other = refl
 stays_after q rest Closed other = refl
 
+pub last_stays : (left : Option PlaceSeat) (q : PlaceSeat) (took : Took) → (took ≡ Again → ⊥) → left_last left q took ≡ left
+last_stays left q (Got v) other = refl
+last_stays left q Empty other = refl
+last_stays left q Busy other = refl
+last_stays left q Again other = absurd (other refl)
+last_stays left q Disabled other = refl
+last_stays left q Closed other = refl
+
 -- what a take at a retired queue leaves of its name and its gate
 taken_off : (end epoch : ℕ) (p q : PlaceSeat) (before after : Count) (took : Took) → (took ≡ Again → ⊥) → IsTakenOff p q before after took → IsQueueOf end epoch p × (0 < p.keeper.at.retires) → IsQueueOf end epoch q × (0 < q.keeper.at.retires)
 taken_off end epoch p q before after (Got v) other did was = ((did.0.end ∙ was.0.0, did.0.epoch ∙ was.0.1), subst (λ (n : ℕ). 0 < n) (sym did.0.same_gate.retires) was.1)
@@ -63,8 +71,8 @@ taken_off end epoch p q before after Disabled other did was = absurd did
 taken_off end epoch p q before after Closed other did was = absurd did
 
 -- the taker after a take that leaves no queue
-pub taker_stays : (lines : ℕ) (t : TakerSeat) (retired : List PlaceSeat) (before after : Count) (took : Took) → (took ≡ Again → ⊥) → IsTakenFirst t.retired retired before after took → IsTakers lines t → IsTakers lines (record { end = t.end; epoch = t.epoch; retired = retired; newest = t.newest })
-taker_stays lines t retired before after took other did is =
+pub taker_stays : (lines : ℕ) (t : TakerSeat) (retired : List PlaceSeat) (left : Option PlaceSeat) (before after : Count) (took : Took) → (took ≡ Again → ⊥) → IsTakenFirst t.retired retired t.left left before after took → IsTakers lines t → IsTakers lines (record { end = t.end; epoch = t.epoch; retired = retired; newest = t.newest; left = left })
+taker_stays lines t retired left before after took other did is =
     let was : AreRetired t.end t.epoch (did.0 ∷ did.2) = subst (AreRetired t.end t.epoch) did.3 is.retired in
     let now : retired ≡ did.1 ∷ did.2 = did.4 ∙ stays_after did.1 did.2 took other in
     let many : length retired ≡ length t.retired = ap length now ∙ sym (ap length did.3) in
@@ -84,7 +92,7 @@ retired_snoc end epoch (x ∷ ps) p all name retired =
     (all.0, all.1, retired_snoc end (epoch + 1) ps p all.2 (name.0, name.1 ∙ along) retired)
 
 -- the taker after an adoption
-pub taker_moves : (lines : ℕ) (t : TakerSeat) (older p : PlaceSeat) (retired : List PlaceSeat) → IsTakers lines t → t.epoch + length t.retired ≢ MAX_MOVES → older ≡ retired_place t.newest → retired ≡ t.retired ++ older ∷ [] → IsNewPlace t.end (t.epoch + length t.retired + 1) lines p → IsTakers lines (record { end = t.end; epoch = t.epoch; retired = retired; newest = p })
+pub taker_moves : (lines : ℕ) (t : TakerSeat) (older p : PlaceSeat) (retired : List PlaceSeat) → IsTakers lines t → t.epoch + length t.retired ≢ MAX_MOVES → older ≡ retired_place t.newest → retired ≡ t.retired ++ older ∷ [] → IsNewPlace t.end (t.epoch + length t.retired + 1) lines p → IsTakers lines (record { end = t.end; epoch = t.epoch; retired = retired; newest = p; left = t.left })
 taker_moves lines t older p retired is more older_is retired_is new =
     let moves = is.moves in
     let many : length retired ≡ length t.retired + 1 = ap length retired_is ∙ length-append t.retired (older ∷ []) in

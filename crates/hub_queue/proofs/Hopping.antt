@@ -1,6 +1,7 @@
 -- What a post comes to where the line stands, and how it goes on from a queue that was retired.
-use Rattle.std.proofs.Common.{◌≡◌, ◌⊎◌, refl, sym, ap, ◌∙◌, subst, inl, inr, ⊎_elim, arith}
+use Rattle.std.proofs.Common.{◌≡◌, ℕ, zero, suc, ◌+◌, ◌<◌, ◌≤◌, List, [], ◌∷◌, take, refl, sym, ap, ◌∙◌, subst, inl, inr, ⊎_elim, arith}
 use Rattle.std.specs.Prelude.{Option, Some, Result, Ok, Err}
+use Rattle.hub_core.specs.declared.limits.TheConstants.{MAX_HOPS}
 use Rattle.hub_depot.specs.declared.key.Key.{Key}
 use Rattle.hub_envelope.specs.declared.envelope.Draft.{Draft}
 use Rattle.hub_gate.specs.declared.entered.Refusal.{Refusal}
@@ -9,17 +10,119 @@ use Rattle.hub_gate.specs.Entering.{left_seat}
 use Rattle.hub_gate.specs.GateSeats.{EntrySeat, InsideSeat, with_right}
 use Rattle.hub_queue.specs.declared.pass_view.PutView.{PutView}
 use Rattle.hub_queue.specs.declared.posted.Posted.{Posted}
-use Rattle.hub_queue.specs.declared.posting.Tried.TheVariants.{Turned}
+use Rattle.hub_queue.specs.declared.posting.Tried.TheVariants.{Answered, Turned}
 use Rattle.hub_queue.specs.declared.post_error.PostError.{PostError}
-use Rattle.hub_queue.specs.Posting.{StaysAt, GoesTo, HasSeen, IsSeen, IsPosted}
+use Rattle.hub_queue.specs.Posting.{StaysAt, name_after, HasPassed, LeavesBehind, GoesTo, HasSeen, IsSeen, IsPosted}
 use Rattle.hub_queue.specs.Putting.{IsPut}
-use Rattle.hub_queue.specs.Seats.{LineSeat}
-use Rattle.hub_queue.specs.Standing.{StandSeat, put_of, right_in, entry_in}
-use Rattle.hub_queue.specs.Trying.{IsAnswered, IsPutInside, IsTried, GoesToUnused, IsPostedOnward, error_of}
+use Rattle.hub_queue.specs.Seats.{LineSeat, IsNameOf}
+use Rattle.hub_queue.specs.Standing.{StandSeat, IsNext, put_of, right_in, right_of, entry_in}
+use Rattle.hub_queue.specs.Trying.{IsAnswered, IsPutInside, IsTried, gone_to, GoesToUnused, IsPostedOnward, error_of}
 
--- the line stands where it was turned, or was turned again at a later queue where it has put nothing
-abbrev pub GoneOn : StandSeat → StandSeat → Refusal → Refusal → Type 0
-GoneOn turned here first found = ((here ≡ turned) × (found ≡ first)) ⊎ (GoesToUnused turned here (put_of here) × HasSeen here 0 found)
+-- what is left behind is left of as many gates as are looked at
+kept_of : (old : StandSeat) (hops n : ℕ) (left : List (Option (EntrySeat LineSeat))) → hops ≤ n → LeavesBehind old hops left → LeavesBehind old hops (take n left)
+kept_of old zero n left few behind = tt
+kept_of old (suc hops) zero left few behind = absurd (omega arith)
+kept_of old (suc hops) (suc n) [] few behind = behind
+kept_of old (suc zero) (suc n) (entry ∷ left) few behind = behind
+kept_of old (suc (suc hops)) (suc n) (entry ∷ left) few behind = (behind.0, kept_of old (suc hops) n left (omega arith) behind.1)
+
+-- the line was turned where it stood, or has gone on so often and was turned where it stands now, where it has put nothing
+pub record GoneOn (turned here : StandSeat) (hops : ℕ) (first found : Refusal) : Type 0 where
+  pub name : here.name ≡ name_after turned.name hops
+  pub left : LeavesBehind turned hops here.left
+  pub none : hops ≡ 0 → (here ≡ turned) × (found ≡ first)
+  pub some : 0 < hops → IsNameOf (put_of here) here.name × ((put_of here).put ≡ []) × HasSeen here 0 found
+
+pub gone_none : (turned : StandSeat) (first : Refusal) → GoneOn turned turned 0 first first
+gone_none turned first =
+    let sum : turned.name.epoch ≡ turned.name.epoch + 0 = omega arith in
+    record { name = ap (λ (n : ℕ). record { end = turned.name.end; epoch = n; line = turned.name.line }) sum; left = tt; none = λ _. (refl, refl); some = λ some. absurd (omega arith) }
+
+-- the line goes on once more
+module _ (turned here next : StandSeat) (hops : ℕ) (first found : Refusal) (gone : GoneOn turned here hops first found) (few : hops < MAX_HOPS) (is_next : IsNext here.name next) where
+  abbrev there : StandSeat
+  there = gone_to here next
+
+  name_there : there.name ≡ name_after turned.name (hops + 1)
+  name_there =
+      let sum : turned.name.epoch + hops + 1 ≡ turned.name.epoch + (hops + 1) = omega arith in
+      is_next.name_is ∙ ap (λ (k : Key). record { end = k.end; epoch = k.epoch + 1; line = k.line }) gone.name ∙ ap (λ (n : ℕ). record { end = turned.name.end; epoch = n; line = turned.name.line }) sum
+
+  left_there : LeavesBehind turned (hops + 1) there.left
+  left_there = let next : suc hops ≡ hops + 1 = omega arith in subst (λ (k : ℕ). LeavesBehind turned k there.left) next (behind hops few refl)
+    where
+      rest : (n : ℕ) → n ≡ hops → n < MAX_HOPS → LeavesBehind turned n (take 3 here.left)
+      rest n same low = kept_of turned n 3 here.left (omega arith) (subst (λ (k : ℕ). LeavesBehind turned k here.left) (sym same) gone.left)
+
+      behind : (n : ℕ) → n < MAX_HOPS → n ≡ hops → LeavesBehind turned (suc n) (Some here.entry ∷ take 3 here.left)
+      behind zero low same =
+          let was = (gone.none (sym same)).0 in
+          (here.entry, refl, ap (λ (s : StandSeat). s.entry.gate) was, ap right_of was)
+      behind (suc n) low same =
+          let been = gone.some (omega arith) in
+          ((here.entry, refl, subst (IsNameOf (put_of here)) (gone.name ∙ ap (name_after turned.name) (sym same)) been.0, been.1), rest (suc n) same low)
+
+  pub goes_there : (hops + 1 ≤ MAX_HOPS) → GoesTo turned there
+  goes_there enough = record { hops = hops + 1; some = omega arith; few = enough; name = name_there; left = left_there }
+
+  -- and is turned there too
+  pub gone_more : (now : StandSeat) (draft back : Draft) (again : Refusal) → IsTried there now draft (Turned again back) → GoneOn turned now (hops + 1) first again
+  gone_more now draft back again tried = record {
+    name = tried.0.name ∙ name_there;
+    left = subst (LeavesBehind turned (hops + 1)) (sym tried.0.left) left_there;
+    none = λ none. absurd (omega arith);
+    some = λ _. (
+      subst (λ (v : PutView). IsNameOf v now.name) (sym tried.1) (subst (IsNameOf (put_of there)) (sym tried.0.name) is_next.named),
+      ap (λ (v : PutView). v.put) tried.1 ∙ is_next.unused.put,
+      subst (λ (n : ℕ). HasSeen now n again) is_next.unused.enters tried.3,
+    );
+  }
+
+  -- or the post is answered there
+  pub answered_there : (now : StandSeat) (draft kept : Draft) (answer : Result Posted (PostError × Draft)) → kept ≡ draft → IsTried there now kept (Answered answer) → IsPostedOnward turned now first draft answer
+  answered_there now draft kept (Ok posted) same tried = (
+    put_of there,
+    unused_at now (put_of there) tried.0 is_next.named is_next.unused.put,
+    subst (λ (d : Draft). IsPut (put_of there) (put_of now) d (Ok posted)) same tried.1,
+  )
+    where
+      unused_at : (at : StandSeat) (v : PutView) → StaysAt there at → IsNameOf v there.name → v.put ≡ [] → GoesToUnused turned at v
+      unused_at at v stays named none = record {
+        goes = record { hops = hops + 1; some = omega arith; few = omega arith; name = stays.name ∙ name_there; left = subst (LeavesBehind turned (hops + 1)) (sym stays.left) left_there };
+        named = subst (IsNameOf v) (sym stays.name) named;
+        unused = none;
+      }
+  answered_there now draft kept (Err refused) same tried = (
+    tried.1.1 ∙ same,
+    inr (
+      record {
+        goes = record { hops = hops + 1; some = omega arith; few = omega arith; name = tried.0.name ∙ name_there; left = subst (LeavesBehind turned (hops + 1)) (sym tried.0.left) left_there };
+        named = subst (IsNameOf (put_of now)) (sym tried.0.name) (subst (λ (v : PutView). IsNameOf v there.name) (sym tried.1.0) is_next.named);
+        unused = ap (λ (v : PutView). v.put) tried.1.0 ∙ is_next.unused.put;
+      },
+      subst (IsSeen now 0) (sym tried.1.2) tt,
+    ),
+  )
+
+-- the line goes on no further
+pub goes_no_further : (turned here : StandSeat) (hops : ℕ) (first found : Refusal) (why : PostError) (draft kept : Draft) → GoneOn turned here hops first found → hops ≤ MAX_HOPS → why ≡ error_of found → kept ≡ draft → IsPostedOnward turned here first draft (Err (why, kept))
+goes_no_further turned here zero first found why draft kept gone few is same = (same, inl ((gone.none refl).0, is ∙ ap error_of (gone.none refl).1))
+goes_no_further turned here (suc hops) first found why draft kept gone few is same =
+    let been = gone.some (omega arith) in (
+      same,
+      inr (
+        record { goes = record { hops = suc hops; some = omega arith; few = few; name = gone.name; left = gone.left }; named = been.0; unused = been.1 },
+        subst (IsSeen here 0) (sym is) (seen_there found been.2),
+      ),
+    )
+  where
+    seen_there : (f : Refusal) → HasSeen here 0 f → IsSeen here 0 (error_of f)
+    seen_there refusal.Moved s = s
+    seen_there refusal.Closed s = s
+
+-- a line that has gone on stands at a later epoch
+pub goes_later : (old new : StandSeat) → GoesTo old new → old.name.epoch < new.name.epoch
+goes_later old new goes = let some = goes.some in let epoch = ap (λ (k : Key). k.epoch) goes.name in omega arith
 
 -- a post is answered where the line stands
 is_answered : (old here : StandSeat) (draft : Draft) (answer : Result Posted (PostError × Draft)) → StaysAt old here → IsAnswered (put_of old) (put_of here) draft answer → IsPosted old here draft answer
@@ -27,20 +130,34 @@ is_answered old here draft (Ok posted) stays put = (put_of old, old.entry.at.ent
 is_answered old here draft (Err refused) stays put = (put_of old, old.entry.at.enters, inl (stays, refl, refl), put.0, put.1, subst (λ (e : PostError). IsSeen here old.entry.at.enters e) (sym put.2) tt)
 
 -- inside its gate the line stays where it stands
-pub is_put : (old : StandSeat) (name : Key) (inside : InsideSeat LineSeat) (entry : Option (EntrySeat LineSeat)) (draft : Draft) (answer : Result Posted (PostError × Draft)) → name ≡ old.name → old.entry.at.home ≡ Some inside.right → inside.gate ≡ old.entry.gate → IsPutInside inside entry draft answer → IsPosted old (record { name = name; entry = entry_in entry }) draft answer
-is_put old name inside entry draft answer named home gate (enabled, right, left, queue, put) =
-    let here : StandSeat = record { name = name; entry = left_seat (with_right inside right) enabled } in
-    let stays : StaysAt old here = record { name = named; gate = gate; queue = queue ∙ sym (ap (λ (h : Option LineSeat). (right_in h).queue) home) } in
+pub is_put : (old : StandSeat) (name : Key) (gates : List (Option (EntrySeat LineSeat))) (inside : InsideSeat LineSeat) (entry : Option (EntrySeat LineSeat)) (draft : Draft) (answer : Result Posted (PostError × Draft)) → name ≡ old.name → gates ≡ old.left → old.entry.at.home ≡ Some inside.right → inside.gate ≡ old.entry.gate → IsPutInside inside entry draft answer → IsPosted old (record { name = name; entry = entry_in entry; left = gates }) draft answer
+is_put old name gates inside entry draft answer named same home gate (word, right, left, queue, put) =
+    let here : StandSeat = record { name = name; entry = left_seat (with_right inside right) word; left = gates } in
+    let stays : StaysAt old here = record { name = named; gate = gate; queue = queue ∙ sym (ap (λ (h : Option LineSeat). (right_in h).queue) home); left = same } in
     let kept : IsAnswered (put_of old) right.at draft answer = subst (λ (v : PutView). IsAnswered v right.at draft answer) (sym (ap (λ (h : Option LineSeat). (right_in h).at) home)) put in
-    subst (λ (e : Option (EntrySeat LineSeat)). IsPosted old (record { name = name; entry = entry_in e }) draft answer) (sym left) (is_answered old here draft answer stays kept)
+    subst (λ (e : Option (EntrySeat LineSeat)). IsPosted old (record { name = name; entry = entry_in e; left = gates }) draft answer) (sym left) (is_answered old here draft answer stays kept)
 
 module _ (old here : StandSeat) (draft kept : Draft) (found : Refusal) (tried : IsTried old here draft (Turned found kept)) where
   goes_from : (new : StandSeat) → GoesTo here new → GoesTo old new
   goes_from new goes = record {
-    end = goes.end ∙ ap (λ (k : Key). k.end) tried.0.name;
-    line = goes.line ∙ ap (λ (k : Key). k.line) tried.0.name;
-    later = let later = goes.later in let equal = ap (λ (k : Key). k.epoch) tried.0.name in omega arith;
+    hops = goes.hops;
+    some = goes.some;
+    few = goes.few;
+    name = goes.name ∙ ap (λ (k : Key). name_after k goes.hops) tried.0.name;
+    left = behind_of goes.hops new.left goes.left;
   }
+    where
+      same_right : right_of here ≡ right_of old
+      same_right = λ i. record { queue = tried.0.queue i; at = tried.1 i }
+
+      passed_of : (n : ℕ) (entry : Option (EntrySeat LineSeat)) → HasPassed (name_after here.name n) entry → HasPassed (name_after old.name n) entry
+      passed_of n entry passed = subst (λ (k : Key). HasPassed (name_after k n) entry) tried.0.name passed
+
+      behind_of : (hops : ℕ) (left : List (Option (EntrySeat LineSeat))) → LeavesBehind here hops left → LeavesBehind old hops left
+      behind_of zero left behind = tt
+      behind_of (suc hops) [] behind = behind
+      behind_of (suc zero) (entry ∷ left) behind = (behind.0, behind.1, behind.2 ∙ tried.0.gate, behind.3 ∙ same_right)
+      behind_of (suc (suc hops)) (entry ∷ left) behind = (passed_of (suc hops) entry behind.0, behind_of (suc hops) left behind.1)
 
   is_seen : (f : Refusal) → HasSeen here old.entry.at.enters f → IsSeen here old.entry.at.enters (error_of f)
   is_seen refusal.Moved s = s

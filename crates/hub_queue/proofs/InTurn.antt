@@ -11,10 +11,11 @@ use Rattle.hub_queue.specs.Adopting.{retired_place}
 use Rattle.hub_queue.specs.Counting.{Count}
 use Rattle.hub_queue.specs.Laws.{TakenIsPrefix, NothingTaken, ahead_of, NothingAhead, TakesInTurn, got_from, joined, ChainIsPrefix}
 use Rattle.hub_queue.specs.Places.{PlaceSeat}
+use Rattle.hub_queue.specs.SharedQueue.{ShowsQueue}
 use Rattle.hub_queue.specs.Taking.{TakerSeat, IsTaken, TakesNewest, TakesRetired, enabled_place, first_of, left_after}
 use Rattle.hub_queue.proofs.Chains.{all_join, all_back}
 
-pub taken_prefix : TakenIsPrefix
+pub taken_prefix : TakenIsPrefix ShowsQueue
 taken_prefix items views shows taker pass t v takes puts =
     let mine = shows.knows taker (Takes t) takes in
     let theirs = shows.knows pass (Puts v) puts in

@@ -1,5 +1,6 @@
 pub mod Below
 pub mod Chains
+pub mod Drains
 pub mod Hopping
 pub mod InTurn
 pub mod Lending

@@ -59,7 +59,6 @@ knows_all web t rights is line low =
     let there = got_there rights line (omega arith) in
     let longer = len-map (λ (r : LineSeat). r.at) rights in
     let tag_is : tag_of there.0 ≡ web.0 ∷ web.1 ∷ line ∷ [] = some_is _ _ (sym (got-map tag_of rights line there.0 there.1) ∙ ap (λ (l : List (List ℕ)). slice_get l line) is ∙ tag_at web t.lines line low) in (
-      line,
       there.0.at,
       got_front (map (λ r. r.at) rights) t.known line (omega arith) ∙ got-map (λ (r : LineSeat). r.at) rights line there.0 there.1,
       ap (λ (l : List ℕ). get_or l 2 0) tag_is,

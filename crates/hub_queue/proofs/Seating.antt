@@ -1,5 +1,5 @@
 -- The posters of a queue that was just opened.
-use Rattle.std.proofs.Common.{◌≡◌, ℕ, suc, ◌+◌, ◌<◌, List, [], ◌∷◌, ◌++◌, map, length, reverse, get_or, refl, sym, ap, ◌∙◌, subst, arith, append_assoc, Some}
+use Rattle.std.proofs.Common.{◌≡◌, ℕ, suc, ◌+◌, ◌<◌, List, [], ◌∷◌, ◌++◌, map, length, reverse, get_or, refl, sym, ap, ◌∙◌, subst, arith, append_assoc, Option, Some, None}
 use Rattle.std.specs.Prelude.{slice_get}
 use Rattle.std.proofs.lemmas.List.{reverse-append}
 use Rattle.atomic_blocks.specs.Laid.{WebId}
@@ -8,7 +8,7 @@ use Rattle.hub_envelope.specs.declared.ids.EndId.{EndId}
 use Rattle.hub_gate.specs.GateRule.{Tags, new_line, keeper_at}
 use Rattle.hub_gate.specs.GateSeats.{EntrySeat, first_entries}
 use Rattle.hub_gate.proofs.Got.{some_is, got_or, got-map, len-map}
-use Rattle.hub_queue.specs.Mailboxes.{new_stand, new_stands, IsNewPlace, IsOpenMailbox}
+use Rattle.hub_queue.specs.Mailboxes.{new_stand, new_stands, stands_at, IsNewPlace, IsOpenMailbox}
 use Rattle.hub_queue.specs.Opening.{new_right, new_rights, IsOpenPlace}
 use Rattle.hub_queue.specs.Places.{PlaceSeat}
 use Rattle.hub_queue.specs.Standing.{StandSeat, IsStand, IsUnused}
@@ -56,16 +56,16 @@ next_is {A = A} all done before left x is last =
     here (z ∷ xs) y ys = here xs y ys
 
 -- the first lines of an end, and one more
-pub stands_more : (gate : TableId) (web : WebId) (end : EndId) (line : ℕ) → new_stands gate web end (line + 1) ≡ new_stands gate web end line ++ new_stand gate web end 0 line ∷ []
-stands_more gate web end line = let e : line + 1 ≡ suc line = omega arith in ap (new_stands gate web end) e
+pub stands_more : (gate : TableId) (web : WebId) (end : EndId) (epoch line : ℕ) → stands_at gate web end epoch (line + 1) ≡ stands_at gate web end epoch line ++ new_stand gate web end epoch line ∷ []
+stands_more gate web end epoch line = let e : line + 1 ≡ suc line = omega arith in ap (stands_at gate web end epoch) e
 
 -- a line with this entry, at a queue of this epoch
-abbrev pub stand_of : EndId → ℕ → ℕ → EntrySeat LineSeat → StandSeat
-stand_of end epoch line entry = record { name = record { end = end; epoch = epoch; line = record { 0 = line } }; entry = entry }
+abbrev pub stand_of : EndId → ℕ → ℕ → EntrySeat LineSeat → List (Option (EntrySeat LineSeat)) → StandSeat
+stand_of end epoch line entry left = record { name = record { end = end; epoch = epoch; line = record { 0 = line } }; entry = entry; left = left }
 
 -- a line that has just got its entry stands at the queue, and has put nothing
-pub stand_holds : (gate : TableId) (web : WebId) (end : EndId) (epoch line : ℕ) (entry : EntrySeat LineSeat) → entry ≡ (new_stand gate web end epoch line).entry → IsStand (stand_of end epoch line entry) × IsUnused (stand_of end epoch line entry)
-stand_holds gate web end epoch line entry is = subst (λ (x : EntrySeat LineSeat). IsStand (stand_of end epoch line x) × IsUnused (stand_of end epoch line x)) (sym is) (
+pub stand_holds : (gate : TableId) (web : WebId) (end : EndId) (epoch line : ℕ) (entry : EntrySeat LineSeat) (left : List (Option (EntrySeat LineSeat))) → entry ≡ (new_stand gate web end epoch line).entry → IsStand (stand_of end epoch line entry left) × IsUnused (stand_of end epoch line entry left)
+stand_holds gate web end epoch line entry left is = subst (λ (x : EntrySeat LineSeat). IsStand (stand_of end epoch line x left) × IsUnused (stand_of end epoch line x left)) (sym is) (
   record {
     home = refl;
     name = record { end = refl; epoch = refl; line = refl };
@@ -81,7 +81,7 @@ new_place e k n p entries opened = record {
   keeper = opened.keeper ∙ (λ i. keeper_at (tags_are p.queue e k n i) (new_rights p.queue e k n) (as_many p.queue e k n i));
 }
 
-pub mailbox_opened : (end : EndId) (lines : ℕ) (p : PlaceSeat) (entries : List (EntrySeat LineSeat)) (posters : List StandSeat) → IsOpenPlace end.0 0 lines p entries → posters ≡ new_stands p.keeper.gate p.queue end p.at.lines → IsOpenMailbox end lines (record { end = end.0; epoch = 0; retired = []; newest = p }) posters
+pub mailbox_opened : (end : EndId) (lines : ℕ) (p : PlaceSeat) (entries : List (EntrySeat LineSeat)) (posters : List StandSeat) → IsOpenPlace end.0 0 lines p entries → posters ≡ new_stands p.keeper.gate p.queue end p.at.lines → IsOpenMailbox end lines (record { end = end.0; epoch = 0; retired = []; newest = p; left = None }) posters
 mailbox_opened end lines p entries posters opened posters_are =
     let same : p.at.lines ≡ lines = ap (λ t. t.lines) opened.at in record {
       taker_is = refl;

@@ -58,8 +58,8 @@ is_settled p collected knows nothing = record {
   collected = collected;
   each = λ line low.
       let known = knows line low in
-      let all = nothing known.0 known.1 known.2 in
-      (known.0, known.1, known.2, known.3, ap (λ (l : ℕ). by l p.at.got) (sym known.3) ∙ ap (by known.1.line) (sym (append-nil p.at.got)) ∙ all);
+      let all = nothing line known.0 known.1 in
+      (known.0, known.1, known.2, ap (λ (l : ℕ). by l p.at.got) (sym known.2) ∙ ap (by known.0.line) (sym (append-nil p.at.got)) ∙ all);
 }
 
 -- a look that settles, and then a pop of none

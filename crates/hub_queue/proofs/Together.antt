@@ -1,6 +1,6 @@
 -- A poster and a taker of one mailbox stay so, whatever they do.
 use Rattle.std.proofs.Common.{◌≡◌, ℕ, suc, ◌≤◌, List, [], ◌∷◌, ◌++◌, refl, sym, ap, ◌∙◌, subst, ⊎_elim, arith}
-use Rattle.std.specs.Prelude.{Result, Ok, Err}
+use Rattle.std.specs.Prelude.{None, Result, Ok, Err}
 use Rattle.hub_depot.specs.declared.key.Key.{Key}
 use Rattle.hub_envelope.specs.declared.envelope.Draft.{Draft}
 use Rattle.hub_envelope.specs.declared.ids.EndId.{EndId}
@@ -19,6 +19,7 @@ use Rattle.hub_queue.specs.Standing.{StandSeat}
 use Rattle.hub_queue.specs.Taking.{TakerSeat, IsTakenAt, IsTakenOff, TakesNewest, TakesRetired, IsTaken, enabled_place, first_of, first_place, started, epoch_after}
 use Rattle.hub_queue.proofs.Below.{parts_snoc}
 use Rattle.hub_queue.proofs.Chains.{stays_after}
+use Rattle.hub_queue.proofs.Hopping.{goes_later}
 
 stood_so : (t : TakerSeat) (old new : StandSeat) (before : PutView) (entered : ℕ) → StoodAs old new before entered → AreTogether old t → AreTogether new t
 stood_so t old new before entered stood with = ⊎_elim
@@ -28,7 +29,7 @@ stood_so t old new before entered stood with = ⊎_elim
           stays.0.queue ∙ was;
       not_before = subst (λ (n : ℕ). t.epoch ≤ n) (ap (λ (k : Key). k.epoch) (sym stays.0.name)) with.not_before;
     })
-    (λ goes. let later = goes.0.later in let was = with.not_before in record {
+    (λ goes. let later = goes_later old new goes.0 in let was = with.not_before in record {
       of_one = λ at. let same = at.1 in absurd (omega arith);
       not_before = omega arith;
     })
@@ -97,7 +98,7 @@ opened_together end n t posters rest s opened last =
     let p : PlaceSeat = t.newest in
     let is : new_stand p.keeper.gate p.queue end 0 n ≡ s = (parts_snoc (new_stands p.keeper.gate p.queue end n) rest (new_stand p.keeper.gate p.queue end 0 n) s (sym opened.posters_are ∙ last)).1 in
     subst (AreTogether s) (sym opened.taker_is)
-    (subst (λ (x : StandSeat). AreTogether x (record { end = end.0; epoch = 0; retired = []; newest = p })) is (record { of_one = λ at. refl; not_before = omega arith }))
+    (subst (λ (x : StandSeat). AreTogether x (record { end = end.0; epoch = 0; retired = []; newest = p; left = None })) is (record { of_one = λ at. refl; not_before = omega arith }))
 
 -- after a start
 pub start_keeps : (s : StandSeat) (t : TakerSeat) → AreTogether s t → AreTogether s (started t)

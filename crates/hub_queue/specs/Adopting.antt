@@ -1,10 +1,14 @@
 -- What an adoption comes to.
-use Rattle.std.specs.Prelude.{◌≡◌, ◌≢◌, ℕ, ◌+◌, [], ◌∷◌, ◌++◌, length, Result, Ok, Err}
+use Rattle.std.specs.Prelude.{◌≡◌, ◌≢◌, ℕ, ◌+◌, List, [], ◌∷◌, ◌++◌, length, Result, Ok, Err}
 use Rattle.hub_core.specs.declared.limits.TheConstants.{MAX_MOVES}
 use Rattle.hub_queue.specs.declared.adopt_error.AdoptError.{AdoptError}
 use Rattle.hub_queue.specs.declared.adopt_error.AdoptError.TheVariants.{TooManyMoves, Taken, OutOfMemory}
-use Rattle.hub_queue.specs.Mailboxes.{IsNewPlace}
+use Rattle.std.specs.FinMap as map
+use Rattle.hub_depot.specs.Key.{key_cmp}
+use Rattle.hub_depot.specs.Putting.{with_all}
+use Rattle.hub_queue.specs.Mailboxes.{stands_at, IsNewPlace}
 use Rattle.hub_queue.specs.Places.{PlaceSeat}
+use Rattle.hub_queue.specs.Standing.{StandSeat}
 use Rattle.hub_queue.specs.Taking.{TakerSeat}
 
 -- the queue, whose gate was retired once more
@@ -17,7 +21,7 @@ newest_epoch t = t.epoch + length t.retired
 
 -- the gate that was newest was retired once more, and there is one queue more, which is new; the older queues are as they were
 pub record IsMoved (old new : TakerSeat) : Type 0 where
-  pub new_is : new ≡ record { end = old.end; epoch = old.epoch; retired = old.retired ++ retired_place old.newest ∷ []; newest = new.newest }
+  pub new_is : new ≡ record { end = old.end; epoch = old.epoch; retired = old.retired ++ retired_place old.newest ∷ []; newest = new.newest; left = old.left }
   pub newest : IsNewPlace old.end (newest_epoch old + 1) old.newest.at.lines new.newest
 
 -- the adoption was refused for another reason than too many moves
@@ -31,6 +35,14 @@ abbrev pub IsRefusedAs : ℕ → AdoptError → Type 0
 IsRefusedAs moves TooManyMoves = moves ≡ MAX_MOVES
 IsRefusedAs moves Taken = moves ≢ MAX_MOVES
 IsRefusedAs moves OutOfMemory = moves ≢ MAX_MOVES
+
+-- the stands of the lines at the newest queue of a taker, where nothing was put yet
+abbrev pub newest_stands : TakerSeat → List StandSeat
+newest_stands t = stands_at t.newest.keeper.gate t.newest.queue (record { 0 = t.end }) (newest_epoch t) t.newest.at.lines
+
+-- the map with a stand more for each line of the newest queue
+abbrev pub with_onwards : TakerSeat → map.FinMap key_cmp StandSeat → map.FinMap key_cmp StandSeat
+with_onwards t kept = with_all (λ s. s.name) kept (newest_stands t)
 
 -- Ok: the end has moved, and was not adopted as often as it may be. Err: the taker is as it was.
 abbrev pub IsAdopted : TakerSeat → Result TakerSeat (AdoptError × TakerSeat) → Type 0

@@ -19,9 +19,17 @@ use Rattle.hub_queue.specs.SharedQueue.{ShowsQueue}
 use Rattle.hub_queue.specs.Standing.{StandSeat}
 use Rattle.hub_queue.specs.Taking.{TakerSeat, IsTaken, first_place, started}
 
--- Of a queue under its rule: what the taker's pass has taken of a line is a prefix of what the line's pass has put.
-abbrev pub TakenIsPrefix : Type 0
-TakenIsPrefix = (items : List Envelope) (views : List PassView) → ShowsQueue items views → (taker pass : ℕ) (t : TakeView) (v : PutView) → get_elem? views taker ≡ some (Takes t) → get_elem? views pass ≡ some (Puts v) → Prefix (by v.line t.got) v.put
+-- what a queue holds, and what its passes know, as this rule has them
+abbrev pub Rule : Type 1
+Rule = List Envelope → List PassView → Type 0
+
+-- where the rule holds, they show a state of the queue machine
+abbrev pub RuleShowsQueue : Rule → Type 0
+RuleShowsQueue holds = (items : List Envelope) (views : List PassView) → holds items views → ShowsQueue items views
+
+-- where the rule holds, what the taker's pass has taken of a line is a prefix of what the line's pass has put
+abbrev pub TakenIsPrefix : Rule → Type 0
+TakenIsPrefix holds = (items : List Envelope) (views : List PassView) → holds items views → (taker pass : ℕ) (t : TakeView) (v : PutView) → get_elem? views taker ≡ some (Takes t) → get_elem? views pass ≡ some (Puts v) → Prefix (by v.line t.got) v.put
 
 -- nothing was taken of these queues
 abbrev pub NothingTaken : List PlaceSeat → Type 0

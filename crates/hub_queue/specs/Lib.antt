@@ -1,5 +1,6 @@
 pub mod Adopting
 pub mod Counting
+pub mod Draining
 pub mod Ending
 pub mod Graves
 pub mod Laws

@@ -1,5 +1,5 @@
 -- What a mailbox is as it is opened.
-use Rattle.std.specs.Prelude.{◌≡◌, ℕ, zero, suc, List, [], ◌∷◌, ◌++◌, Some}
+use Rattle.std.specs.Prelude.{◌≡◌, ℕ, zero, suc, List, [], ◌∷◌, ◌++◌, Some, None}
 use Rattle.atomic_blocks.specs.Laid.{WebId}
 use Rattle.atomic_table.specs.Seated.{TableId}
 use Rattle.hub_envelope.specs.declared.ids.EndId.{EndId}
@@ -7,7 +7,7 @@ use Rattle.hub_gate.specs.GateRule.{new_line, keeper_at}
 use Rattle.hub_queue.specs.Opening.{new_right, new_rights, new_take}
 use Rattle.hub_queue.specs.Places.{PlaceSeat, tags_of}
 use Rattle.hub_queue.specs.Seats.{tag_of}
-use Rattle.hub_queue.specs.Standing.{StandSeat}
+use Rattle.hub_queue.specs.Standing.{StandSeat, none_left}
 use Rattle.hub_queue.specs.Taking.{TakerSeat}
 
 -- a line at a queue of an end, which has put nothing there
@@ -15,12 +15,17 @@ abbrev pub new_stand : TableId → WebId → EndId → ℕ → ℕ → StandSeat
 new_stand gate web end epoch line = record {
   name = record { end = end; epoch = epoch; line = record { 0 = line } };
   entry = record { gate = gate; at = new_line line (tag_of (new_right web end.0 epoch line)) (Some (new_right web end.0 epoch line)) };
+  left = none_left;
 }
 
--- the first lines of an end, at its first queue
+-- the first lines of an end, at its queue of this epoch
+abbrev pub stands_at : TableId → WebId → EndId → ℕ → ℕ → List StandSeat
+stands_at gate web end epoch zero = []
+stands_at gate web end epoch (suc line) = stands_at gate web end epoch line ++ new_stand gate web end epoch line ∷ []
+
+-- the same, at its first queue
 abbrev pub new_stands : TableId → WebId → EndId → ℕ → List StandSeat
-new_stands gate web end zero = []
-new_stands gate web end (suc line) = new_stands gate web end line ++ new_stand gate web end 0 line ∷ []
+new_stands gate web end lines = stands_at gate web end 0 lines
 
 -- a queue of this end and epoch in which nothing was put, with a gate that is disabled and has the rights of its lines
 pub record IsNewPlace (end epoch lines : ℕ) (p : PlaceSeat) : Type 0 where
@@ -29,6 +34,6 @@ pub record IsNewPlace (end epoch lines : ℕ) (p : PlaceSeat) : Type 0 where
 
 -- The end has one queue, of epoch 0, in which nothing was put and which is disabled; its gate is that of the posters, one for each line.
 pub record IsOpenMailbox (end : EndId) (lines : ℕ) (taker : TakerSeat) (posters : List StandSeat) : Type 0 where
-  pub taker_is : taker ≡ record { end = end.0; epoch = 0; retired = []; newest = taker.newest }
+  pub taker_is : taker ≡ record { end = end.0; epoch = 0; retired = []; newest = taker.newest; left = None }
   pub newest : IsNewPlace end.0 0 lines taker.newest
   pub posters_are : posters ≡ new_stands taker.newest.keeper.gate taker.newest.queue end lines

@@ -1,7 +1,6 @@
 -- What a queue is as it is made.
-use Rattle.std.specs.Prelude.{◌≡◌, ◌⊎◌, ℕ, zero, suc, ◌≤◌, List, [], ◌∷◌, ◌++◌, map, length}
+use Rattle.std.specs.Prelude.{◌≡◌, ◌⊎◌, ℕ, zero, suc, List, [], ◌∷◌, ◌++◌, map, length}
 use Rattle.atomic_blocks.specs.Laid.{WebId}
-use Rattle.hub_core.specs.declared.limits.TheConstants.{MAX_LINES}
 use Rattle.hub_gate.specs.GateRule.{keeper_at}
 use Rattle.hub_gate.specs.GateSeats.{EntrySeat, first_entries}
 use Rattle.hub_queue.specs.declared.pass_view.TakeView.{TakeView}
@@ -40,10 +39,3 @@ module _ (end epoch lines : ℕ) (p : PlaceSeat) where
     pub at : p.at ≡ new_take end epoch lines
     pub keeper : p.keeper.at ≡ keeper_at (map tag_of rights_of) rights_of (length rights_of)
     pub entries_are : entries ≡ first_entries p.keeper.gate (map tag_of rights_of) rights_of (length rights_of)
-
--- the entries are those of the lines of a new queue, of which there are at most so many as a gate may have
-pub record AreNewEntries (end epoch : ℕ) (entries : List (EntrySeat LineSeat)) : Type 0 where
-  pub lines : ℕ
-  pub few : lines ≤ MAX_LINES
-  pub place : PlaceSeat
-  pub opened : IsOpenPlace end epoch lines place entries

@@ -31,9 +31,9 @@ pub record HasTags (web : WebId) (at : TakeView) (keeper : KeeperSeat LineSeat) 
   pub tags : keeper.at.tags ≡ tags_of web at.lines
   pub few : at.lines ≤ MAX_LINES
 
--- the passes of all lines were taken in
+-- the passes of all lines were taken in, in the order of the lines
 abbrev pub KnowsAll : TakeView → Type 0
-KnowsAll t = (line : ℕ) → line < t.lines → (i : ℕ) × (k : PutView) × (slice_get t.known i ≡ Some k) × (k.line ≡ line)
+KnowsAll t = (line : ℕ) → line < t.lines → (k : PutView) × (slice_get t.known line ≡ Some k) × (k.line ≡ line)
 
 -- the taker has taken in the passes of all lines where the gate has given the rights, and else none
 abbrev pub KnowsBy : Bool → TakeView → Type 0
@@ -75,4 +75,4 @@ pub record IsHeldUp (old new : PlaceSeat) : Type 0 where
 -- All rights of the queue are in hand, and line by line what was taken is all that was put.
 pub record IsSettled (p : PlaceSeat) : Type 0 where
   pub collected : p.keeper.at.collected ≡ true
-  pub each : (line : ℕ) → line < p.at.lines → (i : ℕ) × (k : PutView) × (slice_get p.at.known i ≡ Some k) × (k.line ≡ line) × (by line p.at.got ≡ k.put)
+  pub each : (line : ℕ) → line < p.at.lines → (k : PutView) × (slice_get p.at.known line ≡ Some k) × (k.line ≡ line) × (by line p.at.got ≡ k.put)

@@ -1,15 +1,21 @@
 -- Where a line stands, and what it has put there.
-use Rattle.std.specs.Prelude.{◌≡◌, ◌+◌, [], Option, Some, None}
+use Rattle.std.specs.Prelude.{◌≡◌, ◌+◌, List, [], replicate, Option, Some, None}
+use Rattle.hub_core.specs.declared.limits.TheConstants.{MAX_HOPS}
 use Rattle.hub_depot.specs.declared.key.Key.{Key}
 use Rattle.hub_gate.specs.GateRule.{new_line}
 use Rattle.hub_gate.specs.GateSeats.{EntrySeat}
 use Rattle.hub_queue.specs.declared.pass_view.PutView.{PutView}
 use Rattle.hub_queue.specs.Seats.{LineSeat, IsNameOf}
 
--- the name of the line at the queue where it stands, and its entry at the gate of that queue
+-- the name of the line at the queue where it stands, its entry at the gate of that queue, and the entries at the gates that it left in the last post that went on, the last one first
 pub record StandSeat : Type 0 where
   pub name : Key
   pub entry : EntrySeat LineSeat
+  pub left : List (Option (EntrySeat LineSeat))
+
+-- a line that has left no gate
+abbrev pub none_left : List (Option (EntrySeat LineSeat))
+none_left = replicate MAX_HOPS None
 
 -- the right of an entry that is out, which is at home
 abbrev pub right_in : Option LineSeat → LineSeat

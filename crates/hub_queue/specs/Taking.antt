@@ -34,12 +34,13 @@ IsTakenOff old new before after Empty = ⊥
 IsTakenOff old new before after Disabled = ⊥
 IsTakenOff old new before after Closed = ⊥
 
--- the end, the epoch of the taker's queue, the retired queues from the taker's on, and the newest queue
+-- the end, the epoch of the taker's queue, the retired queues from the taker's on, the newest queue, and the queue that the taker left last
 pub record TakerSeat : Type 0 where
   pub end : ℕ
   pub epoch : ℕ
   pub retired : List PlaceSeat
   pub newest : PlaceSeat
+  pub left : Option PlaceSeat
 
 -- the queue where the taker stands, which is its oldest
 abbrev pub first_of : List PlaceSeat → PlaceSeat → PlaceSeat
@@ -75,14 +76,19 @@ abbrev pub left_after : PlaceSeat → List PlaceSeat → Took → List PlaceSeat
 left_after q rest Again = rest
 left_after q rest _ = q ∷ rest
 
--- this is what a take at the first of these queues comes to, and no other is touched
-abbrev pub IsTakenFirst : List PlaceSeat → List PlaceSeat → Count → Count → Took → Type 0
-IsTakenFirst old new before after took = (p : PlaceSeat) × (q : PlaceSeat) × (rest : List PlaceSeat) × (old ≡ p ∷ rest) × (new ≡ left_after q rest took) × IsTakenOff p q before after took
+-- the queue that was left last, after a take at this one
+abbrev pub left_last : Option PlaceSeat → PlaceSeat → Took → Option PlaceSeat
+left_last left q Again = Some q
+left_last left q _ = left
+
+-- This is what a take at the first of these queues comes to, and no other is touched. Where the taker has left the queue it keeps what shows it, and else the queue stands in front.
+abbrev pub IsTakenFirst : List PlaceSeat → List PlaceSeat → Option PlaceSeat → Option PlaceSeat → Count → Count → Took → Type 0
+IsTakenFirst old new was_left left before after took = (p : PlaceSeat) × (q : PlaceSeat) × (rest : List PlaceSeat) × (old ≡ p ∷ rest) × (new ≡ left_after q rest took) × IsTakenOff p q before after took × (left ≡ left_last was_left q took)
 
 -- there is no queue, or the first was taken from
-abbrev pub IsTakenOldest : List PlaceSeat → List PlaceSeat → Count → Count → Option Took → Type 0
-IsTakenOldest old new before after None = (old ≡ []) × (new ≡ old) × (after ≡ before)
-IsTakenOldest old new before after (Some took) = IsTakenFirst old new before after took
+abbrev pub IsTakenOldest : List PlaceSeat → List PlaceSeat → Option PlaceSeat → Option PlaceSeat → Count → Count → Option Took → Type 0
+IsTakenOldest old new was_left left before after None = (old ≡ []) × (new ≡ old) × (left ≡ was_left) × (after ≡ before)
+IsTakenOldest old new was_left left before after (Some took) = IsTakenFirst old new was_left left before after took
 
 -- the epoch of the taker's queue after a take that answers this
 abbrev pub epoch_after : ℕ → Took → ℕ
@@ -91,11 +97,11 @@ epoch_after epoch _ = epoch
 
 -- there is no retired queue, and this is what a take at the newest one comes to
 abbrev pub TakesNewest : TakerSeat → TakerSeat → Count → Count → Took → Type 0
-TakesNewest old new before after took = (q : PlaceSeat) × (old.retired ≡ []) × (new ≡ record { end = old.end; epoch = old.epoch; retired = []; newest = q }) × IsTakenAt old.newest q before after took
+TakesNewest old new before after took = (q : PlaceSeat) × (old.retired ≡ []) × (new ≡ record { end = old.end; epoch = old.epoch; retired = []; newest = q; left = old.left }) × IsTakenAt old.newest q before after took
 
 -- there are retired queues, and this is what a take at the first of them comes to
 abbrev pub TakesRetired : TakerSeat → TakerSeat → Count → Count → Took → Type 0
-TakesRetired old new before after took = (new ≡ record { end = old.end; epoch = epoch_after old.epoch took; retired = new.retired; newest = old.newest }) × IsTakenFirst old.retired new.retired before after took
+TakesRetired old new before after took = (new ≡ record { end = old.end; epoch = epoch_after old.epoch took; retired = new.retired; newest = old.newest; left = new.left }) × IsTakenFirst old.retired new.retired old.left new.left before after took
 
 -- Disabled: exactly where the newest gate isn't enabled, and then nothing is popped. Else the taker takes at its own queue, the oldest one.
 abbrev pub IsTaken : TakerSeat → TakerSeat → Count → Count → Took → Type 0

@@ -1,5 +1,5 @@
 -- What a post at the queue where the line stands comes to, and what becomes of a line that was turned.
-use Rattle.std.specs.Prelude.{◌≡◌, ◌⊎◌, [], Bool, Option, Some, Result, Ok, Err}
+use Rattle.std.specs.Prelude.{◌≡◌, ◌⊎◌, ℕ, [], ◌∷◌, take, Option, Some, Result, Ok, Err}
 use Rattle.hub_envelope.specs.declared.envelope.Draft.{Draft}
 use Rattle.hub_gate.specs.declared.entered.Refusal.{Refusal}
 use Rattle.hub_gate.specs.declared.entered.Refusal.TheVariants as refusal
@@ -23,12 +23,16 @@ IsAnswered old new draft (Err refused) = (new ≡ old) × (refused.1 ≡ draft) 
 
 -- the line has left with the right that it had inside, by which the draft was put or not
 abbrev pub IsPutInside : InsideSeat LineSeat → Option (EntrySeat LineSeat) → Draft → Result Posted (PostError × Draft) → Type 0
-IsPutInside inside entry draft answer = (enabled : Bool) × (right : LineSeat) × (entry ≡ Some (left_seat (with_right inside right) enabled)) × (right.queue ≡ inside.right.queue) × IsAnswered inside.right.at right.at draft answer
+IsPutInside inside entry draft answer = (word : ℕ) × (right : LineSeat) × (entry ≡ Some (left_seat (with_right inside right) word)) × (right.queue ≡ inside.right.queue) × IsAnswered inside.right.at right.at draft answer
 
 -- The line stays where it stands. The draft was put, or there was no memory for it, or the line was turned.
 abbrev pub IsTried : StandSeat → StandSeat → Draft → Tried → Type 0
 IsTried old new draft (Answered answer) = StaysAt old new × IsAnswered (put_of old) (put_of new) draft answer
 IsTried old new draft (Turned found back) = StaysAt old new × (put_of new ≡ put_of old) × (back ≡ draft) × HasSeen new old.entry.at.enters found
+
+-- the line stands at the next queue, and keeps what shows the gate that it has left
+abbrev pub gone_to : StandSeat → StandSeat → StandSeat
+gone_to old next = record { name = next.name; entry = next.entry; left = Some old.entry ∷ take 3 old.left }
 
 -- the line has gone on to a later queue of its end, in which it had put this, which is nothing
 pub record GoesToUnused (old new : StandSeat) (before : PutView) : Type 0 where

@@ -10,9 +10,12 @@
 mod adopt_error;
 mod adopting;
 mod bell;
+mod draining;
 mod ends;
 mod grave;
 mod laws;
+mod left_gates;
+mod left_queue;
 mod limits;
 mod line_right;
 mod mailbox;
@@ -38,10 +41,13 @@ mod took;
 
 pub use adopt_error::AdoptError;
 pub use bell::Bell;
+pub use draining::{Drained, Rest};
 pub use ends::Ends;
 pub use grave::{Grave, Sweep};
 pub use hub_core::{MAX_HOPS, MAX_LINES, MAX_MOVES};
 pub use laws::queue_chain_laws;
+pub use left_gates::LeftGates;
+pub use left_queue::LeftQueue;
 pub use limits::MAX_PUT;
 pub use line_right::LineRight;
 pub use mailbox::Mailbox;

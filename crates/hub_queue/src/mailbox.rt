@@ -1,50 +1,28 @@
-ghost use Rattle.std.specs.Prelude.{◌≡◌, ◌<◌, ◌≤◌, length, IfOk};
+ghost use Rattle.std.specs.Prelude.{◌≡◌, ◌<◌, ◌≤◌, IfOk};
 ghost use Rattle.hub_core.specs.declared.limits.TheConstants.{MAX_LINES};
-ghost use Rattle.hub_queue.specs.Mailboxes.{IsOpenMailbox, new_stands};
-ghost use Rattle.hub_queue.specs.Opening.{IsOpenPlace};
+ghost use Rattle.hub_queue.specs.Mailboxes.{IsOpenMailbox};
 
+use crate::adopting::onwards_at;
 use crate::bell::Bell;
-use crate::line_right::LineRight;
+use crate::onward::Onward;
 use crate::opening::open_place;
-use crate::place::Place;
 use crate::poster::Poster;
-use crate::stand::Stand;
 use crate::taker::Taker;
 use hub_core::OutOfMemory;
-use hub_depot::Key;
-use hub_envelope::{EndId, LineId};
-use hub_gate::Entry;
+use hub_envelope::EndId;
 use std::alloc::Global;
 use std::collections::VecDeque;
 
 /// The queues of one end. `Mailbox::open` makes one; its parts are the taker and the posters.
 pub struct Mailbox;
 
-// A poster for each entry of a new place, in order.
-fn seat_posters(
-    alloc: Global,
-    place: &Place,
-    mut entries: Vec<Entry<LineRight>>,
-    end: EndId,
-    bell: &Bell,
-) -> Result<Vec<Poster>, OutOfMemory>
-    requires few { place.now.at.lines ≤ MAX_LINES }
-    requires open { IsOpenPlace end.0 0 place.now.at.lines place.now entries.items }
-    ensures { IfOk result (λ posters. posters.items
-        ≡ new_stands place.now.keeper.gate place.now.queue end place.now.at.lines) }
+// The posters of all lines, which nobody has used.
+fn posters_of(alloc: Global, onwards: Vec<Onward>) -> Result<Vec<Poster>, OutOfMemory>
+    ensures { IfOk result (λ posters. posters.items ≡ onwards.items) }
 {
-    let mut posters = Vec::with_capacity(alloc, entries.len())?;
-    entries.reverse();
-    for line in 0..entries.len() {
-        let entry = entries.pop().unwrap();
-        let name = Key {
-            end,
-            epoch: 0,
-            line: LineId(line as u8),
-        };
-        let bell = bell.clone()?;
-        let entry = Some(entry);
-        let stand = Stand { name, entry, bell };
+    let mut posters = Vec::with_capacity(alloc, onwards.len())?;
+    for onward in onwards {
+        let Onward { stand } = onward;
         posters.push(Poster { stand })?;
     }
     Ok(posters)
@@ -64,7 +42,8 @@ impl Mailbox {
         ensures { IfOk result (λ m. IsOpenMailbox end lines m.0 m.1.items) }
     {
         let (newest, entries) = open_place(alloc, end, 0, lines)?;
-        let posters = seat_posters(alloc, &newest, entries, end, &bell)?;
+        let onwards = onwards_at(alloc, &newest, entries, end, 0, &bell)?;
+        let posters = posters_of(alloc, onwards)?;
         let taker = Taker {
             alloc,
             end,
@@ -72,6 +51,7 @@ impl Mailbox {
             lines,
             retired: VecDeque::new(alloc),
             newest,
+            left: None,
         };
         Ok((taker, posters))
     }

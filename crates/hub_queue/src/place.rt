@@ -1,11 +1,12 @@
 ghost use Rattle.std.specs.Prelude.{◌≡◌, is_none, nat_lt};
 ghost use Rattle.hub_queue.specs.Counting.{counted};
-ghost use Rattle.hub_queue.specs.Places.{IsShut};
+ghost use Rattle.hub_queue.specs.Places.{IsSettled, IsShut};
 ghost use Rattle.hub_queue.specs.Settling.{IsPlacePop};
 ghost use Rattle.hub_queue.specs.Adopting.{retired_place};
 ghost use Rattle.hub_queue.specs.Ending.{closed_place};
 ghost use Rattle.hub_queue.specs.Taking.{IsTakenAt, IsTakenOff, enabled_place};
 
+use crate::left_queue::LeftQueue;
 use crate::line_right::LineRight;
 use crate::pop::pop;
 use crate::steps::Steps;
@@ -105,6 +106,18 @@ impl Place {
         match self.pop(rt, steps) {
             Some(envelope) => Took::Got(envelope),
             None => Took::Empty,
+        }
+    }
+
+    /// What shows the queue, which is done with.
+    pub(crate) fn leave(self) -> LeftQueue
+        requires { IsSettled self }
+        ensures { result ≡ self }
+    {
+        let Place { pass, keeper, .. } = self;
+        LeftQueue {
+            pass,
+            gate: keeper.into_witness(),
         }
     }
 

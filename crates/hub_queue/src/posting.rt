@@ -125,7 +125,7 @@ impl Stand {
             let Some(next) = next_stand(rt, yard, self.name) else {
                 return Err((PostError::Moving, draft));
             };
-            *self = next;
+            self.go_to(next);
             match self.try_post(rt, draft, pause) {
                 Tried::Answered(answer) => return answer,
                 Tried::Turned(refusal, back) => {

@@ -1,8 +1,13 @@
+ghost use Rattle.std.specs.Prelude.{◌≡◌};
+ghost use Rattle.hub_queue.specs.Trying.{gone_to};
+
 use crate::bell::Bell;
+use crate::left_gates::LeftGates;
 use crate::line_right::LineRight;
 use hub_depot::Key;
 use hub_gate::Entry;
 use std::marker::Model;
+use std::mem::replace;
 
 /// Where a line stands: at which queue, with the entry of its gate and the bell of its loop.
 #[derive(Drop)]
@@ -11,6 +16,7 @@ pub struct Stand {
     /// The line's entry. It is `None` during a post alone.
     pub(crate) entry: Option<Entry<LineRight>>,
     pub(crate) bell: Bell,
+    pub(crate) left: LeftGates,
 }
 
 impl Model for Stand {
@@ -19,8 +25,18 @@ impl Model for Stand {
 
     ghost Value = { StandSeat };
 
-    ghost view = { λ s. record { name = s.name; entry = entry_in s.entry } };
+    ghost view = { λ s. record { name = s.name; entry = entry_in s.entry; left = s.left } };
 
     ghost invariant = { λ s. (s.entry ≡ Some (entry_in s.entry))
-        × IsStand (record { name = s.name; entry = entry_in s.entry }) };
+        × IsStand (record { name = s.name; entry = entry_in s.entry; left = s.left }) };
+}
+
+impl Stand {
+    /// Goes on to the next queue, and keeps what shows the gate that it leaves.
+    pub(crate) fn go_to(&mut self, next: Stand)
+        ensures { self.new ≡ gone_to self.old next }
+    {
+        let Stand { entry, left, .. } = replace(self, next);
+        self.left = left.with(entry.unwrap());
+    }
 }

@@ -3,7 +3,8 @@ use hub_envelope::{EndId, Envelope};
 use std::collections::VecDeque;
 use std::marker::Model;
 
-/// What is left of an end that is closed and empty. Only `Grave::sweep` makes one.
+/// What is left of an end that is closed and empty: of each of its queues, line by line, what was
+/// taken is all that was put.
 #[derive(Drop)]
 pub struct Swept {
     pub(crate) end: EndId,
@@ -14,7 +15,9 @@ pub struct Swept {
 
 impl Model for Swept {
     ghost use Rattle.std.specs.Prelude.{[], ◌∷◌, ◌++◌};
+    ghost use Rattle.std.specs.List.{AllByRecursion};
     ghost use Rattle.hub_queue.specs.Graves.{SweptSeat};
+    ghost use Rattle.hub_queue.specs.Places.{IsSettled};
 
     ghost Value = { SweptSeat };
 
@@ -23,6 +26,8 @@ impl Model for Swept {
       envelopes = s.envelopes.items;
       places = s.retired.items ++ s.newest ∷ [];
     } };
+
+    ghost invariant = { λ s. AllByRecursion IsSettled (s.retired.items ++ s.newest ∷ []) };
 }
 
 impl Swept {

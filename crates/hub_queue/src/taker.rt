@@ -1,6 +1,7 @@
-ghost use Rattle.std.specs.Prelude.{◌≡◌, length};
+ghost use Rattle.std.specs.Prelude.{◌≡◌, length, IfOk, OnErr};
+ghost use Rattle.std.specs.Option.{option_map};
 ghost use Rattle.std.specs.List.{AllByRecursion};
-ghost use Rattle.hub_queue.specs.Adopting.{IsAdopted, newest_epoch};
+ghost use Rattle.hub_queue.specs.Adopting.{IsAdopted, newest_epoch, with_onwards};
 ghost use Rattle.hub_queue.specs.Ending.{IsClosed};
 ghost use Rattle.hub_queue.specs.Places.{IsShut};
 ghost use Rattle.hub_queue.specs.Taking.{IsTaken, IsTakenOldest, started};
@@ -9,12 +10,13 @@ use crate::adopt_error::AdoptError;
 use crate::adopting::open_next;
 use crate::bell::Bell;
 use crate::grave::Grave;
+use crate::left_queue::LeftQueue;
 use crate::onward::Onward;
 use crate::place::Place;
 use crate::steps::Steps;
 use crate::took::Took;
 use hub_core::MAX_MOVES;
-use hub_depot::Depot;
+use hub_depot::{Depot, Shelf};
 use hub_envelope::EndId;
 use std::alloc::Global;
 use std::collections::VecDeque;
@@ -37,6 +39,8 @@ pub struct Taker {
     /// The retired queues from the taker's on, the oldest first.
     pub(crate) retired: VecDeque<Place>,
     pub(crate) newest: Place,
+    /// What shows the queue that it left last.
+    pub(crate) left: Option<LeftQueue>,
 }
 
 impl Model for Taker {
@@ -49,6 +53,7 @@ impl Model for Taker {
       epoch = t.epoch;
       retired = t.retired.items;
       newest = t.newest;
+      left = t.left;
     } };
 
     ghost invariant = { λ t. IsTakers t.lines (record {
@@ -56,6 +61,7 @@ impl Model for Taker {
       epoch = t.epoch;
       retired = t.retired.items;
       newest = t.newest;
+      left = t.left;
     }) };
 }
 
@@ -64,15 +70,18 @@ impl Model for Taker {
 fn take_oldest<L: Ledger, R: Wait>(
     rt: &R,
     retired: &mut VecDeque<Place>,
+    left: &mut Option<LeftQueue>,
     steps: &mut Steps<L>,
 ) -> Option<Took>
     requires { AllByRecursion IsShut retired.old.items }
-    ensures { IsTakenOldest retired.old.items retired.new.items steps.old steps.new result }
+    ensures { IsTakenOldest retired.old.items retired.new.items left.old left.new
+        steps.old steps.new result }
 {
     let place = retired.front_mut()?;
     match place.take_retired(rt, steps) {
         Took::Again => {
-            retired.pop_front();
+            let place = retired.pop_front().unwrap();
+            *left = Some(place.leave());
             Some(Took::Again)
         }
         took => Some(took),
@@ -102,7 +111,7 @@ impl Taker {
         if !self.newest.enabled() {
             return Took::Disabled;
         }
-        let Some(took) = take_oldest(rt, &mut self.retired, steps) else {
+        let Some(took) = take_oldest(rt, &mut self.retired, &mut self.left, steps) else {
             return self.newest.take_newest(rt, steps);
         };
         match took {
@@ -142,12 +151,28 @@ impl Taker {
     ///
     /// After an error the taker is as it was, and the onward posters were taken back from the yard.
     pub fn adopt<R: Wait>(
-        mut self,
+        self,
         rt: &R,
         yard: &Depot<Onward>,
         bell: Bell,
     ) -> Result<Taker, (AdoptError, Taker)>
         ensures { IsAdopted self result }
+    {
+        let mut yard = yard;
+        self.adopt_on(rt, &mut yard, bell)
+    }
+
+    /// The same, over any shelf as the yard.
+    pub fn adopt_on<S: Shelf<Onward>, R: Wait>(
+        mut self,
+        rt: &R,
+        yard: &mut S,
+        bell: Bell,
+    ) -> Result<Taker, (AdoptError, Taker)>
+        ensures adopted { IsAdopted self result }
+        ensures laid { IfOk result (λ taker. S.shown yard.new
+            ≡ option_map (with_onwards taker) (S.shown yard.old)) }
+        ensures kept { OnErr result (S.shown yard.new ≡ S.shown yard.old) }
     {
         let moves = self.epoch + self.behind();
         if moves == MAX_MOVES {
@@ -179,6 +204,7 @@ impl Taker {
             lines: _,
             retired,
             mut newest,
+            left: _,
         } = self;
         newest.close();
         Grave {

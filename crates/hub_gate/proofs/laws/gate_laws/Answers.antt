@@ -4,8 +4,11 @@ use Rattle.hub_gate.proofs.laws.gate_laws.Goals as goal
 pub returns-clause-over : goal.returns-clause-over
 returns-clause-over g c = none_in g.T.Right.tag
 
+pub returns-clause-rule : goal.returns-clause-rule
+returns-clause-rule g c = λ key s kept. kept
+
 pub returns-clause-seats : goal.returns-clause-seats
-returns-clause-seats g c = no_seat_in g.T.Right.tag
+returns-clause-seats g c = λ key. no_seat_in g.T.Right.tag
 
 pub returns-clause-steps : goal.returns-clause-steps
 returns-clause-steps g c = each_step g.T.Right.tag

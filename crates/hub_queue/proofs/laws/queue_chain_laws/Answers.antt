@@ -1,6 +1,9 @@
 use Rattle.hub_queue.proofs.InTurn.{taken_prefix, in_turn, chain_prefix}
 use Rattle.hub_queue.proofs.laws.queue_chain_laws.Goals as goal
 
+pub returns-clause-rule : goal.returns-clause-rule
+returns-clause-rule c = λ items views kept. kept
+
 pub returns-clause-prefix : goal.returns-clause-prefix
 returns-clause-prefix c = taken_prefix
 

@@ -1,5 +1,5 @@
 use Rattle.std.proofs.Common.{◌<◌, refl, sym, subst, ◌∙◌}
-use Rattle.hub_queue.proofs.Chains.{at_front, set_front, stays_after}
+use Rattle.hub_queue.proofs.Chains.{at_front, set_front, stays_after, last_stays}
 use Rattle.hub_queue.proofs.taker.take_oldest.Goals as goal
 
 pub returns-in_default : goal.returns-in_default
@@ -12,4 +12,5 @@ returns-in_default g c =
       front.1,
       set_front _ _ c.take_retired.new.self _ front.1 ∙ sym (stays_after _ _ _ c.in_default.not-Again),
       c.take_retired.ensures,
+      sym (last_stays _ _ _ c.in_default.not-Again),
     )

@@ -1,0 +1,13 @@
+use Rattle.std.proofs.Common.{◌∙◌}
+use Rattle.hub_depot.proofs.ManyPut.{taken_back}
+use Rattle.hub_depot.proofs.putting.take_back.Goals as goal
+
+pub loop-name-preserved-in-Some : goal.loop-name-preserved-in-Some
+loop-name-preserved-in-Some g c =
+    taken_back (g.S.Shelf.shown c.loop-name.shelf) (g.S.Shelf.shown c.take.new.self) c.loop-name.names.items c.pop.new.self.items c.in-Some.name c.take.ensures.rest
+    c.in-Some.ensures.items ∙ c.loop-name.invariant
+
+pub loop-name-preserved : goal.loop-name-preserved
+loop-name-preserved g c =
+    taken_back (g.S.Shelf.shown c.loop-name.shelf) (g.S.Shelf.shown c.take.new.self) c.loop-name.names.items c.pop.new.self.items c.in-Some.name c.take.ensures.rest
+    c.in-Some.ensures.items ∙ c.loop-name.invariant
