@@ -11,18 +11,23 @@ import tempfile
 import support
 from support import ROOT, outcome_of
 
-FOLDERS = ("bench", "tests", "tests/soak.d", "tools")
+FOLDERS = ("bench", "record", "tests", "tests/soak.d", "tools")
 LOCALES = ("C", "POSIX", "C.UTF-8", "xx_XX.ISO-8859-1")
 # What is missing or wrong in each call, by script.
 WRONG = {
     "bench/all": [["no-such-bench"], ["--turns", "0"], ["--program", "/nowhere/at/all"]],
     "bench/build": [[], ["/nowhere/at/all", "name"]],
+    "record/merge": [[], ["/nowhere/at/all"]],
     "tests/all": [["no-such-test"], ["--program", "/nowhere/at/all"], ["--jobs", "0"]],
     "tests/node": [["/nowhere/at/all"], ["--files", "0"], ["--lines", "abc"]],
     "tests/simulate": [[], ["fly"], ["--wrong", "fly", "run"]],
     "tests/soak": [[], ["/nowhere/at/all"], ["--processors", "0", "/bin/true"], ["/tmp"]],
     "tests/soak.d/faults": [["--runs", "x"], ["--runs", "0", "--seeds", "0"], ["--jobs", "0"]],
+    "tools/account": [["/nowhere/at/all"], ["a", "b"]],
+    "tools/explain": [["/nowhere/at/all"], ["a", "b"]],
     "tools/judge": [["/nowhere/at/all"], ["/"], ["a", "b"]],
+    "tools/steps-of": [["/nowhere/at/all"], ["--states", "x"]],
+    "tools/view": [["/nowhere/at/all"], ["a", "b"]],
     "tools/draw": [["/nowhere/at/all"], ["/"], ["--most", "-1"]],
     "tools/clauses": [["no_such_crate"]],
 }
@@ -75,7 +80,7 @@ class Commands(support.TestCase):
 
     def test_paths_with_spaces(self):
         with tempfile.TemporaryDirectory(prefix="a folder ") as folder:
-            for name in ["bench", "tests", "tools"]:
+            for name in ["bench", "record", "tests", "tools"]:
                 shutil.copytree(ROOT / name, pathlib.Path(folder) / name)
             for name in scripts():
                 with self.subTest(script=name):

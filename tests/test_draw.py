@@ -1,16 +1,24 @@
 """Draws logs with tools/draw, and looks at the pictures.
 
 It counts the arrows of a picture, compares what is told beside it and the exit status, and reads
-where things stand: no two texts overlap, no text leaves the picture, each arrow goes down. The
-pictures in docs/ have to be those that tools/draw makes of the runs in tests/runs.
+where things stand: no two texts overlap, no line strikes a text through, no text leaves the
+picture, and each arrow goes down. The pictures in docs/ have to be those that tools/draw makes of
+the runs in tests/runs, with the names of the scripts in examples/.
 """
 
+import pathlib
 import random
+import re
+import sys
 import tempfile
 import xml.etree.ElementTree
 
 import support
 from support import ROOT, TESTS, outcome_of
+
+sys.path.append(str(ROOT / "tools"))
+
+import runlog  # noqa: E402
 
 DRAW = ROOT / "tools" / "draw"
 SVG = "{http://www.w3.org/2000/svg}"
@@ -44,6 +52,24 @@ got 1 0 0:0 - 2
 put 0 0 0:0 - 1
 """
 NOBODY = 'hublog 3\nagent 0\ngot 0 0 0:0 - "<&>\ufffe\x7f"\n'
+# PORT_SENT is a run of such a script: ends 0 and 1 are queues, 2 and 3 the ports.
+SCRIPT = """{"agent":"window","origin":"https://a.example"}
+{"agent":"worker","origin":"https://a.example"}
+{"channel":["p\\u202e","q"],"at":0}
+{"member":"news","at":0,"on":"topic"}
+{"at":0,"post":"p\\u202e","body":1}
+"""
+ACCEPTED = 'put 1 0 0:0 - "one"\nput 1 0 0:1 notice\nput 1 0 0:2 - "three"\n'
+ONE, NOTICE, THREE = (f"got{line[3:]}\n" for line in ACCEPTED.splitlines())
+# The kind, what agent 1 logged, the title of the arrow that is at fault, and what was due there.
+FAULTS = [
+    ("AfterClose", f"{ONE}closed 1\n{NOTICE}", "end 1 0:1 notice", "nothing more was due"),
+    ("AfterNotice", ONE + NOTICE + THREE, 'end 1 0:2 "three"', "nothing more was due"),
+    ("Changed", 'got 1 0 0:0 - "two"\n', 'end 1 0:0 "two"', 'got "two"'),
+    ("Twice", ONE + ONE, 'end 1 0:0 "one"', "0:1 was next"),
+    ("Gap", ONE + THREE, 'end 1 0:2 "three"', "0:1 was next"),
+    ("Foreign", f'{ONE}got 1 0 0:7 - "x"\n', 'end 1 0:7 "x"', "0:1 was next"),
+]
 TO_ITSELF = "hublog 3\nagent 0\nput 0 0 0:0 - 1\ngot 0 0 0:0 - 1\n"
 
 
@@ -55,72 +81,140 @@ def parsed(outcome):
     return xml.etree.ElementTree.fromstring(outcome.output)
 
 
+def legend(entries):
+    """The texts of the picture of these entries that stand below the lanes."""
+    root = parsed(run(f"hublog 3\nagent 0\n{entries}"))
+    foot = max(float(it.get("y2")) for it in root.iter(f"{SVG}line") if it.get("class") == "lane")
+    return [words_of(it) for it in root.iter(f"{SVG}text") if float(it.get("y")) > foot]
+
+
+def is_red(group):
+    return any("fault" in it.get("class", "") for it in group)
+
+
 def many(count):
     puts = "".join(f"put 1 0 0:{at} - {at}\n" for at in range(count))
     return f"hublog 3\nagent 0\n{puts}agent 1\n{puts.replace('put', 'got')}"
 
 
+def groups(root, style):
+    return [it for it in root.iter(f"{SVG}g") if it.get("class") == style]
+
+
 def arrows(root):
-    """How many messages were taken, discarded, and put by nobody."""
-    styles = [it.get("class") for it in root.iter(f"{SVG}g")]
-    return [styles.count(it) for it in ("taken", "discarded", "foreign")]
+    """How many messages were got, never got, and got without a put."""
+    got, left = groups(root, "delivery"), groups(root, "left")
+    return [len(got), len(left), sum(it.find(f"{SVG}circle") is not None for it in got)]
+
+
+def words_of(text):
+    return "".join(text.itertext())
+
+
+def texts(root):
+    return [words_of(it) for it in root.iter(f"{SVG}text")]
 
 
 def boxes(root):
     for text in root.iter(f"{SVG}text"):
-        x, y, width = float(text.get("x")), float(text.get("y")), len(text.text) * LETTER
+        words = words_of(text)
+        x, y, width = float(text.get("x")), float(text.get("y")), len(words) * LETTER
         left = x - {"start": 0, "middle": width / 2, "end": width}[text.get("text-anchor")]
-        yield left, y - ABOVE, left + width, y + BELOW, text.text
+        yield left, y - ABOVE, left + width, y + BELOW, words
+
+
+PATH_STEP = re.compile(r"([MHVhvl])([-0-9.]+)(?: ([-0-9.]+))?")
+
+
+def corners(path):
+    """The points through which a path goes."""
+    x = y = 0
+    for letter, *numbers in PATH_STEP.findall(path):
+        first, second = (float(number or 0) for number in numbers)
+        x, y = {
+            "M": (first, second), "H": (first, y), "V": (x, first),
+            "h": (x + first, y), "v": (x, y + first), "l": (x + first, y + second),
+        }[letter]
+        yield x, y
+
+
+def strokes(root):
+    """The boxes of all lines of the picture, and of the marks."""
+    for it in root.iter(f"{SVG}line"):
+        x, y, to_x, to_y = (float(it.get(name)) for name in ("x1", "y1", "x2", "y2"))
+        yield min(x, to_x), min(y, to_y), max(x, to_x), max(y, to_y), it.get("class")
+    for it in root.iter(f"{SVG}path"):
+        points = list(corners(it.get("d")))
+        for (x, y), (to_x, to_y) in zip(points, points[1:]):
+            yield min(x, to_x), min(y, to_y), max(x, to_x), max(y, to_y), it.get("class")
+
+
+def overlap(one, other):
+    return (
+        one[0] < other[2] and other[0] < one[2] and one[1] < other[3] and other[1] < one[3]
+    )
 
 
 def complaints(root):
     """What is wrong with the places of the texts."""
     _, _, width, height = map(float, root.get("viewBox").split())
-    found, before = [], []
+    found, lines = [], sorted(strokes(root), key=lambda it: it[1])
+    before = []
     for box in sorted(boxes(root), key=lambda it: it[1]):
         left, top, right, bottom, words = box
         if left < 0 or top < 0 or right > width or bottom > height:
             found.append(f"{words} leaves the picture")
         before = [it for it in before if it[3] > top]
-        for other in before:
-            if left < other[2] and other[0] < right:
-                found.append(f"{words} lies on {other[4]}")
+        found += [f"{words} lies on {it[4]}" for it in before if overlap(box, it)]
+        found += [f"{words} is struck through by {it[4]}" for it in lines if overlap(box, it)]
         before.append(box)
+    return found + shared_lines(root)
+
+
+def shared_lines(root):
+    """Messages that wait on the same line at the same time."""
+    found, waiting = [], []
+    for group in groups(root, "delivery"):
+        for path in group.findall(f"{SVG}path"):
+            (x, y), (_, to_y) = list(corners(path.get("d")))[-2:]
+            span = x, min(y, to_y), max(y, to_y)
+            found += [f"two messages wait at {x}" for other in waiting
+                      if other[0] == x and other[1] < span[2] and span[1] < other[2]]
+            waiting.append(span)
     return found
 
 
 def rises(root):
-    """How many arrows don't go down."""
+    """How many arrows don't go down, and aren't level."""
     found = 0
-    for group in root.iter(f"{SVG}g"):
-        tips = group.findall(f"{SVG}polygon")
-        shape = group.find(f"{SVG}path")
-        if group.get("class") == "taken":
-            if shape is not None:
-                start = float(shape.get("d")[1:].split("H")[0].split(" ")[1])
-            else:
-                start = float(group.find(f"{SVG}line").get("y1"))
-            found += float(tips[0].get("points").split(" ")[0].split(",")[1]) <= start
+    for group in groups(root, "delivery"):
+        for path in group.findall(f"{SVG}path"):
+            points = list(corners(path.get("d")))
+            found += points[-1][1] <= points[0][1]
     return found
 
 
 def random_logs(seed):
-    """Logs of any entries, faulty ones among them, and how many messages they tell of."""
+    """Logs of any entries, faulty ones among them; their arrows, and the names of all messages."""
     draw = random.Random(seed)
     agents = [f"agent {it}\n" for it in range(draw.choice([1, 2, 3, 5, 16]))]
-    logs, names = [[] for _ in agents], []
+    logs, got, left, nobody, addresses = [[] for _ in agents], 0, 0, 0, []
     for number in range(30):
         ports = draw.choice(["-", "-", "7", ",".join(map(str, range(65_520, 65_536)))])
         body = draw.choice([f"{ports} {number}", f'{ports} "<&>"', "notice"])
         end, line, epoch = (draw.choice([0, it]) for it in (65_535, 31, 65_535))
-        name = f"{end} {line} {epoch}:{number}"
-        for word, chance in (("put", 0.9), ("got", 0.8)):
-            if draw.random() < chance:
-                draw.choice(logs).append(f"{word} {name} {body}\n")
-                names.append(name)
+        is_put, is_got = draw.random() < 0.9, draw.random() < 0.8
+        for word, is_there in (("put", is_put), ("got", is_got)):
+            if is_there:
+                draw.choice(logs).append(f"{word} {end} {line} {epoch}:{number} {body}\n")
+        got, left = got + is_got, left + (is_put and not is_got)
+        nobody += is_got and not is_put
+        if is_put or is_got:
+            at_line = f" line {line}," if line else ""
+            addresses.append(f"end {end}{at_line} {epoch}:{number}")
         draw.choice(logs).append(draw.choice([f"closed {number}\n", "adopted 65535 65535\n"]))
     text = "hublog 3\n" + "".join(head + "".join(log) for head, log in zip(agents, logs))
-    return text, len(set(names))
+    return text, [got, left, nobody], addresses
 
 
 class Pictures(support.TestCase):
@@ -134,27 +228,86 @@ class Pictures(support.TestCase):
             self.assertEqual((done.status, done.errors.decode().splitlines()), (0, told))
             root = parsed(done)
             shown = [it.text for it in root.iter(f"{SVG}text") if it.get("class") == "note"]
-            self.assertEqual(shown, list(notes))
+            self.assertEqual(" ".join(shown), " ".join(notes))
             self.assertEqual(arrows(root), wanted_arrows)
             self.assertEqual(rises(root), upwards)
             self.assertEqual(complaints(root), [])
             return root
 
     def test_texts(self):
-        root = self.look("a port is sent", PORT_SENT, [2, 1, 0])
-        texts = [it.text for it in root.iter(f"{SVG}text")]
+        shown = texts(self.look("a port is sent", PORT_SENT, [2, 1, 0]))
         wanted = [
-            "agent 0", "1 0 0:0 with 3", "3 0 0:1 notice, discarded", "adopted 3, queue 1",
-            "closed 2",
+            "agent 0", 'end 1 0:0 with end 3 "port"', "end 3 0:0 1", "end 3 0:0",
+            "end 3 0:1 notice, never got", "adopted end 3, queue 1", "closed end 2",
         ]
         for words in wanted:
             with self.subTest(words=words):
-                self.assertIn(words, texts)
-        self.says(len(wanted), "texts")
+                self.assertIn(words, shown)
+        # Beside the outer lane there is no room for it.
+        logs = "hublog 3\nagent 0\nadopted 65535 65535\nagent 1\n"
+        long = "adopted end 65535, queue 65535"
+        self.assertIn(long, texts(self.look("a long text", logs, [0, 0, 0])))
+        self.says(len(wanted) + 1, "texts")
+
+    def test_names(self):
+        """A script names agents and ends: queues first, then ports, then members."""
+        with tempfile.TemporaryDirectory(prefix="a folder ") as folder:
+            script = pathlib.Path(folder) / "a script"
+            script.write_text(SCRIPT, "utf-8")
+            shown = texts(self.look("names", PORT_SENT, [2, 1, 0], words=["--script", script]))
+        wanted = [
+            "agent 0, window", "agent 1, worker", 'queue of agent 1 0:0 with q "port"', "q 0:0 1",
+            "q 0:1 notice, never got", "adopted q, queue 1", "closed p\\u202e", "closed q",
+        ]
+        for words in wanted:
+            with self.subTest(words=words):
+                self.assertIn(words, shown)
+        self.says(len(wanted), "names")
+
+    def test_legend(self):
+        """What stands in the picture is explained, and nothing else."""
+        arrow = "agent 1\ngot 0 0 0:0"
+        wanted = [
+            (f"put 0 0 0:0 - 1\n{arrow} - 1\n", ["message: "]),
+            (f"put 0 0 0:0 7 1\n{arrow} 7 1\n", ["message with ports"]),
+            (f"put 0 0 0:0 notice\n{arrow} notice\n", ["notice that"]),
+            ("put 0 0 0:0 - 1\ngot 0 0 0:0 - 1\n", ["message: ", "message that waits"]),
+            ("put 0 0 0:0 - 1\n", ["message: ", "put, and never got"]),
+            ("got 0 0 0:0 - 1\n", ["message: ", "got, and put by nobody", "fault: "]),
+            ("adopted 0 1\n", ["adopts "]),
+            ("closed 0\n", ["closes "]),
+        ]
+        for entries, starts in wanted:
+            with self.subTest(logs=entries):
+                words = [it for it in legend(entries) if not it.startswith("1 message got")]
+                self.assertEqual(len(words), len(starts), words)
+                for word, start in zip(words, starts):
+                    self.assertTrue(word.startswith(start), words)
+        self.says(len(wanted), "legends")
+
+    def test_faults(self):
+        """The arrow of the fault alone is red, and says what was due."""
+        for kind, entries, title, said in FAULTS:
+            with self.subTest(kind=kind):
+                logs = f"hublog 3\nagent 0\n{ACCEPTED}agent 1\n{entries}"
+                root = parsed(run(logs))
+                red = [it for it in groups(root, "delivery") if is_red(it)]
+                self.assertEqual([it.find(f"{SVG}title").text for it in red], [title])
+                self.assertIn(f"fault: {kind}, {said}", texts(root))
+                self.assertEqual(arrows(root)[2], kind == "Foreign")
+                self.assertEqual(complaints(root), [])
+        self.says(len(FAULTS), "kinds", 6)
 
     def test_arrows(self):
         left_out = ["20 messages left out, after the first 100"]
         one_of_three = ["2 messages left out, after the first 1"]
+        hidden = [
+            "not drawn: fault: AfterNotice at end 1, line 0, place 2: 0:2 at line 9 of the input:"
+            " it comes after the notice of its line, which is the last; nothing more was due",
+            "2 messages left out, after the first 1",
+        ]
+        late = f"hublog 3\nagent 0\n{ACCEPTED}agent 1\n{ONE}{NOTICE}{THREE}"
+        self.look("a fault left out", late, [1, 0, 0], hidden, words=["--most", "1"])
         circle = ["no order fits the logs: 1 message got above the put, the first at line 3"]
         nobody = ["1 message got without a put, the first at line 3"]
         self.look("a message to oneself", TO_ITSELF, [1, 0, 0])
@@ -162,24 +315,42 @@ class Pictures(support.TestCase):
         self.look("100 messages", many(100), [100, 0, 0])
         self.look("one of three", many(3), [1, 0, 0], one_of_three, words=["--most", "1"])
         self.look("a circle", CIRCLE, [2, 0, 0], circle, upwards=1)
-        self.look("no put", NOBODY, [0, 0, 1], nobody)
+        self.look("no put", NOBODY, [1, 0, 1], nobody)
         self.look("no logs", "", [0, 0, 0])
         self.look("no agents", "hublog 3\ndeliveries\nclean\n", [0, 0, 0])
-        self.says(8, "pictures")
+        self.says(9, "pictures")
 
     def test_random_logs(self):
         seeds, total = range(40), 0
         for seed in seeds:
             with self.subTest(seed=seed):
-                text, count = random_logs(seed)
+                text, wanted, addresses = random_logs(seed)
                 done = run(text)
                 self.assertEqual(done.status, 0)
                 root = parsed(done)
-                self.assertEqual(sum(arrows(root)), count)
+                self.assertEqual(arrows(root), wanted)
                 self.assertEqual(complaints(root), [])
-                total += count
+                shown = texts(root)
+                for address in addresses:
+                    self.assertTrue(any(it.startswith(address) for it in shown), address)
+                total += sum(wanted[:2])
         self.says(len(seeds), "pictures")
         self.says(total, "arrows", 1_000)
+
+
+class Texts(support.TestCase):
+    """Texts are cut to what they may be wide, and show what they hold."""
+
+    def test_short(self):
+        rows = [
+            ("abc", 3, "abc"), ("abcd", 3, "ab…"), ("abcd", 1, "…"), ("日本", 4, "日本"),
+            ("日本語", 4, "日…"), ("a\n", 3, "a\\n"), ("\u202e", 6, "\\u202e"),
+            ("\u202e", 5, "\\u20…"), ("\x7f", 6, "\\u007f"), ("é", 1, "é"),
+        ]
+        for text, columns, wanted in rows:
+            with self.subTest(text=text, columns=columns):
+                self.assertEqual(runlog.short(text, columns), wanted)
+        self.says(len(rows), "texts")
 
 
 class Docs(support.TestCase):
@@ -189,10 +360,14 @@ class Docs(support.TestCase):
         pictures = sorted((ROOT / "docs").glob("*.svg"))
         for picture in pictures:
             with self.subTest(picture=picture.name):
+                script = ROOT / "examples" / f"{picture.stem}.script"
                 logs = (TESTS / "runs" / f"{picture.stem}.out").read_bytes()
-                done = outcome_of([DRAW], logs)
+                done = outcome_of([DRAW, "--script", script], logs)
                 self.assertEqual((done.errors, done.status), (b"", 0))
                 self.assertIsNone(support.first_difference(picture.read_bytes(), done.output))
+                root = parsed(done)
+                self.assertEqual(complaints(root), [])
+                self.assertEqual(arrows(root)[0], logs.count(b"\ngot "))
         self.says(len(pictures), "pictures", 2)
 
 
@@ -210,8 +385,27 @@ class Refusals(support.TestCase):
                 self.assertEqual(run(text), (answer, b"", 2))
         self.says(len(bad), "logs")
 
+    def test_scripts(self):
+        good = '{"agent":"window","origin":"https://a.example"}\n'
+        bad = [
+            "[]", "", "{", '{"agent":"boss"}', '{"channel":["a"]}', '{"channel":"ab"}',
+            '{"channel":["a",1]}', '{"member":7}', "[" * 5_000,
+        ]
+        with tempfile.TemporaryDirectory(prefix="a folder ") as folder:
+            script = pathlib.Path(folder) / "a script"
+            for line in bad:
+                with self.subTest(line=line[:40]):
+                    script.write_text(f"{good}{line}\n", "utf-8")
+                    done = run(PORT_SENT, "--script", script)
+                    self.assertEqual((done.output, done.status), (b"", 2))
+                    self.assertTrue(done.errors.endswith(b"a script: line 2: Syntax\n"), done)
+        self.says(len(bad), "scripts")
+
     def test_words(self):
-        others = [["--most"], ["--most", "-1"], ["--fly"], ["a", "b"], ["/nowhere/at/all"]]
+        others = [
+            ["--most"], ["--most", "-1"], ["--fly"], ["a", "b"], ["/nowhere/at/all"], ["--script"],
+            ["--script", "/nowhere/at/all"], ["--script", ROOT / "README.md"],
+        ]
         for words in others:
             with self.subTest(words=words):
                 done = run("", *words)

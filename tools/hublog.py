@@ -61,11 +61,14 @@ class Entry:
 
 
 class Log:
-    """What one agent logged: pairs of a word and what stands behind it, in order."""
+    """What one agent logged: pairs of a word and what stands behind it, in order.
+
+    `places` has the number of each entry's text line, from 1.
+    """
 
     def __init__(self, agent):
         self.agent = agent
-        self.entries = []
+        self.entries, self.places = [], []
 
 
 # Bodies
@@ -255,6 +258,7 @@ def read_logs(data):
             raise BadInput(at, "BadLine")
         else:
             logs[-1].entries.append((word, said))
+            logs[-1].places.append(at)
             if word == "closed":
                 closed.add(said)
     return logs

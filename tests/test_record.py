@@ -1,0 +1,466 @@
+"""Tests of the recorders of record/: on Node's own channels, and those of Python and Rust."""
+
+import importlib.util
+import os
+import pathlib
+import random
+import shutil
+import sys
+import tempfile
+import unittest
+
+import support
+from support import PROGRAM, ROOT, TESTS, outcome_of
+
+RECORD = TESTS / "record"
+MERGE = ROOT / "record" / "merge"
+PROGRAMS = 7
+SEEDS = range(32)
+PARTS = 8
+needs_node = unittest.skipIf(shutil.which("node") is None, "node, which is not on the PATH")
+needs_rustc = unittest.skipIf(shutil.which("rustc") is None, "rustc, which is not on the PATH")
+
+
+class Case(support.TestCase):
+    """A test with a folder of its own."""
+
+    def setUp(self):
+        folder = tempfile.TemporaryDirectory(prefix="logs of a run ")
+        self.addCleanup(folder.cleanup)
+        self.folder = pathlib.Path(folder.name)
+
+    def node(self, name, *words):
+        """What a script of tests/record/ prints."""
+        found = outcome_of(["node", "--no-warnings", RECORD / name, *map(str, words)])
+        self.assertEqual((found.errors.decode(), found.status), ("", 0))
+        return found.output.decode()
+
+    def merged(self, *words):
+        return outcome_of([MERGE, *words])
+
+    def verdict(self, logs):
+        """What the second checker says of logs, and the program, where there is one."""
+        checkers = [[ROOT / "tools" / "judge"]]
+        if os.access(PROGRAM, os.X_OK):
+            checkers.append([PROGRAM, "check"])
+        verdicts = {outcome_of(words, logs).output.decode() for words in checkers}
+        self.assertEqual(len(verdicts), 1, verdicts)
+        return verdicts.pop().rstrip("\n")
+
+
+def words_of(logs, word):
+    return sum(line.startswith(word) for line in logs.splitlines())
+
+
+# Node
+
+
+@needs_node
+class Node(Case):
+    """Random programs on Node's own channels are clean."""
+
+    time_limit = 240
+
+    def run_part(self, part):
+        seeds = [seed for seed in SEEDS if seed % PARTS == part]
+        total = {b"put": 0, b"got": 0, b"adopted": 0, b"closed": 0}
+        for seed in seeds:
+            with self.subTest(seed=seed):
+                logs = self.run_seed(seed)
+                for word in total:
+                    total[word] += words_of(logs, word + b" ")
+        self.says(len(seeds) * PROGRAMS, "programs", 25)
+        for word, count in total.items():
+            self.says(count, word.decode(), 20 * len(seeds))
+
+    def run_seed(self, seed):
+        """The whole logs of the programs of a seed, which are judged, also without what is cut."""
+        folder = self.folder / str(seed)
+        self.node("random.mjs", folder, seed, PROGRAMS)
+        whole, judged = self.merged("--whole", folder), self.merged(folder)
+        is_cut = seed % 2 == 1
+        self.assertEqual(whole.status, int(is_cut), whole.errors)
+        self.assertEqual(b" was cut: " in judged.errors, is_cut, judged.errors)
+        self.assertEqual(self.verdict(whole.output), "clean")
+        self.assertEqual(self.verdict(judged.output), "clean")
+        self.check_shorter(folder, random.Random(seed))
+        return whole.output
+
+    def check_shorter(self, folder, chance):
+        """Where a log is shorter, no fault is told from what it lacks."""
+        path = chance.choice(sorted(folder.iterdir()))
+        os.truncate(path, chance.randrange(path.stat().st_size))
+        found = self.merged(folder)
+        self.assertEqual(found.status, 1, found.errors)
+        self.assertEqual(self.verdict(found.output), "clean")
+
+
+def method_of(part):
+    return lambda self: self.run_part(part)
+
+
+for _part in range(PARTS):
+    setattr(Node, f"test_part_{_part}", method_of(_part))
+
+
+@needs_node
+class Wrong(Case):
+    """What goes wrong between sender and receiver is named by its kind."""
+
+    # Three messages are posted at an end that is new; before those at a worker comes its data.
+    ROUTES = {"port": (17, 0), "worker": (1, 1), "broadcast": (16, 0)}
+    # What happens to the second message, at which place that shows, and the kind.
+    CHANGES = {
+        "drop": (1, "Gap"),
+        "double": (2, "Twice"),
+        "swap": (1, "Gap"),
+        "change": (1, "Changed"),
+        "rename": (1, "Foreign"),
+    }
+
+    def verdict_of(self, script, *words):
+        folder = self.folder / "-".join(words)
+        self.node(script, folder, *words)
+        found = self.merged(folder)
+        self.assertEqual((found.errors, found.status), (b"", 0))
+        return self.verdict(found.output)
+
+    def test_changes(self):
+        for route, (end, first) in self.ROUTES.items():
+            self.assertEqual(self.verdict_of("three.mjs", route, "none"), "clean")
+            for change, (place, kind) in self.CHANGES.items():
+                with self.subTest(route=route, change=change):
+                    wanted = f"fault {end} 0 {place + first} {kind}"
+                    self.assertEqual(self.verdict_of("three.mjs", route, change), wanted)
+        self.says(len(self.ROUTES) * len(self.CHANGES), "changes", 15)
+
+    def test_delivered_after_close(self):
+        """Node delivers what waits at a port that its agent has closed."""
+        ways = {"listener": "fault 17 0 1 AfterClose", "receive": "fault 17 0 0 AfterClose"}
+        for way, wanted in ways.items():
+            self.assertEqual(self.verdict_of("late.mjs", way), wanted)
+        self.says(len(ways), "ways")
+
+
+def digest(text):
+    """The body in place of a text, by the definition of FNV-1a of 64 bits."""
+    data, state = text.encode("utf-8", "surrogatepass"), 14695981039346656037
+    for byte in data:
+        state = ((state ^ byte) * 1099511628211) & 0xFFFF_FFFF_FFFF_FFFF
+    return f'{{"digest":"fnv1a64 {state:016x} of {len(data)} bytes"}}'
+
+
+@needs_node
+class Bodies(Case):
+    """Bodies past the limits are written as digests, and the rest is refused by name."""
+
+    FIRST = [
+        "null",
+        '{"b":1,"a":[true,"é\u2028\\n"]}',
+        str(2**53 - 1),
+        f'"{"x" * 262_142}"',
+        "[" * 64 + "]" * 64,
+        digest("1.5"),
+        digest("-0"),
+        digest("!undefined undefined"),
+        digest("!Date 0"),
+        digest(str(2**53)),
+        digest("!bigint 12"),
+        digest(f'"{"x" * 262_143}"'),
+        digest("[" * 65 + "]" * 65),
+        digest('"\\ud800"'),
+        digest('!array 3 {"0":1,"2":3}'),
+        digest('{"name":"cycle","it":!same 0}'),
+        '{"x":1}',
+    ]
+    COUNT = 27
+
+    def test_bodies(self):
+        codes = self.node("bodies.mjs", self.folder / "run").split()
+        self.assertEqual(codes, ["NoFolder", "NoAgent", "NoSink", "UnknownPort", "TooDeep"])
+        logs = self.merged(self.folder / "run").output
+        self.assertEqual(self.verdict(logs), "clean")
+        entries = logs.decode().split("\n")
+        puts = [entry for entry in entries if entry.startswith("put ")]
+        self.assertEqual(len(puts), self.COUNT + 1)
+        for at, (body, put) in enumerate(zip(self.FIRST, puts)):
+            self.assertEqual(put[:80], f"put 17 0 0:{at} - {body}"[:80])
+            self.assertTrue(put == f"put 17 0 0:{at} - {body}", put[:80])
+        ends = ",".join(map(str, range(18, 35)))
+        body = digest(ends + ' {"first":{"port":0},"last":{"port":16}}')
+        self.assertEqual(puts[-1], f"put 17 0 0:{self.COUNT} {ends.rpartition(',')[0]} {body}")
+        self.assertEqual(sum(entry.startswith("adopted ") for entry in entries), 17)
+        self.says(len(puts), "bodies", 28)
+
+    def test_refusals(self):
+        codes = self.node("bodies.mjs", self.folder / "run", 15).split()
+        self.assertEqual(codes[-1], "TooManyAgents")
+        found = outcome_of(["node", RECORD / "bodies.mjs", self.folder / "run"])
+        self.assertEqual(found.status, 1)
+        self.assertIn(b"LogExists", found.errors)
+        self.says(2, "refusals")
+
+
+# Python and Rust
+
+LOG = f"""hublog 3
+agent 3
+put 1 0 0:0 - {{"count":1}}
+put 65535 31 65535:4611686018427387903 0,1,2,3,4,5,6,7,8,9,10,11,12,13,14,65535 null
+got 2 0 0:0 5 [true,"a\\nb"]
+put 1 0 0:1 - {digest("1.5")}
+put 1 0 0:2 - {{"digest":"fnv1a64 85944171f73967e8 of 6 bytes"}}
+put 1 0 0:3 notice
+got 2 0 0:1 notice
+adopted 5 1
+closed 2
+deliveries
+"""
+REFUSALS = (
+    "BadAgent Io BadEnd BadLine BadEpoch BadNumber BadPorts BadPorts BadPorts NotJson BadEnd "
+    "BadEpoch BadEnd ClosedTwice BadLine BadEnd Finished"
+).split()
+
+
+def python_recorder():
+    """record/hublog.py as a module, whose name tools/hublog.py has as well."""
+    path = ROOT / "record" / "hublog.py"
+    spec = importlib.util.spec_from_file_location("recorder", path)
+    module = importlib.util.module_from_spec(spec)
+    spec.loader.exec_module(module)
+    return module
+
+
+class Python(Case):
+    """record/hublog.py writes the log of a small program, and refuses wrong arguments by name."""
+
+    def setUp(self):
+        super().setUp()
+        sys.dont_write_bytecode = True
+        self.recorder = python_recorder()
+        self.path = self.folder / "agent 3.log"
+
+    def write(self, log):
+        log.put(1, 0, 0, 0, [], {"count": 1})
+        log.put(65_535, 31, 65_535, 2**62 - 1, [*range(15), 65_535], None)
+        log.got(2, 0, 0, 0, [5], (True, "a\nb"))
+        log.put(1, 0, 0, 1, [], 1.5)
+        log.put(1, 0, 0, 2, [], self.recorder.digest(b"foobar"))
+        log.put_notice(1, 0, 0, 3)
+        log.got_notice(2, 0, 0, 1)
+        log.adopted(5, 1)
+        log.closed(2)
+
+    def refusal(self, act, *words):
+        try:
+            act(*words)
+        except self.recorder.Refused as refused:
+            return refused.kind
+        except OSError:
+            return "Io"
+        return "nothing"
+
+    def refusals(self, log):
+        create = self.recorder.Recorder
+        return [
+            self.refusal(create, self.path, 16),
+            self.refusal(create, self.path, 3),
+            self.refusal(log.put, 65_536, 0, 0, 0, [], 1),
+            self.refusal(log.put, 1, 32, 0, 0, [], 1),
+            self.refusal(log.put, 1, 0, -1, 0, [], 1),
+            self.refusal(log.got, 1, 0, 0, 2**62, [], 1),
+            self.refusal(log.put, 1, 0, 0, 0, [65_536], 1),
+            self.refusal(log.put, 1, 0, 0, 0, [4, 4], 1),
+            self.refusal(log.put, 1, 0, 0, 0, range(17), 1),
+            self.refusal(log.got, 1, 0, 0, 0, [], {1: 2}),
+            self.refusal(log.adopted, 65_536, 0),
+            self.refusal(log.adopted, 1, True),
+            self.refusal(log.closed, 65_536),
+            self.refusal(log.closed, 2),
+            self.refusal(log.put_notice, 1, 32, 0, 0),
+            self.refusal(log.got_notice, "1", 0, 0, 0),
+        ]
+
+    def test_log(self):
+        with self.recorder.Recorder(self.path, 3) as log:
+            self.write(log)
+            self.assertEqual(self.path.read_bytes() + b"deliveries\n", LOG.encode())
+            refusals = self.refusals(log)
+        log.finish()
+        self.assertEqual(refusals + [self.refusal(log.closed, 7)], REFUSALS)
+        self.assertEqual(self.path.read_bytes(), LOG.encode())
+        self.says(len(REFUSALS), "refusals", 17)
+
+    def test_bodies(self):
+        """Every body that JSON has is written, and what the reader takes is written as it is."""
+        bodies = ["é\u2028", -(2**63), 2**64 - 1, {"b": [], "a": {}}, "x" * 262_142, nested(63)]
+        past = [2**64, float("nan"), -0.0, "\udc00", {"\ud800": 1}, "x" * 262_143, nested(64)]
+        with self.recorder.Recorder(self.path, 3) as log:
+            for number, body in enumerate(bodies + past):
+                log.put(1, 0, 0, number, [], body)
+                log.got(1, 0, 0, number, [], body)
+            for body in [{1}, b"", nested(100_000), {None: 1}]:
+                self.assertEqual(self.refusal(log.put, 1, 0, 0, 0, [], body), "NotJson")
+        text = self.path.read_bytes()
+        self.assertEqual(self.verdict(text), "clean")
+        self.assertEqual(text.count(b'{"digest":'), 2 * len(past))
+        self.says(len(bodies + past), "bodies", 13)
+
+
+def nested(depth):
+    value = []
+    for _ in range(depth):
+        value = [value]
+    return value
+
+
+@needs_rustc
+class Rust(Case):
+    """record/hublog.rs does the same."""
+
+    TEXTS = [
+        '"\\ud83d\\ude00"', "18446744073709551615", "-9223372036854775808", ' [ {"a" : [ ] } ] ',
+        '{"a":1,"b":[true,false,null]}', "[" * 64 + "]" * 64, f'"{"x" * 262_142}"',
+    ]
+    PAST = [
+        "18446744073709551616", "-9223372036854775809", "-0", "1e5", "1.5", '"\\ud800"',
+        '"\\udc00"', '"\\ud800\\u0041"', "[" * 65 + "]" * 65, f'"{"x" * 262_143}"',
+    ]
+    NONE = [
+        "", "{", "[1,]", '{"a"}', "tru", "nullx", "01", "1 2", "1.", "-", "+1", '"', '"\t"', "[1}",
+        '{"a":1,}', '"\\x"', '"\\u12"', '"\\u12x4"', "]", ",", "[,1]", "{1:2}", "1e", "'a'",
+    ]
+
+    def setUp(self):
+        super().setUp()
+        self.program = self.folder / "fixed"
+        words = ["rustc", "--edition", "2021", "-D", "warnings", "-o", self.program]
+        found = outcome_of([*words, RECORD / "fixed.rs"])
+        self.assertEqual((found.errors.decode(), found.status), ("", 0))
+
+    def test_log(self):
+        path = self.folder / "agent 3.log"
+        found = outcome_of([self.program, path])
+        self.assertEqual((found.errors, found.status), (b"", 0))
+        self.assertEqual(found.output.decode().split(), REFUSALS)
+        self.assertEqual(path.read_bytes(), LOG.encode())
+        self.says(len(REFUSALS), "refusals", 17)
+
+    def test_bodies(self):
+        path = self.folder / "texts"
+        texts = self.TEXTS + self.PAST + self.NONE
+        path.write_text("\n".join([*texts, ""]), "utf-8")
+        found = outcome_of([self.program, "-", path])
+        self.assertEqual(found.output.decode().split(), ["NotJson"] * len(self.NONE))
+        log = pathlib.Path(f"{path}.log").read_text("utf-8")
+        self.assertEqual(self.verdict(log.encode()), "clean")
+        wanted = [text.replace(" ", "") for text in self.TEXTS]
+        wanted += [digest(text) for text in self.PAST] + ['"none"'] * len(self.NONE)
+        found = [entry.partition(" - ")[2] for entry in log.split("\n")[2:-2]]
+        for text, one, other in zip(texts, found, wanted):
+            self.assertTrue(one == other, (text[:50], one[:90], other[:90]))
+        self.assertEqual(len(found), len(wanted))
+        self.says(len(texts), "texts", 40)
+
+
+# Merging
+
+ONE = ["hublog 3", "agent 0", 'put 1 0 0:0 - "one"', 'put 1 0 0:1 - "two"', "deliveries", ""]
+OTHER = ["hublog 3", "agent 1", 'got 1 0 0:0 - "one"', 'got 1 0 0:1 - "two"', "deliveries", ""]
+
+
+class Merge(Case):
+    """record/merge joins whole logs, and names what is cut or missing."""
+
+    def write(self, number, lines):
+        (self.folder / f"agent-{number}.log").write_text("\n".join(lines), "utf-8")
+
+    def check(self, status, output, *errors):
+        found = self.merged(self.folder)
+        self.assertEqual((found.output.decode(), found.status), (output, status), found.errors)
+        for error in errors:
+            self.assertIn(error, found.errors.decode())
+        self.assertEqual(bool(errors), bool(found.errors), found.errors)
+        self.assertNotIn(b"Traceback", found.errors)
+
+    def test_whole(self):
+        self.write(1, OTHER)
+        self.write(0, ONE)
+        (self.folder / "notes.txt").write_text("no log", "utf-8")
+        self.check(0, "\n".join(ONE[:-2] + OTHER[1:-2] + [""]))
+        self.says(1, "merge")
+
+    def test_cut(self):
+        """What only a log says that was cut is missing, and nothing else is told for a fault."""
+        left = "1 entries are left out"
+        self.write(1, OTHER)
+        self.write(0, ONE[:3] + ['put 1 0 0:1 - "t'])
+        wanted = "\n".join(ONE[:3] + OTHER[1:3] + [""])
+        self.check(1, wanted, "agent 0 was cut", left)
+        self.assertEqual(self.verdict(wanted.encode()), "clean")
+        whole = self.merged("--whole", self.folder)
+        self.assertEqual(self.verdict(whole.output), "fault 1 0 1 Foreign")
+        self.write(0, ONE)
+        self.write(1, OTHER[:2] + [""])
+        self.write(2, ["hublog 3", "agent 2", "adopted 1 1", OTHER[3], "deliveries", ""])
+        wanted = "\n".join(ONE[:-2] + ["agent 1", "agent 2", "adopted 1 1", ""])
+        self.check(1, wanted, "agent 1 was cut", left)
+        self.says(2, "cut logs")
+
+    def test_missing(self):
+        self.write(0, ONE)
+        self.write(2, ["hublog 3", "agent 2", "deliveries", ""])
+        self.check(1, "\n".join(ONE[:-2] + ["agent 2", ""]), "agent 1 has no log", "0 entries")
+        for text in ["", "hub", "hublog 3", "hublog 3\n", "hublog 3\nagent"]:
+            self.write(1, [text])
+            self.check(1, "\n".join(ONE[:-2] + ["agent 2", ""]), "cut before its first entry")
+        self.write(1, OTHER)
+        self.write(2, ["hublog 3", "agent 2", "meets 3", "deliveries", ""])
+        wanted = "\n".join(ONE[:-2] + OTHER[1:-2] + ["agent 2", ""])
+        self.check(1, wanted, "agent 3 has no log", "0 entries")
+        self.says(7, "logs")
+
+    def test_bad_input(self):
+        rows = [
+            (3, "put 1 0 0:0 -", "BadLine"), (4, "closed 5\nclosed 5", "BadLine"),
+            (3, "agent 1", "BadLine"), (3, "cast 1 0", "BadLine"), (3, "hears 1 0", "BadLine"),
+            (2, "agents 0", "BadLine"), (1, "hublog 2", "BadHeader"), (3, "fly", "BadLine"),
+            (3, "got 0 0 0:0 - 1.5", "BadLine"),
+        ]
+        for number, line, kind in rows:
+            lines = ["hublog 3", "agent 0"][: min(2, number - 1)] + [line, *ONE[3:]]
+            if number == 1:
+                lines[1:1] = ["agent 0"]
+            self.write(0, lines)
+            self.check(2, "", f"agent-0.log: line {number}: {kind}")
+        self.write(0, ONE)
+        self.write(1, ONE)
+        self.check(2, "", "has a log of agent 0 too")
+        self.says(len(rows) + 1, "bad inputs", 9)
+
+    def test_casts(self):
+        """A cast is put at each channel that hears it, from the first that it got to the last."""
+        self.write(0, [*ONE[:2], *(f"cast 9 {it} {it}" for it in range(4)), *ONE[-2:]])
+        self.write(1, [*OTHER[:2], "hears 5 0 9", "got 5 0 0:1 - 1", "hears 6 3 9",
+                       "got 5 0 0:2 - 2", "got 6 3 0:3 - 3", *ONE[-2:]])
+        puts = ["put 5 0 0:1 - 1", "put 5 0 0:2 - 2", "put 6 3 0:3 - 3"]
+        gots = ["got 5 0 0:1 - 1", "got 5 0 0:2 - 2", "got 6 3 0:3 - 3"]
+        wanted = "\n".join(["hublog 3", "agent 0", *puts, "agent 1", *gots, ""])
+        self.check(0, wanted)
+        self.assertEqual(self.verdict(wanted.encode()), "clean")
+        self.says(6, "entries")
+
+    def test_words(self):
+        """Wrong words, and an empty folder, are told in one line with status 2."""
+        for words in [[], ["--fly"], [self.folder], [self.folder / "no folder"]]:
+            found = outcome_of([MERGE, *words], env={**os.environ, "LC_ALL": "C"})
+            self.assertEqual((found.output, found.status), (b"", 2), found)
+            self.assertNotIn(b"Traceback", found.errors)
+            self.assertIn(b"record/merge: ", found.errors)
+        found = outcome_of([MERGE, "--help"], env={**os.environ, "LC_ALL": "C"}, cwd="/")
+        self.assertEqual((found.errors, found.status), (b"", 0))
+        self.write(0, ONE[:2] + ONE[2:3] * 100_000 + ONE[-2:])
+        pipe = f'"{MERGE}" "{self.folder}" | head -1'
+        found = outcome_of(["bash", "-c", pipe])
+        self.assertEqual((found.output, found.errors), (b"hublog 3\n", b""))
+        self.says(6, "calls")

@@ -1,0 +1,410 @@
+"""Makes pages with tools/view, reads them as HTML, and looks at them in a browser.
+
+The number of arrows has to be the number of deliveries that tools/hublog.py counts. Where a
+Chromium is installed, pages are opened in it: nothing is written to its console, entries are
+stepped through by button and by key, and ends, bodies and the fault are found.
+"""
+
+import fcntl
+import html.parser
+import json
+import os
+import pathlib
+import re
+import signal
+import struct
+import subprocess
+import sys
+import tempfile
+import termios
+import time
+import unittest
+
+import browser
+import support
+import test_draw
+from support import ROOT, TESTS, outcome_of
+
+sys.path.append(str(ROOT / "tools"))
+
+import hublog  # noqa: E402
+
+VIEW = ROOT / "tools" / "view"
+RUNS = sorted((TESTS / "runs").glob("*.out"))
+FAULTY = ROOT / "examples" / "fault.log"
+ATTACK = "</script><!--<script>'\"><img src=x onerror=alert(1)>&amp;\u202e{{$data}}"
+# How the data of a page tells a put.
+PUT = 0
+# Elements that have no end in HTML.
+VOID = frozenset(["meta", "link", "input", "br"])
+needs_chromium = unittest.skipIf(
+    browser.CHROMIUM is None, "chromium, which is not on the PATH"
+)
+
+
+def made(text, *words):
+    return outcome_of([VIEW, *words], text if isinstance(text, bytes) else text.encode())
+
+
+def made_in_parts(text):
+    """The same, where the rest of the input comes when its beginning has been read."""
+    reader, writer = os.pipe()
+    with subprocess.Popen([VIEW], stdin=reader, stdout=subprocess.PIPE) as process:
+        os.write(writer, text[:100])
+        while struct.unpack("i", fcntl.ioctl(reader, termios.FIONREAD, bytes(4)))[0]:
+            time.sleep(0.01)
+        os.close(reader)
+        with open(writer, "wb") as file:
+            file.write(text[100:])
+        output = process.stdout.read()
+    return support.Outcome(output, b"", process.returncode)
+
+
+class Reader(html.parser.HTMLParser):
+    """What stands in a page: the attributes of all elements, and the texts by element."""
+
+    def __init__(self, page):
+        super().__init__()
+        self.elements, self.texts, self.open = [], [], []
+        self.feed(page.decode())
+        self.close()
+
+    def handle_starttag(self, tag, attributes):
+        self.elements.append((tag, dict(attributes)))
+        if tag not in VOID:
+            self.open.append(tag)
+
+    def handle_startendtag(self, tag, attributes):
+        self.elements.append((tag, dict(attributes)))
+
+    def handle_endtag(self, tag):
+        if self.open.pop() != tag:
+            raise AssertionError(f"</{tag}> ends something else")
+
+    def handle_data(self, text):
+        self.texts.append((self.open[-1] if self.open else "", text))
+
+    def of_class(self, name):
+        return [it for _, it in self.elements if name in (it.get("class") or "").split()]
+
+    def data(self):
+        texts = [text for tag, text in self.texts if tag == "script"]
+        return json.loads(texts[0])
+
+
+def delivery_count(text):
+    """How many names `run` prints behind `deliveries`, as tools/hublog.py counts them."""
+    lines = hublog.deliveries(hublog.read_logs(text))
+    return sum(len(line.split(" ")) - 4 for line in lines)
+
+
+def attack():
+    body = json.dumps({ATTACK: [ATTACK]}, ensure_ascii=False)
+    puts = [body, json.dumps(ATTACK), '"https://a.example/?<b>"']
+    puts = "".join(f"put 1 0 0:{at} - {it}\n" for at, it in enumerate(puts))
+    return f"hublog 3\nagent 0\n{puts}agent 1\ngot 1 0 0:0 - {body}\n"
+
+
+def attack_script(folder):
+    path = pathlib.Path(folder) / "a script"
+    agent = {"agent": "window", "origin": "https://a.example"}
+    lines = [agent, {"channel": [ATTACK, "p"], "at": 0}]
+    path.write_text("".join(f"{json.dumps(line)}\n" for line in lines), "utf-8")
+    return path
+
+
+class Pages(support.TestCase):
+    """What stands in a page."""
+
+    def test_deliveries(self):
+        """One element for each delivery, also where puts are missing or doubled."""
+        texts = [path.read_bytes() for path in [*RUNS, FAULTY]]
+        texts += [test_draw.random_logs(seed)[0].encode() for seed in range(12)]
+        texts += [test_draw.CIRCLE.encode(), test_draw.TO_ITSELF.encode(), b"", b"hublog 3\n"]
+        texts += [
+            f"hublog 3\nagent 0\n{test_draw.ACCEPTED}agent 1\n{entries}".encode()
+            for _, entries, _, _ in test_draw.FAULTS
+        ]
+        total = 0
+        for at, text in enumerate(texts):
+            with self.subTest(logs=at):
+                done = made(text)
+                self.assertEqual((done.errors, done.status), (b"", 0))
+                count = delivery_count(text)
+                self.assertEqual(len(Reader(done.output).of_class("delivery")), count)
+                total += count
+        self.says(total, "deliveries", 250)
+
+    def test_order(self):
+        """All entries stand there, each log in its order, and each put above what is got of it."""
+        texts = [path.read_bytes() for path in RUNS]
+        texts += [test_draw.random_logs(seed)[0].encode() for seed in range(12)]
+        total = 0
+        for at, text in enumerate(texts):
+            with self.subTest(logs=at):
+                entries = Reader(made(text).output).data()["entries"]
+                logs = text.partition(b"deliveries\n")[0].splitlines()
+                lines = [at for at, line in enumerate(logs[1:], 2) if not line.startswith(b"agent")]
+                self.assertEqual(sorted(entry[3] for entry in entries), lines)
+                for lane in {entry[1] for entry in entries}:
+                    own = [entry[3] for entry in entries if entry[1] == lane]
+                    self.assertEqual(own, sorted(own))
+                for row, (word, *_, partners) in enumerate(entries):
+                    if word == PUT:
+                        self.assertTrue(all(row < got for got in partners))
+                total += len(entries)
+        self.says(total, "entries", 500)
+
+    def test_whole_document(self):
+        """It begins as a document, is well nested, and names no other place."""
+        for path in [*RUNS, FAULTY]:
+            with self.subTest(path=path.name):
+                page = made(path.read_bytes()).output
+                self.assertTrue(page.startswith(b"<!doctype html>\n<html "))
+                self.assertTrue(page.endswith(b"</html>\n"))
+                reader = Reader(page)
+                self.assertEqual(reader.open, [])
+                self.assertEqual(re.findall(rb"https?://[^\s\"']*", page), [])
+                places = [it.get(name) for _, it in reader.elements for name in ("src", "href")]
+                self.assertEqual([it for it in places if it], ["data:,"])
+        self.says(len(RUNS) + 1, "pages", 3)
+
+    def test_names(self):
+        logs, script = RUNS[-1], ROOT / "examples" / f"{RUNS[-1].stem}.script"
+        reader = Reader(made(logs.read_bytes(), "--script", script).output)
+        data = reader.data()
+        self.assertEqual(data["agents"], ["agent 0, window", "agent 1, window"])
+        self.assertEqual(data["ends"], {
+            "0": "queue of agent 0 (end 0)", "1": "queue of agent 1 (end 1)", "2": "cart (end 2)",
+            "3": "checkout (end 3)",
+        })
+        self.assertIn(("div", "checkout"), reader.texts)
+        self.says(6, "names")
+
+    def test_escaping(self):
+        """Whatever stands in a body or in a name is text, and no URL stands in the page."""
+        with tempfile.TemporaryDirectory(prefix="a folder ") as folder:
+            page = made(attack(), "--script", attack_script(folder)).output
+        reader = Reader(page)
+        self.assertEqual([it for it, _ in reader.elements if it in ("img", "b")], ["b"] * 4)
+        self.assertEqual([it for it, _ in reader.elements if it == "script"], ["script"] * 2)
+        self.assertNotIn(b"<img", page)
+        self.assertNotIn(b"://", page.replace(b"http://www.w3.org/2000/svg", b""))
+        self.assertEqual(json.loads(reader.data()["bodies"][1]), ATTACK)
+        texts = "".join(text for tag, text in reader.texts if tag == "div")
+        # Twice in the body of the put and of its got, once in that of the other put, and as the
+        # name of the end of all four.
+        self.assertEqual(texts.count("onerror=alert(1)"), 9)
+        self.assertNotIn("\u202e", texts)
+        self.says(5, "texts")
+
+    def test_input(self):
+        """A file and standard input give the same page, also where the input comes in parts."""
+        text = RUNS[0].read_bytes()
+        wanted = made(text)
+        with tempfile.TemporaryDirectory(prefix="a folder ") as folder:
+            path = pathlib.Path(folder) / "the logs"
+            path.write_bytes(text)
+            self.assert_outcome(made(b"", path), wanted)
+        self.assert_outcome(made_in_parts(text), wanted)
+        self.says(2, "inputs")
+
+    def test_statuses(self):
+        bad = [
+            ("hublog 9\n", [], b"line 1: BadHeader\n"),
+            ("hublog 3\nagent 0\ngot 0 0 0:0 - 1.5\n", [], b"line 3: BadLine\n"),
+        ]
+        for text, words, errors in bad:
+            with self.subTest(text=text):
+                self.assertEqual(made(text, *words), (b"", errors, 2))
+        others = [
+            ["a", "b"], ["/nowhere/at/all"], ["/"], ["--script"], ["--script", "/nowhere/at/all"],
+            ["--script", ROOT / "README.md"],
+        ]
+        for words in others:
+            with self.subTest(words=words):
+                done = made("", *words)
+                self.assertEqual((done.output, done.status), (b"", 2))
+                self.assertTrue(done.errors.startswith(b"usage: tools/view "), done.errors)
+                self.assertNotIn(b"Traceback", done.errors)
+        full = outcome_of(["sh", "-c", '"$0" > /dev/full', VIEW])
+        self.assertEqual((full.status, full.errors.count(b"\n")), (2, 1), full.errors)
+        reader, writer = os.pipe()
+        os.close(reader)
+        closed = subprocess.run([VIEW, RUNS[0]], stdout=writer, stderr=subprocess.PIPE)
+        os.close(writer)
+        self.assertEqual((closed.returncode, closed.stderr), (-signal.SIGPIPE, b""))
+        self.says(len(bad) + len(others) + 2, "calls")
+
+
+@needs_chromium
+class Browsed(support.TestCase):
+    """Pages in a browser. Each test has a browser of its own."""
+
+    def setUp(self):
+        folder = self.enterContext(tempfile.TemporaryDirectory())
+        self.path = pathlib.Path(folder) / "run.html"
+        self.browser = self.enterContext(browser.Browser())
+
+    def open(self, text, *words, place="", **settings):
+        self.path.write_bytes(made(text, *words).output)
+        return self.browser.open(f"{self.path}{place}", **settings)
+
+    def chosen(self, page):
+        return page.value("document.querySelector('.entry[aria-selected]')?.id ?? null")
+
+    def assert_quiet(self, page):
+        self.assertEqual(page.console(), [])
+
+    def test_arrows(self):
+        total = 0
+        for path in [*RUNS, FAULTY]:
+            text = path.read_bytes()
+            page = self.open(text)
+            count = page.value("document.getElementsByClassName('delivery').length")
+            self.assertEqual(count, delivery_count(text), path)
+            self.assert_quiet(page)
+            total += count
+        self.says(total, "arrows", 15)
+
+    def test_places(self):
+        """Each arrow runs from the row of its put to the row of its got, and ends at its lane."""
+        text = RUNS[-1].read_bytes()
+        page = self.open(text)
+        ends = page.value("""[...document.querySelectorAll("line.delivery")].map((it) => {
+          const entry = document.getElementById(it.id.slice(1));
+          const lane = Number(/lane-(\\d+)/.exec(entry.className)[1]);
+          const head = document.querySelectorAll(".head")[lane].getBoundingClientRect();
+          const [row, box] = [entry, it].map((it) => it.getBoundingClientRect());
+          const tip = it.x2.baseVal.value > it.x1.baseVal.value ? box.right : box.left;
+          return [Math.abs(box.bottom - (row.top + row.height / 2)),
+                  Math.abs(tip - (head.left + head.width / 2))];
+        })""")
+        self.assertEqual([it for it in ends if max(it) > 1], [])
+        self.says(len(ends), "arrows", 8)
+
+    def test_steps(self):
+        page = self.open(RUNS[-1].read_bytes())
+        self.assertEqual(self.chosen(page), None)
+        clicks = [("forward", "1"), ("forward", "2"), ("back", "1")]
+        for button, wanted in clicks:
+            page.value(f"document.getElementById('{button}').click()")
+            self.assertEqual(self.chosen(page), wanted)
+        # A tab leads to the list, in which keys step.
+        page.value("document.querySelector('summary').focus()")
+        page.press("Tab")
+        self.assertEqual(page.value("document.activeElement.id"), "entries")
+        keys = [("ArrowDown", "2"), ("ArrowRight", "3"), ("ArrowLeft", "2"), ("Enter", "3"),
+                ("Enter", "2"), ("End", "21"), ("ArrowDown", "21"), ("Home", "1"), ("ArrowUp", "1")]
+        for key, wanted in keys:
+            page.press(key)
+            self.assertEqual(self.chosen(page), wanted, key)
+        shown = page.value("document.getElementById('panel').textContent")
+        for word in ("Entry 1: put", "end 3", "0:0", "teapot", "agent 1: entry 5"):
+            self.assertIn(word, shown)
+        outline = page.value("getComputedStyle(document.getElementById('1')).outlineStyle")
+        self.assertEqual(outline, "solid")
+        self.assert_quiet(page)
+        self.says(len(clicks + keys), "steps")
+
+    def test_pointing(self):
+        """An entry is shown where the pointer is at its row or its arrow, and chosen by a click."""
+        page = self.open(RUNS[-1].read_bytes())
+        middle = """(() => {
+          const box = document.getElementById("%s").getBoundingClientRect();
+          return [box.x + box.width / 2, box.y + box.height / 2];
+        })()"""
+        shown = "document.querySelector('#panel h2').textContent"
+        for place, click, title, chosen in [
+            ("4", False, "Entry 4: adopted", None), ("4", True, "Entry 4: adopted", "4"),
+            ("6", False, "Entry 6: put", "4"), ("d5", False, "Entry 5: got", "4"),
+            ("panel", False, "Entry 4: adopted", "4"), ("d5", True, "Entry 5: got", "5"),
+        ]:
+            page.point(*page.value(middle % place), click)
+            self.assertEqual((page.value(shown), self.chosen(page)), (title, chosen), place)
+        self.assert_quiet(page)
+        self.says(6, "places")
+
+    def test_body(self):
+        """A body is shown with a line for each part, and its numbers as they are."""
+        body = r'{"a":[],"b":{},"n":[18446744073709551615,-1],"s":"x\"{,}: [","t":[{"u":null}]}'
+        page = self.open(f"hublog 3\nagent 0\nput 1 0 0:0 - {body}\n", place="#1")
+        wanted = [
+            "{", '  "a": [],', '  "b": {},', '  "n": [', "    18446744073709551615,", "    -1",
+            "  ],", r'  "s": "x\"{,}: [",', '  "t": [', "    {", '      "u": null', "    }", "  ]",
+            "}",
+        ]
+        found = page.value("document.querySelector('#panel pre').textContent").split("\n")
+        self.assertEqual(found, wanted)
+        self.assert_quiet(page)
+        self.says(len(wanted), "lines")
+
+    def test_search(self):
+        """Entries are found by end and by body, and by no more of an end than its number."""
+        page = self.open(re.sub("(put|got) 1 ", r"\1 10 ", test_draw.many(25)))
+        searches = [
+            ("end 10", "end", "1 of 50"), ("end 1", "end", "0 found"), ("24", "body", "1 of 2"),
+            ("24", "end", "0 found"), ("END 10", "both", "49 of 50"), ("", "both", ""),
+        ]
+        for text, where, wanted in searches:
+            with self.subTest(text=text, where=where):
+                page.value(f"document.getElementById('where').value = '{where}'")
+                page.value("wanted.focus(); wanted.value = ''")
+                page.type(text) if text else page.value("wanted.dispatchEvent(new Event('input'))")
+                self.assertEqual(page.value("found.textContent"), wanted)
+        page.type("2")
+        found = [self.chosen(page)]
+        for shift in (False, False, True):
+            page.press("Enter", shift=shift)
+            found.append(self.chosen(page))
+        # Message 24 is the last: its put is entry 49 and its got entry 50. Message 2 is the first.
+        self.assertEqual(found, ["49", "50", "5", "50"])
+        self.assert_quiet(page)
+        self.says(len(searches + found), "searches")
+
+    def test_fault(self):
+        """The page begins at the fault, and the button leads back to it."""
+        page = self.open(FAULTY.read_bytes())
+        at_first = self.chosen(page)
+        row = page.value(f"document.getElementById('{at_first}').textContent")
+        self.assertEqual(row, 'gotend 10:2"three"')
+        self.assertEqual(page.value(
+            "[...document.querySelectorAll('.delivery[data-fault]')].map((it) => it.id)"
+        ), [f"d{at_first}"])
+        self.assertIn("Gap", page.value("document.querySelector('.verdict').textContent"))
+        page.value("document.getElementById('back').click()")
+        self.assertNotEqual(self.chosen(page), at_first)
+        page.value("document.getElementById('to-fault').click()")
+        self.assertEqual(self.chosen(page), at_first)
+        self.assert_quiet(page)
+        self.says(2, "ways to the fault")
+
+    def test_narrow_and_dark(self):
+        """At 400 pixels nothing is wider than the page; dark text stands on dark ground nowhere."""
+        for scheme, is_dark in (("light", False), ("dark", True)):
+            page = self.open(RUNS[0].read_bytes(), place="#5", width=400, height=700,
+                             settings=[("prefers-color-scheme", scheme)])
+            self.assertLessEqual(page.value("document.documentElement.scrollWidth"), 400)
+            self.assertLessEqual(page.value("document.getElementById('panel').scrollWidth"), 400)
+            colours = page.value("['backgroundColor', 'color'].map((it) => "
+                                 "getComputedStyle(document.body)[it])")
+            ground, ink = (sum(map(int, re.findall(r"\d+", it)[:3])) for it in colours)
+            self.assertEqual(ground < ink, is_dark)
+            self.assertEqual(self.chosen(page), "5")
+            self.assert_quiet(page)
+        self.says(2, "schemes")
+
+    def test_attack(self):
+        """Nothing that stands in logs or a script is run, nor shown as anything but text."""
+        script = attack_script(self.path.parent)
+        page = self.open(attack(), "--script", script, place="#2")
+        self.assertEqual(page.value("document.images.length"), 0)
+        self.assertIn("onerror=alert(1)", page.value("panel.querySelector('pre').textContent"))
+        self.assert_quiet(page)
+        # What was added to the page would not be run either.
+        page.value("panel.innerHTML = '<img src=\"data:,\" onerror=\"document.title = 1\">'")
+        console = page.console()
+        self.assertEqual(len(console), 1)
+        self.assertIn("Content Security Policy", json.dumps(console))
+        self.assertNotEqual(page.value("document.title"), "1")
+        self.says(2, "attacks")

@@ -1,0 +1,302 @@
+"""The ends of a run, as the step lines that make them: read off a script, or guessed from logs.
+
+A script says which agents and ends there are. Logs leave it open, and `guesses` goes through what
+they allow: who made an end is who uses it without having adopted it, two ports have neighbouring
+numbers and one maker, and who puts at a port has the other one. What was sent in a message, or had
+a notice, is a port. Any other end that has no port beside it is a queue of its maker, or from its
+maker's third one on a broadcast channel whose name nobody else has.
+"""
+
+import bisect
+import collections
+import dataclasses
+import functools
+import json
+
+import hublog
+from machine import MOST_AGENTS, MOST_ENDS
+
+# Origins show only where a broadcast channel is made.
+ORIGIN = "https://hub.example"
+
+
+class BadScript(Exception):
+    """A script line from which no ends can be read."""
+
+
+@dataclasses.dataclass
+class Ends:
+    """How many agents and ends there are, and the step lines that make them."""
+
+    origins: list
+    makings: list
+    count: int
+    # Whether more broadcast channels may be made, to cast from.
+    is_free: bool
+
+    @property
+    def agents(self):
+        return len(self.origins)
+
+    def numbered(self):
+        """The first end that each step line makes, and the step line."""
+        end = 0
+        for making in self.makings:
+            yield end, making
+            end += 2 if making.startswith("channel") else 1
+
+    def peers(self):
+        """By port, the other port of its channel."""
+        firsts = [end for end, making in self.numbered() if making.startswith("channel")]
+        return {end: end + 1 for end in firsts} | {end + 1: end for end in firsts}
+
+    def members(self):
+        """The broadcast channels."""
+        return {end for end, making in self.numbered() if making.startswith("member")}
+
+    def step_lines(self):
+        return [f"agent {origin}" for origin in self.origins] + self.makings
+
+
+# Of a script
+
+
+def of_script(data):
+    """The ends that a script declares. BadScript tells the first line that can't be read."""
+    agents, channels, members = [], [], []
+    for at, line in enumerate(hublog.lines_of(data), 1):
+        try:
+            read_line(json.loads(line.decode()), agents, channels, members)
+        except (ValueError, KeyError, TypeError, AttributeError, RecursionError):
+            raise BadScript(f"line {at}: Syntax") from None
+    makers = [int(making.split(" ")[1]) for making in channels + members]
+    if any(maker >= len(agents) for maker in makers):
+        raise BadScript("an agent isn't declared")
+    queues = [f"{kind} {agent}" for agent, (kind, _) in enumerate(agents)]
+    count = len(agents) + 2 * len(channels) + len(members)
+    if len(agents) > MOST_AGENTS or count > MOST_ENDS:
+        raise BadScript("there are too many agents or ends")
+    return Ends([origin for _, origin in agents], queues + channels + members, count, False)
+
+
+def read_line(fields, agents, channels, members):
+    if "agent" in fields:
+        kind = {"window": "client", "worker": "worker"}[fields["agent"]]
+        agents.append((kind, text_of(fields["origin"])))
+    elif "channel" in fields:
+        first, second = map(text_of, fields["channel"])
+        channels.append(f"channel {number_of(fields['at'])}")
+    elif "member" in fields:
+        members.append(f"member {number_of(fields['at'])} {json.dumps(text_of(fields['on']))}")
+
+
+def text_of(value):
+    if not isinstance(value, str):
+        raise TypeError
+    return value
+
+
+def number_of(value):
+    if type(value) is not int or value < 0:
+        raise TypeError
+    return value
+
+
+# Of logs
+
+
+class Evidence:
+    """What logs say of their ends. Where a broadcast channel has one line, it is line 0."""
+
+    def __init__(self, goal, has_one_line):
+        self.agents, self.goal, self.has_one_line = max(1, goal.agents), goal, has_one_line
+        self.ports, self.adopted, self.linked, self.mentioned = set(), set(), set(), set()
+        # By end: who uses it before any adoption, where who puts there, and who adopted it first.
+        self.users = collections.defaultdict(set)
+        self.putters = collections.defaultdict(list)
+        self.adopters = {}
+        # By agent and end, the places after which the agent has it, or has it no longer.
+        self.changes = collections.defaultdict(list)
+        # The ends with notices, and whether notices are to be had at all.
+        self.noticed = {item.end for item in goal.all("put", "got") if item.is_notice}
+        for items in goal.items:
+            for item, behind in zip(items, [*items[1:], None]):
+                self.see(item, behind)
+        self.count = 1 + max(self.mentioned, default=-1)
+
+    def see(self, item, behind):
+        self.mentioned.update((item.end, *item.ports))
+        self.ports.update(item.ports)
+        if item.is_notice:
+            self.ports.add(item.end)
+            if item.word == "put" and behind is not None and behind.word == "closed":
+                self.linked.add(frozenset([item.end, behind.end]))
+        elif item.word == "put":
+            self.putters[item.end].append(item)
+            for port in item.ports:
+                self.use(item.agent, port)
+                self.changes[item.agent, port].append((item.place, False))
+        if item.word == "adopted":
+            self.adopted.add(item.end)
+            if item.said[1] == 1:
+                self.adopters[item.end] = item.agent
+        elif item.word in ("got", "closed"):
+            self.use(item.agent, item.end)
+        if item.word in ("adopted", "closed"):
+            self.changes[item.agent, item.end].append((item.place, item.word == "adopted"))
+
+    def use(self, agent, end):
+        if not self.changes.get((agent, end)):
+            self.users[end].add(agent)
+
+    def makers(self, end):
+        """Who made the end and its neighbour, if these are two ports; None where they can't be."""
+        found = self.users[end] | self.users[end + 1]
+        for one, other in ((end, end + 1), (end + 1, end)):
+            for item in self.putters[other]:
+                changes = self.changes.get((item.agent, one), [])
+                last = bisect.bisect(changes, (item.place, False))
+                if last == 0:
+                    found.add(item.agent)
+                elif not changes[last - 1][1]:
+                    return None
+        return found if len(found) <= 1 else None
+
+    def is_plain(self, end):
+        """Whether the end can be a port as far as its own entries say."""
+        has_line_0 = self.goal.lines.get(end, [0]) == [0]
+        return has_line_0 and (end not in self.adopted or end in self.ports)
+
+    @functools.cache
+    def may_pair(self, end):
+        pair = {end, end + 1}
+        if end + 1 == MOST_ENDS or not pair & self.mentioned:
+            return False
+        if not self.is_plain(end) or not self.is_plain(end + 1):
+            return False
+        # The first one that is closed puts a notice, where that doesn't lag behind a moving port.
+        is_silent = bool(self.noticed and pair & self.goal.closed and not pair & self.noticed)
+        return self.makers(end) is not None and (not is_silent or bool(pair & self.adopted))
+
+    def may_stand_alone(self, end):
+        return end not in self.ports and len(self.users[end]) <= 1
+
+    def may_be_member(self, end):
+        """Whether casts can do all that was put at the end."""
+        if self.has_one_line and self.goal.lines.get(end, [0]) != [0]:
+            return False
+        return end not in self.adopted and not any(item.ports for item in self.putters[end])
+
+
+def guesses(goal, has_one_line=True):
+    """The ends that logs allow, one after another; what they say most of comes first. None stands
+    for a guess that can't be made."""
+    evidence = Evidence(goal, has_one_line)
+    is_found = False
+    for pairs in pairings(evidence):
+        ends = Maker(evidence, pairs).ends()
+        is_found = is_found or ends is not None
+        yield ends
+    if not is_found:
+        yield Maker(evidence, forced_pairs(evidence)).ends(is_forced=True)
+
+
+def pairings(evidence):
+    """The sets of the first ones of two ports, depth first."""
+    count = evidence.count
+    # Whether the ends from each one on can be paired at all; the last may have one more behind it.
+    fits = [True] * (count + 2)
+    for end in reversed(range(count)):
+        is_pair = evidence.may_pair(end) and fits[end + 2]
+        fits[end] = is_pair or (evidence.may_stand_alone(end) and fits[end + 1])
+    stack = [(0, ())] if fits[0] else []
+    while stack:
+        end, pairs = stack.pop()
+        while end < count:
+            ways = ways_of(evidence, end, fits)
+            if len(ways) > 1:
+                stack.append((end + (2 if ways[1] else 1), joined(pairs, end, ways[1])))
+            pairs = joined(pairs, end, ways[0])
+            end += 2 if ways[0] else 1
+        yield set(unwound(pairs))
+
+
+def joined(pairs, end, is_pair):
+    return (pairs, end) if is_pair else pairs
+
+
+def unwound(pairs):
+    while pairs:
+        pairs, end = pairs
+        yield end
+
+
+def ways_of(evidence, end, fits):
+    """Whether the end is the first one of two ports: what may be, and first what is likely."""
+    ways = []
+    if evidence.may_pair(end) and fits[end + 2]:
+        ways.append(True)
+    if evidence.may_stand_alone(end) and fits[end + 1]:
+        ways.append(False)
+    is_linked_here = frozenset([end, end + 1]) in evidence.linked
+    is_linked_behind = end + 1 in evidence.ports and evidence.may_pair(end + 1)
+    if is_linked_behind and not is_linked_here and end not in evidence.ports:
+        ways.reverse()
+    return ways
+
+
+def forced_pairs(evidence):
+    """Pairs for logs that no ends fit."""
+    pairs, end = set(), 0
+    while end < evidence.count:
+        is_pair = end in evidence.ports and end + 1 < MOST_ENDS
+        pairs |= {end} if is_pair else set()
+        end += 2 if is_pair else 1
+    return pairs
+
+
+class Maker:
+    """Who makes which ends, where the first ones of two ports are known."""
+
+    def __init__(self, evidence, pairs):
+        self.evidence, self.pairs = evidence, pairs
+        paired = pairs | {end + 1 for end in pairs}
+        self.alone = [end for end in range(evidence.count) if end not in paired]
+        self.needed = {end for end in self.alone if not evidence.may_be_member(end)}
+        # A queue that was handed on may be all that logs show of its maker.
+        is_handed = any(end in evidence.adopters for end in self.needed)
+        self.agents = max(evidence.agents, 2 if is_handed else 1)
+        self.queues, self.makers = collections.Counter(), {}
+        for end in sorted(self.alone, key=lambda end: (end not in self.needed, end)):
+            self.makers[end] = self.maker(end)
+            self.queues[self.makers[end]] += end in self.needed
+
+    def maker(self, end):
+        """Who made an end that isn't a port."""
+        users = self.evidence.users[end]
+        if users:
+            return min(users)
+        others = [it for it in range(self.agents) if it != self.evidence.adopters.get(end)]
+        return min(others, key=lambda agent: (self.queues[agent], agent != end))
+
+    def ends(self, is_forced=False):
+        """The ends. None where an agent needs more than a queue of each kind."""
+        if not is_forced and any(count > 2 for count in self.queues.values()):
+            return None
+        makings, end, kinds = [], 0, collections.Counter()
+        room = {agent: 2 - self.queues[agent] for agent in range(self.agents)}
+        while end < self.evidence.count:
+            if end in self.pairs:
+                makings.append(f"channel {min(self.evidence.makers(end) or [0])}")
+                end += 2
+                continue
+            agent = self.makers[end]
+            is_queue = end in self.needed or (room[agent] > 0 and end in self.evidence.mentioned)
+            if is_queue and kinds[agent] < 2:
+                room[agent] -= end not in self.needed
+                makings.append(f"{('client', 'worker')[kinds[agent]]} {agent}")
+                kinds[agent] += 1
+            else:
+                makings.append(f'member {agent} "end {end}"')
+            end += 1
+        return Ends([ORIGIN] * self.agents, makings, end, True)
