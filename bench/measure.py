@@ -367,7 +367,9 @@ class Bench:
         if self.options.built:
             return Program((self.options.built / f"bench_{name}",))
         source = HERE / name / "main.rt.txt"
-        words = [HERE / "build", self.folder / name, f"bench_{name}", source, *self.builds[name]]
+        jobs = [f"--jobs={self.options.jobs}"] if self.options.jobs else []
+        words = [HERE / "build", *jobs, self.folder / name, f"bench_{name}", source]
+        words += self.builds[name]
         answer = subprocess.run(words, stdout=subprocess.PIPE, text=True, errors="replace")
         if answer.returncode != 0:
             return Program(gap=Gap(f"bench/build {name} ended with status {answer.returncode}"))

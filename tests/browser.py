@@ -138,6 +138,14 @@ class Page:
             raise Refused(str(found["exceptionDetails"])[:500])
         return found["result"].get("value")
 
+    def wait_until(self, expression):
+        """Waits until an expression is true in the page."""
+        until = time.monotonic() + SECONDS
+        while not self.value(expression):
+            if time.monotonic() > until:
+                raise Refused(f"it isn't true: {expression}")
+            time.sleep(0.02)
+
     def press(self, key, shift=False):
         """Presses a key, as a user would."""
         code = {"key": key, "code": key, "windowsVirtualKeyCode": KEYS[key],
@@ -152,6 +160,13 @@ class Page:
         self.call("Input.dispatchMouseEvent", type="mouseMoved", x=x, y=y)
         for kind in ("mousePressed", "mouseReleased") if click else ():
             self.call("Input.dispatchMouseEvent", type=kind, x=x, y=y, button="left", clickCount=1)
+
+    def tap(self, x, y):
+        """Touches a place of what is seen, as a finger would."""
+        self.call("Emulation.setTouchEmulationEnabled", enabled=True)
+        self.call("Input.dispatchTouchEvent", type="touchStart", touchPoints=[{"x": x, "y": y}])
+        self.call("Input.dispatchTouchEvent", type="touchEnd", touchPoints=[])
+        self.call("Emulation.setTouchEmulationEnabled", enabled=False)
 
     def type(self, text):
         self.call("Input.insertText", text=text)

@@ -5,12 +5,15 @@ import os
 import pathlib
 import re
 import subprocess
+import sys
 import tempfile
 import typing
 import unittest
 
 TESTS = pathlib.Path(__file__).resolve().parent
 ROOT = TESTS.parent
+# The modules of the tools, for tests that import them behind this one.
+sys.path.append(str(ROOT / "tools"))
 BUILT = ROOT / "crates" / "messagehub" / "out" / "messagehub"
 # Where `tests/all --program` says which program is tested.
 PROGRAM = os.environ.get("VARUKONI_PROGRAM", str(BUILT))

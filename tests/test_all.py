@@ -114,6 +114,7 @@ class Runner(support.TestCase):
         self.assertLess(time.monotonic() - begin, 60)
         self.assert_ends(found, 1, "1 passed, 1 failed")
         self.assertIn(b"it didn't end within 5 s", found.output)
+        self.assertIn(b"time.sleep(300)", found.output, "it isn't told where it was")
         self.assertFalse(is_running(int(path.read_text("utf-8"))), "its child still runs")
         self.says(1, "call")
 
@@ -157,6 +158,13 @@ class Runner(support.TestCase):
         found = self.run_all("other", "sample")
         self.assertEqual((found.output, found.status), (b"", 2), found)
         self.says(len(choices), "choices")
+
+    def test_no_folder(self):
+        words = [TESTS / "all", "--folder", self.folder / "none", "--program", "/bin/true"]
+        found = outcome_of(words)
+        self.assertEqual((found.output, found.status), (b"", 2))
+        self.assertIn(b"there is no folder", found.errors)
+        self.says(1, "call")
 
     def test_no_program(self):
         self.add("test_sample.py", HEAD + RIGHT)

@@ -1,4 +1,4 @@
-"""Runs every script of tests/ and tools/ with words that it takes, and with words that it doesn't.
+"""Runs every script with words that it takes and that it doesn't, and over bad streams and inputs.
 
 The exit status is 2 where a script is used wrongly or a file is missing, with no traceback.
 """
@@ -6,22 +6,28 @@ The exit status is 2 where a script is used wrongly or a file is missing, with n
 import os
 import pathlib
 import shutil
+import signal
+import subprocess
 import tempfile
 
 import support
-from support import ROOT, outcome_of
+from support import ROOT, TESTS, outcome_of
 
-FOLDERS = ("bench", "record", "tests", "tests/soak.d", "tools")
+FOLDERS = ("bench", "examples", "record", "tests", "tests/soak.d", "tools")
 LOCALES = ("C", "POSIX", "C.UTF-8", "xx_XX.ISO-8859-1")
 # What is missing or wrong in each call, by script.
 WRONG = {
-    "bench/all": [["no-such-bench"], ["--turns", "0"], ["--program", "/nowhere/at/all"]],
-    "bench/build": [[], ["/nowhere/at/all", "name"]],
+    "bench/all": [["no-such-bench"], ["--turns", "0"], ["--program", "/nowhere/at/all"],
+                  ["--jobs", "0"], ["scripts", "--built", "/nowhere/at/all"]],
+    "bench/build": [[], ["/nowhere/at/all", "name"], ["/tmp/x", "name", "/nowhere", "crate"]],
+    "examples/chat.py": [[], ["/nowhere/at/all"], ["/tmp"]],
     "record/merge": [[], ["/nowhere/at/all"]],
-    "tests/all": [["no-such-test"], ["--program", "/nowhere/at/all"], ["--jobs", "0"]],
-    "tests/node": [["/nowhere/at/all"], ["--files", "0"], ["--lines", "abc"]],
+    "tests/all": [["no-such-test"], ["--program", "/nowhere/at/all"], ["--jobs", "0"],
+                  ["--program", "/"], ["--program", "/bin/true", "--folder", "/nowhere/at/all"]],
+    "tests/node": [["/nowhere/at/all"], ["/"], ["--files", "0"], ["--lines", "abc"]],
     "tests/simulate": [[], ["fly"], ["--wrong", "fly", "run"]],
-    "tests/soak": [[], ["/nowhere/at/all"], ["--processors", "0", "/bin/true"], ["/tmp"]],
+    "tests/soak": [[], ["/nowhere/at/all"], ["--processors", "0", "/bin/true"], ["/tmp"],
+                   ["--seconds", "nan", "/bin/true"], ["--keep", "/nowhere", "/bin/true"]],
     "tests/soak.d/faults": [["--runs", "x"], ["--runs", "0", "--seeds", "0"], ["--jobs", "0"]],
     "tools/account": [["/nowhere/at/all"], ["a", "b"]],
     "tools/explain": [["/nowhere/at/all"], ["a", "b"]],
@@ -29,8 +35,33 @@ WRONG = {
     "tools/steps-of": [["/nowhere/at/all"], ["--states", "x"]],
     "tools/view": [["/nowhere/at/all"], ["a", "b"]],
     "tools/draw": [["/nowhere/at/all"], ["/"], ["--most", "-1"]],
+    "tools/build": [["--jobs", "0"]],
     "tools/clauses": [["no_such_crate"]],
+    "tools/costs": [[], ["/dev/null"], ["/dev/null", "/nowhere/at/all"]],
+    "tools/edits": [["no_such_crate"], ["--jobs", "-1"]],
 }
+# The scripts that read logs, or a script, each with the words before its input.
+READERS = {
+    **{f"tools/{name}": [] for name in ("account", "draw", "explain", "judge", "steps-of", "view")},
+    "tests/simulate": ["check"],
+}
+# What fails besides where a stream does: `explain` has the statuses of the program.
+STATUS_OF_STREAMS = {"tools/explain": 4}
+# Scripts whose output is long before they end, and quick to come.
+TALKATIVE = [
+    ["tools/clauses"], ["tests/all", "--list"], ["bench/all", "--list"],
+    ["tools/view", "tests/runs/two_windows.out"], ["tools/draw", "tests/runs/two_windows.out"],
+    ["tools/judge", "examples/run.log"], ["tools/account", "examples/run.log"],
+    ["tools/explain", "examples/run.log"], ["tools/steps-of", "examples/run.log"],
+]
+# A test that says its process, and takes so many seconds.
+SLOW = """import os, pathlib, time, unittest
+class Slow(unittest.TestCase):
+    summary = "1 thing"
+    def test_slow(self):
+        pathlib.Path({path!r}).write_text(str(os.getpid()), "utf-8")
+        time.sleep({seconds})
+"""
 
 
 def scripts():
@@ -80,9 +111,106 @@ class Commands(support.TestCase):
 
     def test_paths_with_spaces(self):
         with tempfile.TemporaryDirectory(prefix="a folder ") as folder:
-            for name in ["bench", "record", "tests", "tools"]:
+            for name in ["bench", "examples", "record", "tests", "tools"]:
                 shutil.copytree(ROOT / name, pathlib.Path(folder) / name)
             for name in scripts():
                 with self.subTest(script=name):
                     self.check_help([pathlib.Path(folder) / name])
         self.says(len(scripts()), "scripts", 8)
+
+
+class Streams(support.TestCase):
+    """Streams that fail or are closed, and inputs that are empty, rubbish or cut."""
+
+    def told(self, errors):
+        """What was wrong, in one line, but for notes of the script and its usage."""
+        lines = errors.decode().splitlines()
+        self.assertFalse([it for it in lines if "Traceback" in it or "Exception" in it], errors)
+        return lines[-1] if lines else ""
+
+    def redirected(self, words, redirection):
+        settings = {**os.environ, "PYTHONUNBUFFERED": ""}
+        return outcome_of(["sh", "-c", f'"$0" "$@" {redirection}', *words], env=settings, cwd=ROOT)
+
+    def test_output_fails(self):
+        for redirection, said in [("> /dev/full", "No space left"), (">&-", "is closed")]:
+            for name, *words in TALKATIVE:
+                with self.subTest(script=name, redirection=redirection):
+                    found = self.redirected([ROOT / name, *words], redirection)
+                    if redirection == ">&-" and name.endswith(("all", "clauses")):
+                        # They print as they go, and print to nobody.
+                        self.assertEqual((found.errors, found.status), (b"", 0))
+                        continue
+                    self.assertEqual(found.status, STATUS_OF_STREAMS.get(name, 2), found)
+                    self.assertIn(said, self.told(found.errors))
+                    self.assertTrue(self.told(found.errors).startswith(f"{name}: "), found)
+        self.says(2 * len(TALKATIVE), "calls", 18)
+
+    def test_pipe_is_closed(self):
+        for name, *words in TALKATIVE:
+            with self.subTest(script=name):
+                reader, writer = os.pipe()
+                os.close(reader)
+                found = subprocess.run(
+                    [ROOT / name, *words], stdout=writer, stderr=subprocess.PIPE, cwd=ROOT
+                )
+                os.close(writer)
+                self.told(found.stderr)
+                self.assertEqual(found.returncode, -signal.SIGPIPE)
+        self.says(len(TALKATIVE), "calls", 9)
+
+    def test_tests_end_with_their_pipe(self):
+        """A test that runs when the pipe of tests/all is closed is ended too."""
+        with tempfile.TemporaryDirectory(prefix="some tests ") as folder:
+            folder = pathlib.Path(folder)
+            (folder / "test_one.py").write_text(SLOW.format(seconds=0.1, path="one"), "utf-8")
+            (folder / "test_two.py").write_text(SLOW.format(seconds=300, path="two"), "utf-8")
+            words = [TESTS / "all", "--folder", folder, "--program=/bin/true", "--jobs=2"]
+            reader, writer = os.pipe()
+            os.close(reader)
+            found = subprocess.run(
+                words, stdout=writer, stderr=subprocess.PIPE, cwd=folder, timeout=60
+            )
+            os.close(writer)
+            self.assertEqual((found.returncode, found.stderr), (-signal.SIGPIPE, b""))
+            number = int((folder / "two").read_text("utf-8"))
+            self.assertFalse(pathlib.Path(f"/proc/{number}").exists(), "a test still runs")
+        self.says(1, "call")
+
+    def test_input_is_closed(self):
+        for name, words in READERS.items():
+            with self.subTest(script=name):
+                found = self.redirected([ROOT / name, *words], "<&-")
+                self.assertEqual((found.output, found.status), (b"", 2))
+                said = self.told(found.errors)
+                self.assertEqual(said, f"{name}: error: standard input is closed")
+        self.says(len(READERS), "calls", 7)
+
+    def test_inputs(self):
+        """Empty logs are clean. Of what is no logs the first bad line is told, in one line."""
+        rows = [
+            (b"", 0), (b"hublog 3\n", 0), (b"hublog 3", 0), (b"\n", 2), (b"hublog 3\n\n", 2),
+            (b"\xff\xfe\x00\n" * 3, 2), (b"hublog 3\nagent 0\nput 1 0 0:0 - " + b"[" * 9_000, 2),
+            (b"hublog 3\nagent 0\nput 1 0 0:0 - \"\\ud800\"\n", 2), (b"x" * 2_000_000, 2),
+        ]
+        for name, words in READERS.items():
+            for text, status in rows:
+                with self.subTest(script=name, text=text[:40]):
+                    found = outcome_of([ROOT / name, *words], text)
+                    self.assertEqual(found.status, status, found)
+                    self.told(found.errors)
+                    if status:
+                        lines = [it for it in (found.output + found.errors).decode().splitlines()
+                                 if ": Bad" in it]
+                        self.assertEqual(len(lines), 1, found)
+        self.says(len(rows) * len(READERS), "inputs", 63)
+
+    def test_scripts(self):
+        """What is no script is told, and nothing is printed."""
+        scripts = [b"[" * 5_000, b"{", b"\xff", b'{"agent":"boss"}', b'{"at":7,"wait":1}']
+        for text in scripts:
+            with self.subTest(script=text[:40]):
+                found = outcome_of([TESTS / "simulate", "run"], text)
+                self.assertEqual((found.output, found.status), (b"", 2), found)
+                self.assertIn("no script", self.told(found.errors))
+        self.says(len(scripts), "scripts", 5)

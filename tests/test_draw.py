@@ -9,16 +9,13 @@ the runs in tests/runs, with the names of the scripts in examples/.
 import pathlib
 import random
 import re
-import sys
 import tempfile
 import xml.etree.ElementTree
 
 import support
 from support import ROOT, TESTS, outcome_of
 
-sys.path.append(str(ROOT / "tools"))
-
-import runlog  # noqa: E402
+import runlog
 
 DRAW = ROOT / "tools" / "draw"
 SVG = "{http://www.w3.org/2000/svg}"

@@ -4,6 +4,8 @@ The sentences are written here from the rules of docs/FORMATS.md, one for each k
 """
 
 import os
+import pathlib
+import shutil
 import tempfile
 
 import support
@@ -81,16 +83,15 @@ class Explain(support.TestCase):
         )
 
     def test_twice(self):
+        """Agent 3 adopts the end, and gets again what agent 2 had got."""
         self.explain(
-            changed(('got 1 0 0:1 - "two"', 'got 1 0 0:0 - "one"')).replace(
-                'got 1 0 0:2 - "three"', 'got 1 0 0:1 - "two"'
-            ),
+            changed(('got 1 0 0:1 - "two"', 'agent 3\nadopted 1 1\ngot 1 0 0:0 - "one"')),
             "fault 1 0 1 Twice",
             "End 1, line 0: an envelope was got twice.",
-            "Agent 2 got 0:0 (file line 9), which agent 2 had got before (file line 8)."
+            "Agent 3 got 0:0 (file line 11), which agent 2 had got before (file line 8)."
             " Next was 0:1, which agent 0 put (file line 4).",
             'before:    file line 8, agent 2: got 1 0 0:0 - "one"',
-            'came:      file line 9, agent 2: got 1 0 0:0 - "one"',
+            'came:      file line 11, agent 3: got 1 0 0:0 - "one"',
         )
 
     def test_changed(self):
@@ -152,19 +153,44 @@ class Explain(support.TestCase):
         self.says(2, "logs")
 
     def test_program(self):
-        """What the program says is what is explained, and its other statuses pass through."""
+        """What the program says is printed, and its status is kept. A fault that the second checker
+        doesn't find is explained no further, and a program that dies is told."""
+        otherwise = "tools/explain: tools/judge says otherwise: clean\n"
+        rows = [
+            ("echo out of memory; exit 3", "out of memory\n", "", 3),
+            ("exit 4", "", "", 4),
+            ("echo clean", None, "", 0),
+            ("echo fault 1 0 2 Gap; exit 1", "fault 1 0 2 Gap\n", otherwise, 1),
+            ("echo fault 7 0 0 AfterNotice; exit 1", "fault 7 0 0 AfterNotice\n", otherwise, 1),
+            ("kill -9 $$", "", "tools/explain: the program was ended by signal 9\n", 2),
+        ]
         with tempfile.TemporaryDirectory(prefix="a folder ") as folder:
-            program = os.path.join(folder, "program")
-            for text, status in [("out of memory", 3), ("fault 1 0 2 Gap", 1)]:
-                with open(program, "w", encoding="utf-8") as file:
-                    file.write(f"#!/bin/sh\necho {text}\nexit {status}\n")
-                os.chmod(program, 0o755)
-                found = outcome_of([EXPLAIN, "--program", program], CLEAN.encode())
-                self.assertEqual(found.output.decode().splitlines()[0], text)
-                self.assertEqual((found.errors, found.status), (b"", status))
+            program = pathlib.Path(folder) / "program"
+            for text, output, errors, status in rows:
+                with self.subTest(program=text):
+                    program.write_text(f"#!/bin/sh\n{text}\n", "utf-8")
+                    program.chmod(0o755)
+                    found = outcome_of([EXPLAIN, "--program", program], CLEAN.encode())
+                    self.assertEqual((found.errors.decode(), found.status), (errors, status))
+                    if output is not None:
+                        self.assertEqual(found.output.decode(), output)
         missing = outcome_of([EXPLAIN, "--program", "/nowhere/at/all"], CLEAN.encode())
         self.assertEqual((missing.output, missing.status), (b"", 2))
-        self.says(3, "programs")
+        self.says(len(rows) + 1, "programs")
+
+    def test_no_program(self):
+        """Without a built program the second checker judges, and that is said."""
+        logs = changed(('got 1 0 0:1 - "two"\n', "")).encode()
+        said = b"tools/explain: no program is built, so tools/judge judges\n"
+        with tempfile.TemporaryDirectory(prefix="a folder ") as folder:
+            shutil.copytree(ROOT / "tools", pathlib.Path(folder) / "tools")
+            explain = pathlib.Path(folder) / "tools" / "explain"
+            wanted = {CLEAN.encode(): (b"clean: ", 0), logs: (b"fault 1 0 1 Gap\n\nEnd 1", 1)}
+            for text, (beginning, status) in wanted.items():
+                found = outcome_of([explain], text)
+                self.assertEqual((found.errors, found.status), (said, status))
+                self.assertTrue(found.output.startswith(beginning), found.output)
+        self.says(len(wanted), "logs")
 
 
 class Account(support.TestCase):
@@ -184,6 +210,15 @@ class Account(support.TestCase):
             "end  line  accepted  got  left  when             notice",
             "  1     0         4    2     2  closed, line 10  left",
             " 20    31         2    1     1  waiting          -",
+        )
+
+    def test_close(self):
+        """What was got after the close was left when the end was closed."""
+        self.account(
+            swapped("got 1 0 0:3 notice", "closed 1") + 'got 1 0 0:3 - "again"\n',
+            0,
+            "end  line  accepted  got  left  when             notice",
+            "  1     0         4    5     1  closed, line 11  left",
         )
 
     def test_odd_numbers(self):

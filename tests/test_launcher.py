@@ -82,7 +82,8 @@ class Launcher(support.TestCase):
         (root / "crates.txt").write_text(CRATES, encoding="utf-8")
         (root / "HANDLES").write_text("Handles allowed: none.\n", encoding="utf-8")
         shutil.copy(ROOT / "messagehub", root)
-        shutil.copy(ROOT / "tools" / "build", root / "tools")
+        for tool in ("build", "command.py"):
+            shutil.copy(ROOT / "tools" / tool, root / "tools")
         return root
 
     def launch(self, *words, root=None):

@@ -224,6 +224,7 @@ REFUSALS = (
 
 def python_recorder():
     """record/hublog.py as a module, whose name tools/hublog.py has as well."""
+    sys.dont_write_bytecode = True
     path = ROOT / "record" / "hublog.py"
     spec = importlib.util.spec_from_file_location("recorder", path)
     module = importlib.util.module_from_spec(spec)
@@ -236,7 +237,6 @@ class Python(Case):
 
     def setUp(self):
         super().setUp()
-        sys.dont_write_bytecode = True
         self.recorder = python_recorder()
         self.path = self.folder / "agent 3.log"
 
@@ -307,6 +307,51 @@ class Python(Case):
         self.says(len(bodies + past), "bodies", 13)
 
 
+class Kinds(Case):
+    """A small hub in Python, recorded, that goes wrong in all ways for which there is a kind."""
+
+    ONE, TWO, THREE, NOTICE = (0, "one"), (1, "two"), (2, "three"), (3, None)
+    # What comes out of the hub, with the place where its agent closes the end, and the verdict.
+    WAYS = {
+        "right": ([ONE, TWO, THREE, NOTICE], 4, "clean"),
+        "drops": ([ONE, THREE, NOTICE], 3, "fault 1 0 1 Gap"),
+        "swaps": ([ONE, THREE, TWO, NOTICE], 4, "fault 1 0 1 Gap"),
+        "doubles": ([ONE, TWO, TWO, THREE, NOTICE], 5, "fault 1 0 2 Twice"),
+        "changes": ([ONE, (1, "two!"), THREE, NOTICE], 4, "fault 1 0 1 Changed"),
+        "renames": ([ONE, (7, "two"), THREE, NOTICE], 4, "fault 1 0 1 Foreign"),
+        "delivers after the close": ([ONE, TWO, THREE], 2, "fault 1 0 2 AfterClose"),
+        "delivers after the notice": ([ONE, TWO, THREE, NOTICE, TWO], 5,
+                                      "fault 1 0 4 AfterNotice"),
+    }
+
+    def test_kinds(self):
+        create = python_recorder().Recorder
+        for way, (delivered, closed_at, verdict) in self.WAYS.items():
+            with self.subTest(way=way):
+                folder = self.folder / way
+                folder.mkdir()
+                with create(folder / "0.log", 0) as sender, create(folder / "1.log", 1) as receiver:
+                    for number, body in self.WAYS["right"][0]:
+                        self.write(sender.put, sender.put_notice, number, body)
+                    for number, body in delivered[:closed_at]:
+                        self.write(receiver.got, receiver.got_notice, number, body)
+                    receiver.closed(1)
+                    for number, body in delivered[closed_at:]:
+                        self.write(receiver.got, receiver.got_notice, number, body)
+                found = self.merged(folder)
+                self.assertEqual((found.errors, found.status), (b"", 0))
+                self.assertEqual(self.verdict(found.output), verdict)
+        kinds = {verdict.rpartition(" ")[2] for _, _, verdict in self.WAYS.values()} - {"clean"}
+        self.says(len(kinds), "kinds", 6)
+
+    @staticmethod
+    def write(message, notice, number, body):
+        if body is None:
+            notice(1, 0, 0, number)
+        else:
+            message(1, 0, 0, number, [], body)
+
+
 def nested(depth):
     value = []
     for _ in range(depth):
@@ -350,7 +395,7 @@ class Rust(Case):
         path = self.folder / "texts"
         texts = self.TEXTS + self.PAST + self.NONE
         path.write_text("\n".join([*texts, ""]), "utf-8")
-        found = outcome_of([self.program, "-", path])
+        found = outcome_of([self.program, "texts", path])
         self.assertEqual(found.output.decode().split(), ["NotJson"] * len(self.NONE))
         log = pathlib.Path(f"{path}.log").read_text("utf-8")
         self.assertEqual(self.verdict(log.encode()), "clean")
@@ -361,6 +406,17 @@ class Rust(Case):
             self.assertTrue(one == other, (text[:50], one[:90], other[:90]))
         self.assertEqual(len(found), len(wanted))
         self.says(len(texts), "texts", 40)
+
+    def test_after_notice(self):
+        found = outcome_of([self.program, "late", self.folder / "logs"])
+        self.assertNotEqual(found.status, 0, "it made logs in no folder")
+        (self.folder / "logs").mkdir()
+        found = outcome_of([self.program, "late", self.folder / "logs"])
+        self.assertEqual((found.errors, found.status), (b"", 0))
+        merged = self.merged(self.folder / "logs")
+        self.assertEqual((merged.errors, merged.status), (b"", 0))
+        self.assertEqual(self.verdict(merged.output), "fault 1 0 2 AfterNotice")
+        self.says(3, "deliveries")
 
 
 # Merging

@@ -1,32 +1,38 @@
 """Tests of tools/steps-of: step files for the logs of runs, and logs that have none.
 
-The logs are those of simulated runs. What a step file does is told by the built program where there
-is one, and else by tools/machine.py, which is compared with the rows of the program.
+The logs are those of the program's runs, of simulated ones, and of programs on Node. What a step
+file does is told by the built program where there is one, and else by tools/machine.py, which is
+compared with the rows of the program.
 """
 
 import os
 import pathlib
 import random
 import re
+import shutil
 import sys
 import tempfile
+import unittest
 
 import support
 from support import PROGRAM, ROOT, TESTS, outcome_of
 
-sys.path[:0] = [str(TESTS / "soak.d"), str(ROOT / "tools")]
+sys.path.insert(0, str(TESTS / "soak.d"))
 
 import changes
+import ends
 import generator
 import hublog
 import machine
 
 STEPS_OF = ROOT / "tools" / "steps-of"
+MERGE = ROOT / "record" / "merge"
+SHOP = TESTS / "record" / "shop.mjs"
 SIMULATE = TESTS / "simulate"
 SCRIPTS = [ROOT / "examples" / f"{name}.script" for name in ("two_windows", "service_worker")]
 SEEDS = range(14)
 MOST_ENTRIES = 700
-GOT = re.compile(r"(?:got|notice) (\d+:\d+) from (\d+)")
+GOT = re.compile(r"(?:got|notice) (\d+:\d+) from (\d+)(?: with ([\d,]+))?(?: (.+))?")
 IS_BUILT = os.access(PROGRAM, os.X_OK)
 
 # Each of two agents closes its port: both notices were accepted before either port was closed.
@@ -83,6 +89,10 @@ def simulated(script, seed):
     return found.output if found.status == 0 else None
 
 
+def run_by_program(script, _seed):
+    return outcome_of([PROGRAM, "run"], script).output
+
+
 def outcomes(steps):
     """The outcome line of each step line."""
     if IS_BUILT:
@@ -91,15 +101,23 @@ def outcomes(steps):
     return [hub.do(line) for line in steps.decode().splitlines()]
 
 
-def deliveries(steps):
-    """What the step lines deliver, in the form that follows the logs of a run."""
+def gots(steps):
+    """What the step lines deliver: by end and line, names, ports and bodies in order."""
     found = {}
     for line, outcome in zip(steps.decode().splitlines(), outcomes(steps)):
-        got = GOT.match(outcome)
+        got = GOT.fullmatch(outcome)
         if line.startswith("take ") and got:
             key = int(line.split(" ")[1]), int(got[2])
-            found.setdefault(key, []).append(got[1])
-    return [f"end {end} line {line} {' '.join(it)}" for (end, line), it in sorted(found.items())]
+            found.setdefault(key, []).append((got[1], got[3] or "-", got[4]))
+    return dict(sorted(found.items()))
+
+
+def deliveries(steps):
+    """The same in the form that follows the logs of a run."""
+    return [
+        f"end {end} line {line} {' '.join(name for name, _, _ in it)}"
+        for (end, line), it in gots(steps).items()
+    ]
 
 
 class Case(support.TestCase):
@@ -110,11 +128,11 @@ class Case(support.TestCase):
         self.addCleanup(folder.cleanup)
         self.path = pathlib.Path(folder.name) / "run.script"
 
-    def runs(self):
+    def runs(self, run=simulated):
         """Scripts, of which self.path has the one at a time, and the logs of a run of it."""
         scripts = [path.read_bytes() for path in SCRIPTS] + list(map(generator.make, SEEDS))
         for seed, script in enumerate(scripts):
-            logs = simulated(script, seed)
+            logs = run(script, seed)
             if logs is not None and logs.count(b"\n") <= MOST_ENTRIES:
                 self.path.write_bytes(script)
                 yield logs
@@ -135,6 +153,33 @@ class Found(Case):
         for logs in self.runs():
             with self.subTest(run=count):
                 self.check_steps(logs, "--script", self.path)
+                count += 1
+        self.says(count, "runs", 12)
+
+    def test_origins(self):
+        """A step line has as much of a URL as its origin needs, and no space."""
+        rows = [
+            ("https://a.test:443/x y", "https://a.test:443"),
+            (" https://a.te\tst/b c\n", "https://a.test"),
+            ("https:\\\\a.test\\x", "https:\\\\a.test"),
+            ("http://u:p@[::1]:80?q#f", "http://u:p@[::1]:80"),
+            ("blob:https://a.test/an-id", "blob:https://a.test"),
+        ]
+        for url, origin in rows:
+            self.assertEqual(ends.origin_of(url), origin)
+        if IS_BUILT:
+            steps = "".join(f"agent {origin}\n" for _, origin in rows)
+            wanted = [f"agent {at}" for at in range(len(rows))]
+            self.assertEqual(outcomes(steps.encode()), wanted)
+        self.says(len(rows), "origins", 5)
+
+    def test_program(self):
+        """Each run of the program has a step file, with its script and without."""
+        count = 0
+        for logs in self.runs(run_by_program):
+            with self.subTest(run=count):
+                self.check_steps(logs, "--script", self.path)
+                self.check_steps(logs)
                 count += 1
         self.says(count, "runs", 12)
 
@@ -160,19 +205,36 @@ class Found(Case):
         found = steps_of(OTHER_HUB.encode())
         self.assertEqual(found.status, 0)
         self.assertEqual(found.errors.count(b"tools/steps-of: the logs have no "), 2, found.errors)
-        gots = [line for line in outcomes(found.output) if line.startswith("got ")]
+        lines = [line for line in outcomes(found.output) if line.startswith("got ")]
         wanted = [
             'got 0:0 from 0 with 1 "a port"', 'got 0:0 from 0 "back"', 'got 0:0 from 0 "first"',
             'got 1:0 from 0 "second"',
         ]
-        self.assertEqual(sorted(gots), sorted(wanted))
-        self.says(len(gots), "deliveries")
+        self.assertEqual(sorted(lines), sorted(wanted))
+        self.says(len(lines), "deliveries")
+
+    @unittest.skipIf(shutil.which("node") is None, "node, which is not on the PATH")
+    def test_node(self):
+        """A recorded program on Node's own channels: ports and bodies are those of its logs."""
+        folder = self.path.parent / "logs"
+        ran = outcome_of(["node", "--no-warnings", SHOP, folder])
+        self.assertEqual((ran.errors, ran.status), (b"", 0))
+        logs = outcome_of([MERGE, folder]).output
+        found = steps_of(logs)
+        self.assertEqual(found.status, 0, found.output)
+        wanted = {
+            key: [(",".join(map(str, it.content[0])) or "-", it.content[1]) for it, _ in entries]
+            for key, entries in hublog.got_lists(hublog.read_logs(logs)).items()
+        }
+        bodies = {key: [it[1:] for it in entries] for key, entries in gots(found.output).items()}
+        self.assertEqual(bodies, wanted)
+        self.says(sum(map(len, wanted.values())), "deliveries", 10)
 
     def test_crossed_notices(self):
         """No step lines put two notices that crossed: the second is left out, and that is said."""
         found = steps_of(CROSSED.encode())
         self.assertEqual(found.status, 0, found.output)
-        self.assertIn(b"left out is line 9", found.errors)
+        self.assertTrue(found.errors.endswith(b"; left out: line 9\n"), found.errors)
         self.says(1, "run")
 
 

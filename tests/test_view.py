@@ -25,9 +25,7 @@ import support
 import test_draw
 from support import ROOT, TESTS, outcome_of
 
-sys.path.append(str(ROOT / "tools"))
-
-import hublog  # noqa: E402
+import hublog
 
 VIEW = ROOT / "tools" / "view"
 RUNS = sorted((TESTS / "runs").glob("*.out"))
@@ -37,6 +35,24 @@ ATTACK = "</script><!--<script>'\"><img src=x onerror=alert(1)>&amp;\u202e{{$dat
 PUT = 0
 # Elements that have no end in HTML.
 VOID = frozenset(["meta", "link", "input", "br"])
+# The colours of a message and of a fault, and how often a picture has each.
+COLOURS = [[0x00, 0x60, 0x9a], [0xb8, 0x00, 0x00]]
+COUNTED = """(async () => {
+  const [it, canvas] = [new Image(), document.createElement("canvas")];
+  it.src = "data:image/png;base64,%s";
+  await it.decode();
+  [canvas.width, canvas.height] = [it.width, it.height];
+  const context = canvas.getContext("2d");
+  context.drawImage(it, 0, 0);
+  const { data } = context.getImageData(0, 0, it.width, it.height);
+  const counts = %s.map(() => 0);
+  for (let at = 0; at < data.length; at += 4) {
+    %s.forEach((colour, which) => {
+      counts[which] += colour.every((part, place) => data[at + place] === part);
+    });
+  }
+  return counts;
+})()"""
 needs_chromium = unittest.skipIf(
     browser.CHROMIUM is None, "chromium, which is not on the PATH"
 )
@@ -324,6 +340,28 @@ class Browsed(support.TestCase):
             self.assertEqual((page.value(shown), self.chosen(page)), (title, chosen), place)
         self.assert_quiet(page)
         self.says(6, "places")
+
+    def test_tap(self):
+        page = self.open(RUNS[-1].read_bytes())
+        for number in ("4", "6"):
+            x, y = page.value(f"""(() => {{
+              const box = document.getElementById("{number}").getBoundingClientRect();
+              return [box.x + box.width / 2, box.y + box.height / 2];
+            }})()""")
+            page.tap(x, y)
+            page.wait_until(f"document.querySelector('[aria-selected]')?.id === '{number}'")
+        self.assert_quiet(page)
+        self.says(2, "taps")
+
+    def test_picture(self):
+        """Arrows are seen, and red where there is a fault, there alone."""
+        found = []
+        for path in (RUNS[-1], FAULTY):
+            page = self.open(path.read_bytes())
+            counts = COUNTED % (page.picture(), COLOURS, COLOURS)
+            found.append([count > 20 for count in page.value(counts)])
+        self.assertEqual(found, [[True, False], [True, True]])
+        self.says(len(found), "pictures")
 
     def test_body(self):
         """A body is shown with a line for each part, and its numbers as they are."""

@@ -12,16 +12,20 @@ import collections
 import dataclasses
 import functools
 import json
+import re
 
-import hublog
-from machine import MOST_AGENTS, MOST_ENDS
+import hubscript
+from machine import MOST_ENDS
 
 # Origins show only where a broadcast channel is made.
 ORIGIN = "https://hub.example"
-
-
-class BadScript(Exception):
-    """A script line from which no ends can be read."""
+# By the kind of an agent, the step line that makes its queue.
+STEPS = {"window": "client", "worker": "worker"}
+# What the URL Standard leaves out of account at both ends of a URL, and anywhere.
+CONTROLS = "".join(map(chr, range(0x21)))
+IGNORED = re.compile("[\t\n\r]")
+# Schemes, each with the slashes behind it, and what stands before the path.
+AUTHORITY = re.compile(r"(?:[^/\\?#:]*:[/\\]*)*[^/\\?#]*")
 
 
 @dataclasses.dataclass
@@ -62,44 +66,18 @@ class Ends:
 
 
 def of_script(data):
-    """The ends that a script declares. BadScript tells the first line that can't be read."""
-    agents, channels, members = [], [], []
-    for at, line in enumerate(hublog.lines_of(data), 1):
-        try:
-            read_line(json.loads(line.decode()), agents, channels, members)
-        except (ValueError, KeyError, TypeError, AttributeError, RecursionError):
-            raise BadScript(f"line {at}: Syntax") from None
-    makers = [int(making.split(" ")[1]) for making in channels + members]
-    if any(maker >= len(agents) for maker in makers):
-        raise BadScript("an agent isn't declared")
-    queues = [f"{kind} {agent}" for agent, (kind, _) in enumerate(agents)]
-    count = len(agents) + 2 * len(channels) + len(members)
-    if len(agents) > MOST_AGENTS or count > MOST_ENDS:
-        raise BadScript("there are too many agents or ends")
-    return Ends([origin for _, origin in agents], queues + channels + members, count, False)
+    """The ends that a script declares. hubscript.BadScript tells the first bad line."""
+    found = hubscript.declarations(data)
+    makings = [f"{STEPS[it.kind]} {agent}" for agent, it in enumerate(found.agents)]
+    makings += [f"channel {it.agent}" for it in found.channels]
+    makings += [f"member {it.agent} {json.dumps(it.on)}" for it in found.members]
+    origins = [origin_of(it.origin) for it in found.agents]
+    return Ends(origins, makings, found.end_count(), False)
 
 
-def read_line(fields, agents, channels, members):
-    if "agent" in fields:
-        kind = {"window": "client", "worker": "worker"}[fields["agent"]]
-        agents.append((kind, text_of(fields["origin"])))
-    elif "channel" in fields:
-        first, second = map(text_of, fields["channel"])
-        channels.append(f"channel {number_of(fields['at'])}")
-    elif "member" in fields:
-        members.append(f"member {number_of(fields['at'])} {json.dumps(text_of(fields['on']))}")
-
-
-def text_of(value):
-    if not isinstance(value, str):
-        raise TypeError
-    return value
-
-
-def number_of(value):
-    if type(value) is not int or value < 0:
-        raise TypeError
-    return value
+def origin_of(url):
+    """As much of a URL as its origin needs. No more fits into a step line, where it has a space."""
+    return AUTHORITY.match(IGNORED.sub("", url.strip(CONTROLS)))[0]
 
 
 # Of logs

@@ -2,14 +2,13 @@
 
 This is the second checker beside `messagehub check`, with which it shares no code. `tools/judge` is
 its command, `tools/draw` draws what it reads, and tests/soak compares its verdicts with those of
-the program. `read_logs` gives the logs, `judge` their verdict, `deliveries` what was delivered, and
-`answer` what is printed for any bytes.
+the program. `read_logs` gives the logs, `judge` their verdict, `deliveries` what was delivered,
+`answer` what is printed for any bytes, and `text_of` an entry as logs have it.
 """
 
 import bisect
 import json
 import re
-import sys
 
 MOST_AGENT = 15
 MOST_END = 65_535
@@ -149,9 +148,9 @@ def profile_of(value, depth):
     return value
 
 
-def compact_body(text):
-    """The compact text of a body. NotThis where the text is none."""
-    if text.startswith(" ") or nesting_in(text) > MOST_NESTING_READ:
+def json_of(text):
+    """The value of a JSON text, with objects as Pairs. NotThis where the program reads none."""
+    if nesting_in(text) > MOST_NESTING_READ:
         raise NotThis
     try:
         value = json.loads(
@@ -164,7 +163,14 @@ def compact_body(text):
     except ValueError:
         raise NotThis from None
     check_texts(value)
-    value = profile_of(value, 0)
+    return value
+
+
+def compact_body(text):
+    """The compact text of a body. NotThis where the text is none."""
+    if text.startswith(" "):
+        raise NotThis
+    value = profile_of(json_of(text), 0)
     return json.dumps(value, ensure_ascii=False, separators=(",", ":"), sort_keys=True)
 
 
@@ -367,9 +373,16 @@ def answer(data):
     return verdict, 0 if verdict == "clean" else 1
 
 
-def bytes_of(path):
-    """The bytes of a file, or of standard input where the path is None. May raise OSError."""
-    if path is None:
-        return sys.stdin.buffer.read()
-    with open(path, "rb") as file:
-        return file.read()
+# Writing
+
+
+def text_of(word, said):
+    """An entry as it stands in logs, its body as compact text."""
+    if word == "closed":
+        return f"closed {said}"
+    if word == "adopted":
+        return f"adopted {said[0]} {said[1]}"
+    content = "notice"
+    if said.content:
+        content = f"{','.join(map(str, said.content[0])) or '-'} {said.content[1]}"
+    return f"{word} {said.end} {said.line} {said.epoch}:{said.number} {content}"

@@ -5,15 +5,14 @@ how they stand to one another: the order of all entries is chosen here, so that 
 of each log and has each `put` above its `got`. Where no order does, some are got above their put.
 """
 
-import argparse
 import collections
 import dataclasses
 import json
-import signal
-import sys
 import unicodedata
 
+import command
 import hublog
+import hubscript
 
 # What the checker's kinds say of an entry.
 KINDS = {
@@ -34,10 +33,6 @@ DUE = {
 HIDDEN = frozenset(["Cc", "Cf", "Cn", "Co", "Cs", "Zl", "Zp"])
 WIDE = frozenset("WF")
 NAME_COLUMNS = 64
-
-
-class BadScript(Exception):
-    """A script line that names can't be read from."""
 
 
 # What happened
@@ -241,32 +236,11 @@ class Names:
 
 
 def names_of(data):
-    """The names that a script declares. BadScript tells the first line that is no declaration."""
-    kinds, ports, members = [], [], []
-    for at, line in enumerate(hublog.lines_of(data), 1):
-        try:
-            fields = json.loads(line.decode())
-        except (ValueError, RecursionError):
-            fields = None
-        if not isinstance(fields, dict):
-            raise BadScript(f"line {at}: Syntax")
-        declared = {it: fields[it] for it in ("agent", "channel", "member") if it in fields}
-        for word, value in declared.items():
-            if not is_declaration(word, value):
-                raise BadScript(f"line {at}: Syntax")
-        kinds += [declared["agent"]] if "agent" in declared else []
-        ports += declared.get("channel", [])
-        members += [declared["member"]] if "member" in declared else []
-    queues = [f"queue of agent {number}" for number in range(len(kinds))]
-    return Names(kinds, queues + [short(name, NAME_COLUMNS) for name in ports + members])
-
-
-def is_declaration(word, value):
-    if word == "agent":
-        return value in ("window", "worker")
-    names = value if word == "channel" and isinstance(value, list) else [value]
-    is_pair = word != "channel" or len(names) == 2
-    return is_pair and all(isinstance(name, str) for name in names)
+    """The names that a script declares. hubscript.BadScript tells the first bad line."""
+    found = hubscript.declarations(data)
+    queues = [f"queue of agent {number}" for number in range(len(found.agents))]
+    ends = [short(name, NAME_COLUMNS) for name in found.end_names()]
+    return Names([it.kind for it in found.agents], queues + ends)
 
 
 # How it is told
@@ -316,44 +290,23 @@ def short(text, columns):
 # The command
 
 
-class Parser(argparse.ArgumentParser):
+class Parser(command.Parser):
     """The arguments of a command that shows logs, and the input that they name."""
 
     def __init__(self, prog, about):
-        super().__init__(
-            prog=prog,
-            description=about,
-            formatter_class=argparse.RawDescriptionHelpFormatter,
-            allow_abbrev=False,
-        )
+        super().__init__(prog, about)
         self.add_argument(
             "--script", metavar="FILE", help="name agents and ends as the script of the run does"
         )
-        self.add_argument(
-            "file", nargs="?", metavar="LOGS", help="the logs; standard input where none is named"
-        )
+        self.add_logs()
 
     def read(self):
         """The arguments, the bytes of the logs, and the names. Ends the program where it can't."""
         words = self.parse_args()
-        # Who closes the pipe, or presses Ctrl-C, wants no traceback.
-        signal.signal(signal.SIGPIPE, signal.SIG_DFL)
-        signal.signal(signal.SIGINT, signal.SIG_DFL)
-        try:
-            named = words.script is not None
-            names = names_of(hublog.bytes_of(words.script)) if named else Names()
-            return words, hublog.bytes_of(words.file), names
-        except BadScript as bad:
-            self.error(f"{words.script}: {bad}")
-        except OSError as error:
-            self.error(str(error))
-
-    def write(self, text):
-        """Writes all that the command makes."""
-        try:
-            sys.stdout.buffer.write(text.encode())
-            sys.stdout.flush()
-        except OSError as error:
-            # What Python would flush at its end fails again.
-            sys.stdout = None
-            self.exit(2, f"{self.prog}: {error}\n")
+        names = Names()
+        if words.script is not None:
+            try:
+                names = names_of(self.bytes_of(words.script))
+            except hubscript.BadScript as bad:
+                self.error(f"{words.script}: {bad}")
+        return words, self.bytes_of(words.file), names

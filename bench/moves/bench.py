@@ -37,7 +37,8 @@ def run(bench):
     )
     for kind in ("look", "take", "sweep"):
         name = f"{kind} over 65,535 adoptions"
-        time_chain(bench, name, lambda n: program.job("chain", kind, n, 0, told=[2]))
+        # Each of the queues has an envelope, of which one answer tells.
+        time_chain(bench, name, lambda n: program.job("chain", kind, n, 0, told=[n + 1]))
         time_chain(bench, f"{name}, busy",
                    lambda n: program.job("asleep", kind, n, 0, told=[STEPS]))
     for kind in TOLD_OVER:

@@ -1,4 +1,4 @@
-"""Loads a page of tools/view in a headless Chromium, and scrolls it: load.py PAGE.
+"""Loads a page of tools/view in a headless Chromium, and scrolls it.
 
 It prints the microseconds until the page is loaded and a frame drawn, the number of its arrows, and
 the microseconds of the median and of the longest frame while it scrolls.
@@ -8,11 +8,15 @@ import pathlib
 import statistics
 import sys
 
+ROOT = pathlib.Path(__file__).resolve().parents[2]
 # Nothing is to be written beside the benches.
 sys.dont_write_bytecode = True
-sys.path.append(str(pathlib.Path(__file__).resolve().parents[2] / "tests"))
+sys.path += [str(ROOT / "tests"), str(ROOT / "tools")]
 
+import command  # noqa: E402
 from browser import Browser  # noqa: E402
+
+NAME = "bench/view/load.py"
 
 FIRST_FRAME = """new Promise((done) => requestAnimationFrame(() => setTimeout(() => {
   const [{ loadEventEnd }] = performance.getEntriesByType("navigation");
@@ -33,17 +37,23 @@ SCROLL = """new Promise((done) => {
 
 
 def main():
+    parser = command.Parser(NAME, __doc__)
+    parser.add_argument("page", type=pathlib.Path, help="the page")
+    words = parser.parse_args()
+    if not words.page.is_file():
+        parser.error(f"there is no page {words.page}")
     with Browser() as browser:
         # What a first page of the browser takes besides is no part of the load.
         browser.open("/dev/null")
-        page = browser.open(sys.argv[1])
+        page = browser.open(words.page)
         loaded = page.value(FIRST_FRAME)
         arrows = page.value("document.querySelectorAll('.delivery').length")
         frames = page.value(SCROLL)
     times = [loaded, statistics.median(frames), max(frames)]
     micros, median, longest = (round(1000 * time) for time in times)
     print(micros, arrows, median, longest)
+    return 0
 
 
 if __name__ == "__main__":
-    main()
+    command.run(NAME, main)

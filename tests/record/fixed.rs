@@ -1,5 +1,5 @@
 //! Writes a small fixed log by record/hublog.rs, and prints what wrong arguments are refused by.
-//! usage: fixed FILE
+//! usage: fixed FILE, or fixed texts FILE, or fixed late FOLDER
 
 #[path = "../../record/hublog.rs"]
 mod hublog;
@@ -61,15 +61,34 @@ fn told(path: &str) -> Result<(), Refusal> {
     log.finish()
 }
 
-fn main() -> Result<(), Refusal> {
-    let paths: Vec<String> = std::env::args().skip(1).collect();
-    if paths.len() > 1 {
-        return told(&paths[1]);
-    }
-    let mut log = write(&paths[0])?;
-    refused(&paths[0], &mut log);
+/// The logs of a hub that delivers a message a second time, behind the notice of its line.
+fn late(folder: &str) -> Result<(), Refusal> {
+    let mut sender = Recorder::create(format!("{folder}/agent-0.log"), 0)?;
+    sender.put(1, 0, 0, 0, &[], "\"one\"")?;
+    sender.put_notice(1, 0, 0, 1)?;
+    sender.finish()?;
+    let mut receiver = Recorder::create(format!("{folder}/agent-1.log"), 1)?;
+    receiver.got(1, 0, 0, 0, &[], "\"one\"")?;
+    receiver.got_notice(1, 0, 0, 1)?;
+    receiver.got(1, 0, 0, 0, &[], "\"one\"")?;
+    receiver.finish()
+}
+
+fn fixed(path: &str) -> Result<(), Refusal> {
+    let mut log = write(path)?;
+    refused(path, &mut log);
     log.finish()?;
     log.finish()?;
     show(log.closed(7));
     Ok(())
+}
+
+fn main() -> Result<(), Refusal> {
+    let words: Vec<String> = std::env::args().skip(1).collect();
+    match words.iter().map(String::as_str).collect::<Vec<_>>()[..] {
+        ["texts", path] => told(path),
+        ["late", folder] => late(folder),
+        [path] => fixed(path),
+        _ => panic!("wrong words"),
+    }
 }

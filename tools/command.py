@@ -1,0 +1,99 @@
+"""What commands share: their arguments, what they read and write, and how they end.
+
+A file or a stream that fails is told in one line on standard error, with status 2. Who closes the
+pipe, or presses Ctrl-C, ends a command by that signal, with no traceback.
+"""
+
+import argparse
+import signal
+import sys
+
+FAILED = 2
+
+
+def count_of(word):
+    """The number of an argument, from 0."""
+    if not word.isascii() or not word.isdigit():
+        raise argparse.ArgumentTypeError(f"{word} is no number")
+    return int(word)
+
+
+def positive(word):
+    """The number of an argument, from 1."""
+    if not word.isascii() or not word.isdigit() or int(word) == 0:
+        raise argparse.ArgumentTypeError(f"{word} is no number above 0")
+    return int(word)
+
+
+class Parser(argparse.ArgumentParser):
+    """The arguments of a command, and its streams. `prog` is its path in the repository."""
+
+    def __init__(self, prog, about):
+        super().__init__(
+            prog=prog,
+            description=about,
+            formatter_class=argparse.RawDescriptionHelpFormatter,
+            allow_abbrev=False,
+        )
+
+    def add_logs(self):
+        self.add_argument(
+            "file", nargs="?", metavar="LOGS", help="the logs; standard input where none is named"
+        )
+
+    def bytes_of(self, path):
+        """The bytes of a file, or of standard input where the path is None."""
+        try:
+            if path is not None:
+                with open(path, "rb") as file:
+                    return file.read()
+            if sys.stdin is None:
+                self.error("standard input is closed")
+            return sys.stdin.buffer.read()
+        except OSError as error:
+            self.error(str(error))
+
+    def refuse(self, why):
+        """Ends the command for what an input says."""
+        self.exit(FAILED, f"{self.prog}: {why}\n")
+
+
+def write(text):
+    """Writes all that a command prints. May raise OSError."""
+    if sys.stdout is None:
+        raise OSError("standard output is closed")
+    sys.stdout.buffer.write(text.encode())
+    sys.stdout.flush()
+
+
+def write_lines(lines):
+    write("".join(f"{line}\n" for line in lines))
+
+
+def run(prog, main, failed=FAILED):
+    """Ends the process with the status that `main` gives, or `failed` where a file or stream does.
+
+    By then `main` has ended what it began, such as folders and processes.
+    """
+    try:
+        try:
+            status = main()
+        except SystemExit as ended:
+            status = ended.code
+        if sys.stdout is not None:
+            sys.stdout.flush()
+    except BrokenPipeError:
+        die_by(signal.SIGPIPE)
+    except KeyboardInterrupt:
+        die_by(signal.SIGINT)
+    except OSError as error:
+        # What Python would flush at its end fails again.
+        sys.stdout = None
+        print(f"{prog}: {error}", file=sys.stderr)
+        status = failed
+    sys.exit(status)
+
+
+def die_by(number):
+    signal.signal(number, signal.SIG_DFL)
+    signal.raise_signal(number)
