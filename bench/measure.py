@@ -317,6 +317,20 @@ def hold_to_two():
     os.sched_setaffinity(0, sorted(os.sched_getaffinity(0))[:2])
 
 
+def answer_of(words, **options):
+    """The status of a program and what it printed. What stops this process stops it too."""
+    process = subprocess.Popen(
+        words, stdout=subprocess.PIPE, text=True, errors="replace", **options
+    )
+    try:
+        output, _ = process.communicate()
+    except BaseException:
+        process.terminate()
+        process.communicate()
+        raise
+    return process.returncode, output
+
+
 def status_of(process):
     """Waits for a process that leads a group, and stops the group where it takes too long."""
     try:
@@ -370,10 +384,10 @@ class Bench:
         jobs = [f"--jobs={self.options.jobs}"] if self.options.jobs else []
         words = [HERE / "build", *jobs, self.folder / name, f"bench_{name}", source]
         words += self.builds[name]
-        answer = subprocess.run(words, stdout=subprocess.PIPE, text=True, errors="replace")
-        if answer.returncode != 0:
-            return Program(gap=Gap(f"bench/build {name} ended with status {answer.returncode}"))
-        return Program((answer.stdout.rstrip("\n"),))
+        status, output = answer_of(words)
+        if status != 0:
+            return Program(gap=Gap(f"bench/build {name} ended with status {status}"))
+        return Program((output.rstrip("\n"),))
 
     def rust(self, source):
         """The program of a source in Rust, from its path in bench/."""

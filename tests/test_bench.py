@@ -2,8 +2,10 @@
 
 import os
 import pathlib
+import subprocess
 import sys
 import tempfile
+import time
 
 import support
 from support import ROOT, outcome_of
@@ -91,6 +93,34 @@ class Benches(support.TestCase):
         self.assert_ends(found, 0, "rustc", 0, 0, 3)
         self.assertIn(b"4 threads, gate", found.output)
         self.says(3, "bounds")
+
+    def test_stopped(self):
+        """What it has begun, a build and the toolchain, is stopped too, and it says so."""
+        path = self.folder / "path"
+        path.mkdir()
+        (path / "python3").symlink_to(sys.executable)
+        rt = f"#!/bin/sh\necho $$ > '{self.folder}/asked'\nexec sleep 300\n"
+        (path / "rt").write_text(rt, "utf-8")
+        (path / "rt").chmod(0o755)
+        settings = {**os.environ, "PATH": f"{path}{os.pathsep}{os.defpath}"}
+        with subprocess.Popen(
+            [ALL, "core"], env={**settings, "TMPDIR": str(self.folder)},
+            stdout=subprocess.PIPE, stderr=subprocess.PIPE,
+        ) as process:
+            asked = self.folder / "asked"
+            for _ in range(1_000):
+                if asked.exists() and asked.read_text("utf-8"):
+                    break
+                time.sleep(0.05)
+            process.terminate()
+            output, errors = process.communicate(timeout=60)
+        self.assertEqual(process.returncode, 1, errors)
+        self.assertIn(b"failed: stopped, not run to the end: core\n", output)
+        self.assertTrue(output.endswith(LAST_LINES.format("nothing", 0, 1, 0).encode()), output)
+        number = int(asked.read_text("utf-8"))
+        self.assertFalse(pathlib.Path(f"/proc/{number}").exists(), "the toolchain still runs")
+        self.assertEqual([it.name for it in self.folder.iterdir() if it.is_dir()], ["path"])
+        self.says(1, "signal")
 
     def test_program_is_missing(self):
         found = self.run_all("scripts")

@@ -152,20 +152,17 @@ class Browsers(test_record.Case):
         self.says(len(found), "programs", 18)
 
     def check_way(self, way, wanted):
-        """What each browser does, and what the checker says of it."""
+        """What each browser does, and what the checker says of it. One that isn't there is named."""
         count = 0
         for name, (heard, verdict) in wanted.items():
-            if shutil.which(name) is None:
-                continue
             with self.subTest(browser=name):
                 said, runs = self.visit(name, f"departures.html?seed=0&way={way}", 60)
                 merged = self.merge_logs("0", runs["0"])
                 shutil.rmtree(self.folder / "0")
                 self.assertEqual((said, self.verdict(merged)), (heard, verdict))
                 count += 1
-        if count == 0:
-            self.skipTest("chromium and firefox-esr, which are not on the PATH")
-        self.says(count, "browsers")
+        if count:
+            self.says(count, "browsers")
 
     def test_chromium(self):
         self.check_random("chromium")
