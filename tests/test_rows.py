@@ -21,7 +21,7 @@ class Rows(support.TestCase):
         self.says(len(rows), "rows", floor)
 
     def test_steps(self):
-        self.compare("steps", 95)
+        self.compare("steps", 98)
 
     def test_run(self):
         self.compare("run", 44)
@@ -45,14 +45,14 @@ class Files(support.TestCase):
                     self.assertEqual([len(found & part) for part in PARTS], [1, 1, 1], found)
                     self.assertEqual(found - set().union(*PARTS), set())
                     count += 1
-        self.says(count, "rows", 170)
+        self.says(count, "rows", 173)
 
     def test_long_texts_are_made_by_recipes(self):
         paths = [path for mode in MODES for path in (ROWS / mode).iterdir()]
         for path in paths:
             with self.subTest(path=path):
                 self.assertLessEqual(path.stat().st_size, support.MOST_BYTES)
-        self.says(len(paths), "files", 510)
+        self.says(len(paths), "files", 519)
 
     def test_manifest_names_each_row(self):
         with open(ROWS / "MANIFEST.tsv", encoding="utf-8", newline="") as file:

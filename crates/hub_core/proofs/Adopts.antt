@@ -20,12 +20,12 @@ use Rattle.hub_core.specs.Moving.{is_arrived, adopt_answer, is_released}
 use Rattle.hub_core.specs.Sound.{no_end, SoundPlaces}
 use Rattle.hub_core.specs.Shows.{end_now, ShowsEnd, ShowsFacts}
 use Rattle.hub_core.specs.Unchanged.{changes_nothing}
-use Rattle.hub_core.specs.Kept.{adopted_end, adopt_outcome, adopted_by, adopt_outcome_at, adopt_ends_at, kept_running, one_more, adopt_agents, come, change_agent, adopting, kept_released}
+use Rattle.hub_core.specs.Kept.{adopted_end, adopt_outcome, adopted_by, adopt_outcome_at, adopt_ends_at, kept_running, adopt_agents, change_agent, adopting, kept_released}
 use Rattle.hub_core.proofs.Lists.{eqb_same, set_again, each_set}
-use Rattle.hub_core.proofs.Frames.{ShownAt, Stepped, changed, unchanged, along, recounted}
+use Rattle.hub_core.proofs.Frames.{ShownAt, Stepped, unchanged, along, recounted}
 use Rattle.hub_core.proofs.Holders.{runs_kept}
 use Rattle.hub_core.specs.Sender.{in_queue}
-use Rattle.hub_core.proofs.Counts.{Came, come_length, come_now, counted_came, counts_of, change_length, adopted_now}
+use Rattle.hub_core.proofs.Counts.{Came, counted_came, counts_of, change_length, adopted_now}
 use Rattle.hub_core.proofs.Speakers.{running_made, placed_made}
 use Rattle.hub_core.proofs.Fitting.{adopted_of}
 use Rattle.hub_core.proofs.Nexts.{next}

@@ -1,24 +1,20 @@
 -- What the core is asked of posts, lists and closing: its answers are those of the facts.
-use Rattle.std.proofs.Common.{◌≡◌, ℕ, Bool, true, false, cond, List, [], ◌∷◌, Option, Some, None, refl, sym, ap, ◌∙◌}
-use Rattle.std.specs.Prelude.{◌&&◌, ◌||◌, not, is_some}
-use Rattle.std.specs.List.{slice_get, list_all}
+use Rattle.std.proofs.Common.{◌≡◌, Bool, true, false, List, Option, Some, None, refl, sym, ap, ◌∙◌}
+use Rattle.std.specs.Prelude.{◌&&◌, not, is_some}
+use Rattle.std.specs.List.{slice_get}
 use Rattle.hub_envelope.specs.declared.ids.AgentId.{AgentId}
 use Rattle.hub_envelope.specs.declared.ids.EndId.{EndId}
 use Rattle.hub_core.specs.declared.agent.Agent.{Agent}
 use Rattle.hub_core.specs.declared.line.Line.{Line}
 use Rattle.hub_core.specs.declared.end.End.{End}
-use Rattle.hub_core.specs.declared.listing.Listing.TheVariants.{Good, HoldsTarget, Bad}
 use Rattle.hub_core.specs.declared.sender.Sender.{Sender}
-use Rattle.hub_core.specs.declared.kind.Kind.{Kind}
 use Rattle.hub_core.specs.Facts.{EndNow, LineNow, Facts}
-use Rattle.hub_core.specs.Place.{names}
-use Rattle.hub_core.specs.Posting.{is_out, phase_of_line, is_distinct, may_leave_agent, may_post, listing_of, listing}
+use Rattle.hub_core.specs.Posting.{is_out, phase_of_line, may_post, listing_of, listing}
 use Rattle.hub_core.specs.Shows.{ShowsFacts, line_now}
-use Rattle.hub_core.specs.Kept.{source_of, kept_poster_of, kept_comes, kept_comes_at, kept_may_post, kept_all_leave, kept_listing_by, kept_listing_at, kept_listing}
+use Rattle.hub_core.specs.Kept.{kept_poster_of, kept_comes, kept_comes_at, kept_may_post, kept_listing_by, kept_listing_at, kept_listing}
 use Rattle.hub_core.proofs.Frames.{ShownAt}
 use Rattle.hub_core.proofs.Holders.{poster_kept}
-use Rattle.hub_core.proofs.Travels.{leave_kept}
-use Rattle.hub_core.specs.Made.{peer_of}
+use Rattle.hub_core.proofs.Travels.{listed_kept}
 use Rattle.hub_core.specs.Roster.{CastNow}
 
 -- ---- posting
@@ -47,22 +43,10 @@ post_kept agents ends f c s h cast =
 
 -- ---- lists
 
-leave_more : (named leaves distinct all : Bool) → cond (named || not leaves) false (distinct && all) ≡ ((not named && distinct) && (leaves && all))
-leave_more true leaves distinct all = refl
-leave_more false true distinct all = refl
-leave_more false false true all = refl
-leave_more false false false all = refl
-
-all_leave : (agents : List Agent) (ends : List End) (f : Facts) (a : AgentId) (s : Sender) (source : Kind) → ShowsFacts agents ends f → (f.end s.end.0).kind ≡ Some source → (ports : List EndId) → kept_all_leave ends a (source_of source) ports ≡ (is_distinct ports && list_all (may_leave_agent f a s) ports)
-all_leave agents ends f a s source h from [] = refl
-all_leave agents ends f a s source h from (p ∷ ps) =
-    rw (leave_kept agents ends f a s source p h from, all_leave agents ends f a s source h from ps)
-    (leave_more (names ps p.0) (may_leave_agent f a s p) (is_distinct ps) (list_all (may_leave_agent f a s) ps))
-
 list_by : (agents : List Agent) (ends : List End) (f : Facts) (s : Sender) (ports : List EndId) (x : End) → ShowsFacts agents ends f → ShownAt f s.end.0 (Some x) → (p : Option AgentId) → kept_listing_by ends s ports x p ≡ listing_of f s ports p
 list_by agents ends f s ports x h shown None = refl
 list_by agents ends f s ports x h shown (Some a) =
-    ap (λ b. cond (not b) Bad (cond (names ports s.end.0) HoldsTarget Good)) (all_leave agents ends f a s x.kind h (ap (λ (z : EndNow). z.kind) shown.same) ports)
+    listed_kept agents ends f a s x.kind h (ap (λ (z : EndNow). z.kind) shown.same) ports
 
 list_end : (agents : List Agent) (ends : List End) (f : Facts) (c : Option CastNow) (s : Sender) (ports : List EndId) → ShowsFacts agents ends f → (o : Option End) → ShownAt f s.end.0 o → kept_listing_at ends s ports (kept_poster_of agents ends c s o) o ≡ listing_of f s ports (kept_poster_of agents ends c s o)
 list_end agents ends f c s ports h None shown = refl

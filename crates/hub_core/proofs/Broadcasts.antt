@@ -1,16 +1,13 @@
 -- What the steps of broadcast channels are answered, and the agents and ends that they leave, are what the facts say.
 use Rattle.std.proofs.Common.{◌≡◌, ℕ, Bool, true, false, cond, eqb, List, [], ◌∷◌, Option, Some, None, refl, sym, ap, ◌∙◌, length, rules}
 use Rattle.std.proofs.lemmas.Bool.Decides.{nat_tests}
-use Rattle.std.specs.Prelude.{◌&&◌, not, is_some, Vec}
+use Rattle.std.specs.Prelude.{◌&&◌, not, is_some}
 use Rattle.std.proofs.lemmas.Bool.{false≢true}
-use Rattle.std.specs.declared.alloc.Global.{Global}
 use Rattle.std.specs.List.{slice_get}
 use Rattle.hub_envelope.specs.declared.ids.AgentId.{AgentId}
 use Rattle.hub_envelope.specs.declared.ids.EndId.{EndId}
 use Rattle.hub_core.specs.declared.agent.Agent.{Agent}
 use Rattle.hub_core.specs.declared.end.End.{End}
-use Rattle.hub_core.specs.declared.kind.Kind.{Kind}
-use Rattle.hub_core.specs.declared.kind.Kind.TheVariants.{Port, Client, Worker, Member}
 use Rattle.hub_core.specs.declared.roster.Roster.{Roster}
 use Rattle.hub_core.specs.declared.step.Action.TheVariants as action
 use Rattle.hub_core.specs.declared.outcome.Outcome.{Outcome}
@@ -18,7 +15,7 @@ use Rattle.hub_core.specs.declared.outcome.Outcome.TheVariants as outcome
 use Rattle.hub_core.specs.Facts.{EndNow, Facts}
 use Rattle.hub_core.specs.Made.{maker_of}
 use Rattle.hub_core.specs.Posting.{holder, is_empty}
-use Rattle.hub_core.specs.Roster.{CastNow, RosterNow, has_end}
+use Rattle.hub_core.specs.Roster.{RosterNow, has_end}
 use Rattle.hub_core.specs.Sound.{Sound}
 use Rattle.hub_core.proofs.Sounds.{sound_next}
 use Rattle.hub_core.specs.Casting.{cast_answer, destinations, is_casting, part_answer}
@@ -27,7 +24,7 @@ use Rattle.hub_core.specs.Kept.{kept_holder, kept_maker, kept_running}
 use Rattle.hub_core.specs.KeptCasting.{is_kept_open, kept_cast_answer, kept_member_answer, member_made, part_outcome}
 use Rattle.hub_core.specs.KeptRoster.{cast_now, group_of, is_seated_in, kept_destinations, origin_at}
 use Rattle.hub_core.proofs.Casts.{destinations_kept, seated_kept}
-use Rattle.hub_core.proofs.Frames.{Stepped, unchanged}
+use Rattle.hub_core.proofs.Frames.{Stepped}
 use Rattle.hub_core.proofs.Holders.{holder_kept, maker_now, runs_kept}
 use Rattle.hub_core.proofs.Makes.{member_shown}
 use Rattle.hub_core.proofs.Speakers.{made_by}
@@ -59,7 +56,7 @@ reshown agents ends f roster h sound = record {
   sound = sound;
 }
 
-cast_leaves : (agents : List Agent) (ends : List End) (f : Facts) (e : EndId) (ports : Vec EndId Global) (body : List ℕ) (refused : Bool) (o : Outcome) → ShowsFacts agents ends f → o ≡ cast_answer f e ports.items → Stepped agents ends f (action.Cast e ports body) refused o
+cast_leaves : (agents : List Agent) (ends : List End) (f : Facts) (e : EndId) (ports : List EndId) (body : List ℕ) (refused : Bool) (o : Outcome) → ShowsFacts agents ends f → o ≡ cast_answer f e ports → Stepped agents ends f (action.Cast e ports body) refused o
 cast_leaves agents ends f e ports body refused (outcome.Destinations ds) h answer = record { fits = answer; shows = reshown agents ends f (next f (action.Cast e ports body) (outcome.Destinations ds)).roster h (sound_next f (action.Cast e ports body) refused (outcome.Destinations ds) h.sound answer) }
 cast_leaves agents ends f e ports body refused (outcome.Clear None) h answer = record { fits = answer; shows = h }
 cast_leaves agents ends f e ports body refused (outcome.Clear (Some k)) h answer = record { fits = answer; shows = h }
@@ -82,14 +79,14 @@ cast_tests false seated held none u p ds es a b c casting = refl
 cast_tests true seated held none u p ds es a b c true = refl
 cast_tests true seated held none u p ds es a b c false = rw (a refl, b, c refl) refl
 
-pub cast_told : (agents : List Agent) (ends : List End) (r : Roster) (f : Facts) (e : EndId) (ports : Vec EndId Global) (body : List ℕ) (refused : Bool) → ShowsFacts agents ends f → ShowsRoster r f → (let o : Outcome = kept_cast_answer (is_some (kept_maker (slice_get ends e.0)) && not (is_some (cast_now r.cast))) (is_seated_in r.members e.0 (group_of r.members e.0) && is_kept_open (slice_get ends e.0)) (kept_holder agents ends e.0) (is_empty ports.items) (kept_destinations r.members e.0) in Stepped agents ends f (action.Cast e ports body) refused o)
+pub cast_told : (agents : List Agent) (ends : List End) (r : Roster) (f : Facts) (e : EndId) (ports : List EndId) (body : List ℕ) (refused : Bool) → ShowsFacts agents ends f → ShowsRoster r f → (let o : Outcome = kept_cast_answer (is_some (kept_maker (slice_get ends e.0)) && not (is_some (cast_now r.cast))) (is_seated_in r.members e.0 (group_of r.members e.0) && is_kept_open (slice_get ends e.0)) (kept_holder agents ends e.0) (is_empty ports) (kept_destinations r.members e.0) in Stepped agents ends f (action.Cast e ports body) refused o)
 cast_told agents ends r f e ports body refused h w =
     let found : Option End = slice_get ends e.0 in
     let maker : kept_maker found ≡ maker_of (f.end e.0).kind = maker_now found ∙ ap (λ (y : EndNow). maker_of y.kind) (sym (h.end e.0).same) in
-    let answer : kept_cast_answer (is_some (kept_maker found) && not (is_some (cast_now r.cast))) (is_seated_in r.members e.0 (group_of r.members e.0) && is_kept_open found) (kept_holder agents ends e.0) (is_empty ports.items) (kept_destinations r.members e.0) ≡ cast_answer f e ports.items =
-    ap (λ m. kept_cast_answer (is_some m && not (is_some (cast_now r.cast))) (is_seated_in r.members e.0 (group_of r.members e.0) && is_kept_open found) (kept_holder agents ends e.0) (is_empty ports.items) (kept_destinations r.members e.0)) maker
-    ∙ ap (λ b. kept_cast_answer (is_some (maker_of (f.end e.0).kind) && not b) (is_seated_in r.members e.0 (group_of r.members e.0) && is_kept_open found) (kept_holder agents ends e.0) (is_empty ports.items) (kept_destinations r.members e.0)) (casting_kept r f w)
-    ∙ cast_tests (is_some (maker_of (f.end e.0).kind)) (has_end e.0 f.roster.members && not (f.end e.0).closed) (is_some (holder f e.0)) (is_empty ports.items) _ (kept_holder agents ends e.0) (kept_destinations r.members e.0) (destinations f e.0)
+    let answer : kept_cast_answer (is_some (kept_maker found) && not (is_some (cast_now r.cast))) (is_seated_in r.members e.0 (group_of r.members e.0) && is_kept_open found) (kept_holder agents ends e.0) (is_empty ports) (kept_destinations r.members e.0) ≡ cast_answer f e ports =
+    ap (λ m. kept_cast_answer (is_some m && not (is_some (cast_now r.cast))) (is_seated_in r.members e.0 (group_of r.members e.0) && is_kept_open found) (kept_holder agents ends e.0) (is_empty ports) (kept_destinations r.members e.0)) maker
+    ∙ ap (λ b. kept_cast_answer (is_some (maker_of (f.end e.0).kind) && not b) (is_seated_in r.members e.0 (group_of r.members e.0) && is_kept_open found) (kept_holder agents ends e.0) (is_empty ports) (kept_destinations r.members e.0)) (casting_kept r f w)
+    ∙ cast_tests (is_some (maker_of (f.end e.0).kind)) (has_end e.0 f.roster.members && not (f.end e.0).closed) (is_some (holder f e.0)) (is_empty ports) _ (kept_holder agents ends e.0) (kept_destinations r.members e.0) (destinations f e.0)
     (λ made. ap (λ b. b && is_kept_open found) (seated_kept r f e.0 w) ∙ ap (λ b. has_end e.0 f.roster.members && b) (open_now found (ap is_some (sym (maker_now found) ∙ maker) ∙ made) ∙ ap (λ (y : EndNow). not y.closed) (sym (h.end e.0).same)))
     (ap is_some (holder_kept agents ends f e.0 h))
     (λ made. let by = made_by (f.end e.0).kind made in destinations_kept r f e.0 by.0 w by.1)

@@ -1,21 +1,21 @@
 -- Who is away: what steps that move ends and lines make of it.
-use Rattle.std.proofs.Common.{◌≡◌, ℕ, ◌+◌, ◌<◌, Bool, true, false, cond, eqb, List, Option, Some, None, refl, sym, ap, subst, ◌∙◌, inl, inr, arith, rules}
-use Rattle.std.specs.Prelude.{◌&&◌, ◌⊎◌, not, is_some}
-use Rattle.std.proofs.lemmas.Bool.{false≢true, eqb-true, eqb-false, ne_eqb}
+use Rattle.std.proofs.Common.{◌≡◌, ℕ, ◌+◌, ◌<◌, Bool, true, false, cond, eqb, Option, Some, None, refl, sym, ap, subst, ◌∙◌, inl, inr, arith, rules}
+use Rattle.std.specs.Prelude.{◌&&◌, ◌⊎◌, not}
+use Rattle.std.proofs.lemmas.Bool.{false≢true, eqb-true, ne_eqb}
 use Rattle.hub_envelope.specs.declared.ids.AgentId.{AgentId}
 use Rattle.hub_envelope.specs.declared.ids.EndId.{EndId}
 use Rattle.hub_core.specs.declared.kind.Kind.{Kind}
 use Rattle.hub_core.specs.declared.kind.Kind.TheVariants.{Port, Client, Worker, Member}
 use Rattle.hub_core.specs.declared.end.Place.{Place}
-use Rattle.hub_core.specs.declared.end.Place.TheVariants.{With, InFlight, Arrived, Swept, Gone}
+use Rattle.hub_core.specs.declared.end.Place.TheVariants.{With, InFlight}
 use Rattle.hub_core.specs.declared.sender.Sender.{Sender}
-use Rattle.hub_core.specs.Facts.{EndNow, LineNow, Facts}
+use Rattle.hub_core.specs.Facts.{LineNow, Facts}
 use Rattle.hub_core.specs.Made.{peer_of, is_queue, lines_of}
 use Rattle.hub_core.specs.Lines.{on_line}
 use Rattle.hub_core.specs.Posting.{is_out, is_with, own_poster_out}
 use Rattle.hub_core.specs.Moving.{is_released}
 use Rattle.hub_core.specs.Ending.{is_holder, has_poster_of, has_poster, is_away_of}
-use Rattle.hub_core.specs.Sound.{Sound, SoundPlaces}
+use Rattle.hub_core.specs.Sound.{SoundPlaces}
 use Rattle.hub_core.specs.Shows.{count_away}
 use Rattle.hub_core.proofs.Lists.{eqb_same, both_of}
 use Rattle.hub_core.proofs.Totals.{bit}

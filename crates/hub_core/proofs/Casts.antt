@@ -1,22 +1,18 @@
 -- Broadcast channels: what their steps are answered, and the roster that they and the other steps leave.
-use Rattle.std.proofs.Common.{◌≡◌, ℕ, ◌+◌, ◌<◌, ◌≤◌, Bool, true, false, cond, eqb, set, List, [], ◌∷◌, ◌++◌, length, map, Option, Some, None, zero, suc, refl, sym, ap, subst, ◌∙◌, arith, rules, inl, inr}
-use Rattle.std.specs.Prelude.{◌&&◌, ◌||◌, ◌==◌, not, is_some, nat_le, nat_lt, option_map, bytes_eq, Vec}
-use Rattle.std.specs.declared.alloc.Global.{Global}
-use Rattle.std.specs.List.{AllByRecursion, filter, list_any, slice_get}
+use Rattle.std.proofs.Common.{◌≡◌, ℕ, ◌+◌, ◌<◌, ◌≤◌, Bool, true, false, cond, eqb, List, [], ◌∷◌, ◌++◌, length, map, Option, Some, None, refl, sym, ap, subst, ◌∙◌, arith, rules, inl, inr}
+use Rattle.std.specs.Prelude.{◌&&◌, ◌==◌, not, nat_lt}
+use Rattle.std.specs.List.{AllByRecursion, filter, slice_get}
 use Rattle.std.specs.BTreeMap.{get}
 use Rattle.std.specs.BTreeSet.{insert_key}
-use Rattle.std.specs.Ordering.{is_eq, nat_cmp, match_ordering}
+use Rattle.std.specs.Ordering.{nat_cmp}
 use Rattle.std.proofs.lemmas.Bool.{false≢true, ne_eqb, eqb-true, eqb-false, ltb-true, ltb-false}
 use Rattle.std.proofs.Common.{append-nil}
 use Rattle.std.proofs.lemmas.Bool.Decides.{nat_tests}
 use Rattle.hub_envelope.specs.declared.ids.AgentId.{AgentId}
 use Rattle.hub_envelope.specs.declared.ids.EndId.{EndId}
-use Rattle.hub_core.specs.declared.agent.Agent.{Agent}
-use Rattle.hub_core.specs.declared.end.End.{End}
 use Rattle.hub_core.specs.declared.group.Group.{Group}
 use Rattle.hub_core.specs.declared.kind.Kind.{Kind}
 use Rattle.hub_core.specs.declared.kind.Kind.TheVariants.{Port, Client, Worker, Member}
-use Rattle.hub_core.specs.declared.limits.TheConstants.{MAX_ENDS}
 use Rattle.hub_core.specs.declared.members.Members.{Members}
 use Rattle.hub_core.specs.declared.roster.Roster.{Roster}
 use Rattle.hub_core.specs.declared.sender.Sender.{Sender}
@@ -24,12 +20,12 @@ use Rattle.hub_core.specs.declared.step.Action.{Action}
 use Rattle.hub_core.specs.declared.step.Action.TheVariants as action
 use Rattle.hub_core.specs.declared.outcome.Outcome.{Outcome}
 use Rattle.hub_core.specs.declared.outcome.Outcome.TheVariants as outcome
-use Rattle.hub_core.specs.Facts.{EndNow, Facts, facts}
+use Rattle.hub_core.specs.Facts.{Facts, facts}
 use Rattle.hub_core.specs.Fits.{Answers}
-use Rattle.hub_core.specs.Roster.{CastNow, RosterNow, is_same_group, is_of_group, has_end, without, group_named, cast_after}
+use Rattle.hub_core.specs.Roster.{CastNow, RosterNow, is_same_group, is_of_group, has_end, group_named, cast_after}
 use Rattle.hub_core.specs.Sound.{Sound, SoundPlaces}
 use Rattle.hub_core.specs.Unchanged.{changes_nothing}
-use Rattle.hub_core.specs.Shows.{IsMemberNow, ShowsFacts, ShowsRoster}
+use Rattle.hub_core.specs.Shows.{IsMemberNow, ShowsRoster}
 use Rattle.hub_core.specs.Casting.{destinations, destinations_of, is_casting, part_answer}
 use Rattle.hub_core.specs.KeptRoster.{AgentLeaves, CastLeaves, IsFirst, JoinsGroup, MemberLeaves, PartLeaves, SameRoster, cast_left, cast_now, group_cmp, group_of, is_in, is_seated_in, kept_destinations, numbers_in, numbers_of, numbers_with, origin_at, others_of, parted, seated_without}
 use Rattle.hub_core.proofs.Lists.{eqb_same, slice_get-append_front, slice_get-append_back}
@@ -265,7 +261,7 @@ roster_leave r s f t (outcome.Clear None) h same cast = recast r s f f h same re
 roster_leave r s f t (outcome.Clear (Some k)) h same cast = recast r s f f h same refl (λ x. refl) refl (h.cast ∙ sym cast)
 roster_leave r s f t o h same cast = recast r s f f h same refl (λ x. refl) refl (h.cast ∙ sym cast)
 
-pub roster_cast : (r s : Roster) (f : Facts) (e : EndId) (ports : Vec EndId Global) (body : List ℕ) (o : Outcome) → ShowsRoster r f → CastLeaves e body r o s → ShowsRoster s (next f (action.Cast e ports body) o)
+pub roster_cast : (r s : Roster) (f : Facts) (e : EndId) (ports : List EndId) (body : List ℕ) (o : Outcome) → ShowsRoster r f → CastLeaves e body r o s → ShowsRoster s (next f (action.Cast e ports body) o)
 roster_cast r s f e ports body (outcome.Destinations ends) h leaves = recast r s f (next f (action.Cast e ports body) (outcome.Destinations ends)) h leaves.0 refl (λ x. refl) refl (sym leaves.1)
 roster_cast r s f e ports body (outcome.Clear None) h leaves = subst (λ t. ShowsRoster t f) (sym leaves) h
 roster_cast r s f e ports body (outcome.Clear (Some k)) h leaves = subst (λ t. ShowsRoster t f) (sym leaves) h

@@ -13,14 +13,14 @@ use Rattle.hub_core.specs.declared.end.Place.TheVariants.{Gone}
 use Rattle.hub_core.specs.declared.step.Action.TheVariants as action
 use Rattle.hub_core.specs.declared.outcome.Outcome.TheVariants as outcome
 use Rattle.hub_core.specs.Facts.{EndNow, LineNow, Facts}
-use Rattle.hub_core.specs.Posting.{is_here, own_poster_out, is_with}
+use Rattle.hub_core.specs.Posting.{is_here, is_with}
 use Rattle.hub_core.specs.Moving.{may_close, close_answer, is_released}
 use Rattle.hub_core.specs.Sound.{no_end, SoundPlaces}
 use Rattle.hub_core.specs.Shows.{end_now, ShowsEnd, ShowsFacts}
 use Rattle.hub_core.specs.Unchanged.{changes_nothing}
 use Rattle.hub_core.specs.Kept.{kept_may_close_of, kept_may_close, closed_end, close_outcome_at, close_ends_at, close_agents, gone, kept_released}
 use Rattle.hub_core.proofs.Lists.{eqb_same, set_again, each_set, is_there}
-use Rattle.hub_core.proofs.Frames.{ShownAt, Stepped, changed, unchanged, recounted}
+use Rattle.hub_core.proofs.Frames.{ShownAt, Stepped, unchanged, recounted}
 use Rattle.hub_core.proofs.Travels.{own_end}
 use Rattle.hub_core.specs.Made.{peer_of}
 use Rattle.hub_core.specs.declared.kind.Kind.{Kind}

@@ -21,9 +21,8 @@ use Rattle.hub_core.specs.Ending.{is_away_of, has_away, ends_below, ends_at, ord
 use Rattle.hub_core.specs.Unchanged.{changes_nothing}
 use Rattle.hub_core.specs.Sound.{total}
 use Rattle.hub_core.specs.Shows.{agent_now, end_now, kept_clients, kept_workers, kept_away, count_away, ShowsFacts}
-use Rattle.hub_core.specs.Kept.{set_agent, change_agent}
+use Rattle.hub_core.specs.Kept.{set_agent}
 use Rattle.hub_core.specs.KeptEnding.{order_outcome_at, order_agents, is_kept_at, kept_ends_at, see_outcome, see_agents}
-use Rattle.hub_core.proofs.Nexts.{next}
 use Rattle.hub_core.proofs.Sounds.{sound_next}
 use Rattle.hub_core.proofs.Frames.{Stepped, unchanged, along}
 use Rattle.hub_core.proofs.Counts.{change_get, change_length, change_each, away_at, none_counted}

@@ -17,18 +17,18 @@ use Rattle.hub_core.specs.declared.end.End.{End}
 use Rattle.hub_core.specs.declared.step.Action.TheVariants as action
 use Rattle.hub_core.specs.declared.outcome.Outcome.TheVariants as outcome
 use Rattle.hub_core.specs.Facts.{EndNow, LineNow, Facts}
-use Rattle.hub_core.specs.Posting.{is_out, holder, enter_answer, leave_answer, may_enter, is_here, poster_of, is_with}
+use Rattle.hub_core.specs.Posting.{is_out, enter_answer, leave_answer, may_enter, is_here, poster_of, is_with}
 use Rattle.hub_core.specs.Sound.{no_end, no_line, Sound}
 use Rattle.hub_core.specs.Shows.{end_now, line_now, ShowsPut, ShowsEnd, ShowsFacts, count_away}
 use Rattle.hub_core.specs.Kept.{gate_answer, phase_of, enter_outcome, enter_end, enter_outcome_at, enter_ends_at, leave_outcome, leave_end, leave_outcome_at, leave_ends_at, may_come, kept_may_enter, change_owner, kept_owner, with_agent, one_out, one_away, kept_place}
 use Rattle.hub_core.specs.KeptEnding.{enter_agents, leave_agents, kept_owner_of, kept_owner_at, kept_owner_on}
 use Rattle.hub_core.proofs.Lists.{eqb_same, set_again, each_set, is_there}
-use Rattle.hub_core.proofs.Frames.{ShownAt, Stepped, changed, unchanged, recounted}
+use Rattle.hub_core.proofs.Frames.{ShownAt, Stepped, unchanged, recounted}
 use Rattle.hub_core.proofs.Holders.{may_kept, place_kept}
 use Rattle.hub_core.proofs.SoundLines.{phased_line, line_there, LinesAt}
 use Rattle.hub_core.specs.Made.{lines_of, peer_of, is_queue}
 use Rattle.hub_core.proofs.Fitting.{let_in_of, Entered, found_moved_of, found_closed_of}
-use Rattle.hub_core.proofs.Counts.{counts_still, Counted, owns_it, owner_length, owner_now_away, counted_left, counted_entered, owner_now_out, counts_of}
+use Rattle.hub_core.proofs.Counts.{Counted, owns_it, owner_length, owner_now_away, counted_left, counted_entered, owner_now_out, counts_of}
 use Rattle.hub_core.specs.Ending.{is_holder, has_poster, has_poster_of, is_away_of}
 use Rattle.hub_core.specs.declared.end.Place.{Place}
 use Rattle.hub_core.specs.declared.kind.Kind.{Kind}

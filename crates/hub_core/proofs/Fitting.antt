@@ -2,31 +2,34 @@
 use Rattle.std.proofs.Common.{◌≡◌, ◌+◌, Bool, true, false, cond, List, length, Option, Some, None, refl, ap, ℕ, zero, suc, ◌<◌, ◌≤◌, eqb, sym, ◌∙◌, arith, rules, inl, inr, ltb-true, leb-false, ltb-false}
 use Rattle.std.specs.Prelude.{◌&&◌, not, is_some, nat_lt, ◌||◌, ◌⊎◌, nat_le}
 use Rattle.std.specs.Bool.{MatchBool}
+use Rattle.std.specs.List.{list_all}
 use Rattle.hub_envelope.specs.declared.ids.AgentId.{AgentId}
 use Rattle.hub_envelope.specs.declared.ids.EndId.{EndId}
 use Rattle.hub_envelope.specs.declared.envelope.Envelope.{Envelope}
 use Rattle.hub_envelope.specs.declared.limits.TheConstants.{MAX_PORTS}
+use Rattle.hub_core.specs.declared.limits.TheConstants.{MAX_MOVES, MAX_LINES, MAX_ENDS}
+use Rattle.hub_core.specs.declared.listing.Listing.TheVariants.{Good, HoldsTarget, Bad}
 use Rattle.hub_core.specs.declared.sender.Sender.{Sender}
 use Rattle.hub_core.specs.declared.outcome.Acceptance.{Acceptance}
 use Rattle.hub_core.specs.declared.outcome.Outcome.{Outcome}
 use Rattle.hub_core.specs.declared.outcome.Outcome.TheVariants as outcome
 use Rattle.hub_core.specs.Facts.{Facts}
 use Rattle.hub_core.specs.Making.{agent_answer, channel_answer, queue_answer, has_one}
-use Rattle.hub_core.specs.Posting.{holder, poster, phase_of_line, is_out, is_inside, is_good, enter_answer, leave_answer, push_answer_of, push_answer, may_enter, hears_notice, is_here, own_poster_out, next_name, notice_answer, is_fitting, is_empty}
+use Rattle.hub_core.specs.Posting.{holder, poster, phase_of_line, is_out, is_inside, is_good, is_distinct, may_leave_agent, listing_of, enter_answer, leave_answer, push_answer_of, push_answer, may_enter, hears_notice, is_here, next_name, notice_answer, is_fitting, is_empty}
 use Rattle.hub_core.specs.Taking.{Serves, FitsTake, start_answer}
 use Rattle.std.proofs.lemmas.Bool.{false≢true, eqb-true, eqb-false}
-use Rattle.hub_core.specs.declared.limits.TheConstants.{MAX_MOVES, MAX_LINES, MAX_ENDS}
 use Rattle.hub_core.specs.declared.end.Place.{Place}
 use Rattle.hub_core.specs.declared.end.Place.TheVariants.{With, InFlight, Arrived, Swept, Gone}
 use Rattle.hub_core.specs.Looking.{any_below, someone_at, first_failing, lookable, looked, look_answer_of, look_answer, all_from, all_settled, IsAllWaiting, FitsSweep}
 use Rattle.hub_core.specs.Moving.{hop_answer, is_arrived, adopt_answer, close_answer, is_released, hand_answer, may_take_over}
 use Rattle.std.proofs.lemmas.Bool.Decides.{nat_tests}
 use Rattle.hub_core.proofs.Lists.{both_of}
-use Rattle.hub_core.specs.Made.{peer_of, is_queue, lines_of}
+use Rattle.hub_core.specs.Made.{is_queue, lines_of}
+use Rattle.hub_core.specs.Place.{names}
 use Rattle.hub_envelope.specs.declared.ids.LineId.{LineId}
 use Rattle.hub_core.specs.declared.kind.Kind.{Kind}
 use Rattle.hub_core.specs.Holding.{back_answer, line_found, line_answer, free_line}
-use Rattle.hub_core.specs.Casting.{member_answer, cast_answer, part_answer, is_casting, destinations}
+use Rattle.hub_core.specs.Casting.{member_answer, cast_answer, is_casting, destinations}
 use Rattle.hub_core.specs.Roster.{has_end}
 use Rattle.hub_core.specs.Made.{maker_of}
 use Rattle.hub_core.specs.Ending.{see_answer, has_away, ends_at, has_poster, is_away_of}
@@ -202,7 +205,8 @@ pub record Pushed (f : Facts) (s : Sender) (ports : List EndId) (n : Acceptance)
   pub plain : (f.line s.end.0 s.line.0).noticed ≡ false
   pub agent : AgentId
   pub speaks : poster f s ≡ Some agent
-  pub good : is_good f agent s ports ≡ true
+  pub distinct : is_distinct ports ≡ true
+  pub leave : list_all (may_leave_agent f agent s) ports ≡ true
   pub name : n ≡ next_name f s agent
 
 granted : (many good refused : Bool) (n m : Acceptance) → outcome.Accepted n ≡ cond many outcome.TooManyPorts (cond (not good) outcome.NotNow (cond refused outcome.NoMemory (outcome.Accepted m))) → (good ≡ true) × (n ≡ m)
@@ -216,11 +220,18 @@ passed false noticed n o h = cc
 passed true true n o h = cc
 passed true false n o h = (refl, refl, h)
 
+-- a list is good where its ports are distinct and may leave the agent
+listed_good : (leave target : Bool) → is_good (cond (not leave) Bad (cond target HoldsTarget Good)) ≡ true → leave ≡ true
+listed_good true target h = refl
+listed_good false target h = absurd (false≢true h)
+
 pushed_by : (f : Facts) (s : Sender) (ports : List EndId) (fitting refused : Bool) (n : Acceptance) (q : Option AgentId) → is_inside (phase_of_line f s) ≡ true → (f.line s.end.0 s.line.0).noticed ≡ false → poster f s ≡ q → outcome.Accepted n ≡ push_answer_of f s ports fitting refused q → Pushed f s ports n
 pushed_by f s ports fitting refused n None inside plain is h = cc
 pushed_by f s ports fitting refused n (Some a) inside plain is h =
-    let r = granted (nat_lt MAX_PORTS (length ports)) (is_good f a s ports && fitting) refused n (next_name f s a) h in
-    record { inside = inside; plain = plain; agent = a; speaks = is; good = (both_of (is_good f a s ports) fitting r.0).0; name = r.1 }
+    let r = granted (nat_lt MAX_PORTS (length ports)) (is_good (listing_of f s ports (Some a)) && fitting) refused n (next_name f s a) h in
+    let free = listed_good (is_distinct ports && list_all (may_leave_agent f a s) ports) (names ports s.end.0) (both_of (is_good (listing_of f s ports (Some a))) fitting r.0).0 in
+    let each = both_of (is_distinct ports) (list_all (may_leave_agent f a s) ports) free in
+    record { inside = inside; plain = plain; agent = a; speaks = is; distinct = each.0; leave = each.1; name = r.1 }
 
 pub pushed_of : (f : Facts) (s : Sender) (ports : List EndId) (body : List ℕ) (refused : Bool) (n : Acceptance) → outcome.Accepted n ≡ push_answer f s ports body refused → Pushed f s ports n
 pushed_of f s ports body refused n h =

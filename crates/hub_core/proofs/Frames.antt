@@ -9,7 +9,7 @@ use Rattle.hub_core.specs.Facts.{Facts, facts}
 use Rattle.hub_core.specs.Fits.{Answers}
 use Rattle.hub_core.specs.Shows.{ShowsEnd, ShowsFacts, agent_now}
 use Rattle.hub_core.proofs.Nexts.{next}
-use Rattle.hub_core.proofs.Counts.{Counted, counts_of}
+use Rattle.hub_core.proofs.Counts.{Counted}
 use Rattle.hub_core.proofs.Sounds.{sound_first, sound_next}
 
 -- what is shown of an end

@@ -36,7 +36,7 @@ use Rattle.hub_core.proofs.Fitting.{let_in_of, found_moved_of, found_closed_of, 
 use Rattle.hub_core.proofs.SoundLines.{Numbered}
 use Rattle.hub_core.proofs.Speakers.{speaker_next}
 use Rattle.hub_core.proofs.Sounds.{sound_legal}
-use Rattle.hub_core.proofs.Sames.{turned_same}
+use Rattle.hub_core.proofs.Sames.{turned_leaves, turned_same}
 use Rattle.hub_core.specs.Made.{lines_of}
 use Rattle.hub_core.specs.Discarded.{discarded}
 use Rattle.hub_core.specs.Looking.{someone_at, is_away_at}
@@ -154,7 +154,7 @@ no_posts f refused s fits turned (agent_ended a es) = refl
 no_posts f refused s fits turned (let_in t) = refl
 no_posts f refused s fits turned (found_moved t) = refl
 no_posts f refused s fits turned (found_closed t) = refl
-no_posts f refused s fits turned (put t ports body n) = posts_inside f s t turned (pushed_of f t ports.items body refused n fits).inside (is_line s t) refl
+no_posts f refused s fits turned (put t ports body n) = posts_inside f s t turned (pushed_of f t ports body refused n fits).inside (is_line s t) refl
 no_posts f refused s fits turned (notice_put t n) = posts_inside f s t turned (noticed_of f t refused n fits).inside (is_line s t) refl
 no_posts f refused s fits turned (left t) = refl
 no_posts f refused s fits turned (hopped t k) = refl
@@ -252,6 +252,7 @@ headline h l =
       closed = λ before after e refused o is closed. closed_takes h before after e refused o l is closed;
       turned = λ before middle after t refused o turned is stays. turned_from h before middle after t refused o l turned is stays;
       same = λ before after t refused again o turned nowhere is. turned_same before t refused again o turned nowhere (legal_at h before after (enter_of t refused o) l is).1;
+      same_but_destination = λ before after t refused again o turned there is. turned_leaves before t refused again o turned (legal_at h before after (enter_of t refused o) l is).1;
       empty = λ before after e refused is. empty_at h before after e refused l is;
       busy = λ before after e refused is. busy_at h before after e refused l is;
     }

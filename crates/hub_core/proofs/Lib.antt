@@ -41,6 +41,7 @@ pub mod Holds
 pub mod Hands
 pub mod Endings
 pub mod Stepping
+pub mod Stills
 pub mod Items
 pub mod Queueing
 pub mod Gating

@@ -1,5 +1,5 @@
 -- Each pair of a history is events of the mailbox of an end, or leaves it.
-use Rattle.std.proofs.Common.{◌≡◌, ℕ, ◌+◌, ◌-◌, ◌<◌, ◌||◌, ◌&&◌, Bool, true, false, cond, eqb, List, [], ◌∷◌, ◌++◌, length, refl, sym, ap, subst, ◌∙◌, inl, inr, arith, Some, None, Option}
+use Rattle.std.proofs.Common.{◌≡◌, ℕ, ◌+◌, ◌-◌, ◌<◌, ◌&&◌, Bool, true, false, cond, eqb, List, [], ◌∷◌, ◌++◌, length, refl, sym, ap, subst, ◌∙◌, inl, inr, arith, Some, None, Option}
 use Rattle.std.specs.Prelude.{◌⊎◌, not}
 use Rattle.std.proofs.lemmas.Bool.{eqb-true, ne_eqb, or_parts, not-false}
 use Rattle.hub_envelope.specs.declared.ids.EndId.{EndId}
@@ -10,7 +10,7 @@ use Rattle.hub_core.specs.declared.outcome.Outcome.{Outcome}
 use Rattle.hub_core.specs.declared.outcome.Outcome.TheVariants as outcome
 use Rattle.hub_core.specs.Facts.{Facts, facts}
 use Rattle.hub_core.specs.Accepted.{named_envelope, named_notice}
-use Rattle.hub_core.specs.Made.{lines_of, peer_of}
+use Rattle.hub_core.specs.Made.{lines_of}
 use Rattle.hub_core.specs.Sender.{in_queue}
 use Rattle.hub_core.specs.Looking.{someone_at, looked, look_answer}
 use Rattle.hub_core.specs.Taking.{IsDrained, IsLeft, FitsTake}
@@ -183,9 +183,9 @@ module _ (f : Facts) (e : ℕ) (m : Mailbox OneRight) (sound : Sound f) (shown :
   changed refused fits made (found_closed s) first =
       at_step s.end.0 (λ y. at_gate ((f.line y s.line.0).stand) (enter s.line.0) says_closed ∷ []) (λ y. with_line f y s.line.0 Turned) shown (λ there. turned_closed f s m there (sound.lines s.end.0) fits)
   changed refused fits made (put s ports body n) first =
-      at_step s.end.0 (λ y. push (named_envelope s n body ports.items) ∷ [])
-      (λ y b. record (view f y) { accepted = cond b (f.accepted y ++ named_envelope s n body ports.items ∷ []) (f.accepted y) }) shown
-      (λ there. pushed_there f s ports.items body n m there (sound.lines s.end.0) (pushed_of f s ports.items body refused n fits))
+      at_step s.end.0 (λ y. push (named_envelope s n body ports) ∷ [])
+      (λ y b. record (view f y) { accepted = cond b (f.accepted y ++ named_envelope s n body ports ∷ []) (f.accepted y) }) shown
+      (λ there. pushed_there f s ports body n m there (sound.lines s.end.0) (pushed_of f s ports body refused n fits))
   changed refused fits made (notice_put s n) first =
       at_step s.end.0 (λ y. push (named_notice s n) ∷ []) (λ y. with_notice f y s n) shown (λ there. noticed_there f s n m there (noticed_of f s refused n fits))
   changed refused fits made (left s) first =

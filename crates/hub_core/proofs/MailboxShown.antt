@@ -7,7 +7,7 @@ use Rattle.hub_envelope.specs.declared.envelope.Envelope.{Envelope}
 use Rattle.hub_core.specs.declared.line.Phase.{Phase}
 use Rattle.hub_core.specs.History.{Pair, History}
 use Rattle.hub_core.specs.Facts.{LineNow, Facts, facts}
-use Rattle.hub_core.specs.Made.{lines_of, peer_of}
+use Rattle.hub_core.specs.Made.{lines_of}
 use Rattle.hub_core.specs.Sender.{by}
 use Rattle.hub_core.specs.GateMachine.{Gate, IsAt}
 use Rattle.hub_core.specs.GateMachineLaws.{IsGateOf}

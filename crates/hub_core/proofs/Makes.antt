@@ -10,7 +10,6 @@ use Rattle.hub_envelope.specs.declared.ids.EndId.{EndId}
 use Rattle.hub_envelope.specs.declared.envelope.Envelope.{Envelope}
 use Rattle.hub_core.specs.declared.limits.TheConstants.{MAX_AGENTS, MAX_ENDS}
 use Rattle.hub_core.specs.declared.agent.Agent.{Agent}
-use Rattle.hub_core.specs.declared.line.Phase.TheVariants.{Out}
 use Rattle.hub_core.specs.declared.end.End.{End}
 use Rattle.hub_core.specs.declared.end.Place.TheVariants.{With}
 use Rattle.hub_core.specs.declared.step.Action.TheVariants as action

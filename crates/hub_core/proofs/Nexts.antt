@@ -1,8 +1,7 @@
 -- One more pair, for all notions at once: the facts of the longer history.
 use Rattle.std.proofs.Common.{◌≡◌, ℕ, Bool, true, false, cond, eqb, List, [], ◌∷◌, ◌++◌, refl, sym, ap, subst, ◌∙◌, inl, inr, append-nil}
-use Rattle.std.specs.Prelude.{◌==◌, if◌then◌else◌, Option, None, ◌⊎◌, Vec, Some}
+use Rattle.std.specs.Prelude.{◌==◌, if◌then◌else◌, Option, None, ◌⊎◌, Some}
 use Rattle.hub_core.specs.declared.end.Place.{Place}
-use Rattle.std.specs.declared.alloc.Global.{Global}
 use Rattle.std.specs.List.{fold, flat_map}
 use Rattle.std.proofs.lemmas.List.Sums.{fold-append}
 use Rattle.std.proofs.lemmas.Grind.{flat_map-append}
@@ -32,7 +31,7 @@ use Rattle.hub_core.specs.Roster.{roster_after, no_roster}
 
 -- the list with what an answered step puts at its end
 abbrev pub accepted_after : ℕ → List Envelope → Outcome → Action → List Envelope
-accepted_after x vs (outcome.Accepted n) (action.Push s ports body) = if x == s.end.0 then vs ++ named_envelope s n body ports.items ∷ [] else vs
+accepted_after x vs (outcome.Accepted n) (action.Push s ports body) = if x == s.end.0 then vs ++ named_envelope s n body ports ∷ [] else vs
 accepted_after x vs (outcome.Accepted n) (action.Notice s) = if x == s.end.0 then vs ++ named_notice s n ∷ [] else vs
 accepted_after x vs _ _ = vs
 
@@ -89,7 +88,7 @@ all_where true vs ws = refl
 all_where false vs ws = append-nil vs
 
 accepted_one : (x : ℕ) (vs : List Envelope) (o : Outcome) (a : Action) → vs ++ accepted_by x o a ≡ accepted_after x vs o a
-accepted_one x vs (outcome.Accepted n) (action.Push s ports body) = one_where (eqb x s.end.0) vs (named_envelope s n body ports.items)
+accepted_one x vs (outcome.Accepted n) (action.Push s ports body) = one_where (eqb x s.end.0) vs (named_envelope s n body ports)
 accepted_one x vs (outcome.Accepted n) (action.Notice s) = one_where (eqb x s.end.0) vs (named_notice s n)
 accepted_one x vs o a = append-nil vs
 
@@ -140,7 +139,7 @@ pub data Change : Action → Outcome → Type 0 where
   let_in : (s : Sender) → Change (action.Enter s) outcome.In
   found_moved : (s : Sender) → Change (action.Enter s) outcome.Moved
   found_closed : (s : Sender) → Change (action.Enter s) outcome.Closed
-  put : (s : Sender) (ports : Vec EndId Global) (body : List ℕ) (n : Acceptance) → Change (action.Push s ports body) (outcome.Accepted n)
+  put : (s : Sender) (ports : List EndId) (body : List ℕ) (n : Acceptance) → Change (action.Push s ports body) (outcome.Accepted n)
   notice_put : (s : Sender) (n : Acceptance) → Change (action.Notice s) (outcome.Accepted n)
   left : (s : Sender) → Change (action.Leave s) outcome.Left
   hopped : (s : Sender) (k : ℕ) → Change (action.Hop s) (outcome.Hopped k)
@@ -154,7 +153,7 @@ pub data Change : Action → Outcome → Type 0 where
   handed : (e : EndId) (b : AgentId) → Change (action.Hand e b) outcome.Handed
   agent_ordered : (a : AgentId) → Change (action.Order a) outcome.Ordered
   agent_ended : (a : AgentId) (es : List EndId) → Change (action.See a) (outcome.Ending es)
-  cast_begun : (e : EndId) (ports : Vec EndId Global) (body : List ℕ) (ends : List EndId) → Change (action.Cast e ports body) (outcome.Destinations ends)
+  cast_begun : (e : EndId) (ports : List EndId) (body : List ℕ) (ends : List EndId) → Change (action.Cast e ports body) (outcome.Destinations ends)
   member_parted : (e : EndId) → Change (action.Part e) outcome.Done
 
 -- every other pair leaves the facts as they are

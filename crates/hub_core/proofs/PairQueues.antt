@@ -11,7 +11,7 @@ use Rattle.hub_core.specs.declared.sender.Sender.{Sender}
 use Rattle.hub_core.specs.declared.outcome.Acceptance.{Acceptance}
 use Rattle.hub_core.specs.Facts.{Facts}
 use Rattle.hub_core.specs.Accepted.{named_envelope, named_notice}
-use Rattle.hub_core.specs.Made.{lines_of, is_queue}
+use Rattle.hub_core.specs.Made.{lines_of}
 use Rattle.hub_core.specs.Sender.{by, in_queue, count_in_queue}
 use Rattle.hub_core.specs.Posting.{phase_of_line}
 use Rattle.hub_core.specs.QueueMachine.{Queue, IsNamed, MayPush, pushed, pop_of}

@@ -7,7 +7,7 @@ use Rattle.std.proofs.lemmas.List.Elements.{filter-append}
 use Rattle.hub_envelope.specs.declared.envelope.Envelope.{Envelope}
 use Rattle.hub_envelope.specs.declared.ids.EndId.{EndId}
 use Rattle.hub_core.specs.Facts.{Facts}
-use Rattle.hub_core.specs.Made.{lines_of, is_queue}
+use Rattle.hub_core.specs.Made.{lines_of}
 use Rattle.hub_core.specs.Sender.{by, in_queue}
 use Rattle.hub_core.specs.Looking.{is_settled, IsAllWaiting}
 use Rattle.hub_core.specs.Sound.{Sound}

@@ -1,9 +1,7 @@
 -- Push: what the core answers fits, and it shows the facts with the answered step.
-use Rattle.std.proofs.Common.{◌≡◌, ℕ, ◌<◌, Bool, true, false, cond, List, length, set, Option, Some, None, Ok, Err, refl, sym, ap, subst, ◌∙◌, arith}
-use Rattle.std.specs.Prelude.{not, ◌&&◌, nat_lt, Vec, IfSome}
-use Rattle.std.specs.declared.alloc.Global.{Global}
+use Rattle.std.proofs.Common.{◌≡◌, ℕ, Bool, true, false, cond, List, length, set, Option, Some, None, Ok, Err, refl, sym, ap, subst, ◌∙◌}
+use Rattle.std.specs.Prelude.{not, ◌&&◌, nat_lt, IfSome}
 use Rattle.std.specs.List.{slice_get}
-use Rattle.std.proofs.lemmas.Option.{slice_get_within}
 use Rattle.hub_envelope.specs.declared.ids.AgentId.{AgentId}
 use Rattle.hub_envelope.specs.declared.ids.EndId.{EndId}
 use Rattle.hub_envelope.specs.declared.envelope.Envelope.{Envelope}
@@ -19,17 +17,17 @@ use Rattle.hub_core.specs.declared.outcome.Outcome.{Outcome}
 use Rattle.hub_core.specs.declared.outcome.Outcome.TheVariants as outcome
 use Rattle.hub_core.specs.Facts.{EndNow, LineNow, Facts}
 use Rattle.hub_core.specs.Accepted.{named_envelope}
-use Rattle.hub_core.specs.Posting.{phase_of_line, is_inside, poster, is_good, push_answer_of, push_answer, next_name, is_posting, is_fitting}
+use Rattle.hub_core.specs.Posting.{phase_of_line, is_inside, poster, is_good, listing_of, push_answer_of, push_answer, next_name, is_posting, is_fitting}
 use Rattle.hub_core.specs.Sound.{no_line}
 use Rattle.hub_core.specs.Shows.{line_now, ShowsPut, ShowsFacts}
-use Rattle.hub_core.specs.Kept.{kept_holder, kept_good, has_queue, posting_line, kept_posting_by, kept_posting_line, kept_posting_at, kept_posting, push_outcome, put_end, PushLeaves, Moves, kept_poster_by, source_of, kept_poster_of, kept_poster_on}
+use Rattle.hub_core.specs.Kept.{kept_listing_to, has_queue, posting_line, kept_posting_by, kept_posting_line, kept_posting_at, kept_posting, push_outcome, put_end, PushLeaves, Moves, kept_poster_by, source_of, kept_poster_of, kept_poster_on}
 use Rattle.hub_core.proofs.Lists.{both_of}
 use Rattle.hub_core.proofs.Frames.{ShownAt, Stepped, changed, unchanged}
-use Rattle.hub_core.proofs.Holders.{holder_kept, poster_kept}
+use Rattle.hub_core.proofs.Holders.{poster_kept}
 use Rattle.hub_core.proofs.Fitting.{pushed_of}
-use Rattle.hub_core.proofs.Speakers.{placed_made, travels, all_good}
+use Rattle.hub_core.proofs.Speakers.{placed_made, travels}
 use Rattle.hub_core.proofs.Puts.{each_shown, put_count, name_kept, queue_kept}
-use Rattle.hub_core.proofs.Travels.{good_kept}
+use Rattle.hub_core.proofs.Travels.{listed_kept}
 use Rattle.hub_core.specs.Made.{peer_of}
 use Rattle.hub_core.specs.Roster.{CastNow}
 use Rattle.hub_core.proofs.Counts.{counted_ports, counts_of}
@@ -39,15 +37,15 @@ use Rattle.hub_core.proofs.SoundPlaces.{some_own}
 use Rattle.hub_core.proofs.Calms.{calm_sent}
 
 -- every end, with the message put and its ports in flight
-pushed_shown : (agents : List Agent) (ends new : List End) (f : Facts) (s : Sender) (ports : Vec EndId Global) (body : List ℕ) (refused : Bool) (n : Acceptance) (x : End) (y : Line) → ShowsFacts agents ends f → slice_get ends s.end.0 ≡ Some x → slice_get x.lines s.line.0 ≡ Some y → f.line s.end.0 s.line.0 ≡ line_now (Some y) → n.epoch ≡ y.epoch → has_queue x y.epoch ≡ true → outcome.Accepted n ≡ push_answer f s ports.items body refused → Moves ports.items InFlight (set ends s.end.0 (put_end x y (named_envelope s n body ports.items))) new → Stepped agents new f (action.Push s ports body) refused (outcome.Accepted n)
+pushed_shown : (agents : List Agent) (ends new : List End) (f : Facts) (s : Sender) (ports : List EndId) (body : List ℕ) (refused : Bool) (n : Acceptance) (x : End) (y : Line) → ShowsFacts agents ends f → slice_get ends s.end.0 ≡ Some x → slice_get x.lines s.line.0 ≡ Some y → f.line s.end.0 s.line.0 ≡ line_now (Some y) → n.epoch ≡ y.epoch → has_queue x y.epoch ≡ true → outcome.Accepted n ≡ push_answer f s ports body refused → Moves ports InFlight (set ends s.end.0 (put_end x y (named_envelope s n body ports))) new → Stepped agents new f (action.Push s ports body) refused (outcome.Accepted n)
 pushed_shown agents ends new f s ports body refused n x y h at is line epoch queue fits moves =
-    let v : Envelope = named_envelope s n body ports.items in
-    let p = pushed_of f s ports.items body refused n fits in
+    let v : Envelope = named_envelope s n body ports in
+    let p = pushed_of f s ports body refused n fits in
     let plain : y.has_noticed ≡ false = sym (ap (λ (z : LineNow). z.noticed) line) ∙ p.plain in
-    changed agents ends new f (action.Push s ports body) refused (outcome.Accepted n) h fits refl refl refl (put_count ends new s.end.0 (put_end x y v) ports.items moves)
-    (counted_ports agents f (next f (action.Push s ports body) (outcome.Accepted n)) (names ports.items) (λ d. Some InFlight) refl (λ d. refl) (λ d. refl) (λ d named. some_own f (peer_of (f.end d).kind) (travels f p.agent s d ports.items (all_good f s ports.items n p) named).1) (λ a x less. calm_sent a f (next f (action.Push s ports body) (outcome.Accepted n)) (names ports.items) x h.sound.places refl (λ l. refl) (λ q. refl) (λ q named. (travels f p.agent s q ports.items (all_good f s ports.items n p) named).1)) (counts_of agents ends f h))
+    changed agents ends new f (action.Push s ports body) refused (outcome.Accepted n) h fits refl refl refl (put_count ends new s.end.0 (put_end x y v) ports moves)
+    (counted_ports agents f (next f (action.Push s ports body) (outcome.Accepted n)) (names ports) (λ d. Some InFlight) refl (λ d. refl) (λ d. refl) (λ d named. some_own f (peer_of (f.end d).kind) (travels f p.agent s d ports p.leave named).1) (λ a x less. calm_sent a f (next f (action.Push s ports body) (outcome.Accepted n)) (names ports) x h.sound.places refl (λ l. refl) (λ q. refl) (λ q named. (travels f p.agent s q ports p.leave named).1)) (counts_of agents ends f h))
     (each_shown agents ends new f v x y f.line h at is epoch queue (line ∙ ap (λ b. let z : LineNow = record { phase = y.phase; stand = y.epoch; noticed = b; held_by = y.held_by } in z) plain) (λ l other. refl) (λ l. refl) (λ l. refl) (λ d other. refl)
-    (λ d named. placed_made f d (With p.agent) h.sound.places (travels f p.agent s d ports.items (all_good f s ports.items n p) named).0) moves)
+    (λ d named. placed_made f d (With p.agent) h.sound.places (travels f p.agent s d ports p.leave named).0) moves)
 
 -- ---- the tests of a push, one after another
 
@@ -60,10 +58,10 @@ posts f s ports body fit refused q posting is fits = rw (posting, is, fits) refl
 too_many : (f : Facts) (s : Sender) (ports : List EndId) (fit refused : Bool) (a : AgentId) → nat_lt MAX_PORTS (length ports) ≡ true → outcome.TooManyPorts ≡ push_answer_of f s ports fit refused (Some a)
 too_many f s ports fit refused a many = rw many refl
 
-not_good : (f : Facts) (s : Sender) (ports : List EndId) (fit refused : Bool) (a : AgentId) → nat_lt MAX_PORTS (length ports) ≡ false → (is_good f a s ports && fit) ≡ false → outcome.NotNow ≡ push_answer_of f s ports fit refused (Some a)
+not_good : (f : Facts) (s : Sender) (ports : List EndId) (fit refused : Bool) (a : AgentId) → nat_lt MAX_PORTS (length ports) ≡ false → (is_good (listing_of f s ports (Some a)) && fit) ≡ false → outcome.NotNow ≡ push_answer_of f s ports fit refused (Some a)
 not_good f s ports fit refused a few h = rw (few, h) refl
 
-good : (f : Facts) (s : Sender) (ports : List EndId) (fit refused : Bool) (a : AgentId) → nat_lt MAX_PORTS (length ports) ≡ false → (is_good f a s ports && fit) ≡ true → cond refused outcome.NoMemory (outcome.Accepted (next_name f s a)) ≡ push_answer_of f s ports fit refused (Some a)
+good : (f : Facts) (s : Sender) (ports : List EndId) (fit refused : Bool) (a : AgentId) → nat_lt MAX_PORTS (length ports) ≡ false → (is_good (listing_of f s ports (Some a)) && fit) ≡ true → cond refused outcome.NoMemory (outcome.Accepted (next_name f s a)) ≡ push_answer_of f s ports fit refused (Some a)
 good f s ports fit refused a few h = rw (few, h) refl
 
 -- the poster of a line of an end
@@ -71,62 +69,62 @@ poster_here : (agents : List Agent) (ends : List End) (f : Facts) (c : Option Ca
 poster_here agents ends f c s x y h cast shown at is =
     sym (poster_kept agents ends f c s h cast) ∙ ap (kept_poster_of agents ends c s) at ∙ ap (kept_poster_on agents ends c s.end.0 x) is
 
-push_good : (agents : List Agent) (ends new : List End) (f : Facts) (s : Sender) (ports : Vec EndId Global) (body : List ℕ) (refused : Bool) (x : End) (y : Line) (a : AgentId) (o : Outcome) → ShowsFacts agents ends f → slice_get ends s.end.0 ≡ Some x → slice_get x.lines s.line.0 ≡ Some y → ShownAt f s.end.0 (Some x) → has_queue x y.epoch ≡ true → cond refused outcome.NoMemory (outcome.Accepted (next_name f s a)) ≡ push_answer f s ports.items body refused → o ≡ push_outcome (cond refused (Err outcome.NoMemory) (Ok (y, a))) → PushLeaves s ports.items body ends (cond refused (Err outcome.NoMemory) (Ok (y, a))) new → Stepped agents new f (action.Push s ports body) refused o
+push_good : (agents : List Agent) (ends new : List End) (f : Facts) (s : Sender) (ports : List EndId) (body : List ℕ) (refused : Bool) (x : End) (y : Line) (a : AgentId) (o : Outcome) → ShowsFacts agents ends f → slice_get ends s.end.0 ≡ Some x → slice_get x.lines s.line.0 ≡ Some y → ShownAt f s.end.0 (Some x) → has_queue x y.epoch ≡ true → cond refused outcome.NoMemory (outcome.Accepted (next_name f s a)) ≡ push_answer f s ports body refused → o ≡ push_outcome (cond refused (Err outcome.NoMemory) (Ok (y, a))) → PushLeaves s ports body ends (cond refused (Err outcome.NoMemory) (Ok (y, a))) new → Stepped agents new f (action.Push s ports body) refused o
 push_good agents ends new f s ports body true x y a o h at is shown queue answer says leaves =
     unchanged agents ends new f (action.Push s ports body) true o outcome.NoMemory h refl says leaves answer
 push_good agents ends new f s ports body false x y a o h at is shown queue answer says leaves =
     let n : Acceptance = record { agent = a; epoch = y.epoch; number = y.put } in
-    let v : Envelope = named_envelope s n body ports.items in
+    let v : Envelope = named_envelope s n body ports in
     let line : f.line s.end.0 s.line.0 ≡ line_now (Some y) = shown.lines s.line.0 ∙ ap line_now is in
     let same : n ≡ next_name f s a = name_kept f s a y line (subst (ShowsPut (f.accepted s.end.0) s.line.0) is (shown.put s.line.0)) in
-    let moves : Moves ports.items InFlight (set ends s.end.0 (put_end x y v)) new = subst (λ q. IfSome q (λ z. Moves ports.items InFlight (set ends s.end.0 (put_end z y v)) new)) at leaves in
+    let moves : Moves ports InFlight (set ends s.end.0 (put_end x y v)) new = subst (λ q. IfSome q (λ z. Moves ports InFlight (set ends s.end.0 (put_end z y v)) new)) at leaves in
     subst (λ q. Stepped agents new f (action.Push s ports body) false q) (sym says)
     (pushed_shown agents ends new f s ports body false n x y h at is line refl queue (ap outcome.Accepted same ∙ answer) moves)
 
-push_few : (agents : List Agent) (ends new : List End) (f : Facts) (s : Sender) (ports : Vec EndId Global) (body : List ℕ) (fit refused : Bool) (x : End) (y : Line) (a : AgentId) (o : Outcome) → ShowsFacts agents ends f → slice_get ends s.end.0 ≡ Some x → slice_get x.lines s.line.0 ≡ Some y → ShownAt f s.end.0 (Some x) → has_queue x y.epoch ≡ true → push_answer_of f s ports.items fit refused (Some a) ≡ push_answer f s ports.items body refused
-    → (many fine : Bool) → nat_lt MAX_PORTS (length ports.items) ≡ many → (kept_good ends a (source_of x.kind) s.end ports.items && fit) ≡ fine
-    → o ≡ push_outcome (cond many (Err outcome.TooManyPorts) (cond fine (cond refused (Err outcome.NoMemory) (Ok (y, a))) (Err outcome.NotNow))) → PushLeaves s ports.items body ends (cond many (Err outcome.TooManyPorts) (cond fine (cond refused (Err outcome.NoMemory) (Ok (y, a))) (Err outcome.NotNow))) new → Stepped agents new f (action.Push s ports body) refused o
+push_few : (agents : List Agent) (ends new : List End) (f : Facts) (s : Sender) (ports : List EndId) (body : List ℕ) (fit refused : Bool) (x : End) (y : Line) (a : AgentId) (o : Outcome) → ShowsFacts agents ends f → slice_get ends s.end.0 ≡ Some x → slice_get x.lines s.line.0 ≡ Some y → ShownAt f s.end.0 (Some x) → has_queue x y.epoch ≡ true → push_answer_of f s ports fit refused (Some a) ≡ push_answer f s ports body refused
+    → (many fine : Bool) → nat_lt MAX_PORTS (length ports) ≡ many → (is_good (kept_listing_to ends s.end a (source_of x.kind) ports) && fit) ≡ fine
+    → o ≡ push_outcome (cond many (Err outcome.TooManyPorts) (cond fine (cond refused (Err outcome.NoMemory) (Ok (y, a))) (Err outcome.NotNow))) → PushLeaves s ports body ends (cond many (Err outcome.TooManyPorts) (cond fine (cond refused (Err outcome.NoMemory) (Ok (y, a))) (Err outcome.NotNow))) new → Stepped agents new f (action.Push s ports body) refused o
 push_few agents ends new f s ports body fit refused x y a o h at is shown queue falls true fine many good_is says leaves =
-    unchanged agents ends new f (action.Push s ports body) refused o outcome.TooManyPorts h refl says leaves (too_many f s ports.items fit refused a many ∙ falls)
+    unchanged agents ends new f (action.Push s ports body) refused o outcome.TooManyPorts h refl says leaves (too_many f s ports fit refused a many ∙ falls)
 push_few agents ends new f s ports body fit refused x y a o h at is shown queue falls false fine few good_is says leaves =
-    let same : (kept_good ends a (source_of x.kind) s.end ports.items && fit) ≡ (is_good f a s ports.items && fit) = ap (λ b. b && fit) (good_kept agents ends f a s x.kind h (ap (λ (z : EndNow). z.kind) shown.same) ports.items) in
-    elim fine as (λ b. (kept_good ends a (source_of x.kind) s.end ports.items && fit) ≡ b → o ≡ push_outcome (cond b (cond refused (Err outcome.NoMemory) (Ok (y, a))) (Err outcome.NotNow)) → PushLeaves s ports.items body ends (cond b (cond refused (Err outcome.NoMemory) (Ok (y, a))) (Err outcome.NotNow)) new → Stepped agents new f (action.Push s ports body) refused o) [
-      | true ↦ λ found says leaves. push_good agents ends new f s ports body refused x y a o h at is shown queue (good f s ports.items fit refused a few (sym same ∙ found) ∙ falls) says leaves
-      | false ↦ λ bad says leaves. unchanged agents ends new f (action.Push s ports body) refused o outcome.NotNow h refl says leaves (not_good f s ports.items fit refused a few (sym same ∙ bad) ∙ falls)
+    let same : (is_good (kept_listing_to ends s.end a (source_of x.kind) ports) && fit) ≡ (is_good (listing_of f s ports (Some a)) && fit) = ap (λ l. is_good l && fit) (listed_kept agents ends f a s x.kind h (ap (λ (z : EndNow). z.kind) shown.same) ports) in
+    elim fine as (λ b. (is_good (kept_listing_to ends s.end a (source_of x.kind) ports) && fit) ≡ b → o ≡ push_outcome (cond b (cond refused (Err outcome.NoMemory) (Ok (y, a))) (Err outcome.NotNow)) → PushLeaves s ports body ends (cond b (cond refused (Err outcome.NoMemory) (Ok (y, a))) (Err outcome.NotNow)) new → Stepped agents new f (action.Push s ports body) refused o) [
+      | true ↦ λ found says leaves. push_good agents ends new f s ports body refused x y a o h at is shown queue (good f s ports fit refused a few (sym same ∙ found) ∙ falls) says leaves
+      | false ↦ λ bad says leaves. unchanged agents ends new f (action.Push s ports body) refused o outcome.NotNow h refl says leaves (not_good f s ports fit refused a few (sym same ∙ bad) ∙ falls)
     ] good_is says leaves
 
-push_held : (agents : List Agent) (ends new : List End) (f : Facts) (s : Sender) (ports : Vec EndId Global) (body : List ℕ) (fit refused : Bool) (x : End) (y : Line) (o : Outcome) → ShowsFacts agents ends f → slice_get ends s.end.0 ≡ Some x → slice_get x.lines s.line.0 ≡ Some y → ShownAt f s.end.0 (Some x) → has_queue x y.epoch ≡ true → (q : Option AgentId) → push_answer_of f s ports.items fit refused q ≡ push_answer f s ports.items body refused → o ≡ push_outcome (kept_posting_by ends (source_of x.kind) s.end ports.items fit refused y q) → PushLeaves s ports.items body ends (kept_posting_by ends (source_of x.kind) s.end ports.items fit refused y q) new → Stepped agents new f (action.Push s ports body) refused o
+push_held : (agents : List Agent) (ends new : List End) (f : Facts) (s : Sender) (ports : List EndId) (body : List ℕ) (fit refused : Bool) (x : End) (y : Line) (o : Outcome) → ShowsFacts agents ends f → slice_get ends s.end.0 ≡ Some x → slice_get x.lines s.line.0 ≡ Some y → ShownAt f s.end.0 (Some x) → has_queue x y.epoch ≡ true → (q : Option AgentId) → push_answer_of f s ports fit refused q ≡ push_answer f s ports body refused → o ≡ push_outcome (kept_posting_by ends (source_of x.kind) s.end ports fit refused y q) → PushLeaves s ports body ends (kept_posting_by ends (source_of x.kind) s.end ports fit refused y q) new → Stepped agents new f (action.Push s ports body) refused o
 push_held agents ends new f s ports body fit refused x y o h at is shown queue None falls says leaves =
     unchanged agents ends new f (action.Push s ports body) refused o outcome.NotNow h refl says leaves falls
 push_held agents ends new f s ports body fit refused x y o h at is shown queue (Some a) falls says leaves =
-    push_few agents ends new f s ports body fit refused x y a o h at is shown queue falls (nat_lt MAX_PORTS (length ports.items)) (kept_good ends a (source_of x.kind) s.end ports.items && fit) refl refl says leaves
+    push_few agents ends new f s ports body fit refused x y a o h at is shown queue falls (nat_lt MAX_PORTS (length ports)) (is_good (kept_listing_to ends s.end a (source_of x.kind) ports) && fit) refl refl says leaves
 
 -- whether the line posts, by what is kept of it
 pub posting_as : (f : Facts) (s : Sender) (y : LineNow) → f.line s.end.0 s.line.0 ≡ y → is_posting f s ≡ (is_inside y.phase && not y.noticed)
 posting_as f s y line = ap (λ (z : LineNow). is_inside z.phase && not z.noticed) line
 
-push_line : (agents : List Agent) (ends new : List End) (f : Facts) (c : Option CastNow) (s : Sender) (ports : Vec EndId Global) (body : List ℕ) (refused : Bool) (x : End) (o : Outcome) → ShowsFacts agents ends f → f.roster.cast ≡ c → slice_get ends s.end.0 ≡ Some x → ShownAt f s.end.0 (Some x) → (q : Option Line) → slice_get x.lines s.line.0 ≡ q → f.line s.end.0 s.line.0 ≡ line_now q → o ≡ push_outcome (kept_posting_line agents ends c s ports.items body refused x (posting_line x q)) → PushLeaves s ports.items body ends (kept_posting_line agents ends c s ports.items body refused x (posting_line x q)) new → Stepped agents new f (action.Push s ports body) refused o
+push_line : (agents : List Agent) (ends new : List End) (f : Facts) (c : Option CastNow) (s : Sender) (ports : List EndId) (body : List ℕ) (refused : Bool) (x : End) (o : Outcome) → ShowsFacts agents ends f → f.roster.cast ≡ c → slice_get ends s.end.0 ≡ Some x → ShownAt f s.end.0 (Some x) → (q : Option Line) → slice_get x.lines s.line.0 ≡ q → f.line s.end.0 s.line.0 ≡ line_now q → o ≡ push_outcome (kept_posting_line agents ends c s ports body refused x (posting_line x q)) → PushLeaves s ports body ends (kept_posting_line agents ends c s ports body refused x (posting_line x q)) new → Stepped agents new f (action.Push s ports body) refused o
 push_line agents ends new f c s ports body refused x o h cast at shown None is line says leaves =
-    unchanged agents ends new f (action.Push s ports body) refused o outcome.NotNow h refl says leaves (not_posting f s ports.items body refused (posting_as f s no_line line))
+    unchanged agents ends new f (action.Push s ports body) refused o outcome.NotNow h refl says leaves (not_posting f s ports body refused (posting_as f s no_line line))
 push_line agents ends new f c s ports body refused x o h cast at shown (Some y) is line says leaves =
-    elim (is_inside y.phase && not y.has_noticed) as (λ b. (is_inside y.phase && not y.has_noticed) ≡ b → o ≡ push_outcome (kept_posting_line agents ends c s ports.items body refused x (cond (b && has_queue x y.epoch) (Some y) None)) → PushLeaves s ports.items body ends (kept_posting_line agents ends c s ports.items body refused x (cond (b && has_queue x y.epoch) (Some y) None)) new → Stepped agents new f (action.Push s ports body) refused o) [
+    elim (is_inside y.phase && not y.has_noticed) as (λ b. (is_inside y.phase && not y.has_noticed) ≡ b → o ≡ push_outcome (kept_posting_line agents ends c s ports body refused x (cond (b && has_queue x y.epoch) (Some y) None)) → PushLeaves s ports body ends (kept_posting_line agents ends c s ports body refused x (cond (b && has_queue x y.epoch) (Some y) None)) new → Stepped agents new f (action.Push s ports body) refused o) [
       | true ↦ λ posting says leaves.
           let mine : is_posting f s ≡ true = posting_as f s (line_now (Some y)) line ∙ posting in
           let inside : is_inside (phase_of_line f s) ≡ true = (both_of (is_inside (phase_of_line f s)) (not (f.line s.end.0 s.line.0).noticed) mine).0 in
           let queue : has_queue x y.epoch ≡ true = queue_kept f s x y h.sound shown line inside in
-          push_held agents ends new f s ports body (is_fitting c (Some x.kind) ports.items body) refused x y o h at is shown queue (kept_poster_by agents ends c s.end.0 x.kind y)
-          (posts f s ports.items body (is_fitting c (Some x.kind) ports.items body) refused (kept_poster_by agents ends c s.end.0 x.kind y) mine (poster_here agents ends f c s x y h cast shown at is) (ap (λ d. is_fitting d (f.end s.end.0).kind ports.items body) cast ∙ ap (λ (z : EndNow). is_fitting c z.kind ports.items body) shown.same))
-          (says ∙ ap (λ d. push_outcome (kept_posting_line agents ends c s ports.items body refused x (cond d (Some y) None))) queue)
-          (subst (λ d. PushLeaves s ports.items body ends (kept_posting_line agents ends c s ports.items body refused x (cond d (Some y) None)) new) queue leaves)
-      | false ↦ λ outside says leaves. unchanged agents ends new f (action.Push s ports body) refused o outcome.NotNow h refl says leaves (not_posting f s ports.items body refused (posting_as f s (line_now (Some y)) line ∙ outside))
+          push_held agents ends new f s ports body (is_fitting c (Some x.kind) ports body) refused x y o h at is shown queue (kept_poster_by agents ends c s.end.0 x.kind y)
+          (posts f s ports body (is_fitting c (Some x.kind) ports body) refused (kept_poster_by agents ends c s.end.0 x.kind y) mine (poster_here agents ends f c s x y h cast shown at is) (ap (λ d. is_fitting d (f.end s.end.0).kind ports body) cast ∙ ap (λ (z : EndNow). is_fitting c z.kind ports body) shown.same))
+          (says ∙ ap (λ d. push_outcome (kept_posting_line agents ends c s ports body refused x (cond d (Some y) None))) queue)
+          (subst (λ d. PushLeaves s ports body ends (kept_posting_line agents ends c s ports body refused x (cond d (Some y) None)) new) queue leaves)
+      | false ↦ λ outside says leaves. unchanged agents ends new f (action.Push s ports body) refused o outcome.NotNow h refl says leaves (not_posting f s ports body refused (posting_as f s (line_now (Some y)) line ∙ outside))
     ] refl says leaves
 
-push_at : (agents : List Agent) (ends new : List End) (f : Facts) (c : Option CastNow) (s : Sender) (ports : Vec EndId Global) (body : List ℕ) (refused : Bool) (o : Outcome) → ShowsFacts agents ends f → f.roster.cast ≡ c → (q : Option End) → slice_get ends s.end.0 ≡ q → ShownAt f s.end.0 q → o ≡ push_outcome (kept_posting_at agents ends c s ports.items body refused q) → PushLeaves s ports.items body ends (kept_posting_at agents ends c s ports.items body refused q) new → Stepped agents new f (action.Push s ports body) refused o
+push_at : (agents : List Agent) (ends new : List End) (f : Facts) (c : Option CastNow) (s : Sender) (ports : List EndId) (body : List ℕ) (refused : Bool) (o : Outcome) → ShowsFacts agents ends f → f.roster.cast ≡ c → (q : Option End) → slice_get ends s.end.0 ≡ q → ShownAt f s.end.0 q → o ≡ push_outcome (kept_posting_at agents ends c s ports body refused q) → PushLeaves s ports body ends (kept_posting_at agents ends c s ports body refused q) new → Stepped agents new f (action.Push s ports body) refused o
 push_at agents ends new f c s ports body refused o h cast None at shown says leaves =
-    unchanged agents ends new f (action.Push s ports body) refused o outcome.NotNow h refl says leaves (not_posting f s ports.items body refused (posting_as f s no_line (shown.lines s.line.0)))
+    unchanged agents ends new f (action.Push s ports body) refused o outcome.NotNow h refl says leaves (not_posting f s ports body refused (posting_as f s no_line (shown.lines s.line.0)))
 push_at agents ends new f c s ports body refused o h cast (Some x) at shown says leaves =
     push_line agents ends new f c s ports body refused x o h cast at shown (slice_get x.lines s.line.0) refl (shown.lines s.line.0) says leaves
 
-pub push_shown : (agents : List Agent) (ends new : List End) (f : Facts) (c : Option CastNow) (s : Sender) (ports : Vec EndId Global) (body : List ℕ) (refused : Bool) (o : Outcome) → ShowsFacts agents ends f → f.roster.cast ≡ c → o ≡ push_outcome (kept_posting agents ends c s ports.items body refused) → PushLeaves s ports.items body ends (kept_posting agents ends c s ports.items body refused) new → Stepped agents new f (action.Push s ports body) refused o
+pub push_shown : (agents : List Agent) (ends new : List End) (f : Facts) (c : Option CastNow) (s : Sender) (ports : List EndId) (body : List ℕ) (refused : Bool) (o : Outcome) → ShowsFacts agents ends f → f.roster.cast ≡ c → o ≡ push_outcome (kept_posting agents ends c s ports body refused) → PushLeaves s ports body ends (kept_posting agents ends c s ports body refused) new → Stepped agents new f (action.Push s ports body) refused o
 push_shown agents ends new f c s ports body refused o h cast says leaves =
     push_at agents ends new f c s ports body refused o h cast (slice_get ends s.end.0) refl (h.end s.end.0) says leaves

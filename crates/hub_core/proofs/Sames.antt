@@ -16,6 +16,7 @@ use Rattle.hub_core.specs.Legal.{LegalAfter, Same}
 use Rattle.hub_core.specs.Posting.{is_out, phase_of_line, may_enter}
 use Rattle.hub_core.specs.Roster.{CastNow, cast_to, cast_after, goes_next, roster}
 use Rattle.hub_core.specs.Unchanged.{changes_nothing}
+use Rattle.hub_core.specs.Headline.{done_with}
 use Rattle.hub_core.proofs.Lists.{both_of}
 use Rattle.hub_core.proofs.Nexts.{next, facts_next}
 
@@ -77,20 +78,20 @@ line_was_out f s x l out h =
     let line : l ≡ s.line.0 = search (rules, both.1) in
     ap (λ y. (f.line y l).phase) here ∙ ap (λ k. (f.line s.end.0 k).phase) line ∙ out
 
--- the facts after a turned poster has left
+-- the facts after a turned poster has left: a cast that goes there next is done with the end
+turned_facts : (f : Facts) (s : Sender) (o : Outcome) → (o ≡ outcome.Closed) ⊎ (o ≡ outcome.Moved) → phase_of_line f s ≡ Out → next (next f (action.Enter s) o) (action.Leave s) outcome.Left ≡ done_with s.end.0 f
+turned_facts f s o (inl is) out = rw is (λ i. record f {
+  line = λ x l. record { phase = line_again s Turned (f.line x l).phase x l (eqb x s.end.0 && eqb l s.line.0) (line_was_out f s x l out) i; stand = (f.line x l).stand; noticed = (f.line x l).noticed; held_by = (f.line x l).held_by };
+  roster = record f.roster { cast = cast_after s.end.0 f.roster.cast };
+})
+turned_facts f s o (inr is) out = rw is (λ i. record f {
+  line = λ x l. record { phase = line_again s Turned (f.line x l).phase x l (eqb x s.end.0 && eqb l s.line.0) (line_was_out f s x l out) i; stand = (f.line x l).stand; noticed = (f.line x l).noticed; held_by = (f.line x l).held_by };
+  roster = record f.roster { cast = cast_after s.end.0 f.roster.cast };
+})
+
 cast_stays : (x : ℕ) (c : Option CastNow) → goes_next x c ≡ false → cast_after x c ≡ c
 cast_stays x None h = refl
 cast_stays x (Some c) h = ap (λ b. cond b (cast_to c.source c.body (drop 1 c.left)) (Some c)) h
-
-turned_facts : (f : Facts) (s : Sender) (o : Outcome) → (o ≡ outcome.Closed) ⊎ (o ≡ outcome.Moved) → phase_of_line f s ≡ Out → goes_next s.end.0 f.roster.cast ≡ false → next (next f (action.Enter s) o) (action.Leave s) outcome.Left ≡ f
-turned_facts f s o (inl is) out nowhere = rw is (λ i. record f {
-  line = λ x l. record { phase = line_again s Turned (f.line x l).phase x l (eqb x s.end.0 && eqb l s.line.0) (line_was_out f s x l out) i; stand = (f.line x l).stand; noticed = (f.line x l).noticed; held_by = (f.line x l).held_by };
-  roster = record f.roster { cast = cast_stays s.end.0 f.roster.cast nowhere i };
-})
-turned_facts f s o (inr is) out nowhere = rw is (λ i. record f {
-  line = λ x l. record { phase = line_again s Turned (f.line x l).phase x l (eqb x s.end.0 && eqb l s.line.0) (line_was_out f s x l out) i; stand = (f.line x l).stand; noticed = (f.line x l).noticed; held_by = (f.line x l).held_by };
-  roster = record f.roster { cast = cast_stays s.end.0 f.roster.cast nowhere i };
-})
 
 -- an Enter that was turned back found its line out
 entered_out : (may out noticed : Bool) (o p : Outcome) → (o ≡ outcome.NotNow → ⊥) → o ≡ cond (not (may && out && not noticed)) outcome.NotNow p → out ≡ true
@@ -103,12 +104,21 @@ not_refused : (o : Outcome) → (o ≡ outcome.Closed) ⊎ (o ≡ outcome.Moved)
 not_refused o (inl is) h = cc
 not_refused o (inr is) h = cc
 
--- a poster that was turned back and has left leaves the same
-pub turned_same : (h : History) (s : Sender) (r q : Bool) (o : Outcome) → (o ≡ outcome.Closed) ⊎ (o ≡ outcome.Moved) → goes_next s.end.0 (roster h).cast ≡ false → Fits h (record { action = action.Enter s; memory_refused = r }, o) → Same (h ++ (record { action = action.Enter s; memory_refused = r }, o) ∷ (record { action = action.Leave s; memory_refused = q }, outcome.Left) ∷ []) h
-turned_same h s r q o turned nowhere fits =
+-- an Enter that was turned back, and its Leave
+abbrev pub turned_pairs : Sender → Bool → Bool → Outcome → History
+turned_pairs s r q o = (record { action = action.Enter s; memory_refused = r }, o) ∷ (record { action = action.Leave s; memory_refused = q }, outcome.Left) ∷ []
+
+-- a poster that was turned back and has left leaves the facts but for the destination
+pub turned_leaves : (h : History) (s : Sender) (r q : Bool) (o : Outcome) → (o ≡ outcome.Closed) ⊎ (o ≡ outcome.Moved) → Fits h (record { action = action.Enter s; memory_refused = r }, o) → facts (h ++ turned_pairs s r q o) ≡ done_with s.end.0 (facts h)
+turned_leaves h s r q o turned fits =
     let a : Pair = (record { action = action.Enter s; memory_refused = r }, o) in
     let b : Pair = (record { action = action.Leave s; memory_refused = q }, outcome.Left) in
     let f : Facts = facts h in
     let out : phase_of_line f s ≡ Out = out_of (phase_of_line f s) (entered_out (may_enter f s) (is_out (phase_of_line f s)) (f.line s.end.0 s.line.0).noticed o _ (not_refused o turned) fits) in
-    same_facts (h ++ a ∷ b ∷ []) h
-    (ap facts (sym (append_assoc h (a ∷ []) (b ∷ []))) ∙ facts_next (h ++ a ∷ []) b ∙ ap (λ g. next g (action.Leave s) outcome.Left) (facts_next h a) ∙ turned_facts f s o turned out nowhere)
+    ap facts (sym (append_assoc h (a ∷ []) (b ∷ []))) ∙ facts_next (h ++ a ∷ []) b ∙ ap (λ g. next g (action.Leave s) outcome.Left) (facts_next h a) ∙ turned_facts f s o turned out
+
+-- where no cast goes there next it leaves the same
+pub turned_same : (h : History) (s : Sender) (r q : Bool) (o : Outcome) → (o ≡ outcome.Closed) ⊎ (o ≡ outcome.Moved) → goes_next s.end.0 (roster h).cast ≡ false → Fits h (record { action = action.Enter s; memory_refused = r }, o) → Same (h ++ turned_pairs s r q o) h
+turned_same h s r q o turned nowhere fits =
+    same_facts (h ++ turned_pairs s r q o) h
+    (turned_leaves h s r q o turned fits ∙ ap (λ c. let g : Facts = record (facts h) { roster = record (facts h).roster { cast = c } } in g) (cast_stays s.end.0 (roster h).cast nowhere))

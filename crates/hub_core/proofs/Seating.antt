@@ -1,5 +1,5 @@
 -- The seats of the members of each group.
-use Rattle.std.proofs.Common.{◌≡◌, ℕ, List, [], ◌∷◌, ◌++◌, Bool, true, false, cond, eqb, ◌&&◌, Option, Some, None, refl, sym, ap, ◌∙◌, arith, rules}
+use Rattle.std.proofs.Common.{◌≡◌, ℕ, List, [], ◌∷◌, Bool, true, false, cond, eqb, ◌&&◌, Some, refl, sym, ap, ◌∙◌, arith, rules}
 use Rattle.std.specs.Prelude.{bytes_eq, ◌==◌, IsSome}
 use Rattle.std.proofs.Common.{subst}
 use Rattle.std.proofs.lemmas.Bool.Decides.{nat_tests}
@@ -16,11 +16,9 @@ use Rattle.std.specs.declared.cmp.Ordering.TheVariants.{Less, Equal, Greater}
 use Rattle.std.proofs.lemmas.Map.Text.{is_eq-slice_cmp}
 use Rattle.std.proofs.lemmas.Bool.{false≢true}
 use Rattle.std.proofs.lemmas.Slice.Eq.{bytes_eq-Decides}
-use Rattle.std.specs.Option.{unwrap_or}
-use Rattle.std.specs.Bool.{Decides}
 use Rattle.hub_core.specs.declared.group.Group.{Group}
 use Rattle.hub_core.specs.Roster.{is_same_group}
-use Rattle.hub_core.specs.KeptRoster.{group_cmp, numbers_in, seated_with, seated_without, parted, is_in, Parts, group_of, numbers_of}
+use Rattle.hub_core.specs.KeptRoster.{group_cmp, numbers_in, seated_with, seated_without, parted, Parts, group_of, numbers_of}
 use Rattle.hub_core.specs.declared.members.Members.{Members}
 
 is_eq-nat_cmp : (a b : ℕ) → is_eq (nat_cmp a b) ≡ (a == b)

@@ -1,7 +1,7 @@
 -- Lines stay sound: what each pair that fits makes of them.
 use Rattle.std.proofs.Common.{◌≡◌, ℕ, suc, ◌<◌, ◌≤◌, Bool, true, false, cond, eqb, List, [], ◌∷◌, ◌++◌, length, map, Option, Some, None, refl, sym, ap, subst, ◌∙◌, inl, inr, arith, rules, append-nil, length-append, ◌+◌, nat_le, leb-true, leb-false}
 use Rattle.std.specs.Prelude.{◌&&◌, ◌⊎◌, is_some, option_and_then, ◌||◌, not, nat_lt}
-use Rattle.std.specs.List.{filter, AllByRecursion, list_all}
+use Rattle.std.specs.List.{filter, AllByRecursion}
 use Rattle.std.proofs.lemmas.Bool.{false≢true, ltb-false, ltb-true, eqb-true, lt-ltb, eqb-false}
 use Rattle.std.proofs.lemmas.List.Elements.{filter-append}
 use Rattle.std.proofs.lemmas.List.{length-map, map-append}
@@ -19,7 +19,7 @@ use Rattle.hub_core.specs.Fits.{Answers}
 use Rattle.hub_core.specs.Lines.{on_line}
 use Rattle.hub_core.specs.Accepted.{named_envelope, named_notice}
 use Rattle.hub_core.specs.Sender.{by, count_in_queue, Rises}
-use Rattle.hub_core.specs.Posting.{holder, poster, is_distinct, may_travel, is_out, phase_of_line, may_enter, hears_notice, is_here, is_inside, running, poster_of, speaker}
+use Rattle.hub_core.specs.Posting.{holder, poster, is_distinct, is_out, phase_of_line, may_enter, hears_notice, is_here, is_inside, running, poster_of, speaker}
 use Rattle.hub_core.specs.Numbers.{up_to, numbers}
 use Rattle.hub_core.specs.Sound.{no_line, IsOfEnd, SoundLines, no_end}
 use Rattle.hub_core.proofs.Lists.{both_of, AllByRecursion-append, AllByRecursion-weaker, eqb_same}
@@ -29,7 +29,6 @@ use Rattle.hub_core.specs.Made.{lines_of, peer_of, is_queue}
 use Rattle.std.proofs.lemmas.Bool.Decides.{nat_tests}
 use Rattle.hub_core.specs.Looking.{someone_at, is_away_at, is_settled}
 use Rattle.hub_core.specs.Taking.{IsLeft}
-use Rattle.hub_core.specs.Kept.{come}
 use Rattle.hub_core.specs.declared.kind.Kind.{Kind}
 use Rattle.hub_core.specs.declared.kind.Kind.TheVariants.{Port, Client, Worker, Member}
 use Rattle.hub_core.specs.declared.limits.TheConstants.{MAX_LINES}
@@ -307,7 +306,7 @@ message_may f s ports body n h p = record {
   line = refl;
   epoch = ap (λ (m : Acceptance). m.epoch) p.name;
   number = ap (λ (m : Acceptance). m.number) p.name;
-  ports = (both_of (is_distinct ports) (list_all (may_travel f p.agent s) ports) p.good).0;
+  ports = p.distinct;
   there = some_line f s h (f.end s.end.0).kind refl (ap is_some p.speaks);
   inside = p.inside;
   plain = p.plain;
@@ -667,7 +666,7 @@ lines_next f refused none h fits (agent_ended a es) x = h x
 lines_next f refused none h fits (let_in s) x = let r = let_in_of f s fits in phased f s Inside x (may_come_in f s r.0 r.1 r.2 (h s.end.0)) (h x)
 lines_next f refused none h fits (found_moved s) x = let r = found_moved_of f s fits in phased f s Turned x (may_turn_moved f s r.0 r.1 (h s.end.0)) (h x)
 lines_next f refused none h fits (found_closed s) x = let r = found_closed_of f s fits in phased f s Turned x (may_turn_closed f s r.0 r.2 (h s.end.0)) (h x)
-lines_next f refused none h fits (put s ports body n) x = put_at f s (named_envelope s n body ports.items) x (message_may f s ports.items body n (h s.end.0) (pushed_of f s ports.items body refused n fits)) refl (h x) (eqb x s.end.0) refl
+lines_next f refused none h fits (put s ports body n) x = put_at f s (named_envelope s n body ports) x (message_may f s ports body n (h s.end.0) (pushed_of f s ports body refused n fits)) refl (h x) (eqb x s.end.0) refl
 lines_next f refused none h fits (notice_put s n) x = notice_at f s (named_notice s n) x (notice_may f s n (noticed_of f s refused n fits)) (h x) (eqb x s.end.0) refl
 lines_next f refused none h fits (left s) x = phased f s Out x (may_leave f s) (h x)
 lines_next f refused none h fits (hopped s k) x =

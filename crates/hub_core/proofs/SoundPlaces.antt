@@ -1,8 +1,6 @@
 -- Places stay sound.
 use Rattle.std.proofs.Common.{◌≡◌, ℕ, suc, ◌+◌, ◌<◌, ◌≤◌, Bool, true, false, cond, eqb, List, [], ◌∷◌, ◌++◌, Option, Some, None, refl, sym, ap, subst, ◌∙◌, arith, rules, inl, inr}
 use Rattle.std.specs.Prelude.{◌⊎◌, ◌&&◌, ◌||◌, is_some, nat_le}
-use Rattle.std.specs.Prelude.{Vec}
-use Rattle.std.specs.declared.alloc.Global.{Global}
 use Rattle.std.proofs.lemmas.Bool.{false≢true, ne_eqb, eqb-true, leb-true, leb-false}
 use Rattle.hub_envelope.specs.declared.ids.AgentId.{AgentId}
 use Rattle.hub_envelope.specs.declared.ids.EndId.{EndId}
@@ -22,15 +20,15 @@ use Rattle.hub_core.specs.Facts.{EndNow, Facts, LineNow}
 use Rattle.hub_core.specs.Fits.{Answers}
 use Rattle.hub_core.specs.Place.{names, arrived, is_named}
 use Rattle.hub_core.specs.Accepted.{named_envelope, named_notice}
-use Rattle.hub_core.specs.Posting.{poster, is_out, may_enter, hears_notice, is_here, own_poster_out, phase_of_line}
+use Rattle.hub_core.specs.Posting.{is_out, may_enter, is_here, own_poster_out, phase_of_line}
 use Rattle.hub_core.specs.Taking.{IsNext}
 use Rattle.hub_core.specs.Sound.{no_end, total, naming, flights, SoundPlaces, Sound, is_gone}
 use Rattle.hub_core.proofs.Lists.{both_of, eqb_same}
 use Rattle.hub_core.proofs.Totals.{total_more, bit, count_more, count_between}
 use Rattle.hub_core.proofs.Nexts.{next, Change, agent_made, channel_made, let_in, found_moved, found_closed, put, left, started, got, hopped, went_on, cleared, adopted, notice_put, end_closed, end_swept, client_made, worker_made, line_got, line_back, handed, agent_ended, agent_ordered, member_joined, cast_begun, member_parted}
 use Rattle.hub_core.proofs.Fitting.{new_agent, new_ends, let_in_of, found_moved_of, found_closed_of, pushed_of, started_of, got_of, went_on_of, adopted_of, noticed_of, closed_of, SweptWith, swept_of, handed_of, queue_made_of, member_made_of}
-use Rattle.hub_core.proofs.Speakers.{made_of, placed_made, entangled_made, nothing_accepted, nothing_removed, runs_there, speaks_of, travels, all_good, taken_flies, named_count, unnamed_count, swept_total, closed_made, swept_within, swept_flies, old_end, holder_made, hears_of, or_true, may_next, same_sender, heard_of, queue_is_made, no_port, old_one, Speaks, HoldsLine, SomeCasts}
-use Rattle.hub_core.specs.Made.{peer_of, is_queue}
+use Rattle.hub_core.proofs.Speakers.{made_of, placed_made, entangled_made, nothing_accepted, nothing_removed, runs_there, speaks_of, travels, taken_flies, named_count, unnamed_count, swept_total, closed_made, swept_within, swept_flies, old_end, holder_made, may_next, same_sender, heard_of, queue_is_made, old_one, Speaks, HoldsLine, SomeCasts}
+use Rattle.hub_core.specs.Made.{peer_of}
 use Rattle.hub_core.specs.declared.kind.Kind.TheVariants.{Port, Client, Worker, Member}
 use Rattle.hub_core.specs.declared.kind.Kind.{Kind}
 use Rattle.hub_core.specs.Making.{is_client, is_worker}
@@ -277,20 +275,20 @@ put_flying : (b : Bool) (p : Option Place) (k : Option Kind) → (b ≡ true →
 put_flying true p k port old is = port refl
 put_flying false p k port old is = old is
 
-put_places : (f : Facts) (refused : Bool) (s : Sender) (ports : Vec EndId Global) (body : List ℕ) (n : Acceptance) → Sound f → Answers f (action.Push s ports body) refused (outcome.Accepted n) → SoundPlaces (next f (action.Push s ports body) (outcome.Accepted n))
+put_places : (f : Facts) (refused : Bool) (s : Sender) (ports : List EndId) (body : List ℕ) (n : Acceptance) → Sound f → Answers f (action.Push s ports body) refused (outcome.Accepted n) → SoundPlaces (next f (action.Push s ports body) (outcome.Accepted n))
 put_places f refused s ports body n h fits =
-    let p = pushed_of f s ports.items body refused n fits in
+    let p = pushed_of f s ports body refused n fits in
     record {
       few = h.places.few;
-      ends = λ x past. moved_none f x (names ports.items x) (Some InFlight) (h.places.ends x past) (λ named. none_with f x (With p.agent) (h.places.ends x past) (travels f p.agent s x ports.items (all_good f s ports.items n p) named).0);
+      ends = λ x past. moved_none f x (names ports x) (Some InFlight) (h.places.ends x past) (λ named. none_with f x (With p.agent) (h.places.ends x past) (travels f p.agent s x ports p.leave named).0);
       agents = h.places.agents;
       peers = h.places.peers;
-      with_made = λ x a is. h.places.with_made x a (put_with ((f.end x).place) (names ports.items x) a is);
-      arrived_made = λ x a is. h.places.arrived_made x a (put_arrived ((f.end x).place) (names ports.items x) a is);
+      with_made = λ x a is. h.places.with_made x a (put_with ((f.end x).place) (names ports x) a is);
+      arrived_made = λ x a is. h.places.arrived_made x a (put_arrived ((f.end x).place) (names ports x) a is);
       away = λ t away. may_next f refused h fits (put s ports body n) t away away (h.places.away t away);
-      flying = λ x is. put_flying (names ports.items x) (f.end x).place (f.end x).kind (λ named. some_own f (peer_of (f.end x).kind) (travels f p.agent s x ports.items (all_good f s ports.items n p) named).1) (h.places.flying x) is;
-      gone = λ x. gone_moved (names ports.items x) (f.end x).closed (Some InFlight) (f.end x).place refl (λ named. h.places.gone x ∙ ap is_gone (travels f p.agent s x ports.items (all_good f s ports.items n p) named).0) (h.places.gone x);
-      flights = λ x. put_flights f s (named_envelope s n body ports.items) x h.places (posted_made f s h.places (speaks_of f s (ap is_some p.speaks))) (names ports.items x) refl (λ named. no_flights ((f.end x).place) p.agent (travels f p.agent s x ports.items (all_good f s ports.items n p) named).0);
+      flying = λ x is. put_flying (names ports x) (f.end x).place (f.end x).kind (λ named. some_own f (peer_of (f.end x).kind) (travels f p.agent s x ports p.leave named).1) (h.places.flying x) is;
+      gone = λ x. gone_moved (names ports x) (f.end x).closed (Some InFlight) (f.end x).place refl (λ named. h.places.gone x ∙ ap is_gone (travels f p.agent s x ports p.leave named).0) (h.places.gone x);
+      flights = λ x. put_flights f s (named_envelope s n body ports) x h.places (posted_made f s h.places (speaks_of f s (ap is_some p.speaks))) (names ports x) refl (λ named. no_flights ((f.end x).place) p.agent (travels f p.agent s x ports p.leave named).0);
     }
 
 got_with : (x t : Option Place) (c : AgentId) (named : Bool) (a : AgentId) → t ≡ Some (With c) → cond named (arrived t x) x ≡ Some (With a) → x ≡ Some (With a)

@@ -12,20 +12,19 @@ use Rattle.hub_core.specs.declared.sender.Sender.{Sender}
 use Rattle.hub_core.specs.declared.line.Phase.TheVariants.{Out}
 use Rattle.hub_core.specs.declared.step.Action.{Action}
 use Rattle.hub_core.specs.declared.step.Action.TheVariants as action
-use Rattle.hub_core.specs.declared.outcome.Acceptance.{Acceptance}
 use Rattle.hub_core.specs.declared.outcome.Outcome.{Outcome}
 use Rattle.hub_core.specs.declared.outcome.Outcome.TheVariants as outcome
 use Rattle.hub_core.specs.Facts.{EndNow, LineNow, Facts}
 use Rattle.hub_core.specs.Fits.{Answers}
 use Rattle.hub_core.specs.Place.{names, is_named}
 use Rattle.hub_core.specs.Sender.{by, Prefix}
-use Rattle.hub_core.specs.Posting.{running_at, holder, poster, phase_of_line, is_out, is_distinct, is_with, own_poster_out, is_at, may_travel, may_enter, hears_notice, is_here, may_leave_agent, own_line_plain, running, poster_of, speaker_in}
+use Rattle.hub_core.specs.Posting.{running_at, holder, poster, phase_of_line, is_out, is_with, own_poster_out, is_at, may_enter, hears_notice, is_here, may_leave_agent, own_line_plain, running, poster_of, speaker_in}
 use Rattle.hub_core.specs.Taking.{IsNext}
 use Rattle.hub_core.specs.Sound.{no_end, IsOfEnd, total, naming, flights, SoundPlaces, Sound}
 use Rattle.hub_core.proofs.Lists.{both_of, eqb_same}
 use Rattle.hub_core.proofs.Totals.{total_less, total_more, count, bit, count_more, count_lines, count_append}
 use Rattle.hub_core.proofs.Nexts.{next, Change, agent_made, channel_made, let_in, found_moved, found_closed, put, left, started, got, hopped, went_on, cleared, adopted, notice_put, end_closed, end_swept, client_made, worker_made, line_got, line_back, handed, agent_ordered, agent_ended, member_joined, cast_begun, member_parted}
-use Rattle.hub_core.proofs.Fitting.{new_ends, Pushed, pushed_of, got_of, adopted_of, closed_of, SweptWith, swept_of, queue_made_of, handed_of, line_got_of, back_of, none_away, see_of, member_made_of, cast_of, left_of}
+use Rattle.hub_core.proofs.Fitting.{new_ends, pushed_of, got_of, adopted_of, closed_of, SweptWith, swept_of, queue_made_of, handed_of, line_got_of, back_of, none_away, see_of, member_made_of, cast_of, left_of}
 use Rattle.hub_core.proofs.SoundLines.{LinesAt, line_there}
 use Rattle.hub_core.proofs.SoundWaiting.{WaitingAt, got_prefix, nothing_more, all_removed}
 use Rattle.hub_core.specs.Made.{lines_of, peer_of, is_queue}
@@ -192,22 +191,18 @@ with_agent a (Some Gone) h = absurd (false≢true h)
 with_agent a None h = absurd (false≢true h)
 
 -- a port of a good list has its own line out and is with the agent
-pub travels : (f : Facts) (a : AgentId) (s : Sender) (x : ℕ) (ports : List EndId) → list_all (may_travel f a s) ports ≡ true → names ports x ≡ true → ((f.end x).place ≡ Some (With a)) × (own_poster_out f (peer_of (f.end x).kind) ≡ true)
+pub travels : (f : Facts) (a : AgentId) (s : Sender) (x : ℕ) (ports : List EndId) → list_all (may_leave_agent f a s) ports ≡ true → names ports x ≡ true → ((f.end x).place ≡ Some (With a)) × (own_poster_out f (peer_of (f.end x).kind) ≡ true)
 travels f a s x [] all named = absurd (false≢true named)
 travels f a s x (p ∷ ps) all named = elim (eqb p.0 x) as (λ b. eqb p.0 x ≡ b → (b || names ps x) ≡ true → ((f.end x).place ≡ Some (With a)) × (own_poster_out f (peer_of (f.end x).kind) ≡ true)) [
   | true ↦ λ t _.
       let same : p.0 ≡ x = search (rules, t) in
-      let tests = both_of (may_travel f a s p) (list_all (may_travel f a s) ps) all in
-      let leaves = both_of (may_leave_agent f a s p) (not (eqb p.0 s.end.0)) tests.0 in
-      let first = both_of (is_with a (f.end p.0).place && own_poster_out f (peer_of (f.end p.0).kind) && own_line_plain f (peer_of (f.end p.0).kind)) (not (is_at p.0 (peer_of (f.end s.end.0).kind))) leaves.0 in
+      let tests = both_of (may_leave_agent f a s p) (list_all (may_leave_agent f a s) ps) all in
+      let first = both_of (is_with a (f.end p.0).place && own_poster_out f (peer_of (f.end p.0).kind) && own_line_plain f (peer_of (f.end p.0).kind)) (not (is_at p.0 (peer_of (f.end s.end.0).kind))) tests.0 in
       let second = both_of (is_with a (f.end p.0).place && own_poster_out f (peer_of (f.end p.0).kind)) (own_line_plain f (peer_of (f.end p.0).kind)) first.0 in
       let third = both_of (is_with a (f.end p.0).place) (own_poster_out f (peer_of (f.end p.0).kind)) second.0 in
       subst (λ y. ((f.end y).place ≡ Some (With a)) × (own_poster_out f (peer_of (f.end y).kind) ≡ true)) same (with_agent a (f.end p.0).place third.0, third.1)
-  | false ↦ λ t later. travels f a s x ps (both_of (may_travel f a s p) (list_all (may_travel f a s) ps) all).1 later
+  | false ↦ λ t later. travels f a s x ps (both_of (may_leave_agent f a s p) (list_all (may_leave_agent f a s) ps) all).1 later
 ] refl named
-
-pub all_good : (f : Facts) (s : Sender) (ports : List EndId) (n : Acceptance) → (p : Pushed f s ports n) → list_all (may_travel f p.agent s) ports ≡ true
-all_good f s ports n p = (both_of (is_distinct ports) (list_all (may_travel f p.agent s) ports) p.good).1
 
 -- ---- flights
 
@@ -428,12 +423,12 @@ port_speaker_next f refused h fits (let_in t) s away k = refl
 port_speaker_next f refused h fits (found_moved t) s away k = refl
 port_speaker_next f refused h fits (found_closed t) s away k = refl
 port_speaker_next f refused h fits (put t ports body n) s away k =
-    let p = pushed_of f t ports.items body refused n fits in
-    let stays : names ports.items k.peer ≡ true → ⊥ = λ named.
-    let out = own_out f s k.peer k.line (travels f p.agent t k.peer ports.items (all_good f t ports.items n p) named).1 (h.places.peers s.end.0 k.peer k.entangled).1 in
+    let p = pushed_of f t ports body refused n fits in
+    let stays : names ports k.peer ≡ true → ⊥ = λ named.
+    let out = own_out f s k.peer k.line (travels f p.agent t k.peer ports p.leave named).1 (h.places.peers s.end.0 k.peer k.entangled).1 in
     false≢true (sym away ∙ out)
     in
-    poster_as (next f (action.Push t ports body) (outcome.Accepted n)) s k.peer k.agent k.line k.entangled (unmoved (names ports.items k.peer) _ _ _ stays k.has) k.runs ∙ sym (poster_is f s k)
+    poster_as (next f (action.Push t ports body) (outcome.Accepted n)) s k.peer k.agent k.line k.entangled (unmoved (names ports k.peer) _ _ _ stays k.has) k.runs ∙ sym (poster_is f s k)
 port_speaker_next f refused h fits (notice_put t n) s away k = refl
 port_speaker_next f refused h fits (left t) s away k = poster_as (next f (action.Leave t) outcome.Left) s k.peer k.agent k.line k.entangled k.has k.runs ∙ sym (poster_is f s k)
 port_speaker_next f refused h fits (hopped t n) s away k = refl
@@ -595,7 +590,7 @@ cast_next f refused h fits (worker_made c e) s after b k =
 cast_next f refused h fits (member_joined c name e) s after b k =
     let made = member_made_of f c refused e fits in
     casts_still f (next f (action.Member c name) (outcome.End e)) s b (λ x u is. rw (old_one f e x made.number (kind_made f x u h.places is)) is) refl k
-cast_next f refused h fits (cast_begun e ports body ends) s after b k = absurd (none_open f s b k (cast_of f e ports.items ends fits).over)
+cast_next f refused h fits (cast_begun e ports body ends) s after b k = absurd (none_open f s b k (cast_of f e ports ends fits).over)
 cast_next f refused h fits (left t) s after b k = record {
   line = k.line;
   maker = k.maker;
@@ -708,12 +703,12 @@ port_may_next f refused h fits (let_in t) s away k = may_as f s k.peer k.line k.
 port_may_next f refused h fits (found_moved t) s away k = may_as f s k.peer k.line k.entangled k.here
 port_may_next f refused h fits (found_closed t) s away k = may_as f s k.peer k.line k.entangled k.here
 port_may_next f refused h fits (put t ports body n) s away k =
-    let p = pushed_of f t ports.items body refused n fits in
-    let stays : names ports.items k.peer ≡ true → ⊥ = λ named.
-    let out = own_out f s k.peer k.line (travels f p.agent t k.peer ports.items (all_good f t ports.items n p) named).1 (h.places.peers s.end.0 k.peer k.entangled).1 in
+    let p = pushed_of f t ports body refused n fits in
+    let stays : names ports k.peer ≡ true → ⊥ = λ named.
+    let out = own_out f s k.peer k.line (travels f p.agent t k.peer ports p.leave named).1 (h.places.peers s.end.0 k.peer k.entangled).1 in
     false≢true (sym away ∙ out)
     in
-    may_as (next f (action.Push t ports body) (outcome.Accepted n)) s k.peer k.line k.entangled (still_here (names ports.items k.peer) _ _ (λ named. absurd (stays named)) k.here)
+    may_as (next f (action.Push t ports body) (outcome.Accepted n)) s k.peer k.line k.entangled (still_here (names ports k.peer) _ _ (λ named. absurd (stays named)) k.here)
 port_may_next f refused h fits (notice_put t n) s away k = may_as f s k.peer k.line k.entangled k.here
 port_may_next f refused h fits (left t) s away k = may_as (next f (action.Leave t) outcome.Left) s k.peer k.line k.entangled k.here
 port_may_next f refused h fits (hopped t n) s away k = may_as f s k.peer k.line k.entangled k.here

@@ -133,13 +133,13 @@ sweep_when true true P Q o p k a b = k refl a b
 sweep_when true false P Q o p k a b = a ∙ sym b
 sweep_when false settled P Q o p k a b = a ∙ sym b
 
-sweeps_one : (h k first second : History) (s t : Step) (e : EndId) (o p : Outcome) → facts h ≡ facts k → s.action ≡ action.Sweep e → t.action ≡ action.Sweep e → LegalAfter h ((s, o) ∷ first) → LegalAfter k ((t, p) ∷ second) → ((facts h).end e.0).closed ≡ true → Sweeps (facts h) e.0 o → Sweeps (facts k) e.0 p → InOrder (h ++ (s, o) ∷ first) → InOrder (k ++ (t, p) ∷ second) → o ≡ p
-sweeps_one h k first second s t e (outcome.Discarded us) (outcome.Discarded vs) same is it l m closed a b i j =
-    ap outcome.Discarded (rises_one us vs a.rises b.rises (λ n. swept_queue h first s e us is l closed a i n ∙ ap (λ f. left_in f e.0 n) same ∙ sym (swept_queue k second t e vs it m (ap (λ (f : Facts). (f.end e.0).closed) (sym same) ∙ closed) b j n)))
-sweeps_one h k first second s t e (outcome.Discarded us) _ same is it l m closed a b i j = absurd b
-sweeps_one h k first second s t e _ p same is it l m closed a b i j = absurd a
+sweeps_one : (h first second : History) (s : Step) (e : EndId) (o p : Outcome) → s.action ≡ action.Sweep e → LegalAfter h ((s, o) ∷ first) → LegalAfter h ((s, p) ∷ second) → ((facts h).end e.0).closed ≡ true → Sweeps (facts h) e.0 o → Sweeps (facts h) e.0 p → InOrder (h ++ (s, o) ∷ first) → InOrder (h ++ (s, p) ∷ second) → o ≡ p
+sweeps_one h first second s e (outcome.Discarded us) (outcome.Discarded vs) is l m closed a b i j =
+    ap outcome.Discarded (rises_one us vs a.rises b.rises (λ n. swept_queue h first s e us is l closed a i n ∙ sym (swept_queue h second s e vs is m closed b j n)))
+sweeps_one h first second s e (outcome.Discarded us) _ is l m closed a b i j = absurd b
+sweeps_one h first second s e _ p is l m closed a b i j = absurd a
 
-pub sweep_one : (h k first second : History) (s t : Step) (e : EndId) (o p : Outcome) → facts h ≡ facts k → s.action ≡ action.Sweep e → t.action ≡ action.Sweep e → LegalAfter h ((s, o) ∷ first) → LegalAfter k ((t, p) ∷ second) → FitsSweep (facts h) e o → FitsSweep (facts k) e p → InOrder (h ++ (s, o) ∷ first) → InOrder (k ++ (t, p) ∷ second) → o ≡ p
-sweep_one h k first second s t e o p same is it l m a b i j =
+pub sweep_one : (h first second : History) (s : Step) (e : EndId) (o p : Outcome) → s.action ≡ action.Sweep e → LegalAfter h ((s, o) ∷ first) → LegalAfter h ((s, p) ∷ second) → FitsSweep (facts h) e o → FitsSweep (facts h) e p → InOrder (h ++ (s, o) ∷ first) → InOrder (h ++ (s, p) ∷ second) → o ≡ p
+sweep_one h first second s e o p is l m a b i j =
     sweep_when ((facts h).end e.0).closed (all_settled (facts h) e.0) (Sweeps (facts h) e.0 o) (Sweeps (facts h) e.0 p) o p
-    (λ closed v w. sweeps_one h k first second s t e o p same is it l m closed v (subst (λ f. Sweeps f e.0 p) same w) i j) a (subst (λ f. FitsSweep f e p) (sym same) b)
+    (λ closed v w. sweeps_one h first second s e o p is l m closed v w i j) a b

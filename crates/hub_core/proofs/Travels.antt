@@ -1,21 +1,21 @@
 -- Which ports may be sent: what the core finds is what the facts say.
-use Rattle.std.proofs.Common.{◌≡◌, ℕ, ◌<◌, Bool, true, false, cond, eqb, List, [], ◌∷◌, length, Option, Some, None, refl, sym, ap, ◌∙◌, arith, rules}
+use Rattle.std.proofs.Common.{◌≡◌, ℕ, ◌<◌, Bool, true, false, cond, List, [], ◌∷◌, length, Option, Some, None, refl, sym, ap, ◌∙◌, arith, rules}
 use Rattle.std.specs.Prelude.{not, ◌&&◌, ◌||◌}
 use Rattle.std.specs.List.{slice_get, list_all}
 use Rattle.hub_envelope.specs.declared.ids.AgentId.{AgentId}
 use Rattle.hub_envelope.specs.declared.ids.EndId.{EndId}
 use Rattle.hub_core.specs.declared.agent.Agent.{Agent}
 use Rattle.hub_core.specs.declared.line.Line.{Line}
+use Rattle.hub_core.specs.declared.listing.Listing.TheVariants.{Good, HoldsTarget, Bad}
 use Rattle.hub_core.specs.declared.sender.Sender.{Sender}
 use Rattle.hub_core.specs.declared.end.End.{End}
 use Rattle.hub_core.specs.Facts.{EndNow, LineNow, Facts}
 use Rattle.hub_core.specs.Place.{names}
-use Rattle.hub_core.specs.Posting.{is_out, is_with, is_at, own_poster_out, may_travel, is_distinct, is_good, own_line_plain, may_leave_agent}
+use Rattle.hub_core.specs.Posting.{is_out, is_with, is_at, own_poster_out, is_distinct, own_line_plain, may_leave_agent, listing_of}
 use Rattle.hub_core.specs.Shows.{line_now, ShowsFacts}
-use Rattle.hub_core.specs.Kept.{line_is_out, kept_own_out, kept_own_plain, line_is_plain, kept_end_may_leave, kept_may_leave, kept_may_travel, kept_good, is_source, source_of, kept_own_free}
+use Rattle.hub_core.specs.Kept.{line_is_out, kept_own_out, kept_own_plain, line_is_plain, kept_end_may_leave, kept_may_leave, kept_all_leave, kept_listing_to, is_source, source_of, kept_own_free}
 use Rattle.hub_core.proofs.Lists.{is_there}
 use Rattle.hub_core.proofs.Frames.{ShownAt}
-use Rattle.hub_core.proofs.Speakers.{travels}
 use Rattle.hub_core.specs.Made.{peer_of, lines_of}
 use Rattle.hub_core.specs.declared.kind.Kind.{Kind}
 use Rattle.hub_core.specs.declared.kind.Kind.TheVariants.{Port, Client, Worker, Member}
@@ -86,21 +86,21 @@ leave_end agents ends f a s source p h from (Some x) at =
     (free_kept agents ends f p.0 h x.kind kind ∙ ap (λ k. own_poster_out f (peer_of k) && own_line_plain f (peer_of k)) (sym kind))
     (source_kept source p ∙ ap (λ k. is_at p.0 (peer_of k)) (sym from))
 
-pub leave_kept : (agents : List Agent) (ends : List End) (f : Facts) (a : AgentId) (s : Sender) (source : Kind) (p : EndId) → ShowsFacts agents ends f → (f.end s.end.0).kind ≡ Some source → kept_may_leave ends a (source_of source) p ≡ may_leave_agent f a s p
+leave_kept : (agents : List Agent) (ends : List End) (f : Facts) (a : AgentId) (s : Sender) (source : Kind) (p : EndId) → ShowsFacts agents ends f → (f.end s.end.0).kind ≡ Some source → kept_may_leave ends a (source_of source) p ≡ may_leave_agent f a s p
 leave_kept agents ends f a s source p h from = leave_end agents ends f a s source p h from (slice_get ends p.0) (h.end p.0)
 
-travel_kept : (agents : List Agent) (ends : List End) (f : Facts) (a : AgentId) (s : Sender) (source : Kind) (p : EndId) → ShowsFacts agents ends f → (f.end s.end.0).kind ≡ Some source → kept_may_travel ends a (source_of source) s.end p ≡ may_travel f a s p
-travel_kept agents ends f a s source p h from = ap (λ b. b && not (eqb p.0 s.end.0)) (leave_kept agents ends f a s source p h from)
-
 -- one port more
-good_more : (named travels distinct all : Bool) → cond (named || not travels) false (distinct && all) ≡ ((not named && distinct) && (travels && all))
-good_more true travels distinct all = refl
-good_more false true distinct all = refl
-good_more false false true all = refl
-good_more false false false all = refl
+leave_more : (named leaves distinct all : Bool) → cond (named || not leaves) false (distinct && all) ≡ ((not named && distinct) && (leaves && all))
+leave_more true leaves distinct all = refl
+leave_more false true distinct all = refl
+leave_more false false true all = refl
+leave_more false false false all = refl
 
-pub good_kept : (agents : List Agent) (ends : List End) (f : Facts) (a : AgentId) (s : Sender) (source : Kind) → ShowsFacts agents ends f → (f.end s.end.0).kind ≡ Some source → (ports : List EndId) → kept_good ends a (source_of source) s.end ports ≡ is_good f a s ports
-good_kept agents ends f a s source h from [] = refl
-good_kept agents ends f a s source h from (p ∷ ps) =
-    rw (travel_kept agents ends f a s source p h from, good_kept agents ends f a s source h from ps)
-    (good_more (names ps p.0) (may_travel f a s p) (is_distinct ps) (list_all (may_travel f a s) ps))
+all_leave : (agents : List Agent) (ends : List End) (f : Facts) (a : AgentId) (s : Sender) (source : Kind) → ShowsFacts agents ends f → (f.end s.end.0).kind ≡ Some source → (ports : List EndId) → kept_all_leave ends a (source_of source) ports ≡ (is_distinct ports && list_all (may_leave_agent f a s) ports)
+all_leave agents ends f a s source h from [] = refl
+all_leave agents ends f a s source h from (p ∷ ps) =
+    rw (leave_kept agents ends f a s source p h from, all_leave agents ends f a s source h from ps)
+    (leave_more (names ps p.0) (may_leave_agent f a s p) (is_distinct ps) (list_all (may_leave_agent f a s) ps))
+
+pub listed_kept : (agents : List Agent) (ends : List End) (f : Facts) (a : AgentId) (s : Sender) (source : Kind) → ShowsFacts agents ends f → (f.end s.end.0).kind ≡ Some source → (ports : List EndId) → kept_listing_to ends s.end a (source_of source) ports ≡ listing_of f s ports (Some a)
+listed_kept agents ends f a s source h from ports = ap (λ b. cond (not b) Bad (cond (names ports s.end.0) HoldsTarget Good)) (all_leave agents ends f a s source h from ports)

@@ -24,7 +24,7 @@ named_notice s a =
 -- what an answered step puts at the end: the envelope of a Push, or of a Notice, answered Accepted
 abbrev pub accepted_by : ℕ → Outcome → Action → List Envelope
 accepted_by e (outcome.Accepted a) (action.Push s ports body) =
-    if e == s.end.0 then named_envelope s a body ports.items ∷ [] else []
+    if e == s.end.0 then named_envelope s a body ports ∷ [] else []
 accepted_by e (outcome.Accepted a) (action.Notice s) = if e == s.end.0 then named_notice s a ∷ [] else []
 accepted_by e _ _ = []
 

@@ -1,6 +1,6 @@
 -- What the steps of broadcast channels are answered (WHATWG HTML, "Broadcasting to other browsing contexts", the steps of
 -- `new BroadcastChannel(name)`, `postMessage(message)` and `close()`).
-use Rattle.std.specs.Prelude.{ℕ, ◌==◌, ◌&&◌, if◌then◌else◌, nat_le, not, is_some, Bool, true, false, List, [], ◌∷◌, Option, Some, None}
+use Rattle.std.specs.Prelude.{ℕ, ◌==◌, ◌&&◌, if◌then◌else◌, nat_le, not, is_some, Bool, List, [], Option, Some, None}
 use Rattle.std.specs.List.{filter}
 use Rattle.hub_envelope.specs.declared.ids.AgentId.{AgentId}
 use Rattle.hub_envelope.specs.declared.ids.EndId.{EndId}

@@ -1,6 +1,6 @@
 -- What the orders to end, and the look of an agent whether it was ordered, are answered (W3C Service Workers, "Terminate
 -- Service Worker"; WHATWG HTML, "terminate a worker").
-use Rattle.std.specs.Prelude.{ℕ, zero, suc, ◌==◌, ◌&&◌, ◌||◌, ◌++◌, if◌then◌else◌, not, nat_lt, Bool, true, false, List, [], ◌∷◌, Option, Some, None}
+use Rattle.std.specs.Prelude.{ℕ, zero, suc, ◌==◌, ◌&&◌, ◌||◌, ◌++◌, if◌then◌else◌, not, nat_lt, Bool, false, List, [], ◌∷◌, Option, Some, None}
 use Rattle.hub_envelope.specs.declared.ids.AgentId.{AgentId}
 use Rattle.hub_envelope.specs.declared.ids.EndId.{EndId}
 use Rattle.hub_core.specs.declared.kind.Kind.{Kind}

@@ -24,7 +24,7 @@ Answers f (action.Member a name) refused o = o ≡ member_answer f a refused
 Answers f (action.Line e a) refused o = o ≡ line_answer f e a
 Answers f (action.Back s) refused o = o ≡ back_answer f s
 Answers f (action.Enter s) refused o = o ≡ enter_answer f s
-Answers f (action.Push s ports body) refused o = o ≡ push_answer f s ports.items body refused
+Answers f (action.Push s ports body) refused o = o ≡ push_answer f s ports body refused
 Answers f (action.Notice s) refused o = o ≡ notice_answer f s refused
 Answers f (action.Leave s) refused o = o ≡ leave_answer f s
 Answers f (action.Hop s) refused o = o ≡ hop_answer f s
@@ -37,7 +37,7 @@ Answers f (action.Sweep e) refused o = FitsSweep f e o
 Answers f (action.Hand e b) refused o = o ≡ hand_answer f e b
 Answers f (action.Order a) refused o = o ≡ order_answer f a
 Answers f (action.See a) refused o = o ≡ see_answer f a
-Answers f (action.Cast e ports body) refused o = o ≡ cast_answer f e ports.items
+Answers f (action.Cast e ports body) refused o = o ≡ cast_answer f e ports
 Answers f (action.Part e) refused o = o ≡ part_answer f e
 
 -- the pair fits the history

@@ -18,7 +18,8 @@ use Rattle.hub_core.specs.Numbers.{up_to, numbers}
 use Rattle.hub_core.specs.Sender.{by, Prefix}
 use Rattle.hub_core.specs.Lines.{phase, stand, newest, taker_stand}
 use Rattle.hub_core.specs.Posting.{is_out}
-use Rattle.hub_core.specs.Roster.{goes_next, roster}
+use Rattle.hub_core.specs.Roster.{goes_next, cast_after, roster}
+use Rattle.hub_core.specs.Facts.{Facts, facts}
 
 -- a Take, and an Enter, with memory refused in it or not
 abbrev pub take_of : EndId → Bool → Outcome → Pair
@@ -62,11 +63,16 @@ pub record IsBusyAt (h : History) (e : ℕ) : Type 0 where
   pub away : is_out (phase h e line) ≡ false
   pub there : stand h e line ≡ taker_stand h e
 
+-- the facts, but that a cast that goes to the end next is done with it
+abbrev pub done_with : ℕ → Facts → Facts
+done_with x f = record f { roster = record f.roster { cast = cast_after x f.roster.cast } }
+
 -- For each end and line, what was taken is a prefix of what was accepted, in order; and in each queue the
 -- envelopes are numbered 0, 1, 2 and so on, those accepted and those taken, so that each comes once. For each pair of
 -- the history: a Take at a closed end takes nothing; from an Enter that was turned back to its Leave nothing of that
--- line is accepted, and the two leave the same, but that a cast that goes there next is done with the end; and a Take finds
--- nothing only where nothing is left, or a poster is inside or being turned back at the taker's queue.
+-- line is accepted, and the two leave the same where no cast goes to that end next; where one does, they leave the same
+-- facts, but that the cast is done with that destination. A Take finds nothing only where nothing is left, or a poster is
+-- inside or being turned back at the taker's queue.
 pub record Headline (h : History) : Type 0 where
   pub prefix : (e line : ℕ) → Prefix (by line (taken h e)) (by line (accepted h e))
   pub accepted_once : (e line epoch : ℕ) → numbers line epoch (accepted h e) ≡ up_to (length (numbers line epoch (accepted h e)))
@@ -74,5 +80,6 @@ pub record Headline (h : History) : Type 0 where
   pub closed : (before after : History) (e : EndId) (refused : Bool) (o : Outcome) → h ≡ before ++ take_of e refused o ∷ after → closed before e.0 ≡ true → o ≡ outcome.Closed
   pub turned : (before middle after : History) (s : Sender) (refused : Bool) (o : Outcome) → IsTurned o → h ≡ before ++ enter_of s refused o ∷ (middle ++ after) → AllByRecursion (λ p. leaves s p.1 p.0.action ≡ false) middle → AllByRecursion (λ p. posts s p.1 p.0.action ≡ false) middle
   pub same : (before after : History) (s : Sender) (refused again : Bool) (o : Outcome) → IsTurned o → goes_next s.end.0 (roster before).cast ≡ false → h ≡ before ++ enter_of s refused o ∷ after → Same (before ++ enter_of s refused o ∷ leave_of s again ∷ []) before
+  pub same_but_destination : (before after : History) (s : Sender) (refused again : Bool) (o : Outcome) → IsTurned o → goes_next s.end.0 (roster before).cast ≡ true → h ≡ before ++ enter_of s refused o ∷ after → facts (before ++ enter_of s refused o ∷ leave_of s again ∷ []) ≡ done_with s.end.0 (facts before)
   pub empty : (before after : History) (e : EndId) (refused : Bool) → h ≡ before ++ take_of e refused outcome.Empty ∷ after → IsDrainedAt before e.0
   pub busy : (before after : History) (e : EndId) (refused : Bool) → h ≡ before ++ take_of e refused outcome.Busy ∷ after → IsBusyAt before e.0

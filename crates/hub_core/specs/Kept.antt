@@ -3,20 +3,19 @@ use Rattle.std.specs.Prelude.{ℕ, ◌+◌, ◌==◌, if◌then◌else◌, nat_l
 use Rattle.std.specs.List.{list_any, flat_map, position}
 use Rattle.std.specs.Bool.{MatchBool}
 use Rattle.hub_core.specs.declared.limits.TheConstants.{MAX_AGENTS, MAX_ENDS, MAX_LINES, MAX_MOVES}
+use Rattle.hub_envelope.specs.declared.limits.TheConstants.{MAX_PORTS}
 use Rattle.hub_envelope.specs.declared.ids.LineId.{LineId}
 use Rattle.hub_core.specs.declared.end.Place.TheVariants.{With, InFlight, Arrived, Swept, Gone}
 use Rattle.hub_core.specs.Accepted.{named_envelope, named_notice}
-use Rattle.hub_envelope.specs.declared.limits.TheConstants.{MAX_PORTS}
 use Rattle.hub_envelope.specs.declared.ids.EndId.{EndId}
 use Rattle.hub_envelope.specs.declared.ids.AgentId.{AgentId}
 use Rattle.hub_core.specs.declared.agent.Agent.{Agent}
 use Rattle.hub_core.specs.declared.kind.Kind.{Kind}
 use Rattle.hub_core.specs.declared.kind.Kind.TheVariants.{Port, Client, Worker, Member}
 use Rattle.hub_core.specs.Made.{lines_of, is_queue, maker_of}
-use Rattle.hub_core.specs.Roster.{CastNow, is_first}
+use Rattle.hub_core.specs.Roster.{CastNow}
 use Rattle.hub_core.specs.KeptRoster.{source_for}
 use Rattle.hub_core.specs.Moving.{is_arrived}
-use Rattle.hub_core.specs.Ending.{ends_below}
 use Rattle.hub_core.specs.declared.sender.Sender.{Sender}
 use Rattle.hub_envelope.specs.declared.envelope.Envelope.{Envelope}
 use Rattle.hub_core.specs.declared.line.Line.{Line}
@@ -27,7 +26,7 @@ use Rattle.hub_core.specs.declared.end.Place.{Place}
 use Rattle.hub_core.specs.declared.outcome.Outcome.{Outcome}
 use Rattle.hub_core.specs.declared.outcome.Outcome.TheVariants as outcome
 use Rattle.hub_core.specs.Place.{names}
-use Rattle.hub_core.specs.Posting.{is_out, is_inside, is_here, is_with, running_at, is_fitting}
+use Rattle.hub_core.specs.Posting.{is_out, is_inside, is_here, is_with, running_at, is_fitting, is_good}
 use Rattle.hub_core.specs.declared.listing.Listing.{Listing}
 use Rattle.hub_core.specs.declared.listing.Listing.TheVariants.{Good, HoldsTarget, Bad}
 
@@ -359,15 +358,16 @@ kept_end_may_leave ends a source p (Some x) =
 abbrev pub kept_may_leave : List End → AgentId → Option EndId → EndId → Bool
 kept_may_leave ends a source p = kept_end_may_leave ends a source p (slice_get ends p.0)
 
--- whether a port may be sent by an agent that posts on a line, the source being the port that posts
-abbrev pub kept_may_travel : List End → AgentId → Option EndId → EndId → EndId → Bool
-kept_may_travel ends a source target p = kept_may_leave ends a source p && not (p.0 == target.0)
+-- distinct ports that may leave an agent
+abbrev pub kept_all_leave : List End → AgentId → Option EndId → List EndId → Bool
+kept_all_leave ends a source [] = true
+kept_all_leave ends a source (p ∷ ps) =
+    if names ps p.0 || not (kept_may_leave ends a source p) then false else kept_all_leave ends a source ps
 
--- distinct ports that may travel
-abbrev pub kept_good : List End → AgentId → Option EndId → EndId → List EndId → Bool
-kept_good ends a source target [] = true
-kept_good ends a source target (p ∷ ps) =
-    if names ps p.0 || not (kept_may_travel ends a source target p) then false else kept_good ends a source target ps
+-- what a list of ports is to a message to the target from an agent that posts with another port, the source, or with none
+abbrev pub kept_listing_to : List End → EndId → AgentId → Option EndId → List EndId → Listing
+kept_listing_to ends target a source ports =
+    if not (kept_all_leave ends a source ports) then Bad else (if names ports target.0 then HoldsTarget else Good)
 
 -- the end of the sender has the queue at which the line stands
 abbrev pub HasQueue : List End → Sender → Line → Type 0
@@ -378,7 +378,7 @@ abbrev pub kept_posting_by : List End → Option EndId → EndId → List EndId 
 kept_posting_by ends source target ports fitting refused y None = Err outcome.NotNow
 kept_posting_by ends source target ports fitting refused y (Some a) =
     if nat_lt MAX_PORTS (length ports) then Err outcome.TooManyPorts
-    else (if kept_good ends a source target ports && fitting then (if refused then Err outcome.NoMemory else Ok (y, a)) else Err outcome.NotNow)
+    else (if is_good (kept_listing_to ends target a source ports) && fitting then (if refused then Err outcome.NoMemory else Ok (y, a)) else Err outcome.NotNow)
 
 abbrev pub kept_posting_line : List Agent → List End → Option CastNow → Sender → List EndId → List ℕ → Bool → End → Option Line → Result (Line × AgentId) Outcome
 kept_posting_line agents ends c s ports body refused x None = Err outcome.NotNow
@@ -582,16 +582,9 @@ kept_comes_at l (Some x) = kept_comes (slice_get x.lines l)
 abbrev pub kept_may_post : List Agent → List End → Option CastNow → Sender → Bool
 kept_may_post agents ends c s = is_some (kept_poster agents ends c s) && kept_comes_at s.line.0 (slice_get ends s.end.0)
 
--- distinct ports that may leave an agent
-abbrev pub kept_all_leave : List End → AgentId → Option EndId → List EndId → Bool
-kept_all_leave ends a source [] = true
-kept_all_leave ends a source (p ∷ ps) =
-    if names ps p.0 || not (kept_may_leave ends a source p) then false else kept_all_leave ends a source ps
-
 abbrev pub kept_listing_by : List End → Sender → List EndId → End → Option AgentId → Listing
 kept_listing_by ends s ports x None = Bad
-kept_listing_by ends s ports x (Some a) =
-    if not (kept_all_leave ends a (source_of x.kind) ports) then Bad else (if names ports s.end.0 then HoldsTarget else Good)
+kept_listing_by ends s ports x (Some a) = kept_listing_to ends s.end a (source_of x.kind) ports
 
 abbrev pub kept_listing_at : List End → Sender → List EndId → Option AgentId → Option End → Listing
 kept_listing_at ends s ports poster None = Bad

@@ -1,5 +1,5 @@
 -- For private clauses: what the core keeps of posters that are away, and of agents that end.
-use Rattle.std.specs.Prelude.{ℕ, ◌==◌, if◌then◌else◌, Bool, List, length, slice_get, Option, Some, None, false, true, ◌||◌, not, ◌-◌}
+use Rattle.std.specs.Prelude.{ℕ, ◌==◌, if◌then◌else◌, Bool, List, length, slice_get, Option, Some, None, false, true, ◌||◌, not}
 use Rattle.hub_envelope.specs.declared.ids.EndId.{EndId}
 use Rattle.hub_envelope.specs.declared.ids.AgentId.{AgentId}
 use Rattle.hub_core.specs.declared.agent.Agent.{Agent}

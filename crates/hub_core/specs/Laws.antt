@@ -1,12 +1,10 @@
 -- Laws of what fits and of legal histories, in the words of the subject.
-use Rattle.std.specs.Prelude.{◌≡◌, ℕ, Bool, true, false, ◌↔◌, List, [], ◌∷◌, ◌++◌, Some, Vec}
-use Rattle.std.specs.declared.alloc.Global.{Global}
+use Rattle.std.specs.Prelude.{◌≡◌, ℕ, Bool, true, false, ◌↔◌, List, [], ◌∷◌, ◌++◌, Some}
 use Rattle.hub_envelope.specs.declared.ids.EndId.{EndId}
 use Rattle.hub_envelope.specs.declared.ids.AgentId.{AgentId}
 use Rattle.hub_core.specs.declared.line.Phase.TheVariants.{Turned}
 use Rattle.hub_core.specs.declared.sender.Sender.{Sender}
 use Rattle.hub_core.specs.declared.step.Step.{Step}
-use Rattle.hub_core.specs.declared.step.Action.{Action}
 use Rattle.hub_core.specs.declared.step.Action.TheVariants as action
 use Rattle.hub_core.specs.declared.outcome.Outcome.{Outcome}
 use Rattle.hub_core.specs.declared.outcome.Outcome.TheVariants as outcome
@@ -47,7 +45,7 @@ pub record KeepsTheLine : Type 0 where
 
 -- A Push or a Notice of a poster that is being turned back is answered NotNow.
 pub record TurnedPutsNothing : Type 0 where
-  pub push : (h : History) (s : Sender) (ports : Vec EndId Global) (body : List ℕ) (refused : Bool) (o : Outcome) → phase_of_line (facts h) s ≡ Turned → Fits h (record { action = action.Push s ports body; memory_refused = refused }, o) → o ≡ outcome.NotNow
+  pub push : (h : History) (s : Sender) (ports : List EndId) (body : List ℕ) (refused : Bool) (o : Outcome) → phase_of_line (facts h) s ≡ Turned → Fits h (record { action = action.Push s ports body; memory_refused = refused }, o) → o ≡ outcome.NotNow
   pub notice : (h : History) (s : Sender) (refused : Bool) (o : Outcome) → phase_of_line (facts h) s ≡ Turned → Fits h (record { action = action.Notice s; memory_refused = refused }, o) → o ≡ outcome.NotNow
 
 -- After a notice nothing more of its line is accepted.
@@ -59,23 +57,7 @@ NoticeIsLast = (h : History) (e line : ℕ) (before after : List Envelope) (v : 
 pub record InOrder (h : History) : Type 0 where
   pub each : (e k : ℕ) → Prefix (in_queue k (taken h e ++ discarded h e)) (in_queue k (accepted h e))
 
--- the two actions are one, but for where a list of ports lies in memory
-abbrev pub IsSameAction : Action → Action → Type 0
-IsSameAction (action.Push s ports body) (action.Push t listed text) = (s ≡ t) × (ports.items ≡ listed.items) × (body ≡ text)
-IsSameAction (action.Cast e ports body) (action.Cast g listed text) = (e ≡ g) × (ports.items ≡ listed.items) × (body ≡ text)
-IsSameAction a b = a ≡ b
-
-pub record IsSameStep (s t : Step) : Type 0 where
-  pub action : IsSameAction s.action t.action
-  pub memory_refused : s.memory_refused ≡ t.memory_refused
-
--- the two histories have the same steps with the same answers
-abbrev pub AreSamePairs : History → History → Type 0
-AreSamePairs [] [] = Unit {0}
-AreSamePairs (p ∷ h) (q ∷ k) = (IsSameStep p.0 q.0 × (p.1 ≡ q.1)) × AreSamePairs h k
-AreSamePairs [] (q ∷ k) = ⊥
-AreSamePairs (p ∷ h) [] = ⊥
-
 -- Where two legal histories in order go on with the same step after the same pairs, they go on with the same answer.
 abbrev pub OneAnswer : Type 0
-OneAnswer = (h k first second : History) (s t : Step) (o p : Outcome) → AreSamePairs h k → IsSameStep s t → Legal (h ++ (s, o) ∷ first) → Legal (k ++ (t, p) ∷ second) → InOrder (h ++ (s, o) ∷ first) → InOrder (k ++ (t, p) ∷ second) → o ≡ p
+OneAnswer = (h first second : History) (s : Step) (o p : Outcome) → Legal (h ++ (s, o) ∷ first) → Legal (h ++ (s, p) ∷ second)
+    → InOrder (h ++ (s, o) ∷ first) → InOrder (h ++ (s, p) ∷ second) → o ≡ p

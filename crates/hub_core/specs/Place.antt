@@ -35,7 +35,7 @@ place_after x place (outcome.Ends e f) (action.Channel a) = if x == e.0 || x == 
 place_after x place (outcome.End e) (action.Client a) = if x == e.0 then Some (With a) else place x
 place_after x place (outcome.End e) (action.Worker a) = if x == e.0 then Some (With a) else place x
 place_after x place (outcome.End e) (action.Member a name) = if x == e.0 then Some (With a) else place x
-place_after x place (outcome.Accepted n) (action.Push s ports body) = if names ports.items x then Some InFlight else place x
+place_after x place (outcome.Accepted n) (action.Push s ports body) = if names ports x then Some InFlight else place x
 place_after x place (outcome.Got v) (action.Take t) = if names v.ports x then arrived (place t.0) (place x) else place x
 place_after x place (outcome.Adopted n) (action.Adopt t a) = if x == t.0 then Some (With a) else place x
 place_after x place outcome.Handed (action.Hand t a) = if x == t.0 then Some (Arrived a) else place x

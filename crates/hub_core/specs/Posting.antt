@@ -136,13 +136,22 @@ abbrev pub may_leave_agent : Facts → AgentId → Sender → EndId → Bool
 may_leave_agent f a s p =
     is_with a (f.end p.0).place && own_poster_out f (peer_of (f.end p.0).kind) && own_line_plain f (peer_of (f.end p.0).kind) && not (is_at p.0 (peer_of (f.end s.end.0).kind))
 
--- such a port that isn't the target either
-abbrev pub may_travel : Facts → AgentId → Sender → EndId → Bool
-may_travel f a s p = may_leave_agent f a s p && not (p.0 == s.end.0)
+-- What a list of ports is to a message on a line that the agent posts on. Distinct ports that may leave the agent are a
+-- good list, unless the end to which the message goes is among them.
+abbrev pub listing_of : Facts → Sender → List EndId → Option AgentId → Listing
+listing_of f s ports None = Bad
+listing_of f s ports (Some a) =
+    if not (is_distinct ports && list_all (may_leave_agent f a s) ports) then Bad
+    else (if names ports s.end.0 then HoldsTarget else Good)
 
--- distinct ports that may travel
-abbrev pub is_good : Facts → AgentId → Sender → List EndId → Bool
-is_good f a s ports = is_distinct ports && list_all (may_travel f a s) ports
+-- what a list of ports is to a message on the line
+abbrev pub listing : Facts → Sender → List EndId → Listing
+listing f s ports = listing_of f s ports (poster f s)
+
+abbrev pub is_good : Listing → Bool
+is_good Good = true
+is_good HoldsTarget = false
+is_good Bad = false
 
 -- the name that an envelope of an agent on a line gets now
 abbrev pub next_name : Facts → Sender → AgentId → Acceptance
@@ -173,7 +182,7 @@ abbrev pub push_answer_of : Facts → Sender → List EndId → Bool → Bool �
 push_answer_of f s ports fitting refused None = outcome.NotNow
 push_answer_of f s ports fitting refused (Some a) =
     if nat_lt MAX_PORTS (length ports) then outcome.TooManyPorts
-    else (if not (is_good f a s ports && fitting) then outcome.NotNow
+    else (if not (is_good (listing_of f s ports (Some a)) && fitting) then outcome.NotNow
     else (if refused then outcome.NoMemory
     else outcome.Accepted (next_name f s a)))
 
@@ -199,13 +208,3 @@ notice_answer f s refused =
 -- whether a message may be posted on the line: an agent that may post holds it, its poster is out, and no notice was put
 abbrev pub may_post : Facts → Sender → Bool
 may_post f s = is_some (poster f s) && is_out (phase_of_line f s) && not (f.line s.end.0 s.line.0).noticed
-
-abbrev pub listing_of : Facts → Sender → List EndId → Option AgentId → Listing
-listing_of f s ports None = Bad
-listing_of f s ports (Some a) =
-    if not (is_distinct ports && list_all (may_leave_agent f a s) ports) then Bad
-    else (if names ports s.end.0 then HoldsTarget else Good)
-
--- what a list of ports is to a message on the line
-abbrev pub listing : Facts → Sender → List EndId → Listing
-listing f s ports = listing_of f s ports (poster f s)

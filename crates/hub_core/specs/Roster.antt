@@ -1,6 +1,6 @@
 -- Which agents have an origin, which broadcast channels are members of the roster, and the cast that isn't over (WHATWG
 -- HTML, "Broadcasting to other browsing contexts").
-use Rattle.std.specs.Prelude.{ℕ, ◌==◌, ◌&&◌, if◌then◌else◌, Bool, true, false, bytes_eq, List, [], ◌∷◌, ◌++◌, Option, Some, None, option_map, drop}
+use Rattle.std.specs.Prelude.{ℕ, ◌==◌, ◌&&◌, if◌then◌else◌, Bool, false, bytes_eq, List, [], ◌∷◌, ◌++◌, Option, Some, None, option_map, drop}
 use Rattle.std.specs.List.{fold, list_any}
 use Rattle.hub_envelope.specs.declared.ids.EndId.{EndId}
 use Rattle.hub_core.specs.declared.group.Group.{Group}

@@ -134,3 +134,7 @@ Shows core h = ShowsFacts core.agents.items core.ends.items (facts h) × ShowsRo
 -- After every history that the old core shows the outcome of the step fits, and the new core shows the longer history.
 abbrev pub FitsAndShows : Core → Core → Step → Outcome → Type 0
 FitsAndShows old new step o = (h : History) → Shows old h → Fits h (step, o) × Shows new (h ++ (step, o) ∷ [])
+
+-- the new core shows each history that the old core shows
+abbrev pub StillShows : Core → Core → Type 0
+StillShows old new = (h : History) → Shows old h → Shows new h

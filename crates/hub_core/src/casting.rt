@@ -61,7 +61,7 @@ impl Core {
     pub(crate) fn cast(
         &mut self,
         end: EndId,
-        ports: Vec<EndId>,
+        ports: EndIds,
         body: Body,
     ) -> Result<Outcome, OutOfMemory>
         ensures outcome { let ends = self.old.ends.items in
@@ -73,7 +73,7 @@ impl Core {
             let holder = kept_holder self.old.agents.items ends end.0 in
             let others = kept_destinations members end.0 in
             IfOk result (λ o. o ≡ kept_cast_answer may (seated && is_kept_open found) holder
-            (is_empty ports.items) others) }
+            (is_empty ports) others) }
         ensures roster { IfOk result (λ o. CastLeaves end body self.old.roster o self.new.roster) }
         ensures err { OnErr result (self.new.roster ≡ self.old.roster) }
         ensures ends { self.new.ends ≡ self.old.ends }
@@ -88,7 +88,7 @@ impl Core {
         if self.running_holder(end).is_none() {
             return Ok(Outcome::NotNow);
         }
-        if !ports.is_empty() {
+        if !ports.as_slice().is_empty() {
             return Ok(Outcome::NotTransferable);
         }
         let ends = self.roster.members.others(self.alloc, end.0)?;

@@ -19,10 +19,24 @@ impl Model for EndIds {
 }
 
 impl EndIds {
+    /// These numbers.
+    pub fn of(ends: Vec<EndId>) -> EndIds
+        ensures { result ≡ ends.items }
+    {
+        EndIds { ends }
+    }
+
     /// The numbers as a slice.
     pub fn as_slice(&self) -> &[EndId]
         ensures { result.now ≡ self.now }
     {
         self.ends.as_slice()
+    }
+
+    pub(crate) fn into_list(self) -> Vec<EndId>
+        ensures { result.items ≡ self }
+    {
+        let EndIds { ends } = self;
+        ends
     }
 }

@@ -1,3 +1,6 @@
+ghost use Rattle.std.specs.Prelude.{◌≡◌};
+ghost use Rattle.hub_core.specs.Posting.{is_good};
+
 /// What a list of ports is to a message on a line.
 #[derive(Clone, Copy, Debug, PartialEq, Eq)]
 pub enum Listing {
@@ -7,4 +10,12 @@ pub enum Listing {
     /// "Message ports", the message port post message steps: such a message is doomed).
     HoldsTarget,
     Bad,
+}
+
+impl Listing {
+    pub(crate) fn is_good(self) -> bool
+        ensures { result ≡ is_good self }
+    {
+        matches!(self, Listing::Good)
+    }
 }

@@ -19,7 +19,7 @@ ghost use Rattle.hub_core.specs.History.{History};
 ghost use Rattle.hub_core.specs.Laws.{InOrder};
 ghost use Rattle.hub_core.specs.Made.{line_of_port};
 ghost use Rattle.hub_core.specs.Memory.{takes_memory};
-ghost use Rattle.hub_core.specs.Shows.{Shows, FitsAndShows};
+ghost use Rattle.hub_core.specs.Shows.{Shows, FitsAndShows, StillShows};
 ghost use Rattle.hub_core.specs.KeptRoster.{cast_now};
 ghost use Rattle.hub_core.specs.Unchanged.{changes_nothing, SameContent};
 
@@ -70,6 +70,10 @@ impl Core {
         ensures unchanged { IfOk result (λ o. changes_nothing o step.action ≡ true
             → SameContent self.old self.new) }
         ensures err { OnErr result (SameContent self.old self.new) }
+        // Then the core shows what it showed.
+        ensures still { IfOk result (λ o. changes_nothing o step.action ≡ true
+            → StillShows self.old self.new) }
+        ensures err_still { OnErr result (StillShows self.old self.new) }
         ensures memory { OnErr result (takes_memory step.action ≡ true) }
         // What was taken is in order of acceptance, queue by queue, also between lines.
         ensures in_order { (h : History) → Shows self.new h → InOrder h }

@@ -1,12 +1,14 @@
 ghost use Rattle.std.specs.Prelude.{◌≡◌, ◌<◌, ◌≤◌, ◌∷◌, [], length, slice_get, Some, IfOk, OnOk, OnErr};
 ghost use Rattle.hub_core.specs.KeptRoster.{cast_now, cast_left};
 ghost use Rattle.hub_core.specs.Posting.{is_fitting};
-ghost use Rattle.hub_core.specs.Kept.{enter_outcome_at, enter_ends_at, leave_outcome_at, leave_ends_at, hop_outcome_at, hop_ends_at, kept_may_enter, kept_noticing, notice_outcome, NoticeLeaves, kept_posting, kept_good, kept_may_travel, kept_may_leave, kept_own_free, push_outcome, HasQueue, AcceptLeaves, PushLeaves, Moves};
+ghost use Rattle.hub_core.specs.Kept.{enter_outcome_at, enter_ends_at, leave_outcome_at, leave_ends_at, hop_outcome_at, hop_ends_at, kept_may_enter, kept_noticing, notice_outcome, NoticeLeaves, kept_posting, kept_all_leave, kept_listing_to, kept_may_leave, kept_own_free, push_outcome, HasQueue, AcceptLeaves, PushLeaves, Moves};
 ghost use Rattle.hub_core.specs.KeptEnding.{kept_owner_of, enter_agents, leave_agents};
 
 use crate::end::Place;
+use crate::end_ids::EndIds;
 use crate::kind::Kind;
 use crate::line::{Line, Phase};
+use crate::listing::Listing;
 use crate::machine::Core;
 use crate::outcome::{Acceptance, Outcome};
 use crate::sender::Sender;
@@ -87,27 +89,27 @@ impl Core {
     pub(crate) fn push(
         &mut self,
         sender: Sender,
-        ports: Vec<EndId>,
+        ports: EndIds,
         body: Body,
         memory_refused: bool,
     ) -> Result<Outcome, OutOfMemory>
         ensures outcome { let agents = self.old.agents.items in
             let ends = self.old.ends.items in
             let cast = cast_now self.old.roster.cast in
-            let posting = kept_posting agents ends cast sender ports.items body memory_refused in
+            let posting = kept_posting agents ends cast sender ports body memory_refused in
             IfOk result (λ o. o ≡ push_outcome posting) }
         ensures ends { let agents = self.old.agents.items in
             let ends = self.old.ends.items in
             let cast = cast_now self.old.roster.cast in
-            let posting = kept_posting agents ends cast sender ports.items body memory_refused in
-            OnOk result (PushLeaves sender ports.items body ends posting self.new.ends.items) }
+            let posting = kept_posting agents ends cast sender ports body memory_refused in
+            OnOk result (PushLeaves sender ports body ends posting self.new.ends.items) }
         ensures err { OnErr result (self.new.ends.items ≡ self.old.ends.items) }
         ensures agents { self.new.agents ≡ self.old.agents }
         ensures roster { self.new.roster ≡ self.old.roster }
     {
-        match self.posting(sender, &ports, &body, memory_refused) {
+        match self.posting(sender, ports.as_slice(), &body, memory_refused) {
             Ok((line, agent)) => {
-                let ports = Ports::of_list(ports).unwrap();
+                let ports = Ports::of_list(ports.into_list()).unwrap();
                 let accepted = Acceptance {
                     agent,
                     epoch: line.epoch,
@@ -159,9 +161,8 @@ impl Core {
         if ports.len() > MAX_PORTS {
             return Err(Outcome::TooManyPorts);
         }
-        if !self.may_be_sent(agent, end.kind.source(), sender.end, ports)
-            || !self.is_fitting(end.kind, ports, body)
-        {
+        let listing = self.listing_to(sender.end, agent, end.kind.source(), ports);
+        if !listing.is_good() || !self.is_fitting(end.kind, ports, body) {
             return Err(Outcome::NotNow);
         }
         if memory_refused {
@@ -262,34 +263,41 @@ impl Core {
         Ok(())
     }
 
-    /// Whether an agent may send these ports: distinct ports that the agent has, none of them the
-    /// port that posts or the one that is posted to, and none with its own poster inside or a
-    /// notice of it.
-    fn may_be_sent(
+    /// What a list of ports is to a message to an end from an agent that posts with the source, or
+    /// with no port.
+    pub(crate) fn listing_to(
         &self,
+        target: EndId,
         agent: AgentId,
         source: Option<EndId>,
-        target: EndId,
         ports: &[EndId],
-    ) -> bool
-        ensures { result ≡ kept_good self.now.ends.items agent source target ports.now }
+    ) -> Listing
+        ensures { result ≡ kept_listing_to self.now.ends.items target agent source ports.now }
+    {
+        if !self.may_all_leave(agent, source, ports) {
+            return Listing::Bad;
+        }
+        if ports.contains(&target) {
+            Listing::HoldsTarget
+        } else {
+            Listing::Good
+        }
+    }
+
+    /// Whether these are distinct ports that may leave an agent.
+    fn may_all_leave(&self, agent: AgentId, source: Option<EndId>, ports: &[EndId]) -> bool
+        ensures { result ≡ kept_all_leave self.now.ends.items agent source ports.now }
     {
         for (i, port) in ports.iter().enumerate() {
-            if ports[i + 1..].contains(port) || !self.may_travel(agent, source, target, *port) {
+            if ports[i + 1..].contains(port) || !self.may_leave(agent, source, *port) {
                 return false;
             }
         }
         true
     }
 
-    fn may_travel(&self, agent: AgentId, source: Option<EndId>, target: EndId, port: EndId) -> bool
-        ensures { result ≡ kept_may_travel self.now.ends.items agent source target port }
-    {
-        self.may_leave(agent, source, port) && port != target
-    }
-
     /// Whether a port may leave an agent that posts with another one, the source, or with none.
-    pub(crate) fn may_leave(&self, agent: AgentId, source: Option<EndId>, port: EndId) -> bool
+    fn may_leave(&self, agent: AgentId, source: Option<EndId>, port: EndId) -> bool
         ensures { result ≡ kept_may_leave self.now.ends.items agent source port }
     {
         let Some(end) = self.ends.get(port.0 as usize) else {

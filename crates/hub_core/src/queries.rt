@@ -2,7 +2,7 @@ ghost use Rattle.std.specs.Prelude.{◌≡◌, length, option_map, slice_get};
 ghost use Rattle.hub_core.specs.Facts.{facts};
 ghost use Rattle.hub_core.specs.History.{History};
 ghost use Rattle.hub_core.specs.KeptRoster.{cast_now};
-ghost use Rattle.hub_core.specs.Kept.{kept_may_post, kept_all_leave, kept_listing};
+ghost use Rattle.hub_core.specs.Kept.{kept_may_post, kept_listing};
 ghost use Rattle.hub_core.specs.Made.{kind};
 ghost use Rattle.hub_core.specs.Moving.{may_close};
 ghost use Rattle.hub_core.specs.Posting.{may_post, listing};
@@ -13,7 +13,7 @@ use crate::line::Phase;
 use crate::listing::Listing;
 use crate::machine::Core;
 use crate::sender::Sender;
-use hub_envelope::{AgentId, EndId};
+use hub_envelope::EndId;
 
 impl Core {
     /// Whether a message may be posted on a line now: an agent that may post holds it, its poster
@@ -56,26 +56,7 @@ impl Core {
         let Some(agent) = self.poster_of(sender) else {
             return Listing::Bad;
         };
-        if !self.may_all_leave(agent, end.kind.source(), ports) {
-            return Listing::Bad;
-        }
-        if ports.contains(&sender.end) {
-            Listing::HoldsTarget
-        } else {
-            Listing::Good
-        }
-    }
-
-    /// Whether these are distinct ports that may leave an agent.
-    fn may_all_leave(&self, agent: AgentId, source: Option<EndId>, ports: &[EndId]) -> bool
-        ensures { result ≡ kept_all_leave self.now.ends.items agent source ports.now }
-    {
-        for (i, port) in ports.iter().enumerate() {
-            if ports[i + 1..].contains(port) || !self.may_leave(agent, source, *port) {
-                return false;
-            }
-        }
-        true
+        self.listing_to(sender.end, agent, end.kind.source(), ports)
     }
 
     /// What an end is, where there is one.

@@ -2,7 +2,7 @@
 //!
 //! A function that drops a step or an outcome costs some seconds of the check for each place where
 //! it may end, so lists of both are made row by row.
-use hub_core::{Action, Core, OutOfMemory, Outcome, Sender, Step, Text, run};
+use hub_core::{Action, Core, EndIds, OutOfMemory, Outcome, Sender, Step, Text, run};
 use hub_envelope::{AgentId, Body, EndId, Envelope, LineId};
 use std::alloc::Global;
 use std::process::Abort;
@@ -67,12 +67,9 @@ fn body(alloc: Global, text: &str) -> Result<Body, OutOfMemory> {
     }
 }
 
-fn list(alloc: Global, ends: &[u32]) -> Result<Vec<EndId>, OutOfMemory> {
-    Ok(
-        ends.iter()
-            .map(|end| EndId(*end))
-            .collect::<Vec<EndId>>(alloc)?,
-    )
+fn list(alloc: Global, ends: &[u32]) -> Result<EndIds, OutOfMemory> {
+    let ends = ends.iter().map(|end| EndId(*end)).collect::<Vec<EndId>>(alloc)?;
+    Ok(EndIds::of(ends))
 }
 
 fn push(alloc: Global, line: Sender, ports: &[u32], text: &str) -> Result<Action, OutOfMemory> {

@@ -1,8 +1,7 @@
 -- The core's steps, one after the other.
 use Rattle.std.proofs.Common.{◌≡◌, ℕ, suc, ◌+◌, ◌-◌, ◌<◌, ◌≤◌, Bool, true, false, List, [], ◌∷◌, ◌++◌, Some, None, Result, Ok, Err, refl, sym, ap, subst, append_assoc, append-nil, add-one, arith, ◌∙◌, length, drop}
 use Rattle.std.proofs.lemmas.Bool.Decides.{nat_tests}
-use Rattle.std.specs.Prelude.{Vec, nat_lt, IfOk}
-use Rattle.std.specs.declared.alloc.Global.{Global}
+use Rattle.std.specs.Prelude.{nat_lt, IfOk}
 use Rattle.hub_envelope.specs.declared.ids.AgentId.{AgentId}
 use Rattle.hub_envelope.specs.declared.ids.EndId.{EndId}
 use Rattle.hub_envelope.specs.declared.envelope.Envelope.{Envelope}
@@ -27,7 +26,7 @@ use Rattle.hub_steps.specs.declared.step_line.StepLine.{StepLine}
 use Rattle.hub_steps.specs.Computation.{Computation, pair, pure, ask, step, ◌>>=◌}
 use Rattle.hub_steps.specs.Performed.{ComputesAt, PerformsAt}
 use Rattle.hub_steps.specs.Lives.{AllLives}
-use Rattle.hub_steps.specs.Unfolding.{shown_step, sender_of, on_line, on_line_of, push, shown_push, enter, go_on, send_inside, send, post_listing, post_count, post_may, post, start_made, worker, start_worker, start_adopted, adopt, notice_line, tell_inside, tell, close_shown, close_on, close, close_each, close_ports, close_swept, sweep, core_steps, member, cast_inside, line_zero, cast_to, cast_each, cast_all, cast_step, cast}
+use Rattle.hub_steps.specs.Unfolding.{shown_step, sender_of, on_line, on_line_of, enter, go_on, send_inside, send, post_listing, post_count, post_may, post, start_made, worker, start_worker, start_adopted, adopt, notice_line, tell_inside, tell, close_shown, close_on, close, close_each, close_ports, close_swept, sweep, core_steps, member, cast_inside, line_zero, cast_to, cast_each, cast_all, cast}
 use Rattle.hub_steps.specs.declared.cast_posts.CastPost.{CastPost}
 
 -- ---- computations in general
@@ -81,19 +80,8 @@ named old new p s steps shown is did = chained old old new (ask (sender_of p)) (
 pub unnamed : (core : Core) (p : Poster) (steps : Sender → Computation Shown) → ((h : History) → Shows core h → None ≡ sender_of p (facts h)) → ComputesAt core core (on_line_of p steps) (Answer outcome.NotNow)
 unnamed core p steps is = chained core core core (ask (sender_of p)) (on_line steps) None (Answer outcome.NotNow) (asked core (sender_of p) None is) (given core (Answer outcome.NotNow))
 
-pushed_as : (old new : Core) (refused : Bool) (s : Sender) (ports : Vec EndId Global) (body : List ℕ) (o : Outcome) → ComputesAt old new (step refused (action.Push s ports body)) o → ComputesAt old new (push refused ports.items body s) o
-pushed_as old new refused s ports body o did = λ past shows.
-    let x = did past shows in
-    (x.0, record { unfolds = (action.Push s ports body, (refl, refl, refl), x.1.unfolds); legal = x.1.legal }, x.2)
-
-pub pushed : (old new : Core) (refused : Bool) (s : Sender) (ports : Vec EndId Global) (body : List ℕ) (shown : Shown) → ComputesAt old new (shown_step refused (action.Push s ports body)) shown → ComputesAt old new (shown_push refused ports.items body s) shown
-pushed old new refused s ports body shown did = λ past shows.
-    let x = did past shows in
-    let u = x.1.unfolds in
-    (x.0, record { unfolds = (u.0, u.1, u.2, (action.Push s ports body, (refl, refl, refl), u.3), u.4, u.5); legal = x.1.legal }, x.2)
-
 -- what the arms of a step line of a poster want
-pub ruleset on_lines = (named, unnamed, pushed)
+pub ruleset on_lines = (named, unnamed)
 
 -- ---- a post
 
@@ -143,12 +131,12 @@ hopped_done done old now new refused s o h less other did =
     let left : done + suc (3 - done) ≡ 4 = omega (arith, less) in
     h (suc (3 - done)) new o left (entered_now (3 - done) now new refused s o other did)
 
-pub sent_in : (old first second new : Core) (refused : Bool) (ports : Vec EndId Global) (body : List ℕ) (s : Sender) (answer left : Outcome) → ComputesAt old first (enter 4 refused s) outcome.In
-    → ComputesAt first second (step refused (action.Push s ports body)) answer → ComputesAt second new (step refused (action.Leave s)) left → ComputesAt old new (send refused ports.items body s) (Answer answer)
+pub sent_in : (old first second new : Core) (refused : Bool) (ports : List EndId) (body : List ℕ) (s : Sender) (answer left : Outcome) → ComputesAt old first (enter 4 refused s) outcome.In
+    → ComputesAt first second (step refused (action.Push s ports body)) answer → ComputesAt second new (step refused (action.Leave s)) left → ComputesAt old new (send refused ports body s) (Answer answer)
 sent_in old first second new refused ports body s answer left a b c =
     let leaves : Outcome → Computation Shown = λ o. step refused (action.Leave s) >>= λ l. pure (Answer o) in
-    chained old first new (enter 4 refused s) (send_inside refused ports.items body s) outcome.In (Answer answer) a
-    (chained first second new (push refused ports.items body s) leaves answer (Answer answer) (pushed_as first second refused s ports body answer b)
+    chained old first new (enter 4 refused s) (send_inside refused ports body s) outcome.In (Answer answer) a
+    (chained first second new (step refused (action.Push s ports body)) leaves answer (Answer answer) b
     (chained second new new (step refused (action.Leave s)) (λ l. pure (Answer answer)) left (Answer answer) c (given new (Answer answer))))
 
 pub sent_closed : (old first new : Core) (refused : Bool) (ports : List EndId) (body : List ℕ) (s : Sender) (left : Outcome) → ComputesAt old first (enter 4 refused s) outcome.Closed
@@ -300,8 +288,8 @@ member_started old first new refused a name e o made did =
 pub no_member : (old new : Core) (refused : Bool) (a : AgentId) (name : List ℕ) (o : Outcome) → ((e : EndId) → o ≡ outcome.End e → ⊥) → ComputesAt old new (step refused (action.Member a name)) o → ComputesAt old new (member refused a name) (Answer o)
 no_member old new refused a name o other did = chained old new new (step refused (action.Member a name)) (start_made refused) o (Answer o) did (makes_nothing new refused o other)
 
-pub pushes_inside : (old new : Core) (refused : Bool) (body : List ℕ) (s : Sender) (ports : Vec EndId Global) (o : Outcome) → ports.items ≡ [] → ComputesAt old new (step refused (action.Push s ports body)) o → ComputesAt old new (cast_inside refused body s outcome.In) o
-pushes_inside old new refused body s ports o none did = subst (λ listed. ComputesAt old new (push refused listed body s) o) none (pushed_as old new refused s ports body o did)
+pub pushes_inside : (old new : Core) (refused : Bool) (body text : List ℕ) (s : Sender) (ports : List EndId) (o : Outcome) → ports ≡ [] → text ≡ body → ComputesAt old new (step refused (action.Push s ports text)) o → ComputesAt old new (cast_inside refused body s outcome.In) o
+pushes_inside old new refused body text s ports o none same did = subst (λ listed. ComputesAt old new (step refused (action.Push s listed body)) o) none (subst (λ t. ComputesAt old new (step refused (action.Push s ports t)) o) same did)
 
 pub pushes_nothing : (core : Core) (refused : Bool) (body : List ℕ) (s : Sender) (o : Outcome) → (o ≡ outcome.In → ⊥) → ComputesAt core core (cast_inside refused body s o) o
 pushes_nothing core refused body s outcome.In other = absurd (other refl)
@@ -336,23 +324,17 @@ pub cast_done : (done : ℕ) (old now : Core) (refused : Bool) (body : List ℕ)
 cast_done done old now refused body ends posts none h =
     subst (ComputesAt old now (cast_each refused body ends)) (append-nil posts) (h now [] (subst (λ es. ComputesAt now now (cast_each refused body es) []) (sym none) (given now [])))
 
-cast_as : (old new : Core) (refused : Bool) (e : EndId) (ports : Vec EndId Global) (body : List ℕ) (o : Outcome) → ComputesAt old new (step refused (action.Cast e ports body)) o → ComputesAt old new (cast_step refused e ports.items body) o
-cast_as old new refused e ports body o did = λ past shows.
-    let x = did past shows in
-    (x.0, record { unfolds = (action.Cast e ports body, (refl, refl, refl), x.1.unfolds); legal = x.1.legal }, x.2)
-
-pub cast_on : (old first new : Core) (refused : Bool) (e : EndId) (ports : Vec EndId Global) (body text : List ℕ) (ends listed : List EndId) (posts : List CastPost) (answer : Outcome) → text ≡ body → listed ≡ ends → answer ≡ outcome.Destinations ends → ComputesAt old first (step refused (action.Cast e ports text)) answer
-    → ComputesAt first new (cast_each refused body listed) posts → ComputesAt old new (cast refused e ports.items body) (Cast posts)
+pub cast_on : (old first new : Core) (refused : Bool) (e : EndId) (ports : List EndId) (body text : List ℕ) (ends listed : List EndId) (posts : List CastPost) (answer : Outcome) → text ≡ body → listed ≡ ends → answer ≡ outcome.Destinations ends → ComputesAt old first (step refused (action.Cast e ports text)) answer
+    → ComputesAt first new (cast_each refused body listed) posts → ComputesAt old new (cast refused e ports body) (Cast posts)
 cast_on old first new refused e ports body text ends listed posts answer same all is a b =
-    let did = subst (λ told. ComputesAt old first (cast_step refused e ports.items body) told) is (cast_as old first refused e ports body answer (subst (λ t. ComputesAt old first (step refused (action.Cast e ports t)) answer) same a)) in
-    chained old first new (cast_step refused e ports.items body) (cast_all refused body) (outcome.Destinations ends) (Cast posts) did
+    let did = subst (λ told. ComputesAt old first (step refused (action.Cast e ports body)) told) is (subst (λ t. ComputesAt old first (step refused (action.Cast e ports t)) answer) same a) in
+    chained old first new (step refused (action.Cast e ports body)) (cast_all refused body) (outcome.Destinations ends) (Cast posts) did
     (chained first new new (cast_each refused body ends) (λ told. pure (Cast told)) posts (Cast posts) (subst (λ es. ComputesAt first new (cast_each refused body es) posts) all b) (given new (Cast posts)))
 
 casts_nothing : (core : Core) (refused : Bool) (body : List ℕ) (o : Outcome) → ((ends : List EndId) → o ≡ outcome.Destinations ends → ⊥) → ComputesAt core core (cast_all refused body o) (Answer o)
 casts_nothing core refused body (outcome.Destinations ends) other = absurd (other ends refl)
 casts_nothing core refused body o other = given core (Answer o)
 
-pub cast_refused : (old new : Core) (refused : Bool) (e : EndId) (ports : Vec EndId Global) (body text : List ℕ) (o : Outcome) → text ≡ body → ((ends : List EndId) → o ≡ outcome.Destinations ends → ⊥) → ComputesAt old new (step refused (action.Cast e ports text)) o → ComputesAt old new (cast refused e ports.items body) (Answer o)
+pub cast_refused : (old new : Core) (refused : Bool) (e : EndId) (ports : List EndId) (body text : List ℕ) (o : Outcome) → text ≡ body → ((ends : List EndId) → o ≡ outcome.Destinations ends → ⊥) → ComputesAt old new (step refused (action.Cast e ports text)) o → ComputesAt old new (cast refused e ports body) (Answer o)
 cast_refused old new refused e ports body text o same other did =
-    let a = subst (λ t. ComputesAt old new (step refused (action.Cast e ports t)) o) same did in
-    chained old new new (cast_step refused e ports.items body) (cast_all refused body) o (Answer o) (cast_as old new refused e ports body o a) (casts_nothing new refused body o other)
+    chained old new new (step refused (action.Cast e ports body)) (cast_all refused body) o (Answer o) (subst (λ t. ComputesAt old new (step refused (action.Cast e ports t)) o) same did) (casts_nothing new refused body o other)

@@ -1,5 +1,5 @@
 -- The core steps that a step line unfolds to, and what it shows.
-use Rattle.std.specs.Prelude.{◌≡◌, ℕ, zero, suc, Bool, true, false, ◌&&◌, List, [], ◌∷◌, length, nat_lt, if◌then◌else◌, Option, Some, None, option_map, is_some, slice_get, ◌||◌}
+use Rattle.std.specs.Prelude.{ℕ, zero, suc, Bool, true, false, ◌&&◌, List, [], ◌∷◌, length, nat_lt, if◌then◌else◌, Option, Some, None, option_map, is_some, slice_get, ◌||◌}
 use Rattle.hub_envelope.specs.declared.ids.AgentId.{AgentId}
 use Rattle.hub_envelope.specs.declared.ids.EndId.{EndId}
 use Rattle.hub_envelope.specs.declared.envelope.Envelope.{Envelope}
@@ -84,19 +84,6 @@ abbrev pub on_line_of : Poster → (Sender → Computation Shown) → Computatio
 on_line_of p steps = do
   line ← ask (sender_of p)
   on_line steps line
-
--- a Push of the listed ports, wherever their list lies in memory
-abbrev pub IsPush : List EndId → List ℕ → Sender → Action → Type 0
-IsPush ports body s (action.Push t listed text) = (t ≡ s) × (listed.items ≡ ports) × (text ≡ body)
-IsPush ports body s _ = ⊥
-
-abbrev pub push : Bool → List EndId → List ℕ → Sender → Computation Outcome
-push refused ports body s past more answer = (a : Action) × IsPush ports body s a × step refused a past more answer
-
-abbrev pub shown_push : Bool → List EndId → List ℕ → Sender → Computation Shown
-shown_push refused ports body s = do
-  answer ← push refused ports body s
-  pure (Answer answer)
 
 -- What follows an Enter where hops are left: answered Moved, it goes on by Leave and Hop to enter again.
 abbrev pub go_on : Bool → Sender → Computation Outcome → Outcome → Computation Outcome
@@ -183,7 +170,7 @@ sweep refused e = do
 -- shown; at a closed end it leaves; behind the last hop it leaves, and moving is shown.
 abbrev pub send_inside : Bool → List EndId → List ℕ → Sender → Outcome → Computation Shown
 send_inside refused ports body s outcome.In = do
-  answer ← push refused ports body s
+  answer ← step refused (action.Push s ports body)
   left ← step refused (action.Leave s)
   pure (Answer answer)
 send_inside refused ports body s outcome.Closed = do
@@ -284,7 +271,7 @@ load refused e = do
 
 -- What follows an Enter at a destination: inside, the Push of the body.
 abbrev pub cast_inside : Bool → List ℕ → Sender → Outcome → Computation Outcome
-cast_inside refused body s outcome.In = push refused [] body s
+cast_inside refused body s outcome.In = step refused (action.Push s [] body)
 cast_inside refused body s entered = pure entered
 
 abbrev pub line_zero : EndId → Sender
@@ -312,18 +299,10 @@ cast_all refused body (outcome.Destinations ends) = do
   pure (Cast posts)
 cast_all refused body answer = pure (Answer answer)
 
--- a Cast of the listed ports, wherever their list lies in memory
-abbrev pub IsCast : EndId → List EndId → List ℕ → Action → Type 0
-IsCast e ports body (action.Cast d listed text) = (d ≡ e) × (listed.items ≡ ports) × (text ≡ body)
-IsCast e ports body _ = ⊥
-
-abbrev pub cast_step : Bool → EndId → List EndId → List ℕ → Computation Outcome
-cast_step refused e ports body past more answer = (a : Action) × IsCast e ports body a × step refused a past more answer
-
 -- Cast, and then the posts at its destinations
 abbrev pub cast : Bool → EndId → List EndId → List ℕ → Computation Shown
 cast refused e ports body = do
-  answer ← cast_step refused e ports body
+  answer ← step refused (action.Cast e ports body)
   cast_all refused body answer
 
 -- ---- a step line
@@ -338,7 +317,7 @@ agent refused OpaqueOrigin = pure shown.OpaqueOrigin
 -- what a command of a poster unfolds to on its line
 abbrev pub line_steps : Bool → PosterCommand → Sender → Computation Shown
 line_steps refused poster.Enter s = shown_step refused (action.Enter s)
-line_steps refused (poster.Push ports body) s = shown_push refused ports body s
+line_steps refused (poster.Push ports body) s = shown_step refused (action.Push s ports body)
 line_steps refused poster.Leave s = shown_step refused (action.Leave s)
 line_steps refused poster.Hop s = shown_step refused (action.Hop s)
 line_steps refused poster.Back s = shown_step refused (action.Back s)

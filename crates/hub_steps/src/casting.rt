@@ -5,7 +5,7 @@ ghost use Rattle.hub_steps.specs.Unfolding.{cast, cast_each, cast_inside, cast_t
 use crate::cast_posts::{CastPost, CastPosts};
 use crate::entering::take_step;
 use crate::shown::Shown;
-use hub_core::{Action, Core, OutOfMemory, Outcome, Sender};
+use hub_core::{Action, Core, EndIds, OutOfMemory, Outcome, Sender};
 use hub_envelope::{Body, EndId, LineId};
 use std::alloc::Global;
 
@@ -14,12 +14,12 @@ pub fn cast(
     alloc: Global,
     core: &mut Core,
     end: EndId,
-    ports: Vec<EndId>,
+    ports: EndIds,
     body: Body,
     memory_refused: bool,
 ) -> Result<Shown, OutOfMemory>
     ensures { IfOk result (λ shown.
-        ComputesAt core.old core.new (cast memory_refused end ports.items body) shown) }
+        ComputesAt core.old core.new (cast memory_refused end ports body) shown) }
 {
     let action = Action::Cast(end, ports, body.clone()?);
     match take_step(core, action, memory_refused)? {
@@ -85,7 +85,7 @@ fn push_inside(
 {
     match entered {
         Outcome::In => {
-            let push = Action::Push(sender, Vec::new(alloc), body.clone()?);
+            let push = Action::Push(sender, EndIds::of(Vec::new(alloc)), body.clone()?);
             take_step(core, push, memory_refused)
         }
         entered => Ok(entered),

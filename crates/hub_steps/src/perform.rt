@@ -15,7 +15,7 @@ use crate::posting::post;
 use crate::shown::Shown;
 use crate::starting::{adopt, load, make_agent, make_member, make_worker};
 use crate::step_line::{Command, Poster, PosterCommand, StepLine};
-use hub_core::{Action, Core, Kind, MAX_LINES, OutOfMemory, Outcome, Sender};
+use hub_core::{Action, Core, EndIds, Kind, MAX_LINES, OutOfMemory, Outcome, Sender};
 use hub_envelope::{EndId, LineId};
 use std::alloc::Global;
 
@@ -56,7 +56,8 @@ pub fn perform(
         Command::Order(agent) => show_step(core, Action::Order(agent), memory_refused),
         Command::See(agent) => see(core, lives, agent, memory_refused),
         Command::Cast(end, ports, body) => {
-            cast(alloc, core, end, ports.into_ends(), body, memory_refused)
+            let ports = EndIds::of(ports.into_ends());
+            cast(alloc, core, end, ports, body, memory_refused)
         }
         Command::Part(end) => show_step(core, Action::Part(end), memory_refused),
         Command::Event(agent, event) => Ok(lives.event(agent, event)),
@@ -80,12 +81,15 @@ fn perform_at(
     };
     let action = match command {
         PosterCommand::Enter => Action::Enter(sender),
-        PosterCommand::Push(ports, body) => Action::Push(sender, ports.into_ends(), body),
+        PosterCommand::Push(ports, body) => {
+            Action::Push(sender, EndIds::of(ports.into_ends()), body)
+        }
         PosterCommand::Leave => Action::Leave(sender),
         PosterCommand::Hop => Action::Hop(sender),
         PosterCommand::Back => Action::Back(sender),
         PosterCommand::Post(ports, body) => {
-            return post(core, sender, ports.into_ends(), body, memory_refused);
+            let ports = EndIds::of(ports.into_ends());
+            return post(core, sender, ports, body, memory_refused);
         }
     };
     show_step(core, action, memory_refused)

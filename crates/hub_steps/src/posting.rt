@@ -5,31 +5,32 @@ ghost use Rattle.hub_steps.specs.Unfolding.{post, send};
 use crate::closing::close_each;
 use crate::entering::{enter, take_step};
 use crate::shown::Shown;
-use hub_core::{Action, Core, Listing, MAX_PORTS, OutOfMemory, Outcome, Sender};
-use hub_envelope::{Body, EndId};
+use hub_core::{Action, Core, EndIds, Listing, MAX_PORTS, OutOfMemory, Outcome, Sender};
+use hub_envelope::Body;
 
 /// Posts a message, where its tests don't refuse it before the first step. A list that holds the
 /// end to which the message goes has each of its ports closed.
 pub fn post(
     core: &mut Core,
     sender: Sender,
-    ports: Vec<EndId>,
+    ports: EndIds,
     body: Body,
     memory_refused: bool,
 ) -> Result<Shown, OutOfMemory>
     ensures { IfOk result (λ shown.
-        ComputesAt core.old core.new (post memory_refused ports.items body sender) shown) }
+        ComputesAt core.old core.new (post memory_refused ports body sender) shown) }
 {
     if !core.may_post(sender) {
         return Ok(Shown::Answer(Outcome::NotNow));
     }
-    if ports.len() > MAX_PORTS {
+    let listed = ports.as_slice();
+    if listed.len() > MAX_PORTS {
         return Ok(Shown::Answer(Outcome::TooManyPorts));
     }
-    match core.listing(sender, &ports) {
+    match core.listing(sender, listed) {
         Listing::Good => send(core, sender, ports, body, memory_refused),
         Listing::HoldsTarget => {
-            close_each(core, &ports, memory_refused)?;
+            close_each(core, listed, memory_refused)?;
             Ok(Shown::Doomed)
         }
         Listing::Bad => Ok(Shown::Answer(Outcome::NotNow)),
@@ -40,12 +41,12 @@ pub fn post(
 fn send(
     core: &mut Core,
     sender: Sender,
-    ports: Vec<EndId>,
+    ports: EndIds,
     body: Body,
     memory_refused: bool,
 ) -> Result<Shown, OutOfMemory>
     ensures { IfOk result (λ shown.
-        ComputesAt core.old core.new (send memory_refused ports.items body sender) shown) }
+        ComputesAt core.old core.new (send memory_refused ports body sender) shown) }
 {
     match enter(core, sender, memory_refused)? {
         Outcome::In => {

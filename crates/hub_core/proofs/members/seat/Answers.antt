@@ -1,4 +1,4 @@
-use Rattle.std.proofs.Common.{rules, ◌≡◌, refl, ◌∙◌, ap, sym, ℕ}
+use Rattle.std.proofs.Common.{◌∙◌, ap, ℕ}
 use Rattle.std.specs.Ordering.{nat_cmp}
 use Rattle.std.specs.BTreeMap.{BTreeMap}
 use Rattle.std.specs.BTreeSet.{BTreeSet, insert_key}

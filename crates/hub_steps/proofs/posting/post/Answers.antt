@@ -1,4 +1,4 @@
-use Rattle.std.proofs.Common.{◌<◌, ◌≤◌, length, arith}
+use Rattle.std.proofs.Common.{◌<◌, ◌≤◌, length, subst, arith}
 use Rattle.hub_core.specs.declared.listing.Listing.TheVariants.{Good, HoldsTarget, Bad}
 use Rattle.hub_core.specs.declared.outcome.Outcome.TheVariants as outcome
 use Rattle.hub_steps.specs.declared.shown.Shown.TheVariants.{Answer, Doomed}
@@ -7,33 +7,33 @@ use Rattle.hub_steps.specs.Unfolding.{send, post}
 use Rattle.hub_steps.proofs.Computing.{if_ok, given, post_long, post_listed, doomed}
 use Rattle.hub_steps.proofs.posting.post.Goals as goal
 
-pub returns-then-len-gt-MAX_PORTS : goal.returns-then-len-gt-MAX_PORTS
-returns-then-len-gt-MAX_PORTS c =
-    let ports = c.args.ports.items in
-    let many : 16 < length ports = omega arith in
+pub returns-then-listed-gt-MAX_PORTS : goal.returns-then-listed-gt-MAX_PORTS
+returns-then-listed-gt-MAX_PORTS c =
+    let ports = c.args.ports in
+    let many : 16 < length ports = subst (λ ps. 16 < length ps) c.as_slice-listed.ensures (omega arith) in
     post_long c.args.core.now c.args.memory_refused ports c.args.body c.args.sender c.may_post.result c.may_post.ensures c.if-not-may_post.false many
 
 pub returns-in-Good : goal.returns-in-Good
 returns-in-Good c =
     let refused = c.args.memory_refused in
-    let ports = c.args.ports.items in
-    let few : length ports ≤ 16 = omega arith in
+    let ports = c.args.ports in
+    let few : length ports ≤ 16 = subst (λ ps. length ps ≤ 16) c.as_slice-listed.ensures (omega arith) in
     if_ok (λ shown. ComputesAt c.args.core.now c.send.new.core (send refused ports c.args.body c.args.sender) shown) (λ shown. ComputesAt c.args.core.now c.send.new.core (post refused ports c.args.body c.args.sender) shown)
-    (λ shown did. post_listed c.args.core.now c.send.new.core refused ports c.deref.result.now c.args.body c.args.sender c.may_post.result c.listing.result Good shown c.may_post.ensures c.if-not-may_post.false few c.deref.ensures.value c.listing.ensures c.in-Good.is did)
+    (λ shown did. post_listed c.args.core.now c.send.new.core refused ports c.as_slice-listed.result.now c.args.body c.args.sender c.may_post.result c.listing.result Good shown c.may_post.ensures c.if-not-may_post.false few c.as_slice-listed.ensures c.listing.ensures c.in-Good.is did)
     c.send.result c.send.ensures
 
 pub returns-in_ok-close_each-in-HoldsTarget : goal.returns-in_ok-close_each-in-HoldsTarget
 returns-in_ok-close_each-in-HoldsTarget c =
     let refused = c.args.memory_refused in
-    let ports = c.args.ports.items in
-    let few : length ports ≤ 16 = omega arith in
-    post_listed c.args.core.now c.close_each.new.core refused ports c.deref.result.now c.args.body c.args.sender c.may_post.result c.listing.result HoldsTarget Doomed c.may_post.ensures c.if-not-may_post.false few c.deref.ensures.value c.listing.ensures c.in-HoldsTarget.is
-    (doomed c.args.core.now c.close_each.new.core refused ports c.deref-in-HoldsTarget.result.now c.args.body c.args.sender c.deref-in-HoldsTarget.ensures.value c.in_ok-close_each-in-HoldsTarget.ensures)
+    let ports = c.args.ports in
+    let few : length ports ≤ 16 = subst (λ ps. length ps ≤ 16) c.as_slice-listed.ensures (omega arith) in
+    post_listed c.args.core.now c.close_each.new.core refused ports c.as_slice-listed.result.now c.args.body c.args.sender c.may_post.result c.listing.result HoldsTarget Doomed c.may_post.ensures c.if-not-may_post.false few c.as_slice-listed.ensures c.listing.ensures c.in-HoldsTarget.is
+    (doomed c.args.core.now c.close_each.new.core refused ports c.as_slice-listed.result.now c.args.body c.args.sender c.as_slice-listed.ensures c.in_ok-close_each-in-HoldsTarget.ensures)
 
 pub returns-in-Bad : goal.returns-in-Bad
 returns-in-Bad c =
     let refused = c.args.memory_refused in
-    let ports = c.args.ports.items in
-    let few : length ports ≤ 16 = omega arith in
-    post_listed c.args.core.now c.args.core.now refused ports c.deref.result.now c.args.body c.args.sender c.may_post.result c.listing.result Bad (Answer outcome.NotNow) c.may_post.ensures c.if-not-may_post.false few c.deref.ensures.value c.listing.ensures c.in-Bad.is
+    let ports = c.args.ports in
+    let few : length ports ≤ 16 = subst (λ ps. length ps ≤ 16) c.as_slice-listed.ensures (omega arith) in
+    post_listed c.args.core.now c.args.core.now refused ports c.as_slice-listed.result.now c.args.body c.args.sender c.may_post.result c.listing.result Bad (Answer outcome.NotNow) c.may_post.ensures c.if-not-may_post.false few c.as_slice-listed.ensures c.listing.ensures c.in-Bad.is
     (given c.args.core.now (Answer outcome.NotNow))

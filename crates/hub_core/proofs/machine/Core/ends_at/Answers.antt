@@ -1,10 +1,8 @@
 -- The loop keeps what it has found.
-use Rattle.std.proofs.Common.{◌≡◌, ℕ, suc, ◌+◌, Bool, cond, List, [], ◌∷◌, ◌++◌, length, Option, Some, refl, sym, ap, ◌∙◌, arith}
+use Rattle.std.proofs.Common.{◌≡◌, ℕ, suc, ◌+◌, cond, List, [], ◌∷◌, ◌++◌, length, Some, refl, sym, ap, ◌∙◌, arith}
 use Rattle.std.specs.List.{slice_get}
 use Rattle.std.proofs.lemmas.Option.{slice_get_read}
-use Rattle.hub_envelope.specs.declared.ids.EndId.{EndId}
 use Rattle.hub_core.specs.declared.end.End.{End}
-use Rattle.hub_core.specs.Ending.{ends_below}
 use Rattle.hub_core.specs.KeptEnding.{is_kept_at, kept_ends_at}
 use Rattle.hub_core.proofs.machine.Core.ends_at.Goals as goal
 

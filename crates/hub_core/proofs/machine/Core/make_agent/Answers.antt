@@ -1,5 +1,5 @@
 -- Where there is no room for an agent more, the roster is as before.
-use Rattle.std.proofs.Common.{refl, ap, ◌∙◌, length}
+use Rattle.std.proofs.Common.{refl, length}
 use Rattle.hub_core.proofs.Seating.{on_err}
 use Rattle.hub_core.proofs.Casts.{same_enrolled}
 use Rattle.hub_core.proofs.machine.Core.make_agent.Goals as goal

@@ -19,6 +19,7 @@ use Rattle.hub_core.proofs.Endings.{order_shown, order_same, see_shown, see_same
 use Rattle.hub_core.proofs.Pushes.{push_shown}
 use Rattle.hub_core.proofs.Takes.{start_shown, take_shown}
 use Rattle.hub_core.proofs.Orders.{shows_in_order}
+use Rattle.hub_core.proofs.Stills.{still_shown, still_ok, still_err, always, on_err}
 use Rattle.hub_core.proofs.machine.Core.step.Goals as goal
 use Rattle.hub_core.proofs.Hops.{hop_shown, hop_same}
 use Rattle.hub_core.proofs.Looks.{look_shown, look_same}
@@ -271,6 +272,110 @@ returns-in-Sweep-clause-unchanged c = ok_both c.sweep.result _ _ _ c.sweep.ensur
       sweep_same c.args.self.now.ends.items c.sweep.new.self.ends.items c.in-Sweep.end (slice_get c.args.self.now.ends.items c.in-Sweep.end.0) refl (subst (λ p. changes_nothing p (action.Sweep c.in-Sweep.end) ≡ true) is nothing) leaves,
       same_members (length c.args.self.now.ends.items) c.args.self.now.roster c.sweep.new.self.roster c.sweep.ensures.roster,
     ))
+
+-- ---- what the core still shows
+
+pub returns-in-Agent-clause-still : goal.returns-in-Agent-clause-still
+returns-in-Agent-clause-still c = still_ok c.make_agent.result c.args.self.now c.make_agent.new.self c.args.step (returns-in-Agent-clause-fits c)
+
+pub returns-in-Channel-clause-still : goal.returns-in-Channel-clause-still
+returns-in-Channel-clause-still c = still_ok c.make_channel.result c.args.self.now c.make_channel.new.self c.args.step (returns-in-Channel-clause-fits c)
+
+pub returns-in-Client-clause-still : goal.returns-in-Client-clause-still
+returns-in-Client-clause-still c = still_ok c.make_queue.result c.args.self.now c.make_queue.new.self c.args.step (returns-in-Client-clause-fits c)
+
+pub returns-in-Worker-clause-still : goal.returns-in-Worker-clause-still
+returns-in-Worker-clause-still c = still_ok c.make_queue-in-Worker.result c.args.self.now c.make_queue-in-Worker.new.self c.args.step (returns-in-Worker-clause-fits c)
+
+pub returns-in-Member-clause-still : goal.returns-in-Member-clause-still
+returns-in-Member-clause-still c = still_ok c.make_member.result c.args.self.now c.make_member.new.self c.args.step (returns-in-Member-clause-fits c)
+
+pub returns-in-Line-clause-still : goal.returns-in-Line-clause-still
+returns-in-Line-clause-still c = still_shown c.args.self.now c.hold.new.self c.args.step c.hold.result (returns-in-Line-clause-fits c)
+
+pub returns-in-Back-clause-still : goal.returns-in-Back-clause-still
+returns-in-Back-clause-still c = still_shown c.args.self.now c.give_back.new.self c.args.step c.give_back.result (returns-in-Back-clause-fits c)
+
+pub returns-in-Enter-clause-still : goal.returns-in-Enter-clause-still
+returns-in-Enter-clause-still c = still_shown c.args.self.now c.enter.new.self c.args.step c.enter.result (returns-in-Enter-clause-fits c)
+
+pub returns-in-Push-clause-still : goal.returns-in-Push-clause-still
+returns-in-Push-clause-still c = still_ok c.push.result c.args.self.now c.push.new.self c.args.step (returns-in-Push-clause-fits c)
+
+pub returns-in-Notice-clause-still : goal.returns-in-Notice-clause-still
+returns-in-Notice-clause-still c = still_ok c.notice.result c.args.self.now c.notice.new.self c.args.step (returns-in-Notice-clause-fits c)
+
+pub returns-in-Leave-clause-still : goal.returns-in-Leave-clause-still
+returns-in-Leave-clause-still c = still_shown c.args.self.now c.leave.new.self c.args.step c.leave.result (returns-in-Leave-clause-fits c)
+
+pub returns-in-Hop-clause-still : goal.returns-in-Hop-clause-still
+returns-in-Hop-clause-still c = still_shown c.args.self.now c.hop.new.self c.args.step c.hop.result (returns-in-Hop-clause-fits c)
+
+pub returns-in-Start-clause-still : goal.returns-in-Start-clause-still
+returns-in-Start-clause-still c = still_shown c.args.self.now c.start.new.self c.args.step c.start.result (returns-in-Start-clause-fits c)
+
+pub returns-in-Take-clause-still : goal.returns-in-Take-clause-still
+returns-in-Take-clause-still c = still_shown c.args.self.now c.take.new.self c.args.step c.take.result (returns-in-Take-clause-fits c)
+
+pub returns-in-Look-clause-still : goal.returns-in-Look-clause-still
+returns-in-Look-clause-still c = still_shown c.args.self.now c.look.new.self c.args.step c.look.result (returns-in-Look-clause-fits c)
+
+pub returns-in-Adopt-clause-still : goal.returns-in-Adopt-clause-still
+returns-in-Adopt-clause-still c = still_ok c.adopt.result c.args.self.now c.adopt.new.self c.args.step (returns-in-Adopt-clause-fits c)
+
+pub returns-in-Close-clause-still : goal.returns-in-Close-clause-still
+returns-in-Close-clause-still c = still_shown c.args.self.now c.close.new.self c.args.step c.close.result (returns-in-Close-clause-fits c)
+
+pub returns-in-Sweep-clause-still : goal.returns-in-Sweep-clause-still
+returns-in-Sweep-clause-still c = still_ok c.sweep.result c.args.self.now c.sweep.new.self c.args.step (returns-in-Sweep-clause-fits c)
+
+pub returns-in-Hand-clause-still : goal.returns-in-Hand-clause-still
+returns-in-Hand-clause-still c = still_shown c.args.self.now c.hand.new.self c.args.step c.hand.result (returns-in-Hand-clause-fits c)
+
+pub returns-in-Order-clause-still : goal.returns-in-Order-clause-still
+returns-in-Order-clause-still c = still_shown c.args.self.now c.order.new.self c.args.step c.order.result (returns-in-Order-clause-fits c)
+
+pub returns-in-See-clause-still : goal.returns-in-See-clause-still
+returns-in-See-clause-still c = still_ok c.see.result c.args.self.now c.see.new.self c.args.step (returns-in-See-clause-fits c)
+
+pub returns-in-Cast-clause-still : goal.returns-in-Cast-clause-still
+returns-in-Cast-clause-still c = still_ok c.cast.result c.args.self.now c.cast.new.self c.args.step (returns-in-Cast-clause-fits c)
+
+pub returns-in-Part-clause-still : goal.returns-in-Part-clause-still
+returns-in-Part-clause-still c = still_shown c.args.self.now c.part.new.self c.args.step c.part.result (returns-in-Part-clause-fits c)
+
+pub returns-in-Agent-clause-err_still : goal.returns-in-Agent-clause-err_still
+returns-in-Agent-clause-err_still c = still_err c.make_agent.result c.args.self.now c.make_agent.new.self c.make_agent.ensures.err (always c.make_agent.result _ (ap (λ v. v.items) c.make_agent.ensures.ends)) c.make_agent.ensures.err_roster
+
+pub returns-in-Channel-clause-err_still : goal.returns-in-Channel-clause-err_still
+returns-in-Channel-clause-err_still c = still_err c.make_channel.result c.args.self.now c.make_channel.new.self (always c.make_channel.result _ (ap (λ v. v.items) c.make_channel.ensures.agents)) c.make_channel.ensures.err (always c.make_channel.result _ (same_members (length c.args.self.now.ends.items) c.args.self.now.roster c.make_channel.new.self.roster c.make_channel.ensures.roster))
+
+pub returns-in-Client-clause-err_still : goal.returns-in-Client-clause-err_still
+returns-in-Client-clause-err_still c = still_err c.make_queue.result c.args.self.now c.make_queue.new.self c.make_queue.ensures.err_agents c.make_queue.ensures.err_ends (always c.make_queue.result _ (same_members (length c.args.self.now.ends.items) c.args.self.now.roster c.make_queue.new.self.roster c.make_queue.ensures.roster))
+
+pub returns-in-Worker-clause-err_still : goal.returns-in-Worker-clause-err_still
+returns-in-Worker-clause-err_still c = still_err c.make_queue-in-Worker.result c.args.self.now c.make_queue-in-Worker.new.self c.make_queue-in-Worker.ensures.err_agents c.make_queue-in-Worker.ensures.err_ends (always c.make_queue-in-Worker.result _ (same_members (length c.args.self.now.ends.items) c.args.self.now.roster c.make_queue-in-Worker.new.self.roster c.make_queue-in-Worker.ensures.roster))
+
+pub returns-in-Member-clause-err_still : goal.returns-in-Member-clause-err_still
+returns-in-Member-clause-err_still c = still_err c.make_member.result c.args.self.now c.make_member.new.self (always c.make_member.result _ (ap (λ v. v.items) c.make_member.ensures.agents)) c.make_member.ensures.err_ends c.make_member.ensures.err_roster
+
+pub returns-in-Push-clause-err_still : goal.returns-in-Push-clause-err_still
+returns-in-Push-clause-err_still c = still_err c.push.result c.args.self.now c.push.new.self (always c.push.result _ (ap (λ v. v.items) c.push.ensures.agents)) c.push.ensures.err (always c.push.result _ (same_members (length c.args.self.now.ends.items) c.args.self.now.roster c.push.new.self.roster c.push.ensures.roster))
+
+pub returns-in-Notice-clause-err_still : goal.returns-in-Notice-clause-err_still
+returns-in-Notice-clause-err_still c = still_err c.notice.result c.args.self.now c.notice.new.self (always c.notice.result _ (ap (λ v. v.items) c.notice.ensures.agents)) c.notice.ensures.err (always c.notice.result _ (same_members (length c.args.self.now.ends.items) c.args.self.now.roster c.notice.new.self.roster c.notice.ensures.roster))
+
+pub returns-in-Adopt-clause-err_still : goal.returns-in-Adopt-clause-err_still
+returns-in-Adopt-clause-err_still c = still_err c.adopt.result c.args.self.now c.adopt.new.self c.adopt.ensures.err_agents c.adopt.ensures.err (always c.adopt.result _ (same_members (length c.args.self.now.ends.items) c.args.self.now.roster c.adopt.new.self.roster c.adopt.ensures.roster))
+
+pub returns-in-Sweep-clause-err_still : goal.returns-in-Sweep-clause-err_still
+returns-in-Sweep-clause-err_still c = still_err c.sweep.result c.args.self.now c.sweep.new.self (always c.sweep.result _ (ap (λ v. v.items) c.sweep.ensures.agents)) c.sweep.ensures.err (always c.sweep.result _ (same_members (length c.args.self.now.ends.items) c.args.self.now.roster c.sweep.new.self.roster c.sweep.ensures.roster))
+
+pub returns-in-See-clause-err_still : goal.returns-in-See-clause-err_still
+returns-in-See-clause-err_still c = still_err c.see.result c.args.self.now c.see.new.self c.see.ensures.err (always c.see.result _ (ap (λ v. v.items) c.see.ensures.ends)) (always c.see.result _ (same_members (length c.args.self.now.ends.items) c.args.self.now.roster c.see.new.self.roster c.see.ensures.roster))
+
+pub returns-in-Cast-clause-err_still : goal.returns-in-Cast-clause-err_still
+returns-in-Cast-clause-err_still c = still_err c.cast.result c.args.self.now c.cast.new.self (always c.cast.result _ (ap (λ v. v.items) c.cast.ensures.agents)) (always c.cast.result _ (ap (λ v. v.items) c.cast.ensures.ends)) (on_err c.cast.result _ _ (same_members (length c.args.self.now.ends.items) c.args.self.now.roster c.cast.new.self.roster) c.cast.ensures.err)
 
 pub returns-in-Agent-clause-in_order : goal.returns-in-Agent-clause-in_order
 returns-in-Agent-clause-in_order c = shows_in_order c.make_agent.new.self

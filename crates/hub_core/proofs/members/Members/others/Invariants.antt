@@ -1,4 +1,4 @@
-use Rattle.std.proofs.Common.{◌≡◌, ◌++◌, ℕ, not, map}
+use Rattle.std.proofs.Common.{◌≡◌, ◌++◌, not, map}
 use Rattle.std.specs.Prelude.{◌==◌}
 use Rattle.std.specs.List.{filter}
 use Rattle.hub_core.specs.KeptRoster.{kept_destinations}
