@@ -8,6 +8,7 @@ pub mod Formed
 pub mod Found
 pub mod Got
 pub mod KeeperSteps
+pub mod LastWord
 pub mod Lines
 pub mod Looking
 pub mod Opening

@@ -5,6 +5,7 @@ pub mod GateLaws
 pub mod GatePlays
 pub mod GateRule
 pub mod GateSeats
+pub mod LastWord
 pub mod Looking
 pub mod Opening
 pub mod Taking

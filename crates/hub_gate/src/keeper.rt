@@ -3,6 +3,7 @@ ghost use Rattle.hub_gate.specs.declared.view.View.TheVariants.{Keeping};
 ghost use Rattle.hub_gate.specs.GatePlays.{SetsFlag};
 ghost use Rattle.hub_gate.specs.GateSeats.{IsSeatOf, keeper_in};
 ghost use Rattle.hub_gate.specs.Taking.{numbered, values_in};
+ghost use Rattle.std.specs.Slots.{IsFull};
 
 use crate::gate_table::{GateSeat, GateSteps, GateTable};
 use crate::looked::Looked;
@@ -10,6 +11,8 @@ use crate::plays::{Look, SetFlag};
 use crate::right::Right;
 use crate::witness::KeeperWitness;
 use crate::word::{Flag, count_in, shut_in};
+use atomic_table::Closed;
+use std::alloc::Global;
 use std::fmt;
 use std::marker::Model;
 use std::sync::Arc;
@@ -64,6 +67,16 @@ fn take_out<T: Right>(
         rights.push_reserved(right);
         seat.turn();
     }
+}
+
+// Frees a table that nobody has any more, with what is left in its slots.
+fn free<T: Right>(mut closed: Closed<Option<T>, Global>)
+    requires { IsFull closed.slots }
+{
+    for slot in 0..closed.slot_count() {
+        drop(closed.take(slot));
+    }
+    closed.free();
 }
 
 // Sets a flag of the word, which is one step of the keeper's seat.
@@ -139,6 +152,37 @@ impl<T: Right> Keeper<T> {
 }
 
 impl<T: Right> Keeper<T> {
+    ghost use Rattle.std.specs.Prelude.{IfOk, IfErr};
+    ghost use Rattle.hub_gate.specs.LastWord.{IsLastWord};
+
+    /// The last word of the gate, where no line has its entry any more: it is taken apart, and the
+    /// rights that are at home are dropped. Else the keeper comes back.
+    pub fn into_word(self) -> Result<u64, Keeper<T>>
+        ensures last { IfOk result (IsLastWord self.at) }
+        ensures back { IfErr result (λ keeper. keeper ≡ self) }
+    {
+        let Keeper {
+            table,
+            seat,
+            enabled,
+            rights,
+        } = self;
+        match Arc::try_unwrap(table) {
+            Ok(table) => {
+                let closed = table.close_with(seat);
+                let word = closed.word(0);
+                free(closed);
+                Ok(word)
+            }
+            Err(table) => Err(Keeper {
+                table,
+                seat,
+                enabled,
+                rights,
+            }),
+        }
+    }
+
     /// What shows the gate, which nobody keeps from then on.
     pub fn into_witness(self) -> KeeperWitness<T>
         ensures { result ≡ self }

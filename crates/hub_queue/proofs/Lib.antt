@@ -2,6 +2,7 @@ pub mod Below
 pub mod Chains
 pub mod Drains
 pub mod Hopping
+pub mod Hops
 pub mod InTurn
 pub mod Lending
 pub mod NewPlaces

@@ -1,10 +1,11 @@
 -- The posters of a queue that was just opened.
-use Rattle.std.proofs.Common.{◌≡◌, ℕ, suc, ◌+◌, ◌<◌, List, [], ◌∷◌, ◌++◌, map, length, reverse, get_or, refl, sym, ap, ◌∙◌, subst, arith, append_assoc, Option, Some, None}
+use Rattle.std.proofs.Common.{◌≡◌, ℕ, suc, ◌+◌, ◌<◌, ◌≤◌, List, [], ◌∷◌, ◌++◌, map, length, reverse, get_or, refl, sym, ap, ◌∙◌, subst, arith, append_assoc, Option, Some, None}
 use Rattle.std.specs.Prelude.{slice_get}
 use Rattle.std.proofs.lemmas.List.{reverse-append}
 use Rattle.atomic_blocks.specs.Laid.{WebId}
 use Rattle.atomic_table.specs.Seated.{TableId}
 use Rattle.hub_envelope.specs.declared.ids.EndId.{EndId}
+use Rattle.hub_core.specs.declared.limits.TheConstants.{MAX_MOVES}
 use Rattle.hub_gate.specs.GateRule.{Tags, new_line, keeper_at}
 use Rattle.hub_gate.specs.GateSeats.{EntrySeat, first_entries}
 use Rattle.hub_gate.proofs.Got.{some_is, got_or, got-map, len-map}
@@ -64,12 +65,13 @@ abbrev pub stand_of : EndId → ℕ → ℕ → EntrySeat LineSeat → List (Opt
 stand_of end epoch line entry left = record { name = record { end = end; epoch = epoch; line = record { 0 = line } }; entry = entry; left = left }
 
 -- a line that has just got its entry stands at the queue, and has put nothing
-pub stand_holds : (gate : TableId) (web : WebId) (end : EndId) (epoch line : ℕ) (entry : EntrySeat LineSeat) (left : List (Option (EntrySeat LineSeat))) → entry ≡ (new_stand gate web end epoch line).entry → IsStand (stand_of end epoch line entry left) × IsUnused (stand_of end epoch line entry left)
-stand_holds gate web end epoch line entry left is = subst (λ (x : EntrySeat LineSeat). IsStand (stand_of end epoch line x left) × IsUnused (stand_of end epoch line x left)) (sym is) (
+pub stand_holds : (gate : TableId) (web : WebId) (end : EndId) (epoch line : ℕ) (entry : EntrySeat LineSeat) (left : List (Option (EntrySeat LineSeat))) → epoch ≤ MAX_MOVES → entry ≡ (new_stand gate web end epoch line).entry → IsStand (stand_of end epoch line entry left) × IsUnused (stand_of end epoch line entry left)
+stand_holds gate web end epoch line entry left few is = subst (λ (x : EntrySeat LineSeat). IsStand (stand_of end epoch line x left) × IsUnused (stand_of end epoch line x left)) (sym is) (
   record {
     home = refl;
     name = record { end = refl; epoch = refl; line = refl };
     line = refl;
+    moves = few;
   },
   record { put = refl; enters = refl },
 )

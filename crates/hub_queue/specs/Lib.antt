@@ -19,3 +19,5 @@ pub mod Standing
 pub mod Sweeping
 pub mod Taking
 pub mod Trying
+pub mod Watching
+pub mod Yards

@@ -32,11 +32,11 @@ IsPlacePop old new found = (new ≡ record { queue = old.queue; at = new.at; kee
 abbrev pub got_all : TakeView → List Envelope → TakeView
 got_all t more = record { end = t.end; epoch = t.epoch; lines = t.lines; got = t.got ++ more; known = t.known }
 
--- The queue holds nothing: of each line whose pass was taken in, what was taken is what it has put.
+-- A state of the queue machine that holds nothing has taken what was taken here, and of each line whose pass was taken in, what was taken is what it has put.
 abbrev pub HoldsNothing : TakeView → Type 0
 HoldsNothing t = ShowsHeld t [] × AccountsFor t []
 
--- What was taken was added to the list. Ok: at one moment the queue held nothing more.
+-- What was taken was added to the list. Ok: a pop found none.
 abbrev pub IsCollected : {E : Type 0} → PlaceSeat → PlaceSeat → List Envelope → List Envelope → Result (Unit {0}) E → Type 0
 IsCollected old new before after answer = (more : List Envelope) × (new ≡ record { queue = old.queue; at = got_all old.at more; keeper = old.keeper }) × (after ≡ before ++ more) × OnOk answer (HoldsNothing new.at)
 

@@ -1,6 +1,6 @@
 -- Where a line stands, and what it has put there.
-use Rattle.std.specs.Prelude.{◌≡◌, ◌+◌, List, [], replicate, Option, Some, None}
-use Rattle.hub_core.specs.declared.limits.TheConstants.{MAX_HOPS}
+use Rattle.std.specs.Prelude.{◌≡◌, ◌+◌, ◌≤◌, List, [], replicate, Option, Some, None}
+use Rattle.hub_core.specs.declared.limits.TheConstants.{MAX_HOPS, MAX_MOVES}
 use Rattle.hub_depot.specs.declared.key.Key.{Key}
 use Rattle.hub_gate.specs.GateRule.{new_line}
 use Rattle.hub_gate.specs.GateSeats.{EntrySeat}
@@ -29,11 +29,12 @@ right_of s = right_in s.entry.at.home
 abbrev pub put_of : StandSeat → PutView
 put_of s = (right_of s).at
 
--- the line has its right at home, and the name is that of its queue and its line
+-- the line has its right at home, and the name is that of its queue, which is one that an end may have, and its line
 pub record IsStand (s : StandSeat) : Type 0 where
   pub home : s.entry.at.home ≡ Some (right_of s)
   pub name : IsNameOf (put_of s) s.name
   pub line : s.entry.at.line ≡ s.name.line.0
+  pub moves : s.name.epoch ≤ MAX_MOVES
 
 -- the line has put nothing there, and has never entered
 pub record IsUnused (s : StandSeat) : Type 0 where

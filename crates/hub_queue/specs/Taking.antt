@@ -16,7 +16,7 @@ IsEnabled p = 0 < p.keeper.at.enables
 abbrev pub taken_from : PlaceSeat → Envelope → PlaceSeat
 taken_from p v = record { queue = p.queue; at = got_more p.at v; keeper = p.keeper }
 
--- A take at the newest queue of an end. Got: one pop. Empty: one pop, which found none; at that moment the queue held nothing, and line by line what was taken was all that was put.
+-- A take at the newest queue of an end. Got: one pop. Empty: one pop, which found none: what was taken is what a state of the queue machine has taken that holds nothing.
 abbrev pub IsTakenAt : PlaceSeat → PlaceSeat → Count → Count → Took → Type 0
 IsTakenAt old new before after (Got v) = (new ≡ taken_from old v) × IsPopped old.at v × (after ≡ counted before false)
 IsTakenAt old new before after Empty = (new ≡ old) × ShowsHeld old.at [] × (after ≡ counted before true)

@@ -1,7 +1,7 @@
 //! The next queue of an end, with the onward posters that lead there.
 ghost use Rattle.std.specs.Prelude.{◌≡◌, ◌<◌, ◌≤◌, IfOk, IfErr, OnErr};
 ghost use Rattle.std.specs.Option.{option_map};
-ghost use Rattle.hub_core.specs.declared.limits.TheConstants.{MAX_LINES};
+ghost use Rattle.hub_core.specs.declared.limits.TheConstants.{MAX_LINES, MAX_MOVES};
 ghost use Rattle.hub_depot.specs.Putting.{with_all};
 ghost use Rattle.hub_queue.specs.Adopting.{IsRefused};
 ghost use Rattle.hub_queue.specs.Mailboxes.{IsNewPlace, stands_at};
@@ -32,6 +32,7 @@ pub(crate) fn onwards_at(
     bell: &Bell,
 ) -> Result<Vec<Onward>, OutOfMemory>
     requires few { place.now.at.lines ≤ MAX_LINES }
+    requires moves { epoch ≤ MAX_MOVES }
     requires open { IsOpenPlace end.0 epoch place.now.at.lines place.now entries.items }
     ensures { IfOk result (λ onwards. onwards.items
         ≡ stands_at place.now.keeper.gate place.now.queue end epoch place.now.at.lines) }
@@ -70,7 +71,8 @@ pub(crate) fn open_next<S: Shelf<Onward>, R: Wait>(
     lines: u8,
     bell: &Bell,
 ) -> Result<Place, AdoptError>
-    requires { (0 < lines) × (lines ≤ MAX_LINES) }
+    requires lines { (0 < lines) × (lines ≤ MAX_LINES) }
+    requires moves { epoch ≤ MAX_MOVES }
     ensures ok { IfOk result (λ place. IsNewPlace end.0 epoch lines place) }
     ensures laid { IfOk result (λ place. S.shown yard.new ≡ option_map (λ kept.
         with_all ⟦<Onward as Named>⟧.name kept

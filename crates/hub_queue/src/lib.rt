@@ -53,7 +53,7 @@ pub use line_right::LineRight;
 pub use mailbox::Mailbox;
 pub use meeting::{Meeting, meet};
 pub use onward::Onward;
-pub use pause::{NoPause, Pause, Point};
+pub use pause::{NoPause, Pause, Point, Watch};
 pub use place::Place;
 pub use post_error::PostError;
 pub use posted::Posted;

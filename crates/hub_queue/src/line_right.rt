@@ -33,11 +33,11 @@ impl Model for LineRight {
     ghost Value = { LineSeat };
 
     ghost view = { λ r. record {
-      queue = (arc_value r.store).lines.web;
+      queue = (arc_value r.store).queue.web;
       at = put_in (known_by r.pass);
     } };
 
-    ghost invariant = { λ r. IsSegPassOf (arc_value r.store).lines r.pass
+    ghost invariant = { λ r. IsSegPassOf (arc_value r.store).queue r.pass
         × (known_by r.pass ≡ Puts (put_in (known_by r.pass)))
         × (r.number ≡ length (put_in (known_by r.pass)).put) };
 }
@@ -97,7 +97,7 @@ impl LineRight {
         };
         match self
             .store
-            .lines
+            .queue
             .push_as::<Put, R>(rt, &mut self.pass, envelope)
         {
             Ok(()) => {

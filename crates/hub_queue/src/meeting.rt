@@ -35,11 +35,11 @@ fn compare<R: Wait>(rt: &R, place: &mut Place, right: &mut LineRight, line: Line
     ensures put { result.0 ≡ length right.old.at.put }
     ensures got { result.1 ≡ length (by right.old.at.line place.old.at.got) }
 {
-    let lines = &place.store.lines;
-    let lent = lines.another::<Lend>(&mut right.pass);
-    lines.absorb::<Compare>(&mut place.pass, lent);
-    lines.len_as::<Compare, R>(rt, &mut place.pass);
-    right.pass = lines.another::<GiveBack>(&mut place.pass);
+    let queue = &place.store.queue;
+    let lent = queue.another::<Lend>(&mut right.pass);
+    queue.absorb::<Compare>(&mut place.pass, lent);
+    queue.len_as::<Compare, R>(rt, &mut place.pass);
+    right.pass = queue.another::<GiveBack>(&mut place.pass);
     (right.number, place.taken[line.0 as usize])
 }
 

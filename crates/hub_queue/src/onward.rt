@@ -1,8 +1,12 @@
-ghost use Rattle.std.specs.Prelude.{◌≡◌, ◌+◌, [], IfSome};
+ghost use Rattle.std.specs.Prelude.{◌≡◌, ◌≤◌, IfSome, IfNone};
+ghost use Rattle.std.specs.FinMap as map;
+ghost use Rattle.std.specs.Option.{option_map};
+ghost use Rattle.hub_core.specs.declared.limits.TheConstants.{MAX_MOVES};
+ghost use Rattle.hub_queue.specs.Posting.{name_after};
 ghost use Rattle.hub_queue.specs.Standing.{IsNext};
 
 use crate::stand::Stand;
-use hub_depot::{Depot, Key, Named};
+use hub_depot::{Key, Named, Shelf};
 use std::marker::Model;
 use std::sync::Wait;
 
@@ -37,12 +41,21 @@ impl Named for Onward {
 }
 
 /// Takes from the yard the stand of the line at the next queue of its end.
-pub(crate) fn next_stand<R: Wait>(rt: &R, yard: &Depot<Onward>, name: Key) -> Option<Stand>
-    ensures { IfSome result (IsNext name) }
+pub(crate) fn next_stand<S: Shelf<Onward>, R: Wait>(
+    rt: &R,
+    yard: &mut S,
+    name: Key,
+) -> Option<Stand>
+    requires { name.epoch ≤ MAX_MOVES }
+    ensures next { IfSome result (IsNext name) }
+    ensures found { IfSome (S.shown yard.old) (λ kept. result ≡ map.get kept (name_after name 1)) }
+    ensures rest { S.shown yard.new
+        ≡ option_map (λ kept. map.remove kept (name_after name 1)) (S.shown yard.old) }
+    ensures none { IfNone result (S.shown yard.new ≡ S.shown yard.old) }
 {
     let next = Key {
         end: name.end,
-        epoch: name.epoch.checked_add(1)?,
+        epoch: name.epoch + 1,
         line: name.line,
     };
     let Onward { stand } = yard.take(rt, next)?;

@@ -11,8 +11,8 @@ ghost use Rattle.hub_queue.specs.SharedQueue.{first_view};
 
 use crate::line_right::LineRight;
 use crate::place::Place;
-use crate::queue_rule::{NextLine, QueueName};
-use crate::store::{Lines, Pass, Store};
+use crate::queue_rule::{CutLine, QueueName};
+use crate::store::{EnvelopeQueue, Pass, Store};
 use hub_core::MAX_LINES;
 use hub_envelope::EndId;
 use hub_gate::{Entry, Gate};
@@ -23,14 +23,14 @@ use std::sync::Arc;
 // Cuts the pass of the next line off the taker's. The first cut gives the queue its end and epoch.
 fn cut_line<N: QueueName>(store: &Store, pass: &mut Pass, end: EndId, epoch: u32) -> Pass
     requires name { (end.0 ≡ N.end) × (epoch ≡ N.epoch) }
-    requires queue { IsSegPassOf store.now.lines pass.old }
+    requires queue { IsSegPassOf store.now.queue pass.old }
     requires taker { known_by pass.old ≡ Takes (take_in (known_by pass.old)) }
     requires named { MayCut end.0 epoch (take_in (known_by pass.old)) }
-    ensures queue { IsSegPassOf store.now.lines pass.new × IsSegPassOf store.now.lines result }
+    ensures queue { IsSegPassOf store.now.queue pass.new × IsSegPassOf store.now.queue result }
     ensures taker { known_by pass.new ≡ Takes (cut_more end.0 epoch (take_in (known_by pass.old))) }
     ensures line { known_by result ≡ Puts (next_put end.0 epoch (take_in (known_by pass.old))) }
 {
-    store.lines.another::<NextLine<N>>(pass)
+    store.queue.another::<CutLine<N>>(pass)
 }
 
 // The rights of so many lines, each of which has put nothing.
@@ -42,12 +42,12 @@ fn cut_lines(
     epoch: u32,
     lines: u8,
 ) -> Result<Vec<LineRight>, AllocError>
-    requires queue { IsSegPassOf (arc_value store.now).lines pass.old }
+    requires queue { IsSegPassOf (arc_value store.now).queue pass.old }
     requires fresh { known_by pass.old ≡ first_view }
-    ensures queue { IfOk result (λ _. IsSegPassOf (arc_value store.now).lines pass.new) }
+    ensures queue { IfOk result (λ _. IsSegPassOf (arc_value store.now).queue pass.new) }
     ensures taker { IfOk result (λ _. known_by pass.new ≡ Takes (cut_so_far end.0 epoch lines)) }
     ensures rights { IfOk result (λ rights.
-        rights.items ≡ new_rights (arc_value store.now).lines.web end.0 epoch lines) }
+        rights.items ≡ new_rights (arc_value store.now).queue.web end.0 epoch lines) }
 {
     let mut rights = Vec::with_capacity(alloc, lines as usize)?;
     for _line in 0..lines {
@@ -73,8 +73,8 @@ pub(crate) fn open_place(
     requires lines { (0 < lines) × (lines ≤ MAX_LINES) }
     ensures { IfOk result (λ p. IsOpenPlace end.0 epoch lines p.0 p.1.items) }
 {
-    let (lines_queue, mut pass) = Lines::with_rule(alloc)?;
-    let store = Arc::new(alloc, Store { lines: lines_queue })?;
+    let (queue, mut pass) = EnvelopeQueue::with_rule(alloc)?;
+    let store = Arc::new(alloc, Store { queue })?;
     let rights = cut_lines(alloc, &store, &mut pass, end, epoch, lines)?;
     let Ok((keeper, entries)) = Gate::open(alloc, rights) else {
         return Err(AllocError);

@@ -40,14 +40,14 @@ impl Model for Place {
     ghost Value = { PlaceSeat };
 
     ghost view = { λ p. record {
-      queue = (arc_value p.store).lines.web;
+      queue = (arc_value p.store).queue.web;
       at = take_in (known_by p.pass);
       keeper = p.keeper;
     } };
 
-    ghost invariant = { λ p. IsSegPassOf (arc_value p.store).lines p.pass
+    ghost invariant = { λ p. IsSegPassOf (arc_value p.store).queue p.pass
         × (known_by p.pass ≡ Takes (take_in (known_by p.pass)))
-        × HasTags (arc_value p.store).lines.web (take_in (known_by p.pass)) p.keeper
+        × HasTags (arc_value p.store).queue.web (take_in (known_by p.pass)) p.keeper
         × CountsTaken (take_in (known_by p.pass)).got p.taken
         × KnowsBy p.keeper.at.collected (take_in (known_by p.pass)) };
 }

@@ -20,14 +20,14 @@ pub(crate) fn pop<L: Ledger, R: Wait>(
     pass: &mut Pass,
     steps: &mut Steps<L>,
 ) -> Option<Envelope>
-    requires queue { IsSegPassOf store.now.lines pass.old }
+    requires queue { IsSegPassOf store.now.queue pass.old }
     requires taker { known_by pass.old ≡ Takes (take_in (known_by pass.old)) }
-    ensures queue { IsSegPassOf store.now.lines pass.new }
+    ensures queue { IsSegPassOf store.now.queue pass.new }
     ensures taker { known_by pass.new ≡ Takes (take_in (known_by pass.new)) }
     ensures popped { IsPop (take_in (known_by pass.old)) (take_in (known_by pass.new)) result }
     ensures counted { steps.new ≡ counted steps.old (is_none result) }
 {
-    let found = store.lines.pop_as::<Take, R>(rt, pass);
+    let found = store.queue.pop_as::<Take, R>(rt, pass);
     steps.tick(found.is_none());
     found
 }

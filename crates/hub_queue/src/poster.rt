@@ -1,12 +1,14 @@
 ghost use Rattle.std.specs.Prelude.{◌≡◌};
 ghost use Rattle.hub_queue.specs.Posting.{IsPosted};
+ghost use Rattle.hub_queue.specs.Watching.{points_of, told_more};
+ghost use Rattle.hub_queue.specs.Yards.{IsHoppedOver};
 
 use crate::onward::Onward;
-use crate::pause::{NoPause, Pause};
+use crate::pause::{NoPause, Pause, Watch};
 use crate::post_error::PostError;
 use crate::posted::Posted;
 use crate::stand::Stand;
-use hub_depot::{Depot, Key};
+use hub_depot::{Depot, Key, Shelf};
 use hub_envelope::Draft;
 use std::marker::Model;
 use std::sync::Wait;
@@ -62,6 +64,29 @@ impl Poster {
     ) -> Result<Posted, (PostError, Draft)>
         ensures { IsPosted self.old self.new draft result }
     {
-        self.stand.post(rt, yard, draft, pause)
+        let (mut yard, mut pause) = (yard, pause);
+        self.post_on(rt, &mut yard, draft, &mut pause)
+    }
+
+    /// The same, over any shelf as the yard, and told to any watch.
+    ///
+    /// Of a shelf that shows what it keeps: the line takes out of it the stands at the queues that
+    /// it goes on to, and no other. `Moving` comes after `MAX_HOPS` of them, or where the shelf has
+    /// no stand for the next queue.
+    #[inline(always)]
+    pub fn post_on<S: Shelf<Onward>, W: Watch, R: Wait>(
+        &mut self,
+        rt: &R,
+        yard: &mut S,
+        draft: Draft,
+        watch: &mut W,
+    ) -> Result<Posted, (PostError, Draft)>
+        ensures posted { IsPosted self.old self.new draft result }
+        ensures yard { IsHoppedOver (S.shown yard.old) (S.shown yard.new)
+            self.old.name self.new result }
+        ensures told { W.told watch.new
+            ≡ told_more (W.told watch.old) (points_of self.old.name self.new.name result) }
+    {
+        self.stand.post(rt, yard, draft, watch)
     }
 }

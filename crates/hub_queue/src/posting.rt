@@ -3,16 +3,19 @@ ghost use Rattle.std.specs.Prelude.{◌≡◌};
 ghost use Rattle.hub_queue.specs.Posting.{IsPosted};
 ghost use Rattle.hub_queue.specs.Seats.{IsNameOf, tag_of};
 ghost use Rattle.hub_queue.specs.Trying.{IsPostedOnward, IsPutInside, IsTried};
+ghost use Rattle.hub_queue.specs.Watching.{points_inside, points_of, points_onward, points_tried};
+ghost use Rattle.hub_queue.specs.Watching.{told_more};
+ghost use Rattle.hub_queue.specs.Yards.{IsHoppedOver, hops_between};
 
 use crate::bell::Bell;
 use crate::line_right::LineRight;
 use crate::onward::{Onward, next_stand};
-use crate::pause::{Pause, Point};
+use crate::pause::{Point, Watch};
 use crate::post_error::PostError;
 use crate::posted::Posted;
 use crate::stand::Stand;
 use hub_core::MAX_HOPS;
-use hub_depot::{Depot, Key};
+use hub_depot::{Key, Shelf};
 use hub_envelope::Draft;
 use hub_gate::{Entered, Entry, Inside, Refusal};
 use std::sync::Wait;
@@ -30,22 +33,23 @@ pub(crate) enum Tried {
 // rings the bell. It is inlined, and so are `Stand::post` and `LineRight::put`, since drafts and
 // answers are large and each call copies them.
 #[inline(always)]
-fn post_inside<P: Pause, R: Wait>(
+fn post_inside<W: Watch, R: Wait>(
     rt: &R,
     mut inside: Inside<LineRight>,
     name: Key,
     place: &mut Option<Entry<LineRight>>,
     bell: &Bell,
     draft: Draft,
-    pause: &P,
+    watch: &mut W,
 ) -> Result<Posted, (PostError, Draft)>
     requires name { IsNameOf inside.right.at name }
     requires tag { tag_of inside.right ≡ inside.at.tag }
-    ensures { IsPutInside inside place.new draft result }
+    ensures put { IsPutInside inside place.new draft result }
+    ensures told { W.told watch.new ≡ told_more (W.told watch.old) points_inside }
 {
-    pause.at(rt, Point::Inside);
+    watch.reach(rt, Point::Inside);
     let put = inside.right_mut().put(rt, name, draft);
-    pause.at(rt, Point::Pushed);
+    watch.reach(rt, Point::Pushed);
     let (entry, enabled) = inside.leave();
     *place = Some(entry);
     if enabled {
@@ -59,14 +63,15 @@ fn post_inside<P: Pause, R: Wait>(
 
 impl Stand {
     // Posts at the queue where the line stands.
-    fn try_post<P: Pause, R: Wait>(&mut self, rt: &R, draft: Draft, pause: &P) -> Tried
-        ensures { IsTried self.old self.new draft result }
+    fn try_post<W: Watch, R: Wait>(&mut self, rt: &R, draft: Draft, watch: &mut W) -> Tried
+        ensures tried { IsTried self.old self.new draft result }
+        ensures told { W.told watch.new ≡ told_more (W.told watch.old) (points_tried result) }
     {
-        pause.at(rt, Point::Before);
+        watch.reach(rt, Point::Before);
         let (name, bell) = (self.name, &self.bell);
         match self.entry.take().unwrap().enter() {
             Entered::In(inside) => {
-                let answer = post_inside(rt, inside, name, &mut self.entry, bell, draft, pause);
+                let answer = post_inside(rt, inside, name, &mut self.entry, bell, draft, watch);
                 Tried::Answered(answer)
             }
             Entered::Turned(entry, refusal) => {
@@ -80,24 +85,28 @@ impl Stand {
     /// retired, at most `MAX_HOPS` times.
     // It doesn't call `try_post`, since what that comes to would be copied once more.
     #[inline(always)]
-    pub(crate) fn post<P: Pause, R: Wait>(
+    pub(crate) fn post<S: Shelf<Onward>, W: Watch, R: Wait>(
         &mut self,
         rt: &R,
-        yard: &Depot<Onward>,
+        yard: &mut S,
         draft: Draft,
-        pause: &P,
+        watch: &mut W,
     ) -> Result<Posted, (PostError, Draft)>
-        ensures { IsPosted self.old self.new draft result }
+        ensures posted { IsPosted self.old self.new draft result }
+        ensures yard { IsHoppedOver (S.shown yard.old) (S.shown yard.new)
+            self.old.name self.new result }
+        ensures told { W.told watch.new
+            ≡ told_more (W.told watch.old) (points_of self.old.name self.new.name result) }
     {
-        pause.at(rt, Point::Before);
+        watch.reach(rt, Point::Before);
         let (name, bell) = (self.name, &self.bell);
         match self.entry.take().unwrap().enter() {
             Entered::In(inside) => {
-                post_inside(rt, inside, name, &mut self.entry, bell, draft, pause)
+                post_inside(rt, inside, name, &mut self.entry, bell, draft, watch)
             }
             Entered::Turned(entry, refusal) => {
                 self.entry = Some(entry);
-                self.post_onward(rt, yard, refusal, draft, pause)
+                self.post_onward(rt, yard, refusal, draft, watch)
             }
         }
     }
@@ -105,15 +114,19 @@ impl Stand {
     // Goes on from where the line was turned. It isn't inlined, so that a post at the queue where
     // its line stands doesn't pay for it.
     #[inline(never)]
-    fn post_onward<P: Pause, R: Wait>(
+    fn post_onward<S: Shelf<Onward>, W: Watch, R: Wait>(
         &mut self,
         rt: &R,
-        yard: &Depot<Onward>,
+        yard: &mut S,
         refusal: Refusal,
         draft: Draft,
-        pause: &P,
+        watch: &mut W,
     ) -> Result<Posted, (PostError, Draft)>
-        ensures { IsPostedOnward self.old self.new refusal draft result }
+        ensures posted { IsPostedOnward self.old self.new refusal draft result }
+        ensures yard { IsHoppedOver (S.shown yard.old) (S.shown yard.new)
+            self.old.name self.new result }
+        ensures told { W.told watch.new ≡ told_more (W.told watch.old)
+            (points_onward (hops_between self.old.name self.new.name) result) }
     {
         let mut found = refusal;
         let mut draft = draft;
@@ -121,12 +134,12 @@ impl Stand {
             if found == Refusal::Closed {
                 return Err((PostError::Closed, draft));
             }
-            pause.at(rt, Point::Hopping);
+            watch.reach(rt, Point::Hopping);
             let Some(next) = next_stand(rt, yard, self.name) else {
                 return Err((PostError::Moving, draft));
             };
             self.go_to(next);
-            match self.try_post(rt, draft, pause) {
+            match self.try_post(rt, draft, watch) {
                 Tried::Answered(answer) => return answer,
                 Tried::Turned(refusal, back) => {
                     found = refusal;

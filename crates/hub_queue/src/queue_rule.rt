@@ -57,11 +57,11 @@ impl QueueName for Brand {
 }
 
 /// The taker's pass cuts off the pass of the next line.
-pub struct NextLine<N: QueueName> {
+pub struct CutLine<N: QueueName> {
     name: PhantomData<N>,
 }
 
-impl<N: QueueName> Split<PassView> for NextLine<N> {
+impl<N: QueueName> Split<PassView> for CutLine<N> {
     ghost use Rattle.hub_queue.specs.PassSteps.{line_cut, taker_left};
 
     ghost left = { taker_left N.end N.epoch };

@@ -20,10 +20,10 @@ use std::sync::ledger::{Blank, Ledger};
 
 // Takes in the passes of all lines, whose rights these are, in order.
 fn take_in_all(store: &Store, pass: &mut Pass, mut rights: Vec<LineRight>)
-    requires queue { IsSegPassOf store.now.lines pass.old }
+    requires queue { IsSegPassOf store.now.queue pass.old }
     requires taker { known_by pass.old ≡ Takes (take_in (known_by pass.old)) }
-    requires rights { map tag_of rights.items ≡ tags_of store.now.lines.web (length rights.items) }
-    ensures queue { IsSegPassOf store.now.lines pass.new }
+    requires rights { map tag_of rights.items ≡ tags_of store.now.queue.web (length rights.items) }
+    ensures queue { IsSegPassOf store.now.queue pass.new }
     ensures taker { known_by pass.new ≡ Takes (knowing (take_in (known_by pass.old)) rights.items) }
 {
     for _ in 0..rights.len() {
@@ -32,7 +32,7 @@ fn take_in_all(store: &Store, pass: &mut Pass, mut rights: Vec<LineRight>)
             pass: own,
             number: _,
         } = rights.pop().unwrap();
-        store.lines.absorb::<TakeIn>(pass, own);
+        store.queue.absorb::<TakeIn>(pass, own);
     }
 }
 

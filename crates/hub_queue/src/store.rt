@@ -4,20 +4,20 @@ use crate::queue_rule::QueueRule;
 use crossbeam_queue::{RuledSegQueue, SegPass};
 use hub_envelope::Envelope;
 
-/// A queue under its rule.
-pub type Lines = RuledSegQueue<Envelope, PassView, QueueRule>;
+/// A queue of envelopes, under its rule.
+pub type EnvelopeQueue = RuledSegQueue<Envelope, PassView, QueueRule>;
 
 /// What one caller knows of such a queue. It has no bytes.
 pub type Pass = SegPass<Envelope, PassView>;
 
 /// One queue, which is freed with the envelopes that it holds once nobody has it.
 pub struct Store {
-    pub lines: Lines,
+    pub queue: EnvelopeQueue,
 }
 
 impl Drop for Store {
     fn drop(self) {
-        let Store { lines } = self;
-        lines.destroy();
+        let Store { queue } = self;
+        queue.destroy();
     }
 }

@@ -5,8 +5,7 @@ use hub_envelope::Envelope;
 pub enum Took {
     /// The first envelope of the taker's queue.
     Got(Envelope),
-    /// The end is enabled, and a pop of its newest queue found none: everything that was put there
-    /// was taken.
+    /// The end is enabled, it has no older queue, and a pop of its newest one found none.
     Empty,
     /// The taker's queue is retired, and lines are inside or being turned back there.
     Busy,

@@ -45,6 +45,18 @@ fn what_is_left_is_discarded(rt: HostRuntime) {
 }
 
 #[test]
+fn one_queue_holds_ten_thousand(rt: HostRuntime) {
+    const STEPS: &[Step] = &[
+        Step::Open(1),
+        Step::PostEach(10_000, "1"),
+        Step::Close,
+        Step::Sweep(10_000),
+        Step::DiscardedEach(10_000, "1"),
+    ];
+    walks(&rt, rt.alloc(), STEPS, 5);
+}
+
+#[test]
 fn ends_are_drawn_once(rt: HostRuntime) {
     let mut ends = Ends::new();
     for number in 0..65_536 {

@@ -3,7 +3,7 @@ use crate::end::End;
 use crate::parts::{draft, open};
 use hub_depot::Depot;
 use hub_envelope::{Draft, Envelope};
-use hub_queue::{Onward, PostError, Posted, Poster};
+use hub_queue::{NoPause, Onward, Pause, Point, PostError, Posted, Poster};
 use std::alloc::Global;
 use std::sync::{Mutex, Wait};
 use std::thread;
@@ -40,6 +40,26 @@ struct Fire {
     accepted: Vec<Name>,
 }
 
+// Holds a post before its gate until the end was adopted, so that the gate turns it.
+#[derive(Drop)]
+struct UntilAdopted<'a> {
+    turn: &'a Mutex<Turn>,
+}
+
+impl Pause for UntilAdopted<'_> {
+    fn at<R: Wait>(&self, rt: &R, point: Point) {
+        if point != Point::Before {
+            return;
+        }
+        for _ in rt.forever() {
+            if self.turn.lock(rt).moves > 0 {
+                return;
+            }
+            thread::yield_now();
+        }
+    }
+}
+
 fn name_of(envelope: &Envelope) -> Option<Name> {
     let body = envelope.body.text().parse::<u64>().ok()?;
     Some((envelope.epoch, envelope.number, body))
@@ -47,16 +67,17 @@ fn name_of(envelope: &Envelope) -> Option<Name> {
 
 impl Fire {
     // Posts a draft until it is accepted, while posts are left.
-    fn post_until<R: Wait>(
+    fn post_until<P: Pause, R: Wait>(
         &mut self,
         rt: &R,
         yard: &Depot<Onward>,
         draft: Draft,
+        pause: &P,
     ) -> Option<Posted> {
         let mut draft = draft;
         for _ in 0..self.posts {
             self.posts = self.posts.saturating_sub(1);
-            match self.poster.post(rt, yard, draft) {
+            match self.poster.post_with(rt, yard, draft, pause) {
                 Ok(posted) => return Some(posted),
                 Err((PostError::Moving, back)) => {
                     draft = back;
@@ -68,19 +89,36 @@ impl Fire {
         None
     }
 
-    fn post<R: Wait>(&mut self, rt: &R, yard: &Depot<Onward>, body: u64) -> Option<()> {
+    fn post<P: Pause, R: Wait>(
+        &mut self,
+        rt: &R,
+        yard: &Depot<Onward>,
+        body: u64,
+        pause: &P,
+    ) -> Option<()> {
         let text = format!(in self.alloc; "{body}").ok()?;
         let draft = draft(self.alloc, text.as_str())?;
-        let posted = self.post_until(rt, yard, draft)?;
+        let posted = self.post_until(rt, yard, draft, pause)?;
         self.accepted.push((posted.epoch, posted.number, body)).ok()
     }
 
-    // Posts the bodies 0, 1, 2 and so on.
-    fn post_all<R: Wait>(&mut self, rt: &R, yard: &Depot<Onward>) -> Option<()> {
-        for body in 0..BODIES {
-            self.post(rt, yard, body)?;
+    // Posts the bodies 0, 1, 2 and so on, the first of them held until the end was adopted.
+    fn post_all<P: Pause, R: Wait>(
+        &mut self,
+        rt: &R,
+        yard: &Depot<Onward>,
+        first: &P,
+    ) -> Option<()> {
+        self.post(rt, yard, 0, first)?;
+        for body in 1..BODIES {
+            self.post(rt, yard, body, &NoPause)?;
         }
         Some(())
+    }
+
+    // Whether the first draft was accepted by a later queue than the one where its line stood.
+    fn was_turned(&self) -> bool {
+        matches!(self.accepted.first(), Some((1.., 0, 0)))
     }
 }
 
@@ -148,9 +186,10 @@ fn race<R: Wait + Threads + Sync>(
     turn: &Mutex<Turn>,
 ) -> bool {
     let yard = Depot::new(alloc);
+    let first = UntilAdopted { turn };
     let (is_posted, (is_first_done, is_second_done)) = thread::join(
         rt,
-        || fire.post_all(rt, &yard).is_some(),
+        || fire.post_all(rt, &yard, &first).is_some(),
         || {
             thread::join(
                 rt,
@@ -162,8 +201,9 @@ fn race<R: Wait + Threads + Sync>(
     is_posted && is_first_done && is_second_done
 }
 
+// A taker is handed to and fro while a line posts. At least its first post is turned.
 #[test]
-fn a_taker_is_handed_to_and_fro(rt: HostRuntime) {
+fn moves_under_fire(rt: HostRuntime) {
     let alloc = rt.alloc();
     let Some((taker, poster)) = open(alloc, 1) else {
         panic!(rt; "no mailbox");
@@ -182,6 +222,7 @@ fn a_taker_is_handed_to_and_fro(rt: HostRuntime) {
         taken: Vec::new(alloc),
     });
     assert!(rt; race(&rt, alloc, &mut fire, &turn));
+    assert!(rt; fire.was_turned());
     let mut turn = turn.into_inner();
     assert!(rt; turn.take_some(&rt, TAKES).is_some());
     assert_eq!(rt; turn.moves, ADOPTIONS);

@@ -103,13 +103,18 @@ fn gate_words(rt: HostRuntime) {
     assert_retires(&rt, &mut keeper);
     let one = leave_enabled(&rt, one);
     assert_shows(&rt, &keeper, "Keeper { word: 259 }");
-    let _other = leave_enabled(&rt, other);
+    let other = leave_enabled(&rt, other);
     assert_shows(&rt, &keeper, "Keeper { word: 3 }");
     assert_gives(&rt, &mut keeper, &[5, 6]);
     keeper.close();
     assert_shows(&rt, &keeper, "Keeper { word: 7 }");
     assert_eq!(rt; refusal_of(one), Some(Refusal::Moved));
     assert_shows(&rt, &keeper, "Keeper { word: 7 }");
+    let Err(keeper) = keeper.into_word() else {
+        panic!(rt; "an entry is left");
+    };
+    drop(other);
+    assert_eq!(rt; keeper.into_word().ok(), Some(7));
 }
 
 #[test]
@@ -173,8 +178,9 @@ fn add_rounds(entry: Entry<u64>, rounds: u64) -> Entry<u64> {
     entry
 }
 
+// All 32 entries that a gate may have, each on a thread of its own.
 #[test]
-fn thirty_two_entries(rt: HostRuntime) {
+fn sixteen_entries(rt: HostRuntime) {
     let zeros = vec![in rt.alloc(); 0u64; 32].expect(&rt, "memory");
     let (mut keeper, entries) = Gate::open(rt.alloc(), zeros).expect(&rt, "a gate");
     let entries = thread::map_vec(&rt, entries, &|entry| add_rounds(entry, 1000)).expect(

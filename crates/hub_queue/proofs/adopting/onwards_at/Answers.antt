@@ -20,7 +20,7 @@ invariant_of-stand c =
     let count = kept.count in
     let longer = ap length last in
     let low : c.loop-line.line < length c.args.entries.items = omega (arith, length-append c.pop.new.self.items (c.unwrap-entry.result ∷ [])) in
-    (refl, (stand_holds _ _ _ _ _ _ _ (some_is _ _ (sym next.1 ∙ ap (slice_get c.args.entries.items) kept.split.2 ∙ entry_at _ _ _ _ _ c.requires.open c.loop-line.line low))).0)
+    (refl, (stand_holds _ _ _ _ _ _ _ c.requires.moves (some_is _ _ (sym next.1 ∙ ap (slice_get c.args.entries.items) kept.split.2 ∙ entry_at _ _ _ _ _ c.requires.open c.loop-line.line low))).0)
 
 pub invariant_of-push : goal.invariant_of-push
 invariant_of-push c =
@@ -30,7 +30,7 @@ invariant_of-push c =
     let count = kept.count in
     let longer = ap length last in
     let low : c.loop-line.line < length c.args.entries.items = omega (arith, length-append c.pop.new.self.items (c.unwrap-entry.result ∷ [])) in
-    (stand_holds _ _ _ _ _ _ _ (some_is _ _ (sym next.1 ∙ ap (slice_get c.args.entries.items) kept.split.2 ∙ entry_at _ _ _ _ _ c.requires.open c.loop-line.line low))).1
+    (stand_holds _ _ _ _ _ _ _ c.requires.moves (some_is _ _ (sym next.1 ∙ ap (slice_get c.args.entries.items) kept.split.2 ∙ entry_at _ _ _ _ _ c.requires.open c.loop-line.line low))).1
 
 pub loop-line-preserved : goal.loop-line-preserved
 loop-line-preserved c =

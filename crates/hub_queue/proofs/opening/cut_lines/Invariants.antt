@@ -11,7 +11,7 @@ ghosts-cut_line a = record { end = a.end.0; epoch = a.epoch }
 
 abbrev pub invariant-loop-line : goal.invariant-loop-line
 invariant-loop-line l = record {
-  queue : IsSegPassOf (arc_value l.store).lines l.pass;
+  queue : IsSegPassOf (arc_value l.store).queue l.pass;
   taker : known_by l.pass ≡ Takes (cut_so_far l.end.0 l.epoch l._line);
-  rights : l.rights.items ≡ new_rights (arc_value l.store).lines.web l.end.0 l.epoch l._line;
+  rights : l.rights.items ≡ new_rights (arc_value l.store).queue.web l.end.0 l.epoch l._line;
 }

@@ -10,7 +10,7 @@ absorb-requires-clause-queue c =
     let kept = c.loop.invariant in
     let own = c.own.invariant in
     let last = popped_last _ _ _ _ c.pop.ensures.items c.unwrap.ensures in
-    let tag = last_tag c.args.store.now.lines.web c.pop.new.self.items c.unwrap.result c.loop.rights.items last kept.tags in
+    let tag = last_tag c.args.store.now.queue.web c.pop.new.self.items c.unwrap.result c.loop.rights.items last kept.tags in
     (kept.queue, ((own.0.0.0 ∙ ap (λ r. r.queue) c.own.view_is ∙ queue_in _ c.unwrap.result _ tag.1, refl), own.0.1, own.0.2))
 
 pub absorb-requires-clause-rule : goal.absorb-requires-clause-rule
@@ -20,7 +20,7 @@ pub loop-preserved : goal.loop-preserved
 loop-preserved c =
     let kept = c.loop.invariant in
     let last = popped_last _ _ _ _ c.pop.ensures.items c.unwrap.ensures in
-    let tag = last_tag c.args.store.now.lines.web c.pop.new.self.items c.unwrap.result c.loop.rights.items last kept.tags in
+    let tag = last_tag c.args.store.now.queue.web c.pop.new.self.items c.unwrap.result c.loop.rights.items last kept.tags in
     let count = kept.count in
     let longer = ap (λ l. l ++ kept.known.0) last in
     record {

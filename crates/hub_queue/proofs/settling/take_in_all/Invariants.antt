@@ -8,8 +8,8 @@ use Rattle.hub_queue.proofs.settling.take_in_all.Given as goal
 
 abbrev pub invariant-loop : goal.invariant-loop
 invariant-loop l = record {
-  queue : IsSegPassOf l.store.lines l.pass;
+  queue : IsSegPassOf l.store.queue l.pass;
   count : length l.rights.items + l.counter ≡ length l.fn.rights.items;
-  tags : map tag_of l.rights.items ≡ tags_of l.store.lines.web (length l.rights.items);
+  tags : map tag_of l.rights.items ≡ tags_of l.store.queue.web (length l.rights.items);
   known : (done : List LineSeat) × (l.fn.rights.items ≡ l.rights.items ++ done) × (known_by l.pass ≡ Takes (knowing (take_in (known_by l.fn.pass)) done));
 }

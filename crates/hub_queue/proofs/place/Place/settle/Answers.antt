@@ -11,7 +11,7 @@ use Rattle.hub_queue.proofs.place.Place.settle.Goals as goal
 pub take_in_all-requires-clause-rights : goal.take_in_all-requires-clause-rights
 take_in_all-requires-clause-rights c =
     let kept = c.self.invariant in
-    tags_by_count _ _ _ _ kept.2 c.in-Rights.ensures.tags ∙ (λ i. tags_of (sym c.deref.ensures i).lines.web (length c.in-Rights.rights.items))
+    tags_by_count _ _ _ _ kept.2 c.in-Rights.ensures.tags ∙ (λ i. tags_of (sym c.deref.ensures i).queue.web (length c.in-Rights.rights.items))
 
 pub returns-in-Rights : goal.returns-in-Rights
 returns-in-Rights c =

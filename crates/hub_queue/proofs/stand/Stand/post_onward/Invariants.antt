@@ -1,6 +1,13 @@
 use Rattle.std.proofs.Common.{◌≡◌}
+use Rattle.hub_queue.specs.Watching.{told_more, points_hopping}
 use Rattle.hub_queue.proofs.Hopping.{GoneOn}
+use Rattle.hub_queue.proofs.Hops.{WentOver}
 use Rattle.hub_queue.proofs.stand.Stand.post_onward.Given as goal
 
 abbrev pub invariant-loop-hop : goal.invariant-loop-hop
-invariant-loop-hop g l = record { gone : GoneOn l.fn.self l.self l._hop l.fn.refusal l.found; same : l.draft ≡ l.fn.draft }
+invariant-loop-hop g l = record {
+  gone : GoneOn l.fn.self l.self l._hop l.fn.refusal l.found;
+  same : l.draft ≡ l.fn.draft;
+  went : WentOver (g.S.Shelf.shown l.initial.yard) (g.S.Shelf.shown l.yard) l.fn.self.name l.self l._hop;
+  told : g.W.Watch.told l.watch ≡ told_more (g.W.Watch.told l.initial.watch) (points_hopping l._hop);
+}
