@@ -1,4 +1,3 @@
 pub mod Casts
 pub mod Joins
 pub mod Ranking
-pub mod Refusals

@@ -2,6 +2,4 @@ pub mod Casting
 pub mod Destinations
 pub mod Joining
 pub mod Members
-pub mod Origin
 pub mod Ranks
-pub mod Refusal

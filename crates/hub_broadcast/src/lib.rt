@@ -1,6 +1,5 @@
 //! Broadcast channels (WHATWG HTML, "Broadcasting to other browsing contexts"): the roster of their
-//! members, casts to the members of one origin and name, and the origins by which they are told
-//! apart.
+//! members, and casts to the members of one origin and name.
 //!
 //! A member is an end with one line, whose poster the roster keeps. A cast posts at each
 //! destination in turn, and a hop of such a post takes the yard's lock; so whoever needs both takes
@@ -13,8 +12,6 @@ mod casting;
 mod join_error;
 mod laws;
 mod member;
-mod origin;
-mod origin_error;
 mod roster;
 mod shared_roster;
 mod subscription;
@@ -22,10 +19,9 @@ mod subscription;
 pub use cast_error::CastError;
 pub use cast_outcome::CastOutcome;
 pub use hub_envelope::OutOfMemory;
+pub use hub_origin::{Origin, OriginError, origin_of};
 pub use join_error::JoinError;
 pub use laws::roster_laws;
 pub use member::Member;
-pub use origin::{Origin, origin_of};
-pub use origin_error::OriginError;
 pub use roster::Roster;
 pub use shared_roster::SharedRoster;

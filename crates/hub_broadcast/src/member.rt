@@ -2,8 +2,8 @@ ghost use Rattle.std.specs.Prelude.{◌≡◌, length};
 ghost use Rattle.hub_queue.specs.Ending.{IsClosed};
 ghost use Rattle.hub_queue.specs.Taking.{IsTaken};
 
-use crate::origin::Origin;
 use hub_envelope::{AgentId, EndId};
+use hub_origin::Origin;
 use hub_queue::{Grave, Steps, Taker, Took};
 use std::marker::Model;
 use std::sync::Wait;

@@ -4,9 +4,9 @@ ghost use Rattle.hub_broadcast.specs.Destinations.{is_destination};
 
 use crate::cast_outcome::CastOutcome;
 use crate::member::Member;
-use crate::origin::Origin;
 use hub_depot::Depot;
 use hub_envelope::{Draft, EndId};
+use hub_origin::Origin;
 use hub_queue::{Onward, PostError, Poster};
 use std::marker::Model;
 use std::sync::Wait;

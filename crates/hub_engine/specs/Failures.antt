@@ -1,5 +1,5 @@
--- Counts of failed reads and writes.
-use Rattle.std.specs.Prelude.{◌≡◌, ℕ, ◌+◌, ◌%◌, ◌^◌, Result, Ok, Err}
+-- Counts of reads and writes that failed or were interrupted.
+use Rattle.std.specs.Prelude.{◌≡◌, ℕ, ◌+◌, ◌%◌, ◌^◌, Option, Some, None, Result, Ok, Err}
 use Rattle.hub_engine.specs.declared.input.InputError.{InputError}
 use Rattle.hub_engine.specs.declared.input.InputError.TheVariants as input
 
@@ -17,3 +17,14 @@ abbrev pub CountsFailedRead : {T : Type 0} → Result T InputError → ℕ → �
 CountsFailedRead (Ok x) old new = new ≡ old
 CountsFailedRead (Err input.OutOfMemory) old new = new ≡ old
 CountsFailedRead (Err input.Device) old new = new ≡ one_more old
+
+-- a read that gave no count was interrupted once more, and else none was
+abbrev pub CountsInterruption : {T E : Type 0} → Result (Option T) E → ℕ → ℕ → Type 0
+CountsInterruption (Ok None) old new = new ≡ one_more old
+CountsInterruption (Ok (Some x)) old new = new ≡ old
+CountsInterruption (Err e) old new = new ≡ old
+
+-- what answers Ok has seen to it, once, that all has gone out
+abbrev pub CountsFlush : {T E : Type 0} → Result T E → ℕ → ℕ → Type 0
+CountsFlush (Ok x) old new = new ≡ one_more old
+CountsFlush (Err e) old new = Unit {0}

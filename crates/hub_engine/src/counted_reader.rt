@@ -1,8 +1,8 @@
 ghost use Rattle.std.specs.Prelude.{◌≡◌, ◌≢◌, ◌≤◌, ◌<◌, ◌+◌, length, Some, None, Ok, IfOk, IfErr, IfSome, IsErr, OnOk};
 ghost use Rattle.std.specs.IoError.{error_kind};
 ghost use Rattle.hub_engine.specs.IsInput.{GivesBytes};
-ghost use Rattle.hub_engine.specs.Failures.{CountsFailure, one_more};
-ghost use Rattle.hub_engine.specs.Counted.{inner_reader, reads_made, failed_reads};
+ghost use Rattle.hub_engine.specs.Failures.{CountsFailure, CountsInterruption, one_more};
+ghost use Rattle.hub_engine.specs.Counted.{inner_reader, reads_made, interrupted_reads, failed_reads};
 
 use crate::device::Device;
 use std::io;
@@ -11,11 +11,14 @@ use std::io::{ErrorKind, Read};
 /// An input that hasn't ended after so many reads counts as one that fails.
 pub const MAX_READS: u32 = 1_048_576;
 
-/// A reader of one input, with the count of its reads and of those that failed.
+/// A reader of one input, with the counts of its reads, of those that were interrupted, and of
+/// those that failed.
 #[derive(Drop)]
 pub struct CountedReader<R> {
     reader: R,
     reads: u32,
+    /// It would wrap at 2^64, after more reads than there may be.
+    interruptions: u64,
     /// It would wrap at 2^64; callers stop at the first failure.
     failures: u64,
 }
@@ -24,11 +27,13 @@ impl<R: Read> CountedReader<R> {
     pub fn new(reader: R) -> CountedReader<R>
         ensures reader { inner_reader result ≡ reader }
         ensures reads { reads_made result ≡ 0 }
+        ensures interruptions { interrupted_reads result ≡ 0 }
         ensures failures { failed_reads result ≡ 0 }
     {
         CountedReader {
             reader,
             reads: 0,
+            interruptions: 0,
             failures: 0,
         }
     }
@@ -41,20 +46,25 @@ impl<R: Read> CountedReader<R> {
         ensures bytes { GivesBytes (R.remaining (inner_reader self.old))
             (R.remaining (inner_reader self.new)) result piece.new }
         ensures failures { CountsFailure result (failed_reads self.old) (failed_reads self.new) }
+        ensures interruptions { CountsInterruption result (interrupted_reads self.old)
+            (interrupted_reads self.new) }
         ensures reads { OnOk result ((reads_made self.old < MAX_READS)
             × (reads_made self.new ≡ reads_made self.old + 1)) }
+        ensures asked { reads_made self.old < MAX_READS →
+            reads_made self.new ≡ reads_made self.old + 1 }
         ensures no_more { MAX_READS ≤ reads_made self.old →
             IsErr result × (inner_reader self.new ≡ inner_reader self.old) }
     {
         if self.reads >= MAX_READS {
             return Err(self.failed());
         }
+        // The count goes with the call that asks the reader, in one place.
         self.reads += 1;
         let answer = self.reader.read(piece);
         self.result_of_read(answer)
     }
 
-    /// What the reader's answer means: a failure is counted, an interruption is none.
+    /// What the reader's answer means: an interruption is counted, and is no failure.
     fn result_of_read(&mut self, answer: io::Result<usize>) -> Result<Option<usize>, Device>
         ensures ok { IfOk answer (λ count. result ≡ Ok (Some count)) }
         ensures interrupted { IfErr answer (λ error.
@@ -62,11 +72,17 @@ impl<R: Read> CountedReader<R> {
         ensures err { IfErr answer (λ error.
             error_kind error ≢ ErrorKind.Interrupted → IsErr result) }
         ensures failures { CountsFailure result (failed_reads self.old) (failed_reads self.new) }
-        ensures others { self.new ≡ record self.old { failures = failed_reads self.new } }
+        ensures interruptions { CountsInterruption result (interrupted_reads self.old)
+            (interrupted_reads self.new) }
+        ensures others { self.new ≡ record self.old {
+            interruptions = interrupted_reads self.new; failures = failed_reads self.new } }
     {
         match answer {
             Ok(count) => Ok(Some(count)),
-            Err(error) if error.kind() == ErrorKind::Interrupted => Ok(None),
+            Err(error) if error.kind() == ErrorKind::Interrupted => {
+                self.interruptions = self.interruptions.wrapping_add(1);
+                Ok(None)
+            }
             Err(_) => Err(self.failed()),
         }
     }

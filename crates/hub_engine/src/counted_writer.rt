@@ -1,27 +1,33 @@
 ghost use Rattle.std.specs.Prelude.{◌≡◌, ◌≤◌, ◌<◌, length, take, Ok, IfOk, IsOk, IsErr, OnOk, OnErr};
 ghost use Rattle.std.specs.Io.KnownBytes.{Appends, Keeps};
 ghost use Rattle.hub_engine.specs.Failures.{CountsFailure, one_more};
-ghost use Rattle.hub_engine.specs.Counted.{inner_writer, failed_writes};
+ghost use Rattle.hub_engine.specs.Counted.{inner_writer, writes_made, flushes_made, failed_writes};
 
 use crate::device::Device;
 use std::io;
 use std::io::Write;
 
-/// A writer, with the count of its writes and flushes that failed.
+/// A writer, with the counts of its writes, of its flushes, and of those that failed. Each would
+/// wrap at 2^64.
 #[derive(Drop)]
 pub struct CountedWriter<W> {
     writer: W,
-    /// It would wrap at 2^64; callers stop at the first failure.
+    writes: u64,
+    flushes: u64,
     failures: u64,
 }
 
 impl<W: Write> CountedWriter<W> {
     pub fn new(writer: W) -> CountedWriter<W>
         ensures writer { inner_writer result ≡ writer }
+        ensures writes { writes_made result ≡ 0 }
+        ensures flushes { flushes_made result ≡ 0 }
         ensures failures { failed_writes result ≡ 0 }
     {
         CountedWriter {
             writer,
+            writes: 0,
+            flushes: 0,
             failures: 0,
         }
     }
@@ -36,7 +42,10 @@ impl<W: Write> CountedWriter<W> {
         ensures kept { OnErr result (Keeps (W.contents (inner_writer self.old))
             (W.contents (inner_writer self.new))) }
         ensures failures { CountsFailure result (failed_writes self.old) (failed_writes self.new) }
+        ensures asked { (writes_made self.new ≡ one_more (writes_made self.old))
+            × (flushes_made self.new ≡ flushes_made self.old) }
     {
+        self.writes = self.writes.wrapping_add(1);
         let answer = self.writer.write(bytes);
         self.result_of_write(answer)
     }
@@ -46,7 +55,10 @@ impl<W: Write> CountedWriter<W> {
         ensures kept { Keeps (W.contents (inner_writer self.old))
             (W.contents (inner_writer self.new)) }
         ensures failures { CountsFailure result (failed_writes self.old) (failed_writes self.new) }
+        ensures asked { (flushes_made self.new ≡ one_more (flushes_made self.old))
+            × (writes_made self.new ≡ writes_made self.old) }
     {
+        self.flushes = self.flushes.wrapping_add(1);
         let answer = self.writer.flush();
         self.result_of_flush(answer)
     }

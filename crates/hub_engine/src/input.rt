@@ -1,7 +1,7 @@
-ghost use Rattle.std.specs.Prelude.{◌≡◌, ◌<◌, ◌+◌, IfOk, OnOk, length, vec_len};
+ghost use Rattle.std.specs.Prelude.{◌≡◌, ◌<◌, ◌+◌, ◌⊎◌, false, IfOk, OnOk, length, vec_len};
 ghost use Rattle.hub_engine.specs.IsInput.{IsInput, ReadsMore};
-ghost use Rattle.hub_engine.specs.Failures.{CountsFailedRead};
-ghost use Rattle.hub_engine.specs.Counted.{inner_reader, reads_made, failed_reads};
+ghost use Rattle.hub_engine.specs.Failures.{CountsFailedRead, one_more};
+ghost use Rattle.hub_engine.specs.Counted.{inner_reader, reads_made, interrupted_reads, failed_reads};
 ghost use Rattle.hub_engine.specs.declared.counted_reader.TheConstants.{MAX_READS};
 
 use crate::counted_reader::CountedReader;
@@ -59,7 +59,8 @@ pub fn read_input<R: Read>(
     }
 }
 
-/// One read. It tells whether the input has ended; a read that is interrupted adds nothing.
+/// One read. It tells whether the input has ended; a read that is interrupted adds nothing. What
+/// neither was interrupted nor gave a byte is the end.
 fn read_more<R: Read>(
     reader: &mut CountedReader<R>,
     piece: &mut [u8],
@@ -68,6 +69,9 @@ fn read_more<R: Read>(
     requires { 0 < length piece.old }
     ensures bytes { IfOk result (λ has_ended. ReadsMore (R.remaining (inner_reader reader.old))
         (R.remaining (inner_reader reader.new)) input.old.items input.new.items has_ended) }
+    ensures goes_on { IfOk result (λ has_ended. has_ended ≡ false →
+        (length input.old.items < length input.new.items)
+        ⊎ (interrupted_reads reader.new ≡ one_more (interrupted_reads reader.old))) }
     ensures reads { OnOk result ((reads_made reader.old < MAX_READS)
         × (reads_made reader.new ≡ reads_made reader.old + 1)) }
     ensures failures { CountsFailedRead result (failed_reads reader.old) (failed_reads reader.new) }

@@ -2,9 +2,9 @@ ghost use Rattle.std.specs.Prelude.{◌≡◌, [], IfOk, OnOk, OnErr, option_map
 ghost use Rattle.std.specs.Io.KnownBytes.{Appends};
 ghost use Rattle.hub_engine.specs.declared.status.ExitStatus.TheVariants as exit;
 ghost use Rattle.hub_engine.specs.Beginning.{AppendsBeginning};
-ghost use Rattle.hub_engine.specs.Counted.{inner_writer, failed_writes};
+ghost use Rattle.hub_engine.specs.Counted.{inner_writer, flushes_made, failed_writes};
 ghost use Rattle.hub_engine.specs.Engine.{Says, SaysUnread, Writes, bad_line_text};
-ghost use Rattle.hub_engine.specs.Failures.{CountsFailure};
+ghost use Rattle.hub_engine.specs.Failures.{CountsFailure, CountsFlush};
 ghost use Rattle.hub_engine.specs.OutOfMemory.{out_of_memory};
 
 use crate::counted_writer::CountedWriter;
@@ -26,6 +26,7 @@ pub fn write_whole<W: Write>(writer: &mut CountedWriter<W>, bytes: &[u8]) -> Res
     ensures err { OnErr result (AppendsBeginning (W.contents (inner_writer writer.old))
         (W.contents (inner_writer writer.new)) bytes.now) }
     ensures failures { CountsFailure result (failed_writes writer.old) (failed_writes writer.new) }
+    ensures flushes { flushes_made writer.new ≡ flushes_made writer.old }
 {
     let mut rest = bytes;
     while !rest.is_empty() {
@@ -43,6 +44,7 @@ pub fn write_kept<W: Write>(writer: &mut CountedWriter<W>, kept: &mut Vec<u8>) -
         (W.contents (inner_writer writer.new)) kept.old.items) }
     ensures kept { OnOk result (kept.new.items ≡ []) }
     ensures failures { CountsFailure result (failed_writes writer.old) (failed_writes writer.new) }
+    ensures flushes { flushes_made writer.new ≡ flushes_made writer.old }
 {
     write_whole(writer, kept)?;
     kept.clear();
@@ -58,6 +60,7 @@ pub fn end_with<W: Write>(
     ensures written { Writes (Says status bytes.now) (W.contents (inner_writer writer.old))
         (W.contents (inner_writer writer.new)) result }
     ensures failures { CountsFailure result (failed_writes writer.old) (failed_writes writer.new) }
+    ensures flushed { CountsFlush result (flushes_made writer.old) (flushes_made writer.new) }
 {
     write_whole(writer, bytes)?;
     writer.flush()?;
@@ -69,6 +72,7 @@ pub fn end_out_of_memory<W: Write>(writer: &mut CountedWriter<W>) -> Result<Exit
     ensures written { Writes (Says exit.OutOfMemory out_of_memory)
         (W.contents (inner_writer writer.old)) (W.contents (inner_writer writer.new)) result }
     ensures failures { CountsFailure result (failed_writes writer.old) (failed_writes writer.new) }
+    ensures flushed { CountsFlush result (flushes_made writer.old) (flushes_made writer.new) }
 {
     end_with(writer, OUT_OF_MEMORY, ExitStatus::OutOfMemory)
 }
@@ -84,6 +88,7 @@ pub fn end_unread<W: Write>(
     ensures written { Writes (SaysUnread line (option_map (λ name. name.now) kind.entry))
         (W.contents (inner_writer writer.old)) (W.contents (inner_writer writer.new)) result }
     ensures failures { CountsFailure result (failed_writes writer.old) (failed_writes writer.new) }
+    ensures flushed { CountsFlush result (flushes_made writer.old) (flushes_made writer.new) }
 {
     let Some(kind) = kind else {
         return end_out_of_memory(writer);

@@ -8,8 +8,9 @@ use Rattle.hub_modes.specs.declared.mode.Mode.TheVariants.{Steps, Run, Check}
 use Rattle.hub_engine.specs.declared.status.ExitStatus.{ExitStatus}
 use Rattle.hub_engine.specs.declared.status.ExitStatus.TheVariants.{Usage}
 use Rattle.hub_check.specs.CheckOutput.{IsCheckOutput}
-use Rattle.hub_engine.specs.Counted.{inner_reader, inner_writer}
+use Rattle.hub_engine.specs.Counted.{inner_reader, inner_writer, flushes_made}
 use Rattle.hub_engine.specs.Engine.{AnswersInput, CountsDevice}
+use Rattle.hub_engine.specs.Failures.{CountsFlush}
 use Rattle.hub_steps.specs.Output.{IsStepsOutput}
 use Rattle.hub_modes.specs.RunOutput.{IsScriptOutput}
 
@@ -26,3 +27,4 @@ AnswersWords None left contents r r' w w' result = (result ≡ Ok Usage) × (r' 
 AnswersWords (Some mode) left contents r r' w w' result =
     AnswersInput (output_of mode) (left (inner_reader r)) (contents (inner_writer w)) (contents (inner_writer w')) result
     × CountsDevice r r' w w' result
+    × CountsFlush result (flushes_made w) (flushes_made w')

@@ -3,9 +3,9 @@
 ghost use Rattle.std.specs.Prelude.{◌≡◌, ◌++◌, IfOk, OnOk, option_map, string_bytes};
 ghost use Rattle.std.specs.List.{flat_map};
 ghost use Rattle.hub_trace.specs.Text.{log_text};
-ghost use Rattle.hub_engine.specs.Counted.{failed_writes, inner_reader, inner_writer};
+ghost use Rattle.hub_engine.specs.Counted.{failed_writes, flushes_made, inner_reader, inner_writer};
 ghost use Rattle.hub_engine.specs.Engine.{AnswersInput, CountsDevice, Writes};
-ghost use Rattle.hub_engine.specs.Failures.{CountsFailure};
+ghost use Rattle.hub_engine.specs.Failures.{CountsFailure, CountsFlush};
 ghost use Rattle.hub_modes.specs.RunOutput.{
   IsRunText,
   IsScriptOutput,
@@ -43,6 +43,7 @@ pub fn run_file<C: Checkpoint, R: Read, W: Write, T: Threads + Wait + Sync>(
     ensures written { AnswersInput IsScriptOutput (R.remaining (inner_reader reader.old))
         (W.contents (inner_writer writer.old)) (W.contents (inner_writer writer.new)) result }
     ensures failures { CountsDevice reader.old reader.new writer.old writer.new result }
+    ensures flushed { CountsFlush result (flushes_made writer.old) (flushes_made writer.new) }
 {
     match read_input(alloc, reader) {
         Ok(input) => run_input(alloc, rt, &input, checkpoint, writer),
@@ -62,6 +63,7 @@ fn run_input<C: Checkpoint, W: Write, T: Threads + Wait + Sync>(
     ensures written { Writes (IsScriptOutput input.now) (W.contents (inner_writer writer.old))
         (W.contents (inner_writer writer.new)) result }
     ensures failures { CountsFailure result (failed_writes writer.old) (failed_writes writer.new) }
+    ensures flushed { CountsFlush result (flushes_made writer.old) (flushes_made writer.new) }
 {
     match Script::read(alloc, input) {
         Ok(script) => run_script(alloc, rt, &script, checkpoint, writer),
@@ -85,6 +87,7 @@ pub fn run_script<C: Checkpoint, W: Write, T: Threads + Wait + Sync>(
     ensures written { Writes SaysRun (W.contents (inner_writer writer.old))
         (W.contents (inner_writer writer.new)) result }
     ensures failures { CountsFailure result (failed_writes writer.old) (failed_writes writer.new) }
+    ensures flushed { CountsFlush result (flushes_made writer.old) (flushes_made writer.new) }
 {
     match run_agents(alloc, rt, script, checkpoint) {
         Ok(logs) => write_run(alloc, &logs, writer),
@@ -101,6 +104,7 @@ fn write_run<W: Write>(
     ensures written { Writes (IsRunText logs.now) (W.contents (inner_writer writer.old))
         (W.contents (inner_writer writer.new)) result }
     ensures failures { CountsFailure result (failed_writes writer.old) (failed_writes writer.new) }
+    ensures flushed { CountsFlush result (flushes_made writer.old) (flushes_made writer.new) }
 {
     match run_text(alloc, logs) {
         Ok((text, status)) => end_with(writer, text.as_bytes(), status),

@@ -146,3 +146,51 @@ impl Read for EndlessReader {
         Ok(1)
     }
 }
+
+/// Gives so many bytes, one at each read.
+#[derive(Drop)]
+pub struct ByteReader {
+    pub left: usize,
+}
+
+impl Read for ByteReader {
+    fn read(&mut self, piece: &mut [u8]) -> io::Result<usize> {
+        if piece.is_empty() || self.left == 0 {
+            return Ok(0);
+        }
+        self.left -= 1;
+        piece[0] = b'a';
+        Ok(1)
+    }
+}
+
+/// Takes all, and counts what it was asked for.
+#[derive(Drop)]
+pub struct CountingWriter {
+    pub writes: usize,
+    pub flushes: usize,
+    pub bytes: usize,
+}
+
+impl CountingWriter {
+    pub fn new() -> CountingWriter {
+        CountingWriter {
+            writes: 0,
+            flushes: 0,
+            bytes: 0,
+        }
+    }
+}
+
+impl Write for CountingWriter {
+    fn write(&mut self, bytes: &[u8]) -> io::Result<usize> {
+        self.writes = self.writes.saturating_add(1);
+        self.bytes = self.bytes.saturating_add(bytes.len());
+        Ok(bytes.len())
+    }
+
+    fn flush(&mut self) -> io::Result<()> {
+        self.flushes = self.flushes.saturating_add(1);
+        Ok(())
+    }
+}

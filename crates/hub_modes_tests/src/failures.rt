@@ -8,7 +8,7 @@ use hub_modes::Mode;
 use std::test::Fail;
 
 /// For each mode an input, what is written for it, and the status.
-const RUNS: [(Mode, &[u8], &[u8], ExitStatus); 4] = [
+pub const RUNS: [(Mode, &[u8], &[u8], ExitStatus); 4] = [
     (Mode::Steps, b"agent -\n", b"agent 0\n", ExitStatus::Success),
     (
         Mode::Steps,

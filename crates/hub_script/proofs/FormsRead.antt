@@ -5,7 +5,7 @@ use Rattle.std.specs.Prelude.{codes, is_some}
 use Rattle.std.specs.Str.{bytes_eq}
 use Rattle.serde_json.specs.Data.{Data}
 use Rattle.serde_json.specs.Find.{get}
-use Rattle.hub_broadcast.specs.Origin.{origin_answer}
+use Rattle.hub_origin.specs.Origin.{origin_answer}
 use Rattle.hub_envelope.specs.Answer.{answer_to}
 use Rattle.hub_envelope.specs.declared.body.BodyError.{BodyError}
 use Rattle.hub_life.specs.declared.event.Event.{Event}
@@ -28,7 +28,7 @@ use Rattle.hub_script.specs.Form.{agent_form, at_agent, body_in, cast_form, chan
 use Rattle.hub_script.specs.Keyword.{keyword_of, word_of}
 use Rattle.hub_script.specs.Shown.{AreFields, AreTexts, HasForm, IsBody, IsNumber, IsText, IsTransfer, event_word, fields_of, kind_word, strings}
 use Rattle.hub_script.proofs.OtherFields.{no_other_field}
-use Rattle.hub_broadcast.specs.declared.origin_error.OriginError.{OriginError}
+use Rattle.hub_origin.specs.declared.origin_error.OriginError.{OriginError}
 use Rattle.hub_script.proofs.Naming.{contains_cases}
 use Rattle.hub_script.proofs.ShownForms.{keyword, number_is, shown, text_is}
 

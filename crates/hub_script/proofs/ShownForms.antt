@@ -8,7 +8,7 @@ use Rattle.std.specs.Str.{bytes_eq}
 use Rattle.std.proofs.lemmas.Bool.{lt-ltb, ltb-true}
 use Rattle.serde_json.specs.Data.{Data, null, boolean, number, string, array, object, unsigned, negative, float, Items, no_items, item}
 use Rattle.serde_json.specs.Find.{as_number, as_str, as_u64, get}
-use Rattle.hub_broadcast.specs.Origin.{origin_answer}
+use Rattle.hub_origin.specs.Origin.{origin_answer}
 use Rattle.hub_envelope.specs.Answer.{answer_to}
 use Rattle.hub_envelope.specs.declared.body.BodyError.{BodyError}
 use Rattle.hub_life.specs.declared.event.Event.{Event}

@@ -10,7 +10,7 @@ use Rattle.std.proofs.lemmas.Bool.Decides.{Decides-like, Decides-or, not_from_De
 use Rattle.std.proofs.lemmas.List.{length-map}
 use Rattle.std.proofs.lemmas.List.Elements.{All-cons, All-nil}
 use Rattle.std.proofs.lemmas.Option.{slice_get-map}
-use Rattle.hub_broadcast.specs.declared.origin_error.OriginError.{OriginError}
+use Rattle.hub_origin.specs.declared.origin_error.OriginError.{OriginError}
 use Rattle.hub_envelope.specs.declared.body.BodyError.{BodyError}
 use Rattle.hub_envelope.specs.declared.body.BodyError.TheVariants.{NotJson, NotWhole, TooDeep, TooLong, OutOfMemory as NoMemory}
 use Rattle.hub_envelope.specs.declared.ids.AgentId.{AgentId}

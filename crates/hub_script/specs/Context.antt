@@ -3,7 +3,7 @@
 -- then the limits, then what is left of its body or URL.
 use Rattle.std.specs.Prelude.{ℕ, ◌==◌, ◌||◌, ◌&&◌, List, [], ◌∷◌, ◌++◌, length, map, Bool, true, false, not, nat_le, nat_lt, Option, Some, None, is_some, Result, Ok, Err, ⊤, codes, bytes_eq, slice_get, if◌then◌else◌}
 use Rattle.std.specs.List.{list_all, list_any}
-use Rattle.hub_broadcast.specs.declared.origin_error.OriginError.{OriginError}
+use Rattle.hub_origin.specs.declared.origin_error.OriginError.{OriginError}
 use Rattle.hub_core.specs.declared.limits.TheConstants.{MAX_AGENTS}
 use Rattle.hub_envelope.specs.declared.body.BodyError.{BodyError}
 use Rattle.hub_envelope.specs.declared.body.BodyError.TheVariants.{NotJson, NotWhole, TooDeep, TooLong, OutOfMemory as NoMemory}

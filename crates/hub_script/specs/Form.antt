@@ -5,7 +5,7 @@ use Rattle.std.specs.Str.{is_utf8}
 use Rattle.serde_json.specs.Data.{Data, Items, no_items, item}
 use Rattle.serde_json.specs.Find.{as_array, as_object, as_str, get}
 use Rattle.serde_json.specs.Read.{read}
-use Rattle.hub_broadcast.specs.Origin.{origin_answer}
+use Rattle.hub_origin.specs.Origin.{origin_answer}
 use Rattle.hub_envelope.specs.Answer.{answer_to}
 use Rattle.hub_envelope.specs.declared.body.BodyError.{BodyError}
 use Rattle.hub_life.specs.Word.{event_of}

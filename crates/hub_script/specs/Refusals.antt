@@ -6,7 +6,7 @@ use Rattle.std.specs.Prelude.{◌≡◌, ◌⊎◌, ℕ, ◌+◌, ◌<◌, ◌�
 use Rattle.std.specs.List.{All, AllZip, Any, Contains}
 use Rattle.serde_json.specs.Data.{Data}
 use Rattle.serde_json.specs.Find.{get}
-use Rattle.hub_broadcast.specs.declared.origin_error.OriginError.{OriginError}
+use Rattle.hub_origin.specs.declared.origin_error.OriginError.{OriginError}
 use Rattle.hub_core.specs.declared.limits.TheConstants.{MAX_AGENTS}
 use Rattle.hub_envelope.specs.declared.body.BodyError.{BodyError}
 use Rattle.hub_envelope.specs.declared.body.BodyError.TheVariants.{TooDeep, TooLong}

@@ -5,8 +5,8 @@ use Rattle.std.specs.Str.{is_utf8}
 use Rattle.serde_json.specs.Data.{Data, string, number, array, object, unsigned, Items, no_items, item, Members}
 use Rattle.serde_json.specs.Find.{get}
 use Rattle.serde_json.specs.Read.{read}
-use Rattle.hub_broadcast.specs.Origin.{origin_answer}
-use Rattle.hub_broadcast.specs.declared.origin_error.OriginError.{OriginError}
+use Rattle.hub_origin.specs.Origin.{origin_answer}
+use Rattle.hub_origin.specs.declared.origin_error.OriginError.{OriginError}
 use Rattle.hub_envelope.specs.Answer.{answer_to}
 use Rattle.hub_envelope.specs.declared.body.BodyError.{BodyError}
 use Rattle.hub_life.specs.declared.event.Event.{Event}

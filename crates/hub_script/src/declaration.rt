@@ -1,6 +1,6 @@
 use crate::agent_kind::AgentKind;
 use crate::name::Name;
-use hub_broadcast::Origin;
+use hub_origin::Origin;
 use hub_envelope::AgentId;
 
 /// An agent of a script. Agents are numbered from 0 in the order of the file.

@@ -1,7 +1,7 @@
 use crate::agent_kind::AgentKind;
 use crate::name::Name;
 use crate::name_list::NameList;
-use hub_broadcast::{Origin, OriginError};
+use hub_origin::{Origin, OriginError};
 use hub_envelope::{Body, BodyError};
 use hub_life::Event;
 

@@ -1,5 +1,5 @@
 ghost use Rattle.std.specs.Prelude.{◌≡◌, ◌≤◌, IfOk};
-ghost use Rattle.hub_broadcast.specs.Origin.{origin_answer};
+ghost use Rattle.hub_origin.specs.Origin.{origin_answer};
 ghost use Rattle.hub_envelope.specs.Answer.{answer_of};
 ghost use Rattle.hub_script.specs.Form.{agent_form, at_agent, body_in, cast_form, channel_form, event_form, form_of, form_with, kind_of, loaded_form, member_form, names_from, names_of, object_in, pair_of, post_form, send_form, shown_fields, text_form, transfer_in};
 ghost use Rattle.hub_text.specs.Reading.{IsReadAs};
@@ -15,7 +15,7 @@ use crate::limits::QUEUE;
 use crate::name::Name;
 use crate::name_list::NameList;
 use crate::script_error::ScriptError;
-use hub_broadcast::{Origin, OriginError, origin_of};
+use hub_origin::{Origin, OriginError, origin_of};
 use hub_envelope::{Body, BodyError};
 use hub_life::Event;
 use serde_json::Value;

@@ -23,9 +23,9 @@ use Rattle.hub_steps.specs.declared.step_line.StepLineError.TheVariants.{BadUtf8
 use Rattle.hub_steps.specs.BodyKind.{body_kind}
 use Rattle.hub_steps.specs.declared.step_line.AgentUrl.{AgentUrl}
 use Rattle.hub_steps.specs.declared.step_line.AgentUrl.TheVariants.{NoUrl, Origin, BadUrl, OpaqueOrigin}
-use Rattle.hub_broadcast.specs.Origin.{origin_answer}
-use Rattle.hub_broadcast.specs.declared.origin_error.OriginError.{OriginError}
-use Rattle.hub_broadcast.specs.declared.origin_error.OriginError.TheVariants as why
+use Rattle.hub_origin.specs.Origin.{origin_answer}
+use Rattle.hub_origin.specs.declared.origin_error.OriginError.{OriginError}
+use Rattle.hub_origin.specs.declared.origin_error.OriginError.TheVariants as why
 use Rattle.serde_json.specs.Find.{as_str}
 use Rattle.serde_json.specs.Read.{read}
 

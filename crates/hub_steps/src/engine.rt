@@ -1,7 +1,8 @@
 //! The engine of `messagehub steps`.
 
-ghost use Rattle.hub_engine.specs.Counted.{inner_reader, inner_writer};
+ghost use Rattle.hub_engine.specs.Counted.{flushes_made, inner_reader, inner_writer};
 ghost use Rattle.hub_engine.specs.Engine.{AnswersInput, CountsDevice};
+ghost use Rattle.hub_engine.specs.Failures.{CountsFlush};
 ghost use Rattle.hub_steps.specs.Output.{IsStepsOutput};
 ghost use Rattle.hub_steps.specs.StepText.{OneText};
 
@@ -26,6 +27,7 @@ pub fn run_steps<R: Read, W: Write>(
     ensures written { AnswersInput IsStepsOutput (R.remaining (inner_reader reader.old))
         (W.contents (inner_writer writer.old)) (W.contents (inner_writer writer.new)) result }
     ensures failures { CountsDevice reader.old reader.new writer.old writer.new result }
+    ensures flushed { CountsFlush result (flushes_made writer.old) (flushes_made writer.new) }
 {
     run_engine::<StepsEngine, R, W>(alloc, reader, writer)
 }

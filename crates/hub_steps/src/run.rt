@@ -1,8 +1,8 @@
 ghost use Rattle.std.specs.Prelude.{◌≡◌, ◌++◌, ◌+◌, ◌≤◌, ◌⊎◌, ℕ, List, [], Option, Ok, Err, IfOk, IfErr, OnOk, OnErr, length};
 ghost use Rattle.hub_core.specs.declared.machine.Core.{Core as TheCore};
-ghost use Rattle.hub_engine.specs.Counted.{inner_writer, failed_writes};
+ghost use Rattle.hub_engine.specs.Counted.{inner_writer, failed_writes, flushes_made};
 ghost use Rattle.hub_engine.specs.Engine.{Writes};
-ghost use Rattle.hub_engine.specs.Failures.{CountsFailure};
+ghost use Rattle.hub_engine.specs.Failures.{CountsFailure, CountsFlush};
 ghost use Rattle.hub_text.specs.TextLines.{text_lines_of};
 ghost use Rattle.hub_steps.specs.Lives.{AllLives, lives_after};
 ghost use Rattle.hub_steps.specs.Output.{IsRunOutput};
@@ -139,6 +139,8 @@ impl Run {
             (W.contents (inner_writer writer.new)) result }
         ensures failures { CountsFailure result (failed_writes writer.old)
             (failed_writes writer.new) }
+        ensures flushed { CountsFlush result (flushes_made writer.old)
+            (flushes_made writer.new) }
     {
         let mut rest = rest;
         while !rest.is_empty() {
@@ -172,6 +174,8 @@ impl Run {
             result }
         ensures failures { CountsFailure result (failed_writes writer.old)
             (failed_writes writer.new) }
+        ensures flushed { CountsFlush result (flushes_made writer.old)
+            (flushes_made writer.new) }
     {
         write_kept(writer, &mut self.kept)?;
         end_out_of_memory(writer)

@@ -1,4 +1,4 @@
-use hub_broadcast::{Origin, OriginError, origin_of};
+use hub_origin::{Origin, OriginError, origin_of};
 use std::alloc::Global;
 use std::process::Abort;
 use std::test::Fail;

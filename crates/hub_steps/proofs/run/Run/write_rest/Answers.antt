@@ -13,6 +13,7 @@ pub loop-rest-init : goal.loop-rest-init
 loop-rest-init g c = record {
   run = λ front back n run left. sets_out (text_lines_of c.args.rest.now) (g.W.Write.contents c.args.writer.now.writer) c.args.self.now.core c.args.self.now.lives c.args.self.now.kept.items front back n run left;
   failures = refl;
+  flushes = refl;
 }
 
 pub loop-rest-preserved-in-Continue-1 : goal.loop-rest-preserved-in-Continue-1
@@ -24,6 +25,7 @@ loop-rest-preserved-in-Continue-1 g c =
           let u = goes_on (front ++ back) (text_lines_of c.loop-rest.rest.now) (text_lines_of c.split_text_line.result.1.now) c.split_text_line.result.0.now c.in-Ok.line (contents c.args.writer.now.writer) (contents c.loop-rest.writer.writer) c.loop-rest.self.core c.answer.new.self.core c.loop-rest.self.lives c.answer.new.self.lives c.loop-rest.self.kept.items c.answer.new.self.kept.items c.split_text_line.ensures.line c.in-Ok.ensures (c.loop-rest.invariant.run front back n run left) x in
           goes_out (front ++ back) (text_lines_of c.split_text_line.result.1.now) (contents c.args.writer.now.writer) (contents c.loop-rest.writer.writer) (contents c.write_kept.new.writer.writer) c.answer.new.self.core c.answer.new.self.lives c.answer.new.self.kept.items c.write_kept.new.kept.items u c.in_ok-write_kept.ensures.ok c.in_ok-write_kept.ensures.kept;
       failures = c.in_ok-write_kept.ensures.failures ∙ c.loop-rest.invariant.failures;
+      flushes = c.in_ok-write_kept.ensures.flushes ∙ c.loop-rest.invariant.flushes;
     }
 
 pub loop-rest-preserved : goal.loop-rest-preserved
@@ -33,6 +35,7 @@ loop-rest-preserved g c =
     record {
       run = λ front back n run left. goes_on (front ++ back) (text_lines_of c.loop-rest.rest.now) (text_lines_of c.split_text_line.result.1.now) c.split_text_line.result.0.now c.in-Ok.line (contents c.args.writer.now.writer) (contents c.loop-rest.writer.writer) c.loop-rest.self.core c.answer.new.self.core c.loop-rest.self.lives c.answer.new.self.lives c.loop-rest.self.kept.items c.answer.new.self.kept.items c.split_text_line.ensures.line c.in-Ok.ensures (c.loop-rest.invariant.run front back n run left) x;
       failures = c.loop-rest.invariant.failures;
+      flushes = c.loop-rest.invariant.flushes;
     }
 
 -- a step line that was tested found no memory when it was read again

@@ -19,7 +19,7 @@ pub enum OriginError {
 
 impl From<OutOfMemory> for OriginError {
     ghost use Rattle.std.specs.Prelude.{◌≡◌};
-    ghost use Rattle.hub_broadcast.specs.declared.origin_error.OriginError.TheVariants.{OutOfMemory};
+    ghost use Rattle.hub_origin.specs.declared.origin_error.OriginError.TheVariants.{OutOfMemory};
 
     ghost from_gives = { λ _ e. e ≡ OutOfMemory };
 
@@ -30,7 +30,7 @@ impl From<OutOfMemory> for OriginError {
 
 impl From<ParseError> for OriginError {
     ghost use Rattle.std.specs.Prelude.{◌≡◌};
-    ghost use Rattle.hub_broadcast.specs.Refusal.{parse_refusal};
+    ghost use Rattle.hub_origin.specs.Refusal.{parse_refusal};
 
     ghost from_gives = { λ error e. e ≡ parse_refusal error };
 

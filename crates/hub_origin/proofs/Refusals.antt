@@ -5,10 +5,10 @@ use Rattle.url.specs.declared.error.ParseError.TheVariants as parse
 use Rattle.url.specs.Origin.{Triple, ascii_serialization, origin_of}
 use Rattle.url.specs.Parser.{IsOutOfRoom, parse_url}
 use Rattle.url.specs.Parts.{Parts}
-use Rattle.hub_broadcast.specs.declared.origin_error.OriginError.{OriginError}
-use Rattle.hub_broadcast.specs.declared.origin_error.OriginError.TheVariants.{BadUrl, OpaqueOrigin, OutOfMemory}
-use Rattle.hub_broadcast.specs.Origin.{IsOriginAnswer, origin_answer, tuple_answer, url_answer}
-use Rattle.hub_broadcast.specs.Refusal.{parse_refusal}
+use Rattle.hub_origin.specs.declared.origin_error.OriginError.{OriginError}
+use Rattle.hub_origin.specs.declared.origin_error.OriginError.TheVariants.{BadUrl, OpaqueOrigin, OutOfMemory}
+use Rattle.hub_origin.specs.Origin.{IsOriginAnswer, origin_answer, tuple_answer, url_answer}
+use Rattle.hub_origin.specs.Refusal.{parse_refusal}
 
 abbrev pub Told : List ℕ → OriginError → Type 0
 Told text e = ((e ≡ OutOfMemory) ⊎ (origin_answer text ≡ Err e)) × IsOriginAnswer text (Err e)

@@ -1,8 +1,8 @@
 use Rattle.std.proofs.Common.{rules, ◌≡◌, Ok, inr, sym, ap, ◌∙◌, is_some, true, false}
 use Rattle.std.proofs.lemmas.Result.{err_from_is_err_and}
 use Rattle.url.specs.Origin.{origin_tuple}
-use Rattle.hub_broadcast.proofs.Refusals.{refused, by_origin, is_opaque, is_told}
-use Rattle.hub_broadcast.proofs.origin.origin_of.Goals as goal
+use Rattle.hub_origin.proofs.Refusals.{refused, by_origin, is_opaque, is_told}
+use Rattle.hub_origin.proofs.origin.origin_of.Goals as goal
 
 pub returns-in_err-url-clause-reads : goal.returns-in_err-url-clause-reads
 returns-in_err-url-clause-reads c =

@@ -4,8 +4,8 @@ use Rattle.url.specs.declared.error.ParseError.{ParseError}
 use Rattle.url.specs.Origin.{Triple, ascii_serialization, origin_of}
 use Rattle.url.specs.Parser.{Parsed, parse_url}
 use Rattle.url.specs.Parts.{Parts}
-use Rattle.hub_broadcast.specs.declared.origin_error.OriginError.{OriginError}
-use Rattle.hub_broadcast.specs.declared.origin_error.OriginError.TheVariants.{BadUrl, OpaqueOrigin, OutOfMemory}
+use Rattle.hub_origin.specs.declared.origin_error.OriginError.{OriginError}
+use Rattle.hub_origin.specs.declared.origin_error.OriginError.TheVariants.{BadUrl, OpaqueOrigin, OutOfMemory}
 
 -- an origin's text; an origin that is no scheme, host and port is opaque
 abbrev pub tuple_answer : Option Triple → Result (List ℕ) OriginError

@@ -1,7 +1,7 @@
 ghost use Rattle.std.specs.Prelude.{◌≡◌, ◌↔◌, IsTrue, bytes_eq};
 ghost use Rattle.std.specs.Cmp.{partial_equiv_from_equiv};
 ghost use Rattle.std.specs.Cmp.Lexicographic.{nat_list_eq_equiv};
-ghost use Rattle.hub_broadcast.specs.Origin.{IsOriginAnswer, origin_answer};
+ghost use Rattle.hub_origin.specs.Origin.{IsOriginAnswer, origin_answer};
 ghost use Rattle.hub_text.specs.Reading.{IsReadAs};
 
 use crate::origin_error::OriginError;
