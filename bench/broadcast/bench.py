@@ -8,7 +8,7 @@ not timed. There is no bound.
 from measure import scaled
 
 BUILDS = {
-    "broadcast": ["crossbeam_utils", "hub_broadcast", "hub_depot", "hub_envelope", "hub_queue"]
+    "broadcast": ["hub_broadcast", "hub_depot", "hub_envelope", "hub_queue"]
 }
 POSTS = 1_000_000
 SIZES = [1, 10, 100, 1000]

@@ -9,7 +9,7 @@ threads, each of which holds one port and parks where it has nothing to deliver.
 from measure import scaled
 
 BUILDS = {
-    "loop": ["crossbeam_utils", "hub_envelope", "hub_life", "hub_loop", "hub_ports", "hub_queue"]
+    "loop": ["hub_envelope", "hub_life", "hub_loop", "hub_ports", "hub_queue"]
 }
 # What is timed, with how many ports, and how often.
 SHAPES = {

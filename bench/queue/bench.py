@@ -27,7 +27,7 @@ little.
 from measure import ANY, prints, rate, ratio, scaled
 
 BUILDS = {
-    "queue": ["crossbeam_utils", "hub_core", "hub_depot", "hub_envelope", "hub_queue"],
+    "queue": ["hub_core", "hub_depot", "hub_envelope", "hub_queue"],
     "queue_alone": ["crossbeam_queue", "crossbeam_utils", "hub_envelope"],
 }
 MESSAGES = 1_000_000

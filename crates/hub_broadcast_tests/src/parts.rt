@@ -1,10 +1,9 @@
 //! What the tests make their members of, and the calls that they make.
 ghost use Rattle.std.specs.Prelude.{◌≡◌};
 
-use crossbeam_utils::sync::Parker;
 use hub_broadcast::{Member, Origin, origin_of};
 use hub_envelope::{Body, EndId};
-use hub_queue::{Bell, Steps, Took};
+use hub_queue::{Bell, Listener, Steps, Took};
 use std::alloc::Global;
 use std::marker::Brand;
 use std::sync::Wait;
@@ -15,8 +14,8 @@ pub(crate) const NO_PORTS: [EndId; 0] = [];
 
 /// A bell that nobody sleeps at.
 pub(crate) fn try_bell(alloc: Global) -> Option<Bell> {
-    let parker = Parker::new(alloc).ok()?;
-    Some(Bell::new(parker.unparker().clone().ok()?))
+    let (_, bell) = Listener::open(alloc).ok()?;
+    Some(bell)
 }
 
 /// The origin of a URL, and a name.

@@ -2,18 +2,17 @@
 //! since the next one has the memory.
 ghost use Rattle.std.specs.Prelude.{◌≡◌};
 
-use crossbeam_utils::sync::Parker;
 use hub_clients::HandedQueue;
 use hub_envelope::{AgentId, Body, Draft, Ports};
-use hub_queue::{Bell, Steps, Took};
+use hub_queue::{Bell, Listener, Steps, Took};
 use std::alloc::Global;
 use std::marker::Brand;
 use std::sync::Wait;
 use std::sync::ledger::{Blank, Ledger};
 
 fn try_bell(alloc: Global) -> Option<Bell> {
-    let parker = Parker::new(alloc).ok()?;
-    Some(Bell::new(parker.unparker().clone().ok()?))
+    let (_, bell) = Listener::open(alloc).ok()?;
+    Some(bell)
 }
 
 /// A bell that nobody sleeps at.

@@ -75,7 +75,9 @@ impl<R: Read> CountedReader<R> {
         ensures interruptions { CountsInterruption result (interrupted_reads self.old)
             (interrupted_reads self.new) }
         ensures others { self.new ≡ record self.old {
-            interruptions = interrupted_reads self.new; failures = failed_reads self.new } }
+          interruptions = interrupted_reads self.new;
+          failures = failed_reads self.new;
+        } }
     {
         match answer {
             Ok(count) => Ok(Some(count)),

@@ -55,13 +55,12 @@ use crate::holding::Holding;
 use crate::loop_error::LoopError;
 use crate::serving::Served;
 use crate::turn::Turn;
-use crossbeam_utils::sync::Parker;
 use hub_broadcast::{Member, SharedRoster};
 use hub_clients::{ClientQueue, Directory, HandedQueue};
 use hub_envelope::{AgentId, EndId, OutOfMemory};
 use hub_life::Order;
 use hub_ports::{Hub, Port};
-use hub_queue::{Bell, Poster, Steps};
+use hub_queue::{Listener, Poster, Steps};
 use std::alloc::Global;
 use std::marker::Brand;
 use std::mem::replace;
@@ -78,7 +77,7 @@ pub struct EventLoop<H: Handler + Drop, C: Checkpoint + Drop> {
     alloc: Global,
     agent: AgentId,
     order: Order,
-    parker: Parker,
+    listener: Listener,
     handler: H,
     checkpoint: C,
     holding: Holding,
@@ -95,8 +94,8 @@ pub struct EventLoop<H: Handler + Drop, C: Checkpoint + Drop> {
 }
 
 impl<H: Handler + Drop, C: Checkpoint + Drop> EventLoop<H, C> {
-    /// A loop that holds nothing, for the agent of that number. It parks at `parker`, whose
-    /// unparkers are the bells of the ends that it is to hold.
+    /// A loop that holds nothing, for the agent of that number. It sleeps at `bell`, the listener
+    /// whose bells are those of the ends that it is to hold.
     ///
     /// After an error no loop was made.
     pub fn open(
@@ -105,22 +104,22 @@ impl<H: Handler + Drop, C: Checkpoint + Drop> EventLoop<H, C> {
         order: Order,
         handler: H,
         checkpoint: C,
-        parker: Parker,
+        bell: Listener,
     ) -> Result<EventLoop<H, C>, OutOfMemory>
         ensures held { IfOk result (λ opened. opened.holding.held.slots ≡ []) }
         ensures kept { IfOk result (λ opened. opened.kept ≡ None) }
         ensures handler { IfOk result (λ opened. opened.handler ≡ handler) }
         ensures order { IfOk result (λ opened. opened.order ≡ order) }
     {
-        let bell = Bell::new(parker.unparker().clone()?);
+        let holding = Holding::new(alloc, bell.bell()?);
         Ok(EventLoop {
             alloc,
             agent,
             order,
-            parker,
+            listener: bell,
             handler,
             checkpoint,
-            holding: Holding::new(alloc, bell),
+            holding,
             kept: None,
             fetched: Vec::new(alloc),
             opened: Vec::new(alloc),
@@ -177,6 +176,7 @@ impl<H: Handler + Drop, C: Checkpoint + Drop> EventLoop<H, C> {
         if self.order.seen() {
             return Ok(Turn::Ending);
         }
+        clear(&mut self.listener);
         let mut delivery = match self.take_up(rt, steps) {
             Due::Delivery(delivery) => delivery,
             Due::Nothing(busy) => return Ok(Turn::Idle { busy }),
@@ -267,11 +267,11 @@ impl<H: Handler + Drop, C: Checkpoint + Drop> EventLoop<H, C> {
         self.holding.release(end)
     }
 
-    /// Rests after a turn: where no end gave anything and none was busy the thread parks until
+    /// Rests after a turn: where no end gave anything and none was busy the thread sleeps until
     /// somebody rings, and where one was busy it lets other threads run first.
-    pub fn rest<R: Wait>(&self, rt: &R, turn: Turn) {
+    pub fn rest<R: Wait>(&mut self, rt: &R, turn: Turn) {
         match turn {
-            Turn::Idle { busy: false } => self.parker.park(rt),
+            Turn::Idle { busy: false } => self.listener.sleep(rt),
             Turn::Idle { busy: true } => thread::yield_now(),
             Turn::Delivered | Turn::Ending => {}
         }
@@ -495,6 +495,17 @@ impl<H: Handler + Drop, C: Checkpoint + Drop> EventLoop<H, C> {
                 self.closing = Some(closing);
                 Err(error)
             }
+        }
+    }
+}
+
+// Takes all ready bits out, so that whoever posts from now on sets them again. All ends are asked
+// in the turn, whichever were rung.
+fn clear(listener: &mut Listener) {
+    let names = listener.take_names();
+    for word in names.trailing_zeros()..64 {
+        if names >> word & 1 == 1 {
+            listener.take_bits(word as usize);
         }
     }
 }

@@ -6,14 +6,13 @@ use crate::mail::Mail;
 use crate::parts::{Loop, body, room, turn};
 use crate::scribe::Scribe;
 use crate::shared::Shared;
-use crossbeam_utils::sync::Parker;
 use hub_broadcast::CastOutcome;
 use hub_clients::{ClientQueue, HandError, WorkerQueue};
 use hub_envelope::{AgentId, Body, EndId};
 use hub_life::Order;
 use hub_loop::{Ended, EventLoop, Held, LoopError, NoCheckpoint, Turn};
 use hub_ports::{Hub, Port, PortError, send};
-use hub_queue::{Bell, Posted};
+use hub_queue::{Bell, Listener, Posted};
 use std::alloc::Global;
 use std::sync::Wait;
 
@@ -66,18 +65,17 @@ fn open_loop(
     alloc: Global,
     number: AgentId,
     orders: &mut Vec<Order>,
-    parker: Parker,
+    listener: Listener,
 ) -> Option<Loop> {
     let seat = orders.pop()?;
     let scribe = Scribe::new(alloc, orders.pop()?);
-    EventLoop::open(alloc, number, seat, scribe, &NoCheckpoint, parker).ok()
+    EventLoop::open(alloc, number, seat, scribe, &NoCheckpoint, listener).ok()
 }
 
 fn try_open(alloc: Global, number: AgentId, may_refuse: bool) -> Option<Agent> {
     let mut orders = Order::open(alloc, 3).ok()?;
-    let parker = Parker::new(alloc).ok()?;
-    let bell = Bell::new(parker.unparker().clone().ok()?);
-    let event_loop = open_loop(alloc, number, &mut orders, parker)?;
+    let (listener, bell) = Listener::open(alloc).ok()?;
+    let event_loop = open_loop(alloc, number, &mut orders, listener)?;
     Some(Agent {
         alloc,
         number,

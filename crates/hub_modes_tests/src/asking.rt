@@ -32,7 +32,10 @@ fn each_write_and_each_flush_reaches_the_writer(rt: HostRuntime) -> Result<(), F
         assert_eq!(rt; writer.flush(), Ok(()));
     }
     let asked = writer.into_inner();
-    assert_eq!(rt; (asked.writes, asked.flushes, asked.bytes), (3, 2, 1_049_577));
+    assert_eq!(rt;
+        (asked.writes, asked.flushes, asked.bytes),
+        (3, 2, 1_049_577)
+    );
     Ok(())
 }
 

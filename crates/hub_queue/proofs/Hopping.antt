@@ -15,6 +15,8 @@ use Rattle.hub_queue.specs.declared.post_error.PostError.{PostError}
 use Rattle.hub_queue.specs.Posting.{StaysAt, name_after, HasPassed, LeavesBehind, GoesTo, HasSeen, IsSeen, IsPosted}
 use Rattle.hub_queue.specs.Putting.{IsPut}
 use Rattle.hub_queue.specs.Seats.{LineSeat, IsNameOf}
+use Rattle.hub_bell.specs.Seats.{Done, silent}
+use Rattle.hub_queue.specs.Rings.{HasRung, RingsOnward}
 use Rattle.hub_queue.specs.Standing.{StandSeat, IsNext, put_of, right_in, right_of, entry_in}
 use Rattle.hub_queue.specs.Trying.{IsAnswered, IsPutInside, IsTried, gone_to, GoesToUnused, IsPostedOnward, error_of}
 
@@ -130,12 +132,12 @@ is_answered old here draft (Ok posted) stays put = (put_of old, old.entry.at.ent
 is_answered old here draft (Err refused) stays put = (put_of old, old.entry.at.enters, inl (stays, refl, refl), put.0, put.1, subst (λ (e : PostError). IsSeen here old.entry.at.enters e) (sym put.2) tt)
 
 -- inside its gate the line stays where it stands
-pub is_put : (old : StandSeat) (name : Key) (gates : List (Option (EntrySeat LineSeat))) (inside : InsideSeat LineSeat) (entry : Option (EntrySeat LineSeat)) (draft : Draft) (answer : Result Posted (PostError × Draft)) → name ≡ old.name → gates ≡ old.left → old.entry.at.home ≡ Some inside.right → inside.gate ≡ old.entry.gate → IsPutInside inside entry draft answer → IsPosted old (record { name = name; entry = entry_in entry; left = gates }) draft answer
-is_put old name gates inside entry draft answer named same home gate (word, right, left, queue, put) =
-    let here : StandSeat = record { name = name; entry = left_seat (with_right inside right) word; left = gates } in
+pub is_put : (old : StandSeat) (name : Key) (rung : Done) (gates : List (Option (EntrySeat LineSeat))) (inside : InsideSeat LineSeat) (entry : Option (EntrySeat LineSeat)) (draft : Draft) (answer : Result Posted (PostError × Draft)) → name ≡ old.name → gates ≡ old.left → old.entry.at.home ≡ Some inside.right → inside.gate ≡ old.entry.gate → IsPutInside inside entry draft answer → IsPosted old (record { name = name; entry = entry_in entry; rung = rung; left = gates }) draft answer
+is_put old name rung gates inside entry draft answer named same home gate (word, right, left, queue, put) =
+    let here : StandSeat = record { name = name; entry = left_seat (with_right inside right) word; rung = rung; left = gates } in
     let stays : StaysAt old here = record { name = named; gate = gate; queue = queue ∙ sym (ap (λ (h : Option LineSeat). (right_in h).queue) home); left = same } in
     let kept : IsAnswered (put_of old) right.at draft answer = subst (λ (v : PutView). IsAnswered v right.at draft answer) (sym (ap (λ (h : Option LineSeat). (right_in h).at) home)) put in
-    subst (λ (e : Option (EntrySeat LineSeat)). IsPosted old (record { name = name; entry = entry_in e; left = gates }) draft answer) (sym left) (is_answered old here draft answer stays kept)
+    subst (λ (e : Option (EntrySeat LineSeat)). IsPosted old (record { name = name; entry = entry_in e; rung = rung; left = gates }) draft answer) (sym left) (is_answered old here draft answer stays kept)
 
 module _ (old here : StandSeat) (draft kept : Draft) (found : Refusal) (tried : IsTried old here draft (Turned found kept)) where
   goes_from : (new : StandSeat) → GoesTo here new → GoesTo old new
@@ -177,3 +179,8 @@ module _ (old here : StandSeat) (draft kept : Draft) (found : Refusal) (tried : 
       ))
       (λ far. (put_of new, 0, inr (goes_from new far.0.goes, far.0.named, far.0.unused, refl), refl, back ∙ tried.2, far.1))
       onward
+
+  -- and what its bell had done before is nothing
+  pub rung_onward : (new : StandSeat) (answer : Result Posted (PostError × Draft)) → IsPostedOnward here new found kept answer → RingsOnward new answer → HasRung old new answer
+  rung_onward new (Ok posted) (before, unused, put) rung = (silent, inr (goes_from new unused.goes, refl), rung)
+  rung_onward new (Err refused) onward rung = tt

@@ -1,5 +1,5 @@
 -- How a line goes over the yard from queue to queue, and what a watch is told of it.
-use Rattle.std.proofs.Common.{◌≡◌, ◌≢◌, ℕ, zero, suc, ◌+◌, ◌<◌, ◌≤◌, Bool, true, false, cond, List, [], ◌∷◌, ◌++◌, append_assoc, append-nil, refl, sym, ap, ◌∙◌, subst, inl, inr, arith, if◌then◌else◌, option_map, Option, Some, None, IfSome, Result, Ok, Err}
+use Rattle.std.proofs.Common.{◌≡◌, ◌≢◌, ℕ, zero, suc, ◌+◌, ◌<◌, Bool, true, false, cond, List, [], ◌∷◌, ◌++◌, append_assoc, append-nil, refl, sym, ap, ◌∙◌, subst, inl, inr, arith, if◌then◌else◌, option_map, Option, Some, None, IfSome, Result, Ok, Err}
 use Rattle.std.specs.Ordering.{eq_by_cmp}
 use Rattle.std.specs.FinMap as map
 use Rattle.std.specs.FinMap.{get-remove}
@@ -14,15 +14,13 @@ use Rattle.hub_queue.specs.declared.pass_view.PutView.{PutView}
 use Rattle.hub_queue.specs.declared.pause.Point.{Point}
 use Rattle.hub_queue.specs.declared.pause.Point.TheVariants.{Before, Inside, Pushed, Hopping}
 use Rattle.hub_queue.specs.declared.posted.Posted.{Posted}
-use Rattle.hub_queue.specs.declared.posting.Tried.{Tried}
-use Rattle.hub_queue.specs.declared.posting.Tried.TheVariants.{Answered, Turned}
 use Rattle.hub_queue.specs.declared.post_error.PostError.{PostError}
-use Rattle.hub_queue.specs.declared.post_error.PostError.TheVariants.{Closed, Moving, OutOfMemory}
+use Rattle.hub_queue.specs.declared.post_error.PostError.TheVariants.{Closed, Moving}
 use Rattle.hub_queue.specs.Posting.{StaysAt, name_after}
-use Rattle.hub_queue.specs.Standing.{StandSeat, IsNext, right_of}
+use Rattle.hub_queue.specs.Standing.{StandSeat, IsNext}
 use Rattle.hub_queue.specs.Trying.{IsAnswered, gone_to}
 use Rattle.hub_queue.specs.Watching.{told_more, points_inside, points_hopping, points_refused, points_at_last, points_onward, points_of}
-use Rattle.hub_queue.specs.Yards.{Yard, hops_between, without_next, IsStandOf, GoesNoFurther, IsHeldBack, HasHopped, IsHoppedOver}
+use Rattle.hub_queue.specs.Yards.{Yard, hops_between, without_next, IsStandOf, GoesNoFurther, IsHeldBack, IsHoppedOver}
 
 -- The yard: what is left of it after so many hops
 

@@ -12,6 +12,7 @@ use Rattle.hub_gate.proofs.Got.{some_is, got_or, got-map, len-map}
 use Rattle.hub_queue.specs.Mailboxes.{new_stand, new_stands, stands_at, IsNewPlace, IsOpenMailbox}
 use Rattle.hub_queue.specs.Opening.{new_right, new_rights, IsOpenPlace}
 use Rattle.hub_queue.specs.Places.{PlaceSeat}
+use Rattle.hub_bell.specs.Seats.{Done, silent}
 use Rattle.hub_queue.specs.Standing.{StandSeat, IsStand, IsUnused}
 use Rattle.hub_queue.specs.Seats.{LineSeat, tag_of}
 use Rattle.hub_queue.proofs.Below.{many_below, at_below}
@@ -61,19 +62,19 @@ pub stands_more : (gate : TableId) (web : WebId) (end : EndId) (epoch line : ℕ
 stands_more gate web end epoch line = let e : line + 1 ≡ suc line = omega arith in ap (stands_at gate web end epoch) e
 
 -- a line with this entry, at a queue of this epoch
-abbrev pub stand_of : EndId → ℕ → ℕ → EntrySeat LineSeat → List (Option (EntrySeat LineSeat)) → StandSeat
-stand_of end epoch line entry left = record { name = record { end = end; epoch = epoch; line = record { 0 = line } }; entry = entry; left = left }
+abbrev pub stand_of : EndId → ℕ → ℕ → EntrySeat LineSeat → Done → List (Option (EntrySeat LineSeat)) → StandSeat
+stand_of end epoch line entry rung left = record { name = record { end = end; epoch = epoch; line = record { 0 = line } }; entry = entry; rung = rung; left = left }
 
 -- a line that has just got its entry stands at the queue, and has put nothing
-pub stand_holds : (gate : TableId) (web : WebId) (end : EndId) (epoch line : ℕ) (entry : EntrySeat LineSeat) (left : List (Option (EntrySeat LineSeat))) → epoch ≤ MAX_MOVES → entry ≡ (new_stand gate web end epoch line).entry → IsStand (stand_of end epoch line entry left) × IsUnused (stand_of end epoch line entry left)
-stand_holds gate web end epoch line entry left few is = subst (λ (x : EntrySeat LineSeat). IsStand (stand_of end epoch line x left) × IsUnused (stand_of end epoch line x left)) (sym is) (
+pub stand_holds : (gate : TableId) (web : WebId) (end : EndId) (epoch line : ℕ) (entry : EntrySeat LineSeat) (rung : Done) (left : List (Option (EntrySeat LineSeat))) → epoch ≤ MAX_MOVES → rung ≡ silent → entry ≡ (new_stand gate web end epoch line).entry → IsStand (stand_of end epoch line entry rung left) × IsUnused (stand_of end epoch line entry rung left)
+stand_holds gate web end epoch line entry rung left few quiet is = subst (λ (x : EntrySeat LineSeat). IsStand (stand_of end epoch line x rung left) × IsUnused (stand_of end epoch line x rung left)) (sym is) (
   record {
     home = refl;
     name = record { end = refl; epoch = refl; line = refl };
     line = refl;
     moves = few;
   },
-  record { put = refl; enters = refl },
+  record { put = refl; enters = refl; quiet = quiet },
 )
 
 -- the queue is new

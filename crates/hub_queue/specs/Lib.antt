@@ -12,6 +12,7 @@ pub mod Places
 pub mod Popping
 pub mod Posting
 pub mod Putting
+pub mod Rings
 pub mod Seats
 pub mod Settling
 pub mod SharedQueue

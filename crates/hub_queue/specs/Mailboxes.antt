@@ -2,6 +2,7 @@
 use Rattle.std.specs.Prelude.{◌≡◌, ℕ, zero, suc, List, [], ◌∷◌, ◌++◌, Some, None}
 use Rattle.atomic_blocks.specs.Laid.{WebId}
 use Rattle.atomic_table.specs.Seated.{TableId}
+use Rattle.hub_bell.specs.Seats.{silent}
 use Rattle.hub_envelope.specs.declared.ids.EndId.{EndId}
 use Rattle.hub_gate.specs.GateRule.{new_line, keeper_at}
 use Rattle.hub_queue.specs.Opening.{new_right, new_rights, new_take}
@@ -15,6 +16,7 @@ abbrev pub new_stand : TableId → WebId → EndId → ℕ → ℕ → StandSeat
 new_stand gate web end epoch line = record {
   name = record { end = end; epoch = epoch; line = record { 0 = line } };
   entry = record { gate = gate; at = new_line line (tag_of (new_right web end.0 epoch line)) (Some (new_right web end.0 epoch line)) };
+  rung = silent;
   left = none_left;
 }
 

@@ -2,15 +2,17 @@
 use Rattle.std.specs.Prelude.{◌≡◌, ◌+◌, ◌≤◌, List, [], replicate, Option, Some, None}
 use Rattle.hub_core.specs.declared.limits.TheConstants.{MAX_HOPS, MAX_MOVES}
 use Rattle.hub_depot.specs.declared.key.Key.{Key}
+use Rattle.hub_bell.specs.Seats.{Done, silent}
 use Rattle.hub_gate.specs.GateRule.{new_line}
 use Rattle.hub_gate.specs.GateSeats.{EntrySeat}
 use Rattle.hub_queue.specs.declared.pass_view.PutView.{PutView}
 use Rattle.hub_queue.specs.Seats.{LineSeat, IsNameOf}
 
--- the name of the line at the queue where it stands, its entry at the gate of that queue, and the entries at the gates that it left in the last post that went on, the last one first
+-- the name of the line at the queue where it stands, its entry at the gate of that queue, what its bell has done, and the entries at the gates that it left in the last post that went on, the last one first
 pub record StandSeat : Type 0 where
   pub name : Key
   pub entry : EntrySeat LineSeat
+  pub rung : Done
   pub left : List (Option (EntrySeat LineSeat))
 
 -- a line that has left no gate
@@ -36,10 +38,11 @@ pub record IsStand (s : StandSeat) : Type 0 where
   pub line : s.entry.at.line ≡ s.name.line.0
   pub moves : s.name.epoch ≤ MAX_MOVES
 
--- the line has put nothing there, and has never entered
+-- the line has put nothing there, has never entered, and has never rung
 pub record IsUnused (s : StandSeat) : Type 0 where
   pub put : (put_of s).put ≡ []
   pub enters : s.entry.at.enters ≡ 0
+  pub quiet : s.rung ≡ silent
 
 -- the stand of a line at the next queue of its end, which is not used yet
 pub record IsNext (name : Key) (s : StandSeat) : Type 0 where

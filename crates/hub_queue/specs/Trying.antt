@@ -32,7 +32,7 @@ IsTried old new draft (Turned found back) = StaysAt old new × (put_of new ≡ p
 
 -- the line stands at the next queue, and keeps what shows the gate that it has left
 abbrev pub gone_to : StandSeat → StandSeat → StandSeat
-gone_to old next = record { name = next.name; entry = next.entry; left = Some old.entry ∷ take 3 old.left }
+gone_to old next = record { name = next.name; entry = next.entry; rung = next.rung; left = Some old.entry ∷ take 3 old.left }
 
 -- the line has gone on to a later queue of its end, in which it had put this, which is nothing
 pub record GoesToUnused (old new : StandSeat) (before : PutView) : Type 0 where

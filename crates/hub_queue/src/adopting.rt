@@ -8,13 +8,13 @@ ghost use Rattle.hub_queue.specs.Mailboxes.{IsNewPlace, stands_at};
 ghost use Rattle.hub_queue.specs.Opening.{IsOpenPlace};
 
 use crate::adopt_error::AdoptError;
-use crate::bell::Bell;
 use crate::left_gates::LeftGates;
 use crate::line_right::LineRight;
 use crate::onward::Onward;
 use crate::opening::open_place;
 use crate::place::Place;
 use crate::stand::Stand;
+use hub_bell::Bell;
 use hub_core::OutOfMemory;
 use hub_depot::{DepotError, Key, Named, Shelf, put_all};
 use hub_envelope::{EndId, LineId};

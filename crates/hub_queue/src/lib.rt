@@ -9,7 +9,6 @@
 
 mod adopt_error;
 mod adopting;
-mod bell;
 mod draining;
 mod ends;
 mod grave;
@@ -40,10 +39,10 @@ mod taker;
 mod took;
 
 pub use adopt_error::AdoptError;
-pub use bell::Bell;
 pub use draining::{Drained, Rest};
 pub use ends::Ends;
 pub use grave::{Grave, Sweep};
+pub use hub_bell::{Bell, Listener};
 pub use hub_core::{MAX_HOPS, MAX_LINES, MAX_MOVES};
 pub use laws::queue_chain_laws;
 pub use left_gates::LeftGates;

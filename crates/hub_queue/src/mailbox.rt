@@ -3,11 +3,11 @@ ghost use Rattle.hub_core.specs.declared.limits.TheConstants.{MAX_LINES};
 ghost use Rattle.hub_queue.specs.Mailboxes.{IsOpenMailbox};
 
 use crate::adopting::onwards_at;
-use crate::bell::Bell;
 use crate::onward::Onward;
 use crate::opening::open_place;
 use crate::poster::Poster;
 use crate::taker::Taker;
+use hub_bell::Bell;
 use hub_core::OutOfMemory;
 use hub_envelope::EndId;
 use std::alloc::Global;

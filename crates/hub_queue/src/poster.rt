@@ -1,5 +1,6 @@
 ghost use Rattle.std.specs.Prelude.{◌≡◌};
 ghost use Rattle.hub_queue.specs.Posting.{IsPosted};
+ghost use Rattle.hub_queue.specs.Rings.{HasRung};
 ghost use Rattle.hub_queue.specs.Watching.{points_of, told_more};
 ghost use Rattle.hub_queue.specs.Yards.{IsHoppedOver};
 
@@ -49,7 +50,8 @@ impl Poster {
         yard: &Depot<Onward>,
         draft: Draft,
     ) -> Result<Posted, (PostError, Draft)>
-        ensures { IsPosted self.old self.new draft result }
+        ensures posted { IsPosted self.old self.new draft result }
+        ensures rung { HasRung self.old self.new result }
     {
         self.post_with(rt, yard, draft, &NoPause)
     }
@@ -62,7 +64,8 @@ impl Poster {
         draft: Draft,
         pause: &P,
     ) -> Result<Posted, (PostError, Draft)>
-        ensures { IsPosted self.old self.new draft result }
+        ensures posted { IsPosted self.old self.new draft result }
+        ensures rung { HasRung self.old self.new result }
     {
         let (mut yard, mut pause) = (yard, pause);
         self.post_on(rt, &mut yard, draft, &mut pause)
@@ -82,6 +85,7 @@ impl Poster {
         watch: &mut W,
     ) -> Result<Posted, (PostError, Draft)>
         ensures posted { IsPosted self.old self.new draft result }
+        ensures rung { HasRung self.old self.new result }
         ensures yard { IsHoppedOver (S.shown yard.old) (S.shown yard.new)
             self.old.name self.new result }
         ensures told { W.told watch.new

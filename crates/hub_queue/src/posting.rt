@@ -1,19 +1,21 @@
 //! A post: enter the gate, put the draft, leave; and go on where the queue is retired.
 ghost use Rattle.std.specs.Prelude.{◌≡◌};
 ghost use Rattle.hub_queue.specs.Posting.{IsPosted};
+ghost use Rattle.hub_queue.specs.Rings.{HasRung, IsRungWhere, RingsOnward, RingsTried};
 ghost use Rattle.hub_queue.specs.Seats.{IsNameOf, tag_of};
+ghost use Rattle.hub_queue.specs.Standing.{entry_in};
 ghost use Rattle.hub_queue.specs.Trying.{IsPostedOnward, IsPutInside, IsTried};
 ghost use Rattle.hub_queue.specs.Watching.{points_inside, points_of, points_onward, points_tried};
 ghost use Rattle.hub_queue.specs.Watching.{told_more};
 ghost use Rattle.hub_queue.specs.Yards.{IsHoppedOver, hops_between};
 
-use crate::bell::Bell;
 use crate::line_right::LineRight;
 use crate::onward::{Onward, next_stand};
 use crate::pause::{Point, Watch};
 use crate::post_error::PostError;
 use crate::posted::Posted;
 use crate::stand::Stand;
+use hub_bell::Bell;
 use hub_core::MAX_HOPS;
 use hub_depot::{Key, Shelf};
 use hub_envelope::Draft;
@@ -38,13 +40,14 @@ fn post_inside<W: Watch, R: Wait>(
     mut inside: Inside<LineRight>,
     name: Key,
     place: &mut Option<Entry<LineRight>>,
-    bell: &Bell,
+    bell: &mut Bell,
     draft: Draft,
     watch: &mut W,
 ) -> Result<Posted, (PostError, Draft)>
     requires name { IsNameOf inside.right.at name }
     requires tag { tag_of inside.right ≡ inside.at.tag }
     ensures put { IsPutInside inside place.new draft result }
+    ensures rung { IsRungWhere bell.old.at bell.new.at name.end (entry_in place.new).at.left }
     ensures told { W.told watch.new ≡ told_more (W.told watch.old) points_inside }
 {
     watch.reach(rt, Point::Inside);
@@ -53,7 +56,7 @@ fn post_inside<W: Watch, R: Wait>(
     let (entry, enabled) = inside.leave();
     *place = Some(entry);
     if enabled {
-        bell.ring();
+        bell.ring(name.end);
     }
     match put {
         Ok(posted) => Ok(posted),
@@ -65,10 +68,11 @@ impl Stand {
     // Posts at the queue where the line stands.
     fn try_post<W: Watch, R: Wait>(&mut self, rt: &R, draft: Draft, watch: &mut W) -> Tried
         ensures tried { IsTried self.old self.new draft result }
+        ensures rung { RingsTried self.old self.new result }
         ensures told { W.told watch.new ≡ told_more (W.told watch.old) (points_tried result) }
     {
         watch.reach(rt, Point::Before);
-        let (name, bell) = (self.name, &self.bell);
+        let (name, bell) = (self.name, &mut self.bell);
         match self.entry.take().unwrap().enter() {
             Entered::In(inside) => {
                 let answer = post_inside(rt, inside, name, &mut self.entry, bell, draft, watch);
@@ -93,13 +97,14 @@ impl Stand {
         watch: &mut W,
     ) -> Result<Posted, (PostError, Draft)>
         ensures posted { IsPosted self.old self.new draft result }
+        ensures rung { HasRung self.old self.new result }
         ensures yard { IsHoppedOver (S.shown yard.old) (S.shown yard.new)
             self.old.name self.new result }
         ensures told { W.told watch.new
             ≡ told_more (W.told watch.old) (points_of self.old.name self.new.name result) }
     {
         watch.reach(rt, Point::Before);
-        let (name, bell) = (self.name, &self.bell);
+        let (name, bell) = (self.name, &mut self.bell);
         match self.entry.take().unwrap().enter() {
             Entered::In(inside) => {
                 post_inside(rt, inside, name, &mut self.entry, bell, draft, watch)
@@ -123,6 +128,7 @@ impl Stand {
         watch: &mut W,
     ) -> Result<Posted, (PostError, Draft)>
         ensures posted { IsPostedOnward self.old self.new refusal draft result }
+        ensures rung { RingsOnward self.new result }
         ensures yard { IsHoppedOver (S.shown yard.old) (S.shown yard.new)
             self.old.name self.new result }
         ensures told { W.told watch.new ≡ told_more (W.told watch.old)

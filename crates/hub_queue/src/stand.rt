@@ -1,9 +1,9 @@
 ghost use Rattle.std.specs.Prelude.{◌≡◌};
 ghost use Rattle.hub_queue.specs.Trying.{gone_to};
 
-use crate::bell::Bell;
 use crate::left_gates::LeftGates;
 use crate::line_right::LineRight;
+use hub_bell::Bell;
 use hub_depot::Key;
 use hub_gate::Entry;
 use std::marker::Model;
@@ -25,10 +25,20 @@ impl Model for Stand {
 
     ghost Value = { StandSeat };
 
-    ghost view = { λ s. record { name = s.name; entry = entry_in s.entry; left = s.left } };
+    ghost view = { λ s. record {
+      name = s.name;
+      entry = entry_in s.entry;
+      rung = s.bell.at;
+      left = s.left;
+    } };
 
     ghost invariant = { λ s. (s.entry ≡ Some (entry_in s.entry))
-        × IsStand (record { name = s.name; entry = entry_in s.entry; left = s.left }) };
+        × IsStand (record {
+          name = s.name;
+          entry = entry_in s.entry;
+          rung = s.bell.at;
+          left = s.left;
+        }) };
 }
 
 impl Stand {

@@ -8,13 +8,13 @@ ghost use Rattle.hub_queue.specs.Taking.{IsTaken, IsTakenOldest, started};
 
 use crate::adopt_error::AdoptError;
 use crate::adopting::open_next;
-use crate::bell::Bell;
 use crate::grave::Grave;
 use crate::left_queue::LeftQueue;
 use crate::onward::Onward;
 use crate::place::Place;
 use crate::steps::Steps;
 use crate::took::Took;
+use hub_bell::Bell;
 use hub_core::MAX_MOVES;
 use hub_depot::{Depot, Shelf};
 use hub_envelope::EndId;

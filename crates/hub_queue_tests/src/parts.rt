@@ -1,9 +1,8 @@
 //! What the tests make their mailboxes of, and the calls that many of them make.
 ghost use Rattle.std.specs.Prelude.{◌≡◌};
 
-use crossbeam_utils::sync::Parker;
 use hub_envelope::{AgentId, Body, Draft, EndId, Envelope, Ports};
-use hub_queue::{Bell, MAX_LINES, Mailbox, Poster, Steps, Taker, Took};
+use hub_queue::{Bell, Listener, MAX_LINES, Mailbox, Poster, Steps, Taker, Took};
 use std::alloc::Global;
 use std::marker::Brand;
 use std::sync::Wait;
@@ -29,8 +28,8 @@ pub(crate) fn draft(alloc: Global, text: &str) -> Option<Draft> {
 }
 
 fn try_bell(alloc: Global) -> Option<Bell> {
-    let parker = Parker::new(alloc).ok()?;
-    Some(Bell::new(parker.unparker().clone().ok()?))
+    let (_, bell) = Listener::open(alloc).ok()?;
+    Some(bell)
 }
 
 /// A bell that nobody sleeps at, in the same way.

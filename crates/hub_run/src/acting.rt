@@ -134,8 +134,8 @@ impl<'s, C: Checkpoint> Agent<'s, C> {
         }
     }
 
-    fn wake(&self, agent: AgentId) {
-        if let Some(peer) = self.peers.get(usize::from(agent.0)) {
+    fn wake(&mut self, agent: AgentId) {
+        if let Some(peer) = self.peers.get_mut(usize::from(agent.0)) {
             peer.wake();
         }
     }

@@ -8,13 +8,12 @@ ghost use Rattle.hub_trace.specs.declared.limits.TheConstants.{MAX_AGENT};
 use crate::agent::Agent;
 use crate::peer::Peer;
 use crate::shared::Shared;
-use crossbeam_utils::sync::{Parker, Unparker};
 use hub_envelope::{AgentId, OutOfMemory};
 use hub_life::{Life, Order};
 use hub_logging::Scribe;
 use hub_loop::{Checkpoint, EventLoop, Held};
 use hub_ports::channel;
-use hub_queue::{Bell, Ends};
+use hub_queue::{Bell, Ends, Listener};
 use hub_script::{AgentKind, DeclaredChannel, DeclaredMember, Script};
 use std::alloc::Global;
 use std::sync::Wait;
@@ -28,7 +27,7 @@ struct Parts {
     for_loop: Order,
     /// The seat of the agent itself.
     for_agent: Order,
-    parker: Parker,
+    listener: Listener,
 }
 
 // What all loops are made of, what each agent has of all, and what wakes each.
@@ -36,35 +35,32 @@ struct Parts {
 struct Seats {
     parts: Vec<Parts>,
     peers: Vec<Vec<Peer>>,
-    unparkers: Vec<Unparker>,
+    bells: Vec<Bell>,
 }
 
 /// The agents of a run before it begins.
 #[derive(Drop)]
 pub(crate) struct Made<'s, C: Checkpoint> {
     pub(crate) agents: Vec<Agent<'s, C>>,
-    unparkers: Vec<Unparker>,
+    bells: Vec<Bell>,
     ends: Ends,
 }
 
 // Gives each list of peers a seat at the word of one more agent, which this wakes.
-fn add_peer(
-    lists: &mut [Vec<Peer>],
-    orders: Vec<Order>,
-    unparker: &Unparker,
-) -> Result<(), OutOfMemory> {
+fn add_peer(lists: &mut [Vec<Peer>], orders: Vec<Order>, bell: &Bell) -> Result<(), OutOfMemory> {
     for (list, order) in lists.iter_mut().zip(orders) {
-        list.push(Peer::new(order, unparker.clone()?))?;
+        list.push(Peer::new(order, bell.clone()?))?;
     }
     Ok(())
 }
 
-// What the loop of an agent is made of, and a seat at its order's word for each of so many agents.
+// What the loop of an agent is made of, its bell, and a seat at its order's word for each of so many
+// agents.
 fn open_parts(
     alloc: Global,
     number: AgentId,
     count: usize,
-) -> Result<(Parts, Vec<Order>), OutOfMemory>
+) -> Result<(Parts, Bell, Vec<Order>), OutOfMemory>
     requires number { number.0 ≤ MAX_AGENT }
     requires count { count ≤ MAX_AGENTS }
 {
@@ -72,14 +68,15 @@ fn open_parts(
     let (Some(for_loop), Some(for_agent)) = (orders.pop(), orders.pop()) else {
         unreachable!();
     };
+    let (listener, bell) = Listener::open(alloc)?;
     let parts = Parts {
         number,
         scribe: Scribe::new(alloc, number),
         for_loop,
         for_agent,
-        parker: Parker::new(alloc)?,
+        listener,
     };
-    Ok((parts, orders))
+    Ok((parts, bell, orders))
 }
 
 impl Seats {
@@ -89,17 +86,16 @@ impl Seats {
         let mut seats = Seats {
             parts: Vec::new(alloc),
             peers: Vec::new(alloc),
-            unparkers: Vec::new(alloc),
+            bells: Vec::new(alloc),
         };
         for _ in 0..count {
             seats.peers.push(Vec::new(alloc))?;
         }
         for number in 0..count {
             let number = AgentId(number as u8);
-            let (parts, orders) = open_parts(alloc, number, count)?;
-            let unparker = parts.parker.unparker();
-            add_peer(&mut seats.peers, orders, unparker)?;
-            seats.unparkers.push(unparker.clone()?)?;
+            let (parts, bell, orders) = open_parts(alloc, number, count)?;
+            add_peer(&mut seats.peers, orders, &bell)?;
+            seats.bells.push(bell)?;
             seats.parts.push(parts)?;
         }
         Ok(seats)
@@ -111,10 +107,6 @@ fn life_of(kind: AgentKind) -> Option<Life> {
         AgentKind::Window => None,
         AgentKind::Worker => Some(Life::new()),
     }
-}
-
-fn bell_of(unparker: &Unparker) -> Result<Bell, OutOfMemory> {
-    Ok(Bell::new(unparker.clone()?))
 }
 
 impl<'s, C: Checkpoint> Agent<'s, C> {
@@ -132,13 +124,13 @@ impl<'s, C: Checkpoint> Agent<'s, C> {
             scribe,
             for_loop,
             for_agent,
-            parker,
+            listener,
         } = parts;
         Ok(Agent {
             alloc,
             number,
             shared,
-            event_loop: EventLoop::open(alloc, number, for_loop, scribe, checkpoint, parker)?,
+            event_loop: EventLoop::open(alloc, number, for_loop, scribe, checkpoint, listener)?,
             order: for_agent,
             peers,
             life: life_of(kind),
@@ -167,7 +159,7 @@ impl<'s, C: Checkpoint> Made<'s, C> {
         let Seats {
             parts,
             peers,
-            unparkers,
+            bells,
         } = Seats::new(alloc, declared.len())?;
         let mut agents = Vec::new(alloc);
         for ((declared, parts), peers) in declared.iter().zip(parts).zip(peers) {
@@ -176,25 +168,25 @@ impl<'s, C: Checkpoint> Made<'s, C> {
         }
         Ok(Made {
             agents,
-            unparkers,
+            bells,
             ends: Ends::new(),
         })
     }
 
-    // The agent of that number, and what wakes it.
-    fn agent_mut(&mut self, number: AgentId) -> Option<(&mut Agent<'s, C>, &Unparker)> {
+    // The agent of that number, and its bell.
+    fn agent_mut(&mut self, number: AgentId) -> Option<(&mut Agent<'s, C>, &Bell)> {
         let place = usize::from(number.0);
-        match (self.agents.get_mut(place), self.unparkers.get(place)) {
-            (Some(agent), Some(unparker)) => Some((agent, unparker)),
+        match (self.agents.get_mut(place), self.bells.get(place)) {
+            (Some(agent), Some(bell)) => Some((agent, bell)),
             _ => None,
         }
     }
 
     // Gives each agent its queue.
     fn add_queues<R: Wait>(&mut self, rt: &R) -> Result<(), OutOfMemory> {
-        for (agent, unparker) in self.agents.iter_mut().zip(&self.unparkers) {
+        for (agent, bell) in self.agents.iter_mut().zip(&self.bells) {
             let directory = &agent.shared.directory;
-            let bell = bell_of(unparker)?;
+            let bell = bell.clone()?;
             let made = match agent.life {
                 None => directory.client(rt, &mut self.ends, bell).map(Held::Client),
                 Some(_) => directory.worker(rt, &mut self.ends, bell).map(Held::Worker),
@@ -214,10 +206,10 @@ impl<'s, C: Checkpoint> Made<'s, C> {
         declared: &DeclaredChannel,
     ) -> Result<(), OutOfMemory> {
         let mut ends = self.ends;
-        let Some((agent, unparker)) = self.agent_mut(declared.at) else {
+        let Some((agent, bell)) = self.agent_mut(declared.at) else {
             return Ok(());
         };
-        let Ok((port, other)) = channel(alloc, &mut ends, bell_of(unparker)?) else {
+        let Ok((port, other)) = channel(alloc, &mut ends, bell.clone()?) else {
             return Err(OutOfMemory);
         };
         agent.give(Held::Port(port))?;
@@ -240,10 +232,10 @@ impl<'s, C: Checkpoint> Made<'s, C> {
         };
         let origin = declared_agent.origin.clone()?;
         let name = String::from_str(alloc, declared.on.as_str())?;
-        let Some((agent, unparker)) = self.agent_mut(declared.at) else {
+        let Some((agent, bell)) = self.agent_mut(declared.at) else {
             return Ok(());
         };
-        let bell = bell_of(unparker)?;
+        let bell = bell.clone()?;
         let roster = &agent.shared.roster;
         let Ok(member) = roster.join(rt, &mut ends, declared.at, origin, name, bell) else {
             return Err(OutOfMemory);

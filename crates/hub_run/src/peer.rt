@@ -1,28 +1,28 @@
-use crossbeam_utils::sync::Unparker;
 use hub_life::Order;
+use hub_queue::Bell;
 
 /// What an agent has of another one, or of itself: a seat at the word of its order, and what wakes
 /// its thread.
 #[derive(Drop)]
 pub(crate) struct Peer {
     order: Order,
-    unparker: Unparker,
+    bell: Bell,
 }
 
 impl Peer {
-    pub(crate) fn new(order: Order, unparker: Unparker) -> Peer {
-        Peer { order, unparker }
+    pub(crate) fn new(order: Order, bell: Bell) -> Peer {
+        Peer { order, bell }
     }
 
     /// Gives the agent the order to end, and wakes it.
     pub(crate) fn order(&mut self) {
         self.order.give();
-        self.unparker.unpark();
+        self.bell.wake();
     }
 
     /// Wakes the agent.
-    pub(crate) fn wake(&self) {
-        self.unparker.unpark();
+    pub(crate) fn wake(&mut self) {
+        self.bell.wake();
     }
 }
 

@@ -4,6 +4,8 @@
 #![tactic(auto)]
 
 #[cfg(test)]
+mod bells;
+#[cfg(test)]
 mod depots;
 #[cfg(test)]
 mod gates;

@@ -68,7 +68,10 @@ fn body(alloc: Global, text: &str) -> Result<Body, OutOfMemory> {
 }
 
 fn list(alloc: Global, ends: &[u32]) -> Result<EndIds, OutOfMemory> {
-    let ends = ends.iter().map(|end| EndId(*end)).collect::<Vec<EndId>>(alloc)?;
+    let ends = ends
+        .iter()
+        .map(|end| EndId(*end))
+        .collect::<Vec<EndId>>(alloc)?;
     Ok(EndIds::of(ends))
 }
 

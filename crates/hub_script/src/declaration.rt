@@ -1,7 +1,7 @@
 use crate::agent_kind::AgentKind;
 use crate::name::Name;
-use hub_origin::Origin;
 use hub_envelope::AgentId;
+use hub_origin::Origin;
 
 /// An agent of a script. Agents are numbered from 0 in the order of the file.
 #[derive(Debug, Drop)]

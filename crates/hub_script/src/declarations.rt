@@ -8,8 +8,8 @@ use crate::form::Form;
 use crate::name::Name;
 use crate::script_error::ScriptError;
 use crate::script_reader::{ScriptReader, require};
-use hub_origin::{Origin, OriginError};
 use hub_core::MAX_AGENTS;
+use hub_origin::{Origin, OriginError};
 use std::alloc::Global;
 
 impl ScriptReader {

@@ -1,9 +1,9 @@
 use crate::agent_kind::AgentKind;
 use crate::name::Name;
 use crate::name_list::NameList;
-use hub_origin::{Origin, OriginError};
 use hub_envelope::{Body, BodyError};
 use hub_life::Event;
+use hub_origin::{Origin, OriginError};
 
 /// What a script line says by itself, before agents and names are looked up. Its URL and its body
 /// are read already; where they are refused, the refusal is kept, since other tests come first.

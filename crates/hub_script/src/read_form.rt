@@ -15,9 +15,9 @@ use crate::limits::QUEUE;
 use crate::name::Name;
 use crate::name_list::NameList;
 use crate::script_error::ScriptError;
-use hub_origin::{Origin, OriginError, origin_of};
 use hub_envelope::{Body, BodyError};
 use hub_life::Event;
+use hub_origin::{Origin, OriginError, origin_of};
 use serde_json::Value;
 use std::alloc::Global;
 

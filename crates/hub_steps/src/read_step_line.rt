@@ -3,10 +3,10 @@ ghost use Rattle.hub_text.specs.Reading.{IsReadAs};
 ghost use Rattle.hub_steps.specs.StepLine.{agent_of, agent_and_event_after, agent_and_name_after, cast_after, name_of, url_after, url_of, command_in, command_of, end_and_agent_after, line_of, list_of, mark, number_after, number_of, only_word, poster_after, poster_command_of, poster_named, poster_of, posting_after, step_line_of, word_before};
 
 use crate::step_line::{AgentUrl, Command, Poster, PosterCommand, StepLine, StepLineError};
-use hub_origin::{OriginError, origin_of};
 use hub_core::Text;
 use hub_envelope::{AgentId, Body, EndId, LineId};
 use hub_life::Event;
+use hub_origin::{OriginError, origin_of};
 use hub_text::{EndList, cut_at, next_word, number_of as number_up_to};
 use serde_json::Value;
 use std::alloc::Global;

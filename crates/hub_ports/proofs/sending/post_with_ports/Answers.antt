@@ -26,12 +26,12 @@ returns-in-Err-clause-sent g c =
 pub returns-in-Err-post-clause-sent : goal.returns-in-Err-post-clause-sent
 returns-in-Err-post-clause-sent g c =
     let draft = draft_of c.args.agent c.args.body c.args.ports.items in
-    let back = c.in-Err-post.ensures.4 in
+    let back = c.in-Err-post.ensures.posted.4 in
     let listed : c.as_slice-in-Err-post.result.now ≡ c.in-Err-post.draft.ports = c.as_slice-in-Err-post.ensures.listed in
     let named : c.as_slice-in-Err-post.result.now ≡ draft.ports =
     listed ∙ ap (λ (d : Draft). d.ports) back ∙ c.in-Ok-of_list.ensures.ok ∙ c.in-Ok.ensures ∙ ap ends_of c.as_slice.ensures.value in
     refused_by_line c.args.line.now c.post.new.self draft c.args.ports.items c.in-Err-post.draft.body c.call_back-in-Err-post.new.ports c.call_back-in-Err-post.new.missing
     c.of_line-refusal.result c.refused-in-Err-post.result c.in-Err-post.error c.of_line-refusal.ensures (ap (λ (d : Draft). d.body) back)
     (split-same _ _ _ _ _ _ named refl refl c.call_back-in-Err-post.ensures)
-    (same_draft c.args.line.now c.post.new.self _ c.in-Err-post.draft draft c.in-Err-post.error c.in-Err-post.ensures)
+    (same_draft c.args.line.now c.post.new.self _ c.in-Err-post.draft draft c.in-Err-post.error c.in-Err-post.ensures.posted)
     c.refused-in-Err-post.ensures.whole c.refused-in-Err-post.ensures.strayed

@@ -1,4 +1,5 @@
 use Rattle.std.proofs.Common.{arith, refl, ◌≡◌, ◌<◌, ◌+◌, ◌++◌, ◌∷◌, [], length, ap, sym, ◌∙◌, length-append}
+use Rattle.hub_bell.specs.Seats.{BoardSeat}
 use Rattle.hub_gate.proofs.Filling.{popped_last}
 use Rattle.hub_gate.proofs.Got.{some_is}
 use Rattle.hub_queue.specs.Mailboxes.{stands_at}
@@ -20,7 +21,7 @@ invariant_of-stand c =
     let count = kept.count in
     let longer = ap length last in
     let low : c.loop-line.line < length c.args.entries.items = omega (arith, length-append c.pop.new.self.items (c.unwrap-entry.result ∷ [])) in
-    (refl, (stand_holds _ _ _ _ _ _ _ c.requires.moves (some_is _ _ (sym next.1 ∙ ap (slice_get c.args.entries.items) kept.split.2 ∙ entry_at _ _ _ _ _ c.requires.open c.loop-line.line low))).0)
+    (refl, (stand_holds _ _ _ _ _ _ _ _ c.requires.moves (ap (λ (b : BoardSeat). b.at) c.in_ok-bell.ensures.cases) (some_is _ _ (sym next.1 ∙ ap (slice_get c.args.entries.items) kept.split.2 ∙ entry_at _ _ _ _ _ c.requires.open c.loop-line.line low))).0)
 
 pub invariant_of-push : goal.invariant_of-push
 invariant_of-push c =
@@ -30,7 +31,7 @@ invariant_of-push c =
     let count = kept.count in
     let longer = ap length last in
     let low : c.loop-line.line < length c.args.entries.items = omega (arith, length-append c.pop.new.self.items (c.unwrap-entry.result ∷ [])) in
-    (stand_holds _ _ _ _ _ _ _ c.requires.moves (some_is _ _ (sym next.1 ∙ ap (slice_get c.args.entries.items) kept.split.2 ∙ entry_at _ _ _ _ _ c.requires.open c.loop-line.line low))).1
+    (stand_holds _ _ _ _ _ _ _ _ c.requires.moves (ap (λ (b : BoardSeat). b.at) c.in_ok-bell.ensures.cases) (some_is _ _ (sym next.1 ∙ ap (slice_get c.args.entries.items) kept.split.2 ∙ entry_at _ _ _ _ _ c.requires.open c.loop-line.line low))).1
 
 pub loop-line-preserved : goal.loop-line-preserved
 loop-line-preserved c =
@@ -44,7 +45,7 @@ loop-line-preserved c =
     record {
       count = omega (arith, length-append c.pop.new.self.items (c.unwrap-entry.result ∷ []));
       split = (kept.split.0 ++ c.unwrap-entry.result ∷ [], next.0, length-append kept.split.0 (c.unwrap-entry.result ∷ []) ∙ ap (λ n. n + 1) kept.split.2);
-      onwards = c.in_ok-push.ensures.items ∙ (λ i. kept.onwards i ++ record { name = record { end = c.args.end; epoch = c.args.epoch; line = record { 0 = c.loop-line.line } }; entry = entry_is i; left = c.none-left.ensures i } ∷ []) ∙ sym (stands_more c.args.place.now.keeper.gate c.args.place.now.queue c.args.end c.args.epoch c.loop-line.line);
+      onwards = c.in_ok-push.ensures.items ∙ (λ i. kept.onwards i ++ record { name = record { end = c.args.end; epoch = c.args.epoch; line = record { 0 = c.loop-line.line } }; entry = entry_is i; rung = (c.in_ok-bell.ensures.cases i).at; left = c.none-left.ensures i } ∷ []) ∙ sym (stands_more c.args.place.now.keeper.gate c.args.place.now.queue c.args.end c.args.epoch c.loop-line.line);
     }
 
 pub returns : goal.returns

@@ -1,0 +1,137 @@
+use hub_bell::{Bell, Listener};
+use hub_envelope::EndId;
+use std::sync::Wait;
+use std::test::Fail;
+use std::thread;
+
+const ROUNDS: u32 = 10_000;
+
+// An end for each round. Over the rounds they have each bit of a board.
+fn end_in(round: u32) -> EndId {
+    EndId(round * 37)
+}
+
+// The one end, below 4,096, whose bit is set. `None` where none or more are set.
+fn rung(listener: &mut Listener) -> Option<u32> {
+    let names = listener.take_names();
+    if names.count_ones() != 1 {
+        return None;
+    }
+    let word = names.trailing_zeros();
+    let bits = listener.take_bits(word as usize);
+    if bits.count_ones() != 1 {
+        return None;
+    }
+    Some(64 * word + bits.trailing_zeros())
+}
+
+#[test]
+fn a_ring_sets_the_bit_of_its_end(rt: HostRuntime) -> Result<(), Fail> {
+    let (mut listener, mut bell) = Listener::open(rt.alloc())?;
+    assert_eq!(rt; listener.take_names(), 0);
+    for (end, found) in [
+        (0, 0),
+        (63, 63),
+        (64, 64),
+        (4_095, 4_095),
+        (4_096, 0),
+        (65_535, 4_095),
+    ] {
+        bell.ring(EndId(end));
+        assert_eq!(rt; rung(&mut listener), Some(found));
+        assert_eq!(rt; rung(&mut listener), None);
+    }
+    Ok(())
+}
+
+#[test]
+fn rings_of_two_bells_are_found_together(rt: HostRuntime) -> Result<(), Fail> {
+    let (mut listener, mut bell) = Listener::open(rt.alloc())?;
+    let mut other = listener.bell()?;
+    bell.ring(EndId(7));
+    other.ring(EndId(5));
+    bell.clone()?.ring(EndId(330));
+    other.ring(EndId(7));
+    assert_eq!(rt; listener.take_names(), 1 | 1 << 5);
+    assert_eq!(rt; listener.take_bits(0), 1 << 5 | 1 << 7);
+    assert_eq!(rt; listener.take_bits(5), 1 << 10);
+    assert_eq!(rt; listener.take_bits(5), 0);
+    Ok(())
+}
+
+#[test]
+fn after_clear_a_ring_is_found_again(rt: HostRuntime) -> Result<(), Fail> {
+    let (mut listener, mut bell) = Listener::open(rt.alloc())?;
+    for end in [3, 300, 3_000] {
+        bell.ring(EndId(end));
+    }
+    listener.clear();
+    assert_eq!(rt; listener.take_names(), 0);
+    bell.ring(EndId(300));
+    assert_eq!(rt; rung(&mut listener), Some(300));
+    Ok(())
+}
+
+#[test]
+fn nobody_sleeps_who_was_rung_or_woken(rt: HostRuntime) -> Result<(), Fail> {
+    let (mut listener, mut bell) = Listener::open(rt.alloc())?;
+    bell.ring(EndId(9));
+    listener.sleep(&rt);
+    listener.sleep(&rt);
+    listener.clear();
+    bell.wake();
+    listener.sleep(&rt);
+    assert_eq!(rt; listener.take_names(), 0);
+    Ok(())
+}
+
+// Rings the other one in each round, then sleeps until it is rung itself. In how many rounds the
+// end that it found was the right one.
+fn rounds<R: Wait>(rt: &R, mut listener: Listener, mut other: Bell, begins: bool) -> u32 {
+    let mut right = 0u32;
+    for round in 0..ROUNDS {
+        if begins {
+            other.ring(end_in(round));
+        }
+        let mut found = rung(&mut listener);
+        for _ in 0..u32::MAX {
+            if found.is_some() {
+                break;
+            }
+            listener.sleep(rt);
+            found = rung(&mut listener);
+        }
+        if found == Some(end_in(round).0 % 4_096) {
+            right = right.wrapping_add(1);
+        }
+        if !begins {
+            other.ring(end_in(round));
+        }
+    }
+    right
+}
+
+#[test]
+fn two_threads_ring_each_other_awake(rt: HostRuntime) -> Result<(), Fail> {
+    let (one, to_one) = Listener::open(rt.alloc())?;
+    let (two, to_two) = Listener::open(rt.alloc())?;
+    let (first, second) = thread::join(
+        &rt,
+        || rounds(&rt, one, to_two, true),
+        || rounds(&rt, two, to_one, false),
+    );
+    assert_eq!(rt; (first, second), (ROUNDS, ROUNDS));
+    Ok(())
+}
+
+// It passes whichever allocation is refused: the next call has the memory.
+#[test]
+fn opens_a_listener_whichever_allocation_is_refused(rt: HostRuntime) -> Result<(), Fail> {
+    let (mut listener, mut bell) = match Listener::open(rt.alloc()) {
+        Ok(made) => made,
+        Err(_) => Listener::open(rt.alloc())?,
+    };
+    bell.ring(EndId(1));
+    assert_eq!(rt; rung(&mut listener), Some(1));
+    Ok(())
+}
