@@ -54,13 +54,20 @@ TALKATIVE = [
     ["tools/judge", "examples/run.log"], ["tools/account", "examples/run.log"],
     ["tools/explain", "examples/run.log"], ["tools/steps-of", "examples/run.log"],
 ]
-# A test that says its process, and takes so many seconds.
-SLOW = """import os, pathlib, time, unittest
-class Slow(unittest.TestCase):
+# Two tests: one says its process and never ends, the other waits for that and ends.
+ENDLESS = """import os, pathlib, time, unittest
+class Endless(unittest.TestCase):
+    def test_endless(self):
+        pathlib.Path("new").write_text(str(os.getpid()), "utf-8")
+        os.rename("new", "begun")
+        time.sleep(300)
+"""
+ENDING = """import pathlib, time, unittest
+class Ending(unittest.TestCase):
     summary = "1 thing"
-    def test_slow(self):
-        pathlib.Path({path!r}).write_text(str(os.getpid()), "utf-8")
-        time.sleep({seconds})
+    def test_ending(self):
+        while not pathlib.Path("begun").exists():
+            time.sleep(0.05)
 """
 
 
@@ -163,8 +170,8 @@ class Streams(support.TestCase):
         """A test that runs when the pipe of tests/all is closed is ended too."""
         with tempfile.TemporaryDirectory(prefix="some tests ") as folder:
             folder = pathlib.Path(folder)
-            (folder / "test_one.py").write_text(SLOW.format(seconds=0.1, path="one"), "utf-8")
-            (folder / "test_two.py").write_text(SLOW.format(seconds=300, path="two"), "utf-8")
+            (folder / "test_ending.py").write_text(ENDING, "utf-8")
+            (folder / "test_endless.py").write_text(ENDLESS, "utf-8")
             words = [TESTS / "all", "--folder", folder, "--program=/bin/true", "--jobs=2"]
             reader, writer = os.pipe()
             os.close(reader)
@@ -173,7 +180,7 @@ class Streams(support.TestCase):
             )
             os.close(writer)
             self.assertEqual((found.returncode, found.stderr), (-signal.SIGPIPE, b""))
-            number = int((folder / "two").read_text("utf-8"))
+            number = int((folder / "begun").read_text("utf-8"))
             self.assertFalse(pathlib.Path(f"/proc/{number}").exists(), "a test still runs")
         self.says(1, "call")
 

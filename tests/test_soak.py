@@ -154,11 +154,15 @@ class Failing(support.TestCase):
                 process.kill()
 
 
-def wait_for_child(number):
-    """Returns once the process has begun another one."""
+def wait_for_child(number, name="sleep"):
+    """Returns once the process has begun another one, and that runs the program of this name."""
     children = pathlib.Path(f"/proc/{number}/task/{number}/children")
     for _ in range(1_000):
-        if children.read_text("utf-8").strip():
+        names = [
+            pathlib.Path(f"/proc/{child}/comm").read_text("utf-8").strip()
+            for child in children.read_text("utf-8").split()
+        ]
+        if name in names:
             return
         time.sleep(0.05)
     raise AssertionError("it has begun no run")

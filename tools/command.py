@@ -71,7 +71,7 @@ def write_lines(lines):
 
 
 def run(prog, main, failed=FAILED):
-    """Ends the process with the status that `main` gives, or `failed` where a file or stream does.
+    """Ends the process with the status that `main` gives, or with `failed` where a stream fails.
 
     By then `main` has ended what it began, such as folders and processes.
     """
