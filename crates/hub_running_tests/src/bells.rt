@@ -8,7 +8,7 @@ const ROUNDS: u32 = 10_000;
 
 // An end for each round. Over the rounds they have each bit of a board.
 fn end_in(round: u32) -> EndId {
-    EndId(round * 37)
+    EndId(round.wrapping_mul(37))
 }
 
 // The one end, below 4,096, whose bit is set. `None` where none or more are set.
@@ -18,6 +18,9 @@ fn rung(listener: &mut Listener) -> Option<u32> {
         return None;
     }
     let word = names.trailing_zeros();
+    if word >= 64 {
+        return None;
+    }
     let bits = listener.take_bits(word as usize);
     if bits.count_ones() != 1 {
         return None;
