@@ -69,6 +69,17 @@ class Costs(support.TestCase):
                 self.assertRegex(text, rb"^gate: 0 processor minutes in 0 min; ")
         self.says(1, "run")
 
+    def test_shares(self):
+        """What a prover that the command started has cost stands under its crate."""
+        prover = "exec -a rattle python3 -c 'import time; time.sleep(2)' --crate-name lines"
+        with tempfile.NamedTemporaryFile() as report:
+            words = ["bash", "-c", f"({prover}); exit 0"]
+            found = outcome_of([ROOT / "tools" / "costs", report.name, *words])
+            self.assertEqual((found.errors, found.status), (b"", 0))
+            for text in (found.output, report.read()):
+                self.assertIn(b"\n  lines: 0.0 (proof 0.0, tests 0.0, edits 0.0)\n", text)
+        self.says(1, "run")
+
 
 class Build(support.TestCase):
     """tools/build knows which crates the program is made of."""
