@@ -10,6 +10,7 @@ missing, they are left out. So a figure is never made of the runs that happened 
 import contextlib
 import dataclasses
 import functools
+import json
 import os
 import pathlib
 import resource
@@ -30,6 +31,36 @@ TURNS = 5
 MOST_SECONDS = 900
 # A number that a program prints and that isn't compared, such as how often it parked.
 ANY = None
+# Where Debian's packages put the sources of crates.
+REGISTRY = pathlib.Path("/usr/share/cargo/registry")
+# A Cargo project of one source over one crate. It is built with whatever version is there.
+MANIFEST = """[package]
+name = {name}
+version = "0.0.0"
+edition = "2021"
+
+[[bin]]
+name = {name}
+path = {source}
+
+[dependencies]
+{crate} = {{ version = "*", features = {features}, optional = true }}
+
+[features]
+default = [{crate}]
+
+[lints.rust]
+unexpected_cfgs = "allow"
+
+[workspace]
+"""
+# With these Cargo takes every crate from a folder of sources.
+CARGO_SETTINGS = """[source.crates-io]
+replace-with = "folder"
+
+[source.folder]
+directory = {registry}
+"""
 
 
 class Failure(Exception):
@@ -312,6 +343,14 @@ def gnu_time():
     return tool
 
 
+def make_project(folder, **values):
+    """Makes a Cargo project of these values; a string or a list of them is in TOML as in JSON."""
+    words = {name: json.dumps(value, ensure_ascii=False) for name, value in values.items()}
+    (folder / ".cargo").mkdir(parents=True)
+    for name, text in (("Cargo.toml", MANIFEST), (".cargo/config.toml", CARGO_SETTINGS)):
+        (folder / name).write_text(text.format(**words), "utf-8", "surrogateescape")
+
+
 def hold_to_two():
     """Holds this process to the first two of the processors that it may use."""
     os.sched_setaffinity(0, sorted(os.sched_getaffinity(0))[:2])
@@ -400,6 +439,30 @@ class Bench:
         if answer.returncode != 0:
             return Program(gap=Gap(f"rustc {source} ended with status {answer.returncode}"))
         return Program((target,))
+
+    def rust_over(self, crate, source, features=()):
+        """The program of a source in Rust over a crate of Debian's, which is a feature of it."""
+        cargo, compiler = found_tool("cargo"), found_tool("rustc")
+        if gap := gap_of(cargo, compiler):
+            return Program(gap=gap)
+        found = [it.parent.name for it in self.options.registry.glob(f"{crate}-[0-9]*/Cargo.toml")]
+        if not found:
+            return Program(gap=Gap(f"librust-{crate}-dev", is_failure=False))
+        print(f"  building {source} over {', '.join(found)}", file=sys.stderr)
+        name = f"{source.replace('/', '_').removesuffix('.rs')}_{crate}"
+        folder = self.folder / name
+        make_project(
+            folder, name=name, source=str(HERE / source), crate=crate, features=list(features),
+            registry=str(self.options.registry),
+        )
+        words = [*cargo.words, "build", "--quiet", "--release", "--offline", "--target-dir", "out"]
+        process = subprocess.Popen(words, cwd=folder, stdout=sys.stderr, start_new_session=True)
+        try:
+            if (status := status_of(process)) != 0:
+                raise Failure(described(status, ""))
+        except Failure as failure:
+            return Program(gap=Gap(f"cargo build of {source} over {crate}: {failure}"))
+        return Program((folder / "out" / "release" / name,))
 
     def node(self, source):
         """Node with a source, from its path in bench/."""

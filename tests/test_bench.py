@@ -1,14 +1,21 @@
 """Runs bench/all over programs that only play the benches', and looks at what it makes of them."""
 
+import itertools
 import os
 import pathlib
+import shutil
 import subprocess
 import sys
 import tempfile
 import time
+import types
 
 import support
 from support import ROOT, outcome_of
+
+sys.path.append(str(ROOT / "bench"))
+
+import measure  # noqa: E402
 
 ALL = ROOT / "bench" / "all"
 # What a program of bench/scripts prints, for SHAPE and COUNT: microseconds, and actions.
@@ -30,6 +37,42 @@ WRONG = {
 # What 2,048 lines take where 1,024 take 10,000 microseconds. At most 2.3 times as much is allowed.
 BOUNDS = {23_000: True, 23_001: False, 22_999: True, 23_499: False}
 LAST_LINES = "left out: {}\n{} passed, {} failed, {} skipped\n"
+# The programs of bench/queue: each moves a million messages of seven bytes in 0.1 s.
+MAILBOX = '#!/bin/sh\n[ $1 = 0 ] && echo $2 || echo "100000 $(($1 * $2)) $((7 * $1 * $2)) 0"\n'
+CHANNEL = '#!/bin/sh\necho "100000 $(($1 * $2)) $((7 * $1 * $2))"\n'
+# The crates whose channels it takes, and their packages.
+PACKAGES = {
+    name: f"librust-{name}-dev" for name in ("crossbeam-channel", "flume", "tokio", "async-channel")
+}
+# A cargo, and a rustc, whose programs are there beforehand.
+CARGO = """#!/bin/sh
+name=${PWD##*/}
+/bin/mkdir -p out/release && /bin/cp "$BUILT/${name#queue_reference_}" "out/release/$name"
+"""
+RUSTC = '#!/bin/sh\n/bin/cp "$BUILT/mpsc" "$3"\n'
+# What such a program does instead, or that it can't be built, and what is told of it.
+WRONG_CHANNELS = {
+    'echo "100000 999999 7000000"': "and not its microseconds and 1000000 7000000",
+    'echo "100000 1000000 6999993"': "and not its microseconds and 1000000 7000000",
+    "exit 101": "it ended with status 101",
+    "kill -9 $$": "it ended with signal 9",
+    None: "cargo build of queue/reference.rs over flume: it ended with status 1",
+}
+# How long the library's queue takes beside the 0.1 s of the mailbox, which has a bound with four
+# posters: at least 0.9 of its messages.
+BOUNDS_OF_QUEUE = {90_001: True, 89_999: False}
+# A crate as Debian's packages lay it out, which has what bench/queue takes of flume.
+FLUME = {
+    "Cargo.toml": '[package]\nname = "flume"\nversion = "0.10.0"\n[features]\nselect = []\n',
+    ".cargo-checksum.json": '{"package": "", "files": {}}',
+    "src/lib.rs": """#![cfg(feature = "select")]
+pub use std::sync::mpsc::{Receiver, Sender};
+pub fn unbounded<M>() -> (Sender<M>, Receiver<M>) {
+    eprintln!("flume");
+    std::sync::mpsc::channel()
+}
+""",
+}
 
 
 class Benches(support.TestCase):
@@ -41,7 +84,10 @@ class Benches(support.TestCase):
         self.folder = pathlib.Path(folder.name)
 
     def play(self, name, text):
-        path = self.folder / f"bench_{name}"
+        self.put(self.folder / f"bench_{name}", text)
+
+    def put(self, path, text):
+        path.parent.mkdir(parents=True, exist_ok=True)
         path.write_text(text, "utf-8")
         path.chmod(0o755)
 
@@ -93,6 +139,76 @@ class Benches(support.TestCase):
         self.assert_ends(found, 0, "rustc", 0, 0, 3)
         self.assertIn(b"4 threads, gate", found.output)
         self.says(3, "bounds")
+
+    def run_queue(self, channels, alone=CHANNEL):
+        """Runs bench/queue over these programs of crates, with no Node and no GNU time."""
+        self.play("queue", MAILBOX)
+        self.play("queue_alone", alone)
+        own = pathlib.Path(tempfile.mkdtemp(dir=self.folder))
+        for crate in ("tokio-macros", *channels):
+            self.put(own / "registry" / f"{crate}-1.2.3" / "Cargo.toml", "")
+        for crate, text in {"mpsc": CHANNEL, **channels}.items():
+            if text:
+                self.put(own / "built" / crate, text)
+        for name, text in {"cargo": CARGO, "rustc": RUSTC}.items():
+            self.put(own / "path" / name, text)
+        (own / "path" / "python3").symlink_to(sys.executable)
+        settings = {"PATH": str(own / "path"), "BUILT": str(own / "built")}
+        return self.run_all("queue", "--registry", own / "registry", **settings)
+
+    def test_crate_is_missing(self):
+        """Its own rows alone are left out, by the name of its package."""
+        rows = list(itertools.product((1, 4), PACKAGES, ("texts", "envelopes")))
+        for missing in ([], ["flume"], [*PACKAGES]):
+            with self.subTest(missing=missing):
+                found = self.run_queue({name: CHANNEL for name in PACKAGES if name not in missing})
+                names = [*(PACKAGES[name] for name in missing), "node", "GNU time"]
+                self.assert_ends(found, 0, ", ".join(names), 6, 0, 3)
+                for posters, name, sent in rows:
+                    figure = "-" if name in missing else "10 million"
+                    row = f"{posters} to 1, {name} of {sent} +{figure} "
+                    self.assertRegex(found.output.decode(), row)
+        self.says(3 * len(rows), "rows", 48)
+
+    def test_channel_is_wrong(self):
+        """The four rates of a channel that goes wrong, and what stands on them, are failures."""
+        for text, said in WRONG_CHANNELS.items():
+            with self.subTest(program=text):
+                channels = dict.fromkeys(PACKAGES, CHANNEL)
+                channels["flume"] = text and f"#!/bin/sh\n{text}\n"
+                found = self.run_queue(channels)
+                self.assert_ends(found, 1, "node, GNU time", 6, 8, 3)
+                self.assertIn(said, found.output.decode())
+        self.says(len(WRONG_CHANNELS), "programs", 5)
+
+    def test_bounds_of_queue(self):
+        """What the mailbox moves with four posters beside the queue with the gate's additions."""
+        for micros, is_met in BOUNDS_OF_QUEUE.items():
+            with self.subTest(micros=micros):
+                times = f"[ \"$1 $3\" = '4 counted' ] && t={micros} || t=100000\n"
+                alone = f'#!/bin/sh\n{times}echo "$t $(($1 * $2)) $((7 * $1 * $2))"\n'
+                found = self.run_queue({}, alone)
+                names = ", ".join([*PACKAGES.values(), "node", "GNU time"])
+                passed, failed = (6, 0) if is_met else (5, 1)
+                self.assert_ends(found, failed, names, passed, failed, 3)
+        self.says(len(BOUNDS_OF_QUEUE), "times", 2)
+
+    def test_crate_is_built(self):
+        """The real cargo builds a peer over a folder of sources, and asks no registry."""
+        for tool in ("cargo", "rustc"):
+            if shutil.which(tool) is None:
+                self.skipTest(f"{tool}, which is not on the PATH")
+        for name, text in FLUME.items():
+            self.put(self.folder / "registry" / "flume-0.10.0" / name, text)
+        options = types.SimpleNamespace(turns=1, registry=self.folder / "registry")
+        bench = measure.Bench(types.ModuleType("queue"), options, self.folder, measure.Report())
+        peer = bench.rust_over("flume", "queue/reference.rs", ["select"])
+        self.assertIsNone(peer.gap)
+        for words in (["4", "250"], ["4", "250", "envelope"]):
+            found = outcome_of([*peer.words, *words])
+            self.assertRegex(found.output, rb"^[1-9]\d* 1000 7000\n$")
+            self.assertEqual(found.errors, b"flume\n", "it sends through another channel")
+        self.says(2, "runs")
 
     def test_stopped(self):
         """What it has begun, a build and the toolchain, is stopped too, and it says so."""

@@ -1,27 +1,31 @@
-"""Times messages through one mailbox with its bell, beside std::sync::mpsc and Node.
+"""Times messages through one mailbox with its bell, beside Rust's channels and Node.
 
-1,000,000 messages of a small body go from one poster, and from four, to one taker. mpsc has as many
-senders, and Node's MessageChannel goes to a Worker. The body has seven bytes, and is made once and
-cloned for each message. mpsc sends clones of a String, which the receiver drops; and in runs of
-their own structs with such a String and all else that an envelope carries, since the mailbox moves
-that too. The text of a Body of at most 24 bytes lies in the body itself, so that its clone takes no
-memory, as that of a String does; longer ones aren't timed here. Node sends the text, and in runs of
-its own the JSON value that the text stands for. Posters are threads of their own, and the taker is
-the first thread. Where it finds nothing it looks away for about a tenth of a millisecond, since a
-taker that looks on slows the poster down, and parks once it has found nothing ten times; mpsc's
-receiver waits by itself. With one poster the programs but Node are held to two processors: else the
-one that the system happens to place well is faster threefold. A run is timed from the first post to
-the last take.
+1,000,000 messages of a small body go from one poster, and from four, to one taker. The channels of
+Rust have as many senders: std::sync::mpsc, and those of crossbeam-channel, flume, tokio and
+async-channel, each where Debian's package of the crate is installed. All are without a limit, and
+none runs in an async runtime. Node's MessageChannel goes to a Worker. The body has seven bytes, and
+is made once and cloned for each message. The channels send clones of a String, which the receiver
+drops; and in runs of their own structs with such a String and all else that an envelope carries,
+since the mailbox moves that too. The text of a Body of at most 24 bytes lies in the body itself, so
+that its clone takes no memory, as that of a String does; longer ones aren't timed here. Node sends
+the text, and in runs of its own the JSON value that the text stands for. Posters are threads of
+their own, and the taker is the first thread. Where it finds nothing it looks away for about a tenth
+of a millisecond, since a taker that looks on slows the poster down, and parks once it has found
+nothing ten times; the channels' receivers wait by themselves. With one poster the programs but Node
+are held to two processors: else the one that the system happens to place well is faster threefold.
+A run is timed from the first post to the last take.
 
-In runs of its own the end is adopted 1,000 times on the way, to and fro between two loops in
-threads of their own. And the envelopes go through the library's queue alone, with no gate and no
-bell, and again with the three atomic steps that a post makes beside its push (bench/queue_alone).
-Last comes how much memory a process has at most that adopts ends 1,000 and 1,000,000 times, with a
-post and takes until there is nothing between.
+The same envelopes go through the library's queue alone, with no gate and no bell; and again with
+two additions to one word that all senders share, one before each push and one behind it, as a post
+enters and leaves its gate (bench/queue_alone). What the mailbox moves beside that tells what all
+the rest of a post and a take costs. In runs of its own with one poster the end is adopted 1,000
+times on the way, to and fro between two loops in threads of their own. Last comes how much memory a
+process has at most that adopts ends 1,000 and 1,000,000 times, with a post and takes until there is
+nothing between.
 
-The bounds are on the best runs, and on the median for the memory. A run of mpsc in which the sender
-stays ahead of the receiver takes a third of the time of others, so that the best ones alone say
-little.
+The bounds are on the best runs, and on the medians for the queue with additions and the memory. A
+run of mpsc in which the sender stays ahead of the receiver takes a third of the time of others, so
+that the best ones alone say little.
 """
 
 from measure import ANY, prints, rate, ratio, scaled
@@ -32,55 +36,73 @@ BUILDS = {
 }
 MESSAGES = 1_000_000
 RIGHT = [MESSAGES, 7 * MESSAGES]
-# How many messages go through the mailbox at least for one of these.
-BOUNDS = {"mpsc of texts": 0.7, "mpsc of envelopes": 0.7, "Node, texts": 5, "Node, values": 5}
+# The crates whose channels are peers, with the features that those need beside the default ones.
+CRATES = {"crossbeam-channel": [], "flume": [], "tokio": ["sync"], "async-channel": []}
+COUNTED = "the library's queue with two additions"
+# How many messages go through the mailbox at least for one of these, and on which runs that is.
+BOUNDS = {
+    "mpsc of texts": (0.7, "best"), "mpsc of envelopes": (0.7, "best"),
+    "Node, texts": (5, "best"), "Node, values": (5, "best"),
+}
+BOUNDS_OF_FOUR = {**BOUNDS, COUNTED: (0.9, "median")}
 
 
 def run(bench):
-    mailbox, mpsc = bench.built("queue"), bench.rust("queue/reference.rs")
-    report(bench, "1 to 1", bench.in_turns({
-        **jobs_of(mailbox, mpsc, posters=1),
-        **jobs_of_one(mailbox, bench.built("queue_alone"), bench.node("queue/reference.mjs")),
+    mailbox, alone = bench.built("queue"), bench.built("queue_alone")
+    channels = {"mpsc": bench.rust("queue/reference.rs")}
+    for crate, features in CRATES.items():
+        channels[crate] = bench.rust_over(crate, "queue/reference.rs", features)
+    report(bench, "1 to 1", BOUNDS, bench.in_turns({
+        **jobs_of(mailbox, channels, alone, posters=1),
+        **jobs_of_one(mailbox, bench.node("queue/reference.mjs")),
     }))
-    report(bench, "4 to 1", bench.in_turns(jobs_of(mailbox, mpsc, posters=4)))
+    four = bench.in_turns(jobs_of(mailbox, channels, alone, posters=4))
+    report(bench, "4 to 1", BOUNDS_OF_FOUR, four)
     measure_memory(bench, mailbox)
 
 
-def jobs_of(mailbox, mpsc, posters):
+def jobs_of(mailbox, channels, alone, posters):
     each, held = MESSAGES // posters, posters == 1
-    return {
-        "mailbox": mailbox.job(posters, each, told=[*RIGHT, ANY], held=held),
-        "mpsc of texts": mpsc.job(posters, each, told=RIGHT, held=held),
-        "mpsc of envelopes": mpsc.job(posters, each, "envelope", told=RIGHT, held=held),
-    }
+    jobs = {"mailbox": mailbox.job(posters, each, told=[*RIGHT, ANY], held=held)}
+    for name, channel in channels.items():
+        jobs[f"{name} of texts"] = channel.job(posters, each, told=RIGHT, held=held)
+        jobs[f"{name} of envelopes"] = channel.job(
+            posters, each, "envelope", told=RIGHT, held=held
+        )
+    jobs["the library's queue"] = alone.job(posters, each, told=RIGHT, held=held)
+    jobs[COUNTED] = alone.job(posters, each, "counted", told=RIGHT, held=held)
+    return jobs
 
 
-def jobs_of_one(mailbox, alone, node):
+def jobs_of_one(mailbox, node):
     """What is timed with one poster only."""
     return {
-        "the library's queue": alone.job(MESSAGES, told=RIGHT, held=True),
-        "with three atomic steps": alone.job(MESSAGES, 3, told=RIGHT, held=True),
         "adopted 1,000 times": mailbox.job(1, MESSAGES, 1000, told=[*RIGHT, ANY], held=True),
         "Node, texts": node.job(MESSAGES, told=RIGHT),
         "Node, values": node.job(MESSAGES, "value", told=RIGHT),
     }
 
 
-def report(bench, title, runs):
+def report(bench, title, bounds, runs):
     mailbox = runs["mailbox"]
     bench.shows(f"{title}, parks", scaled(mailbox.told(3)))
     for name, series in runs.items():
         figure = rate(series.seconds, MESSAGES / 1e6)
         bench.shows(f"{title}, {name}", figure, "million messages a second")
-        if name in BOUNDS:
-            beside = ratio(series.seconds, mailbox.seconds)
-            bench.at_least(BOUNDS[name], f"{title}, mailbox beside {name}", beside, "times")
-        elif name == "adopted 1,000 times":
+        if name == "adopted 1,000 times":
             beside = ratio(mailbox.seconds, series.seconds)
             bench.at_least(0.5, f"{title}, {name}, beside never", beside, "times")
         elif series is not mailbox:
             beside = ratio(series.seconds, mailbox.seconds)
-            bench.shows(f"{title}, mailbox beside {name}", beside, "times")
+            report_beside(bench, f"{title}, mailbox beside {name}", beside, bounds.get(name))
+
+
+def report_beside(bench, name, beside, bound):
+    if bound:
+        least, on = bound
+        bench.at_least(least, name, beside, "times", on=on)
+    else:
+        bench.shows(name, beside, "times")
 
 
 def measure_memory(bench, mailbox):

@@ -1,9 +1,29 @@
-// The same messages through std::sync::mpsc: senders in threads of their own, and the receiver in
-// the first one, which adds up the bytes of the text. A message is a clone of the text, or with
-// `envelope` all that an envelope of the mailbox carries.
+// The same messages through a channel: std::sync::mpsc, or that of the crate which is named as a
+// feature. Senders are threads of their own, and the receiver is the first one, which adds up the
+// bytes of the text. A message is a clone of the text, or with `envelope` all that an envelope of
+// the mailbox carries.
 // usage: reference SENDERS EACH [envelope]
-use std::sync::mpsc::{self, Sender};
 use std::time::{Duration, Instant};
+
+// The channels have no limit, so that no sender waits. A receiver waits as the channel has it for
+// threads.
+#[cfg(feature = "async-channel")]
+use async_channel::{unbounded as channel, Receiver, Sender};
+#[cfg(feature = "crossbeam-channel")]
+use crossbeam_channel::{unbounded as channel, Receiver, Sender};
+#[cfg(feature = "flume")]
+use flume::{unbounded as channel, Receiver, Sender};
+#[cfg(not(any(
+    feature = "async-channel",
+    feature = "crossbeam-channel",
+    feature = "flume",
+    feature = "tokio"
+)))]
+use std::sync::mpsc::{channel, Receiver, Sender};
+#[cfg(feature = "tokio")]
+use tokio::sync::mpsc::{
+    unbounded_channel as channel, UnboundedReceiver as Receiver, UnboundedSender as Sender,
+};
 
 const TEXT: &str = "{\"a\":1}";
 
@@ -55,6 +75,31 @@ impl Message for Envelope {
     }
 }
 
+#[cfg(not(feature = "async-channel"))]
+fn send<M>(sender: &Sender<M>, message: M) -> bool {
+    sender.send(message).is_ok()
+}
+
+#[cfg(feature = "async-channel")]
+fn send<M>(sender: &Sender<M>, message: M) -> bool {
+    sender.send_blocking(message).is_ok()
+}
+
+#[cfg(not(any(feature = "async-channel", feature = "tokio")))]
+fn receive<M>(receiver: &mut Receiver<M>) -> Option<M> {
+    receiver.recv().ok()
+}
+
+#[cfg(feature = "async-channel")]
+fn receive<M>(receiver: &mut Receiver<M>) -> Option<M> {
+    receiver.recv_blocking().ok()
+}
+
+#[cfg(feature = "tokio")]
+fn receive<M>(receiver: &mut Receiver<M>) -> Option<M> {
+    receiver.blocking_recv()
+}
+
 // Sends so many messages, and says when it began.
 fn send_all<M: Message>(
     zero: &Instant,
@@ -65,7 +110,7 @@ fn send_all<M: Message>(
 ) -> Duration {
     let begin = zero.elapsed();
     for number in 0..each {
-        sender.send(M::of(line, u64::from(number), body)).unwrap();
+        assert!(send(&sender, M::of(line, u64::from(number), body)));
     }
     begin
 }
@@ -73,7 +118,7 @@ fn send_all<M: Message>(
 // How long it took, and how many bytes were received.
 fn time_run<M: Message>(senders: u8, each: u32) -> (Duration, u64) {
     let body = TEXT.to_string();
-    let (sender, receiver) = mpsc::channel::<M>();
+    let (sender, mut receiver) = channel::<M>();
     let zero = Instant::now();
     std::thread::scope(|scope| {
         let threads: Vec<_> = (0..senders)
@@ -84,7 +129,7 @@ fn time_run<M: Message>(senders: u8, each: u32) -> (Duration, u64) {
             .collect();
         let mut bytes = 0;
         for _ in 0..u64::from(senders) * u64::from(each) {
-            bytes += receiver.recv().unwrap().bytes();
+            bytes += receive(&mut receiver).unwrap().bytes();
         }
         let end = zero.elapsed();
         let begin = threads
