@@ -1,5 +1,5 @@
 ghost use Rattle.std.specs.Prelude.{◌≡◌, ◌+◌, ◌<◌, ◌≤◌, ◌↔◌, [], length, string_bytes, IfOk, OnOk, OnErr, IsErrOf};
-ghost use Rattle.hub_core.specs.declared.limits.TheConstants.{MAX_ENDS};
+ghost use Rattle.hub_envelope.specs.declared.limits.TheConstants.{MAX_ENDS};
 ghost use Rattle.hub_broadcast.specs.Joining.{IsNewMember};
 
 use crate::cast_error::CastError;

@@ -2,7 +2,7 @@
 use Rattle.std.specs.Prelude.{◌≡◌, ◌≢◌, ℕ, ◌<◌, ◌≤◌, List, length, slice_get, insert, Option, Some, None, All}
 use Rattle.std.specs.List.{AllWithin}
 use Rattle.std.specs.List.Sorted.{IsNonDecreasingBy}
-use Rattle.hub_core.specs.declared.limits.TheConstants.{MAX_LINES}
+use Rattle.hub_envelope.specs.declared.limits.TheConstants.{MAX_LINES}
 use Rattle.hub_envelope.specs.declared.ids.EndId.{EndId}
 use Rattle.hub_queue.specs.Standing.{StandSeat}
 

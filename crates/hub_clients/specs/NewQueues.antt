@@ -1,6 +1,6 @@
 -- What a client or worker queue is as it is made.
 use Rattle.std.specs.Prelude.{◌≡◌, ℕ, [], None}
-use Rattle.hub_core.specs.declared.limits.TheConstants.{MAX_LINES}
+use Rattle.hub_envelope.specs.declared.limits.TheConstants.{MAX_LINES}
 use Rattle.hub_queue.specs.Mailboxes.{IsNewPlace}
 use Rattle.hub_queue.specs.Taking.{TakerSeat, started}
 

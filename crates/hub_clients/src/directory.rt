@@ -1,7 +1,7 @@
 ghost use Rattle.std.specs.Prelude.{◌≡◌, ◌+◌, ◌<◌, ◌≤◌, ◌↔◌};
 ghost use Rattle.std.specs.Prelude.{IfSome, IfOk, OnOk, IfErr, OnErr, IsErrOf};
 ghost use Rattle.std.specs.FinMap as map;
-ghost use Rattle.hub_core.specs.declared.limits.TheConstants.{MAX_ENDS, MAX_LINES};
+ghost use Rattle.hub_envelope.specs.declared.limits.TheConstants.{MAX_ENDS, MAX_LINES};
 ghost use Rattle.hub_clients.specs.Handing.{taker_of};
 ghost use Rattle.hub_clients.specs.NewQueues.{IsNewClientQueue, IsNewWorkerQueue};
 
@@ -14,9 +14,8 @@ use crate::listed::Listed;
 use crate::listing::Listing;
 use crate::queue_error::QueueError;
 use crate::worker_queue::WorkerQueue;
-use hub_core::MAX_LINES;
 use hub_depot::{Depot, DepotError, Kept};
-use hub_envelope::{AgentId, EndId};
+use hub_envelope::{AgentId, EndId, MAX_LINES};
 use hub_queue::{Bell, Ends, Mailbox, Poster, Taker};
 use std::alloc::Global;
 use std::sync::{Mutex, Wait};

@@ -23,7 +23,6 @@ pub use directory_error::DirectoryError;
 pub use hand_error::HandError;
 pub use handed::Handed;
 pub use handed_queue::HandedQueue;
-pub use hub_queue::MAX_LINES;
 pub use listed::Listed;
 pub use listing::Listing;
 pub use queue_error::QueueError;

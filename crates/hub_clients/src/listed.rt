@@ -1,5 +1,5 @@
 ghost use Rattle.std.specs.Prelude.{◌≡◌, ◌<◌, length, map, position, is_some, IfOk, IfSome, Some};
-ghost use Rattle.hub_core.specs.declared.limits.TheConstants.{MAX_LINES};
+ghost use Rattle.hub_envelope.specs.declared.limits.TheConstants.{MAX_LINES};
 ghost use Rattle.hub_clients.specs.Lines.{IsPutBack, IsTakenOut};
 ghost use Rattle.hub_clients.specs.Listings.{ArePostersOf};
 

@@ -1,5 +1,5 @@
 ghost use Rattle.std.specs.Prelude.{◌≡◌, ◌<◌, [], IfOk, OnOk, OnErr};
-ghost use Rattle.hub_core.specs.declared.limits.TheConstants.{MAX_LINES};
+ghost use Rattle.hub_envelope.specs.declared.limits.TheConstants.{MAX_LINES};
 ghost use Rattle.hub_clients.specs.Lines.{IsLent, IsGivenBack};
 ghost use Rattle.hub_clients.specs.Listings.{IsInOrder, IsListed, IsPlaceBehind, IsPlaceOf};
 

@@ -1,8 +1,8 @@
 //! A table of queues and of lines that are out, on which the rows act step by step.
 use crate::parts::{Next, is_next, take};
 use crate::shared::{Kind, Opening, Posting, Shared, lose};
-use hub_clients::{DirectoryError, HandError, HandedQueue, MAX_LINES};
-use hub_envelope::{AgentId, EndId};
+use hub_clients::{DirectoryError, HandError, HandedQueue};
+use hub_envelope::{AgentId, EndId, MAX_LINES};
 use hub_queue::{Ends, Grave, Poster};
 use std::alloc::Global;
 use std::mem::replace;

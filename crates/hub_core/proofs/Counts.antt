@@ -22,7 +22,7 @@ use Rattle.hub_core.proofs.Lists.{slice_get-set_same, slice_get-set_other, is_th
 use Rattle.std.proofs.lemmas.Option.{slice_get_within}
 use Rattle.std.proofs.lemmas.Bool.Decides.{nat_tests}
 use Rattle.hub_core.proofs.Totals.{bit, total_same, total_nothing}
-use Rattle.hub_core.specs.declared.limits.TheConstants.{MAX_ENDS}
+use Rattle.hub_envelope.specs.declared.limits.TheConstants.{MAX_ENDS}
 use Rattle.hub_core.specs.Ending.{is_away_of, has_poster}
 
 -- what the core keeps of these counts

@@ -31,7 +31,7 @@ use Rattle.hub_core.specs.Looking.{someone_at, is_away_at, is_settled}
 use Rattle.hub_core.specs.Taking.{IsLeft}
 use Rattle.hub_core.specs.declared.kind.Kind.{Kind}
 use Rattle.hub_core.specs.declared.kind.Kind.TheVariants.{Port, Client, Worker, Member}
-use Rattle.hub_core.specs.declared.limits.TheConstants.{MAX_LINES}
+use Rattle.hub_envelope.specs.declared.limits.TheConstants.{MAX_LINES}
 use Rattle.hub_core.specs.Making.{is_client, is_worker}
 
 -- what is said of the lines of an end

@@ -4,7 +4,7 @@ use Rattle.std.specs.Prelude.{ℕ, ◌==◌, ◌&&◌, if◌then◌else◌, nat_
 use Rattle.std.specs.List.{filter}
 use Rattle.hub_envelope.specs.declared.ids.AgentId.{AgentId}
 use Rattle.hub_envelope.specs.declared.ids.EndId.{EndId}
-use Rattle.hub_core.specs.declared.limits.TheConstants.{MAX_ENDS}
+use Rattle.hub_envelope.specs.declared.limits.TheConstants.{MAX_ENDS}
 use Rattle.hub_core.specs.declared.group.Group.{Group}
 use Rattle.hub_core.specs.declared.outcome.Outcome.{Outcome}
 use Rattle.hub_core.specs.declared.outcome.Outcome.TheVariants as outcome

@@ -2,8 +2,7 @@
 use Rattle.std.specs.Prelude.{ℕ, ◌+◌, ◌==◌, if◌then◌else◌, nat_lt, Bool, List, [], ◌∷◌, ◌++◌, length, slice_set, slice_get, slice_index_or, drop, Option, Some, None, option_map, is_some, false, true, ◌≡◌, ◌&&◌, ◌||◌, not, Result, Ok, Err, IfSome, nat_le, ◌-◌, replicate}
 use Rattle.std.specs.List.{list_any, flat_map, position}
 use Rattle.std.specs.Bool.{MatchBool}
-use Rattle.hub_core.specs.declared.limits.TheConstants.{MAX_AGENTS, MAX_ENDS, MAX_LINES, MAX_MOVES}
-use Rattle.hub_envelope.specs.declared.limits.TheConstants.{MAX_PORTS}
+use Rattle.hub_envelope.specs.declared.limits.TheConstants.{MAX_AGENTS, MAX_ENDS, MAX_LINES, MAX_MOVES, MAX_PORTS}
 use Rattle.hub_envelope.specs.declared.ids.LineId.{LineId}
 use Rattle.hub_core.specs.declared.end.Place.TheVariants.{With, InFlight, Arrived, Swept, Gone}
 use Rattle.hub_core.specs.Accepted.{named_envelope, named_notice}

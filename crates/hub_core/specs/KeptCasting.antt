@@ -1,6 +1,6 @@
 -- For private clauses: what the steps of broadcast channels do to what is kept of ends.
 use Rattle.std.specs.Prelude.{ℕ, if◌then◌else◌, Bool, List, [], ◌∷◌, ◌++◌, Option, Some, None, is_some, false, not, nat_le}
-use Rattle.hub_core.specs.declared.limits.TheConstants.{MAX_ENDS}
+use Rattle.hub_envelope.specs.declared.limits.TheConstants.{MAX_ENDS}
 use Rattle.hub_envelope.specs.declared.ids.EndId.{EndId}
 use Rattle.hub_envelope.specs.declared.ids.AgentId.{AgentId}
 use Rattle.hub_core.specs.declared.kind.Kind.TheVariants.{Member}

@@ -2,7 +2,7 @@
 -- two entangled ports; the limits are this project's own).
 use Rattle.std.specs.Prelude.{◌+◌, ◌&&◌, if◌then◌else◌, nat_le, nat_lt, Bool, true, false, not, Option, Some, None}
 use Rattle.hub_envelope.specs.declared.ids.AgentId.{AgentId}
-use Rattle.hub_core.specs.declared.limits.TheConstants.{MAX_AGENTS, MAX_ENDS}
+use Rattle.hub_envelope.specs.declared.limits.TheConstants.{MAX_AGENTS, MAX_ENDS}
 use Rattle.hub_core.specs.declared.outcome.Outcome.{Outcome}
 use Rattle.hub_core.specs.declared.outcome.Outcome.TheVariants as outcome
 use Rattle.hub_core.specs.declared.kind.Kind.{Kind}

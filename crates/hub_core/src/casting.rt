@@ -7,12 +7,11 @@ ghost use Rattle.hub_core.specs.Posting.{is_empty};
 use crate::end::End;
 use crate::end_ids::EndIds;
 use crate::kind::Kind;
-use crate::limits::MAX_ENDS;
 use crate::machine::Core;
 use crate::outcome::Outcome;
 use crate::roster::Destinations;
 use crate::text::Text;
-use hub_envelope::{AgentId, Body, EndId, OutOfMemory};
+use hub_envelope::{AgentId, Body, EndId, MAX_ENDS, OutOfMemory};
 
 impl Core {
     /// The agent makes a broadcast channel of this name.

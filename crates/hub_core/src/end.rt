@@ -1,16 +1,15 @@
 ghost use Rattle.std.specs.Prelude.{◌≡◌, ◌||◌, ◌∷◌, ◌<◌, [], slice_get, IfOk, OnOk, OnErr, MatchOption, false, true, List, Some};
 ghost use Rattle.hub_envelope.specs.declared.envelope.Envelope.{Envelope as EnvelopeValue};
-ghost use Rattle.hub_core.specs.declared.limits.TheConstants.{MAX_MOVES};
+ghost use Rattle.hub_envelope.specs.declared.limits.TheConstants.{MAX_MOVES};
 ghost use Rattle.hub_core.specs.Moving.{is_arrived};
 ghost use Rattle.hub_core.specs.Posting.{is_here, is_with};
 ghost use Rattle.hub_core.specs.Kept.{new_end, hold_outcome, held_end, back_outcome, back_end, hand_outcome, handed_end, close_outcome, close_end, hop_outcome, hop_end, kept_looked, kept_settled, left_outcome, left_end, look_outcome, look_end, advanced_end, adopted_end, adopt_outcome, adopt_end, enter_outcome, enter_end, leave_outcome, leave_end, has_queue, posting_line, put_end, sweep_outcome, swept_end, taker_queue, with_taker_queue};
 
 use crate::kind::Kind;
-use crate::limits::{MAX_IN_QUEUE, MAX_MOVES};
 use crate::line::{Line, Lines, Phase};
 use crate::outcome::Outcome;
 use crate::queues::Queues;
-use hub_envelope::{AgentId, Envelope, LineId, OutOfMemory};
+use hub_envelope::{AgentId, Envelope, LineId, MAX_MOVES, MAX_PUT, OutOfMemory};
 use std::alloc::{AllocError, Global};
 
 /// Where an end is (WHATWG HTML, "Transferable objects": a port that travels is with no agent).
@@ -275,7 +274,7 @@ impl End {
         ensures ok { OnOk result (self.new ≡ put_end self.old found envelope) }
         ensures err { OnErr result (self.new ≡ self.old) }
     {
-        if found.put >= MAX_IN_QUEUE {
+        if found.put >= MAX_PUT {
             return Err(OutOfMemory);
         }
         let line = envelope.line;

@@ -2,8 +2,7 @@ ghost use Rattle.std.specs.Prelude.{◌≡◌, Some};
 ghost use Rattle.hub_core.specs.Kept.{source_of};
 ghost use Rattle.hub_core.specs.Made.{is_queue, lines_of, maker_of};
 
-use crate::limits::MAX_LINES;
-use hub_envelope::{AgentId, EndId};
+use hub_envelope::{AgentId, EndId, MAX_LINES};
 
 /// What an end is.
 #[derive(Clone, Copy, Debug, PartialEq, Eq)]

@@ -2,8 +2,7 @@ ghost use Rattle.std.specs.Prelude.{◌≡◌, replicate, not, is_some, IfOk, sl
 ghost use Rattle.std.specs.List.{position};
 ghost use Rattle.hub_core.specs.Kept.{first_line, first_free, held_lines, is_anyone_at, is_anyone_from};
 
-use crate::limits::MAX_LINES;
-use hub_envelope::{AgentId, LineId};
+use hub_envelope::{AgentId, LineId, MAX_LINES};
 use std::alloc::{AllocError, Global};
 use std::marker::Model;
 

@@ -48,11 +48,14 @@ impl Core {
     pub fn new(alloc: Global) -> Core
         ensures { Shows result [] }
     {
+        let agents = Vec::new(alloc);
+        let ends = Vec::new(alloc);
+        let roster = Roster::new(alloc);
         Core {
             alloc,
-            agents: Vec::new(alloc),
-            ends: Vec::new(alloc),
-            roster: Roster::new(alloc),
+            agents,
+            ends,
+            roster,
         }
     }
 

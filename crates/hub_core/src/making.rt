@@ -5,11 +5,10 @@ ghost use Rattle.hub_core.specs.Kept.{kept_running, kept_agent_answer, agents_ma
 use crate::agent::Agent;
 use crate::end::End;
 use crate::kind::Kind;
-use crate::limits::{MAX_AGENTS, MAX_ENDS};
 use crate::machine::Core;
 use crate::outcome::Outcome;
 use crate::text::Text;
-use hub_envelope::{AgentId, EndId, OutOfMemory};
+use hub_envelope::{AgentId, EndId, MAX_AGENTS, MAX_ENDS, OutOfMemory};
 
 impl Core {
     pub(crate) fn make_agent(

@@ -5,11 +5,9 @@ ghost use Rattle.hub_engine.specs.Failures.{CountsFailure, CountsInterruption, o
 ghost use Rattle.hub_engine.specs.Counted.{inner_reader, reads_made, interrupted_reads, failed_reads};
 
 use crate::device::Device;
+use hub_envelope::MAX_READS;
 use std::io;
 use std::io::{ErrorKind, Read};
-
-/// An input that hasn't ended after so many reads counts as one that fails.
-pub const MAX_READS: u32 = 1_048_576;
 
 /// A reader of one input, with the counts of its reads, of those that were interrupted, and of
 /// those that failed.

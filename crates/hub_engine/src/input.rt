@@ -2,7 +2,7 @@ ghost use Rattle.std.specs.Prelude.{◌≡◌, ◌<◌, ◌+◌, ◌⊎◌, fals
 ghost use Rattle.hub_engine.specs.IsInput.{IsInput, ReadsMore};
 ghost use Rattle.hub_engine.specs.Failures.{CountsFailedRead, one_more};
 ghost use Rattle.hub_engine.specs.Counted.{inner_reader, reads_made, interrupted_reads, failed_reads};
-ghost use Rattle.hub_engine.specs.declared.counted_reader.TheConstants.{MAX_READS};
+ghost use Rattle.hub_envelope.specs.declared.limits.TheConstants.{MAX_READS};
 
 use crate::counted_reader::CountedReader;
 use crate::device::Device;

@@ -11,7 +11,7 @@ mod input;
 mod output;
 mod status;
 
-pub use counted_reader::{CountedReader, MAX_READS};
+pub use counted_reader::CountedReader;
 pub use counted_writer::CountedWriter;
 pub use device::Device;
 pub use ending::Ending;

@@ -9,3 +9,4 @@ pub mod Compact
 pub mod SameEnds
 pub mod Same
 pub mod Notice
+pub mod Limits

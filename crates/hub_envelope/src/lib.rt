@@ -17,6 +17,9 @@ mod stored_text;
 pub use body::{Body, BodyError};
 pub use envelope::{Draft, Envelope};
 pub use ids::{AgentId, EndId, LineId};
-pub use limits::{MAX_BODY_BYTES, MAX_NESTING, MAX_PORTS};
+pub use limits::{
+    MAX_AGENTS, MAX_BODY_BYTES, MAX_ENDS, MAX_EXTENSIONS, MAX_HOPS, MAX_LINES, MAX_MOVES,
+    MAX_NESTING, MAX_PORTS, MAX_PUT, MAX_READS, MAX_SCRIPT_LINES, limit_laws,
+};
 pub use ports::Ports;
 pub use std::alloc::AllocError as OutOfMemory;

@@ -2,7 +2,7 @@
 use Rattle.std.specs.Prelude.{◌≡◌, ℕ, ◌<◌, ◌≤◌, ◌&&◌, List, [], map, length, nat_lt, nat_le, vec_capacity, if◌then◌else◌}
 use Rattle.std.specs.Arc.{arc_value}
 use Rattle.atomic_table.specs.Table.{Me}
-use Rattle.hub_core.specs.declared.limits.TheConstants.{MAX_LINES}
+use Rattle.hub_envelope.specs.declared.limits.TheConstants.{MAX_LINES}
 use Rattle.hub_gate.specs.declared.gate.Reserved.{Reserved}
 use Rattle.hub_gate.specs.declared.gate_error.GateError.{GateError}
 use Rattle.hub_gate.specs.declared.gate_error.GateError.TheVariants.{BadCount, OutOfMemory}

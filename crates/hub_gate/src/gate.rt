@@ -11,7 +11,7 @@ use crate::gate_table::{GateSeat, GateSteps, GateTable, NextLine};
 use crate::keeper::Keeper;
 use crate::plays::{Gather, Open};
 use crate::right::Right;
-use hub_core::MAX_LINES;
+use hub_envelope::MAX_LINES;
 use std::alloc::{AllocError, Global};
 use std::marker::PhantomData;
 use std::snapshot::Snapshot;

@@ -25,7 +25,6 @@ pub use entered::{Entered, Refusal};
 pub use entry::Entry;
 pub use gate::Gate;
 pub use gate_error::GateError;
-pub use hub_core::MAX_LINES;
 pub use inside::Inside;
 pub use keeper::Keeper;
 pub use laws::gate_laws;

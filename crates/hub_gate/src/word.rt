@@ -1,7 +1,7 @@
 //! The word of a gate: three flags, and from bit 8 on how many lines are inside or turning back.
 ghost use Rattle.std.specs.Prelude.{◌≡◌, ℕ, ◌*◌, ◌≤◌, ◌||◌, Bool};
 ghost use Rattle.hub_core.specs.GateMachine as machine;
-ghost use Rattle.hub_core.specs.declared.limits.TheConstants.{MAX_LINES};
+ghost use Rattle.hub_envelope.specs.declared.limits.TheConstants.{MAX_LINES};
 ghost use Rattle.hub_gate.specs.Flags.{flag_bit};
 
 /// A flag of the word.

@@ -9,7 +9,7 @@ use Rattle.hub_life.specs.declared.event.Event.{Event}
 use Rattle.hub_life.specs.declared.event.Event.TheVariants.{Install, Activate, Extend, Settle, Fail, Returned, Discard, Terminate}
 use Rattle.hub_life.specs.declared.life_error.LifeError.{LifeError}
 use Rattle.hub_life.specs.declared.life_error.LifeError.TheVariants.{WrongState, TooManyExtensions, NoExtension}
-use Rattle.hub_life.specs.declared.limits.TheConstants.{MAX_EXTENSIONS}
+use Rattle.hub_envelope.specs.declared.limits.TheConstants.{MAX_EXTENSIONS}
 use Rattle.hub_life.specs.Lifecycle.{Progress, Cell, wrong, to, plus, minus, done, handles, entered, start, row, cell, at_cell, state_after, settled, is_failure}
 use Rattle.hub_life.specs.Course.{after, after_all, stage_of, is_waiting, IsSound}
 

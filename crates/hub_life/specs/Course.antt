@@ -4,7 +4,7 @@ use Rattle.std.specs.Result.{result_unwrap_or}
 use Rattle.hub_life.specs.declared.state.State.{State}
 use Rattle.hub_life.specs.declared.state.State.TheVariants.{Parsed, Installing, Installed, Activating, Activated, Redundant}
 use Rattle.hub_life.specs.declared.event.Event.{Event}
-use Rattle.hub_life.specs.declared.limits.TheConstants.{MAX_EXTENSIONS}
+use Rattle.hub_envelope.specs.declared.limits.TheConstants.{MAX_EXTENSIONS}
 use Rattle.hub_life.specs.Lifecycle.{Progress, handles, entered, answer}
 
 -- where a worker stands after an event, which changes nothing where it is refused

@@ -7,7 +7,7 @@ use Rattle.hub_life.specs.declared.event.Event.{Event}
 use Rattle.hub_life.specs.declared.event.Event.TheVariants.{Install, Activate, Extend, Settle, Fail, Returned, Discard, Terminate}
 use Rattle.hub_life.specs.declared.life_error.LifeError.{LifeError}
 use Rattle.hub_life.specs.declared.life_error.LifeError.TheVariants.{WrongState, TooManyExtensions, NoExtension}
-use Rattle.hub_life.specs.declared.limits.TheConstants.{MAX_EXTENSIONS}
+use Rattle.hub_envelope.specs.declared.limits.TheConstants.{MAX_EXTENSIONS}
 
 -- where a worker stands: its state, whether the handler of its event runs, how many extensions of that event are open, and whether one has failed
 pub record Progress : Type 0 where

@@ -2,8 +2,8 @@ ghost use Rattle.std.specs.Prelude.{◌≡◌, IfOk, IfErr, OnOk};
 
 use crate::event::Event;
 use crate::life_error::LifeError;
-use crate::limits::MAX_EXTENSIONS;
 use crate::state::State;
+use hub_envelope::MAX_EXTENSIONS;
 use std::marker::Model;
 
 /// The life of one service worker: its state and, while it is installing or activating, whether its

@@ -1,6 +1,6 @@
 //! How two ports are made that are entangled.
 ghost use Rattle.std.specs.Prelude.{◌≡◌, ◌+◌, ◌<◌, ◌↔◌, ◌∷◌, [], IfOk, OnOk, OnErr, IsErrOf};
-ghost use Rattle.hub_core.specs.declared.limits.TheConstants.{MAX_ENDS};
+ghost use Rattle.hub_envelope.specs.declared.limits.TheConstants.{MAX_ENDS};
 ghost use Rattle.hub_queue.specs.Mailboxes.{IsOpenMailbox};
 ghost use Rattle.hub_ports.specs.Channels.{IsChannel};
 

@@ -1,7 +1,7 @@
 -- What a post comes to where the line stands, and how it goes on from a queue that was retired.
 use Rattle.std.proofs.Common.{◌≡◌, ℕ, zero, suc, ◌+◌, ◌<◌, ◌≤◌, List, [], ◌∷◌, take, refl, sym, ap, ◌∙◌, subst, inl, inr, ⊎_elim, arith}
 use Rattle.std.specs.Prelude.{Option, Some, Result, Ok, Err}
-use Rattle.hub_core.specs.declared.limits.TheConstants.{MAX_HOPS}
+use Rattle.hub_envelope.specs.declared.limits.TheConstants.{MAX_HOPS}
 use Rattle.hub_depot.specs.declared.key.Key.{Key}
 use Rattle.hub_envelope.specs.declared.envelope.Draft.{Draft}
 use Rattle.hub_gate.specs.declared.entered.Refusal.{Refusal}

@@ -3,7 +3,7 @@ use Rattle.std.proofs.Common.{◌≡◌, ℕ, zero, suc, ◌<◌, ◌≤◌, Lis
 use Rattle.std.specs.Prelude.{slice_get}
 use Rattle.std.proofs.lemmas.List.{map-append}
 use Rattle.atomic_blocks.specs.Laid.{WebId}
-use Rattle.hub_core.specs.declared.limits.TheConstants.{MAX_LINES}
+use Rattle.hub_envelope.specs.declared.limits.TheConstants.{MAX_LINES}
 use Rattle.hub_gate.specs.GateSeats.{KeeperSeat}
 use Rattle.hub_gate.proofs.Got.{some_is, got_there, got-map, len-map}
 use Rattle.hub_queue.specs.declared.pass_view.PutView.{PutView}

@@ -5,7 +5,7 @@ use Rattle.std.proofs.lemmas.List.{reverse-append}
 use Rattle.atomic_blocks.specs.Laid.{WebId}
 use Rattle.atomic_table.specs.Seated.{TableId}
 use Rattle.hub_envelope.specs.declared.ids.EndId.{EndId}
-use Rattle.hub_core.specs.declared.limits.TheConstants.{MAX_MOVES}
+use Rattle.hub_envelope.specs.declared.limits.TheConstants.{MAX_MOVES}
 use Rattle.hub_gate.specs.GateRule.{Tags, new_line, keeper_at}
 use Rattle.hub_gate.specs.GateSeats.{EntrySeat, first_entries}
 use Rattle.hub_gate.proofs.Got.{some_is, got_or, got-map, len-map}

@@ -1,6 +1,6 @@
 -- What an adoption comes to.
 use Rattle.std.specs.Prelude.{◌≡◌, ◌≢◌, ℕ, ◌+◌, List, [], ◌∷◌, ◌++◌, length, Result, Ok, Err}
-use Rattle.hub_core.specs.declared.limits.TheConstants.{MAX_MOVES}
+use Rattle.hub_envelope.specs.declared.limits.TheConstants.{MAX_MOVES}
 use Rattle.hub_queue.specs.declared.adopt_error.AdoptError.{AdoptError}
 use Rattle.hub_queue.specs.declared.adopt_error.AdoptError.TheVariants.{TooManyMoves, Taken, OutOfMemory}
 use Rattle.std.specs.FinMap as map

@@ -7,7 +7,7 @@ use Rattle.hub_queue.specs.declared.pass_view.PutView.{PutView}
 use Rattle.hub_queue.specs.declared.pass_view.TakeView.{TakeView}
 use Rattle.hub_queue.specs.declared.pass_view.PassView.{PassView}
 use Rattle.hub_queue.specs.declared.pass_view.PassView.TheVariants.{Takes, Puts, Both, Spent}
-use Rattle.hub_queue.specs.declared.limits.TheConstants.{MAX_PUT}
+use Rattle.hub_envelope.specs.declared.limits.TheConstants.{MAX_PUT}
 
 -- the line has put one envelope more
 abbrev pub put_more : PutView → Envelope → PutView

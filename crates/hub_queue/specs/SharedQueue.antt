@@ -4,7 +4,7 @@ use mathlib.Core.Option as maybe
 use lib.ListN.{get_elem?}
 use Rattle.hub_envelope.specs.declared.envelope.Envelope.{Envelope}
 use Rattle.hub_core.specs.QueueMachine.{Queue, IsQueue}
-use Rattle.hub_queue.specs.declared.limits.TheConstants.{MAX_PUT}
+use Rattle.hub_envelope.specs.declared.limits.TheConstants.{MAX_PUT}
 use Rattle.hub_queue.specs.declared.pass_view.PutView.{PutView}
 use Rattle.hub_queue.specs.declared.pass_view.TakeView.{TakeView}
 use Rattle.hub_queue.specs.declared.pass_view.PassView.{PassView}

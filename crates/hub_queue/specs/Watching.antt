@@ -1,6 +1,6 @@
 -- The points to which a post comes, as a watch is told of them.
 use Rattle.std.specs.Prelude.{ℕ, zero, suc, List, [], ◌∷◌, ◌++◌, nat_lt, if◌then◌else◌, Option, Some, None, Result, Ok, Err}
-use Rattle.hub_core.specs.declared.limits.TheConstants.{MAX_HOPS}
+use Rattle.hub_envelope.specs.declared.limits.TheConstants.{MAX_HOPS}
 use Rattle.hub_depot.specs.declared.key.Key.{Key}
 use Rattle.hub_envelope.specs.declared.envelope.Draft.{Draft}
 use Rattle.hub_queue.specs.declared.pause.Point.{Point}

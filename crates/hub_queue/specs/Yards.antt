@@ -1,7 +1,7 @@
 -- What a post does to the yard, from which its line takes the stands at later queues.
 use Rattle.std.specs.Prelude.{◌≡◌, ◌⊎◌, ℕ, zero, suc, ◌-◌, ◌<◌, Option, Some, None, Result, Ok, Err}
 use Rattle.std.specs.FinMap as map
-use Rattle.hub_core.specs.declared.limits.TheConstants.{MAX_HOPS}
+use Rattle.hub_envelope.specs.declared.limits.TheConstants.{MAX_HOPS}
 use Rattle.hub_depot.specs.declared.key.Key.{Key}
 use Rattle.hub_depot.specs.Key.{key_cmp}
 use Rattle.hub_envelope.specs.declared.envelope.Draft.{Draft}

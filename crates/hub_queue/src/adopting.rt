@@ -1,7 +1,7 @@
 //! The next queue of an end, with the onward posters that lead there.
 ghost use Rattle.std.specs.Prelude.{◌≡◌, ◌<◌, ◌≤◌, IfOk, IfErr, OnErr};
 ghost use Rattle.std.specs.Option.{option_map};
-ghost use Rattle.hub_core.specs.declared.limits.TheConstants.{MAX_LINES, MAX_MOVES};
+ghost use Rattle.hub_envelope.specs.declared.limits.TheConstants.{MAX_LINES, MAX_MOVES};
 ghost use Rattle.hub_depot.specs.Putting.{with_all};
 ghost use Rattle.hub_queue.specs.Adopting.{IsRefused};
 ghost use Rattle.hub_queue.specs.Mailboxes.{IsNewPlace, stands_at};

@@ -1,8 +1,7 @@
 ghost use Rattle.std.specs.Prelude.{◌≡◌, ◌+◌, ◌<◌, ◌≤◌, IfSome, IfNone};
-ghost use Rattle.hub_core.specs.declared.limits.TheConstants.{MAX_ENDS};
+ghost use Rattle.hub_envelope.specs.declared.limits.TheConstants.{MAX_ENDS};
 
-use hub_core::MAX_ENDS;
-use hub_envelope::EndId;
+use hub_envelope::{EndId, MAX_ENDS};
 
 /// The numbers of ends, of which each is drawn once.
 #[derive(Clone, Copy, Debug, PartialEq, Eq)]

@@ -2,12 +2,11 @@ ghost use Rattle.std.specs.Prelude.{◌≡◌};
 ghost use Rattle.hub_queue.specs.Putting.{IsPut, unnamed};
 ghost use Rattle.hub_queue.specs.Seats.{IsNameOf};
 
-use crate::limits::MAX_PUT;
 use crate::posted::Posted;
 use crate::queue_rule::Put;
 use crate::store::{Pass, Store};
 use hub_depot::Key;
-use hub_envelope::{Draft, Envelope};
+use hub_envelope::{Draft, Envelope, MAX_PUT};
 use hub_gate::Right;
 use std::marker::Model;
 use std::sync::{Arc, Wait};

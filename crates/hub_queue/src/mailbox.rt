@@ -1,5 +1,5 @@
 ghost use Rattle.std.specs.Prelude.{◌≡◌, ◌<◌, ◌≤◌, IfOk};
-ghost use Rattle.hub_core.specs.declared.limits.TheConstants.{MAX_LINES};
+ghost use Rattle.hub_envelope.specs.declared.limits.TheConstants.{MAX_LINES};
 ghost use Rattle.hub_queue.specs.Mailboxes.{IsOpenMailbox};
 
 use crate::adopting::onwards_at;

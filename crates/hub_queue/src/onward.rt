@@ -1,7 +1,7 @@
 ghost use Rattle.std.specs.Prelude.{◌≡◌, ◌≤◌, IfSome, IfNone};
 ghost use Rattle.std.specs.FinMap as map;
 ghost use Rattle.std.specs.Option.{option_map};
-ghost use Rattle.hub_core.specs.declared.limits.TheConstants.{MAX_MOVES};
+ghost use Rattle.hub_envelope.specs.declared.limits.TheConstants.{MAX_MOVES};
 ghost use Rattle.hub_queue.specs.Posting.{name_after};
 ghost use Rattle.hub_queue.specs.Standing.{IsNext};
 

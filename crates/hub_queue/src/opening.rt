@@ -2,7 +2,7 @@
 ghost use Rattle.std.specs.Prelude.{◌≡◌, ◌<◌, ◌≤◌, IfOk};
 ghost use Rattle.std.specs.Arc.{arc_value};
 ghost use Rattle.crossbeam_queue.specs.SegTies.{IsSegPassOf};
-ghost use Rattle.hub_core.specs.declared.limits.TheConstants.{MAX_LINES};
+ghost use Rattle.hub_envelope.specs.declared.limits.TheConstants.{MAX_LINES};
 ghost use Rattle.hub_queue.specs.declared.pass_view.PassView.TheVariants.{Takes, Puts};
 ghost use Rattle.hub_queue.specs.Opening.{MayCut, IsOpenPlace, cut_so_far, new_rights};
 ghost use Rattle.hub_queue.specs.PassSteps.{cut_more, next_put};
@@ -13,8 +13,7 @@ use crate::line_right::LineRight;
 use crate::place::Place;
 use crate::queue_rule::{CutLine, QueueName};
 use crate::store::{EnvelopeQueue, Pass, Store};
-use hub_core::MAX_LINES;
-use hub_envelope::EndId;
+use hub_envelope::{EndId, MAX_LINES};
 use hub_gate::{Entry, Gate};
 use std::alloc::{AllocError, Global};
 use std::marker::Brand;

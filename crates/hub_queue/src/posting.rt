@@ -16,9 +16,8 @@ use crate::post_error::PostError;
 use crate::posted::Posted;
 use crate::stand::Stand;
 use hub_bell::Bell;
-use hub_core::MAX_HOPS;
 use hub_depot::{Key, Shelf};
-use hub_envelope::Draft;
+use hub_envelope::{Draft, MAX_HOPS};
 use hub_gate::{Entered, Entry, Inside, Refusal};
 use std::sync::Wait;
 

@@ -1,7 +1,8 @@
 //! Ends that are adopted: what their takers take, queue after queue.
 use crate::parts::Next;
 use crate::table::{Answer, Step, walks};
-use hub_queue::{AdoptError, MAX_HOPS, MAX_MOVES, PostError};
+use hub_envelope::{MAX_HOPS, MAX_MOVES};
+use hub_queue::{AdoptError, PostError};
 
 #[test]
 fn three_adoptions(rt: HostRuntime) {

@@ -1,8 +1,8 @@
 //! What the tests make their mailboxes of, and the calls that many of them make.
 ghost use Rattle.std.specs.Prelude.{◌≡◌};
 
-use hub_envelope::{AgentId, Body, Draft, EndId, Envelope, Ports};
-use hub_queue::{Bell, Listener, MAX_LINES, Mailbox, Poster, Steps, Taker, Took};
+use hub_envelope::{AgentId, Body, Draft, EndId, Envelope, MAX_LINES, Ports};
+use hub_queue::{Bell, Listener, Mailbox, Poster, Steps, Taker, Took};
 use std::alloc::Global;
 use std::marker::Brand;
 use std::sync::Wait;

@@ -2,7 +2,7 @@
 //! and the ends that the script declares. Ends are numbered as the script's actions name them.
 
 ghost use Rattle.std.specs.Prelude.{◌≤◌};
-ghost use Rattle.hub_core.specs.declared.limits.TheConstants.{MAX_AGENTS};
+ghost use Rattle.hub_envelope.specs.declared.limits.TheConstants.{MAX_AGENTS};
 ghost use Rattle.hub_trace.specs.declared.limits.TheConstants.{MAX_AGENT};
 
 use crate::agent::Agent;

@@ -1,6 +1,7 @@
 use Event::*;
 use State::*;
-use hub_life::{Event, Life, LifeError, MAX_EXTENSIONS, State};
+use hub_envelope::MAX_EXTENSIONS;
+use hub_life::{Event, Life, LifeError, State};
 use std::process::Abort;
 
 type Answer = Result<State, LifeError>;

@@ -9,7 +9,7 @@ use Rattle.std.proofs.lemmas.Bool.{and_cases, and_parts, ltb-false, ltb-true, no
 use Rattle.std.proofs.lemmas.Bool.Decides.{Decides-eqb, not_from_Decides}
 use Rattle.std.proofs.lemmas.List.Elements.{All-nil}
 use Rattle.hub_origin.specs.declared.origin_error.OriginError.{OriginError}
-use Rattle.hub_core.specs.declared.limits.TheConstants.{MAX_AGENTS}
+use Rattle.hub_envelope.specs.declared.limits.TheConstants.{MAX_AGENTS, MAX_SCRIPT_LINES}
 use Rattle.hub_envelope.specs.declared.ids.AgentId.{AgentId}
 use Rattle.hub_life.specs.declared.event.Event.{Event}
 use Rattle.hub_text.specs.Reading.{◌>>=◌}
@@ -21,7 +21,6 @@ use Rattle.hub_script.specs.declared.form.ActionForm.{ActionForm}
 use Rattle.hub_script.specs.declared.form.ActionForm.TheVariants.{Post, Send, Cast, Start, Loaded, Close, Wait, Receive, Order, Event as LifeEvent, Hand, Fetch}
 use Rattle.hub_script.specs.declared.form.Form.{Form}
 use Rattle.hub_script.specs.declared.form.Form.TheVariants as form
-use Rattle.hub_script.specs.declared.limits.TheConstants.{MAX_SCRIPT_LINES}
 use Rattle.hub_script.specs.declared.script_error.ScriptError.TheVariants.{Syntax, TooLarge}
 use Rattle.hub_script.specs.Before.{Hands, HasHanded, Holds, IsAction, IsDeclared, IsMember, IsPort, Gets, agent_kinds}
 use Rattle.hub_script.specs.Contents.{actions, agents, with_agent, with_channel, with_member}

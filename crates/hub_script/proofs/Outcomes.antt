@@ -5,7 +5,7 @@ use Rattle.std.specs.Prelude.{codes, is_some, slice_get}
 use Rattle.std.proofs.lemmas.List.Elements.{All-cons, All-contains, All-nil}
 use Rattle.hub_envelope.specs.declared.body.BodyError.{BodyError}
 use Rattle.hub_envelope.specs.declared.body.BodyError.TheVariants.{TooDeep, TooLong}
-use Rattle.hub_envelope.specs.declared.limits.TheConstants.{MAX_PORTS}
+use Rattle.hub_envelope.specs.declared.limits.TheConstants.{MAX_PORTS, MAX_SCRIPT_LINES}
 use Rattle.hub_text.specs.Reading.{◌>>=◌}
 use Rattle.hub_script.specs.declared.action.ActionKind.TheVariants as action
 use Rattle.hub_script.specs.declared.agent_kind.AgentKind.TheVariants.{Window, Worker}
@@ -13,7 +13,6 @@ use Rattle.hub_script.specs.declared.form.ActionForm.{ActionForm}
 use Rattle.hub_script.specs.declared.form.ActionForm.TheVariants.{Post, Send, Cast}
 use Rattle.hub_script.specs.declared.form.Form.{Form}
 use Rattle.hub_script.specs.declared.form.Form.TheVariants as form
-use Rattle.hub_script.specs.declared.limits.TheConstants.{MAX_SCRIPT_LINES}
 use Rattle.hub_script.specs.declared.named.NamedEnd.{NamedEnd}
 use Rattle.hub_script.specs.declared.script_error.ScriptError.{ScriptError}
 use Rattle.hub_script.specs.declared.script_error.ScriptError.TheVariants.{Syntax, UnknownAction, UnknownName, DataClone, TooLarge, OutOfMemory}

@@ -14,13 +14,12 @@ use Rattle.hub_origin.specs.declared.origin_error.OriginError.{OriginError}
 use Rattle.hub_envelope.specs.declared.body.BodyError.{BodyError}
 use Rattle.hub_envelope.specs.declared.body.BodyError.TheVariants.{NotJson, NotWhole, TooDeep, TooLong, OutOfMemory as NoMemory}
 use Rattle.hub_envelope.specs.declared.ids.AgentId.{AgentId}
-use Rattle.hub_envelope.specs.declared.limits.TheConstants.{MAX_PORTS}
+use Rattle.hub_envelope.specs.declared.limits.TheConstants.{MAX_PORTS, MAX_SCRIPT_LINES}
 use Rattle.hub_text.specs.Reading.{◌>>=◌, some_or}
 use Rattle.hub_script.specs.declared.agent_kind.AgentKind.{AgentKind}
 use Rattle.hub_script.specs.declared.agent_kind.AgentKind.TheVariants.{Window, Worker}
 use Rattle.hub_script.specs.declared.declaration.DeclaredAgent.{DeclaredAgent}
 use Rattle.hub_script.specs.declared.form.Form.{Form}
-use Rattle.hub_script.specs.declared.limits.TheConstants.{MAX_SCRIPT_LINES}
 use Rattle.hub_script.specs.declared.named.NamedEnd.{NamedEnd}
 use Rattle.hub_script.specs.declared.named.NameKind.{NameKind}
 use Rattle.hub_script.specs.declared.named.NameKind.TheVariants.{Port, Member}

@@ -1,11 +1,10 @@
 -- What a script has: the agents, the channels, the members and the actions, each in the order of the file.
 use Rattle.std.specs.Prelude.{ℕ, ◌+◌, ◌≤◌, List, [], ◌∷◌, ◌++◌, length}
-use Rattle.hub_core.specs.declared.limits.TheConstants.{MAX_AGENTS}
+use Rattle.hub_envelope.specs.declared.limits.TheConstants.{MAX_AGENTS, MAX_SCRIPT_LINES}
 use Rattle.hub_script.specs.declared.action.Action.{Action}
 use Rattle.hub_script.specs.declared.declaration.DeclaredAgent.{DeclaredAgent}
 use Rattle.hub_script.specs.declared.declaration.DeclaredChannel.{DeclaredChannel}
 use Rattle.hub_script.specs.declared.declaration.DeclaredMember.{DeclaredMember}
-use Rattle.hub_script.specs.declared.limits.TheConstants.{MAX_SCRIPT_LINES}
 
 abbrev pub Contents : Type 0
 Contents = List DeclaredAgent × List DeclaredChannel × List DeclaredMember × List Action

@@ -7,17 +7,15 @@ use Rattle.std.specs.List.{All, AllZip, Any, Contains}
 use Rattle.serde_json.specs.Data.{Data}
 use Rattle.serde_json.specs.Find.{get}
 use Rattle.hub_origin.specs.declared.origin_error.OriginError.{OriginError}
-use Rattle.hub_core.specs.declared.limits.TheConstants.{MAX_AGENTS}
+use Rattle.hub_envelope.specs.declared.limits.TheConstants.{MAX_AGENTS, MAX_PORTS, MAX_SCRIPT_LINES}
 use Rattle.hub_envelope.specs.declared.body.BodyError.{BodyError}
 use Rattle.hub_envelope.specs.declared.body.BodyError.TheVariants.{TooDeep, TooLong}
-use Rattle.hub_envelope.specs.declared.limits.TheConstants.{MAX_PORTS}
 use Rattle.hub_text.specs.TextLines.{text_lines_of}
 use Rattle.hub_script.specs.declared.agent_kind.AgentKind.TheVariants.{Window, Worker}
 use Rattle.hub_script.specs.declared.form.Form.{Form}
 use Rattle.hub_script.specs.declared.form.Form.TheVariants as form
 use Rattle.hub_script.specs.declared.form.ActionForm.TheVariants.{Post, Send, Cast, Start, Loaded, Close, Receive, Order, Event as LifeEvent, Hand, Fetch}
 use Rattle.hub_script.specs.declared.keyword.Keyword.{Keyword}
-use Rattle.hub_script.specs.declared.limits.TheConstants.{MAX_SCRIPT_LINES}
 use Rattle.hub_script.specs.declared.script_error.ScriptError.{ScriptError}
 use Rattle.hub_script.specs.declared.script_error.ScriptError.TheVariants.{Syntax, UnknownAction, UnknownName, DataClone, TooLarge, OutOfMemory}
 use Rattle.hub_script.specs.declared.script_error.DataCloneCause.{DataCloneCause}

@@ -8,7 +8,7 @@ use crate::form::Form;
 use crate::name::Name;
 use crate::script_error::ScriptError;
 use crate::script_reader::{ScriptReader, require};
-use hub_core::MAX_AGENTS;
+use hub_envelope::MAX_AGENTS;
 use hub_origin::{Origin, OriginError};
 use std::alloc::Global;
 

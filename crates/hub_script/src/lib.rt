@@ -30,7 +30,6 @@ pub use agent_kind::AgentKind;
 pub use declaration::{DeclaredAgent, DeclaredChannel, DeclaredMember};
 pub use hub_envelope::OutOfMemory;
 pub use laws::script_laws;
-pub use limits::MAX_SCRIPT_LINES;
 pub use name::Name;
 pub use script::Script;
 pub use script_error::{DataCloneCause, ScriptError};

@@ -3,9 +3,7 @@ ghost use Rattle.hub_script.specs.Contents.{IsWithinLimits, actions, agents, cha
 
 use crate::action::Action;
 use crate::declaration::{DeclaredAgent, DeclaredChannel, DeclaredMember};
-use crate::limits::MAX_SCRIPT_LINES;
-use hub_core::MAX_AGENTS;
-use hub_envelope::OutOfMemory;
+use hub_envelope::{MAX_AGENTS, MAX_SCRIPT_LINES, OutOfMemory};
 use std::alloc::Global;
 use std::marker::Model;
 

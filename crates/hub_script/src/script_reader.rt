@@ -8,15 +8,14 @@ ghost use Rattle.hub_script.specs.Known.{declaring, end_of, giving, giving_all, 
 use crate::action::{Action, ActionKind};
 use crate::agent_kind::AgentKind;
 use crate::declaration::{DeclaredAgent, DeclaredChannel, DeclaredMember};
-use crate::limits::{MAX_SCRIPT_LINES, QUEUE};
+use crate::limits::QUEUE;
 use crate::lists::{has_twice, is_listed};
 use crate::name::Name;
 use crate::name_list::NameList;
 use crate::named::{Holding, NameKind, NamedEnd};
 use crate::script::Script;
 use crate::script_error::{DataCloneCause, ScriptError};
-use hub_core::MAX_AGENTS;
-use hub_envelope::{AgentId, EndId, MAX_PORTS, OutOfMemory, Ports};
+use hub_envelope::{AgentId, EndId, MAX_AGENTS, MAX_PORTS, MAX_SCRIPT_LINES, OutOfMemory, Ports};
 use std::alloc::Global;
 use std::collections::{BTreeMap, BTreeSet};
 

@@ -1,12 +1,13 @@
 ghost use Rattle.std.specs.Prelude.{◌≡◌, IfOk, OnErr, true};
 ghost use Rattle.hub_core.specs.Memory.{takes_memory};
-ghost use Rattle.hub_core.specs.declared.limits.TheConstants.{MAX_HOPS};
+ghost use Rattle.hub_envelope.specs.declared.limits.TheConstants.{MAX_HOPS};
 ghost use Rattle.hub_steps.specs.Computation.{step};
 ghost use Rattle.hub_steps.specs.Performed.{ComputesAt};
 ghost use Rattle.hub_steps.specs.Unfolding.{enter, shown_step};
 
 use crate::shown::Shown;
-use hub_core::{Action, Core, MAX_HOPS, OutOfMemory, Outcome, Sender, Step};
+use hub_core::{Action, Core, OutOfMemory, Outcome, Sender, Step};
+use hub_envelope::MAX_HOPS;
 
 /// Enters, and goes on from retired queues, at most `MAX_HOPS` times. Answers the last Enter's
 /// outcome: `Moved` where that queue was retired too.

@@ -15,8 +15,8 @@ use crate::posting::post;
 use crate::shown::Shown;
 use crate::starting::{adopt, load, make_agent, make_member, make_worker};
 use crate::step_line::{Command, Poster, PosterCommand, StepLine};
-use hub_core::{Action, Core, EndIds, Kind, MAX_LINES, OutOfMemory, Outcome, Sender};
-use hub_envelope::{EndId, LineId};
+use hub_core::{Action, Core, EndIds, Kind, OutOfMemory, Outcome, Sender};
+use hub_envelope::{EndId, LineId, MAX_LINES};
 use std::alloc::Global;
 
 /// Takes the core's steps of a line, and gives what the line shows.

@@ -5,8 +5,8 @@ ghost use Rattle.hub_steps.specs.Unfolding.{post, send};
 use crate::closing::close_each;
 use crate::entering::{enter, take_step};
 use crate::shown::Shown;
-use hub_core::{Action, Core, EndIds, Listing, MAX_PORTS, OutOfMemory, Outcome, Sender};
-use hub_envelope::Body;
+use hub_core::{Action, Core, EndIds, Listing, OutOfMemory, Outcome, Sender};
+use hub_envelope::{Body, MAX_PORTS};
 
 /// Posts a message, where its tests don't refuse it before the first step. A list that holds the
 /// end to which the message goes has each of its ports closed.

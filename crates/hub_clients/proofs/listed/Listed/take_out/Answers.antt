@@ -1,6 +1,6 @@
 use Rattle.std.proofs.Common.{◌≡◌, ◌<◌, ◌∙◌, get_or, set, sym, ap, subst, None, IfSome}
 use Rattle.std.specs.Prelude.{position, is_some}
-use Rattle.hub_core.specs.declared.limits.TheConstants.{MAX_LINES}
+use Rattle.hub_envelope.specs.declared.limits.TheConstants.{MAX_LINES}
 use Rattle.hub_clients.specs.Lines.{IsTakenOut}
 use Rattle.hub_clients.specs.Listings.{ListedSeat, IsInPlace}
 use Rattle.hub_clients.proofs.InPlace.{taken_out, first_taken, own_taken}

@@ -1,6 +1,6 @@
 use Rattle.std.proofs.Common.{◌≡◌, ◌<◌, set, sym, subst}
 use Rattle.std.specs.Prelude.{IfOk}
-use Rattle.hub_core.specs.declared.limits.TheConstants.{MAX_LINES}
+use Rattle.hub_envelope.specs.declared.limits.TheConstants.{MAX_LINES}
 use Rattle.hub_clients.specs.Lines.{IsLent}
 use Rattle.hub_clients.specs.Listings.{IsFirstOf}
 use Rattle.hub_clients.proofs.Lending.{first_is, lent, lent_of}

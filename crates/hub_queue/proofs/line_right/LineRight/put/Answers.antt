@@ -1,5 +1,5 @@
 use Rattle.std.proofs.Common.{arith, ◌<◌, length, sym, subst}
-use Rattle.hub_queue.specs.declared.limits.TheConstants.{MAX_PUT}
+use Rattle.hub_envelope.specs.declared.limits.TheConstants.{MAX_PUT}
 use Rattle.hub_queue.specs.Seats.{LineSeat, IsNameOf, put_in}
 use Rattle.hub_queue.proofs.Rule.{puts_at}
 use Rattle.hub_queue.proofs.line_right.LineRight.put.Goals as goal
