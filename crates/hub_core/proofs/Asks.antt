@@ -19,9 +19,6 @@ use Rattle.hub_core.specs.Roster.{CastNow}
 
 -- ---- posting
 
-none_posts : (a b : Bool) → (let n : Option AgentId = None in (is_some n && a) ≡ ((is_some n && b) && a))
-none_posts a b = refl
-
 third : (a b c : Bool) → (a && (b && c)) ≡ ((a && b) && c)
 third true b c = refl
 third false b c = refl

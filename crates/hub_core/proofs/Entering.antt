@@ -47,13 +47,6 @@ use Rattle.hub_core.proofs.Calms.{phase_away}
 abbrev pub with_phase : End → Line → ℕ → Phase → End
 with_phase x y k p = record x { lines = set x.lines k (record y { phase = p }) }
 
--- what the facts say of each line then
-line_phased : (old : ℕ → LineNow) (k : ℕ) (p : Phase) (l : ℕ) → (b : Bool) → eqb l k ≡ b → (o : Option Line) → (b ≡ false → old l ≡ line_now o) → (y : Line) → (b ≡ true → old k ≡ line_now (Some y)) → (b ≡ true → o ≡ Some (record y { phase = p })) → (let z : LineNow = record { phase = cond b p (old l).phase; stand = (old l).stand; noticed = (old l).noticed; held_by = (old l).held_by } in z ≡ line_now o)
-line_phased old k p l true is o other y mine here =
-    let same : l ≡ k = eqb-true l k is in
-    ap (λ (z : LineNow). let w : LineNow = record { phase = p; stand = z.stand; noticed = z.noticed; held_by = z.held_by } in w) (ap old same ∙ mine refl) ∙ ap line_now (sym (here refl))
-line_phased old k p l false is o other y mine here = other refl
-
 -- a line that is inside is at a queue that is kept
 phased_inside : (old : ℕ → LineNow) (k bound : ℕ) (p : Phase) (l : ℕ) → (b : Bool) → eqb l k ≡ b → (p ≡ Inside → (old k).stand < bound) → ((old l).phase ≡ Inside → (old l).stand < bound) → cond b p (old l).phase ≡ Inside → (old l).stand < bound
 phased_inside old k bound p l true is may kept at = subst (λ i. (old i).stand < bound) (sym (eqb-true l k is)) (may at)

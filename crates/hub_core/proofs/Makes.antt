@@ -331,10 +331,6 @@ queue_fits f refused o (makes_worker a) is = is
 queue_nothing : (f : Facts) {b : Action} {k : Kind} {test : Option Kind → Bool} {a : AgentId} (o : Outcome) → Makes b k test a → changes_nothing o b ≡ true → next f b o ≡ f
 queue_nothing f {b = b} o makes h = nothing_next f o b h
 
-queue_ends : (f : Facts) {b : Action} {k : Kind} {test : Option Kind → Bool} {a : AgentId} (e : EndId) → Makes b k test a → (d : ℕ) → (next f b (outcome.End e)).end d ≡ queue_now f a k d (eqb d e.0)
-queue_ends f e (makes_client a) d = refl
-queue_ends f e (makes_worker a) d = refl
-
 queue_rest : (f : Facts) {b : Action} {k : Kind} {test : Option Kind → Bool} {a : AgentId} (e : EndId) → Makes b k test a → next f b (outcome.End e) ≡ record f { ends = f.ends + 1; end = λ d. queue_now f a k d (eqb d e.0) }
 queue_rest f e (makes_client a) = refl
 queue_rest f e (makes_worker a) = refl

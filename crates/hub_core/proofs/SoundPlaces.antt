@@ -242,11 +242,6 @@ agent_places f origin refused n h fits =
       flights = h.places.flights;
     }
 
--- an end at no place stays at none where only ends that have one are moved
-stays_none : (b : Bool) (p q : Option Place) → (b ≡ true → ⊥) → q ≡ None → cond b p q ≡ None
-stays_none true p q never h = absurd (never refl)
-stays_none false p q never h = h
-
 moved_none : (f : Facts) (x : ℕ) (b : Bool) (p : Option Place) → f.end x ≡ no_end → (b ≡ true → ⊥) → (let y : EndNow = record (f.end x) { place = cond b p (f.end x).place } in y ≡ no_end)
 moved_none f x true p none never = absurd (never refl)
 moved_none f x false p none never = none

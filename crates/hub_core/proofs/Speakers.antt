@@ -315,9 +315,6 @@ old_end f e e' x first second less =
     let both = below x f.ends less in
     (ap (λ (d : EndId). eqb x d.0) first ∙ both.0, ap (λ (d : EndId). eqb x d.0) second ∙ both.1)
 
-either_false : (b c : Bool) → b ≡ false → c ≡ false → (b || c) ≡ false
-either_false b c x y = rw (x, y) refl
-
 pub holder_made : (f : Facts) (e : ℕ) → SoundPlaces f → is_some (holder f e) ≡ true → e < f.ends
 holder_made f e s h = let there = runs_there f (f.end e).place h in placed_made f e (With there.0) s there.1
 

@@ -34,21 +34,6 @@ begins_nothing old text = ([], text, refl, appends_nothing old)
 pub begins_longer : (old new : Option (List ℕ)) (text more : List ℕ) → AppendsBeginning old new text → AppendsBeginning old new (text ++ more)
 begins_longer old new text more h = (h.0, h.1 ++ more, ap (λ s. s ++ more) h.2 ∙ append_assoc h.0 h.1 more, h.3)
 
-pub consumes_nothing : (old : Option (List ℕ)) → Consumes old old []
-consumes_nothing None = tt
-consumes_nothing (Some xs) = refl
-
-pub consumes_kept : (old new : Option (List ℕ)) → Keeps old new → Consumes old new []
-consumes_kept None new h = tt
-consumes_kept (Some xs) None h = h
-consumes_kept (Some xs) (Some ys) h = sym h
-
-pub consumes_more : (old mid new : Option (List ℕ)) (a b : List ℕ) → Consumes old mid a → Consumes mid new b → Consumes old new (a ++ b)
-consumes_more None mid new a b h k = tt
-consumes_more (Some xs) None new a b h k = absurd h
-consumes_more (Some xs) (Some ys) None a b h k = absurd k
-consumes_more (Some xs) (Some ys) (Some zs) a b h k = h ∙ ap (λ s. a ++ s) k ∙ sym (append_assoc a b zs)
-
 pub all_read : (old new : Option (List ℕ)) (a : List ℕ) → Consumes old new a → IsAtEnd new → IsInput old a
 all_read None new a h k = tt
 all_read (Some xs) None a h k = absurd h

@@ -6,11 +6,9 @@ ghost use Rattle.hub_envelope.specs.declared.limits.TheConstants.{MAX_READS};
 
 use crate::counted_reader::CountedReader;
 use crate::device::Device;
+use crate::output::PIECE;
 use std::alloc::{AllocError, Global};
 use std::io::Read;
-
-/// How many bytes a read asks for.
-const PIECE: usize = 65_536;
 
 /// Why an input wasn't read.
 #[derive(Clone, Copy, Debug, PartialEq, Eq, Drop)]

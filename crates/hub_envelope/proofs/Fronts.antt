@@ -129,9 +129,6 @@ front-negative text digits rest is n = subst (λ t. IsFront 0 t rest) (sym is) (
 
 -- ---- other scalars
 
-pub deeper : (levels : ℕ) (text rest : List ℕ) → IsFront 0 text rest → IsFront levels text rest
-deeper levels text rest front = record { value = front.value; stands = front.stands; simple = front.simple; nested = omega (arith, front.nested) }
-
 pub word_at : (text rest word : List ℕ) (first b : ℕ) → text ≡ first ∷ rest → first ≡ b → bytes_eq (take (length word) rest) word ≡ true → text ≡ b ∷ (word ++ drop (length word) rest)
 word_at text rest word first b is at same =
     let front : take (length word) rest ≡ word = (bytes_eq-Decides (take (length word) rest) word).0 same in

@@ -130,25 +130,18 @@ fn after_letter(text: &[u8]) -> Option<&[u8]>
     ensures shorter { IfSome result (λ rest. length rest.now < length text.now) }
 {
     let (letter, rest) = text.split_first()?;
-    escaped_byte(*letter)?;
+    if !is_escape_letter(*letter) {
+        return None;
+    }
     Some(rest)
 }
 
-/// The byte of which this is the letter in its short escape.
+/// Whether a short escape has this letter.
 #[tactic(auto, unfolding(json::specs::Print::escape_byte))]
-fn escaped_byte(letter: u8) -> Option<u8>
-    ensures { IfSome result (λ byte. escape_byte byte ≡ 92 ∷ letter ∷ []) }
+fn is_escape_letter(letter: u8) -> bool
+    ensures { result ≡ true → (byte : ℕ) × (escape_byte byte ≡ 92 ∷ letter ∷ []) }
 {
-    match letter {
-        b'"' => Some(b'"'),
-        b'\\' => Some(b'\\'),
-        b'b' => Some(8),
-        b't' => Some(b'\t'),
-        b'n' => Some(b'\n'),
-        b'f' => Some(12),
-        b'r' => Some(b'\r'),
-        _ => None,
-    }
+    matches!(letter, b'"' | b'\\' | b'b' | b't' | b'n' | b'f' | b'r')
 }
 
 /// The bytes of the string at the front, which need no escape, and what stands behind it.

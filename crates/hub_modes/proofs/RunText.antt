@@ -1,9 +1,8 @@
 -- What a run prints, from its parts, and what that stands for.
-use Rattle.std.proofs.Common.{◌≡◌, ◌⊎◌, ℕ, List, [], ◌++◌, Ok, Err, true, false, ap, subst, inl, inr, ◌∙◌}
+use Rattle.std.proofs.Common.{◌≡◌, ℕ, List, [], ◌++◌, Ok, true, false, ap, ◌∙◌}
 use Rattle.std.specs.Prelude.{codes}
 use Rattle.hub_script.specs.Contents.{Contents}
 use Rattle.hub_script.specs.Script.{script_of}
-use Rattle.hub_script.specs.declared.script_error.ScriptError.{ScriptError}
 use Rattle.hub_script.specs.declared.script_error.ScriptError.TheVariants as script
 use Rattle.hub_trace.specs.Accepted.{AgentLog}
 use Rattle.hub_trace.specs.Deliveries.{AreDeliveries}
@@ -12,8 +11,7 @@ use Rattle.hub_trace.specs.declared.delivered_line.DeliveredLine.{DeliveredLine}
 use Rattle.hub_engine.specs.declared.status.ExitStatus.{ExitStatus}
 use Rattle.hub_engine.specs.declared.status.ExitStatus.TheVariants as status
 use Rattle.hub_check.specs.CheckOutput.{IsVerdictLine, is_reached}
-use Rattle.hub_engine.specs.Engine.{IsBadLine, SaysUnread}
-use Rattle.hub_modes.specs.RunOutput.{IsRunText, IsScriptOutput, SaysRun, delivered_text, script_kind_text}
+use Rattle.hub_modes.specs.RunOutput.{IsRunText, IsScriptOutput, SaysRun, delivered_text}
 
 -- the logs, their deliveries and a verdict that was reached are what a run prints
 pub whole : (logs : List AgentLog) (s : ExitStatus) (lines : List DeliveredLine) (verdict text : List ℕ) → AreDeliveries logs lines → IsVerdictLine logs s verdict → is_reached s ≡ true
@@ -38,13 +36,3 @@ runs_say input contents read status.OutOfMemory t said = said.1
 runs_say input contents read status.BadInput t said = absurd said.1
 runs_say input contents read status.Usage t said = absurd said.1
 runs_say input contents read status.Device t said = absurd said.1
-
--- so is the one line of a bad script
-pub unread_script : (input : List ℕ) (line : ℕ) (error : ScriptError) → (error ≡ script.OutOfMemory) ⊎ (script_of input ≡ Err (line, error)) → (s : ExitStatus) (t : List ℕ) → SaysUnread line (script_kind_text error) s t → IsScriptOutput input s t
-unread_script input line error (inl e) status.BadInput t said = absurd (subst (λ k. IsBadLine line (script_kind_text k) t) e said)
-unread_script input line error (inr h) status.BadInput t said = (line, error, h, said)
-unread_script input line error r status.OutOfMemory t said = said
-unread_script input line error r status.Success t said = absurd said
-unread_script input line error r status.Fault t said = absurd said
-unread_script input line error r status.Usage t said = absurd said
-unread_script input line error r status.Device t said = absurd said

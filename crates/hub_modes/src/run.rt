@@ -20,7 +20,7 @@ use hub_engine::{
     end_with, read_input,
 };
 use hub_run::{Checkpoint, run_agents};
-use hub_script::{DataCloneCause, Script, ScriptError};
+use hub_script::{Script, ScriptError};
 use hub_trace::{DeliveredLine, LOG_HEADER, LOGS_END, Log, OutOfMemory, deliveries};
 use std::alloc::{AllocError, Global};
 use std::fmt::Write as _;
@@ -152,13 +152,7 @@ fn name_of(error: ScriptError) -> Option<&'static str>
     ensures { option_map (λ name. name.now) result ≡ script_kind_text error }
 {
     match error {
-        ScriptError::Syntax => Some("Syntax"),
-        ScriptError::UnknownAction => Some("UnknownAction"),
-        ScriptError::UnknownName => Some("UnknownName"),
-        ScriptError::DataClone(DataCloneCause::Source) => Some("DataClone(Source)"),
-        ScriptError::DataClone(DataCloneCause::Twice) => Some("DataClone(Twice)"),
-        ScriptError::DataClone(DataCloneCause::Detached) => Some("DataClone(Detached)"),
-        ScriptError::TooLarge => Some("TooLarge"),
         ScriptError::OutOfMemory => None,
+        bad => Some(bad.name()),
     }
 }

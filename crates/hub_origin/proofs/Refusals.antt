@@ -25,9 +25,6 @@ refused text e (inl h) = (inr (no_url text e h), (e, h))
 refused text e (inr (inl h)) = absurd cc
 refused text e (inr (inr h)) = absurd cc
 
-pub no_room : (text : List ℕ) (e : ParseError) → IsOutOfRoom e → Told text (parse_refusal e)
-no_room text e h = refused text e (inr h)
-
 -- the answer by the origin of the URL
 pub by_origin : (text : List ℕ) (url : Parts) (origin : Option Triple) → parse_url None text ≡ Ok url → origin ≡ origin_of url → origin_answer text ≡ tuple_answer origin
 unfolding origin_answer

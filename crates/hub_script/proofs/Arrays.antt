@@ -1,5 +1,5 @@
 -- The texts of an array.
-use Rattle.std.proofs.Common.{◌≡◌, ℕ, ◌+◌, ◌<◌, ◌≤◌, List, [], ◌∷◌, ◌++◌, length, get_or, drop, Option, Some, None, Ok, Err, refl, ap, sym, ◌∙◌}
+use Rattle.std.proofs.Common.{◌≡◌, ℕ, ◌+◌, ◌<◌, ◌≤◌, List, [], ◌∷◌, ◌++◌, length, get_or, drop, Option, Some, Ok, Err, refl, ap, sym, ◌∙◌}
 use Rattle.std.proofs.lemmas.List.{at_drop_more, at_drop_all}
 use Rattle.hub_text.specs.Reading.{◌>>=◌, some_or}
 use Rattle.serde_json.specs.Data.{Data, Items}
@@ -28,12 +28,6 @@ one_more xs names i v text lt is found so_far =
 
 of_array : (d : Data) (ds : Items) → Some ds ≡ as_array d → names_of d ≡ names_from [] ds
 of_array d ds h = ap (λ (o : Option Items). some_or Syntax o >>= names_from []) (sym h)
-
-pub no_text : (d : Data) (xs : List Value) (names : List (List ℕ)) (i : ℕ) (v : Value) → Some (items_view xs) ≡ as_array d → i < length xs → v ≡ get_or xs i v → None ≡ as_str (view v)
-    → IsReadSoFar xs names i → names_of d ≡ Err Syntax
-no_text d xs names i v array lt is found so_far =
-    of_array d (items_view xs) array ∙ sym so_far ∙ at_item xs names i v lt is
-    ∙ ap (λ (o : Option (List ℕ)). some_or Syntax o >>= λ name. names_from (names ++ name ∷ []) (items_view (drop (i + 1) xs))) (sym found)
 
 pub all_read : (d : Data) (xs : List Value) (names : List (List ℕ)) (i : ℕ) → Some (items_view xs) ≡ as_array d → length xs ≤ i → IsReadSoFar xs names i → names_of d ≡ Ok names
 all_read d xs names i array past so_far =

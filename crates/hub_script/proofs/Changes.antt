@@ -15,7 +15,7 @@ use Rattle.std.proofs.lemmas.Bool.Decides.{nat_tests}
 use Rattle.std.proofs.lemmas.Map.Text.{btree_map_updates_text}
 use Rattle.hub_script.specs.declared.named.Holding.{Holding}
 use Rattle.hub_script.specs.declared.named.NamedEnd.{NamedEnd}
-use Rattle.hub_script.specs.Known.{giving, handing, is_same_holding, naming, taking}
+use Rattle.hub_script.specs.Known.{giving, is_same_holding, naming, taking}
 use Rattle.hub_script.specs.Reader.{holding_cmp}
 
 -- numbers compare alike where they are equal
@@ -47,10 +47,6 @@ taken old new x u = λ i y. (u.0 y ∙ ap (λ b. cond b true (contains holding_c
 pub given : (old new : BTreeSet Holding) (x : Holding) → sorted.UpdatesBy holding_cmp (holding_cmp x) old new false
     → (λ (y : Holding). contains holding_cmp new y) ≡ giving x (λ y. contains holding_cmp old y)
 given old new x u = λ i y. (u.0 y ∙ ap (λ b. cond b false (contains holding_cmp old y)) (is_same x y) ∙ set_false (is_same_holding x y) (contains holding_cmp old y)) i
-
-pub handed_on : (old new : BTreeSet ℕ) (a : ℕ) → sorted.Updates nat_cmp old new a true
-    → (λ (b : ℕ). contains nat_cmp new b) ≡ handing a (λ b. contains nat_cmp old b)
-handed_on old new a u = λ i b. (u.0 b ∙ ap (λ t. cond t true (contains nat_cmp old b)) (is_eq-nat_cmp a b) ∙ set_true (a == b) (contains nat_cmp old b)) i
 
 pub names_one_more : (old new : BTreeMap (String Global) NamedEnd) (name : List ℕ) (x : NamedEnd)
     → tree.UpdatesBy string_cmp (λ k. slice_cmp nat_cmp name (string_bytes k)) old new (Some x)

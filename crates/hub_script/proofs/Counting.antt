@@ -1,5 +1,5 @@
 -- How many fields an object has.
-use Rattle.std.proofs.Common.{◌≡◌, suc, List, [], ◌∷◌, length, Some, None, String, refl, ap}
+use Rattle.std.proofs.Common.{◌≡◌, suc, List, [], ◌∷◌, length, Some, String, refl, ap}
 use Rattle.std.specs.declared.alloc.Global.{Global}
 use Rattle.serde_json.specs.Data.{Data, null, boolean, number, string, array, object, Members}
 use Rattle.serde_json.specs.Find.{as_object}
@@ -18,11 +18,3 @@ of_members (number n) ms h = cc
 of_members (string s) ms h = cc
 of_members (array ds) ms h = cc
 of_members (object xs) ms h = let same : xs ≡ ms = cc in ap member_count same
-
-pub of_none : (d : Data) → None ≡ as_object d → 0 ≡ field_count d
-of_none null h = refl
-of_none (boolean b) h = refl
-of_none (number n) h = refl
-of_none (string s) h = refl
-of_none (array ds) h = refl
-of_none (object xs) h = cc

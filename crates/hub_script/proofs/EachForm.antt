@@ -41,9 +41,6 @@ use Rattle.hub_script.proofs.Outcomes.{Outcome, cast_outcome, last_test, never_i
 abbrev pub IsQuiet : Form → Type 0
 IsQuiet f = ((a : ℕ) (n : List ℕ) → ¬ Gets f a n) × ((a : ℕ) (n : List ℕ) → ¬ GivesUp f a n)
 
-abbrev pub Placed : List Form → Form → Type 0
-Placed before f = ¬ IsMisplaced before f
-
 wait_outcome : (before : List Form) (k : Known) (at messages : ℕ) → Stands before k → Outcome before (form.Action at (Wait messages)) (after_wait k at messages)
 unfolding after_wait
 wait_outcome before k at messages s =

@@ -1,6 +1,6 @@
 -- Lists of ports, name by name.
-use Rattle.std.proofs.Common.{◌≡◌, ℕ, ◌+◌, ◌<◌, ◌≤◌, List, [], ◌∷◌, ◌++◌, length, get_or, drop, Ok, Err, ap, sym, ◌∙◌}
-use Rattle.std.proofs.lemmas.List.{at_drop_more, at_drop_all}
+use Rattle.std.proofs.Common.{◌≡◌, ℕ, ◌+◌, ◌<◌, List, [], ◌∷◌, ◌++◌, length, get_or, drop, Ok, Err, ap, sym, ◌∙◌}
+use Rattle.std.proofs.lemmas.List.{at_drop_more}
 use Rattle.hub_text.specs.Reading.{◌>>=◌}
 use Rattle.hub_script.specs.declared.named.NamedEnd.{NamedEnd}
 use Rattle.hub_script.specs.declared.script_error.ScriptError.{ScriptError}
@@ -27,6 +27,3 @@ pub no_port : (k : Known) (names : List (List ℕ)) (ports : List NamedEnd) (i :
     → AreNamedSoFar k names ports i → ports_from k [] names ≡ Err e
 no_port k names ports i n e lt is bad so_far =
     sym so_far ∙ at_name k names ports i n lt is ∙ ap (λ (r : ScriptRead NamedEnd). r >>= λ y. ports_from k (ports ++ y ∷ []) (drop (i + 1) names)) bad
-
-pub all_named : (k : Known) (names : List (List ℕ)) (ports : List NamedEnd) (i : ℕ) → length names ≤ i → AreNamedSoFar k names ports i → ports_from k [] names ≡ Ok ports
-all_named k names ports i past so_far = sym so_far ∙ at_drop_all (ports_from k ports) names i past

@@ -58,10 +58,6 @@ number_found (Some (string t)) n h = absurd (cc)
 number_found (Some (array ds)) n h = absurd (cc)
 number_found (Some (object ms)) n h = absurd (cc)
 
-value_found : (o : Option Data) (v : Data) → some_or Syntax o ≡ Ok v → o ≡ Some v
-value_found None v h = cc
-value_found (Some x) v h = let same : x ≡ v = cc in ap (λ (y : Data). Some y) same
-
 only_syntax : {A : Type 0} (o : Option A) (e : ScriptError) → some_or Syntax o ≡ Err e → Syntax ≡ e
 only_syntax None e h = cc
 only_syntax (Some x) e h = absurd (cc)

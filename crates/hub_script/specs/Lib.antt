@@ -11,3 +11,4 @@ pub mod Laws
 pub mod Shown
 pub mod Before
 pub mod Refusals
+pub mod Errors

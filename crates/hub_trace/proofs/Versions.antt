@@ -59,8 +59,3 @@ header_found header v =
     (λ _. by_test (λ b. cond b (Some Third) None ≡ Some v → header ≡ header_of v) (bytes_eq header (header_of Third))
     (λ t found. let is : Third ≡ v = cc in same_bytes header (header_of Third) t ∙ ap header_of is)
     (λ _ found. let wrong : None ≡ Some v = found in cc)))
-
-pub version_back : (v : LogVersion) → version_of (header_of v) ≡ Some v
-version_back First = refl
-version_back Second = refl
-version_back Third = refl

@@ -9,6 +9,8 @@ use Rattle.hub_trace.specs.declared.label.Label.{Label}
 use Rattle.hub_trace.specs.declared.log_entry.Delivery.{Delivery}
 use Rattle.hub_trace.specs.declared.log_entry.LogEntry.{LogEntry}
 use Rattle.hub_trace.specs.declared.log_entry.LogEntry.TheVariants.{Put, Got, Adopted, Closed}
+use Rattle.hub_trace.specs.declared.log_error.LogError.{LogError}
+use Rattle.hub_trace.specs.declared.log_error.LogError.TheVariants.{BadHeader, BadLine, OutOfMemory}
 use Rattle.hub_trace.specs.declared.verdict.FaultKind.{FaultKind}
 use Rattle.hub_trace.specs.declared.verdict.FaultKind.TheVariants.{AfterClose, AfterNotice, Changed, Twice, Gap, Foreign}
 use Rattle.hub_trace.specs.declared.verdict.Verdict.{Verdict}
@@ -42,6 +44,11 @@ log_text log = codes "agent " ++ decimal log.0.0 ++ codes "\n" ++ flat_map (λ e
 -- a file of logs: the header's line, and the log lines of each log
 abbrev pub file_text : List AgentLog → List ℕ
 file_text logs = LOG_HEADER.now ++ codes "\n" ++ flat_map log_text logs
+
+abbrev pub log_error_text : LogError → List ℕ
+log_error_text BadHeader = codes "BadHeader"
+log_error_text BadLine = codes "BadLine"
+log_error_text OutOfMemory = codes "OutOfMemory"
 
 abbrev pub kind_text : FaultKind → List ℕ
 kind_text AfterClose = codes "AfterClose"

@@ -1,0 +1,15 @@
+-- How the errors of scripts are printed.
+use Rattle.std.specs.Prelude.{ℕ, List, codes}
+use Rattle.hub_script.specs.declared.script_error.DataCloneCause.TheVariants.{Source, Twice, Detached}
+use Rattle.hub_script.specs.declared.script_error.ScriptError.{ScriptError}
+use Rattle.hub_script.specs.declared.script_error.ScriptError.TheVariants.{Syntax, UnknownAction, UnknownName, DataClone, TooLarge, OutOfMemory}
+
+abbrev pub script_error_text : ScriptError → List ℕ
+script_error_text Syntax = codes "Syntax"
+script_error_text UnknownAction = codes "UnknownAction"
+script_error_text UnknownName = codes "UnknownName"
+script_error_text (DataClone Source) = codes "DataClone(Source)"
+script_error_text (DataClone Twice) = codes "DataClone(Twice)"
+script_error_text (DataClone Detached) = codes "DataClone(Detached)"
+script_error_text TooLarge = codes "TooLarge"
+script_error_text OutOfMemory = codes "OutOfMemory"
