@@ -1,6 +1,6 @@
 //! Step lines that come one at a time, each answered before the next one is known.
 
-ghost use Rattle.std.specs.Prelude.{◌≡◌, ◌⊎◌, [], Some, IfNone, IfSome, OnErr, OnOk, false, true};
+ghost use Rattle.std.specs.Prelude.{◌≡◌, ◌⊎◌, [], Some, IfSome, OnErr, OnOk, false, is_some, true};
 ghost use Rattle.hub_steps.specs.Session.{GoesOn, HasRun, IsKindOf, RunsLine, RunsOn, SaidIsTheText, Stays, TakesMemory, TakesMore, is_lost_by, is_told, told};
 ghost use Rattle.hub_steps.specs.StepLineKind.{step_kind_text};
 ghost use Rattle.hub_steps.specs.Unfolding.{command_takes_memory, takes_one_step};
@@ -159,7 +159,7 @@ impl Session {
     /// yet: see `write_untold`.
     pub fn said(&self) -> Option<&[u8]>
         ensures said { IfSome result (λ text. text.now ≡ told self.now) }
-        ensures none { IfNone result (is_told self.now ≡ false) }
+        ensures exactly { is_some result ≡ is_told self.now }
     {
         match self.last {
             Last::Kept => Some(self.run.kept.as_slice()),
