@@ -120,6 +120,8 @@ class Agent {
   targets = new Map();
   // The other port of each port.
   peers = new Map();
+  // Of each port that was sent and hasn't arrived, the end at which it waits.
+  #waitingAt = new Map();
   // Where something may be there to take, in the order in which it is looked for.
   #ready = new Set();
   #isDue = false;
@@ -172,6 +174,7 @@ class Agent {
   }
 
   #event(ends, body) {
+    for (const end of ends) this.#waitingAt.delete(end);
     const adopted = ends.map((end) => this.hub.line(`adopt ${end} 0`));
     if (adopted.every((outcome) => outcome.startsWith('adopted '))) {
       return new MessageEvent('message', { data: JSON.parse(body), ports: ends.map(this.#arrived) });
@@ -185,6 +188,9 @@ class Agent {
     const line = `post ${end} ${list.join(',') || '-'} ${body}`;
     let outcome = this.hub.line(line);
     for (; outcome === 'moving'; outcome = this.hub.line(line)) this.hub.line(`hop ${end}`);
+    if (outcome.startsWith('accepted ')) {
+      for (const sent of list) this.#waitingAt.set(sent, this.peers.get(end));
+    }
     return outcome;
   }
 
@@ -193,14 +199,12 @@ class Agent {
     // So that its notice finds the newest queue of its peer.
     while (this.hub.line(`hop ${end}`).startsWith('hopped ')) continue;
     this.hub.line(`close ${end}`);
-    this.sweep(end);
+    this.hub.line(`sweep ${end}`);
     this.wake(this.peers.get(end));
-  }
-
-  // Gives up what waits at a closed end. Ports that wait there are closed, and their peers are told.
-  sweep(end) {
-    if (this.hub.line(`sweep ${end}`) === 'discarded nothing') return;
-    for (const other of this.targets.keys()) this.wake(other);
+    // What waited there is given up, and with it each port that was sent there.
+    const lost = [...this.#waitingAt].filter(([, at]) => at === end).map(([port]) => port);
+    for (const port of lost) this.#waitingAt.delete(port);
+    for (const port of lost) this.closePort(port);
   }
 }
 
