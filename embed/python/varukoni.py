@@ -102,7 +102,7 @@ class Hub:
 
     def __call__(self, line):
         """Its outcome line without its LF, as a str; `line` is a str or bytes."""
-        data = line.encode() if isinstance(line, str) else bytes(line)
+        data = _bytes(line)
         with self._lock:
             status = _library.varukoni_line(self._hub, data, len(data), *self._lent)
             if status == DONE:
@@ -165,6 +165,10 @@ class Hub:
         raise TypeError("a hub isn't pickled")
 
 
+def _bytes(text):
+    return text.encode() if isinstance(text, str) else bytes(memoryview(text))
+
+
 def steps(data):
     """(exit status, text) of `messagehub steps` for a str or bytes."""
     return _whole(_library.varukoni_steps, data)
@@ -185,7 +189,7 @@ def read_script(script):
 
 
 def _whole(call, data):
-    data = data.encode() if isinstance(data, str) else bytes(data)
+    data = _bytes(data)
     size = 2 * len(data) + 4096
     while True:
         room, length = ctypes.create_string_buffer(size), ctypes.c_size_t(0)
