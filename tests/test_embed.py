@@ -152,7 +152,7 @@ class C(Embedded):
             status = outcome_of([program, "script"], row.text).status
             self.assertEqual(status == 2, row.status == 2, row.name)
             found[status] += 1
-        self.says(found[0], "good scripts", 20)
+        self.says(found[0], "good scripts", 10)
         self.says(found[2], "bad scripts", 5)
 
     def test_each_allocation_refused(self):
