@@ -213,7 +213,7 @@ class Wrappers(Embedded):
 
     def test_python(self):
         told = self.ran([sys.executable, "-B", EMBED / "python" / "tests.py"])
-        self.says(int(re.fullmatch(r"embed/python: (\d+) checks\n", told)[1]), "checks", 25)
+        self.says(int(re.fullmatch(r"embed/python: (\d+) checks\n", told)[1]), "checks", 30)
 
     @needs("node")
     def test_node(self):

@@ -1,7 +1,10 @@
 """The tests of varukoni.py. The last line says how many checks were made."""
 
 import copy
+import pathlib
 import pickle
+import subprocess
+import sys
 import threading
 
 import varukoni
@@ -88,6 +91,19 @@ def test_threads():
     same(sorted(given), sorted(f"accepted 0:{number}" for number in range(2000)))
 
 
-for test in (test_lines, test_a_long_line, test_whole_texts, test_threads):
+def test_pipe():
+    program = pathlib.Path(__file__).resolve().with_name("pipe.py")
+    pipe = subprocess.PIPE
+    with subprocess.Popen([sys.executable, "-B", program], stdin=pipe, stdout=pipe) as child:
+        for line, answer in [(b"agent -", b"agent 0"), (b"fly", b"bad UnknownStep"),
+                             (b"post 0 - \xff", b"bad BadUtf8"), (b"channel 0", b"ends 0 1")]:
+            child.stdin.write(line + b"\n")
+            child.stdin.flush()
+            same(child.stdout.readline(), answer + b"\n")
+        child.stdin.close()
+        same(child.wait(timeout=10), 0)
+
+
+for test in (test_lines, test_a_long_line, test_whole_texts, test_threads, test_pipe):
     test()
 print(f"embed/python: {checks} checks")
