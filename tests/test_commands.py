@@ -13,13 +13,14 @@ import tempfile
 import support
 from support import ROOT, TESTS, outcome_of
 
-FOLDERS = ("bench", "examples", "record", "tests", "tests/soak.d", "tools")
+FOLDERS = ("bench", "embed", "examples", "record", "tests", "tests/soak.d", "tools")
 LOCALES = ("C", "POSIX", "C.UTF-8", "xx_XX.ISO-8859-1")
 # What is missing or wrong in each call, by script.
 WRONG = {
     "bench/all": [["no-such-bench"], ["--turns", "0"], ["--program", "/nowhere/at/all"],
                   ["--jobs", "0"], ["scripts", "--built", "/nowhere/at/all"]],
     "bench/build": [[], ["/nowhere/at/all", "name"], ["/tmp/x", "name", "/nowhere", "crate"]],
+    "embed/build": [["--to"], ["--to", "/tmp"], ["--to", "/dev/null"]],
     "examples/chat.py": [[], ["/nowhere/at/all"], ["/tmp"]],
     "record/merge": [[], ["/nowhere/at/all"]],
     "tests/all": [["no-such-test"], ["--program", "/nowhere/at/all"], ["--jobs", "0"],
@@ -118,7 +119,7 @@ class Commands(support.TestCase):
 
     def test_paths_with_spaces(self):
         with tempfile.TemporaryDirectory(prefix="a folder ") as folder:
-            for name in ["bench", "examples", "record", "tests", "tools"]:
+            for name in ["bench", "embed", "examples", "record", "tests", "tools"]:
                 shutil.copytree(ROOT / name, pathlib.Path(folder) / name)
             for name in scripts():
                 with self.subTest(script=name):

@@ -6,3 +6,4 @@ pub mod OneText
 pub mod Saying
 pub mod UnderWay
 pub mod Held
+pub mod Sessions

@@ -31,11 +31,11 @@ runs_more past lives (l ∷ lines) text h last line more shown r p =
     (r.0, r.1, r.2 ++ shown_line shown, r.3, ap (λ t. t ++ shown_line shown) r.4 ∙ append_assoc (shown_line r.1) r.2 (shown_line shown), runs_more (past ++ r.0) (lives_after l.command r.1 lives) lines r.2 h last line more shown r.5 p)
 
 -- what was run is a step text
-told : {core : Core} {lives : AllLives} {text : List ℕ} {lines : List StepLine} → (r : AreRun core lives text lines) → IsStepText lines text
-told {core = core} {lives = lives} r = record { history = r.history; lives = lives; runs = r.runs; legal = r.legal; in_order = shows_in_order core r.history r.shows }
+pub is_text : {core : Core} {lives : AllLives} {text : List ℕ} {lines : List StepLine} → (r : AreRun core lives text lines) → IsStepText lines text
+is_text {core = core} {lives = lives} r = record { history = r.history; lives = lives; runs = r.runs; legal = r.legal; in_order = shows_in_order core r.history r.shows }
 
 told_as : {old now : Option (List ℕ)} {core : Core} {lives : AllLives} {kept : List ℕ} {lines : List StepLine} → (a : AreTold old now core lives kept lines) → a.sent ++ kept ≡ a.sent → IsStepText lines a.sent
-told_as {lines = lines} a text = subst (IsStepText lines) text (told a.run)
+told_as {lines = lines} a text = subst (IsStepText lines) text (is_text a.run)
 
 pub starts : (core : Core) (lives : AllLives) (kept : List ℕ) → kept ≡ [] → lives ≡ [] → Shows core [] → AreRun core lives kept []
 starts core lives kept none unborn shows = record { history = []; runs = (none, refl, unborn); legal = tt; shows = shows }
@@ -72,12 +72,12 @@ ends old now next core lives kept lines a e keeps =
 -- the text of the first lines, and out of memory
 pub cut_short : (old now : Option (List ℕ)) (core : Core) (lives : AllLives) (kept : List ℕ) (front back lines : List StepLine) → AreTold old now core lives kept front → lines ≡ front ++ back
     → (said : List ℕ) × IsCutShort lines (said ++ out_of_memory) × (now_sent : List ℕ) × (said ≡ now_sent ++ kept) × Appends old now now_sent
-cut_short old now core lives kept front back lines a e = (a.sent ++ kept, (front, back, a.sent ++ kept, e, told a.run, refl), a.sent, refl, a.out)
+cut_short old now core lives kept front back lines a e = (a.sent ++ kept, (front, back, a.sent ++ kept, e, is_text a.run, refl), a.sent, refl, a.out)
 
 pub cut_begun : (old now next : Option (List ℕ)) (core : Core) (lives : AllLives) (kept : List ℕ) (front back lines : List StepLine) → AreTold old now core lives kept front → lines ≡ front ++ back → AppendsBeginning now next kept
     → (text : List ℕ) × IsCutShort lines text × AppendsBeginning old next text
 cut_begun old now next core lives kept front back lines a e b =
-    ((a.sent ++ kept) ++ out_of_memory, (front, back, a.sent ++ kept, e, told a.run, refl), begins_longer old next (a.sent ++ kept) out_of_memory (begins_after old now next a.sent kept a.out b))
+    ((a.sent ++ kept) ++ out_of_memory, (front, back, a.sent ++ kept, e, is_text a.run, refl), begins_longer old next (a.sent ++ kept) out_of_memory (begins_after old now next a.sent kept a.out b))
 
 pub cut_ended : (old now next : Option (List ℕ)) (core : Core) (lives : AllLives) (kept : List ℕ) (front back lines : List StepLine) → AreTold old now core lives kept front → lines ≡ front ++ back → kept ≡ [] → Appends now next out_of_memory
     → (text : List ℕ) × IsCutShort lines text × Appends old next text

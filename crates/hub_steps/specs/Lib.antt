@@ -11,3 +11,5 @@ pub mod Performed
 pub mod StepText
 pub mod UnderWay
 pub mod Output
+pub mod ReadMemory
+pub mod Session

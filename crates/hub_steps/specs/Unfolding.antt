@@ -1,5 +1,5 @@
 -- The core steps that a step line unfolds to, and what it shows.
-use Rattle.std.specs.Prelude.{ℕ, zero, suc, Bool, true, false, ◌&&◌, List, [], ◌∷◌, length, nat_lt, if◌then◌else◌, Option, Some, None, option_map, is_some, slice_get, ◌||◌}
+use Rattle.std.specs.Prelude.{ℕ, zero, suc, Bool, true, false, not, ◌&&◌, List, [], ◌∷◌, length, nat_lt, if◌then◌else◌, Option, Some, None, option_map, is_some, slice_get, ◌||◌}
 use Rattle.hub_envelope.specs.declared.ids.AgentId.{AgentId}
 use Rattle.hub_envelope.specs.declared.ids.EndId.{EndId}
 use Rattle.hub_envelope.specs.declared.envelope.Envelope.{Envelope}
@@ -61,6 +61,34 @@ command_takes_memory (command.See a) = true
 command_takes_memory (command.Cast e ports body) = true
 command_takes_memory (command.Part e) = false
 command_takes_memory (command.Event a event) = false
+
+-- a post takes several steps; each other command of a poster takes one
+abbrev pub is_post : PosterCommand → Bool
+is_post (poster.Post ports body) = true
+is_post c = false
+
+-- the commands that take one step of the core, or none
+abbrev pub takes_one_step : Command → Bool
+takes_one_step (command.Agent url) = true
+takes_one_step (command.Channel a) = true
+takes_one_step (command.Client a) = true
+takes_one_step (command.Worker a) = false
+takes_one_step (command.Member a name) = false
+takes_one_step (command.Line e a) = true
+takes_one_step (command.At p c) = not (is_post c)
+takes_one_step (command.Start e) = true
+takes_one_step (command.Loaded e) = true
+takes_one_step (command.Take e) = true
+takes_one_step (command.Look e) = true
+takes_one_step (command.Hand e a) = true
+takes_one_step (command.Adopt e a) = false
+takes_one_step (command.Close e) = false
+takes_one_step (command.Sweep e) = false
+takes_one_step (command.Order a) = true
+takes_one_step (command.See a) = true
+takes_one_step (command.Cast e ports body) = false
+takes_one_step (command.Part e) = true
+takes_one_step (command.Event a event) = true
 
 -- a step whose outcome is shown
 abbrev pub shown_step : Bool → Action → Computation Shown

@@ -1,4 +1,5 @@
-ghost use Rattle.std.specs.Prelude.{◌≡◌, IfOk};
+ghost use Rattle.std.specs.Prelude.{◌≡◌, IfOk, OnErr};
+ghost use Rattle.hub_core.specs.Shows.{StillShows};
 ghost use Rattle.hub_steps.specs.Lives.{lives_after};
 ghost use Rattle.hub_steps.specs.Performed.{ComputesAt};
 ghost use Rattle.hub_steps.specs.Unfolding.{shown_step};
@@ -22,6 +23,7 @@ pub fn see(
         ComputesAt core.old core.new (shown_step memory_refused (Action.See agent)) shown) }
     ensures lives { IfOk result (λ shown.
         lives.new ≡ lives_after (Command.See agent) shown lives.old) }
+    ensures still { OnErr result (StillShows core.old core.new × (lives.new ≡ lives.old)) }
 {
     let answer = take_step(core, Action::See(agent), memory_refused)?;
     if matches!(answer, Outcome::Ending(_)) {

@@ -1,5 +1,6 @@
 ghost use Rattle.std.specs.Prelude.{◌≡◌, IfOk, OnErr, true};
 ghost use Rattle.hub_core.specs.Memory.{takes_memory};
+ghost use Rattle.hub_core.specs.Shows.{StillShows};
 ghost use Rattle.hub_envelope.specs.declared.limits.TheConstants.{MAX_HOPS};
 ghost use Rattle.hub_steps.specs.Computation.{step};
 ghost use Rattle.hub_steps.specs.Performed.{ComputesAt};
@@ -38,6 +39,7 @@ pub fn show_step(
     ensures shown { IfOk result (λ shown.
         ComputesAt core.old core.new (shown_step memory_refused action) shown) }
     ensures memory { OnErr result (takes_memory action ≡ true) }
+    ensures still { OnErr result (StillShows core.old core.new) }
 {
     let answer = take_step(core, action, memory_refused)?;
     Ok(Shown::Answer(answer))
@@ -53,6 +55,7 @@ pub fn take_step(
     ensures answer { IfOk result (λ answer.
         ComputesAt core.old core.new (step memory_refused action) answer) }
     ensures memory { OnErr result (takes_memory action ≡ true) }
+    ensures still { OnErr result (StillShows core.old core.new) }
 {
     core.step(Step {
         action,

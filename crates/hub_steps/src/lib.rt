@@ -12,6 +12,7 @@ mod perform;
 mod posting;
 mod read_step_line;
 mod run;
+mod session;
 mod short_text;
 mod shown;
 mod starting;
@@ -20,3 +21,4 @@ mod test_steps;
 mod text;
 
 pub use engine::{run_steps, step_text_laws};
+pub use session::{Reply, Session, session_laws};

@@ -64,8 +64,8 @@ impl Model for Lives {
 }
 
 impl Lives {
-    ghost use Rattle.std.specs.Prelude.{◌≡◌, ◌++◌, ◌∷◌, [], None, OnOk, slice_get};
-    ghost use Rattle.hub_steps.specs.Lives.{begun, change_life, ended, event_shown, happened};
+    ghost use Rattle.std.specs.Prelude.{◌≡◌, ◌++◌, ◌∷◌, [], None, OnErr, OnOk, slice_get};
+    ghost use Rattle.hub_steps.specs.Lives.{AllLives, begun, change_life, ended, event_shown, happened};
 
     /// There is no agent yet.
     pub fn new(alloc: Global) -> Lives
@@ -78,10 +78,18 @@ impl Lives {
 
     /// A new agent has no life yet.
     pub fn add_agent(&mut self) -> Result<(), OutOfMemory>
-        ensures { OnOk result (self.new ≡ self.old ++ None ∷ []) }
+        ensures ok { OnOk result (self.new ≡ self.old ++ None ∷ []) }
+        ensures err { OnErr result (self.new ≡ self.old) }
     {
         self.of_agents.push(None)?;
         Ok(())
+    }
+
+    /// The agent that was added last was not made.
+    pub fn remove_agent(&mut self)
+        ensures { (lives : AllLives) → self.old ≡ lives ++ None ∷ [] → self.new ≡ lives }
+    {
+        self.of_agents.pop();
     }
 
     /// The agent made a worker's queue.

@@ -1,10 +1,10 @@
-ghost use Rattle.std.specs.Prelude.{◌≡◌, IfOk, OnErr, true};
+ghost use Rattle.std.specs.Prelude.{◌≡◌, IfOk, OnErr, false, true};
 ghost use Rattle.hub_core.specs.Facts.{facts};
 ghost use Rattle.hub_core.specs.History.{History};
-ghost use Rattle.hub_core.specs.Shows.{Shows};
+ghost use Rattle.hub_core.specs.Shows.{Shows, StillShows};
 ghost use Rattle.hub_steps.specs.Lives.{lives_after};
 ghost use Rattle.hub_steps.specs.Performed.{ComputesAt, PerformsAt};
-ghost use Rattle.hub_steps.specs.Unfolding.{command_takes_memory, line_steps, on_line_of, poster_command_takes_memory, sender_of};
+ghost use Rattle.hub_steps.specs.Unfolding.{command_takes_memory, is_post, line_steps, on_line_of, poster_command_takes_memory, sender_of, takes_one_step};
 
 use crate::casting::cast;
 use crate::closing::{close, sweep};
@@ -32,6 +32,9 @@ pub fn perform(
         lives.new ≡ lives_after line.command shown lives.old) }
     // Steps that take no memory are never refused for want of it, with the mark or without.
     ensures memory { OnErr result (command_takes_memory line.command ≡ true) }
+    // Where the one step of a line finds no memory, nothing was changed.
+    ensures still { OnErr result (takes_one_step line.command ≡ true
+        → StillShows core.old core.new × (lives.new ≡ lives.old)) }
 {
     let StepLine {
         command,
@@ -75,6 +78,7 @@ fn perform_at(
     ensures performed { IfOk result (λ shown. ComputesAt core.old core.new
         (on_line_of poster (line_steps memory_refused command)) shown) }
     ensures memory { OnErr result (poster_command_takes_memory command ≡ true) }
+    ensures still { OnErr result (is_post command ≡ false → StillShows core.old core.new) }
 {
     let Some(sender) = sender_of(core, poster) else {
         return Ok(Shown::Answer(Outcome::NotNow));

@@ -1,5 +1,6 @@
-ghost use Rattle.std.specs.Prelude.{◌≡◌, Ok, option_map, bytes_eq, codes, false};
+ghost use Rattle.std.specs.Prelude.{◌≡◌, ◌≢◌, IfErr, Ok, option_map, bytes_eq, codes, false, true};
 ghost use Rattle.hub_text.specs.Reading.{IsReadAs};
+ghost use Rattle.hub_steps.specs.ReadMemory.{has_part, reads_memory, text_reads_memory};
 ghost use Rattle.hub_steps.specs.StepLine.{agent_of, agent_and_event_after, agent_and_name_after, cast_after, name_of, url_after, url_of, command_in, command_of, end_and_agent_after, line_of, list_of, mark, number_after, number_of, only_word, poster_after, poster_command_of, poster_named, poster_of, posting_after, step_line_of, word_before};
 
 use crate::step_line::{AgentUrl, Command, Poster, PosterCommand, StepLine, StepLineError};
@@ -12,13 +13,15 @@ use serde_json::Value;
 use std::alloc::Global;
 
 /// The step line that a text line is. Its tests come in the order of `StepLineError`, and from the
-/// left; want of memory may come at any body.
+/// left; want of memory may come at a body, a list, a name or a URL.
 // It is inlined, and so is what reads posts and takes on the way from here, since each call copies
 // what was read.
 #[inline(always)]
 #[tactic(auto, unfolding(crate::specs::StepLine::step_line_of))]
 pub fn read_step_line(alloc: Global, bytes: &[u8]) -> Result<StepLine, StepLineError>
-    ensures { IsReadAs StepLineError.OutOfMemory (λ x. x) result (step_line_of bytes.now) }
+    ensures read { IsReadAs StepLineError.OutOfMemory (λ x. x) result (step_line_of bytes.now) }
+    ensures memory { IfErr result (λ e. e ≡ StepLineError.OutOfMemory
+        → reads_memory bytes.now ≡ true) }
 {
     let Ok(text) = str::from_utf8(bytes) else {
         return Err(StepLineError::BadUtf8);
@@ -45,7 +48,9 @@ fn marked(text: &str) -> (bool, &str)
 #[inline(always)]
 #[tactic(auto, unfolding(crate::specs::StepLine::command_in))]
 fn command_in(alloc: Global, text: &str) -> Result<Command, StepLineError>
-    ensures { IsReadAs StepLineError.OutOfMemory (λ x. x) result (command_in text.now) }
+    ensures read { IsReadAs StepLineError.OutOfMemory (λ x. x) result (command_in text.now) }
+    ensures memory { IfErr result (λ e. e ≡ StepLineError.OutOfMemory
+        → text_reads_memory text.now ≡ true) }
 {
     match next_word(text) {
         Some((name, rest)) => command_of(alloc, name, Some(rest)),
@@ -60,8 +65,10 @@ fn command_in(alloc: Global, text: &str) -> Result<Command, StepLineError>
 #[inline(always)]
 #[tactic(auto, unfolding(crate::specs::StepLine::command_of, crate::specs::StepLine::poster_command_of))]
 fn command_of(alloc: Global, name: &str, rest: Option<&str>) -> Result<Command, StepLineError>
-    ensures { IsReadAs StepLineError.OutOfMemory (λ x. x) result
+    ensures read { IsReadAs StepLineError.OutOfMemory (λ x. x) result
         (command_of name.now (option_map (λ x. x.now) rest.entry)) }
+    ensures memory { IfErr result (λ e. e ≡ StepLineError.OutOfMemory
+        → has_part name.now ≡ true) }
 {
     match name {
         "post" => {
@@ -78,8 +85,10 @@ fn command_of(alloc: Global, name: &str, rest: Option<&str>) -> Result<Command, 
 fn rarer_command_of(alloc: Global, name: &str, rest: Option<&str>) -> Result<Command, StepLineError>
     requires { (bytes_eq name.now (codes "post") ≡ false)
         × (bytes_eq name.now (codes "take") ≡ false) }
-    ensures { IsReadAs StepLineError.OutOfMemory (λ x. x) result
+    ensures read { IsReadAs StepLineError.OutOfMemory (λ x. x) result
         (command_of name.now (option_map (λ x. x.now) rest.entry)) }
+    ensures memory { IfErr result (λ e. e ≡ StepLineError.OutOfMemory
+        → has_part name.now ≡ true) }
 {
     Ok(match name {
         "agent" => Command::Agent(url_after(alloc, rest)?),
@@ -130,8 +139,10 @@ fn poster_command_of(
     rest: Option<&str>,
 ) -> Result<Command, StepLineError>
     requires { bytes_eq name.now (codes "post") ≡ false }
-    ensures { IsReadAs StepLineError.OutOfMemory (λ x. x) result
+    ensures read { IsReadAs StepLineError.OutOfMemory (λ x. x) result
         (poster_command_of name.now (option_map (λ x. x.now) rest.entry)) }
+    ensures memory { IfErr result (λ e. e ≡ StepLineError.OutOfMemory
+        → has_part name.now ≡ true) }
 {
     Ok(match name {
         "enter" => Command::At(poster_after(rest)?, PosterCommand::Enter),
@@ -149,8 +160,9 @@ fn poster_command_of(
 /// The one word that comes after the step's name.
 #[tactic(auto, unfolding(crate::specs::StepLine::only_word))]
 fn only_word(rest: Option<&str>) -> Result<&str, StepLineError>
-    ensures { IsReadAs StepLineError.OutOfMemory (λ x. x.now) result
+    ensures read { IsReadAs StepLineError.OutOfMemory (λ x. x.now) result
         (only_word (option_map (λ x. x.now) rest.entry)) }
+    ensures memory { IfErr result (λ e. e ≢ StepLineError.OutOfMemory) }
 {
     let Some(text) = rest else {
         return Err(StepLineError::BadWords);
@@ -240,8 +252,9 @@ fn cast_after(alloc: Global, rest: Option<&str>) -> Result<(EndId, EndList, Body
 }
 
 fn number_after(rest: Option<&str>) -> Result<u32, StepLineError>
-    ensures { IsReadAs StepLineError.OutOfMemory (λ x. x) result
+    ensures read { IsReadAs StepLineError.OutOfMemory (λ x. x) result
         (number_after (option_map (λ x. x.now) rest.entry)) }
+    ensures memory { IfErr result (λ e. e ≢ StepLineError.OutOfMemory) }
 {
     match number_of(only_word(rest)?) {
         Some(number) => Ok(number),
@@ -251,8 +264,9 @@ fn number_after(rest: Option<&str>) -> Result<u32, StepLineError>
 
 #[tactic(auto, unfolding(crate::specs::StepLine::end_and_agent_after))]
 fn end_and_agent_after(rest: Option<&str>) -> Result<(EndId, AgentId), StepLineError>
-    ensures { IsReadAs StepLineError.OutOfMemory (λ x. x) result
+    ensures read { IsReadAs StepLineError.OutOfMemory (λ x. x) result
         (end_and_agent_after (option_map (λ x. x.now) rest.entry)) }
+    ensures memory { IfErr result (λ e. e ≢ StepLineError.OutOfMemory) }
 {
     let Some(text) = rest else {
         return Err(StepLineError::BadWords);
@@ -267,8 +281,9 @@ fn end_and_agent_after(rest: Option<&str>) -> Result<(EndId, AgentId), StepLineE
 
 #[tactic(auto, unfolding(crate::specs::StepLine::agent_and_event_after))]
 fn agent_and_event_after(rest: Option<&str>) -> Result<(AgentId, Event), StepLineError>
-    ensures { IsReadAs StepLineError.OutOfMemory (λ x. x) result
+    ensures read { IsReadAs StepLineError.OutOfMemory (λ x. x) result
         (agent_and_event_after (option_map (λ x. x.now) rest.entry)) }
+    ensures memory { IfErr result (λ e. e ≢ StepLineError.OutOfMemory) }
 {
     let Some(text) = rest else {
         return Err(StepLineError::BadWords);
@@ -293,8 +308,9 @@ fn number_of(word: &str) -> Option<u32>
 }
 
 fn poster_after(rest: Option<&str>) -> Result<Poster, StepLineError>
-    ensures { IsReadAs StepLineError.OutOfMemory (λ x. x) result
+    ensures read { IsReadAs StepLineError.OutOfMemory (λ x. x) result
         (poster_after (option_map (λ x. x.now) rest.entry)) }
+    ensures memory { IfErr result (λ e. e ≢ StepLineError.OutOfMemory) }
 {
     poster_of(only_word(rest)?)
 }
@@ -322,8 +338,9 @@ fn posting_after(
 
 /// A word, and what comes after its space. There has to be more.
 fn word_before(text: &str) -> Result<(&str, &str), StepLineError>
-    ensures { IsReadAs StepLineError.OutOfMemory (λ x. (x.0.now, x.1.now)) result
+    ensures read { IsReadAs StepLineError.OutOfMemory (λ x. (x.0.now, x.1.now)) result
         (word_before text.now) }
+    ensures memory { IfErr result (λ e. e ≢ StepLineError.OutOfMemory) }
 {
     match next_word(text) {
         Some(parts) => Ok(parts),
@@ -346,7 +363,8 @@ fn line_of(number: u32) -> LineId
 }
 
 fn poster_of(word: &str) -> Result<Poster, StepLineError>
-    ensures { IsReadAs StepLineError.OutOfMemory (λ x. x) result (poster_of word.now) }
+    ensures read { IsReadAs StepLineError.OutOfMemory (λ x. x) result (poster_of word.now) }
+    ensures memory { IfErr result (λ e. e ≢ StepLineError.OutOfMemory) }
 {
     match poster_named(word) {
         Some(poster) => Ok(poster),

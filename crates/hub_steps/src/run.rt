@@ -10,13 +10,14 @@ ghost use Rattle.hub_steps.specs.Performed.{PerformsAt};
 ghost use Rattle.hub_steps.specs.ShownText.{shown_line};
 ghost use Rattle.hub_steps.specs.Steps.{steps_from, steps_of};
 ghost use Rattle.hub_steps.specs.UnderWay.{AreRun, AreTold, IsHeld};
-ghost use Rattle.hub_steps.specs.declared.shown.Shown.{Shown};
+ghost use Rattle.hub_steps.specs.declared.shown.Shown.{Shown as WhatIsShown};
 ghost use Rattle.hub_steps.specs.declared.step_line.StepLine.{StepLine as Line};
 
 use crate::lives::Lives;
 use crate::perform::perform;
 use crate::read_step_line::read_step_line;
 use crate::short_text::{SHORT, short_text};
+use crate::shown::Shown;
 use crate::step_line::{StepLine, StepLineError};
 use crate::text::write_shown;
 use hub_core::{Core, OutOfMemory};
@@ -33,11 +34,11 @@ const MAX_HELD: usize = 134_217_728;
 /// as they are kept.
 #[derive(Drop)]
 pub struct Run {
-    core: Core,
-    lives: Lives,
+    pub core: Core,
+    pub lives: Lives,
     /// The last outcome line that didn't fit into an array. Its memory is used again.
     text: String,
-    kept: Vec<u8>,
+    pub kept: Vec<u8>,
 }
 
 /// The first step lines of an input were run, and none of their outcome lines is written.
@@ -91,7 +92,7 @@ pub fn hold_back<'a>(alloc: Global, input: &'a [u8]) -> Result<Held<'a>, (usize,
 }
 
 impl Run {
-    fn new(alloc: Global) -> Run
+    pub fn new(alloc: Global) -> Run
         ensures { AreRun result.core result.lives result.kept.items [] }
     {
         Run {
@@ -107,20 +108,32 @@ impl Run {
     // It is inlined, since a call copies the step line.
     #[inline(always)]
     fn answer(&mut self, alloc: Global, line: StepLine) -> Result<(), OutOfMemory>
-        ensures ok { OnOk result ((shown : Shown)
+        ensures ok { OnOk result ((shown : WhatIsShown)
             × PerformsAt self.old.core self.new.core self.old.lives line shown
             × (self.new.lives ≡ lives_after line.command shown self.old.lives)
             × (self.new.kept.items ≡ self.old.kept.items ++ shown_line shown)) }
         ensures err { OnErr result (self.new.kept.items ≡ self.old.kept.items) }
     {
         let shown = perform(alloc, &mut self.core, &mut self.lives, line)?;
+        self.keep(&shown)
+    }
+
+    /// Keeps the outcome line of what a step line shows. An `Err` keeps nothing.
+    #[inline(always)]
+    pub fn keep(&mut self, shown: &Shown) -> Result<(), OutOfMemory>
+        ensures ok { OnOk result
+            (self.new.kept.items ≡ self.old.kept.items ++ shown_line shown.now) }
+        ensures err { OnErr result (self.new.kept.items ≡ self.old.kept.items) }
+        ensures core { self.new.core ≡ self.old.core }
+        ensures lives { self.new.lives ≡ self.old.lives }
+    {
         let mut bytes = [0; SHORT];
-        if let Some(start) = short_text(&shown, &mut bytes) {
+        if let Some(start) = short_text(shown, &mut bytes) {
             self.kept.extend_from_slice(&bytes[start..])?;
             return Ok(());
         }
         self.text.clear();
-        write_shown(&mut self.text, &shown)?;
+        write_shown(&mut self.text, shown)?;
         self.kept.extend_from_slice(self.text.as_bytes())?;
         Ok(())
     }

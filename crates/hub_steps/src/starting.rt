@@ -1,4 +1,5 @@
-ghost use Rattle.std.specs.Prelude.{◌≡◌, IfOk, IsOk, OnOk};
+ghost use Rattle.std.specs.Prelude.{◌≡◌, IfOk, IsOk, OnErr, OnOk};
+ghost use Rattle.hub_core.specs.Shows.{StillShows};
 ghost use Rattle.hub_steps.specs.Lives.{agent_lives, lives_after};
 ghost use Rattle.hub_steps.specs.Performed.{ComputesAt};
 ghost use Rattle.hub_steps.specs.Unfolding.{adopt, agent, load, member, shown_step, start_worker, worker};
@@ -20,6 +21,7 @@ pub fn make_agent(
     ensures shown { IfOk result (λ shown.
         ComputesAt core.old core.new (agent memory_refused url) shown) }
     ensures lives { IfOk result (λ shown. lives.new ≡ agent_lives shown lives.old) }
+    ensures still { OnErr result (StillShows core.old core.new × (lives.new ≡ lives.old)) }
 {
     match url {
         AgentUrl::NoUrl => add_agent(core, lives, None, memory_refused),
@@ -40,12 +42,21 @@ fn add_agent(
     ensures shown { IfOk result (λ shown. ComputesAt core.old core.new
         (shown_step memory_refused (Action.Agent origin)) shown) }
     ensures lives { IfOk result (λ shown. lives.new ≡ agent_lives shown lives.old) }
+    ensures still { OnErr result (StillShows core.old core.new × (lives.new ≡ lives.old)) }
 {
-    let answer = take_step(core, Action::Agent(origin), memory_refused)?;
-    if matches!(answer, Outcome::Agent(_)) {
-        lives.add_agent()?;
+    // Its life finds room first, so that no agent is made without one.
+    lives.add_agent()?;
+    match take_step(core, Action::Agent(origin), memory_refused) {
+        Ok(Outcome::Agent(agent)) => Ok(Shown::Answer(Outcome::Agent(agent))),
+        Ok(refused) => {
+            lives.remove_agent();
+            Ok(Shown::Answer(refused))
+        }
+        Err(error) => {
+            lives.remove_agent();
+            Err(error)
+        }
     }
-    Ok(Shown::Answer(answer))
 }
 
 /// Makes the queue of a worker, and starts it. The agent has a life from then on.

@@ -73,6 +73,26 @@ pub enum Command {
     Event(AgentId, Event),
 }
 
+impl Command {
+    ghost use Rattle.hub_steps.specs.Unfolding.{takes_one_step};
+
+    /// Whether it takes one step of the core, or none.
+    pub fn takes_one_step(&self) -> bool
+        ensures { result ≡ takes_one_step self.now }
+    {
+        !matches!(
+            self,
+            Command::Worker(_)
+                | Command::Member(..)
+                | Command::At(_, PosterCommand::Post(..))
+                | Command::Adopt(..)
+                | Command::Close(_)
+                | Command::Sweep(_)
+                | Command::Cast(..)
+        )
+    }
+}
+
 /// What a step line asks for, and whether memory is refused in its steps: the mark `!`.
 #[derive(Debug, Drop)]
 pub struct StepLine {

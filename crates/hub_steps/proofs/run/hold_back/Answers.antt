@@ -17,7 +17,7 @@ loop-run-preserved c =
       run = (
         so_far.0 ++ c.in-Ok.line ∷ [],
         runs_on c.loop-run.run.core c.answer.new.self.core c.loop-run.run.lives c.answer.new.self.lives c.loop-run.run.kept.items c.answer.new.self.kept.items so_far.0 c.in-Ok.line x.0 so_far.1 x.1 x.2 x.3,
-        goes_on so_far.0 (c.loop-run.number + 1) (text_lines_of c.loop-run.rest.now) (text_lines_of c.split_text_line.result.1.now) c.split_text_line.result.0.now c.in-Ok.line (steps_of c.args.input.now) c.split_text_line.ensures.line c.in-Ok.ensures so_far.2,
+        goes_on so_far.0 (c.loop-run.number + 1) (text_lines_of c.loop-run.rest.now) (text_lines_of c.split_text_line.result.1.now) c.split_text_line.result.0.now c.in-Ok.line (steps_of c.args.input.now) c.split_text_line.ensures.line c.in-Ok.ensures.read so_far.2,
       );
       room = omega arith;
     }
@@ -25,7 +25,7 @@ loop-run-preserved c =
 pub returns-in-Err-clause-err : goal.returns-in-Err-clause-err
 returns-in-Err-clause-err c =
     let so_far = c.loop-run.invariant.run in
-    elim c.in-Err.ensures [
+    elim c.in-Err.ensures.read [
       | inl h ↦ inl h
       | inr h ↦ inr (is_bad so_far.0 (c.loop-run.number + 1) (text_lines_of c.loop-run.rest.now) (text_lines_of c.split_text_line.result.1.now) c.split_text_line.result.0.now c.in-Err.error (steps_of c.args.input.now) c.split_text_line.ensures.line h so_far.2)
     ]

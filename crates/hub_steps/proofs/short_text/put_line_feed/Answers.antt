@@ -1,4 +1,4 @@
-use Rattle.std.proofs.Common.{◌≡◌, ◌∷◌, ◌∙◌, List, ℕ, ap, drop, length, arith, rules}
+use Rattle.std.proofs.Common.{◌∷◌, ◌∙◌, List, ℕ, ap, arith, rules}
 use Rattle.std.proofs.lemmas.List.{drop_all}
 use Rattle.hub_steps.proofs.short_text.put_line_feed.Goals as goal
 

@@ -22,7 +22,7 @@ loop-rest-preserved-in-Continue-1 g c =
     let x = ok_says c.answer.result _ c.is_err.result c.is_err.ensures.value c.if-is_err.false c.answer.ensures.ok in
     record {
       run = λ front back n run left.
-          let u = goes_on (front ++ back) (text_lines_of c.loop-rest.rest.now) (text_lines_of c.split_text_line.result.1.now) c.split_text_line.result.0.now c.in-Ok.line (contents c.args.writer.now.writer) (contents c.loop-rest.writer.writer) c.loop-rest.self.core c.answer.new.self.core c.loop-rest.self.lives c.answer.new.self.lives c.loop-rest.self.kept.items c.answer.new.self.kept.items c.split_text_line.ensures.line c.in-Ok.ensures (c.loop-rest.invariant.run front back n run left) x in
+          let u = goes_on (front ++ back) (text_lines_of c.loop-rest.rest.now) (text_lines_of c.split_text_line.result.1.now) c.split_text_line.result.0.now c.in-Ok.line (contents c.args.writer.now.writer) (contents c.loop-rest.writer.writer) c.loop-rest.self.core c.answer.new.self.core c.loop-rest.self.lives c.answer.new.self.lives c.loop-rest.self.kept.items c.answer.new.self.kept.items c.split_text_line.ensures.line c.in-Ok.ensures.read (c.loop-rest.invariant.run front back n run left) x in
           goes_out (front ++ back) (text_lines_of c.split_text_line.result.1.now) (contents c.args.writer.now.writer) (contents c.loop-rest.writer.writer) (contents c.write_kept.new.writer.writer) c.answer.new.self.core c.answer.new.self.lives c.answer.new.self.kept.items c.write_kept.new.kept.items u c.in_ok-write_kept.ensures.ok c.in_ok-write_kept.ensures.kept;
       failures = c.in_ok-write_kept.ensures.failures ∙ c.loop-rest.invariant.failures;
       flushes = c.in_ok-write_kept.ensures.flushes ∙ c.loop-rest.invariant.flushes;
@@ -33,7 +33,7 @@ loop-rest-preserved g c =
     let contents = g.W.Write.contents in
     let x = ok_says c.answer.result _ c.is_err.result c.is_err.ensures.value c.if-is_err.false c.answer.ensures.ok in
     record {
-      run = λ front back n run left. goes_on (front ++ back) (text_lines_of c.loop-rest.rest.now) (text_lines_of c.split_text_line.result.1.now) c.split_text_line.result.0.now c.in-Ok.line (contents c.args.writer.now.writer) (contents c.loop-rest.writer.writer) c.loop-rest.self.core c.answer.new.self.core c.loop-rest.self.lives c.answer.new.self.lives c.loop-rest.self.kept.items c.answer.new.self.kept.items c.split_text_line.ensures.line c.in-Ok.ensures (c.loop-rest.invariant.run front back n run left) x;
+      run = λ front back n run left. goes_on (front ++ back) (text_lines_of c.loop-rest.rest.now) (text_lines_of c.split_text_line.result.1.now) c.split_text_line.result.0.now c.in-Ok.line (contents c.args.writer.now.writer) (contents c.loop-rest.writer.writer) c.loop-rest.self.core c.answer.new.self.core c.loop-rest.self.lives c.answer.new.self.lives c.loop-rest.self.kept.items c.answer.new.self.kept.items c.split_text_line.ensures.line c.in-Ok.ensures.read (c.loop-rest.invariant.run front back n run left) x;
       failures = c.loop-rest.invariant.failures;
       flushes = c.loop-rest.invariant.flushes;
     }
@@ -54,7 +54,7 @@ pub returns-in_err-write_kept-clause-written : goal.returns-in_err-write_kept-cl
 returns-in_err-write_kept-clause-written g c = λ front back n run left.
     let contents = g.W.Write.contents in
     let x = ok_says c.answer.result _ c.is_err.result c.is_err.ensures.value c.if-is_err.false c.answer.ensures.ok in
-    let u = goes_on (front ++ back) (text_lines_of c.loop-rest.rest.now) (text_lines_of c.split_text_line.result.1.now) c.split_text_line.result.0.now c.in-Ok.line (contents c.args.writer.now.writer) (contents c.loop-rest.writer.writer) c.loop-rest.self.core c.answer.new.self.core c.loop-rest.self.lives c.answer.new.self.lives c.loop-rest.self.kept.items c.answer.new.self.kept.items c.split_text_line.ensures.line c.in-Ok.ensures (c.loop-rest.invariant.run front back n run left) x in
+    let u = goes_on (front ++ back) (text_lines_of c.loop-rest.rest.now) (text_lines_of c.split_text_line.result.1.now) c.split_text_line.result.0.now c.in-Ok.line (contents c.args.writer.now.writer) (contents c.loop-rest.writer.writer) c.loop-rest.self.core c.answer.new.self.core c.loop-rest.self.lives c.answer.new.self.lives c.loop-rest.self.kept.items c.answer.new.self.kept.items c.split_text_line.ensures.line c.in-Ok.ensures.read (c.loop-rest.invariant.run front back n run left) x in
     let t = is_begun (front ++ back) (text_lines_of c.split_text_line.result.1.now) (contents c.args.writer.now.writer) (contents c.loop-rest.writer.writer) (contents c.write_kept.new.writer.writer) c.answer.new.self.core c.answer.new.self.lives c.answer.new.self.kept.items u c.in_err-write_kept.ensures.err in
     let p = err_from_is_err_and c.from_residual.result c.from_residual.ensures.1 in
     stops (IsRunOutput (front ++ back)) _ _ c.from_residual.result p.0 exit.OutOfMemory t.0 p.1 t.1 t.2

@@ -1,0 +1,5 @@
+pub mod Fills
+pub mod Held
+pub mod Line
+pub mod Answers
+pub mod Calls

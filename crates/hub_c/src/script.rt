@@ -1,0 +1,60 @@
+//! Scripts, read and not run.
+
+ghost use Rattle.std.specs.Prelude.{◌≡◌, option_map};
+ghost use Rattle.hub_engine.specs.Counted.{inner_writer};
+ghost use Rattle.hub_engine.specs.Engine.{Writes};
+ghost use Rattle.hub_c.specs.Answers.{AnswersScript, IsScriptAnswer, script_kind_text};
+
+use crate::texts::put_text;
+use hub_engine::{CountedWriter, Device, ExitStatus, end_unread};
+use hub_script::{DataCloneCause, Script, ScriptError};
+use std::alloc::Global;
+use std::io::Write;
+
+/// Reads a script, as `messagehub run` does before it runs one. Of one that it can't read the first
+/// bad line is put into the room.
+#[unsafe(no_mangle)]
+pub extern "C" fn varukoni_script(
+    alloc: Global,
+    input: &[u8],
+    room: &mut [u8],
+    length: &mut usize,
+) -> u8
+    ensures { AnswersScript input.now room.old room.new length.new result }
+{
+    let mut writer = CountedWriter::new(Vec::new(alloc));
+    let answer = read_script(alloc, input, &mut writer);
+    let text = writer.into_inner();
+    put_text(answer, text.as_slice(), room, length)
+}
+
+/// Reads a script, and writes its first bad line.
+fn read_script<W: Write>(
+    alloc: Global,
+    input: &[u8],
+    writer: &mut CountedWriter<W>,
+) -> Result<ExitStatus, Device>
+    ensures { Writes (IsScriptAnswer input.now) (W.contents (inner_writer writer.old))
+        (W.contents (inner_writer writer.new)) result }
+{
+    match Script::read(alloc, input) {
+        Ok(_script) => Ok(ExitStatus::Success),
+        Err((line, error)) => end_unread(alloc, writer, line, name_of(error)),
+    }
+}
+
+/// The name by which the kind of a bad line is told. `None` where memory ran out.
+fn name_of(error: ScriptError) -> Option<&'static str>
+    ensures { option_map (λ name. name.now) result ≡ script_kind_text error }
+{
+    match error {
+        ScriptError::Syntax => Some("Syntax"),
+        ScriptError::UnknownAction => Some("UnknownAction"),
+        ScriptError::UnknownName => Some("UnknownName"),
+        ScriptError::DataClone(DataCloneCause::Source) => Some("DataClone(Source)"),
+        ScriptError::DataClone(DataCloneCause::Twice) => Some("DataClone(Twice)"),
+        ScriptError::DataClone(DataCloneCause::Detached) => Some("DataClone(Detached)"),
+        ScriptError::TooLarge => Some("TooLarge"),
+        ScriptError::OutOfMemory => None,
+    }
+}

@@ -1,0 +1,12 @@
+//! A hub may move to another thread, since the session in its memory is `Send`.
+
+use hub_steps::Session;
+
+/// A session in its box, where that may be sent to another thread.
+pub fn sent_session(session: Box<Session>) -> Box<Session> {
+    sent(session)
+}
+
+fn sent<T: Send>(value: T) -> T {
+    value
+}

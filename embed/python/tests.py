@@ -1,0 +1,109 @@
+"""The tests of varukoni.py. The last line says how many checks were made."""
+
+import copy
+import pathlib
+import pickle
+import subprocess
+import sys
+import threading
+
+import varukoni
+from varukoni import BadLine, Hub
+
+checks = 0
+
+
+def same(found, wanted):
+    global checks
+    assert found == wanted, f"{found!r} in place of {wanted!r}"
+    checks += 1
+
+
+def refuses(call, error, kind=None):
+    global checks
+    try:
+        found = call()
+    except error as why:
+        assert kind is None or why.kind == kind, f"{why!r} in place of {kind}"
+        checks += 1
+        return
+    raise AssertionError(f"{found!r} in place of {error.__name__}")
+
+
+def opened():
+    hub = Hub()
+    for line in ("agent -", "channel 0", "start 1"):
+        hub(line)
+    return hub
+
+
+def test_lines():
+    with Hub() as hub:
+        same(hub("agent -"), "agent 0")
+        same(hub(b"channel 0"), "ends 0 1")
+        same(hub.said(), "ends 0 1")
+        refuses(lambda: hub("fly"), BadLine, "UnknownStep")
+        refuses(lambda: hub(b"post 0 - \xff"), BadLine, "BadUtf8")
+        same(hub.said(), "BadUtf8")
+        same(hub("post 0 - {\"é\":1}"), "accepted 0:0")
+        same(hub("start 1"), "started")
+        same(hub("take 1"), "got 0:0 from 0 {\"é\":1}")
+        refuses(lambda: hub(7), TypeError)
+    refuses(lambda: hub("take 1"), ValueError)
+    refuses(hub.said, ValueError)
+    hub.close()
+    refuses(lambda: copy.copy(Hub()), TypeError)
+    refuses(lambda: copy.deepcopy(Hub()), TypeError)
+    refuses(lambda: pickle.dumps(Hub()), TypeError)
+
+
+def test_a_long_line():
+    hub = opened()
+    body = f'"{"a" * 262_142}"'
+    same(hub(f"post 0 - {body}"), "accepted 0:0")
+    same(hub("take 1"), f"got 0:0 from 0 {body}")
+    same(hub("take 1"), "empty")
+    refuses(lambda: hub(f'post 0 - "{"a" * 262_143}"'), BadLine, "TooLong")
+
+
+def test_whole_texts():
+    same(varukoni.steps("agent -\nchannel 0\n"), (0, "agent 0\nends 0 1\n"))
+    same(varukoni.steps(b"agent -\nfly\n"), (2, "line 2: UnknownStep\n"))
+    same(varukoni.check(""), (0, "clean\n"))
+    same(varukoni.check("hublog 9\n"), (2, "line 1: BadHeader\n"))
+    same(varukoni.read_script(""), None)
+    refuses(lambda: varukoni.read_script("fly\n"), BadLine, "line 1: Syntax")
+
+
+def test_threads():
+    """Four threads post through one hub, and each number is given once."""
+    hub, given = opened(), []
+
+    def post():
+        for number in range(500):
+            given.append(hub(f"post 0 - {number}"))
+
+    threads = [threading.Thread(target=post) for _ in range(4)]
+    for thread in threads:
+        thread.start()
+    for thread in threads:
+        thread.join()
+    same(sorted(given), sorted(f"accepted 0:{number}" for number in range(2000)))
+
+
+def test_pipe():
+    program = pathlib.Path(__file__).resolve().with_name("pipe.py")
+    pipe = subprocess.PIPE
+    with subprocess.Popen([sys.executable, "-B", program], stdin=pipe, stdout=pipe) as child:
+        for line, answer in [(b"agent -", b"agent 0"), (b"fly", b"bad UnknownStep"),
+                             (b"post 0 - \xff", b"bad BadUtf8"), (b"channel 0", b"ends 0 1")]:
+            child.stdin.write(line + b"\n")
+            child.stdin.flush()
+            same(child.stdout.readline(), answer + b"\n")
+        child.stdin.close()
+        same(child.wait(timeout=10), 0)
+
+
+for test in (test_lines, test_a_long_line, test_whole_texts, test_threads, test_pipe):
+    test()
+print(f"embed/python: {checks} checks")
