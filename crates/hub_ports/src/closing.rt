@@ -10,18 +10,20 @@ use crate::port::Port;
 use crate::spent::Spent;
 use hub_depot::Depot;
 use hub_envelope::{Draft, EndId};
-use hub_queue::{Grave, Onward, PostError, Poster};
+use hub_queue::{Grave, Onward, PostError};
 use std::alloc::Global;
 use std::sync::Wait;
 
-// Puts the notice on the line.
-fn put_notice<R: Wait>(rt: &R, alloc: Global, yard: &Depot<Onward>, poster: &mut Poster) -> Noticed
-    ensures { IsNoticed poster.old poster.new result }
+// Puts the notice on the line of a port. It wants the whole port, so that the port's own end is
+// open still.
+fn put_notice<R: Wait>(rt: &R, alloc: Global, yard: &Depot<Onward>, port: &mut Port) -> Noticed
+    ensures notice { IsNoticed port.old.poster port.new.poster result }
+    ensures open { port.new.taker ≡ port.old.taker }
 {
     let Ok(draft) = Draft::notice(alloc) else {
         return Noticed::OutOfMemory;
     };
-    match poster.post(rt, yard, draft) {
+    match port.poster.post(rt, yard, draft) {
         Ok(posted) => Noticed::Put(posted),
         Err((PostError::Closed, _)) => Noticed::PeerClosed,
         Err((PostError::Moving, _)) => Noticed::Moving,
@@ -39,8 +41,9 @@ pub(crate) fn close_port<R: Wait>(
     ensures grave { IsClosed port.taker result.0 }
     ensures notice { IsNoticed port.poster result.1 result.2 }
 {
-    let Port { taker, mut poster } = port;
-    let noticed = put_notice(rt, alloc, yard, &mut poster);
+    let mut port = port;
+    let noticed = put_notice(rt, alloc, yard, &mut port);
+    let Port { taker, poster } = port;
     (taker.close(), Spent { poster }, noticed)
 }
 

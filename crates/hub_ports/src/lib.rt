@@ -11,6 +11,7 @@
 
 mod arrival;
 mod arrived;
+mod arriving;
 mod channel_error;
 mod closing;
 mod closings;
