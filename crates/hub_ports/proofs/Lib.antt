@@ -4,3 +4,4 @@ pub mod Flights
 pub mod Listed
 pub mod Refused
 pub mod Splits
+pub mod Tellings

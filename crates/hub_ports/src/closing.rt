@@ -1,15 +1,16 @@
 //! How a port is closed, and how all ports of a list are.
-ghost use Rattle.std.specs.Prelude.{◌≡◌, ◌≤◌, length};
+ghost use Rattle.std.specs.Prelude.{◌≡◌, ◌≤◌, length, IfSome};
 ghost use Rattle.hub_envelope.specs.declared.limits.TheConstants.{MAX_PORTS};
 ghost use Rattle.hub_queue.specs.Ending.{IsClosed};
-ghost use Rattle.hub_ports.specs.Closing.{IsNoticed, IsClosedAs, AreClosed};
+ghost use Rattle.hub_ports.specs.Closing.{IsNoticed, AreClosed, AreToldClosed};
 
 use crate::closings::Closings;
+use crate::hears::Hears;
 use crate::noticed::Noticed;
 use crate::port::Port;
 use crate::spent::Spent;
 use hub_depot::Depot;
-use hub_envelope::{Draft, EndId};
+use hub_envelope::Draft;
 use hub_queue::{Grave, Onward, PostError};
 use std::alloc::Global;
 use std::sync::Wait;
@@ -47,33 +48,25 @@ pub(crate) fn close_port<R: Wait>(
     (taker.close(), Spent { poster }, noticed)
 }
 
-// Closes a port and drops what is left of its end: its number, and what became of its notice.
-fn close_unswept<R: Wait>(
-    rt: &R,
-    alloc: Global,
-    yard: &Depot<Onward>,
-    port: Port,
-) -> (EndId, Noticed)
-    ensures { IsClosedAs port result }
-{
-    let end = port.end();
-    let (_grave, _spent, noticed) = close_port(rt, alloc, yard, port);
-    (end, noticed)
-}
-
-/// Closes the ports of a list in order. What waits for them is dropped.
-pub(crate) fn close_all<R: Wait>(
+/// Closes the ports of a list in order, and tells of each what is left of it.
+pub(crate) fn close_all<H: Hears<(Grave, Spent, Noticed)>, R: Wait>(
     rt: &R,
     alloc: Global,
     yard: &Depot<Onward>,
     ports: Vec<Port>,
+    heard: &mut H,
 ) -> Closings
     requires { length ports.items ≤ MAX_PORTS }
-    ensures { AreClosed ports.items result }
+    ensures closed { AreClosed ports.items result }
+    ensures told { IfSome (H.told heard.old) (λ before.
+        AreToldClosed ports.items result before (H.told heard.new)) }
 {
     let mut closings = Closings::none();
     for port in ports {
-        closings.push(close_unswept(rt, alloc, yard, port));
+        let end = port.end();
+        let (grave, spent, noticed) = close_port(rt, alloc, yard, port);
+        heard.tell((grave, spent, noticed));
+        closings.push((end, noticed));
     }
     closings
 }

@@ -1,6 +1,7 @@
 use crate::arrival::Arrival;
 use crate::arriving::arrive_from;
 use crate::ending::close_flight;
+use crate::hears::Unheard;
 use crate::port::Port;
 use hub_depot::Depot;
 use hub_envelope::{Envelope, OutOfMemory};
@@ -64,7 +65,9 @@ impl Hub {
             grave,
         } = self;
         let mut kept = flight.into_kept();
-        let Err(grave) = close_flight(rt, alloc, &yard, grave.into_inner(), &mut kept) else {
+        let grave = grave.into_inner();
+        let ended = close_flight(rt, alloc, &yard, grave, &mut kept, &mut Unheard);
+        let Err(grave) = ended else {
             return Ok(());
         };
         let hub = Hub {

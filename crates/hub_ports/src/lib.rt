@@ -18,6 +18,7 @@ mod closings;
 mod ending;
 mod entangling;
 mod flight;
+mod hears;
 mod hub;
 mod noticed;
 mod port;

@@ -9,6 +9,7 @@ ghost use Rattle.hub_ports.specs.Sending.{IsSent, IsDoomed, IsTooMany};
 
 use crate::closing::close_all;
 use crate::flight::{call_back, send_off};
+use crate::hears::Unheard;
 use crate::hub::Hub;
 use crate::port::Port;
 use crate::port_error::PortError;
@@ -145,7 +146,7 @@ fn send_with_ports<R: Wait>(
         return Err(PortError::TooManyPorts(body, transfer));
     }
     if holds(transfer.as_slice(), line.name().end) {
-        let closings = close_all(rt, hub.alloc, &hub.yard, transfer);
+        let closings = close_all(rt, hub.alloc, &hub.yard, transfer, &mut Unheard);
         return Err(PortError::Doomed(closings));
     }
     let mut flight = &hub.flight;
