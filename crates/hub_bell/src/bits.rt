@@ -1,5 +1,5 @@
-//! Where the ready bit of an end lies on a board: 64 words of bits, and one word that names those of
-//! them in which bits were set.
+//! Where the ready bit of an end lies on a board: 64 words of bits, and one word that names those
+//! of them in which bits were set.
 ghost use Rattle.std.specs.Prelude.{◌≡◌, ◌<◌, ◌^◌};
 ghost use Rattle.hub_bell.specs.Ready.{bits_word, end_mask, is_set, name_mask};
 

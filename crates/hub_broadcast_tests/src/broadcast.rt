@@ -1,6 +1,6 @@
 //! Casts among members of two origins and two names.
 use crate::parts::{NO_PORTS, is_first, take, try_bell, try_body, try_key};
-use hub_broadcast::{CastError, CastOutcome, Member, SharedRoster};
+use hub_broadcast::{CastError, CastOutcome, JoinError, Member, SharedRoster};
 use hub_depot::Depot;
 use hub_envelope::{AgentId, EndId, LineId};
 use hub_queue::{Ends, Onward, Posted, Took};
@@ -140,6 +140,50 @@ fn broadcast(rt: HostRuntime) -> Result<(), Fail> {
     assert_eq!(rt;
         (listed[0], first, took, refused, second, third),
         (EndId(3), true, true, true, true, true)
+    );
+    Ok(())
+}
+
+// Three members of one origin and name.
+fn three<R: Wait>(
+    rt: &R,
+    alloc: Global,
+    roster: &SharedRoster,
+) -> Option<(Member, Member, Member)> {
+    let mut ends = Ends::new();
+    let key = (0, "https://a.test", "news");
+    let source = member(rt, alloc, roster, &mut ends, key)?;
+    let middle = member(rt, alloc, roster, &mut ends, key)?;
+    let last = member(rt, alloc, roster, &mut ends, key)?;
+    Some((source, middle, last))
+}
+
+#[test]
+fn a_cast_goes_on_past_a_closed_member(rt: HostRuntime) -> Result<(), Fail> {
+    let alloc = rt.alloc();
+    let roster = SharedRoster::new(alloc);
+    let (source, middle, mut last) = three(&rt, alloc, &roster).ok_or("no members")?;
+    let _grave = middle.close();
+    let want = [(EndId(1), CastOutcome::Closed), first_at(2)];
+    let cast = casts(&rt, alloc, &roster, &source, "\"x\"", want.as_slice());
+    let took = is_first(take(&rt, &mut last), 0, "\"x\"");
+    assert_eq!(rt; (cast, took), (true, true));
+    Ok(())
+}
+
+#[test]
+fn nobody_joins_without_a_number(rt: HostRuntime) -> Result<(), Fail> {
+    let alloc = rt.alloc();
+    let roster = SharedRoster::new(alloc);
+    let mut ends = Ends { drawn: 65_536 };
+    let (origin, name) = try_key(alloc, "https://a.test", "news").ok_or("no key")?;
+    let bell = try_bell(alloc).ok_or("no bell")?;
+    let refused = roster
+        .join(&rt, &mut ends, AgentId(0), origin, name, bell)
+        .err();
+    assert_eq!(rt;
+        (refused, ends.drawn),
+        (Some(JoinError::TooManyEnds), 65_536)
     );
     Ok(())
 }

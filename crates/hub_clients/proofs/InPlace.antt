@@ -4,6 +4,7 @@ use Rattle.std.specs.Prelude.{slice_get, position, is_some, IfSome}
 use Rattle.std.proofs.lemmas.List.{length-set}
 use Rattle.std.proofs.lemmas.List.Quantifiers.{position-Some}
 use Rattle.std.proofs.lemmas.Option.{slice_get_read}
+use Rattle.hub_envelope.specs.declared.limits.TheConstants.{MAX_LINES}
 use Rattle.hub_envelope.specs.declared.ids.EndId.{EndId}
 use Rattle.hub_gate.proofs.Got.{some_is, none_got, got_set, got_within}
 use Rattle.hub_queue.specs.Mailboxes.{IsOpenMailbox, new_stand, new_stands}
@@ -12,6 +13,7 @@ use Rattle.hub_queue.specs.Taking.{TakerSeat}
 use Rattle.hub_queue.proofs.Below.{many_below, at_below}
 use Rattle.hub_clients.specs.Lines.{with_line, IsTakenOut}
 use Rattle.hub_clients.specs.Listings.{ListedSeat, IsPosterOf, IsInPlace, ArePostersOf}
+use Rattle.hub_clients.specs.NewQueues.{listed_of}
 
 -- a line whose poster is out
 pub taken_out : (q : ListedSeat) (line : ℕ) → IsInPlace q → IsInPlace (with_line q line None)
@@ -59,3 +61,10 @@ own_taken q line (Some p) held first is =
     let count = held.count in
     let same = own.line_is in
     (own.end_is, omega arith)
+
+-- what is listed of a mailbox are exactly its posters
+pub listed_is : (end : EndId) (t : TakerSeat) (posters : List StandSeat) (l : ListedSeat) → IsOpenMailbox end MAX_LINES t posters → l ≡ record { end = end; lines = map Some posters } → l ≡ listed_of t
+listed_is end t posters l opened is =
+    let same : t.end ≡ end.0 = ap (λ (u : TakerSeat). u.end) opened.taker_is in
+    let stands : posters ≡ new_stands t.newest.keeper.gate t.newest.queue (record { 0 = t.end }) MAX_LINES = opened.posters_are ∙ ap (λ (e : ℕ). new_stands t.newest.keeper.gate t.newest.queue (record { 0 = e }) MAX_LINES) (sym same) in
+    is ∙ (λ i. record { end = record { 0 = sym same i }; lines = map Some (stands i) })

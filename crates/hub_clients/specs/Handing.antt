@@ -5,6 +5,7 @@ use Rattle.hub_envelope.specs.declared.ids.AgentId.{AgentId}
 use Rattle.hub_queue.specs.declared.adopt_error.AdoptError.{AdoptError}
 use Rattle.hub_queue.specs.Adopting.{IsAdopted}
 use Rattle.hub_queue.specs.Taking.{TakerSeat, started}
+use Rattle.hub_clients.specs.declared.handed.Handed.{Handed}
 use Rattle.hub_clients.specs.declared.handed_queue.HandedQueue.{HandedQueue}
 use Rattle.hub_clients.specs.declared.handed_queue.HandedQueue.TheVariants.{Client, Worker}
 
@@ -16,6 +17,10 @@ taker_of (Worker taker) = taker
 -- the name under which the queue of this number waits for this agent
 abbrev pub handed_name : ℕ → AgentId → Key
 handed_name end to = record { end = record { 0 = end }; epoch = to.0; line = record { 0 = 0 } }
+
+-- the queue as it waits for this agent
+abbrev pub handed_to : AgentId → HandedQueue → Handed
+handed_to to queue = record { queue = queue; to = to }
 
 -- Ok: the end has moved on, and then its newest gate was enabled. Err: as of an adoption.
 abbrev pub IsAdoptedAndStarted : TakerSeat → Result TakerSeat (AdoptError × TakerSeat) → Type 0

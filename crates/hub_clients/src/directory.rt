@@ -10,13 +10,14 @@ use crate::directory_error::DirectoryError;
 use crate::hand_error::HandError;
 use crate::handed::Handed;
 use crate::handed_queue::HandedQueue;
-use crate::listed::Listed;
+use crate::keeping::{fetch_from, keep_on};
 use crate::listing::Listing;
+use crate::lists::open_in;
 use crate::queue_error::QueueError;
 use crate::worker_queue::WorkerQueue;
-use hub_depot::{Depot, DepotError, Kept};
-use hub_envelope::{AgentId, EndId, MAX_LINES};
-use hub_queue::{Bell, Ends, Mailbox, Poster, Taker};
+use hub_depot::{Depot, Kept};
+use hub_envelope::{AgentId, EndId};
+use hub_queue::{Bell, Ends, Poster, Taker};
 use std::alloc::Global;
 use std::sync::{Mutex, Wait};
 
@@ -43,24 +44,15 @@ impl Directory {
         }
     }
 
-    // A queue of the next number, which is listed with all its lines at home. All that can be
-    // refused but the place in the listing is made before the lock is taken, and the number is used
-    // up last.
+    // A queue of the next number, which is listed under the lock.
     fn open<R: Wait>(&self, rt: &R, ends: &mut Ends, bell: Bell) -> Result<Taker, QueueError>
         ensures queue { IfOk result (IsNewClientQueue ends.old.drawn) }
         ensures drawn { OnOk result (ends.new.drawn ≡ ends.old.drawn + 1) }
         ensures err { OnErr result (ends.new ≡ ends.old) }
         ensures many { IsErrOf result QueueError.TooManyEnds ↔ (MAX_ENDS ≤ ends.old.drawn) }
     {
-        let mut drawn = *ends;
-        let Some(end) = drawn.draw() else {
-            return Err(QueueError::TooManyEnds);
-        };
-        let (taker, posters) = Mailbox::open(self.alloc, end, MAX_LINES as u8, bell)?;
-        let listed = Listed::new(self.alloc, end, posters)?;
-        self.listing.lock(rt).list(listed)?;
-        *ends = drawn;
-        Ok(taker)
+        let mut listing = &self.listing;
+        open_in(rt, self.alloc, &mut listing, ends, bell)
     }
 
     /// Makes and lists the message queue of a client, which is empty and disabled (W3C Service
@@ -130,13 +122,8 @@ impl Directory {
     ) -> Result<(), (HandError, HandedQueue)>
         ensures { IfErr result (λ refused. refused.1 ≡ queue) }
     {
-        match self.handed.put(rt, Handed { queue, to }) {
-            Ok(()) => Ok(()),
-            Err(DepotError::Taken(Handed { queue, to: _ })) => Err((HandError::Taken, queue)),
-            Err(DepotError::OutOfMemory(Handed { queue, to: _ })) => {
-                Err((HandError::OutOfMemory, queue))
-            }
-        }
+        let mut shelf = &self.handed;
+        keep_on(rt, &mut shelf, queue, to)
     }
 
     /// Takes out the queue of that number that was handed to that agent. `None` where none waits.
@@ -144,7 +131,8 @@ impl Directory {
     pub fn fetch<R: Wait>(&self, rt: &R, end: EndId, to: AgentId) -> Option<Handed>
         ensures { IfSome result (λ h. ((taker_of h.queue).end ≡ end.0) × (h.to ≡ to)) }
     {
-        self.handed.take(rt, Handed::name_for(end, to))
+        let mut shelf = &self.handed;
+        fetch_from(rt, &mut shelf, end, to)
     }
 
     /// Closes every queue that still waits for an agent. What is left of them is discarded: ports

@@ -12,8 +12,10 @@ mod directory_error;
 mod hand_error;
 mod handed;
 mod handed_queue;
+mod keeping;
 mod listed;
 mod listing;
+mod lists;
 mod queue_error;
 mod worker_queue;
 

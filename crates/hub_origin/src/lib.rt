@@ -1,4 +1,5 @@
-//! The origin of a URL (WHATWG HTML, "Origin"), by which agents and broadcast channels are told apart.
+//! The origin of a URL (WHATWG HTML, "Origin"), by which agents and broadcast channels are told
+//! apart.
 #![tactic(auto)]
 
 mod origin;

@@ -1,20 +1,26 @@
 -- What becomes of a port that is closed, and of its notice.
-use Rattle.std.specs.Prelude.{◌≡◌, List, [], ◌∷◌, Ok, Err}
+use Rattle.std.specs.Prelude.{◌≡◌, ◌⊎◌, List, [], ◌∷◌, ◌++◌, Option, Some, None, Ok, Err}
+use Rattle.std.specs.FinMap as map
 use Rattle.hub_envelope.specs.Notice.{notice_draft}
 use Rattle.hub_envelope.specs.declared.ids.EndId.{EndId}
 use Rattle.hub_queue.specs.declared.post_error.PostError.TheVariants as why
+use Rattle.hub_queue.specs.Ending.{IsClosed, closed_place}
+use Rattle.hub_queue.specs.Graves.{GraveSeat, SweptSeat}
 use Rattle.hub_queue.specs.Posting.{IsPosted}
 use Rattle.hub_queue.specs.Standing.{StandSeat}
+use Rattle.hub_queue.specs.Sweeping.{IsSweptOut}
+use Rattle.hub_queue.specs.Taking.{TakerSeat}
 use Rattle.hub_ports.specs.declared.noticed.Noticed.{Noticed}
 use Rattle.hub_ports.specs.declared.noticed.Noticed.TheVariants.{Put, PeerClosed, Moving, OutOfMemory}
-use Rattle.hub_ports.specs.Seats.{PortSeat, end_of}
+use Rattle.hub_ports.specs.Arriving.{Flight}
+use Rattle.hub_ports.specs.Seats.{PortSeat, end_of, place_of}
 
--- Put: what the line has put grew by the notice under that name. Else it is unchanged, and the notice was refused for this reason: closed and moving only where the line was turned in this call and found that flag.
+-- Put: what the line has put grew by the notice under that name. Else it is unchanged, and the notice was refused for this reason: closed and moving only where the line was turned in this call and found that flag. Out of memory: the line refused it, or there was no memory for the notice itself.
 abbrev pub IsNoticed : StandSeat → StandSeat → Noticed → Type 0
 IsNoticed old new (Put posted) = IsPosted old new notice_draft (Ok posted)
 IsNoticed old new PeerClosed = IsPosted old new notice_draft (Err (why.Closed, notice_draft))
 IsNoticed old new Moving = IsPosted old new notice_draft (Err (why.Moving, notice_draft))
-IsNoticed old new OutOfMemory = IsPosted old new notice_draft (Err (why.OutOfMemory, notice_draft))
+IsNoticed old new OutOfMemory = IsPosted old new notice_draft (Err (why.OutOfMemory, notice_draft)) ⊎ (new ≡ old)
 
 -- the number of the port, and what became of its notice
 abbrev pub IsClosedAs : PortSeat → EndId × Noticed → Type 0
@@ -25,3 +31,47 @@ abbrev pub AreClosed : List PortSeat → List (EndId × Noticed) → Type 0
 AreClosed [] closings = closings ≡ []
 AreClosed (p ∷ ps) closings =
     (closing : EndId × Noticed) × (rest : List (EndId × Noticed)) × (closings ≡ closing ∷ rest) × IsClosedAs p closing × AreClosed ps rest
+
+-- what is left of a port that was closed: its closed end, its line, and what became of its notice
+abbrev pub Left : Type 0
+Left = GraveSeat × StandSeat × Noticed
+
+-- the port's own end was closed, and its notice put or refused at its line
+abbrev pub IsLeft : PortSeat → Left → Type 0
+IsLeft p left = IsClosed p.taker left.0 × IsNoticed p.poster left.1 left.2
+
+-- of each port of a list, in order: the closing tells its number and what became of that very notice
+abbrev pub AreLeft : List PortSeat → List (EndId × Noticed) → List Left → Type 0
+AreLeft [] [] [] = Unit {0}
+AreLeft (p ∷ ps) (c ∷ cs) (l ∷ ls) = (c ≡ (end_of p, l.2)) × IsLeft p l × AreLeft ps cs ls
+AreLeft _ _ _ = ⊥
+
+-- whoever is told was told what is left of each
+abbrev pub AreToldClosed : List PortSeat → List (EndId × Noticed) → List Left → Option (List Left) → Type 0
+AreToldClosed ports closings before after = (left : List Left) × (after ≡ Some (before ++ left)) × AreLeft ports closings left
+
+-- what is left of an end that was emptied, and, where it was a port's that was closed in this call, its line and what became of its notice
+abbrev pub Emptied : Type 0
+Emptied = SweptSeat × Option (StandSeat × Noticed)
+
+-- the end of a port, closed and not yet swept
+abbrev pub closed_end : TakerSeat → GraveSeat
+closed_end t = record { end = t.end; epoch = t.epoch; places = t.retired ++ closed_place t.newest ∷ []; envelopes = [] }
+
+-- the port was closed, with its notice, and its end emptied
+abbrev pub IsEmptiedAs : PortSeat → Emptied → Type 0
+IsEmptiedAs p e = (line : StandSeat) × (noticed : Noticed) × (e.1 ≡ Some (line, noticed)) × IsNoticed p.poster line noticed × IsSweptOut (closed_end p.taker) e.0
+
+-- so many ports were taken out of the flight, one after another, and each was emptied so
+abbrev pub EmptiesTo : Flight → Flight → List Emptied → Type 0
+EmptiesTo flight now [] = now ≡ flight
+EmptiesTo flight now (e ∷ es) = (p : PortSeat) × (map.get flight (place_of (end_of p)) ≡ Some p) × IsEmptiedAs p e × EmptiesTo (map.remove flight (place_of (end_of p))) now es
+
+-- the grave of an earlier call was emptied, where there was one
+abbrev pub IsEmptiedFirst : Option GraveSeat → List Emptied → Type 0
+IsEmptiedFirst None es = es ≡ []
+IsEmptiedFirst (Some g) es = (s : SweptSeat) × (es ≡ (s, None) ∷ []) × IsSweptOut g s
+
+-- whoever is told was told of the grave first, and then of each port, of which these are left in flight
+abbrev pub AreToldEmptied : Option GraveSeat → Flight → Flight → List Emptied → Option (List Emptied) → Type 0
+AreToldEmptied grave flight now before after = (first : List Emptied) × (rest : List Emptied) × (after ≡ Some ((before ++ first) ++ rest)) × IsEmptiedFirst grave first × EmptiesTo flight now rest

@@ -1,6 +1,8 @@
 pub mod Adopting
+pub mod Arriving
 pub mod Channels
 pub mod Closing
+pub mod Flying
 pub mod Refusing
 pub mod Seats
 pub mod Sending

@@ -1,5 +1,5 @@
 -- What a post with ports comes to.
-use Rattle.std.specs.Prelude.{◌≡◌, ℕ, ◌<◌, false, List, length, Result, Ok, Err}
+use Rattle.std.specs.Prelude.{◌≡◌, ◌⊎◌, ℕ, ◌<◌, false, List, length, Result, Ok, Err}
 use Rattle.hub_envelope.specs.declared.envelope.Draft.{Draft}
 use Rattle.hub_envelope.specs.declared.ids.AgentId.{AgentId}
 use Rattle.hub_queue.specs.declared.post_error.PostError.{PostError}
@@ -21,19 +21,23 @@ draft_of agent body ports = record { agent = agent; body = body; ports = ends_of
 abbrev pub IsRefusedAtLine : StandSeat → StandSeat → Draft → PostError → Type 0
 IsRefusedAtLine old new draft why = IsPosted old new draft (Err (why, draft))
 
+-- it was refused there for want of memory, or never came to the line
+abbrev pub WantsMemory : StandSeat → StandSeat → Draft → Type 0
+WantsMemory old new draft = IsRefusedAtLine old new draft why.OutOfMemory ⊎ (new ≡ old)
+
 -- the body and all ports came back, the ports in order
 abbrev pub CameBack : Draft → List ℕ → List PortSeat → Type 0
 CameBack draft body back = (body ≡ draft.body) × (ends_of back ≡ draft.ports)
 
--- The line has put nothing more, whatever the error. Doomed and too many ports: nothing was posted or put in flight; the ports were closed in order, or came back as they were. Taken: nothing was posted. Strayed: each port came back or is named.
+-- The line has put nothing more, whatever the error. Doomed and too many ports: nothing was posted or put in flight; the ports were closed in order, or came back as they were. Taken: nothing was posted. Out of memory: the line refused it, or nothing was posted. Strayed: the same, for any reason of the line; each port came back or is named.
 abbrev pub IsUnsent : StandSeat → StandSeat → Draft → List PortSeat → PortError → Type 0
 IsUnsent old new draft ports (Closed body back) = IsRefusedAtLine old new draft why.Closed × CameBack draft body back.items
 IsUnsent old new draft ports (Moving body back) = IsRefusedAtLine old new draft why.Moving × CameBack draft body back.items
-IsUnsent old new draft ports (OutOfMemory body back) = IsRefusedAtLine old new draft why.OutOfMemory × CameBack draft body back.items
+IsUnsent old new draft ports (OutOfMemory body back) = WantsMemory old new draft × CameBack draft body back.items
 IsUnsent old new draft ports (Doomed closings) = (new ≡ old) × AreClosed ports closings
 IsUnsent old new draft ports (TooManyPorts body back) = (new ≡ old) × (body ≡ draft.body) × (back.items ≡ ports)
 IsUnsent old new draft ports (Strayed missing body back) =
-    ((why : PostError) × IsRefusedAtLine old new draft why) × (body ≡ draft.body) × (0 < length missing.items) × IsSplit draft.ports (ends_of back.items) missing.items
+    (((why : PostError) × IsRefusedAtLine old new draft why) ⊎ (new ≡ old)) × (body ≡ draft.body) × (0 < length missing.items) × IsSplit draft.ports (ends_of back.items) missing.items
 IsUnsent old new draft ports (Taken body back) = (new ≡ old) × CameBack draft body back.items
 
 -- Ok: what the line has put grew by one envelope with this agent, this body and these ports, in order.

@@ -1,27 +1,30 @@
 //! How a port is closed, and how all ports of a list are.
-ghost use Rattle.std.specs.Prelude.{◌≡◌, ◌≤◌, length};
+ghost use Rattle.std.specs.Prelude.{◌≡◌, ◌≤◌, length, IfSome};
 ghost use Rattle.hub_envelope.specs.declared.limits.TheConstants.{MAX_PORTS};
 ghost use Rattle.hub_queue.specs.Ending.{IsClosed};
-ghost use Rattle.hub_ports.specs.Closing.{IsNoticed, IsClosedAs, AreClosed};
+ghost use Rattle.hub_ports.specs.Closing.{IsNoticed, AreClosed, AreToldClosed};
 
 use crate::closings::Closings;
+use crate::hears::Hears;
 use crate::noticed::Noticed;
 use crate::port::Port;
 use crate::spent::Spent;
 use hub_depot::Depot;
-use hub_envelope::{Draft, EndId};
-use hub_queue::{Grave, Onward, PostError, Poster};
+use hub_envelope::Draft;
+use hub_queue::{Grave, Onward, PostError};
 use std::alloc::Global;
 use std::sync::Wait;
 
-// Puts the notice on the line.
-fn put_notice<R: Wait>(rt: &R, alloc: Global, yard: &Depot<Onward>, poster: &mut Poster) -> Noticed
-    ensures { IsNoticed poster.old poster.new result }
+// Puts the notice on the line of a port. It wants the whole port, so that the port's own end is
+// open still.
+fn put_notice<R: Wait>(rt: &R, alloc: Global, yard: &Depot<Onward>, port: &mut Port) -> Noticed
+    ensures notice { IsNoticed port.old.poster port.new.poster result }
+    ensures open { port.new.taker ≡ port.old.taker }
 {
     let Ok(draft) = Draft::notice(alloc) else {
         return Noticed::OutOfMemory;
     };
-    match poster.post(rt, yard, draft) {
+    match port.poster.post(rt, yard, draft) {
         Ok(posted) => Noticed::Put(posted),
         Err((PostError::Closed, _)) => Noticed::PeerClosed,
         Err((PostError::Moving, _)) => Noticed::Moving,
@@ -39,38 +42,31 @@ pub(crate) fn close_port<R: Wait>(
     ensures grave { IsClosed port.taker result.0 }
     ensures notice { IsNoticed port.poster result.1 result.2 }
 {
-    let Port { taker, mut poster } = port;
-    let noticed = put_notice(rt, alloc, yard, &mut poster);
+    let mut port = port;
+    let noticed = put_notice(rt, alloc, yard, &mut port);
+    let Port { taker, poster } = port;
     (taker.close(), Spent { poster }, noticed)
 }
 
-// Closes a port and drops what is left of its end: its number, and what became of its notice.
-fn close_unswept<R: Wait>(
-    rt: &R,
-    alloc: Global,
-    yard: &Depot<Onward>,
-    port: Port,
-) -> (EndId, Noticed)
-    ensures { IsClosedAs port result }
-{
-    let end = port.end();
-    let (_grave, _spent, noticed) = close_port(rt, alloc, yard, port);
-    (end, noticed)
-}
-
-/// Closes the ports of a list in order. What waits for them is dropped.
-pub(crate) fn close_all<R: Wait>(
+/// Closes the ports of a list in order, and tells of each what is left of it.
+pub(crate) fn close_all<H: Hears<(Grave, Spent, Noticed)>, R: Wait>(
     rt: &R,
     alloc: Global,
     yard: &Depot<Onward>,
     ports: Vec<Port>,
+    heard: &mut H,
 ) -> Closings
     requires { length ports.items ≤ MAX_PORTS }
-    ensures { AreClosed ports.items result }
+    ensures closed { AreClosed ports.items result }
+    ensures told { IfSome (H.told heard.old) (λ before.
+        AreToldClosed ports.items result before (H.told heard.new)) }
 {
     let mut closings = Closings::none();
     for port in ports {
-        closings.push(close_unswept(rt, alloc, yard, port));
+        let end = port.end();
+        let (grave, spent, noticed) = close_port(rt, alloc, yard, port);
+        heard.tell((grave, spent, noticed));
+        closings.push((end, noticed));
     }
     closings
 }

@@ -1,12 +1,15 @@
 //! Ports in flight: how the ports of a list are put there, and how they are taken back.
-ghost use Rattle.std.specs.Prelude.{◌≡◌, ◌+◌, ◌<◌, ◌≤◌, [], take, length, vec_len, vec_capacity, OnOk, OnErr, IfErr};
+ghost use Rattle.std.specs.Prelude.{◌≡◌, ◌+◌, ◌<◌, ◌≤◌, [], ◌++◌, List, take, length};
+ghost use Rattle.std.specs.Prelude.{vec_len, vec_capacity, Some, OnOk, OnErr, IfSome, IfErr};
+ghost use Rattle.hub_ports.specs.Arriving.{Flight};
+ghost use Rattle.hub_ports.specs.Flying.{AreFree, HaveFlownBehind, in_flight};
 ghost use Rattle.hub_ports.specs.Refusing.{IsOfFlight};
-ghost use Rattle.hub_ports.specs.Seats.{ends_of, place_of};
+ghost use Rattle.hub_ports.specs.Seats.{PortSeat, ends_of, place_of};
 ghost use Rattle.hub_ports.specs.Splitting.{IsSplit};
 
 use crate::port::Port;
 use crate::send_refusal::SendRefusal;
-use hub_depot::{Depot, DepotError, Key};
+use hub_depot::{DepotError, Key, Shelf};
 use hub_envelope::{EndId, LineId};
 use std::sync::Wait;
 
@@ -23,9 +26,9 @@ pub(crate) fn place(end: EndId) -> Key
 
 /// Puts the ports of a list in flight, from the last to the first, so that what is still in hand is
 /// always a beginning of the list. After an error the port that was refused is the last in hand.
-pub(crate) fn send_off<R: Wait>(
+pub(crate) fn send_off<S: Shelf<Port>, R: Wait>(
     rt: &R,
-    flight: &Depot<Port>,
+    flight: &mut S,
     ports: &mut Vec<Port>,
 ) -> Result<(), SendRefusal>
     ensures all { OnOk result (ports.new.items ≡ []) }
@@ -34,6 +37,8 @@ pub(crate) fn send_off<R: Wait>(
     ensures kept { OnErr result (0 < vec_len ports.new) }
     ensures stayed { ports.new.items ≡ take (vec_len ports.new) ports.old.items }
     ensures room { vec_len ports.old ≤ vec_capacity ports.new }
+    ensures flown { IfSome (S.shown flight.old) (λ kept.
+        HaveFlownBehind kept ports.old.items ports.new.items (S.shown flight.new)) }
 {
     while let Some(port) = ports.pop() {
         match flight.put(rt, port) {
@@ -53,9 +58,9 @@ pub(crate) fn send_off<R: Wait>(
 
 /// Takes the ports of a list back from flight, in order. Those that it begins with are in hand
 /// still.
-pub(crate) fn call_back<R: Wait>(
+pub(crate) fn call_back<S: Shelf<Port>, R: Wait>(
     rt: &R,
-    flight: &Depot<Port>,
+    flight: &mut S,
     numbers: &[EndId],
     ports: &mut Vec<Port>,
     missing: &mut Vec<EndId>,
@@ -64,7 +69,13 @@ pub(crate) fn call_back<R: Wait>(
     requires none { missing.old.items ≡ [] }
     requires ports { length numbers.now ≤ vec_capacity ports.old }
     requires missing { length numbers.now ≤ vec_capacity missing.old }
-    ensures { IsSplit numbers.now (ends_of ports.new.items) missing.new.items }
+    ensures split { IsSplit numbers.now (ends_of ports.new.items) missing.new.items }
+    // Where these very ports were put in flight, and no other since, they come back.
+    ensures back { (kept : Flight) (sent : List PortSeat)
+        → S.shown flight.old ≡ Some (in_flight kept sent) → AreFree kept sent
+        → numbers.now ≡ ends_of ports.old.items ++ ends_of sent
+        → (ports.new.items ≡ ports.old.items ++ sent) × (missing.new.items ≡ [])
+        × (S.shown flight.new ≡ Some kept) }
 {
     for index in ports.len()..numbers.len() {
         let number = numbers[index];

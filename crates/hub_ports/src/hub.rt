@@ -1,7 +1,7 @@
 use crate::arrival::Arrival;
-use crate::arrived::Arrived;
+use crate::arriving::arrive_from;
 use crate::ending::close_flight;
-use crate::flight::place;
+use crate::hears::Unheard;
 use crate::port::Port;
 use hub_depot::Depot;
 use hub_envelope::{Envelope, OutOfMemory};
@@ -48,16 +48,8 @@ impl Hub {
         ensures { IfOk result (λ arrival.
             IsSplit envelope.now.ports (ends_of arrival.found.items) arrival.missing.items) }
     {
-        let numbers = envelope.ports.as_slice();
-        let mut found = Vec::with_capacity(self.alloc, numbers.len())?;
-        let mut missing = Vec::with_capacity(self.alloc, numbers.len())?;
-        for number in numbers {
-            match self.flight.take(rt, place(*number)) {
-                Some(port) => found.push_reserved(Arrived { port }),
-                None => missing.push_reserved(*number),
-            }
-        }
-        Ok(Arrival { found, missing })
+        let mut flight = &self.flight;
+        arrive_from(rt, &mut flight, self.alloc, envelope.ports.as_slice())
     }
 
     /// Ends the hub: closes every port that is in flight, each with its notice, and discards what
@@ -73,7 +65,9 @@ impl Hub {
             grave,
         } = self;
         let mut kept = flight.into_kept();
-        let Err(grave) = close_flight(rt, alloc, &yard, grave.into_inner(), &mut kept) else {
+        let grave = grave.into_inner();
+        let ended = close_flight(rt, alloc, &yard, grave, &mut kept, &mut Unheard);
+        let Err(grave) = ended else {
             return Ok(());
         };
         let hub = Hub {

@@ -11,12 +11,14 @@
 
 mod arrival;
 mod arrived;
+mod arriving;
 mod channel_error;
 mod closing;
 mod closings;
 mod ending;
 mod entangling;
 mod flight;
+mod hears;
 mod hub;
 mod noticed;
 mod port;

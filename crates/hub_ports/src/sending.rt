@@ -1,17 +1,20 @@
 //! How a body is posted with the ports that are sent along.
-ghost use Rattle.std.specs.Prelude.{◌≡◌, ◌↔◌, ◌<◌, ◌≤◌, [], Contains, length, Err, IfOk};
+ghost use Rattle.std.specs.Prelude.{◌≡◌, ◌↔◌, ◌<◌, ◌≤◌, [], Contains, length, Err, IfOk, IfSome};
 ghost use Rattle.std.specs.List.{list_any};
 ghost use Rattle.hub_envelope.specs.declared.limits.TheConstants.{MAX_PORTS};
+ghost use Rattle.hub_ports.specs.Flying.{IsFlown};
 ghost use Rattle.hub_ports.specs.Refusing.{refusal_of, whole_error};
 ghost use Rattle.hub_ports.specs.Seats.{ends_of, has_end};
 ghost use Rattle.hub_ports.specs.Sending.{IsSent, IsDoomed, IsTooMany};
 
 use crate::closing::close_all;
 use crate::flight::{call_back, send_off};
+use crate::hears::Unheard;
 use crate::hub::Hub;
 use crate::port::Port;
 use crate::port_error::PortError;
 use crate::send_refusal::SendRefusal;
+use hub_depot::Shelf;
 use hub_envelope::{AgentId, Body, Draft, EndId, MAX_PORTS, OutOfMemory, Ports};
 use hub_queue::{PostError, Posted, Poster};
 use std::alloc::Global;
@@ -70,11 +73,13 @@ fn turned_back(error: PostError, draft: Draft, none: Vec<Port>) -> Result<Posted
     Err(refused_whole(SendRefusal::of_line(error), body, none))
 }
 
-// Posts a body with at most so many ports as an envelope may have. What giving them back wants is
-// reserved before the first is in flight.
-fn post_with_ports<R: Wait>(
+// Posts a body with at most so many ports as an envelope may have, over any shelf as the flight: of
+// the hub it uses the yard and the allocator alone. What giving them back wants is reserved before
+// the first is in flight.
+fn post_with_ports<S: Shelf<Port>, R: Wait>(
     rt: &R,
     hub: &Hub,
+    flight: &mut S,
     line: &mut Poster,
     agent: AgentId,
     body: Body,
@@ -84,6 +89,8 @@ fn post_with_ports<R: Wait>(
     ensures sent { IsSent line.old line.new agent body ports.items result }
     ensures many { IsTooMany result → ⊥ }
     ensures doomed { IsDoomed result → ⊥ }
+    ensures flown { IfSome (S.shown flight.old) (λ kept.
+        IsFlown kept ports.items (S.shown flight.new) result) }
 {
     let Ok(numbers) = numbers_of(hub.alloc, ports.as_slice()) else {
         return Err(PortError::OutOfMemory(body, ports));
@@ -91,14 +98,8 @@ fn post_with_ports<R: Wait>(
     let Ok(mut missing) = Vec::with_capacity(hub.alloc, numbers.len()) else {
         return Err(PortError::OutOfMemory(body, ports));
     };
-    if let Err(refusal) = send_off(rt, &hub.flight, &mut ports) {
-        call_back(
-            rt,
-            &hub.flight,
-            numbers.as_slice(),
-            &mut ports,
-            &mut missing,
-        );
+    if let Err(refusal) = send_off(rt, flight, &mut ports) {
+        call_back(rt, flight, numbers.as_slice(), &mut ports, &mut missing);
         return Err(refused(refusal, missing, body, ports));
     }
     let Ok(listed) = Ports::of_list(numbers) else {
@@ -119,7 +120,7 @@ fn post_with_ports<R: Wait>(
                 ..
             } = draft;
             let refusal = SendRefusal::of_line(error);
-            call_back(rt, &hub.flight, listed.as_slice(), &mut ports, &mut missing);
+            call_back(rt, flight, listed.as_slice(), &mut ports, &mut missing);
             Err(refused(refusal, missing, body, ports))
         }
     }
@@ -145,10 +146,11 @@ fn send_with_ports<R: Wait>(
         return Err(PortError::TooManyPorts(body, transfer));
     }
     if holds(transfer.as_slice(), line.name().end) {
-        let closings = close_all(rt, hub.alloc, &hub.yard, transfer);
+        let closings = close_all(rt, hub.alloc, &hub.yard, transfer, &mut Unheard);
         return Err(PortError::Doomed(closings));
     }
-    post_with_ports(rt, hub, line, agent, body, transfer)
+    let mut flight = &hub.flight;
+    post_with_ports(rt, hub, &mut flight, line, agent, body, transfer)
 }
 
 /// Posts a body over a line, with ports that are sent along: `Port::post`, over a line of a queue

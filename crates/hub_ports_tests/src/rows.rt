@@ -1,8 +1,10 @@
 //! The rows of ports, as calls: each step with the answer that the row gives.
+use crate::parts::bell;
 use crate::table::{Answer, Step, run};
 use hub_envelope::{EndId, LineId};
-use hub_ports::Noticed;
-use hub_queue::Posted;
+use hub_ports::{ChannelError, Noticed, channel};
+use hub_queue::{Ends, Posted};
+use std::test::Fail;
 
 const NONE: &[u32] = &[];
 
@@ -56,6 +58,34 @@ const FIVE_ADOPTIONS: &[Step] = &[
 #[test]
 fn five_adoptions(rt: HostRuntime) {
     assert_eq!(rt; run(&rt, rt.alloc(), FIVE_ADOPTIONS), 20);
+}
+
+// A line follows its end over four retired queues, and the fifth is retired too.
+const A_NOTICE_IS_LEFT_BEHIND: &[Step] = &[
+    Step::Channel,
+    Step::Channel,
+    Step::Start(3),
+    Step::Post(2, &[1], "null", Answer::Accepted(0, 0)),
+    Step::Got(3, 0, 0, &[1], "null"),
+    Step::Adopt(1, 1),
+    Step::Post(2, &[1], "null", Answer::Accepted(0, 1)),
+    Step::Got(3, 0, 1, &[1], "null"),
+    Step::Adopt(1, 2),
+    Step::Post(2, &[1], "null", Answer::Accepted(0, 2)),
+    Step::Got(3, 0, 2, &[1], "null"),
+    Step::Adopt(1, 3),
+    Step::Post(2, &[1], "null", Answer::Accepted(0, 3)),
+    Step::Got(3, 0, 3, &[1], "null"),
+    Step::Adopt(1, 4),
+    Step::Post(2, &[1], "null", Answer::Accepted(0, 4)),
+    Step::Got(3, 0, 4, &[1], "null"),
+    Step::Adopt(1, 5),
+    Step::CloseAs(0, Noticed::Moving),
+];
+
+#[test]
+fn a_notice_is_left_behind(rt: HostRuntime) {
+    assert_eq!(rt; run(&rt, rt.alloc(), A_NOTICE_IS_LEFT_BEHIND), 19);
 }
 
 // The notice of the port that was closed.
@@ -144,7 +174,7 @@ const A_NOTICE_COMES_LAST: &[Step] = &[
     Step::Got(1, 0, 0, NONE, "7"),
     Step::Notice(1, 0, 1),
     Step::Empty(1),
-    Step::CloseLast(1),
+    Step::CloseAs(1, Noticed::PeerClosed),
 ];
 
 #[test]
@@ -164,4 +194,16 @@ const ARRIVED_AND_CLOSED: &[Step] = &[
 #[test]
 fn an_arrived_port_is_closed(rt: HostRuntime) {
     assert_eq!(rt; run(&rt, rt.alloc(), ARRIVED_AND_CLOSED), 6);
+}
+
+#[test]
+fn no_channel_of_one_number(rt: HostRuntime) -> Result<(), Fail> {
+    let mut ends = Ends { drawn: 65_535 };
+    let bell = bell(rt.alloc()).ok_or("no bell")?;
+    let refused = channel(rt.alloc(), &mut ends, bell).err();
+    assert_eq!(rt;
+        (refused, ends.drawn),
+        (Some(ChannelError::TooManyEnds), 65_535)
+    );
+    Ok(())
 }

@@ -48,8 +48,8 @@ pub(crate) enum Step {
     CloseEither(u32),
     /// The same, of a port that arrived and was not adopted.
     CloseArrived(u32),
-    /// The peer is closed.
-    CloseLast(u32),
+    /// The notice comes to this.
+    CloseAs(u32, Noticed),
     /// The hub ends, and the next steps are lent a new one.
     End,
 }
@@ -394,7 +394,7 @@ impl Table {
             },
             Step::CloseEither(end) => self.close_either(rt, end),
             Step::CloseArrived(end) => self.close_arrived(rt, end),
-            Step::CloseLast(end) => self.close(rt, end) == Some(Noticed::PeerClosed),
+            Step::CloseAs(end, noticed) => self.close(rt, end) == Some(noticed),
             Step::End => self.end(rt),
         }
     }

@@ -1,12 +1,12 @@
 -- A taker takes all that is there, queue after queue.
-use Rattle.std.proofs.Common.{◌≡◌, ℕ, ◌+◌, ◌<◌, List, [], ◌∷◌, ◌++◌, map, length, refl, sym, ap, ◌∙◌, subst, ⊎_elim, arith, append_assoc, append-nil, length-append, Some}
+use Rattle.std.proofs.Common.{◌≡◌, ℕ, ◌+◌, ◌<◌, List, [], ◌∷◌, ◌++◌, map, length, true, false, refl, sym, ap, ◌∙◌, subst, ⊎_elim, arith, append_assoc, append-nil, length-append, Some}
 use Rattle.std.specs.List.{AllByRecursion}
 use Rattle.hub_envelope.specs.declared.envelope.Envelope.{Envelope}
 use Rattle.hub_core.specs.Sender.{by, Prefix}
 use Rattle.hub_gate.proofs.Got.{some_is}
 use Rattle.hub_queue.specs.declared.took.Took.{Took}
 use Rattle.hub_queue.specs.declared.took.Took.TheVariants.{Got, Empty, Busy, Again, Disabled}
-use Rattle.hub_queue.specs.Counting.{Count}
+use Rattle.hub_queue.specs.Counting.{Count, counted}
 use Rattle.hub_queue.specs.Draining.{places_of, HasDrained, put_known, put_by, IsPrefixOfChain}
 use Rattle.hub_queue.specs.Laws.{ahead_of, AllTaken, got_from, joined}
 use Rattle.hub_queue.specs.Places.{PlaceSeat, TakesMore, IsSettled}
@@ -16,7 +16,7 @@ use Rattle.hub_queue.proofs.Chains.{stays_after, takes_join, takes_none, takes_o
 use Rattle.hub_queue.proofs.InTurn.{chain_prefix}
 
 -- what was taken of a queue, and then more
-more_and_more : (p q r : PlaceSeat) (xs ys : List Envelope) → TakesMore p q xs → TakesMore q r ys → TakesMore p r (xs ++ ys)
+pub more_and_more : (p q r : PlaceSeat) (xs ys : List Envelope) → TakesMore p q xs → TakesMore q r ys → TakesMore p r (xs ++ ys)
 more_and_more p q r xs ys first second = record {
   queue = second.queue ∙ first.queue;
   same_gate = record {
@@ -31,7 +31,7 @@ more_and_more p q r xs ys first second = record {
   got = second.got ∙ ap (λ (l : List Envelope). l ++ ys) first.got ∙ append_assoc p.at.got xs ys;
 }
 
-same_place : (p : PlaceSeat) → TakesMore p p []
+pub same_place : (p : PlaceSeat) → TakesMore p p []
 same_place p = record { queue = refl; same_gate = record { gate = refl; enables = refl; retires = refl; closes = refl }; end = refl; epoch = refl; lines = refl; got = sym (append-nil p.at.got) }
 
 -- the queues behind the one where the taker stands
@@ -158,6 +158,19 @@ left_one old now next end left more before after q did q_is same so_far = ⊎_el
       epoch = let one = same.1 ∙ ap (λ (t : TakerSeat). t.epoch) retired.0 in let was = so_far.epoch in let longer = length-append left (q ∷ []) in omega arith;
     })
     did.1
+
+-- the pop of one take
+pub counts_got : (now next : TakerSeat) (before after : Count) (v : Envelope) → IsTaken now next before after (Got v) → after ≡ counted before false
+counts_got now next before after v did = ⊎_elim (λ newest. newest.3.2) (λ retired. retired.1.5.2) did.1
+
+pub counts_again : (now next : TakerSeat) (before after : Count) → IsTaken now next before after Again → after ≡ counted before true
+counts_again now next before after did = ⊎_elim (λ newest. absurd newest.3) (λ retired. retired.1.5.2) did.1
+
+pub counts_empty : (now next : TakerSeat) (before after : Count) → IsTaken now next before after Empty → after ≡ counted before true
+counts_empty now next before after did = ⊎_elim (λ newest. newest.3.2) (λ retired. absurd retired.1.5) did.1
+
+pub counts_busy : (now next : TakerSeat) (before after : Count) → IsTaken now next before after Busy → after ≡ counted before true
+counts_busy now next before after did = ⊎_elim (λ newest. absurd newest.3) (λ retired. retired.1.5.1) did.1
 
 -- all in all
 pub has_drained : (old now : TakerSeat) (left : List PlaceSeat) (more : List Envelope) → DrainedSoFar old now left more → HasDrained old now left more

@@ -12,12 +12,12 @@ use Rattle.hub_queue.specs.declared.pass_view.PutView.{PutView}
 use Rattle.hub_queue.specs.declared.posted.Posted.{Posted}
 use Rattle.hub_queue.specs.declared.posting.Tried.TheVariants.{Answered, Turned}
 use Rattle.hub_queue.specs.declared.post_error.PostError.{PostError}
-use Rattle.hub_queue.specs.Posting.{StaysAt, name_after, HasPassed, LeavesBehind, GoesTo, HasSeen, IsSeen, IsPosted}
+use Rattle.hub_queue.specs.Posting.{StaysAt, name_after, HasPassed, LeavesBehind, GoesTo, HasSeen, IsSeen, PutsNothing, IsPosted}
 use Rattle.hub_queue.specs.Putting.{IsPut}
 use Rattle.hub_queue.specs.Seats.{LineSeat, IsNameOf}
 use Rattle.hub_bell.specs.Seats.{Done, silent}
 use Rattle.hub_queue.specs.Rings.{HasRung, RingsOnward}
-use Rattle.hub_queue.specs.Standing.{StandSeat, IsNext, put_of, right_in, right_of, entry_in}
+use Rattle.hub_queue.specs.Standing.{StandSeat, IsNext, HasNotPushed, put_of, right_in, right_of, entry_in}
 use Rattle.hub_queue.specs.Trying.{IsAnswered, IsPutInside, IsTried, gone_to, GoesToUnused, IsPostedOnward, error_of}
 
 -- what is left behind is left of as many gates as are looked at
@@ -28,12 +28,17 @@ kept_of old (suc hops) (suc n) [] few behind = behind
 kept_of old (suc zero) (suc n) (entry ∷ left) few behind = behind
 kept_of old (suc (suc hops)) (suc n) (entry ∷ left) few behind = (behind.0, kept_of old (suc hops) n left (omega arith) behind.1)
 
--- the line was turned where it stood, or has gone on so often and was turned where it stands now, where it has put nothing
+-- a line that was turned has not pushed
+nothing_put : (found : Refusal) (before now : PutView) → now ≡ before → PutsNothing before now (error_of found)
+nothing_put refusal.Moved before now same = same
+nothing_put refusal.Closed before now same = same
+
+-- the line was turned where it stood, or has gone on so often and was turned where it stands now, where it has not pushed
 pub record GoneOn (turned here : StandSeat) (hops : ℕ) (first found : Refusal) : Type 0 where
   pub name : here.name ≡ name_after turned.name hops
   pub left : LeavesBehind turned hops here.left
   pub none : hops ≡ 0 → (here ≡ turned) × (found ≡ first)
-  pub some : 0 < hops → IsNameOf (put_of here) here.name × ((put_of here).put ≡ []) × HasSeen here 0 found
+  pub some : 0 < hops → IsNameOf (put_of here) here.name × HasNotPushed (put_of here) × HasSeen here 0 found
 
 pub gone_none : (turned : StandSeat) (first : Refusal) → GoneOn turned turned 0 first first
 gone_none turned first =
@@ -75,33 +80,32 @@ module _ (turned here next : StandSeat) (hops : ℕ) (first found : Refusal) (go
     none = λ none. absurd (omega arith);
     some = λ _. (
       subst (λ (v : PutView). IsNameOf v now.name) (sym tried.1) (subst (IsNameOf (put_of there)) (sym tried.0.name) is_next.named),
-      ap (λ (v : PutView). v.put) tried.1 ∙ is_next.unused.put,
+      subst HasNotPushed (sym tried.1) is_next.unused.put,
       subst (λ (n : ℕ). HasSeen now n again) is_next.unused.enters tried.3,
     );
+  }
+
+  -- where it had not pushed
+  unused_at : (at : StandSeat) → StaysAt there at → GoesToUnused turned at (put_of there)
+  unused_at at stays = record {
+    goes = record { hops = hops + 1; some = omega arith; few = omega arith; name = stays.name ∙ name_there; left = subst (LeavesBehind turned (hops + 1)) (sym stays.left) left_there };
+    named = subst (IsNameOf (put_of there)) (sym stays.name) is_next.named;
+    unused = is_next.unused.put;
   }
 
   -- or the post is answered there
   pub answered_there : (now : StandSeat) (draft kept : Draft) (answer : Result Posted (PostError × Draft)) → kept ≡ draft → IsTried there now kept (Answered answer) → IsPostedOnward turned now first draft answer
   answered_there now draft kept (Ok posted) same tried = (
     put_of there,
-    unused_at now (put_of there) tried.0 is_next.named is_next.unused.put,
+    unused_at now tried.0,
     subst (λ (d : Draft). IsPut (put_of there) (put_of now) d (Ok posted)) same tried.1,
   )
-    where
-      unused_at : (at : StandSeat) (v : PutView) → StaysAt there at → IsNameOf v there.name → v.put ≡ [] → GoesToUnused turned at v
-      unused_at at v stays named none = record {
-        goes = record { hops = hops + 1; some = omega arith; few = omega arith; name = stays.name ∙ name_there; left = subst (LeavesBehind turned (hops + 1)) (sym stays.left) left_there };
-        named = subst (IsNameOf v) (sym stays.name) named;
-        unused = none;
-      }
   answered_there now draft kept (Err refused) same tried = (
     tried.1.1 ∙ same,
     inr (
-      record {
-        goes = record { hops = hops + 1; some = omega arith; few = omega arith; name = tried.0.name ∙ name_there; left = subst (LeavesBehind turned (hops + 1)) (sym tried.0.left) left_there };
-        named = subst (IsNameOf (put_of now)) (sym tried.0.name) (subst (λ (v : PutView). IsNameOf v there.name) (sym tried.1.0) is_next.named);
-        unused = ap (λ (v : PutView). v.put) tried.1.0 ∙ is_next.unused.put;
-      },
+      put_of there,
+      unused_at now tried.0,
+      subst (PutsNothing (put_of there) (put_of now)) (sym tried.1.2) tried.1.0,
       subst (IsSeen now 0) (sym tried.1.2) tt,
     ),
   )
@@ -113,7 +117,9 @@ goes_no_further turned here (suc hops) first found why draft kept gone few is sa
     let been = gone.some (omega arith) in (
       same,
       inr (
+        put_of here,
         record { goes = record { hops = suc hops; some = omega arith; few = few; name = gone.name; left = gone.left }; named = been.0; unused = been.1 },
+        subst (PutsNothing (put_of here) (put_of here)) (sym is) (nothing_put found (put_of here) (put_of here) refl),
         subst (IsSeen here 0) (sym is) (seen_there found been.2),
       ),
     )
@@ -129,7 +135,7 @@ goes_later old new goes = let some = goes.some in let epoch = ap (λ (k : Key). 
 -- a post is answered where the line stands
 is_answered : (old here : StandSeat) (draft : Draft) (answer : Result Posted (PostError × Draft)) → StaysAt old here → IsAnswered (put_of old) (put_of here) draft answer → IsPosted old here draft answer
 is_answered old here draft (Ok posted) stays put = (put_of old, old.entry.at.enters, inl (stays, refl, refl), put)
-is_answered old here draft (Err refused) stays put = (put_of old, old.entry.at.enters, inl (stays, refl, refl), put.0, put.1, subst (λ (e : PostError). IsSeen here old.entry.at.enters e) (sym put.2) tt)
+is_answered old here draft (Err refused) stays put = (put_of old, old.entry.at.enters, inl (stays, refl, refl), subst (PutsNothing (put_of old) (put_of here)) (sym put.2) put.0, put.1, subst (λ (e : PostError). IsSeen here old.entry.at.enters e) (sym put.2) tt)
 
 -- inside its gate the line stays where it stands
 pub is_put : (old : StandSeat) (name : Key) (rung : Done) (gates : List (Option (EntrySeat LineSeat))) (inside : InsideSeat LineSeat) (entry : Option (EntrySeat LineSeat)) (draft : Draft) (answer : Result Posted (PostError × Draft)) → name ≡ old.name → gates ≡ old.left → old.entry.at.home ≡ Some inside.right → inside.gate ≡ old.entry.gate → IsPutInside inside entry draft answer → IsPosted old (record { name = name; entry = entry_in entry; rung = rung; left = gates }) draft answer
@@ -173,11 +179,11 @@ module _ (old here : StandSeat) (draft kept : Draft) (found : Refusal) (tried : 
         put_of old,
         old.entry.at.enters,
         inl (subst (λ (s : StandSeat). StaysAt old s) (sym ended.0) tried.0, refl, refl),
-        ap put_of ended.0 ∙ tried.1,
+        subst (PutsNothing (put_of old) (put_of new)) (sym ended.1) (nothing_put found (put_of old) (put_of new) (ap put_of ended.0 ∙ tried.1)),
         back ∙ tried.2,
         subst (λ (e : PostError). IsSeen new old.entry.at.enters e) (sym ended.1) (subst (λ (s : StandSeat). IsSeen s old.entry.at.enters (error_of found)) (sym ended.0) (is_seen found tried.3)),
       ))
-      (λ far. (put_of new, 0, inr (goes_from new far.0.goes, far.0.named, far.0.unused, refl), refl, back ∙ tried.2, far.1))
+      (λ far. (far.0, 0, inr (goes_from new far.1.goes, far.1.named, far.1.unused, refl), far.2, back ∙ tried.2, far.3))
       onward
 
   -- and what its bell had done before is nothing

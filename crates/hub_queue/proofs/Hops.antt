@@ -24,7 +24,7 @@ use Rattle.hub_queue.specs.Yards.{Yard, hops_between, without_next, IsStandOf, G
 
 -- The yard: what is left of it after so many hops
 
-other_key : (a b : Key) → a ≢ b → (same : Bool) → eq_by_cmp key_cmp a b ≡ same → same ≡ false
+pub other_key : (a b : Key) → a ≢ b → (same : Bool) → eq_by_cmp key_cmp a b ≡ same → same ≡ false
 other_key a b apart true is = absurd (apart (tells_apart exact_keys a b is))
 other_key a b apart false is = refl
 

@@ -8,6 +8,8 @@ pub mod Lending
 pub mod NewPlaces
 pub mod Rights
 pub mod Rule
+pub mod NextNames
 pub mod Seating
 pub mod Sweeps
+pub mod SweptOut
 pub mod Together

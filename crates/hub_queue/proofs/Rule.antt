@@ -18,7 +18,7 @@ use Rattle.hub_queue.specs.declared.pass_view.TakeView.{TakeView}
 use Rattle.hub_queue.specs.declared.pass_view.PassView.{PassView}
 use Rattle.hub_queue.specs.declared.pass_view.PassView.TheVariants.{Takes, Puts, Both, Spent}
 use Rattle.hub_queue.specs.SharedQueue.{SharedQueue, IsPutter, IsTakenIn, IsTaker, Knows, ShowsQueue, first_view}
-use Rattle.hub_queue.specs.PassSteps.{put_more, got_more, cut_more, next_put, known_more, after_put, after_take, taker_left, line_cut, taken_in, TellsOf, IsPopped, ShowsHeld, AccountsFor, Learnt}
+use Rattle.hub_queue.specs.PassSteps.{put_more, refused_more, refusal_counted, no_more, got_more, cut_more, next_put, known_more, after_put, after_take, taker_left, line_cut, taken_in, TellsOf, IsPopped, ShowsHeld, AccountsFor, Learnt}
 
 -- what a step of other passes leaves
 pub record Spares (q q' : SharedQueue) (Other : ℕ → Type 0) : Type 0 where
@@ -387,6 +387,23 @@ module _ (id : ℕ) (t : TakeView) (other : ℕ) (v : PutView) (items : List Env
 
 pub takes_in : (id : ℕ) (t : TakeView) (other : ℕ) (v : PutView) → Merges ShowsQueue id (Takes t) other (Puts v) (Takes (known_more t v)) Spent
 takes_in id t other v items views h at two there = (in_now id t other v items views h at two there)
+
+-- the pass of a line counts a push that was refused, by which nothing else changes
+counts_refusal : (id : ℕ) (v : PutView) → Forks ShowsQueue id (Puts v) (Puts (refused_more v)) Spent
+counts_refusal id v items views h at =
+    let mine = h.knows id (Puts v) at in
+    let now : IsPutter h.shared id (refused_more v) = record { within = mine.within; stands = mine.stands; end = mine.end; epoch = mine.epoch; put = mine.put } in
+    record {
+      shared = h.shared;
+      is_queue = h.is_queue;
+      held = h.held;
+      unused = h.unused;
+      few = h.few;
+      knows = know_snoc h.shared (set views id (Puts (refused_more v))) Spent (know_set h.shared views id (Puts (refused_more v)) now (λ j u other there. h.knows j u there)) tt;
+    }
+
+pub counts_refusal_at : (id : ℕ) (w : PassView) (v : PutView) → w ≡ Puts v → Forks ShowsQueue id w (refusal_counted w) (no_more w)
+counts_refusal_at id w v is = subst (λ (z : PassView). Forks ShowsQueue id z (refusal_counted z) (no_more z)) (sym is) (counts_refusal id v)
 
 -- the steps of a pass whose view is given by an equation
 pub puts_at : (n id : ℕ) (w : PassView) (v : PutView) (x : Envelope) → w ≡ Puts v → x.end.0 ≡ v.end → x.epoch ≡ v.epoch → x.line.0 ≡ v.line → x.number ≡ length v.put → length v.put < MAX_PUT → Pushes ShowsQueue n id w x (λ u. u ≡ after_put w x)

@@ -74,7 +74,7 @@ stand_holds gate web end epoch line entry rung left few quiet is = subst (λ (x 
     line = refl;
     moves = few;
   },
-  record { put = refl; enters = refl; quiet = quiet },
+  record { put = record { put = refl; refused = refl }; enters = refl; quiet = quiet },
 )
 
 -- the queue is new

@@ -1,11 +1,13 @@
 -- What an adoption comes to.
-use Rattle.std.specs.Prelude.{◌≡◌, ◌≢◌, ℕ, ◌+◌, List, [], ◌∷◌, ◌++◌, length, Result, Ok, Err}
+use Rattle.std.specs.Prelude.{◌≡◌, ◌≢◌, ℕ, ◌+◌, ◌<◌, IsSome, List, [], ◌∷◌, ◌++◌, length, Result, Ok, Err}
 use Rattle.hub_envelope.specs.declared.limits.TheConstants.{MAX_MOVES}
 use Rattle.hub_queue.specs.declared.adopt_error.AdoptError.{AdoptError}
 use Rattle.hub_queue.specs.declared.adopt_error.AdoptError.TheVariants.{TooManyMoves, Taken, OutOfMemory}
 use Rattle.std.specs.FinMap as map
+use Rattle.hub_depot.specs.declared.key.Key.{Key}
 use Rattle.hub_depot.specs.Key.{key_cmp}
 use Rattle.hub_depot.specs.Putting.{with_all}
+use Rattle.hub_envelope.specs.declared.ids.EndId.{EndId}
 use Rattle.hub_queue.specs.Mailboxes.{stands_at, IsNewPlace}
 use Rattle.hub_queue.specs.Places.{PlaceSeat}
 use Rattle.hub_queue.specs.Standing.{StandSeat}
@@ -43,6 +45,18 @@ newest_stands t = stands_at t.newest.keeper.gate t.newest.queue (record { 0 = t.
 -- the map with a stand more for each line of the newest queue
 abbrev pub with_onwards : TakerSeat → map.FinMap key_cmp StandSeat → map.FinMap key_cmp StandSeat
 with_onwards t kept = with_all (λ s. s.name) kept (newest_stands t)
+
+-- the name of a line at the queue of this epoch
+abbrev pub name_at : EndId → ℕ → ℕ → Key
+name_at end epoch line = record { end = end; epoch = epoch; line = record { 0 = line } }
+
+-- the yard keeps a stand under the name of one of so many lines at the queue of this epoch
+abbrev pub KeepsName : EndId → ℕ → ℕ → map.FinMap key_cmp StandSeat → Type 0
+KeepsName end epoch lines kept = (line : ℕ) × (line < lines) × IsSome (map.get kept (name_at end epoch line))
+
+-- the yard keeps a stand under a name of the queue that an adoption would add
+abbrev pub KeepsNext : TakerSeat → map.FinMap key_cmp StandSeat → Type 0
+KeepsNext t kept = KeepsName (record { 0 = t.end }) (newest_epoch t + 1) t.newest.at.lines kept
 
 -- Ok: the end has moved, and was not adopted as often as it may be. Err: the taker is as it was.
 abbrev pub IsAdopted : TakerSeat → Result TakerSeat (AdoptError × TakerSeat) → Type 0

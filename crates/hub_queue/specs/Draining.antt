@@ -1,11 +1,13 @@
 -- What taking all of an end comes to.
-use Rattle.std.specs.Prelude.{◌≡◌, ℕ, ◌+◌, ◌<◌, List, [], ◌∷◌, ◌++◌, map, length, Option, Some, None, slice_get}
+use Rattle.std.specs.Prelude.{◌≡◌, ℕ, ◌+◌, ◌<◌, List, [], ◌∷◌, ◌++◌, map, length, Option, Some, None, slice_get, Result, Ok, Err}
 use Rattle.std.specs.List.{AllByRecursion}
+use Rattle.std.specs.declared.alloc.AllocError.{AllocError}
 use Rattle.hub_envelope.specs.declared.envelope.Envelope.{Envelope}
 use Rattle.hub_core.specs.Sender.{by, Prefix}
 use Rattle.hub_queue.specs.declared.pass_view.PutView.{PutView}
 use Rattle.hub_queue.specs.declared.draining.Rest.{Rest}
 use Rattle.hub_queue.specs.declared.draining.Rest.TheVariants.{Empty, Busy, Disabled}
+use Rattle.hub_queue.specs.Counting.{Count}
 use Rattle.hub_queue.specs.Laws.{NothingAhead, got_from, joined}
 use Rattle.hub_queue.specs.Places.{PlaceSeat}
 use Rattle.hub_queue.specs.Sweeping.{TakesOfEach}
@@ -35,6 +37,18 @@ abbrev pub IsAtRest : TakerSeat → Rest → Type 0
 IsAtRest t Empty = IsEnabled t.newest × (t.retired ≡ [])
 IsAtRest t Busy = IsEnabled t.newest × (0 < (first_place t).keeper.at.retires) × (0 < (first_place t).keeper.at.found)
 IsAtRest t Disabled = t.newest.keeper.at.enables ≡ 0
+
+-- how many pops that found none end a drain which is answered so: one, unless it found the end disabled or there was no memory
+abbrev pub last_none : Result Rest AllocError → ℕ
+last_none (Ok Empty) = 1
+last_none (Ok Busy) = 1
+last_none (Ok Disabled) = 0
+last_none (Err failed) = 0
+
+-- The pops of a drain. One gave each envelope, one found none at each queue that was left, and one found none at its end.
+pub record CountsDrain (before after : Count) (was now : DrainedSeat) (answer : Result Rest AllocError) : Type 0 where
+  pub none : after.none + length was.left ≡ before.none + length now.left + last_none answer
+  pub pops : after.pops + length was.left + length was.envelopes ≡ before.pops + length now.left + length now.envelopes + last_none answer
 
 abbrev pub put_known : Option PutView → List Envelope
 put_known (Some k) = k.put

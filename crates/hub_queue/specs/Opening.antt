@@ -13,7 +13,7 @@ MayCut end epoch t = (t.lines ≡ 0) ⊎ ((t.end ≡ end) × (t.epoch ≡ epoch)
 
 -- the right of a line that has put nothing
 abbrev pub new_right : WebId → ℕ → ℕ → ℕ → LineSeat
-new_right web end epoch line = record { queue = web; at = record { end = end; epoch = epoch; line = line; put = [] } }
+new_right web end epoch line = record { queue = web; at = record { end = end; epoch = epoch; line = line; put = []; refused = 0 } }
 
 -- the rights of the first lines of a queue in which nothing was put
 abbrev pub new_rights : WebId → ℕ → ℕ → ℕ → List LineSeat

@@ -11,7 +11,11 @@ use Rattle.hub_envelope.specs.declared.limits.TheConstants.{MAX_PUT}
 
 -- the line has put one envelope more
 abbrev pub put_more : PutView → Envelope → PutView
-put_more v x = record { end = v.end; epoch = v.epoch; line = v.line; put = v.put ++ x ∷ [] }
+put_more v x = record { end = v.end; epoch = v.epoch; line = v.line; put = v.put ++ x ∷ []; refused = v.refused }
+
+-- the queue has refused one push more of the line
+abbrev pub refused_more : PutView → PutView
+refused_more v = record { end = v.end; epoch = v.epoch; line = v.line; put = v.put; refused = v.refused + 1 }
 
 -- one envelope more was taken
 abbrev pub got_more : TakeView → Envelope → TakeView
@@ -23,7 +27,7 @@ cut_more end epoch t = record { end = end; epoch = epoch; lines = t.lines + 1; g
 
 -- the view of the line that gets a pass next: it has put nothing
 abbrev pub next_put : ℕ → ℕ → TakeView → PutView
-next_put end epoch t = record { end = end; epoch = epoch; line = t.lines; put = [] }
+next_put end epoch t = record { end = end; epoch = epoch; line = t.lines; put = []; refused = 0 }
 
 -- the pass of one line more was taken in for good
 abbrev pub known_more : TakeView → PutView → TakeView
@@ -75,6 +79,16 @@ taken_in (Takes t) Spent = Takes t
 taken_in (Puts v) w = Puts v
 taken_in (Both t v) w = Both t v
 taken_in Spent w = Spent
+
+-- the pass of a line counts a push that was refused
+abbrev pub refusal_counted : PassView → PassView
+refusal_counted (Puts v) = Puts (refused_more v)
+refusal_counted (Takes t) = Takes t
+refusal_counted (Both t v) = Both t v
+refusal_counted Spent = Spent
+
+abbrev pub no_more : PassView → PassView
+no_more v = Spent
 
 -- the pass of a line hands all that it may do to a new pass
 abbrev pub lent_left : PassView → PassView

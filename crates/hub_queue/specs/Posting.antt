@@ -9,10 +9,10 @@ use Rattle.hub_queue.specs.declared.pass_view.PutView.{PutView}
 use Rattle.hub_queue.specs.declared.posted.Posted.{Posted}
 use Rattle.hub_queue.specs.declared.post_error.PostError.{PostError}
 use Rattle.hub_queue.specs.declared.post_error.PostError.TheVariants.{Closed, Moving, OutOfMemory}
-use Rattle.hub_queue.specs.Putting.{IsPut}
+use Rattle.hub_queue.specs.Putting.{IsPut, HadNoRoom}
 use Rattle.hub_gate.specs.GateSeats.{EntrySeat}
 use Rattle.hub_queue.specs.Seats.{LineSeat, IsNameOf}
-use Rattle.hub_queue.specs.Standing.{StandSeat, right_in, right_of, put_of}
+use Rattle.hub_queue.specs.Standing.{StandSeat, HasNotPushed, right_in, right_of, put_of}
 
 -- the line stands where it stood: at the same queue, with its entry at the same gate, and it has left no other
 pub record StaysAt (old new : StandSeat) : Type 0 where
@@ -29,9 +29,9 @@ name_after name hops = record { end = name.end; epoch = name.epoch + hops; line 
 abbrev pub HasLeft : StandSeat → Option (EntrySeat LineSeat) → Type 0
 HasLeft old left = (e : EntrySeat LineSeat) × (left ≡ Some e) × (e.gate ≡ old.entry.gate) × (right_in e.at.home ≡ right_of old)
 
--- the entry is that of the line at a later queue, of this name, where it has put nothing
+-- the entry is that of the line at a later queue, of this name, where it has not pushed
 abbrev pub HasPassed : Key → Option (EntrySeat LineSeat) → Type 0
-HasPassed name left = (e : EntrySeat LineSeat) × (left ≡ Some e) × IsNameOf (right_in e.at.home).at name × ((right_in e.at.home).at.put ≡ [])
+HasPassed name left = (e : EntrySeat LineSeat) × (left ≡ Some e) × IsNameOf (right_in e.at.home).at name × HasNotPushed (right_in e.at.home).at
 
 -- The gates that the line has left in so many hops of one epoch each, the last one first: behind them all is that where it stood.
 abbrev pub LeavesBehind : StandSeat → ℕ → List (Option (EntrySeat LineSeat)) → Type 0
@@ -52,7 +52,7 @@ pub record GoesTo (old new : StandSeat) : Type 0 where
 abbrev pub StoodAs : StandSeat → StandSeat → PutView → ℕ → Type 0
 StoodAs old new before entered =
     (StaysAt old new × (before ≡ put_of old) × (entered ≡ old.entry.at.enters))
-    ⊎ (GoesTo old new × IsNameOf before new.name × (before.put ≡ []) × (entered ≡ 0))
+    ⊎ (GoesTo old new × IsNameOf before new.name × HasNotPushed before × (entered ≡ 0))
 
 -- The line was turned in this call, by a word in which it has seen this flag.
 pub record HasSeen (s : StandSeat) (entered : ℕ) (flag : Refusal) : Type 0 where
@@ -65,7 +65,13 @@ IsSeen s entered Closed = HasSeen s entered refusal.Closed
 IsSeen s entered Moving = HasSeen s entered refusal.Moved
 IsSeen s entered OutOfMemory = Unit {0}
 
+-- The line has put nothing. It has not pushed, but where there was no memory: there the queue has refused one push more, or the line has put as many envelopes as it may.
+abbrev pub PutsNothing : PutView → PutView → PostError → Type 0
+PutsNothing before now Closed = now ≡ before
+PutsNothing before now Moving = now ≡ before
+PutsNothing before now OutOfMemory = HadNoRoom before now
+
 -- Ok: what the line has put in the queue named by the answer is what it had put there, followed by the draft under that name. Err: it has put nothing more, and the draft comes back. Nowhere else has it put anything.
 abbrev pub IsPosted : StandSeat → StandSeat → Draft → Result Posted (PostError × Draft) → Type 0
 IsPosted old new draft (Ok posted) = (before : PutView) × (entered : ℕ) × StoodAs old new before entered × IsPut before (put_of new) draft (Ok posted)
-IsPosted old new draft (Err refused) = (before : PutView) × (entered : ℕ) × StoodAs old new before entered × (put_of new ≡ before) × (refused.1 ≡ draft) × IsSeen new entered refused.0
+IsPosted old new draft (Err refused) = (before : PutView) × (entered : ℕ) × StoodAs old new before entered × PutsNothing before (put_of new) refused.0 × (refused.1 ≡ draft) × IsSeen new entered refused.0

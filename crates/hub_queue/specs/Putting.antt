@@ -1,10 +1,11 @@
 -- What becomes of a draft that the pass of a line puts.
-use Rattle.std.specs.Prelude.{◌≡◌, length, Result, Ok, Err}
+use Rattle.std.specs.Prelude.{◌≡◌, ◌⊎◌, ◌≤◌, length, Result, Ok, Err}
 use Rattle.hub_envelope.specs.declared.envelope.Draft.{Draft}
 use Rattle.hub_envelope.specs.declared.envelope.Envelope.{Envelope}
+use Rattle.hub_envelope.specs.declared.limits.TheConstants.{MAX_PUT}
 use Rattle.hub_queue.specs.declared.pass_view.PutView.{PutView}
 use Rattle.hub_queue.specs.declared.posted.Posted.{Posted}
-use Rattle.hub_queue.specs.PassSteps.{put_more}
+use Rattle.hub_queue.specs.PassSteps.{put_more, refused_more}
 
 -- the name of the next envelope of a line: the end, the epoch and the line of its queue, and as number how many the line has put there
 abbrev pub next_name : PutView → Posted
@@ -18,7 +19,11 @@ named p d = record { end = p.end; epoch = p.epoch; line = p.line; number = p.num
 abbrev pub unnamed : Envelope → Draft
 unnamed v = record { agent = v.agent; body = v.body; ports = v.ports; notice = v.notice }
 
--- Ok: what the line has put is followed by the draft under its name. Err: what it has put is as before, and the draft comes back.
+-- The line has put nothing: the queue has refused one push more, or the line has put as many envelopes there as it may.
+abbrev pub HadNoRoom : PutView → PutView → Type 0
+HadNoRoom old new = (new ≡ refused_more old) ⊎ ((new ≡ old) × (MAX_PUT ≤ length old.put))
+
+-- Ok: what the line has put is followed by the draft under its name. Err: the line has put nothing, and the draft comes back.
 abbrev pub IsPut : PutView → PutView → Draft → Result Posted Draft → Type 0
 IsPut old new draft (Ok posted) = (posted ≡ next_name old) × (new ≡ put_more old (named posted draft))
-IsPut old new draft (Err back) = (back ≡ draft) × (new ≡ old)
+IsPut old new draft (Err back) = (back ≡ draft) × HadNoRoom old new

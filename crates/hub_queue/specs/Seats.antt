@@ -21,7 +21,7 @@ known_by pass = pass.me.view.client
 -- what the pass of a line knows
 abbrev pub put_in : PassView → PutView
 put_in (Puts v) = v
-put_in _ = record { end = 0; epoch = 0; line = 0; put = [] }
+put_in _ = record { end = 0; epoch = 0; line = 0; put = []; refused = 0 }
 
 -- what the taker's pass knows
 abbrev pub take_in : PassView → TakeView

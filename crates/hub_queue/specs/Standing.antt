@@ -22,7 +22,7 @@ none_left = replicate MAX_HOPS None
 -- the right of an entry that is out, which is at home
 abbrev pub right_in : Option LineSeat → LineSeat
 right_in (Some r) = r
-right_in None = record { queue = (0, 0); at = record { end = 0; epoch = 0; line = 0; put = [] } }
+right_in None = record { queue = (0, 0); at = record { end = 0; epoch = 0; line = 0; put = []; refused = 0 } }
 
 abbrev pub right_of : StandSeat → LineSeat
 right_of s = right_in s.entry.at.home
@@ -38,9 +38,14 @@ pub record IsStand (s : StandSeat) : Type 0 where
   pub line : s.entry.at.line ≡ s.name.line.0
   pub moves : s.name.epoch ≤ MAX_MOVES
 
--- the line has put nothing there, has never entered, and has never rung
+-- the line has put nothing there, and no push of it was refused
+pub record HasNotPushed (v : PutView) : Type 0 where
+  pub put : v.put ≡ []
+  pub refused : v.refused ≡ 0
+
+-- the line has not pushed there, has never entered, and has never rung
 pub record IsUnused (s : StandSeat) : Type 0 where
-  pub put : (put_of s).put ≡ []
+  pub put : HasNotPushed (put_of s)
   pub enters : s.entry.at.enters ≡ 0
   pub quiet : s.rung ≡ silent
 

@@ -6,7 +6,7 @@ use Rattle.hub_queue.specs.declared.grave.Sweep.{Sweep}
 use Rattle.hub_queue.specs.declared.grave.Sweep.TheVariants.{Discarded, StillInside, NoRoom}
 use Rattle.hub_queue.specs.declared.settling.Stop.{Stop}
 use Rattle.hub_queue.specs.declared.settling.Stop.TheVariants as stop
-use Rattle.hub_queue.specs.Graves.{GraveSeat}
+use Rattle.hub_queue.specs.Graves.{GraveSeat, SweptSeat}
 use Rattle.hub_queue.specs.Places.{PlaceSeat, TakesMore, IsHeldUp, IsSettled}
 
 -- the same queues, one for one; what was taken more of each, joined in their order, is this
@@ -33,3 +33,25 @@ abbrev pub IsSwept : GraveSeat → Sweep → Type 0
 IsSwept g (Discarded s) = (s.end ≡ g.end) × AreSwept g.places s.places g.envelopes s.envelopes (Ok tt)
 IsSwept g (StillInside h) = (h.end ≡ g.end) × (h.epoch ≡ g.epoch) × AreSwept g.places h.places g.envelopes h.envelopes (Err stop.StillInside)
 IsSwept g (NoRoom h) = (h.end ≡ g.end) × (h.epoch ≡ g.epoch) × AreSwept g.places h.places g.envelopes h.envelopes (Err stop.NoRoom)
+
+-- the same queues, one for one, of each of which more may have been taken
+abbrev pub AreSameQueues : List PlaceSeat → List PlaceSeat → Type 0
+AreSameQueues [] [] = Unit {0}
+AreSameQueues [] (q ∷ qs) = ⊥
+AreSameQueues (p ∷ ps) [] = ⊥
+AreSameQueues (p ∷ ps) (q ∷ qs) = ((more : List Envelope) × TakesMore p q more) × AreSameQueues ps qs
+
+-- The grave after some sweeps, which did not empty it: the same end and queues, and what was collected before comes first.
+pub record IsSweptSoFar (g h : GraveSeat) : Type 0 where
+  pub end : h.end ≡ g.end
+  pub epoch : h.epoch ≡ g.epoch
+  pub places : AreSameQueues g.places h.places
+  pub more : List Envelope
+  pub envelopes : h.envelopes ≡ g.envelopes ++ more
+
+-- What is left of the grave after some sweeps, of which the last has emptied it.
+pub record IsSweptOut (g : GraveSeat) (s : SweptSeat) : Type 0 where
+  pub end : s.end ≡ g.end
+  pub places : AreSameQueues g.places s.places
+  pub more : List Envelope
+  pub envelopes : s.envelopes ≡ g.envelopes ++ more

@@ -11,15 +11,15 @@ use Rattle.hub_queue.specs.declared.posting.Tried.TheVariants.{Answered, Turned}
 use Rattle.hub_queue.specs.declared.post_error.PostError.{PostError}
 use Rattle.hub_queue.specs.declared.post_error.PostError.TheVariants.{Closed, Moving, OutOfMemory}
 use Rattle.hub_queue.specs.declared.pass_view.PutView.{PutView}
-use Rattle.hub_queue.specs.Posting.{StaysAt, GoesTo, HasSeen, IsSeen}
-use Rattle.hub_queue.specs.Putting.{IsPut}
+use Rattle.hub_queue.specs.Posting.{StaysAt, GoesTo, HasSeen, IsSeen, PutsNothing}
+use Rattle.hub_queue.specs.Putting.{IsPut, HadNoRoom}
 use Rattle.hub_queue.specs.Seats.{LineSeat, IsNameOf}
-use Rattle.hub_queue.specs.Standing.{StandSeat, put_of}
+use Rattle.hub_queue.specs.Standing.{StandSeat, HasNotPushed, put_of}
 
 -- the draft was put, or there was no memory for it
 abbrev pub IsAnswered : PutView → PutView → Draft → Result Posted (PostError × Draft) → Type 0
 IsAnswered old new draft (Ok posted) = IsPut old new draft (Ok posted)
-IsAnswered old new draft (Err refused) = (new ≡ old) × (refused.1 ≡ draft) × (refused.0 ≡ OutOfMemory)
+IsAnswered old new draft (Err refused) = HadNoRoom old new × (refused.1 ≡ draft) × (refused.0 ≡ OutOfMemory)
 
 -- the line has left with the right that it had inside, by which the draft was put or not
 abbrev pub IsPutInside : InsideSeat LineSeat → Option (EntrySeat LineSeat) → Draft → Result Posted (PostError × Draft) → Type 0
@@ -34,11 +34,11 @@ IsTried old new draft (Turned found back) = StaysAt old new × (put_of new ≡ p
 abbrev pub gone_to : StandSeat → StandSeat → StandSeat
 gone_to old next = record { name = next.name; entry = next.entry; rung = next.rung; left = Some old.entry ∷ take 3 old.left }
 
--- the line has gone on to a later queue of its end, in which it had put this, which is nothing
+-- the line has gone on to a later queue of its end, where it had not pushed
 pub record GoesToUnused (old new : StandSeat) (before : PutView) : Type 0 where
   pub goes : GoesTo old new
   pub named : IsNameOf before new.name
-  pub unused : before.put ≡ []
+  pub unused : HasNotPushed before
 
 -- the error where a line goes on no further
 abbrev pub error_of : Refusal → PostError
@@ -48,4 +48,4 @@ error_of refusal.Closed = Closed
 -- A line that was turned goes on. Ok: at a later queue, where the draft is all that it has put. Err: the draft comes back, and the line stands where it was turned, or at a later queue where it has put nothing.
 abbrev pub IsPostedOnward : StandSeat → StandSeat → Refusal → Draft → Result Posted (PostError × Draft) → Type 0
 IsPostedOnward turned new found draft (Ok posted) = (before : PutView) × GoesToUnused turned new before × IsPut before (put_of new) draft (Ok posted)
-IsPostedOnward turned new found draft (Err refused) = (refused.1 ≡ draft) × (((new ≡ turned) × (refused.0 ≡ error_of found)) ⊎ (GoesToUnused turned new (put_of new) × IsSeen new 0 refused.0))
+IsPostedOnward turned new found draft (Err refused) = (refused.1 ≡ draft) × (((new ≡ turned) × (refused.0 ≡ error_of found)) ⊎ ((before : PutView) × GoesToUnused turned new before × PutsNothing before (put_of new) refused.0 × IsSeen new 0 refused.0))

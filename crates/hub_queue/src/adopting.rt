@@ -1,9 +1,9 @@
 //! The next queue of an end, with the onward posters that lead there.
-ghost use Rattle.std.specs.Prelude.{◌≡◌, ◌<◌, ◌≤◌, IfOk, IfErr, OnErr};
+ghost use Rattle.std.specs.Prelude.{◌≡◌, ◌<◌, ◌≤◌, IfOk, IfErr, IfSome, OnOk, OnErr, IsErrOf};
 ghost use Rattle.std.specs.Option.{option_map};
 ghost use Rattle.hub_envelope.specs.declared.limits.TheConstants.{MAX_LINES, MAX_MOVES};
 ghost use Rattle.hub_depot.specs.Putting.{with_all};
-ghost use Rattle.hub_queue.specs.Adopting.{IsRefused};
+ghost use Rattle.hub_queue.specs.Adopting.{IsRefused, KeepsName};
 ghost use Rattle.hub_queue.specs.Mailboxes.{IsNewPlace, stands_at};
 ghost use Rattle.hub_queue.specs.Opening.{IsOpenPlace};
 
@@ -77,7 +77,11 @@ pub(crate) fn open_next<S: Shelf<Onward>, R: Wait>(
     ensures laid { IfOk result (λ place. S.shown yard.new ≡ option_map (λ kept.
         with_all ⟦<Onward as Named>⟧.name kept
         (stands_at place.keeper.gate place.queue end epoch lines)) (S.shown yard.old)) }
+    ensures free { OnOk result (IfSome (S.shown yard.old) (λ kept.
+        ¬ KeepsName end epoch lines kept)) }
     ensures err { IfErr result IsRefused }
+    ensures taken { IsErrOf result AdoptError.Taken
+        → IfSome (S.shown yard.old) (KeepsName end epoch lines) }
     ensures kept { OnErr result (S.shown yard.new ≡ S.shown yard.old) }
 {
     let Ok((place, entries)) = open_place(alloc, end, epoch, lines) else {

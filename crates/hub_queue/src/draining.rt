@@ -1,6 +1,6 @@
 ghost use Rattle.std.specs.Prelude.{◌≡◌, IfOk};
 ghost use Rattle.std.specs.List.{AllByRecursion};
-ghost use Rattle.hub_queue.specs.Draining.{IsAtRest, IsDrained, IsPrefixOfChain};
+ghost use Rattle.hub_queue.specs.Draining.{CountsDrain, IsAtRest, IsDrained, IsPrefixOfChain};
 ghost use Rattle.hub_queue.specs.Places.{IsSettled};
 
 use crate::left_queue::LeftQueue;
@@ -79,6 +79,9 @@ fn take_all<L: Ledger, R: Wait>(
     ensures settled { AllByRecursion IsSettled left.old.items
         → AllByRecursion IsSettled left.new.items }
     ensures rest { IfOk result (IsAtRest taker.new) }
+    ensures counted { CountsDrain steps.old steps.new
+        (record { envelopes = envelopes.old.items; left = left.old.items })
+        (record { envelopes = envelopes.new.items; left = left.new.items }) result }
 {
     for _ in rt.forever() {
         envelopes.reserve(1)?;
@@ -98,6 +101,9 @@ fn take_all<L: Ledger, R: Wait>(
 impl Taker {
     /// Takes all that is there, queue after queue, and adds it to what was drained. After an error,
     /// which is want of memory, what was taken is there too, and the next call goes on.
+    ///
+    /// `Empty` and `Busy` come only by a pop of this call that found none. The last parameter
+    /// counts the pops.
     pub fn drain<L: Ledger, R: Wait>(
         &mut self,
         rt: &R,
@@ -106,6 +112,7 @@ impl Taker {
     ) -> Result<Rest, AllocError>
         ensures taken { IsDrained self.old self.new drained.old drained.new }
         ensures rest { IfOk result (IsAtRest self.new) }
+        ensures counted { CountsDrain steps.old steps.new drained.old drained.new result }
         ensures chain { IsPrefixOfChain drained.new.left self.new }
     {
         take_all(rt, self, &mut drained.envelopes, &mut drained.left, steps)

@@ -10,6 +10,7 @@ use hub_envelope::{EndId, Envelope};
 use std::collections::VecDeque;
 use std::marker::Model;
 use std::sync::Wait;
+use std::thread;
 
 /// A closed end: its queues from the taker's on, and the envelopes that were collected from them.
 #[derive(Drop)]
@@ -72,7 +73,8 @@ fn empty_all<R: Wait>(
 }
 
 impl Grave {
-    ghost use Rattle.hub_queue.specs.Sweeping.{IsSwept};
+    ghost use Rattle.std.specs.Prelude.{IfOk, IfErr};
+    ghost use Rattle.hub_queue.specs.Sweeping.{IsSwept, IsSweptOut, IsSweptSoFar};
 
     /// The end that was closed.
     pub fn end(&self) -> EndId
@@ -121,5 +123,25 @@ impl Grave {
                 envelopes,
             }),
         }
+    }
+
+    /// Sweeps the closed end again and again while somebody is inside, and yields in between. Where
+    /// there was no memory for what is left, the grave comes back with what was collected.
+    pub fn sweep_out<R: Wait>(self, rt: &R) -> Result<Swept, Grave>
+        ensures ok { IfOk result (IsSweptOut self) }
+        ensures err { IfErr result (IsSweptSoFar self) }
+    {
+        let mut grave = self;
+        for _ in rt.forever() {
+            match grave.sweep(rt) {
+                Sweep::Discarded(swept) => return Ok(swept),
+                Sweep::StillInside(back) => {
+                    grave = back;
+                    thread::yield_now();
+                }
+                Sweep::NoRoom(back) => return Err(back),
+            }
+        }
+        unreachable!()
     }
 }

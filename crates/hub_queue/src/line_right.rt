@@ -1,9 +1,13 @@
 ghost use Rattle.std.specs.Prelude.{◌≡◌};
+ghost use Rattle.crossbeam_queue.specs.SegSteps.{IsRefused};
+ghost use Rattle.crossbeam_queue.specs.SegTies.{IsSegPassOf};
+ghost use Rattle.hub_queue.specs.declared.pass_view.PassView.TheVariants.{Puts};
+ghost use Rattle.hub_queue.specs.PassSteps.{refused_more};
 ghost use Rattle.hub_queue.specs.Putting.{IsPut, unnamed};
-ghost use Rattle.hub_queue.specs.Seats.{IsNameOf};
+ghost use Rattle.hub_queue.specs.Seats.{IsNameOf, known_by, put_in};
 
 use crate::posted::Posted;
-use crate::queue_rule::Put;
+use crate::queue_rule::{CountRefusal, Put};
 use crate::store::{Pass, Store};
 use hub_depot::Key;
 use hub_envelope::{Draft, Envelope, MAX_PUT};
@@ -69,6 +73,19 @@ fn draft_of(envelope: Envelope) -> Draft
     }
 }
 
+// Counts a push that the queue has refused. Nothing else counts one. It isn't inlined, so that a
+// push that is accepted doesn't pay for it.
+#[inline(never)]
+fn count_refusal(store: &Store, pass: &mut Pass)
+    requires queue { IsSegPassOf store.now.queue pass.old }
+    requires line { known_by pass.old ≡ Puts (put_in (known_by pass.old)) }
+    requires refused { IsRefused pass.old.me.view }
+    ensures queue { IsSegPassOf store.now.queue pass.new }
+    ensures counted { known_by pass.new ≡ Puts (refused_more (put_in (known_by pass.old))) }
+{
+    store.queue.another::<CountRefusal>(pass);
+}
+
 impl LineRight {
     /// Puts the draft in the queue, under the next name of the line. `name` is the line's name at
     /// this queue. `Err`: there was no memory, or the line has put `MAX_PUT` envelopes there. The
@@ -108,7 +125,10 @@ impl LineRight {
                     number,
                 })
             }
-            Err(envelope) => Err(draft_of(envelope)),
+            Err(envelope) => {
+                count_refusal(&self.store, &mut self.pass);
+                Err(draft_of(envelope))
+            }
         }
     }
 }

@@ -2,12 +2,14 @@
 //! numbers have no bound, and an array is a list of any length.
 use hub_envelope::Envelope;
 
-/// What the pass of a line knows: the queue's end and epoch, the line, and what the line has put.
+/// What the pass of a line knows: the queue's end and epoch, the line, what the line has put, and
+/// how many of its pushes the queue has refused.
 pub struct PutView {
     pub end: u32,
     pub epoch: u32,
     pub line: u8,
     pub put: [Envelope; 0],
+    pub refused: u64,
 }
 
 /// What the taker's pass knows: the queue's end and epoch, how many lines have got a pass, what was

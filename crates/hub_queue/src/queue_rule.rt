@@ -81,6 +81,17 @@ impl Join<PassView> for TakeIn {
     ghost spent = { Spent };
 }
 
+/// The pass of a line counts a push that the queue has refused. The new pass may do nothing.
+pub struct CountRefusal;
+
+impl Split<PassView> for CountRefusal {
+    ghost use Rattle.hub_queue.specs.PassSteps.{no_more, refusal_counted};
+
+    ghost left = { refusal_counted };
+
+    ghost right = { no_more };
+}
+
 /// The pass of a line hands all that it may do to a new pass.
 pub struct Lend;
 

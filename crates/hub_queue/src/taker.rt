@@ -1,7 +1,7 @@
-ghost use Rattle.std.specs.Prelude.{◌≡◌, length, IfOk, OnErr};
+ghost use Rattle.std.specs.Prelude.{◌≡◌, length, IfOk, IfErr, IfSome, OnOk, OnErr};
 ghost use Rattle.std.specs.Option.{option_map};
 ghost use Rattle.std.specs.List.{AllByRecursion};
-ghost use Rattle.hub_queue.specs.Adopting.{IsAdopted, newest_epoch, with_onwards};
+ghost use Rattle.hub_queue.specs.Adopting.{IsAdopted, KeepsNext, newest_epoch, with_onwards};
 ghost use Rattle.hub_queue.specs.Ending.{IsClosed};
 ghost use Rattle.hub_queue.specs.Places.{IsShut};
 ghost use Rattle.hub_queue.specs.Taking.{IsTaken, IsTakenOldest, started};
@@ -161,7 +161,8 @@ impl Taker {
         self.adopt_on(rt, &mut yard, bell)
     }
 
-    /// The same, over any shelf as the yard.
+    /// The same, over any shelf as the yard. Of a shelf that shows what it keeps, `Taken` comes only
+    /// where it keeps a poster under a name of the new queue.
     pub fn adopt_on<S: Shelf<Onward>, R: Wait>(
         mut self,
         rt: &R,
@@ -171,6 +172,9 @@ impl Taker {
         ensures adopted { IsAdopted self result }
         ensures laid { IfOk result (λ taker. S.shown yard.new
             ≡ option_map (with_onwards taker) (S.shown yard.old)) }
+        ensures free { OnOk result (IfSome (S.shown yard.old) (λ kept. ¬ KeepsNext self kept)) }
+        ensures taken { IfErr result (λ refused. refused.0 ≡ AdoptError.Taken
+            → IfSome (S.shown yard.old) (KeepsNext self)) }
         ensures kept { OnErr result (S.shown yard.new ≡ S.shown yard.old) }
     {
         let moves = self.epoch + self.behind();

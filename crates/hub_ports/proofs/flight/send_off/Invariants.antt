@@ -1,10 +1,12 @@
-use Rattle.std.proofs.Common.{◌≡◌, ◌≤◌, take, vec_len, vec_capacity}
+use Rattle.std.proofs.Common.{◌≡◌, ◌≤◌, take, vec_len, vec_capacity, IfSome}
+use Rattle.hub_ports.specs.Flying.{HaveFlownBehind}
 use Rattle.hub_ports.proofs.flight.send_off.Given as goal
 
 abbrev pub invariant-loop-port : goal.invariant-loop-port
 invariant-loop-port g l = record {
   stayed : l.ports.items ≡ take (vec_len l.ports) l.fn.ports.items;
   room : vec_len l.fn.ports ≤ vec_capacity l.ports;
+  flown : IfSome (g.S.Shelf.shown l.initial.flight) (λ kept. HaveFlownBehind kept l.fn.ports.items l.ports.items (g.S.Shelf.shown l.flight));
 }
 
 abbrev pub decreases-loop-port : goal.decreases-loop-port

@@ -1,4 +1,4 @@
-use Rattle.std.proofs.Common.{◌≡◌, List, ◌++◌}
+use Rattle.std.proofs.Common.{◌≡◌, ◌+◌, List, ◌++◌, length}
 use Rattle.std.specs.List.{AllByRecursion}
 use Rattle.hub_envelope.specs.declared.envelope.Envelope.{Envelope}
 use Rattle.hub_queue.specs.Places.{PlaceSeat, IsSettled}
@@ -12,5 +12,7 @@ invariant-loop g l = record {
   left : l.left.items ≡ l.fn.left.items ++ queues;
   envelopes : l.envelopes.items ≡ l.fn.envelopes.items ++ taken;
   so_far : DrainedSoFar l.fn.taker l.taker queues taken;
+  none : l.steps.none + length l.fn.left.items ≡ l.fn.steps.none + length l.left.items;
+  pops : l.steps.pops + length l.fn.left.items + length l.fn.envelopes.items ≡ l.fn.steps.pops + length l.left.items + length l.envelopes.items;
   settled : AllByRecursion IsSettled l.fn.left.items → AllByRecursion IsSettled l.left.items;
 }

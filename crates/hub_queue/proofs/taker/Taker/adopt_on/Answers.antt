@@ -1,8 +1,10 @@
-use Rattle.std.proofs.Common.{◌≡◌, ◌+◌, ◌∙◌, ◌++◌, ◌∷◌, [], length, ap, sym, subst, arith, length-append}
+use Rattle.std.proofs.Common.{◌≡◌, ◌+◌, ◌∙◌, ◌++◌, ◌∷◌, [], length, ap, sym, subst, arith, length-append, Err}
 use Rattle.std.specs.Option.{option_map}
 use Rattle.hub_depot.specs.Putting.{with_all}
+use Rattle.hub_queue.specs.Adopting.{newest_epoch}
 use Rattle.hub_queue.specs.Mailboxes.{IsNewPlace, stands_at}
 use Rattle.hub_queue.proofs.Chains.{taker_moves}
+use Rattle.hub_queue.proofs.NextNames.{keeps_by, keeps_none_by}
 use Rattle.hub_queue.proofs.taker.Taker.adopt_on.Goals as goal
 
 pub invariant_of-self-in-Ok : goal.invariant_of-self-in-Ok
@@ -25,3 +27,19 @@ returns-in-Ok-clause-laid g c =
     let epoch : c.self.inside.epoch + c.behind.result + 1 ≡ c.self.inside.epoch + length c.push_back_reserved.new.self.items = omega arith in
     let lines : c.self.inside.lines ≡ c.replace-older.new.dest.at.lines = sym (ap (λ v. v.lines) c.in-Ok.ensures.ok.at) ∙ ap (λ p. p.at.lines) (sym place) in
     c.in-Ok.ensures.laid ∙ (λ i. option_map (λ kept. with_all (λ s. s.name) kept (stands_at (sym place i).keeper.gate (sym place i).queue c.self.inside.end (epoch i) (lines i))) (g.S.Shelf.shown c.args.yard.now))
+
+pub returns-in-Ok-clause-free : goal.returns-in-Ok-clause-free
+returns-in-Ok-clause-free g c =
+    let behind = c.behind.ensures ∙ ap (λ t. length t.retired) (sym c.self.view_is) in
+    let end = ap (λ t. record { 0 = t.end }) c.self.view_is in
+    let epoch : c.self.inside.epoch + c.behind.result + 1 ≡ newest_epoch c.args.self + 1 = ap (λ n. c.self.inside.epoch + n + 1) behind ∙ ap (λ t. newest_epoch t + 1) c.self.view_is in
+    let lines = sym c.self.invariant.lines_are ∙ ap (λ t. t.newest.at.lines) c.self.view_is in
+    keeps_none_by (g.S.Shelf.shown c.args.yard.now) _ _ _ _ _ _ end epoch lines c.in-Ok.ensures.free
+
+pub returns-clause-taken : goal.returns-clause-taken
+returns-clause-taken g c = λ taken.
+    let behind = c.behind.ensures ∙ ap (λ t. length t.retired) (sym c.self.view_is) in
+    let end = ap (λ t. record { 0 = t.end }) c.self.view_is in
+    let epoch : c.self.inside.epoch + c.behind.result + 1 ≡ newest_epoch c.args.self + 1 = ap (λ n. c.self.inside.epoch + n + 1) behind ∙ ap (λ t. newest_epoch t + 1) c.self.view_is in
+    let lines = sym c.self.invariant.lines_are ∙ ap (λ t. t.newest.at.lines) c.self.view_is in
+    keeps_by (g.S.Shelf.shown c.args.yard.now) _ _ _ _ _ _ end epoch lines (c.in-Err.ensures.taken (ap Err taken))

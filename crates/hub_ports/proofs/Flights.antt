@@ -1,0 +1,162 @@
+-- Ports are put in flight one after another, and come back in the other order.
+use Rattle.std.proofs.Common.{◌≡◌, ℕ, Vec, zero, suc, ◌+◌, ◌<◌, ◌≤◌, Bool, true, false, cond, List, [], ◌∷◌, ◌++◌, length, drop, get_or, refl, ap, ◌∙◌, sym, subst, append_assoc, append-nil, arith, option_map, Option, Some, None, IfSome, Err}
+use Rattle.std.specs.Prelude.{IsNone}
+use Rattle.std.specs.FinMap as map
+use Rattle.std.specs.FinMap.{get-insert}
+use Rattle.std.proofs.Math.ListN.{drop_of_length-le}
+use Rattle.std.proofs.Math.Seq.{drop-append_seam}
+use Rattle.std.proofs.lemmas.List.{drop_more, map-append}
+use Rattle.std.specs.declared.alloc.Global.{Global}
+use Rattle.std.specs.Cmp.{eq_by_cmp_equiv}
+use Rattle.hub_depot.specs.declared.key.Key.{Key}
+use Rattle.hub_depot.specs.Key.{key_cmp}
+use Rattle.hub_depot.proofs.Keys.{keys_total}
+use Rattle.hub_depot.proofs.ManyPut.{remove-insert}
+use Rattle.hub_envelope.specs.declared.ids.EndId.{EndId}
+use Rattle.hub_ports.specs.Arriving.{Flight}
+use Rattle.hub_ports.specs.declared.port_error.PortError.{PortError}
+use Rattle.hub_ports.specs.declared.send_refusal.SendRefusal.{SendRefusal}
+use Rattle.hub_ports.specs.declared.send_refusal.SendRefusal.TheVariants.{Closed, Moving, OutOfMemory, Taken}
+use Rattle.hub_ports.specs.Flying.{in_flight, AreFree, HaveFlown, HaveFlownBehind, GivesBack}
+use Rattle.hub_ports.specs.Refusing.{whole_error}
+use Rattle.hub_ports.specs.Seats.{PortSeat, end_of, ends_of, place_of}
+
+pub none_flown : (was : Option Flight) (ports : List PortSeat) → IfSome was (λ kept. HaveFlownBehind kept ports ports was)
+none_flown None ports = tt
+none_flown (Some kept) ports = ([], sym (append-nil ports), record { now_is = refl; free = tt })
+
+-- one port more was put in flight, the last of those that were in hand
+pub one_flown : (was now later : Option Flight) (all begin rest : List PortSeat) (p : PortSeat) → IfSome was (λ kept. HaveFlownBehind kept all begin now) → begin ≡ rest ++ p ∷ []
+    → later ≡ option_map (λ kept. map.insert kept (place_of (end_of p)) p) now → IfSome now (λ kept. IsNone (map.get kept (place_of (end_of p)))) → IfSome was (λ kept. HaveFlownBehind kept all rest later)
+one_flown None now later all begin rest p flown last put free = tt
+one_flown (Some kept) now later all begin rest p (sent, split, flown) last put free = (
+  p ∷ sent,
+  split ∙ ap (λ (l : List PortSeat). l ++ sent) last ∙ append_assoc rest (p ∷ []) sent,
+  record {
+    now_is = put ∙ ap (option_map (λ f. map.insert f (place_of (end_of p)) p)) flown.now_is;
+    free = (subst (λ (o : Option Flight). IfSome o (λ f. IsNone (map.get f (place_of (end_of p))))) flown.now_is free, flown.free);
+  },
+)
+
+-- what was refused is in hand again
+pub refused_flown : (was now later : Option Flight) (all begin back : List PortSeat) → IfSome was (λ kept. HaveFlownBehind kept all begin now) → back ≡ begin → later ≡ now → IfSome was (λ kept. HaveFlownBehind kept all back later)
+refused_flown was now later all begin back flown same stays =
+    subst (λ (o : Option Flight). IfSome was (λ kept. HaveFlownBehind kept all back o)) (sym stays) (subst (λ (l : List PortSeat). IfSome was (λ kept. HaveFlownBehind kept all l now)) (sym same) flown)
+
+got_same : (flight : Flight) (k : Key) (p : PortSeat) → map.get (map.insert flight k p) k ≡ Some p
+got_same flight k p = get-insert keys_total flight k p k ∙ ap (λ (b : Bool). cond b (Some p) (map.get flight k)) ((eq_by_cmp_equiv keys_total).refl k)
+
+-- the ports that are to be called back still, of which the first is the next
+pub record IsComingBack (kept : Flight) (numbers : List EndId) (i : ℕ) (now : Option Flight) (left : List PortSeat) : Type 0 where
+  pub now_is : now ≡ Some (in_flight kept left)
+  pub free : AreFree kept left
+  pub named : drop i numbers ≡ ends_of left
+
+-- the next one is found
+pub record CameOne (kept : Flight) (numbers : List EndId) (i : ℕ) (later : Option Flight) (left : List PortSeat) (got : Option PortSeat) : Type 0 where
+  pub port : PortSeat
+  pub rest : List PortSeat
+  pub left_is : left ≡ port ∷ rest
+  pub got_is : got ≡ Some port
+  pub coming : IsComingBack kept numbers (i + 1) later rest
+
+pub come_one : (kept : Flight) (numbers : List EndId) (i : ℕ) (d : EndId) (now later : Option Flight) (left : List PortSeat) (got : Option PortSeat) → i < length numbers → IsComingBack kept numbers i now left
+    → IfSome now (λ f. got ≡ map.get f (place_of (get_or numbers i d))) → later ≡ option_map (λ f. map.remove f (place_of (get_or numbers i d))) now → CameOne kept numbers i later left got
+come_one kept numbers i d now later [] got below coming value rest =
+    let wrong : get_or numbers i d ∷ drop (i + 1) numbers ≡ [] = sym (drop_more numbers i d below) ∙ coming.named in
+    absurd cc
+come_one kept numbers i d now later (p ∷ ps) got below coming value rest =
+    let n : EndId = get_or numbers i d in
+    let flight : Flight = in_flight kept ps in
+    let split : n ∷ drop (i + 1) numbers ≡ end_of p ∷ ends_of ps = sym (drop_more numbers i d below) ∙ coming.named in
+    let first : n ≡ end_of p = cc in
+    let behind : drop (i + 1) numbers ≡ ends_of ps = cc in
+    let found : got ≡ map.get (map.insert flight (place_of (end_of p)) p) (place_of n) = subst (λ (o : Option Flight). IfSome o (λ f. got ≡ map.get f (place_of n))) coming.now_is value in
+    record {
+      port = p;
+      rest = ps;
+      left_is = refl;
+      got_is = found ∙ ap (λ (m : EndId). map.get (map.insert flight (place_of (end_of p)) p) (place_of m)) first ∙ got_same flight (place_of (end_of p)) p;
+      coming = record {
+        now_is = rest ∙ ap (option_map (λ f. map.remove f (place_of n))) coming.now_is
+            ∙ ap (λ (m : EndId). Some (map.remove (map.insert flight (place_of (end_of p)) p) (place_of m))) first
+            ∙ ap Some (remove-insert flight (place_of (end_of p)) p coming.free.0);
+        free = coming.free.1;
+        named = behind;
+      };
+    }
+
+-- of the ports that were sent these came back so far
+pub record ComesBack (kept : Flight) (sent begun : List PortSeat) (numbers : List EndId) (i : ℕ) (now : Option Flight) (ports : List PortSeat) (missing : List EndId) : Type 0 where
+  pub here : List PortSeat
+  pub left : List PortSeat
+  pub sent_is : sent ≡ here ++ left
+  pub ports_are : ports ≡ begun ++ here
+  pub none : missing ≡ []
+  pub coming : IsComingBack kept numbers i now left
+
+many_ends : (ports : List PortSeat) → length (ends_of ports) ≡ length ports
+many_ends [] = refl
+many_ends (p ∷ ps) = ap (λ (n : ℕ). suc n) (many_ends ps)
+
+pub none_back : (kept : Flight) (sent begun : List PortSeat) (numbers : List EndId) (i : ℕ) (now : Option Flight) (missing : List EndId) → i ≡ length begun → missing ≡ [] → now ≡ Some (in_flight kept sent) → AreFree kept sent → numbers ≡ ends_of begun ++ ends_of sent → ComesBack kept sent begun numbers i now begun missing
+none_back kept sent begun numbers i now missing count none now_is free named = record {
+  here = [];
+  left = sent;
+  sent_is = refl;
+  ports_are = sym (append-nil begun);
+  none = none;
+  coming = record {
+    now_is = now_is;
+    free = free;
+    named = (λ j. drop ((count ∙ sym (many_ends begun)) j) (named j)) ∙ drop-append_seam (ends_of begun) (ends_of sent);
+  };
+}
+
+pub one_back : (kept : Flight) (sent begun : List PortSeat) (numbers : List EndId) (i : ℕ) (d : EndId) (now later : Option Flight) (ports ports' : List PortSeat) (missing missing' : List EndId) (p : PortSeat) (key : Key) → i < length numbers → ComesBack kept sent begun numbers i now ports missing → key ≡ place_of (get_or numbers i d)
+    → IfSome now (λ f. Some p ≡ map.get f key) → later ≡ option_map (λ f. map.remove f key) now → ports' ≡ ports ++ p ∷ [] → missing' ≡ missing → ComesBack kept sent begun numbers (i + 1) later ports' missing'
+one_back kept sent begun numbers i d now later ports ports' missing missing' p key below so_far named value rest more same =
+    let one = come_one kept numbers i d now later so_far.left (Some p) below so_far.coming (subst (λ (k : Key). IfSome now (λ f. Some p ≡ map.get f k)) named value) (rest ∙ ap (λ (k : Key). option_map (λ f. map.remove f k) now) named) in
+    let is : p ≡ one.port = cc (one.got_is) in
+    record {
+      here = so_far.here ++ p ∷ [];
+      left = one.rest;
+      sent_is = so_far.sent_is ∙ ap (λ (l : List PortSeat). so_far.here ++ l) (one.left_is ∙ ap (λ (q : PortSeat). q ∷ one.rest) (sym is)) ∙ sym (append_assoc so_far.here (p ∷ []) one.rest);
+      ports_are = more ∙ ap (λ (l : List PortSeat). l ++ p ∷ []) so_far.ports_are ∙ append_assoc begun so_far.here (p ∷ []);
+      none = same ∙ so_far.none;
+      coming = one.coming;
+    }
+
+-- none of them is missing
+pub none_missing : (kept : Flight) (sent begun : List PortSeat) (numbers : List EndId) (i : ℕ) (d : EndId) (now later : Option Flight) (ports : List PortSeat) (missing : List EndId) (key : Key) → i < length numbers → ComesBack kept sent begun numbers i now ports missing → key ≡ place_of (get_or numbers i d)
+    → IfSome now (λ f. None ≡ map.get f key) → later ≡ option_map (λ f. map.remove f key) now → ⊥
+none_missing kept sent begun numbers i d now later ports missing key below so_far named value rest =
+    let one = come_one kept numbers i d now later so_far.left None below so_far.coming (subst (λ (k : Key). IfSome now (λ f. None ≡ map.get f k)) named value) (rest ∙ ap (λ (k : Key). option_map (λ f. map.remove f k) now) named) in
+    let wrong = one.got_is in
+    cc
+
+-- in the end all came back
+pub all_back : (kept : Flight) (sent begun : List PortSeat) (numbers : List EndId) (i : ℕ) (now : Option Flight) (ports : List PortSeat) (missing : List EndId) → length numbers ≤ i → ComesBack kept sent begun numbers i now ports missing → (ports ≡ begun ++ sent) × (missing ≡ []) × (now ≡ Some kept)
+all_back kept sent begun numbers i now ports missing past so_far = at_end so_far.left (so_far.sent_is, so_far.ports_are, so_far.none, so_far.coming)
+  where
+    at_end : (left : List PortSeat) → (sent ≡ so_far.here ++ left) × (ports ≡ begun ++ so_far.here) × (missing ≡ []) × IsComingBack kept numbers i now left → (ports ≡ begun ++ sent) × (missing ≡ []) × (now ≡ Some kept)
+    at_end [] (sent_is, ports_are, none, coming) = (ports_are ∙ ap (λ (l : List PortSeat). begun ++ l) (sym (sent_is ∙ append-nil so_far.here)), none, coming.now_is)
+    at_end (p ∷ ps) (sent_is, ports_are, none, coming) =
+        let wrong : [] ≡ end_of p ∷ ends_of ps = sym (drop_of_length-le numbers past) ∙ coming.named in
+        absurd cc
+
+-- the error tells that the very ports came back
+gives_whole : (all : List PortSeat) (r : SendRefusal) (body : List ℕ) (back : Vec PortSeat Global) → back.items ≡ all → GivesBack all (whole_error r body back)
+gives_whole all Closed body back same = same
+gives_whole all Moving body back same = same
+gives_whole all OutOfMemory body back same = same
+gives_whole all Taken body back same = same
+
+-- a message was refused, and its ports were called back
+pub flown_back : (was now later : Option Flight) (all begun : List PortSeat) (numbers : List EndId) (back : Vec PortSeat Global) (missing : List EndId) (r : SendRefusal) (body : List ℕ) (e : PortError) → IfSome was (λ kept. HaveFlownBehind kept all begun now)
+    → ((kept : Flight) (sent : List PortSeat) → now ≡ Some (in_flight kept sent) → AreFree kept sent → numbers ≡ ends_of begun ++ ends_of sent → (back.items ≡ begun ++ sent) × (missing ≡ []) × (later ≡ Some kept))
+    → numbers ≡ ends_of all → (missing ≡ [] → e ≡ whole_error r body back) → IfSome was (λ kept. (later ≡ Some kept) × GivesBack all e)
+flown_back None now later all begun numbers back missing r body e flown called named whole = tt
+flown_back (Some kept) now later all begun numbers back missing r body e (sent, split, flown) called named whole =
+    let came = called kept sent flown.now_is flown.free (named ∙ ap ends_of split ∙ map-append end_of begun sent) in
+    (came.2, subst (GivesBack all) (sym (whole came.1)) (gives_whole all r body back (came.0 ∙ sym split)))
