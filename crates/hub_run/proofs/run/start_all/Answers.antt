@@ -17,9 +17,9 @@ loop-agent-preserved g c =
     let script_is : c.in_ok-handle.handle.promise.script.now ≡ c.args.script.now = ap (λ (p : Part). p.script.now) promised in (
       search rules,
       (λ k d below. below_more (λ i. (get_or new i d).promise.number.0 ≡ i) done
-      (λ i low. ap (λ (h : Handle). h.promise.number.0) (c.push.ensures.by_index.0 i d low) ∙ was.1 i d low)
-      (ap (λ (h : Handle). h.promise.number.0) (c.push.ensures.by_index.1 d (search rules)) ∙ number_is) k (omega arith)),
+          (λ i low. ap (λ (h : Handle). h.promise.number.0) (c.push.ensures.by_index.0 i d low) ∙ was.1 i d low)
+          (ap (λ (h : Handle). h.promise.number.0) (c.push.ensures.by_index.1 d (search rules)) ∙ number_is) k (omega arith)),
       λ k d below. below_more (λ i. (get_or new i d).promise.script.now ≡ c.args.script.now) done
-      (λ i low. ap (λ (h : Handle). h.promise.script.now) (c.push.ensures.by_index.0 i d low) ∙ was.2 i d low)
-      (ap (λ (h : Handle). h.promise.script.now) (c.push.ensures.by_index.1 d (search rules)) ∙ script_is) k (omega arith),
+          (λ i low. ap (λ (h : Handle). h.promise.script.now) (c.push.ensures.by_index.0 i d low) ∙ was.2 i d low)
+          (ap (λ (h : Handle). h.promise.script.now) (c.push.ensures.by_index.1 d (search rules)) ∙ script_is) k (omega arith),
     )
