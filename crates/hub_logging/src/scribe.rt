@@ -91,6 +91,13 @@ impl Scribe {
         replace(self, Scribe::new(self.alloc, agent))
     }
 
+    /// The agent whose log it keeps.
+    pub fn agent(&self) -> AgentId
+        ensures { result ≡ self.now.log.0 }
+    {
+        self.log.agent()
+    }
+
     /// The log.
     pub fn into_log(self) -> Log
         ensures { result ≡ self.log }

@@ -243,6 +243,14 @@ impl<H: Handler + Drop, C: Checkpoint + Drop> EventLoop<H, C> {
         &mut self.handler
     }
 
+    /// Puts another handler in, and gives out the one that was there.
+    pub fn replace_handler(&mut self, handler: H) -> H
+        ensures given { result ≡ self.old.handler }
+        ensures put { self.new ≡ record self.old { handler = handler } }
+    {
+        replace(&mut self.handler, handler)
+    }
+
     /// Shows the port, queue or member of this number, where the loop holds it.
     pub fn held(&self, end: EndId) -> Option<&Held>
         ensures { IfSome result (λ held. number_of held.now ≡ end) }

@@ -1,6 +1,7 @@
 -- What the engine of `run` writes, by the exit status that it answers.
 use Rattle.std.specs.Prelude.{◌≡◌, ℕ, List, ◌++◌, Option, Some, None, Ok, Err, codes}
 use Rattle.std.specs.List.{flat_map}
+use Rattle.hub_run.specs.Runs.{AreLogsFor}
 use Rattle.hub_script.specs.Contents.{Contents}
 use Rattle.hub_script.specs.Errors.{script_error_text}
 use Rattle.hub_script.specs.Script.{script_of}
@@ -38,14 +39,17 @@ IsRunText logs status.Fault text = IsWholeRun logs status.Fault text
 IsRunText logs status.OutOfMemory text = text ≡ out_of_memory
 IsRunText logs _ text = ⊥
 
--- what is written for a script, whatever the logs of its run are
-abbrev pub SaysRun : ExitStatus → List ℕ → Type 0
-SaysRun s text = (logs : List AgentLog) × IsRunText logs s text
+-- What is written for a script: a run of logs that its agents may have kept. There is none where memory was wanting.
+abbrev pub SaysRun : Contents → ExitStatus → List ℕ → Type 0
+SaysRun script status.Success text = (logs : List AgentLog) × AreLogsFor script logs × IsWholeRun logs status.Success text
+SaysRun script status.Fault text = (logs : List AgentLog) × AreLogsFor script logs × IsWholeRun logs status.Fault text
+SaysRun script status.OutOfMemory text = text ≡ out_of_memory
+SaysRun script _ text = ⊥
 
 -- what is written for an input: what is written for its script, or the one line of bad input, or `out of memory`
 abbrev pub IsScriptOutput : List ℕ → ExitStatus → List ℕ → Type 0
-IsScriptOutput input status.Success text = (script : Contents) × (script_of input ≡ Ok script) × SaysRun status.Success text
-IsScriptOutput input status.Fault text = (script : Contents) × (script_of input ≡ Ok script) × SaysRun status.Fault text
+IsScriptOutput input status.Success text = (script : Contents) × (script_of input ≡ Ok script) × SaysRun script status.Success text
+IsScriptOutput input status.Fault text = (script : Contents) × (script_of input ≡ Ok script) × SaysRun script status.Fault text
 IsScriptOutput input status.BadInput text = (n : ℕ) × (kind : ScriptError) × (script_of input ≡ Err (n, kind)) × IsBadLine n (script_kind_text kind) text
 IsScriptOutput input status.OutOfMemory text = text ≡ out_of_memory
 IsScriptOutput input _ text = ⊥

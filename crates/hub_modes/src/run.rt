@@ -84,7 +84,7 @@ pub fn run_script<C: Checkpoint, W: Write, T: Threads + Wait + Sync>(
     checkpoint: &C,
     writer: &mut CountedWriter<W>,
 ) -> Result<ExitStatus, Device>
-    ensures written { Writes SaysRun (W.contents (inner_writer writer.old))
+    ensures written { Writes (SaysRun script.now) (W.contents (inner_writer writer.old))
         (W.contents (inner_writer writer.new)) result }
     ensures failures { CountsFailure result (failed_writes writer.old) (failed_writes writer.new) }
     ensures flushed { CountsFlush result (flushes_made writer.old) (flushes_made writer.new) }

@@ -1,5 +1,9 @@
 //! The actions of an agent, in order. An action whose end isn't held any more is skipped.
 
+ghost use Rattle.std.specs.Prelude.{◌≡◌, OnOk};
+ghost use Rattle.hub_script.specs.Contents.{actions};
+ghost use Rattle.hub_run.specs.Runs.{Acts, ActsAll, actions_of};
+
 use crate::agent::Agent;
 use crate::awaited::Awaited;
 use crate::shared::Shared;
@@ -11,9 +15,12 @@ use std::sync::Wait;
 
 impl<'s, C: Checkpoint> Agent<'s, C> {
     /// Does its actions, up to the last or to the order to end, which is looked at before each.
-    pub(crate) fn act_all<R: Wait>(&mut self, rt: &R, script: &Script) -> Result<(), OutOfMemory> {
+    pub(crate) fn act_all<R: Wait>(&mut self, rt: &R, script: &Script) -> Result<(), OutOfMemory>
+        ensures { OnOk result (ActsAll (actions_of self.old.agent (actions script.now))
+            self.old self.new) }
+    {
         for Action { at, kind } in script.actions() {
-            if *at == self.number {
+            if *at == self.number() {
                 if self.order.seen() {
                     return Ok(());
                 }
@@ -23,7 +30,9 @@ impl<'s, C: Checkpoint> Agent<'s, C> {
         Ok(())
     }
 
-    fn act<R: Wait>(&mut self, rt: &R, action: &ActionKind) -> Result<(), OutOfMemory> {
+    fn act<R: Wait>(&mut self, rt: &R, action: &ActionKind) -> Result<(), OutOfMemory>
+        ensures { OnOk result (Acts action.now self.old self.new) }
+    {
         match action {
             ActionKind::Post {
                 port,
@@ -48,7 +57,7 @@ impl<'s, C: Checkpoint> Agent<'s, C> {
             }
             ActionKind::Close { end } => self.close(rt, *end),
             ActionKind::Wait { messages } => {
-                let after = self.scribe().messages();
+                let after = self.scribe.messages();
                 let count = *messages;
                 self.turn_until(rt, Awaited::Messages { after, count })
             }
@@ -69,7 +78,9 @@ impl<'s, C: Checkpoint> Agent<'s, C> {
     }
 
     // Enables a port or a client's queue.
-    fn start(&mut self, end: EndId) {
+    fn start(&mut self, end: EndId)
+        ensures { self.new ≡ self.old }
+    {
         if let Some(port) = self.event_loop.port_mut(end) {
             port.start();
         } else if let Some(queue) = self.event_loop.client_mut(end) {
@@ -79,7 +90,9 @@ impl<'s, C: Checkpoint> Agent<'s, C> {
 
     // Closes a port or a member, and logs it. What waits there is discarded once the loop has
     // ended.
-    fn close<R: Wait>(&mut self, rt: &R, end: EndId) -> Result<(), OutOfMemory> {
+    fn close<R: Wait>(&mut self, rt: &R, end: EndId) -> Result<(), OutOfMemory>
+        ensures { OnOk result (self.new ≡ self.old) }
+    {
         self.graves.reserve(1)?;
         match self.event_loop.release(end) {
             Some(Held::Port(port)) => {
@@ -90,21 +103,25 @@ impl<'s, C: Checkpoint> Agent<'s, C> {
             Some(Held::Member(member)) => {
                 self.shared.roster.leave(rt, end);
                 self.graves.push(member.close())?;
-                self.scribe().close(end)
+                self.log_close(end)
             }
             Some(held) => self.hold(rt, held),
             None => Ok(()),
         }
     }
 
-    fn give_order(&mut self, to: AgentId) {
+    fn give_order(&mut self, to: AgentId)
+        ensures { self.new ≡ self.old }
+    {
         if let Some(peer) = self.peers.get_mut(usize::from(to.0)) {
             peer.order();
         }
     }
 
     // Hands its own queue to an agent, which it wakes.
-    fn hand<R: Wait>(&mut self, rt: &R, to: AgentId) -> Result<(), OutOfMemory> {
+    fn hand<R: Wait>(&mut self, rt: &R, to: AgentId) -> Result<(), OutOfMemory>
+        ensures { OnOk result (self.new ≡ self.old) }
+    {
         let Shared { directory, .. } = self.shared;
         let queue = self.queue();
         let refused = match self.event_loop.release(queue) {
@@ -134,7 +151,9 @@ impl<'s, C: Checkpoint> Agent<'s, C> {
         }
     }
 
-    fn wake(&mut self, agent: AgentId) {
+    fn wake(&mut self, agent: AgentId)
+        ensures { self.new ≡ self.old }
+    {
         if let Some(peer) = self.peers.get_mut(usize::from(agent.0)) {
             peer.wake();
         }

@@ -1,9 +1,16 @@
-//! How an agent ends: its loop is ended, and what it closed there is logged.
+//! How an agent runs and ends: it does its actions, its loop is ended, and what it closed there is
+//! logged.
+
+ghost use Rattle.std.specs.Prelude.{◌≡◌, ◌≤◌, IfOk, OnOk};
+ghost use Rattle.hub_run.specs.Posts.{posts_of};
+ghost use Rattle.hub_run.specs.Runs.{ActsAll, IsLogFor, actions_of};
+ghost use Rattle.hub_script.specs.Contents.{actions};
+ghost use Rattle.hub_trace.specs.declared.limits.TheConstants.{MAX_AGENT};
 
 use crate::agent::{Agent, AgentLoop};
 use crate::peer::order_all;
 use crate::shared::Shared;
-use hub_envelope::{EndId, OutOfMemory};
+use hub_envelope::{AgentId, EndId, OutOfMemory};
 use hub_logging::Scribe;
 use hub_loop::{Checkpoint, Ended, LoopError, sweep_out};
 use hub_ports::Noticed;
@@ -72,36 +79,65 @@ fn log_ended(
     scribe: &mut Scribe,
     held: &[EndId],
     ended: &Ended,
-) -> Result<(), OutOfMemory> {
+) -> Result<(), OutOfMemory>
+    ensures { OnOk result (posts_of scribe.new.log ≡ posts_of scribe.old.log) }
+{
     let held = held.iter().copied().collect::<BTreeSet<EndId>>(alloc)?;
     let mut notices = notices_of(alloc, &ended.noticed)?;
     for swept in &ended.swept {
         let end = swept.end();
-        if let Some(posted) = notices.remove(&end) {
-            scribe.put_notice(posted)?;
-        }
-        if held.contains(&end) {
-            scribe.close(end)?;
-        }
+        log_closing(scribe, end, notices.remove(&end), held.contains(&end))?;
     }
     for posted in notices.values() {
-        scribe.put_notice(*posted)?;
+        log_notice(scribe, *posted)?;
     }
     Ok(())
 }
 
+// Logs the notice of an end, where it was put, and the closing, where the loop held the end.
+fn log_closing(
+    scribe: &mut Scribe,
+    end: EndId,
+    notice: Option<Posted>,
+    is_held: bool,
+) -> Result<(), OutOfMemory>
+    ensures { OnOk result (posts_of scribe.new.log ≡ posts_of scribe.old.log) }
+{
+    if let Some(posted) = notice {
+        log_notice(scribe, posted)?;
+    }
+    if is_held {
+        log_close(scribe, end)?;
+    }
+    Ok(())
+}
+
+fn log_close(scribe: &mut Scribe, end: EndId) -> Result<(), OutOfMemory>
+    ensures { OnOk result (posts_of scribe.new.log ≡ posts_of scribe.old.log) }
+{
+    scribe.close(end)
+}
+
+fn log_notice(scribe: &mut Scribe, posted: Posted) -> Result<(), OutOfMemory>
+    ensures { OnOk result (posts_of scribe.new.log ≡ posts_of scribe.old.log) }
+{
+    scribe.put_notice(posted)
+}
+
 impl<'s, C: Checkpoint> Agent<'s, C> {
     // Ends the loop, and answers the log.
-    fn finish<R: Wait>(self, rt: &R) -> Result<Log, OutOfMemory> {
+    fn finish<R: Wait>(self, rt: &R) -> Result<Log, OutOfMemory>
+        ensures { IfOk result (λ log. posts_of log ≡ self.entry) }
+    {
         let Agent {
             alloc,
             shared,
-            mut event_loop,
+            event_loop,
+            mut scribe,
             graves,
             ..
         } = self;
         let held = event_loop.ends();
-        let mut scribe = event_loop.handler_mut().take();
         let ended = end_loop(rt, shared, event_loop);
         let swept = sweep_all(rt, graves);
         log_ended(alloc, &mut scribe, &held?, &ended?)?;
@@ -109,19 +145,49 @@ impl<'s, C: Checkpoint> Agent<'s, C> {
         Ok(scribe.into_log())
     }
 
-    /// Does the actions, ends the loop, and answers the log. Where memory runs out all agents are
-    /// ordered to end, so that none waits for this one.
-    pub(crate) fn run<R: Wait>(mut self, rt: &R, script: &Script) -> Result<Log, OutOfMemory> {
-        let acted = self.act_all(rt, script);
-        if acted.is_err() {
-            order_all(&mut self.peers);
+    // Does the actions. Where memory runs out all agents are ordered to end.
+    fn act_or_order<R: Wait>(&mut self, rt: &R, script: &Script) -> Result<(), OutOfMemory>
+        ensures { OnOk result (ActsAll (actions_of self.old.agent (actions script.now))
+            self.old self.new) }
+    {
+        match self.act_all(rt, script) {
+            Ok(()) => Ok(()),
+            Err(error) => {
+                order_all(&mut self.peers);
+                Err(error)
+            }
         }
+    }
+
+    // Ends the loop, and answers the log. Where memory runs out all agents are ordered to end.
+    fn finish_or_order<R: Wait>(mut self, rt: &R) -> Result<Log, OutOfMemory>
+        ensures { IfOk result (λ log. posts_of log ≡ self.entry) }
+    {
         let none = Vec::new(self.alloc);
         let mut peers = replace(&mut self.peers, none);
-        let finished = self.finish(rt);
-        if finished.is_err() {
-            order_all(&mut peers);
+        match self.finish(rt) {
+            Ok(log) => Ok(log),
+            Err(error) => {
+                order_all(&mut peers);
+                Err(error)
+            }
         }
+    }
+
+    /// Does the actions of the agent of that number, ends the loop, and answers the log. Where
+    /// memory runs out all agents are ordered to end, so that none waits for this one.
+    pub(crate) fn run<R: Wait>(
+        mut self,
+        rt: &R,
+        script: &Script,
+        number: AgentId,
+    ) -> Result<Log, OutOfMemory>
+        requires { number.0 ≤ MAX_AGENT }
+        ensures { IfOk result (λ log. IsLogFor script.now number log) }
+    {
+        self.scribe = Scribe::new(self.alloc, number);
+        let acted = self.act_or_order(rt, script);
+        let finished = self.finish_or_order(rt);
         acted?;
         finished
     }

@@ -1,13 +1,16 @@
 //! How all that a run wants is made, before the first of its threads: the agents with their loops,
 //! and the ends that the script declares. Ends are numbered as the script's actions name them.
 
-ghost use Rattle.std.specs.Prelude.{◌≤◌};
+ghost use Rattle.std.specs.Prelude.{◌≡◌, ◌≤◌, length, vec_len, IfOk};
+ghost use Rattle.hub_script.specs.Contents.{agents};
 ghost use Rattle.hub_envelope.specs.declared.limits.TheConstants.{MAX_AGENTS};
 ghost use Rattle.hub_trace.specs.declared.limits.TheConstants.{MAX_AGENT};
 
 use crate::agent::Agent;
 use crate::peer::Peer;
 use crate::shared::Shared;
+use hub_broadcast::{Origin, SharedRoster};
+use hub_clients::Directory;
 use hub_envelope::{AgentId, OutOfMemory};
 use hub_life::{Life, Order};
 use hub_logging::Scribe;
@@ -18,9 +21,9 @@ use hub_script::{AgentKind, DeclaredChannel, DeclaredMember, Script};
 use std::alloc::Global;
 use std::sync::Wait;
 
-// What the loop of an agent is made of.
+// What an agent and its loop are made of.
 #[derive(Drop)]
-struct Parts {
+struct Seat {
     number: AgentId,
     scribe: Scribe,
     /// The seat of the loop at the word of its order.
@@ -28,13 +31,14 @@ struct Parts {
     /// The seat of the agent itself.
     for_agent: Order,
     listener: Listener,
+    /// What the agent has of all agents, by number.
+    peers: Vec<Peer>,
 }
 
-// What all loops are made of, what each agent has of all, and what wakes each.
+// What all agents are made of, and what wakes each.
 #[derive(Drop)]
 struct Seats {
-    parts: Vec<Parts>,
-    peers: Vec<Vec<Peer>>,
+    seats: Vec<Seat>,
     bells: Vec<Bell>,
 }
 
@@ -46,21 +50,21 @@ pub(crate) struct Made<'s, C: Checkpoint> {
     ends: Ends,
 }
 
-// Gives each list of peers a seat at the word of one more agent, which this wakes.
-fn add_peer(lists: &mut [Vec<Peer>], orders: Vec<Order>, bell: &Bell) -> Result<(), OutOfMemory> {
-    for (list, order) in lists.iter_mut().zip(orders) {
-        list.push(Peer::new(order, bell.clone()?))?;
+// Gives each agent a seat at the word of one more agent, which the bell wakes.
+fn add_peer(seats: &mut [Seat], orders: Vec<Order>, bell: &Bell) -> Result<(), OutOfMemory> {
+    for (seat, order) in seats.iter_mut().zip(orders) {
+        seat.peers.push(Peer::new(order, bell.clone()?))?;
     }
     Ok(())
 }
 
-// What the loop of an agent is made of, its bell, and a seat at its order's word for each of so many
-// agents.
-fn open_parts(
+// What an agent is made of, with no peers yet, its bell, and a seat at its order's word for each of
+// so many agents.
+fn open_seat(
     alloc: Global,
     number: AgentId,
     count: usize,
-) -> Result<(Parts, Bell, Vec<Order>), OutOfMemory>
+) -> Result<(Seat, Bell, Vec<Order>), OutOfMemory>
     requires number { number.0 ≤ MAX_AGENT }
     requires count { count ≤ MAX_AGENTS }
 {
@@ -69,36 +73,35 @@ fn open_parts(
         unreachable!();
     };
     let (listener, bell) = Listener::open(alloc)?;
-    let parts = Parts {
+    let seat = Seat {
         number,
         scribe: Scribe::new(alloc, number),
         for_loop,
         for_agent,
         listener,
+        peers: Vec::new(alloc),
     };
-    Ok((parts, bell, orders))
+    Ok((seat, bell, orders))
 }
 
 impl Seats {
     fn new(alloc: Global, count: usize) -> Result<Seats, OutOfMemory>
         requires { count ≤ MAX_AGENTS }
+        ensures { IfOk result (λ made. vec_len made.seats ≡ count) }
     {
-        let mut seats = Seats {
-            parts: Vec::new(alloc),
-            peers: Vec::new(alloc),
-            bells: Vec::new(alloc),
-        };
-        for _ in 0..count {
-            seats.peers.push(Vec::new(alloc))?;
-        }
+        let mut seats = Vec::new(alloc);
+        let mut bells = Vec::new(alloc);
+        let mut orders = Vec::new(alloc);
         for number in 0..count {
-            let number = AgentId(number as u8);
-            let (parts, bell, orders) = open_parts(alloc, number, count)?;
-            add_peer(&mut seats.peers, orders, &bell)?;
-            seats.bells.push(bell)?;
-            seats.parts.push(parts)?;
+            let (seat, bell, for_peers) = open_seat(alloc, AgentId(number as u8), count)?;
+            seats.push(seat)?;
+            bells.push(bell)?;
+            orders.push(for_peers)?;
         }
-        Ok(seats)
+        for (for_peers, bell) in orders.into_iter().zip(&bells) {
+            add_peer(&mut seats, for_peers, bell)?;
+        }
+        Ok(Seats { seats, bells })
     }
 }
 
@@ -116,21 +119,22 @@ impl<'s, C: Checkpoint> Agent<'s, C> {
         kind: AgentKind,
         shared: &'s Shared,
         checkpoint: &'s C,
-        parts: Parts,
-        peers: Vec<Peer>,
+        seat: Seat,
     ) -> Result<Agent<'s, C>, OutOfMemory> {
-        let Parts {
+        let Seat {
             number,
-            scribe,
+            mut scribe,
             for_loop,
             for_agent,
             listener,
-        } = parts;
+            peers,
+        } = seat;
+        let handler = scribe.take();
         Ok(Agent {
             alloc,
-            number,
             shared,
-            event_loop: EventLoop::open(alloc, number, for_loop, scribe, checkpoint, listener)?,
+            event_loop: EventLoop::open(alloc, number, for_loop, handler, checkpoint, listener)?,
+            scribe,
             order: for_agent,
             peers,
             life: life_of(kind),
@@ -147,6 +151,18 @@ impl<'s, C: Checkpoint> Agent<'s, C> {
     }
 }
 
+// Gives the agent of that number an end that it holds before the run.
+fn give<C: Checkpoint>(
+    agents: &mut [Agent<'_, C>],
+    number: AgentId,
+    held: Held,
+) -> Result<(), OutOfMemory> {
+    match agents.get_mut(usize::from(number.0)) {
+        Some(agent) => agent.give(held),
+        None => Ok(()),
+    }
+}
+
 impl<'s, C: Checkpoint> Made<'s, C> {
     // The agents, which hold nothing yet.
     fn open(
@@ -154,17 +170,15 @@ impl<'s, C: Checkpoint> Made<'s, C> {
         shared: &'s Shared,
         script: &Script,
         checkpoint: &'s C,
-    ) -> Result<Made<'s, C>, OutOfMemory> {
+    ) -> Result<Made<'s, C>, OutOfMemory>
+        ensures { IfOk result (λ made. vec_len made.agents ≡ length (agents script.now)) }
+    {
         let declared = script.agents();
-        let Seats {
-            parts,
-            peers,
-            bells,
-        } = Seats::new(alloc, declared.len())?;
+        let Seats { seats, bells } = Seats::new(alloc, declared.len())?;
         let mut agents = Vec::new(alloc);
-        for ((declared, parts), peers) in declared.iter().zip(parts).zip(peers) {
-            let agent = Agent::open(alloc, declared.kind, shared, checkpoint, parts, peers)?;
-            agents.push(agent)?;
+        for seat in seats {
+            let kind = declared[agents.len()].kind;
+            agents.push(Agent::open(alloc, kind, shared, checkpoint, seat)?)?;
         }
         Ok(Made {
             agents,
@@ -173,49 +187,58 @@ impl<'s, C: Checkpoint> Made<'s, C> {
         })
     }
 
-    // The agent of that number, and its bell.
-    fn agent_mut(&mut self, number: AgentId) -> Option<(&mut Agent<'s, C>, &Bell)> {
-        let place = usize::from(number.0);
-        match (self.agents.get_mut(place), self.bells.get(place)) {
-            (Some(agent), Some(bell)) => Some((agent, bell)),
-            _ => None,
-        }
-    }
-
     // Gives each agent its queue.
-    fn add_queues<R: Wait>(&mut self, rt: &R) -> Result<(), OutOfMemory> {
-        for (agent, bell) in self.agents.iter_mut().zip(&self.bells) {
-            let directory = &agent.shared.directory;
-            let bell = bell.clone()?;
-            let made = match agent.life {
-                None => directory.client(rt, &mut self.ends, bell).map(Held::Client),
-                Some(_) => directory.worker(rt, &mut self.ends, bell).map(Held::Worker),
-            };
-            let Ok(queue) = made else {
-                return Err(OutOfMemory);
-            };
-            agent.give(queue)?;
+    fn add_queues<R: Wait>(
+        &mut self,
+        rt: &R,
+        shared: &Shared,
+        script: &Script,
+    ) -> Result<(), OutOfMemory>
+        ensures { vec_len self.new.agents ≡ vec_len self.old.agents }
+    {
+        for (place, declared) in script.agents().iter().enumerate() {
+            let number = AgentId(place as u8);
+            self.add_queue(rt, &shared.directory, number, declared.kind)?;
         }
         Ok(())
+    }
+
+    // Gives the agent of that number its queue.
+    fn add_queue<R: Wait>(
+        &mut self,
+        rt: &R,
+        directory: &Directory,
+        number: AgentId,
+        kind: AgentKind,
+    ) -> Result<(), OutOfMemory>
+        ensures { vec_len self.new.agents ≡ vec_len self.old.agents }
+    {
+        let Some(bell) = self.bells.get(usize::from(number.0)) else {
+            return Ok(());
+        };
+        let bell = bell.clone()?;
+        let made = match kind {
+            AgentKind::Window => directory.client(rt, &mut self.ends, bell).map(Held::Client),
+            AgentKind::Worker => directory.worker(rt, &mut self.ends, bell).map(Held::Worker),
+        };
+        match made {
+            Ok(queue) => give(&mut self.agents, number, queue),
+            Err(_) => Err(OutOfMemory),
+        }
     }
 
     // Makes a channel, whose ports go to one agent.
-    fn add_channel(
-        &mut self,
-        alloc: Global,
-        declared: &DeclaredChannel,
-    ) -> Result<(), OutOfMemory> {
-        let mut ends = self.ends;
-        let Some((agent, bell)) = self.agent_mut(declared.at) else {
+    fn add_channel(&mut self, alloc: Global, declared: &DeclaredChannel) -> Result<(), OutOfMemory>
+        ensures { vec_len self.new.agents ≡ vec_len self.old.agents }
+    {
+        let Some(bell) = self.bells.get(usize::from(declared.at.0)) else {
             return Ok(());
         };
-        let Ok((port, other)) = channel(alloc, &mut ends, bell.clone()?) else {
+        let Ok((port, other)) = channel(alloc, &mut self.ends, bell.clone()?) else {
             return Err(OutOfMemory);
         };
-        agent.give(Held::Port(port))?;
-        agent.give(Held::Port(other))?;
-        self.ends = ends;
-        Ok(())
+        give(&mut self.agents, declared.at, Held::Port(port))?;
+        give(&mut self.agents, declared.at, Held::Port(other))
     }
 
     // Makes a broadcast member of an agent of that origin.
@@ -223,26 +246,22 @@ impl<'s, C: Checkpoint> Made<'s, C> {
         &mut self,
         alloc: Global,
         rt: &R,
-        script: &Script,
+        roster: &SharedRoster,
+        origin: &Origin,
         declared: &DeclaredMember,
-    ) -> Result<(), OutOfMemory> {
-        let mut ends = self.ends;
-        let Some(declared_agent) = script.agents().get(usize::from(declared.at.0)) else {
-            return Ok(());
-        };
-        let origin = declared_agent.origin.clone()?;
-        let name = String::from_str(alloc, declared.on.as_str())?;
-        let Some((agent, bell)) = self.agent_mut(declared.at) else {
+    ) -> Result<(), OutOfMemory>
+        ensures { vec_len self.new.agents ≡ vec_len self.old.agents }
+    {
+        let Some(bell) = self.bells.get(usize::from(declared.at.0)) else {
             return Ok(());
         };
         let bell = bell.clone()?;
-        let roster = &agent.shared.roster;
-        let Ok(member) = roster.join(rt, &mut ends, declared.at, origin, name, bell) else {
+        let origin = origin.clone()?;
+        let name = String::from_str(alloc, declared.on.as_str())?;
+        let Ok(member) = roster.join(rt, &mut self.ends, declared.at, origin, name, bell) else {
             return Err(OutOfMemory);
         };
-        agent.give(Held::Member(member))?;
-        self.ends = ends;
-        Ok(())
+        give(&mut self.agents, declared.at, Held::Member(member))
     }
 
     /// Makes the agents and what the script declares. A script declares fewer ends than there are
@@ -253,14 +272,18 @@ impl<'s, C: Checkpoint> Made<'s, C> {
         shared: &'s Shared,
         script: &Script,
         checkpoint: &'s C,
-    ) -> Result<Made<'s, C>, OutOfMemory> {
+    ) -> Result<Made<'s, C>, OutOfMemory>
+        ensures { IfOk result (λ made. vec_len made.agents ≡ length (agents script.now)) }
+    {
         let mut made = Made::open(alloc, shared, script, checkpoint)?;
-        made.add_queues(rt)?;
+        made.add_queues(rt, shared, script)?;
         for declared in script.channels() {
             made.add_channel(alloc, declared)?;
         }
         for declared in script.members() {
-            made.add_member(alloc, rt, script, declared)?;
+            if let Some(agent) = script.agents().get(usize::from(declared.at.0)) {
+                made.add_member(alloc, rt, &shared.roster, &agent.origin, declared)?;
+            }
         }
         Ok(made)
     }

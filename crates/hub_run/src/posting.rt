@@ -1,5 +1,9 @@
 //! The actions that post: at a port, at a queue, from a broadcast member.
 
+ghost use Rattle.std.specs.Prelude.{◌≡◌, ◌∷◌, [], OnOk};
+ghost use Rattle.hub_run.specs.Posts.{posting};
+ghost use Rattle.hub_run.specs.Runs.{PutsCopies, PutsOneOf};
+
 use crate::agent::Agent;
 use crate::shared::Shared;
 use hub_broadcast::{CastError, CastOutcome};
@@ -13,7 +17,9 @@ use std::sync::Wait;
 impl<'s, C: Checkpoint> Agent<'s, C> {
     /// Holds an end or a line. Where there is no memory an end is closed, so that nobody waits for
     /// what is posted there.
-    pub(crate) fn hold<R: Wait>(&mut self, rt: &R, held: Held) -> Result<(), OutOfMemory> {
+    pub(crate) fn hold<R: Wait>(&mut self, rt: &R, held: Held) -> Result<(), OutOfMemory>
+        ensures { self.new ≡ self.old }
+    {
         match self.event_loop.hold(held) {
             Ok(()) => Ok(()),
             Err((LoopError::OutOfMemory, held)) => {
@@ -25,7 +31,9 @@ impl<'s, C: Checkpoint> Agent<'s, C> {
 
     // Closes what can't be held, so that it is swept with what was closed by actions. A line is
     // given back.
-    fn bury<R: Wait>(&mut self, rt: &R, held: Held) -> Result<(), OutOfMemory> {
+    fn bury<R: Wait>(&mut self, rt: &R, held: Held) -> Result<(), OutOfMemory>
+        ensures { self.new ≡ self.old }
+    {
         let Shared {
             hub,
             directory,
@@ -48,7 +56,9 @@ impl<'s, C: Checkpoint> Agent<'s, C> {
         Ok(())
     }
 
-    fn hold_ports<R: Wait>(&mut self, rt: &R, ports: Vec<Port>) -> Result<(), OutOfMemory> {
+    fn hold_ports<R: Wait>(&mut self, rt: &R, ports: Vec<Port>) -> Result<(), OutOfMemory>
+        ensures { self.new ≡ self.old }
+    {
         let mut held = Ok(());
         for port in ports {
             held = self.hold(rt, Held::Port(port)).and(held);
@@ -61,7 +71,9 @@ impl<'s, C: Checkpoint> Agent<'s, C> {
     }
 
     // Takes the ports out of the loop, in order.
-    fn release_ports<R: Wait>(&mut self, rt: &R, ends: &[EndId]) -> Result<Vec<Port>, OutOfMemory> {
+    fn release_ports<R: Wait>(&mut self, rt: &R, ends: &[EndId]) -> Result<Vec<Port>, OutOfMemory>
+        ensures { self.new ≡ self.old }
+    {
         let mut ports = Vec::with_capacity(self.alloc, ends.len())?;
         for end in ends {
             match self.event_loop.release(*end) {
@@ -74,13 +86,44 @@ impl<'s, C: Checkpoint> Agent<'s, C> {
     }
 
     /// Logs the notice of a port that was closed, where it was put, and the closing.
-    pub(crate) fn log_closed(&mut self, end: EndId, noticed: Noticed) -> Result<(), OutOfMemory> {
+    pub(crate) fn log_closed(&mut self, end: EndId, noticed: Noticed) -> Result<(), OutOfMemory>
+        ensures { OnOk result (self.new ≡ self.old) }
+    {
         match noticed {
-            Noticed::Put(posted) => self.scribe().put_notice(posted)?,
+            Noticed::Put(posted) => self.log_notice(posted)?,
             Noticed::OutOfMemory => return Err(OutOfMemory),
             Noticed::PeerClosed | Noticed::Moving => {}
         }
-        self.scribe().close(end)
+        self.log_close(end)
+    }
+
+    fn log_notice(&mut self, posted: Posted) -> Result<(), OutOfMemory>
+        ensures { OnOk result (self.new ≡ self.old) }
+    {
+        self.scribe.put_notice(posted)
+    }
+
+    pub(crate) fn log_close(&mut self, end: EndId) -> Result<(), OutOfMemory>
+        ensures { OnOk result (self.new ≡ self.old) }
+    {
+        self.scribe.close(end)
+    }
+
+    // Logs a post that was accepted.
+    fn log_put(&mut self, posted: Posted, ports: &[EndId], body: &Body) -> Result<(), OutOfMemory>
+        ensures { OnOk result (self.new ≡ posting self.old ((ports.now, body.now) ∷ [])) }
+    {
+        self.scribe.put(posted, ports, body)
+    }
+
+    // Logs what became of the ports that a doomed post has closed.
+    fn log_doomed(&mut self, closed: &[(EndId, Noticed)]) -> Result<(), OutOfMemory>
+        ensures { OnOk result (self.new ≡ self.old) }
+    {
+        for (end, noticed) in closed {
+            self.log_closed(*end, *noticed)?;
+        }
+        Ok(())
     }
 
     // Logs what a post has come to, and holds again what has come back.
@@ -90,15 +133,12 @@ impl<'s, C: Checkpoint> Agent<'s, C> {
         answer: Result<Posted, PortError>,
         body: &Body,
         transfer: &Ports,
-    ) -> Result<(), OutOfMemory> {
+    ) -> Result<(), OutOfMemory>
+        ensures { OnOk result (PutsOneOf (transfer.now, body.now) self.old self.new) }
+    {
         match answer {
-            Ok(posted) => self.scribe().put(posted, transfer.as_slice(), body),
-            Err(PortError::Doomed(closings)) => {
-                for (end, noticed) in closings.as_slice() {
-                    self.log_closed(*end, *noticed)?;
-                }
-                Ok(())
-            }
+            Ok(posted) => self.log_put(posted, transfer.as_slice(), body),
+            Err(PortError::Doomed(closings)) => self.log_doomed(closings.as_slice()),
             Err(PortError::OutOfMemory(_body, ports)) => {
                 self.hold_ports(rt, ports)?;
                 Err(OutOfMemory)
@@ -120,21 +160,26 @@ impl<'s, C: Checkpoint> Agent<'s, C> {
         port: EndId,
         body: &Body,
         transfer: &Ports,
-    ) -> Result<(), OutOfMemory> {
+    ) -> Result<(), OutOfMemory>
+        ensures { OnOk result (PutsOneOf (transfer.now, body.now) self.old self.new) }
+    {
         if !self.holds_port(port) || !self.holds_ports(transfer.as_slice()) {
             return Ok(());
         }
         let copy = body.clone()?;
         let ports = self.release_ports(rt, transfer.as_slice())?;
+        let number = self.number();
         let Some(source) = self.event_loop.port_mut(port) else {
             return self.hold_ports(rt, ports);
         };
-        let answer = source.post(rt, &self.shared.hub, self.number, copy, ports);
+        let answer = source.post(rt, &self.shared.hub, number, copy, ports);
         self.settle(rt, answer, body, transfer)
     }
 
     // Holds a line to a queue, unless it does. False where the directory lends none.
-    fn take_line<R: Wait>(&mut self, rt: &R, queue: EndId) -> Result<bool, OutOfMemory> {
+    fn take_line<R: Wait>(&mut self, rt: &R, queue: EndId) -> Result<bool, OutOfMemory>
+        ensures { self.new ≡ self.old }
+    {
         if self.event_loop.line_mut(queue).is_some() {
             return Ok(true);
         }
@@ -155,16 +200,19 @@ impl<'s, C: Checkpoint> Agent<'s, C> {
         queue: EndId,
         body: &Body,
         transfer: &Ports,
-    ) -> Result<(), OutOfMemory> {
+    ) -> Result<(), OutOfMemory>
+        ensures { OnOk result (PutsOneOf (transfer.now, body.now) self.old self.new) }
+    {
         if !self.holds_ports(transfer.as_slice()) || !self.take_line(rt, queue)? {
             return Ok(());
         }
         let copy = body.clone()?;
         let ports = self.release_ports(rt, transfer.as_slice())?;
+        let number = self.number();
         let Some(line) = self.event_loop.line_mut(queue) else {
             return self.hold_ports(rt, ports);
         };
-        let answer = send(line, rt, &self.shared.hub, self.number, copy, ports);
+        let answer = send(line, rt, &self.shared.hub, number, copy, ports);
         self.settle(rt, answer, body, transfer)
     }
 
@@ -174,7 +222,9 @@ impl<'s, C: Checkpoint> Agent<'s, C> {
         rt: &R,
         member: EndId,
         body: &Body,
-    ) -> Result<(), OutOfMemory> {
+    ) -> Result<(), OutOfMemory>
+        ensures { OnOk result (PutsCopies body.now self.old self.new) }
+    {
         let copy = body.clone()?;
         let Some(source) = self.event_loop.member_mut(member) else {
             return Ok(());
@@ -192,11 +242,13 @@ impl<'s, C: Checkpoint> Agent<'s, C> {
         &mut self,
         outcomes: &[(EndId, CastOutcome)],
         body: &Body,
-    ) -> Result<(), OutOfMemory> {
+    ) -> Result<(), OutOfMemory>
+        ensures { OnOk result (PutsCopies body.now self.old self.new) }
+    {
         let mut refused = Ok(());
         for (_, outcome) in outcomes {
             match outcome {
-                CastOutcome::Accepted(posted) => self.scribe().put(*posted, &[], body)?,
+                CastOutcome::Accepted(posted) => self.log_put(*posted, &[], body)?,
                 CastOutcome::OutOfMemory => refused = Err(OutOfMemory),
                 CastOutcome::Closed | CastOutcome::Moving => {}
             }

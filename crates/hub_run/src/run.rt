@@ -1,70 +1,108 @@
 //! The threads of a run.
 
+ghost use Rattle.std.specs.Prelude.{◌≡◌, ◌≤◌, [], length, vec_len, IfOk};
+ghost use Rattle.hub_envelope.specs.declared.limits.TheConstants.{MAX_AGENTS};
+ghost use Rattle.hub_run.specs.Runs.{AreLogsFor, IsLogFor};
+ghost use Rattle.hub_run.specs.Threads.{ArePromised};
+ghost use Rattle.hub_script.specs.Contents.{agents};
+ghost use Rattle.hub_trace.specs.declared.limits.TheConstants.{MAX_AGENT};
+
 use crate::agent::Agent;
 use crate::making::Made;
 use crate::shared::Shared;
-use hub_envelope::OutOfMemory;
+use hub_envelope::{AgentId, OutOfMemory};
 use hub_loop::Checkpoint;
 use hub_script::Script;
 use hub_trace::Log;
 use std::alloc::Global;
 use std::sync::{OnceLock, Wait};
 use std::thread;
-use std::thread::{JoinHandle, Scope, Threads};
+use std::thread::{Promise, PromisedHandle, Scope, Threads};
 
-// What a thread answers.
+/// What a thread answers.
 type Ran = Result<Log, OutOfMemory>;
+
+/// Which agent of which script a thread runs. Its log is that agent's.
+#[derive(Clone, Copy)]
+struct Part<'a> {
+    script: &'a Script,
+    number: AgentId,
+}
+
+impl<'a> Promise<Ran> for Part<'a> {
+    ghost use Rattle.std.specs.Prelude.{IfOk};
+    ghost use Rattle.hub_run.specs.Runs.{IsLogFor};
+
+    ghost kept_by = { λ part ran. IfOk ran (λ log. IsLogFor part.script.now part.number log) };
+}
+
+/// The handle of an agent's thread.
+type Handle<'a> = PromisedHandle<Ran, Part<'a>>;
 
 // Waits until all threads were made, and runs the agent. Where one couldn't be made it does
 // nothing.
 fn wait_and_run<C: Checkpoint, R: Wait>(
     rt: &R,
     begun: &OnceLock<bool>,
-    script: &Script,
+    part: Part<'_>,
     agent: Agent<'_, C>,
-) -> Ran {
+) -> Ran
+    requires { part.number.0 ≤ MAX_AGENT }
+    ensures { IfOk result (λ log. IsLogFor part.entry.script.now part.entry.number log) }
+{
     if *begun.wait(rt) {
-        agent.run(rt, script)
+        agent.run(rt, part.script, part.number)
     } else {
         Err(OutOfMemory)
     }
 }
 
-// Starts a thread for each agent. It is a function of its own, since between the first thread and
-// the signal that they wait for nothing may be left out.
+// Starts a thread for each agent, in order. It is a function of its own, since between the first
+// thread and the signal that they wait for nothing may be left out.
 fn start_all<'s, E, C: Checkpoint, R: Threads + Wait + Sync>(
     scope: &'s Scope<'s, E>,
+    alloc: Global,
     rt: &'s R,
     begun: &'s OnceLock<bool>,
     script: &'s Script,
     agents: Vec<Agent<'s, C>>,
-    handles: &mut Vec<JoinHandle<Ran>>,
-) -> Result<(), OutOfMemory> {
+) -> Result<Vec<Handle<'s>>, OutOfMemory>
+    requires { vec_len agents ≤ MAX_AGENTS }
+    ensures len { IfOk result (λ handles. vec_len handles ≡ vec_len agents.entry) }
+    ensures each { IfOk result (λ handles. ArePromised script.now handles.items) }
+{
+    let mut handles = Vec::with_capacity(alloc, agents.len())?;
     for agent in agents {
-        handles.reserve(1)?;
-        let handle = scope.spawn(move || wait_and_run(rt, begun, script, agent))?;
-        handles.push_reserved(handle);
+        let number = AgentId(handles.len() as u8);
+        let part = Part { script, number };
+        let handle = scope.spawn_with(
+            part,
+            move || -> Ran
+                requires { part.number.0 ≤ MAX_AGENT }
+                ensures { IfOk result (λ log. IsLogFor part.entry.script.now part.entry.number log) }
+            { wait_and_run(rt, begun, part, agent) },
+        )?;
+        handles.push(handle)?;
     }
-    Ok(())
+    Ok(handles)
 }
 
-// Waits for all threads, and answers their logs in order, or that one of them has none.
+// Waits for the threads, and answers their logs in order. Where one has none the scope waits for
+// the others.
 fn join_all<R: Threads + Wait>(
     rt: &R,
-    handles: Vec<JoinHandle<Ran>>,
+    _script: &Script,
+    handles: Vec<Handle<'_>>,
     mut logs: Vec<Log>,
-) -> Result<Vec<Log>, OutOfMemory> {
-    let mut joined = Ok(());
+) -> Result<Vec<Log>, OutOfMemory>
+    requires none { logs.items ≡ [] }
+    requires count { vec_len handles ≡ length (agents _script.now) }
+    requires each { ArePromised _script.now handles.items }
+    ensures { IfOk result (λ joined. AreLogsFor _script.now joined.items) }
+{
     for handle in handles {
-        let answer = match handle.join(rt) {
-            Ok(log) => logs.push(log).is_ok(),
-            Err(_) => false,
-        };
-        if !answer {
-            joined = Err(OutOfMemory);
-        }
+        logs.push(handle.join(rt)?)?;
     }
-    joined?;
     Ok(logs)
 }
 
@@ -73,21 +111,26 @@ fn run_made<C: Checkpoint, R: Threads + Wait + Sync>(
     alloc: Global,
     rt: &R,
     script: &Script,
-    agents: Vec<Agent<'_, C>>,
-) -> Result<Vec<Log>, OutOfMemory> {
-    let logs = Vec::with_capacity(alloc, agents.len())?;
+    made: Vec<Agent<'_, C>>,
+) -> Result<Vec<Log>, OutOfMemory>
+    requires { vec_len made ≡ length (agents script.now) }
+    ensures { IfOk result (λ logs. AreLogsFor script.now logs.items) }
+{
+    let logs = Vec::with_capacity(alloc, script.agents().len())?;
     let started = OnceLock::new();
     let begun = &started;
     thread::scope(
         thread::scope_env(),
         rt,
-        move |scope| -> Result<Vec<Log>, OutOfMemory> {
-            let mut handles = Vec::new(alloc);
-            let made = start_all(scope, rt, begun, script, agents, &mut handles);
-            let _ = begun.set(rt, made.is_ok());
-            let joined = join_all(rt, handles, logs);
-            made?;
-            joined
+        move |scope| -> Result<Vec<Log>, OutOfMemory>
+            requires few { vec_len made ≤ MAX_AGENTS }
+            requires count { vec_len made ≡ length (agents script.now) }
+            requires none { logs.items ≡ [] }
+            ensures { IfOk result (λ joined. AreLogsFor script.entry.now joined.items) }
+        {
+            let handles = start_all(scope, alloc, rt, begun, script, made);
+            let _ = begun.set(rt, handles.is_ok());
+            join_all(rt, script, handles?, logs)
         },
     )
 }
@@ -99,7 +142,9 @@ fn run_shared<C: Checkpoint, R: Threads + Wait + Sync>(
     shared: &Shared,
     script: &Script,
     checkpoint: &C,
-) -> Result<Vec<Log>, OutOfMemory> {
+) -> Result<Vec<Log>, OutOfMemory>
+    ensures { IfOk result (λ logs. AreLogsFor script.now logs.items) }
+{
     let Made { agents, .. } = Made::of_script(alloc, rt, shared, script, checkpoint)?;
     run_made(alloc, rt, script, agents)
 }
@@ -118,7 +163,9 @@ pub fn run_agents<C: Checkpoint, R: Threads + Wait + Sync>(
     rt: &R,
     script: &Script,
     checkpoint: &C,
-) -> Result<Vec<Log>, OutOfMemory> {
+) -> Result<Vec<Log>, OutOfMemory>
+    ensures { IfOk result (λ logs. AreLogsFor script.now logs.items) }
+{
     let shared = Shared::new(alloc);
     let ran = run_shared(alloc, rt, &shared, script, checkpoint);
     let ended = shared.end(rt);

@@ -1,5 +1,8 @@
-use Rattle.std.proofs.Common.{◌+◌, ◌≤◌, length, vec_len, vec_capacity}
+use Rattle.std.proofs.Common.{◌≡◌, ◌+◌, ◌≤◌, length, vec_len, vec_capacity}
 use Rattle.hub_run.proofs.agent.Agent.release_ports.Given as goal
 
 abbrev pub invariant-loop-end : goal.invariant-loop-end
-invariant-loop-end g l = vec_len l.ports + length l.ends ≤ vec_capacity l.ports + l.end-index
+invariant-loop-end g l = record {
+  room : vec_len l.ports + length l.ends ≤ vec_capacity l.ports + l.end-index;
+  same : l.self ≡ l.fn.self;
+}

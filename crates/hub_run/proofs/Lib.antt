@@ -1,0 +1,4 @@
+pub mod Posts
+pub mod Turns
+pub mod OneByOne
+pub mod Logs

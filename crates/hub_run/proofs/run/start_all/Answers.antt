@@ -1,0 +1,25 @@
+use Rattle.std.specs.Prelude.{◌≡◌, ℕ, ◌+◌, ◌<◌, get_or, vec_items, vec_len}
+use Rattle.std.proofs.Common.{rules, arith, below_more, ap, ◌∙◌}
+use Rattle.hub_run.specs.Threads.{Handle}
+use Rattle.hub_run.specs.declared.run.Part.{Part}
+use Rattle.hub_run.proofs.run.start_all.Goals as goal
+
+-- the thread that is started is that of the next agent
+pub loop-agent-preserved : goal.loop-agent-preserved
+loop-agent-preserved g c =
+    let was = c.loop-agent.invariant in
+    let step = c.in-Some.ensures.steps in
+    let done = vec_len c.loop-agent.handles in
+    let new = vec_items c.push.new.self in
+    let grown : vec_len c.push.new.self ≡ done + 1 = search rules in
+    let promised = c.in_ok-handle.ensures.ok in
+    let number_is : c.in_ok-handle.handle.promise.number.0 ≡ done = ap (λ (p : Part). p.number.0) promised ∙ grind rules in
+    let script_is : c.in_ok-handle.handle.promise.script.now ≡ c.args.script.now = ap (λ (p : Part). p.script.now) promised in (
+      search rules,
+      (λ k d below. below_more (λ i. (get_or new i d).promise.number.0 ≡ i) done
+          (λ i low. ap (λ (h : Handle). h.promise.number.0) (c.push.ensures.by_index.0 i d low) ∙ was.1 i d low)
+          (ap (λ (h : Handle). h.promise.number.0) (c.push.ensures.by_index.1 d (search rules)) ∙ number_is) k (omega arith)),
+      λ k d below. below_more (λ i. (get_or new i d).promise.script.now ≡ c.args.script.now) done
+          (λ i low. ap (λ (h : Handle). h.promise.script.now) (c.push.ensures.by_index.0 i d low) ∙ was.2 i d low)
+          (ap (λ (h : Handle). h.promise.script.now) (c.push.ensures.by_index.1 d (search rules)) ∙ script_is) k (omega arith),
+    )

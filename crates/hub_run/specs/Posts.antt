@@ -1,0 +1,41 @@
+-- What the log of an agent says of its posts.
+use Rattle.std.specs.Prelude.{ℕ, List, ◌++◌, Option, Some, None}
+use Rattle.std.specs.List.{filter_map}
+use Rattle.hub_envelope.specs.declared.ids.AgentId.{AgentId}
+use Rattle.hub_envelope.specs.declared.ids.EndId.{EndId}
+use Rattle.hub_trace.specs.Accepted.{AgentLog}
+use Rattle.hub_trace.specs.declared.content.Content.{Content}
+use Rattle.hub_trace.specs.declared.content.Content.TheVariants as content
+use Rattle.hub_trace.specs.declared.log_entry.LogEntry.{LogEntry}
+use Rattle.hub_trace.specs.declared.log_entry.LogEntry.TheVariants.{Put, Got, Adopted, Closed}
+
+-- what a post carries: the ports that it transfers, and its body
+abbrev pub Message : Type 0
+Message = List EndId × List ℕ
+
+-- a notice is no message
+abbrev pub message_in : Content → Option Message
+message_in (content.Message m) = Some m
+message_in content.Notice = None
+
+abbrev pub message_put : LogEntry → Option Message
+message_put (Put d) = message_in d.content
+message_put (Got d) = None
+message_put (Adopted e epoch) = None
+message_put (Closed e) = None
+
+-- the messages that the entries say were put, in their order
+abbrev pub messages_put : List LogEntry → List Message
+messages_put entries = filter_map message_put entries
+
+-- the agent of a log, and the messages that the log says it put
+pub record Posts : Type 0 where
+  pub agent : AgentId
+  pub put : List Message
+
+abbrev pub posts_of : AgentLog → Posts
+posts_of log = record { agent = log.0; put = messages_put log.1 }
+
+-- with these messages behind the others
+abbrev pub posting : Posts → List Message → Posts
+posting posts messages = record { agent = posts.agent; put = posts.put ++ messages }

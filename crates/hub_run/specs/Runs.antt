@@ -1,0 +1,60 @@
+-- What the logs of a run owe to its script: how many there are, whose each is, and the messages that it says were
+-- put.
+use Rattle.std.specs.Prelude.{◌≡◌, ◌⊎◌, ◌==◌, ℕ, List, [], ◌∷◌, ◌++◌, length, map, replicate, Some, slice_get}
+use Rattle.std.specs.List.{filter}
+use Rattle.hub_envelope.specs.declared.ids.AgentId.{AgentId}
+use Rattle.hub_envelope.specs.declared.ids.EndId.{EndId}
+use Rattle.hub_script.specs.Contents.{Contents, actions, agents}
+use Rattle.hub_script.specs.declared.action.Action.{Action}
+use Rattle.hub_script.specs.declared.action.ActionKind.{ActionKind}
+use Rattle.hub_script.specs.declared.action.ActionKind.TheVariants.{Post, Send, Cast}
+use Rattle.hub_trace.specs.Accepted.{AgentLog}
+use Rattle.hub_run.specs.Posts.{Message, Posts, messages_put, posting}
+
+-- nothing, or the one message of a post
+abbrev pub IsNoneOr : Message → List Message → Type 0
+IsNoneOr m messages = (messages ≡ []) ⊎ (messages ≡ m ∷ [])
+
+-- What an action may have its agent put: a post or a send its message, if it is accepted; a cast its body once
+-- for each post of it that is accepted; any other action nothing.
+abbrev pub IsPutFor : ActionKind → List Message → Type 0
+IsPutFor (Post port body transfer) messages = IsNoneOr (transfer, body) messages
+IsPutFor (Send queue body transfer) messages = IsNoneOr (transfer, body) messages
+IsPutFor (Cast member body) messages = (count : ℕ) × (messages ≡ replicate count ([], body))
+IsPutFor _ messages = messages ≡ []
+
+-- what these actions may have their agent put, one after the other
+abbrev pub ArePutFor : List ActionKind → List Message → Type 0
+ArePutFor [] messages = messages ≡ []
+ArePutFor (action ∷ later) messages =
+    (first : List Message) × (rest : List Message) × (messages ≡ first ++ rest) × IsPutFor action first × ArePutFor later rest
+
+-- the actions of the agent, in the order of the script
+abbrev pub actions_of : AgentId → List Action → List ActionKind
+actions_of agent all = map (λ a. a.kind) (filter (λ a. a.at.0 == agent.0) all)
+
+-- the action has put what it may
+abbrev pub Acts : ActionKind → Posts → Posts → Type 0
+Acts action before after = (messages : List Message) × IsPutFor action messages × (after ≡ posting before messages)
+
+abbrev pub ActsAll : List ActionKind → Posts → Posts → Type 0
+ActsAll all before after = (messages : List Message) × ArePutFor all messages × (after ≡ posting before messages)
+
+-- The log is this agent's. The messages that it says were put are, in order, those of the agent's actions and no others;
+-- an action may have put none.
+pub record IsLogFor (script : Contents) (agent : AgentId) (log : AgentLog) : Type 0 where
+  pub whose : log.0 ≡ agent
+  pub put : ArePutFor (actions_of agent (actions script)) (messages_put log.1)
+
+-- one log for each agent of the script, in the order of the agents
+pub record AreLogsFor (script : Contents) (logs : List AgentLog) : Type 0 where
+  pub count : length logs ≡ length (agents script)
+  pub each : (number : ℕ) (log : AgentLog) → slice_get logs number ≡ Some log → IsLogFor script (record { 0 = number }) log
+
+-- the agent has put this message, or nothing
+abbrev pub PutsOneOf : Message → Posts → Posts → Type 0
+PutsOneOf m before after = (messages : List Message) × IsNoneOr m messages × (after ≡ posting before messages)
+
+-- the agent has put this body, some times and with no ports
+abbrev pub PutsCopies : List ℕ → Posts → Posts → Type 0
+PutsCopies body before after = (count : ℕ) × (after ≡ posting before (replicate count ([], body)))
