@@ -73,6 +73,7 @@ impl Session {
             → IsKindOf bytes.now (told self.new) × GoesOn self.old self.new }
         ensures no_memory { result ≡ reply.NoMemory → Stays self.old self.new }
         ensures told { (result ≡ reply.Ran) ⊎ (result ≡ reply.Bad) → is_told self.new ≡ true }
+        ensures untold { result ≡ reply.RanUntold → is_told self.new ≡ false }
         ensures wants { result ≡ reply.NoMemory → TakesMemory bytes.now }
         ensures lost { self.new.is_lost ≡ is_lost_by result }
         ensures loses { result ≡ reply.Lost → (self.old.is_lost ≡ true) ⊎ TakesMore bytes.now }
@@ -94,6 +95,7 @@ impl Session {
         ensures ran { (result ≡ reply.Ran) ⊎ (result ≡ reply.RanUntold)
             → RunsLine self.old self.new line }
         ensures told { result ≡ reply.Ran → is_told self.new ≡ true }
+        ensures untold { result ≡ reply.RanUntold → is_told self.new ≡ false }
         ensures good { result ≡ reply.Bad → ⊥ }
         ensures no_memory { result ≡ reply.NoMemory
             → Stays self.old self.new × (command_takes_memory line.command ≡ true) }
@@ -142,7 +144,7 @@ impl Session {
     /// be made later.
     pub fn write_untold(&mut self) -> Result<(), OutOfMemory>
         ensures ok { OnOk result (is_told self.new ≡ true) }
-        ensures err { OnErr result (is_told self.old ≡ false) }
+        ensures err { OnErr result ((is_told self.old ≡ false) × (is_told self.new ≡ false)) }
         ensures stays { Stays self.old self.new }
         ensures lost { self.new.is_lost ≡ self.old.is_lost }
     {
