@@ -140,8 +140,8 @@ impl Session {
         }
     }
 
-    /// Makes the outcome line that found no memory when its step line was run. An `Err` leaves it to
-    /// be made later.
+    /// Makes the outcome line that found no memory when its step line was run. An `Err` leaves
+    /// it to be made later.
     pub fn write_untold(&mut self) -> Result<(), OutOfMemory>
         ensures ok { OnOk result (is_told self.new ≡ true) }
         ensures err { OnErr result ((is_told self.old ≡ false) × (is_told self.new ≡ false)) }
@@ -156,9 +156,9 @@ impl Session {
         Ok(())
     }
 
-    /// What the last text line was answered with that was run or bad: an outcome line with its LF, or
-    /// the name of the first test that a bad line fails. `None` where the outcome line found no memory
-    /// yet: see `write_untold`.
+    /// What the last text line was answered with that was run or bad: an outcome line with its
+    /// LF, or the name of the first test that a bad line fails. `None` where the outcome line
+    /// found no memory yet: see `write_untold`.
     pub fn said(&self) -> Option<&[u8]>
         ensures said { IfSome result (λ text. text.now ≡ told self.now) }
         ensures exactly { is_some result ≡ is_told self.now }
@@ -171,8 +171,8 @@ impl Session {
     }
 }
 
-/// What a session says to the step lines that it runs is their one text, which `run_steps` writes of
-/// an input that has them. The function does nothing; the law is its contract.
+/// What a session says to the step lines that it runs is their one text, which `run_steps`
+/// writes of an input that has them. The function does nothing; the law is its contract.
 pub fn session_laws()
     ensures { SaidIsTheText }
 {}
