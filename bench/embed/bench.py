@@ -1,9 +1,10 @@
 """Times the library's line calls from C, Rust, Node and Python beside `messagehub steps`.
 
-The programs read the same 1,000,003 step lines, give them one by one, and print the outcome lines, which
-have to be the same; each is timed as a process, so the start of Node and Python counts. Besides there are
-calls that are refused at once, opening and closing, the stack that calls take, and the sizes of what is
-built. embed/build makes the library first. The bound is on the best runs.
+The programs read the same 1,000,003 step lines, give them one by one, and print the outcome
+lines, which have to be the same; each is timed as a process, so the start of Node and Python
+counts. Besides there are calls that are refused at once, opening and closing, the stack that
+calls take, and the sizes of what is built. embed/build makes the library first. The bound is on
+the best runs.
 """
 
 import subprocess

@@ -1,4 +1,4 @@
-/* Times one call again and again: prints microseconds, and how many calls were answered as they should be.
+/* Times one call again and again: prints microseconds, and how many calls were answered right.
  * usage: calls NAME COUNT, or calls stack, which prints the bytes of stack that calls took. */
 #include "varukoni.h"
 
@@ -32,7 +32,8 @@ static unsigned long open_and_close(unsigned long count) {
     return done;
 }
 
-static unsigned long give_again(struct varukoni_hub *hub, const char *line, uint8_t wanted, unsigned long count) {
+static unsigned long give_again(struct varukoni_hub *hub, const char *line, uint8_t wanted,
+                                unsigned long count) {
     unsigned long done = 0;
     for (unsigned long at = 0; at < count; at++) done += give(hub, line) == wanted;
     return done;
@@ -50,10 +51,12 @@ static unsigned long run(const char *name, unsigned long count) {
     return done;
 }
 
-/* Calls that go deep: a body that is nested 64 deep, one that is nested deeper, and each kind of text. */
+/* Calls that go deep: bodies that are nested 64 deep and deeper, and each kind of text. */
 static void *go_deep(void *none) {
-    static const char *lines[] = {"agent https://a.test/x?y#z", "channel 0", "channel 0", "worker 0",
-                                  "member 0 \"n\"", "member 0 \"n\"", "cast 5 - 1", "start 1"};
+    static const char *lines[] = {
+        "agent https://a.test/x?y#z", "channel 0", "channel 0", "worker 0",
+        "member 0 \"n\"", "member 0 \"n\"", "cast 5 - 1", "start 1",
+    };
     static const char *logs = "hublog 3\nagent 0\nput 1 0 0:0 - 1\nagent 1\ngot 1 0 0:0 - 1\n";
     static const char *script = "window 0\n";
     static uint8_t room[4096];

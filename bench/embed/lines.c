@@ -1,4 +1,4 @@
-/* Runs the step lines of standard input one after the other, and prints their outcome lines at the end. */
+/* Runs the step lines of standard input one by one, and prints their outcome lines at the end. */
 #include "varukoni.h"
 
 #include <stdio.h>

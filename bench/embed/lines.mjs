@@ -1,4 +1,5 @@
-// Runs the step lines of standard input one after the other, and prints their outcome lines at the end.
+// Runs the step lines of standard input one after the other, and prints their outcome lines at
+// the end.
 import { readFileSync, writeSync } from 'node:fs';
 
 const { Hub } = await import(`${process.argv[2]}/node/varukoni.mjs`);

@@ -1,6 +1,6 @@
-/* The library for Node: a class Hub with the methods line, said and close, and the functions steps, check
- * and readScript. varukoni.mjs hands them on, and says what each gives. It keeps nothing outside of what
- * Node lends it, so each thread of Node may load it. */
+/* The library for Node: a class Hub with the methods line, said and close, and the functions steps,
+ * check and readScript. varukoni.mjs hands them on, and says what each gives. It keeps nothing
+ * outside of what Node lends it, so each thread of Node may load it. */
 #define NAPI_VERSION 8
 #include "../c/varukoni.h"
 
@@ -55,7 +55,7 @@ static napi_value no_memory(napi_env env) {
     return fail(env, "NoMemory", "out of memory, and nothing was changed");
 }
 
-/* Throws a BadLine, whose message is its kind and the front of the text line, where there is one. */
+/* Throws a BadLine, whose message is its kind and the front of the text line, if there is one. */
 static napi_value bad_line(napi_env env, const char *kind, size_t length, const struct bytes *line,
                            size_t line_length) {
     char what[256];
@@ -127,7 +127,7 @@ static napi_value construct(napi_env env, napi_callback_info info) {
     return self;
 }
 
-/* The hub that `this` is, and the first argument. NULL, and an error is thrown, where it is none. */
+/* The hub that `this` is, and the first argument. NULL, with an error thrown, where it is none. */
 static struct held *held_by(napi_env env, napi_callback_info info, napi_value *argument) {
     size_t count = 1;
     napi_value self;
@@ -145,7 +145,8 @@ static struct held *held_by(napi_env env, napi_callback_info info, napi_value *a
 /* Has the whole of what was said last in the room. */
 static uint8_t put_said(struct held *held, size_t *length) {
     for (;;) {
-        uint8_t answer = varukoni_said(&held->hub, (uint8_t *)held->room.at, held->room.size, length);
+        uint8_t answer =
+            varukoni_said(&held->hub, (uint8_t *)held->room.at, held->room.size, length);
         if (answer != VARUKONI_DONE || *length <= held->room.size) return answer;
         if (!grow(&held->room, *length)) return VARUKONI_NO_MEMORY;
     }
@@ -154,7 +155,9 @@ static uint8_t put_said(struct held *held, size_t *length) {
 static napi_value said_as(napi_env env, struct held *held, size_t length) {
     napi_value text;
     if (length > 0 && held->room.at[length - 1] == '\n') length--;
-    if (napi_create_string_utf8(env, held->room.at, length, &text) != napi_ok) return no_memory(env);
+    if (napi_create_string_utf8(env, held->room.at, length, &text) != napi_ok) {
+        return no_memory(env);
+    }
     return text;
 }
 
@@ -212,7 +215,8 @@ static uint8_t answer_whole(whole_call *call, const struct bytes *text, size_t t
                             struct bytes *room, size_t *length) {
     if (!grow(room, 2 * text_length + FIRST_SIZE)) return VARUKONI_NO_ROOM;
     for (;;) {
-        uint8_t status = call((uint8_t *)text->at, text_length, (uint8_t *)room->at, room->size, length);
+        uint8_t status =
+            call((uint8_t *)text->at, text_length, (uint8_t *)room->at, room->size, length);
         if (status == VARUKONI_NO_ROOM || *length <= room->size) return status;
         if (!grow(room, *length)) return VARUKONI_NO_ROOM;
     }

@@ -1,5 +1,5 @@
-// The tests of the wrapper: of Hub, of the web's classes, and random programs on these classes and on
-// Node's own, which have to deliver the same. usage: node tests.mjs PROGRAMS ACTIONS SEED
+// The tests of the wrapper: of Hub, of the web's classes, and random programs on these classes
+// and on Node's own, which have to deliver the same. usage: node tests.mjs PROGRAMS ACTIONS SEED
 //
 // The last line says how much was compared; the exit status is 1 where something differs.
 import assert from 'node:assert/strict';
@@ -37,7 +37,8 @@ function opened() {
 function testHub() {
   const hub = new Hub();
   same(hub.line('agent -'), 'agent 0');
-  refuses(() => hub.line('fly é'), { name: 'BadLine', kind: 'UnknownStep', message: 'UnknownStep: fly é' });
+  const unknown = { name: 'BadLine', kind: 'UnknownStep', message: 'UnknownStep: fly é' };
+  refuses(() => hub.line('fly é'), unknown);
   refuses(() => hub.line('post 0 - 1.5'), { name: 'BadLine', kind: 'NotWhole' });
   same(hub.said(), 'NotWhole');
   same(hub.line('channel 0'), 'ends 0 1');
@@ -81,14 +82,17 @@ function testValues() {
   const { port1, port2 } = new MessageChannel();
   const twice = {};
   const deep = (depth) => (depth === 0 ? 1 : [deep(depth - 1)]);
-  const good = [null, true, 0, -5, 2 ** 63, -(2 ** 63), 'é😀\n', '', [], {}, [[1], { a: null }], deep(64)];
+  const good = [
+    null, true, 0, -5, 2 ** 63, -(2 ** 63), 'é😀\n', '', [], {}, [[1], { a: null }], deep(64),
+  ];
   for (const value of good) {
     port1.postMessage(value);
     checks += 1;
   }
   const bad = [
-    undefined, 1.5, -0, NaN, Infinity, 2 ** 64, 10n, Symbol('a'), () => 1, new Date(), new Map(), /a/,
-    new (class A {})(), [, 1], Object.assign([1], { a: 1 }), [twice, twice], '\ud800', { a: undefined },
+    undefined, 1.5, -0, NaN, Infinity, 2 ** 64, 10n, Symbol('a'), () => 1, new Date(), /a/,
+    new Map(), new (class A {})(), [, 1], Object.assign([1], { a: 1 }), [twice, twice],
+    '\ud800', { a: undefined },
     deep(65), 'a'.repeat(262_143), new Uint8Array(1), port1,
   ];
   const dataClone = { name: 'DataCloneError' };
@@ -98,7 +102,8 @@ function testValues() {
   const closed = new MessageChannel().port1;
   closed.close();
   port1.postMessage(1, [sent]);
-  for (const list of [[port1], [other, other], [sent], [closed], [new ArrayBuffer(1)], [null], many]) {
+  const lists = [[port1], [other, other], [sent], [closed], [new ArrayBuffer(1)], [null], many];
+  for (const list of lists) {
     refuses(() => port1.postMessage(1, list), dataClone);
     refuses(() => port1.postMessage(1, { transfer: list }), dataClone);
   }
@@ -202,8 +207,8 @@ class Program {
       case 3: return 'a"\\\u00e9\u{1f600}\n'.slice(0, this.random(8)).toWellFormed();
       case 4: return Array.from({ length: this.random(4) }, () => this.value(depth + 1));
       default: {
-        const members = Array.from({ length: this.random(3) }, (_, at) => [`k${at}`, this.value(depth + 1)]);
-        return Object.fromEntries(members);
+        const member = (_, at) => [`k${at}`, this.value(depth + 1)];
+        return Object.fromEntries(Array.from({ length: this.random(3) }, member));
       }
     }
   }
@@ -312,7 +317,9 @@ class Program {
     for (const { port } of this.held.values()) port.close();
     for (const channel of this.members) channel.close();
     const places = new Map();
-    for (const [place, ...what] of this.seen) places.set(place, [...(places.get(place) ?? []), what]);
+    for (const [place, ...what] of this.seen) {
+      places.set(place, [...(places.get(place) ?? []), what]);
+    }
     return places;
   }
 }

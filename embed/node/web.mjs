@@ -1,19 +1,20 @@
-// The web's MessageChannel, MessagePort and BroadcastChannel over Varukoni's hub (HTML Standard, "Web
-// messaging"): all of a thread of Node, which is one agent.
+// The web's MessageChannel, MessagePort and BroadcastChannel over Varukoni's hub (HTML Standard,
+// "Web messaging"): all of a thread of Node, which is one agent.
 //
 //     const { port1, port2 } = new MessageChannel();
 //     port2.onmessage = (event) => console.log(event.data);
 //     port1.postMessage({ a: 1 });
 //
-// Each delivery is a task of its own (setImmediate). Setting `onmessage` starts a port. A port that was
-// sent is another object where it arrives, and is adopted there before its message is dispatched.
+// Each delivery is a task of its own (setImmediate). Setting `onmessage` starts a port. A port
+// that was sent is another object where it arrives, and is adopted there before its message is
+// dispatched.
 //
 // What can be posted is what a body of the hub can say: null, booleans, whole numbers, strings,
-// arrays and plain objects, nested at most 64 deep, as a tree, and at most 262,144 bytes of compact
-// JSON. Anything else throws a DataCloneError; so do more than 16 ports, and a transfer of anything but a
-// port. The members of an object that arrives stand in byte order of their keys. A hub has 65,536 ends,
-// of which a channel takes two and a broadcast channel one: then `new` throws an EndsUsedUpError, and
-// `webOver(new Hub())` gives classes over another hub.
+// arrays and plain objects, nested at most 64 deep, as a tree, and at most 262,144 bytes of
+// compact JSON. Anything else throws a DataCloneError; so do more than 16 ports, and a transfer
+// of anything but a port. The members of an object that arrives stand in byte order of their
+// keys. A hub has 65,536 ends, of which a channel takes two and a broadcast channel one: then
+// `new` throws an EndsUsedUpError, and `webOver(new Hub())` gives classes over another hub.
 import { Hub } from './varukoni.mjs';
 
 const MOST_DEPTH = 64;
@@ -177,7 +178,8 @@ class Agent {
     for (const end of ends) this.#waitingAt.delete(end);
     const adopted = ends.map((end) => this.hub.line(`adopt ${end} 0`));
     if (adopted.every((outcome) => outcome.startsWith('adopted '))) {
-      return new MessageEvent('message', { data: JSON.parse(body), ports: ends.map(this.#arrived) });
+      const ports = ends.map(this.#arrived);
+      return new MessageEvent('message', { data: JSON.parse(body), ports });
     }
     for (const end of ends) this.closePort(end);
     return new MessageEvent('messageerror');
@@ -254,7 +256,8 @@ export function webOver(hub) {
     }
 
     #post(transfer, body) {
-      const outcome = tellLong(() => agent.post(this.#end, transfer.map((port) => port.#end), body));
+      const list = transfer.map((port) => port.#end);
+      const outcome = tellLong(() => agent.post(this.#end, list, body));
       agent.wake(agent.peers.get(this.#end));
       return outcome.split(' ')[0];
     }

@@ -1,10 +1,11 @@
 #!/usr/bin/env python3
-"""Random actions are done on the proved core first and then on a hub under test, and the answers compared.
+"""Random actions are done on the proved core first and then on a hub under test, and the answers
+compared.
 
-The core also says which actions may be done: one that it answers `not-now` isn't done on the hub, so
-whoever draws the actions keeps no book of what is legal. A difference is cut down to a few actions that
-still show it, and printed. The hub is a toy with or without a bug, or Node's own MessageChannel; for a hub
-of your own, write a class with the methods of toy_hub.ToyHub.
+The core also says which actions may be done: one that it answers `not-now` isn't done on the
+hub, so whoever draws the actions keeps no book of what is legal. A difference is cut down to a
+few actions that still show it, and printed. The hub is a toy with or without a bug, or Node's
+own MessageChannel; for a hub of your own, write a class with the methods of toy_hub.ToyHub.
 
 The exit status is 0 where no difference was found, 1 where one was, or 2 for wrong arguments.
 """
@@ -49,7 +50,7 @@ class Core:
         return self.hub(f"adopt {number} {agent}").split()[0]
 
     def close(self, number):
-        """Its poster goes on to the newest queue first, so that the notice arrives; what waits is swept."""
+        """Its poster first goes on to the newest queue, so that the notice arrives."""
         while self.hub(f"hop {number}").startswith("hopped "):
             pass
         answer = self.hub(f"close {number}")
@@ -149,7 +150,7 @@ def cut_down(actions, make):
 
 
 def compare(make, runs, length, seed):
-    """The actions of the first run that differs, cut down, or None; and how many were done on both."""
+    """The first run that differs, cut down, or None; and how many actions were done on both."""
     total = 0
     for run in range(runs):
         actions = drawn(seed + run, length)
@@ -173,7 +174,8 @@ def read_words():
     parser.add_argument("--hub", choices=["toy", "node"], default="toy", help="the hub under test")
     parser.add_argument("--bug", choices=sorted(toy_hub.BUGS), help="a bug of the toy")
     parser.add_argument("--runs", metavar="N", type=int, default=300, help="how many runs (300)")
-    parser.add_argument("--length", metavar="N", type=int, default=400, help="actions in each (400)")
+    parser.add_argument("--length", metavar="N", type=int, default=400,
+                        help="actions in each (400)")
     parser.add_argument("--seed", metavar="N", type=int, default=0, help="what they are drawn from")
     words = parser.parse_args()
     if words.bug and words.hub != "toy":

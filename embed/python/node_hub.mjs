@@ -1,5 +1,6 @@
-// Does actions on Node's own MessageChannel: a line with a JSON list in, a line with the answer out. It reads
-// and writes with no turn of Node's event loop between, in which Node would close ports.
+// Does actions on Node's own MessageChannel: a line with a JSON list in, a line with the answer
+// out. It reads and writes with no turn of Node's event loop between, in which Node would close
+// ports.
 import { MessageChannel, receiveMessageOnPort } from 'node:worker_threads';
 import { readSync, writeSync } from 'node:fs';
 

@@ -1,4 +1,4 @@
-"""Node's own MessageChannel as a hub under test: node_hub.mjs does the actions, in a process beside."""
+"""Node's own MessageChannel as a hub under test: node_hub.mjs does the actions."""
 
 import json
 import pathlib
@@ -31,7 +31,7 @@ class NodeHub:
         return json.loads(NodeHub.process.stdout.readline())
 
     def may(self, name, arguments):
-        """Node takes from a port that isn't started too, and loses the ports of a post that goes nowhere."""
+        """Node takes from ports that aren't started too, and loses ports that are sent nowhere."""
         if name == "channel":
             return True
         number = arguments[0]
@@ -65,7 +65,7 @@ class NodeHub:
     def take(self, number):
         taken = self.ask("take", [number])
         if isinstance(taken, str):
-            # Node closes a port that has taken all that was posted before the other port was closed.
+            # Node closes a port once it has taken all that came before its peer was closed.
             if self.peers[number] in self.closed:
                 self.leave(number)
             return taken

@@ -1,8 +1,9 @@
 #!/usr/bin/env python3
-"""Answers each step line of standard input before it reads the next one, for a host that holds the two pipes.
+"""Answers each step line of standard input before it reads the next one, for a host that holds
+the two pipes.
 
-A line that is no step line is answered `bad KIND`, and the hub goes on. It ends with its input, and with
-status 3 where memory ran out.
+A line that is no step line is answered `bad KIND`, and the hub goes on. It ends with its input,
+and with status 3 where memory ran out.
 """
 
 import sys

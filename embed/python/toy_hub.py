@@ -1,4 +1,4 @@
-"""A small hub of a user's own, as the test bed of a browser may have one: channels whose ports can be sent.
+"""A small hub of a user's own, as a test bed may have one: channels whose ports can be sent.
 
 It takes a bug by its name, to see that model_test.py finds it.
 """

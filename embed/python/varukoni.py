@@ -4,10 +4,10 @@
         hub("agent -")          # 'agent 0'
         hub("channel 0")        # 'ends 0 1'
 
-docs/EMBEDDING.md tells how to build the library, and docs/FORMATS.md has the step lines. A hub is used by
-one thread at a time, different hubs by several at once: ctypes lets go of the interpreter's lock during a
-call, so each hub has a lock of its own here. The library is the one that VARUKONI_SO names, or
-`libvarukoni.so` in `lib` or `out/lib` of the folder above.
+docs/EMBEDDING.md tells how to build the library, and docs/FORMATS.md has the step lines. A hub
+is used by one thread at a time, different hubs by several at once: ctypes lets go of the
+interpreter's lock during a call, so each hub has a lock of its own here. The library is the one
+that VARUKONI_SO names, or `libvarukoni.so` in `lib` or `out/lib` of the folder above.
 """
 
 import ctypes
@@ -21,8 +21,8 @@ _NAME = "libvarukoni.so"
 
 
 class BadLine(ValueError):
-    """The text line is no step line, or the text no script. `kind` names the first test that the line fails,
-    or is the first bad line of the script. Nothing was run, and the hub goes on."""
+    """The text line is no step line, or the text no script. `kind` names the first test that the
+    line fails, or is the first bad line of the script. Nothing was run, and the hub goes on."""
 
     def __init__(self, kind, line):
         super().__init__(kind if line is None else f"{kind}: {line!r}")
@@ -83,7 +83,7 @@ _library = _loaded()
 
 
 class Hub:
-    """The hub after the step lines so far. Calling it runs one step line, which comes without its LF."""
+    """The hub after the step lines so far. A call runs one more, which comes without its LF."""
 
     def __init__(self):
         self._raw = _Raw(None, False)

@@ -1,5 +1,6 @@
-//! Links the archive that `embed/build` has made: in the folder that VARUKONI_LIB names, else in `lib`
-//! beside this one, as in a folder made by `embed/build --to`, else in `out/lib` of the repository.
+//! Links the archive that `embed/build` has made: in the folder that VARUKONI_LIB names, else in
+//! `lib` beside this one, as in a folder made by `embed/build --to`, else in `out/lib` of the
+//! repository.
 
 use std::env;
 use std::path::PathBuf;

@@ -1,20 +1,16 @@
 -- Calls for one hub are turns of its session.
-use Rattle.std.proofs.Common.{◌≡◌, ◌⊎◌, ℕ, List, [], ◌∷◌, ◌++◌, Bool, true, false, Option, Some, None, Ok, cond, refl, sym, ap, subst, inl, inr, ◌∙◌}
+use Rattle.std.proofs.Common.{◌≡◌, ◌⊎◌, ℕ, List, [], ◌∷◌, ◌++◌, true, false, Some, None, Ok, refl, sym, ap, subst, inl, inr, ◌∙◌}
 use Rattle.std.specs.Prelude.{◌||◌, ◌==◌}
-use Rattle.hub_engine.specs.declared.status.ExitStatus.TheVariants as status
-use Rattle.hub_text.specs.TextLines.{text_lines_of}
 use Rattle.hub_steps.specs.declared.session.Reply.{Reply}
 use Rattle.hub_steps.specs.declared.session.Reply.TheVariants as reply
 use Rattle.hub_steps.specs.declared.session.Session.{Session}
-use Rattle.hub_steps.specs.declared.step_line.StepLine.{StepLine}
-use Rattle.hub_steps.specs.Output.{IsStepsOutput}
 use Rattle.hub_steps.specs.Session as session
 use Rattle.hub_steps.specs.Session.{AreTurns, GoesOn, HasRun, RunsOn, Turn, told}
 use Rattle.hub_steps.specs.Steps.{steps_from}
 use Rattle.hub_steps.specs.StepText.{IsStepText}
 use Rattle.hub_steps.proofs.Sessions.{said_is_the_text}
-use Rattle.hub_c.specs.Calls.{AreCalls, Call, IsCall, SaidIsTheText, all_said, said_in, texts_run}
-use Rattle.hub_c.specs.Held.{Both, Held, IsNew}
+use Rattle.hub_c.specs.Calls.{AreCalls, Call, IsCall, SaidIsTheText, all_said, texts_run}
+use Rattle.hub_c.specs.Held.{Both, Held}
 use Rattle.hub_c.specs.Line.{BadLine, NoMemoryLine, NoRoomLine, RanLine}
 
 -- the turns of these calls, from a session on
@@ -79,8 +75,7 @@ pub said_is_text : SaidIsTheText
 said_is_text None cs fresh calls = absurd fresh
 said_is_text (Some s) cs fresh calls =
     let also = are_turns s cs calls in
-    let law = said_is_the_text s also.turns fresh.0 also.are in
-    (
+    let law = said_is_the_text s also.turns fresh.0 also.are in (
       law.0,
       subst (λ ts. steps_from 1 ts ≡ Ok law.0) also.texts law.1,
       subst (λ text. IsStepText law.0 text) also.said law.2,

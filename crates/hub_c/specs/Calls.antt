@@ -1,5 +1,5 @@
 -- Calls of `varukoni_line` for one hub, one after the other.
-use Rattle.std.specs.Prelude.{◌≡◌, ◌⊎◌, ◌||◌, ◌==◌, ℕ, List, [], ◌∷◌, ◌++◌, Option, Some, None, Ok, if◌then◌else◌}
+use Rattle.std.specs.Prelude.{◌≡◌, ◌⊎◌, ◌||◌, ◌==◌, ℕ, List, [], ◌∷◌, ◌++◌, Some, None, Ok, if◌then◌else◌}
 use Rattle.hub_engine.specs.declared.status.ExitStatus.TheVariants as status
 use Rattle.hub_text.specs.TextLines.{text_lines_of}
 use Rattle.hub_steps.specs.declared.step_line.StepLine.{StepLine}

@@ -1,5 +1,5 @@
 -- What a hub has.
-use Rattle.std.specs.Prelude.{◌≡◌, ℕ, List, [], Bool, true, false, Option, Some, None}
+use Rattle.std.specs.Prelude.{◌≡◌, [], Bool, true, false, Option, Some, None}
 use base.Fml.{Fml, ftrue}
 use Rattle.std.specs.Coded.{Coded, coded_option}
 use denote.RawPtr.{Ptr}

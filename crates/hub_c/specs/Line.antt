@@ -1,7 +1,7 @@
 -- What becomes of a session at a text line, by the status that is answered.
 use Rattle.std.specs.Prelude.{◌≡◌, ◌⊎◌, ◌||◌, ◌==◌, ℕ, Bool, true, false, List}
 use Rattle.hub_steps.specs.declared.session.Session.{Session}
-use Rattle.hub_steps.specs.Session.{GoesOn, IsKindOf, RunsOn, Stays, TakesMemory, TakesMore, told}
+use Rattle.hub_steps.specs.Session.{GoesOn, IsKindOf, RunsOn, Stays, TakesMemory, TakesMore, is_told, told}
 
 -- the step line was run after those before
 abbrev pub RanLine : Session → Session → List ℕ → Type 0
@@ -17,7 +17,7 @@ NoMemoryLine s t bytes = Stays s t × TakesMemory bytes × (t.is_lost ≡ false)
 
 -- the step line was run after those before, and its outcome line is to be made later
 abbrev pub NoRoomLine : Session → Session → List ℕ → Type 0
-NoRoomLine s t bytes = RunsOn s t bytes × (t.is_lost ≡ false)
+NoRoomLine s t bytes = RunsOn s t bytes × (is_told t ≡ false) × (t.is_lost ≡ false)
 
 -- memory ran out within the steps of this line, which are several, or of an earlier one
 abbrev pub LostLine : Session → Session → List ℕ → Type 0

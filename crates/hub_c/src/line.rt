@@ -10,8 +10,8 @@ use crate::status::{BAD, DONE, LOST, NO_MEMORY, NO_ROOM};
 use hub_steps::{Reply, Session};
 use std::alloc::Global;
 
-/// Gives a text line to a session, and puts what it is answered with into the room: an outcome line,
-/// or the name of the first test that the text line fails.
+/// Gives a text line to a session, and puts what it is answered with into the room: an outcome
+/// line, or the name of the first test that the text line fails.
 pub fn give_line(
     alloc: Global,
     session: &mut Session,
@@ -63,7 +63,8 @@ pub fn put_said(session: &Session, room: &mut [u8], length: &mut usize) -> bool
     }
 }
 
-/// Puts what was said last into the room once more, and makes the outcome line that found no memory.
+/// Puts what was said last into the room once more, and makes the outcome line that found no
+/// memory.
 pub fn say_again(session: &mut Session, room: &mut [u8], length: &mut usize) -> u8
     ensures said { result ≡ 0 → SaysAgain session.old session.new
         × Fills room.old room.new length.new (told session.old) }

@@ -73,6 +73,7 @@ impl Session {
             → IsKindOf bytes.now (told self.new) × GoesOn self.old self.new }
         ensures no_memory { result ≡ reply.NoMemory → Stays self.old self.new }
         ensures told { (result ≡ reply.Ran) ⊎ (result ≡ reply.Bad) → is_told self.new ≡ true }
+        ensures untold { result ≡ reply.RanUntold → is_told self.new ≡ false }
         ensures wants { result ≡ reply.NoMemory → TakesMemory bytes.now }
         ensures lost { self.new.is_lost ≡ is_lost_by result }
         ensures loses { result ≡ reply.Lost → (self.old.is_lost ≡ true) ⊎ TakesMore bytes.now }
@@ -94,6 +95,7 @@ impl Session {
         ensures ran { (result ≡ reply.Ran) ⊎ (result ≡ reply.RanUntold)
             → RunsLine self.old self.new line }
         ensures told { result ≡ reply.Ran → is_told self.new ≡ true }
+        ensures untold { result ≡ reply.RanUntold → is_told self.new ≡ false }
         ensures good { result ≡ reply.Bad → ⊥ }
         ensures no_memory { result ≡ reply.NoMemory
             → Stays self.old self.new × (command_takes_memory line.command ≡ true) }
@@ -138,11 +140,11 @@ impl Session {
         }
     }
 
-    /// Makes the outcome line that found no memory when its step line was run. An `Err` leaves it to
-    /// be made later.
+    /// Makes the outcome line that found no memory when its step line was run. An `Err` leaves
+    /// it to be made later.
     pub fn write_untold(&mut self) -> Result<(), OutOfMemory>
         ensures ok { OnOk result (is_told self.new ≡ true) }
-        ensures err { OnErr result (is_told self.old ≡ false) }
+        ensures err { OnErr result ((is_told self.old ≡ false) × (is_told self.new ≡ false)) }
         ensures stays { Stays self.old self.new }
         ensures lost { self.new.is_lost ≡ self.old.is_lost }
     {
@@ -154,9 +156,9 @@ impl Session {
         Ok(())
     }
 
-    /// What the last text line was answered with that was run or bad: an outcome line with its LF, or
-    /// the name of the first test that a bad line fails. `None` where the outcome line found no memory
-    /// yet: see `write_untold`.
+    /// What the last text line was answered with that was run or bad: an outcome line with its
+    /// LF, or the name of the first test that a bad line fails. `None` where the outcome line
+    /// found no memory yet: see `write_untold`.
     pub fn said(&self) -> Option<&[u8]>
         ensures said { IfSome result (λ text. text.now ≡ told self.now) }
         ensures exactly { is_some result ≡ is_told self.now }
@@ -169,8 +171,8 @@ impl Session {
     }
 }
 
-/// What a session says to the step lines that it runs is their one text, which `run_steps` writes of
-/// an input that has them. The function does nothing; the law is its contract.
+/// What a session says to the step lines that it runs is their one text, which `run_steps`
+/// writes of an input that has them. The function does nothing; the law is its contract.
 pub fn session_laws()
     ensures { SaidIsTheText }
 {}

@@ -1,12 +1,13 @@
-/* Calls of the library, for tests/test_embed.py. The first argument says what is done with standard input:
+/* Calls of the library, for tests/test_embed.py. A word says what is done with standard input:
  *
  *   lines     runs its text lines one after the other, and prints what `messagehub steps` would
  *   steps, check, script    gives it as a whole to that call, and prints what that says
- *   refuse    runs its text lines in a new hub with the first allocation refused, then with the second,
- *             and so on; each is to be answered as the header says
+ *   refuse    runs its text lines in a new hub with the first allocation refused, then with the
+ *             second, and so on; each line is to be answered as the header says
  *   threads   four threads run them in hubs of their own, again and again
  *
- * The exit status is that of the call, or 99 where the library breaks its word; then standard error says why.
+ * The exit status is that of the call, or 99 where the library breaks its word; then standard
+ * error says why.
  */
 #include "varukoni.h"
 
@@ -73,7 +74,7 @@ static size_t line_at(const struct text *all, size_t at, size_t *next) {
     return length;
 }
 
-/* Puts what was said last behind the text. A room that is too small tells how much is said, and loses nothing. */
+/* Puts what was said last behind the text. A room that is too small loses nothing. */
 static void put_said(struct varukoni_hub *hub, struct text *said) {
     uint8_t small[SMALL];
     size_t length, again;
@@ -89,7 +90,8 @@ static void put_said(struct varukoni_hub *hub, struct text *said) {
 }
 
 /* Gives a line to the hub, and puts what it says behind the text. */
-static uint8_t give(struct varukoni_hub *hub, const uint8_t *line, size_t line_length, struct text *said) {
+static uint8_t give(struct varukoni_hub *hub, const uint8_t *line, size_t line_length,
+                    struct text *said) {
     uint8_t room[4096];
     size_t length = 0;
     uint8_t answer = varukoni_line(hub, line, line_length, room, sizeof room, &length);
@@ -146,8 +148,8 @@ static int run_whole(whole_call *call, const struct text *all, struct text *said
 }
 
 /* Gives a line again where nothing was changed, and asks for what found no memory. */
-static uint8_t give_refused(struct varukoni_hub *hub, const uint8_t *line, size_t length, struct text *said,
-                            unsigned long counts[7]) {
+static uint8_t give_refused(struct varukoni_hub *hub, const uint8_t *line, size_t length,
+                            struct text *said, unsigned long counts[7]) {
     size_t before = said->length;
     uint8_t answer = give(hub, line, length, said);
     counts[answer]++;
@@ -162,8 +164,8 @@ static uint8_t give_refused(struct varukoni_hub *hub, const uint8_t *line, size_
     return answer;
 }
 
-static void run_refusing(const struct text *all, unsigned long number, struct text *said, int *is_lost,
-                         unsigned long counts[7]) {
+static void run_refusing(const struct text *all, unsigned long number, struct text *said,
+                         int *is_lost, unsigned long counts[7]) {
     struct varukoni_hub hub = VARUKONI_HUB_CLOSED;
     left = number;
     is_refused = *is_lost = 0;
@@ -178,7 +180,9 @@ static void run_refusing(const struct text *all, unsigned long number, struct te
         answer = give_refused(&hub, all->at + at, length, said, counts);
         if (*is_lost && answer != VARUKONI_LOST) fail("lost, and then not");
         if (answer == VARUKONI_LOST) *is_lost = 1;
-        if (answer == VARUKONI_BAD || answer == VARUKONI_WRONG_STATE) fail("a good line is refused");
+        if (answer == VARUKONI_BAD || answer == VARUKONI_WRONG_STATE) {
+            fail("a good line is refused");
+        }
     }
     left = 0;
     varukoni_close(&hub);
@@ -195,7 +199,9 @@ static int refuse_each(const struct text *all) {
         run_refusing(all, ++number, &said, &is_lost, counts);
         lost += (unsigned long)is_lost;
         /* What was said is a beginning of the text, and all of it where the hub wasn't lost. */
-        if (said.length > wanted.length || memcmp(said.at, wanted.at, said.length) != 0) fail("another text");
+        if (said.length > wanted.length || memcmp(said.at, wanted.at, said.length) != 0) {
+            fail("another text");
+        }
         if (!is_lost && said.length != wanted.length) fail("a shorter text");
         free(said.at);
     }
@@ -215,9 +221,8 @@ static void *run_task(void *argument) {
     for (int turn = 0; turn < TURNS; turn++) {
         struct text said = {0};
         if (run_lines(task->all, &said) != VARUKONI_DONE) fail("threads: a status");
-        if (said.length != task->wanted->length || memcmp(said.at, task->wanted->at, said.length) != 0) {
-            fail("threads: another text");
-        }
+        if (said.length != task->wanted->length) fail("threads: another length");
+        if (memcmp(said.at, task->wanted->at, said.length) != 0) fail("threads: another text");
         for (size_t at = 0; at < said.length; at++) task->lines += said.at[at] == '\n';
         free(said.at);
     }
@@ -232,7 +237,7 @@ static int run_threads(const struct text *all) {
     if (run_lines(all, &wanted) != VARUKONI_DONE) fail("threads: a bad text");
     for (int at = 0; at < THREADS; at++) {
         tasks[at] = (struct task){all, &wanted, 0};
-        if (pthread_create(&threads[at], NULL, run_task, &tasks[at])) fail("threads: none was made");
+        if (pthread_create(&threads[at], NULL, run_task, &tasks[at])) fail("threads: none made");
     }
     for (int at = 0; at < THREADS; at++) {
         pthread_join(threads[at], NULL);

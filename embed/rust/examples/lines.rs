@@ -1,5 +1,6 @@
-//! Runs the step lines of standard input one after the other, and prints their outcome lines. With the
-//! word `time` it prints how many nanoseconds a line took instead, and how many bytes were said.
+//! Runs the step lines of standard input one after the other, and prints their outcome lines.
+//! With the word `time` it prints how many nanoseconds a line took instead, and how many bytes
+//! were said.
 
 use std::error::Error;
 use std::io::{self, Read, Write};

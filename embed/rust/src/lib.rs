@@ -1,6 +1,6 @@
-//! Varukoni's hub in a Rust program: step lines in, outcome lines out. What the library is proved to
-//! do, and what it asks of a caller, stands in `varukoni.h` and in docs/EMBEDDING.md; docs/FORMATS.md
-//! has the step lines.
+//! Varukoni's hub in a Rust program: step lines in, outcome lines out. What the library is
+//! proved to do, and what it asks of a caller, stands in `varukoni.h` and in docs/EMBEDDING.md;
+//! docs/FORMATS.md has the step lines.
 //!
 //! ```
 //! let mut hub = varukoni::Hub::open()?;
@@ -9,9 +9,10 @@
 //! # Ok::<(), varukoni::Error>(())
 //! ```
 //!
-//! The safe functions meet what the header asks, so those who call them owe nothing: each pointer is
-//! that of a slice with its length, no two of them overlap, `&mut self` lets one call run at a time for
-//! one hub, and `Drop` closes it. That these declarations fit the header is proved by nothing.
+//! The safe functions meet what the header asks, so those who call them owe nothing: each
+//! pointer is that of a slice with its length, no two of them overlap, `&mut self` lets one call
+//! run at a time for one hub, and `Drop` closes it. That these declarations fit the header is
+//! proved by nothing.
 
 use std::fmt;
 
@@ -85,8 +86,8 @@ pub const VERSION: u32 = 1;
 /// Why a call gave nothing.
 #[derive(Debug, Clone, PartialEq, Eq)]
 pub enum Error {
-    /// It is no step line, or no script. This names the first test that the line fails, or is the first
-    /// bad line of the script. Nothing was run, and the hub goes on.
+    /// It is no step line, or no script. This names the first test that the line fails, or is
+    /// the first bad line of the script. Nothing was run, and the hub goes on.
     Bad(String),
     /// Memory ran out, and nothing was changed: the call may be made again.
     NoMemory,
@@ -120,7 +121,8 @@ pub struct Hub {
     room: Vec<u8>,
 }
 
-// SAFETY: the header lets a hub move to another thread where calls are ordered, which `&mut self` does.
+// SAFETY: the header lets a hub move to another thread where calls are ordered, which `&mut
+// self` does.
 unsafe impl Send for Hub {}
 
 impl fmt::Debug for Hub {
@@ -150,8 +152,8 @@ impl Hub {
     #[inline]
     pub fn line(&mut self, line: &[u8]) -> Result<&[u8], Error> {
         let mut length = 0;
-        // SAFETY: the hub is this one's alone; line, room and length are lent for the call, each with
-        // its length, and don't overlap.
+        // SAFETY: the hub is this one's alone; line, room and length are lent for the call, each
+        // with its length, and don't overlap.
         let answer = unsafe {
             sys::varukoni_line(
                 &mut self.raw,
@@ -168,8 +170,8 @@ impl Hub {
         self.answered(answer, length)
     }
 
-    /// What the last line was answered with that was run or bad, once more: its outcome line, or the
-    /// name of the first test that it fails.
+    /// What the last line was answered with that was run or bad, once more: its outcome line, or
+    /// the name of the first test that it fails.
     pub fn said(&mut self) -> Result<&[u8], Error> {
         let length = self.put_said()?;
         Ok(without_line_feed(&self.room[..length]))
