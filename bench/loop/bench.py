@@ -1,33 +1,87 @@
 """Times the event loop: its deliveries, its turns in which no end has anything, and round trips.
 
-The loop holds 1, 100 and 10,000 enabled ports, of which one is busy. A turn asks the ends in turn,
-beginning behind the one served last, so that each delivery asks all others, and a turn in which no
-end has anything touches every open end once. Messages there and back go between two loops on two
-threads, each of which holds one port and parks where it has nothing to deliver. There is no bound.
+The loop holds 1, 10, 100, 1,000 and 10,000 enabled ports, of which one is busy, and 10,000 of which
+10, 100 and 1,000 are. Messages are posted 1,000 at a time and then delivered in as many turns, which
+are timed. Beside it Node's MessagePorts in a Worker that listens at as many; it sleeps while the
+messages are posted, and is timed from there to the last of them. A turn in which no end has anything
+asks every enabled end once. Messages there and back go between two loops on two threads, which park
+where they have nothing to deliver; one holds a single port, and the other one or 10,000.
+
+The bounds are on the best runs: what one delivery takes more with many ports than with one, and how
+much longer Node takes.
 """
 
-from measure import scaled
+from measure import ratio, scaled
 
 BUILDS = {
     "loop": ["hub_envelope", "hub_life", "hub_loop", "hub_ports", "hub_queue"]
 }
-# What is timed, with how many ports, and how often.
-SHAPES = {
-    "deliveries, 1 port": ("deliveries", 1, 1_000_000),
-    "deliveries, 100 ports": ("deliveries", 100, 200_000),
-    "deliveries, 10,000 ports": ("deliveries", 10_000, 2000),
-    "idle, 1 port": ("idle", 1, 1_000_000),
-    "idle, 100 ports": ("idle", 100, 100_000),
-    "idle, 10,000 ports": ("idle", 10_000, 1000),
-    "there and back": ("trips", 1, 100_000),
-}
+SIZES = [1, 10, 100, 1_000, 10_000]
+BUSY = [10, 100, 1_000]
+MESSAGES = 200_000
+MESSAGES_OF_NODE = 50_000
+TRIPS = 100_000
+# With how many ports turns are timed in which no end has anything, and how many of them.
+IDLE = {1: 1_000_000, 100: 100_000, 10_000: 1_000}
+MOST_BESIDE_ONE = 1.5
+MOST_TRIP_BESIDE_ONE = 4
+LEAST_BESIDE_NODE = 2
+MOST_NANOSECONDS_AN_IDLE_END = 30
 
 
 def run(bench):
-    program = bench.built("loop")
-    runs = bench.in_turns({
-        name: program.job(kind, ports, count, told=[count])
-        for name, (kind, ports, count) in SHAPES.items()
-    })
-    for name, (_, _, count) in SHAPES.items():
-        bench.shows(name, scaled(runs[name].seconds, 1e6 / count), "us")
+    runs = bench.in_turns(jobs_of(bench))
+    one = runs["deliveries 1 1"].seconds
+    for ports, busy in shapes():
+        name = named(ports, busy)
+        seconds = runs[f"deliveries {ports} {busy}"].seconds
+        bench.shows(f"deliveries, {name}", scaled(seconds, 1e6 / MESSAGES), "us")
+        if ports > 1:
+            beside = ratio(seconds, one)
+            bench.at_most(MOST_BESIDE_ONE, f"deliveries, {name}, beside 1 port", beside, "times")
+        if busy > 1:
+            continue
+        node = runs[f"Node {ports}"].seconds
+        bench.shows(f"deliveries, {name}, Node", scaled(node, 1e6 / MESSAGES_OF_NODE), "us")
+        beside = ratio(node, seconds, scale=MESSAGES / MESSAGES_OF_NODE)
+        bench.at_least(LEAST_BESIDE_NODE, f"deliveries, {name}, beside Node", beside, "times")
+    for ports, turns in IDLE.items():
+        an_end = scaled(runs[f"idle {ports}"].seconds, 1e9 / turns / ports)
+        if ports == max(IDLE):
+            bench.at_most(MOST_NANOSECONDS_AN_IDLE_END, f"idle, {ports:,} ports, an end", an_end, "ns")
+        else:
+            bench.shows(f"idle, {ports:,} ports, an end", an_end, "ns")
+    for ports in (1, max(SIZES)):
+        trips = scaled(runs[f"trips {ports}"].seconds, 1e6 / TRIPS)
+        bench.shows(f"there and back, {ports:,} ports", trips, "us")
+    beside = ratio(runs[f"trips {max(SIZES)}"].seconds, runs["trips 1"].seconds)
+    name = f"there and back, {max(SIZES):,} ports, beside 1 port"
+    bench.at_most(MOST_TRIP_BESIDE_ONE, name, beside, "times")
+
+
+def shapes():
+    """How many ports the loop holds, and how many are busy."""
+    return [*((ports, 1) for ports in SIZES), *((max(SIZES), busy) for busy in BUSY)]
+
+
+def named(ports, busy):
+    of_many = f", {busy:,} busy" if busy > 1 else ""
+    return f"{ports:,} port{'s' if ports > 1 else ''}{of_many}"
+
+
+def jobs_of(bench):
+    program, node = bench.built("loop"), bench.node("loop/reference.mjs")
+    jobs = {}
+    for ports, busy in shapes():
+        jobs[f"deliveries {ports} {busy}"] = program.job(
+            "deliveries", ports, busy, MESSAGES, told=[MESSAGES]
+        )
+        if busy == 1:
+            jobs[f"Node {ports}"] = node.job(
+                ports, busy, MESSAGES_OF_NODE, told=[MESSAGES_OF_NODE]
+            )
+    for ports, turns in IDLE.items():
+        jobs[f"idle {ports}"] = program.job("idle", ports, 1, turns, told=[turns])
+    for ports in (1, max(SIZES)):
+        jobs[f"trips {ports}"] = program.job("trips", ports, 1, TRIPS, told=[TRIPS])
+    return jobs

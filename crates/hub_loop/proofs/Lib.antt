@@ -4,5 +4,6 @@ mod Delivers
 mod Ends
 mod Notices
 mod Pops
+mod Reaches
 mod Serves
 mod TakesNothing

@@ -1,8 +1,8 @@
 -- Each enabled end that was asked costs a pop at least.
-use Rattle.std.proofs.Common.{◌≡◌, ◌≢◌, ℕ, zero, suc, ◌+◌, ◌-◌, ◌<◌, ◌≤◌, cond, Bool, take, length, refl, sym, ap, ◌∙◌, ⊎_elim, arith, Option, Some, None}
+use Rattle.std.proofs.Common.{◌≡◌, ◌≢◌, ℕ, zero, suc, ◌+◌, ◌-◌, ◌<◌, ◌≤◌, cond, Bool, false, ◌||◌, List, [], ◌∷◌, ◌++◌, subst, take, length, refl, sym, ap, ◌∙◌, ⊎_elim, arith, Option, Some, None}
 use Rattle.std.specs.Prelude.{nat_lt}
 use Rattle.std.specs.List.{count_by}
-use Rattle.std.proofs.lemmas.Bool.{cases_lt, cond_both}
+use Rattle.std.proofs.lemmas.Bool.{cases_eq, cases_lt, cond_both}
 use Rattle.std.proofs.lemmas.List.{get_or_past, take_all}
 use Rattle.std.proofs.lemmas.List.Sums.{sum_by_more}
 use Rattle.slab.specs.Slab.{Slab, get}
@@ -13,13 +13,15 @@ use Rattle.hub_queue.specs.Taking.{TakerSeat, IsTaken}
 use Rattle.hub_loop.specs.Asking.{Leaves, IsAsked, IsHeldAsked}
 use Rattle.hub_loop.specs.Holding.{seat_of}
 use Rattle.hub_loop.specs.Popping.{is_seat_enabled, is_enabled}
-use Rattle.hub_loop.specs.Serving.{IsSlotAsked, GaveNone, AreServed}
+use Rattle.hub_loop.specs.Serving.{IsSlotAsked, IsAskedAt, AskedAll, HasOrder, InOrder}
 use Rattle.hub_loop.specs.Turning.{IsDue}
 use Rattle.hub_loop.specs.declared.delivery.Delivery.{Delivery}
 use Rattle.hub_loop.specs.declared.delivery.Due.TheVariants as turn_has
 use Rattle.hub_loop.specs.declared.held.Held.{Held}
 use Rattle.hub_loop.specs.declared.holding.Holding.{Holding}
-use Rattle.hub_loop.specs.declared.serving.Served.TheVariants.{Nothing}
+use Rattle.hub_bell.specs.declared.steps.BoardStep.{BoardStep}
+use Rattle.hub_loop.specs.declared.serving.Asked.TheVariants as asked
+use Rattle.hub_loop.proofs.Asks.{seat-with}
 
 -- one for a taker whose newest gate is enabled
 abbrev one_if : Bool → ℕ
@@ -104,35 +106,100 @@ abbrev enabled_from : Slab Held → ℕ → ℕ → ℕ
 enabled_from held low zero = 0
 enabled_from held low (suc n) = enabled_from held low n + one_if (is_enabled (get held (low + n)))
 
--- under the keys that weren't asked all is as it was
-behind-same : (low n : ℕ) (old new : Slab Held) (before after : Count) (busy : Bool) → GaveNone low n old new before after busy → (key : ℕ) → low + n ≤ key → get new key ≡ get old key
-behind-same low zero old new before after busy gave key le = ap (λ s. get s key) gave.0
-behind-same low (suc n) old new before after busy gave key le =
-    let differs : key ≢ low + n = λ same. absurd (omega (arith, le, same)) in
-    gave.5.1.others key differs ∙ behind-same low n old gave.0 before gave.1 gave.2 gave.4 key (omega (arith, le))
+-- a take leaves the newest gate enabled as it was
+enables-answer : (s t : TakerSeat) (before after : Count) (took : Took) → IsTaken s t before after took → t.newest.keeper.at.enables ≡ s.newest.keeper.at.enables
+enables-answer s t before after Disabled taken = ap (λ u. u.newest.keeper.at.enables) taken.1
+enables-answer s t before after (Got v) taken =
+    ⊎_elim
+    (λ (newest : _). ap (λ u. u.newest.keeper.at.enables) newest.2 ∙ ap (λ p. p.keeper.at.enables) newest.3.0)
+    (λ (retired : _). ap (λ u. u.newest.keeper.at.enables) retired.0)
+    taken.1
+enables-answer s t before after Empty taken =
+    ⊎_elim
+    (λ (newest : _). ap (λ u. u.newest.keeper.at.enables) newest.2 ∙ ap (λ p. p.keeper.at.enables) newest.3.0)
+    (λ (retired : _). absurd retired.1.5)
+    taken.1
+enables-answer s t before after Busy taken =
+    ⊎_elim
+    (λ (newest : _). absurd newest.3)
+    (λ (retired : _). ap (λ u. u.newest.keeper.at.enables) retired.0)
+    taken.1
+enables-answer s t before after Again taken =
+    ⊎_elim
+    (λ (newest : _). absurd newest.3)
+    (λ (retired : _). ap (λ u. u.newest.keeper.at.enables) retired.0)
+    taken.1
+enables-answer s t before after Closed taken = ⊎_elim (λ (newest : _). absurd newest.3) (λ (retired : _). absurd retired.1.5) taken.1
 
-before-same : (low n : ℕ) (old new : Slab Held) (before after : Count) (busy : Bool) → GaveNone low n old new before after busy → (key : ℕ) → key < low → get new key ≡ get old key
-before-same low zero old new before after busy gave key less = ap (λ s. get s key) gave.0
-before-same low (suc n) old new before after busy gave key less =
-    let differs : key ≢ low + n = λ same. absurd (omega (arith, less, same)) in
-    gave.5.1.others key differs ∙ before-same low n old gave.0 before gave.1 gave.2 gave.4 key less
+enables-asked : (s t : TakerSeat) (before after : Count) (took : Took) → IsAsked s t before after took → is_seat_enabled (Some t) ≡ is_seat_enabled (Some s)
+enables-asked s t before after took came =
+    ap (nat_lt 0) (enables-answer came.at t came.count after took came.taken
+    ∙ ap (λ p. p.keeper.at.enables) (newest-left came.queues s came.at before came.count came.left))
 
--- each enabled end under these keys cost a pop at least
-pops-between : (low n : ℕ) (old new : Slab Held) (before after : Count) (busy : Bool) → GaveNone low n old new before after busy → enabled_from old low n + before.pops ≤ after.pops
-pops-between low zero old new before after busy gave = let same = ap (λ count. count.pops) gave.1 in omega (arith, same)
-pops-between low (suc n) old new before after busy gave =
-    let earlier = pops-between low n old gave.0 before gave.1 gave.2 gave.4 in
-    let there : one_if (is_enabled (get gave.0 (low + n))) ≡ one_if (is_enabled (get old (low + n))) =
-    ap (λ slot. one_if (is_enabled slot)) (behind-same low n old gave.0 before gave.1 gave.2 gave.4 (low + n) (omega arith)) in
-    let here = pops-slot (get gave.0 (low + n)) (get new (low + n)) gave.1 after gave.5.0 gave.5.1.at in
-    omega (arith, earlier, there, here)
+enables-held : (old new : Held) (before after : Count) (answer : Option Took) → IsHeldAsked old new before after answer → is_seat_enabled (seat_of new) ≡ is_seat_enabled (seat_of old)
+enables-held old new before after None came = ap (λ h. is_seat_enabled (seat_of h)) came.1
+enables-held old new before after (Some took) came =
+    let seat : seat_of new ≡ Some came.1 = ap seat_of came.3 ∙ seat-with old came.0 came.1 came.2 in
+    ap is_seat_enabled seat ∙ enables-asked came.0 came.1 before after took came.4 ∙ ap is_seat_enabled (sym came.2)
 
--- where the slots are the same as many are enabled
-enabled-same : (old new : Slab Held) (n : ℕ) → ((key : ℕ) → key < n → get new key ≡ get old key) → enabled_from new 0 n ≡ enabled_from old 0 n
+enables-slot : (old new : Option Held) (before after : Count) (answer : Option Took) → IsSlotAsked old new before after answer → is_enabled new ≡ is_enabled old
+enables-slot None new before after answer came = ap is_enabled came.0
+enables-slot (Some h) new before after answer came = ap is_enabled came.1 ∙ enables-held h came.0 before after answer came.2
+
+-- under each key an end is enabled as it was, wherever one was asked
+enables-at : (old new : Slab Held) (key : ℕ) (before after : Count) (busy : Bool) → IsAskedAt old new key before after (asked.Nothing busy) → (other : ℕ) → is_enabled (get new other) ≡ is_enabled (get old other)
+enables-at old new key before after busy at other =
+    ⊎_elim
+    (λ same. subst (λ k. is_enabled (get new k) ≡ is_enabled (get old k)) (sym same) (enables-slot (get old key) (get new key) before after at.0 at.1.at))
+    (λ differs. ap is_enabled (at.1.others other differs))
+    (cases_eq other key)
+
+enables-all : (keys : List ℕ) (old new : Slab Held) (before after : Count) (busy : Bool) → AskedAll keys old new before after busy → (other : ℕ) → is_enabled (get new other) ≡ is_enabled (get old other)
+enables-all [] old new before after busy gave other = ap (λ s. is_enabled (get s other)) gave.0
+enables-all (key ∷ keys) old new before after busy gave other =
+    enables-at gave.0 new key gave.1 after gave.3 gave.5 other ∙ enables-all keys old gave.0 before gave.1 gave.2 gave.4 other
+
+-- no asking takes a pop back
+pops-all : (keys : List ℕ) (old new : Slab Held) (before after : Count) (busy : Bool) → AskedAll keys old new before after busy → before.pops ≤ after.pops
+pops-all [] old new before after busy gave = let same = ap (λ count. count.pops) gave.1 in omega (arith, same)
+pops-all (key ∷ keys) old new before after busy gave =
+    let earlier = pops-all keys old gave.0 before gave.1 gave.2 gave.4 in
+    let here = pops-slot (get gave.0 key) (get new key) gave.1 after gave.5.0 gave.5.1.at in
+    omega (arith, earlier, here)
+
+-- the keys that were asked first, and then the others
+record Cut (later earlier : List ℕ) (old new : Slab Held) (before after : Count) : Type 0 where
+  mid : Slab Held
+  count : Count
+  was : Bool
+  then : Bool
+  first : AskedAll earlier old mid before count was
+  second : AskedAll later mid new count after then
+
+cut : (later earlier : List ℕ) (old new : Slab Held) (before after : Count) (busy : Bool) → AskedAll (later ++ earlier) old new before after busy → Cut later earlier old new before after
+cut [] earlier old new before after busy gave = record { mid = new; count = after; was = busy; then = false; first = gave; second = (refl, refl, refl) }
+cut (key ∷ later) earlier old new before after busy gave =
+    let c = cut later earlier old gave.0 before gave.1 gave.2 gave.4 in
+    record { mid = c.mid; count = c.count; was = c.was; then = gave.3 || c.then; first = c.first; second = (gave.0, gave.1, c.then, gave.3, c.second, gave.5, refl) }
+
+-- each enabled end among keys that were asked in order cost a pop at least
+pops-order : (low n : ℕ) (keys : List ℕ) (old new : Slab Held) (before after : Count) (busy : Bool) → HasOrder low n keys → AskedAll keys old new before after busy → enabled_from old low n + before.pops ≤ after.pops
+pops-order low zero keys old new before after busy order gave = let all = pops-all keys old new before after busy gave in omega (arith, all)
+pops-order low (suc n) keys old new before after busy order gave =
+    let c = cut order.0 ((low + n) ∷ order.1) old new before after busy (subst (λ ks. AskedAll ks old new before after busy) order.2 gave) in
+    let at = c.first in
+    let earlier = pops-order low n order.1 old at.0 before at.1 at.2 order.3 at.4 in
+    let there : one_if (is_enabled (get at.0 (low + n))) ≡ one_if (is_enabled (get old (low + n))) = ap one_if (enables-all order.1 old at.0 before at.1 at.2 at.4 (low + n)) in
+    let here = pops-slot (get at.0 (low + n)) (get c.mid (low + n)) at.1 c.count at.5.0 at.5.1.at in
+    let later = pops-all order.0 c.mid new c.count after c.then c.second in
+    omega (arith, earlier, there, here, later)
+
+-- where each is enabled as it was as many are
+enabled-same : (old new : Slab Held) (n : ℕ) → ((key : ℕ) → is_enabled (get new key) ≡ is_enabled (get old key)) → enabled_from new 0 n ≡ enabled_from old 0 n
 enabled-same old new zero same = refl
 enabled-same old new (suc n) same =
-    let earlier = enabled-same old new n (λ key less. same key (omega (arith, less))) in
-    let here : one_if (is_enabled (get new (0 + n))) ≡ one_if (is_enabled (get old (0 + n))) = ap (λ slot. one_if (is_enabled slot)) (same (0 + n) (omega arith)) in
+    let earlier = enabled-same old new n same in
+    let here : one_if (is_enabled (get new (0 + n))) ≡ one_if (is_enabled (get old (0 + n))) = ap one_if (same (0 + n)) in
     omega (arith, earlier, here)
 
 -- the keys up to one, and those from there on
@@ -171,12 +238,13 @@ enabled-taken held (suc n) =
     (cases_lt n (length held.slots))
 
 -- an asking of all ends costs a pop at least for each that is enabled
-pops-served : (next : ℕ) (busy : Bool) (old new : Slab Held) (before after : Count) → length old.slots ≤ old.capacity → AreServed next old new before after (Nothing busy) → count_by is_enabled old.slots + before.pops ≤ after.pops
-pops-served next busy old new before after within served =
+pops-served : (next : ℕ) (busy : Bool) (keys : List ℕ) (old new : Slab Held) (before after : Count) → length old.slots ≤ old.capacity → AskedAll keys old new before after busy → InOrder next old.capacity keys → count_by is_enabled old.slots + before.pops ≤ after.pops
+pops-served next busy keys old new before after within gave order =
     let rest = old.capacity - next in
-    let ahead = pops-between next rest old served.0 before served.1 served.2 served.4 in
-    let behind = pops-between 0 next served.0 new served.1 after served.3 served.5 in
-    let same = enabled-same old served.0 next (before-same next rest old served.0 before served.1 served.2 served.4) in
+    let c = cut order.0 order.1 old new before after busy (subst (λ ks. AskedAll ks old new before after busy) order.2 gave) in
+    let ahead = pops-order next rest order.1 old c.mid before c.count c.was order.3 c.first in
+    let behind = pops-order 0 next order.0 c.mid new c.count after c.then order.4 c.second in
+    let same = enabled-same old c.mid next (enables-all order.1 old c.mid before c.count c.was c.first) in
     let split = enabled-split old next rest in
     let counted = enabled-taken old (rest + next) in
     let fits : length old.slots ≤ rest + next = omega (arith, within) in
@@ -184,6 +252,8 @@ pops-served next busy old new before after within served =
     omega (arith, ahead, behind, same, split, counted, all)
 
 -- where no delivery was kept and no end gave an envelope
-pub pops-due : (kept : Option Delivery) (busy : Bool) (old new : Holding) (before after : Count) → (kept ≡ None → length old.held.slots ≤ old.held.capacity) → IsDue kept old new before after (turn_has.Nothing busy) → count_by is_enabled old.held.slots + before.pops ≤ after.pops
-pops-due None busy old new before after within due = pops-served old.next busy old.held new.held before after (within refl) due.0
-pops-due (Some k) busy old new before after within due = absurd cc
+pub pops-due : (kept : Option Delivery) (busy : Bool) (old new : Holding) (looks : List BoardStep) (before after : Count) → (kept ≡ None → length old.held.slots ≤ old.held.capacity) → IsDue kept old new looks before after (turn_has.Nothing busy) → count_by is_enabled old.held.slots + before.pops ≤ after.pops
+pops-due None busy old new looks before after within due =
+    let served = due.0 in
+    pops-served old.next busy served.0 old.held new.held before after (within refl) served.1 served.2
+pops-due (Some k) busy old new looks before after within due = absurd cc

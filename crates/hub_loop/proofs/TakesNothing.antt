@@ -4,6 +4,7 @@ use Rattle.std.specs.Prelude.{Result, Ok, Err}
 use Rattle.slab.specs.Slab.{Slab, get}
 use Rattle.hub_envelope.specs.declared.envelope.Envelope.{Envelope}
 use Rattle.hub_envelope.specs.declared.ids.EndId.{EndId}
+use Rattle.hub_bell.specs.declared.steps.BoardStep.{BoardStep}
 use Rattle.hub_ports.specs.Seats.{PortSeat}
 use Rattle.hub_queue.specs.declared.took.Took.{Took}
 use Rattle.hub_queue.specs.declared.took.Took.TheVariants.{Got, Empty, Busy, Again, Disabled, Closed}
@@ -13,7 +14,7 @@ use Rattle.hub_loop.specs.Adopting.{IsOneAdopted, AreAdopted}
 use Rattle.hub_loop.specs.Asking.{Leaves, IsAsked, IsHeldAsked}
 use Rattle.hub_loop.specs.Delivering.{IsDelivered}
 use Rattle.hub_loop.specs.Holding.{seat_of, with_seat}
-use Rattle.hub_loop.specs.Serving.{asked_by, IsSlotAsked, IsAskedAt, GaveNone, AreAskedBetween, AreServed}
+use Rattle.hub_loop.specs.Serving.{asked_by, IsSlotAsked, IsAskedAt, AskedAll, HasGiven}
 use Rattle.hub_loop.specs.TakingNothing.{got_of, TookNothing, SeatTookNothing, HeldTookNothing, SlotTookNothing, TookNothingBut, Gave}
 use Rattle.hub_loop.specs.Turning.{IsDue, IsTurn}
 use Rattle.hub_loop.specs.declared.delivery.Delivery.{Delivery}
@@ -160,35 +161,19 @@ all-asked old new key before after busy at other =
     (λ differs. others-asked old new key before after (asked.Nothing busy) at other differs)
     (cases_eq other key)
 
-all-gave-none : (low n : ℕ) (old new : Slab Held) (before after : Count) (busy : Bool) → GaveNone low n old new before after busy → (other : ℕ) → SlotTookNothing (get old other) (get new other)
-all-gave-none low zero old new before after busy gave other = slot-same (get old other) (get new other) (ap (λ s. get s other) gave.0)
-all-gave-none low (suc n) old new before after busy gave other =
+all-asked-none : (keys : List ℕ) (old new : Slab Held) (before after : Count) (busy : Bool) → AskedAll keys old new before after busy → (other : ℕ) → SlotTookNothing (get old other) (get new other)
+all-asked-none [] old new before after busy gave other = slot-same (get old other) (get new other) (ap (λ s. get s other) gave.0)
+all-asked-none (key ∷ keys) old new before after busy gave other =
     slot-twice (get old other) (get gave.0 other) (get new other)
-    (all-gave-none low n old gave.0 before gave.1 gave.2 gave.4 other)
-    (all-asked gave.0 new (low + n) gave.1 after gave.3 gave.5 other)
+    (all-asked-none keys old gave.0 before gave.1 gave.2 gave.4 other)
+    (all-asked gave.0 new key gave.1 after gave.3 gave.5 other)
 
 -- of the ends under the other keys nothing was taken
-others-between : (low high key : ℕ) (v : Envelope) (old new : Slab Held) (before after : Count) → AreAskedBetween low high old new before after (Given key v) → (other : ℕ) → other ≢ key → SlotTookNothing (get old other) (get new other)
-others-between low high key v old new before after given other differs =
-    let came = given.2 in
-    slot-twice (get old other) (get came.0 other) (get new other)
-    (all-gave-none low (key - low) old came.0 before came.1 came.2 came.3 other)
-    (others-asked came.0 new key came.1 after (asked.Given v) came.4 other differs)
-
-others-served : (next key : ℕ) (v : Envelope) (old new : Slab Held) (before after : Count) → AreServed next old new before after (Given key v) → (other : ℕ) → other ≢ key → SlotTookNothing (get old other) (get new other)
-others-served next key v old new before after served other differs =
-    ⊎_elim
-    (λ (ahead : _). others-between next old.capacity key v old new before after ahead other differs)
-    (λ (behind : _). slot-twice (get old other) (get behind.0 other) (get new other)
-    (all-gave-none next (old.capacity - next) old behind.0 before behind.1 behind.2 behind.3 other)
-    (others-between 0 next key v behind.0 new behind.1 after behind.4 other differs))
-    served
-
-all-served : (next : ℕ) (busy : Bool) (old new : Slab Held) (before after : Count) → AreServed next old new before after (Nothing busy) → (other : ℕ) → SlotTookNothing (get old other) (get new other)
-all-served next busy old new before after served other =
-    slot-twice (get old other) (get served.0 other) (get new other)
-    (all-gave-none next (old.capacity - next) old served.0 before served.1 served.2 served.4 other)
-    (all-gave-none 0 next served.0 new served.1 after served.3 served.5 other)
+others-given : (keys : List ℕ) (key : ℕ) (v : Envelope) (old new : Slab Held) (before after : Count) → HasGiven keys old new before after key v → (other : ℕ) → other ≢ key → SlotTookNothing (get old other) (get new other)
+others-given keys key v old new before after given other differs =
+    slot-twice (get old other) (get given.middle other) (get new other)
+    (all-asked-none keys old given.middle before given.count given.busy given.earlier other)
+    (others-asked given.middle new key given.count after (asked.Given v) given.given other differs)
 
 -- what was held before ports were adopted is held afterwards
 one-kept : (p : PortSeat) (old new : Slab Held) (before after : List EndId) (key : ℕ) (h : Held) → IsOneAdopted p old new before after → get old key ≡ Some h → get new key ≡ Some h
@@ -207,16 +192,19 @@ adopted-kept (p ∷ ps) old new before after key h did there =
     adopted-kept ps did.0 new did.1 after key h did.3 (one-kept p old did.0 before did.1 key h did.2 there)
 
 -- of the ends under the other keys nothing was taken before the delivery
-others-due : (kept : Option Delivery) (old new : Holding) (before after : Count) (d : Delivery) (key : ℕ) → IsDue kept old new before after (turn_has.Delivery d) → (kept ≡ None → new.next ≡ key + 1 → ⊥) → SlotTookNothing (get old.held key) (get new.held key)
-others-due (Some k) old new before after d key due gave = slot-same (get old.held key) (get new.held key) (ap (λ holding. get holding.held key) due.1)
-others-due None old new before after d key due gave =
-    others-served old.next due.0 due.1 old.held new.held before after due.3 key
+others-due : (kept : Option Delivery) (old new : Holding) (looks : List BoardStep) (before after : Count) (d : Delivery) (key : ℕ) → IsDue kept old new looks before after (turn_has.Delivery d) → (kept ≡ None → new.next ≡ key + 1 → ⊥) → SlotTookNothing (get old.held key) (get new.held key)
+others-due (Some k) old new looks before after d key due gave = slot-same (get old.held key) (get new.held key) (ap (λ holding. get holding.held key) due.1)
+others-due None old new looks before after d key due gave =
+    let served = due.3 in
+    others-given served.0 due.0 due.1 old.held new.held before after served.1 key
     (λ same. gave refl (due.4 ∙ ap (λ k. k + 1) (sym same)))
 
 -- of no end anything was taken where nothing is due
-pub all-due : (kept : Option Delivery) (old new : Holding) (before after : Count) (busy : Bool) (key : ℕ) → IsDue kept old new before after (turn_has.Nothing busy) → SlotTookNothing (get old.held key) (get new.held key)
-all-due (Some k) old new before after busy key due = slot-same (get old.held key) (get new.held key) (ap (λ holding. get holding.held key) due.1)
-all-due None old new before after busy key due = all-served old.next busy old.held new.held before after due.0 key
+pub all-due : (kept : Option Delivery) (old new : Holding) (looks : List BoardStep) (before after : Count) (busy : Bool) (key : ℕ) → IsDue kept old new looks before after (turn_has.Nothing busy) → SlotTookNothing (get old.held key) (get new.held key)
+all-due (Some k) old new looks before after busy key due = slot-same (get old.held key) (get new.held key) (ap (λ holding. get holding.held key) due.1)
+all-due None old new looks before after busy key due =
+    let served = due.0 in
+    all-asked-none served.0 old.held new.held before after busy served.1 key
 
 module _ {H E : Type 0} (leaves : H → Envelope → List EndId → H → Type 0) where
   delivered-kept : (d e : Delivery) (before after : Slab Held) (h left : H) (result : Result (Unit {0}) E) → IsDelivered {E = E} leaves d e before after h left result → (key : ℕ) (held : Held) → get before key ≡ Some held → get after key ≡ Some held
@@ -228,14 +216,14 @@ module _ {H E : Type 0} (leaves : H → Envelope → List EndId → H → Type 0
       did.1
 
   -- a turn takes of no end but the one that gave its envelope
-  pub others-turn : (old new : Holding) (kept keeps : Option Delivery) (h left : H) (before after : Count) (result : Result Turn E) → IsTurn leaves old new kept keeps h left before after result → TookNothingBut (Gave kept new.next result) old.held new.held
-  others-turn old new kept keeps h left before after (Ok Ending) turn key gave = slot-same (get old.held key) (get new.held key) (ap (λ holding. get holding.held key) turn.0)
-  others-turn old new kept keeps h left before after (Ok (Idle busy)) turn key gave = all-due kept old new before after busy key turn.0
-  others-turn old new kept keeps h left before after (Ok Delivered) turn key gave =
+  pub others-turn : (old new : Holding) (looks : List BoardStep) (kept keeps : Option Delivery) (h left : H) (before after : Count) (result : Result Turn E) → IsTurn leaves old new looks kept keeps h left before after result → TookNothingBut (Gave kept new.next result) old.held new.held
+  others-turn old new looks kept keeps h left before after (Ok Ending) turn key gave = slot-same (get old.held key) (get new.held key) (ap (λ holding. get holding.held key) turn.0)
+  others-turn old new looks kept keeps h left before after (Ok (Idle busy)) turn key gave = all-due kept old new looks before after busy key turn.0
+  others-turn old new looks kept keeps h left before after (Ok Delivered) turn key gave =
       slot-kept (get old.held key) (get turn.2.held key) (get new.held key)
-      (others-due kept old turn.2 before after turn.0 key turn.3 (λ is behind. gave (subst (λ k. Gave {E = E} k new.next (Ok Delivered) key) (sym is) (turn.6 ∙ behind))))
+      (others-due kept old turn.2 looks before after turn.0 key turn.3 (λ is behind. gave (subst (λ k. Gave {E = E} k new.next (Ok Delivered) key) (sym is) (turn.6 ∙ behind))))
       (λ held there. delivered-kept turn.0 turn.1 turn.2.held new.held h left (Ok tt) turn.4 key held there)
-  others-turn old new kept keeps h left before after (Err error) turn key gave =
+  others-turn old new looks kept keeps h left before after (Err error) turn key gave =
       slot-kept (get old.held key) (get turn.2.held key) (get new.held key)
-      (others-due kept old turn.2 before after turn.0 key turn.3 (λ is behind. gave (subst (λ k. Gave k new.next (Err error) key) (sym is) (turn.6 ∙ behind))))
+      (others-due kept old turn.2 looks before after turn.0 key turn.3 (λ is behind. gave (subst (λ k. Gave k new.next (Err error) key) (sym is) (turn.6 ∙ behind))))
       (λ held there. delivered-kept turn.0 turn.1 turn.2.held new.held h left (Err error) turn.4 key held there)

@@ -5,6 +5,8 @@ pub mod Ending
 pub mod Holding
 pub mod Noticing
 pub mod Popping
+pub mod Reaching
+pub mod Scanning
 pub mod Serving
 pub mod TakingNothing
 pub mod Turning

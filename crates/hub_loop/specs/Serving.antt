@@ -1,5 +1,5 @@
 -- What it comes to that a loop asks its ends in turn.
-use Rattle.std.specs.Prelude.{◌≡◌, ◌≢◌, ◌⊎◌, ℕ, zero, suc, ◌+◌, ◌-◌, ◌<◌, ◌≤◌, Bool, true, false, ◌||◌, Option, Some, None}
+use Rattle.std.specs.Prelude.{List, [], ◌∷◌, ◌++◌, ◌≡◌, ◌≢◌, ◌⊎◌, ℕ, zero, suc, ◌+◌, ◌-◌, ◌<◌, ◌≤◌, Bool, true, false, ◌||◌, Option, Some, None}
 use Rattle.slab.specs.Slab.{Slab, get}
 use Rattle.hub_queue.specs.declared.took.Took.{Took}
 use Rattle.hub_queue.specs.declared.took.Took.TheVariants.{Got, Empty, Busy, Again, Disabled, Closed}
@@ -9,7 +9,13 @@ use Rattle.hub_loop.specs.declared.serving.Asked.{Asked}
 use Rattle.hub_loop.specs.declared.serving.Asked.TheVariants as asked
 use Rattle.hub_loop.specs.declared.serving.Served.{Served}
 use Rattle.hub_loop.specs.declared.serving.Served.TheVariants.{Given, Nothing}
+use Rattle.hub_bell.specs.declared.steps.BoardStep.{BoardStep}
+use Rattle.hub_envelope.specs.declared.ids.EndId.{EndId}
+use Rattle.hub_envelope.specs.declared.envelope.Envelope.{Envelope}
+use Rattle.hub_marks.specs.Finding.{WasClear}
+use Rattle.hub_marks.specs.Marking.{mark_of}
 use Rattle.hub_loop.specs.Asking.{IsHeldAsked}
+use Rattle.hub_loop.specs.Holding.{end_held}
 
 -- under this key nothing is held, or what is held there was asked
 abbrev pub IsSlotAsked : Option Held → Option Held → Count → Count → Option Took → Type 0
@@ -36,36 +42,59 @@ asked_by None = asked.Nothing false
 abbrev pub IsAskedAt : Slab Held → Slab Held → ℕ → Count → Count → Asked → Type 0
 IsAskedAt old new key before after came = (answer : Option Took) × IsTakenAtKey old new key before after answer × (came ≡ asked_by answer)
 
--- So many keys from this one on were asked in order, and no end gave an envelope; whether one was busy.
-abbrev pub GaveNone : ℕ → ℕ → Slab Held → Slab Held → Count → Count → Bool → Type 0
-GaveNone low zero old new before after busy = (new ≡ old) × (after ≡ before) × (busy ≡ false)
-GaveNone low (suc keys) old new before after busy =
-    (middle : Slab Held) × (count : Count) × (earlier : Bool) × (here : Bool)
-    × GaveNone low keys old middle before count earlier
-    × IsAskedAt middle new (low + keys) count after (asked.Nothing here)
-    × (busy ≡ (here || earlier))
+-- These keys were asked, the last of them first in the list, and no end gave an envelope; whether one was busy.
+abbrev pub AskedAll : List ℕ → Slab Held → Slab Held → Count → Count → Bool → Type 0
+AskedAll [] old new before after busy = (new ≡ old) × (after ≡ before) × (busy ≡ false)
+AskedAll (key ∷ earlier) old new before after busy =
+    (middle : Slab Held) × (count : Count) × (was : Bool) × (here : Bool)
+    × AskedAll earlier old middle before count was
+    × IsAskedAt middle new key count after (asked.Nothing here)
+    × (busy ≡ (here || was))
 
--- The ends under the keys from the one to the other were asked in order: up to the first that gave an envelope, or all.
-abbrev pub AreAskedBetween : ℕ → ℕ → Slab Held → Slab Held → Count → Count → Served → Type 0
-AreAskedBetween low high old new before after (Given key v) =
-    (low ≤ key) × (key < high)
-    × ((middle : Slab Held) × (count : Count) × (busy : Bool)
-    × GaveNone low (key - low) old middle before count busy
-    × IsAskedAt middle new key count after (asked.Given v))
-AreAskedBetween low high old new before after (Nothing busy) = GaveNone low (high - low) old new before after busy
+-- the key is one of these
+abbrev pub IsIn : ℕ → List ℕ → Type 0
+IsIn key [] = ⊥
+IsIn key (k ∷ keys) = (key ≡ k) ⊎ IsIn key keys
 
--- The ends were asked from this key on, and where none gave an envelope those before it too.
-abbrev pub AreServed : ℕ → Slab Held → Slab Held → Count → Count → Served → Type 0
-AreServed next old new before after (Given key v) =
-    AreAskedBetween next old.capacity old new before after (Given key v)
-    ⊎ ((middle : Slab Held) × (count : Count) × (ahead : Bool)
-    × GaveNone next (old.capacity - next) old middle before count ahead
-    × AreAskedBetween 0 next middle new count after (Given key v))
-AreServed next old new before after (Nothing busy) =
-    (middle : Slab Held) × (count : Count) × (ahead : Bool) × (behind : Bool)
-    × GaveNone next (old.capacity - next) old middle before count ahead
-    × GaveNone 0 next middle new count after behind
-    × (busy ≡ (ahead || behind))
+-- Among these keys, of which the last asked is the first, so many from this one on were asked in order.
+abbrev pub HasOrder : ℕ → ℕ → List ℕ → Type 0
+HasOrder low zero keys = Unit {0}
+HasOrder low (suc n) keys = (later : List ℕ) × (earlier : List ℕ) × (keys ≡ later ++ (low + n) ∷ earlier) × HasOrder low n earlier
+
+-- Each end was asked, by rising key from this one on and then from the first; others were asked before and between.
+abbrev pub InOrder : ℕ → ℕ → List ℕ → Type 0
+InOrder next capacity keys =
+    (behind : List ℕ) × (ahead : List ℕ) × (keys ≡ behind ++ ahead) × HasOrder next (capacity - next) ahead × HasOrder 0 next behind
+
+-- These keys were asked, the last of them first in the list, and then this one, whose end gave the envelope.
+pub record HasGiven (keys : List ℕ) (old new : Slab Held) (before after : Count) (key : ℕ) (v : Envelope) : Type 0 where
+  pub middle : Slab Held
+  pub count : Count
+  pub busy : Bool
+  pub earlier : AskedAll keys old middle before count busy
+  pub given : IsAskedAt middle new key count after (asked.Given v)
+
+-- the one key stands before the other in the order in which ends are served, where that begins with `next`
+abbrev pub IsBefore : ℕ → ℕ → ℕ → Type 0
+IsBefore next other key = ((next ≤ other) × (other < key)) ⊎ ((key < next) × ((next ≤ other) ⊎ (other < key)))
+
+-- the end was not marked, and its ready bit was found clear; a line is no end
+abbrev pub IsEndPassedOver : Option EndId → ℕ → List BoardStep → Type 0
+IsEndPassedOver None mark looks = Unit {0}
+IsEndPassedOver (Some end) mark looks = (mark ≡ 0) × WasClear end looks
+
+-- what a loop finds at its listener says nothing of this key: no end is held there, or one that was not marked and whose ready bit was found clear
+abbrev pub IsPassedOver : Option Held → ℕ → List BoardStep → Type 0
+IsPassedOver None mark looks = Unit {0}
+IsPassedOver (Some held) mark looks = IsEndPassedOver (end_held held) mark looks
+
+-- The ends were asked in order up to the first that gave an envelope: each one before it was asked in this call and gave none, or was passed over. Where none gave one each was asked.
+abbrev pub AreServed : ℕ → Slab Held → Slab Held → List ℕ → List BoardStep → Count → Count → Served → Type 0
+AreServed next old new marks looks before after (Given key v) =
+    (keys : List ℕ) × HasGiven keys old new before after key v
+    × ((other : ℕ) → IsBefore next other key → IsIn other keys ⊎ IsPassedOver (get old other) (mark_of marks other) looks)
+AreServed next old new marks looks before after (Nothing busy) =
+    (keys : List ℕ) × AskedAll keys old new before after busy × InOrder next old.capacity keys
 
 -- the key with which the next asking begins: the one behind the end that gave an envelope
 abbrev pub next_after : ℕ → Served → ℕ

@@ -4,6 +4,7 @@ ghost use Rattle.slab.specs.Slab.{get};
 ghost use Rattle.std.specs.Prelude.{
   ◌≡◌,
   ◌≢◌,
+  ◌⊎◌,
   ℕ,
   Bool,
   None,
@@ -194,6 +195,7 @@ fn take_at(held: &mut Slab<Held>, key: usize, opened: &mut Vec<Open>)
 /// Takes out all that is held.
 pub(crate) fn take_held(held: &mut Slab<Held>, opened: &mut Vec<Open>) -> Result<(), OutOfMemory>
     ensures capacity { held.new.capacity ≡ held.old.capacity }
+    ensures rest { (key : ℕ) → (get held.new key ≡ None) ⊎ (get held.new key ≡ get held.old key) }
     ensures moved { (passes : Open → Bool) →
         count_by (slot_passes passes) held.new.slots + count_by passes opened.new.items
         ≡ count_by (slot_passes passes) held.old.slots + count_by passes opened.old.items }

@@ -18,8 +18,11 @@ ghost use Rattle.std.specs.Prelude.{
   [],
   count_by,
   length,
+  List,
 };
+ghost use Rattle.hub_bell.specs.declared.steps.BoardStep.{BoardStep};
 ghost use Rattle.hub_clients.specs.Handing.{taker_of};
+ghost use Rattle.hub_marks.specs.Finding.{HasStepped};
 ghost use Rattle.slab.specs.Slab.{SameValues};
 ghost use Rattle.hub_ports.specs.Seats.{end_of};
 ghost use Rattle.hub_life.specs.OrderSeat.{knows};
@@ -131,7 +134,9 @@ impl<H: Handler + Drop, C: Checkpoint + Drop> EventLoop<H, C> {
     // Takes up the delivery that was kept, or else asks the ends. The checkpoint is called once for
     // each envelope.
     fn take_up<L: Ledger, R: Wait>(&mut self, rt: &R, steps: &mut Steps<L>) -> Due
-        ensures due { IsDue self.old.kept self.old.holding self.new.holding steps.old steps.new
+        ensures due { (looks : List BoardStep)
+            × HasStepped self.old.listener self.new.listener looks
+            × IsDue self.old.kept self.old.holding self.new.holding looks steps.old steps.new
             result }
         ensures keys { self.old.kept ≡ None →
             length self.old.holding.held.slots ≤ self.old.holding.held.capacity }
@@ -142,7 +147,7 @@ impl<H: Handler + Drop, C: Checkpoint + Drop> EventLoop<H, C> {
         if let Some(delivery) = self.kept.take() {
             return Due::Delivery(delivery);
         }
-        match self.holding.serve(rt, steps) {
+        match self.holding.serve(rt, &mut self.listener, steps) {
             Served::Nothing(busy) => Due::Nothing(busy),
             Served::Given(_, envelope) => {
                 self.checkpoint.at(rt, self.agent, self.delivered);
@@ -151,10 +156,12 @@ impl<H: Handler + Drop, C: Checkpoint + Drop> EventLoop<H, C> {
         }
     }
 
-    /// Makes a turn. First it looks for the order to end. Then it takes one envelope: of the open
-    /// ends it asks each in rising order of their keys, beginning behind the one served last, and
-    /// past the queues that an end has left behind. The ports that the envelope names are found
-    /// and adopted in the order of its list, and the handler is told.
+    /// Makes a turn. First it looks for the order to end. Then it takes one envelope: it asks the
+    /// open ends in rising order of their keys, beginning behind the one served last, and past the
+    /// queues that an end has left behind. Ends at which nothing was posted since they were asked
+    /// are passed over while another one gives an envelope; where none does each is asked. The ports
+    /// that the envelope names are found and adopted in the order of its list, and the handler is
+    /// told.
     ///
     /// A port that was adopted too often, or whose number the yard knows already, is closed with
     /// its notice and counts as missing. After `OutOfMemory` the delivery is kept, and the next
@@ -167,7 +174,9 @@ impl<H: Handler + Drop, C: Checkpoint + Drop> EventLoop<H, C> {
     ) -> Result<Turn, LoopError>
         ensures looked { self.new.order.looks ≡ self.old.order.looks + 1 }
         ensures ending { (result ≡ Ok Ending) ↔ (knows self.new.order ≡ true) }
-        ensures turn { IsTurn H.leaves self.old.holding self.new.holding self.old.kept self.new.kept
+        ensures turn { (looks : List BoardStep)
+            × HasStepped self.old.listener self.new.listener looks
+            × IsTurn H.leaves self.old.holding self.new.holding looks self.old.kept self.new.kept
             self.old.handler self.new.handler steps.old steps.new result }
         ensures others { TookNothingBut (Gave self.old.kept self.new.holding.next result)
             self.old.holding.held self.new.holding.held }
@@ -176,7 +185,6 @@ impl<H: Handler + Drop, C: Checkpoint + Drop> EventLoop<H, C> {
         if self.order.seen() {
             return Ok(Turn::Ending);
         }
-        clear(&mut self.listener);
         let mut delivery = match self.take_up(rt, steps) {
             Due::Delivery(delivery) => delivery,
             Due::Nothing(busy) => return Ok(Turn::Idle { busy }),
@@ -503,17 +511,6 @@ impl<H: Handler + Drop, C: Checkpoint + Drop> EventLoop<H, C> {
                 self.closing = Some(closing);
                 Err(error)
             }
-        }
-    }
-}
-
-// Takes all ready bits out, so that whoever posts from now on sets them again. All ends are asked
-// in the turn, whichever were rung.
-fn clear(listener: &mut Listener) {
-    let names = listener.take_names();
-    for word in names.trailing_zeros()..64 {
-        if names >> word & 1 == 1 {
-            listener.take_bits(word as usize);
         }
     }
 }

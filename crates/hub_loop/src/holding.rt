@@ -18,22 +18,22 @@ ghost use Rattle.slab.specs.Slab.{HasRoomFor, SameValues};
 ghost use Rattle.hub_clients.specs.Handing.{taker_of};
 ghost use Rattle.hub_loop.specs.Adopting.{HoldsMore, IsFetched, IsFirstAdopted, AreAllAdopted};
 ghost use Rattle.hub_loop.specs.Holding.{ends_held, number_of};
-ghost use Rattle.hub_loop.specs.Serving.{AreServed, next_after};
+ghost use Rattle.hub_loop.specs.Reaching.{AreReached};
+ghost use Rattle.hub_marks.specs.Marking.{HasBit};
 
 use crate::delivery::Receiving;
 use crate::ending::Closed;
 use crate::held::Held;
 use crate::listed::Listed;
-use crate::serving::{Served, serve};
 use hub_clients::HandedQueue;
 use hub_envelope::{EndId, OutOfMemory};
+use hub_marks::Ready;
 use hub_ports::{Arrived, Hub};
-use hub_queue::{AdoptError, Bell, Steps};
+use hub_queue::{AdoptError, Bell};
 use slab::Slab;
 use std::alloc::Global;
 use std::collections::BTreeSet;
 use std::sync::Wait;
-use std::sync::ledger::Ledger;
 
 /// What a loop holds, and the ports that it has closed because they could not be adopted.
 #[derive(Drop)]
@@ -43,6 +43,8 @@ pub(crate) struct Holding {
     pub(crate) held: Slab<Held>,
     /// The key with which the next asking begins.
     pub(crate) next: usize,
+    /// The ends that are worth a look, and the keys of the ends by the bits of their numbers.
+    pub(crate) ready: Ready,
     /// The keys of the ends by their numbers.
     ends: BTreeSet<Listed>,
     /// The keys of the lines by the numbers of the ends at which they post.
@@ -50,6 +52,7 @@ pub(crate) struct Holding {
     /// The ports that could not be adopted.
     pub(crate) closed: Closed,
     ghost room: { next ≤ held.capacity },
+    ghost reached: { AreReached held ready },
 }
 
 // The least key that is listed under this number.
@@ -94,22 +97,25 @@ impl Holding {
             bell,
             held: Slab::new(alloc),
             next: 0,
+            ready: Ready::new(alloc),
             ends: BTreeSet::new(alloc),
             lines: BTreeSet::new(alloc),
             closed: Closed::new(alloc),
         }
     }
 
-    /// Asks the ends in turn, beginning behind the one served last.
-    pub(crate) fn serve<L: Ledger, R: Wait>(&mut self, rt: &R, steps: &mut Steps<L>) -> Served
-        ensures served { AreServed self.old.next self.old.held self.new.held steps.old steps.new
-            result }
-        ensures keys { length self.old.held.slots ≤ self.old.held.capacity }
-        ensures next { self.new.next ≡ next_after self.old.next result }
+    // Holds one more, for which there is room. An end is marked, since something may wait there.
+    fn put(&mut self, held: Held)
+        requires room { HasRoomFor self.old.held 1 }
+        requires bit { HasBit self.old.ready.marks self.old.held.vacant_key }
+        ensures held { HoldsMore self.old.held self.new.held held }
+        ensures next { self.new.next ≡ self.old.next }
     {
-        let served = serve(rt, &mut self.held, self.next, steps);
-        self.next = served.next_after(self.next);
-        served
+        let end = held.as_end();
+        let key = self.held.insert_reserved(held);
+        if let Some(end) = end {
+            self.ready.place(end, key);
+        }
     }
 
     /// Holds one more, under a key where nothing was held. Where there was no memory it comes back.
@@ -126,28 +132,49 @@ impl Holding {
             end: held.end(),
             key: self.held.vacant_key(),
         };
-        let index = if held.is_line() {
-            self.lines.insert(listed)
-        } else {
-            self.ends.insert(listed)
-        };
-        if index.is_err() {
+        if self.list(listed, held.is_line()).is_err() {
             return Err(held);
         }
-        self.held.insert_reserved(held);
+        self.put(held);
         Ok(())
+    }
+
+    // Lists an end or a line that is to be held under this key, and makes room for its mark.
+    fn list(&mut self, listed: Listed, is_line: bool) -> Result<(), OutOfMemory>
+        ensures bit { OnOk result (HasBit self.new.ready.marks listed.key) }
+        ensures held { self.new.held ≡ self.old.held }
+        ensures next { self.new.next ≡ self.old.next }
+        ensures closed { self.new.closed ≡ self.old.closed }
+    {
+        if is_line {
+            self.ready.marks.reserve(listed.key)?;
+            self.lines.insert(listed)?;
+        } else {
+            self.ready.reserve(listed.end, listed.key)?;
+            self.ends.insert(listed)?;
+        }
+        Ok(())
+    }
+
+    // Lends what is held under a key, and marks it: whoever borrows an end may start it.
+    fn lend(&mut self, key: usize) -> Option<&mut Held> {
+        if !self.held.contains(key) {
+            return None;
+        }
+        self.ready.marks.set(key);
+        self.held.get_mut(key)
     }
 
     /// Lends the end of this number.
     pub(crate) fn end_mut(&mut self, end: EndId) -> Option<&mut Held> {
         let key = key_of(&self.ends, end)?;
-        self.held.get_mut(key)
+        self.lend(key)
     }
 
     /// Lends the line that posts at the end of this number.
     pub(crate) fn line_mut(&mut self, end: EndId) -> Option<&mut Held> {
         let key = key_of(&self.lines, end)?;
-        self.held.get_mut(key)
+        self.lend(key)
     }
 
     /// Shows the end of this number.
@@ -184,6 +211,7 @@ impl Holding {
             return None;
         }
         self.ends.remove(&Listed { end, key });
+        self.ready.forget(end, key);
         self.held.try_remove(key)
     }
 
@@ -234,12 +262,12 @@ impl Holding {
             end: queue.end(),
             key: self.held.vacant_key(),
         };
-        let Ok(bell) = self.prepare(listed) else {
+        let Ok(bell) = self.prepare(listed.end) else {
             return Err(queue);
         };
         match adopt_handed(rt, hub, queue, bell) {
             Ok(held) => {
-                self.held.insert_reserved(held);
+                self.put(held);
                 Ok(true)
             }
             Err((AdoptError::OutOfMemory, queue)) => {
@@ -254,9 +282,10 @@ impl Holding {
         }
     }
 
-    // Makes room for an end that is to be adopted under this key, and lists it.
-    fn prepare(&mut self, listed: Listed) -> Result<Bell, OutOfMemory>
+    // Makes room for an end of this number that is to be adopted, and lists it.
+    fn prepare(&mut self, end: EndId) -> Result<Bell, OutOfMemory>
         ensures held { OnOk result (HasRoomFor self.new.held 1) }
+        ensures bit { OnOk result (HasBit self.new.ready.marks self.new.held.vacant_key) }
         ensures graves { OnOk result
             (vec_len self.new.closed.graves + 1 ≤ vec_capacity self.new.closed.graves) }
         ensures noticed { OnOk result
@@ -266,7 +295,11 @@ impl Holding {
     {
         self.make_room()?;
         let bell = self.bell.clone()?;
-        self.ends.insert(listed)?;
+        let listed = Listed {
+            end,
+            key: self.held.vacant_key(),
+        };
+        self.list(listed, false)?;
         Ok(bell)
     }
 
@@ -291,11 +324,11 @@ impl Holding {
             end,
             key: self.held.vacant_key(),
         };
-        let bell = self.prepare(listed)?;
+        let bell = self.prepare(end)?;
         let arrived = receiving.found.pop_front().unwrap();
         match arrived.adopt(rt, hub, bell) {
             Ok(port) => {
-                self.held.insert_reserved(Held::Port(port));
+                self.put(Held::Port(port));
                 Ok(true)
             }
             Err((AdoptError::OutOfMemory, arrived)) => {

@@ -99,6 +99,44 @@ fn ends_are_served_in_turn(rt: HostRuntime) {
     walks(&rt, rt.alloc(), SERVED_IN_TURN, 15);
 }
 
+// What waited at a port before its start rings nobody then, and it is served while another port stays
+// busy.
+const WAITED_BEFORE: &[(u8, Step)] = &[
+    (0, Step::Open),
+    (1, Step::Open),
+    (1, Step::Channel(0)),
+    (1, Step::Channel(0)),
+    (0, Step::Start(3)),
+    (
+        1,
+        Step::Post(Way::Port(0), NONE, "1", Answer::Accepted(0, 0)),
+    ),
+    (
+        1,
+        Step::Post(Way::Port(2), NONE, "2", Answer::Accepted(0, 0)),
+    ),
+    (0, Step::Deliver(3, Mail::Text(0, 0, 0, "2"))),
+    (0, Step::Idle(false)),
+    (
+        1,
+        Step::Post(Way::Port(2), NONE, "3", Answer::Accepted(0, 1)),
+    ),
+    (
+        1,
+        Step::Post(Way::Port(2), NONE, "4", Answer::Accepted(0, 2)),
+    ),
+    (0, Step::Start(1)),
+    (0, Step::Deliver(1, Mail::Text(0, 0, 0, "1"))),
+    (0, Step::Deliver(3, Mail::Text(0, 0, 1, "3"))),
+    (0, Step::Deliver(3, Mail::Text(0, 0, 2, "4"))),
+    (0, Step::Idle(false)),
+];
+
+#[test]
+fn what_waited_before_the_start_is_served(rt: HostRuntime) {
+    walks(&rt, rt.alloc(), WAITED_BEFORE, 16);
+}
+
 // A member that has left the roster is no destination.
 const A_QUEUE_AND_A_MEMBER: &[(u8, Step)] = &[
     (0, Step::Open),

@@ -101,12 +101,14 @@ fn walk_held<R: Wait>(
     rt: &R,
     shared: &Shared,
     table: &mut Table<'_>,
+    steps: [&'static [(u8, Step)]; 4],
 ) -> Option<([usize; 4], (u32, u64))> {
-    let before = table.walk(rt, BEFORE);
+    let [before, lent, meanwhile, after] = steps;
+    let before = table.walk(rt, before);
     let mut poster = shared.line_to(rt, 0)?;
-    let lent = table.walk(rt, LENT);
-    let posted = post_held(rt, shared, table, &mut poster, "\"a\"", MEANWHILE);
-    let after = table.walk(rt, AFTER);
+    let lent = table.walk(rt, lent);
+    let posted = post_held(rt, shared, table, &mut poster, "\"a\"", meanwhile);
+    let after = table.walk(rt, after);
     drop(poster);
     let (epoch, number, walked) = posted?;
     Some(([before, lent, walked, after], (epoch, number)))
@@ -116,10 +118,66 @@ fn walk_held<R: Wait>(
 fn handed_queue(rt: HostRuntime) {
     let shared = Shared::new(rt.alloc());
     let mut table = Table::new(&shared, false);
-    let walked = walk_held(&rt, &shared, &mut table);
+    let walked = walk_held(&rt, &shared, &mut table, [BEFORE, LENT, MEANWHILE, AFTER]);
     drop(table);
     drop(shared);
     assert_eq!(rt; walked, Some(([5, 2, 11, 4], (0, 0))));
+}
+
+// The post that was held up rings the loop that the queue has left. It is served while another end of
+// the loop stays busy.
+const BUSY_BEFORE: &[(u8, Step)] = &[
+    (0, Step::Open),
+    (1, Step::Open),
+    (2, Step::Open),
+    (3, Step::Open),
+    (0, Step::Client(0)),
+    (1, Step::Channel(3)),
+    (3, Step::Start(2)),
+];
+
+const BUSY_MEANWHILE: &[(u8, Step)] = &[
+    (0, Step::Hand(0, 3)),
+    (3, Step::Fetch(0, true)),
+    (3, Step::Start(0)),
+    (3, Step::Idle(true)),
+    (
+        1,
+        Step::Post(Way::Port(1), NONE, "1", Answer::Accepted(0, 0)),
+    ),
+    (3, Step::Deliver(2, Mail::Text(0, 0, 0, "1"))),
+    (3, Step::Idle(true)),
+    (
+        1,
+        Step::Post(Way::Port(1), NONE, "2", Answer::Accepted(0, 1)),
+    ),
+    (
+        1,
+        Step::Post(Way::Port(1), NONE, "3", Answer::Accepted(0, 2)),
+    ),
+    (
+        1,
+        Step::Post(Way::Port(1), NONE, "4", Answer::Accepted(0, 3)),
+    ),
+    (3, Step::Deliver(2, Mail::Text(0, 0, 1, "2"))),
+];
+
+const BUSY_AFTER: &[(u8, Step)] = &[
+    (3, Step::Deliver(0, Mail::Text(0, 0, 0, "\"a\""))),
+    (3, Step::Deliver(2, Mail::Text(0, 0, 2, "3"))),
+    (3, Step::Deliver(2, Mail::Text(0, 0, 3, "4"))),
+    (3, Step::Idle(false)),
+];
+
+#[test]
+fn a_held_post_is_served_beside_a_busy_end(rt: HostRuntime) {
+    let shared = Shared::new(rt.alloc());
+    let mut table = Table::new(&shared, false);
+    let parts = [BUSY_BEFORE, LENT, BUSY_MEANWHILE, BUSY_AFTER];
+    let walked = walk_held(&rt, &shared, &mut table, parts);
+    drop(table);
+    drop(shared);
+    assert_eq!(rt; walked, Some(([7, 2, 11, 4], (0, 0))));
 }
 
 // A queue waits for the agent that it was handed to, and for its number, alone.

@@ -1,4 +1,5 @@
-use Rattle.std.proofs.Common.{◌≡◌, ◌+◌, ◌∙◌, ◌≤◌, length, refl, sym, ap, subst, arith}
+use Rattle.std.proofs.Common.{◌≡◌, ◌+◌, ◌∙◌, ◌≤◌, length, None, inl, inr, refl, sym, ap, subst, arith}
+use Rattle.std.proofs.lemmas.Bool.{cases_eq}
 use Rattle.std.specs.Prelude.{count_by}
 use Rattle.slab.specs.Slab.{get}
 use Rattle.hub_loop.specs.Ending.{slot_passes}
@@ -21,6 +22,15 @@ loop-key-preserved c =
           let one = c.take_at.ensures.moved passes in
           let all = kept.moved passes in
           omega (arith, same, one, all);
+      rest = λ other.
+          elim (cases_eq other c.loop-key.key) [
+            | inl is ↦ inl (subst (λ k. get c.take_at.new.held k ≡ None) (sym is) c.take_at.ensures.gone)
+            | inr differs ↦
+                elim (kept.rest other) [
+                  | inl gone ↦ inl (c.take_at.ensures.others other differs ∙ gone)
+                  | inr same ↦ inr (c.take_at.ensures.others other differs ∙ same)
+                ]
+          ];
       empty = empty-more (get c.loop-key.held) (get c.take_at.new.held) c.loop-key.key c.take_at.ensures.gone c.take_at.ensures.others kept.empty;
     }
 

@@ -1,0 +1,14 @@
+use Rattle.std.proofs.Common.{◌≡◌, refl, arith}
+use Rattle.slab.specs.Slab.{get}
+use Rattle.hub_marks.specs.declared.ready.Ready.{Ready}
+use Rattle.hub_loop.proofs.Reaches.{asked-marked}
+use Rattle.hub_loop.proofs.holding.Holding.ask.Goals as goal
+
+pub invariant_of-self-in-Nothing : goal.invariant_of-self-in-Nothing
+invariant_of-self-in-Nothing g c =
+    let old = c.args.self.now in
+    let q : Ready = record { marks = c.set.new.self; listed = old.ready.listed } in
+    record {
+      room = omega (arith, old.room, c.ask_at-asked.ensures.1.capacity);
+      reached = asked-marked old.held c.ask_at-asked.new.held old.ready q c.args.key c.args.steps.now c.ask_at-asked.new.steps c.ask_at-asked.result c.ask_at-asked.ensures refl c.set.ensures.others c.set.ensures.set old.reached;
+    }

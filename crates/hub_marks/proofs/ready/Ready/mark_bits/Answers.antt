@@ -1,0 +1,28 @@
+use Rattle.std.proofs.Common.{◌≡◌, ◌<◌, ◌∙◌, inl, inr, sym, arith, rules, w64}
+use Rattle.std.proofs.lemmas.Bool.{cases_eq}
+use Rattle.std.proofs.lemmas.Nat.Bits.{bit_at-trailing_zeros}
+use Rattle.std.specs.Int.{trailing_zeros}
+use Rattle.hub_marks.proofs.BitLemmas.{cleared}
+use Rattle.hub_marks.proofs.FindLemmas.{marks-kept, keeps-both}
+use Rattle.hub_marks.proofs.ready.Ready.mark_bits.Goals as goal
+
+pub bits-smaller : goal.bits-smaller
+bits-smaller c =
+    let lowest = bit_at-trailing_zeros w64 c.bits.left (omega (arith, c.bits-test.true)) (search rules) in
+    (cleared c.bits.left _ lowest.0 lowest.1).0
+
+pub bits-preserved : goal.bits-preserved
+bits-preserved c =
+    let lowest = bit_at-trailing_zeros w64 c.bits.left (omega (arith, c.bits-test.true)) (search rules) in
+    let others = (cleared c.bits.left _ lowest.0 lowest.1).1 in
+    let kept = c.bits.invariant in
+    let did = c.mark_bit.ensures in
+    record {
+      listed = did.listed ∙ kept.listed;
+      keeps = keeps-both _ c.bits.self.marks _ kept.keeps did.keeps;
+      found = λ bit small set gone.
+          elim (cases_eq bit (trailing_zeros w64 c.bits.left)) [
+            | inl same ↦ rw same did.found
+            | inr other ↦ marks-kept _ c.bits.self.listed.items _ c.bits.self.marks _ (kept.found bit small set (λ still. gone (others bit small other ∙ still))) (search rules) did.keeps
+          ];
+    }
