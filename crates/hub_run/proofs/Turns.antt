@@ -3,7 +3,6 @@ use Rattle.std.proofs.Common.{◌≡◌, ◌∙◌, List, Option, Result, Ok, Er
 use Rattle.hub_envelope.specs.declared.envelope.Envelope.{Envelope}
 use Rattle.hub_envelope.specs.declared.ids.EndId.{EndId}
 use Rattle.hub_logging.specs.Notes.{Notes, delivered, notes_of}
-use Rattle.hub_bell.specs.declared.steps.BoardStep.{BoardStep}
 use Rattle.hub_loop.specs.Turning.{IsTurn}
 use Rattle.hub_loop.specs.declared.delivery.Delivery.{Delivery}
 use Rattle.hub_loop.specs.declared.holding.Holding.{Holding}
@@ -18,13 +17,13 @@ use Rattle.hub_run.proofs.Posts.{getting}
 abbrev pub leaves : Notes → Envelope → List EndId → Notes → Type 0
 leaves before envelope missing after = after ≡ notes_of before envelope missing
 
-pub turned : (old new : Holding) (looks : List BoardStep) (kept keeps : Option Delivery) (h left : Notes) (before after : Count) (turn : Turn) → IsTurn {E = LoopError} leaves old new looks kept keeps h left before after (Ok turn) → posts_of left.log ≡ posts_of h.log
+pub turned : (old new : Holding) (looks : _) (kept keeps : Option Delivery) (h left : Notes) (before after : Count) (turn : Turn) → IsTurn {E = LoopError} leaves old new looks kept keeps h left before after (Ok turn) → posts_of left.log ≡ posts_of h.log
 turned old new looks kept keeps h left before after Ending t = ap (λ n. posts_of n.log) t.2
 turned old new looks kept keeps h left before after (Idle busy) t = ap (λ n. posts_of n.log) t.2
 turned old new looks kept keeps h left before after Delivered t = ap (λ n. posts_of n.log) t.4.4 ∙ getting h.log (delivered t.0.envelope)
 
 -- where a turn is no error, the handler that was taken out behind it says the same of the posts as the one put in
-pub counted : (old new : Holding) (looks : List BoardStep) (kept keeps : Option Delivery) (h left taken : Notes) (before after : Count) (now : Posts) (result : Result Turn LoopError)
+pub counted : (old new : Holding) (looks : _) (kept keeps : Option Delivery) (h left taken : Notes) (before after : Count) (now : Posts) (result : Result Turn LoopError)
     → IsTurn leaves old new looks kept keeps h left before after result → taken ≡ left → posts_of h.log ≡ now → OnOk result (posts_of taken.log ≡ now)
 counted old new looks kept keeps h left taken before after now (Ok turn) t given same =
     ap (λ n. posts_of n.log) given ∙ turned old new looks kept keeps h left before after turn t ∙ same
