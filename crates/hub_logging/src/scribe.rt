@@ -207,6 +207,8 @@ impl Handler for Scribe {
 
     ghost leaves = { λ before envelope missing after. after ≡ notes_of before envelope missing };
 
+    ghost refuses = { λ before _ _ after. after ≡ before };
+
     fn got<R: Wait>(
         &mut self,
         _rt: &R,

@@ -206,8 +206,8 @@ all-due None old new looks before after busy key due =
     let served = due.0 in
     all-asked-none served.0 old.held new.held before after busy served.1 key
 
-module _ {H E : Type 0} (leaves : H → Envelope → List EndId → H → Type 0) where
-  delivered-kept : (d e : Delivery) (before after : Slab Held) (h left : H) (result : Result (Unit {0}) E) → IsDelivered {E = E} leaves d e before after h left result → (key : ℕ) (held : Held) → get before key ≡ Some held → get after key ≡ Some held
+module _ {H E : Type 0} (leaves refuses : H → Envelope → List EndId → H → Type 0) where
+  delivered-kept : (d e : Delivery) (before after : Slab Held) (h left : H) (result : Result (Unit {0}) E) → IsDelivered {E = E} leaves refuses d e before after h left result → (key : ℕ) (held : Held) → get before key ≡ Some held → get after key ≡ Some held
   delivered-kept d e before after h left (Ok done) did key held there = adopted-kept did.0.found.items before after did.0.missing.items did.1 key held did.3 there
   delivered-kept d e before after h left (Err error) did key held there =
       ⊎_elim
@@ -216,7 +216,7 @@ module _ {H E : Type 0} (leaves : H → Envelope → List EndId → H → Type 0
       did.1
 
   -- a turn takes of no end but the one that gave its envelope
-  pub others-turn : (old new : Holding) (looks : List BoardStep) (kept keeps : Option Delivery) (h left : H) (before after : Count) (result : Result Turn E) → IsTurn leaves old new looks kept keeps h left before after result → TookNothingBut (Gave kept new.next result) old.held new.held
+  pub others-turn : (old new : Holding) (looks : List BoardStep) (kept keeps : Option Delivery) (h left : H) (before after : Count) (result : Result Turn E) → IsTurn leaves refuses old new looks kept keeps h left before after result → TookNothingBut (Gave kept new.next result) old.held new.held
   others-turn old new looks kept keeps h left before after (Ok Ending) turn key gave = slot-same (get old.held key) (get new.held key) (ap (λ holding. get holding.held key) turn.0)
   others-turn old new looks kept keeps h left before after (Ok (Idle busy)) turn key gave = all-due kept old new looks before after busy key turn.0
   others-turn old new looks kept keeps h left before after (Ok Delivered) turn key gave =

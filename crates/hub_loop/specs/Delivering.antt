@@ -18,12 +18,13 @@ IsLookedForIn (Some known) v r = r ≡ known
 abbrev pub IsLookedFor : Delivery → Receiving → Type 0
 IsLookedFor d r = IsLookedForIn d.arrival d.envelope r
 
-module _ {H E : Type 0} (leaves : H → Envelope → List EndId → H → Type 0) where
-  -- The ports that were found were adopted in order, and the handler is as it may be once it was told the envelope with those that are missing. After an error the same envelope is in hand, with the ports that were not adopted yet, if they were looked for.
+module _ {H E : Type 0} (leaves refuses : H → Envelope → List EndId → H → Type 0) where
+  -- The ports that were found were adopted in order, and the handler is as it may be once it was told the envelope with those that are missing. After an error the same envelope is in hand, with the ports that were not adopted yet, if they were looked for; and the handler is as it was, or as it may be once it refused the envelope with those that are missing.
   abbrev pub IsDelivered : Delivery → Delivery → Slab Held → Slab Held → H → H → Result (Unit {0}) E → Type 0
   IsDelivered old new before after h left (Ok done) =
       (r : Receiving) × (missing : List EndId) × IsLookedFor old r × AreAdopted r.found.items before after r.missing.items missing × leaves h old.envelope missing left
   IsDelivered old new before after h left (Err error) =
       (new.envelope ≡ old.envelope)
-      × (((old.arrival ≡ None) × (new.arrival ≡ None) × (after ≡ before))
-      ⊎ ((r : Receiving) × (s : Receiving) × (done : List PortSeat) × IsLookedFor old r × (new.arrival ≡ Some s) × ArePartlyAdopted r s before after done))
+      × (((old.arrival ≡ None) × (new.arrival ≡ None) × (after ≡ before) × (left ≡ h))
+      ⊎ ((r : Receiving) × (s : Receiving) × (done : List PortSeat) × IsLookedFor old r × (new.arrival ≡ Some s) × ArePartlyAdopted r s before after done
+      × ((left ≡ h) ⊎ refuses h old.envelope s.missing.items left)))

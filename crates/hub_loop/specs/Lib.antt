@@ -6,6 +6,7 @@ pub mod Holding
 pub mod Noticing
 pub mod Popping
 pub mod Reaching
+pub mod Resting
 pub mod Scanning
 pub mod Serving
 pub mod TakingNothing

@@ -24,7 +24,7 @@ IsDue None old new looks before after (turn_has.Delivery d) =
 IsDue None old new looks before after (turn_has.Nothing busy) =
     AreServed old.next old.held new.held old.ready.marks looks before after (Nothing busy) × (new.next ≡ old.next)
 
-module _ {H E : Type 0} (leaves : H → Envelope → List EndId → H → Type 0) where
+module _ {H E : Type 0} (leaves refuses : H → Envelope → List EndId → H → Type 0) where
   -- Ending: nothing was done. Idle: no delivery was kept, and each end was asked. Delivered: one delivery was taken up and told to the handler. After an error it is kept.
   abbrev pub IsTurn : Holding → Holding → List BoardStep → Option Delivery → Option Delivery → H → H → Count → Count → Result Turn E → Type 0
   IsTurn old new looks kept keeps h left before after (Ok Ending) =
@@ -33,7 +33,7 @@ module _ {H E : Type 0} (leaves : H → Envelope → List EndId → H → Type 0
       IsDue kept old new looks before after (turn_has.Nothing busy) × (keeps ≡ None) × (left ≡ h)
   IsTurn old new looks kept keeps h left before after (Ok Delivered) =
       (d : Delivery) × (e : Delivery) × (middle : Holding) × IsDue kept old middle looks before after (turn_has.Delivery d)
-      × IsDelivered {E = E} leaves d e middle.held new.held h left (Ok tt) × (keeps ≡ None) × (new.next ≡ middle.next)
+      × IsDelivered {E = E} leaves refuses d e middle.held new.held h left (Ok tt) × (keeps ≡ None) × (new.next ≡ middle.next)
   IsTurn old new looks kept keeps h left before after (Err error) =
       (d : Delivery) × (e : Delivery) × (middle : Holding) × IsDue kept old middle looks before after (turn_has.Delivery d)
-      × IsDelivered {E = E} leaves d e middle.held new.held h left (Err error) × (keeps ≡ Some e) × (new.next ≡ middle.next)
+      × IsDelivered {E = E} leaves refuses d e middle.held new.held h left (Err error) × (keeps ≡ Some e) × (new.next ≡ middle.next)

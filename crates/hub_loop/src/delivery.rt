@@ -85,7 +85,7 @@ impl Delivery {
         holding: &mut Holding,
         handler: &mut H,
     ) -> Result<(), OutOfMemory>
-        ensures delivered { IsDelivered H.leaves self.old self.new holding.old.held
+        ensures delivered { IsDelivered H.leaves H.refuses self.old self.new holding.old.held
             holding.new.held handler.old handler.new result }
         ensures next { holding.new.next ≡ holding.old.next }
     {

@@ -84,7 +84,9 @@ pub(crate) struct Closed {
 
 impl Closed {
     /// Nothing was closed.
-    pub(crate) fn new(alloc: Global) -> Closed {
+    pub(crate) fn new(alloc: Global) -> Closed
+        ensures { result.graves.items ≡ [] }
+    {
         Closed {
             graves: Vec::new(alloc),
             noticed: Vec::new(alloc),
@@ -121,8 +123,8 @@ impl Closed {
         self.noticed.push_reserved((end, noticed));
     }
 
-    /// Closes an end, a member once it has left the roster, or keeps a line.
-    pub(crate) fn close<R: Wait>(&mut self, rt: &R, hub: &Hub, roster: &SharedRoster, opened: Open)
+    /// Closes an end, or keeps a line.
+    pub(crate) fn close<R: Wait>(&mut self, rt: &R, hub: &Hub, opened: Open)
         requires graves { vec_len self.old.graves < vec_capacity self.old.graves }
         requires noticed { vec_len self.old.noticed < vec_capacity self.old.noticed }
         requires lines { vec_len self.old.lines < vec_capacity self.old.lines }
@@ -142,10 +144,7 @@ impl Closed {
             }
             Open::Held(Held::Client(queue)) => self.graves.push_reserved(queue.close()),
             Open::Held(Held::Worker(queue)) => self.graves.push_reserved(queue.close()),
-            Open::Held(Held::Member(member)) => {
-                roster.leave(rt, end);
-                self.graves.push_reserved(member.close());
-            }
+            Open::Held(Held::Member(member)) => self.graves.push_reserved(member.close()),
             Open::Held(Held::Line(poster)) => self.lines.push_reserved(poster),
         }
     }
@@ -156,7 +155,6 @@ impl Closed {
         &mut self,
         rt: &R,
         hub: &Hub,
-        roster: &SharedRoster,
         all: &mut Vec<Open>,
     ) -> Result<(), OutOfMemory>
         ensures moved { (e : ℕ) →
@@ -169,9 +167,19 @@ impl Closed {
         while !all.is_empty() {
             self.reserve(1)?;
             let opened = all.pop().unwrap();
-            self.close(rt, hub, roster, opened);
+            self.close(rt, hub, opened);
         }
         Ok(())
+    }
+}
+
+/// Takes the members among these out of the roster, before the first end is closed: nobody casts at a
+/// member of an agent whose queue is closed already.
+pub(crate) fn leave_all<R: Wait>(rt: &R, roster: &SharedRoster, all: &[Open]) {
+    for opened in all {
+        if let Open::Held(Held::Member(member)) = opened {
+            roster.leave(rt, member.end());
+        }
     }
 }
 

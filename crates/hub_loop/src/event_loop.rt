@@ -44,6 +44,7 @@ ghost use Rattle.hub_loop.specs.Noticing.{
   SomeClosed,
 };
 ghost use Rattle.hub_loop.specs.Popping.{PopsEach};
+ghost use Rattle.hub_loop.specs.Resting.{Rests};
 ghost use Rattle.hub_loop.specs.TakingNothing.{Gave, TookNothingBut};
 ghost use Rattle.hub_loop.specs.Turning.{IsDue, IsTurn};
 ghost use Rattle.hub_loop.specs.declared.turn.Turn.TheVariants.{Ending};
@@ -51,7 +52,7 @@ ghost use Rattle.hub_loop.specs.declared.turn.Turn.TheVariants.{Ending};
 use crate::checkpoint::Checkpoint;
 use crate::closing::{Closing, Ended};
 use crate::delivery::{Delivery, Due};
-use crate::ending::{Closed, Open, take_found, take_held, take_queues};
+use crate::ending::{Closed, Open, leave_all, take_found, take_held, take_queues};
 use crate::handler::Handler;
 use crate::held::Held;
 use crate::holding::Holding;
@@ -113,6 +114,9 @@ impl<H: Handler + Drop, C: Checkpoint + Drop> EventLoop<H, C> {
         ensures kept { IfOk result (λ opened. opened.kept ≡ None) }
         ensures handler { IfOk result (λ opened. opened.handler ≡ handler) }
         ensures order { IfOk result (λ opened. opened.order ≡ order) }
+        ensures rest { IfOk result (λ opened. (opened.fetched.items ≡ [])
+            × (opened.opened.items ≡ []) × (opened.holding.closed.graves.items ≡ [])
+            × (opened.closing ≡ None)) }
     {
         let holding = Holding::new(alloc, bell.bell()?);
         Ok(EventLoop {
@@ -143,6 +147,8 @@ impl<H: Handler + Drop, C: Checkpoint + Drop> EventLoop<H, C> {
         ensures kept { self.new.kept ≡ None }
         ensures order { self.new.order ≡ self.old.order }
         ensures handler { self.new.handler ≡ self.old.handler }
+        ensures rest { (self.new.fetched ≡ self.old.fetched) × (self.new.opened ≡ self.old.opened)
+            × (self.new.closing ≡ self.old.closing) }
     {
         if let Some(delivery) = self.kept.take() {
             return Due::Delivery(delivery);
@@ -176,11 +182,13 @@ impl<H: Handler + Drop, C: Checkpoint + Drop> EventLoop<H, C> {
         ensures ending { (result ≡ Ok Ending) ↔ (knows self.new.order ≡ true) }
         ensures turn { (looks : List BoardStep)
             × HasStepped self.old.listener self.new.listener looks
-            × IsTurn H.leaves self.old.holding self.new.holding looks self.old.kept self.new.kept
+            × IsTurn H.leaves H.refuses self.old.holding self.new.holding looks self.old.kept self.new.kept
             self.old.handler self.new.handler steps.old steps.new result }
         ensures others { TookNothingBut (Gave self.old.kept self.new.holding.next result)
             self.old.holding.held self.new.holding.held }
         ensures pops { PopsEach result self.old.holding.held steps.old steps.new }
+        ensures rest { (self.new.fetched ≡ self.old.fetched) × (self.new.opened ≡ self.old.opened)
+            × (self.new.closing ≡ self.old.closing) }
     {
         if self.order.seen() {
             return Ok(Turn::Ending);
@@ -209,6 +217,10 @@ impl<H: Handler + Drop, C: Checkpoint + Drop> EventLoop<H, C> {
         ensures ok { OnOk result (HoldsMore self.old.holding.held self.new.holding.held held) }
         ensures back { IfErr result (λ refused. refused.1 ≡ held) }
         ensures err { OnErr result (SameValues self.old.holding.held self.new.holding.held) }
+        ensures kept { (self.new.kept ≡ self.old.kept) × (self.new.handler ≡ self.old.handler)
+            × (self.new.holding.closed ≡ self.old.holding.closed) }
+        ensures rest { (self.new.fetched ≡ self.old.fetched) × (self.new.opened ≡ self.old.opened)
+            × (self.new.closing ≡ self.old.closing) }
     {
         match self.holding.hold(held) {
             Ok(()) => Ok(()),
@@ -279,13 +291,19 @@ impl<H: Handler + Drop, C: Checkpoint + Drop> EventLoop<H, C> {
         ensures given { IfSome result (λ held. (number_of held ≡ end)
             × HoldsMore self.new.holding.held self.old.holding.held held) }
         ensures none { IfNone result (self.new.holding.held ≡ self.old.holding.held) }
+        ensures kept { (self.new.kept ≡ self.old.kept) × (self.new.handler ≡ self.old.handler)
+            × (self.new.holding.closed ≡ self.old.holding.closed) }
+        ensures rest { (self.new.fetched ≡ self.old.fetched) × (self.new.opened ≡ self.old.opened)
+            × (self.new.closing ≡ self.old.closing) }
     {
         self.holding.release(end)
     }
 
     /// Rests after a turn: where no end gave anything and none was busy the thread sleeps until
     /// somebody rings, and where one was busy it lets other threads run first.
-    pub fn rest<R: Wait>(&mut self, rt: &R, turn: Turn) {
+    pub fn rest<R: Wait>(&mut self, rt: &R, turn: Turn)
+        ensures { Rests turn self.old.listener.at self.new.listener.at }
+    {
         match turn {
             Turn::Idle { busy: false } => self.listener.sleep(rt),
             Turn::Idle { busy: true } => thread::yield_now(),
@@ -338,6 +356,8 @@ impl<H: Handler + Drop, C: Checkpoint + Drop> EventLoop<H, C> {
         ensures ok { IfOk result (λ held.
             IsFetched held self.old.holding.held self.new.holding.held end) }
         ensures err { OnErr result (SameValues self.old.holding.held self.new.holding.held) }
+        ensures kept { (self.new.kept ≡ self.old.kept) × (self.new.handler ≡ self.old.handler) }
+        ensures rest { (self.new.opened ≡ self.old.opened) × (self.new.closing ≡ self.old.closing) }
     {
         self.fetched.reserve(1)?;
         let queue = match take_fetched(&mut self.fetched, end) {
@@ -431,9 +451,8 @@ impl<H: Handler + Drop, C: Checkpoint + Drop> EventLoop<H, C> {
         take_found(&mut self.kept, &mut self.opened)?;
         self.opened.sort_unstable_by_key(|open| open.end().0);
         self.opened.reverse();
-        self.holding
-            .closed
-            .close_all(rt, hub, roster, &mut self.opened)
+        leave_all(rt, roster, self.opened.as_slice());
+        self.holding.closed.close_all(rt, hub, &mut self.opened)
     }
 
     // Closes what is held, or takes up how far an earlier call has come.

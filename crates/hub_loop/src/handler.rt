@@ -3,13 +3,16 @@ use std::sync::Wait;
 
 /// What an agent does with a delivery.
 pub trait Handler {
-    ghost use Rattle.std.specs.Prelude.{List, OnOk};
+    ghost use Rattle.std.specs.Prelude.{List, OnErr, OnOk};
     ghost use Rattle.hub_envelope.specs.declared.envelope.Envelope.{Envelope as Delivered};
     ghost use Rattle.hub_envelope.specs.declared.ids.EndId.{EndId as Number};
 
     /// What a delivery that was answered `Ok` may leave of the handler: the handler before, the
     /// envelope, the ports of it that were not found or could not be adopted, the handler after.
     ghost leaves: { Self → Delivered → List Number → Self → Type 0 };
+
+    /// The same of one that was answered with an error.
+    ghost refuses: { Self → Delivered → List Number → Self → Type 0 };
 
     /// Takes note of an envelope, and of the numbers of those of its ports that the loop doesn't
     /// hold. After an error the loop keeps the delivery, and calls again in its next turn.
@@ -19,5 +22,6 @@ pub trait Handler {
         envelope: &Envelope,
         missing: &[EndId],
     ) -> Result<(), OutOfMemory>
-        ensures { OnOk result (leaves self.old envelope.now missing.now self.new) };
+        ensures ok { OnOk result (leaves self.old envelope.now missing.now self.new) }
+        ensures err { OnErr result (refuses self.old envelope.now missing.now self.new) };
 }

@@ -91,7 +91,8 @@ fn adopt_handed<R: Wait>(
 impl Holding {
     /// Nothing is held. It takes no memory.
     pub(crate) fn new(alloc: Global, bell: Bell) -> Holding
-        ensures { result.held.slots ≡ [] }
+        ensures held { result.held.slots ≡ [] }
+        ensures closed { result.closed.graves.items ≡ [] }
     {
         Holding {
             bell,
@@ -110,6 +111,7 @@ impl Holding {
         requires bit { HasBit self.old.ready.marks self.old.held.vacant_key }
         ensures held { HoldsMore self.old.held self.new.held held }
         ensures next { self.new.next ≡ self.old.next }
+        ensures closed { self.new.closed ≡ self.old.closed }
     {
         let end = held.as_end();
         let key = self.held.insert_reserved(held);
@@ -124,6 +126,7 @@ impl Holding {
         ensures back { IfErr result (λ back. back ≡ held) }
         ensures err { OnErr result (SameValues self.old.held self.new.held) }
         ensures next { self.new.next ≡ self.old.next }
+        ensures closed { self.new.closed ≡ self.old.closed }
     {
         if self.held.reserve(1).is_err() {
             return Err(held);
@@ -205,6 +208,7 @@ impl Holding {
             (number_of held ≡ end) × HoldsMore self.new.held self.old.held held) }
         ensures none { IfNone result (self.new.held ≡ self.old.held) }
         ensures next { self.new.next ≡ self.old.next }
+        ensures closed { self.new.closed ≡ self.old.closed }
     {
         let key = key_of(&self.ends, end)?;
         if self.held.get(key)?.end() != end {

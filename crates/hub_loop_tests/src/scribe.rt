@@ -1,4 +1,4 @@
-ghost use Rattle.std.specs.Prelude.{◌≡◌, ◌+◌, OnOk, vec_len};
+ghost use Rattle.std.specs.Prelude.{◌≡◌, ◌+◌, OnErr, OnOk, vec_len};
 
 use crate::mail::{Mail, are_numbers, is_mail};
 use hub_envelope::{EndId, Envelope, OutOfMemory};
@@ -73,7 +73,8 @@ impl Scribe {
     }
 
     fn write(&mut self, envelope: &Envelope, missing: &[EndId]) -> Result<(), OutOfMemory>
-        ensures { OnOk result (vec_len self.new.told ≡ vec_len self.old.told + 1) }
+        ensures ok { OnOk result (vec_len self.new.told ≡ vec_len self.old.told + 1) }
+        ensures err { OnErr result (vec_len self.new.told ≡ vec_len self.old.told) }
     {
         let told = Told {
             envelope: envelope.clone()?,
@@ -87,6 +88,8 @@ impl Scribe {
 impl Handler for Scribe {
     // An envelope was written down.
     ghost leaves = { λ before _ _ after. vec_len after.told ≡ vec_len before.told + 1 };
+
+    ghost refuses = { λ before _ _ after. vec_len after.told ≡ vec_len before.told };
 
     fn got<R: Wait>(
         &mut self,

@@ -1,4 +1,5 @@
 use Rattle.std.proofs.Common.{subst, refl, Some, Ok, Err}
+use Rattle.hub_loop.specs.Delivering.{IsDelivered}
 use Rattle.hub_loop.specs.Turning.{IsDue}
 use Rattle.hub_loop.specs.declared.loop_error.LoopError.{LoopError}
 use Rattle.hub_loop.specs.declared.loop_error.LoopError.TheVariants.{OutOfMemory}
@@ -33,16 +34,17 @@ pub returns-in-Ok-clause-others : goal.returns-in-Ok-clause-others
 returns-in-Ok-clause-others g c =
     let old = c.args.self.now in
     let turn = returns-in-Ok-clause-turn g c in
-    others-turn {E = LoopError} g.H.Handler.leaves old.holding c.deliver.new.holding turn.0 old.kept c.take_up.new.self.kept old.handler c.deliver.new.handler c.args.steps.now c.take_up.new.steps (Ok Delivered) turn.2
+    others-turn {E = LoopError} g.H.Handler.leaves g.H.Handler.refuses old.holding c.deliver.new.holding turn.0 old.kept c.take_up.new.self.kept old.handler c.deliver.new.handler c.args.steps.now c.take_up.new.steps (Ok Delivered) turn.2
 
 pub returns-in-Err-clause-turn : goal.returns-in-Err-clause-turn
 returns-in-Err-clause-turn g c =
     let looks = c.take_up.ensures.due.0 in
     let due = subst (IsDue c.args.self.now.kept c.args.self.now.holding c.take_up.new.self.holding looks c.args.steps.now c.take_up.new.steps) c.in-Delivery.is c.take_up.ensures.due.2 in
-    (looks, c.take_up.ensures.due.1, (c.in-Delivery.delivery, c.deliver.new.self, c.take_up.new.self.holding, due, c.in-Err.ensures.delivered, refl, c.deliver.ensures.next))
+    let did = subst (λ h. IsDelivered {E = LoopError} g.H.Handler.leaves g.H.Handler.refuses c.in-Delivery.delivery c.deliver.new.self c.take_up.new.self.holding.held c.deliver.new.holding.held h c.deliver.new.handler (Err OutOfMemory)) c.take_up.ensures.handler c.in-Err.ensures.delivered in
+    (looks, c.take_up.ensures.due.1, (c.in-Delivery.delivery, c.deliver.new.self, c.take_up.new.self.holding, due, did, refl, c.deliver.ensures.next))
 
 pub returns-in-Err-clause-others : goal.returns-in-Err-clause-others
 returns-in-Err-clause-others g c =
     let old = c.args.self.now in
     let turn = returns-in-Err-clause-turn g c in
-    others-turn {E = LoopError} g.H.Handler.leaves old.holding c.deliver.new.holding turn.0 old.kept (Some c.deliver.new.self) c.take_up.new.self.handler c.deliver.new.handler c.args.steps.now c.take_up.new.steps (Err OutOfMemory) turn.2
+    others-turn {E = LoopError} g.H.Handler.leaves g.H.Handler.refuses old.holding c.deliver.new.holding turn.0 old.kept (Some c.deliver.new.self) old.handler c.deliver.new.handler c.args.steps.now c.take_up.new.steps (Err OutOfMemory) turn.2
