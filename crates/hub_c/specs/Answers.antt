@@ -1,13 +1,13 @@
 -- What whole texts are answered with.
-use Rattle.std.specs.Prelude.{◌≡◌, ℕ, ◌⊎◌, List, [], Option, Some, None, Ok, Err, codes}
+use Rattle.std.specs.Prelude.{◌≡◌, ℕ, ◌⊎◌, List, [], Option, Some, None, Ok, Err}
 use Rattle.hub_engine.specs.declared.status.ExitStatus.{ExitStatus}
 use Rattle.hub_engine.specs.declared.status.ExitStatus.TheVariants as status
 use Rattle.hub_engine.specs.Engine.{IsBadLine}
 use Rattle.hub_engine.specs.OutOfMemory.{out_of_memory}
 use Rattle.hub_engine.specs.Status.{status_number}
 use Rattle.hub_script.specs.Contents.{Contents}
+use Rattle.hub_script.specs.Errors.{script_error_text}
 use Rattle.hub_script.specs.Script.{script_of}
-use Rattle.hub_script.specs.declared.script_error.DataCloneCause.TheVariants.{Source, Twice, Detached}
 use Rattle.hub_script.specs.declared.script_error.ScriptError.{ScriptError}
 use Rattle.hub_script.specs.declared.script_error.ScriptError.TheVariants as error
 use Rattle.hub_steps.specs.Output.{IsStepsOutput}
@@ -29,14 +29,8 @@ AnswersCheck input = Answers (IsCheckOutput input)
 
 -- the kinds of bad script lines, as they are printed. Want of memory is no kind of bad line.
 abbrev pub script_kind_text : ScriptError → Option (List ℕ)
-script_kind_text error.Syntax = Some (codes "Syntax")
-script_kind_text error.UnknownAction = Some (codes "UnknownAction")
-script_kind_text error.UnknownName = Some (codes "UnknownName")
-script_kind_text (error.DataClone Source) = Some (codes "DataClone(Source)")
-script_kind_text (error.DataClone Twice) = Some (codes "DataClone(Twice)")
-script_kind_text (error.DataClone Detached) = Some (codes "DataClone(Detached)")
-script_kind_text error.TooLarge = Some (codes "TooLarge")
 script_kind_text error.OutOfMemory = None
+script_kind_text bad = Some (script_error_text bad)
 
 -- nothing of a text that is a script, the one line of one that isn't, or `out of memory`
 abbrev pub IsScriptAnswer : List ℕ → ExitStatus → List ℕ → Type 0

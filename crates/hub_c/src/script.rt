@@ -7,7 +7,7 @@ ghost use Rattle.hub_c.specs.Answers.{AnswersScript, IsScriptAnswer, script_kind
 
 use crate::texts::put_text;
 use hub_engine::{CountedWriter, Device, ExitStatus, end_unread};
-use hub_script::{DataCloneCause, Script, ScriptError};
+use hub_script::{Script, ScriptError};
 use std::alloc::Global;
 use std::io::Write;
 
@@ -48,13 +48,7 @@ fn name_of(error: ScriptError) -> Option<&'static str>
     ensures { option_map (λ name. name.now) result ≡ script_kind_text error }
 {
     match error {
-        ScriptError::Syntax => Some("Syntax"),
-        ScriptError::UnknownAction => Some("UnknownAction"),
-        ScriptError::UnknownName => Some("UnknownName"),
-        ScriptError::DataClone(DataCloneCause::Source) => Some("DataClone(Source)"),
-        ScriptError::DataClone(DataCloneCause::Twice) => Some("DataClone(Twice)"),
-        ScriptError::DataClone(DataCloneCause::Detached) => Some("DataClone(Detached)"),
-        ScriptError::TooLarge => Some("TooLarge"),
         ScriptError::OutOfMemory => None,
+        bad => Some(bad.name()),
     }
 }
