@@ -47,10 +47,11 @@ def run(bench):
         bench.at_least(LEAST_BESIDE_NODE, f"deliveries, {name}, beside Node", beside, "times")
     for ports, turns in IDLE.items():
         an_end = scaled(runs[f"idle {ports}"].seconds, 1e9 / turns / ports)
+        name = f"idle, {ports:,} ports, an end"
         if ports == max(IDLE):
-            bench.at_most(MOST_NANOSECONDS_AN_IDLE_END, f"idle, {ports:,} ports, an end", an_end, "ns")
+            bench.at_most(MOST_NANOSECONDS_AN_IDLE_END, name, an_end, "ns")
         else:
-            bench.shows(f"idle, {ports:,} ports, an end", an_end, "ns")
+            bench.shows(name, an_end, "ns")
     for ports in (1, max(SIZES)):
         trips = scaled(runs[f"trips {ports}"].seconds, 1e6 / TRIPS)
         bench.shows(f"there and back, {ports:,} ports", trips, "us")
