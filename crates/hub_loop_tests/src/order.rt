@@ -74,12 +74,12 @@ impl Course {
 
     // Posts at an end, of which the loop holds the second port.
     fn post<R: Wait>(&mut self, rt: &R, table: &mut Table<'_>, place: usize) -> bool {
-        let Some(count) = self.posted.get_mut(place) else {
+        let (Ok(number), Some(count)) = (u32::try_from(place), self.posted.get_mut(place)) else {
             return false;
         };
         let answer = Answer::Accepted(0, *count);
         *count = count.wrapping_add(1);
-        let way = Way::Port((place as u32).wrapping_mul(2));
+        let way = Way::Port(number.wrapping_mul(2));
         does(rt, table, 1, Step::Post(way, NONE, "1", answer))
     }
 
@@ -88,13 +88,13 @@ impl Course {
         let Some(place) = self.waiting() else {
             return does(rt, table, 0, Step::Idle(false));
         };
-        let Some(count) = self.taken.get_mut(place) else {
+        let (Ok(number), Some(count)) = (u32::try_from(place), self.taken.get_mut(place)) else {
             return false;
         };
         let mail = Mail::Text(0, 0, *count, "1");
         *count = count.wrapping_add(1);
         self.next = place.wrapping_add(1);
-        let end = (place as u32).wrapping_mul(2).wrapping_add(1);
+        let end = number.wrapping_mul(2).wrapping_add(1);
         does(rt, table, 0, Step::Deliver(end, mail))
     }
 
