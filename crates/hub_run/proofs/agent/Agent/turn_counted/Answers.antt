@@ -7,4 +7,4 @@ pub returns : goal.returns
 returns g c =
     let put = ap (λ e. posts_of e.handler.log) c.replace_handler-empty.ensures.put in
     let given = ap (λ n. posts_of n.log) c.take-scribe.ensures.given in
-    counted _ _ _ _ _ _ _ _ _ _ _ c.turn-turn.result c.turn-turn.ensures.turn c.replace_handler.ensures.given (put ∙ given ∙ c.self.view_is)
+    counted _ _ _ _ _ _ _ _ _ _ _ c.turn-turn.result c.turn-turn.ensures.turn.2 c.replace_handler.ensures.given (put ∙ given ∙ c.self.view_is)
