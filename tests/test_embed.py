@@ -21,7 +21,7 @@ EMBED = ROOT / "embed"
 OUT = EMBED / "out"
 CALLS = EMBED / "c" / "tests" / "calls.c"
 # The build, and the wait for another test that builds.
-SECONDS_TO_BUILD = 400
+SECONDS_TO_BUILD = 2400
 SANITIZERS = ["-fsanitize=address,undefined", "-fno-sanitize-recover=all"]
 WARNINGS = ["-Wall", "-Wextra", "-Werror", "-pedantic"]
 WRAPPED = ["-Wl,--wrap=malloc", "-Wl,--wrap=realloc", "-pthread"]
