@@ -39,9 +39,6 @@ same_word words is = ap (λ (w : List ℕ). set w 0 (get_or w 0 0)) is
 tags_is : {T : Type 0} (t u : Tags) → ◌≡◌ {A = View T} (Fresh t) (Fresh u) → t ≡ u
 tags_is t u e = ap tags_in e
 
-filling_is : {T : Type 0} (t u : Tags) → ◌≡◌ {A = View T} (Filling t) (Filling u) → t ≡ u
-filling_is t u e = ap tags_in e
-
 abbrev is_filling : {T : Type 0} → View T → Bool
 is_filling (Filling t) = true
 is_filling _ = false

@@ -12,10 +12,6 @@ holds-after : (old mid new : Slab Held) (h : Held) → SameValues old mid → Ho
 holds-after old mid new h same more =
     (more.0, sym (same more.0) ∙ more.1, record { changed = more.2.changed; others = λ k other. more.2.others k other ∙ same k })
 
-holds-before : (old mid new : Slab Held) (h : Held) → HoldsMore old mid h → SameValues mid new → HoldsMore old new h
-holds-before old mid new h more same =
-    (more.0, more.1, record { changed = same more.0 ∙ more.2.changed; others = λ k other. same k ∙ more.2.others k other })
-
 one-after : (p : PortSeat) (old mid new : Slab Held) (before after : List EndId) → SameValues old mid → IsOneAdopted p mid new before after → IsOneAdopted p old new before after
 one-after p old mid new before after same one =
     ⊎_elim

@@ -36,15 +36,6 @@ count-none p (x ∷ slots) isnt empty =
     let split = sum_by-cons (λ y. cond (p y) 1 0) x slots in
     omega (arith, here, rest, split)
 
--- a slot was emptied
-pub count-emptied : {X : Type 0} (p : Option X → Bool) (slots : List (Option X)) (key : ℕ) (x : X) → p None ≡ false → get_or slots key None ≡ Some x → count_by p slots ≡ count_by p (set slots key None) + cond (p (Some x)) 1 0
-count-emptied p slots key x isnt there =
-    let inside : key < length slots = grind (arith, get_or_past) in
-    let step = sum_by-set (λ y. cond (p y) 1 0) slots key None None inside in
-    let was : ◌≡◌ {A = ℕ} (cond (p (get_or slots key None)) 1 0) (cond (p (Some x)) 1 0) = ap (λ y. cond {A = ℕ} (p y) 1 0) there in
-    let is : ◌≡◌ {A = ℕ} (cond (p None) 1 0) 0 = ap (λ b. cond {A = ℕ} b 1 0) isnt in
-    omega (arith, step, was, is)
-
 -- one went from one list to the end of another
 pub moves-one : {A B : Type 0} (p : A → Bool) (q : B → Bool) (old new : List A) (from to : List B) (a : A) (b : B) → count_by p old ≡ count_by p new + cond (p a) 1 0 → to ≡ from ++ b ∷ [] → q b ≡ p a → count_by p new + count_by q to ≡ count_by p old + count_by q from
 moves-one p q old new from to a b fewer more same =

@@ -54,10 +54,6 @@ same-held old new r same reached key held is = reached key held (sym (same key) 
 pub is-marked : (r : Ready) (key : ℕ) (held : Held) → HasBit r.marks key → mark_of r.marks key ≡ 1 → IsReached r key held
 is-marked r key held has marked = (has, λ end is clear. absurd (omega (arith, marked, clear)))
 
--- its number leads to this key
-pub is-listed : (r : Ready) (key : ℕ) (slot : Option Held) (held : Held) → HasBit r.marks key → slot ≡ Some held → IsListedAt r.listed.items key slot → IsReached r key held
-is-listed r key slot held has is listed = (has, λ end is_end clear. listed held end is is_end)
-
 -- marks of other keys stay, and what leads there
 pub moves-other : (r q : Ready) (key : ℕ) → SameBut key r.marks q.marks → ((end : EndId) (other : ℕ) → other ≢ key → LeadsTo r.listed.items end other → LeadsTo q.listed.items end other) → (other : ℕ) → other ≢ key → Moves r q other
 moves-other r q key same listed other differs = record {
@@ -76,18 +72,6 @@ moves-set r q key same_listed same set other = record {
         | inr differs ↦ sym (same.others other differs) ∙ clear
       ];
   listed = λ end leads. subst (λ l. LeadsTo l.items end other) (sym same_listed) leads;
-}
-
--- what was marked is marked
-pub moves-kept : (r q : Ready) → q.listed ≡ r.listed → KeepsMarks r.marks q.marks → (key : ℕ) → Moves r q key
-moves-kept r q same_listed keeps key = record {
-  bits = omega (arith, keeps.0);
-  marks = λ has clear.
-      elim (mark-cases r.marks key) [
-        | inl none ↦ none
-        | inr set ↦ absurd (let one = keeps.1 key set in omega (arith, one, clear))
-      ];
-  listed = λ end leads. subst (λ l. LeadsTo l.items end key) (sym same_listed) leads;
 }
 
 -- a slot that has something has it under its key

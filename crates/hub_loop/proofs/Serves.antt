@@ -158,14 +158,6 @@ before-range next low high key keys marks range le less order other is below =
       ]
     ]))
 
--- the marked ends were asked from the next key on, up to this one
-pub before-ahead : (next key : ℕ) (high : ℕ) (keys marks : List ℕ) → next ≤ key → AskedOrUnmarked next key keys marks → AskedBefore next high key keys marks
-before-ahead next key high keys marks le asked other is below =
-    elim is [
-      | inl ahead ↦ asked other ahead.0 ahead.1
-      | inr wraps ↦ absurd (omega (arith, le, wraps.0))
-    ]
-
 -- and then from the first
 pub before-behind : (next key high : ℕ) (keys more : List ℕ) (old mid : EndsSeat) → IsSameBut keys old mid → AskedOrUnmarked next high keys old.ready.marks → AskedOrUnmarked 0 key more mid.ready.marks → key < next → AskedBefore next high key (more ++ keys) old.ready.marks
 before-behind next key high keys more old mid same ahead behind less other is below =
@@ -211,13 +203,6 @@ marked-asked low marked keys marks asked other le less =
           ]
     ]
 
--- no key is marked between where none is from the first on
-pub none-between : (marks : List ℕ) (low high : ℕ) → IsNext marks low None → ClearBetween marks low high
-none-between marks low high none key le less = none key le
-
-pub clear-below : (marks : List ℕ) (low high marked : ℕ) → high ≤ marked → ClearBetween marks low marked → ClearBetween marks low high
-clear-below marks low high marked le clear key from less = clear key from (omega (arith, less, le))
-
 -- an asking takes away the mark of its key alone
 pub ask-same : (key : ℕ) (old new : EndsSeat) → SameBut key old.ready.marks new.ready.marks → new.ready.listed ≡ old.ready.listed → new.next ≡ old.next → new.held.capacity ≡ old.held.capacity → IsSameBut (key ∷ []) old new
 ask-same key old new same listed next capacity = record {
@@ -231,13 +216,6 @@ ask-same key old new same listed next capacity = record {
   next = next;
   capacity = capacity;
 }
-
--- nothing was asked
-pub same-none : (old : EndsSeat) → IsSameBut [] old old
-same-none old = record { bits = refl; stay = λ key marked. inr marked; listed = refl; next = refl; capacity = refl }
-
-pub asked-none : (old : EndsSeat) (before : Count) → AskedThese [] old old before before false
-asked-none old before = record { asked = (refl, refl, refl); same = same-none old }
 
 -- one more was asked and gave none
 pub these-more : (keys : List ℕ) (key : ℕ) (old mid new : EndsSeat) (before c after : Count) (was here : Bool) → AskedThese keys old mid before c was → IsAskedAt mid.held new.held key c after (asked.Nothing here) → IsSameBut (key ∷ []) mid new → AskedThese (key ∷ keys) old new before after (here || was)

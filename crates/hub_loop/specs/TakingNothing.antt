@@ -2,7 +2,7 @@
 use Rattle.std.specs.Prelude.{◌≡◌, ℕ, ◌+◌, List, ◌++◌, map, length, Option, Some, None, Result, Ok, Err}
 use Rattle.slab.specs.Slab.{Slab, get}
 use Rattle.hub_envelope.specs.declared.envelope.Envelope.{Envelope}
-use Rattle.hub_queue.specs.Places.{PlaceSeat}
+use Rattle.hub_queue.specs.TakerQueues.{TakerQueueSeat}
 use Rattle.hub_queue.specs.Taking.{TakerSeat}
 use Rattle.hub_loop.specs.declared.delivery.Delivery.{Delivery}
 use Rattle.hub_loop.specs.declared.held.Held.{Held}
@@ -11,7 +11,7 @@ use Rattle.hub_loop.specs.declared.turn.Turn.TheVariants.{Delivered, Idle, Endin
 use Rattle.hub_loop.specs.Holding.{seat_of, with_seat}
 
 -- what was taken from a queue
-abbrev pub got_of : PlaceSeat → List Envelope
+abbrev pub got_of : TakerQueueSeat → List Envelope
 got_of p = p.at.got
 
 -- The taker may have left queues, the oldest first. Of each queue that it still has, what was taken is as it was.

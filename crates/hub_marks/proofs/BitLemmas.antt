@@ -82,52 +82,6 @@ named-set words names new more key named set same name same_names = record {
       ];
 }
 
--- names follow a word that became 0
-pub named-cleared : (words names new less : List ℕ) (key : ℕ) → IsNamed words names → get_or new (key / 64) 0 ≡ 0 → SameBut key words new → mark_of less (key / 64) ≡ 0 → SameBut (key / 64) names less → IsNamed new less
-named-cleared words names new less key named zero same name same_names = record {
-  most = omega (arith, named.most, same.bits);
-  few = omega (arith, named.few, same_names.bits);
-  covered = omega (arith, named.covered, same.bits, same_names.bits);
-  none = λ word clear.
-      elim (cases_eq word (key / 64)) [
-        | inl is ↦ ap (λ w. get_or new w 0) is ∙ zero
-        | inr apart ↦ same.words word apart ∙ named.none word (sym (same_names.others word apart) ∙ clear)
-      ];
-  some = λ word none.
-      elim (cases_eq word (key / 64)) [
-        | inl is ↦ ap (mark_of less) is ∙ name
-        | inr apart ↦ same_names.others word apart ∙ named.some word (sym (same.words word apart) ∙ none)
-      ];
-}
-
--- names stay where the word has bits still
-pub named-left : (words names new : List ℕ) (key : ℕ) → IsNamed words names → get_or new (key / 64) 0 ≢ 0 → get_or new (key / 64) 0 ≤ get_or words (key / 64) 0 → SameBut key words new → IsNamed new names
-named-left words names new key named some less same = record {
-  most = omega (arith, named.most, same.bits);
-  few = named.few;
-  covered = omega (arith, named.covered, same.bits);
-  none = λ word clear.
-      elim (cases_eq word (key / 64)) [
-        | inl is ↦ absurd (let zero : get_or words (key / 64) 0 ≡ 0 = sym (ap (λ w. get_or words w 0) is) ∙ named.none word clear in some (omega (arith, less, zero)))
-        | inr apart ↦ same.words word apart ∙ named.none word clear
-      ];
-  some = λ word none.
-      elim (cases_eq word (key / 64)) [
-        | inl is ↦ absurd (some (sym (ap (λ w. get_or new w 0) is) ∙ none))
-        | inr apart ↦ named.some word (sym (same.words word apart) ∙ none)
-      ];
-}
-
--- names follow words that were added
-pub named-grown : (words names new more : List ℕ) → IsNamed words names → length new ≤ 1099511627776 → length more ≤ 1099511627776 → length new ≤ 64 * length more → ((word : ℕ) → get_or new word 0 ≡ get_or words word 0) → ((word : ℕ) → get_or more word 0 ≡ get_or names word 0) → IsNamed new more
-named-grown words names new more named most few covered same same_names = record {
-  most = most;
-  few = few;
-  covered = covered;
-  none = λ word clear. same word ∙ named.none word (sym (ap (λ n. bit_at n (word % 64)) (same_names (word / 64))) ∙ clear);
-  some = λ word none. ap (λ n. bit_at n (word % 64)) (same_names (word / 64)) ∙ named.some word (sym (same word) ∙ none);
-}
-
 -- zeros behind the words change nothing
 pub grown : (words new : List ℕ) → ((word : ℕ) → word < length words → get_or new word 0 ≡ get_or words word 0) → ((word : ℕ) → length words ≤ word → get_or new word 0 ≡ 0) → (word : ℕ) → get_or new word 0 ≡ get_or words word 0
 grown words new same zero word =

@@ -21,28 +21,6 @@ use Rattle.hub_ports.specs.Flying.{in_flight, AreFree, HaveFlown, HaveFlownBehin
 use Rattle.hub_ports.specs.Refusing.{whole_error}
 use Rattle.hub_ports.specs.Seats.{PortSeat, end_of, ends_of, place_of}
 
-pub none_flown : (was : Option Flight) (ports : List PortSeat) → IfSome was (λ kept. HaveFlownBehind kept ports ports was)
-none_flown None ports = tt
-none_flown (Some kept) ports = ([], sym (append-nil ports), record { now_is = refl; free = tt })
-
--- one port more was put in flight, the last of those that were in hand
-pub one_flown : (was now later : Option Flight) (all begin rest : List PortSeat) (p : PortSeat) → IfSome was (λ kept. HaveFlownBehind kept all begin now) → begin ≡ rest ++ p ∷ []
-    → later ≡ option_map (λ kept. map.insert kept (place_of (end_of p)) p) now → IfSome now (λ kept. IsNone (map.get kept (place_of (end_of p)))) → IfSome was (λ kept. HaveFlownBehind kept all rest later)
-one_flown None now later all begin rest p flown last put free = tt
-one_flown (Some kept) now later all begin rest p (sent, split, flown) last put free = (
-  p ∷ sent,
-  split ∙ ap (λ (l : List PortSeat). l ++ sent) last ∙ append_assoc rest (p ∷ []) sent,
-  record {
-    now_is = put ∙ ap (option_map (λ f. map.insert f (place_of (end_of p)) p)) flown.now_is;
-    free = (subst (λ (o : Option Flight). IfSome o (λ f. IsNone (map.get f (place_of (end_of p))))) flown.now_is free, flown.free);
-  },
-)
-
--- what was refused is in hand again
-pub refused_flown : (was now later : Option Flight) (all begin back : List PortSeat) → IfSome was (λ kept. HaveFlownBehind kept all begin now) → back ≡ begin → later ≡ now → IfSome was (λ kept. HaveFlownBehind kept all back later)
-refused_flown was now later all begin back flown same stays =
-    subst (λ (o : Option Flight). IfSome was (λ kept. HaveFlownBehind kept all back o)) (sym stays) (subst (λ (l : List PortSeat). IfSome was (λ kept. HaveFlownBehind kept all l now)) (sym same) flown)
-
 got_same : (flight : Flight) (k : Key) (p : PortSeat) → map.get (map.insert flight k p) k ≡ Some p
 got_same flight k p = get-insert keys_total flight k p k ∙ ap (λ (b : Bool). cond b (Some p) (map.get flight k)) ((eq_by_cmp_equiv keys_total).refl k)
 

@@ -18,10 +18,6 @@ left_more (q ∷ ps) [] ls p c l so_far same left = absurd so_far
 left_more (q ∷ ps) (d ∷ cs) [] p c l so_far same left = absurd so_far
 left_more (q ∷ ps) (d ∷ cs) (k ∷ ls) p c l (first, mine, rest) same left = (first, mine, left_more ps cs ls p c l rest same left)
 
-pub none_closed : (was : Option (List Left)) → IfSome was (λ before. AreToldClosed [] [] before was)
-none_closed None = tt
-none_closed (Some before) = ([], ap Some (sym (append-nil before)), tt)
-
 pub one_closed : (was now later : Option (List Left)) (ps : List PortSeat) (cs cs' : List (EndId × Noticed)) (p : PortSeat) (c : EndId × Noticed) (l : Left) → cs' ≡ cs ++ c ∷ [] → IfSome was (λ before. AreToldClosed ps cs before now) → later ≡ option_map (λ list. list ++ l ∷ []) now → c ≡ (end_of p, l.2) → IsLeft p l
     → IfSome was (λ before. AreToldClosed (ps ++ p ∷ []) cs' before later)
 one_closed None now later ps cs cs' p c l more so_far told same left = tt

@@ -4,7 +4,7 @@ use Rattle.std.specs.FinMap as map
 use Rattle.hub_envelope.specs.Notice.{notice_draft}
 use Rattle.hub_envelope.specs.declared.ids.EndId.{EndId}
 use Rattle.hub_queue.specs.declared.post_error.PostError.TheVariants as why
-use Rattle.hub_queue.specs.Ending.{IsClosed, closed_place}
+use Rattle.hub_queue.specs.Ending.{IsClosed, closed_queue}
 use Rattle.hub_queue.specs.Graves.{GraveSeat, SweptSeat}
 use Rattle.hub_queue.specs.Posting.{IsPosted}
 use Rattle.hub_queue.specs.Standing.{StandSeat}
@@ -56,7 +56,7 @@ Emptied = SweptSeat × Option (StandSeat × Noticed)
 
 -- the end of a port, closed and not yet swept
 abbrev pub closed_end : TakerSeat → GraveSeat
-closed_end t = record { end = t.end; epoch = t.epoch; places = t.retired ++ closed_place t.newest ∷ []; envelopes = [] }
+closed_end t = record { end = t.end; epoch = t.epoch; queues = t.retired ++ closed_queue t.newest ∷ []; envelopes = [] }
 
 -- the port was closed, with its notice, and its end emptied
 abbrev pub IsEmptiedAs : PortSeat → Emptied → Type 0

@@ -116,25 +116,6 @@ pub hopped_nowhere : (was : Option Yard) (name : Key) (here : StandSeat) (old ne
 hopped_nowhere was name here old new draft answer same answered =
     subst (λ (k : Key). IsHoppedOver was was k here answer) same (hopped was was here.name here 0 answer (name_here here.name) (went_nowhere was here) (held_by_none was 0 here old new draft answer answered))
 
--- nor is it held back where it was turned by a closed gate
-pub held_closed : (now : Option Yard) (hops : ℕ) (here : StandSeat) (draft : Draft) → IfSome now (λ y. IsHeldBack y hops here (Err (Closed, draft)))
-held_closed None hops here draft = tt
-held_closed (Some now) hops here draft = tt
-
--- it goes no further where the yard has no stand for it, or where it went as often as it may
-pub held_alone : (now : Option Yard) (hops : ℕ) (here : StandSeat) (draft : Draft) → IfSome now (λ y. None ≡ map.get y (name_after here.name 1)) → IfSome now (λ y. IsHeldBack y hops here (Err (Moving, draft)))
-held_alone None hops here draft none = tt
-held_alone (Some now) hops here draft none = inr (sym none)
-
-pub held_at_last : (now : Option Yard) (hops : ℕ) (here : StandSeat) (draft : Draft) → hops ≡ MAX_HOPS → IfSome now (λ y. IsHeldBack y hops here (Err (Moving, draft)))
-held_at_last None hops here draft last = tt
-held_at_last (Some now) hops here draft last = inl last
-
-pub hopped_alone : (was now later : Option Yard) (from : Key) (here seen : StandSeat) (hops : ℕ) (draft : Draft) → here.name ≡ name_after from hops → seen ≡ here → WentOver was now from here hops → IfSome now (λ y. None ≡ map.get y (name_after seen.name 1)) → later ≡ now → IsHoppedOver was later from here (Err (Moving, draft))
-hopped_alone was now later from here seen hops draft named same went found rest =
-    let none = subst (λ (s : StandSeat). IfSome now (λ y. None ≡ map.get y (name_after s.name 1))) same found in
-    subst (λ (o : Option Yard). IsHoppedOver was o from here (Err (Moving, draft))) (sym rest) (hopped was now from here hops (Err (Moving, draft)) named went (held_alone now hops here draft none))
-
 -- The watch
 
 pub told_twice : (o : Option (List Point)) (xs ys : List Point) → told_more (told_more o xs) ys ≡ told_more o (xs ++ ys)
@@ -147,9 +128,6 @@ told_nothing (Some points) = ap Some (sym (append-nil points))
 
 told_then : (o before after : Option (List Point)) (xs ys : List Point) → before ≡ told_more o xs → after ≡ told_more before ys → after ≡ told_more o (xs ++ ys)
 told_then o before after xs ys first second = second ∙ ap (λ s. told_more s ys) first ∙ told_twice o xs ys
-
-pub told_inside : (o before after : Option (List Point)) → before ≡ told_more o (Inside ∷ []) → after ≡ told_more before (Pushed ∷ []) → after ≡ told_more o points_inside
-told_inside o before after first second = told_then o before after (Inside ∷ []) (Pushed ∷ []) first second
 
 pub told_let_in : (o before after : Option (List Point)) → before ≡ told_more o (Before ∷ []) → after ≡ told_more before points_inside → after ≡ told_more o (Before ∷ points_inside)
 told_let_in o before after first second = told_then o before after (Before ∷ []) points_inside first second
@@ -178,28 +156,6 @@ told_answered o after from to hops old new draft answer named answered told =
     told
     ∙ ap (λ (l : List Point). told_more o (points_hopping hops ++ l)) (sym (at_last_inside hops old new draft answer answered))
     ∙ ap (λ (h : ℕ). told_more o (points_onward h answer)) (sym many)
-
--- of a line that goes no further
-pub told_at_last : (o after : Option (List Point)) (from to : Key) (hops : ℕ) (why : PostError) (draft : Draft) (last : List Point) → to ≡ name_after from hops → points_refused hops why ≡ last → after ≡ told_more o (points_hopping hops ++ last) → after ≡ told_more o (points_onward (hops_between from to) (Err (why, draft)))
-told_at_last o after from to hops why draft last named is told =
-    let many = hops_are from to hops named in
-    told
-    ∙ ap (λ (l : List Point). told_more o (points_hopping hops ++ l)) (sym is)
-    ∙ ap (λ (h : ℕ). told_more o (points_onward h (Err (why, draft)))) (sym many)
-
--- it was turned there
-pub told_turned : (o after : Option (List Point)) (from to : Key) (hops : ℕ) (why : PostError) (draft : Draft) → to ≡ name_after from hops → points_refused hops why ≡ [] → after ≡ told_more o (points_hopping hops) → after ≡ told_more o (points_onward (hops_between from to) (Err (why, draft)))
-told_turned o after from to hops why draft named is told = told_at_last o after from to hops why draft [] named is (told ∙ ap (told_more o) (sym (append-nil (points_hopping hops))))
-
--- the yard was asked in vain
-pub told_asked : (o before after : Option (List Point)) (from to : Key) (hops : ℕ) (draft : Draft) → to ≡ name_after from hops → hops < MAX_HOPS → before ≡ told_more o (points_hopping hops) → after ≡ told_more before (Hopping ∷ []) → after ≡ told_more o (points_onward (hops_between from to) (Err (Moving, draft)))
-told_asked o before after from to hops draft named few was hopping =
-    let low = lt-ltb hops MAX_HOPS few in
-    told_at_last o after from to hops Moving draft (Hopping ∷ []) named (ap (λ (b : Bool). if b then Hopping ∷ [] else []) low)
-    (hopping ∙ ap (λ s. told_more s (Hopping ∷ [])) was ∙ told_twice o (points_hopping hops) (Hopping ∷ []))
-
-pub no_point_at_last : (hops : ℕ) → hops ≡ MAX_HOPS → points_refused hops Moving ≡ []
-no_point_at_last hops last = ap (λ (h : ℕ). points_refused h Moving) last
 
 -- of a whole post that was let in where the line stood
 pub told_here : (o before after : Option (List Point)) (name to : Key) (old new : PutView) (draft : Draft) (answer : Result Posted (PostError × Draft)) → to ≡ name → IsAnswered old new draft answer → before ≡ told_more o (Before ∷ []) → after ≡ told_more before points_inside → after ≡ told_more o (points_of name to answer)

@@ -7,12 +7,12 @@ use Rattle.hub_core.proofs.Queueing.{queue_laws}
 use Rattle.hub_queue.specs.declared.pass_view.PassView.TheVariants.{Takes, Puts}
 use Rattle.hub_queue.specs.declared.took.Took.{Took}
 use Rattle.hub_queue.specs.declared.took.Took.TheVariants.{Got, Empty, Busy, Again, Disabled, Closed}
-use Rattle.hub_queue.specs.Adopting.{retired_place}
+use Rattle.hub_queue.specs.Adopting.{retired_queue}
 use Rattle.hub_queue.specs.Counting.{Count}
 use Rattle.hub_queue.specs.Laws.{TakenIsPrefix, NothingTaken, ahead_of, NothingAhead, TakesInTurn, got_from, joined, ChainIsPrefix}
-use Rattle.hub_queue.specs.Places.{PlaceSeat}
+use Rattle.hub_queue.specs.TakerQueues.{TakerQueueSeat}
 use Rattle.hub_queue.specs.SharedQueue.{ShowsQueue}
-use Rattle.hub_queue.specs.Taking.{TakerSeat, IsTaken, TakesNewest, TakesRetired, enabled_place, first_of, left_after}
+use Rattle.hub_queue.specs.Taking.{TakerSeat, IsTaken, TakesNewest, TakesRetired, enabled_queue, first_of, left_after}
 use Rattle.hub_queue.proofs.Chains.{all_join, all_back}
 
 pub taken_prefix : TakenIsPrefix ShowsQueue
@@ -23,26 +23,26 @@ taken_prefix items views shows taker pass t v takes puts =
     (is.0, theirs.put ∙ is.1 ∙ ap (λ (l : List Envelope). by v.line l ++ is.0) (sym mine.got))
 
 -- nothing was taken of the queues behind the first
-behind_first : (ps : List PlaceSeat) (p : PlaceSeat) (rest : List PlaceSeat) (newest : PlaceSeat) → ps ≡ p ∷ rest → NothingTaken (ahead_of ps newest) → NothingTaken (rest ++ newest ∷ [])
-behind_first ps p rest newest is none = subst (λ (l : List PlaceSeat). NothingTaken (ahead_of l newest)) is none
+behind_first : (ps : List TakerQueueSeat) (p : TakerQueueSeat) (rest : List TakerQueueSeat) (newest : TakerQueueSeat) → ps ≡ p ∷ rest → NothingTaken (ahead_of ps newest) → NothingTaken (rest ++ newest ∷ [])
+behind_first ps p rest newest is none = subst (λ (l : List TakerQueueSeat). NothingTaken (ahead_of l newest)) is none
 
-behind_next : (rest : List PlaceSeat) (newest : PlaceSeat) → NothingTaken (rest ++ newest ∷ []) → NothingTaken (ahead_of rest newest)
+behind_next : (rest : List TakerQueueSeat) (newest : TakerQueueSeat) → NothingTaken (rest ++ newest ∷ []) → NothingTaken (ahead_of rest newest)
 behind_next [] newest none = tt
 behind_next (p ∷ rest) newest none = none.1
 
-started_ahead : (ps : List PlaceSeat) (p : PlaceSeat) → NothingTaken (ahead_of ps p) → NothingTaken (ahead_of ps (enabled_place p))
+started_ahead : (ps : List TakerQueueSeat) (p : TakerQueueSeat) → NothingTaken (ahead_of ps p) → NothingTaken (ahead_of ps (enabled_queue p))
 started_ahead [] p none = tt
-started_ahead (q ∷ ps) p none = all_join (λ (r : PlaceSeat). r.at.got ≡ []) ps (enabled_place p ∷ []) (all_front ps (p ∷ []) none) (all_back (λ (r : PlaceSeat). r.at.got ≡ []) ps (p ∷ []) none)
+started_ahead (q ∷ ps) p none = all_join (λ (r : TakerQueueSeat). r.at.got ≡ []) ps (enabled_queue p ∷ []) (all_front ps (p ∷ []) none) (all_back (λ (r : TakerQueueSeat). r.at.got ≡ []) ps (p ∷ []) none)
   where
-    all_front : (xs ys : List PlaceSeat) → NothingTaken (xs ++ ys) → NothingTaken xs
+    all_front : (xs ys : List TakerQueueSeat) → NothingTaken (xs ++ ys) → NothingTaken xs
     all_front [] ys all = tt
     all_front (x ∷ xs) ys all = (all.0, all_front xs ys all.1)
 
-moved_ahead : (ps : List PlaceSeat) (p newest : PlaceSeat) → newest.at.got ≡ [] → NothingTaken (ahead_of ps p) → NothingTaken (ahead_of (ps ++ retired_place p ∷ []) newest)
+moved_ahead : (ps : List TakerQueueSeat) (p newest : TakerQueueSeat) → newest.at.got ≡ [] → NothingTaken (ahead_of ps p) → NothingTaken (ahead_of (ps ++ retired_queue p ∷ []) newest)
 moved_ahead [] p newest none all = (none, tt)
-moved_ahead (q ∷ ps) p newest none all = all_join (λ (r : PlaceSeat). r.at.got ≡ []) (ps ++ retired_place p ∷ []) (newest ∷ []) (same_got ps (p ∷ []) (retired_place p) p refl all) (none, tt)
+moved_ahead (q ∷ ps) p newest none all = all_join (λ (r : TakerQueueSeat). r.at.got ≡ []) (ps ++ retired_queue p ∷ []) (newest ∷ []) (same_got ps (p ∷ []) (retired_queue p) p refl all) (none, tt)
   where
-    same_got : (xs ys : List PlaceSeat) (x y : PlaceSeat) → x.at.got ≡ y.at.got → NothingTaken (xs ++ y ∷ []) → NothingTaken (xs ++ x ∷ [])
+    same_got : (xs ys : List TakerQueueSeat) (x y : TakerQueueSeat) → x.at.got ≡ y.at.got → NothingTaken (xs ++ y ∷ []) → NothingTaken (xs ++ x ∷ [])
     same_got [] ys x y same all = (same ∙ all.0, tt)
     same_got (z ∷ xs) ys x y same all = (all.0, same_got xs ys x y same all.1)
 
@@ -50,8 +50,8 @@ taken_first : (old new : TakerSeat) (before after : Count) (took : Took) → Tak
 taken_first old new before after took did none =
     let rest : NothingTaken (did.1.2 ++ old.newest ∷ []) = behind_first old.retired did.1.0 did.1.2 old.newest did.1.3 none in
     let newest : new.newest ≡ old.newest = ap (λ (t : TakerSeat). t.newest) did.0 in
-    subst (λ (p : PlaceSeat). NothingTaken (ahead_of new.retired p)) (sym newest)
-    (subst (λ (l : List PlaceSeat). NothingTaken (ahead_of l old.newest)) (sym did.1.4) (after_take took))
+    subst (λ (p : TakerQueueSeat). NothingTaken (ahead_of new.retired p)) (sym newest)
+    (subst (λ (l : List TakerQueueSeat). NothingTaken (ahead_of l old.newest)) (sym did.1.4) (after_take took))
   where
     after_take : (took : Took) → NothingTaken (ahead_of (left_after did.1.1 did.1.2 took) old.newest)
     after_take Again = behind_next did.1.2 old.newest (behind_first old.retired did.1.0 did.1.2 old.newest did.1.3 none)
@@ -84,12 +84,12 @@ in_turn = record {
     took_any old new before after Disabled did none = subst (λ (x : TakerSeat). NothingAhead x) (sym did.1) none
 
 -- nothing taken joins to nothing
-none_joined : (ps : List PlaceSeat) → NothingTaken ps → got_from ps ≡ []
+none_joined : (ps : List TakerQueueSeat) → NothingTaken ps → got_from ps ≡ []
 none_joined [] none = refl
 none_joined (p ∷ ps) none = (λ i. none.0 i ++ got_from ps) ∙ none_joined ps none.1
 
 -- what was taken of the queues of a taker was taken of the first of them
-got_first : (ps : List PlaceSeat) (newest : PlaceSeat) → NothingTaken (ahead_of ps newest) → got_from (ps ++ newest ∷ []) ≡ (first_of ps newest).at.got
+got_first : (ps : List TakerQueueSeat) (newest : TakerQueueSeat) → NothingTaken (ahead_of ps newest) → got_from (ps ++ newest ∷ []) ≡ (first_of ps newest).at.got
 got_first [] newest none = append-nil newest.at.got
 got_first (p ∷ ps) newest none = ap (λ (l : List Envelope). p.at.got ++ l) (none_joined (ps ++ newest ∷ []) none) ∙ append-nil p.at.got
 

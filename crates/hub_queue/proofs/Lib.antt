@@ -5,7 +5,7 @@ pub mod Hopping
 pub mod Hops
 pub mod InTurn
 pub mod Lending
-pub mod NewPlaces
+pub mod NewTakerQueues
 pub mod Rights
 pub mod Rule
 pub mod NextNames

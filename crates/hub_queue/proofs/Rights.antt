@@ -11,7 +11,7 @@ use Rattle.hub_queue.specs.declared.pass_view.TakeView.{TakeView}
 use Rattle.hub_queue.specs.declared.pass_view.PassView.{PassView}
 use Rattle.hub_queue.specs.declared.pass_view.PassView.TheVariants.{Takes, Puts}
 use Rattle.hub_queue.specs.PassSteps.{taken_in}
-use Rattle.hub_queue.specs.Places.{tags_of, HasTags, KnowsAll}
+use Rattle.hub_queue.specs.TakerQueues.{tags_of, HasTags, KnowsAll}
 use Rattle.hub_queue.specs.Seats.{LineSeat, tag_of}
 use Rattle.hub_queue.specs.Settling.{knowing}
 use Rattle.hub_queue.proofs.Below.{parts_snoc, many_below, at_below}

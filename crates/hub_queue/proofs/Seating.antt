@@ -9,14 +9,14 @@ use Rattle.hub_envelope.specs.declared.limits.TheConstants.{MAX_MOVES}
 use Rattle.hub_gate.specs.GateRule.{Tags, new_line, keeper_at}
 use Rattle.hub_gate.specs.GateSeats.{EntrySeat, first_entries}
 use Rattle.hub_gate.proofs.Got.{some_is, got_or, got-map, len-map}
-use Rattle.hub_queue.specs.Mailboxes.{new_stand, new_stands, stands_at, IsNewPlace, IsOpenMailbox}
-use Rattle.hub_queue.specs.Opening.{new_right, new_rights, IsOpenPlace}
-use Rattle.hub_queue.specs.Places.{PlaceSeat}
+use Rattle.hub_queue.specs.Mailboxes.{new_stand, new_stands, stands_at, IsNewTakerQueue, IsOpenMailbox}
+use Rattle.hub_queue.specs.Opening.{new_right, new_rights, IsOpenTakerQueue}
+use Rattle.hub_queue.specs.TakerQueues.{TakerQueueSeat}
 use Rattle.hub_bell.specs.Seats.{Done, silent}
 use Rattle.hub_queue.specs.Standing.{StandSeat, IsStand, IsUnused}
 use Rattle.hub_queue.specs.Seats.{LineSeat, tag_of}
 use Rattle.hub_queue.proofs.Below.{many_below, at_below}
-use Rattle.hub_queue.proofs.NewPlaces.{tags_are, as_many}
+use Rattle.hub_queue.proofs.NewTakerQueues.{tags_are, as_many}
 
 right_at : (web : WebId) (e k n i : ℕ) → i < n → slice_get (new_rights web e k n) i ≡ Some (new_right web e k i)
 right_at web e k n i low = at_below (λ i. new_right web e k i) (λ n. new_rights web e k n) refl (λ n. refl) n i low
@@ -25,8 +25,8 @@ right_at web e k n i low = at_below (λ i. new_right web e k i) (λ n. new_right
 abbrev entry_of : TableId → Tags → List LineSeat → ℕ → EntrySeat LineSeat
 entry_of gate tags rights i = record { gate = gate; at = new_line i (get_or tags i []) (slice_get rights i) }
 
--- the entries of a new place are those of its lines, in order
-pub entry_at : (end : EndId) (epoch lines : ℕ) (p : PlaceSeat) (entries : List (EntrySeat LineSeat)) → IsOpenPlace end.0 epoch lines p entries → (i : ℕ) → i < length entries → slice_get entries i ≡ Some (new_stand p.keeper.gate p.queue end epoch i).entry
+-- the entries of a new queue are those of its lines, in order
+pub entry_at : (end : EndId) (epoch lines : ℕ) (p : TakerQueueSeat) (entries : List (EntrySeat LineSeat)) → IsOpenTakerQueue end.0 epoch lines p entries → (i : ℕ) → i < length entries → slice_get entries i ≡ Some (new_stand p.keeper.gate p.queue end epoch i).entry
 entry_at end epoch lines p entries opened i low =
     let rights : List LineSeat = new_rights p.queue end.0 epoch lines in
     let tags : Tags = map tag_of rights in
@@ -41,7 +41,7 @@ entry_at end epoch lines p entries opened i low =
     ∙ (λ j. Some (record { gate = p.keeper.gate; at = new_line i (tag_is j) (own j) }))
 
 -- as many entries as lines
-pub many_entries : (end : EndId) (epoch lines : ℕ) (p : PlaceSeat) (entries : List (EntrySeat LineSeat)) → IsOpenPlace end.0 epoch lines p entries → length entries ≡ lines
+pub many_entries : (end : EndId) (epoch lines : ℕ) (p : TakerQueueSeat) (entries : List (EntrySeat LineSeat)) → IsOpenTakerQueue end.0 epoch lines p entries → length entries ≡ lines
 many_entries end epoch lines p entries opened =
     let rights : List LineSeat = new_rights p.queue end.0 epoch lines in
     ap length opened.entries_are ∙ many_below (entry_of p.keeper.gate (map tag_of rights) rights) (λ n. first_entries p.keeper.gate (map tag_of rights) rights n) refl (λ n. refl) (length rights) ∙ as_many p.queue end.0 epoch lines
@@ -78,16 +78,16 @@ stand_holds gate web end epoch line entry rung left few quiet is = subst (λ (x 
 )
 
 -- the queue is new
-pub new_place : (e k n : ℕ) (p : PlaceSeat) (entries : List (EntrySeat LineSeat)) → IsOpenPlace e k n p entries → IsNewPlace e k n p
-new_place e k n p entries opened = record {
+pub new_taker_queue : (e k n : ℕ) (p : TakerQueueSeat) (entries : List (EntrySeat LineSeat)) → IsOpenTakerQueue e k n p entries → IsNewTakerQueue e k n p
+new_taker_queue e k n p entries opened = record {
   at = opened.at;
   keeper = opened.keeper ∙ (λ i. keeper_at (tags_are p.queue e k n i) (new_rights p.queue e k n) (as_many p.queue e k n i));
 }
 
-pub mailbox_opened : (end : EndId) (lines : ℕ) (p : PlaceSeat) (entries : List (EntrySeat LineSeat)) (posters : List StandSeat) → IsOpenPlace end.0 0 lines p entries → posters ≡ new_stands p.keeper.gate p.queue end p.at.lines → IsOpenMailbox end lines (record { end = end.0; epoch = 0; retired = []; newest = p; left = None }) posters
+pub mailbox_opened : (end : EndId) (lines : ℕ) (p : TakerQueueSeat) (entries : List (EntrySeat LineSeat)) (posters : List StandSeat) → IsOpenTakerQueue end.0 0 lines p entries → posters ≡ new_stands p.keeper.gate p.queue end p.at.lines → IsOpenMailbox end lines (record { end = end.0; epoch = 0; retired = []; newest = p; left = None }) posters
 mailbox_opened end lines p entries posters opened posters_are =
     let same : p.at.lines ≡ lines = ap (λ t. t.lines) opened.at in record {
       taker_is = refl;
-      newest = new_place end.0 0 lines p entries opened;
+      newest = new_taker_queue end.0 0 lines p entries opened;
       posters_are = posters_are ∙ ap (new_stands p.keeper.gate p.queue end) same;
     }

@@ -6,9 +6,9 @@ use Rattle.hub_core.specs.Sender.{by}
 use Rattle.hub_gate.specs.GateSeats.{KeeperSeat}
 use Rattle.hub_queue.specs.declared.pass_view.TakeView.{TakeView}
 use Rattle.hub_queue.specs.PassSteps.{got_more, IsPopped, AccountsFor}
-use Rattle.hub_queue.specs.Places.{PlaceSeat, KnowsAll, KnowsBy, IsShut, SameGate, TakesMore, IsSettled}
+use Rattle.hub_queue.specs.TakerQueues.{TakerQueueSeat, KnowsAll, KnowsBy, IsShut, SameGate, TakesMore, IsSettled}
 use Rattle.hub_queue.specs.Seats.{LineSeat}
-use Rattle.hub_queue.specs.Settling.{looked, IsSettling, IsPlacePop, got_all, HoldsNothing}
+use Rattle.hub_queue.specs.Settling.{looked, IsSettling, IsQueuePop, got_all, HoldsNothing}
 
 -- what a pass knows of its lines stays while envelopes are taken
 pub knows_got : (b : Bool) (t : TakeView) (x : Envelope) → KnowsBy b t → KnowsBy b (got_more t x)
@@ -19,17 +19,13 @@ knows_got false t x knows = knows
 pub knows_pop : (b : Bool) (old new : TakeView) (x : Envelope) → (new ≡ got_more old x) × IsPopped old x → KnowsBy b old → KnowsBy b new
 knows_pop b old new x did knows = subst (KnowsBy b) (sym did.0) (knows_got b old x knows)
 
-pub knows_all_got : (b : Bool) (t : TakeView) (more : List Envelope) → KnowsBy b t → KnowsBy b (got_all t more)
-knows_all_got true t more knows = knows
-knows_all_got false t more knows = knows
-
 -- the gate is shut after a look as before
-pub shut_looked : (old new : PlaceSeat) (settled : Bool) → IsSettling old new settled → IsShut old → IsShut new
+pub shut_looked : (old new : TakerQueueSeat) (settled : Bool) → IsSettling old new settled → IsShut old → IsShut new
 shut_looked old new true did shut = subst IsShut (sym did.2) shut
 shut_looked old new false did shut = subst IsShut (sym did.1) shut
 
 -- the gate of a queue whose keeper is this
-gate_of : (old new : PlaceSeat) (keeper : KeeperSeat LineSeat) → new.keeper ≡ keeper → SameGate old (record { queue = old.queue; at = old.at; keeper = keeper }) → SameGate old new
+gate_of : (old new : TakerQueueSeat) (keeper : KeeperSeat LineSeat) → new.keeper ≡ keeper → SameGate old (record { queue = old.queue; at = old.at; keeper = keeper }) → SameGate old new
 gate_of old new keeper is same = record {
   gate = ap (λ (k : KeeperSeat LineSeat). k.gate) is ∙ same.gate;
   enables = ap (λ (k : KeeperSeat LineSeat). k.at.enables) is ∙ same.enables;
@@ -38,22 +34,22 @@ gate_of old new keeper is same = record {
 }
 
 -- a look takes nothing
-pub look_takes : (old new : PlaceSeat) → IsSettling old new true → TakesMore old new [] × (new.keeper.at.collected ≡ true) × KnowsAll new.at
+pub look_takes : (old new : TakerQueueSeat) → IsSettling old new true → TakesMore old new [] × (new.keeper.at.collected ≡ true) × KnowsAll new.at
 look_takes old new did = (
   record {
-    queue = ap (λ (p : PlaceSeat). p.queue) did.2;
-    same_gate = gate_of old new (looked old.keeper did.0 true) (ap (λ (p : PlaceSeat). p.keeper) did.2) (record { gate = refl; enables = refl; retires = refl; closes = refl });
-    end = ap (λ (p : PlaceSeat). p.at.end) did.2;
-    epoch = ap (λ (p : PlaceSeat). p.at.epoch) did.2;
-    lines = ap (λ (p : PlaceSeat). p.at.lines) did.2;
-    got = ap (λ (p : PlaceSeat). p.at.got) did.2 ∙ sym (append-nil old.at.got);
+    queue = ap (λ (p : TakerQueueSeat). p.queue) did.2;
+    same_gate = gate_of old new (looked old.keeper did.0 true) (ap (λ (p : TakerQueueSeat). p.keeper) did.2) (record { gate = refl; enables = refl; retires = refl; closes = refl });
+    end = ap (λ (p : TakerQueueSeat). p.at.end) did.2;
+    epoch = ap (λ (p : TakerQueueSeat). p.at.epoch) did.2;
+    lines = ap (λ (p : TakerQueueSeat). p.at.lines) did.2;
+    got = ap (λ (p : TakerQueueSeat). p.at.got) did.2 ∙ sym (append-nil old.at.got);
   },
-  ap (λ (p : PlaceSeat). p.keeper.at.collected) did.2,
+  ap (λ (p : TakerQueueSeat). p.keeper.at.collected) did.2,
   did.3,
 )
 
 -- where all rights are in hand and the queue holds nothing, everything that was put was taken
-pub is_settled : (p : PlaceSeat) → p.keeper.at.collected ≡ true → KnowsAll p.at → AccountsFor p.at [] → IsSettled p
+pub is_settled : (p : TakerQueueSeat) → p.keeper.at.collected ≡ true → KnowsAll p.at → AccountsFor p.at [] → IsSettled p
 is_settled p collected knows nothing = record {
   collected = collected;
   each = λ line low.
@@ -63,17 +59,17 @@ is_settled p collected knows nothing = record {
 }
 
 -- a look that settles, and then a pop of none
-pub leaves : (old mid new : PlaceSeat) → IsSettling old mid true → IsPlacePop mid new None → TakesMore old new [] × IsSettled new
+pub leaves : (old mid new : TakerQueueSeat) → IsSettling old mid true → IsQueuePop mid new None → TakesMore old new [] × IsSettled new
 leaves old mid new looked popped =
     let same : new ≡ mid = popped.0 ∙ (λ i. record { queue = mid.queue; at = popped.1.0 i; keeper = mid.keeper }) in
     let took = look_takes old mid looked in
-    subst (λ (p : PlaceSeat). TakesMore old p [] × IsSettled p) (sym same) (took.0, is_settled mid took.1 took.2 popped.1.2)
+    subst (λ (p : TakerQueueSeat). TakesMore old p [] × IsSettled p) (sym same) (took.0, is_settled mid took.1 took.2 popped.1.2)
 
 -- a look that settles, and then all that the queue holds
-module _ (old mid new : PlaceSeat) (more : List Envelope) (looked : IsSettling old mid true) (did : new ≡ record { queue = mid.queue; at = got_all mid.at more; keeper = mid.keeper }) where
+module _ (old mid new : TakerQueueSeat) (more : List Envelope) (looked : IsSettling old mid true) (did : new ≡ record { queue = mid.queue; at = got_all mid.at more; keeper = mid.keeper }) where
   pub takes_more : TakesMore old new more
   takes_more =
-      let took = look_takes old mid looked in subst (λ (p : PlaceSeat). TakesMore old p more) (sym did) (record {
+      let took = look_takes old mid looked in subst (λ (p : TakerQueueSeat). TakesMore old p more) (sym did) (record {
         queue = took.0.queue;
         same_gate = record { gate = took.0.same_gate.gate; enables = took.0.same_gate.enables; retires = took.0.same_gate.retires; closes = took.0.same_gate.closes };
         end = took.0.end;
@@ -88,4 +84,4 @@ module _ (old mid new : PlaceSeat) (more : List Envelope) (looked : IsSettling o
   pub settled_now : HoldsNothing new.at → IsSettled new
   settled_now nothing =
       let took = look_takes old mid looked in
-      is_settled new (ap (λ (p : PlaceSeat). p.keeper.at.collected) did ∙ took.1) (subst (λ (p : PlaceSeat). KnowsAll p.at) (sym did) took.2) nothing.1
+      is_settled new (ap (λ (p : TakerQueueSeat). p.keeper.at.collected) did ∙ took.1) (subst (λ (p : TakerQueueSeat). KnowsAll p.at) (sym did) took.2) nothing.1

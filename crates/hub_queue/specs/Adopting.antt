@@ -8,14 +8,14 @@ use Rattle.hub_depot.specs.declared.key.Key.{Key}
 use Rattle.hub_depot.specs.Key.{key_cmp}
 use Rattle.hub_depot.specs.Putting.{with_all}
 use Rattle.hub_envelope.specs.declared.ids.EndId.{EndId}
-use Rattle.hub_queue.specs.Mailboxes.{stands_at, IsNewPlace}
-use Rattle.hub_queue.specs.Places.{PlaceSeat}
+use Rattle.hub_queue.specs.Mailboxes.{stands_at, IsNewTakerQueue}
+use Rattle.hub_queue.specs.TakerQueues.{TakerQueueSeat}
 use Rattle.hub_queue.specs.Standing.{StandSeat}
 use Rattle.hub_queue.specs.Taking.{TakerSeat}
 
 -- the queue, whose gate was retired once more
-abbrev pub retired_place : PlaceSeat → PlaceSeat
-retired_place p = record p { keeper = record p.keeper { at = record p.keeper.at { retires = p.keeper.at.retires + 1 } } }
+abbrev pub retired_queue : TakerQueueSeat → TakerQueueSeat
+retired_queue p = record p { keeper = record p.keeper { at = record p.keeper.at { retires = p.keeper.at.retires + 1 } } }
 
 -- the epoch of the newest queue, which is how often the end was adopted
 abbrev pub newest_epoch : TakerSeat → ℕ
@@ -23,8 +23,8 @@ newest_epoch t = t.epoch + length t.retired
 
 -- the gate that was newest was retired once more, and there is one queue more, which is new; the older queues are as they were
 pub record IsMoved (old new : TakerSeat) : Type 0 where
-  pub new_is : new ≡ record { end = old.end; epoch = old.epoch; retired = old.retired ++ retired_place old.newest ∷ []; newest = new.newest; left = old.left }
-  pub newest : IsNewPlace old.end (newest_epoch old + 1) old.newest.at.lines new.newest
+  pub new_is : new ≡ record { end = old.end; epoch = old.epoch; retired = old.retired ++ retired_queue old.newest ∷ []; newest = new.newest; left = old.left }
+  pub newest : IsNewTakerQueue old.end (newest_epoch old + 1) old.newest.at.lines new.newest
 
 -- the adoption was refused for another reason than too many moves
 abbrev pub IsRefused : AdoptError → Type 0

@@ -9,33 +9,33 @@ use Rattle.hub_queue.specs.declared.draining.Rest.{Rest}
 use Rattle.hub_queue.specs.declared.draining.Rest.TheVariants.{Empty, Busy, Disabled}
 use Rattle.hub_queue.specs.Counting.{Count}
 use Rattle.hub_queue.specs.Laws.{NothingAhead, got_from, joined}
-use Rattle.hub_queue.specs.Places.{PlaceSeat}
+use Rattle.hub_queue.specs.TakerQueues.{TakerQueueSeat}
 use Rattle.hub_queue.specs.Sweeping.{TakesOfEach}
-use Rattle.hub_queue.specs.Taking.{TakerSeat, IsEnabled, first_place}
+use Rattle.hub_queue.specs.Taking.{TakerSeat, IsEnabled, first_queue}
 
 -- what was taken of an end, and the queues that were left for it
 pub record DrainedSeat : Type 0 where
   pub envelopes : List Envelope
-  pub left : List PlaceSeat
+  pub left : List TakerQueueSeat
 
 -- the queues of a taker, the oldest first
-abbrev pub places_of : TakerSeat → List PlaceSeat
-places_of t = t.retired ++ t.newest ∷ []
+abbrev pub queues_of : TakerSeat → List TakerQueueSeat
+queues_of t = t.retired ++ t.newest ∷ []
 
 -- These queues were left, and these envelopes taken: queue after queue, those that were left and those that are there are those that the taker had, with what was taken more of each.
-pub record HasDrained (old new : TakerSeat) (left : List PlaceSeat) (more : List Envelope) : Type 0 where
-  pub places : TakesOfEach (places_of old) (left ++ places_of new) more
+pub record HasDrained (old new : TakerSeat) (left : List TakerQueueSeat) (more : List Envelope) : Type 0 where
+  pub queues : TakesOfEach (queues_of old) (left ++ queues_of new) more
   pub end : new.end ≡ old.end
   pub epoch : new.epoch ≡ old.epoch + length left
 
 -- what was left and taken joins what was left and taken before
 abbrev pub IsDrained : TakerSeat → TakerSeat → DrainedSeat → DrainedSeat → Type 0
-IsDrained old new was now = (left : List PlaceSeat) × (more : List Envelope) × (now.left ≡ was.left ++ left) × (now.envelopes ≡ was.envelopes ++ more) × HasDrained old new left more
+IsDrained old new was now = (left : List TakerQueueSeat) × (more : List Envelope) × (now.left ≡ was.left ++ left) × (now.envelopes ≡ was.envelopes ++ more) × HasDrained old new left more
 
 -- Why nothing more was taken. Empty: the end is enabled and has no older queue. Busy: the taker's queue is retired, and a look found somebody there.
 abbrev pub IsAtRest : TakerSeat → Rest → Type 0
 IsAtRest t Empty = IsEnabled t.newest × (t.retired ≡ [])
-IsAtRest t Busy = IsEnabled t.newest × (0 < (first_place t).keeper.at.retires) × (0 < (first_place t).keeper.at.found)
+IsAtRest t Busy = IsEnabled t.newest × (0 < (first_queue t).keeper.at.retires) × (0 < (first_queue t).keeper.at.found)
 IsAtRest t Disabled = t.newest.keeper.at.enables ≡ 0
 
 -- how many pops that found none end a drain which is answered so: one, unless it found the end disabled or there was no memory
@@ -55,10 +55,10 @@ put_known (Some k) = k.put
 put_known None = []
 
 -- what the line has put in a queue that was left, as its pass told it
-abbrev pub put_by : ℕ → PlaceSeat → List Envelope
+abbrev pub put_by : ℕ → TakerQueueSeat → List Envelope
 put_by line q = put_known (slice_get q.at.known line)
 
 -- For each line of the queues that were left: where what was taken of the taker's queue is a prefix of what the line has put there, what was taken of all queues, joined, is a prefix of what it has put in them.
-abbrev pub IsPrefixOfChain : List PlaceSeat → TakerSeat → Type 0
-IsPrefixOfChain left t = (line : ℕ) (now : List Envelope) (ahead : List (List Envelope)) → AllByRecursion (λ q. line < q.at.lines) left → NothingAhead t → Prefix (by line (first_place t).at.got) now
-    → Prefix (by line (got_from (left ++ places_of t))) (joined (map (put_by line) left ++ now ∷ ahead))
+abbrev pub IsPrefixOfChain : List TakerQueueSeat → TakerSeat → Type 0
+IsPrefixOfChain left t = (line : ℕ) (now : List Envelope) (ahead : List (List Envelope)) → AllByRecursion (λ q. line < q.at.lines) left → NothingAhead t → Prefix (by line (first_queue t).at.got) now
+    → Prefix (by line (got_from (left ++ queues_of t))) (joined (map (put_by line) left ++ now ∷ ahead))

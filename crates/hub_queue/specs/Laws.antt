@@ -14,10 +14,10 @@ use Rattle.hub_queue.specs.declared.took.Took.{Took}
 use Rattle.hub_queue.specs.Adopting.{IsMoved}
 use Rattle.hub_queue.specs.Counting.{Count}
 use Rattle.hub_queue.specs.Mailboxes.{IsOpenMailbox}
-use Rattle.hub_queue.specs.Places.{PlaceSeat}
+use Rattle.hub_queue.specs.TakerQueues.{TakerQueueSeat}
 use Rattle.hub_queue.specs.SharedQueue.{ShowsQueue}
 use Rattle.hub_queue.specs.Standing.{StandSeat}
-use Rattle.hub_queue.specs.Taking.{TakerSeat, IsTaken, first_place, started}
+use Rattle.hub_queue.specs.Taking.{TakerSeat, IsTaken, first_queue, started}
 
 -- what a queue holds, and what its passes know, as this rule has them
 abbrev pub Rule : Type 1
@@ -32,11 +32,11 @@ abbrev pub TakenIsPrefix : Rule → Type 0
 TakenIsPrefix holds = (items : List Envelope) (views : List PassView) → holds items views → (taker pass : ℕ) (t : TakeView) (v : PutView) → get_elem? views taker ≡ some (Takes t) → get_elem? views pass ≡ some (Puts v) → Prefix (by v.line t.got) v.put
 
 -- nothing was taken of these queues
-abbrev pub NothingTaken : List PlaceSeat → Type 0
+abbrev pub NothingTaken : List TakerQueueSeat → Type 0
 NothingTaken ps = AllByRecursion (λ p. p.at.got ≡ []) ps
 
 -- the queues of an end but the one where its taker stands
-abbrev pub ahead_of : List PlaceSeat → PlaceSeat → List PlaceSeat
+abbrev pub ahead_of : List TakerQueueSeat → TakerQueueSeat → List TakerQueueSeat
 ahead_of [] newest = []
 ahead_of (p ∷ ps) newest = ps ++ newest ∷ []
 
@@ -52,13 +52,13 @@ pub record TakesInTurn : Type 0 where
   pub adopt : (old new : TakerSeat) → IsMoved old new → NothingAhead old → NothingAhead new
 
 -- everything that the line has put in these queues, which are this, was taken of them
-abbrev pub AllTaken : ℕ → List PlaceSeat → List (List Envelope) → Type 0
+abbrev pub AllTaken : ℕ → List TakerQueueSeat → List (List Envelope) → Type 0
 AllTaken line [] puts = puts ≡ []
 AllTaken line (p ∷ ps) [] = ⊥
 AllTaken line (p ∷ ps) (put ∷ puts) = (by line p.at.got ≡ put) × AllTaken line ps puts
 
 -- what was taken of these queues
-abbrev pub got_from : List PlaceSeat → List Envelope
+abbrev pub got_from : List TakerQueueSeat → List Envelope
 got_from ps = flat_map (λ p. p.at.got) ps
 
 -- what was put in these queues
@@ -67,6 +67,6 @@ joined puts = flat_map (λ put. put) puts
 
 -- The queues that were left, and those of the taker. What was taken of a line is a prefix of what the line has put, queue after queue.
 abbrev pub ChainIsPrefix : Type 0
-ChainIsPrefix = (line : ℕ) (left : List PlaceSeat) (t : TakerSeat) (before ahead : List (List Envelope)) (now : List Envelope)
-    → AllTaken line left before → Prefix (by line (first_place t).at.got) now → NothingAhead t
+ChainIsPrefix = (line : ℕ) (left : List TakerQueueSeat) (t : TakerSeat) (before ahead : List (List Envelope)) (now : List Envelope)
+    → AllTaken line left before → Prefix (by line (first_queue t).at.got) now → NothingAhead t
     → Prefix (by line (got_from (left ++ t.retired ++ t.newest ∷ []))) (joined (before ++ now ∷ ahead))

@@ -8,7 +8,7 @@ pub mod Mailboxes
 pub mod Meetings
 pub mod Opening
 pub mod PassSteps
-pub mod Places
+pub mod TakerQueues
 pub mod Popping
 pub mod Posting
 pub mod Putting

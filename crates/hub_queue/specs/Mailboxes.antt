@@ -6,7 +6,7 @@ use Rattle.hub_bell.specs.Seats.{silent}
 use Rattle.hub_envelope.specs.declared.ids.EndId.{EndId}
 use Rattle.hub_gate.specs.GateRule.{new_line, keeper_at}
 use Rattle.hub_queue.specs.Opening.{new_right, new_rights, new_take}
-use Rattle.hub_queue.specs.Places.{PlaceSeat, tags_of}
+use Rattle.hub_queue.specs.TakerQueues.{TakerQueueSeat, tags_of}
 use Rattle.hub_queue.specs.Seats.{tag_of}
 use Rattle.hub_queue.specs.Standing.{StandSeat, none_left}
 use Rattle.hub_queue.specs.Taking.{TakerSeat}
@@ -30,12 +30,12 @@ abbrev pub new_stands : TableId → WebId → EndId → ℕ → List StandSeat
 new_stands gate web end lines = stands_at gate web end 0 lines
 
 -- a queue of this end and epoch in which nothing was put, with a gate that is disabled and has the rights of its lines
-pub record IsNewPlace (end epoch lines : ℕ) (p : PlaceSeat) : Type 0 where
+pub record IsNewTakerQueue (end epoch lines : ℕ) (p : TakerQueueSeat) : Type 0 where
   pub at : p.at ≡ new_take end epoch lines
   pub keeper : p.keeper.at ≡ keeper_at (tags_of p.queue lines) (new_rights p.queue end epoch lines) lines
 
 -- The end has one queue, of epoch 0, in which nothing was put and which is disabled; its gate is that of the posters, one for each line.
 pub record IsOpenMailbox (end : EndId) (lines : ℕ) (taker : TakerSeat) (posters : List StandSeat) : Type 0 where
   pub taker_is : taker ≡ record { end = end.0; epoch = 0; retired = []; newest = taker.newest; left = None }
-  pub newest : IsNewPlace end.0 0 lines taker.newest
+  pub newest : IsNewTakerQueue end.0 0 lines taker.newest
   pub posters_are : posters ≡ new_stands taker.newest.keeper.gate taker.newest.queue end lines

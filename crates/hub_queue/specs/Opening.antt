@@ -4,7 +4,7 @@ use Rattle.atomic_blocks.specs.Laid.{WebId}
 use Rattle.hub_gate.specs.GateRule.{keeper_at}
 use Rattle.hub_gate.specs.GateSeats.{EntrySeat, first_entries}
 use Rattle.hub_queue.specs.declared.pass_view.TakeView.{TakeView}
-use Rattle.hub_queue.specs.Places.{PlaceSeat}
+use Rattle.hub_queue.specs.TakerQueues.{TakerQueueSeat}
 use Rattle.hub_queue.specs.Seats.{LineSeat, tag_of}
 
 -- the queue has this end and epoch, or no line and so no name yet
@@ -30,12 +30,12 @@ cut_so_far end epoch zero = new_take 0 0 0
 cut_so_far end epoch (suc line) = new_take end epoch (suc line)
 
 -- the rights that the gate of a new queue opens with
-module _ (end epoch lines : ℕ) (p : PlaceSeat) where
+module _ (end epoch lines : ℕ) (p : TakerQueueSeat) where
   abbrev pub rights_of : List LineSeat
   rights_of = new_rights p.queue end epoch lines
 
   -- the queue is new and has so many lines, its gate has the rights of them, and the entries are those of its lines
-  pub record IsOpenPlace (entries : List (EntrySeat LineSeat)) : Type 0 where
+  pub record IsOpenTakerQueue (entries : List (EntrySeat LineSeat)) : Type 0 where
     pub at : p.at ≡ new_take end epoch lines
     pub keeper : p.keeper.at ≡ keeper_at (map tag_of rights_of) rights_of (length rights_of)
     pub entries_are : entries ≡ first_entries p.keeper.gate (map tag_of rights_of) rights_of (length rights_of)

@@ -5,7 +5,7 @@ use Rattle.hub_gate.specs.GateSeats.{KeeperSeat}
 use Rattle.hub_gate.specs.GatePlays.{looked_keeper}
 use Rattle.hub_queue.specs.declared.pass_view.TakeView.{TakeView}
 use Rattle.hub_queue.specs.PassSteps.{ShowsHeld, AccountsFor}
-use Rattle.hub_queue.specs.Places.{PlaceSeat, KnowsAll, TakesMore, IsHeldUp, IsSettled, IsShut}
+use Rattle.hub_queue.specs.TakerQueues.{TakerQueueSeat, KnowsAll, TakesMore, IsHeldUp, IsSettled, IsShut}
 use Rattle.hub_queue.specs.Popping.{IsPop}
 use Rattle.hub_queue.specs.Seats.{LineSeat}
 use Rattle.hub_queue.specs.declared.settling.Stop.{Stop}
@@ -20,13 +20,13 @@ abbrev pub looked : KeeperSeat LineSeat → ℕ → Bool → KeeperSeat LineSeat
 looked keeper word collected = record { gate = keeper.gate; at = looked_keeper keeper.at word collected }
 
 -- One look. Settled: all rights came into hand, now or before, and with them the passes of all lines. Else it found somebody inside or being turned back, and nothing else has changed.
-abbrev pub IsSettling : PlaceSeat → PlaceSeat → Bool → Type 0
+abbrev pub IsSettling : TakerQueueSeat → TakerQueueSeat → Bool → Type 0
 IsSettling old new true = (word : ℕ) × (rights : List LineSeat) × (new ≡ record { queue = old.queue; at = knowing old.at rights; keeper = looked old.keeper word true }) × KnowsAll new.at
 IsSettling old new false = (word : ℕ) × (new ≡ record { queue = old.queue; at = old.at; keeper = looked old.keeper word old.keeper.at.collected }) × (0 < new.keeper.at.found)
 
 -- one pop, which changes nothing but what was taken
-abbrev pub IsPlacePop : PlaceSeat → PlaceSeat → Option Envelope → Type 0
-IsPlacePop old new found = (new ≡ record { queue = old.queue; at = new.at; keeper = old.keeper }) × IsPop old.at new.at found
+abbrev pub IsQueuePop : TakerQueueSeat → TakerQueueSeat → Option Envelope → Type 0
+IsQueuePop old new found = (new ≡ record { queue = old.queue; at = new.at; keeper = old.keeper }) × IsPop old.at new.at found
 
 -- these were taken more
 abbrev pub got_all : TakeView → List Envelope → TakeView
@@ -37,15 +37,15 @@ abbrev pub HoldsNothing : TakeView → Type 0
 HoldsNothing t = ShowsHeld t [] × AccountsFor t []
 
 -- What was taken was added to the list. Ok: a pop found none.
-abbrev pub IsCollected : {E : Type 0} → PlaceSeat → PlaceSeat → List Envelope → List Envelope → Result (Unit {0}) E → Type 0
+abbrev pub IsCollected : {E : Type 0} → TakerQueueSeat → TakerQueueSeat → List Envelope → List Envelope → Result (Unit {0}) E → Type 0
 IsCollected old new before after answer = (more : List Envelope) × (new ≡ record { queue = old.queue; at = got_all old.at more; keeper = old.keeper }) × (after ≡ before ++ more) × OnOk answer (HoldsNothing new.at)
 
 -- why a closed queue isn't empty for good yet
-abbrev pub IsStopped : PlaceSeat → PlaceSeat → List Envelope → Stop → Type 0
+abbrev pub IsStopped : TakerQueueSeat → TakerQueueSeat → List Envelope → Stop → Type 0
 IsStopped old new more StillInside = IsHeldUp old new × (more ≡ [])
 IsStopped old new more NoRoom = Unit {0}
 
 -- What was taken was added to the list. Ok: everything that was put was taken.
-abbrev pub IsEmptied : PlaceSeat → PlaceSeat → List Envelope → List Envelope → Result (Unit {0}) Stop → Type 0
+abbrev pub IsEmptied : TakerQueueSeat → TakerQueueSeat → List Envelope → List Envelope → Result (Unit {0}) Stop → Type 0
 IsEmptied old new before after (Ok done) = (more : List Envelope) × (after ≡ before ++ more) × TakesMore old new more × IsShut new × IsSettled new
 IsEmptied old new before after (Err stop) = (more : List Envelope) × (after ≡ before ++ more) × TakesMore old new more × IsShut new × IsStopped old new more stop

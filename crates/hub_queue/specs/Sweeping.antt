@@ -7,35 +7,35 @@ use Rattle.hub_queue.specs.declared.grave.Sweep.TheVariants.{Discarded, StillIns
 use Rattle.hub_queue.specs.declared.settling.Stop.{Stop}
 use Rattle.hub_queue.specs.declared.settling.Stop.TheVariants as stop
 use Rattle.hub_queue.specs.Graves.{GraveSeat, SweptSeat}
-use Rattle.hub_queue.specs.Places.{PlaceSeat, TakesMore, IsHeldUp, IsSettled}
+use Rattle.hub_queue.specs.TakerQueues.{TakerQueueSeat, TakesMore, IsHeldUp, IsSettled}
 
 -- the same queues, one for one; what was taken more of each, joined in their order, is this
-abbrev pub TakesOfEach : List PlaceSeat → List PlaceSeat → List Envelope → Type 0
+abbrev pub TakesOfEach : List TakerQueueSeat → List TakerQueueSeat → List Envelope → Type 0
 TakesOfEach [] [] more = more ≡ []
 TakesOfEach [] (q ∷ qs) more = ⊥
 TakesOfEach (p ∷ ps) [] more = ⊥
 TakesOfEach (p ∷ ps) (q ∷ qs) more = (here : List Envelope) × (rest : List Envelope) × (more ≡ here ++ rest) × TakesMore p q here × TakesOfEach ps qs rest
 
 -- at one of the queues a look found somebody
-abbrev pub OneIsHeldUp : List PlaceSeat → List PlaceSeat → Type 0
+abbrev pub OneIsHeldUp : List TakerQueueSeat → List TakerQueueSeat → Type 0
 OneIsHeldUp [] qs = ⊥
 OneIsHeldUp (p ∷ ps) [] = ⊥
 OneIsHeldUp (p ∷ ps) (q ∷ qs) = IsHeldUp p q ⊎ OneIsHeldUp ps qs
 
 -- What a sweep of the queues of a closed end comes to. Ok: all are settled, so everything that was put was taken. Still inside: a look found somebody at one of them. What was taken joins what was collected before, queue after queue.
-abbrev pub AreSwept : List PlaceSeat → List PlaceSeat → List Envelope → List Envelope → Result (Unit {0}) Stop → Type 0
+abbrev pub AreSwept : List TakerQueueSeat → List TakerQueueSeat → List Envelope → List Envelope → Result (Unit {0}) Stop → Type 0
 AreSwept old new before after (Ok done) = (more : List Envelope) × (after ≡ before ++ more) × TakesOfEach old new more × AllByRecursion IsSettled new
 AreSwept old new before after (Err stop.StillInside) = (more : List Envelope) × (after ≡ before ++ more) × TakesOfEach old new more × OneIsHeldUp old new
 AreSwept old new before after (Err stop.NoRoom) = (more : List Envelope) × (after ≡ before ++ more) × TakesOfEach old new more
 
 -- What a sweep comes to. Discarded: what is left are all queues of the grave and all that was collected from them, now and before. Still inside and no room: so is the grave that comes back.
 abbrev pub IsSwept : GraveSeat → Sweep → Type 0
-IsSwept g (Discarded s) = (s.end ≡ g.end) × AreSwept g.places s.places g.envelopes s.envelopes (Ok tt)
-IsSwept g (StillInside h) = (h.end ≡ g.end) × (h.epoch ≡ g.epoch) × AreSwept g.places h.places g.envelopes h.envelopes (Err stop.StillInside)
-IsSwept g (NoRoom h) = (h.end ≡ g.end) × (h.epoch ≡ g.epoch) × AreSwept g.places h.places g.envelopes h.envelopes (Err stop.NoRoom)
+IsSwept g (Discarded s) = (s.end ≡ g.end) × AreSwept g.queues s.queues g.envelopes s.envelopes (Ok tt)
+IsSwept g (StillInside h) = (h.end ≡ g.end) × (h.epoch ≡ g.epoch) × AreSwept g.queues h.queues g.envelopes h.envelopes (Err stop.StillInside)
+IsSwept g (NoRoom h) = (h.end ≡ g.end) × (h.epoch ≡ g.epoch) × AreSwept g.queues h.queues g.envelopes h.envelopes (Err stop.NoRoom)
 
 -- the same queues, one for one, of each of which more may have been taken
-abbrev pub AreSameQueues : List PlaceSeat → List PlaceSeat → Type 0
+abbrev pub AreSameQueues : List TakerQueueSeat → List TakerQueueSeat → Type 0
 AreSameQueues [] [] = Unit {0}
 AreSameQueues [] (q ∷ qs) = ⊥
 AreSameQueues (p ∷ ps) [] = ⊥
@@ -45,13 +45,13 @@ AreSameQueues (p ∷ ps) (q ∷ qs) = ((more : List Envelope) × TakesMore p q m
 pub record IsSweptSoFar (g h : GraveSeat) : Type 0 where
   pub end : h.end ≡ g.end
   pub epoch : h.epoch ≡ g.epoch
-  pub places : AreSameQueues g.places h.places
+  pub queues : AreSameQueues g.queues h.queues
   pub more : List Envelope
   pub envelopes : h.envelopes ≡ g.envelopes ++ more
 
 -- What is left of the grave after some sweeps, of which the last has emptied it.
 pub record IsSweptOut (g : GraveSeat) (s : SweptSeat) : Type 0 where
   pub end : s.end ≡ g.end
-  pub places : AreSameQueues g.places s.places
+  pub queues : AreSameQueues g.queues s.queues
   pub more : List Envelope
   pub envelopes : s.envelopes ≡ g.envelopes ++ more

@@ -4,15 +4,15 @@ ghost use Rattle.std.specs.Option.{option_map};
 ghost use Rattle.hub_envelope.specs.declared.limits.TheConstants.{MAX_LINES, MAX_MOVES};
 ghost use Rattle.hub_depot.specs.Putting.{with_all};
 ghost use Rattle.hub_queue.specs.Adopting.{IsRefused, KeepsName};
-ghost use Rattle.hub_queue.specs.Mailboxes.{IsNewPlace, stands_at};
-ghost use Rattle.hub_queue.specs.Opening.{IsOpenPlace};
+ghost use Rattle.hub_queue.specs.Mailboxes.{IsNewTakerQueue, stands_at};
+ghost use Rattle.hub_queue.specs.Opening.{IsOpenTakerQueue};
 
 use crate::adopt_error::AdoptError;
 use crate::left_gates::LeftGates;
 use crate::line_right::LineRight;
 use crate::onward::Onward;
-use crate::opening::open_place;
-use crate::place::Place;
+use crate::opening::open_taker_queue;
+use crate::taker_queue::TakerQueue;
 use crate::stand::Stand;
 use hub_bell::Bell;
 use hub_core::OutOfMemory;
@@ -25,17 +25,17 @@ use std::sync::Wait;
 /// An onward poster for each entry of a new queue, in order.
 pub(crate) fn onwards_at(
     alloc: Global,
-    place: &Place,
+    queue: &TakerQueue,
     mut entries: Vec<Entry<LineRight>>,
     end: EndId,
     epoch: u32,
     bell: &Bell,
 ) -> Result<Vec<Onward>, OutOfMemory>
-    requires few { place.now.at.lines ≤ MAX_LINES }
+    requires few { queue.now.at.lines ≤ MAX_LINES }
     requires moves { epoch ≤ MAX_MOVES }
-    requires open { IsOpenPlace end.0 epoch place.now.at.lines place.now entries.items }
+    requires open { IsOpenTakerQueue end.0 epoch queue.now.at.lines queue.now entries.items }
     ensures { IfOk result (λ onwards. onwards.items
-        ≡ stands_at place.now.keeper.gate place.now.queue end epoch place.now.at.lines) }
+        ≡ stands_at queue.now.keeper.gate queue.now.queue end epoch queue.now.at.lines) }
 {
     let mut onwards = Vec::with_capacity(alloc, entries.len())?;
     entries.reverse();
@@ -70,13 +70,13 @@ pub(crate) fn open_next<S: Shelf<Onward>, R: Wait>(
     epoch: u32,
     lines: u8,
     bell: &Bell,
-) -> Result<Place, AdoptError>
+) -> Result<TakerQueue, AdoptError>
     requires lines { (0 < lines) × (lines ≤ MAX_LINES) }
     requires moves { epoch ≤ MAX_MOVES }
-    ensures ok { IfOk result (λ place. IsNewPlace end.0 epoch lines place) }
-    ensures laid { IfOk result (λ place. S.shown yard.new ≡ option_map (λ kept.
+    ensures ok { IfOk result (λ queue. IsNewTakerQueue end.0 epoch lines queue) }
+    ensures laid { IfOk result (λ queue. S.shown yard.new ≡ option_map (λ kept.
         with_all ⟦<Onward as Named>⟧.name kept
-        (stands_at place.keeper.gate place.queue end epoch lines)) (S.shown yard.old)) }
+        (stands_at queue.keeper.gate queue.queue end epoch lines)) (S.shown yard.old)) }
     ensures free { OnOk result (IfSome (S.shown yard.old) (λ kept.
         ¬ KeepsName end epoch lines kept)) }
     ensures err { IfErr result IsRefused }
@@ -84,14 +84,14 @@ pub(crate) fn open_next<S: Shelf<Onward>, R: Wait>(
         → IfSome (S.shown yard.old) (KeepsName end epoch lines) }
     ensures kept { OnErr result (S.shown yard.new ≡ S.shown yard.old) }
 {
-    let Ok((place, entries)) = open_place(alloc, end, epoch, lines) else {
+    let Ok((queue, entries)) = open_taker_queue(alloc, end, epoch, lines) else {
         return Err(AdoptError::OutOfMemory);
     };
-    let Ok(onwards) = onwards_at(alloc, &place, entries, end, epoch, bell) else {
+    let Ok(onwards) = onwards_at(alloc, &queue, entries, end, epoch, bell) else {
         return Err(AdoptError::OutOfMemory);
     };
     match put_all(rt, yard, alloc, onwards) {
-        Ok(()) => Ok(place),
+        Ok(()) => Ok(queue),
         Err(DepotError::Taken(_)) => Err(AdoptError::Taken),
         Err(DepotError::OutOfMemory(_)) => Err(AdoptError::OutOfMemory),
     }

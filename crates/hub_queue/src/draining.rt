@@ -1,7 +1,7 @@
 ghost use Rattle.std.specs.Prelude.{◌≡◌, IfOk};
 ghost use Rattle.std.specs.List.{AllByRecursion};
 ghost use Rattle.hub_queue.specs.Draining.{CountsDrain, IsAtRest, IsDrained, IsPrefixOfChain};
-ghost use Rattle.hub_queue.specs.Places.{IsSettled};
+ghost use Rattle.hub_queue.specs.TakerQueues.{IsSettled};
 
 use crate::left_queue::LeftQueue;
 use crate::steps::Steps;
@@ -23,7 +23,7 @@ pub struct Drained {
 impl Model for Drained {
     ghost use Rattle.std.specs.List.{AllByRecursion};
     ghost use Rattle.hub_queue.specs.Draining.{DrainedSeat};
-    ghost use Rattle.hub_queue.specs.Places.{IsSettled};
+    ghost use Rattle.hub_queue.specs.TakerQueues.{IsSettled};
 
     ghost Value = { DrainedSeat };
 

@@ -1,9 +1,9 @@
 ghost use Rattle.std.specs.Prelude.{◌≡◌, ◌∷◌, [], ◌++◌};
 ghost use Rattle.std.specs.List.{AllByRecursion};
-ghost use Rattle.hub_queue.specs.Places.{IsShut};
+ghost use Rattle.hub_queue.specs.TakerQueues.{IsShut};
 ghost use Rattle.hub_queue.specs.Sweeping.{AreSwept};
 
-use crate::place::Place;
+use crate::taker_queue::TakerQueue;
 use crate::settling::{Stop, empty};
 use crate::swept::Swept;
 use hub_envelope::{EndId, Envelope};
@@ -17,8 +17,8 @@ use std::thread;
 pub struct Grave {
     pub(crate) end: EndId,
     pub(crate) epoch: u32,
-    pub(crate) retired: VecDeque<Place>,
-    pub(crate) newest: Place,
+    pub(crate) retired: VecDeque<TakerQueue>,
+    pub(crate) newest: TakerQueue,
     pub(crate) envelopes: Vec<Envelope>,
 }
 
@@ -26,14 +26,14 @@ impl Model for Grave {
     ghost use Rattle.std.specs.Prelude.{[], ◌∷◌, ◌++◌};
     ghost use Rattle.std.specs.List.{AllByRecursion};
     ghost use Rattle.hub_queue.specs.Graves.{GraveSeat};
-    ghost use Rattle.hub_queue.specs.Places.{IsShut};
+    ghost use Rattle.hub_queue.specs.TakerQueues.{IsShut};
 
     ghost Value = { GraveSeat };
 
     ghost view = { λ g. record {
       end = g.end.0;
       epoch = g.epoch;
-      places = g.retired.items ++ g.newest ∷ [];
+      queues = g.retired.items ++ g.newest ∷ [];
       envelopes = g.envelopes.items;
     } };
 
@@ -54,8 +54,8 @@ pub enum Sweep {
 // Empties each of the queues, the oldest first, and stops at the first that can't be emptied.
 fn empty_all<R: Wait>(
     rt: &R,
-    retired: &mut VecDeque<Place>,
-    newest: &mut Place,
+    retired: &mut VecDeque<TakerQueue>,
+    newest: &mut TakerQueue,
     envelopes: &mut Vec<Envelope>,
 ) -> Result<(), Stop>
     requires { AllByRecursion IsShut (retired.old.items ++ newest.old ∷ []) }
@@ -64,10 +64,10 @@ fn empty_all<R: Wait>(
         (retired.new.items ++ newest.new ∷ []) envelopes.old.items envelopes.new.items result }
 {
     for index in 0..retired.len() {
-        let Some(place) = retired.get_mut(index) else {
+        let Some(queue) = retired.get_mut(index) else {
             unreachable!();
         };
-        empty(rt, place, envelopes)?;
+        empty(rt, queue, envelopes)?;
     }
     empty(rt, newest, envelopes)
 }

@@ -12,10 +12,10 @@ pub struct LeftQueue {
 }
 
 impl Model for LeftQueue {
-    ghost use Rattle.hub_queue.specs.Places.{PlaceSeat, IsSettled};
+    ghost use Rattle.hub_queue.specs.TakerQueues.{TakerQueueSeat, IsSettled};
     ghost use Rattle.hub_queue.specs.Seats.{known_by, take_in};
 
-    ghost Value = { PlaceSeat };
+    ghost Value = { TakerQueueSeat };
 
     ghost view = { λ q. record {
       queue = q.pass.web;

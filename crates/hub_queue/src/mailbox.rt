@@ -4,7 +4,7 @@ ghost use Rattle.hub_queue.specs.Mailboxes.{IsOpenMailbox};
 
 use crate::adopting::onwards_at;
 use crate::onward::Onward;
-use crate::opening::open_place;
+use crate::opening::open_taker_queue;
 use crate::poster::Poster;
 use crate::taker::Taker;
 use hub_bell::Bell;
@@ -41,7 +41,7 @@ impl Mailbox {
         requires { (0 < lines) × (lines ≤ MAX_LINES) }
         ensures { IfOk result (λ m. IsOpenMailbox end lines m.0 m.1.items) }
     {
-        let (newest, entries) = open_place(alloc, end, 0, lines)?;
+        let (newest, entries) = open_taker_queue(alloc, end, 0, lines)?;
         let onwards = onwards_at(alloc, &newest, entries, end, 0, &bell)?;
         let posters = posters_of(alloc, onwards)?;
         let taker = Taker {

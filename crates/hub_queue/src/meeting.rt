@@ -4,7 +4,7 @@ ghost use Rattle.hub_queue.specs.Meetings.{AreOfOne, HaveMet, HaveMetAt};
 ghost use Rattle.hub_queue.specs.Standing.{right_of};
 
 use crate::line_right::LineRight;
-use crate::place::Place;
+use crate::taker_queue::TakerQueue;
 use crate::poster::Poster;
 use crate::queue_rule::{Compare, GiveBack, Lend};
 use crate::stand::Stand;
@@ -27,32 +27,32 @@ pub enum Meeting {
 
 // Lends the pass of a line to the taker's for one look at the queue: what was taken of the line is
 // a prefix of what it has put. It says how many were put and taken. Both passes are as they were.
-fn compare<R: Wait>(rt: &R, place: &mut Place, right: &mut LineRight, line: LineId) -> (u64, u64)
-    requires queue { right.old.queue ≡ place.old.queue }
+fn compare<R: Wait>(rt: &R, queue: &mut TakerQueue, right: &mut LineRight, line: LineId) -> (u64, u64)
+    requires queue { right.old.queue ≡ queue.old.queue }
     requires line { line.0 ≡ right.old.at.line }
-    ensures same { (place.new ≡ place.old) × (right.new ≡ right.old) }
-    ensures prefix { Prefix (by right.old.at.line place.old.at.got) right.old.at.put }
+    ensures same { (queue.new ≡ queue.old) × (right.new ≡ right.old) }
+    ensures prefix { Prefix (by right.old.at.line queue.old.at.got) right.old.at.put }
     ensures put { result.0 ≡ length right.old.at.put }
-    ensures got { result.1 ≡ length (by right.old.at.line place.old.at.got) }
+    ensures got { result.1 ≡ length (by right.old.at.line queue.old.at.got) }
 {
-    let queue = &place.store.queue;
-    let lent = queue.another::<Lend>(&mut right.pass);
-    queue.absorb::<Compare>(&mut place.pass, lent);
-    queue.len_as::<Compare, R>(rt, &mut place.pass);
-    right.pass = queue.another::<GiveBack>(&mut place.pass);
-    (right.number, place.taken[line.0 as usize])
+    let store = &queue.store.queue;
+    let lent = store.another::<Lend>(&mut right.pass);
+    store.absorb::<Compare>(&mut queue.pass, lent);
+    store.len_as::<Compare, R>(rt, &mut queue.pass);
+    right.pass = store.another::<GiveBack>(&mut queue.pass);
+    (right.number, queue.taken[line.0 as usize])
 }
 
 // Goes in at the gate, compares, and comes out again.
-fn meet_at<R: Wait>(rt: &R, stand: &mut Stand, place: &mut Place) -> Meeting
-    requires { (right_of stand.old).queue ≡ place.old.queue }
-    ensures same { place.new ≡ place.old }
-    ensures met { HaveMetAt stand.old stand.new place.old result }
+fn meet_at<R: Wait>(rt: &R, stand: &mut Stand, queue: &mut TakerQueue) -> Meeting
+    requires { (right_of stand.old).queue ≡ queue.old.queue }
+    ensures same { queue.new ≡ queue.old }
+    ensures met { HaveMetAt stand.old stand.new queue.old result }
 {
     let line = stand.name.line;
     match stand.entry.take().unwrap().enter() {
         Entered::In(mut inside) => {
-            let (put, got) = compare(rt, place, inside.right_mut(), line);
+            let (put, got) = compare(rt, queue, inside.right_mut(), line);
             let (entry, _) = inside.leave();
             stand.entry = Some(entry);
             Meeting::Met { put, got }
@@ -78,7 +78,7 @@ pub fn meet<R: Wait>(rt: &R, poster: &mut Poster, taker: &mut Taker) -> Meeting
         return Meeting::Strangers;
     }
     match taker.retired.front_mut() {
-        Some(place) => meet_at(rt, stand, place),
+        Some(queue) => meet_at(rt, stand, queue),
         None => meet_at(rt, stand, &mut taker.newest),
     }
 }

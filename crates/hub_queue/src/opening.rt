@@ -4,13 +4,13 @@ ghost use Rattle.std.specs.Arc.{arc_value};
 ghost use Rattle.crossbeam_queue.specs.SegTies.{IsSegPassOf};
 ghost use Rattle.hub_envelope.specs.declared.limits.TheConstants.{MAX_LINES};
 ghost use Rattle.hub_queue.specs.declared.pass_view.PassView.TheVariants.{Takes, Puts};
-ghost use Rattle.hub_queue.specs.Opening.{MayCut, IsOpenPlace, cut_so_far, new_rights};
+ghost use Rattle.hub_queue.specs.Opening.{MayCut, IsOpenTakerQueue, cut_so_far, new_rights};
 ghost use Rattle.hub_queue.specs.PassSteps.{cut_more, next_put};
 ghost use Rattle.hub_queue.specs.Seats.{known_by, take_in};
 ghost use Rattle.hub_queue.specs.SharedQueue.{first_view};
 
 use crate::line_right::LineRight;
-use crate::place::Place;
+use crate::taker_queue::TakerQueue;
 use crate::queue_rule::{CutLine, QueueName};
 use crate::store::{EnvelopeQueue, Pass, Store};
 use hub_envelope::{EndId, MAX_LINES};
@@ -63,14 +63,14 @@ fn cut_lines(
 
 /// A new queue with its gate: nothing was put, nobody is inside and no flag is set. The entries are
 /// those of its lines, in order.
-pub(crate) fn open_place(
+pub(crate) fn open_taker_queue(
     alloc: Global,
     end: EndId,
     epoch: u32,
     lines: u8,
-) -> Result<(Place, Vec<Entry<LineRight>>), AllocError>
+) -> Result<(TakerQueue, Vec<Entry<LineRight>>), AllocError>
     requires lines { (0 < lines) × (lines ≤ MAX_LINES) }
-    ensures { IfOk result (λ p. IsOpenPlace end.0 epoch lines p.0 p.1.items) }
+    ensures { IfOk result (λ p. IsOpenTakerQueue end.0 epoch lines p.0 p.1.items) }
 {
     let (queue, mut pass) = EnvelopeQueue::with_rule(alloc)?;
     let store = Arc::new(alloc, Store { queue })?;
@@ -78,11 +78,11 @@ pub(crate) fn open_place(
     let Ok((keeper, entries)) = Gate::open(alloc, rights) else {
         return Err(AllocError);
     };
-    let place = Place {
+    let queue = TakerQueue {
         store,
         pass,
         keeper,
         taken: [0; MAX_LINES],
     };
-    Ok((place, entries))
+    Ok((queue, entries))
 }

@@ -38,22 +38,22 @@ fn post_inside<W: Watch, R: Wait>(
     rt: &R,
     mut inside: Inside<LineRight>,
     name: Key,
-    place: &mut Option<Entry<LineRight>>,
+    kept: &mut Option<Entry<LineRight>>,
     bell: &mut Bell,
     draft: Draft,
     watch: &mut W,
 ) -> Result<Posted, (PostError, Draft)>
     requires name { IsNameOf inside.right.at name }
     requires tag { tag_of inside.right ≡ inside.at.tag }
-    ensures put { IsPutInside inside place.new draft result }
-    ensures rung { IsRungWhere bell.old.at bell.new.at name.end (entry_in place.new).at.left }
+    ensures put { IsPutInside inside kept.new draft result }
+    ensures rung { IsRungWhere bell.old.at bell.new.at name.end (entry_in kept.new).at.left }
     ensures told { W.told watch.new ≡ told_more (W.told watch.old) points_inside }
 {
     watch.reach(rt, Point::Inside);
     let put = inside.right_mut().put(rt, name, draft);
     watch.reach(rt, Point::Pushed);
     let (entry, enabled) = inside.leave();
-    *place = Some(entry);
+    *kept = Some(entry);
     if enabled {
         bell.ring(name.end);
     }

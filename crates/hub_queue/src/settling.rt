@@ -2,12 +2,12 @@
 ghost use Rattle.std.specs.Prelude.{◌≡◌, map, length};
 ghost use Rattle.crossbeam_queue.specs.SegTies.{IsSegPassOf};
 ghost use Rattle.hub_queue.specs.declared.pass_view.PassView.TheVariants.{Takes};
-ghost use Rattle.hub_queue.specs.Places.{IsShut, tags_of};
+ghost use Rattle.hub_queue.specs.TakerQueues.{IsShut, tags_of};
 ghost use Rattle.hub_queue.specs.Seats.{known_by, tag_of, take_in};
 ghost use Rattle.hub_queue.specs.Settling.{IsCollected, IsEmptied, IsSettling, knowing};
 
 use crate::line_right::LineRight;
-use crate::place::Place;
+use crate::taker_queue::TakerQueue;
 use crate::queue_rule::TakeIn;
 use crate::steps::Steps;
 use crate::store::{Pass, Store};
@@ -36,7 +36,7 @@ fn take_in_all(store: &Store, pass: &mut Pass, mut rights: Vec<LineRight>)
     }
 }
 
-impl Place {
+impl TakerQueue {
     /// Looks at the gate, which is retired or closed. Where nobody is inside it takes in the passes
     /// of all lines, unless an earlier call did, and says so.
     pub(crate) fn settle(&mut self) -> bool
@@ -59,17 +59,17 @@ impl Place {
 /// popped, so after an error the list has all that was taken.
 pub(crate) fn collect<L: Ledger, R: Wait>(
     rt: &R,
-    place: &mut Place,
+    queue: &mut TakerQueue,
     envelopes: &mut Vec<Envelope>,
     blank: Blank,
 ) -> Result<(), AllocError>
     requires { (blank.name ≡ L.name) × (blank.parts ≡ L.parts) × (L.parts ≡ 2) }
-    ensures { IsCollected place.old place.new envelopes.old.items envelopes.new.items result }
+    ensures { IsCollected queue.old queue.new envelopes.old.items envelopes.new.items result }
 {
     let mut steps = Steps::<L>::begin(blank);
     for _ in rt.forever() {
         envelopes.reserve(1)?;
-        match place.pop(rt, &mut steps) {
+        match queue.pop(rt, &mut steps) {
             Some(envelope) => envelopes.push_reserved(envelope),
             None => return Ok(()),
         }
@@ -90,16 +90,16 @@ pub(crate) enum Stop {
 /// what the queue holds, which nobody can add to any more.
 pub(crate) fn empty<R: Wait>(
     rt: &R,
-    place: &mut Place,
+    queue: &mut TakerQueue,
     envelopes: &mut Vec<Envelope>,
 ) -> Result<(), Stop>
-    requires { IsShut place.old }
-    ensures { IsEmptied place.old place.new envelopes.old.items envelopes.new.items result }
+    requires { IsShut queue.old }
+    ensures { IsEmptied queue.old queue.new envelopes.old.items envelopes.new.items result }
 {
-    if !place.settle() {
+    if !queue.settle() {
         return Err(Stop::StillInside);
     }
-    match collect::<Brand, R>(rt, place, envelopes, Blank::new(2)) {
+    match collect::<Brand, R>(rt, queue, envelopes, Blank::new(2)) {
         Ok(()) => Ok(()),
         Err(_) => Err(Stop::NoRoom),
     }

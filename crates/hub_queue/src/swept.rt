@@ -1,4 +1,4 @@
-use crate::place::Place;
+use crate::taker_queue::TakerQueue;
 use hub_envelope::{EndId, Envelope};
 use std::collections::VecDeque;
 use std::marker::Model;
@@ -9,22 +9,22 @@ use std::marker::Model;
 pub struct Swept {
     pub(crate) end: EndId,
     pub(crate) envelopes: Vec<Envelope>,
-    pub(crate) retired: VecDeque<Place>,
-    pub(crate) newest: Place,
+    pub(crate) retired: VecDeque<TakerQueue>,
+    pub(crate) newest: TakerQueue,
 }
 
 impl Model for Swept {
     ghost use Rattle.std.specs.Prelude.{[], ◌∷◌, ◌++◌};
     ghost use Rattle.std.specs.List.{AllByRecursion};
     ghost use Rattle.hub_queue.specs.Graves.{SweptSeat};
-    ghost use Rattle.hub_queue.specs.Places.{IsSettled};
+    ghost use Rattle.hub_queue.specs.TakerQueues.{IsSettled};
 
     ghost Value = { SweptSeat };
 
     ghost view = { λ s. record {
       end = s.end.0;
       envelopes = s.envelopes.items;
-      places = s.retired.items ++ s.newest ∷ [];
+      queues = s.retired.items ++ s.newest ∷ [];
     } };
 
     ghost invariant = { λ s. AllByRecursion IsSettled (s.retired.items ++ s.newest ∷ []) };

@@ -3,7 +3,7 @@ ghost use Rattle.std.specs.Option.{option_map};
 ghost use Rattle.std.specs.List.{AllByRecursion};
 ghost use Rattle.hub_queue.specs.Adopting.{IsAdopted, KeepsNext, newest_epoch, with_onwards};
 ghost use Rattle.hub_queue.specs.Ending.{IsClosed};
-ghost use Rattle.hub_queue.specs.Places.{IsShut};
+ghost use Rattle.hub_queue.specs.TakerQueues.{IsShut};
 ghost use Rattle.hub_queue.specs.Taking.{IsTaken, IsTakenOldest, started};
 
 use crate::adopt_error::AdoptError;
@@ -11,7 +11,7 @@ use crate::adopting::open_next;
 use crate::grave::Grave;
 use crate::left_queue::LeftQueue;
 use crate::onward::Onward;
-use crate::place::Place;
+use crate::taker_queue::TakerQueue;
 use crate::steps::Steps;
 use crate::took::Took;
 use hub_bell::Bell;
@@ -20,7 +20,7 @@ use hub_envelope::{EndId, MAX_MOVES};
 use std::alloc::Global;
 use std::collections::VecDeque;
 use std::marker::Model;
-use std::mem::replace;
+use std::mem::requeue;
 use std::sync::Wait;
 use std::sync::ledger::Ledger;
 
@@ -36,8 +36,8 @@ pub struct Taker {
     pub(crate) epoch: u32,
     pub(crate) lines: u8,
     /// The retired queues from the taker's on, the oldest first.
-    pub(crate) retired: VecDeque<Place>,
-    pub(crate) newest: Place,
+    pub(crate) retired: VecDeque<TakerQueue>,
+    pub(crate) newest: TakerQueue,
     /// What shows the queue that it left last.
     pub(crate) left: Option<LeftQueue>,
 }
@@ -68,7 +68,7 @@ impl Model for Taker {
 // where there is none.
 fn take_oldest<L: Ledger, R: Wait>(
     rt: &R,
-    retired: &mut VecDeque<Place>,
+    retired: &mut VecDeque<TakerQueue>,
     left: &mut Option<LeftQueue>,
     steps: &mut Steps<L>,
 ) -> Option<Took>
@@ -76,11 +76,11 @@ fn take_oldest<L: Ledger, R: Wait>(
     ensures { IsTakenOldest retired.old.items retired.new.items left.old left.new
         steps.old steps.new result }
 {
-    let place = retired.front_mut()?;
-    match place.take_retired(rt, steps) {
+    let queue = retired.front_mut()?;
+    match queue.take_retired(rt, steps) {
         Took::Again => {
-            let place = retired.pop_front().unwrap();
-            *left = Some(place.leave());
+            let queue = retired.pop_front().unwrap();
+            *left = Some(queue.leave());
             Some(Took::Again)
         }
         took => Some(took),
@@ -185,9 +185,9 @@ impl Taker {
             return Err((AdoptError::OutOfMemory, self));
         }
         match open_next(rt, yard, self.alloc, self.end, moves + 1, self.lines, &bell) {
-            Ok(place) => {
+            Ok(queue) => {
                 self.newest.retire();
-                let older = replace(&mut self.newest, place);
+                let older = requeue(&mut self.newest, queue);
                 self.retired.push_back_reserved(older);
                 Ok(self)
             }

@@ -51,22 +51,12 @@ with_put p put = record { agent = p.agent; put = put }
 pub posting_both : (p : Posts) (xs ys : List Message) → posting (posting p xs) ys ≡ posting p (xs ++ ys)
 posting_both p xs ys = ap (with_put p) (append_assoc p.put xs ys)
 
-pub posting_none : (p : Posts) → posting p [] ≡ p
-posting_none p = ap (with_put p) (append-nil p.put)
-
-pub acts_none : (p : Posts) → ActsAll [] p p
-acts_none p = ([], refl, sym (posting_none p))
-
 pub acts_more : (all : List ActionKind) (action : ActionKind) (before now after : Posts) → ActsAll all before now → Acts action now after → ActsAll (all ++ action ∷ []) before after
 acts_more all action before now after (messages, put, is) (more, puts, behind) =
     (messages ++ more, one_more all action messages more put puts, behind ∙ ap (λ p. posting p more) is ∙ posting_both before messages more)
 
 pub acts_no_more : (all later : List ActionKind) (before after : Posts) → ActsAll all before after → ActsAll (all ++ later) before after
 acts_no_more all later before after (messages, put, is) = (messages, no_more all later messages put, is)
-
--- an action that leaves what was put
-pub acts_nothing : (action : ActionKind) (before after : Posts) → after ≡ before → Acts action before after
-acts_nothing action before after same = ([], nothing action, same ∙ sym (posting_none before))
 
 one_copy_more : {A : Type 0} (n : ℕ) (x : A) → replicate n x ++ x ∷ [] ≡ replicate (suc n) x
 one_copy_more zero x = refl

@@ -71,9 +71,6 @@ asked_then old new f next x y is did = chained old old new (ask f) next x y (ask
 pub performed : {E : Type 0} → (old new : Core) (lives : AllLives) (line : StepLine) (c : Command) (r : Result Shown E) → line.command ≡ c → IfOk r (λ shown. ComputesAt old new (core_steps lives line.memory_refused c) shown) → IfOk r (λ shown. PerformsAt old new lives line shown)
 performed old new lives line c r is did = subst (λ (command : Command). IfOk r (λ shown. ComputesAt old new (core_steps lives line.memory_refused command) shown)) (sym is) did
 
-pub step_shown : (old new : Core) (refused : Bool) (a : Action) (o : Outcome) → FitsAndShows old new (record { action = a; memory_refused = refused }) o → ComputesAt old new (shown_step refused a) (Answer o)
-step_shown old new refused a o fits = shown_as old new (step refused a) Answer o (stepped old new refused a o fits)
-
 pub named : (old new : Core) (p : Poster) (s : Sender) (steps : Sender → Computation Shown) (shown : Shown) → ((h : History) → Shows old h → Some s ≡ sender_of p (facts h)) → ComputesAt old new (steps s) shown → ComputesAt old new (on_line_of p steps) shown
 named old new p s steps shown is did = chained old old new (ask (sender_of p)) (on_line steps) (Some s) shown (asked old (sender_of p) (Some s) is) did
 
@@ -199,9 +196,6 @@ closed_on old first second new refused e s told left answer is a b c =
     (chained first second new (step refused (action.Leave s)) (λ l. last told) left shown b
     (shown_as second new (step refused (action.Close e)) (close_shown told) answer c)))
 
-pub closed_alone : (old new : Core) (refused : Bool) (e : EndId) (shown : Shown) → ((h : History) → Shows old h → None ≡ notice_line e (facts h)) → ComputesAt old new (shown_step refused (action.Close e)) shown → ComputesAt old new (close refused e) shown
-closed_alone old new refused e shown is did = asked_then old new (notice_line e) (close_on refused e) None shown is did
-
 pub told_in : (old first new : Core) (refused : Bool) (s : Sender) (o : Outcome) → ComputesAt old first (enter 4 refused s) outcome.In → ComputesAt first new (step refused (action.Notice s)) o → ComputesAt old new (tell refused s) o
 told_in old first new refused s o a b = chained old first new (enter 4 refused s) (tell_inside refused s) outcome.In o a b
 
@@ -223,22 +217,13 @@ pub closed_more : (i : ℕ) (old now new : Core) (refused : Bool) (ends : List E
 closed_more i old now new refused ends e shown cut first did = λ later rest.
     first later (subst (λ es. ComputesAt now later (close_each refused es) tt) (sym cut) (chained now new later (close refused e) (λ c. close_each refused (drop (suc i) ends)) shown tt did (subst (λ k. ComputesAt new later (close_each refused (drop k ends)) tt) (add-one i) rest)))
 
-pub closed_all : (i : ℕ) (old now : Core) (refused : Bool) (ends : List EndId) → drop i ends ≡ [] → ClosedFirst old now i refused ends → ComputesAt old now (close_each refused ends) tt
-closed_all i old now refused ends none first = first now (subst (λ es. ComputesAt now now (close_each refused es) tt) (sym none) (given now tt))
-
 -- the same of the ports of envelopes
 abbrev pub PortsClosed : Core → Core → ℕ → Bool → List Envelope → Type 0
 PortsClosed old now i refused vs = (later : Core) → ComputesAt now later (close_ports refused (drop i vs)) tt → ComputesAt old later (close_ports refused vs) tt
 
-pub ports_none : (core : Core) (refused : Bool) (vs : List Envelope) → PortsClosed core core 0 refused vs
-ports_none core refused vs = λ later did. did
-
 pub ports_more : (i : ℕ) (old now new : Core) (refused : Bool) (vs : List Envelope) (v : Envelope) → drop i vs ≡ v ∷ drop (suc i) vs → PortsClosed old now i refused vs → ComputesAt now new (close_each refused v.ports) tt → PortsClosed old new (i + 1) refused vs
 ports_more i old now new refused vs v cut first did = λ later rest.
     first later (subst (λ us. ComputesAt now later (close_ports refused us) tt) (sym cut) (chained now new later (close_each refused v.ports) (λ c. close_ports refused (drop (suc i) vs)) tt tt did (subst (λ k. ComputesAt new later (close_ports refused (drop k vs)) tt) (add-one i) rest)))
-
-pub ports_all : (i : ℕ) (old now : Core) (refused : Bool) (vs : List Envelope) → drop i vs ≡ [] → PortsClosed old now i refused vs → ComputesAt old now (close_ports refused vs) tt
-ports_all i old now refused vs none first = first now (subst (λ us. ComputesAt now now (close_ports refused us) tt) (sym none) (given now tt))
 
 pub swept_discarded : (old first new : Core) (refused : Bool) (e : EndId) (vs : List Envelope) → ComputesAt old first (step refused (action.Sweep e)) (outcome.Discarded vs) → ComputesAt first new (close_ports refused vs) tt → ComputesAt old new (sweep refused e) (Answer (outcome.Discarded vs))
 swept_discarded old first new refused e vs a b =
@@ -263,20 +248,10 @@ makes_nothing : (core : Core) (refused : Bool) (o : Outcome) → ((e : EndId) �
 makes_nothing core refused (outcome.End e) other = absurd (other e refl)
 makes_nothing core refused o other = given core (Answer o)
 
-pub made_nothing : (old new : Core) (refused : Bool) (a : AgentId) (o : Outcome) → ((e : EndId) → o ≡ outcome.End e → ⊥) → ComputesAt old new (step refused (action.Worker a)) o → ComputesAt old new (worker refused a) (Answer o)
-made_nothing old new refused a o other did = chained old new new (step refused (action.Worker a)) (start_made refused) o (Answer o) did (makes_nothing new refused o other)
-
 pub adopted_and_started : (old first new : Core) (refused : Bool) (e : EndId) (a : AgentId) (k : ℕ) → ComputesAt old first (step refused (action.Adopt e a)) (outcome.Adopted k) → ComputesAt first new (start_worker refused e) tt → ComputesAt old new (adopt refused e a) (Answer (outcome.Adopted k))
 adopted_and_started old first new refused e a k adopted did =
     chained old first new (step refused (action.Adopt e a)) (start_adopted refused e) (outcome.Adopted k) (Answer (outcome.Adopted k)) adopted
     (shown_as first new (start_worker refused e) (λ started. Answer (outcome.Adopted k)) tt did)
-
-adopts_nothing : (core : Core) (refused : Bool) (e : EndId) (o : Outcome) → ((k : ℕ) → o ≡ outcome.Adopted k → ⊥) → ComputesAt core core (start_adopted refused e o) (Answer o)
-adopts_nothing core refused e (outcome.Adopted k) other = absurd (other k refl)
-adopts_nothing core refused e o other = given core (Answer o)
-
-pub adopted_nothing : (old new : Core) (refused : Bool) (e : EndId) (a : AgentId) (o : Outcome) → ((k : ℕ) → o ≡ outcome.Adopted k → ⊥) → ComputesAt old new (step refused (action.Adopt e a)) o → ComputesAt old new (adopt refused e a) (Answer o)
-adopted_nothing old new refused e a o other did = chained old new new (step refused (action.Adopt e a)) (start_adopted refused e) o (Answer o) did (adopts_nothing new refused e o other)
 
 -- ---- casts
 
@@ -287,9 +262,6 @@ member_started old first new refused a name e o made did =
 
 pub no_member : (old new : Core) (refused : Bool) (a : AgentId) (name : List ℕ) (o : Outcome) → ((e : EndId) → o ≡ outcome.End e → ⊥) → ComputesAt old new (step refused (action.Member a name)) o → ComputesAt old new (member refused a name) (Answer o)
 no_member old new refused a name o other did = chained old new new (step refused (action.Member a name)) (start_made refused) o (Answer o) did (makes_nothing new refused o other)
-
-pub pushes_inside : (old new : Core) (refused : Bool) (body text : List ℕ) (s : Sender) (ports : List EndId) (o : Outcome) → ports ≡ [] → text ≡ body → ComputesAt old new (step refused (action.Push s ports text)) o → ComputesAt old new (cast_inside refused body s outcome.In) o
-pushes_inside old new refused body text s ports o none same did = subst (λ listed. ComputesAt old new (step refused (action.Push s listed body)) o) none (subst (λ t. ComputesAt old new (step refused (action.Push s ports t)) o) same did)
 
 pub pushes_nothing : (core : Core) (refused : Bool) (body : List ℕ) (s : Sender) (o : Outcome) → (o ≡ outcome.In → ⊥) → ComputesAt core core (cast_inside refused body s o) o
 pushes_nothing core refused body s outcome.In other = absurd (other refl)
@@ -306,9 +278,6 @@ cast_there old first second new refused body e entered answer left a b c =
 -- what is posted from here on comes behind what was posted
 abbrev pub CastFirst : Core → Core → ℕ → Bool → List ℕ → List EndId → List CastPost → Type 0
 CastFirst old now done refused body ends posts = (later : Core) (rest : List CastPost) → ComputesAt now later (cast_each refused body (drop done ends)) rest → ComputesAt old later (cast_each refused body ends) (posts ++ rest)
-
-pub cast_none : (core : Core) (refused : Bool) (body : List ℕ) (ends : List EndId) → CastFirst core core 0 refused body ends []
-cast_none core refused body ends = λ later rest did. did
 
 pub cast_more : (done : ℕ) (old now new : Core) (refused : Bool) (body : List ℕ) (ends : List EndId) (e : EndId) (o : Outcome) (posts : List CastPost) → drop done ends ≡ e ∷ drop (suc done) ends → CastFirst old now done refused body ends posts → ComputesAt now new (cast_to refused body e) o → CastFirst old new (done + 1) refused body ends (posts ++ record { end = e; outcome = o } ∷ [])
 cast_more done old now new refused body ends e o posts here h did = λ later rest more.

@@ -45,12 +45,12 @@ loop-line-preserved c =
     record {
       count = omega (arith, length-append c.pop.new.self.items (c.unwrap-entry.result ∷ []));
       split = (kept.split.0 ++ c.unwrap-entry.result ∷ [], next.0, length-append kept.split.0 (c.unwrap-entry.result ∷ []) ∙ ap (λ n. n + 1) kept.split.2);
-      onwards = c.in_ok-push.ensures.items ∙ (λ i. kept.onwards i ++ record { name = record { end = c.args.end; epoch = c.args.epoch; line = record { 0 = c.loop-line.line } }; entry = entry_is i; rung = (c.in_ok-bell.ensures.cases i).at; left = c.none-left.ensures i } ∷ []) ∙ sym (stands_more c.args.place.now.keeper.gate c.args.place.now.queue c.args.end c.args.epoch c.loop-line.line);
+      onwards = c.in_ok-push.ensures.items ∙ (λ i. kept.onwards i ++ record { name = record { end = c.args.end; epoch = c.args.epoch; line = record { 0 = c.loop-line.line } }; entry = entry_is i; rung = (c.in_ok-bell.ensures.cases i).at; left = c.none-left.ensures i } ∷ []) ∙ sym (stands_more c.args.queue.now.keeper.gate c.args.queue.now.queue c.args.end c.args.epoch c.loop-line.line);
     }
 
 pub returns : goal.returns
 returns c =
     let many = many_entries _ _ _ _ _ c.requires.open in
     let count = c.loop-line.invariant.count in
-    let at_end : c.loop-line.line ≡ c.args.place.now.at.lines = omega arith in
-    c.loop-line.invariant.onwards ∙ ap (stands_at c.args.place.now.keeper.gate c.args.place.now.queue c.args.end c.args.epoch) at_end
+    let at_end : c.loop-line.line ≡ c.args.queue.now.at.lines = omega arith in
+    c.loop-line.invariant.onwards ∙ ap (stands_at c.args.queue.now.keeper.gate c.args.queue.now.queue c.args.end c.args.epoch) at_end

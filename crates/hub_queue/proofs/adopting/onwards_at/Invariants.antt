@@ -8,5 +8,5 @@ abbrev pub invariant-loop-line : goal.invariant-loop-line
 invariant-loop-line l = record {
   count : length l.entries.items + l.line ≡ length l.fn.entries.items;
   split : (done : List (EntrySeat LineSeat)) × (l.fn.entries.items ≡ done ++ reverse l.entries.items) × (length done ≡ l.line);
-  onwards : l.onwards.items ≡ stands_at l.place.keeper.gate l.place.queue l.end l.epoch l.line;
+  onwards : l.onwards.items ≡ stands_at l.queue.keeper.gate l.queue.queue l.end l.epoch l.line;
 }

@@ -3,7 +3,7 @@ use Rattle.std.specs.List.{AllByRecursion}
 use Rattle.std.proofs.lemmas.Result.{err_from_is_err_and}
 use Rattle.hub_queue.specs.Counting.{Count}
 use Rattle.hub_queue.specs.Draining.{last_none}
-use Rattle.hub_queue.specs.Places.{IsSettled}
+use Rattle.hub_queue.specs.TakerQueues.{IsSettled}
 use Rattle.hub_queue.proofs.Chains.{all_join}
 use Rattle.hub_queue.proofs.Drains.{none_drained, got_one, left_one, left_settled, has_drained, still_empty, still_busy, still_disabled, counts_got, counts_again, counts_empty, counts_busy}
 use Rattle.hub_queue.proofs.draining.take_all.Goals as goal

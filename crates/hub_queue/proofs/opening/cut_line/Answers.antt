@@ -1,5 +1,5 @@
 use Rattle.hub_queue.specs.Seats.{take_in}
-use Rattle.hub_queue.proofs.NewPlaces.{name_as}
+use Rattle.hub_queue.proofs.NewTakerQueues.{name_as}
 use Rattle.hub_queue.proofs.Rule.{cuts_at}
 use Rattle.hub_queue.proofs.opening.cut_line.Goals as goal
 

@@ -5,7 +5,7 @@ pub returns-in-Ok : goal.returns-in-Ok
 returns-in-Ok g c =
     let did = c.in-Ok.ensures in
     let looked = c.if-not-settle.ensures in
-    let old = c.args.place.now in
+    let old = c.args.queue.now in
     let mid = c.settle.new.self in (
       did.0,
       did.2,

@@ -4,9 +4,9 @@ use Rattle.hub_queue.proofs.taker.take_oldest.Goals as goal
 
 pub returns-in_default : goal.returns-in_default
 returns-in_default g c =
-    let low = subst (λ n. 0 < n) c.args.retired.now.ok.0 (c.in_ok-place.ensures.variant.0 refl) in
-    let front = at_front _ _ low c.in_ok-place.ensures.value in (
-      c.in_ok-place.place.now,
+    let low = subst (λ n. 0 < n) c.args.retired.now.ok.0 (c.in_ok-queue.ensures.variant.0 refl) in
+    let front = at_front _ _ low c.in_ok-queue.ensures.value in (
+      c.in_ok-queue.queue.now,
       c.take_retired.new.self,
       front.0,
       front.1,

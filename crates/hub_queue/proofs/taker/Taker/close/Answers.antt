@@ -1,4 +1,4 @@
-use Rattle.hub_queue.specs.Places.{IsShut}
+use Rattle.hub_queue.specs.TakerQueues.{IsShut}
 use Rattle.hub_queue.proofs.Chains.{all_shut, all_join, shut_closed}
 use Rattle.hub_queue.proofs.taker.Taker.close.Goals as goal
 

@@ -2,11 +2,11 @@ use Rattle.std.proofs.Common.{rules, ◌≡◌, ap, sym, ◌∙◌, subst, true}
 use Rattle.std.specs.Prelude.{length}
 use Rattle.hub_core.specs.Sender.{by}
 use Rattle.hub_queue.specs.declared.pass_view.PassView.TheVariants.{Takes}
-use Rattle.hub_queue.specs.Places.{tags_of, KnowsAll, KnowsBy}
+use Rattle.hub_queue.specs.TakerQueues.{tags_of, KnowsAll, KnowsBy}
 use Rattle.hub_queue.specs.Seats.{take_in}
 use Rattle.hub_queue.specs.Settling.{looked, knowing}
 use Rattle.hub_queue.proofs.Rights.{tags_by_count, tags_stay, knows_all}
-use Rattle.hub_queue.proofs.place.Place.settle.Goals as goal
+use Rattle.hub_queue.proofs.taker_queue.TakerQueue.settle.Goals as goal
 
 pub take_in_all-requires-clause-rights : goal.take_in_all-requires-clause-rights
 take_in_all-requires-clause-rights c =

@@ -1,5 +1,5 @@
 use Rattle.hub_queue.proofs.Sweeps.{leaves}
-use Rattle.hub_queue.proofs.place.Place.take_retired.Goals as goal
+use Rattle.hub_queue.proofs.taker_queue.TakerQueue.take_retired.Goals as goal
 
 pub returns-in-None : goal.returns-in-None
 returns-in-None g c =

@@ -9,8 +9,8 @@ use Rattle.hub_gate.specs.GateSeats.{EntrySeat, KeeperSeat, IsOpened}
 use Rattle.hub_queue.specs.declared.pass_view.TakeView.{TakeView}
 use Rattle.hub_queue.specs.declared.pass_view.PassView.{PassView}
 use Rattle.hub_queue.specs.declared.pass_view.PassView.TheVariants.{Takes}
-use Rattle.hub_queue.specs.Opening.{MayCut, new_right, new_rights, new_take, cut_so_far, IsOpenPlace}
-use Rattle.hub_queue.specs.Places.{CountsTaken, tags_of, HasTags, KnowsBy}
+use Rattle.hub_queue.specs.Opening.{MayCut, new_right, new_rights, new_take, cut_so_far, IsOpenTakerQueue}
+use Rattle.hub_queue.specs.TakerQueues.{CountsTaken, tags_of, HasTags, KnowsBy}
 use Rattle.hub_queue.specs.Seats.{LineSeat, tag_of, take_in}
 
 -- the end and epoch that a proof picks are those of the call
@@ -29,10 +29,10 @@ cut_named : (e k n : ℕ) → 0 < n → cut_so_far e k n ≡ new_take e k n
 cut_named e k zero some = absurd (omega arith)
 cut_named e k (suc n) some = refl
 
--- the taker's pass and the keeper of a gate that was opened are those of a place
-pub place_holds : (web : WebId) (e k n : ℕ) (w : PassView) (rights : List LineSeat) (keeper : KeeperSeat LineSeat) (entries : List (EntrySeat LineSeat)) → 0 < n → n ≤ MAX_LINES → w ≡ Takes (cut_so_far e k n) → rights ≡ new_rights web e k n → IsOpened tag_of rights keeper entries
-    → (w ≡ Takes (take_in w)) × HasTags web (take_in w) keeper × KnowsBy keeper.at.collected (take_in w) × IsOpenPlace e k n (record { queue = web; at = take_in w; keeper = keeper }) entries
-place_holds web e k n w rights keeper entries some few is rights_are opened =
+-- the taker's pass and the keeper of a gate that was opened are those of a queue
+pub queue_holds : (web : WebId) (e k n : ℕ) (w : PassView) (rights : List LineSeat) (keeper : KeeperSeat LineSeat) (entries : List (EntrySeat LineSeat)) → 0 < n → n ≤ MAX_LINES → w ≡ Takes (cut_so_far e k n) → rights ≡ new_rights web e k n → IsOpened tag_of rights keeper entries
+    → (w ≡ Takes (take_in w)) × HasTags web (take_in w) keeper × KnowsBy keeper.at.collected (take_in w) × IsOpenTakerQueue e k n (record { queue = web; at = take_in w; keeper = keeper }) entries
+queue_holds web e k n w rights keeper entries some few is rights_are opened =
     let view : take_in w ≡ new_take e k n = ap take_in is ∙ cut_named e k n some in
     let lines : (take_in w).lines ≡ n = ap (λ (t : TakeView). t.lines) view in
     let opened_now = subst (λ (r : List LineSeat). IsOpened tag_of r keeper entries) rights_are opened in (

@@ -1,10 +1,10 @@
 ghost use Rattle.std.specs.Prelude.{◌≡◌, is_none, nat_lt};
 ghost use Rattle.hub_queue.specs.Counting.{counted};
-ghost use Rattle.hub_queue.specs.Places.{IsSettled, IsShut};
-ghost use Rattle.hub_queue.specs.Settling.{IsPlacePop};
-ghost use Rattle.hub_queue.specs.Adopting.{retired_place};
-ghost use Rattle.hub_queue.specs.Ending.{closed_place};
-ghost use Rattle.hub_queue.specs.Taking.{IsTakenAt, IsTakenOff, enabled_place};
+ghost use Rattle.hub_queue.specs.TakerQueues.{IsSettled, IsShut};
+ghost use Rattle.hub_queue.specs.Settling.{IsQueuePop};
+ghost use Rattle.hub_queue.specs.Adopting.{retired_queue};
+ghost use Rattle.hub_queue.specs.Ending.{closed_queue};
+ghost use Rattle.hub_queue.specs.Taking.{IsTakenAt, IsTakenOff, enabled_queue};
 
 use crate::left_queue::LeftQueue;
 use crate::line_right::LineRight;
@@ -20,7 +20,7 @@ use std::sync::{Arc, Wait};
 
 /// One queue at the end that takes from it: the queue, its taker's pass and the keeper of its gate.
 #[derive(Drop)]
-pub struct Place {
+pub struct TakerQueue {
     pub(crate) store: Arc<Store>,
     pub(crate) pass: Pass,
     pub(crate) keeper: Keeper<LineRight>,
@@ -28,15 +28,15 @@ pub struct Place {
     pub(crate) taken: [u64; MAX_LINES],
 }
 
-impl Model for Place {
+impl Model for TakerQueue {
     ghost use Rattle.std.specs.Prelude.{◌≡◌};
     ghost use Rattle.std.specs.Arc.{arc_value};
     ghost use Rattle.crossbeam_queue.specs.SegTies.{IsSegPassOf};
     ghost use Rattle.hub_queue.specs.declared.pass_view.PassView.TheVariants.{Takes};
     ghost use Rattle.hub_queue.specs.Seats.{known_by, take_in};
-    ghost use Rattle.hub_queue.specs.Places.{PlaceSeat, CountsTaken, HasTags, KnowsBy};
+    ghost use Rattle.hub_queue.specs.TakerQueues.{TakerQueueSeat, CountsTaken, HasTags, KnowsBy};
 
-    ghost Value = { PlaceSeat };
+    ghost Value = { TakerQueueSeat };
 
     ghost view = { λ p. record {
       queue = (arc_value p.store).queue.web;
@@ -51,7 +51,7 @@ impl Model for Place {
         × KnowsBy p.keeper.at.collected (take_in (known_by p.pass)) };
 }
 
-impl Place {
+impl TakerQueue {
     /// Whether the gate is enabled.
     pub(crate) fn enabled(&self) -> bool
         ensures { result ≡ nat_lt 0 self.now.keeper.at.enables }
@@ -61,21 +61,21 @@ impl Place {
 
     /// Enables the gate.
     pub(crate) fn enable(&mut self)
-        ensures { self.new ≡ enabled_place self.old }
+        ensures { self.new ≡ enabled_queue self.old }
     {
         self.keeper.enable();
     }
 
     /// Retires the gate: every later entry is turned with `Moved`.
     pub(crate) fn retire(&mut self)
-        ensures { self.new ≡ retired_place self.old }
+        ensures { self.new ≡ retired_queue self.old }
     {
         self.keeper.retire();
     }
 
     /// Closes the gate: every later entry is turned.
     pub(crate) fn close(&mut self)
-        ensures { self.new ≡ closed_place self.old }
+        ensures { self.new ≡ closed_queue self.old }
     {
         self.keeper.close();
     }
@@ -89,7 +89,7 @@ impl Place {
         rt: &R,
         steps: &mut Steps<L>,
     ) -> Option<Envelope>
-        ensures popped { IsPlacePop self.old self.new result }
+        ensures popped { IsQueuePop self.old self.new result }
         ensures counted { steps.new ≡ counted steps.old (is_none result) }
     {
         let envelope = pop(rt, &self.store, &mut self.pass, steps)?;
@@ -113,7 +113,7 @@ impl Place {
         requires { IsSettled self }
         ensures { result ≡ self }
     {
-        let Place { pass, keeper, .. } = self;
+        let TakerQueue { pass, keeper, .. } = self;
         LeftQueue {
             pass,
             gate: keeper.into_witness(),

@@ -12,7 +12,7 @@ use Rattle.hub_queue.specs.declared.pass_view.TakeView.{TakeView}
 use Rattle.hub_queue.specs.Seats.{LineSeat}
 
 -- which queue it is, what the taker's pass knows of it, and what the keeper of its gate knows
-pub record PlaceSeat : Type 0 where
+pub record TakerQueueSeat : Type 0 where
   pub queue : WebId
   pub at : TakeView
   pub keeper : KeeperSeat LineSeat
@@ -41,22 +41,22 @@ KnowsBy true t = KnowsAll t
 KnowsBy false t = t.known ≡ []
 
 -- the gate is retired or closed
-abbrev pub IsShut : PlaceSeat → Type 0
+abbrev pub IsShut : TakerQueueSeat → Type 0
 IsShut p = has_shut p.keeper.at ≡ true
 
 -- the queue is that of this end and epoch
-abbrev pub IsQueueOf : ℕ → ℕ → PlaceSeat → Type 0
+abbrev pub IsQueueOf : ℕ → ℕ → TakerQueueSeat → Type 0
 IsQueueOf end epoch p = (p.at.end ≡ end) × (p.at.epoch ≡ epoch)
 
 -- the same gate, of which the taker has set no flag meanwhile
-pub record SameGate (old new : PlaceSeat) : Type 0 where
+pub record SameGate (old new : TakerQueueSeat) : Type 0 where
   pub gate : new.keeper.gate ≡ old.keeper.gate
   pub enables : new.keeper.at.enables ≡ old.keeper.at.enables
   pub retires : new.keeper.at.retires ≡ old.keeper.at.retires
   pub closes : new.keeper.at.closes ≡ old.keeper.at.closes
 
 -- the same queue, of which these were taken more
-pub record TakesMore (old new : PlaceSeat) (more : List Envelope) : Type 0 where
+pub record TakesMore (old new : TakerQueueSeat) (more : List Envelope) : Type 0 where
   pub queue : new.queue ≡ old.queue
   pub same_gate : SameGate old new
   pub end : new.at.end ≡ old.at.end
@@ -65,7 +65,7 @@ pub record TakesMore (old new : PlaceSeat) (more : List Envelope) : Type 0 where
   pub got : new.at.got ≡ old.at.got ++ more
 
 -- one look found somebody inside or being turned back, and nothing was taken
-pub record IsHeldUp (old new : PlaceSeat) : Type 0 where
+pub record IsHeldUp (old new : TakerQueueSeat) : Type 0 where
   pub queue : new.queue ≡ old.queue
   pub same_gate : SameGate old new
   pub at : new.at ≡ old.at
@@ -73,6 +73,6 @@ pub record IsHeldUp (old new : PlaceSeat) : Type 0 where
   pub found : 0 < new.keeper.at.found
 
 -- All rights of the queue are in hand, and line by line what was taken is all that was put.
-pub record IsSettled (p : PlaceSeat) : Type 0 where
+pub record IsSettled (p : TakerQueueSeat) : Type 0 where
   pub collected : p.keeper.at.collected ≡ true
   pub each : (line : ℕ) → line < p.at.lines → (k : PutView) × (slice_get p.at.known line ≡ Some k) × (k.line ≡ line) × (by line p.at.got ≡ k.put)
