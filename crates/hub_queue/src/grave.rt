@@ -3,9 +3,9 @@ ghost use Rattle.std.specs.List.{AllByRecursion};
 ghost use Rattle.hub_queue.specs.TakerQueues.{IsShut};
 ghost use Rattle.hub_queue.specs.Sweeping.{AreSwept};
 
-use crate::taker_queue::TakerQueue;
 use crate::settling::{Stop, empty};
 use crate::swept::Swept;
+use crate::taker_queue::TakerQueue;
 use hub_envelope::{EndId, Envelope};
 use std::collections::VecDeque;
 use std::marker::Model;

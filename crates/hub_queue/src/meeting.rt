@@ -4,11 +4,11 @@ ghost use Rattle.hub_queue.specs.Meetings.{AreOfOne, HaveMet, HaveMetAt};
 ghost use Rattle.hub_queue.specs.Standing.{right_of};
 
 use crate::line_right::LineRight;
-use crate::taker_queue::TakerQueue;
 use crate::poster::Poster;
 use crate::queue_rule::{Compare, GiveBack, Lend};
 use crate::stand::Stand;
 use crate::taker::Taker;
+use crate::taker_queue::TakerQueue;
 use hub_envelope::LineId;
 use hub_gate::Entered;
 use std::sync::Wait;
@@ -27,7 +27,12 @@ pub enum Meeting {
 
 // Lends the pass of a line to the taker's for one look at the queue: what was taken of the line is
 // a prefix of what it has put. It says how many were put and taken. Both passes are as they were.
-fn compare<R: Wait>(rt: &R, queue: &mut TakerQueue, right: &mut LineRight, line: LineId) -> (u64, u64)
+fn compare<R: Wait>(
+    rt: &R,
+    queue: &mut TakerQueue,
+    right: &mut LineRight,
+    line: LineId,
+) -> (u64, u64)
     requires queue { right.old.queue ≡ queue.old.queue }
     requires line { line.0 ≡ right.old.at.line }
     ensures same { (queue.new ≡ queue.old) × (right.new ≡ right.old) }

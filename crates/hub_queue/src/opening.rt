@@ -10,9 +10,9 @@ ghost use Rattle.hub_queue.specs.Seats.{known_by, take_in};
 ghost use Rattle.hub_queue.specs.SharedQueue.{first_view};
 
 use crate::line_right::LineRight;
-use crate::taker_queue::TakerQueue;
 use crate::queue_rule::{CutLine, QueueName};
 use crate::store::{EnvelopeQueue, Pass, Store};
+use crate::taker_queue::TakerQueue;
 use hub_envelope::{EndId, MAX_LINES};
 use hub_gate::{Entry, Gate};
 use std::alloc::{AllocError, Global};

@@ -7,10 +7,10 @@ ghost use Rattle.hub_queue.specs.Seats.{known_by, tag_of, take_in};
 ghost use Rattle.hub_queue.specs.Settling.{IsCollected, IsEmptied, IsSettling, knowing};
 
 use crate::line_right::LineRight;
-use crate::taker_queue::TakerQueue;
 use crate::queue_rule::TakeIn;
 use crate::steps::Steps;
 use crate::store::{Pass, Store};
+use crate::taker_queue::TakerQueue;
 use hub_envelope::Envelope;
 use hub_gate::Looked;
 use std::alloc::AllocError;
