@@ -1,12 +1,18 @@
 //! A hub may move to another thread, since the session in its memory is `Send`.
 
+ghost use Rattle.std.specs.Prelude.{◌≡◌};
+
 use hub_steps::Session;
 
 /// A session in its box, where that may be sent to another thread.
-pub fn sent_session(session: Box<Session>) -> Box<Session> {
+pub fn sent_session(session: Box<Session>) -> Box<Session>
+    ensures { result ≡ session }
+{
     sent(session)
 }
 
-fn sent<T: Send>(value: T) -> T {
+fn sent<T: Send>(value: T) -> T
+    ensures { result ≡ value }
+{
     value
 }

@@ -7,7 +7,7 @@ use hub_bell::Bell;
 use hub_depot::Key;
 use hub_gate::Entry;
 use std::marker::Model;
-use std::mem::requeue;
+use std::mem::replace;
 
 /// Where a line stands: at which queue, with the entry of its gate and the bell of its loop.
 #[derive(Drop)]
@@ -46,7 +46,7 @@ impl Stand {
     pub(crate) fn go_to(&mut self, next: Stand)
         ensures { self.new ≡ gone_to self.old next }
     {
-        let Stand { entry, left, .. } = requeue(self, next);
+        let Stand { entry, left, .. } = replace(self, next);
         self.left = left.with(entry.unwrap());
     }
 }

@@ -11,8 +11,8 @@ use crate::adopting::open_next;
 use crate::grave::Grave;
 use crate::left_queue::LeftQueue;
 use crate::onward::Onward;
-use crate::taker_queue::TakerQueue;
 use crate::steps::Steps;
+use crate::taker_queue::TakerQueue;
 use crate::took::Took;
 use hub_bell::Bell;
 use hub_depot::{Depot, Shelf};
@@ -20,7 +20,7 @@ use hub_envelope::{EndId, MAX_MOVES};
 use std::alloc::Global;
 use std::collections::VecDeque;
 use std::marker::Model;
-use std::mem::requeue;
+use std::mem::replace;
 use std::sync::Wait;
 use std::sync::ledger::Ledger;
 
@@ -187,7 +187,7 @@ impl Taker {
         match open_next(rt, yard, self.alloc, self.end, moves + 1, self.lines, &bell) {
             Ok(queue) => {
                 self.newest.retire();
-                let older = requeue(&mut self.newest, queue);
+                let older = replace(&mut self.newest, queue);
                 self.retired.push_back_reserved(older);
                 Ok(self)
             }

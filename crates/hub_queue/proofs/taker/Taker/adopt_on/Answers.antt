@@ -11,21 +11,21 @@ pub invariant_of-self-in-Ok : goal.invariant_of-self-in-Ok
 invariant_of-self-in-Ok g c =
     let behind = c.behind.ensures ∙ ap (λ t. length t.retired) (sym c.self.view_is) in
     let epoch = c.self.inside.epoch in
-    taker_moves _ (record { end = c.self.inside.end.0; epoch = epoch; retired = c.self.inside.retired.items; newest = c.self.inside.newest; left = c.self.inside.left }) c.requeue-older.result _ _ c.self.invariant
+    taker_moves _ (record { end = c.self.inside.end.0; epoch = epoch; retired = c.self.inside.retired.items; newest = c.self.inside.newest; left = c.self.inside.left }) c.replace-older.result _ _ c.self.invariant
     (λ same. c.if-moves-eq-MAX_MOVES.false (ap (λ n. epoch + n) behind ∙ same))
-    (c.requeue-older.ensures.value ∙ c.retire.ensures)
-    (c.push_back_reserved.ensures.items ∙ ap (λ l. l ++ c.requeue-older.result ∷ []) c.reserve.ensures.items)
-    (subst (IsNewTakerQueue c.self.inside.end.0 (epoch + length c.self.inside.retired.items + 1) c.self.inside.lines) (sym c.requeue-older.ensures.after) (subst (λ n. IsNewTakerQueue c.self.inside.end.0 (epoch + n + 1) c.self.inside.lines c.in-Ok.queue) behind c.in-Ok.ensures.ok))
+    (c.replace-older.ensures.value ∙ c.retire.ensures)
+    (c.push_back_reserved.ensures.items ∙ ap (λ l. l ++ c.replace-older.result ∷ []) c.reserve.ensures.items)
+    (subst (IsNewTakerQueue c.self.inside.end.0 (epoch + length c.self.inside.retired.items + 1) c.self.inside.lines) (sym c.replace-older.ensures.after) (subst (λ n. IsNewTakerQueue c.self.inside.end.0 (epoch + n + 1) c.self.inside.lines c.in-Ok.queue) behind c.in-Ok.ensures.ok))
 
 pub returns-in-Ok-clause-laid : goal.returns-in-Ok-clause-laid
 returns-in-Ok-clause-laid g c =
-    let older = c.requeue-older.result in
-    let queue = c.requeue-older.ensures.after in
+    let older = c.replace-older.result in
+    let queue = c.replace-older.ensures.after in
     let behind = c.behind.ensures ∙ ap (λ t. length t.retired) (sym c.self.view_is) in
     let items = c.push_back_reserved.ensures.items ∙ ap (λ l. l ++ older ∷ []) c.reserve.ensures.items in
     let longer = ap length items ∙ length-append c.self.inside.retired.items (older ∷ []) in
     let epoch : c.self.inside.epoch + c.behind.result + 1 ≡ c.self.inside.epoch + length c.push_back_reserved.new.self.items = omega arith in
-    let lines : c.self.inside.lines ≡ c.requeue-older.new.dest.at.lines = sym (ap (λ v. v.lines) c.in-Ok.ensures.ok.at) ∙ ap (λ p. p.at.lines) (sym queue) in
+    let lines : c.self.inside.lines ≡ c.replace-older.new.dest.at.lines = sym (ap (λ v. v.lines) c.in-Ok.ensures.ok.at) ∙ ap (λ p. p.at.lines) (sym queue) in
     c.in-Ok.ensures.laid ∙ (λ i. option_map (λ kept. with_all (λ s. s.name) kept (stands_at (sym queue i).keeper.gate (sym queue i).queue c.self.inside.end (epoch i) (lines i))) (g.S.Shelf.shown c.args.yard.now))
 
 pub returns-in-Ok-clause-free : goal.returns-in-Ok-clause-free
