@@ -1,0 +1,59 @@
+use crate::Shared;
+use crate::first::First;
+use hub_envelope::AgentId;
+use hub_life::Order;
+use hub_loop::{EventLoop, Held, NoCheckpoint};
+use hub_ports::{Port, channel};
+use hub_queue::{Bell, Ends, Listener, Poster};
+use std::alloc::Global;
+use std::sync::Wait;
+
+pub(crate) type Loop = EventLoop<First, NoCheckpoint>;
+
+/// Agent 0: its loop holds a port that is started. It has the port that it is to send, and a line
+/// of the queue of agent 1.
+#[derive(Drop)]
+pub(crate) struct Asking {
+    pub(crate) event_loop: Loop,
+    pub(crate) line: Poster,
+    pub(crate) port: Port,
+}
+
+/// Two agents. The loop of the second one holds a client's queue.
+#[derive(Drop)]
+pub(crate) struct Agents {
+    pub(crate) asking: Asking,
+    pub(crate) answering: Loop,
+}
+
+/// A loop that holds nothing, and the bell that wakes it. `None` where there is no memory.
+fn open(alloc: Global, number: u8) -> Option<(Loop, Bell)> {
+    let mut orders = Order::open(alloc, 2).ok()?;
+    let (listener, bell) = Listener::open(alloc).ok()?;
+    let first = First::new(alloc, orders.pop()?);
+    let order = orders.pop()?;
+    let opened = EventLoop::open(alloc, AgentId(number), order, first, NoCheckpoint, listener);
+    Some((opened.ok()?, bell))
+}
+
+impl Agents {
+    /// `None` where there is no memory.
+    pub(crate) fn open<R: Wait>(rt: &R, alloc: Global, shared: &Shared) -> Option<Agents> {
+        let mut ends = Ends::new();
+        let (mut event_loop, bell) = open(alloc, 0)?;
+        let (mut answering, other) = open(alloc, 1)?;
+        let mut queue = shared.directory.client(rt, &mut ends, other).ok()?;
+        queue.loaded();
+        let line = shared.directory.line_to(rt, queue.end()).ok()?;
+        answering.hold(Held::Client(queue)).ok()?;
+        let (mut own, port) = channel(alloc, &mut ends, bell).ok()?;
+        own.start();
+        event_loop.hold(Held::Port(own)).ok()?;
+        let asking = Asking {
+            event_loop,
+            line,
+            port,
+        };
+        Some(Agents { asking, answering })
+    }
+}
