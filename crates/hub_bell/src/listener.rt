@@ -11,6 +11,13 @@ use std::marker::Model;
 use std::sync::{Arc, Wait};
 
 /// A loop's end of its bells: it finds the ends that were rung, and sleeps until the next ring.
+///
+/// ```rust
+/// let (mut listener, mut bell) = Listener::open(alloc)?;
+/// bell.ring(EndId(7));
+/// assert_eq!(rt; listener.take_names(), 1);
+/// assert_eq!(rt; listener.take_bits(0), 1 << 7);
+/// ```
 #[derive(Drop)]
 pub struct Listener {
     sleeper: Sleeper,

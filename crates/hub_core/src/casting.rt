@@ -1,3 +1,5 @@
+//! Broadcast channels: Member, Cast and Part.
+
 ghost use Rattle.std.specs.Prelude.{◌≡◌, ◌++◌, ◌∷◌, ◌&&◌, [], length, not, is_some, slice_get, IfOk, OnOk, OnErr};
 ghost use Rattle.hub_core.specs.Kept.{kept_running, kept_holder, kept_maker};
 ghost use Rattle.hub_core.specs.KeptCasting.{kept_member_answer, is_kept_open, kept_cast_answer, member_made, part_outcome};

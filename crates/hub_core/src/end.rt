@@ -1,3 +1,5 @@
+//! What the core keeps of an end.
+
 ghost use Rattle.std.specs.Prelude.{◌≡◌, ◌||◌, ◌∷◌, ◌<◌, [], slice_get, IfOk, OnOk, OnErr, MatchOption, false, true, List, Some};
 ghost use Rattle.hub_envelope.specs.declared.envelope.Envelope.{Envelope as EnvelopeValue};
 ghost use Rattle.hub_envelope.specs.declared.limits.TheConstants.{MAX_MOVES};

@@ -4,6 +4,12 @@ use hub_envelope::EndId;
 use std::marker::Model;
 
 /// The numbers of some ends, in order.
+///
+/// ```rust
+/// let mut ends = Vec::new(alloc);
+/// ends.push(EndId(2))?;
+/// let ports = EndIds::of(ends);
+/// ```
 #[derive(Debug, Drop)]
 pub struct EndIds {
     pub(crate) ends: Vec<EndId>,

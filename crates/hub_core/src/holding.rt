@@ -1,3 +1,6 @@
+//! Who holds a line of a client's or worker's queue: Line and Back; and how many such queues an
+//! agent has.
+
 ghost use Rattle.std.specs.Prelude.{◌≡◌, option_map, slice_get, IfOk};
 ghost use Rattle.hub_core.specs.Kept.{count_of, one_more, set_agent, gone, kept_running, line_outcome_at, line_ends_at, back_outcome_at, back_ends_at};
 

@@ -1,3 +1,6 @@
+//! The laws of histories, of the machines, and of what joins them. Each function does nothing: its
+//! contract is the law.
+
 ghost use Rattle.hub_core.specs.History.{History};
 ghost use Rattle.hub_core.specs.Legal.{Legal};
 ghost use Rattle.hub_core.specs.Headline.{Headline};

@@ -1,3 +1,5 @@
+//! What the core keeps of a line.
+
 ghost use Rattle.std.specs.Prelude.{◌≡◌, replicate, not, is_some, IfOk, slice_get, slice_set};
 ghost use Rattle.std.specs.List.{position};
 ghost use Rattle.hub_core.specs.Kept.{first_line, first_free, held_lines, is_anyone_at, is_anyone_from};

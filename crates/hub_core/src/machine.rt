@@ -35,6 +35,12 @@ use hub_envelope::{AgentId, EndId, LineId, OutOfMemory};
 use std::alloc::Global;
 
 /// The hub as a machine: its agents and ends, changed one step at a time.
+///
+/// ```rust
+/// let mut core = Core::new(alloc);
+/// core.step(Step { action: Action::Agent(None), memory_refused: false })?;
+/// core.step(Step { action: Action::Channel(AgentId(0)), memory_refused: false })?;
+/// ```
 #[derive(Drop)]
 pub struct Core {
     pub(crate) alloc: Global,

@@ -1,3 +1,5 @@
+//! Steps that make agents and ends: Agent, Channel, Client and Worker.
+
 ghost use Rattle.std.specs.Prelude.{◌≡◌, length, slice_get, IfOk, OnErr};
 ghost use Rattle.hub_core.specs.KeptRoster.{AgentLeaves, SameRoster};
 ghost use Rattle.hub_core.specs.Kept.{kept_running, kept_agent_answer, agents_made, kept_channel_answer, ends_made, count_of, kept_queue_answer, queue_made, queue_counted};

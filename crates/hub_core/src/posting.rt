@@ -1,3 +1,5 @@
+//! A post, in three steps and what goes with them: Enter, Push, Leave, Notice and Hop.
+
 ghost use Rattle.std.specs.Prelude.{◌≡◌, ◌<◌, ◌≤◌, ◌∷◌, [], length, slice_get, Some, IfOk, OnOk, OnErr};
 ghost use Rattle.hub_core.specs.KeptRoster.{cast_now, cast_left};
 ghost use Rattle.hub_core.specs.Posting.{is_fitting};

@@ -1,3 +1,5 @@
+//! What a core may be asked: it answers and changes nothing.
+
 ghost use Rattle.std.specs.Prelude.{◌≡◌, length, option_map, slice_get};
 ghost use Rattle.hub_core.specs.Facts.{facts};
 ghost use Rattle.hub_core.specs.History.{History};

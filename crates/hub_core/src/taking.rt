@@ -1,3 +1,5 @@
+//! Steps of whoever takes: Start and Take.
+
 ghost use Rattle.std.specs.Prelude.{◌≡◌, slice_get};
 ghost use Rattle.hub_core.specs.Kept.{kept_holder, start_outcome, start_ends, TakeLeaves};
 

@@ -13,6 +13,12 @@ use std::sync::{Mutex, Wait};
 /// Each call is the call of that name on the `Kept` behind the lock, under one taking of the lock.
 /// Which values are kept at that moment no contract of these calls can say, since another thread
 /// may act between any two of them.
+///
+/// ```rust
+/// let depot = Depot::new(alloc);
+/// depot.put(rt, ticket)?;
+/// let back = depot.take(rt, name);
+/// ```
 #[derive(Drop)]
 pub struct Depot<V: Named> {
     kept: Mutex<Kept<V>>,

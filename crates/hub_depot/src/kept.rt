@@ -13,6 +13,12 @@ use std::marker::Model;
 ///
 /// Contracts see it as the finite map from the names to the values. Each call takes time that is
 /// logarithmic in the number of values kept.
+///
+/// ```rust
+/// let mut kept = Kept::new(alloc);
+/// kept.put(ticket)?;
+/// let back = kept.take(name);
+/// ```
 #[derive(Drop)]
 pub struct Kept<V: Named> {
     values: BTreeMap<Key, V>,

@@ -1,3 +1,5 @@
+//! What each shelf shows.
+
 ghost use Rattle.std.specs.Prelude.{◌≡◌, Some, None};
 ghost use Rattle.std.specs.FinMap as map;
 ghost use Rattle.hub_depot.specs.Key.{key_cmp};

@@ -1,3 +1,5 @@
+//! How a whole input is read.
+
 ghost use Rattle.std.specs.Prelude.{◌≡◌, ◌<◌, ◌+◌, ◌⊎◌, false, IfOk, OnOk, length, vec_len};
 ghost use Rattle.hub_engine.specs.IsInput.{IsInput, ReadsMore};
 ghost use Rattle.hub_engine.specs.Failures.{CountsFailedRead, one_more};

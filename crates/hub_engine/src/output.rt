@@ -1,3 +1,5 @@
+//! How a whole output is written, and how one ends.
+
 ghost use Rattle.std.specs.Prelude.{◌≡◌, [], IfOk, OnOk, OnErr, option_map, string_bytes};
 ghost use Rattle.std.specs.Io.KnownBytes.{Appends};
 ghost use Rattle.hub_engine.specs.declared.status.ExitStatus.TheVariants as exit;

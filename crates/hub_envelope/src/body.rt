@@ -19,6 +19,11 @@ use thiserror::Error;
 /// `MAX_BODY_BYTES` bytes. It is kept as that text: no space, the members of an object in byte
 /// order of their keys, and of equal keys the last one. A text of at most `INLINE_BYTES` bytes lies
 /// in the value itself, so that such a body is read, copied and dropped without the allocator.
+///
+/// ```rust
+/// let body = Body::read(alloc, "{\"b\": 1, \"a\": 2}")?;
+/// assert_eq!(rt; body.text(), "{\"a\":2,\"b\":1}");
+/// ```
 #[derive(Debug, Drop)]
 pub struct Body {
     text: StoredText,

@@ -1,3 +1,5 @@
+//! Whether a text is a compact JSON text of the profile already, so that it can be kept as it is.
+
 ghost use Rattle.std.specs.Prelude.{◌≡◌, ℕ, ◌+◌, ◌<◌, ◌≤◌, [], ◌∷◌, ◌++◌, true, length, slice_index, option_map, IfSome, IsTrue};
 ghost use Rattle.std.specs.Char.{is_ascii_digit};
 ghost use Rattle.json.specs.Print.{escape_byte, quoted};

@@ -1,3 +1,5 @@
+//! The numbers by which ends, agents and lines are named.
+
 /// The number of an end: a port, a queue of a client or worker, or a broadcast channel.
 /// Ends are numbered from 0 in the order in which they are made.
 #[derive(Clone, Copy, Debug, PartialEq, Eq, PartialOrd, Ord, Hash)]

@@ -1,3 +1,5 @@
+//! How a gate is opened.
+
 ghost use Rattle.std.specs.Prelude.{◌≡◌, ◌≤◌, [], None, Some, map, replicate, length, vec_capacity, IfOk, IfErr};
 ghost use Rattle.std.specs.Arc.{arc_value};
 ghost use Rattle.hub_gate.specs.declared.view.View.TheVariants.{Fresh};
@@ -19,6 +21,15 @@ use std::sync::Arc;
 
 /// A gate for rights of one type. `Gate::<T>::open` makes one; its parts are the keeper and the
 /// entries.
+///
+/// ```rust
+/// let (mut keeper, mut entries) = Gate::open(alloc, rights)?;
+/// match entries.pop()?.enter() {
+///     Entered::In(inside) => drop(inside.leave()),
+///     Entered::Turned(_entry, refusal) => return Err(refusal),
+/// }
+/// keeper.close();
+/// ```
 pub struct Gate<T: Right> {
     rights: PhantomData<T>,
 }

@@ -1,3 +1,5 @@
+//! The laws of every gate.
+
 ghost use Rattle.hub_gate.specs.GateLaws.{RuleShowsGate, NoneInAfterRights, NoSeatInAfterRights, EachStepChangesTheWord, TheWordShowsTheGate};
 
 use crate::gate_table::GateRule;

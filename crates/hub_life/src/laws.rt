@@ -1,3 +1,5 @@
+//! The laws of lifecycles and of orders.
+
 ghost use Rattle.std.specs.Prelude.{◌≡◌, ◌≤◌, ◌⊎◌, List, true};
 ghost use Rattle.hub_life.specs.declared.event.Event.{Event};
 ghost use Rattle.hub_life.specs.declared.state.State.TheVariants.{Installing, Activating, Activated, Redundant};

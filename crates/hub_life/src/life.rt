@@ -8,6 +8,12 @@ use std::marker::Model;
 
 /// The life of one service worker: its state and, while it is installing or activating, whether its
 /// handler still runs, how many extensions are open, and whether one has failed.
+///
+/// ```rust
+/// let mut life = Life::new();
+/// assert_eq!(rt; life.event(Event::Install), Ok(State::Installing));
+/// assert_eq!(rt; life.event(Event::Activate), Err(LifeError::WrongState));
+/// ```
 #[derive(Debug, Drop)]
 pub struct Life {
     state: State,

@@ -10,6 +10,13 @@ use std::marker::Model;
 use std::sync::Arc;
 
 /// A seat at the word of one order. Seats of one word may lie on different threads.
+///
+/// ```rust
+/// let mut orders = Order::open(alloc, 2)?;
+/// let (mut one, mut other) = (orders.pop()?, orders.pop()?);
+/// one.give();
+/// assert!(rt; other.seen());
+/// ```
 #[derive(Drop)]
 pub struct Order {
     word: Arc<OrderWord>,

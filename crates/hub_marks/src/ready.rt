@@ -43,6 +43,14 @@ use std::alloc::Global;
 const BITS: usize = 4096;
 
 /// The marks of a loop, and the keys of its ends by their numbers.
+///
+/// ```rust
+/// let mut ready = Ready::new(alloc);
+/// ready.reserve(EndId(7), 0)?;
+/// ready.place(EndId(7), 0);
+/// ready.gather(&mut listener);
+/// assert_eq!(rt; ready.marks.next_from(0), Some(0));
+/// ```
 #[derive(Drop)]
 pub struct Ready {
     pub marks: Marks,

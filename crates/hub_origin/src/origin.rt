@@ -12,6 +12,11 @@ use url::Url;
 
 /// An origin that is not opaque, as its ASCII text (WHATWG HTML, "ASCII serialization of an
 /// origin"): the scheme, the host, and the port where it isn't the scheme's own.
+///
+/// ```rust
+/// let origin = origin_of(alloc, "HTTP://A.test:8080/x")?;
+/// assert_eq!(rt; origin.as_str(), "http://a.test:8080");
+/// ```
 #[derive(Debug, Drop)]
 pub struct Origin {
     text: String,

@@ -1,3 +1,5 @@
+//! How a taker takes all that is there, queue after queue.
+
 ghost use Rattle.std.specs.Prelude.{◌≡◌, IfOk};
 ghost use Rattle.std.specs.List.{AllByRecursion};
 ghost use Rattle.hub_queue.specs.Draining.{CountsDrain, IsAtRest, IsDrained, IsPrefixOfChain};

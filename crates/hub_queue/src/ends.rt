@@ -4,6 +4,12 @@ ghost use Rattle.hub_envelope.specs.declared.limits.TheConstants.{MAX_ENDS};
 use hub_envelope::{EndId, MAX_ENDS};
 
 /// The numbers of ends, of which each is drawn once.
+///
+/// ```rust
+/// let mut ends = Ends::new();
+/// assert_eq!(rt; ends.draw(), Some(EndId(0)));
+/// assert_eq!(rt; ends.draw(), Some(EndId(1)));
+/// ```
 #[derive(Clone, Copy, Debug, PartialEq, Eq)]
 pub struct Ends {
     /// How many were drawn.

@@ -1,3 +1,5 @@
+//! The laws of a queue and of a chain of queues.
+
 ghost use Rattle.hub_queue.specs.Laws.{RuleShowsQueue, TakenIsPrefix, TakesInTurn, ChainIsPrefix};
 
 use crate::pass_view::PassView;

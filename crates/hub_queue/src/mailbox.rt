@@ -14,6 +14,14 @@ use std::alloc::Global;
 use std::collections::VecDeque;
 
 /// The queues of one end. `Mailbox::open` makes one; its parts are the taker and the posters.
+///
+/// ```rust
+/// let (mut taker, mut posters) = Mailbox::open(alloc, EndId(0), 1, bell)?;
+/// let mut poster = posters.pop()?;
+/// taker.start();
+/// poster.post(rt, &yard, draft)?;
+/// taker.take(rt, &mut steps);         // Took::Got, with the envelope
+/// ```
 pub struct Mailbox;
 
 // The posters of all lines, which nobody has used.

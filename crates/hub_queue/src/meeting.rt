@@ -1,3 +1,5 @@
+//! The comparison of a poster with its taker, where both stand at one queue.
+
 ghost use Rattle.std.specs.Prelude.{◌≡◌, length};
 ghost use Rattle.hub_core.specs.Sender.{by, Prefix};
 ghost use Rattle.hub_queue.specs.Meetings.{AreOfOne, HaveMet, HaveMetAt};

@@ -1,3 +1,5 @@
+//! The points of a post, at which a test may hold it up.
+
 ghost use Rattle.std.specs.Prelude.{◌≡◌, ◌∷◌, [], List, Option};
 ghost use Rattle.hub_queue.specs.Watching.{told_more};
 ghost use Rattle.hub_queue.specs.declared.pause.Point.{Point as PointValue};

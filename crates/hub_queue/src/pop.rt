@@ -1,3 +1,5 @@
+//! The one pop of this crate, which is counted.
+
 ghost use Rattle.std.specs.Prelude.{◌≡◌, is_none};
 ghost use Rattle.crossbeam_queue.specs.SegTies.{IsSegPassOf};
 ghost use Rattle.hub_queue.specs.declared.pass_view.PassView.TheVariants.{Takes};

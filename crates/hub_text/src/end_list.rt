@@ -9,6 +9,10 @@ use std::marker::Model;
 
 /// A list of ends as the text formats have it: `-`, or numbers joined by single commas. It may have
 /// any length, and an end may stand in it twice.
+///
+/// ```rust
+/// let list = EndList::read(alloc, "7,0,12", 65_535)?;
+/// ```
 #[derive(Debug, Drop)]
 pub struct EndList {
     ends: Vec<EndId>,

@@ -1,3 +1,5 @@
+//! Text lines: bytes that are cut at LF.
+
 ghost use Rattle.std.specs.Prelude.{◌≡◌, ◌<◌, ◌∷◌, length, take};
 ghost use Rattle.hub_text.specs.TextLines.{text_lines_of};
 

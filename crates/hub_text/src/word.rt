@@ -1,3 +1,5 @@
+//! Words of a text line: texts that are cut at a space, or at another byte.
+
 ghost use Rattle.std.specs.Prelude.{◌≡◌, ◌<◌, option_map};
 ghost use Rattle.hub_text.specs.Word.{cut};
 

@@ -1,3 +1,5 @@
+//! What the logs say was accepted, in order of end, line and name.
+
 ghost use Rattle.std.specs.Prelude.{◌≡◌, ℕ, map, IfOk, OnOk, ◌++◌};
 ghost use Rattle.std.specs.List.{filter};
 ghost use Rattle.hub_trace.specs.Accepted.{accepted, all_puts, is_of, puts};

@@ -1,3 +1,5 @@
+//! The checker: what was got of each line beside what was accepted there.
+
 ghost use Rattle.std.specs.Prelude.{◌≡◌, ◌↔◌, map, IfOk, IsTrue, MatchOption, slice_get, Some, ◌<◌, length};
 ghost use Rattle.std.specs.List.{list_any};
 ghost use Rattle.hub_trace.specs.Accepted.{accepted};

@@ -1,3 +1,5 @@
+//! What was delivered of each line.
+
 ghost use Rattle.std.specs.Prelude.{◌≡◌, ◌≢◌, ℕ, [], IfOk, map};
 ghost use Rattle.std.specs.List.{All, AllPairs};
 ghost use Rattle.hub_trace.specs.Deliveries.{AreDeliveries, IsEarlierLine, labels_of, labels_under};

@@ -1,3 +1,5 @@
+//! The greatest numbers that a log may name.
+
 use hub_envelope::{MAX_AGENTS, MAX_ENDS, MAX_LINES, MAX_MOVES, MAX_PUT};
 
 /// The greatest number of an agent.

@@ -21,6 +21,13 @@ pub const LOG_HEADER: &str = "hublog 3";
 
 /// What one agent did, oldest first. The agent's own thread appends to it. All that it holds is
 /// within the limits of a file of logs, and it closes no end twice.
+///
+/// ```rust
+/// let mut log = Log::new(alloc, AgentId(0));
+/// log.put(alloc, Label::of(&envelope), &[], &envelope.body)?;
+/// log.closed(EndId(2))?;
+/// let verdict = check(alloc, &[log])?;
+/// ```
 #[derive(Debug, Drop)]
 pub struct Log {
     agent: AgentId,

@@ -1,3 +1,5 @@
+//! The reader of one log line.
+
 ghost use Rattle.std.specs.Prelude.{◌≤◌, length, IfOk};
 ghost use Rattle.hub_envelope.specs.BodyText.{IsBodyText};
 ghost use Rattle.hub_text.specs.Reading.{IsReadAs};

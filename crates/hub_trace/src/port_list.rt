@@ -1,3 +1,5 @@
+//! Which lists of ports an entry may have.
+
 ghost use Rattle.std.specs.Prelude.{◌≡◌, ◌↔◌, IsTrue};
 ghost use Rattle.hub_trace.specs.Limits.{IsPortList};
 ghost use Rattle.hub_trace.specs.PortList.{are_distinct, are_known, is_port_list};

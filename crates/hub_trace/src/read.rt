@@ -1,3 +1,5 @@
+//! The reader of a file of logs.
+
 ghost use Rattle.std.specs.Prelude.{◌≡◌, ◌<◌, ◌==◌, ◌||◌, ◌⊎◌, ◌++◌, not, ℕ, List, [], length, codes, MatchResult, OnOk, IfErr, IfOk, IsErrOf, IsOkAnd};
 ghost use Rattle.std.specs.BTreeSet.{contains};
 ghost use Rattle.std.specs.Ordering.{nat_cmp};

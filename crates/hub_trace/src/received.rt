@@ -1,3 +1,5 @@
+//! What the logs say was got, in order of end, line and stretch.
+
 ghost use Rattle.std.specs.Prelude.{◌≡◌, ◌<◌, ◌≤◌, ℕ, false, true, drop, length, slice_index_or, IfOk, OnOk, ◌++◌, ◌==◌};
 ghost use Rattle.std.specs.List.{filter, All};
 ghost use Rattle.hub_trace.specs.Accepted.{is_of};
