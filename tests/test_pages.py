@@ -100,6 +100,18 @@ class Sessions(support.TestCase):
         self.assertEqual(outcome_of([PROGRAM, "steps"], text).output, wanted)
         self.says(len(pairs), "step lines", 10)
 
+    def test_examples_of_formats(self):
+        """Where an example of docs/FORMATS.md is one whole step line, it gives the word beside."""
+        page = text_of(ROOT / "docs" / "FORMATS.md")
+        shown = re.findall(r"^\| `([A-Za-z-]+)` \|.*\| `([^`]+)` \|$", page, re.MULTILINE)
+        steps, _, _ = page.partition("\n## Logs\n")
+        shown = [(word, line) for word, line in shown if f"| `{word}` |" in steps]
+        for word, line in shown:
+            with self.subTest(word=word, line=line):
+                told = outcome_of([PROGRAM, "steps"], f"{line}\n".encode()).output.decode()
+                self.assertIn(told, (f"line 1: {word}\n", f"{word}\n"))
+        self.says(len(shown), "examples", 10)
+
     def test_excerpts(self):
         shown = [(page, *it) for page in PAGES for it in EXCERPT.findall(text_of(page))]
         for page, source, code in shown:
