@@ -3,7 +3,8 @@
 ghost use Rattle.std.specs.Prelude.{◌≡◌, ◌⊎◌, Some, None, true, false};
 ghost use Rattle.hub_c.specs.Fills.{Fills};
 ghost use Rattle.hub_c.specs.Held.{Both, IsNew, is_held, is_lost_in, is_told_in};
-ghost use Rattle.hub_c.specs.Line.{BadLine, LostLine, NoMemoryLine, NoRoomLine, RanLine, SaysAgain, says_something};
+ghost use Rattle.hub_c.specs.Line.{BadLine, LostLine, NoMemoryLine, NoRoomLine, RanLine, SaysAgain};
+ghost use Rattle.hub_c.specs.Line.{says_something};
 ghost use Rattle.hub_steps.specs.Session.{told};
 
 use crate::line::{give_line, say_again};

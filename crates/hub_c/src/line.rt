@@ -3,7 +3,8 @@
 ghost use Rattle.std.specs.Prelude.{◌≡◌, ◌⊎◌, false, true};
 ghost use Rattle.hub_steps.specs.Session.{is_told, told};
 ghost use Rattle.hub_c.specs.Fills.{Fills};
-ghost use Rattle.hub_c.specs.Line.{BadLine, IsStatus, LostLine, NoMemoryLine, NoRoomLine, RanLine, SaysAgain, says_something};
+ghost use Rattle.hub_c.specs.Line.{BadLine, IsStatus, LostLine, NoMemoryLine, NoRoomLine, RanLine};
+ghost use Rattle.hub_c.specs.Line.{SaysAgain, says_something};
 
 use crate::filling::fill;
 use crate::status::{BAD, DONE, LOST, NO_MEMORY, NO_ROOM};

@@ -1,9 +1,13 @@
 //! Broadcast channels: Member, Cast and Part.
 
-ghost use Rattle.std.specs.Prelude.{◌≡◌, ◌++◌, ◌∷◌, ◌&&◌, [], length, not, is_some, slice_get, IfOk, OnOk, OnErr};
+ghost use Rattle.std.specs.Prelude.{◌≡◌, ◌++◌, ◌∷◌, ◌&&◌, [], length, not, is_some, slice_get};
+ghost use Rattle.std.specs.Prelude.{IfOk, OnOk, OnErr};
 ghost use Rattle.hub_core.specs.Kept.{kept_running, kept_holder, kept_maker};
-ghost use Rattle.hub_core.specs.KeptCasting.{kept_member_answer, is_kept_open, kept_cast_answer, member_made, part_outcome};
-ghost use Rattle.hub_core.specs.KeptRoster.{cast_now, origin_at, group_of, is_seated_in, kept_destinations, MemberLeaves, CastLeaves, PartLeaves, SameRoster};
+ghost use Rattle.hub_core.specs.KeptCasting.{kept_member_answer, is_kept_open, kept_cast_answer};
+ghost use Rattle.hub_core.specs.KeptCasting.{member_made, part_outcome};
+ghost use Rattle.hub_core.specs.KeptRoster.{cast_now, origin_at, group_of, is_seated_in};
+ghost use Rattle.hub_core.specs.KeptRoster.{kept_destinations, MemberLeaves, CastLeaves};
+ghost use Rattle.hub_core.specs.KeptRoster.{PartLeaves, SameRoster};
 ghost use Rattle.hub_core.specs.Posting.{is_empty};
 
 use crate::end::End;

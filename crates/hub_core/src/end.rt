@@ -1,11 +1,19 @@
 //! What the core keeps of an end.
 
-ghost use Rattle.std.specs.Prelude.{◌≡◌, ◌||◌, ◌∷◌, ◌<◌, [], slice_get, IfOk, OnOk, OnErr, MatchOption, false, true, List, Some};
+ghost use Rattle.std.specs.Prelude.{◌≡◌, ◌||◌, ◌∷◌, ◌<◌, [], slice_get, IfOk, OnOk, OnErr};
+ghost use Rattle.std.specs.Prelude.{MatchOption, false, true, List, Some};
 ghost use Rattle.hub_envelope.specs.declared.envelope.Envelope.{Envelope as EnvelopeValue};
 ghost use Rattle.hub_envelope.specs.declared.limits.TheConstants.{MAX_MOVES};
 ghost use Rattle.hub_core.specs.Moving.{is_arrived};
 ghost use Rattle.hub_core.specs.Posting.{is_here, is_with};
-ghost use Rattle.hub_core.specs.Kept.{new_end, hold_outcome, held_end, back_outcome, back_end, hand_outcome, handed_end, close_outcome, close_end, hop_outcome, hop_end, kept_looked, kept_settled, left_outcome, left_end, look_outcome, look_end, advanced_end, adopted_end, adopt_outcome, adopt_end, enter_outcome, enter_end, leave_outcome, leave_end, has_queue, posting_line, put_end, sweep_outcome, swept_end, taker_queue, with_taker_queue};
+ghost use Rattle.hub_core.specs.Kept.{new_end, hold_outcome, held_end, back_outcome, back_end};
+ghost use Rattle.hub_core.specs.Kept.{hand_outcome, handed_end, close_outcome, close_end};
+ghost use Rattle.hub_core.specs.Kept.{hop_outcome, hop_end, kept_looked, kept_settled};
+ghost use Rattle.hub_core.specs.Kept.{left_outcome, left_end, look_outcome, look_end, advanced_end};
+ghost use Rattle.hub_core.specs.Kept.{adopted_end, adopt_outcome, adopt_end, enter_outcome};
+ghost use Rattle.hub_core.specs.Kept.{enter_end, leave_outcome, leave_end, has_queue, posting_line};
+ghost use Rattle.hub_core.specs.Kept.{put_end, sweep_outcome, swept_end, taker_queue};
+ghost use Rattle.hub_core.specs.Kept.{with_taker_queue};
 
 use crate::kind::Kind;
 use crate::line::{Line, Lines, Phase};

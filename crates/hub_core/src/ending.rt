@@ -1,8 +1,11 @@
 //! How an agent ends: Order and See; and how many of its posters are away.
 
-ghost use Rattle.std.specs.Prelude.{◌≡◌, ◌++◌, ◌∷◌, [], length, slice_get, if◌then◌else◌, IfOk, OnOk, OnErr};
-ghost use Rattle.hub_core.specs.Kept.{kept_owner, kept_place, with_agent, change_owner, one_away, one_out};
-ghost use Rattle.hub_core.specs.KeptEnding.{kept_owner_of, order_outcome_at, order_agents, see_outcome, see_agents, kept_ends_at};
+ghost use Rattle.std.specs.Prelude.{◌≡◌, ◌++◌, ◌∷◌, [], length, slice_get, if◌then◌else◌, IfOk};
+ghost use Rattle.std.specs.Prelude.{OnOk, OnErr};
+ghost use Rattle.hub_core.specs.Kept.{kept_owner, kept_place, with_agent, change_owner, one_away};
+ghost use Rattle.hub_core.specs.Kept.{one_out};
+ghost use Rattle.hub_core.specs.KeptEnding.{kept_owner_of, order_outcome_at, order_agents};
+ghost use Rattle.hub_core.specs.KeptEnding.{see_outcome, see_agents, kept_ends_at};
 
 use crate::agent::Agent;
 use crate::end::Place;

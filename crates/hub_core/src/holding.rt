@@ -2,7 +2,8 @@
 //! agent has.
 
 ghost use Rattle.std.specs.Prelude.{◌≡◌, option_map, slice_get, IfOk};
-ghost use Rattle.hub_core.specs.Kept.{count_of, one_more, set_agent, gone, kept_running, line_outcome_at, line_ends_at, back_outcome_at, back_ends_at};
+ghost use Rattle.hub_core.specs.Kept.{count_of, one_more, set_agent, gone, kept_running};
+ghost use Rattle.hub_core.specs.Kept.{line_outcome_at, line_ends_at, back_outcome_at, back_ends_at};
 
 use crate::agent::Agent;
 use crate::end::Place;

@@ -13,7 +13,8 @@ ghost use Rattle.hub_core.specs.MailboxShows.{MailboxesShow};
 ghost use Rattle.hub_core.specs.MailboxPairs.{PairsAreEvents};
 ghost use Rattle.hub_core.specs.Facts.{facts};
 ghost use Rattle.hub_core.specs.Sound.{Sound};
-ghost use Rattle.hub_core.specs.Laws.{NothingLeavesTheSame, SameIsJoined, KeepsTheLine, TurnedPutsNothing, NoticeIsLast, InOrder, OneAnswer};
+ghost use Rattle.hub_core.specs.Laws.{NothingLeavesTheSame, SameIsJoined, KeepsTheLine};
+ghost use Rattle.hub_core.specs.Laws.{TurnedPutsNothing, NoticeIsLast, InOrder, OneAnswer};
 ghost use Rattle.hub_core.specs.Fates.{Fates};
 
 /// What holds of every legal history: `run` answers one, and `Core::step` makes one longer.

@@ -2,7 +2,8 @@
 
 ghost use Rattle.std.specs.Prelude.{◌≡◌, replicate, not, is_some, IfOk, slice_get, slice_set};
 ghost use Rattle.std.specs.List.{position};
-ghost use Rattle.hub_core.specs.Kept.{first_line, first_free, held_lines, is_anyone_at, is_anyone_from};
+ghost use Rattle.hub_core.specs.Kept.{first_line, first_free, held_lines, is_anyone_at};
+ghost use Rattle.hub_core.specs.Kept.{is_anyone_from};
 
 use hub_envelope::{AgentId, LineId, MAX_LINES};
 use std::alloc::{AllocError, Global};

@@ -1,7 +1,8 @@
 //! Steps that look who is inside: Look and Sweep.
 
 ghost use Rattle.std.specs.Prelude.{◌≡◌, slice_get, IfOk, OnOk, OnErr};
-ghost use Rattle.hub_core.specs.Kept.{look_outcome_at, look_ends_at, sweep_outcome_at, SweepLeaves, Moves, ports_of};
+ghost use Rattle.hub_core.specs.Kept.{look_outcome_at, look_ends_at, sweep_outcome_at, SweepLeaves};
+ghost use Rattle.hub_core.specs.Kept.{Moves, ports_of};
 
 use crate::end::Place;
 use crate::machine::Core;

@@ -13,7 +13,9 @@
 //! Look, a Sweep, and a Take at a retired queue with nothing left are `Busy` while it is there.
 
 ghost use Rattle.std.specs.Prelude.{◌≡◌, [], true, slice_get, IfOk, OnErr};
-ghost use Rattle.hub_core.specs.Kept.{kept_running, kept_runs, kept_holder, kept_line_of_port, kept_poster_by, kept_poster, kept_place, kept_hears, kept_may_enter, kept_speaker};
+ghost use Rattle.hub_core.specs.Kept.{kept_running, kept_runs, kept_holder, kept_line_of_port};
+ghost use Rattle.hub_core.specs.Kept.{kept_poster_by, kept_poster, kept_place, kept_hears};
+ghost use Rattle.hub_core.specs.Kept.{kept_may_enter, kept_speaker};
 ghost use Rattle.hub_core.specs.Posting.{is_here};
 ghost use Rattle.hub_core.specs.History.{History};
 ghost use Rattle.hub_core.specs.Laws.{InOrder};

@@ -2,7 +2,9 @@
 
 ghost use Rattle.std.specs.Prelude.{◌≡◌, length, slice_get, IfOk, OnErr};
 ghost use Rattle.hub_core.specs.KeptRoster.{AgentLeaves, SameRoster};
-ghost use Rattle.hub_core.specs.Kept.{kept_running, kept_agent_answer, agents_made, kept_channel_answer, ends_made, count_of, kept_queue_answer, queue_made, queue_counted};
+ghost use Rattle.hub_core.specs.Kept.{kept_running, kept_agent_answer, agents_made};
+ghost use Rattle.hub_core.specs.Kept.{kept_channel_answer, ends_made, count_of, kept_queue_answer};
+ghost use Rattle.hub_core.specs.Kept.{queue_made, queue_counted};
 
 use crate::agent::Agent;
 use crate::end::End;

@@ -1,7 +1,11 @@
 //! Steps that move an end or close it: Adopt, Close and Hand.
 
 ghost use Rattle.std.specs.Prelude.{◌≡◌, length, slice_get, IfOk, OnOk, OnErr};
-ghost use Rattle.hub_core.specs.Kept.{kept_running, kept_holder, kept_own_line, kept_released, kept_may_take_over, adopt_outcome_at, adopt_ends_at, adopt_agents, kept_may_close, close_outcome_at, close_ends_at, close_agents, hand_outcome_at, hand_ends_at, hand_agents};
+ghost use Rattle.hub_core.specs.Kept.{kept_running, kept_holder, kept_own_line, kept_released};
+ghost use Rattle.hub_core.specs.Kept.{kept_may_take_over, adopt_outcome_at, adopt_ends_at};
+ghost use Rattle.hub_core.specs.Kept.{adopt_agents, kept_may_close, close_outcome_at};
+ghost use Rattle.hub_core.specs.Kept.{close_ends_at, close_agents, hand_outcome_at, hand_ends_at};
+ghost use Rattle.hub_core.specs.Kept.{hand_agents};
 
 use crate::kind::Kind;
 use crate::line::{Line, Phase};

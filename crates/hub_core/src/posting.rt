@@ -1,9 +1,15 @@
 //! A post, in three steps and what goes with them: Enter, Push, Leave, Notice and Hop.
 
-ghost use Rattle.std.specs.Prelude.{◌≡◌, ◌<◌, ◌≤◌, ◌∷◌, [], length, slice_get, Some, IfOk, OnOk, OnErr};
+ghost use Rattle.std.specs.Prelude.{◌≡◌, ◌<◌, ◌≤◌, ◌∷◌, [], length, slice_get, Some, IfOk, OnOk};
+ghost use Rattle.std.specs.Prelude.{OnErr};
 ghost use Rattle.hub_core.specs.KeptRoster.{cast_now, cast_left};
 ghost use Rattle.hub_core.specs.Posting.{is_fitting};
-ghost use Rattle.hub_core.specs.Kept.{enter_outcome_at, enter_ends_at, leave_outcome_at, leave_ends_at, hop_outcome_at, hop_ends_at, kept_may_enter, kept_noticing, notice_outcome, NoticeLeaves, kept_posting, kept_all_leave, kept_listing_to, kept_may_leave, kept_own_free, push_outcome, HasQueue, AcceptLeaves, PushLeaves, Moves};
+ghost use Rattle.hub_core.specs.Kept.{enter_outcome_at, enter_ends_at, leave_outcome_at};
+ghost use Rattle.hub_core.specs.Kept.{leave_ends_at, hop_outcome_at, hop_ends_at, kept_may_enter};
+ghost use Rattle.hub_core.specs.Kept.{kept_noticing, notice_outcome, NoticeLeaves, kept_posting};
+ghost use Rattle.hub_core.specs.Kept.{kept_all_leave, kept_listing_to, kept_may_leave};
+ghost use Rattle.hub_core.specs.Kept.{kept_own_free, push_outcome, HasQueue, AcceptLeaves};
+ghost use Rattle.hub_core.specs.Kept.{PushLeaves, Moves};
 ghost use Rattle.hub_core.specs.KeptEnding.{kept_owner_of, enter_agents, leave_agents};
 
 use crate::end::Place;

@@ -1,4 +1,5 @@
-ghost use Rattle.std.specs.Prelude.{◌≡◌, ◌+◌, ◌↔◌, OnSome, IsSome, IsNone, IfSome, IfNone, OnOk, OnErr, IfErr, IsErrOf};
+ghost use Rattle.std.specs.Prelude.{◌≡◌, ◌+◌, ◌↔◌, OnSome, IsSome, IsNone, IfSome, IfNone, OnOk};
+ghost use Rattle.std.specs.Prelude.{OnErr, IfErr, IsErrOf};
 ghost use Rattle.std.specs.FinMap as map;
 ghost use Rattle.hub_depot.specs.DepotError.{refused_value};
 

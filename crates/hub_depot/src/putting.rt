@@ -1,5 +1,6 @@
 //! Many values on a shelf, or none.
-ghost use Rattle.std.specs.Prelude.{◌≡◌, ◌≢◌, [], ◌∷◌, ◌++◌, All, AllPairs, Contains, IsSome, IsNone, IfSome, OnOk, OnErr, IfErr, IsErrOf};
+ghost use Rattle.std.specs.Prelude.{◌≡◌, ◌≢◌, [], ◌∷◌, ◌++◌, All, AllPairs, Contains, IsSome};
+ghost use Rattle.std.specs.Prelude.{IsNone, IfSome, OnOk, OnErr, IfErr, IsErrOf};
 ghost use Rattle.std.specs.FinMap as map;
 ghost use Rattle.std.specs.Option.{option_map};
 ghost use Rattle.hub_depot.specs.DepotError.{refused_value};

@@ -1,4 +1,5 @@
-ghost use Rattle.std.specs.Prelude.{◌≡◌, ◌+◌, ◌↔◌, Option, OnSome, IsSome, IsNone, IfSome, IfNone, OnOk, OnErr, IfErr, IsErrOf};
+ghost use Rattle.std.specs.Prelude.{◌≡◌, ◌+◌, ◌↔◌, Option, OnSome, IsSome, IsNone, IfSome, IfNone};
+ghost use Rattle.std.specs.Prelude.{OnOk, OnErr, IfErr, IsErrOf};
 ghost use Rattle.std.specs.FinMap as map;
 ghost use Rattle.std.specs.Option.{option_map};
 ghost use Rattle.hub_depot.specs.DepotError.{refused_value};

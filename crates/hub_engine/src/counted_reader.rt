@@ -1,8 +1,10 @@
-ghost use Rattle.std.specs.Prelude.{◌≡◌, ◌≢◌, ◌≤◌, ◌<◌, ◌+◌, length, Some, None, Ok, IfOk, IfErr, IfSome, IsErr, OnOk};
+ghost use Rattle.std.specs.Prelude.{◌≡◌, ◌≢◌, ◌≤◌, ◌<◌, ◌+◌, length, Some, None, Ok, IfOk, IfErr};
+ghost use Rattle.std.specs.Prelude.{IfSome, IsErr, OnOk};
 ghost use Rattle.std.specs.IoError.{error_kind};
 ghost use Rattle.hub_engine.specs.IsInput.{GivesBytes};
 ghost use Rattle.hub_engine.specs.Failures.{CountsFailure, CountsInterruption, one_more};
-ghost use Rattle.hub_engine.specs.Counted.{inner_reader, reads_made, interrupted_reads, failed_reads};
+ghost use Rattle.hub_engine.specs.Counted.{inner_reader, reads_made, interrupted_reads};
+ghost use Rattle.hub_engine.specs.Counted.{failed_reads};
 
 use crate::device::Device;
 use hub_envelope::MAX_READS;

@@ -3,7 +3,8 @@
 ghost use Rattle.std.specs.Prelude.{◌≡◌, ◌<◌, ◌+◌, ◌⊎◌, false, IfOk, OnOk, length, vec_len};
 ghost use Rattle.hub_engine.specs.IsInput.{IsInput, ReadsMore};
 ghost use Rattle.hub_engine.specs.Failures.{CountsFailedRead, one_more};
-ghost use Rattle.hub_engine.specs.Counted.{inner_reader, reads_made, interrupted_reads, failed_reads};
+ghost use Rattle.hub_engine.specs.Counted.{inner_reader, reads_made, interrupted_reads};
+ghost use Rattle.hub_engine.specs.Counted.{failed_reads};
 ghost use Rattle.hub_envelope.specs.declared.limits.TheConstants.{MAX_READS};
 
 use crate::counted_reader::CountedReader;

@@ -1,10 +1,12 @@
 //! Whether a text is a compact JSON text of the profile already, so that it can be kept as it is.
 
-ghost use Rattle.std.specs.Prelude.{◌≡◌, ℕ, ◌+◌, ◌<◌, ◌≤◌, [], ◌∷◌, ◌++◌, true, length, slice_index, option_map, IfSome, IsTrue};
+ghost use Rattle.std.specs.Prelude.{◌≡◌, ℕ, ◌+◌, ◌<◌, ◌≤◌, [], ◌∷◌, ◌++◌, true, length};
+ghost use Rattle.std.specs.Prelude.{slice_index, option_map, IfSome, IsTrue};
 ghost use Rattle.std.specs.Char.{is_ascii_digit};
 ghost use Rattle.json.specs.Print.{escape_byte, quoted};
 ghost use Rattle.json.specs.Run.{is_stop};
-ghost use Rattle.hub_envelope.specs.Compact.{IsAbove, IsCompact, IsEscapeBefore, IsFront, IsNumberBefore};
+ghost use Rattle.hub_envelope.specs.Compact.{IsAbove, IsCompact, IsEscapeBefore, IsFront};
+ghost use Rattle.hub_envelope.specs.Compact.{IsNumberBefore};
 
 use crate::limits::MAX_NESTING;
 

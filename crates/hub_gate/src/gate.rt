@@ -1,10 +1,12 @@
 //! How a gate is opened.
 
-ghost use Rattle.std.specs.Prelude.{◌≡◌, ◌≤◌, [], None, Some, map, replicate, length, vec_capacity, IfOk, IfErr};
+ghost use Rattle.std.specs.Prelude.{◌≡◌, ◌≤◌, [], None, Some, map, replicate, length, vec_capacity};
+ghost use Rattle.std.specs.Prelude.{IfOk, IfErr};
 ghost use Rattle.std.specs.Arc.{arc_value};
 ghost use Rattle.hub_gate.specs.declared.view.View.TheVariants.{Fresh};
 ghost use Rattle.hub_gate.specs.GateSeats.{AllSame, IsOpened, IsSeatOf, entries_of, keeper_tags};
-ghost use Rattle.hub_gate.specs.Opening.{IsCount, HasTable, HasFreshSeat, HasShares, HasRoom, error_for, keeper_me, none_seated, all_seated};
+ghost use Rattle.hub_gate.specs.Opening.{IsCount, HasTable, HasFreshSeat, HasShares, HasRoom};
+ghost use Rattle.hub_gate.specs.Opening.{error_for, keeper_me, none_seated, all_seated};
 ghost use Rattle.hub_gate.specs.Taking.{numbered};
 
 use crate::entry::Entry;

@@ -29,7 +29,8 @@ pub struct Keeper<T: Right> {
 }
 
 impl<T: Right> Model for Keeper<T> {
-    ghost use Rattle.std.specs.Prelude.{◌≡◌, ◌≤◌, [], length, nat_lt, true, false, MatchOption, vec_capacity};
+    ghost use Rattle.std.specs.Prelude.{◌≡◌, ◌≤◌, [], length, nat_lt, true, false, MatchOption};
+    ghost use Rattle.std.specs.Prelude.{vec_capacity};
     ghost use Rattle.std.specs.Arc.{arc_value};
     ghost use Rattle.hub_gate.specs.declared.view.View.TheVariants.{Keeping};
     ghost use Rattle.hub_gate.specs.GateSeats.{IsSeatOf, KeeperSeat, keeper_in};

@@ -1,6 +1,7 @@
 //! The laws of every gate.
 
-ghost use Rattle.hub_gate.specs.GateLaws.{RuleShowsGate, NoneInAfterRights, NoSeatInAfterRights, EachStepChangesTheWord, TheWordShowsTheGate};
+ghost use Rattle.hub_gate.specs.GateLaws.{RuleShowsGate, NoneInAfterRights, NoSeatInAfterRights};
+ghost use Rattle.hub_gate.specs.GateLaws.{EachStepChangesTheWord, TheWordShowsTheGate};
 
 use crate::gate_table::GateRule;
 use crate::right::Right;

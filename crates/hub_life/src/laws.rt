@@ -2,7 +2,8 @@
 
 ghost use Rattle.std.specs.Prelude.{◌≡◌, ◌≤◌, ◌⊎◌, List, true};
 ghost use Rattle.hub_life.specs.declared.event.Event.{Event};
-ghost use Rattle.hub_life.specs.declared.state.State.TheVariants.{Installing, Activating, Activated, Redundant};
+ghost use Rattle.hub_life.specs.declared.state.State.TheVariants.{Installing, Activating};
+ghost use Rattle.hub_life.specs.declared.state.State.TheVariants.{Activated, Redundant};
 ghost use Rattle.hub_life.specs.Lifecycle.{Progress, start};
 ghost use Rattle.hub_life.specs.Course.{after, after_all, stage_of, IsSound};
 ghost use Rattle.hub_life.specs.OrderLaws.{RuleShowsOrder, StaysGiven};

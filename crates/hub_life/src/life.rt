@@ -36,7 +36,8 @@ impl Model for Life {
 }
 
 impl Life {
-    ghost use Rattle.hub_life.specs.Lifecycle.{start, entered, answer, open_more, close_one, finish_handler, settled};
+    ghost use Rattle.hub_life.specs.Lifecycle.{start, entered, answer, open_more, close_one};
+    ghost use Rattle.hub_life.specs.Lifecycle.{finish_handler, settled};
 
     /// The life of a worker that is just parsed.
     pub fn new() -> Life

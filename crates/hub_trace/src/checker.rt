@@ -1,11 +1,13 @@
 //! The checker: what was got of each line beside what was accepted there.
 
-ghost use Rattle.std.specs.Prelude.{◌≡◌, ◌↔◌, map, IfOk, IsTrue, MatchOption, slice_get, Some, ◌<◌, length};
+ghost use Rattle.std.specs.Prelude.{◌≡◌, ◌↔◌, map, IfOk, IsTrue, MatchOption, slice_get, Some, ◌<◌};
+ghost use Rattle.std.specs.Prelude.{length};
 ghost use Rattle.std.specs.List.{list_any};
 ghost use Rattle.hub_trace.specs.Accepted.{accepted};
 ghost use Rattle.hub_trace.specs.Got.{got};
 ghost use Rattle.hub_trace.specs.Clean.{IsClean, IsCleanLine};
-ghost use Rattle.hub_trace.specs.Fault.{IsFirstFault, IsRight, has_name, has_notice, is_named, kind_at};
+ghost use Rattle.hub_trace.specs.Fault.{IsFirstFault, IsRight, has_name, has_notice, is_named};
+ghost use Rattle.hub_trace.specs.Fault.{kind_at};
 ghost use Rattle.hub_trace.specs.Verdict.{IsVerdict};
 ghost use Rattle.hub_trace.specs.declared.verdict.Verdict.TheVariants.{Clean};
 ghost use Rattle.hub_trace.specs.Views.{RisesByLine, accepted_in, delivery_of, got_in, receipt_of};

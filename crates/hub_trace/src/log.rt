@@ -1,5 +1,6 @@
 ghost use Rattle.std.specs.Prelude.{Some, ◌≡◌, ◌≤◌, [], false, OnOk, OnErr};
-ghost use Rattle.hub_trace.specs.declared.log_entry.LogEntry.TheVariants.{Put, Got, Adopted, Closed};
+ghost use Rattle.hub_trace.specs.declared.log_entry.LogEntry.TheVariants.{Put, Got, Adopted};
+ghost use Rattle.hub_trace.specs.declared.log_entry.LogEntry.TheVariants.{Closed};
 ghost use Rattle.hub_trace.specs.declared.limits.TheConstants.{MAX_AGENT, MAX_END, MAX_EPOCH};
 ghost use Rattle.hub_trace.specs.Accepted.{log_with, message_at, notice_at};
 ghost use Rattle.hub_trace.specs.declared.log_version.LogVersion.TheVariants.{Third};

@@ -4,8 +4,12 @@ ghost use Rattle.std.specs.Prelude.{◌≤◌, length, IfOk};
 ghost use Rattle.hub_envelope.specs.BodyText.{IsBodyText};
 ghost use Rattle.hub_text.specs.Reading.{IsReadAs};
 ghost use Rattle.hub_trace.specs.LogVersion.{max_body, max_line};
-ghost use Rattle.hub_trace.specs.Limits.{IsContentWithin, IsDeliveryWithin, IsLabelWithin, IsLogLineWithin, IsMessageWithin, IsPortList};
-ghost use Rattle.hub_trace.specs.LogLine.{adoption_in, agent_in, body_in, content_in, delivery_in, end_in, epoch_in, label_in, line_in, log_line_of, log_line_with, message_with, number_in, parts_in, ports_in, text_in};
+ghost use Rattle.hub_trace.specs.Limits.{IsContentWithin, IsDeliveryWithin, IsLabelWithin};
+ghost use Rattle.hub_trace.specs.Limits.{IsLogLineWithin, IsMessageWithin, IsPortList};
+ghost use Rattle.hub_trace.specs.LogLine.{adoption_in, agent_in, body_in, content_in, delivery_in};
+ghost use Rattle.hub_trace.specs.LogLine.{end_in, epoch_in, label_in, line_in, log_line_of};
+ghost use Rattle.hub_trace.specs.LogLine.{log_line_with, message_with, number_in, parts_in};
+ghost use Rattle.hub_trace.specs.LogLine.{ports_in, text_in};
 
 use crate::content::Content;
 use crate::label::Label;

@@ -1,6 +1,7 @@
 //! The reader of a file of logs.
 
-ghost use Rattle.std.specs.Prelude.{◌≡◌, ◌<◌, ◌==◌, ◌||◌, ◌⊎◌, ◌++◌, not, ℕ, List, [], length, codes, MatchResult, OnOk, IfErr, IfOk, IsErrOf, IsOkAnd};
+ghost use Rattle.std.specs.Prelude.{◌≡◌, ◌<◌, ◌==◌, ◌||◌, ◌⊎◌, ◌++◌, not, ℕ, List, [], length};
+ghost use Rattle.std.specs.Prelude.{codes, MatchResult, OnOk, IfErr, IfOk, IsErrOf, IsOkAnd};
 ghost use Rattle.std.specs.BTreeSet.{contains};
 ghost use Rattle.std.specs.Ordering.{nat_cmp};
 ghost use Rattle.hub_text.specs.Reading.{AreLinesReadAs, IsReadAs};
@@ -10,7 +11,8 @@ ghost use Rattle.hub_trace.specs.declared.log_version.LogVersion.TheVariants.{Th
 ghost use Rattle.hub_trace.specs.Accepted.{AgentLog};
 ghost use Rattle.hub_trace.specs.Closings.{closes_one};
 ghost use Rattle.hub_trace.specs.Limits.{AreWithin, IsEntryWithin};
-ghost use Rattle.hub_trace.specs.Read.{ComesAt, HasHeader, HasHeaderOf, HasOtherHeader, TellsClosed, line_added, logs_of, with_line};
+ghost use Rattle.hub_trace.specs.Read.{ComesAt, HasHeader, HasHeaderOf, HasOtherHeader};
+ghost use Rattle.hub_trace.specs.Read.{TellsClosed, line_added, logs_of, with_line};
 ghost use Rattle.hub_trace.specs.Text.{file_text};
 
 use crate::log::Log;

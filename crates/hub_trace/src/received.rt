@@ -1,11 +1,13 @@
 //! What the logs say was got, in order of end, line and stretch.
 
-ghost use Rattle.std.specs.Prelude.{◌≡◌, ◌<◌, ◌≤◌, ℕ, false, true, drop, length, slice_index_or, IfOk, OnOk, ◌++◌, ◌==◌};
+ghost use Rattle.std.specs.Prelude.{◌≡◌, ◌<◌, ◌≤◌, ℕ, false, true, drop, length, slice_index_or};
+ghost use Rattle.std.specs.Prelude.{IfOk, OnOk, ◌++◌, ◌==◌};
 ghost use Rattle.std.specs.List.{filter, All};
 ghost use Rattle.hub_trace.specs.Accepted.{is_of};
 ghost use Rattle.hub_trace.specs.Got.{all_end_events, end_events, got, joined, receipts};
 ghost use Rattle.hub_trace.specs.declared.received.Arrival.{Arrival};
-ghost use Rattle.hub_trace.specs.Views.{IsOwn, RisesByLine, RisesByEnd, end_events_in, got_in, receipts_in};
+ghost use Rattle.hub_trace.specs.Views.{IsOwn, RisesByLine, RisesByEnd, end_events_in, got_in};
+ghost use Rattle.hub_trace.specs.Views.{receipts_in};
 
 use crate::content::Content;
 use crate::label::Label;
