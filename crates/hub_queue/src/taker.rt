@@ -161,8 +161,8 @@ impl Taker {
         self.adopt_on(rt, &mut yard, bell)
     }
 
-    /// The same, over any shelf as the yard. Of a shelf that shows what it keeps, `Taken` comes only
-    /// where it keeps a poster under a name of the new queue.
+    /// The same, over any shelf as the yard. Of a shelf that shows what it keeps, `Taken` comes
+    /// only where it keeps a poster under a name of the new queue.
     pub fn adopt_on<S: Shelf<Onward>, R: Wait>(
         mut self,
         rt: &R,
