@@ -137,7 +137,7 @@ class Links(support.TestCase):
                     self.assertTrue(path.exists())
                     if anchor:
                         self.assertIn(anchor, anchors(path))
-        self.says(count, "links", 25)
+        self.says(count, "links", 20)
 
     def test_crates(self):
         names, tests = crates()
@@ -163,6 +163,21 @@ class Links(support.TestCase):
                 self.assertEqual(files - set(NAMED.findall(page)), set())
                 self.assertEqual(set(NAMED.findall(page)) - files, set())
         self.says(count, "files", 200)
+
+    def test_folders_to_copy(self):
+        """docs/LIBRARY.md names with each crate all those that it stands on."""
+        stands_on = {}
+        for line in text_of(ROOT / "crates.txt").splitlines():
+            if re.match(r"[a-z]\w*.*:", line):
+                head, _, tail = line.partition(":")
+                stands_on[head.split()[0]] = {it for it in tail.split() if it.startswith("hub_")}
+        page, before, rows = text_of(ROOT / "docs" / "LIBRARY.md"), set(), 0
+        for row in re.findall(r"^\| [^|]+ \| ([^|]*`hub_[^|]*) \|$", page, re.MULTILINE):
+            copied = set(re.findall(r"`(\w+)`", row)) | (before if "these, and" in row else set())
+            with self.subTest(row=row):
+                self.assertEqual({it for name in copied for it in stands_on[name]} - copied, set())
+            before, rows = copied, rows + 1
+        self.says(rows, "lists", 5)
 
     def test_definitions(self):
         """docs/DEFINITIONS.md names each file of definitions."""
