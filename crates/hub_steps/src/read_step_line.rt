@@ -1,4 +1,16 @@
-ghost use Rattle.std.specs.Prelude.{◌≡◌, ◌≢◌, [], ◌∷◌, IfErr, Ok, option_map, bytes_eq, codes, false, true};
+ghost use Rattle.std.specs.Prelude.{
+  ◌≡◌,
+  ◌≢◌,
+  [],
+  ◌∷◌,
+  IfErr,
+  Ok,
+  bytes_eq,
+  codes,
+  false,
+  option_map,
+  true,
+};
 ghost use Rattle.hub_text.specs.Reading.{IsReadAs};
 ghost use Rattle.hub_steps.specs.ReadMemory.{has_part, reads_memory, text_reads_memory};
 ghost use Rattle.hub_steps.specs.StepLine.{
