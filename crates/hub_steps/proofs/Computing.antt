@@ -23,10 +23,10 @@ use Rattle.hub_steps.specs.declared.shown.Shown.TheVariants.{Answer, Moving, Doo
 use Rattle.hub_steps.specs.declared.step_line.Poster.{Poster}
 use Rattle.hub_steps.specs.declared.step_line.Command.{Command}
 use Rattle.hub_steps.specs.declared.step_line.StepLine.{StepLine}
-use Rattle.hub_steps.specs.Computation.{Computation, pair, pure, ask, step, ◌>>=◌}
+use Rattle.hub_steps.specs.Computation.{Computation, MayGive, pair, pure, ask, ask_then, step, step_then, ◌>>=◌}
 use Rattle.hub_steps.specs.Performed.{ComputesAt, PerformsAt}
 use Rattle.hub_steps.specs.Lives.{AllLives}
-use Rattle.hub_steps.specs.Unfolding.{shown_step, sender_of, on_line, on_line_of, enter, go_on, send_inside, send, post_listing, post_count, post_may, post, start_made, worker, start_worker, start_adopted, adopt, notice_line, tell_inside, tell, close_shown, close_on, close, close_each, close_ports, close_swept, sweep, core_steps, member, cast_inside, line_zero, cast_to, cast_each, cast_all, cast}
+use Rattle.hub_steps.specs.Unfolding.{sender_of, on_line, on_line_of, enter, go_on, send_inside, send, post_listing, post_count, post_may, post, start_made, worker, start_worker, start_adopted, adopt, notice_line, tell_inside, tell, close_shown, close_on, close, close_each, close_ports, close_swept, sweep, core_steps, member, cast_inside, line_zero, cast_to, cast_each, cast_all, cast}
 use Rattle.hub_steps.specs.declared.cast_posts.CastPost.{CastPost}
 
 -- ---- computations in general
@@ -38,7 +38,7 @@ legal_append past (p ∷ a) b l m = (l.0, legal_append (past ++ p ∷ []) a b l.
 pub stepped : (old new : Core) (refused : Bool) (a : Action) (o : Outcome) → FitsAndShows old new (record { action = a; memory_refused = refused }) o → ComputesAt old new (step refused a) o
 stepped old new refused a o fits = λ past shows.
     let x = fits past shows in
-    (pair refused a o ∷ [], record { unfolds = refl; legal = (x.0, tt) }, x.1)
+    (pair refused a o ∷ [], record { unfolds = (o, [], refl, (refl, refl)); legal = (x.0, tt) }, x.1)
 
 pub given : {X : Type 0} → (core : Core) (x : X) → ComputesAt core core (pure x) x
 given core x = λ past shows. ([], record { unfolds = (refl, refl); legal = tt }, subst (Shows core) (sym (append-nil past)) shows)
@@ -46,11 +46,22 @@ given core x = λ past shows. ([], record { unfolds = (refl, refl); legal = tt }
 pub asked : {X : Type 0} → (core : Core) (f : Facts → X) (x : X) → ((past : History) → Shows core past → x ≡ f (facts past)) → ComputesAt core core (ask f) x
 asked core f x is = λ past shows. ([], record { unfolds = (refl, is past shows); legal = tt }, subst (Shows core) (sym (append-nil past)) shows)
 
+-- what follows on the value of the first
+both_give : {X Y : Type 0} → (first : Computation X) (next : X → Computation Y) (past one two : History) (x : X) (y : Y) → MayGive first past one x → MayGive (next x) (past ++ one) two y → MayGive (first >>= next) past (one ++ two) y
+both_give (pure v) next past one two x y is did =
+    let here : MayGive (next v) past two y = subst (λ m. MayGive (next v) m two y) (ap (λ m. past ++ m) is.0 ∙ append-nil past) (subst (λ w. MayGive (next w) (past ++ one) two y) is.1 did) in
+    subst (λ m. MayGive (next v) past (m ++ two) y) (sym is.0) here
+both_give (ask_then on) next past one two x y is did = both_give (on (facts past)) next past one two x y is did
+both_give (step_then refused a on) next past one two x y is did =
+    let p = pair refused a is.0 in
+    let here : MayGive (next x) ((past ++ p ∷ []) ++ is.1) two y = subst (λ m. MayGive (next x) m two y) (ap (λ m. past ++ m) is.2 ∙ sym (append_assoc past (p ∷ []) is.1)) did in
+    (is.0, is.1 ++ two, ap (λ m. m ++ two) is.2, both_give (on is.0) next (past ++ p ∷ []) is.1 two x y is.3 here)
+
 pub chained : {X Y : Type 0} → (old mid new : Core) (first : Computation X) (next : X → Computation Y) (x : X) (y : Y) → ComputesAt old mid first x → ComputesAt mid new (next x) y → ComputesAt old new (first >>= next) y
 chained old mid new first next x y p q = λ past shows.
     let u = p past shows in
     let v = q (past ++ u.0) u.2 in
-    (u.0 ++ v.0, record { unfolds = (x, u.0, v.0, u.1.unfolds, v.1.unfolds, refl); legal = legal_append past u.0 v.0 u.1.legal v.1.legal }, subst (Shows new) (append_assoc past u.0 v.0) v.2)
+    (u.0 ++ v.0, record { unfolds = both_give first next past u.0 v.0 x y u.1.unfolds v.1.unfolds; legal = legal_append past u.0 v.0 u.1.legal v.1.legal }, subst (Shows new) (append_assoc past u.0 v.0) v.2)
 
 -- the last of the steps, whose value is made of what it gives
 pub shown_as : {X Y : Type 0} → (old new : Core) (steps : Computation X) (f : X → Y) (x : X) → ComputesAt old new steps x → ComputesAt old new (steps >>= λ x. pure (f x)) (f x)

@@ -6,13 +6,13 @@ use Rattle.hub_core.specs.Legal.{LegalAfter}
 use Rattle.hub_core.specs.Shows.{Shows}
 use Rattle.hub_steps.specs.declared.shown.Shown.{Shown}
 use Rattle.hub_steps.specs.declared.step_line.StepLine.{StepLine}
-use Rattle.hub_steps.specs.Computation.{Computation}
+use Rattle.hub_steps.specs.Computation.{Computation, MayGive}
 use Rattle.hub_steps.specs.Lives.{AllLives}
 use Rattle.hub_steps.specs.Unfolding.{core_steps}
 
 -- the pairs and the value are those of the computation after the history, and each pair fits
 pub record Computes {X : Type 0} (steps : Computation X) (past more : History) (value : X) : Type 0 where
-  pub unfolds : steps past more value
+  pub unfolds : MayGive steps past more value
   pub legal : LegalAfter past more
 
 -- after every history that the core showed, it shows one that is longer by what was computed

@@ -14,11 +14,11 @@ use Rattle.hub_text.specs.Reading.{◌>>=◌, some_or}
 use Rattle.hub_text.specs.Word.{cut}
 use Rattle.hub_steps.specs.declared.step_line.Poster.{Poster}
 use Rattle.hub_steps.specs.declared.step_line.Poster.TheVariants.{Port, Line}
+use Rattle.hub_steps.specs.declared.step_line.StepLineError.{StepLineError}
 use Rattle.hub_steps.specs.declared.step_line.PosterCommand.TheVariants.{Enter, Push, Leave, Hop, Back, Post}
 use Rattle.hub_steps.specs.declared.step_line.Command.{Command}
 use Rattle.hub_steps.specs.declared.step_line.Command.TheVariants as command
 use Rattle.hub_steps.specs.declared.step_line.StepLine.{StepLine}
-use Rattle.hub_steps.specs.declared.step_line.StepLineError.{StepLineError}
 use Rattle.hub_steps.specs.declared.step_line.StepLineError.TheVariants.{BadUtf8, UnknownStep, BadWords, BadNumber, BadPoster, BadList, BadName, BadEvent}
 use Rattle.hub_steps.specs.BodyKind.{body_kind}
 use Rattle.hub_steps.specs.declared.step_line.AgentUrl.{AgentUrl}
@@ -61,72 +61,9 @@ poster_cut (Some parts) word = line_named parts.0 parts.1
 abbrev pub poster_named : List ℕ → Option Poster
 poster_named word = poster_cut (cut 47 word) word
 
-abbrev pub poster_of : List ℕ → Read Poster
-poster_of word = some_or BadPoster (poster_named word)
-
--- `-`, or numbers joined by single commas
-abbrev pub list_of : List ℕ → Read (List EndId)
-list_of word = some_or BadList (ends_of 4294967295 word)
-
 abbrev pub body_read : Result (List ℕ) BodyError → Read (List ℕ)
 body_read (Ok body) = Ok body
 body_read (Err e) = Err (body_kind e)
-
--- the body that a text stands for, as its compact text
-abbrev pub body_of : List ℕ → Read (List ℕ)
-body_of text = body_read (answer_of text)
-
-abbrev pub word_alone : Option (List ℕ × List ℕ) → List ℕ → Read (List ℕ)
-word_alone None text = Ok text
-word_alone (Some parts) text = Err BadWords
-
--- the one word that comes after the step's name
-unfoldable pub only_word : Option (List ℕ) → Read (List ℕ)
-only_word None = Err BadWords
-only_word (Some text) = word_alone (cut 32 text) text
-
--- the number that is the rest of the step line
-abbrev pub number_after : Option (List ℕ) → Read ℕ
-number_after rest = only_word rest >>= λ word. some_or BadNumber (number_of word)
-
--- a word, and what comes after its space
-abbrev pub word_before : List ℕ → Read (List ℕ × List ℕ)
-word_before text = some_or BadWords (cut 32 text)
-
--- the two numbers that are the rest of the step line: an end's and an agent's
-unfoldable pub end_and_agent_after : Option (List ℕ) → Read (EndId × AgentId)
-end_and_agent_after rest = do
-  text ← some_or BadWords rest
-  parts ← word_before text
-  word ← only_word (Some parts.1)
-  end ← some_or BadNumber (number_of parts.0)
-  agent ← some_or BadNumber (number_of word)
-  Ok (record { 0 = end }, agent_of agent)
-
--- an agent's number and the word of an event of its life are the rest of the step line
-unfoldable pub agent_and_event_after : Option (List ℕ) → Read (AgentId × Event)
-agent_and_event_after rest = do
-  text ← some_or BadWords rest
-  parts ← word_before text
-  word ← only_word (Some parts.1)
-  agent ← some_or BadNumber (number_of parts.0)
-  event ← some_or BadEvent (event_of word)
-  Ok (agent_of agent, event)
-
--- the poster that is the rest of the step line
-abbrev pub poster_after : Option (List ℕ) → Read Poster
-poster_after rest = only_word rest >>= poster_of
-
--- poster, list and body, the body being the rest of the step line
-unfoldable pub posting_after : Option (List ℕ) → Read (Poster × List EndId × List ℕ)
-posting_after rest = do
-  text ← some_or BadWords rest
-  first ← word_before text
-  second ← word_before first.1
-  poster ← poster_of first.0
-  ports ← list_of second.0
-  body ← body_of second.1
-  Ok (poster, ports, body)
 
 abbrev pub url_told : Result (List ℕ) OriginError → AgentUrl
 url_told (Ok origin) = Origin origin
@@ -138,68 +75,159 @@ url_told (Err why.OutOfMemory) = BadUrl
 unfoldable pub url_of : List ℕ → AgentUrl
 url_of word = if bytes_eq word (codes "-") then NoUrl else url_told (origin_answer word)
 
--- the URL that is the rest of the step line
-unfoldable pub url_after : Option (List ℕ) → Read AgentUrl
-url_after rest = only_word rest >>= λ word. Ok (url_of word)
-
 -- the JSON string that a text is
 unfoldable pub name_of : List ℕ → Read (List ℕ)
 name_of text = some_or BadName (read text) >>= λ value. some_or BadName (as_str value)
 
--- an agent's number and a name, which is the rest of the step line
-unfoldable pub agent_and_name_after : Option (List ℕ) → Read (AgentId × List ℕ)
-agent_and_name_after rest = do
-  text ← some_or BadWords rest
+-- the kinds of words, as docs/FORMATS.md spells them
+pub data WordKind : Type 0 where
+  -- the number of an agent
+  A : WordKind
+  -- the number of an end
+  E : WordKind
+  -- a poster
+  P : WordKind
+  -- ports: `-`, or numbers joined by single commas
+  LIST : WordKind
+  -- an event of a life
+  WORD : WordKind
+  -- a URL, or `-`
+  U : WordKind
+  -- a JSON string
+  NAME : WordKind
+  -- a JSON text
+  BODY : WordKind
+
+-- what a word of that kind stands for; a name and a body are seen as their bytes
+abbrev pub Meaning : WordKind → Type 0
+Meaning A = AgentId
+Meaning E = EndId
+Meaning P = Poster
+Meaning LIST = List EndId
+Meaning WORD = Event
+Meaning U = AgentUrl
+Meaning NAME = List ℕ
+Meaning BODY = List ℕ
+
+-- what a word stands for, or what is wrong with it
+abbrev pub word_of : (kind : WordKind) → List ℕ → Read (Meaning kind)
+word_of A word = some_or BadNumber (option_map agent_of (number_of word))
+word_of E word = some_or BadNumber (option_map (λ n. record { 0 = n }) (number_of word))
+word_of P word = some_or BadPoster (poster_named word)
+word_of LIST word = some_or BadList (ends_of 4294967295 word)
+word_of WORD word = some_or BadEvent (event_of word)
+word_of U word = Ok (url_of word)
+word_of NAME text = name_of text
+word_of BODY text = body_read (answer_of text)
+
+-- A name and a body are all that is left of the step line; every other kind is one word.
+abbrev pub is_rest : WordKind → Bool
+is_rest NAME = true
+is_rest BODY = true
+is_rest kind = false
+
+-- the words themselves, one of each kind
+abbrev pub Texts : List WordKind → Type 0
+Texts [] = Unit {0}
+Texts (kind ∷ []) = List ℕ
+Texts (kind ∷ kinds) = List ℕ × Texts kinds
+
+-- and what they stand for
+abbrev pub Values : List WordKind → Type 0
+Values [] = Unit {0}
+Values (kind ∷ []) = Meaning kind
+Values (kind ∷ kinds) = Meaning kind × Values kinds
+
+-- a word, and what comes after its space
+abbrev pub word_before : List ℕ → Read (List ℕ × List ℕ)
+word_before text = some_or BadWords (cut 32 text)
+
+abbrev pub word_alone : Option (List ℕ × List ℕ) → List ℕ → Read (List ℕ)
+word_alone None text = Ok text
+word_alone (Some parts) text = Err BadWords
+
+-- the last word of a step line, or the rest of it
+abbrev pub last_word : Bool → List ℕ → Read (List ℕ)
+last_word true text = Ok text
+last_word false text = word_alone (cut 32 text) text
+
+-- a text that is cut into as many words
+abbrev pub cut_into : (kinds : List WordKind) → List ℕ → Read (Texts kinds)
+cut_into [] text = Err BadWords
+cut_into (kind ∷ []) text = last_word (is_rest kind) text
+cut_into (kind ∷ second ∷ kinds) text = do
   parts ← word_before text
-  agent ← some_or BadNumber (number_of parts.0)
-  name ← name_of parts.1
-  Ok (agent_of agent, name)
+  words ← cut_into (second ∷ kinds) parts.1
+  Ok (parts.0, words)
 
--- an end's number, list and body, the body being the rest of the step line
-unfoldable pub cast_after : Option (List ℕ) → Read (EndId × List EndId × List ℕ)
-cast_after rest = do
-  text ← some_or BadWords rest
-  first ← word_before text
-  second ← word_before first.1
-  end ← some_or BadNumber (number_of first.0)
-  ports ← list_of second.0
-  body ← body_of second.1
-  Ok (record { 0 = end }, ports, body)
+-- what each word stands for, or what is wrong with the first one that is bad
+abbrev pub read_each : (kinds : List WordKind) → Texts kinds → Read (Values kinds)
+read_each [] words = Ok tt
+read_each (kind ∷ []) word = word_of kind word
+read_each (kind ∷ second ∷ kinds) words = do
+  value ← word_of kind words.0
+  values ← read_each (second ∷ kinds) words.1
+  Ok (value, values)
 
--- what the step of that name and the rest of the step line ask of a poster
-unfoldable pub poster_command_of : List ℕ → Option (List ℕ) → Read Command
-poster_command_of name rest =
-    if bytes_eq name (codes "enter") then poster_after rest >>= (λ p. Ok (command.At p Enter))
-    else (if bytes_eq name (codes "leave") then poster_after rest >>= (λ p. Ok (command.At p Leave))
-    else (if bytes_eq name (codes "hop") then poster_after rest >>= (λ p. Ok (command.At p Hop))
-    else (if bytes_eq name (codes "back") then poster_after rest >>= (λ p. Ok (command.At p Back))
-    else (if bytes_eq name (codes "push") then posting_after rest >>= (λ x. Ok (command.At x.0 (Push x.1 x.2)))
-    else (if bytes_eq name (codes "post") then posting_after rest >>= (λ x. Ok (command.At x.0 (Post x.1 x.2)))
-    else Err UnknownStep)))))
+-- what comes after a step's name and a space, cut into words of these kinds
+abbrev pub cut_after : (kinds : List WordKind) → Option (List ℕ) → Read (Texts kinds)
+cut_after kinds rest = some_or BadWords rest >>= cut_into kinds
 
--- what the step of that name and the rest of the step line ask for
+-- what these words stand for. They are cut before any of them is read.
+abbrev pub words_after : (kinds : List WordKind) → Option (List ℕ) → Read (Values kinds)
+words_after kinds rest = cut_after kinds rest >>= read_each kinds
+
+-- a kind of step line: its name, the kinds of the words after it, and what it asks for
+pub record Row : Type 0 where
+  pub name : List ℕ
+  pub words : List WordKind
+  pub asks : Values words → Command
+
+abbrev pub row : List ℕ → (words : List WordKind) → (Values words → Command) → Row
+row name words asks = record { name = name; words = words; asks = asks }
+
+-- the table of the step lines
+abbrev pub table : List Row
+table =
+    row (codes "agent") (U ∷ []) command.Agent
+    ∷ row (codes "channel") (A ∷ []) command.Channel
+    ∷ row (codes "client") (A ∷ []) command.Client
+    ∷ row (codes "worker") (A ∷ []) command.Worker
+    ∷ row (codes "member") (A ∷ NAME ∷ []) (λ x. command.Member x.0 x.1)
+    ∷ row (codes "line") (E ∷ A ∷ []) (λ x. command.Line x.0 x.1)
+    ∷ row (codes "back") (P ∷ []) (λ p. command.At p Back)
+    ∷ row (codes "enter") (P ∷ []) (λ p. command.At p Enter)
+    ∷ row (codes "push") (P ∷ LIST ∷ BODY ∷ []) (λ x. command.At x.0 (Push x.1.0 x.1.1))
+    ∷ row (codes "leave") (P ∷ []) (λ p. command.At p Leave)
+    ∷ row (codes "hop") (P ∷ []) (λ p. command.At p Hop)
+    ∷ row (codes "post") (P ∷ LIST ∷ BODY ∷ []) (λ x. command.At x.0 (Post x.1.0 x.1.1))
+    ∷ row (codes "start") (E ∷ []) command.Start
+    ∷ row (codes "loaded") (E ∷ []) command.Loaded
+    ∷ row (codes "take") (E ∷ []) command.Take
+    ∷ row (codes "look") (E ∷ []) command.Look
+    ∷ row (codes "hand") (E ∷ A ∷ []) (λ x. command.Hand x.0 x.1)
+    ∷ row (codes "adopt") (E ∷ A ∷ []) (λ x. command.Adopt x.0 x.1)
+    ∷ row (codes "close") (E ∷ []) command.Close
+    ∷ row (codes "sweep") (E ∷ []) command.Sweep
+    ∷ row (codes "cast") (E ∷ LIST ∷ BODY ∷ []) (λ x. command.Cast x.0 x.1.0 x.1.1)
+    ∷ row (codes "part") (E ∷ []) command.Part
+    ∷ row (codes "order") (A ∷ []) command.Order
+    ∷ row (codes "see") (A ∷ []) command.See
+    ∷ row (codes "event") (A ∷ WORD ∷ []) (λ x. command.Event x.0 x.1)
+    ∷ []
+
+-- the row of that name
+abbrev pub row_named : List ℕ → List Row → Option Row
+row_named name [] = None
+row_named name (r ∷ rows) = if bytes_eq name r.name then Some r else row_named name rows
+
+abbrev pub command_by : Option Row → Option (List ℕ) → Read Command
+command_by None rest = Err UnknownStep
+command_by (Some r) rest = words_after r.words rest >>= λ x. Ok (r.asks x)
+
+-- what the step of that name asks for; the rest is what comes after the name and a space
 unfoldable pub command_of : List ℕ → Option (List ℕ) → Read Command
-command_of name rest =
-    if bytes_eq name (codes "agent") then url_after rest >>= (λ u. Ok (command.Agent u))
-    else (if bytes_eq name (codes "channel") then number_after rest >>= (λ n. Ok (command.Channel (agent_of n)))
-    else (if bytes_eq name (codes "client") then number_after rest >>= (λ n. Ok (command.Client (agent_of n)))
-    else (if bytes_eq name (codes "worker") then number_after rest >>= (λ n. Ok (command.Worker (agent_of n)))
-    else (if bytes_eq name (codes "member") then agent_and_name_after rest >>= (λ x. Ok (command.Member x.0 x.1))
-    else (if bytes_eq name (codes "line") then end_and_agent_after rest >>= (λ x. Ok (command.Line x.0 x.1))
-    else (if bytes_eq name (codes "start") then number_after rest >>= (λ n. Ok (command.Start (record { 0 = n })))
-    else (if bytes_eq name (codes "loaded") then number_after rest >>= (λ n. Ok (command.Loaded (record { 0 = n })))
-    else (if bytes_eq name (codes "take") then number_after rest >>= (λ n. Ok (command.Take (record { 0 = n })))
-    else (if bytes_eq name (codes "look") then number_after rest >>= (λ n. Ok (command.Look (record { 0 = n })))
-    else (if bytes_eq name (codes "hand") then end_and_agent_after rest >>= (λ x. Ok (command.Hand x.0 x.1))
-    else (if bytes_eq name (codes "adopt") then end_and_agent_after rest >>= (λ x. Ok (command.Adopt x.0 x.1))
-    else (if bytes_eq name (codes "close") then number_after rest >>= (λ n. Ok (command.Close (record { 0 = n })))
-    else (if bytes_eq name (codes "sweep") then number_after rest >>= (λ n. Ok (command.Sweep (record { 0 = n })))
-    else (if bytes_eq name (codes "order") then number_after rest >>= (λ n. Ok (command.Order (agent_of n)))
-    else (if bytes_eq name (codes "see") then number_after rest >>= (λ n. Ok (command.See (agent_of n)))
-    else (if bytes_eq name (codes "cast") then cast_after rest >>= (λ x. Ok (command.Cast x.0 x.1 x.2))
-    else (if bytes_eq name (codes "part") then number_after rest >>= (λ n. Ok (command.Part (record { 0 = n })))
-    else (if bytes_eq name (codes "event") then agent_and_event_after rest >>= (λ x. Ok (command.Event x.0 x.1))
-    else poster_command_of name rest))))))))))))))))))
+command_of name rest = command_by (row_named name table) rest
 
 abbrev pub command_cut : List ℕ → Option (List ℕ × List ℕ) → Read Command
 command_cut text None = command_of text None

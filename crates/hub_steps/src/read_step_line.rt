@@ -1,7 +1,39 @@
-ghost use Rattle.std.specs.Prelude.{◌≡◌, ◌≢◌, IfErr, Ok, option_map, bytes_eq, codes, false, true};
+ghost use Rattle.std.specs.Prelude.{
+  ◌≡◌,
+  ◌≢◌,
+  [],
+  ◌∷◌,
+  IfErr,
+  Ok,
+  bytes_eq,
+  codes,
+  false,
+  option_map,
+  true,
+};
 ghost use Rattle.hub_text.specs.Reading.{IsReadAs};
 ghost use Rattle.hub_steps.specs.ReadMemory.{has_part, reads_memory, text_reads_memory};
-ghost use Rattle.hub_steps.specs.StepLine.{agent_of, agent_and_event_after, agent_and_name_after, cast_after, name_of, url_after, url_of, command_in, command_of, end_and_agent_after, line_of, list_of, mark, number_after, number_of, only_word, poster_after, poster_command_of, poster_named, poster_of, posting_after, step_line_of, word_before};
+ghost use Rattle.hub_steps.specs.StepLine.{
+  A,
+  BODY,
+  E,
+  LIST,
+  NAME,
+  P,
+  U,
+  WORD,
+  command_in,
+  command_of,
+  cut_after,
+  last_word,
+  line_of,
+  mark,
+  number_of,
+  poster_named,
+  step_line_of,
+  word_of,
+  words_after,
+};
 
 use crate::step_line::{AgentUrl, Command, Poster, PosterCommand, StepLine, StepLineError};
 use hub_core::Text;
@@ -63,7 +95,7 @@ fn command_in(alloc: Global, text: &str) -> Result<Command, StepLineError>
 // Posts and takes, which most step lines are, have a function of their own: one that reads each
 // kind of step clears room for what each of them asks for.
 #[inline(always)]
-#[tactic(auto, unfolding(crate::specs::StepLine::command_of, crate::specs::StepLine::poster_command_of))]
+#[tactic(auto, unfolding(crate::specs::StepLine::command_of))]
 fn command_of(alloc: Global, name: &str, rest: Option<&str>) -> Result<Command, StepLineError>
     ensures read { IsReadAs StepLineError.OutOfMemory (λ x. x) result
         (command_of name.now (option_map (λ x. x.now) rest.entry)) }
@@ -75,7 +107,7 @@ fn command_of(alloc: Global, name: &str, rest: Option<&str>) -> Result<Command, 
             let (poster, ports, body) = posting_after(alloc, rest)?;
             Ok(Command::At(poster, PosterCommand::Post(ports, body)))
         }
-        "take" => Ok(Command::Take(EndId(number_after(rest)?))),
+        "take" => Ok(Command::Take(end_after(rest)?)),
         _ => rarer_command_of(alloc, name, rest),
     }
 }
@@ -90,212 +122,185 @@ fn rarer_command_of(alloc: Global, name: &str, rest: Option<&str>) -> Result<Com
     ensures memory { IfErr result (λ e. e ≡ StepLineError.OutOfMemory
         → has_part name.now ≡ true) }
 {
-    Ok(match name {
-        "agent" => Command::Agent(url_after(alloc, rest)?),
-        "channel" => Command::Channel(agent_of(number_after(rest)?)),
-        "client" => Command::Client(agent_of(number_after(rest)?)),
-        "worker" => Command::Worker(agent_of(number_after(rest)?)),
+    match name {
+        "agent" => Ok(Command::Agent(url_in(alloc, one_word(rest)?)?)),
+        "channel" => Ok(Command::Channel(agent_after(rest)?)),
+        "client" => Ok(Command::Client(agent_after(rest)?)),
+        "worker" => Ok(Command::Worker(agent_after(rest)?)),
         "member" => {
-            let (agent, name) = agent_and_name_after(alloc, rest)?;
-            Command::Member(agent, name)
+            let (agent, name) = word_and_rest(rest)?;
+            Ok(Command::Member(agent_in(agent)?, name_in(alloc, name)?))
         }
         "line" => {
             let (end, agent) = end_and_agent_after(rest)?;
-            Command::Line(end, agent)
+            Ok(Command::Line(end, agent))
         }
-        "start" => Command::Start(EndId(number_after(rest)?)),
-        "loaded" => Command::Loaded(EndId(number_after(rest)?)),
-        "look" => Command::Look(EndId(number_after(rest)?)),
+        "back" => Ok(Command::At(poster_after(rest)?, PosterCommand::Back)),
+        "enter" => Ok(Command::At(poster_after(rest)?, PosterCommand::Enter)),
+        "push" => {
+            let (poster, ports, body) = posting_after(alloc, rest)?;
+            Ok(Command::At(poster, PosterCommand::Push(ports, body)))
+        }
+        "leave" => Ok(Command::At(poster_after(rest)?, PosterCommand::Leave)),
+        "hop" => Ok(Command::At(poster_after(rest)?, PosterCommand::Hop)),
+        "start" => Ok(Command::Start(end_after(rest)?)),
+        "loaded" => Ok(Command::Loaded(end_after(rest)?)),
+        "look" => Ok(Command::Look(end_after(rest)?)),
         "hand" => {
             let (end, agent) = end_and_agent_after(rest)?;
-            Command::Hand(end, agent)
+            Ok(Command::Hand(end, agent))
         }
         "adopt" => {
             let (end, agent) = end_and_agent_after(rest)?;
-            Command::Adopt(end, agent)
+            Ok(Command::Adopt(end, agent))
         }
-        "close" => Command::Close(EndId(number_after(rest)?)),
-        "sweep" => Command::Sweep(EndId(number_after(rest)?)),
-        "order" => Command::Order(agent_of(number_after(rest)?)),
-        "see" => Command::See(agent_of(number_after(rest)?)),
+        "close" => Ok(Command::Close(end_after(rest)?)),
+        "sweep" => Ok(Command::Sweep(end_after(rest)?)),
         "cast" => {
-            let (end, ports, body) = cast_after(alloc, rest)?;
-            Command::Cast(end, ports, body)
+            let (end, list, body) = two_words_and_rest(rest)?;
+            let end = end_in(end)?;
+            let ports = list_in(alloc, list)?;
+            Ok(Command::Cast(end, ports, Body::read(alloc, body)?))
         }
-        "part" => Command::Part(EndId(number_after(rest)?)),
+        "part" => Ok(Command::Part(end_after(rest)?)),
+        "order" => Ok(Command::Order(agent_after(rest)?)),
+        "see" => Ok(Command::See(agent_after(rest)?)),
         "event" => {
-            let (agent, event) = agent_and_event_after(rest)?;
-            Command::Event(agent, event)
+            let (agent, event) = two_words(rest)?;
+            Ok(Command::Event(agent_in(agent)?, event_in(event)?))
         }
-        _ => return poster_command_of(alloc, name, rest),
-    })
+        _ => Err(StepLineError::UnknownStep),
+    }
 }
 
-/// What the step of that name asks of a poster, where it isn't `post`.
-#[tactic(auto, unfolding(crate::specs::StepLine::poster_command_of))]
-fn poster_command_of(
-    alloc: Global,
-    name: &str,
-    rest: Option<&str>,
-) -> Result<Command, StepLineError>
-    requires { bytes_eq name.now (codes "post") ≡ false }
+fn agent_after(rest: Option<&str>) -> Result<AgentId, StepLineError>
     ensures read { IsReadAs StepLineError.OutOfMemory (λ x. x) result
-        (poster_command_of name.now (option_map (λ x. x.now) rest.entry)) }
-    ensures memory { IfErr result (λ e. e ≡ StepLineError.OutOfMemory
-        → has_part name.now ≡ true) }
+        (words_after (A ∷ []) (option_map (λ x. x.now) rest.entry)) }
+    ensures memory { IfErr result (λ e. e ≢ StepLineError.OutOfMemory) }
 {
-    Ok(match name {
-        "enter" => Command::At(poster_after(rest)?, PosterCommand::Enter),
-        "leave" => Command::At(poster_after(rest)?, PosterCommand::Leave),
-        "hop" => Command::At(poster_after(rest)?, PosterCommand::Hop),
-        "back" => Command::At(poster_after(rest)?, PosterCommand::Back),
-        "push" => {
-            let (poster, ports, body) = posting_after(alloc, rest)?;
-            Command::At(poster, PosterCommand::Push(ports, body))
-        }
-        _ => return Err(StepLineError::UnknownStep),
-    })
+    agent_in(one_word(rest)?)
 }
 
-/// The one word that comes after the step's name.
-#[tactic(auto, unfolding(crate::specs::StepLine::only_word))]
-fn only_word(rest: Option<&str>) -> Result<&str, StepLineError>
+fn end_after(rest: Option<&str>) -> Result<EndId, StepLineError>
+    ensures read { IsReadAs StepLineError.OutOfMemory (λ x. x) result
+        (words_after (E ∷ []) (option_map (λ x. x.now) rest.entry)) }
+    ensures memory { IfErr result (λ e. e ≢ StepLineError.OutOfMemory) }
+{
+    end_in(one_word(rest)?)
+}
+
+fn poster_after(rest: Option<&str>) -> Result<Poster, StepLineError>
+    ensures read { IsReadAs StepLineError.OutOfMemory (λ x. x) result
+        (words_after (P ∷ []) (option_map (λ x. x.now) rest.entry)) }
+    ensures memory { IfErr result (λ e. e ≢ StepLineError.OutOfMemory) }
+{
+    poster_in(one_word(rest)?)
+}
+
+fn end_and_agent_after(rest: Option<&str>) -> Result<(EndId, AgentId), StepLineError>
+    ensures read { IsReadAs StepLineError.OutOfMemory (λ x. x) result
+        (words_after (E ∷ A ∷ []) (option_map (λ x. x.now) rest.entry)) }
+    ensures memory { IfErr result (λ e. e ≢ StepLineError.OutOfMemory) }
+{
+    let (end, agent) = two_words(rest)?;
+    Ok((end_in(end)?, agent_in(agent)?))
+}
+
+/// What is posted, by whom.
+#[inline(always)]
+fn posting_after(
+    alloc: Global,
+    rest: Option<&str>,
+) -> Result<(Poster, EndList, Body), StepLineError>
+    ensures { IsReadAs StepLineError.OutOfMemory (λ x. (x.0, (x.1, x.2))) result
+        (words_after (P ∷ LIST ∷ BODY ∷ []) (option_map (λ x. x.now) rest.entry)) }
+{
+    let (poster, list, body) = two_words_and_rest(rest)?;
+    let poster = poster_in(poster)?;
+    let ports = list_in(alloc, list)?;
+    let body = Body::read(alloc, body)?;
+    Ok((poster, ports, body))
+}
+
+/// One word, and no more.
+fn one_word(rest: Option<&str>) -> Result<&str, StepLineError>
     ensures read { IsReadAs StepLineError.OutOfMemory (λ x. x.now) result
-        (only_word (option_map (λ x. x.now) rest.entry)) }
+        (cut_after (E ∷ []) (option_map (λ x. x.now) rest.entry)) }
+    ensures memory { IfErr result (λ e. e ≢ StepLineError.OutOfMemory) }
+{
+    let Some(text) = rest else {
+        return Err(StepLineError::BadWords);
+    };
+    last_word(text)
+}
+
+/// Two words, and no more.
+fn two_words(rest: Option<&str>) -> Result<(&str, &str), StepLineError>
+    ensures read { IsReadAs StepLineError.OutOfMemory (λ x. (x.0.now, x.1.now)) result
+        (cut_after (E ∷ A ∷ []) (option_map (λ x. x.now) rest.entry)) }
+    ensures memory { IfErr result (λ e. e ≢ StepLineError.OutOfMemory) }
+{
+    let (first, rest) = word_and_rest(rest)?;
+    let second = last_word(rest)?;
+    Ok((first, second))
+}
+
+/// A word, and all that comes after its space.
+fn word_and_rest(rest: Option<&str>) -> Result<(&str, &str), StepLineError>
+    ensures read { IsReadAs StepLineError.OutOfMemory (λ x. (x.0.now, x.1.now)) result
+        (cut_after (A ∷ NAME ∷ []) (option_map (λ x. x.now) rest.entry)) }
     ensures memory { IfErr result (λ e. e ≢ StepLineError.OutOfMemory) }
 {
     let Some(text) = rest else {
         return Err(StepLineError::BadWords);
     };
     match next_word(text) {
+        Some(parts) => Ok(parts),
+        None => Err(StepLineError::BadWords),
+    }
+}
+
+/// Two words, and all that comes after them.
+fn two_words_and_rest(rest: Option<&str>) -> Result<(&str, &str, &str), StepLineError>
+    ensures read { IsReadAs StepLineError.OutOfMemory (λ x. (x.0.now, (x.1.now, x.2.now))) result
+        (cut_after (P ∷ LIST ∷ BODY ∷ []) (option_map (λ x. x.now) rest.entry)) }
+    ensures memory { IfErr result (λ e. e ≢ StepLineError.OutOfMemory) }
+{
+    let (first, rest) = word_and_rest(rest)?;
+    let (second, third) = word_and_rest(Some(rest))?;
+    Ok((first, second, third))
+}
+
+/// The last word of a step line.
+fn last_word(text: &str) -> Result<&str, StepLineError>
+    ensures read { IsReadAs StepLineError.OutOfMemory (λ x. x.now) result
+        (last_word false text.now) }
+    ensures memory { IfErr result (λ e. e ≢ StepLineError.OutOfMemory) }
+{
+    match next_word(text) {
         None => Ok(text),
         Some(_) => Err(StepLineError::BadWords),
     }
 }
 
-/// `-`, or the URL of an agent.
-#[tactic(auto, unfolding(crate::specs::StepLine::url_after))]
-fn url_after(alloc: Global, rest: Option<&str>) -> Result<AgentUrl, StepLineError>
-    ensures { IsReadAs StepLineError.OutOfMemory (λ x. x) result
-        (url_after (option_map (λ x. x.now) rest.entry)) }
-{
-    let word = only_word(rest)?;
-    url_of(alloc, word)
-}
-
-/// The origin of a URL, or why it gives none.
-#[tactic(auto, unfolding(crate::specs::StepLine::url_of))]
-fn url_of(alloc: Global, word: &str) -> Result<AgentUrl, StepLineError>
-    ensures { IsReadAs StepLineError.OutOfMemory (λ x. x) result (Ok (url_of word.now)) }
-{
-    if word == "-" {
-        return Ok(AgentUrl::NoUrl);
-    }
-    match origin_of(alloc, word) {
-        Ok(origin) => Ok(AgentUrl::Origin(Text::of(alloc, origin.as_str())?)),
-        Err(OriginError::BadUrl) => Ok(AgentUrl::BadUrl),
-        Err(OriginError::OpaqueOrigin) => Ok(AgentUrl::OpaqueOrigin),
-        Err(OriginError::OutOfMemory) => Err(StepLineError::OutOfMemory),
-    }
-}
-
-/// An agent's number, and the name of a broadcast channel, which is the rest of the text line.
-#[tactic(auto, unfolding(crate::specs::StepLine::agent_and_name_after))]
-fn agent_and_name_after(alloc: Global, rest: Option<&str>) -> Result<(AgentId, Text), StepLineError>
-    ensures { IsReadAs StepLineError.OutOfMemory (λ x. x) result
-        (agent_and_name_after (option_map (λ x. x.now) rest.entry)) }
-{
-    let Some(text) = rest else {
-        return Err(StepLineError::BadWords);
-    };
-    let (agent, name) = word_before(text)?;
-    let Some(agent) = number_of(agent) else {
-        return Err(StepLineError::BadNumber);
-    };
-    let name = name_of(alloc, name)?;
-    Ok((agent_of(agent), name))
-}
-
-/// The JSON string that a text is.
-#[tactic(auto, unfolding(crate::specs::StepLine::name_of))]
-fn name_of(alloc: Global, text: &str) -> Result<Text, StepLineError>
-    ensures { IsReadAs StepLineError.OutOfMemory (λ x. x) result (name_of text.now) }
-{
-    let value = match Value::from_str(alloc, text) {
-        Ok(value) => value,
-        Err(error) if error.is_memory() => return Err(StepLineError::OutOfMemory),
-        Err(_) => return Err(StepLineError::BadName),
-    };
-    match value.as_str() {
-        Some(name) => Ok(Text::of(alloc, name)?),
-        None => Err(StepLineError::BadName),
-    }
-}
-
-/// An end's number, list and body, the body being the rest of the text line.
-#[tactic(auto, unfolding(crate::specs::StepLine::cast_after))]
-fn cast_after(alloc: Global, rest: Option<&str>) -> Result<(EndId, EndList, Body), StepLineError>
-    ensures { IsReadAs StepLineError.OutOfMemory (λ x. x) result
-        (cast_after (option_map (λ x. x.now) rest.entry)) }
-{
-    let Some(text) = rest else {
-        return Err(StepLineError::BadWords);
-    };
-    let (end, rest) = word_before(text)?;
-    let (list, body) = word_before(rest)?;
-    let Some(end) = number_of(end) else {
-        return Err(StepLineError::BadNumber);
-    };
-    let ports = list_of(alloc, list)?;
-    let body = Body::read(alloc, body)?;
-    Ok((EndId(end), ports, body))
-}
-
-fn number_after(rest: Option<&str>) -> Result<u32, StepLineError>
-    ensures read { IsReadAs StepLineError.OutOfMemory (λ x. x) result
-        (number_after (option_map (λ x. x.now) rest.entry)) }
+/// No agent has the number 255, so each number that names no agent may be read as that one.
+fn agent_in(word: &str) -> Result<AgentId, StepLineError>
+    ensures read { IsReadAs StepLineError.OutOfMemory (λ x. x) result (word_of A word.now) }
     ensures memory { IfErr result (λ e. e ≢ StepLineError.OutOfMemory) }
 {
-    match number_of(only_word(rest)?) {
-        Some(number) => Ok(number),
+    match number_of(word) {
+        Some(number) => Ok(AgentId(u8::try_from(number).unwrap_or(u8::MAX))),
         None => Err(StepLineError::BadNumber),
     }
 }
 
-#[tactic(auto, unfolding(crate::specs::StepLine::end_and_agent_after))]
-fn end_and_agent_after(rest: Option<&str>) -> Result<(EndId, AgentId), StepLineError>
-    ensures read { IsReadAs StepLineError.OutOfMemory (λ x. x) result
-        (end_and_agent_after (option_map (λ x. x.now) rest.entry)) }
+fn end_in(word: &str) -> Result<EndId, StepLineError>
+    ensures read { IsReadAs StepLineError.OutOfMemory (λ x. x) result (word_of E word.now) }
     ensures memory { IfErr result (λ e. e ≢ StepLineError.OutOfMemory) }
 {
-    let Some(text) = rest else {
-        return Err(StepLineError::BadWords);
-    };
-    let (end, rest) = word_before(text)?;
-    let agent = only_word(Some(rest))?;
-    match (number_of(end), number_of(agent)) {
-        (Some(end), Some(agent)) => Ok((EndId(end), agent_of(agent))),
-        _ => Err(StepLineError::BadNumber),
-    }
-}
-
-#[tactic(auto, unfolding(crate::specs::StepLine::agent_and_event_after))]
-fn agent_and_event_after(rest: Option<&str>) -> Result<(AgentId, Event), StepLineError>
-    ensures read { IsReadAs StepLineError.OutOfMemory (λ x. x) result
-        (agent_and_event_after (option_map (λ x. x.now) rest.entry)) }
-    ensures memory { IfErr result (λ e. e ≢ StepLineError.OutOfMemory) }
-{
-    let Some(text) = rest else {
-        return Err(StepLineError::BadWords);
-    };
-    let (agent, rest) = word_before(text)?;
-    let word = only_word(Some(rest))?;
-    let Some(agent) = number_of(agent) else {
-        return Err(StepLineError::BadNumber);
-    };
-    match Event::named(word) {
-        Some(event) => Ok((agent_of(agent), event)),
-        None => Err(StepLineError::BadEvent),
+    match number_of(word) {
+        Some(number) => Ok(EndId(number)),
+        None => Err(StepLineError::BadNumber),
     }
 }
 
@@ -307,63 +312,8 @@ fn number_of(word: &str) -> Option<u32>
     u32::try_from(number).ok()
 }
 
-fn poster_after(rest: Option<&str>) -> Result<Poster, StepLineError>
-    ensures read { IsReadAs StepLineError.OutOfMemory (λ x. x) result
-        (poster_after (option_map (λ x. x.now) rest.entry)) }
-    ensures memory { IfErr result (λ e. e ≢ StepLineError.OutOfMemory) }
-{
-    poster_of(only_word(rest)?)
-}
-
-/// Poster, list and body, the body being the rest of the text line.
-#[inline(always)]
-#[tactic(auto, unfolding(crate::specs::StepLine::posting_after))]
-fn posting_after(
-    alloc: Global,
-    rest: Option<&str>,
-) -> Result<(Poster, EndList, Body), StepLineError>
-    ensures { IsReadAs StepLineError.OutOfMemory (λ x. x) result
-        (posting_after (option_map (λ x. x.now) rest.entry)) }
-{
-    let Some(text) = rest else {
-        return Err(StepLineError::BadWords);
-    };
-    let (poster, rest) = word_before(text)?;
-    let (list, body) = word_before(rest)?;
-    let poster = poster_of(poster)?;
-    let ports = list_of(alloc, list)?;
-    let body = Body::read(alloc, body)?;
-    Ok((poster, ports, body))
-}
-
-/// A word, and what comes after its space. There has to be more.
-fn word_before(text: &str) -> Result<(&str, &str), StepLineError>
-    ensures read { IsReadAs StepLineError.OutOfMemory (λ x. (x.0.now, x.1.now)) result
-        (word_before text.now) }
-    ensures memory { IfErr result (λ e. e ≢ StepLineError.OutOfMemory) }
-{
-    match next_word(text) {
-        Some(parts) => Ok(parts),
-        None => Err(StepLineError::BadWords),
-    }
-}
-
-/// No agent has the number 255, so each number that names no agent may be read as that one.
-fn agent_of(number: u32) -> AgentId
-    ensures { result ≡ agent_of number }
-{
-    AgentId(u8::try_from(number).unwrap_or(u8::MAX))
-}
-
-/// No end has a line 255, so each number that names no line may be read as that one.
-fn line_of(number: u32) -> LineId
-    ensures { result ≡ line_of number }
-{
-    LineId(u8::try_from(number).unwrap_or(u8::MAX))
-}
-
-fn poster_of(word: &str) -> Result<Poster, StepLineError>
-    ensures read { IsReadAs StepLineError.OutOfMemory (λ x. x) result (poster_of word.now) }
+fn poster_in(word: &str) -> Result<Poster, StepLineError>
+    ensures read { IsReadAs StepLineError.OutOfMemory (λ x. x) result (word_of P word.now) }
     ensures memory { IfErr result (λ e. e ≢ StepLineError.OutOfMemory) }
 {
     match poster_named(word) {
@@ -385,13 +335,62 @@ fn poster_named(word: &str) -> Option<Poster>
     Some(Poster::Line(end, line))
 }
 
+/// No end has a line 255, so each number that names no line may be read as that one.
+fn line_of(number: u32) -> LineId
+    ensures { result ≡ line_of number }
+{
+    LineId(u8::try_from(number).unwrap_or(u8::MAX))
+}
+
 #[inline(always)]
-fn list_of(alloc: Global, word: &str) -> Result<EndList, StepLineError>
-    ensures { IsReadAs StepLineError.OutOfMemory (λ x. x) result (list_of word.now) }
+fn list_in(alloc: Global, word: &str) -> Result<EndList, StepLineError>
+    ensures { IsReadAs StepLineError.OutOfMemory (λ x. x) result (word_of LIST word.now) }
 {
     match EndList::read(alloc, word, u32::MAX) {
         Ok(Some(list)) => Ok(list),
         Ok(None) => Err(StepLineError::BadList),
         Err(_) => Err(StepLineError::OutOfMemory),
+    }
+}
+
+fn event_in(word: &str) -> Result<Event, StepLineError>
+    ensures read { IsReadAs StepLineError.OutOfMemory (λ x. x) result (word_of WORD word.now) }
+    ensures memory { IfErr result (λ e. e ≢ StepLineError.OutOfMemory) }
+{
+    match Event::named(word) {
+        Some(event) => Ok(event),
+        None => Err(StepLineError::BadEvent),
+    }
+}
+
+/// The origin of a URL, or why it gives none.
+#[tactic(auto, unfolding(crate::specs::StepLine::url_of))]
+fn url_in(alloc: Global, word: &str) -> Result<AgentUrl, StepLineError>
+    ensures { IsReadAs StepLineError.OutOfMemory (λ x. x) result (word_of U word.now) }
+{
+    if word == "-" {
+        return Ok(AgentUrl::NoUrl);
+    }
+    match origin_of(alloc, word) {
+        Ok(origin) => Ok(AgentUrl::Origin(Text::of(alloc, origin.as_str())?)),
+        Err(OriginError::BadUrl) => Ok(AgentUrl::BadUrl),
+        Err(OriginError::OpaqueOrigin) => Ok(AgentUrl::OpaqueOrigin),
+        Err(OriginError::OutOfMemory) => Err(StepLineError::OutOfMemory),
+    }
+}
+
+/// The JSON string that a text is.
+#[tactic(auto, unfolding(crate::specs::StepLine::name_of))]
+fn name_in(alloc: Global, text: &str) -> Result<Text, StepLineError>
+    ensures { IsReadAs StepLineError.OutOfMemory (λ x. x) result (word_of NAME text.now) }
+{
+    let value = match Value::from_str(alloc, text) {
+        Ok(value) => value,
+        Err(error) if error.is_memory() => return Err(StepLineError::OutOfMemory),
+        Err(_) => return Err(StepLineError::BadName),
+    };
+    match value.as_str() {
+        Some(name) => Ok(Text::of(alloc, name)?),
+        None => Err(StepLineError::BadName),
     }
 }

@@ -3,7 +3,7 @@ use Rattle.hub_core.specs.declared.step.Action.TheVariants as action
 use Rattle.hub_steps.specs.Computation.{step}
 use Rattle.hub_steps.specs.Performed.{ComputesAt}
 use Rattle.hub_steps.specs.Unfolding.{enter, tell}
-use Rattle.hub_steps.proofs.Computing.{if_ok, told_in}
+use Rattle.hub_steps.proofs.Computing.{if_ok, told_in, told_nothing}
 use Rattle.hub_steps.proofs.closing.tell.Goals as goal
 
 pub returns-in-In : goal.returns-in-In
@@ -13,3 +13,6 @@ returns-in-In c =
     let entered = subst (λ o. ComputesAt c.args.core.now c.enter.new.core (enter 4 refused s) o) c.in-In.is c.in_ok-entered.ensures in
     if_ok (λ told. ComputesAt c.enter.new.core c.take_step.new.core (step refused (action.Notice s)) told) (λ told. ComputesAt c.args.core.now c.take_step.new.core (tell refused s) told)
     (λ told did. told_in c.args.core.now c.enter.new.core c.take_step.new.core refused s told entered did) c.take_step.result c.take_step.ensures.answer
+
+pub returns-in_default : goal.returns-in_default
+returns-in_default c = told_nothing c.args.core.now c.enter.new.core c.args.memory_refused c.args.line c.in_ok-entered.entered c.in_default.not-In c.in_ok-entered.ensures
