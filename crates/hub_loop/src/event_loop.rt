@@ -165,9 +165,9 @@ impl<H: Handler + Drop, C: Checkpoint + Drop> EventLoop<H, C> {
     /// Makes a turn. First it looks for the order to end. Then it takes one envelope: it asks the
     /// open ends in rising order of their keys, beginning behind the one served last, and past the
     /// queues that an end has left behind. Ends at which nothing was posted since they were asked
-    /// are passed over while another one gives an envelope; where none does each is asked. The ports
-    /// that the envelope names are found and adopted in the order of its list, and the handler is
-    /// told.
+    /// are passed over while another one gives an envelope; where none does each is asked. The
+    /// ports that the envelope names are found and adopted in the order of its list, and the
+    /// handler is told.
     ///
     /// A port that was adopted too often, or whose number the yard knows already, is closed with
     /// its notice and counts as missing. After `OutOfMemory` the delivery is kept, and the next
@@ -182,8 +182,9 @@ impl<H: Handler + Drop, C: Checkpoint + Drop> EventLoop<H, C> {
         ensures ending { (result ≡ Ok Ending) ↔ (knows self.new.order ≡ true) }
         ensures turn { (looks : List BoardStep)
             × HasStepped self.old.listener self.new.listener looks
-            × IsTurn H.leaves H.refuses self.old.holding self.new.holding looks self.old.kept self.new.kept
-            self.old.handler self.new.handler steps.old steps.new result }
+            × IsTurn H.leaves H.refuses self.old.holding self.new.holding looks
+            self.old.kept self.new.kept self.old.handler self.new.handler
+            steps.old steps.new result }
         ensures others { TookNothingBut (Gave self.old.kept self.new.holding.next result)
             self.old.holding.held self.new.holding.held }
         ensures pops { PopsEach result self.old.holding.held steps.old steps.new }

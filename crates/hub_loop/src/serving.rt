@@ -174,8 +174,8 @@ impl Holding {
         }
     }
 
-    // Before some of the keys it looks which ends were rung, and asks the marked ones where there may
-    // be one.
+    // Before some of the keys it looks which ends were rung, and asks the marked ones where there
+    // may be one.
     fn serve_rung<L: Ledger, R: Wait>(
         &mut self,
         rt: &R,
@@ -248,8 +248,8 @@ impl Holding {
         }
     }
 
-    // Looks which ends were rung, and asks the marked ends; where none of them gives an envelope all
-    // are asked.
+    // Looks which ends were rung, and asks the marked ends; where none of them gives an envelope
+    // all are asked.
     fn serve_first<L: Ledger, R: Wait>(
         &mut self,
         rt: &R,
