@@ -1,21 +1,18 @@
 -- How a line goes over the yard from queue to queue, and what a watch is told of it.
-use Rattle.std.proofs.Common.{◌≡◌, ◌≢◌, ℕ, zero, suc, ◌+◌, ◌<◌, Bool, true, false, cond, List, [], ◌∷◌, ◌++◌, append_assoc, append-nil, refl, sym, ap, ◌∙◌, subst, inl, inr, arith, if◌then◌else◌, option_map, Option, Some, None, IfSome, Result, Ok, Err}
+use Rattle.std.proofs.Common.{◌≡◌, ◌≢◌, ℕ, zero, suc, ◌+◌, ◌<◌, Bool, true, false, cond, List, [], ◌∷◌, ◌++◌, append_assoc, append-nil, refl, sym, ap, ◌∙◌, subst, arith, option_map, Option, Some, None, IfSome, Result, Ok, Err}
 use Rattle.std.specs.Ordering.{eq_by_cmp}
 use Rattle.std.specs.FinMap as map
 use Rattle.std.specs.FinMap.{get-remove}
-use Rattle.std.proofs.lemmas.Bool.{lt-ltb}
 use Rattle.std.proofs.lemmas.Map.Views.{tells_apart}
-use Rattle.hub_envelope.specs.declared.limits.TheConstants.{MAX_HOPS}
 use Rattle.hub_depot.specs.declared.key.Key.{Key}
 use Rattle.hub_depot.specs.Key.{key_cmp}
 use Rattle.hub_depot.proofs.Keys.{exact_keys, keys_total}
 use Rattle.hub_envelope.specs.declared.envelope.Draft.{Draft}
 use Rattle.hub_queue.specs.declared.pass_view.PutView.{PutView}
 use Rattle.hub_queue.specs.declared.pause.Point.{Point}
-use Rattle.hub_queue.specs.declared.pause.Point.TheVariants.{Before, Inside, Pushed, Hopping}
+use Rattle.hub_queue.specs.declared.pause.Point.TheVariants.{Before, Hopping}
 use Rattle.hub_queue.specs.declared.posted.Posted.{Posted}
 use Rattle.hub_queue.specs.declared.post_error.PostError.{PostError}
-use Rattle.hub_queue.specs.declared.post_error.PostError.TheVariants.{Closed, Moving}
 use Rattle.hub_queue.specs.Posting.{StaysAt, name_after}
 use Rattle.hub_queue.specs.Standing.{StandSeat, IsNext}
 use Rattle.hub_queue.specs.Trying.{IsAnswered, gone_to}

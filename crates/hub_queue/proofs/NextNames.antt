@@ -1,5 +1,5 @@
 -- The names of the lines at the next queue of an end, and a yard that keeps a stand under one of them.
-use Rattle.std.proofs.Common.{◌≡◌, ◌≢◌, ℕ, zero, suc, ◌<◌, Bool, true, false, true≢false, cond, is_some, List, [], ◌∷◌, length, take, refl, sym, ap, ◌∙◌, subst, arith, Option, Some, None, IfSome}
+use Rattle.std.proofs.Common.{◌≡◌, ◌≢◌, ℕ, zero, suc, ◌<◌, Bool, true≢false, cond, is_some, List, [], ◌∷◌, length, take, refl, sym, ap, ◌∙◌, subst, arith, Option, Some, None, IfSome}
 use Rattle.std.specs.Prelude.{All, IsSome, IsNone, slice_get, slice_index_or}
 use Rattle.std.specs.FinMap as map
 use Rattle.std.specs.FinMap.{get-insert}
@@ -7,7 +7,6 @@ use Rattle.std.proofs.lemmas.Option.{slice_get_within, get_or_from_slice_get}
 use Rattle.atomic_blocks.specs.Laid.{WebId}
 use Rattle.atomic_table.specs.Seated.{TableId}
 use Rattle.hub_depot.specs.declared.key.Key.{Key}
-use Rattle.hub_depot.specs.Key.{key_cmp}
 use Rattle.hub_depot.specs.Putting.{with_all, IsTakenAmong}
 use Rattle.hub_depot.proofs.Keys.{keys_total}
 use Rattle.hub_envelope.specs.declared.ids.EndId.{EndId}

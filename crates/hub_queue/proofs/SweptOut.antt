@@ -1,9 +1,9 @@
 -- A grave is swept again and again.
-use Rattle.std.proofs.Common.{◌≡◌, List, [], ◌∷◌, ◌++◌, refl, sym, ap, ◌∙◌, append_assoc, append-nil, Ok, Err}
+use Rattle.std.proofs.Common.{List, [], ◌∷◌, ◌++◌, refl, sym, ap, ◌∙◌, append_assoc, append-nil}
 use Rattle.hub_envelope.specs.declared.envelope.Envelope.{Envelope}
 use Rattle.hub_queue.specs.declared.grave.Sweep.TheVariants.{Discarded, StillInside, NoRoom}
 use Rattle.hub_queue.specs.Graves.{GraveSeat, SweptSeat}
-use Rattle.hub_queue.specs.TakerQueues.{TakerQueueSeat, TakesMore}
+use Rattle.hub_queue.specs.TakerQueues.{TakerQueueSeat}
 use Rattle.hub_queue.specs.Sweeping.{TakesOfEach, AreSameQueues, IsSwept, IsSweptSoFar, IsSweptOut}
 use Rattle.hub_queue.proofs.Drains.{more_and_more, same_queue}
 

@@ -1,5 +1,5 @@
 -- What a post at the queue where the line stands comes to, and what becomes of a line that was turned.
-use Rattle.std.specs.Prelude.{◌≡◌, ◌⊎◌, ℕ, [], ◌∷◌, take, Option, Some, Result, Ok, Err}
+use Rattle.std.specs.Prelude.{◌≡◌, ◌⊎◌, ℕ, ◌∷◌, take, Option, Some, Result, Ok, Err}
 use Rattle.hub_envelope.specs.declared.envelope.Draft.{Draft}
 use Rattle.hub_gate.specs.declared.entered.Refusal.{Refusal}
 use Rattle.hub_gate.specs.declared.entered.Refusal.TheVariants as refusal

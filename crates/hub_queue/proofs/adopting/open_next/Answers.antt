@@ -1,4 +1,4 @@
-use Rattle.std.proofs.Common.{◌≡◌, ap, ◌∙◌, Err}
+use Rattle.std.proofs.Common.{ap, ◌∙◌, Err}
 use Rattle.hub_queue.specs.Mailboxes.{stands_at}
 use Rattle.hub_queue.proofs.NextNames.{keeps_one, keeps_nothing}
 use Rattle.hub_queue.proofs.Seating.{new_taker_queue}

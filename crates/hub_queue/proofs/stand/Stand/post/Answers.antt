@@ -6,7 +6,7 @@ use Rattle.hub_queue.proofs.Hops.{hopped_nowhere, told_here, told_onward}
 use Rattle.hub_queue.proofs.stand.Stand.post.Goals as goal
 
 pub returns-in-In-clause-posted : goal.returns-in-In-clause-posted
-returns-in-In-clause-posted g c = is_put c.args.self.now c.self.inside.name c.post_inside.new.bell.at c.self.inside.left c.in-In.inside c.post_inside.new.queue c.args.draft c.post_inside.result (search rules) (search rules) (search rules) (search rules) c.post_inside.ensures.put
+returns-in-In-clause-posted g c = is_put c.args.self.now c.self.inside.name c.post_inside.new.bell.at c.self.inside.left c.in-In.inside c.post_inside.new.kept c.args.draft c.post_inside.result (search rules) (search rules) (search rules) (search rules) c.post_inside.ensures.put
 
 pub returns-in-In-clause-yard : goal.returns-in-In-clause-yard
 returns-in-In-clause-yard g c = hopped_nowhere _ c.args.self.now.name _ _ _ _ _ (search rules) c.post_inside.ensures.put.4
