@@ -3,7 +3,12 @@ ghost use Rattle.hub_logging.specs.Notes.{delivered, posted_label};
 ghost use Rattle.hub_trace.specs.Accepted.{log_with, message_at, notice_at};
 ghost use Rattle.hub_trace.specs.PortList.{has_end};
 ghost use Rattle.hub_trace.specs.declared.limits.TheConstants.{MAX_AGENT};
-ghost use Rattle.hub_trace.specs.declared.log_entry.LogEntry.TheVariants.{Adopted, Closed, Got, Put};
+ghost use Rattle.hub_trace.specs.declared.log_entry.LogEntry.TheVariants.{
+  Adopted,
+  Closed,
+  Got,
+  Put,
+};
 
 use hub_envelope::{AgentId, Body, EndId, Envelope, OutOfMemory};
 use hub_loop::Handler;

@@ -2,9 +2,10 @@
 use Rattle.std.proofs.Common.{◌≡◌, List, [], ◌∷◌, ◌++◌, refl, sym, ap, ◌∙◌, subst, ⊎_elim, inl, inr, append_assoc, append-nil}
 use Rattle.slab.specs.Slab.{Slab, SameValues}
 use Rattle.hub_envelope.specs.declared.ids.EndId.{EndId}
-use Rattle.hub_ports.specs.Seats.{PortSeat}
+use Rattle.hub_ports.specs.Seats.{PortSeat, end_of}
 use Rattle.hub_loop.specs.declared.held.Held.{Held}
-use Rattle.hub_loop.specs.Adopting.{HoldsMore, IsOneAdopted, AreAdopted, ArePartlyAdopted}
+use Rattle.hub_loop.specs.declared.ending.Closed.{Closed}
+use Rattle.hub_loop.specs.Adopting.{Stored, HoldsMore, SameClosed, SameStored, IsPortBuried, IsOneAdopted, AreAdopted, ArePartlyAdopted}
 use Rattle.hub_loop.specs.declared.delivery.Receiving.{Receiving}
 
 -- what was held before may be told of another slab that holds the same
@@ -12,28 +13,35 @@ holds-after : (old mid new : Slab Held) (h : Held) → SameValues old mid → Ho
 holds-after old mid new h same more =
     (more.0, sym (same more.0) ∙ more.1, record { changed = more.2.changed; others = λ k other. more.2.others k other ∙ same k })
 
-one-after : (p : PortSeat) (old mid new : Slab Held) (before after : List EndId) → SameValues old mid → IsOneAdopted p mid new before after → IsOneAdopted p old new before after
+closed-after : (old mid new : Closed) → SameClosed old mid → SameClosed mid new → SameClosed old new
+closed-after old mid new first second = (second.0 ∙ first.0, second.1 ∙ first.1)
+
+buried-after : (p : PortSeat) (old mid new : Closed) → SameClosed old mid → IsPortBuried p mid new → IsPortBuried p old new
+buried-after p old mid new same buried =
+    (buried.0, buried.1, buried.2 ∙ ap (λ graves. graves ++ buried.0.0 ∷ []) same.0, buried.3 ∙ ap (λ noticed. noticed ++ (end_of p, buried.0.2) ∷ []) same.1)
+
+one-after : (p : PortSeat) (old mid new : Stored) (before after : List EndId) → SameStored old mid → IsOneAdopted p mid new before after → IsOneAdopted p old new before after
 one-after p old mid new before after same one =
     ⊎_elim
-    (λ (held : _). inl (held.0, held.1, holds-after old mid new _ same held.2, held.3))
-    (λ (unfit : _). inr (unfit.0, unfit.1, unfit.2, (λ k. unfit.3 k ∙ same k), unfit.4))
+    (λ (held : _). inl (held.0, held.1, holds-after old.held mid.held new.held _ same.0 held.2, closed-after old.closed mid.closed new.closed same.1 held.3, held.4))
+    (λ (unfit : _). inr (unfit.0, unfit.1, unfit.2, (λ k. unfit.3 k ∙ same.0 k), buried-after p old.closed mid.closed new.closed same.1 unfit.4, unfit.5))
     one
 
 -- one port more
-pub adopts-more : (ps : List PortSeat) (p : PortSeat) (old mid new : Slab Held) (a b c : List EndId) → AreAdopted ps old mid a b → IsOneAdopted p mid new b c → AreAdopted (ps ++ p ∷ []) old new a c
+pub adopts-more : (ps : List PortSeat) (p : PortSeat) (old mid new : Stored) (a b c : List EndId) → AreAdopted ps old mid a b → IsOneAdopted p mid new b c → AreAdopted (ps ++ p ∷ []) old new a c
 adopts-more [] p old mid new a b c did one =
-    (new, c, one-after p old mid new a c did.0 (subst (λ x. IsOneAdopted p mid new x c) did.1 one), ((λ k. refl), refl))
+    (new, c, one-after p old mid new a c did.0 (subst (λ x. IsOneAdopted p mid new x c) did.1 one), (((λ k. refl), (refl, refl)), refl))
 adopts-more (q ∷ ps) p old mid new a b c did one =
     (did.0, did.1, did.2, adopts-more ps p did.0 mid new did.1 b c did.3 one)
 
 -- the same is held afterwards
-pub adopts-same : (ps : List PortSeat) (old mid new : Slab Held) (a b : List EndId) → AreAdopted ps old mid a b → SameValues mid new → AreAdopted ps old new a b
-adopts-same [] old mid new a b did same = ((λ k. same k ∙ did.0 k), did.1)
+pub adopts-same : (ps : List PortSeat) (old mid new : Stored) (a b : List EndId) → AreAdopted ps old mid a b → SameStored mid new → AreAdopted ps old new a b
+adopts-same [] old mid new a b did same = (((λ k. same.0 k ∙ did.0.0 k), closed-after old.closed mid.closed new.closed did.0.1 same.1), did.1)
 adopts-same (q ∷ ps) old mid new a b did same =
     (did.0, did.1, did.2, adopts-same ps did.0 mid new did.1 b did.3 same)
 
 -- one port more was adopted or refused for good
-pub partly-more : (old mid new : Receiving) (before between after : Slab Held) (p : PortSeat) → ((done : List PortSeat) × ArePartlyAdopted old mid before between done) → mid.found.items ≡ p ∷ new.found.items → IsOneAdopted p between after mid.missing.items new.missing.items → (done : List PortSeat) × ArePartlyAdopted old new before after done
+pub partly-more : (old mid new : Receiving) (before between after : Stored) (p : PortSeat) → ((done : List PortSeat) × ArePartlyAdopted old mid before between done) → mid.found.items ≡ p ∷ new.found.items → IsOneAdopted p between after mid.missing.items new.missing.items → (done : List PortSeat) × ArePartlyAdopted old new before after done
 partly-more old mid new before between after p partly first one = (
   partly.0 ++ p ∷ [],
   (
@@ -43,7 +51,7 @@ partly-more old mid new before between after p partly first one = (
 )
 
 -- nothing more was done
-pub partly-same : (old mid new : Receiving) (before between after : Slab Held) → ((done : List PortSeat) × ArePartlyAdopted old mid before between done) → new.found.items ≡ mid.found.items → SameValues between after → new.missing.items ≡ mid.missing.items → (done : List PortSeat) × ArePartlyAdopted old new before after done
+pub partly-same : (old mid new : Receiving) (before between after : Stored) → ((done : List PortSeat) × ArePartlyAdopted old mid before between done) → new.found.items ≡ mid.found.items → SameStored between after → new.missing.items ≡ mid.missing.items → (done : List PortSeat) × ArePartlyAdopted old new before after done
 partly-same old mid new before between after partly found same missing = (
   partly.0,
   (
@@ -54,7 +62,7 @@ partly-same old mid new before between after partly found same missing = (
 )
 
 -- no port is left
-pub all-done : (old new : Receiving) (before after : Slab Held) → ((done : List PortSeat) × ArePartlyAdopted old new before after done) → new.found.items ≡ [] → AreAdopted old.found.items before after old.missing.items new.missing.items
+pub all-done : (old new : Receiving) (before after : Stored) → ((done : List PortSeat) × ArePartlyAdopted old new before after done) → new.found.items ≡ [] → AreAdopted old.found.items before after old.missing.items new.missing.items
 all-done old new before after partly none =
     let all : old.found.items ≡ partly.0 = partly.1.0 ∙ ap (λ ps. partly.0 ++ ps) none ∙ append-nil partly.0 in
     subst (λ ps. AreAdopted ps before after old.missing.items new.missing.items) (sym all) partly.1.1

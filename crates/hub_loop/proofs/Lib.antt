@@ -2,6 +2,7 @@ mod Adopts
 mod Asks
 mod Delivers
 mod Ends
+mod Looks
 mod Notices
 mod Pops
 mod Reaches

@@ -1,5 +1,5 @@
 -- Each enabled end that was asked costs a pop at least.
-use Rattle.std.proofs.Common.{◌≡◌, ◌≢◌, ℕ, zero, suc, ◌+◌, ◌-◌, ◌<◌, ◌≤◌, cond, Bool, false, ◌||◌, List, [], ◌∷◌, ◌++◌, subst, take, length, refl, sym, ap, ◌∙◌, ⊎_elim, arith, Option, Some, None}
+use Rattle.std.proofs.Common.{◌≡◌, ℕ, zero, suc, ◌+◌, ◌-◌, ◌<◌, ◌≤◌, cond, Bool, false, ◌||◌, List, [], ◌∷◌, ◌++◌, subst, take, length, refl, sym, ap, ◌∙◌, ⊎_elim, arith, Option, Some, None}
 use Rattle.std.specs.Prelude.{nat_lt}
 use Rattle.std.specs.List.{count_by}
 use Rattle.std.proofs.lemmas.Bool.{cases_eq, cases_lt, cond_both}

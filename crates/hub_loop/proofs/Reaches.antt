@@ -1,10 +1,10 @@
 -- The ends that are held can be found.
-use Rattle.std.proofs.Common.{◌≡◌, ◌≢◌, ◌⊎◌, ℕ, ◌+◌, ◌*◌, ◌<◌, ◌≤◌, length, Option, Some, None, IsSome, get_or-set_other, inl, inr, refl, sym, ap, ◌∙◌, subst, arith}
+use Rattle.std.proofs.Common.{◌≡◌, ◌≢◌, ◌⊎◌, ℕ, ◌≤◌, length, Option, Some, None, IsSome, get_or-set_other, inl, inr, refl, sym, ap, ◌∙◌, subst, arith}
 use Rattle.std.proofs.lemmas.Bool.{cases_eq}
 use Rattle.slab.specs.Slab.{Slab, get, with_value}
 use Rattle.hub_envelope.specs.declared.ids.EndId.{EndId}
 use Rattle.hub_marks.specs.declared.ready.Ready.{Ready}
-use Rattle.hub_marks.specs.Finding.{LeadsTo, KeepsMarks}
+use Rattle.hub_marks.specs.Finding.{LeadsTo}
 use Rattle.hub_marks.specs.Marking.{mark_of, HasBit, SameBut}
 use Rattle.hub_loop.specs.declared.held.Held.{Held}
 use Rattle.hub_loop.specs.Holding.{end_held}
@@ -12,9 +12,7 @@ use Rattle.hub_loop.specs.Reaching.{IsReached, AreReached}
 use Rattle.hub_queue.specs.declared.took.Took.{Took}
 use Rattle.hub_queue.specs.Counting.{Count}
 use Rattle.hub_loop.specs.declared.serving.Asked.{Asked}
-use Rattle.hub_loop.specs.Scanning.{IsListedAt}
 use Rattle.hub_loop.specs.Serving.{IsAskedAt, IsSlotAsked}
-use Rattle.hub_loop.proofs.Serves.{mark-cases}
 
 -- what makes an end that was reached be reached still
 pub record Moves (r q : Ready) (key : ℕ) : Type 0 where

@@ -7,11 +7,11 @@ use Rattle.hub_envelope.specs.declared.envelope.Envelope.{Envelope}
 use Rattle.hub_bell.specs.Seats.{BoardSeat, Done}
 use Rattle.hub_envelope.specs.declared.ids.EndId.{EndId}
 use Rattle.hub_marks.specs.Finding.{KeepsMarks, HasStepped, HasRead, WasClear, LeadsTo, FindsAll}
-use Rattle.hub_marks.specs.Marking.{mark_of, HasBit, ClearBetween, IsNext, SameBut}
+use Rattle.hub_marks.specs.Marking.{mark_of, HasBit, ClearBetween, SameBut}
 use Rattle.hub_queue.specs.Counting.{Count}
 use Rattle.hub_loop.specs.declared.held.Held.{Held}
 use Rattle.hub_loop.specs.declared.serving.Asked.TheVariants as asked
-use Rattle.hub_loop.specs.Serving.{IsAskedAt, AskedAll, HasGiven, HasOrder, InOrder, IsBefore, IsIn, IsPassedOver, IsEndPassedOver, AreServed}
+use Rattle.hub_loop.specs.Serving.{IsAskedAt, AskedAll, HasGiven, HasOrder, IsBefore, IsIn, IsPassedOver, IsEndPassedOver, AreServed}
 use Rattle.hub_loop.specs.Scanning.{EndsSeat, IsSameBut, AskedThese, GivenBehind, AskedBefore, AskedOrUnmarked, IsRange, AreMarkedAsked, AreMarkedServed, AreAskedBetween, AreAllServed, IsServedMarked, IsServedInside}
 use Rattle.hub_loop.specs.declared.serving.Served.{Served}
 use Rattle.hub_loop.specs.declared.serving.Served.TheVariants.{Given, Nothing}

@@ -1,5 +1,5 @@
 -- Of the ends that give no envelope nothing is taken.
-use Rattle.std.proofs.Common.{◌≡◌, ◌≢◌, ℕ, zero, suc, ◌+◌, ◌-◌, Bool, List, [], ◌∷◌, ◌++◌, map, refl, sym, ap, ◌∙◌, subst, ⊎_elim, arith, append_assoc, length-append, Option, Some, None}
+use Rattle.std.proofs.Common.{◌≡◌, ◌≢◌, ℕ, zero, suc, ◌+◌, Bool, List, [], ◌∷◌, ◌++◌, map, refl, sym, ap, ◌∙◌, subst, ⊎_elim, arith, append_assoc, length-append, Option, Some, None}
 use Rattle.std.specs.Prelude.{Result, Ok, Err}
 use Rattle.slab.specs.Slab.{Slab, get}
 use Rattle.hub_envelope.specs.declared.envelope.Envelope.{Envelope}
@@ -10,19 +10,18 @@ use Rattle.hub_queue.specs.declared.took.Took.{Took}
 use Rattle.hub_queue.specs.declared.took.Took.TheVariants.{Got, Empty, Busy, Again, Disabled, Closed}
 use Rattle.hub_queue.specs.Counting.{Count}
 use Rattle.hub_queue.specs.Taking.{TakerSeat, IsTaken}
-use Rattle.hub_loop.specs.Adopting.{IsOneAdopted, AreAdopted}
+use Rattle.hub_loop.specs.Adopting.{Stored, IsOneAdopted, AreAdopted}
 use Rattle.hub_loop.specs.Asking.{Leaves, IsAsked, IsHeldAsked}
 use Rattle.hub_loop.specs.Delivering.{IsDelivered}
 use Rattle.hub_loop.specs.Holding.{seat_of, with_seat}
 use Rattle.hub_loop.specs.Serving.{asked_by, IsSlotAsked, IsAskedAt, AskedAll, HasGiven}
 use Rattle.hub_loop.specs.TakingNothing.{got_of, TookNothing, SeatTookNothing, HeldTookNothing, SlotTookNothing, TookNothingBut, Gave}
-use Rattle.hub_loop.specs.Turning.{IsDue, IsTurn}
+use Rattle.hub_loop.specs.Turning.{store_of, IsDue, IsTurn}
 use Rattle.hub_loop.specs.declared.delivery.Delivery.{Delivery}
 use Rattle.hub_loop.specs.declared.delivery.Due.TheVariants as turn_has
 use Rattle.hub_loop.specs.declared.held.Held.{Held}
 use Rattle.hub_loop.specs.declared.holding.Holding.{Holding}
 use Rattle.hub_loop.specs.declared.serving.Asked.TheVariants as asked
-use Rattle.hub_loop.specs.declared.serving.Served.TheVariants.{Given, Nothing}
 use Rattle.hub_loop.specs.declared.turn.Turn.{Turn}
 use Rattle.hub_loop.specs.declared.turn.Turn.TheVariants.{Delivered, Idle, Ending}
 use Rattle.hub_loop.proofs.Asks.{seat-with, with-twice, with-own}
@@ -176,18 +175,18 @@ others-given keys key v old new before after given other differs =
     (others-asked given.middle new key given.count after (asked.Given v) given.given other differs)
 
 -- what was held before ports were adopted is held afterwards
-one-kept : (p : PortSeat) (old new : Slab Held) (before after : List EndId) (key : ℕ) (h : Held) → IsOneAdopted p old new before after → get old key ≡ Some h → get new key ≡ Some h
+one-kept : (p : PortSeat) (old new : Stored) (before after : List EndId) (key : ℕ) (h : Held) → IsOneAdopted p old new before after → get old.held key ≡ Some h → get new.held key ≡ Some h
 one-kept p old new before after key h one there =
     ⊎_elim
     (λ (held : _).
     let more = held.2 in
-    let differs : key ≢ more.0 = λ same. let none : get old key ≡ None = ap (get old) same ∙ more.1 in absurd cc in
+    let differs : key ≢ more.0 = λ same. let none : get old.held key ≡ None = ap (get old.held) same ∙ more.1 in absurd cc in
     more.2.others key differs ∙ there)
     (λ (unfit : _). unfit.3 key ∙ there)
     one
 
-adopted-kept : (ps : List PortSeat) (old new : Slab Held) (before after : List EndId) (key : ℕ) (h : Held) → AreAdopted ps old new before after → get old key ≡ Some h → get new key ≡ Some h
-adopted-kept [] old new before after key h did there = did.0 key ∙ there
+adopted-kept : (ps : List PortSeat) (old new : Stored) (before after : List EndId) (key : ℕ) (h : Held) → AreAdopted ps old new before after → get old.held key ≡ Some h → get new.held key ≡ Some h
+adopted-kept [] old new before after key h did there = did.0.0 key ∙ there
 adopted-kept (p ∷ ps) old new before after key h did there =
     adopted-kept ps did.0 new did.1 after key h did.3 (one-kept p old did.0 before did.1 key h did.2 there)
 
@@ -207,11 +206,11 @@ all-due None old new looks before after busy key due =
     all-asked-none served.0 old.held new.held before after busy served.1 key
 
 module _ {H E : Type 0} (leaves refuses : H → Envelope → List EndId → H → Type 0) where
-  delivered-kept : (d e : Delivery) (before after : Slab Held) (h left : H) (result : Result (Unit {0}) E) → IsDelivered {E = E} leaves refuses d e before after h left result → (key : ℕ) (held : Held) → get before key ≡ Some held → get after key ≡ Some held
+  delivered-kept : (d e : Delivery) (before after : Stored) (h left : H) (result : Result (Unit {0}) E) → IsDelivered {E = E} leaves refuses d e before after h left result → (key : ℕ) (held : Held) → get before.held key ≡ Some held → get after.held key ≡ Some held
   delivered-kept d e before after h left (Ok done) did key held there = adopted-kept did.0.found.items before after did.0.missing.items did.1 key held did.3 there
   delivered-kept d e before after h left (Err error) did key held there =
       ⊎_elim
-      (λ (none : _). ap (λ s. get s key) none.2 ∙ there)
+      (λ (none : _). ap (λ (s : Stored). get s.held key) none.2 ∙ there)
       (λ (partly : _). adopted-kept partly.2 before after partly.0.missing.items partly.1.missing.items key held partly.5.1 there)
       did.1
 
@@ -222,8 +221,8 @@ module _ {H E : Type 0} (leaves refuses : H → Envelope → List EndId → H �
   others-turn old new looks kept keeps h left before after (Ok Delivered) turn key gave =
       slot-kept (get old.held key) (get turn.2.held key) (get new.held key)
       (others-due kept old turn.2 looks before after turn.0 key turn.3 (λ is behind. gave (subst (λ k. Gave {E = E} k new.next (Ok Delivered) key) (sym is) (turn.6 ∙ behind))))
-      (λ held there. delivered-kept turn.0 turn.1 turn.2.held new.held h left (Ok tt) turn.4 key held there)
+      (λ held there. delivered-kept turn.0 turn.1 (store_of turn.2) (store_of new) h left (Ok tt) turn.4 key held there)
   others-turn old new looks kept keeps h left before after (Err error) turn key gave =
       slot-kept (get old.held key) (get turn.2.held key) (get new.held key)
       (others-due kept old turn.2 looks before after turn.0 key turn.3 (λ is behind. gave (subst (λ k. Gave k new.next (Err error) key) (sym is) (turn.6 ∙ behind))))
-      (λ held there. delivered-kept turn.0 turn.1 turn.2.held new.held h left (Err error) turn.4 key held there)
+      (λ held there. delivered-kept turn.0 turn.1 (store_of turn.2) (store_of new) h left (Err error) turn.4 key held there)

@@ -1,19 +1,43 @@
--- What becomes of the ports that a delivery brings.
+-- What becomes of the ports that a delivery brings, and of a queue that was fetched.
 use Rattle.std.specs.Prelude.{◌≡◌, ◌⊎◌, ℕ, true, false, List, [], ◌∷◌, ◌++◌, Some, None, Result, Ok, Err, Bool}
 use Rattle.slab.specs.Slab.{Slab, get, Updates, SameValues}
+use Rattle.hub_clients.specs.declared.handed_queue.HandedQueue.{HandedQueue}
+use Rattle.hub_clients.specs.declared.handed_queue.HandedQueue.TheVariants as handed
+use Rattle.hub_clients.specs.Handing.{taker_of, IsAdoptedAndStarted}
 use Rattle.hub_envelope.specs.declared.ids.EndId.{EndId}
 use Rattle.hub_ports.specs.Adopting.{IsReceived}
+use Rattle.hub_ports.specs.Closing.{Left, IsLeft}
 use Rattle.hub_ports.specs.Seats.{PortSeat, end_of}
 use Rattle.hub_queue.specs.declared.adopt_error.AdoptError.{AdoptError}
 use Rattle.hub_queue.specs.declared.adopt_error.AdoptError.TheVariants as why
+use Rattle.hub_queue.specs.Adopting.{IsAdopted}
+use Rattle.hub_queue.specs.Ending.{IsClosed}
+use Rattle.hub_queue.specs.Graves.{GraveSeat}
+use Rattle.hub_queue.specs.Taking.{TakerSeat}
 use Rattle.hub_loop.specs.declared.delivery.Receiving.{Receiving}
+use Rattle.hub_loop.specs.declared.ending.Closed.{Closed}
 use Rattle.hub_loop.specs.declared.held.Held.{Held}
-use Rattle.hub_loop.specs.Holding.{number_of}
-use Rattle.hub_loop.specs.declared.held.Held.TheVariants.{Port}
+use Rattle.hub_loop.specs.declared.held.Held.TheVariants.{Port, Client, Worker}
+
+-- what a loop holds, and what it has closed and not swept yet
+pub record Stored : Type 0 where
+  pub held : Slab Held
+  pub closed : Closed
+
+abbrev pub stored : Slab Held → Closed → Stored
+stored held closed = record { held = held; closed = closed }
 
 -- What is held grew by this, under a key where nothing was held.
 abbrev pub HoldsMore : Slab Held → Slab Held → Held → Type 0
 HoldsMore old new h = (key : ℕ) × (get old key ≡ None) × Updates old new key (Some h)
+
+-- the same graves are kept, and the same notices
+abbrev pub SameClosed : Closed → Closed → Type 0
+SameClosed old new = (new.graves.items ≡ old.graves.items) × (new.noticed.items ≡ old.noticed.items)
+
+-- the same is held, and the same was closed
+abbrev pub SameStored : Stored → Stored → Type 0
+SameStored old new = SameValues old.held new.held × SameClosed old.closed new.closed
 
 -- the adoption was refused for good
 abbrev pub IsUnfit : AdoptError → Type 0
@@ -21,38 +45,59 @@ IsUnfit why.OutOfMemory = ⊥
 IsUnfit why.TooManyMoves = Unit {0}
 IsUnfit why.Taken = Unit {0}
 
--- One port more was adopted and is held, or it was refused for good and counts as missing.
-abbrev pub IsOneAdopted : PortSeat → Slab Held → Slab Held → List EndId → List EndId → Type 0
+-- The port was closed with its notice: its grave is kept, and what became of the notice.
+abbrev pub IsPortBuried : PortSeat → Closed → Closed → Type 0
+IsPortBuried p old new =
+    (left : Left) × IsLeft p left × (new.graves.items ≡ old.graves.items ++ left.0 ∷ []) × (new.noticed.items ≡ old.noticed.items ++ (end_of p, left.2) ∷ [])
+
+-- The queue was closed: its grave is kept.
+abbrev pub IsQueueBuried : HandedQueue → Closed → Closed → Type 0
+IsQueueBuried q old new =
+    (grave : GraveSeat) × IsClosed (taker_of q) grave × (new.graves.items ≡ old.graves.items ++ grave ∷ []) × (new.noticed.items ≡ old.noticed.items)
+
+-- One port more was adopted and is held; or it was refused for good: it was closed, and counts as missing.
+abbrev pub IsOneAdopted : PortSeat → Stored → Stored → List EndId → List EndId → Type 0
 IsOneAdopted p old new before after =
-    ((q : PortSeat) × IsReceived p (Ok q) × HoldsMore old new (Port q) × (after ≡ before))
-    ⊎ ((error : AdoptError) × IsUnfit error × IsReceived p (Err (error, p)) × SameValues old new × (after ≡ before ++ end_of p ∷ []))
+    ((q : PortSeat) × IsReceived p (Ok q) × HoldsMore old.held new.held (Port q) × SameClosed old.closed new.closed × (after ≡ before))
+    ⊎ ((error : AdoptError) × IsUnfit error × IsReceived p (Err (error, p)) × SameValues old.held new.held × IsPortBuried p old.closed new.closed × (after ≡ before ++ end_of p ∷ []))
 
 -- The ports were adopted in order; those that were refused for good joined the missing ones.
-abbrev pub AreAdopted : List PortSeat → Slab Held → Slab Held → List EndId → List EndId → Type 0
-AreAdopted [] old new before after = SameValues old new × (after ≡ before)
+abbrev pub AreAdopted : List PortSeat → Stored → Stored → List EndId → List EndId → Type 0
+AreAdopted [] old new before after = SameStored old new × (after ≡ before)
 AreAdopted (p ∷ ps) old new before after =
-    (middle : Slab Held) × (missing : List EndId) × IsOneAdopted p old middle before missing × AreAdopted ps middle new missing after
+    (middle : Stored) × (missing : List EndId) × IsOneAdopted p old middle before missing × AreAdopted ps middle new missing after
 
 -- The first of the ports that were found is found no more; true: it was adopted or refused for good; false: there is none. After an error all is as it was.
-abbrev pub IsFirstAdopted : {E : Type 0} → Receiving → Receiving → Slab Held → Slab Held → Result Bool E → Type 0
+abbrev pub IsFirstAdopted : {E : Type 0} → Receiving → Receiving → Stored → Stored → Result Bool E → Type 0
 IsFirstAdopted old new before after (Ok true) =
     (p : PortSeat) × (old.found.items ≡ p ∷ new.found.items) × IsOneAdopted p before after old.missing.items new.missing.items
 IsFirstAdopted old new before after (Ok false) =
-    (old.found.items ≡ []) × (new.found.items ≡ []) × SameValues before after × (new.missing.items ≡ old.missing.items)
+    (old.found.items ≡ []) × (new.found.items ≡ []) × SameStored before after × (new.missing.items ≡ old.missing.items)
 IsFirstAdopted old new before after (Err error) =
-    (new.found.items ≡ old.found.items) × SameValues before after × (new.missing.items ≡ old.missing.items)
+    (new.found.items ≡ old.found.items) × SameStored before after × (new.missing.items ≡ old.missing.items)
 
 -- These were adopted or refused for good, and the others are still found.
-abbrev pub ArePartlyAdopted : Receiving → Receiving → Slab Held → Slab Held → List PortSeat → Type 0
+abbrev pub ArePartlyAdopted : Receiving → Receiving → Stored → Stored → List PortSeat → Type 0
 ArePartlyAdopted old new before after done =
     (old.found.items ≡ done ++ new.found.items) × AreAdopted done before after old.missing.items new.missing.items
 
 -- Ok: no port is left among those that were found. After an error some may be.
-abbrev pub AreAllAdopted : {E : Type 0} → Receiving → Receiving → Slab Held → Slab Held → Result (Unit {0}) E → Type 0
+abbrev pub AreAllAdopted : {E : Type 0} → Receiving → Receiving → Stored → Stored → Result (Unit {0}) E → Type 0
 AreAllAdopted old new before after (Ok all) = (new.found.items ≡ []) × AreAdopted old.found.items before after old.missing.items new.missing.items
 AreAllAdopted old new before after (Err error) = (done : List PortSeat) × ArePartlyAdopted old new before after done
 
--- One end of this number is held more, or nothing is.
-abbrev pub IsFetched : Bool → Slab Held → Slab Held → EndId → Type 0
-IsFetched true old new end = (h : Held) × (number_of h ≡ end) × HoldsMore old new h
-IsFetched false old new end = SameValues old new
+-- The queue was adopted and stands so where it is held; a worker's was enabled then.
+abbrev pub IsHeldAs : HandedQueue → Held → Type 0
+IsHeldAs (handed.Client t) h = (u : TakerSeat) × (h ≡ Client u) × IsAdopted t (Ok u)
+IsHeldAs (handed.Worker t) h = (u : TakerSeat) × (h ≡ Worker u) × IsAdoptedAndStarted t (Ok u)
+
+-- True: the queue was adopted and is held. False: it was refused for good and closed.
+abbrev pub IsQueueAdopted : HandedQueue → Stored → Stored → Bool → Type 0
+IsQueueAdopted q old new true = (h : Held) × IsHeldAs q h × HoldsMore old.held new.held h × SameClosed old.closed new.closed
+IsQueueAdopted q old new false =
+    (error : AdoptError) × IsUnfit error × IsAdopted (taker_of q) (Err (error, taker_of q)) × SameValues old.held new.held × IsQueueBuried q old.closed new.closed
+
+-- A queue of this number was adopted and is held, or it was refused for good and closed; false: or none was there.
+abbrev pub IsFetched : Bool → Stored → Stored → EndId → Type 0
+IsFetched true old new end = (q : HandedQueue) × ((taker_of q).end ≡ end.0) × IsQueueAdopted q old new true
+IsFetched false old new end = SameStored old new ⊎ ((q : HandedQueue) × ((taker_of q).end ≡ end.0) × IsQueueAdopted q old new false)

@@ -1,14 +1,12 @@
 -- What becomes of an envelope that was taken.
 use Rattle.std.specs.Prelude.{◌≡◌, ◌⊎◌, List, Option, Some, None, Result, Ok, Err}
-use Rattle.slab.specs.Slab.{Slab}
 use Rattle.hub_envelope.specs.declared.envelope.Envelope.{Envelope}
 use Rattle.hub_envelope.specs.declared.ids.EndId.{EndId}
 use Rattle.hub_ports.specs.Seats.{PortSeat, ends_of}
 use Rattle.hub_ports.specs.Splitting.{IsSplit}
 use Rattle.hub_loop.specs.declared.delivery.Delivery.{Delivery}
 use Rattle.hub_loop.specs.declared.delivery.Receiving.{Receiving}
-use Rattle.hub_loop.specs.declared.held.Held.{Held}
-use Rattle.hub_loop.specs.Adopting.{AreAdopted, ArePartlyAdopted}
+use Rattle.hub_loop.specs.Adopting.{Stored, AreAdopted, ArePartlyAdopted}
 
 -- These are the ports of the delivery once they were looked for: what is known of them already, or what was found of the envelope's list and what is missing, each in order.
 abbrev pub IsLookedForIn : Option Receiving → Envelope → Receiving → Type 0
@@ -20,7 +18,7 @@ IsLookedFor d r = IsLookedForIn d.arrival d.envelope r
 
 module _ {H E : Type 0} (leaves refuses : H → Envelope → List EndId → H → Type 0) where
   -- The ports that were found were adopted in order, and the handler is as it may be once it was told the envelope with those that are missing. After an error the same envelope is in hand, with the ports that were not adopted yet, if they were looked for; and the handler is as it was, or as it may be once it refused the envelope with those that are missing.
-  abbrev pub IsDelivered : Delivery → Delivery → Slab Held → Slab Held → H → H → Result (Unit {0}) E → Type 0
+  abbrev pub IsDelivered : Delivery → Delivery → Stored → Stored → H → H → Result (Unit {0}) E → Type 0
   IsDelivered old new before after h left (Ok done) =
       (r : Receiving) × (missing : List EndId) × IsLookedFor old r × AreAdopted r.found.items before after r.missing.items missing × leaves h old.envelope missing left
   IsDelivered old new before after h left (Err error) =

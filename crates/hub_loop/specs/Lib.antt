@@ -3,6 +3,7 @@ pub mod Asking
 pub mod Delivering
 pub mod Ending
 pub mod Holding
+pub mod Looking
 pub mod Noticing
 pub mod Popping
 pub mod Reaching

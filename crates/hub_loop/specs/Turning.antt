@@ -12,8 +12,12 @@ use Rattle.hub_loop.specs.declared.holding.Holding.{Holding}
 use Rattle.hub_loop.specs.declared.serving.Served.TheVariants.{Given, Nothing}
 use Rattle.hub_loop.specs.declared.turn.Turn.{Turn}
 use Rattle.hub_loop.specs.declared.turn.Turn.TheVariants.{Delivered, Idle, Ending}
+use Rattle.hub_loop.specs.Adopting.{Stored, stored}
 use Rattle.hub_loop.specs.Delivering.{IsDelivered}
 use Rattle.hub_loop.specs.Serving.{AreServed}
+
+abbrev pub store_of : Holding → Stored
+store_of h = stored h.held h.closed
 
 -- The delivery that was kept goes on. Where none was, the ends were asked in order, beginning behind the one served last, and some passed over that were not marked and whose ready bits were found clear: what is due is the envelope of the first that gave one, whose mark stays, or nothing.
 abbrev pub IsDue : Option Delivery → Holding → Holding → List BoardStep → Count → Count → Due → Type 0
@@ -21,8 +25,9 @@ IsDue (Some kept) old new looks before after due = (due ≡ turn_has.Delivery ke
 IsDue None old new looks before after (turn_has.Delivery d) =
     (key : ℕ) × (v : Envelope) × (d ≡ record { envelope = v; arrival = None })
     × AreServed old.next old.held new.held old.ready.marks looks before after (Given key v) × (new.next ≡ key + 1) × (mark_of new.ready.marks key ≡ 1)
+    × (new.closed ≡ old.closed)
 IsDue None old new looks before after (turn_has.Nothing busy) =
-    AreServed old.next old.held new.held old.ready.marks looks before after (Nothing busy) × (new.next ≡ old.next)
+    AreServed old.next old.held new.held old.ready.marks looks before after (Nothing busy) × (new.next ≡ old.next) × (new.closed ≡ old.closed)
 
 module _ {H E : Type 0} (leaves refuses : H → Envelope → List EndId → H → Type 0) where
   -- Ending: nothing was done. Idle: no delivery was kept, and each end was asked. Delivered: one delivery was taken up and told to the handler. After an error it is kept.
@@ -33,7 +38,7 @@ module _ {H E : Type 0} (leaves refuses : H → Envelope → List EndId → H �
       IsDue kept old new looks before after (turn_has.Nothing busy) × (keeps ≡ None) × (left ≡ h)
   IsTurn old new looks kept keeps h left before after (Ok Delivered) =
       (d : Delivery) × (e : Delivery) × (middle : Holding) × IsDue kept old middle looks before after (turn_has.Delivery d)
-      × IsDelivered {E = E} leaves refuses d e middle.held new.held h left (Ok tt) × (keeps ≡ None) × (new.next ≡ middle.next)
+      × IsDelivered {E = E} leaves refuses d e (store_of middle) (store_of new) h left (Ok tt) × (keeps ≡ None) × (new.next ≡ middle.next)
   IsTurn old new looks kept keeps h left before after (Err error) =
       (d : Delivery) × (e : Delivery) × (middle : Holding) × IsDue kept old middle looks before after (turn_has.Delivery d)
-      × IsDelivered {E = E} leaves refuses d e middle.held new.held h left (Err error) × (keeps ≡ Some e) × (new.next ≡ middle.next)
+      × IsDelivered {E = E} leaves refuses d e (store_of middle) (store_of new) h left (Err error) × (keeps ≡ Some e) × (new.next ≡ middle.next)

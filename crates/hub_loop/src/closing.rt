@@ -1,6 +1,6 @@
 //! How a loop ends: what it holds is closed and swept, and then each port that is named there.
 
-ghost use Rattle.std.specs.Prelude.{◌≡◌, ℕ, [], count_by, IfOk, IfErr, OnOk};
+ghost use Rattle.std.specs.Prelude.{◌≡◌, ℕ, [], count_by, OnOk};
 ghost use Rattle.std.specs.List.Sorted.{IsNonDecreasing};
 ghost use Rattle.hub_loop.specs.Ending.{is_grave, grave_ends, closing_ends};
 ghost use Rattle.hub_loop.specs.Noticing.{NamedBehind};
@@ -10,11 +10,10 @@ use crate::ending::Closed;
 use hub_clients::Directory;
 use hub_envelope::{EndId, OutOfMemory};
 use hub_ports::{Arrival, Arrived, Hub, Noticed};
-use hub_queue::{Grave, Poster, Sweep, Swept};
+use hub_queue::{Grave, Poster, Swept};
 use std::alloc::Global;
 use std::collections::VecDeque;
 use std::sync::Wait;
-use std::thread;
 
 /// What is left of a loop that has ended.
 #[derive(Drop)]
@@ -39,26 +38,6 @@ pub(crate) struct Closing {
     next: (usize, usize),
     noticed: Vec<(EndId, Noticed)>,
     lines: Vec<Poster>,
-}
-
-/// Sweeps a closed end, again and again while somebody is inside. Where there was no memory it
-/// comes back.
-pub fn sweep_out<R: Wait>(rt: &R, grave: Grave) -> Result<Swept, Grave>
-    ensures ok { IfOk result (λ swept. swept.end ≡ grave.end) }
-    ensures err { IfErr result (λ back. back.end ≡ grave.end) }
-{
-    let mut grave = grave;
-    for _ in rt.forever() {
-        match grave.sweep(rt) {
-            Sweep::Discarded(swept) => return Ok(swept),
-            Sweep::StillInside(back) => {
-                grave = back;
-                thread::yield_now();
-            }
-            Sweep::NoRoom(back) => return Err(back),
-        }
-    }
-    unreachable!()
 }
 
 impl Closing {
@@ -111,7 +90,7 @@ impl Closing {
         while !self.graves.is_empty() {
             self.swept.reserve(1)?;
             let grave = self.graves.pop_front().unwrap();
-            match sweep_out(rt, grave) {
+            match grave.sweep_out(rt) {
                 Ok(swept) => self.swept.push_reserved(swept),
                 Err(grave) => {
                     self.graves.push_front_reserved(grave);

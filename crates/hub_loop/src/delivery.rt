@@ -1,6 +1,7 @@
 ghost use Rattle.std.specs.Prelude.{◌≡◌, Some, None, IfOk, OnErr};
 ghost use Rattle.hub_ports.specs.Seats.{ends_of};
 ghost use Rattle.hub_ports.specs.Splitting.{IsSplit};
+ghost use Rattle.hub_loop.specs.Adopting.{stored};
 ghost use Rattle.hub_loop.specs.Delivering.{IsDelivered, IsLookedFor};
 ghost use Rattle.hub_loop.specs.declared.delivery.Receiving.{Receiving};
 
@@ -85,8 +86,9 @@ impl Delivery {
         holding: &mut Holding,
         handler: &mut H,
     ) -> Result<(), OutOfMemory>
-        ensures delivered { IsDelivered H.leaves H.refuses self.old self.new holding.old.held
-            holding.new.held handler.old handler.new result }
+        ensures delivered { IsDelivered H.leaves H.refuses self.old self.new
+            (stored holding.old.held holding.old.closed)
+            (stored holding.new.held holding.new.closed) handler.old handler.new result }
         ensures next { holding.new.next ≡ holding.old.next }
     {
         self.look(rt, hub)?;

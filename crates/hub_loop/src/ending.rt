@@ -173,8 +173,8 @@ impl Closed {
     }
 }
 
-/// Takes the members among these out of the roster, before the first end is closed: nobody casts at a
-/// member of an agent whose queue is closed already.
+/// Takes the members among these out of the roster, before the first end is closed: nobody casts at
+/// a member of an agent whose queue is closed already.
 pub(crate) fn leave_all<R: Wait>(rt: &R, roster: &SharedRoster, all: &[Open]) {
     for opened in all {
         if let Open::Held(Held::Member(member)) = opened {

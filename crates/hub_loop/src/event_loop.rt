@@ -3,6 +3,7 @@ ghost use Rattle.std.specs.Prelude.{
   ◌+◌,
   ◌↔◌,
   true,
+  Some,
   None,
   Ok,
   OnOk,
@@ -26,7 +27,7 @@ ghost use Rattle.hub_marks.specs.Finding.{HasStepped};
 ghost use Rattle.slab.specs.Slab.{SameValues};
 ghost use Rattle.hub_ports.specs.Seats.{end_of};
 ghost use Rattle.hub_life.specs.OrderSeat.{knows};
-ghost use Rattle.hub_loop.specs.Adopting.{HoldsMore, IsFetched};
+ghost use Rattle.hub_loop.specs.Adopting.{HoldsMore, IsFetched, SameStored};
 ghost use Rattle.hub_loop.specs.Ending.{
   closing_ends,
   ends_in,
@@ -35,7 +36,15 @@ ghost use Rattle.hub_loop.specs.Ending.{
   HasEnded,
   HasPaused,
 };
-ghost use Rattle.hub_loop.specs.Holding.{ends_held, number_of};
+ghost use Rattle.hub_loop.specs.Holding.{end_held, ends_held};
+ghost use Rattle.hub_loop.specs.Looking.{
+  Holds,
+  HoldsNoClient,
+  HoldsNoEnd,
+  HoldsNoLine,
+  HoldsNoMember,
+  HoldsNoPort,
+};
 ghost use Rattle.hub_loop.specs.Noticing.{
   AllClosed,
   HasNoticed,
@@ -46,7 +55,13 @@ ghost use Rattle.hub_loop.specs.Noticing.{
 ghost use Rattle.hub_loop.specs.Popping.{PopsEach};
 ghost use Rattle.hub_loop.specs.Resting.{Rests};
 ghost use Rattle.hub_loop.specs.TakingNothing.{Gave, TookNothingBut};
-ghost use Rattle.hub_loop.specs.Turning.{IsDue, IsTurn};
+ghost use Rattle.hub_loop.specs.Turning.{store_of, IsDue, IsTurn};
+ghost use Rattle.hub_loop.specs.declared.held.Held.TheVariants.{
+  Port as PortHeld,
+  Client as ClientHeld,
+  Member as MemberHeld,
+  Line as LineHeld,
+};
 ghost use Rattle.hub_loop.specs.declared.turn.Turn.TheVariants.{Ending};
 
 use crate::checkpoint::Checkpoint;
@@ -165,9 +180,9 @@ impl<H: Handler + Drop, C: Checkpoint + Drop> EventLoop<H, C> {
     /// Makes a turn. First it looks for the order to end. Then it takes one envelope: it asks the
     /// open ends in rising order of their keys, beginning behind the one served last, and past the
     /// queues that an end has left behind. Ends at which nothing was posted since they were asked
-    /// are passed over while another one gives an envelope; where none does each is asked. The ports
-    /// that the envelope names are found and adopted in the order of its list, and the handler is
-    /// told.
+    /// are passed over while another one gives an envelope; where none does each is asked. The
+    /// ports that the envelope names are found and adopted in the order of its list, and the
+    /// handler is told.
     ///
     /// A port that was adopted too often, or whose number the yard knows already, is closed with
     /// its notice and counts as missing. After `OutOfMemory` the delivery is kept, and the next
@@ -182,8 +197,9 @@ impl<H: Handler + Drop, C: Checkpoint + Drop> EventLoop<H, C> {
         ensures ending { (result ≡ Ok Ending) ↔ (knows self.new.order ≡ true) }
         ensures turn { (looks : List BoardStep)
             × HasStepped self.old.listener self.new.listener looks
-            × IsTurn H.leaves H.refuses self.old.holding self.new.holding looks self.old.kept self.new.kept
-            self.old.handler self.new.handler steps.old steps.new result }
+            × IsTurn H.leaves H.refuses self.old.holding self.new.holding looks
+            self.old.kept self.new.kept self.old.handler self.new.handler
+            steps.old steps.new result }
         ensures others { TookNothingBut (Gave self.old.kept self.new.holding.next result)
             self.old.holding.held self.new.holding.held }
         ensures pops { PopsEach result self.old.holding.held steps.old steps.new }
@@ -228,32 +244,40 @@ impl<H: Handler + Drop, C: Checkpoint + Drop> EventLoop<H, C> {
         }
     }
 
-    /// Lends the port of this number, where the loop holds it.
+    /// Lends the port of this number. `None` where the loop doesn't hold it.
     pub fn port_mut(&mut self, end: EndId) -> Option<&mut Port>
-        ensures { IfSome result (λ port. end_of port.now ≡ end) }
+        ensures some { IfSome result (λ port. Holds self.old.holding.held (PortHeld port.now)
+            × (end_of port.now ≡ end)) }
+        ensures none { IfNone result (HoldsNoPort self.old.holding.held end) }
     {
-        self.holding.end_mut(end)?.as_port(end)
+        self.holding.port_mut(end)
     }
 
-    /// Lends the client's queue of this number, where the loop holds it.
+    /// Lends the client's queue of this number. `None` where the loop doesn't hold it.
     pub fn client_mut(&mut self, end: EndId) -> Option<&mut ClientQueue>
-        ensures { IfSome result (λ queue. queue.now.end ≡ end.0) }
+        ensures some { IfSome result (λ queue. Holds self.old.holding.held (ClientHeld queue.now)
+            × (queue.now.end ≡ end.0)) }
+        ensures none { IfNone result (HoldsNoClient self.old.holding.held end) }
     {
-        self.holding.end_mut(end)?.as_client(end)
+        self.holding.client_mut(end)
     }
 
-    /// Lends the member of this number, where the loop holds it.
+    /// Lends the member of this number. `None` where the loop doesn't hold it.
     pub fn member_mut(&mut self, end: EndId) -> Option<&mut Member>
-        ensures { IfSome result (λ member. member.now.taker.end ≡ end.0) }
+        ensures some { IfSome result (λ member. Holds self.old.holding.held (MemberHeld member.now)
+            × (member.now.taker.end ≡ end.0)) }
+        ensures none { IfNone result (HoldsNoMember self.old.holding.held end) }
     {
-        self.holding.end_mut(end)?.as_member(end)
+        self.holding.member_mut(end)
     }
 
-    /// Lends the line that posts at the end of this number, where the loop holds it.
+    /// Lends a line that posts at the end of this number. `None` where the loop holds none.
     pub fn line_mut(&mut self, end: EndId) -> Option<&mut Poster>
-        ensures { IfSome result (λ poster. poster.now.name.end ≡ end) }
+        ensures some { IfSome result (λ line. Holds self.old.holding.held (LineHeld line.now)
+            × (line.now.name.end ≡ end)) }
+        ensures none { IfNone result (HoldsNoLine self.old.holding.held end) }
     {
-        self.holding.line_mut(end)?.as_line(end)
+        self.holding.line_mut(end)
     }
 
     /// Lends the handler.
@@ -271,9 +295,11 @@ impl<H: Handler + Drop, C: Checkpoint + Drop> EventLoop<H, C> {
         replace(&mut self.handler, handler)
     }
 
-    /// Shows the port, queue or member of this number, where the loop holds it.
+    /// Shows the port, queue or member of this number. `None` where the loop doesn't hold it.
     pub fn held(&self, end: EndId) -> Option<&Held>
-        ensures { IfSome result (λ held. number_of held.now ≡ end) }
+        ensures some { IfSome result (λ held. Holds self.now.holding.held held.now
+            × (end_held held.now ≡ Some end)) }
+        ensures none { IfNone result (HoldsNoEnd self.now.holding.held end) }
     {
         self.holding.held(end)
     }
@@ -288,9 +314,10 @@ impl<H: Handler + Drop, C: Checkpoint + Drop> EventLoop<H, C> {
 
     /// Gives the port, queue or member of this number out. `None` where the loop doesn't hold it.
     pub fn release(&mut self, end: EndId) -> Option<Held>
-        ensures given { IfSome result (λ held. (number_of held ≡ end)
+        ensures given { IfSome result (λ held. (end_held held ≡ Some end)
             × HoldsMore self.new.holding.held self.old.holding.held held) }
         ensures none { IfNone result (self.new.holding.held ≡ self.old.holding.held) }
+        ensures missing { IfNone result (HoldsNoEnd self.old.holding.held end) }
         ensures kept { (self.new.kept ≡ self.old.kept) × (self.new.handler ≡ self.old.handler)
             × (self.new.holding.closed ≡ self.old.holding.closed) }
         ensures rest { (self.new.fetched ≡ self.old.fetched) × (self.new.opened ≡ self.old.opened)
@@ -353,9 +380,10 @@ impl<H: Handler + Drop, C: Checkpoint + Drop> EventLoop<H, C> {
         directory: &Directory,
         end: EndId,
     ) -> Result<bool, LoopError>
-        ensures ok { IfOk result (λ held.
-            IsFetched held self.old.holding.held self.new.holding.held end) }
-        ensures err { OnErr result (SameValues self.old.holding.held self.new.holding.held) }
+        ensures ok { IfOk result (λ held. IsFetched held
+            (store_of self.old.holding) (store_of self.new.holding) end) }
+        ensures err { OnErr result (SameStored
+            (store_of self.old.holding) (store_of self.new.holding)) }
         ensures kept { (self.new.kept ≡ self.old.kept) × (self.new.handler ≡ self.old.handler) }
         ensures rest { (self.new.opened ≡ self.old.opened) × (self.new.closing ≡ self.old.closing) }
     {

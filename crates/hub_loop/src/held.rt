@@ -1,7 +1,17 @@
-ghost use Rattle.std.specs.Prelude.{◌≡◌, IfSome};
-ghost use Rattle.hub_ports.specs.Seats.{end_of};
+ghost use Rattle.std.specs.Prelude.{◌≡◌, ◌≢◌, ◌↔◌, true, IfNone, IfSome};
+ghost use Rattle.hub_broadcast.specs.Members.{MemberSeat};
+ghost use Rattle.hub_ports.specs.Seats.{PortSeat};
+ghost use Rattle.hub_queue.specs.Standing.{StandSeat};
+ghost use Rattle.hub_queue.specs.Taking.{TakerSeat};
 ghost use Rattle.hub_loop.specs.Asking.{IsHeldAsked, IsHeldTaken};
 ghost use Rattle.hub_loop.specs.Holding.{behind_of, end_held, number_of, seat_of};
+ghost use Rattle.hub_loop.specs.Looking.{is_a, IsEndOf, IsLineTo};
+ghost use Rattle.hub_loop.specs.declared.held.Held.TheVariants.{
+  Port as PortHeld,
+  Client as ClientHeld,
+  Member as MemberHeld,
+  Line as LineHeld,
+};
 
 use hub_broadcast::Member;
 use hub_clients::{ClientQueue, WorkerQueue};
@@ -19,6 +29,16 @@ pub enum Held {
     Worker(WorkerQueue),
     Member(Member),
     Line(Poster),
+}
+
+/// Which of the ends that are held is looked for, beside its number.
+#[derive(Clone, Copy)]
+pub(crate) enum Kind {
+    /// One of any kind.
+    End,
+    Port,
+    Client,
+    Member,
 }
 
 impl Held {
@@ -50,42 +70,76 @@ impl Held {
         matches!(self, Held::Line(_))
     }
 
-    /// The port, where it is the one of this number.
-    pub(crate) fn as_port(&mut self, end: EndId) -> Option<&mut Port>
-        ensures { IfSome result (λ port. end_of port.now ≡ end) }
+    /// Whether it is an end of this kind.
+    fn is_a(&self, kind: Kind) -> bool
+        ensures { result ≡ is_a kind self.now }
     {
         match self {
-            Held::Port(port) if port.end() == end => Some(port),
+            Held::Port(_) => matches!(kind, Kind::End | Kind::Port),
+            Held::Client(_) => matches!(kind, Kind::End | Kind::Client),
+            Held::Worker(_) => matches!(kind, Kind::End),
+            Held::Member(_) => matches!(kind, Kind::End | Kind::Member),
+            Held::Line(_) => false,
+        }
+    }
+
+    /// Whether it is the end of this kind and number.
+    pub(crate) fn is_end(&self, kind: Kind, end: EndId) -> bool
+        ensures { (result ≡ true) ↔ IsEndOf kind end self.now }
+    {
+        self.is_a(kind) && self.end() == end
+    }
+
+    /// Whether it is a line that posts at the end of this number.
+    pub(crate) fn is_line_to(&self, end: EndId) -> bool
+        ensures { (result ≡ true) ↔ IsLineTo end self.now }
+    {
+        match self {
+            Held::Line(poster) => poster.name().end == end,
+            _ => false,
+        }
+    }
+
+    /// The port, where it is one.
+    pub(crate) fn as_port(&mut self) -> Option<&mut Port>
+        ensures some { IfSome result (λ port. self.old ≡ PortHeld port.now) }
+        ensures none { IfNone result ((port : PortSeat) → self.old ≢ PortHeld port) }
+    {
+        match self {
+            Held::Port(port) => Some(port),
             _ => None,
         }
     }
 
-    /// The client's queue, where it is the one of this number.
-    pub(crate) fn as_client(&mut self, end: EndId) -> Option<&mut ClientQueue>
-        ensures { IfSome result (λ queue. queue.now.end ≡ end.0) }
+    /// The client's queue, where it is one.
+    pub(crate) fn as_client(&mut self) -> Option<&mut ClientQueue>
+        ensures some { IfSome result (λ queue. self.old ≡ ClientHeld queue.now) }
+        ensures none { IfNone result ((queue : TakerSeat) → self.old ≢ ClientHeld queue) }
     {
         match self {
-            Held::Client(queue) if queue.end() == end => Some(queue),
+            Held::Client(queue) => Some(queue),
             _ => None,
         }
     }
 
-    /// The member, where it is the one of this number.
-    pub(crate) fn as_member(&mut self, end: EndId) -> Option<&mut Member>
-        ensures { IfSome result (λ member. member.now.taker.end ≡ end.0) }
+    /// The member, where it is one.
+    pub(crate) fn as_member(&mut self) -> Option<&mut Member>
+        ensures some { IfSome result (λ member. self.old ≡ MemberHeld member.now) }
+        ensures none { IfNone result ((member : MemberSeat) → self.old ≢ MemberHeld member) }
     {
         match self {
-            Held::Member(member) if member.end() == end => Some(member),
+            Held::Member(member) => Some(member),
             _ => None,
         }
     }
 
-    /// The line, where it posts at the end of this number.
-    pub(crate) fn as_line(&mut self, end: EndId) -> Option<&mut Poster>
-        ensures { IfSome result (λ poster. poster.now.name.end ≡ end) }
+    /// The line, where it is one.
+    pub(crate) fn as_line(&mut self) -> Option<&mut Poster>
+        ensures some { IfSome result (λ line. self.old ≡ LineHeld line.now) }
+        ensures none { IfNone result ((line : StandSeat) → self.old ≢ LineHeld line) }
     {
         match self {
-            Held::Line(poster) if poster.name().end == end => Some(poster),
+            Held::Line(poster) => Some(poster),
             _ => None,
         }
     }

@@ -1,5 +1,10 @@
 ghost use Rattle.std.specs.Prelude.{
   ◌≡◌,
+  ◌↔◌,
+  ℕ,
+  true,
+  Some,
+  Err,
   [],
   ◌≤◌,
   ◌<◌,
@@ -14,22 +19,54 @@ ghost use Rattle.std.specs.Prelude.{
   vec_capacity,
   length,
 };
-ghost use Rattle.slab.specs.Slab.{HasRoomFor, SameValues};
+ghost use Rattle.std.specs.Option.{option_copied_mut};
+ghost use Rattle.slab.specs.Slab.{get, HasRoomFor, SameValues};
 ghost use Rattle.hub_clients.specs.Handing.{taker_of};
-ghost use Rattle.hub_loop.specs.Adopting.{HoldsMore, IsFetched, IsFirstAdopted, AreAllAdopted};
-ghost use Rattle.hub_loop.specs.Holding.{ends_held, number_of};
+ghost use Rattle.hub_queue.specs.Adopting.{IsAdopted};
+ghost use Rattle.hub_loop.specs.Adopting.{
+  stored,
+  AreAllAdopted,
+  HoldsMore,
+  IsFirstAdopted,
+  IsHeldAs,
+  IsPortBuried,
+  IsQueueAdopted,
+  SameClosed,
+  SameStored,
+};
+ghost use Rattle.hub_loop.specs.Holding.{end_held, ends_held};
+ghost use Rattle.hub_loop.specs.Looking.{
+  Holds,
+  HoldsNoClient,
+  HoldsNoEnd,
+  HoldsNoLine,
+  HoldsNoMember,
+  HoldsNoPort,
+  IsEndOf,
+  IsFound,
+  IsLineTo,
+  IsSlotOf,
+};
 ghost use Rattle.hub_loop.specs.Reaching.{AreReached};
-ghost use Rattle.hub_marks.specs.Marking.{HasBit};
+ghost use Rattle.hub_loop.specs.declared.held.Held.TheVariants.{
+  Port as PortHeld,
+  Client as ClientHeld,
+  Member as MemberHeld,
+  Line as LineHeld,
+};
+ghost use Rattle.hub_marks.specs.Marking.{mark_of, HasBit};
+ghost use Rattle.hub_ports.specs.Seats.{end_of};
 
 use crate::delivery::Receiving;
 use crate::ending::Closed;
-use crate::held::Held;
+use crate::held::{Held, Kind};
 use crate::listed::Listed;
-use hub_clients::HandedQueue;
+use hub_broadcast::Member;
+use hub_clients::{ClientQueue, HandedQueue};
 use hub_envelope::{EndId, OutOfMemory};
 use hub_marks::Ready;
-use hub_ports::{Arrived, Hub};
-use hub_queue::{AdoptError, Bell};
+use hub_ports::{Arrived, Hub, Port};
+use hub_queue::{AdoptError, Bell, Poster};
 use slab::Slab;
 use std::alloc::Global;
 use std::collections::BTreeSet;
@@ -43,10 +80,8 @@ pub(crate) struct Holding {
     pub(crate) held: Slab<Held>,
     /// The key with which the next asking begins.
     pub(crate) next: usize,
-    /// The ends that are worth a look, and the keys of the ends by the bits of their numbers.
+    /// The ends that are worth a look, and the keys of the ends by their numbers.
     pub(crate) ready: Ready,
-    /// The keys of the ends by their numbers.
-    ends: BTreeSet<Listed>,
     /// The keys of the lines by the numbers of the ends at which they post.
     lines: BTreeSet<Listed>,
     /// The ports that could not be adopted.
@@ -73,8 +108,9 @@ fn adopt_handed<R: Wait>(
     queue: HandedQueue,
     bell: Bell,
 ) -> Result<Held, (AdoptError, HandedQueue)>
-    ensures ok { IfOk result (λ held. number_of held ≡ record { 0 = (taker_of queue).end }) }
-    ensures err { IfErr result (λ refused. refused.1 ≡ queue) }
+    ensures ok { IfOk result (IsHeldAs queue) }
+    ensures err { IfErr result (λ refused. (refused.1 ≡ queue)
+        × IsAdopted (taker_of queue) (Err (refused.0, taker_of queue))) }
 {
     match queue {
         HandedQueue::Client(queue) => match queue.adopt(rt, &hub.yard, bell) {
@@ -99,7 +135,6 @@ impl Holding {
             held: Slab::new(alloc),
             next: 0,
             ready: Ready::new(alloc),
-            ends: BTreeSet::new(alloc),
             lines: BTreeSet::new(alloc),
             closed: Closed::new(alloc),
         }
@@ -154,13 +189,87 @@ impl Holding {
             self.lines.insert(listed)?;
         } else {
             self.ready.reserve(listed.end, listed.key)?;
-            self.ends.insert(listed)?;
         }
         Ok(())
     }
 
+    // Whether the end of this kind and number is held under a key.
+    fn is_at(&self, key: usize, kind: Kind, end: EndId) -> bool
+        ensures { (result ≡ true) ↔ IsSlotOf (IsEndOf kind end) (get self.now.held key) }
+    {
+        match self.held.get(key) {
+            Some(held) => held.is_end(kind, end),
+            None => false,
+        }
+    }
+
+    // Whether a line that posts at the end of this number is held under a key.
+    fn is_line_at(&self, key: usize, end: EndId) -> bool
+        ensures { (result ≡ true) ↔ IsSlotOf (IsLineTo end) (get self.now.held key) }
+    {
+        match self.held.get(key) {
+            Some(held) => held.is_line_to(end),
+            None => false,
+        }
+    }
+
+    // The marked key under which the end of this kind and number is held.
+    fn find_marked(&self, kind: Kind, end: EndId) -> Option<usize>
+        ensures some { IfSome result (λ key. IsSlotOf (IsEndOf kind end) (get self.now.held key)) }
+        ensures none { IfNone result ((key : ℕ) → mark_of self.now.ready.marks key ≡ 1 →
+            IsSlotOf (IsEndOf kind end) (get self.now.held key) → ⊥) }
+    {
+        let high = self.held.capacity();
+        let mut key = 0;
+        'marks: while key < high {
+            let Some(marked) = self.ready.marks.next_from(key) else {
+                return None;
+            };
+            if marked >= high {
+                return None;
+            }
+            if self.is_at(marked, kind, end) {
+                return Some(marked);
+            }
+            key = marked + 1;
+        }
+        None
+    }
+
+    // The key of the end of this kind and number. Its number leads there, unless it is marked.
+    fn find_end(&self, kind: Kind, end: EndId) -> Option<usize>
+        ensures { IsFound (IsEndOf kind end) self.now.held result }
+    {
+        if let Some(key) = self.ready.key_of(end) {
+            if self.is_at(key, kind, end) {
+                return Some(key);
+            }
+        }
+        self.find_marked(kind, end)
+    }
+
+    // The key of a line that posts at the end of this number. A borrower may have left another one
+    // where it is listed, so that all are looked at where it isn't found there.
+    fn find_line(&self, end: EndId) -> Option<usize>
+        ensures { IsFound (IsLineTo end) self.now.held result }
+    {
+        if let Some(key) = key_of(&self.lines, end) {
+            if self.is_line_at(key, end) {
+                return Some(key);
+            }
+        }
+        for key in 0..self.held.capacity() {
+            if self.is_line_at(key, end) {
+                return Some(key);
+            }
+        }
+        None
+    }
+
     // Lends what is held under a key, and marks it: whoever borrows an end may start it.
-    fn lend(&mut self, key: usize) -> Option<&mut Held> {
+    fn lend(&mut self, key: usize) -> Option<&mut Held>
+        ensures { option_copied_mut result ≡ get self.old.held key }
+    {
         if !self.held.contains(key) {
             return None;
         }
@@ -168,25 +277,54 @@ impl Holding {
         self.held.get_mut(key)
     }
 
-    /// Lends the end of this number.
-    pub(crate) fn end_mut(&mut self, end: EndId) -> Option<&mut Held> {
-        let key = key_of(&self.ends, end)?;
-        self.lend(key)
+    /// Lends the port of this number.
+    pub(crate) fn port_mut(&mut self, end: EndId) -> Option<&mut Port>
+        ensures some { IfSome result (λ port. Holds self.old.held (PortHeld port.now)
+            × (end_of port.now ≡ end)) }
+        ensures none { IfNone result (HoldsNoPort self.old.held end) }
+    {
+        let key = self.find_end(Kind::Port, end)?;
+        self.lend(key)?.as_port()
     }
 
-    /// Lends the line that posts at the end of this number.
-    pub(crate) fn line_mut(&mut self, end: EndId) -> Option<&mut Held> {
-        let key = key_of(&self.lines, end)?;
-        self.lend(key)
+    /// Lends the client's queue of this number.
+    pub(crate) fn client_mut(&mut self, end: EndId) -> Option<&mut ClientQueue>
+        ensures some { IfSome result (λ queue. Holds self.old.held (ClientHeld queue.now)
+            × (queue.now.end ≡ end.0)) }
+        ensures none { IfNone result (HoldsNoClient self.old.held end) }
+    {
+        let key = self.find_end(Kind::Client, end)?;
+        self.lend(key)?.as_client()
+    }
+
+    /// Lends the member of this number.
+    pub(crate) fn member_mut(&mut self, end: EndId) -> Option<&mut Member>
+        ensures some { IfSome result (λ member. Holds self.old.held (MemberHeld member.now)
+            × (member.now.taker.end ≡ end.0)) }
+        ensures none { IfNone result (HoldsNoMember self.old.held end) }
+    {
+        let key = self.find_end(Kind::Member, end)?;
+        self.lend(key)?.as_member()
+    }
+
+    /// Lends a line that posts at the end of this number.
+    pub(crate) fn line_mut(&mut self, end: EndId) -> Option<&mut Poster>
+        ensures some { IfSome result (λ line. Holds self.old.held (LineHeld line.now)
+            × (line.now.name.end ≡ end)) }
+        ensures none { IfNone result (HoldsNoLine self.old.held end) }
+    {
+        let key = self.find_line(end)?;
+        self.lend(key)?.as_line()
     }
 
     /// Shows the end of this number.
     pub(crate) fn held(&self, end: EndId) -> Option<&Held>
-        ensures { IfSome result (λ held. number_of held.now ≡ end) }
+        ensures some { IfSome result (λ held. Holds self.now.held held.now
+            × (end_held held.now ≡ Some end)) }
+        ensures none { IfNone result (HoldsNoEnd self.now.held end) }
     {
-        let key = key_of(&self.ends, end)?;
-        let held = self.held.get(key)?;
-        if held.end() == end { Some(held) } else { None }
+        let key = self.find_end(Kind::End, end)?;
+        self.held.get(key)
     }
 
     /// The numbers of the ends, in the order of their keys.
@@ -204,17 +342,14 @@ impl Holding {
 
     /// Gives the end of this number out. `None` where it isn't held.
     pub(crate) fn release(&mut self, end: EndId) -> Option<Held>
-        ensures given { IfSome result (λ held.
-            (number_of held ≡ end) × HoldsMore self.new.held self.old.held held) }
+        ensures given { IfSome result (λ held. (end_held held ≡ Some end)
+            × HoldsMore self.new.held self.old.held held) }
         ensures none { IfNone result (self.new.held ≡ self.old.held) }
+        ensures missing { IfNone result (HoldsNoEnd self.old.held end) }
         ensures next { self.new.next ≡ self.old.next }
         ensures closed { self.new.closed ≡ self.old.closed }
     {
-        let key = key_of(&self.ends, end)?;
-        if self.held.get(key)?.end() != end {
-            return None;
-        }
-        self.ends.remove(&Listed { end, key });
+        let key = self.find_end(Kind::End, end)?;
         self.ready.forget(end, key);
         self.held.try_remove(key)
     }
@@ -227,6 +362,7 @@ impl Holding {
         ensures noticed { OnOk result
             (vec_len self.new.closed.noticed + 1 ≤ vec_capacity self.new.closed.noticed) }
         ensures same { SameValues self.old.held self.new.held }
+        ensures closed { SameClosed self.old.closed self.new.closed }
         ensures next { self.new.next ≡ self.old.next }
     {
         self.held.reserve(1)?;
@@ -234,15 +370,15 @@ impl Holding {
         Ok(())
     }
 
-    // Closes a port that was refused for good, and lists it no more.
-    fn close_unfit<R: Wait>(&mut self, rt: &R, hub: &Hub, arrived: Arrived, listed: &Listed)
+    // Closes a port that was refused for good.
+    fn close_unfit<R: Wait>(&mut self, rt: &R, hub: &Hub, arrived: Arrived)
         requires graves { vec_len self.old.closed.graves + 1 ≤ vec_capacity self.old.closed.graves }
         requires noticed { vec_len self.old.closed.noticed + 1
             ≤ vec_capacity self.old.closed.noticed }
+        ensures buried { IsPortBuried arrived self.old.closed self.new.closed }
         ensures held { self.new.held ≡ self.old.held }
         ensures next { self.new.next ≡ self.old.next }
     {
-        self.ends.remove(listed);
         let end = arrived.end();
         let (grave, _spent, noticed) = arrived.close(rt, hub);
         self.closed.bury(end, grave, noticed);
@@ -256,17 +392,14 @@ impl Holding {
         hub: &Hub,
         queue: HandedQueue,
     ) -> Result<bool, HandedQueue>
-        ensures ok { IfOk result (λ held.
-            IsFetched held self.old.held self.new.held (record { 0 = (taker_of queue).end })) }
+        ensures ok { IfOk result (IsQueueAdopted queue
+            (stored self.old.held self.old.closed) (stored self.new.held self.new.closed)) }
         ensures back { IfErr result (λ back. back ≡ queue) }
-        ensures err { OnErr result (SameValues self.old.held self.new.held) }
+        ensures err { OnErr result (SameStored (stored self.old.held self.old.closed)
+            (stored self.new.held self.new.closed)) }
         ensures next { self.new.next ≡ self.old.next }
     {
-        let listed = Listed {
-            end: queue.end(),
-            key: self.held.vacant_key(),
-        };
-        let Ok(bell) = self.prepare(listed.end) else {
+        let Ok(bell) = self.prepare(queue.end()) else {
             return Err(queue);
         };
         match adopt_handed(rt, hub, queue, bell) {
@@ -274,12 +407,8 @@ impl Holding {
                 self.put(held);
                 Ok(true)
             }
-            Err((AdoptError::OutOfMemory, queue)) => {
-                self.ends.remove(&listed);
-                Err(queue)
-            }
+            Err((AdoptError::OutOfMemory, queue)) => { Err(queue) }
             Err((AdoptError::TooManyMoves | AdoptError::Taken, queue)) => {
-                self.ends.remove(&listed);
                 self.closed.graves.push_reserved(queue.close());
                 Ok(false)
             }
@@ -295,6 +424,7 @@ impl Holding {
         ensures noticed { OnOk result
             (vec_len self.new.closed.noticed + 1 ≤ vec_capacity self.new.closed.noticed) }
         ensures same { SameValues self.old.held self.new.held }
+        ensures closed { SameClosed self.old.closed self.new.closed }
         ensures next { self.new.next ≡ self.old.next }
     {
         self.make_room()?;
@@ -315,7 +445,8 @@ impl Holding {
         hub: &Hub,
         receiving: &mut Receiving,
     ) -> Result<bool, OutOfMemory>
-        ensures adopted { IsFirstAdopted receiving.old receiving.new self.old.held self.new.held
+        ensures adopted { IsFirstAdopted receiving.old receiving.new
+            (stored self.old.held self.old.closed) (stored self.new.held self.new.closed)
             result }
         ensures next { self.new.next ≡ self.old.next }
     {
@@ -324,10 +455,6 @@ impl Holding {
         };
         let end = first.end();
         receiving.missing.reserve(1)?;
-        let listed = Listed {
-            end,
-            key: self.held.vacant_key(),
-        };
         let bell = self.prepare(end)?;
         let arrived = receiving.found.pop_front().unwrap();
         match arrived.adopt(rt, hub, bell) {
@@ -336,17 +463,16 @@ impl Holding {
                 Ok(true)
             }
             Err((AdoptError::OutOfMemory, arrived)) => {
-                self.ends.remove(&listed);
                 receiving.found.push_front_reserved(arrived);
                 Err(OutOfMemory)
             }
             Err((AdoptError::TooManyMoves, arrived)) => {
-                self.close_unfit(rt, hub, arrived, &listed);
+                self.close_unfit(rt, hub, arrived);
                 receiving.missing.push_reserved(end);
                 Ok(true)
             }
             Err((AdoptError::Taken, arrived)) => {
-                self.close_unfit(rt, hub, arrived, &listed);
+                self.close_unfit(rt, hub, arrived);
                 receiving.missing.push_reserved(end);
                 Ok(true)
             }
@@ -360,7 +486,8 @@ impl Holding {
         hub: &Hub,
         receiving: &mut Receiving,
     ) -> Result<(), OutOfMemory>
-        ensures adopted { AreAllAdopted receiving.old receiving.new self.old.held self.new.held
+        ensures adopted { AreAllAdopted receiving.old receiving.new
+            (stored self.old.held self.old.closed) (stored self.new.held self.new.closed)
             result }
         ensures next { self.new.next ≡ self.old.next }
     {

@@ -15,7 +15,7 @@ mod serving;
 mod turn;
 
 pub use checkpoint::{Checkpoint, NoCheckpoint};
-pub use closing::{Ended, sweep_out};
+pub use closing::Ended;
 pub use event_loop::EventLoop;
 pub use handler::Handler;
 pub use held::Held;

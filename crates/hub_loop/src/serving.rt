@@ -116,6 +116,7 @@ impl Holding {
         ensures capacity { self.new.held.capacity ≡ self.old.held.capacity }
         ensures listed { self.new.ready.listed ≡ self.old.ready.listed }
         ensures next { self.new.next ≡ self.old.next }
+        ensures closed { self.new.closed ≡ self.old.closed }
     {
         let asked = ask_at(rt, &mut self.held, key, steps);
         match &asked {
@@ -136,8 +137,9 @@ impl Holding {
         steps: &mut Steps<L>,
     ) -> Served
         requires { high ≤ self.old.held.capacity }
-        ensures { AreMarkedAsked low high (ends_of self.old) (ends_of self.new)
+        ensures asked { AreMarkedAsked low high (ends_of self.old) (ends_of self.new)
             steps.old steps.new result }
+        ensures closed { self.new.closed ≡ self.old.closed }
     {
         let mut busy = false;
         let mut key = low;
@@ -162,6 +164,7 @@ impl Holding {
         ensures served { AreMarkedServed (ends_of self.old) (ends_of self.new)
             steps.old steps.new result }
         ensures keys { length self.old.held.slots ≤ self.old.held.capacity }
+        ensures closed { self.new.closed ≡ self.old.closed }
     {
         let next = self.next;
         let high = self.held.capacity();
@@ -174,8 +177,8 @@ impl Holding {
         }
     }
 
-    // Before some of the keys it looks which ends were rung, and asks the marked ones where there may
-    // be one.
+    // Before some of the keys it looks which ends were rung, and asks the marked ones where there
+    // may be one.
     fn serve_rung<L: Ledger, R: Wait>(
         &mut self,
         rt: &R,
@@ -186,6 +189,7 @@ impl Holding {
         ensures served { AreMarkedServed (ends_of self.old) (ends_of self.new)
             steps.old steps.new result }
         ensures looks { (looks : List BoardStep) × HasStepped listener.old listener.new looks }
+        ensures closed { self.new.closed ≡ self.old.closed }
     {
         if key % A_TIME != A_TIME - 1 {
             return Served::Nothing(false);
@@ -210,6 +214,7 @@ impl Holding {
         ensures served { AreAskedBetween low high (ends_of self.old) (ends_of self.new)
             steps.old steps.new result }
         ensures looks { (looks : List BoardStep) × HasStepped listener.old listener.new looks }
+        ensures closed { self.new.closed ≡ self.old.closed }
     {
         let mut busy = false;
         for key in low..high {
@@ -236,6 +241,7 @@ impl Holding {
         ensures served { AreAllServed (ends_of self.old) (ends_of self.new)
             steps.old steps.new result }
         ensures looks { (looks : List BoardStep) × HasStepped listener.old listener.new looks }
+        ensures closed { self.new.closed ≡ self.old.closed }
     {
         let next = self.next;
         let high = self.held.capacity();
@@ -248,8 +254,8 @@ impl Holding {
         }
     }
 
-    // Looks which ends were rung, and asks the marked ends; where none of them gives an envelope all
-    // are asked.
+    // Looks which ends were rung, and asks the marked ends; where none of them gives an envelope
+    // all are asked.
     fn serve_first<L: Ledger, R: Wait>(
         &mut self,
         rt: &R,
@@ -262,6 +268,7 @@ impl Holding {
         ensures given { IsServedMarked self.new.ready.marks result }
         ensures inside { IsServedInside self.new.held.capacity result }
         ensures next { self.new.next ≡ self.old.next }
+        ensures closed { self.new.closed ≡ self.old.closed }
     {
         self.ready.gather(listener);
         match self.serve_marked(rt, steps) {
@@ -288,6 +295,7 @@ impl Holding {
         ensures keys { length self.old.held.slots ≤ self.old.held.capacity }
         ensures given { IsServedMarked self.new.ready.marks result }
         ensures next { self.new.next ≡ next_after self.old.next result }
+        ensures closed { self.new.closed ≡ self.old.closed }
     {
         let served = self.serve_first(rt, listener, steps);
         if let Served::Given(key, _) = &served {

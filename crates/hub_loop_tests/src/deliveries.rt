@@ -99,8 +99,8 @@ fn ends_are_served_in_turn(rt: HostRuntime) {
     walks(&rt, rt.alloc(), SERVED_IN_TURN, 15);
 }
 
-// What waited at a port before its start rings nobody then, and it is served while another port stays
-// busy.
+// What waited at a port before its start rings nobody then, and it is served while another port
+// stays busy.
 const WAITED_BEFORE: &[(u8, Step)] = &[
     (0, Step::Open),
     (1, Step::Open),

@@ -124,8 +124,8 @@ fn handed_queue(rt: HostRuntime) {
     assert_eq!(rt; walked, Some(([5, 2, 11, 4], (0, 0))));
 }
 
-// The post that was held up rings the loop that the queue has left. It is served while another end of
-// the loop stays busy.
+// The post that was held up rings the loop that the queue has left. It is served while another end
+// of the loop stays busy.
 const BUSY_BEFORE: &[(u8, Step)] = &[
     (0, Step::Open),
     (1, Step::Open),

@@ -1,5 +1,5 @@
 -- Which ends a loop finds at its listener.
-use Rattle.std.specs.Prelude.{◌≡◌, ◌⊎◌, ℕ, ◌+◌, ◌*◌, ◌/◌, ◌%◌, ◌<◌, ◌≤◌, List, [], ◌∷◌, ◌++◌, length, slice_index}
+use Rattle.std.specs.Prelude.{◌≡◌, ◌⊎◌, ℕ, ◌+◌, ◌*◌, ◌/◌, ◌%◌, ◌<◌, ◌≤◌, List, [], ◌∷◌, ◌++◌, length, slice_index, Option, Some, None}
 use Rattle.std.specs.Int.{bit_at}
 use Rattle.hub_bell.specs.declared.steps.BoardStep.{BoardStep}
 use Rattle.hub_bell.specs.declared.steps.BoardStep.TheVariants.{Looked, Set, Took, Stored}
@@ -11,6 +11,11 @@ use Rattle.hub_marks.specs.Marking.{mark_of, HasBit}
 -- by such a list the number of an end leads to this key: at its number stands one more than the key
 abbrev pub LeadsTo : List ℕ → EndId → ℕ → Type 0
 LeadsTo listed end key = slice_index listed end.0 ≡ key + 1
+
+-- the key to which the number of an end leads, where one is listed
+abbrev pub IsKeyOf : List ℕ → EndId → Option ℕ → Type 0
+IsKeyOf listed end None = slice_index listed end.0 ≡ 0
+IsKeyOf listed end (Some key) = LeadsTo listed end key
 
 -- the marks have grown, and what was marked is
 abbrev pub GrowsMarks : List ℕ → List ℕ → Type 0

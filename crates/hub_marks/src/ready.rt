@@ -26,6 +26,7 @@ ghost use Rattle.hub_marks.specs.Finding.{
   FindsIn,
   GrowsMarks,
   HasStepped,
+  IsKeyOf,
   KeepsMarks,
   LeadsTo,
   MarksBit,
@@ -108,6 +109,16 @@ impl Ready {
         self.marks.clear(key);
         if self.leads_to(end, key) {
             self.listed[end.0 as usize] = 0;
+        }
+    }
+
+    /// The key to which the number of an end leads, where one is listed.
+    pub fn key_of(&self, end: EndId) -> Option<usize>
+        ensures { IsKeyOf self.now.listed.items end result }
+    {
+        match self.listed.get(end.0 as usize) {
+            Some(entry) if *entry > 0 => Some(*entry as usize - 1),
+            _ => None,
         }
     }
 

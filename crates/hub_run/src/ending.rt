@@ -12,7 +12,7 @@ use crate::peer::order_all;
 use crate::shared::Shared;
 use hub_envelope::{AgentId, EndId, OutOfMemory};
 use hub_logging::Scribe;
-use hub_loop::{Checkpoint, Ended, LoopError, sweep_out};
+use hub_loop::{Checkpoint, Ended, LoopError};
 use hub_ports::Noticed;
 use hub_queue::{Grave, Posted};
 use hub_script::Script;
@@ -47,7 +47,7 @@ fn end_loop<C: Checkpoint, R: Wait>(
 fn sweep_all<R: Wait>(rt: &R, graves: Vec<Grave>) -> Result<(), OutOfMemory> {
     let mut swept = Ok(());
     for grave in graves {
-        if sweep_out(rt, grave).is_err() {
+        if grave.sweep_out(rt).is_err() {
             swept = Err(OutOfMemory);
         }
     }

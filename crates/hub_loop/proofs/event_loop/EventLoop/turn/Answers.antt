@@ -1,6 +1,6 @@
 use Rattle.std.proofs.Common.{subst, refl, Some, Ok, Err}
 use Rattle.hub_loop.specs.Delivering.{IsDelivered}
-use Rattle.hub_loop.specs.Turning.{IsDue}
+use Rattle.hub_loop.specs.Turning.{store_of, IsDue}
 use Rattle.hub_loop.specs.declared.loop_error.LoopError.{LoopError}
 use Rattle.hub_loop.specs.declared.loop_error.LoopError.TheVariants.{OutOfMemory}
 use Rattle.hub_loop.specs.declared.turn.Turn.TheVariants.{Delivered}
@@ -40,7 +40,7 @@ pub returns-in-Err-clause-turn : goal.returns-in-Err-clause-turn
 returns-in-Err-clause-turn g c =
     let looks = c.take_up.ensures.due.0 in
     let due = subst (IsDue c.args.self.now.kept c.args.self.now.holding c.take_up.new.self.holding looks c.args.steps.now c.take_up.new.steps) c.in-Delivery.is c.take_up.ensures.due.2 in
-    let did = subst (λ h. IsDelivered {E = LoopError} g.H.Handler.leaves g.H.Handler.refuses c.in-Delivery.delivery c.deliver.new.self c.take_up.new.self.holding.held c.deliver.new.holding.held h c.deliver.new.handler (Err OutOfMemory)) c.take_up.ensures.handler c.in-Err.ensures.delivered in
+    let did = subst (λ h. IsDelivered {E = LoopError} g.H.Handler.leaves g.H.Handler.refuses c.in-Delivery.delivery c.deliver.new.self (store_of c.take_up.new.self.holding) (store_of c.deliver.new.holding) h c.deliver.new.handler (Err OutOfMemory)) c.take_up.ensures.handler c.in-Err.ensures.delivered in
     (looks, c.take_up.ensures.due.1, (c.in-Delivery.delivery, c.deliver.new.self, c.take_up.new.self.holding, due, did, refl, c.deliver.ensures.next))
 
 pub returns-in-Err-clause-others : goal.returns-in-Err-clause-others

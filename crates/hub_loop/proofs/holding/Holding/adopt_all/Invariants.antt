@@ -1,12 +1,12 @@
 use Rattle.std.specs.VecDeque.{deque_len}
 use Rattle.std.proofs.Common.{◌≡◌, List}
 use Rattle.hub_ports.specs.Seats.{PortSeat}
-use Rattle.hub_loop.specs.Adopting.{ArePartlyAdopted}
+use Rattle.hub_loop.specs.Adopting.{stored, ArePartlyAdopted}
 use Rattle.hub_loop.proofs.holding.Holding.adopt_all.Given as goal
 
 abbrev pub invariant-loop-error : goal.invariant-loop-error
 invariant-loop-error g l = record {
-  adopted : (done : List PortSeat) × ArePartlyAdopted l.fn.receiving l.receiving l.fn.self.held l.self.held done;
+  adopted : (done : List PortSeat) × ArePartlyAdopted l.fn.receiving l.receiving (stored l.fn.self.held l.fn.self.closed) (stored l.self.held l.self.closed) done;
   next : l.self.next ≡ l.fn.self.next;
 }
 

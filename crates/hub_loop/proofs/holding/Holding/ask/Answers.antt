@@ -1,5 +1,4 @@
-use Rattle.std.proofs.Common.{◌≡◌, refl, arith}
-use Rattle.slab.specs.Slab.{get}
+use Rattle.std.proofs.Common.{refl, arith}
 use Rattle.hub_marks.specs.declared.ready.Ready.{Ready}
 use Rattle.hub_loop.proofs.Reaches.{asked-marked}
 use Rattle.hub_loop.proofs.holding.Holding.ask.Goals as goal

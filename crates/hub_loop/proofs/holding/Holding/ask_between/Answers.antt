@@ -1,4 +1,4 @@
-use Rattle.std.proofs.Common.{◌≡◌, ◌<◌, ◌^◌, ◌+◌, ◌++◌, ◌∷◌, [], ◌||◌, subst, arith}
+use Rattle.std.proofs.Common.{◌<◌, ◌^◌, ◌+◌, ◌++◌, ◌∷◌, ◌∙◌, [], ◌||◌, subst, arith}
 use Rattle.hub_loop.specs.Scanning.{ends_of, AreMarkedServed, IsMarkedAfter}
 use Rattle.hub_loop.specs.Serving.{IsAskedAt}
 use Rattle.hub_loop.proofs.Serves.{these-join, these-more, ask-same, behind-join, behind-one, between-rung, before-range, order-later, order-more, steps-join}
@@ -69,4 +69,5 @@ loop-key-preserved g c =
         order-more c.args.low key kept.keys.0 rung.0 kept.low kept.keys.2,
       );
       looks = (kept.looks.0 ++ heard.0, steps-join c.args.listener.now c.loop-key.listener c.serve_rung.new.listener kept.looks.0 heard.0 kept.looks.1 heard.1);
+      closed = c.ask.ensures.closed ∙ c.serve_rung.ensures.closed ∙ kept.closed;
     }

@@ -11,4 +11,5 @@ invariant-loop-key g l = record {
   high : l.key ≤ l.fn.high;
   keys : (keys : List ℕ) × AskedThese keys (ends_of l.fn.self) (ends_of l.self) l.fn.steps l.steps l.busy × HasOrder l.fn.low (l.key - l.fn.low) keys;
   looks : (looks : List BoardStep) × HasStepped l.fn.listener l.listener looks;
+  closed : l.self.closed ≡ l.fn.self.closed;
 }

@@ -1,4 +1,4 @@
-use Rattle.std.proofs.Common.{◌∷◌, subst, arith}
+use Rattle.std.proofs.Common.{◌∷◌, ◌∙◌, subst, arith}
 use Rattle.hub_marks.specs.Marking.{IsNext}
 use Rattle.hub_loop.specs.Scanning.{ends_of}
 use Rattle.hub_loop.specs.Serving.{IsAskedAt}
@@ -24,4 +24,5 @@ marks-preserved g c =
             (ask-same key mid new c.ask.ensures.others c.ask.ensures.listed c.ask.ensures.next c.ask.ensures.capacity),
         marked-asked c.args.low key keys old.ready.marks (next-asked c.args.low c.marks.key key keys old mid these.same kept.keys.2 first.clear),
       );
+      closed = c.ask.ensures.closed ∙ kept.closed;
     }

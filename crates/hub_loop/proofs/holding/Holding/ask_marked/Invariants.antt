@@ -6,6 +6,7 @@ abbrev pub invariant-marks : goal.invariant-marks
 invariant-marks g l = record {
   low : l.low ≤ l.key;
   keys : (keys : List ℕ) × AskedThese keys (ends_of l.fn.self) (ends_of l.self) l.fn.steps l.steps l.busy × AskedOrUnmarked l.low l.key keys l.fn.self.ready.marks;
+  closed : l.self.closed ≡ l.fn.self.closed;
 }
 
 abbrev pub decreases-marks : goal.decreases-marks

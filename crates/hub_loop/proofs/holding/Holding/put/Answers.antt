@@ -1,7 +1,5 @@
-use Rattle.std.proofs.Common.{◌≡◌, ◌∙◌, Some, subst, sym, ap, arith, rules}
+use Rattle.std.proofs.Common.{◌∙◌, subst, sym, arith, rules}
 use Rattle.hub_marks.specs.Marking.{HasBit}
-use Rattle.hub_loop.specs.declared.held.Held.{Held}
-use Rattle.hub_loop.specs.Holding.{end_held}
 use Rattle.hub_loop.proofs.Reaches.{all-but, is-marked, moves-other, moves-same, is-line}
 use Rattle.hub_loop.proofs.holding.Holding.put.Goals as goal
 

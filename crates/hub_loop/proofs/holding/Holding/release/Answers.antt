@@ -1,4 +1,4 @@
-use Rattle.std.proofs.Common.{◌≡◌, None, arith}
+use Rattle.std.proofs.Common.{arith}
 use Rattle.slab.specs.Slab.{get}
 use Rattle.hub_loop.proofs.Reaches.{all-but, moves-other, is-gone}
 use Rattle.hub_loop.proofs.holding.Holding.release.Goals as goal

@@ -1,0 +1,72 @@
+-- What is looked for is found, where it is held.
+use Rattle.std.proofs.Common.{◌≡◌, ℕ, Bool, true, false, List, Option, Some, None, refl, ap, subst, ⊎_elim, arith}
+use Rattle.std.specs.Prelude.{IfSome, IfNone, ◌↔◌}
+use Rattle.slab.specs.Slab.{Slab, get}
+use Rattle.hub_envelope.specs.declared.ids.EndId.{EndId}
+use Rattle.hub_marks.specs.declared.ready.Ready.{Ready}
+use Rattle.hub_marks.specs.Finding.{LeadsTo, IsKeyOf}
+use Rattle.hub_marks.specs.Marking.{mark_of}
+use Rattle.hub_loop.specs.declared.held.Held.{Held}
+use Rattle.hub_loop.specs.declared.held.Held.TheVariants.{Port, Client, Worker, Member, Line}
+use Rattle.hub_loop.specs.declared.held.Kind.{Kind}
+use Rattle.hub_loop.specs.declared.held.Kind.TheVariants as kind
+use Rattle.hub_loop.specs.Holding.{end_held}
+use Rattle.hub_loop.specs.Looking.{IsEndOf, IsSlotOf, IsFound}
+use Rattle.hub_loop.specs.Reaching.{AreReached}
+use Rattle.hub_loop.proofs.Serves.{mark-cases}
+
+-- what is of a kind and number is the end of that number
+pub kind-end : (k : Kind) (end : EndId) (held : Held) → IsEndOf k end held → end_held held ≡ Some end
+kind-end k end (Port p) is = ap Some is.1
+kind-end k end (Client t) is = ap Some is.1
+kind-end k end (Worker t) is = ap Some is.1
+kind-end k end (Member m) is = ap Some is.1
+kind-end kind.End end (Line s) is = absurd cc
+kind-end kind.Port end (Line s) is = absurd cc
+kind-end kind.Client end (Line s) is = absurd cc
+kind-end kind.Member end (Line s) is = absurd cc
+
+-- what is held under a key is known
+pub slot-of : (Is : Held → Type 0) (slot : Option Held) → IsSlotOf Is slot → (held : Held) × (slot ≡ Some held) × Is held
+slot-of Is None is = absurd is
+slot-of Is (Some held) is = (held, refl, is)
+
+-- an end that isn't marked is found by its number
+unmarked : (slots : Slab Held) (r : Ready) (k : Kind) (end : EndId) (key : ℕ) → AreReached slots r → IsSlotOf (IsEndOf k end) (get slots key) → mark_of r.marks key ≡ 0 → LeadsTo r.listed.items end key
+unmarked slots r k end key reached is clear =
+    let here = slot-of (IsEndOf k end) (get slots key) is in
+    (reached key here.0 here.1).1 end (kind-end k end here.0 here.2) clear
+
+-- the number leads to no such end, and no marked one is such
+pub none-found : (slots : Slab Held) (r : Ready) (k : Kind) (end : EndId) → AreReached slots r → ((key : ℕ) → LeadsTo r.listed.items end key → IsSlotOf (IsEndOf k end) (get slots key) → ⊥) → ((key : ℕ) → mark_of r.marks key ≡ 1 → IsSlotOf (IsEndOf k end) (get slots key) → ⊥) → (key : ℕ) → IsSlotOf (IsEndOf k end) (get slots key) → ⊥
+none-found slots r k end reached listed marked key is =
+    ⊎_elim
+    (λ clear. listed key (unmarked slots r k end key reached is clear) is)
+    (λ set. marked key set is)
+    (mark-cases r.marks key)
+
+-- what a look at the marked ends has found is what is held
+pub found-marked : (Is : Held → Type 0) (slots : Slab Held) (r : Option ℕ) → IfSome r (λ key. IsSlotOf Is (get slots key)) → IfNone r ((key : ℕ) → IsSlotOf Is (get slots key) → ⊥) → IsFound Is slots r
+found-marked Is slots None some none = none
+found-marked Is slots (Some key) some none = some
+
+-- the number leads nowhere, where no key is found
+pub nowhere : (listed : List ℕ) (end : EndId) (r : Option ℕ) → IsKeyOf listed end r → ((key : ℕ) → r ≡ Some key → ⊥) → (key : ℕ) → LeadsTo listed end key → ⊥
+nowhere listed end None is isnt key leads = absurd (omega (arith, is, leads))
+nowhere listed end (Some k) is isnt key leads = isnt k refl
+
+-- the one key to which it leads has no such end
+pub not-there : (Is : Held → Type 0) (slots : Slab Held) (listed : List ℕ) (end : EndId) (r : Option ℕ) (found : ℕ) → IsKeyOf listed end r → r ≡ Some found → (IsSlotOf Is (get slots found) → ⊥) → (key : ℕ) → LeadsTo listed end key → IsSlotOf Is (get slots key) → ⊥
+not-there Is slots listed end r found is some isnt key leads here =
+    let there : LeadsTo listed end found = subst (IsKeyOf listed end) some is in
+    let same : key ≡ found = omega (arith, leads, there) in
+    isnt (subst (λ k. IsSlotOf Is (get slots k)) same here)
+
+-- what is known where nothing was found
+pub if-none : {A : Type 0} {P Q : Type 0} (r : Option A) → IfNone r P → (P → Q) → IfNone r Q
+if-none None holds then = then holds
+if-none (Some a) holds then = tt
+
+-- a test that failed
+pub not-so : {P : Type 0} (b : Bool) → (b ≡ true) ↔ P → b ≡ false → P → ⊥
+not-so b iff fails is = absurd (let yes = iff.1 is in cc)
