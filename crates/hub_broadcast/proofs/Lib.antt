@@ -1,3 +1,4 @@
 pub mod Casts
+pub mod Doing
 pub mod Joins
 pub mod Ranking

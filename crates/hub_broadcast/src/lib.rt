@@ -11,6 +11,8 @@ mod cast_outcome;
 mod casting;
 mod join_error;
 mod laws;
+mod lends;
+mod lent;
 mod member;
 mod roster;
 mod shared_roster;

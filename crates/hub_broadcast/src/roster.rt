@@ -128,6 +128,7 @@ impl Roster {
         ensures list { IsErrOf result CastError.NotTransferable
             ↔ (Any (λ s. s.poster.name.end.0 ≡ source.now.taker.end) self.old
             × (0 < length list.now)) }
+        ensures no_list { OnOk result (list.now ≡ []) }
         ensures err { OnErr result (self.new ≡ self.old) }
     {
         if !self.has(source.end()) {

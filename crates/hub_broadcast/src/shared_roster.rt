@@ -5,6 +5,7 @@ ghost use Rattle.hub_broadcast.specs.Joining.{IsNewMember};
 use crate::cast_error::CastError;
 use crate::cast_outcome::CastOutcome;
 use crate::join_error::JoinError;
+use crate::lent::{cast_in, leave_in};
 use crate::member::Member;
 use crate::roster::Roster;
 use hub_depot::Depot;
@@ -53,7 +54,8 @@ impl SharedRoster {
 
     /// Takes a member out of the roster: `Roster::leave` under the lock. It takes no memory.
     pub fn leave(&self, rt: &impl Wait, end: EndId) {
-        self.roster.lock(rt).leave(end);
+        let mut lender = &self.roster;
+        leave_in(rt, &mut lender, end);
     }
 
     /// Casts from a member: `Roster::cast` under the lock.
@@ -68,6 +70,7 @@ impl SharedRoster {
         ensures list { IsErrOf result CastError.NotTransferable → 0 < length list.now }
         ensures no_list { OnOk result (list.now ≡ []) }
     {
-        self.roster.lock(rt).cast(rt, yard, source, body, list)
+        let mut lender = &self.roster;
+        cast_in(rt, &mut lender, yard, source, body, list)
     }
 }

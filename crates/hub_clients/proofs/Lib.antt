@@ -1,3 +1,5 @@
+pub mod Closes
+pub mod Doing
 pub mod InOrder
 pub mod InPlace
 pub mod Lending

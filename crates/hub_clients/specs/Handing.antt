@@ -1,9 +1,13 @@
 -- Queues that go from one agent to another.
-use Rattle.std.specs.Prelude.{◌≡◌, ℕ, Result, Ok, Err}
+use Rattle.std.specs.Prelude.{◌≡◌, ℕ, List, [], ◌∷◌, ◌++◌, Option, Some, Result, Ok, Err}
+use Rattle.std.specs.FinMap as map
 use Rattle.hub_depot.specs.declared.key.Key.{Key}
+use Rattle.hub_depot.specs.Key.{key_cmp}
 use Rattle.hub_envelope.specs.declared.ids.AgentId.{AgentId}
 use Rattle.hub_queue.specs.declared.adopt_error.AdoptError.{AdoptError}
 use Rattle.hub_queue.specs.Adopting.{IsAdopted}
+use Rattle.hub_queue.specs.Ending.{IsClosed}
+use Rattle.hub_queue.specs.Graves.{GraveSeat}
 use Rattle.hub_queue.specs.Taking.{TakerSeat, started}
 use Rattle.hub_clients.specs.declared.handed.Handed.{Handed}
 use Rattle.hub_clients.specs.declared.handed_queue.HandedQueue.{HandedQueue}
@@ -26,3 +30,20 @@ handed_to to queue = record { queue = queue; to = to }
 abbrev pub IsAdoptedAndStarted : TakerSeat → Result TakerSeat (AdoptError × TakerSeat) → Type 0
 IsAdoptedAndStarted old (Ok new) = (moved : TakerSeat) × IsAdopted old (Ok moved) × (new ≡ started moved)
 IsAdoptedAndStarted old (Err refused) = IsAdopted old (Err refused)
+
+-- the queues that wait, each under its name
+abbrev pub Waiting : Type 0
+Waiting = map.FinMap key_cmp Handed
+
+-- the name under which the queue waits
+abbrev pub name_of : Handed → Key
+name_of h = handed_name (taker_of h.queue).end h.to
+
+-- so many queues were taken out of what waits, one after another, and the end of each was closed
+abbrev pub ClosesTo : Waiting → Waiting → List GraveSeat → Type 0
+ClosesTo waiting now [] = now ≡ waiting
+ClosesTo waiting now (g ∷ gs) = (h : Handed) × (map.get waiting (name_of h) ≡ Some h) × IsClosed (taker_of h.queue) g × ClosesTo (map.remove waiting (name_of h)) now gs
+
+-- whoever is told was told of each, of which these still wait
+abbrev pub AreToldClosed : Waiting → Waiting → List GraveSeat → Option (List GraveSeat) → Type 0
+AreToldClosed waiting now before after = (graves : List GraveSeat) × (after ≡ Some (before ++ graves)) × ClosesTo waiting now graves

@@ -1,4 +1,5 @@
 pub mod Handing
-pub mod Listings
+pub mod Lending
 pub mod Lines
+pub mod Listings
 pub mod NewQueues

@@ -41,12 +41,6 @@ pub record IsPlaceBehind (queues : List ListedSeat) (end : EndId) (place : ℕ) 
 abbrev pub IsListed : List ListedSeat → List ListedSeat → ListedSeat → Type 0
 IsListed old new q = (place : ℕ) × IsPlaceBehind old q.end place × (new ≡ insert old place q)
 
--- it is so of a list that is shown; of another nothing is known
-abbrev pub IsListedIn : Option (List ListedSeat) → Option (List ListedSeat) → ListedSeat → Type 0
-IsListedIn None now q = now ≡ None
-IsListedIn (Some was) None q = ⊥
-IsListedIn (Some was) (Some now) q = IsListed was now q
-
 -- the posters are those of the lines of this end, in order
 abbrev pub ArePostersOf : EndId → List StandSeat → Type 0
 ArePostersOf end posters = (line : ℕ) (p : StandSeat) → slice_get posters line ≡ Some p → IsPosterOf end line p

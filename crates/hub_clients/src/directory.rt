@@ -1,21 +1,22 @@
 ghost use Rattle.std.specs.Prelude.{◌≡◌, ◌+◌, ◌<◌, ◌≤◌, ◌↔◌};
 ghost use Rattle.std.specs.Prelude.{IfSome, IfOk, OnOk, IfErr, OnErr, IsErrOf};
-ghost use Rattle.std.specs.FinMap as map;
 ghost use Rattle.hub_envelope.specs.declared.limits.TheConstants.{MAX_ENDS, MAX_LINES};
 ghost use Rattle.hub_clients.specs.Handing.{taker_of};
 ghost use Rattle.hub_clients.specs.NewQueues.{IsNewClientQueue, IsNewWorkerQueue};
 
 use crate::client_queue::ClientQueue;
+use crate::closing::close_all;
 use crate::directory_error::DirectoryError;
 use crate::hand_error::HandError;
 use crate::handed::Handed;
 use crate::handed_queue::HandedQueue;
+use crate::hears::Unheard;
 use crate::keeping::{fetch_from, keep_on};
+use crate::lent::{give_back_in, line_in, open_in};
 use crate::listing::Listing;
-use crate::lists::open_in;
 use crate::queue_error::QueueError;
 use crate::worker_queue::WorkerQueue;
-use hub_depot::{Depot, Kept};
+use hub_depot::Depot;
 use hub_envelope::{AgentId, EndId};
 use hub_queue::{Bell, Ends, Poster, Taker};
 use std::alloc::Global;
@@ -51,8 +52,8 @@ impl Directory {
         ensures err { OnErr result (ends.new ≡ ends.old) }
         ensures many { IsErrOf result QueueError.TooManyEnds ↔ (MAX_ENDS ≤ ends.old.drawn) }
     {
-        let mut listing = &self.listing;
-        open_in(rt, self.alloc, &mut listing, ends, bell)
+        let mut lender = &self.listing;
+        open_in(rt, self.alloc, &mut lender, ends, bell)
     }
 
     /// Makes and lists the message queue of a client, which is empty and disabled (W3C Service
@@ -102,7 +103,8 @@ impl Directory {
     pub fn line_to<R: Wait>(&self, rt: &R, end: EndId) -> Result<Poster, DirectoryError>
         ensures { IfOk result (λ p. (p.name.end ≡ end) × (p.name.line.0 < MAX_LINES)) }
     {
-        self.listing.lock(rt).line_to(end)
+        let mut lender = &self.listing;
+        line_in(rt, &mut lender, end)
     }
 
     /// Takes a line back: `Listing::give_back` under the lock. The poster comes back where no
@@ -110,7 +112,8 @@ impl Directory {
     pub fn give_back<R: Wait>(&self, rt: &R, poster: Poster) -> Result<(), Poster>
         ensures { IfErr result (λ back. back ≡ poster) }
     {
-        self.listing.lock(rt).give_back(poster)
+        let mut lender = &self.listing;
+        give_back_in(rt, &mut lender, poster)
     }
 
     /// Keeps a queue until that agent fetches it.
@@ -144,15 +147,6 @@ impl Directory {
             handed,
         } = self;
         let mut waiting = handed.into_kept();
-        close_all(&mut waiting);
-    }
-}
-
-// Closes all queues that wait.
-fn close_all(waiting: &mut Kept<Handed>)
-    ensures { waiting.new ≡ map.empty }
-{
-    while let Some(Handed { queue, to: _ }) = waiting.take_any() {
-        queue.close();
+        close_all(&mut waiting, &mut Unheard);
     }
 }

@@ -7,15 +7,18 @@
 #![tactic(auto)]
 
 mod client_queue;
+mod closing;
 mod directory;
 mod directory_error;
 mod hand_error;
 mod handed;
 mod handed_queue;
+mod hears;
 mod keeping;
+mod lends;
+mod lent;
 mod listed;
 mod listing;
-mod lists;
 mod queue_error;
 mod worker_queue;
 
