@@ -1,3 +1,5 @@
+//! That the order of joining is that of the numbers.
+
 ghost use Rattle.hub_broadcast.specs.Ranks.{KeepsOrder};
 
 /// What holds of the order of a roster whose members were all made with one count of ends.

@@ -1,4 +1,5 @@
-ghost use Rattle.std.specs.Prelude.{◌≡◌, ◌≢◌, ◌+◌, ◌<◌, ◌≤◌, ◌↔◌, [], All, Any, filter, length, map, not, MatchBool, string_bytes, IfOk, OnOk, OnErr, IsErrOf};
+ghost use Rattle.std.specs.Prelude.{◌≡◌, ◌≢◌, ◌+◌, ◌<◌, ◌≤◌, ◌↔◌, [], All, Any, filter, length};
+ghost use Rattle.std.specs.Prelude.{map, not, MatchBool, string_bytes, IfOk, OnOk, OnErr, IsErrOf};
 ghost use Rattle.hub_envelope.specs.declared.limits.TheConstants.{MAX_ENDS};
 ghost use Rattle.hub_broadcast.specs.Casting.{IsBroadcast, cast_draft};
 ghost use Rattle.hub_broadcast.specs.Destinations.{destinations_in, is_of_end};

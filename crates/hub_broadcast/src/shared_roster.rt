@@ -1,4 +1,5 @@
-ghost use Rattle.std.specs.Prelude.{◌≡◌, ◌+◌, ◌<◌, ◌≤◌, ◌↔◌, [], length, string_bytes, IfOk, OnOk, OnErr, IsErrOf};
+ghost use Rattle.std.specs.Prelude.{◌≡◌, ◌+◌, ◌<◌, ◌≤◌, ◌↔◌, [], length, string_bytes, IfOk, OnOk};
+ghost use Rattle.std.specs.Prelude.{OnErr, IsErrOf};
 ghost use Rattle.hub_envelope.specs.declared.limits.TheConstants.{MAX_ENDS};
 ghost use Rattle.hub_broadcast.specs.Joining.{IsNewMember};
 
@@ -21,6 +22,12 @@ use std::sync::{Mutex, Wait};
 /// lock. Who is a member at that moment no contract of these calls can say, since another thread
 /// may act between any two of them. A cast keeps the lock during all its posts, of which each hop
 /// takes the yard's; whoever holds the yard's lock must not take this one.
+///
+/// ```rust
+/// let roster = SharedRoster::new(alloc);
+/// let member = roster.join(rt, &mut ends, AgentId(0), origin, name, bell)?;
+/// let outcomes = roster.cast(rt, &yard, &member, body, &[])?;
+/// ```
 #[derive(Drop)]
 pub struct SharedRoster {
     roster: Mutex<Roster>,

@@ -28,6 +28,13 @@ use std::sync::{Mutex, Wait};
 /// `line_to` and `give_back` are the calls of that name on the `Listing` behind the lock, under one
 /// taking of the lock. What is listed at that moment no contract of these calls can say, since
 /// another thread may act between any two of them.
+///
+/// ```rust
+/// let directory = Directory::new(alloc);
+/// let mut queue = directory.client(rt, &mut ends, bell)?;
+/// queue.loaded();
+/// let mut line = directory.line_to(rt, queue.end())?;
+/// ```
 #[derive(Drop)]
 pub struct Directory {
     alloc: Global,

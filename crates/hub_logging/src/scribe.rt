@@ -24,6 +24,12 @@ use std::sync::Wait;
 ///
 /// A log has limits for what it names, which no call of the hub goes past. An entry that would is
 /// refused as for want of memory, since no log could hold it.
+///
+/// ```rust
+/// let mut scribe = Scribe::new(alloc, AgentId(0));
+/// scribe.put(posted, &[], &body)?;
+/// let log = scribe.into_log();
+/// ```
 #[derive(Drop)]
 pub struct Scribe {
     alloc: Global,

@@ -91,6 +91,13 @@ use std::thread;
 ///
 /// One thread has it. The other agents' threads meet it at the gates of its ends, at the hub, and
 /// at the word of its order.
+///
+/// ```rust
+/// let mut event_loop = EventLoop::open(alloc, agent, order, handler, NoCheckpoint, listener)?;
+/// event_loop.hold(Held::Port(port))?;
+/// event_loop.run(rt, &hub)?;          // until the order to end
+/// let ended = event_loop.end(rt, &hub, &directory, &roster)?;
+/// ```
 #[derive(Drop)]
 pub struct EventLoop<H: Handler + Drop, C: Checkpoint + Drop> {
     alloc: Global,

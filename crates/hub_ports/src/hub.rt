@@ -15,6 +15,13 @@ use std::sync::{Mutex, Wait};
 /// `flight` and `yard` each have a lock. No call takes one while it holds the other, and nothing
 /// else is locked inside. A third lock makes the hub one that threads may share. Only `end` reaches
 /// it, which has the hub for itself and takes no lock.
+///
+/// ```rust
+/// let hub = Hub::new(alloc);
+/// let (mut one, mut other) = channel(alloc, &mut ends, bell)?;
+/// other.start();
+/// one.post(rt, &hub, AgentId(0), body, Vec::new(alloc))?;
+/// ```
 #[derive(Drop)]
 pub struct Hub {
     /// The ports that were sent, under their numbers.

@@ -1,6 +1,13 @@
+//! The actions of a script, added to what is known, with the tests that ask what stands before.
+
 ghost use Rattle.std.specs.Prelude.{◌≡◌};
 ghost use Rattle.hub_text.specs.Reading.{IsReadAs};
-ghost use Rattle.hub_script.specs.Context.{after_action, after_agent, after_cast, after_channel, after_close, after_event, after_fetch, after_form, after_hand, after_loaded, after_member, after_order, after_post, after_receive, after_send, after_start, after_start_port, after_start_queue, after_wait, body_or, may_start_queue};
+ghost use Rattle.hub_script.specs.Context.{after_action, after_agent, after_cast, after_channel};
+ghost use Rattle.hub_script.specs.Context.{after_close, after_event, after_fetch, after_form};
+ghost use Rattle.hub_script.specs.Context.{after_hand, after_loaded, after_member, after_order};
+ghost use Rattle.hub_script.specs.Context.{after_post, after_receive, after_send, after_start};
+ghost use Rattle.hub_script.specs.Context.{after_start_port, after_start_queue, after_wait};
+ghost use Rattle.hub_script.specs.Context.{body_or, may_start_queue};
 
 use crate::action::ActionKind;
 use crate::agent_kind::AgentKind;

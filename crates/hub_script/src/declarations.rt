@@ -1,3 +1,5 @@
+//! What a script declares, added to what is known, with the tests that ask what stands before.
+
 ghost use Rattle.std.specs.Prelude.{◌≡◌};
 ghost use Rattle.hub_text.specs.Reading.{IsReadAs};
 ghost use Rattle.hub_script.specs.Context.{after_agent, after_channel, after_form, after_member};

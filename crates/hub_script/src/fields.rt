@@ -1,3 +1,5 @@
+//! The fields of the JSON object that a text line is.
+
 ghost use Rattle.std.specs.Prelude.{◌≡◌};
 ghost use Rattle.hub_script.specs.Fields.{field_count, number_in, text_in, value_in};
 ghost use Rattle.hub_text.specs.Reading.{IsReadAs};

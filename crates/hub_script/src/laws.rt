@@ -1,4 +1,7 @@
-ghost use Rattle.hub_script.specs.Laws.{ClosesHeld, NoScript, NoneAccepted, OneAnswer, OneRefusal, PostsHeld, SendsHeld, StartsHeld};
+//! The laws of scripts.
+
+ghost use Rattle.hub_script.specs.Laws.{ClosesHeld, NoScript, NoneAccepted, OneAnswer, OneRefusal};
+ghost use Rattle.hub_script.specs.Laws.{PostsHeld, SendsHeld, StartsHeld};
 
 /// Laws of every script line that `Script::read` takes, after the lines before it. What a line
 /// posts at, starts or closes is held by its agent; the ports that it transfers are at most

@@ -1,3 +1,5 @@
+//! Tests of a list of names.
+
 ghost use Rattle.std.specs.Prelude.{◌≡◌, option_map};
 ghost use Rattle.hub_script.specs.Context.{has_twice, is_listed, stands_in};
 

@@ -1,3 +1,5 @@
+//! The reader of a whole script.
+
 ghost use Rattle.hub_script.specs.Answers.{IsScriptAnswer};
 ghost use Rattle.hub_script.specs.Refusals.{IsExplained};
 ghost use Rattle.hub_script.specs.Script.{after_line, script_of};

@@ -1,7 +1,12 @@
+//! The form of a text line, field by field.
+
 ghost use Rattle.std.specs.Prelude.{◌≡◌, ◌≤◌, IfOk};
 ghost use Rattle.hub_origin.specs.Origin.{origin_answer};
 ghost use Rattle.hub_envelope.specs.Answer.{answer_of};
-ghost use Rattle.hub_script.specs.Form.{agent_form, at_agent, body_in, cast_form, channel_form, event_form, form_of, form_with, kind_of, loaded_form, member_form, names_from, names_of, object_in, pair_of, post_form, send_form, shown_fields, text_form, transfer_in};
+ghost use Rattle.hub_script.specs.Form.{agent_form, at_agent, body_in, cast_form, channel_form};
+ghost use Rattle.hub_script.specs.Form.{event_form, form_of, form_with, kind_of, loaded_form};
+ghost use Rattle.hub_script.specs.Form.{member_form, names_from, names_of, object_in, pair_of};
+ghost use Rattle.hub_script.specs.Form.{post_form, send_form, shown_fields, text_form, transfer_in};
 ghost use Rattle.hub_text.specs.Reading.{IsReadAs};
 ghost use Rattle.serde_json.specs.Data.{depth};
 ghost use Rattle.serde_json.specs.Read.{max_depth};

@@ -1,5 +1,7 @@
 ghost use Rattle.std.specs.Prelude.{◌≡◌, ◌<◌, ◌≤◌, [], length, OnOk};
-ghost use Rattle.hub_script.specs.Contents.{IsWithinLimits, actions, agents, channels, line_count, members, with_action, with_agent, with_channel, with_member};
+ghost use Rattle.hub_script.specs.Contents.{IsWithinLimits, actions, agents, channels, line_count};
+ghost use Rattle.hub_script.specs.Contents.{members, with_action, with_agent, with_channel};
+ghost use Rattle.hub_script.specs.Contents.{with_member};
 
 use crate::action::Action;
 use crate::declaration::{DeclaredAgent, DeclaredChannel, DeclaredMember};
@@ -9,6 +11,13 @@ use std::marker::Model;
 
 /// The declarations and the actions of a script, each in the order of the file. It has at most
 /// `MAX_SCRIPT_LINES` of them together, and at most `MAX_AGENTS` agents.
+///
+/// ```rust
+/// let script = Script::read(alloc, bytes)?;
+/// for action in script.actions() {
+///     println!(rt; "{action:?}")?;
+/// }
+/// ```
 #[derive(Debug, Drop)]
 pub struct Script {
     agents: Vec<DeclaredAgent>,

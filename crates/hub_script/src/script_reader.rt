@@ -1,9 +1,15 @@
 ghost use Rattle.std.specs.Prelude.{◌≡◌, ◌<◌, ◌≤◌, [], length, map, IfOk, OnOk, Ok, option_map};
 ghost use Rattle.std.specs.List.{list_all};
 ghost use Rattle.hub_text.specs.Reading.{IsReadAs};
-ghost use Rattle.hub_script.specs.Contents.{agents, line_count, with_agent, with_channel, with_member};
-ghost use Rattle.hub_script.specs.Context.{acting, agent_of, declares, has_room, has_seat, held_by, held_end, held_member, held_port, is_agent, is_free, may_transfer, named, port_named, ports_from, ports_of, require};
-ghost use Rattle.hub_script.specs.Known.{declaring, end_of, giving, giving_all, holding, naming, next_member, next_port, nothing, queue_of, second_port, taking, with_handed, with_holds, with_names, with_script};
+ghost use Rattle.hub_script.specs.Contents.{agents, line_count, with_agent, with_channel};
+ghost use Rattle.hub_script.specs.Contents.{with_member};
+ghost use Rattle.hub_script.specs.Context.{acting, agent_of, declares, has_room, has_seat, held_by};
+ghost use Rattle.hub_script.specs.Context.{held_end, held_member, held_port, is_agent, is_free};
+ghost use Rattle.hub_script.specs.Context.{may_transfer, named, port_named, ports_from, ports_of};
+ghost use Rattle.hub_script.specs.Context.{require};
+ghost use Rattle.hub_script.specs.Known.{declaring, end_of, giving, giving_all, holding, naming};
+ghost use Rattle.hub_script.specs.Known.{next_member, next_port, nothing, queue_of, second_port};
+ghost use Rattle.hub_script.specs.Known.{taking, with_handed, with_holds, with_names, with_script};
 
 use crate::action::{Action, ActionKind};
 use crate::agent_kind::AgentKind;

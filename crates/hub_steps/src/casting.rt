@@ -1,3 +1,5 @@
+//! A cast, and the post at each of its destinations.
+
 ghost use Rattle.std.specs.Prelude.{IfOk};
 ghost use Rattle.hub_steps.specs.Performed.{ComputesAt};
 ghost use Rattle.hub_steps.specs.Unfolding.{cast, cast_each, cast_inside, cast_to};

@@ -1,9 +1,12 @@
+//! The closing of an end, with the notice of a port.
+
 ghost use Rattle.std.specs.Prelude.{◌≡◌, IfOk, OnOk};
 ghost use Rattle.hub_core.specs.Facts.{facts};
 ghost use Rattle.hub_core.specs.History.{History};
 ghost use Rattle.hub_core.specs.Shows.{Shows};
 ghost use Rattle.hub_steps.specs.Performed.{ComputesAt};
-ghost use Rattle.hub_steps.specs.Unfolding.{close, close_each, close_ports, close_shown, notice_line, sweep, tell};
+ghost use Rattle.hub_steps.specs.Unfolding.{close, close_each, close_ports, close_shown};
+ghost use Rattle.hub_steps.specs.Unfolding.{notice_line, sweep, tell};
 
 use crate::entering::{enter, show_step, take_step};
 use crate::shown::Shown;

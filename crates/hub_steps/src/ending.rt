@@ -1,3 +1,5 @@
+//! An agent that looks whether it was ordered to end.
+
 ghost use Rattle.std.specs.Prelude.{◌≡◌, IfOk, OnErr};
 ghost use Rattle.hub_core.specs.Shows.{StillShows};
 ghost use Rattle.hub_steps.specs.Lives.{lives_after};

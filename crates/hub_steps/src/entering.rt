@@ -1,3 +1,5 @@
+//! One step of the core, and an Enter with its hops.
+
 ghost use Rattle.std.specs.Prelude.{◌≡◌, IfOk, OnErr, true};
 ghost use Rattle.hub_core.specs.Memory.{takes_memory};
 ghost use Rattle.hub_core.specs.Shows.{StillShows};

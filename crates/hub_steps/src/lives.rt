@@ -65,7 +65,8 @@ impl Model for Lives {
 
 impl Lives {
     ghost use Rattle.std.specs.Prelude.{◌≡◌, ◌++◌, ◌∷◌, [], None, OnErr, OnOk, slice_get};
-    ghost use Rattle.hub_steps.specs.Lives.{AllLives, begun, change_life, ended, event_shown, happened};
+    ghost use Rattle.hub_steps.specs.Lives.{AllLives, begun, change_life, ended, event_shown};
+    ghost use Rattle.hub_steps.specs.Lives.{happened};
 
     /// There is no agent yet.
     pub fn new(alloc: Global) -> Lives

@@ -1,3 +1,5 @@
+//! A post, in the steps that it takes.
+
 ghost use Rattle.std.specs.Prelude.{IfOk};
 ghost use Rattle.hub_steps.specs.Performed.{ComputesAt};
 ghost use Rattle.hub_steps.specs.Unfolding.{post, send};

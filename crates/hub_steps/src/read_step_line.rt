@@ -1,3 +1,5 @@
+//! The reader of one text line of step lines.
+
 ghost use Rattle.std.specs.Prelude.{
   ◌≡◌,
   ◌≢◌,

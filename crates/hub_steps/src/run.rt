@@ -1,4 +1,7 @@
-ghost use Rattle.std.specs.Prelude.{◌≡◌, ◌++◌, ◌+◌, ◌≤◌, ◌⊎◌, ℕ, List, [], Option, Ok, Err, IfOk, IfErr, OnOk, OnErr, length};
+//! The step lines of an input, run one after another, whose outcome lines are held back.
+
+ghost use Rattle.std.specs.Prelude.{◌≡◌, ◌++◌, ◌+◌, ◌≤◌, ◌⊎◌, ℕ, List, [], Option, Ok, Err, IfOk};
+ghost use Rattle.std.specs.Prelude.{IfErr, OnOk, OnErr, length};
 ghost use Rattle.hub_core.specs.declared.machine.Core.{Core as TheCore};
 ghost use Rattle.hub_engine.specs.Counted.{inner_writer, failed_writes, flushes_made};
 ghost use Rattle.hub_engine.specs.Engine.{Writes};

@@ -1,7 +1,9 @@
 //! Step lines that come one at a time, each answered before the next one is known.
 
 ghost use Rattle.std.specs.Prelude.{◌≡◌, ◌⊎◌, [], Some, IfSome, OnErr, OnOk, false, is_some, true};
-ghost use Rattle.hub_steps.specs.Session.{GoesOn, HasRun, IsKindOf, RunsLine, RunsOn, SaidIsTheText, Stays, TakesMemory, TakesMore, is_lost_by, is_told, told};
+ghost use Rattle.hub_steps.specs.Session.{GoesOn, HasRun, IsKindOf, RunsLine, RunsOn};
+ghost use Rattle.hub_steps.specs.Session.{SaidIsTheText, Stays, TakesMemory, TakesMore, is_lost_by};
+ghost use Rattle.hub_steps.specs.Session.{is_told, told};
 ghost use Rattle.hub_steps.specs.StepLineKind.{step_kind_text};
 ghost use Rattle.hub_steps.specs.Unfolding.{command_takes_memory, takes_one_step};
 ghost use Rattle.hub_steps.specs.declared.session.Reply.TheVariants as reply;
@@ -44,6 +46,12 @@ pub enum Last {
 }
 
 /// A core and the lives of its agents, after the step lines so far.
+///
+/// ```rust
+/// let mut session = Session::new(alloc);
+/// session.run_line(b"agent -");
+/// assert_eq!(rt; session.said(), Some("agent 0\n"));
+/// ```
 #[derive(Drop)]
 pub struct Session {
     run: Run,

@@ -1,3 +1,5 @@
+//! The text of most posts and takes, written into an array.
+
 ghost use Rattle.std.specs.Prelude.{◌≡◌, ◌++◌, ◌+◌, ◌≤◌, codes, decimal, drop, length, IfSome};
 ghost use Rattle.hub_steps.specs.OutcomeText.{got_line, outcome_line};
 ghost use Rattle.hub_steps.specs.ShownText.{shown_line};

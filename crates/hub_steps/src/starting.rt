@@ -1,8 +1,11 @@
+//! Agents, and the queues that a step line starts as it makes them.
+
 ghost use Rattle.std.specs.Prelude.{◌≡◌, IfOk, IsOk, OnErr, OnOk};
 ghost use Rattle.hub_core.specs.Shows.{StillShows};
 ghost use Rattle.hub_steps.specs.Lives.{agent_lives, lives_after};
 ghost use Rattle.hub_steps.specs.Performed.{ComputesAt};
-ghost use Rattle.hub_steps.specs.Unfolding.{adopt, agent, load, member, shown_step, start_worker, worker};
+ghost use Rattle.hub_steps.specs.Unfolding.{adopt, agent, load, member, shown_step, start_worker};
+ghost use Rattle.hub_steps.specs.Unfolding.{worker};
 
 use crate::entering::{show_step, take_step};
 use crate::lives::Lives;

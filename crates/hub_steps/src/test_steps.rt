@@ -1,3 +1,5 @@
+//! The test of the text lines that weren't run.
+
 ghost use Rattle.std.specs.Prelude.{◌≡◌, ◌⊎◌, ◌+◌, ◌≤◌, List, Ok, Err, IfErr, OnOk, length};
 ghost use Rattle.hub_text.specs.TextLines.{text_lines_of};
 ghost use Rattle.hub_steps.specs.Steps.{steps_from};

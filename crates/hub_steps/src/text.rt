@@ -1,6 +1,11 @@
+//! The text of what a step line shows.
+
 ghost use Rattle.std.specs.Prelude.{◌≡◌, ◌++◌, OnOk, string_bytes};
-ghost use Rattle.hub_steps.specs.OutcomeText.{destinations_line, discarded_line, ending_line, got_line, listed_name, names_text, numbers_text, outcome_line, ports_text};
-ghost use Rattle.hub_steps.specs.ShownText.{cast_line, post_text, posts_text, refused_line, shown_line, state_text};
+ghost use Rattle.hub_steps.specs.OutcomeText.{destinations_line, discarded_line, ending_line};
+ghost use Rattle.hub_steps.specs.OutcomeText.{got_line, listed_name, names_text, numbers_text};
+ghost use Rattle.hub_steps.specs.OutcomeText.{outcome_line, ports_text};
+ghost use Rattle.hub_steps.specs.ShownText.{cast_line, post_text, posts_text, refused_line};
+ghost use Rattle.hub_steps.specs.ShownText.{shown_line, state_text};
 
 use crate::cast_posts::CastPost;
 use crate::shown::Shown;
