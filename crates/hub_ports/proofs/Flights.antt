@@ -1,6 +1,5 @@
 -- Ports are put in flight one after another, and come back in the other order.
-use Rattle.std.proofs.Common.{◌≡◌, ℕ, Vec, zero, suc, ◌+◌, ◌<◌, ◌≤◌, Bool, true, false, cond, List, [], ◌∷◌, ◌++◌, length, drop, get_or, refl, ap, ◌∙◌, sym, subst, append_assoc, append-nil, arith, option_map, Option, Some, None, IfSome, Err}
-use Rattle.std.specs.Prelude.{IsNone}
+use Rattle.std.proofs.Common.{◌≡◌, ℕ, Vec, suc, ◌+◌, ◌<◌, ◌≤◌, Bool, cond, List, [], ◌∷◌, ◌++◌, length, drop, get_or, refl, ap, ◌∙◌, sym, subst, append_assoc, append-nil, option_map, Option, Some, None, IfSome}
 use Rattle.std.specs.FinMap as map
 use Rattle.std.specs.FinMap.{get-insert}
 use Rattle.std.proofs.Math.ListN.{drop_of_length-le}
@@ -9,7 +8,6 @@ use Rattle.std.proofs.lemmas.List.{drop_more, map-append}
 use Rattle.std.specs.declared.alloc.Global.{Global}
 use Rattle.std.specs.Cmp.{eq_by_cmp_equiv}
 use Rattle.hub_depot.specs.declared.key.Key.{Key}
-use Rattle.hub_depot.specs.Key.{key_cmp}
 use Rattle.hub_depot.proofs.Keys.{keys_total}
 use Rattle.hub_depot.proofs.ManyPut.{remove-insert}
 use Rattle.hub_envelope.specs.declared.ids.EndId.{EndId}
@@ -17,7 +15,7 @@ use Rattle.hub_ports.specs.Arriving.{Flight}
 use Rattle.hub_ports.specs.declared.port_error.PortError.{PortError}
 use Rattle.hub_ports.specs.declared.send_refusal.SendRefusal.{SendRefusal}
 use Rattle.hub_ports.specs.declared.send_refusal.SendRefusal.TheVariants.{Closed, Moving, OutOfMemory, Taken}
-use Rattle.hub_ports.specs.Flying.{in_flight, AreFree, HaveFlown, HaveFlownBehind, GivesBack}
+use Rattle.hub_ports.specs.Flying.{in_flight, AreFree, HaveFlownBehind, GivesBack}
 use Rattle.hub_ports.specs.Refusing.{whole_error}
 use Rattle.hub_ports.specs.Seats.{PortSeat, end_of, ends_of, place_of}
 

@@ -13,7 +13,7 @@ use Rattle.hub_ports.specs.declared.send_refusal.SendRefusal.{SendRefusal}
 use Rattle.hub_ports.specs.declared.send_refusal.SendRefusal.TheVariants.{Closed, Moving, OutOfMemory, Taken}
 use Rattle.hub_ports.specs.Refusing.{refusal_of, IsOfFlight, whole_error}
 use Rattle.hub_ports.specs.Seats.{PortSeat, ends_of}
-use Rattle.hub_ports.specs.Sending.{IsRefusedAtLine, WantsMemory, CameBack, IsUnsent}
+use Rattle.hub_ports.specs.Sending.{IsRefusedAtLine, CameBack, IsUnsent}
 use Rattle.hub_ports.specs.Splitting.{IsSplit}
 use Rattle.hub_ports.proofs.Splits.{split-whole}
 

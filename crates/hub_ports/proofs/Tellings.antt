@@ -1,14 +1,17 @@
 -- What whoever is told hears of ports that are closed one after another.
-use Rattle.std.proofs.Common.{◌≡◌, List, [], ◌∷◌, ◌++◌, refl, ap, sym, subst, ◌∙◌, append_assoc, append-nil, option_map, Option, Some, None, IfSome}
+use Rattle.std.proofs.Common.{◌≡◌, List, [], ◌∷◌, ◌++◌, refl, ap, sym, subst, ◌∙◌, append_assoc, append-nil, option_map, Option, Some, None, Result, Ok, Err, IfSome}
 use Rattle.std.specs.FinMap as map
 use Rattle.hub_envelope.specs.declared.ids.EndId.{EndId}
 use Rattle.hub_queue.specs.Graves.{GraveSeat, SweptSeat}
-use Rattle.hub_queue.specs.Standing.{StandSeat}
 use Rattle.hub_queue.specs.Sweeping.{IsSweptOut}
+use Rattle.hub_queue.specs.declared.posted.Posted.{Posted}
+use Rattle.hub_ports.specs.declared.port_error.PortError.{PortError}
+use Rattle.hub_ports.specs.declared.port_error.PortError.TheVariants as error
 use Rattle.hub_ports.specs.declared.noticed.Noticed.{Noticed}
 use Rattle.hub_ports.specs.Arriving.{Flight}
-use Rattle.hub_ports.specs.Closing.{Left, IsLeft, AreLeft, AreToldClosed, Emptied, IsEmptiedAs, EmptiesTo, IsEmptiedFirst, AreToldEmptied}
+use Rattle.hub_ports.specs.Closing.{Left, IsLeft, AreLeft, AreToldClosed, Emptied, IsEmptiedAs, EmptiesTo, AreToldEmptied}
 use Rattle.hub_ports.specs.Seats.{PortSeat, end_of, place_of}
+use Rattle.hub_ports.specs.Sending.{IsDoomed, IsToldSent}
 
 left_more : (ps : List PortSeat) (cs : List (EndId × Noticed)) (ls : List Left) (p : PortSeat) (c : EndId × Noticed) (l : Left) → AreLeft ps cs ls → c ≡ (end_of p, l.2) → IsLeft p l → AreLeft (ps ++ p ∷ []) (cs ++ c ∷ []) (ls ++ l ∷ [])
 left_more [] [] [] p c l so_far same left = (same, left, tt)
@@ -52,3 +55,15 @@ one_emptied (Some before) now later grave flight here p e (first, rest, heard, i
   is_first,
   empties_more flight here rest p e empties got emptied,
 )
+
+-- where no list was doomed nothing was told
+pub none_told : (was now : Option (List Left)) (ports : List PortSeat) (answer : Result Posted PortError) → (IsDoomed answer → ⊥) → now ≡ was → IfSome was (λ before. IsToldSent ports before now answer)
+none_told None now ports answer never same = tt
+none_told (Some before) now ports (Ok posted) never same = same
+none_told (Some before) now ports (Err (error.Closed body back)) never same = same
+none_told (Some before) now ports (Err (error.Moving body back)) never same = same
+none_told (Some before) now ports (Err (error.OutOfMemory body back)) never same = same
+none_told (Some before) now ports (Err (error.Doomed closings)) never same = absurd (never tt)
+none_told (Some before) now ports (Err (error.TooManyPorts body back)) never same = same
+none_told (Some before) now ports (Err (error.Strayed missing body back)) never same = same
+none_told (Some before) now ports (Err (error.Taken body back)) never same = same

@@ -26,7 +26,7 @@ pub record HaveFlown (flight : Flight) (ports : List PortSeat) (now : Option Fli
 abbrev pub HaveFlownBehind : Flight → List PortSeat → List PortSeat → Option Flight → Type 0
 HaveFlownBehind flight all begin now = (sent : List PortSeat) × (all ≡ begin ++ sent) × HaveFlown flight sent now
 
--- the very ports came back, in order
+-- the very ports came back, in order, but those of a doomed list, which were closed
 abbrev pub GivesBack : List PortSeat → PortError → Type 0
 GivesBack ports (Closed body back) = back.items ≡ ports
 GivesBack ports (Moving body back) = back.items ≡ ports
@@ -34,9 +34,9 @@ GivesBack ports (OutOfMemory body back) = back.items ≡ ports
 GivesBack ports (Taken body back) = back.items ≡ ports
 GivesBack ports (TooManyPorts body back) = back.items ≡ ports
 GivesBack ports (Strayed missing body back) = ⊥
-GivesBack ports (Doomed closings) = ⊥
+GivesBack ports (Doomed closings) = Unit {0}
 
--- Ok: the ports are in flight, beside those that were there. Err: the flight is as it was, and the very ports came back, so none has strayed.
+-- Ok: the ports are in flight, beside those that were there. Err: the flight is as it was, and the very ports came back, so none has strayed; or they were doomed.
 abbrev pub IsFlown : Flight → List PortSeat → Option Flight → Result Posted PortError → Type 0
 IsFlown flight ports now (Ok posted) = HaveFlown flight ports now
 IsFlown flight ports now (Err e) = (now ≡ Some flight) × GivesBack ports e

@@ -5,18 +5,20 @@ ghost use Rattle.hub_envelope.specs.declared.limits.TheConstants.{MAX_PORTS};
 ghost use Rattle.hub_ports.specs.Flying.{IsFlown};
 ghost use Rattle.hub_ports.specs.Refusing.{refusal_of, whole_error};
 ghost use Rattle.hub_ports.specs.Seats.{ends_of, has_end};
-ghost use Rattle.hub_ports.specs.Sending.{IsSent, IsDoomed, IsTooMany};
+ghost use Rattle.hub_ports.specs.Sending.{IsSent, IsDoomed, IsTooMany, IsToldSent};
 
 use crate::closing::close_all;
 use crate::flight::{call_back, send_off};
-use crate::hears::Unheard;
+use crate::hears::{Hears, Unheard};
 use crate::hub::Hub;
+use crate::noticed::Noticed;
 use crate::port::Port;
 use crate::port_error::PortError;
 use crate::send_refusal::SendRefusal;
+use crate::spent::Spent;
 use hub_depot::Shelf;
 use hub_envelope::{AgentId, Body, Draft, EndId, MAX_PORTS, OutOfMemory, Ports};
-use hub_queue::{PostError, Posted, Poster};
+use hub_queue::{Grave, PostError, Posted, Poster};
 use std::alloc::Global;
 use std::sync::Wait;
 
@@ -126,12 +128,15 @@ fn post_with_ports<S: Shelf<Port>, R: Wait>(
     }
 }
 
-// Posts a body with the ports of a list. It is no part of `send`, so that a post without ports
-// doesn't pay for the room that the errors of a list take on the stack.
+// Posts a body with the ports of a list, over any shelf as the flight, and tells what is left of
+// each port of a doomed list. It is no part of `send`, so that a post without ports doesn't pay for
+// the room that the errors of a list take on the stack.
 #[inline(never)]
-fn send_with_ports<R: Wait>(
+fn send_with_ports<S: Shelf<Port>, H: Hears<(Grave, Spent, Noticed)>, R: Wait>(
     rt: &R,
     hub: &Hub,
+    flight: &mut S,
+    heard: &mut H,
     line: &mut Poster,
     agent: AgentId,
     body: Body,
@@ -141,16 +146,19 @@ fn send_with_ports<R: Wait>(
     ensures many { IsTooMany result ↔ (MAX_PORTS < length transfer.items) }
     ensures doomed { IsDoomed result ↔ ((length transfer.items ≤ MAX_PORTS)
         × Contains (ends_of transfer.items) line.old.name.end) }
+    ensures flown { IfSome (S.shown flight.old) (λ kept.
+        IsFlown kept transfer.items (S.shown flight.new) result) }
+    ensures told { IfSome (H.told heard.old) (λ before.
+        IsToldSent transfer.items before (H.told heard.new) result) }
 {
     if transfer.len() > MAX_PORTS {
         return Err(PortError::TooManyPorts(body, transfer));
     }
     if holds(transfer.as_slice(), line.name().end) {
-        let closings = close_all(rt, hub.alloc, &hub.yard, transfer, &mut Unheard);
+        let closings = close_all(rt, hub.alloc, &hub.yard, transfer, heard);
         return Err(PortError::Doomed(closings));
     }
-    let mut flight = &hub.flight;
-    post_with_ports(rt, hub, &mut flight, line, agent, body, transfer)
+    post_with_ports(rt, hub, flight, line, agent, body, transfer)
 }
 
 /// Posts a body over a line, with ports that are sent along: `Port::post`, over a line of a queue
@@ -173,7 +181,17 @@ pub fn send<R: Wait>(
         × Contains (ends_of transfer.items) line.old.name.end) }
 {
     if !transfer.is_empty() {
-        return send_with_ports(rt, hub, line, agent, body, transfer);
+        let mut flight = &hub.flight;
+        return send_with_ports(
+            rt,
+            hub,
+            &mut flight,
+            &mut Unheard,
+            line,
+            agent,
+            body,
+            transfer,
+        );
     }
     let draft = Draft {
         agent,

@@ -1,4 +1,4 @@
-use Rattle.std.proofs.Common.{ap, sym, subst, refl, ◌∙◌, Some, IfSome, Option}
+use Rattle.std.proofs.Common.{ap, sym, subst, refl, ◌∙◌, IfSome, Option}
 use Rattle.hub_queue.specs.Graves.{GraveSeat}
 use Rattle.hub_queue.specs.Sweeping.{IsSweptOut}
 use Rattle.hub_ports.specs.Arriving.{Flight}
