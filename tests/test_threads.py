@@ -52,13 +52,19 @@ class Refused(support.TestCase):
         self.says(refused, "threads", 16)
 
 
+def heed_signals():
+    """Undoes what a shell does to its jobs in the background, which ignore SIGINT."""
+    signal.signal(signal.SIGINT, signal.SIG_DFL)
+
+
 class Waiting(support.TestCase):
     """Whoever sees that a run waits can end it."""
 
     def end(self, number):
         """Ends a run that waits, and tells what it printed, its status and how long it took."""
         with subprocess.Popen(
-            [PROGRAM, "run"], stdin=subprocess.PIPE, stdout=subprocess.PIPE, stderr=subprocess.PIPE
+            [PROGRAM, "run"], stdin=subprocess.PIPE, stdout=subprocess.PIPE,
+            stderr=subprocess.PIPE, preexec_fn=heed_signals,
         ) as run:
             run.stdin.write(WAITING)
             run.stdin.close()
