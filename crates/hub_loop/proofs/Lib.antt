@@ -1,5 +1,6 @@
 mod Adopts
 mod Asks
+mod Closes
 mod Delivers
 mod Ends
 mod Looks

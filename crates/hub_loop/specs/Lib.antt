@@ -1,5 +1,6 @@
 pub mod Adopting
 pub mod Asking
+pub mod Closing
 pub mod Delivering
 pub mod Ending
 pub mod Holding

@@ -17,10 +17,13 @@ ghost use Rattle.std.specs.Prelude.{
   ◌++◌,
   cond,
   count_by,
+  IfErr,
+  IfOk,
   OnOk,
   vec_len,
   vec_capacity,
 };
+ghost use Rattle.hub_loop.specs.Closing.{IsOpenClosed, notices_of};
 ghost use Rattle.hub_loop.specs.Ending.{
   is_grave,
   is_open,
@@ -29,8 +32,11 @@ ghost use Rattle.hub_loop.specs.Ending.{
   queue_passes,
   slot_passes,
 };
+ghost use Rattle.hub_loop.specs.declared.ending.Open.TheVariants.{Held as HeldOpen};
+ghost use Rattle.hub_loop.specs.declared.held.Held.TheVariants.{Line as LineHeld};
 ghost use Rattle.hub_loop.specs.Noticing.{ClosesLast, NoticesMore, open_number, port_in};
 
+use crate::closed_end::ClosedEnd;
 use crate::delivery::Delivery;
 use crate::held::Held;
 use hub_broadcast::SharedRoster;
@@ -69,6 +75,17 @@ impl Open {
         match self {
             Open::Held(held) => held.end(),
             Open::Arrived(arrived) => arrived.end(),
+        }
+    }
+
+    // Closes it, a port with its notice. A line comes back.
+    fn close<R: Wait>(self, rt: &R, hub: &Hub) -> Result<ClosedEnd, Poster>
+        ensures ok { IfOk result (IsOpenClosed self) }
+        ensures err { IfErr result (λ line. self ≡ HeldOpen (LineHeld line)) }
+    {
+        match self {
+            Open::Held(held) => held.shut(rt, hub),
+            Open::Arrived(arrived) => Ok(ClosedEnd::of_port(arrived.close(rt, hub))),
         }
     }
 }
@@ -123,6 +140,22 @@ impl Closed {
         self.noticed.push_reserved((end, noticed));
     }
 
+    // Keeps what an end was closed to.
+    fn keep(&mut self, end: EndId, closed: ClosedEnd)
+        requires graves { vec_len self.old.graves < vec_capacity self.old.graves }
+        requires noticed { vec_len self.old.noticed < vec_capacity self.old.noticed }
+        ensures graves { self.new.graves.items ≡ self.old.graves.items ++ closed.grave ∷ [] }
+        ensures noticed { self.new.noticed.items
+            ≡ self.old.noticed.items ++ notices_of end closed.notice }
+        ensures lines { self.new.lines ≡ self.old.lines }
+    {
+        let ClosedEnd { grave, notice } = closed;
+        match notice {
+            Some((_spent, noticed)) => self.bury(end, grave, noticed),
+            None => self.graves.push_reserved(grave),
+        }
+    }
+
     /// Closes an end, or keeps a line.
     pub(crate) fn close<R: Wait>(&mut self, rt: &R, hub: &Hub, opened: Open)
         requires graves { vec_len self.old.graves < vec_capacity self.old.graves }
@@ -133,19 +166,9 @@ impl Closed {
         ensures told { NoticesMore (port_in opened) self.old.noticed.items self.new.noticed.items }
     {
         let end = opened.end();
-        match opened {
-            Open::Held(Held::Port(port)) => {
-                let (grave, _spent, noticed) = port.close(rt, hub);
-                self.bury(end, grave, noticed);
-            }
-            Open::Arrived(arrived) => {
-                let (grave, _spent, noticed) = arrived.close(rt, hub);
-                self.bury(end, grave, noticed);
-            }
-            Open::Held(Held::Client(queue)) => self.graves.push_reserved(queue.close()),
-            Open::Held(Held::Worker(queue)) => self.graves.push_reserved(queue.close()),
-            Open::Held(Held::Member(member)) => self.graves.push_reserved(member.close()),
-            Open::Held(Held::Line(poster)) => self.lines.push_reserved(poster),
+        match opened.close(rt, hub) {
+            Ok(closed) => self.keep(end, closed),
+            Err(poster) => self.lines.push_reserved(poster),
         }
     }
 
@@ -177,8 +200,8 @@ impl Closed {
 /// a member of an agent whose queue is closed already.
 pub(crate) fn leave_all<R: Wait>(rt: &R, roster: &SharedRoster, all: &[Open]) {
     for opened in all {
-        if let Open::Held(Held::Member(member)) = opened {
-            roster.leave(rt, member.end());
+        if let Open::Held(held) = opened {
+            held.leave(rt, roster);
         }
     }
 }

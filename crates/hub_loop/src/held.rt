@@ -1,9 +1,10 @@
-ghost use Rattle.std.specs.Prelude.{◌≡◌, ◌≢◌, ◌↔◌, true, IfNone, IfSome};
+ghost use Rattle.std.specs.Prelude.{◌≡◌, ◌≢◌, ◌↔◌, true, IfErr, IfNone, IfOk, IfSome};
 ghost use Rattle.hub_broadcast.specs.Members.{MemberSeat};
 ghost use Rattle.hub_ports.specs.Seats.{PortSeat};
 ghost use Rattle.hub_queue.specs.Standing.{StandSeat};
 ghost use Rattle.hub_queue.specs.Taking.{TakerSeat};
 ghost use Rattle.hub_loop.specs.Asking.{IsHeldAsked, IsHeldTaken};
+ghost use Rattle.hub_loop.specs.Closing.{IsEndClosed};
 ghost use Rattle.hub_loop.specs.Holding.{behind_of, end_held, number_of, seat_of};
 ghost use Rattle.hub_loop.specs.Looking.{is_a, IsEndOf, IsLineTo};
 ghost use Rattle.hub_loop.specs.declared.held.Held.TheVariants.{
@@ -13,10 +14,11 @@ ghost use Rattle.hub_loop.specs.declared.held.Held.TheVariants.{
   Line as LineHeld,
 };
 
-use hub_broadcast::Member;
+use crate::closed_end::ClosedEnd;
+use hub_broadcast::{Member, SharedRoster};
 use hub_clients::{ClientQueue, WorkerQueue};
 use hub_envelope::EndId;
-use hub_ports::Port;
+use hub_ports::{Hub, Port};
 use hub_queue::{Poster, Steps, Took};
 use std::sync::Wait;
 use std::sync::ledger::Ledger;
@@ -182,5 +184,41 @@ impl Held {
             }
         }
         self.take(rt, steps)
+    }
+    /// Takes a member out of the roster: nobody casts there from then on. Any other end, and a
+    /// line, is as it was.
+    pub(crate) fn leave<R: Wait>(&self, rt: &R, roster: &SharedRoster) {
+        if let Held::Member(member) = self {
+            roster.leave(rt, member.end());
+        }
+    }
+
+    /// Closes an end that is no member of the roster any more, a port with its notice.
+    pub(crate) fn shut<R: Wait>(self, rt: &R, hub: &Hub) -> Result<ClosedEnd, Poster>
+        ensures ok { IfOk result (IsEndClosed self) }
+        ensures err { IfErr result (λ line. self ≡ LineHeld line) }
+    {
+        match self {
+            Held::Port(port) => Ok(ClosedEnd::of_port(port.close(rt, hub))),
+            Held::Client(queue) => Ok(ClosedEnd::without_notice(queue.close())),
+            Held::Worker(queue) => Ok(ClosedEnd::without_notice(queue.close())),
+            Held::Member(member) => Ok(ClosedEnd::without_notice(member.close())),
+            Held::Line(poster) => Err(poster),
+        }
+    }
+
+    /// Closes the end: a member leaves the roster first, and a port is closed with its notice. It
+    /// takes no memory but that of the notice. A line is no end: it comes back.
+    pub fn close<R: Wait>(
+        self,
+        rt: &R,
+        hub: &Hub,
+        roster: &SharedRoster,
+    ) -> Result<ClosedEnd, Poster>
+        ensures ok { IfOk result (IsEndClosed self) }
+        ensures err { IfErr result (λ line. self ≡ LineHeld line) }
+    {
+        self.leave(rt, roster);
+        self.shut(rt, hub)
     }
 }

@@ -1,11 +1,16 @@
 //! The event loop of an agent: what the agent holds, and the turns in which it is served.
 #![tactic(auto)]
 
+mod access;
+mod adopting;
 mod checkpoint;
+mod closed_end;
 mod closing;
 mod delivery;
+mod end;
 mod ending;
 mod event_loop;
+mod finding;
 mod handler;
 mod held;
 mod holding;
@@ -15,6 +20,7 @@ mod serving;
 mod turn;
 
 pub use checkpoint::{Checkpoint, NoCheckpoint};
+pub use closed_end::ClosedEnd;
 pub use closing::Ended;
 pub use event_loop::EventLoop;
 pub use handler::Handler;

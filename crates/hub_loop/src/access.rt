@@ -1,0 +1,163 @@
+//! What a loop holds: it is held, lent, shown, given out and closed.
+
+ghost use Rattle.std.specs.Prelude.{◌≡◌, Some, OnOk, IfOk, IfErr, OnErr, IfSome, IfNone};
+ghost use Rattle.slab.specs.Slab.{SameValues};
+ghost use Rattle.hub_ports.specs.Seats.{end_of};
+ghost use Rattle.hub_loop.specs.Adopting.{HoldsMore};
+ghost use Rattle.hub_loop.specs.Closing.{ClosesEnd};
+ghost use Rattle.hub_loop.specs.Holding.{end_held, ends_held};
+ghost use Rattle.hub_loop.specs.Looking.{
+  Holds,
+  HoldsNoClient,
+  HoldsNoEnd,
+  HoldsNoLine,
+  HoldsNoMember,
+  HoldsNoPort,
+};
+ghost use Rattle.hub_loop.specs.declared.held.Held.TheVariants.{
+  Port as PortHeld,
+  Client as ClientHeld,
+  Member as MemberHeld,
+  Line as LineHeld,
+};
+
+use crate::checkpoint::Checkpoint;
+use crate::closed_end::ClosedEnd;
+use crate::event_loop::EventLoop;
+use crate::handler::Handler;
+use crate::held::Held;
+use crate::loop_error::LoopError;
+use hub_broadcast::{Member, SharedRoster};
+use hub_clients::ClientQueue;
+use hub_envelope::{EndId, OutOfMemory};
+use hub_ports::{Hub, Port};
+use hub_queue::Poster;
+use std::mem::replace;
+use std::sync::Wait;
+
+impl<H: Handler + Drop, C: Checkpoint + Drop> EventLoop<H, C> {
+    /// Holds an end, or a line over which the agent posts, from now on. A loop can hold a queue and
+    /// a line to that same queue. Ends of one loop have different numbers, and so have its lines.
+    ///
+    /// `OutOfMemory` where there was no memory for its place. Then it comes back.
+    pub fn hold(&mut self, held: Held) -> Result<(), (LoopError, Held)>
+        ensures ok { OnOk result (HoldsMore self.old.holding.held self.new.holding.held held) }
+        ensures back { IfErr result (λ refused. refused.1 ≡ held) }
+        ensures err { OnErr result (SameValues self.old.holding.held self.new.holding.held) }
+        ensures kept { (self.new.kept ≡ self.old.kept) × (self.new.handler ≡ self.old.handler)
+            × (self.new.holding.closed ≡ self.old.holding.closed) }
+        ensures rest { (self.new.fetched ≡ self.old.fetched) × (self.new.opened ≡ self.old.opened)
+            × (self.new.closing ≡ self.old.closing) }
+    {
+        match self.holding.hold(held) {
+            Ok(()) => Ok(()),
+            Err(back) => Err((LoopError::OutOfMemory, back)),
+        }
+    }
+
+    /// Lends the port of this number. `None` where the loop doesn't hold it.
+    pub fn port_mut(&mut self, end: EndId) -> Option<&mut Port>
+        ensures some { IfSome result (λ port. Holds self.old.holding.held (PortHeld port.now)
+            × (end_of port.now ≡ end)) }
+        ensures none { IfNone result (HoldsNoPort self.old.holding.held end) }
+    {
+        self.holding.port_mut(end)
+    }
+
+    /// Lends the client's queue of this number. `None` where the loop doesn't hold it.
+    pub fn client_mut(&mut self, end: EndId) -> Option<&mut ClientQueue>
+        ensures some { IfSome result (λ queue. Holds self.old.holding.held (ClientHeld queue.now)
+            × (queue.now.end ≡ end.0)) }
+        ensures none { IfNone result (HoldsNoClient self.old.holding.held end) }
+    {
+        self.holding.client_mut(end)
+    }
+
+    /// Lends the member of this number. `None` where the loop doesn't hold it.
+    pub fn member_mut(&mut self, end: EndId) -> Option<&mut Member>
+        ensures some { IfSome result (λ member. Holds self.old.holding.held (MemberHeld member.now)
+            × (member.now.taker.end ≡ end.0)) }
+        ensures none { IfNone result (HoldsNoMember self.old.holding.held end) }
+    {
+        self.holding.member_mut(end)
+    }
+
+    /// Lends a line that posts at the end of this number. `None` where the loop holds none.
+    pub fn line_mut(&mut self, end: EndId) -> Option<&mut Poster>
+        ensures some { IfSome result (λ line. Holds self.old.holding.held (LineHeld line.now)
+            × (line.now.name.end ≡ end)) }
+        ensures none { IfNone result (HoldsNoLine self.old.holding.held end) }
+    {
+        self.holding.line_mut(end)
+    }
+
+    /// Lends the handler.
+    pub fn handler_mut(&mut self) -> &mut H
+        ensures { result.now ≡ self.old.handler }
+    {
+        &mut self.handler
+    }
+
+    /// Puts another handler in, and gives out the one that was there.
+    pub fn replace_handler(&mut self, handler: H) -> H
+        ensures given { result ≡ self.old.handler }
+        ensures put { self.new ≡ record self.old { handler = handler } }
+    {
+        replace(&mut self.handler, handler)
+    }
+
+    /// Shows the port, queue or member of this number. `None` where the loop doesn't hold it.
+    pub fn held(&self, end: EndId) -> Option<&Held>
+        ensures some { IfSome result (λ held. Holds self.now.holding.held held.now
+            × (end_held held.now ≡ Some end)) }
+        ensures none { IfNone result (HoldsNoEnd self.now.holding.held end) }
+    {
+        self.holding.held(end)
+    }
+
+    /// The numbers of the ports, queues and members that the loop holds, in the order of their
+    /// keys.
+    pub fn ends(&self) -> Result<Vec<EndId>, OutOfMemory>
+        ensures { IfOk result (λ ends. ends.items ≡ ends_held self.now.holding.held) }
+    {
+        self.holding.numbers(self.alloc)
+    }
+
+    /// Gives the port, queue or member of this number out. `None` where the loop doesn't hold it.
+    pub fn release(&mut self, end: EndId) -> Option<Held>
+        ensures given { IfSome result (λ held. (end_held held ≡ Some end)
+            × HoldsMore self.new.holding.held self.old.holding.held held) }
+        ensures none { IfNone result (self.new.holding.held ≡ self.old.holding.held) }
+        ensures missing { IfNone result (HoldsNoEnd self.old.holding.held end) }
+        ensures kept { (self.new.kept ≡ self.old.kept) × (self.new.handler ≡ self.old.handler)
+            × (self.new.holding.closed ≡ self.old.holding.closed) }
+        ensures rest { (self.new.fetched ≡ self.old.fetched) × (self.new.opened ≡ self.old.opened)
+            × (self.new.closing ≡ self.old.closing) }
+    {
+        self.holding.release(end)
+    }
+    /// Closes the port, queue or member of this number, which the loop holds no more: a member
+    /// leaves the roster first, and a port is closed with its notice. What waits there is for the
+    /// caller to sweep. `None` where the loop doesn't hold it.
+    pub fn close<R: Wait>(
+        &mut self,
+        rt: &R,
+        hub: &Hub,
+        roster: &SharedRoster,
+        end: EndId,
+    ) -> Option<ClosedEnd>
+        ensures closed { IfSome result (λ closed.
+            ClosesEnd self.old.holding.held self.new.holding.held end closed) }
+        ensures missing { IfNone result (HoldsNoEnd self.old.holding.held end) }
+        ensures none { IfNone result (self.new ≡ self.old) }
+        ensures rest { self.new ≡ record self.old { holding = self.new.holding } }
+        ensures same { (self.new.holding.next ≡ self.old.holding.next)
+            × (self.new.holding.closed ≡ self.old.holding.closed) }
+    {
+        let held = self.holding.release(end)?;
+        match held.close(rt, hub, roster) {
+            Ok(closed) => Some(closed),
+            Err(_) => unreachable!(),
+        }
+    }
+}

@@ -1,0 +1,209 @@
+//! How queues that were fetched and ports that were found are adopted and held.
+
+ghost use Rattle.std.specs.Prelude.{
+  ◌≡◌,
+  Err,
+  ◌≤◌,
+  ◌+◌,
+  IfOk,
+  OnOk,
+  IfErr,
+  OnErr,
+  vec_len,
+  vec_capacity,
+};
+ghost use Rattle.slab.specs.Slab.{HasRoomFor, SameValues};
+ghost use Rattle.hub_clients.specs.Handing.{taker_of};
+ghost use Rattle.hub_queue.specs.Adopting.{IsAdopted};
+ghost use Rattle.hub_loop.specs.Adopting.{
+  stored,
+  AreAllAdopted,
+  IsFirstAdopted,
+  IsHeldAs,
+  IsPortBuried,
+  IsQueueAdopted,
+  SameClosed,
+  SameStored,
+};
+ghost use Rattle.hub_marks.specs.Marking.{HasBit};
+
+use crate::delivery::Receiving;
+use crate::held::Held;
+use crate::holding::Holding;
+use crate::listed::Listed;
+use hub_clients::HandedQueue;
+use hub_envelope::{EndId, OutOfMemory};
+use hub_ports::{Arrived, Hub, Port};
+use hub_queue::{AdoptError, Bell};
+use std::sync::Wait;
+
+// Adopts a queue for the loop that this bell wakes.
+fn adopt_handed<R: Wait>(
+    rt: &R,
+    hub: &Hub,
+    queue: HandedQueue,
+    bell: Bell,
+) -> Result<Held, (AdoptError, HandedQueue)>
+    ensures ok { IfOk result (IsHeldAs queue) }
+    ensures err { IfErr result (λ refused. (refused.1 ≡ queue)
+        × IsAdopted (taker_of queue) (Err (refused.0, taker_of queue))) }
+{
+    match queue {
+        HandedQueue::Client(queue) => match queue.adopt(rt, &hub.yard, bell) {
+            Ok(queue) => Ok(Held::Client(queue)),
+            Err((error, queue)) => Err((error, HandedQueue::Client(queue))),
+        },
+        HandedQueue::Worker(queue) => match queue.adopt(rt, &hub.yard, bell) {
+            Ok(queue) => Ok(Held::Worker(queue)),
+            Err((error, queue)) => Err((error, HandedQueue::Worker(queue))),
+        },
+    }
+}
+
+impl Holding {
+    // Makes room for one more end that is held, or one more that is closed.
+    fn make_room(&mut self) -> Result<(), OutOfMemory>
+        ensures held { IfOk result (λ _. HasRoomFor self.new.held 1) }
+        ensures graves { OnOk result
+            (vec_len self.new.closed.graves + 1 ≤ vec_capacity self.new.closed.graves) }
+        ensures noticed { OnOk result
+            (vec_len self.new.closed.noticed + 1 ≤ vec_capacity self.new.closed.noticed) }
+        ensures same { SameValues self.old.held self.new.held }
+        ensures closed { SameClosed self.old.closed self.new.closed }
+        ensures next { self.new.next ≡ self.old.next }
+    {
+        self.held.reserve(1)?;
+        self.closed.reserve(1)?;
+        Ok(())
+    }
+
+    // Closes a port that was refused for good.
+    fn close_unfit<R: Wait>(&mut self, rt: &R, hub: &Hub, arrived: Arrived)
+        requires graves { vec_len self.old.closed.graves + 1 ≤ vec_capacity self.old.closed.graves }
+        requires noticed { vec_len self.old.closed.noticed + 1
+            ≤ vec_capacity self.old.closed.noticed }
+        ensures buried { IsPortBuried arrived self.old.closed self.new.closed }
+        ensures held { self.new.held ≡ self.old.held }
+        ensures next { self.new.next ≡ self.old.next }
+    {
+        let end = arrived.end();
+        let (grave, _spent, noticed) = arrived.close(rt, hub);
+        self.closed.bury(end, grave, noticed);
+    }
+
+    /// Adopts a queue that was fetched, and holds it. False where it was refused for good: then it
+    /// is closed. Where there was no memory it comes back.
+    pub(crate) fn adopt_queue<R: Wait>(
+        &mut self,
+        rt: &R,
+        hub: &Hub,
+        queue: HandedQueue,
+    ) -> Result<bool, HandedQueue>
+        ensures ok { IfOk result (IsQueueAdopted queue
+            (stored self.old.held self.old.closed) (stored self.new.held self.new.closed)) }
+        ensures back { IfErr result (λ back. back ≡ queue) }
+        ensures err { OnErr result (SameStored (stored self.old.held self.old.closed)
+            (stored self.new.held self.new.closed)) }
+        ensures next { self.new.next ≡ self.old.next }
+    {
+        let Ok(bell) = self.prepare(queue.end()) else {
+            return Err(queue);
+        };
+        match adopt_handed(rt, hub, queue, bell) {
+            Ok(held) => {
+                self.put(held);
+                Ok(true)
+            }
+            Err((AdoptError::OutOfMemory, queue)) => { Err(queue) }
+            Err((AdoptError::TooManyMoves | AdoptError::Taken, queue)) => {
+                self.closed.graves.push_reserved(queue.close());
+                Ok(false)
+            }
+        }
+    }
+
+    // Makes room for an end of this number that is to be adopted, and lists it.
+    fn prepare(&mut self, end: EndId) -> Result<Bell, OutOfMemory>
+        ensures held { OnOk result (HasRoomFor self.new.held 1) }
+        ensures bit { OnOk result (HasBit self.new.ready.marks self.new.held.vacant_key) }
+        ensures graves { OnOk result
+            (vec_len self.new.closed.graves + 1 ≤ vec_capacity self.new.closed.graves) }
+        ensures noticed { OnOk result
+            (vec_len self.new.closed.noticed + 1 ≤ vec_capacity self.new.closed.noticed) }
+        ensures same { SameValues self.old.held self.new.held }
+        ensures closed { SameClosed self.old.closed self.new.closed }
+        ensures next { self.new.next ≡ self.old.next }
+    {
+        self.make_room()?;
+        let bell = self.bell.clone()?;
+        let listed = Listed {
+            end,
+            key: self.held.vacant_key(),
+        };
+        self.list(listed, false)?;
+        Ok(bell)
+    }
+
+    // Adopts the first of the ports that were found and holds it. One that was adopted too often,
+    // or whose number the yard knows already, is closed and counts as missing.
+    fn adopt_first<R: Wait>(
+        &mut self,
+        rt: &R,
+        hub: &Hub,
+        receiving: &mut Receiving,
+    ) -> Result<bool, OutOfMemory>
+        ensures adopted { IsFirstAdopted receiving.old receiving.new
+            (stored self.old.held self.old.closed) (stored self.new.held self.new.closed)
+            result }
+        ensures next { self.new.next ≡ self.old.next }
+    {
+        let Some(first) = receiving.found.front() else {
+            return Ok(false);
+        };
+        let end = first.end();
+        receiving.missing.reserve(1)?;
+        let bell = self.prepare(end)?;
+        let arrived = receiving.found.pop_front().unwrap();
+        match arrived.adopt(rt, hub, bell) {
+            Ok(port) => {
+                self.put(Held::Port(port));
+                Ok(true)
+            }
+            Err((AdoptError::OutOfMemory, arrived)) => {
+                receiving.found.push_front_reserved(arrived);
+                Err(OutOfMemory)
+            }
+            Err((AdoptError::TooManyMoves, arrived)) => {
+                self.close_unfit(rt, hub, arrived);
+                receiving.missing.push_reserved(end);
+                Ok(true)
+            }
+            Err((AdoptError::Taken, arrived)) => {
+                self.close_unfit(rt, hub, arrived);
+                receiving.missing.push_reserved(end);
+                Ok(true)
+            }
+        }
+    }
+
+    /// Adopts the ports that were found, in order, and holds them.
+    pub(crate) fn adopt_all<R: Wait>(
+        &mut self,
+        rt: &R,
+        hub: &Hub,
+        receiving: &mut Receiving,
+    ) -> Result<(), OutOfMemory>
+        ensures adopted { AreAllAdopted receiving.old receiving.new
+            (stored self.old.held self.old.closed) (stored self.new.held self.new.closed)
+            result }
+        ensures next { self.new.next ≡ self.old.next }
+    {
+        loop {
+            match self.adopt_first(rt, hub, receiving) {
+                Ok(true) => {}
+                Ok(false) => return Ok(()),
+                Err(error) => return Err(error),
+            }
+        }
+    }
+}

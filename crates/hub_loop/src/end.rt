@@ -1,0 +1,190 @@
+//! The end of a loop.
+
+ghost use Rattle.std.specs.Prelude.{◌≡◌, OnOk, IfOk, IfErr, OnErr, ℕ, count_by};
+ghost use Rattle.hub_loop.specs.Ending.{
+  closing_ends,
+  ends_in,
+  is_grave,
+  swept_ends,
+  HasEnded,
+  HasPaused,
+};
+ghost use Rattle.hub_loop.specs.Noticing.{
+  AllClosed,
+  HasNoticed,
+  HasNoticedSome,
+  ports_in,
+  SomeClosed,
+};
+
+use crate::checkpoint::Checkpoint;
+use crate::closing::{Closing, Ended};
+use crate::ending::{Closed, leave_all, take_found, take_held, take_queues};
+use crate::event_loop::EventLoop;
+use crate::handler::Handler;
+use crate::loop_error::LoopError;
+use hub_broadcast::SharedRoster;
+use hub_clients::Directory;
+use hub_envelope::OutOfMemory;
+use hub_ports::Hub;
+use std::mem::replace;
+use std::sync::Wait;
+
+impl<H: Handler + Drop, C: Checkpoint + Drop> EventLoop<H, C> {
+    /// Ends the loop: its members leave the roster, every end that it holds is closed and emptied,
+    /// in rising order of their numbers, and its lines are given back. What waits at these ends is
+    /// discarded. Then each port that a kept delivery or a discarded envelope names is taken out of
+    /// flight, closed and emptied, until none is named. A port is closed with its notice. It waits
+    /// for whoever is inside at such an end.
+    ///
+    /// It answers what was swept, first the ends that the loop held, in rising order, and then the
+    /// ports that were named; and of each port that was closed, in the order of closing, the number
+    /// and what became of its notice, those that a turn has closed first. A line that the directory
+    /// refuses is dropped. After `OutOfMemory` the next `end` goes on.
+    pub fn end<R: Wait>(
+        mut self,
+        rt: &R,
+        hub: &Hub,
+        directory: &Directory,
+        roster: &SharedRoster,
+    ) -> Result<Ended, (LoopError, EventLoop<H, C>)>
+        ensures ok { IfOk result (λ ended. HasEnded self.closing
+            (ends_in self.holding.held self.fetched.items self.kept self.opened.items
+            self.holding.closed.graves.items)
+            (swept_ends ended.swept.items)) }
+        ensures noticed { IfOk result (λ ended. HasNoticed self.closing
+            (ends_in self.holding.held self.fetched.items self.kept self.opened.items
+            self.holding.closed.graves.items)
+            (ports_in self.holding.held self.kept self.opened.items)
+            (swept_ends ended.swept.items) self.holding.closed.noticed.items ended.noticed.items) }
+        ensures err { IfErr result (λ failed. HasPaused self.closing failed.1.closing
+            (ends_in self.holding.held self.fetched.items self.kept self.opened.items
+            self.holding.closed.graves.items)
+            (ends_in failed.1.holding.held failed.1.fetched.items failed.1.kept
+            failed.1.opened.items failed.1.holding.closed.graves.items)) }
+        ensures noticed_err { IfErr result (λ failed. HasNoticedSome self.closing failed.1.closing
+            (ends_in self.holding.held self.fetched.items self.kept self.opened.items
+            self.holding.closed.graves.items)
+            (ports_in self.holding.held self.kept self.opened.items)
+            (ports_in failed.1.holding.held failed.1.kept failed.1.opened.items)
+            self.holding.closed.noticed.items failed.1.holding.closed.noticed.items) }
+    {
+        match self.close_all(rt, hub, directory, roster) {
+            Ok(ended) => Ok(ended),
+            Err(error) => Err((LoopError::from(error), self)),
+        }
+    }
+
+    // Closes what is held, in rising order of the numbers: the ports that were found for a kept
+    // delivery and the queues that were fetched are among them.
+    fn close_held<R: Wait>(
+        &mut self,
+        rt: &R,
+        hub: &Hub,
+        roster: &SharedRoster,
+    ) -> Result<(), OutOfMemory>
+        ensures moved { (e : ℕ) →
+            ends_in self.new.holding.held self.new.fetched.items self.new.kept
+            self.new.opened.items self.new.holding.closed.graves.items e
+            ≡ ends_in self.old.holding.held self.old.fetched.items self.old.kept
+            self.old.opened.items self.old.holding.closed.graves.items e }
+        ensures all { OnOk result ((e : ℕ) →
+            count_by (is_grave e) self.new.holding.closed.graves.items
+            ≡ ends_in self.new.holding.held self.new.fetched.items self.new.kept
+            self.new.opened.items self.new.holding.closed.graves.items e) }
+        ensures noticed { OnOk result (AllClosed
+            (ports_in self.old.holding.held self.old.kept self.old.opened.items)
+            self.old.holding.closed.noticed.items self.new.holding.closed.noticed.items) }
+        ensures noticed_err { OnErr result (SomeClosed
+            (ports_in self.old.holding.held self.old.kept self.old.opened.items)
+            (ports_in self.new.holding.held self.new.kept self.new.opened.items)
+            self.old.holding.closed.noticed.items self.new.holding.closed.noticed.items) }
+        ensures closing { self.new.closing ≡ self.old.closing }
+    {
+        take_held(&mut self.holding.held, &mut self.opened)?;
+        take_queues(&mut self.fetched, &mut self.opened)?;
+        take_found(&mut self.kept, &mut self.opened)?;
+        self.opened.sort_unstable_by_key(|open| open.end().0);
+        self.opened.reverse();
+        leave_all(rt, roster, self.opened.as_slice());
+        self.holding.closed.close_all(rt, hub, &mut self.opened)
+    }
+
+    // Closes what is held, or takes up how far an earlier call has come.
+    fn begin_closing<R: Wait>(
+        &mut self,
+        rt: &R,
+        hub: &Hub,
+        roster: &SharedRoster,
+    ) -> Result<Closing, OutOfMemory>
+        ensures ok { IfOk result (λ closing. HasEnded self.old.closing
+            (ends_in self.old.holding.held self.old.fetched.items self.old.kept
+            self.old.opened.items self.old.holding.closed.graves.items)
+            (closing_ends closing)) }
+        ensures noticed { IfOk result (λ closing. HasNoticed self.old.closing
+            (ends_in self.old.holding.held self.old.fetched.items self.old.kept
+            self.old.opened.items self.old.holding.closed.graves.items)
+            (ports_in self.old.holding.held self.old.kept self.old.opened.items)
+            (closing_ends closing) self.old.holding.closed.noticed.items closing.noticed.items) }
+        ensures err { OnErr result (HasPaused self.old.closing self.new.closing
+            (ends_in self.old.holding.held self.old.fetched.items self.old.kept
+            self.old.opened.items self.old.holding.closed.graves.items)
+            (ends_in self.new.holding.held self.new.fetched.items self.new.kept
+            self.new.opened.items self.new.holding.closed.graves.items)) }
+        ensures noticed_err { OnErr result (HasNoticedSome self.old.closing self.new.closing
+            (ends_in self.old.holding.held self.old.fetched.items self.old.kept
+            self.old.opened.items self.old.holding.closed.graves.items)
+            (ports_in self.old.holding.held self.old.kept self.old.opened.items)
+            (ports_in self.new.holding.held self.new.kept self.new.opened.items)
+            self.old.holding.closed.noticed.items self.new.holding.closed.noticed.items) }
+    {
+        match self.closing.take() {
+            Some(closing) => Ok(closing),
+            None => {
+                self.close_held(rt, hub, roster)?;
+                let closed = replace(&mut self.holding.closed, Closed::new(self.alloc));
+                Ok(Closing::new(self.alloc, closed))
+            }
+        }
+    }
+
+    // Closes and sweeps all, and goes on where an earlier call has stopped.
+    fn close_all<R: Wait>(
+        &mut self,
+        rt: &R,
+        hub: &Hub,
+        directory: &Directory,
+        roster: &SharedRoster,
+    ) -> Result<Ended, OutOfMemory>
+        ensures ok { IfOk result (λ ended. HasEnded self.old.closing
+            (ends_in self.old.holding.held self.old.fetched.items self.old.kept
+            self.old.opened.items self.old.holding.closed.graves.items)
+            (swept_ends ended.swept.items)) }
+        ensures noticed { IfOk result (λ ended. HasNoticed self.old.closing
+            (ends_in self.old.holding.held self.old.fetched.items self.old.kept
+            self.old.opened.items self.old.holding.closed.graves.items)
+            (ports_in self.old.holding.held self.old.kept self.old.opened.items)
+            (swept_ends ended.swept.items) self.old.holding.closed.noticed.items
+            ended.noticed.items) }
+        ensures err { OnErr result (HasPaused self.old.closing self.new.closing
+            (ends_in self.old.holding.held self.old.fetched.items self.old.kept
+            self.old.opened.items self.old.holding.closed.graves.items)
+            (ends_in self.new.holding.held self.new.fetched.items self.new.kept
+            self.new.opened.items self.new.holding.closed.graves.items)) }
+        ensures noticed_err { OnErr result (HasNoticedSome self.old.closing self.new.closing
+            (ends_in self.old.holding.held self.old.fetched.items self.old.kept
+            self.old.opened.items self.old.holding.closed.graves.items)
+            (ports_in self.old.holding.held self.old.kept self.old.opened.items)
+            (ports_in self.new.holding.held self.new.kept self.new.opened.items)
+            self.old.holding.closed.noticed.items self.new.holding.closed.noticed.items) }
+    {
+        let mut closing = self.begin_closing(rt, hub, roster)?;
+        match closing.finish(rt, hub, directory, &mut self.kept) {
+            Ok(()) => Ok(closing.into_ended()),
+            Err(error) => {
+                self.closing = Some(closing);
+                Err(error)
+            }
+        }
+    }
+}

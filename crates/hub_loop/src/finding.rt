@@ -1,0 +1,197 @@
+//! How an end or a line is found by its number, lent and shown.
+
+ghost use Rattle.std.specs.Prelude.{◌≡◌, ◌↔◌, ℕ, true, Some, IfOk, IfSome, IfNone};
+ghost use Rattle.std.specs.Option.{option_copied_mut};
+ghost use Rattle.slab.specs.Slab.{get};
+ghost use Rattle.hub_loop.specs.Holding.{end_held, ends_held};
+ghost use Rattle.hub_loop.specs.Looking.{
+  Holds,
+  HoldsNoClient,
+  HoldsNoEnd,
+  HoldsNoLine,
+  HoldsNoMember,
+  HoldsNoPort,
+  IsEndOf,
+  IsFound,
+  IsLineTo,
+  IsSlotOf,
+};
+ghost use Rattle.hub_loop.specs.declared.held.Held.TheVariants.{
+  Port as PortHeld,
+  Client as ClientHeld,
+  Member as MemberHeld,
+  Line as LineHeld,
+};
+ghost use Rattle.hub_marks.specs.Marking.{mark_of};
+ghost use Rattle.hub_ports.specs.Seats.{end_of};
+
+use crate::held::{Held, Kind};
+use crate::holding::Holding;
+use crate::listed::Listed;
+use hub_broadcast::Member;
+use hub_clients::ClientQueue;
+use hub_envelope::{EndId, OutOfMemory};
+use hub_ports::Port;
+use hub_queue::Poster;
+use std::alloc::Global;
+use std::collections::BTreeSet;
+
+// The least key that is listed under this number.
+fn key_of(listed: &BTreeSet<Listed>, end: EndId) -> Option<usize> {
+    let first = Listed { end, key: 0 };
+    let last = Listed {
+        end,
+        key: usize::MAX,
+    };
+    let found = listed.range(first..=last).next()?;
+    Some(found.key)
+}
+
+impl Holding {
+    // Whether the end of this kind and number is held under a key.
+    fn is_at(&self, key: usize, kind: Kind, end: EndId) -> bool
+        ensures { (result ≡ true) ↔ IsSlotOf (IsEndOf kind end) (get self.now.held key) }
+    {
+        match self.held.get(key) {
+            Some(held) => held.is_end(kind, end),
+            None => false,
+        }
+    }
+
+    // Whether a line that posts at the end of this number is held under a key.
+    fn is_line_at(&self, key: usize, end: EndId) -> bool
+        ensures { (result ≡ true) ↔ IsSlotOf (IsLineTo end) (get self.now.held key) }
+    {
+        match self.held.get(key) {
+            Some(held) => held.is_line_to(end),
+            None => false,
+        }
+    }
+
+    // The marked key under which the end of this kind and number is held.
+    fn find_marked(&self, kind: Kind, end: EndId) -> Option<usize>
+        ensures some { IfSome result (λ key. IsSlotOf (IsEndOf kind end) (get self.now.held key)) }
+        ensures none { IfNone result ((key : ℕ) → mark_of self.now.ready.marks key ≡ 1 →
+            IsSlotOf (IsEndOf kind end) (get self.now.held key) → ⊥) }
+    {
+        let high = self.held.capacity();
+        let mut key = 0;
+        'marks: while key < high {
+            let Some(marked) = self.ready.marks.next_from(key) else {
+                return None;
+            };
+            if marked >= high {
+                return None;
+            }
+            if self.is_at(marked, kind, end) {
+                return Some(marked);
+            }
+            key = marked + 1;
+        }
+        None
+    }
+
+    /// The key of the end of this kind and number. Its number leads there, unless it is marked.
+    pub(crate) fn find_end(&self, kind: Kind, end: EndId) -> Option<usize>
+        ensures { IsFound (IsEndOf kind end) self.now.held result }
+    {
+        if let Some(key) = self.ready.key_of(end) {
+            if self.is_at(key, kind, end) {
+                return Some(key);
+            }
+        }
+        self.find_marked(kind, end)
+    }
+
+    // The key of a line that posts at the end of this number. A borrower may have left another one
+    // where it is listed, so that all are looked at where it isn't found there.
+    fn find_line(&self, end: EndId) -> Option<usize>
+        ensures { IsFound (IsLineTo end) self.now.held result }
+    {
+        if let Some(key) = key_of(&self.lines, end) {
+            if self.is_line_at(key, end) {
+                return Some(key);
+            }
+        }
+        for key in 0..self.held.capacity() {
+            if self.is_line_at(key, end) {
+                return Some(key);
+            }
+        }
+        None
+    }
+
+    // Lends what is held under a key, and marks it: whoever borrows an end may start it.
+    fn lend(&mut self, key: usize) -> Option<&mut Held>
+        ensures { option_copied_mut result ≡ get self.old.held key }
+    {
+        if !self.held.contains(key) {
+            return None;
+        }
+        self.ready.marks.set(key);
+        self.held.get_mut(key)
+    }
+
+    /// Lends the port of this number.
+    pub(crate) fn port_mut(&mut self, end: EndId) -> Option<&mut Port>
+        ensures some { IfSome result (λ port. Holds self.old.held (PortHeld port.now)
+            × (end_of port.now ≡ end)) }
+        ensures none { IfNone result (HoldsNoPort self.old.held end) }
+    {
+        let key = self.find_end(Kind::Port, end)?;
+        self.lend(key)?.as_port()
+    }
+
+    /// Lends the client's queue of this number.
+    pub(crate) fn client_mut(&mut self, end: EndId) -> Option<&mut ClientQueue>
+        ensures some { IfSome result (λ queue. Holds self.old.held (ClientHeld queue.now)
+            × (queue.now.end ≡ end.0)) }
+        ensures none { IfNone result (HoldsNoClient self.old.held end) }
+    {
+        let key = self.find_end(Kind::Client, end)?;
+        self.lend(key)?.as_client()
+    }
+
+    /// Lends the member of this number.
+    pub(crate) fn member_mut(&mut self, end: EndId) -> Option<&mut Member>
+        ensures some { IfSome result (λ member. Holds self.old.held (MemberHeld member.now)
+            × (member.now.taker.end ≡ end.0)) }
+        ensures none { IfNone result (HoldsNoMember self.old.held end) }
+    {
+        let key = self.find_end(Kind::Member, end)?;
+        self.lend(key)?.as_member()
+    }
+
+    /// Lends a line that posts at the end of this number.
+    pub(crate) fn line_mut(&mut self, end: EndId) -> Option<&mut Poster>
+        ensures some { IfSome result (λ line. Holds self.old.held (LineHeld line.now)
+            × (line.now.name.end ≡ end)) }
+        ensures none { IfNone result (HoldsNoLine self.old.held end) }
+    {
+        let key = self.find_line(end)?;
+        self.lend(key)?.as_line()
+    }
+
+    /// Shows the end of this number.
+    pub(crate) fn held(&self, end: EndId) -> Option<&Held>
+        ensures some { IfSome result (λ held. Holds self.now.held held.now
+            × (end_held held.now ≡ Some end)) }
+        ensures none { IfNone result (HoldsNoEnd self.now.held end) }
+    {
+        let key = self.find_end(Kind::End, end)?;
+        self.held.get(key)
+    }
+
+    /// The numbers of the ends, in the order of their keys.
+    pub(crate) fn numbers(&self, alloc: Global) -> Result<Vec<EndId>, OutOfMemory>
+        ensures { IfOk result (λ ends. ends.items ≡ ends_held self.now.held) }
+    {
+        let mut numbers = Vec::new(alloc);
+        for (_, held) in self.held.iter() {
+            if let Some(end) = held.as_end() {
+                numbers.push(end)?;
+            }
+        }
+        Ok(numbers)
+    }
+}
