@@ -136,6 +136,7 @@ impl<H: Handler + Drop, C: Checkpoint + Drop> EventLoop<H, C> {
     {
         self.holding.release(end)
     }
+
     /// Closes the port, queue or member of this number, which the loop holds no more: a member
     /// leaves the roster first, and a port is closed with its notice. What waits there is for the
     /// caller to sweep. `None` where the loop doesn't hold it.

@@ -87,7 +87,8 @@ impl Holding {
         ensures next { self.new.next ≡ self.old.next }
     {
         let end = arrived.end();
-        let (grave, _spent, noticed) = arrived.close(rt, hub);
+        let (grave, spent, noticed) = arrived.close(rt, hub);
+        drop(spent);
         self.closed.bury(end, grave, noticed);
     }
 
@@ -173,12 +174,7 @@ impl Holding {
                 receiving.found.push_front_reserved(arrived);
                 Err(OutOfMemory)
             }
-            Err((AdoptError::TooManyMoves, arrived)) => {
-                self.close_unfit(rt, hub, arrived);
-                receiving.missing.push_reserved(end);
-                Ok(true)
-            }
-            Err((AdoptError::Taken, arrived)) => {
+            Err((AdoptError::TooManyMoves | AdoptError::Taken, arrived)) => {
                 self.close_unfit(rt, hub, arrived);
                 receiving.missing.push_reserved(end);
                 Ok(true)

@@ -8,7 +8,7 @@ ghost use Rattle.hub_loop.specs.Noticing.{NamedBehind};
 use crate::delivery::Delivery;
 use crate::ending::Closed;
 use hub_clients::Directory;
-use hub_envelope::{EndId, OutOfMemory};
+use hub_envelope::{EndId, Envelope, OutOfMemory};
 use hub_ports::{Arrival, Arrived, Hub, Noticed};
 use hub_queue::{Grave, Poster, Swept};
 use std::alloc::Global;
@@ -38,6 +38,17 @@ pub(crate) struct Closing {
     next: (usize, usize),
     noticed: Vec<(EndId, Noticed)>,
     lines: Vec<Poster>,
+}
+
+// Takes the ports that an envelope names out of flight.
+fn take_named<R: Wait>(
+    rt: &R,
+    hub: &Hub,
+    envelope: &Envelope,
+) -> Result<VecDeque<Arrived>, OutOfMemory> {
+    let Arrival { found, missing } = hub.arrive(rt, envelope)?;
+    drop(missing);
+    Ok(VecDeque::from_vec(found))
 }
 
 impl Closing {
@@ -111,7 +122,8 @@ impl Closing {
             self.noticed.reserve(1)?;
             let arrived = self.found.pop_front().unwrap();
             let end = arrived.end();
-            let (grave, _spent, noticed) = arrived.close(rt, hub);
+            let (grave, spent, noticed) = arrived.close(rt, hub);
+            drop(spent);
             self.graves.push_back_reserved(grave);
             self.noticed.push_reserved((end, noticed));
         }
@@ -132,8 +144,7 @@ impl Closing {
             self.next = (place + 1, 0);
             return Ok(true);
         };
-        let Arrival { found, missing: _ } = hub.arrive(rt, envelope)?;
-        self.found = VecDeque::from_vec(found);
+        self.found = take_named(rt, hub, envelope)?;
         self.next = (place, count + 1);
         Ok(true)
     }
@@ -145,7 +156,7 @@ impl Closing {
         ensures noticed { self.new.noticed ≡ self.old.noticed }
     {
         while let Some(poster) = self.lines.pop() {
-            let _refused = directory.give_back(rt, poster);
+            drop(directory.give_back(rt, poster));
         }
     }
 
@@ -167,11 +178,22 @@ impl Closing {
             },
         ) = kept
         {
-            let Arrival { found, missing: _ } = hub.arrive(rt, envelope)?;
-            self.found = VecDeque::from_vec(found);
+            self.found = take_named(rt, hub, envelope)?;
         }
         *kept = None;
         Ok(())
+    }
+
+    // Closes and sweeps the ports that were found, and looks for those of the next discarded
+    // envelope. Whether there was one.
+    fn close_further<R: Wait>(&mut self, rt: &R, hub: &Hub) -> Result<bool, OutOfMemory>
+        ensures further { NamedBehind (closing_ends self.old) (closing_ends self.new)
+            self.old.noticed.items self.new.noticed.items }
+        ensures all { OnOk result (self.new.graves.items ≡ []) }
+    {
+        self.close_found(rt, hub)?;
+        self.sweep_all(rt)?;
+        self.look_further(rt, hub)
     }
 
     /// Sweeps what was closed, and gives the lines back. Then each port that is named by a kept
@@ -191,9 +213,7 @@ impl Closing {
         self.give_back(rt, directory);
         self.look_for_kept(rt, hub, kept)?;
         for _ in rt.forever() {
-            self.close_found(rt, hub)?;
-            self.sweep_all(rt)?;
-            if !self.look_further(rt, hub)? {
+            if !self.close_further(rt, hub)? {
                 return Ok(());
             }
         }

@@ -70,7 +70,10 @@ impl<H: Handler + Drop, C: Checkpoint + Drop> EventLoop<H, C> {
             self.holding.closed.noticed.items failed.1.holding.closed.noticed.items) }
     {
         match self.close_all(rt, hub, directory, roster) {
-            Ok(ended) => Ok(ended),
+            Ok(ended) => {
+                drop(self);
+                Ok(ended)
+            }
             Err(error) => Err((LoopError::from(error), self)),
         }
     }

@@ -151,7 +151,10 @@ impl Closed {
     {
         let ClosedEnd { grave, notice } = closed;
         match notice {
-            Some((_spent, noticed)) => self.bury(end, grave, noticed),
+            Some((spent, noticed)) => {
+                drop(spent);
+                self.bury(end, grave, noticed);
+            }
             None => self.graves.push_reserved(grave),
         }
     }
