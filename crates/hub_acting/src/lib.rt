@@ -1,0 +1,13 @@
+//! How an agent does its actions: those of the script that are its own, in order, up to the last
+//! or to the order to end.
+//!
+//! What an action does and where the order is looked for are closures of the caller, so that this
+//! is proved once for whoever acts.
+#![tactic(auto)]
+
+mod acted;
+mod acting;
+
+pub use acted::Acted;
+pub use acting::act_all;
+pub use hub_envelope::OutOfMemory;
