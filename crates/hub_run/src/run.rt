@@ -79,7 +79,8 @@ fn start_all<'s, E, C: Checkpoint, R: Threads + Wait + Sync>(
             part,
             move || -> Ran
                 requires { part.number.0 ≤ MAX_AGENT }
-                ensures { IfOk result (λ log. IsLogFor part.entry.script.now part.entry.number log) }
+                ensures { IfOk result (λ log.
+                    IsLogFor part.entry.script.now part.entry.number log) }
             { wait_and_run(rt, begun, part, agent) },
         )?;
         handles.push(handle)?;
