@@ -67,17 +67,17 @@ ends_stay source draft (s ∷ rest) new outcomes (t, later, here, behind, new_is
     let others : map (λ r. r.poster.name.end.0) later ≡ map (λ r. r.poster.name.end.0) rest = ends_stay source draft rest later behind more in
     ap (map (λ r. r.poster.name.end.0)) new_is ∙ (λ i. (first i).0 ∷ others i)
 
-joined_end : (number : ℕ) (agent : AgentId) (origin name : List ℕ) (old new : List SubscriptionSeat) (m : MemberSeat) → (is : IsJoined number agent origin name old new m) → is.0.poster.name.end.0 ≡ number
+joined_end : (number : ℕ) (agent : AgentId) (origin name : List ℕ) (old new : List SubscriptionSeat) (m : MemberSeat) → (is : IsJoined number agent origin name old new m) → is.is_new.poster.name.end.0 ≡ number
 joined_end number agent origin name old new m is =
-    let one : is.0.poster ∷ [] ≡ new_stand is.0.opened.newest.keeper.gate is.0.opened.newest.queue (record { 0 = number }) 0 0 ∷ [] = is.0.mailbox.posters_are in
-    let same : is.0.poster ≡ new_stand is.0.opened.newest.keeper.gate is.0.opened.newest.queue (record { 0 = number }) 0 0 = cc in
+    let one : is.is_new.poster ∷ [] ≡ new_stand is.is_new.opened.newest.keeper.gate is.is_new.opened.newest.queue (record { 0 = number }) 0 0 ∷ [] = is.is_new.mailbox.posters_are in
+    let same : is.is_new.poster ≡ new_stand is.is_new.opened.newest.keeper.gate is.is_new.opened.newest.queue (record { 0 = number }) 0 0 = cc in
     ap (λ p. p.name.end.0) same
 
 pub keeps_order : KeepsOrder
 keeps_order = record {
   join = λ drawn agent origin name old new m is rising.
       let numbers : map (λ s. s.poster.name.end.0) new ≡ map (λ s. s.poster.name.end.0) old ++ drawn ∷ [] =
-      ap (map (λ s. s.poster.name.end.0)) is.1 ∙ map_push old (record { origin = origin; name = name; poster = is.0.poster }) ∙ ap (λ n. map (λ s. s.poster.name.end.0) old ++ n ∷ []) (joined_end drawn agent origin name old new m is) in
+      ap (map (λ s. s.poster.name.end.0)) is.roster ∙ map_push old (record { origin = origin; name = name; poster = is.is_new.poster }) ∙ ap (λ n. map (λ s. s.poster.name.end.0) old ++ n ∷ []) (joined_end drawn agent origin name old new m is) in
       subst (λ l. RiseBetween 0 (drawn + 1) l) (sym numbers) (push 0 drawn (map (λ s. s.poster.name.end.0) old) rising);
   leave = λ drawn end old rising. some_rise (λ s. not (is_of_end end s)) 0 drawn old rising;
   cast = λ drawn source draft old new outcomes is rising. subst (λ l. RiseBetween 0 drawn l) (sym (ends_stay source draft old new outcomes is)) rising;

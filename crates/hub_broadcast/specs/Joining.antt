@@ -15,5 +15,6 @@ module _ (number : ℕ) (agent : AgentId) (origin name : List ℕ) where
     pub member : m ≡ record { taker = started opened; agent = agent; origin = origin; name = name }
 
   -- the member is new, and the roster has its poster behind all others
-  abbrev pub IsJoined : List SubscriptionSeat → List SubscriptionSeat → MemberSeat → Type 0
-  IsJoined old new m = (is_new : IsNewMember m) × (new ≡ old ++ record { origin = origin; name = name; poster = is_new.poster } ∷ [])
+  pub record IsJoined (old new : List SubscriptionSeat) (m : MemberSeat) : Type 0 where
+    pub is_new : IsNewMember m
+    pub roster : new ≡ old ++ record { origin = origin; name = name; poster = is_new.poster } ∷ []

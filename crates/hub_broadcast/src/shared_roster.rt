@@ -6,7 +6,7 @@ ghost use Rattle.hub_broadcast.specs.Joining.{IsNewMember};
 use crate::cast_error::CastError;
 use crate::cast_outcome::CastOutcome;
 use crate::join_error::JoinError;
-use crate::lent::{cast_in, leave_in};
+use crate::lent::{cast_in, join_in, leave_in};
 use crate::member::Member;
 use crate::roster::Roster;
 use hub_depot::Depot;
@@ -56,7 +56,8 @@ impl SharedRoster {
         ensures too_many { IsErrOf result JoinError.TooManyEnds ↔ (MAX_ENDS ≤ ends.old.drawn) }
         ensures err { OnErr result (ends.new ≡ ends.old) }
     {
-        self.roster.lock(rt).join(ends, agent, origin, name, bell)
+        let mut lender = &self.roster;
+        join_in(rt, &mut lender, ends, agent, origin, name, bell)
     }
 
     /// Takes a member out of the roster: `Roster::leave` under the lock. It takes no memory.
