@@ -46,6 +46,12 @@ wide: low
 messagehub: high wide
 other: low
 """
+# Stands in for what rt knows of its crates.
+FAKE_RTLIB = """import collections, pathlib
+Crate = collections.namedtuple("Crate", "name stamp")
+def crates_below(top):
+    return [Crate(it.name, lambda it=it: "of-" + it.name) for it in pathlib.Path(top).iterdir()]
+"""
 USAGE = b"usage: messagehub steps|run|check\n"
 
 
@@ -170,6 +176,31 @@ class Launcher(support.TestCase):
         found = outcome_of([other / "tools" / "build", "--sum"], env=self.settings)
         self.assertEqual((len(found.output), found.status), (65, 0))
         self.says(3, "runs")
+
+    def test_libraries_of_ci(self):
+        """What `rt ci` leaves has no sum. One run's libraries get theirs, of two runs' none does."""
+        (self.kit / "bin" / "rtlib.py").write_text(FAKE_RTLIB, encoding="utf-8")
+        self.assert_runs(is_built=True)
+        crates = self.root / "crates"
+        stamps = [crates / it / "out" / "rlib" / "stamp" for it in ("low", "high", "wide")]
+        for stamp in stamps[:2]:
+            stamp.unlink()
+        self.build("--keep", self.build("--sum").decode().strip())
+        self.assertEqual([it.exists() for it in stamps], [False, False, True])
+        stamps[2].unlink()
+        self.build("--keep", "another sum")
+        self.assertFalse(any(it.exists() for it in stamps))
+        self.build("--keep", self.build("--sum").decode().strip())
+        self.assertEqual([it.read_text() for it in stamps], ["of-low", "of-high", "of-wide"])
+        stamps[0].unlink()
+        self.build("--clear")
+        self.assertEqual([it.parent.exists() for it in stamps], [False, True, True])
+        self.says(4, "calls")
+
+    def build(self, *words):
+        found = outcome_of([self.root / "tools" / "build", *words], env=self.settings)
+        self.assertEqual((found.errors, found.status), (b"", 0))
+        return found.output
 
     def test_build_that_fails(self):
         fails = self.root / "crates" / "high" / "fails"
