@@ -205,7 +205,7 @@ class Counts(support.TestCase):
     def test_edits(self):
         gate = len(list((ROOT / "crates").glob("*/must-fail/*.edit")))
         beside = len(list((ROOT / "edits").glob("*/*.edit")))
-        self.assertIn(f"The gate tries {gate} edits, and {beside} lie beside",
+        self.assertIn(f"CI tries {gate} edits, and {beside} lie beside",
                       text_of(ROOT / "docs" / "DECISIONS.md"))
         self.says(gate + beside, "edits", 300)
 
