@@ -2,6 +2,7 @@
 //!
 //! A function that itself lets a port, a queue or a loop go costs some seconds of the check, so
 //! each is handed to `drop`.
+use crate::ended::{Closing, is_closed};
 use crate::mail::Mail;
 use crate::parts::{Loop, body, room, turn};
 use crate::scribe::Scribe;
@@ -150,6 +151,39 @@ impl Agent {
                 false
             }
             None => false,
+        }
+    }
+
+    /// Whether the end of this number is closed, this is discarded there, and this became of its
+    /// notice.
+    pub(crate) fn closes<R: Wait>(
+        &mut self,
+        rt: &R,
+        shared: &Shared,
+        end: u32,
+        row: &[Mail],
+        closing: Option<Closing>,
+    ) -> bool {
+        match self
+            .event_loop
+            .close(rt, &shared.hub, &shared.roster, EndId(end))
+        {
+            Some(closed) => is_closed(rt, closed, end, row, closing),
+            None => false,
+        }
+    }
+
+    /// Whether no end of this number is there to be closed.
+    pub(crate) fn closes_none<R: Wait>(&mut self, rt: &R, shared: &Shared, end: u32) -> bool {
+        match self
+            .event_loop
+            .close(rt, &shared.hub, &shared.roster, EndId(end))
+        {
+            Some(closed) => {
+                drop(closed);
+                false
+            }
+            None => true,
         }
     }
 

@@ -1,9 +1,10 @@
 //! What a loop leaves when it ends, as the rows write it.
 use crate::mail::{Mail, is_mail};
 use hub_envelope::{EndId, Envelope, LineId};
-use hub_loop::Ended;
+use hub_loop::{ClosedEnd, Ended};
 use hub_ports::Noticed;
 use hub_queue::{Posted, Swept};
+use std::sync::Wait;
 
 /// The number of a port that was closed, and what became of its notice.
 #[derive(Clone, Copy)]
@@ -26,17 +27,33 @@ fn are_envelopes(envelopes: &[Envelope], end: u32, row: &[Mail]) -> bool {
     true
 }
 
+fn is_swept(swept: &Swept, end: u32, row: &[Mail]) -> bool {
+    swept.end().0 == end && are_envelopes(swept.envelopes(), end, row)
+}
+
 /// Whether these ends were swept, in order, and this was discarded there.
 pub(crate) fn are_swept(swept: &[Swept], rows: &[(u32, &[Mail])]) -> bool {
     if swept.len() != rows.len() {
         return false;
     }
     for (swept, (end, row)) in swept.iter().zip(rows) {
-        if swept.end().0 != *end || !are_envelopes(swept.envelopes(), *end, row) {
+        if !is_swept(swept, *end, row) {
             return false;
         }
     }
     true
+}
+
+/// Whether the ends of all numbers below this one were swept, in order, and nothing was discarded.
+pub(crate) fn are_swept_below(swept: &[Swept], count: u32) -> bool {
+    let mut next: u32 = 0;
+    for swept in swept {
+        if !is_swept(swept, next, &[]) {
+            return false;
+        }
+        next = next.wrapping_add(1);
+    }
+    next == count
 }
 
 // A notice for which there was no memory is told so.
@@ -77,4 +94,38 @@ pub(crate) fn is_left(
 ) -> bool {
     are_swept(ended.swept.as_slice(), swept)
         && are_closings(ended.noticed.as_slice(), closings, may_refuse)
+}
+
+fn is_told(noticed: Option<Noticed>, end: u32, row: Option<Closing>) -> bool {
+    match (noticed, row) {
+        (Some(noticed), Some(row)) => is_closing((EndId(end), noticed), row, false),
+        (None, None) => true,
+        _ => false,
+    }
+}
+
+/// Whether an end that a loop has closed has left this: what is discarded there, and what became of
+/// its notice.
+pub(crate) fn is_closed<R: Wait>(
+    rt: &R,
+    closed: ClosedEnd,
+    end: u32,
+    row: &[Mail],
+    closing: Option<Closing>,
+) -> bool {
+    let ClosedEnd { grave, notice } = closed;
+    let noticed = match notice {
+        Some((spent, noticed)) => {
+            drop(spent);
+            Some(noticed)
+        }
+        None => None,
+    };
+    match grave.sweep_out(rt) {
+        Ok(swept) => is_swept(&swept, end, row) && is_told(noticed, end, closing),
+        Err(grave) => {
+            drop(grave);
+            false
+        }
+    }
 }

@@ -6,6 +6,8 @@
 #[cfg(test)]
 mod agent;
 #[cfg(test)]
+mod closed;
+#[cfg(test)]
 mod deliveries;
 #[cfg(test)]
 mod ended;
@@ -13,6 +15,8 @@ mod ended;
 mod handing;
 #[cfg(test)]
 mod mail;
+#[cfg(test)]
+mod many;
 #[cfg(test)]
 mod memory;
 #[cfg(test)]

@@ -2,7 +2,7 @@
 ghost use Rattle.std.specs.Prelude.{◌<◌, IfSome, vec_len};
 
 use crate::agent::{Agent, Answer, Way};
-use crate::ended::{Closing, is_left};
+use crate::ended::{Closing, are_swept_below, is_left};
 use crate::mail::Mail;
 use crate::shared::Shared;
 use hub_loop::{Ended, Held, Turn};
@@ -72,6 +72,13 @@ pub(crate) enum Step {
     /// The loop ends. Either it has swept this queue, where this was discarded, or the queue waits
     /// still, and is closed then.
     EndWith(u32, &'static [Mail]),
+    /// The loop closes this end, this is discarded there, and this became of its notice.
+    Close(u32, &'static [Mail], Option<Closing>),
+    /// The loop has no end of this number to close.
+    CloseNone(u32),
+    /// The loop ends, and has swept the ends of all numbers below this one, in order. Nothing was
+    /// discarded.
+    EndBelow(u32),
     /// The loop ends, and this was swept and closed.
     End(&'static [(u32, &'static [Mail])], &'static [Closing]),
 }
@@ -215,6 +222,13 @@ impl<'a> Table<'a> {
         }
     }
 
+    fn end_below<R: Wait>(&mut self, rt: &R, number: u8, count: u32) -> bool {
+        match self.ended(rt, number) {
+            Some(ended) => are_swept_below(ended.swept.as_slice(), count),
+            None => false,
+        }
+    }
+
     // Whether either the loop has swept this queue alone, or nothing, and the queue waits still.
     fn end_with<R: Wait>(&mut self, rt: &R, number: u8, end: u32, discarded: &[Mail]) -> bool {
         let Some(ended) = self.ended(rt, number) else {
@@ -255,6 +269,8 @@ impl<'a> Table<'a> {
             Step::Rest => agent.rests(rt),
             Step::Hand(end, to) => agent.hands(rt, shared, end, to),
             Step::TryFetch(end) => agent.tries_to_fetch(rt, shared, end),
+            Step::Close(end, row, closing) => agent.closes(rt, shared, end, row, closing),
+            Step::CloseNone(end) => agent.closes_none(rt, shared, end),
             Step::Fetch(end, is_there) => agent.fetches(rt, shared, end) == Some(is_there),
             _ => false,
         }
@@ -274,6 +290,7 @@ impl<'a> Table<'a> {
             Step::Lose(end) => self.shared.lose_in_flight(rt, end),
             Step::NoneInFlight => self.shared.has_none_in_flight(rt),
             Step::EndWith(end, discarded) => self.end_with(rt, number, end, discarded),
+            Step::EndBelow(count) => self.end_below(rt, number, count),
             Step::End(swept, closings) => self.end(rt, number, swept, closings),
             _ => self.act(rt, number, step),
         }
