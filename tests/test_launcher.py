@@ -178,7 +178,7 @@ class Launcher(support.TestCase):
         self.says(3, "runs")
 
     def test_libraries_of_ci(self):
-        """What `rt ci` leaves has no sum. One run's libraries get theirs, of two runs' none does."""
+        """What `rt ci` leaves has no sum. Libraries of one run get theirs, of two runs none."""
         (self.kit / "bin" / "rtlib.py").write_text(FAKE_RTLIB, encoding="utf-8")
         self.assert_runs(is_built=True)
         crates = self.root / "crates"

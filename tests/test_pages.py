@@ -93,7 +93,8 @@ class Sessions(support.TestCase):
             (step.rstrip(), outcome)
             for page in PAGES
             for block in BESIDE.findall(text_of(page))
-            for step, outcome in [re.split(r" {2,}", line, maxsplit=1) for line in block.splitlines()]
+            for line in block.splitlines()
+            for step, outcome in [re.split(r" {2,}", line, maxsplit=1)]
         ]
         text = "".join(f"{step}\n" for step, _ in pairs).encode()
         wanted = "".join(f"{outcome}\n" for _, outcome in pairs).encode()
