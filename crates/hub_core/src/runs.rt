@@ -6,10 +6,11 @@ ghost use Rattle.hub_core.specs.Legal.{Legal};
 ghost use Rattle.hub_core.specs.Headline.{Headline};
 ghost use Rattle.hub_core.specs.Fates.{Fates};
 ghost use Rattle.hub_core.specs.Laws.{InOrder};
+ghost use Rattle.hub_core.specs.Shows.{FitsAndShows};
 
 use crate::machine::Core;
 use crate::outcome::Outcome;
-use crate::step::Step;
+use crate::step::{Action, Step};
 use hub_envelope::OutOfMemory;
 use std::alloc::Global;
 
@@ -27,8 +28,52 @@ pub fn run(alloc: Global, steps: Vec<Step>) -> Result<Vec<Outcome>, OutOfMemory>
     let mut core = Core::new(alloc);
     let mut outcomes = Vec::with_capacity(alloc, steps.len())?;
     for step in steps {
-        let outcome = core.step(step)?;
+        let outcome = core.take_any(step)?;
         outcomes.push(outcome)?;
     }
     Ok(outcomes)
+}
+
+impl Core {
+    /// Takes a step as `step` does, which is inlined, and clears room at its start for the answers
+    /// of all steps that it may take. So posts and takes, which most steps are, have one each.
+    #[inline(always)]
+    fn take_any(&mut self, step: Step) -> Result<Outcome, OutOfMemory>
+        ensures { IfOk result (λ o. FitsAndShows self.old self.new step o) }
+    {
+        let Step {
+            action,
+            memory_refused,
+        } = step;
+        match action {
+            Action::Enter(sender) => self.step(Step {
+                action: Action::Enter(sender),
+                memory_refused,
+            }),
+            Action::Push(sender, ports, body) => self.step(Step {
+                action: Action::Push(sender, ports, body),
+                memory_refused,
+            }),
+            Action::Leave(sender) => self.step(Step {
+                action: Action::Leave(sender),
+                memory_refused,
+            }),
+            Action::Take(end) => self.step(Step {
+                action: Action::Take(end),
+                memory_refused,
+            }),
+            action => self.take_rarer(Step {
+                action,
+                memory_refused,
+            }),
+        }
+    }
+
+    /// Takes a step that is neither part of a post nor a take.
+    #[inline(never)]
+    fn take_rarer(&mut self, step: Step) -> Result<Outcome, OutOfMemory>
+        ensures { IfOk result (λ o. FitsAndShows self.old self.new step o) }
+    {
+        self.step(step)
+    }
 }

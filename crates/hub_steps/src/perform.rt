@@ -23,6 +23,9 @@ use hub_envelope::{EndId, LineId, MAX_LINES};
 use std::alloc::Global;
 
 /// Takes the core's steps of a line, and gives what the line shows.
+// It is inlined, since a call copies the line. Nearly all lines are posts and takes, and room for
+// what the others show would be cleared at each.
+#[inline(always)]
 pub fn perform(
     alloc: Global,
     core: &mut Core,
@@ -36,6 +39,39 @@ pub fn perform(
     // Steps that take no memory are never refused for want of it, with the mark or without.
     ensures memory { OnErr result (command_takes_memory line.command ≡ true) }
     // Where the one step of a line finds no memory, nothing was changed.
+    ensures still { OnErr result (takes_one_step line.command ≡ true
+        → StillShows core.old core.new × (lives.new ≡ lives.old)) }
+{
+    let StepLine {
+        command,
+        memory_refused,
+    } = line;
+    match command {
+        Command::At(poster, command) => perform_at(core, poster, command, memory_refused),
+        Command::Take(end) => show_step(core, Action::Take(end), memory_refused),
+        command => {
+            let line = StepLine {
+                command,
+                memory_refused,
+            };
+            perform_rarer(alloc, core, lives, line)
+        }
+    }
+}
+
+/// The same of a line that is neither of a poster nor a take.
+#[inline(never)]
+fn perform_rarer(
+    alloc: Global,
+    core: &mut Core,
+    lives: &mut Lives,
+    line: StepLine,
+) -> Result<Shown, OutOfMemory>
+    ensures performed { IfOk result (λ shown.
+        PerformsAt core.old core.new lives.old line shown) }
+    ensures lives { IfOk result (λ shown.
+        lives.new ≡ lives_after line.command shown lives.old) }
+    ensures memory { OnErr result (command_takes_memory line.command ≡ true) }
     ensures still { OnErr result (takes_one_step line.command ≡ true
         → StillShows core.old core.new × (lives.new ≡ lives.old)) }
 {

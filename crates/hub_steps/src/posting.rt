@@ -1,6 +1,10 @@
 //! A post, in the steps that it takes.
 
-ghost use Rattle.std.specs.Prelude.{IfOk};
+ghost use Rattle.std.specs.Prelude.{◌≡◌, IfOk, true};
+ghost use Rattle.hub_core.specs.Facts.{facts};
+ghost use Rattle.hub_core.specs.History.{History};
+ghost use Rattle.hub_core.specs.Posting.{listing, may_post};
+ghost use Rattle.hub_core.specs.Shows.{Shows};
 ghost use Rattle.hub_steps.specs.Performed.{ComputesAt};
 ghost use Rattle.hub_steps.specs.Unfolding.{post, send};
 
@@ -8,7 +12,7 @@ use crate::closing::close_each;
 use crate::entering::{enter, take_step};
 use crate::shown::Shown;
 use hub_core::{Action, Core, EndIds, Listing, OutOfMemory, Outcome, Sender};
-use hub_envelope::{Body, MAX_PORTS};
+use hub_envelope::{Body, EndId, MAX_PORTS};
 
 /// Posts a message, where its tests don't refuse it before the first step. A list that holds the
 /// end to which the message goes has each of its ports closed.
@@ -29,7 +33,7 @@ pub fn post(
     if listed.len() > MAX_PORTS {
         return Ok(Shown::Answer(Outcome::TooManyPorts));
     }
-    match core.listing(sender, listed) {
+    match listing_of(core, sender, listed) {
         Listing::Good => send(core, sender, ports, body, memory_refused),
         Listing::HoldsTarget => {
             close_each(core, listed, memory_refused)?;
@@ -37,6 +41,19 @@ pub fn post(
         }
         Listing::Bad => Ok(Shown::Answer(Outcome::NotNow)),
     }
+}
+
+/// What the ports are to the message of a poster that may post. No ports are a good list to each of
+/// them, so that the core is asked about others alone.
+#[inline(always)]
+fn listing_of(core: &Core, sender: Sender, ports: &[EndId]) -> Listing
+    requires { (h : History) → Shows core.now h → may_post (facts h) sender ≡ true }
+    ensures { (h : History) → Shows core.now h → result ≡ listing (facts h) sender ports.now }
+{
+    if ports.is_empty() {
+        return Listing::Good;
+    }
+    core.listing(sender, ports)
 }
 
 /// Enters, pushes where the poster is inside, and leaves.

@@ -16,7 +16,7 @@ use Rattle.hub_core.proofs.Fating.{fates}
 pub loop-step-preserved : goal.loop-step-preserved
 loop-step-preserved c =
     let past : History = zip c.loop-step.yielded c.loop-step.outcomes.items in
-    let both = c.in_ok-outcome.ensures.fits past c.loop-step.invariant.shows in
+    let both = c.in_ok-outcome.ensures past c.loop-step.invariant.shows in
     let items : c.push.new.self.items ≡ c.loop-step.outcomes.items ++ c.in_ok-outcome.outcome ∷ [] = c.in_ok-push.ensures.items in
     let longer : zip (c.loop-step.yielded ++ c.in-Some.step ∷ []) c.push.new.self.items ≡ past ++ (c.in-Some.step, c.in_ok-outcome.outcome) ∷ [] =
     ap (zip (c.loop-step.yielded ++ c.in-Some.step ∷ [])) items ∙ zip_one c.loop-step.yielded c.loop-step.outcomes.items c.in-Some.step c.in_ok-outcome.outcome c.loop-step.invariant.each in
@@ -26,8 +26,8 @@ loop-step-preserved c =
       legal = subst Legal (sym longer) legal;
       headline = subst Headline (sym longer) (headline _ legal);
       fates = subst Fates (sym longer) (fates _ legal);
-      in_order = subst InOrder (sym longer) (shows_in_order c.step.new.self (past ++ (c.in-Some.step, c.in_ok-outcome.outcome) ∷ []) both.1);
-      shows = subst (Shows c.step.new.self) (sym longer) both.1;
+      in_order = subst InOrder (sym longer) (shows_in_order c.take_any.new.self (past ++ (c.in-Some.step, c.in_ok-outcome.outcome) ∷ []) both.1);
+      shows = subst (Shows c.take_any.new.self) (sym longer) both.1;
     }
 
 pub loop-step-init : goal.loop-step-init

@@ -1,4 +1,4 @@
-use Rattle.std.proofs.Common.{◌<◌, ◌≤◌, length, subst, arith}
+use Rattle.std.proofs.Common.{◌<◌, ◌≤◌, ◌∙◌, length, subst, sym, arith}
 use Rattle.hub_core.specs.declared.listing.Listing.TheVariants.{Good, HoldsTarget, Bad}
 use Rattle.hub_core.specs.declared.outcome.Outcome.TheVariants as outcome
 use Rattle.hub_steps.specs.declared.shown.Shown.TheVariants.{Answer, Doomed}
@@ -19,7 +19,7 @@ returns-in-Good c =
     let ports = c.args.ports in
     let few : length ports ≤ 16 = subst (λ ps. length ps ≤ 16) c.as_slice-listed.ensures (omega arith) in
     if_ok (λ shown. ComputesAt c.args.core.now c.send.new.core (send refused ports c.args.body c.args.sender) shown) (λ shown. ComputesAt c.args.core.now c.send.new.core (post refused ports c.args.body c.args.sender) shown)
-    (λ shown did. post_listed c.args.core.now c.send.new.core refused ports c.as_slice-listed.result.now c.args.body c.args.sender c.may_post.result c.listing.result Good shown c.may_post.ensures c.if-not-may_post.false few c.as_slice-listed.ensures c.listing.ensures c.in-Good.is did)
+    (λ shown did. post_listed c.args.core.now c.send.new.core refused ports c.as_slice-listed.result.now c.args.body c.args.sender c.may_post.result c.listing_of.result Good shown c.may_post.ensures c.if-not-may_post.false few c.as_slice-listed.ensures c.listing_of.ensures c.in-Good.is did)
     c.send.result c.send.ensures
 
 pub returns-in_ok-close_each-in-HoldsTarget : goal.returns-in_ok-close_each-in-HoldsTarget
@@ -27,7 +27,7 @@ returns-in_ok-close_each-in-HoldsTarget c =
     let refused = c.args.memory_refused in
     let ports = c.args.ports in
     let few : length ports ≤ 16 = subst (λ ps. length ps ≤ 16) c.as_slice-listed.ensures (omega arith) in
-    post_listed c.args.core.now c.close_each.new.core refused ports c.as_slice-listed.result.now c.args.body c.args.sender c.may_post.result c.listing.result HoldsTarget Doomed c.may_post.ensures c.if-not-may_post.false few c.as_slice-listed.ensures c.listing.ensures c.in-HoldsTarget.is
+    post_listed c.args.core.now c.close_each.new.core refused ports c.as_slice-listed.result.now c.args.body c.args.sender c.may_post.result c.listing_of.result HoldsTarget Doomed c.may_post.ensures c.if-not-may_post.false few c.as_slice-listed.ensures c.listing_of.ensures c.in-HoldsTarget.is
     (doomed c.args.core.now c.close_each.new.core refused ports c.as_slice-listed.result.now c.args.body c.args.sender c.as_slice-listed.ensures c.in_ok-close_each-in-HoldsTarget.ensures)
 
 pub returns-in-Bad : goal.returns-in-Bad
@@ -35,5 +35,5 @@ returns-in-Bad c =
     let refused = c.args.memory_refused in
     let ports = c.args.ports in
     let few : length ports ≤ 16 = subst (λ ps. length ps ≤ 16) c.as_slice-listed.ensures (omega arith) in
-    post_listed c.args.core.now c.args.core.now refused ports c.as_slice-listed.result.now c.args.body c.args.sender c.may_post.result c.listing.result Bad (Answer outcome.NotNow) c.may_post.ensures c.if-not-may_post.false few c.as_slice-listed.ensures c.listing.ensures c.in-Bad.is
+    post_listed c.args.core.now c.args.core.now refused ports c.as_slice-listed.result.now c.args.body c.args.sender c.may_post.result c.listing_of.result Bad (Answer outcome.NotNow) c.may_post.ensures c.if-not-may_post.false few c.as_slice-listed.ensures c.listing_of.ensures c.in-Bad.is
     (given c.args.core.now (Answer outcome.NotNow))
