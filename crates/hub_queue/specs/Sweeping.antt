@@ -1,5 +1,5 @@
 -- What a sweep of a closed end comes to.
-use Rattle.std.specs.Prelude.{◌≡◌, ◌⊎◌, List, [], ◌∷◌, ◌++◌, Result, Ok, Err}
+use Rattle.std.specs.Prelude.{◌≡◌, ◌⊎◌, ◌+◌, Bool, List, [], ◌∷◌, ◌++◌, count_by, Result, Ok, Err}
 use Rattle.std.specs.List.{AllByRecursion}
 use Rattle.hub_envelope.specs.declared.envelope.Envelope.{Envelope}
 use Rattle.hub_queue.specs.declared.grave.Sweep.{Sweep}
@@ -7,6 +7,7 @@ use Rattle.hub_queue.specs.declared.grave.Sweep.TheVariants.{Discarded, StillIns
 use Rattle.hub_queue.specs.declared.settling.Stop.{Stop}
 use Rattle.hub_queue.specs.declared.settling.Stop.TheVariants as stop
 use Rattle.hub_queue.specs.Graves.{GraveSeat, SweptSeat}
+use Rattle.hub_queue.specs.Laws.{got_from}
 use Rattle.hub_queue.specs.TakerQueues.{TakerQueueSeat, TakesMore, IsHeldUp, IsSettled}
 
 -- the same queues, one for one; what was taken more of each, joined in their order, is this
@@ -41,17 +42,23 @@ AreSameQueues [] (q ∷ qs) = ⊥
 AreSameQueues (p ∷ ps) [] = ⊥
 AreSameQueues (p ∷ ps) (q ∷ qs) = ((more : List Envelope) × TakesMore p q more) × AreSameQueues ps qs
 
--- The grave after some sweeps, which did not empty it: the same end and queues, and what was collected before comes first.
+-- what was taken more of these queues are the envelopes of this list: by any test, as many pass
+abbrev pub AreTaken : List TakerQueueSeat → List TakerQueueSeat → List Envelope → Type 0
+AreTaken ps qs more = (passes : Envelope → Bool) → count_by passes (got_from qs) ≡ count_by passes (got_from ps) + count_by passes more
+
+-- The grave after some sweeps, which did not empty it: the same end and queues. What was collected before comes first, and then what these sweeps took.
 pub record IsSweptSoFar (g h : GraveSeat) : Type 0 where
   pub end : h.end ≡ g.end
   pub epoch : h.epoch ≡ g.epoch
   pub queues : AreSameQueues g.queues h.queues
   pub more : List Envelope
+  pub taken : AreTaken g.queues h.queues more
   pub envelopes : h.envelopes ≡ g.envelopes ++ more
 
--- What is left of the grave after some sweeps, of which the last has emptied it.
+-- What is left of the grave after some sweeps, of which the last has emptied it. What was collected before comes first, and then what these sweeps took.
 pub record IsSweptOut (g : GraveSeat) (s : SweptSeat) : Type 0 where
   pub end : s.end ≡ g.end
   pub queues : AreSameQueues g.queues s.queues
   pub more : List Envelope
+  pub taken : AreTaken g.queues s.queues more
   pub envelopes : s.envelopes ≡ g.envelopes ++ more
