@@ -29,8 +29,8 @@ both_equal Greater q = refl
 
 is_same : (x y : Holding) → is_eq (holding_cmp x y) ≡ is_same_holding x y
 is_same x y =
-    both_equal (nat_cmp x.agent.0 y.agent.0) (nat_cmp x.number y.number)
-    ∙ (λ i. is_eq-nat_cmp x.agent.0 y.agent.0 i && is_eq-nat_cmp x.number y.number i)
+    both_equal (nat_cmp x.agent y.agent) (nat_cmp x.number y.number)
+    ∙ (λ i. is_eq-nat_cmp x.agent y.agent i && is_eq-nat_cmp x.number y.number i)
 
 set_true : (b c : Bool) → cond b true c ≡ (b || c)
 set_true true c = refl

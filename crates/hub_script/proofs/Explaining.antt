@@ -26,8 +26,7 @@ use Rattle.hub_script.specs.Shown.{TextHasForm, IsObject}
 use Rattle.hub_script.proofs.FormsRead.{among, find_none, find_passes, read_as_shown}
 use Rattle.hub_script.proofs.Obeying.{parts}
 use Rattle.hub_script.proofs.OneLineMore.{IsSplit, not_nil, split_last}
-use Rattle.hub_script.proofs.Outcomes.{FormMeans, Outcome}
-use Rattle.hub_script.proofs.EachForm.{outcome}
+use Rattle.hub_script.proofs.Outcomes.{FormMeans, Outcome, outcome}
 use Rattle.hub_script.proofs.ShownForms.{form_read, only_syntax_with}
 use Rattle.hub_script.proofs.Standing.{Stands, at_first}
 

@@ -14,7 +14,6 @@ pub mod Standing
 pub mod Continuing
 pub mod Tests
 pub mod Outcomes
-pub mod EachForm
 pub mod OtherFields
 pub mod ShownForms
 pub mod FormsRead

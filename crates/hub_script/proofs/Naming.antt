@@ -105,7 +105,7 @@ same_holding : (b a : AgentId) (y x : NamedEnd) → Decides (is_same_holding (ho
 same_holding b a y x = Decides-and (b.0 == a.0) (y.number == x.number) (Decides-eqb b.0 a.0) (Decides-eqb y.number x.number)
 
 other_number : (a : AgentId) (x : NamedEnd) (h : Holding) → x.number < h.number → is_same_holding (holding a x) h ≡ false
-other_number a x h l = by (a.0 == h.agent.0) (x.number == h.number) (Decides-eqb x.number h.number)
+other_number a x h l = by (a.0 == h.agent) (x.number == h.number) (Decides-eqb x.number h.number)
   where
     by : (s t : Bool) → Decides t (x.number ≡ h.number) → (s && t) ≡ false
     by false t d = refl

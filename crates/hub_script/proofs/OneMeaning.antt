@@ -16,8 +16,9 @@ use Rattle.hub_script.specs.Before.{Holds, IsMember, IsPort, agent_kinds}
 use Rattle.hub_script.specs.Form.{object_form}
 use Rattle.hub_script.specs.Keyword.{word_of}
 use Rattle.hub_script.specs.Laws.{NoScript, NoneAccepted, OneAnswer, OneRefusal}
-use Rattle.hub_script.specs.Refusals.{AreAccepted, AreKnown, CanTransfer, CannotTransfer, HasUnknown, IsAccepted, IsMisplaced, IsRefusedValue, IsSyntaxError, IsTooLarge, Means, agents_named, members_named, names_used, ports_named}
+use Rattle.hub_script.specs.Refusals.{AreAccepted, AreKnown, CanTransfer, CannotTransfer, HasUnknown, IsAccepted, IsMisplaced, IsRefusedValue, IsSyntaxError, IsTooLarge, Means}
 use Rattle.hub_script.specs.Shown.{HasForm, TextHasForm, IsObject}
+use Rattle.hub_script.specs.Uses.{agents_named, members_named, names_used, ports_named}
 use Rattle.hub_script.proofs.FormsRead.{has_keyword, read_as_shown}
 use Rattle.hub_script.proofs.Outcomes.{FormMeans}
 use Rattle.hub_script.proofs.ShownForms.{keyword}

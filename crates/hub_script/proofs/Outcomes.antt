@@ -1,31 +1,38 @@
--- What is found of a line of each form: the meaning of its refusal, or that it is accepted.
-use Rattle.std.proofs.Common.{◌≡◌, ◌⊎◌, ℕ, ◌<◌, ◌≤◌, List, [], ◌∷◌, ◌++◌, length, map, true, false, Option, Some, None, Result, Ok, Err, refl, ap, sym, ◌∙◌, subst, inl, inr, arith}
-use Rattle.std.specs.List.{All, AllZip, Contains}
-use Rattle.std.specs.Prelude.{codes, is_some, slice_get}
-use Rattle.std.proofs.lemmas.List.Elements.{All-cons, All-contains, All-nil}
+-- What is found of a text line of each form: the meaning of its refusal, or that it is accepted.
+use Rattle.std.proofs.Common.{◌≡◌, ◌⊎◌, ℕ, ◌<◌, List, [], ◌∷◌, ◌++◌, length, map, drop, Bool, true, false, not, cond, Option, Some, None, Result, Ok, Err, refl, ap, sym, ◌∙◌, subst, inl, inr, append-nil, append_assoc}
+use Rattle.std.specs.List.{AllZip, Contains}
+use Rattle.std.specs.Prelude.{⊤, codes}
+use Rattle.std.specs.Str.{bytes_eq}
+use Rattle.std.proofs.lemmas.Bool.{and_parts}
+use Rattle.std.proofs.lemmas.List.Elements.{All-contains}
 use Rattle.hub_envelope.specs.declared.body.BodyError.{BodyError}
-use Rattle.hub_envelope.specs.declared.body.BodyError.TheVariants.{TooDeep, TooLong}
-use Rattle.hub_envelope.specs.declared.limits.TheConstants.{MAX_PORTS, MAX_SCRIPT_LINES}
-use Rattle.hub_text.specs.Reading.{◌>>=◌}
+use Rattle.hub_envelope.specs.declared.ids.AgentId.{AgentId}
+use Rattle.hub_envelope.specs.declared.ids.EndId.{EndId}
+use Rattle.hub_origin.specs.declared.origin_error.OriginError.{OriginError}
+use Rattle.hub_text.specs.Reading.{◌>>=◌, some_or}
+use Rattle.hub_script.specs.declared.action.ActionKind.{ActionKind}
 use Rattle.hub_script.specs.declared.action.ActionKind.TheVariants as action
-use Rattle.hub_script.specs.declared.agent_kind.AgentKind.TheVariants.{Window, Worker}
+use Rattle.hub_script.specs.declared.agent_kind.AgentKind.{AgentKind}
 use Rattle.hub_script.specs.declared.form.ActionForm.{ActionForm}
-use Rattle.hub_script.specs.declared.form.ActionForm.TheVariants.{Post, Send, Cast}
+use Rattle.hub_script.specs.declared.form.ActionForm.TheVariants.{Post, Send, Cast, Start, Loaded, Close, Wait, Receive, Order, Event as LifeEvent, Hand, Fetch}
 use Rattle.hub_script.specs.declared.form.Form.{Form}
 use Rattle.hub_script.specs.declared.form.Form.TheVariants as form
 use Rattle.hub_script.specs.declared.named.NamedEnd.{NamedEnd}
 use Rattle.hub_script.specs.declared.script_error.ScriptError.{ScriptError}
 use Rattle.hub_script.specs.declared.script_error.ScriptError.TheVariants.{Syntax, UnknownAction, UnknownName, DataClone, TooLarge, OutOfMemory}
-use Rattle.hub_script.specs.Before.{Hands, HasHanded, Holds, IsMember, IsPort, Transfers, agent_kind, agent_kinds}
-use Rattle.hub_script.specs.Context.{acting, body_or, held_member, held_port, ports_of, after_cast, after_post, after_send, agent_of, has_room}
+use Rattle.hub_script.specs.declared.script_error.DataCloneCause.TheVariants.{Source, Twice, Detached}
+use Rattle.hub_script.specs.Before.{Gets, Hands, Holds, IsDeclared, IsMember, IsPort, agent_kinds}
+use Rattle.hub_script.specs.Context.{acting, adding, adding_action, adding_channel, adding_member, after_form, agent_of, are_known, casting, ends_from, has_no_action, has_room, has_twice, holds_list, is_free, is_placed, is_within, lists_source, named, posting, run, sending, tests, value_or}
+use Rattle.hub_script.specs.Contents.{actions, with_agent, with_channel, with_member}
 use Rattle.hub_script.specs.Fields.{ScriptRead}
-use Rattle.hub_script.specs.Known.{Known, end_of, giving_all, queue_of, with_holds}
-use Rattle.hub_script.specs.Refusals.{AreKnown, CanTransfer, CannotTransfer, HasEvent, HasUnknown, IsAccepted, IsMisplaced, IsOwnQueue, IsRefusedValue, IsTooLarge, ListsSource, StandsTwice, StartsQueue, agents_named, body_of, members_named, names_used, ports_named, transfer_of, url_of}
-use Rattle.hub_script.proofs.Continuing.{plainly, transfers}
-use Rattle.hub_script.proofs.Naming.{contains_first, contains_rest}
-use Rattle.hub_script.proofs.OneLineMore.{not_nil}
+use Rattle.hub_script.specs.Known.{Known, declaring, end_of, giving, giving_all, holding, next_member, next_port, queue_of, second_port, taking, with_handed, with_holds, with_script}
+use Rattle.hub_script.specs.Refusals.{AreKnown, CanTransfer, CannotTransfer, HasUnknown, IsAccepted, IsMisplaced, IsRefusedValue, IsTooLarge, ListsSource, StandsTwice}
+use Rattle.hub_script.specs.Uses.{agents_named, body_of, names_used, others_named, ports_named, transfer_of, url_of}
+use Rattle.hub_script.proofs.Continuing.{closes, declares_agent, declares_channel, declares_member, hands_on, plainly, receives, transfers}
+use Rattle.hub_script.proofs.Naming.{NameAs, contains_first, contains_rest}
+use Rattle.hub_script.proofs.OneLineMore.{GivesUp}
 use Rattle.hub_script.proofs.Standing.{Stands}
-use Rattle.hub_script.proofs.Tests.{IsSourceIn, IsTransferable, by_agent, by_body, by_held_member, by_held_port, by_list, by_room, free}
+use Rattle.hub_script.proofs.Tests.{AreFree, agent_decides, all_held, apart, are_free, detached, free, full, known, listed, misplaced, once, placed, too_large, twice, unknown, within}
 
 -- what a refusal says of a line of that form
 abbrev pub FormMeans : List Form → Form → ScriptError → Type 0
@@ -40,183 +47,282 @@ abbrev pub Outcome : List Form → Form → ScriptRead Known → Type 0
 Outcome before f (Ok next) = IsAccepted before f × Stands (before ++ f ∷ []) next
 Outcome before f (Err e) = FormMeans before f e
 
--- ---- what is the same of many forms
+-- ---- a form that passes the tests
 
-pub never_twice : ¬ StandsTwice []
-never_twice h = not_nil h.earlier h.later h.name h.first
+record Passes (before : List Form) (k : Known) (f : Form) : Type 0 where
+  pub stands : Stands before k
+  pub fits : is_placed k f ≡ true
+  pub placed : ¬ IsMisplaced before f
+  pub known : AreKnown before f
+  pub list : CanTransfer before f
+  pub within : ¬ IsTooLarge before f
 
-pub never_in : {X : Type 0} (x : X) → ¬ Contains [] x
-never_in x h = absurd (omega (arith, h.1))
+accepts : (before : List Form) (k next : Known) (f : Form) → Passes before k f → ¬ IsRefusedValue f → Stands (before ++ f ∷ []) next → Outcome before f (Ok next)
+accepts before k next f p value after = (record { placed = p.placed; known = p.known; list = p.list; within = p.within; value = value }, after)
 
--- an action whose queue, life and hands are in their place
-pub placed_so : (before : List Form) (at : ℕ) (x : ActionForm) → ((a : ℕ) → StartsQueue (form.Action at x) a → (¬ (slice_get (agent_kinds before) a ≡ Some Worker)) × (¬ HasHanded before a))
-    → ((a : ℕ) → HasEvent (form.Action at x) a → ¬ (slice_get (agent_kinds before) a ≡ Some Window)) → ¬ IsOwnQueue (form.Action at x) → ((a : ℕ) → Hands (form.Action at x) a → ¬ HasHanded before a)
-    → ¬ IsMisplaced before (form.Action at x)
-placed_so before at x starts event own hands (IsMisplaced.declared_late no_action h) = no_action tt
-placed_so before at x starts event own hands (IsMisplaced.reserved h) = never_in (codes "queue") h
-placed_so before at x starts event own hands (IsMisplaced.declared_before n h d) = never_in n h
-placed_so before at x starts event own hands (IsMisplaced.declared_twice h) = never_twice h
-placed_so before at x starts event own hands (IsMisplaced.queue_of_worker a h w) = (starts a h).0 w
-placed_so before at x starts event own hands (IsMisplaced.queue_handed a h w) = (starts a h).1 w
-placed_so before at x starts event own hands (IsMisplaced.event_of_window a h w) = event a h w
-placed_so before at x starts event own hands (IsMisplaced.own_queue h) = own h
-placed_so before at x starts event own hands (IsMisplaced.handed_again a h g) = hands a h g
+-- the last test, of a body or a URL
+by_value : {E : Type 0} (P : ScriptRead Known → Type 0) (answer : Result (List ℕ) E) (g : List ℕ → ScriptRead Known)
+    → ((e : E) → answer ≡ Err e → P (Err Syntax)) → ((x : List ℕ) → answer ≡ Ok x → P (g x)) → P (value_or answer >>= g)
+by_value P (Ok x) g bad good = good x refl
+by_value P (Err e) g bad good = bad e refl
 
-pub one : {X : Type 0} (P : X → Type 0) (x : X) → P x → All P (x ∷ [])
-one P x h = All-cons P x [] h (All-nil P)
+no_value : (f : Form) → body_of f ≡ None → url_of f ≡ None → ¬ IsRefusedValue f
+no_value f no_body no_url (IsRefusedValue.body e h) = (let d : None ≡ Some (Err e) = sym no_body ∙ h in cc)
+no_value f no_body no_url (IsRefusedValue.url e h) = (let d : None ≡ Some (Err e) = sym no_url ∙ h in cc)
 
-pub two : {X : Type 0} (P : X → Type 0) (x y : X) → P x → P y → All P (x ∷ y ∷ [])
-two P x y h g = All-cons P x (y ∷ []) h (one P y g)
-
-pub no_list : (before : List Form) (f : Form) → ¬ ListsSource f → transfer_of f ≡ [] → ((a : ℕ) (n : List ℕ) → ¬ Transfers f a n) → CanTransfer before f
-no_list before f source none transfers = record { apart = source; different = λ h. never_twice (subst StandsTwice none h); held = λ a n h. absurd (transfers a n h) }
-
--- a line that lists no port and has no body or URL, where the number of lines is what is left to test
-pub last_test : (before : List Form) (f : Form) (k next : Known) → Stands before k → ¬ IsMisplaced before f → AreKnown before f → CanTransfer before f
-    → transfer_of f ≡ [] → agent_kind f ≡ None → body_of f ≡ None → url_of f ≡ None → Stands (before ++ f ∷ []) next
-    → Outcome before f (has_room k >>= λ room. Ok next)
-last_test before f k next s placed known list none no_agent no_body no_url after =
-    by_room (Outcome before f) before k (λ room. Ok next) s (λ l. (placed, known, list, IsTooLarge.text_lines l))
-    (λ l. (record { placed = placed; known = known; list = list; within = within l; value = value }, after))
+by_body : (before : List Form) (k : Known) (f : Form) (answer : Result (List ℕ) BodyError) (next : List ℕ → Known) → Passes before k f → body_of f ≡ Some answer → url_of f ≡ None
+    → ((b : List ℕ) → Stands (before ++ f ∷ []) (next b)) → Outcome before f (value_or answer >>= λ b. Ok (next b))
+by_body before k f answer next p is no_url after =
+    by_value (Outcome before f) answer (λ b. Ok (next b))
+    (λ e h. inr (p.placed, p.known, p.list, p.within, IsRefusedValue.body e (is ∙ ap (λ r. Some r) h)))
+    (λ b h. accepts before k (next b) f p (value b h) (after b))
   where
-    within : length before < MAX_SCRIPT_LINES → ¬ IsTooLarge before f
-    within l (IsTooLarge.text_lines h) = omega arith
-    within l (IsTooLarge.agents h g) = (let e : is_some (agent_kind f) ≡ false = ap is_some no_agent in let d : true ≡ false = sym h ∙ e in cc)
-    within l (IsTooLarge.ports h) = (let e : length (transfer_of f) ≡ 0 = ap length none in omega arith)
-    within l (IsTooLarge.depth h) = (let e : None ≡ Some (Err TooDeep) = sym no_body ∙ h in cc)
-    within l (IsTooLarge.size h) = (let e : None ≡ Some (Err TooLong) = sym no_body ∙ h in cc)
-
-    value : ¬ IsRefusedValue f
-    value (IsRefusedValue.body e h) = (let d : None ≡ Some (Err e) = sym no_body ∙ h in cc)
-    value (IsRefusedValue.url e h) = (let d : None ≡ Some (Err e) = sym no_url ∙ h in cc)
-
--- a line that names one agent, or two, and nothing else
-pub one_known : (before : List Form) (f : Form) (a : ℕ) → a < length (agent_kinds before) → agents_named f ≡ a ∷ [] → ports_named f ≡ [] → members_named f ≡ [] → names_used f ≡ [] → AreKnown before f
-one_known before f a l agents_are no_ports no_members no_names = record {
-  agents = subst (All (λ b. b < length (agent_kinds before))) (sym agents_are) (one (λ b. b < length (agent_kinds before)) a l);
-  ports = subst (All (IsPort before)) (sym no_ports) (All-nil (IsPort before));
-  members = subst (All (IsMember before)) (sym no_members) (All-nil (IsMember before));
-  held = subst (All (λ (u : ℕ × List ℕ). Holds before u.0 u.1)) (sym no_names) (All-nil (λ (u : ℕ × List ℕ). Holds before u.0 u.1));
-}
-
-pub two_known : (before : List Form) (f : Form) (a b : ℕ) → a < length (agent_kinds before) → b < length (agent_kinds before) → agents_named f ≡ a ∷ b ∷ [] → ports_named f ≡ [] → members_named f ≡ [] → names_used f ≡ [] → AreKnown before f
-two_known before f a b l h agents_are no_ports no_members no_names = record {
-  agents = subst (All (λ c. c < length (agent_kinds before))) (sym agents_are) (two (λ c. c < length (agent_kinds before)) a b l h);
-  ports = subst (All (IsPort before)) (sym no_ports) (All-nil (IsPort before));
-  members = subst (All (IsMember before)) (sym no_members) (All-nil (IsMember before));
-  held = subst (All (λ (u : ℕ × List ℕ). Holds before u.0 u.1)) (sym no_names) (All-nil (λ (u : ℕ × List ℕ). Holds before u.0 u.1));
-}
-
--- the last test of a line with a body
-body_test : (before : List Form) (f : Form) (answer : Result (List ℕ) BodyError) (next : List ℕ → Known) → ¬ IsMisplaced before f → AreKnown before f → CanTransfer before f
-    → length before < MAX_SCRIPT_LINES → length (transfer_of f) ≤ MAX_PORTS → agent_kind f ≡ None → body_of f ≡ Some answer → url_of f ≡ None → ((b : List ℕ) → Stands (before ++ f ∷ []) (next b))
-    → Outcome before f (body_or answer >>= λ b. Ok (next b))
-body_test before f answer next placed known list room few no_agent has_body no_url after =
-    by_body (Outcome before f) answer (λ b. Ok (next b))
-    (λ e. (placed, known, list, IsTooLarge.depth (has_body ∙ ap (λ r. Some r) e)))
-    (λ e. (placed, known, list, IsTooLarge.size (has_body ∙ ap (λ r. Some r) e)))
-    (λ e is not_deep not_long. inr (placed, known, list, within not_deep not_long, IsRefusedValue.body e (has_body ∙ ap (λ r. Some r) is)))
-    (λ b is. (record { placed = placed; known = known; list = list; within = within (λ e. (let d : Ok b ≡ Err TooDeep = sym is ∙ e in cc)) (λ e. (let d : Ok b ≡ Err TooLong = sym is ∙ e in cc)); value = value b is }, after b))
-  where
-    within : ¬ (answer ≡ Err TooDeep) → ¬ (answer ≡ Err TooLong) → ¬ IsTooLarge before f
-    within not_deep not_long (IsTooLarge.text_lines h) = omega arith
-    within not_deep not_long (IsTooLarge.agents h g) = (let e : is_some (agent_kind f) ≡ false = ap is_some no_agent in let d : true ≡ false = sym h ∙ e in cc)
-    within not_deep not_long (IsTooLarge.ports h) = omega arith
-    within not_deep not_long (IsTooLarge.depth h) = not_deep (let e : Some answer ≡ Some (Err TooDeep) = sym has_body ∙ h in cc)
-    within not_deep not_long (IsTooLarge.size h) = not_long (let e : Some answer ≡ Some (Err TooLong) = sym has_body ∙ h in cc)
-
     value : (b : List ℕ) → answer ≡ Ok b → ¬ IsRefusedValue f
-    value b is (IsRefusedValue.body e h) = (let d : Some (Ok b) ≡ Some (Err e) = ap (λ r. Some r) (sym is) ∙ sym has_body ∙ h in cc)
-    value b is (IsRefusedValue.url e h) = (let d : None ≡ Some (Err e) = sym no_url ∙ h in cc)
+    value b h (IsRefusedValue.body e g) = (let d : Some (Ok b) ≡ Some (Err e) = ap (λ r. Some r) (sym h) ∙ sym is ∙ g in cc)
+    value b h (IsRefusedValue.url e g) = (let d : None ≡ Some (Err e) = sym no_url ∙ g in cc)
 
--- the tests of a line with a list of ports and a body
-list_test : (before : List Form) (f : Form) (k : Known) (at : ℕ) (source : Option (List ℕ)) (names : List (List ℕ)) (answer : Result (List ℕ) BodyError) (next : List NamedEnd → List ℕ → Known) → Stands before k
-    → ¬ IsMisplaced before f → (All (IsPort before) names → AreKnown before f) → ((n : List ℕ) → Contains names n → Contains (ports_named f) n)
-    → (ListsSource f → IsSourceIn source names) → (IsSourceIn source names → ListsSource f) → transfer_of f ≡ names
-    → ((a : ℕ) (n : List ℕ) → Transfers f a n → (at ≡ a) × Contains names n) → ((n : List ℕ) → Contains names n → Transfers f at n)
-    → agent_kind f ≡ None → body_of f ≡ Some answer → url_of f ≡ None
-    → ((xs : List NamedEnd) (b : List ℕ) → AllZip (λ n x. k.names n ≡ Some x) names xs → Stands (before ++ f ∷ []) (next xs b))
-    → Outcome before f (ports_of k (record { 0 = at }) source names >>= λ xs. body_or answer >>= λ b. Ok (next xs b))
-list_test before f k at source names answer next s placed known named listed back transfers there those no_agent has_body no_url after =
-    by_list (Outcome before f) before k (record { 0 = at }) source names (λ xs. body_or answer >>= λ b. Ok (next xs b)) s
-    (λ n c h. (placed, HasUnknown.no_port n (named n c) h))
-    (λ all h. (placed, known all, back h))
-    (λ all apart h. (placed, known all, ((λ l. apart (listed l)), subst StandsTwice (sym transfers) h)))
-    (λ all apart different n c h. (placed, known all, ((λ l. apart (listed l)), (λ t. different (subst StandsTwice transfers t)), record { agent = at; port = n; transfers = those n c; detached = h })))
-    (λ free l. (placed, known free.ports, list free, IsTooLarge.text_lines l))
-    (λ free l. (placed, known free.ports, list free, IsTooLarge.ports (subst (λ ns. MAX_PORTS < length ns) (sym transfers) l)))
-    (λ xs zip free room few. body_test before f answer (next xs) placed (known free.ports) (list free) room (subst (λ ns. length ns ≤ MAX_PORTS) (sym transfers) few) no_agent has_body no_url (λ b. after xs b zip))
+-- an agent that is named is found
+agent_found : (P : ScriptRead Known → Type 0) (before : List Form) (k : Known) (f : Form) (at : ℕ) (g : AgentId → ScriptRead Known) → Passes before k f → Contains (agents_named f) at
+    → P (g (record { 0 = at })) → P (agent_of k at >>= g)
+agent_found P before k f at g p c good =
+    subst (λ b. P (cond b (Ok (record { 0 = at })) (Err UnknownName) >>= g))
+    (sym ((agent_decides before k at p.stands).1 (All-contains (λ a. a < length (agent_kinds before)) (agents_named f) at p.known.agents c))) good
+
+-- a name that is declared is found
+name_found : {X : Type 0} (P : ScriptRead X → Type 0) (before : List Form) (k : Known) (n : List ℕ) (g : NamedEnd → ScriptRead X) → Stands before k → IsDeclared before n
+    → ((x : NamedEnd) → k.names n ≡ Some x → P (g x)) → P (named k n >>= g)
+name_found P before k n g s is good = by (k.names n) refl (s.names n)
   where
-    list : IsTransferable before (record { 0 = at }) source names → CanTransfer before f
-    list free = record {
-      apart = λ l. free.apart (listed l);
-      different = λ t. free.different (subst StandsTwice transfers t);
-      held = λ a n t. (let both : (at ≡ a) × Contains names n = there a n t in subst (λ b. Holds before b n) both.0 (All-contains (Holds before at) names n free.held both.1));
-    }
+    by : (o : Option NamedEnd) → k.names n ≡ o → NameAs o (IsPort before n) (IsMember before n) → P (some_or UnknownName o >>= g)
+    by None e said = absurd (elim is [ inl h ↦ said.0 h | inr h ↦ said.1 h ])
+    by (Some x) e said = good x e
 
--- ---- actions
+zip_push : {A B : Type 0} (R : A → B → Type 0) (xs : List A) (ys : List B) (x : A) (y : B) → AllZip R xs ys → R x y → AllZip R (xs ++ x ∷ []) (ys ++ y ∷ [])
+zip_push R [] [] x y h r = (r, tt)
+zip_push R [] (w ∷ ys) x y h r = absurd h
+zip_push R (z ∷ xs) [] x y h r = absurd h
+zip_push R (z ∷ xs) (w ∷ ys) x y h r = (h.0, zip_push R xs ys x y h.1 r)
 
-pub post_outcome : (before : List Form) (k : Known) (at : ℕ) (n : List ℕ) (answer : Result (List ℕ) BodyError) (names : List (List ℕ)) → Stands before k → Outcome before (form.Action at (Post n answer names)) (after_post k at n answer names)
-unfolding after_post
-post_outcome before k at n answer names s =
-    by_agent (Outcome before f) before k at (λ a. held_port k a n >>= λ port. ports_of k a (Some n) names >>= λ xs. body_or answer >>= λ b. Ok (with_holds (acting k a (action.Post (end_of k.script port) b (map (end_of k.script) xs))) (giving_all a xs))) s
-    (λ l. (placed, HasUnknown.no_agent at (contains_first at []) l))
-    (λ l. by_held_port (Outcome before f) before k (record { 0 = at }) n (λ port. ports_of k (record { 0 = at }) (Some n) names >>= λ xs. body_or answer >>= λ b. Ok (with_holds (acting k (record { 0 = at }) (action.Post (end_of k.script port) b (map (end_of k.script) xs))) (giving_all (record { 0 = at }) xs))) s
-    (λ h. (placed, HasUnknown.no_port n (contains_first n names) h))
-    (λ h. (placed, HasUnknown.not_held (at, n) (contains_first (at, n) []) h))
-    (λ port is is_port held.
-    list_test before f k at (Some n) names answer (λ xs b. with_holds (acting k (record { 0 = at }) (action.Post (end_of k.script port) b (map (end_of k.script) xs))) (giving_all (record { 0 = at }) xs)) s placed
-    (λ all. record { agents = one (λ a. a < length (agent_kinds before)) at l; ports = All-cons (IsPort before) n names is_port all; members = All-nil (IsMember before); held = one (λ (used : ℕ × List ℕ). Holds before used.0 used.1) (at, n) held })
-    (λ m c. contains_rest n names m c) (λ h. h) (λ h. h) refl (λ a m t. t) (λ m c. (refl, c)) refl refl refl
-    (λ xs b zip. transfers before k at (Post n answer names) names xs (action.Post (end_of k.script port) b (map (end_of k.script) xs)) s zip (λ b m h. h) (λ b h. h) (λ b m. elim [ inl h ↦ h | inr h ↦ absurd h ]) (λ b m h. inl h))))
+names_found : (P : ScriptRead Known → Type 0) (before : List Form) (k : Known) (found : List (List ℕ)) (xs : List NamedEnd) (names : List (List ℕ)) (g : List NamedEnd → ScriptRead Known) → Stands before k
+    → AllZip (λ n x. k.names n ≡ Some x) found xs → ((n : List ℕ) → Contains names n → IsDeclared before n)
+    → ((ends : List NamedEnd) → AllZip (λ n x. k.names n ≡ Some x) (found ++ names) ends → P (g ends))
+    → P (ends_from k xs names >>= g)
+names_found P before k found xs [] g s are declared good = good xs (subst (λ ns. AllZip (λ n x. k.names n ≡ Some x) ns xs) (sym (append-nil found)) are)
+names_found P before k found xs (n ∷ names) g s are declared good =
+    each_found (λ x is.
+    names_found P before k (found ++ n ∷ []) (xs ++ x ∷ []) names g s (zip_push (λ m y. k.names m ≡ Some y) found xs n x are is)
+    (λ m c. declared m (contains_rest n names m c))
+    (λ ends zip. good ends (subst (λ ns. AllZip (λ m y. k.names m ≡ Some y) ns ends) (append_assoc found (n ∷ []) names) zip)))
+  where
+    each_found : ((x : NamedEnd) → k.names n ≡ Some x → P (ends_from k (xs ++ x ∷ []) names >>= g)) → P (named k n >>= (λ x. ends_from k (xs ++ x ∷ []) names) >>= g)
+    each_found each = by (k.names n) refl (s.names n)
+      where
+        by : (o : Option NamedEnd) → k.names n ≡ o → NameAs o (IsPort before n) (IsMember before n) → P (some_or UnknownName o >>= (λ x. ends_from k (xs ++ x ∷ []) names) >>= g)
+        by None e said = absurd (elim (declared n (contains_first n names)) [ inl h ↦ said.0 h | inr h ↦ said.1 h ])
+        by (Some x) e said = each x e
+
+port_is : (before : List Form) (k : Known) (f : Form) (n : List ℕ) → Passes before k f → Contains (ports_named f) n → IsDeclared before n
+port_is before k f n p c = inl (All-contains (IsPort before) (ports_named f) n p.known.ports c)
+
+used_is : (before : List Form) (k : Known) (f : Form) (a : ℕ) (n : List ℕ) → Passes before k f → Contains (names_used f) (a, n) → IsDeclared before n
+used_is before k f a n p c = p.stands.declared a n (All-contains (λ (u : ℕ × List ℕ). Holds before u.0 u.1) (names_used f) (a, n) p.known.held c)
+
+-- ---- what each action adds
+
+-- an action by which nobody gets or gives up a name, or hands a queue on
+quiet : (before : List Form) (k : Known) (at : ℕ) (x : ActionForm) (kind : ActionKind) → Passes before k (form.Action at x) → body_of (form.Action at x) ≡ None
+    → ((a : ℕ) (n : List ℕ) → ¬ Gets (form.Action at x) a n) → ((a : ℕ) (n : List ℕ) → ¬ GivesUp (form.Action at x) a n) → ((a : ℕ) → ¬ Hands (form.Action at x) a)
+    → Outcome before (form.Action at x) (Ok (acting k (record { 0 = at }) kind))
+quiet before k at x kind p no_body gets gives hands =
+    accepts before k (acting k (record { 0 = at }) kind) (form.Action at x) p (no_value (form.Action at x) no_body refl)
+    (plainly before k at x (record { 0 = at }) kind p.stands gets gives hands)
+
+post_adds : (before : List Form) (k : Known) (at : ℕ) (n : List ℕ) (answer : Result (List ℕ) BodyError) (names : List (List ℕ)) → Passes before k (form.Action at (Post n answer names))
+    → Outcome before (form.Action at (Post n answer names)) (posting k (record { 0 = at }) n answer names)
+unfolding posting
+post_adds before k at n answer names p =
+    name_found (Outcome before f) before k n (λ port. ends_from k [] names >>= λ ports. value_or answer >>= λ body. Ok (next port ports body)) p.stands (port_is before k f n p (contains_first n names))
+    (λ port is. names_found (Outcome before f) before k [] [] names (λ ports. value_or answer >>= λ body. Ok (next port ports body)) p.stands tt (λ m c. port_is before k f m p (contains_rest n names m c))
+    (λ ports zip. by_body before k f answer (next port ports) p refl refl
+    (λ b. transfers before k at (Post n answer names) names ports (action.Post (end_of k.script port) b (map (end_of k.script) ports)) p.stands zip (λ a m h. h) (λ a h. h) (λ a m. elim [ inl h ↦ h | inr h ↦ absurd h ]) (λ a m h. inl h))))
   where
     f : Form
     f = form.Action at (Post n answer names)
 
-    placed : ¬ IsMisplaced before f
-    placed = placed_so before at (Post n answer names) (λ a h. absurd h) (λ a h. absurd h) (λ h. h) (λ a h. absurd h)
+    next : NamedEnd → List NamedEnd → List ℕ → Known
+    next port ports body = with_holds (acting k (record { 0 = at }) (action.Post (end_of k.script port) body (map (end_of k.script) ports))) (giving_all (record { 0 = at }) ports)
 
-pub send_outcome : (before : List Form) (k : Known) (at to : ℕ) (answer : Result (List ℕ) BodyError) (names : List (List ℕ)) → Stands before k → Outcome before (form.Action at (Send to answer names)) (after_send k at to answer names)
-unfolding after_send
-send_outcome before k at to answer names s =
-    by_agent (Outcome before f) before k at (λ a. agent_of k to >>= λ b. ports_of k a None names >>= λ xs. body_or answer >>= λ c. Ok (with_holds (acting k a (action.Send (queue_of b) c (map (end_of k.script) xs))) (giving_all a xs))) s
-    (λ l. (placed, HasUnknown.no_agent at (contains_first at (to ∷ [])) l))
-    (λ l. by_agent (Outcome before f) before k to (λ b. ports_of k (record { 0 = at }) None names >>= λ xs. body_or answer >>= λ c. Ok (with_holds (acting k (record { 0 = at }) (action.Send (queue_of b) c (map (end_of k.script) xs))) (giving_all (record { 0 = at }) xs))) s
-    (λ h. (placed, HasUnknown.no_agent to (contains_rest at (to ∷ []) to (contains_first to [])) h))
-    (λ h.
-    list_test before f k at None names answer (λ xs c. with_holds (acting k (record { 0 = at }) (action.Send (queue_of (record { 0 = to })) c (map (end_of k.script) xs))) (giving_all (record { 0 = at }) xs)) s placed
-    (λ all. record { agents = two (λ a. a < length (agent_kinds before)) at to l h; ports = all; members = All-nil (IsMember before); held = All-nil (λ (used : ℕ × List ℕ). Holds before used.0 used.1) })
-    (λ m c. c) (λ g. g) (λ g. g) refl (λ a m t. t) (λ m c. (refl, c)) refl refl refl
-    (λ xs c zip. transfers before k at (Send to answer names) names xs (action.Send (queue_of (record { 0 = to })) c (map (end_of k.script) xs)) s zip (λ b m g. g) (λ b g. g) (λ b m. elim [ inl g ↦ g | inr g ↦ absurd g ]) (λ b m g. inl g))))
+send_adds : (before : List Form) (k : Known) (at to : ℕ) (answer : Result (List ℕ) BodyError) (names : List (List ℕ)) → Passes before k (form.Action at (Send to answer names))
+    → Outcome before (form.Action at (Send to answer names)) (sending k (record { 0 = at }) to answer names)
+unfolding sending
+send_adds before k at to answer names p =
+    agent_found (Outcome before f) before k f to (λ b. ends_from k [] names >>= λ ports. value_or answer >>= λ body. Ok (next b ports body)) p (contains_rest at (to ∷ []) to (contains_first to []))
+    (names_found (Outcome before f) before k [] [] names (λ ports. value_or answer >>= λ body. Ok (next (record { 0 = to }) ports body)) p.stands tt (λ m c. port_is before k f m p c)
+    (λ ports zip. by_body before k f answer (next (record { 0 = to }) ports) p refl refl
+    (λ b. transfers before k at (Send to answer names) names ports (action.Send (queue_of (record { 0 = to })) b (map (end_of k.script) ports)) p.stands zip (λ a m h. h) (λ a h. h) (λ a m. elim [ inl h ↦ h | inr h ↦ absurd h ]) (λ a m h. inl h))))
   where
     f : Form
     f = form.Action at (Send to answer names)
 
-    placed : ¬ IsMisplaced before f
-    placed = placed_so before at (Send to answer names) (λ a h. absurd h) (λ a h. absurd h) (λ h. h) (λ a h. absurd h)
+    next : AgentId → List NamedEnd → List ℕ → Known
+    next b ports body = with_holds (acting k (record { 0 = at }) (action.Send (queue_of b) body (map (end_of k.script) ports))) (giving_all (record { 0 = at }) ports)
 
-pub cast_outcome : (before : List Form) (k : Known) (at : ℕ) (n : List ℕ) (answer : Result (List ℕ) BodyError) → Stands before k → Outcome before (form.Action at (Cast n answer)) (after_cast k at n answer)
-unfolding after_cast
-cast_outcome before k at n answer s =
-    by_agent (Outcome before f) before k at (λ a. held_member k a n >>= λ member. has_room k >>= λ room. body_or answer >>= λ b. Ok (acting k a (action.Cast (end_of k.script member) b))) s
-    (λ l. (placed, HasUnknown.no_agent at (contains_first at []) l))
-    (λ l. by_held_member (Outcome before f) before k (record { 0 = at }) n (λ member. has_room k >>= λ room. body_or answer >>= λ b. Ok (acting k (record { 0 = at }) (action.Cast (end_of k.script member) b))) s
-    (λ h. (placed, HasUnknown.no_member n (contains_first n []) h))
-    (λ h. (placed, HasUnknown.not_held (at, n) (contains_first (at, n) []) h))
-    (λ member is is_member held.
-    by_room (Outcome before f) before k (λ room. body_or answer >>= λ b. Ok (acting k (record { 0 = at }) (action.Cast (end_of k.script member) b))) s
-    (λ h. (placed, known l is_member held, list, IsTooLarge.text_lines h))
-    (λ room. body_test before f answer (λ b. acting k (record { 0 = at }) (action.Cast (end_of k.script member) b)) placed (known l is_member held) list room (omega arith) refl refl refl
-    (λ b. plainly before k at (Cast n answer) (record { 0 = at }) (action.Cast (end_of k.script member) b) s (λ c m h. h) (λ c m. elim [ inl h ↦ h | inr h ↦ h ]) (λ c h. h)))))
+cast_adds : (before : List Form) (k : Known) (at : ℕ) (n : List ℕ) (answer : Result (List ℕ) BodyError) → Passes before k (form.Action at (Cast n answer)) → Outcome before (form.Action at (Cast n answer)) (casting k (record { 0 = at }) n answer)
+unfolding casting
+cast_adds before k at n answer p =
+    name_found (Outcome before f) before k n (λ member. value_or answer >>= λ body. Ok (next member body)) p.stands (used_is before k f at n p (contains_first (at, n) []))
+    (λ member is. by_body before k f answer (next member) p refl refl
+    (λ b. plainly before k at (Cast n answer) (record { 0 = at }) (action.Cast (end_of k.script member) b) p.stands (λ a m h. h) (λ a m. elim [ inl h ↦ h | inr h ↦ h ]) (λ a h. h)))
   where
     f : Form
     f = form.Action at (Cast n answer)
 
-    placed : ¬ IsMisplaced before f
-    placed = placed_so before at (Cast n answer) (λ a h. absurd h) (λ a h. absurd h) (λ h. h) (λ a h. absurd h)
+    next : NamedEnd → List ℕ → Known
+    next member body = acting k (record { 0 = at }) (action.Cast (end_of k.script member) body)
 
-    list : CanTransfer before f
-    list = no_list before f (λ h. h) refl (λ a m h. h)
+start_adds : (before : List Form) (k : Known) (at : ℕ) (n : List ℕ) → Passes before k (form.Action at (Start n)) → Outcome before (form.Action at (Start n)) (adding_action k (record { 0 = at }) (Start n))
+start_adds before k at n p = by (bytes_eq n (codes "queue")) refl
+  where
+    started : ScriptRead EndId → ScriptRead Known
+    started r = r >>= λ end. Ok (acting k (record { 0 = at }) (action.Start end))
 
-    known : at < length (agent_kinds before) → IsMember before n → Holds before at n → AreKnown before f
-    known l is_member held = record { agents = one (λ a. a < length (agent_kinds before)) at l; ports = All-nil (IsPort before); members = one (IsMember before) n is_member; held = one (λ (used : ℕ × List ℕ). Holds before used.0 used.1) (at, n) held }
+    starts : (end : EndId) → Outcome before (form.Action at (Start n)) (Ok (acting k (record { 0 = at }) (action.Start end)))
+    starts end = quiet before k at (Start n) (action.Start end) p refl (λ a m h. h) (λ a m. elim [ inl h ↦ h | inr h ↦ h ]) (λ a h. h)
+
+    by : (b : Bool) → bytes_eq n (codes "queue") ≡ b → Outcome before (form.Action at (Start n)) (started (cond b (Ok (queue_of (record { 0 = at }))) (named k n >>= λ port. Ok (end_of k.script port))))
+    by true e = starts (queue_of (record { 0 = at }))
+    by false e =
+        name_found (λ r. Outcome before (form.Action at (Start n)) (started r)) before k n (λ port. Ok (end_of k.script port)) p.stands
+        (port_is before k (form.Action at (Start n)) n p (subst (λ b. Contains (cond b [] (n ∷ [])) n) (sym e) (contains_first n [])))
+        (λ port is. starts (end_of k.script port))
+
+close_adds : (before : List Form) (k : Known) (at : ℕ) (n : List ℕ) → Passes before k (form.Action at (Close n)) → Outcome before (form.Action at (Close n)) (adding_action k (record { 0 = at }) (Close n))
+close_adds before k at n p =
+    name_found (Outcome before f) before k n (λ end. Ok (next end)) p.stands (used_is before k f at n p (contains_first (at, n) []))
+    (λ end is. accepts before k (next end) f p (no_value f refl refl) (closes before k at n end (action.Close (end_of k.script end)) p.stands is))
+  where
+    f : Form
+    f = form.Action at (Close n)
+
+    next : NamedEnd → Known
+    next end = with_holds (acting k (record { 0 = at }) (action.Close (end_of k.script end))) (giving (holding (record { 0 = at }) end))
+
+receive_adds : (before : List Form) (k : Known) (at : ℕ) (n : List ℕ) → Passes before k (form.Action at (Receive n)) → Outcome before (form.Action at (Receive n)) (adding_action k (record { 0 = at }) (Receive n))
+receive_adds before k at n p =
+    name_found (Outcome before f) before k n (λ port. Ok (next port)) p.stands (inl is_port)
+    (λ port is. accepts before k (next port) f p (no_value f refl refl) (receives before k at n port (action.Receive (end_of k.script port)) p.stands is is_port))
+  where
+    f : Form
+    f = form.Action at (Receive n)
+
+    is_port : IsPort before n
+    is_port = All-contains (IsPort before) (n ∷ []) n p.known.ports (contains_first n [])
+
+    next : NamedEnd → Known
+    next port = with_holds (acting k (record { 0 = at }) (action.Receive (end_of k.script port))) (taking (holding (record { 0 = at }) port))
+
+-- an action that names another agent
+with_other : (before : List Form) (k : Known) (at to : ℕ) (x : ActionForm) (next : AgentId → Known) → Passes before k (form.Action at x) → agents_named (form.Action at x) ≡ at ∷ to ∷ []
+    → Outcome before (form.Action at x) (Ok (next (record { 0 = to }))) → Outcome before (form.Action at x) (agent_of k to >>= λ b. Ok (next b))
+with_other before k at to x next p is good =
+    agent_found (Outcome before (form.Action at x)) before k (form.Action at x) to (λ b. Ok (next b)) p
+    (subst (λ xs. Contains xs to) (sym is) (contains_rest at (to ∷ []) to (contains_first to []))) good
+
+action_adds : (before : List Form) (k : Known) (at : ℕ) (x : ActionForm) → Passes before k (form.Action at x) → Outcome before (form.Action at x) (adding_action k (record { 0 = at }) x)
+action_adds before k at (Post n answer names) p = post_adds before k at n answer names p
+action_adds before k at (Send to answer names) p = send_adds before k at to answer names p
+action_adds before k at (Cast n answer) p = cast_adds before k at n answer p
+action_adds before k at (Start n) p = start_adds before k at n p
+action_adds before k at Loaded p = quiet before k at Loaded (action.Loaded (queue_of (record { 0 = at }))) p refl (λ a n h. h) (λ a n. elim [ inl h ↦ h | inr h ↦ h ]) (λ a h. h)
+action_adds before k at (Close n) p = close_adds before k at n p
+action_adds before k at (Wait messages) p = quiet before k at (Wait messages) (action.Wait messages) p refl (λ a n h. h) (λ a n. elim [ inl h ↦ h | inr h ↦ h ]) (λ a h. h)
+action_adds before k at (Receive n) p = receive_adds before k at n p
+action_adds before k at (Order to) p =
+    with_other before k at to (Order to) (λ b. acting k (record { 0 = at }) (action.Order b)) p refl
+    (quiet before k at (Order to) (action.Order (record { 0 = to })) p refl (λ a n h. h) (λ a n. elim [ inl h ↦ h | inr h ↦ h ]) (λ a h. h))
+action_adds before k at (LifeEvent event) p = quiet before k at (LifeEvent event) (action.Event event) p refl (λ a n h. h) (λ a n. elim [ inl h ↦ h | inr h ↦ h ]) (λ a h. h)
+action_adds before k at (Hand to) p =
+    with_other before k at to (Hand to) (λ b. with_handed (acting k (record { 0 = at }) (action.Hand b)) at) p refl
+    (accepts before k (with_handed (acting k (record { 0 = at }) (action.Hand (record { 0 = to }))) at) (form.Action at (Hand to)) p (no_value (form.Action at (Hand to)) refl refl)
+    (hands_on before k at to (action.Hand (record { 0 = to })) p.stands))
+action_adds before k at (Fetch from) p =
+    with_other before k at from (Fetch from) (λ b. acting k (record { 0 = at }) (action.Fetch (queue_of b))) p refl
+    (quiet before k at (Fetch from) (action.Fetch (queue_of (record { 0 = from }))) p refl (λ a n h. h) (λ a n. elim [ inl h ↦ h | inr h ↦ h ]) (λ a h. h))
+
+-- ---- what each declaration adds
+
+agent_adds : (before : List Form) (k : Known) (kind : AgentKind) (answer : Result (List ℕ) OriginError) → Passes before k (form.Agent kind answer) → Outcome before (form.Agent kind answer) (adding k (form.Agent kind answer))
+agent_adds before k kind answer p =
+    by_value (Outcome before f) answer (λ origin. Ok (next origin))
+    (λ e h. inr (p.placed, p.known, p.list, p.within, IsRefusedValue.url e (ap (λ r. Some r) h)))
+    (λ origin h. accepts before k (next origin) f p (value origin h) (declares_agent before k kind answer origin p.stands))
+  where
+    f : Form
+    f = form.Agent kind answer
+
+    next : List ℕ → Known
+    next origin = with_script k (with_agent k.script (record { kind = kind; origin = origin }))
+
+    value : (origin : List ℕ) → answer ≡ Ok origin → ¬ IsRefusedValue f
+    value origin h (IsRefusedValue.body e g) = cc
+    value origin h (IsRefusedValue.url e g) = (let d : Some (Ok origin) ≡ Some (Err e) = ap (λ r. Some r) (sym h) ∙ g in cc)
+
+channel_adds : (before : List Form) (k : Known) (first second : List ℕ) (at : ℕ) → Passes before k (form.Channel first second at) → Outcome before (form.Channel first second at) (adding_channel k first second at)
+unfolding adding_channel
+channel_adds before k first second at p =
+    let q : AreFree k first second = are_free k first second at p.fits in
+    agent_found (Outcome before f) before k f at (λ a. Ok (next a)) p (contains_first at [])
+    (accepts before k (next (record { 0 = at })) f p (no_value f refl refl) (declares_channel before k first second at p.stands (free before k first p.stands q.one).1 (free before k second p.stands q.other).1 q.differ))
+  where
+    f : Form
+    f = form.Channel first second at
+
+    next : AgentId → Known
+    next a = with_script (declaring (declaring k first (next_port k.script) a) second (second_port k.script) a) (with_channel k.script (record { at = a; first = first; second = second }))
+
+member_adds : (before : List Form) (k : Known) (name : List ℕ) (at : ℕ) (on : List ℕ) → Passes before k (form.Member name at on) → Outcome before (form.Member name at on) (adding_member k name at on)
+unfolding adding_member
+member_adds before k name at on p =
+    agent_found (Outcome before f) before k f at (λ a. Ok (next a)) p (contains_first at [])
+    (accepts before k (next (record { 0 = at })) f p (no_value f refl refl) (declares_member before k name at on p.stands (free before k name p.stands (and_parts (has_no_action (actions k.script)) (is_free k name) p.fits).1).1))
+  where
+    f : Form
+    f = form.Member name at on
+
+    next : AgentId → Known
+    next a = with_script (declaring k name (next_member k.script) a) (with_member k.script (record { at = a; name = name; on = on }))
+
+adds : (before : List Form) (k : Known) (f : Form) → Passes before k f → Outcome before f (adding k f)
+adds before k (form.Agent kind answer) p = agent_adds before k kind answer p
+adds before k (form.Channel first second at) p = channel_adds before k first second at p
+adds before k (form.Member name at on) p = member_adds before k name at on p
+adds before k (form.Action at x) p = agent_found (Outcome before (form.Action at x)) before k (form.Action at x) at (λ a. adding_action k a x) p (contains_first at (others_named x)) (action_adds before k at x p)
+
+-- ---- every form
+
+by_test : (P : ScriptRead ⊤ → Type 0) (e : ScriptError) (b : Bool) (ts : List (ScriptError × Bool)) → (b ≡ false → P (Err e)) → (b ≡ true → P (run ts)) → P (run ((e, b) ∷ ts))
+by_test P e true ts bad good = good refl
+by_test P e false ts bad good = bad refl
+
+pub outcome : (before : List Form) (k : Known) (f : Form) → Stands before k → Outcome before f (after_form k f)
+unfolding after_form
+outcome before k f s =
+    by_test P Syntax (is_placed k f) (drop 1 ts) (λ h. inl (misplaced before k f s h))
+    (λ fits. let p : ¬ IsMisplaced before f = placed before k f s fits in
+    by_test P UnknownName (are_known k f) (drop 2 ts) (λ h. (p, unknown before k f s h))
+    (λ e. let q : AreKnown before f = known before k f s e in
+    by_test P (DataClone Source) (not (lists_source f)) (drop 3 ts) (λ h. (p, q, listed f h))
+    (λ e. let a : ¬ ListsSource f = apart f e in
+    by_test P (DataClone Twice) (not (has_twice (transfer_of f))) (drop 4 ts) (λ h. (p, q, (a, twice f h)))
+    (λ e. let o : ¬ StandsTwice (transfer_of f) = once f e in
+    by_test P (DataClone Detached) (holds_list k f) (drop 5 ts) (λ h. (p, q, (a, o, detached before k f s h)))
+    (λ e. let l : CanTransfer before f = record { apart = a; different = o; held = all_held before k f s e } in
+    by_test P TooLarge (has_room k) (drop 6 ts) (λ h. (p, q, l, IsTooLarge.text_lines (full before k s h)))
+    (λ r. by_test P TooLarge (is_within k f) [] (λ h. (p, q, l, too_large before k f s h))
+    (λ e. adds before k f (record { stands = s; fits = fits; placed = p; known = q; list = l; within = within before k f s r e }))))))))
+  where
+    P : ScriptRead ⊤ → Type 0
+    P r = Outcome before f (r >>= λ _. adding k f)
+
+    ts : List (ScriptError × Bool)
+    ts = tests k f

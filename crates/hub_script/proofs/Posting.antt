@@ -1,25 +1,25 @@
 -- Posts, test by test.
-use Rattle.std.proofs.Common.{◌≡◌, ℕ, List, map, Some, None, Result, Ok, refl, ap, sym, ◌∙◌}
+use Rattle.std.proofs.Common.{◌≡◌, ℕ, List, [], map, Result, Ok, refl, ap, sym, ◌∙◌}
 use Rattle.hub_envelope.specs.declared.body.BodyError.{BodyError}
 use Rattle.hub_envelope.specs.declared.ids.AgentId.{AgentId}
 use Rattle.hub_envelope.specs.declared.ids.EndId.{EndId}
 use Rattle.hub_script.specs.declared.action.ActionKind.{ActionKind}
 use Rattle.hub_script.specs.declared.action.ActionKind.TheVariants as action
 use Rattle.hub_script.specs.declared.named.NamedEnd.{NamedEnd}
-use Rattle.hub_script.specs.Context.{acting, after_post, after_send, agent_of, body_or, held_port, ports_of}
+use Rattle.hub_script.specs.Context.{acting, agent_of, ends_from, named, posting, sending, value_or}
 use Rattle.hub_script.specs.Known.{Known, end_of, giving_all, queue_of, with_holds}
 
-pub posted : (k : Known) (at : ℕ) (n : List ℕ) (answer : Result (List ℕ) BodyError) (names : List (List ℕ)) (a : AgentId) (port : NamedEnd) (ports : List NamedEnd) (body : List ℕ)
-    → agent_of k at ≡ Ok a → held_port k a n ≡ Ok port → ports_of k a (Some n) names ≡ Ok ports → body_or answer ≡ Ok body
-    → after_post k at n answer names ≡ Ok (with_holds (acting k a (action.Post (end_of k.script port) body (map (end_of k.script) ports))) (giving_all a ports))
-unfolding after_post
-posted k at n answer names a port ports body agent held listed read = rw (agent, held, listed, read) refl
+pub posted : (k : Known) (n : List ℕ) (answer : Result (List ℕ) BodyError) (names : List (List ℕ)) (a : AgentId) (port : NamedEnd) (ports : List NamedEnd) (body : List ℕ)
+    → named k n ≡ Ok port → ends_from k [] names ≡ Ok ports → value_or answer ≡ Ok body
+    → posting k a n answer names ≡ Ok (with_holds (acting k a (action.Post (end_of k.script port) body (map (end_of k.script) ports))) (giving_all a ports))
+unfolding posting
+posted k n answer names a port ports body is listed read = rw (is, listed, read) refl
 
-pub sent : (k : Known) (at to : ℕ) (answer : Result (List ℕ) BodyError) (names : List (List ℕ)) (a b : AgentId) (ports : List NamedEnd) (body : List ℕ)
-    → agent_of k at ≡ Ok a → agent_of k to ≡ Ok b → ports_of k a None names ≡ Ok ports → body_or answer ≡ Ok body
-    → after_send k at to answer names ≡ Ok (with_holds (acting k a (action.Send (queue_of b) body (map (end_of k.script) ports))) (giving_all a ports))
-unfolding after_send
-sent k at to answer names a b ports body agent other listed read = rw (agent, other, listed, read) refl
+pub sent : (k : Known) (to : ℕ) (answer : Result (List ℕ) BodyError) (names : List (List ℕ)) (a b : AgentId) (ports : List NamedEnd) (body : List ℕ)
+    → agent_of k to ≡ Ok b → ends_from k [] names ≡ Ok ports → value_or answer ≡ Ok body
+    → sending k a to answer names ≡ Ok (with_holds (acting k a (action.Send (queue_of b) body (map (end_of k.script) ports))) (giving_all a ports))
+unfolding sending
+sent k to answer names a b ports body other listed read = rw (other, listed, read) refl
 
 -- the action is added, and then the ports are given up
 pub transferred : (k mid new : Known) (a : AgentId) (make : List EndId → ActionKind) (ports first second : List NamedEnd) (ends : List EndId)

@@ -1,57 +1,70 @@
--- What each test finds, where what is known is what stands before the line: one goal for each outcome.
-use Rattle.std.proofs.Common.{◌≡◌, ◌⊎◌, ℕ, ◌+◌, ◌<◌, ◌≤◌, List, [], ◌∷◌, ◌++◌, length, Bool, true, false, not, cond, ◌||◌, ◌&&◌, nat_lt, nat_le, Option, Some, None, Result, Ok, Err, refl, ap, sym, ◌∙◌, subst, inl, inr, arith, append-nil, append_assoc}
-use Rattle.std.specs.Bool.{Decides}
+-- What each test finds, where what is known is what stands before the text line.
+use Rattle.std.proofs.Common.{◌≡◌, ◌⊎◌, ℕ, ◌<◌, ◌≤◌, List, [], ◌∷◌, ◌++◌, length, Bool, true, false, not, ◌||◌, ◌&&◌, nat_lt, nat_le, Option, Some, None, Result, Ok, Err, refl, ap, sym, ◌∙◌, subst, inl, inr, arith}
+use Rattle.std.specs.Bool.{Decides, ◌==◌}
 use Rattle.std.specs.Cmp.Lexicographic.{bytes_decides}
-use Rattle.std.specs.List.{All, AllZip, Contains, list_all}
-use Rattle.std.specs.Prelude.{⊤, codes, is_some, slice_get, option_map}
+use Rattle.std.specs.List.{All, Any, Contains, list_all}
+use Rattle.std.specs.Prelude.{codes, is_some, slice_get, option_map}
 use Rattle.std.specs.Str.{bytes_eq}
-use Rattle.std.proofs.lemmas.Bool.{leb-true, leb-false, ltb-true, ltb-false}
-use Rattle.std.proofs.lemmas.Bool.Decides.{Decides-like, Decides-or, not_from_Decides}
+use Rattle.std.proofs.lemmas.Bool.{and_cases, and_parts, leb-true, leb-false, ltb-true, ltb-false, not-false, not-true, not_from_false, not_from_true, or_cases, or_parts}
+use Rattle.std.proofs.lemmas.Bool.Decides.{Decides-by_and, Decides-eqb, Decides-like, Decides-or, not_from_Decides}
 use Rattle.std.proofs.lemmas.List.{length-map}
-use Rattle.std.proofs.lemmas.List.Elements.{All-cons, All-nil}
+use Rattle.std.proofs.lemmas.List.Elements.{All-contains}
 use Rattle.std.proofs.lemmas.Option.{slice_get-map}
-use Rattle.hub_origin.specs.declared.origin_error.OriginError.{OriginError}
 use Rattle.hub_envelope.specs.declared.body.BodyError.{BodyError}
 use Rattle.hub_envelope.specs.declared.body.BodyError.TheVariants.{NotJson, NotWhole, TooDeep, TooLong, OutOfMemory as NoMemory}
-use Rattle.hub_envelope.specs.declared.ids.AgentId.{AgentId}
-use Rattle.hub_envelope.specs.declared.limits.TheConstants.{MAX_PORTS, MAX_SCRIPT_LINES}
-use Rattle.hub_text.specs.Reading.{◌>>=◌, some_or}
+use Rattle.hub_envelope.specs.declared.limits.TheConstants.{MAX_AGENTS, MAX_PORTS, MAX_SCRIPT_LINES}
 use Rattle.hub_script.specs.declared.agent_kind.AgentKind.{AgentKind}
 use Rattle.hub_script.specs.declared.agent_kind.AgentKind.TheVariants.{Window, Worker}
 use Rattle.hub_script.specs.declared.declaration.DeclaredAgent.{DeclaredAgent}
+use Rattle.hub_script.specs.declared.form.ActionForm.{ActionForm}
+use Rattle.hub_script.specs.declared.form.ActionForm.TheVariants.{Post, Send, Cast, Start, Loaded, Event as LifeEvent, Hand, Fetch}
 use Rattle.hub_script.specs.declared.form.Form.{Form}
+use Rattle.hub_script.specs.declared.form.Form.TheVariants as form
 use Rattle.hub_script.specs.declared.named.NamedEnd.{NamedEnd}
 use Rattle.hub_script.specs.declared.named.NameKind.{NameKind}
 use Rattle.hub_script.specs.declared.named.NameKind.TheVariants.{Port, Member}
-use Rattle.hub_script.specs.declared.script_error.ScriptError.{ScriptError}
-use Rattle.hub_script.specs.declared.script_error.ScriptError.TheVariants.{Syntax, UnknownName, DataClone, TooLarge}
-use Rattle.hub_script.specs.declared.script_error.DataCloneCause.TheVariants.{Source, Twice, Detached}
-use Rattle.hub_script.specs.Before.{Holds, IsDeclared, IsMember, IsPort, agent_kinds}
-use Rattle.hub_script.specs.Contents.{agents}
-use Rattle.hub_script.specs.Context.{agent_of, body_or, declared_as, has_room, has_twice, held_by, held_end, held_member, held_port, is_agent, is_free, is_kind, is_listed, may_transfer, member_only, named, origin_or, port_named, port_only, ports_from, ports_of, require, stands_in}
-use Rattle.hub_script.specs.Fields.{ScriptRead}
-use Rattle.hub_script.specs.Known.{Known, holding}
-use Rattle.hub_script.specs.Refusals.{StandsTwice}
+use Rattle.hub_script.specs.Before.{Hands, HasHanded, Holds, IsAction, IsDeclared, IsMember, IsPort, Transfers, agent_kind, agent_kinds}
+use Rattle.hub_script.specs.Contents.{actions, agents, line_count}
+use Rattle.hub_script.specs.Context.{are_known, declared_as, has_agent, has_no_action, has_room, has_small_body, has_twice, holds_end, holds_list, is_agent, is_free, is_held, is_kind, is_member, is_placed, is_port, is_small, is_timely, is_within, lists_source, may_start_queue, names_member, names_port, of_port, stands_in}
+use Rattle.hub_script.specs.Known.{Known}
+use Rattle.hub_script.specs.Refusals.{AreKnown, HasDetached, HasEvent, HasUnknown, IsMisplaced, IsOwnQueue, IsTooLarge, ListsSource, StandsTwice, StartsQueue}
+use Rattle.hub_script.specs.Uses.{agents_named, body_of, members_named, names_declared, names_used, ports_named, transfer_of, transferred}
 use Rattle.hub_script.proofs.Naming.{KindAs, NameAs, contains_cases, contains_first, contains_rest}
 use Rattle.hub_script.proofs.OneLineMore.{not_nil}
 use Rattle.hub_script.proofs.Standing.{Stands}
 
-pub by_require : {B : Type 0} (P : ScriptRead B → Type 0) (e : ScriptError) (b : Bool) (g : ⊤ → ScriptRead B) → (b ≡ false → P (Err e)) → (b ≡ true → P (g tt)) → P (require e b >>= g)
-by_require P e true g bad good = good refl
-by_require P e false g bad good = bad refl
+pub and_true : (b : Bool) → (b && true) ≡ b
+and_true true = refl
+and_true false = refl
+
+clash : {A : Type 0} → false ≡ true → A
+clash e = absurd (cc)
+
+-- ---- lists of tests
+
+-- where not each passes, one doesn't
+one_fails : {X : Type 0} (p : X → Bool) (P : X → Type 0) → ((x : X) → Decides (p x) (P x)) → (xs : List X) → list_all p xs ≡ false → (x : X) × Contains xs x × (¬ P x)
+one_fails p P d [] h = absurd (cc)
+one_fails {X} p P d (x ∷ xs) h = by (p x) (d x) h (one_fails p P d xs)
+  where
+    by : (b : Bool) → Decides b (P x) → (b && list_all p xs) ≡ false → (list_all p xs ≡ false → (y : X) × Contains xs y × (¬ P y)) → (y : X) × Contains (x ∷ xs) y × (¬ P y)
+    by false e g rest = (x, contains_first x xs, not_from_Decides false e refl)
+    by true e g rest = let r : (y : X) × Contains xs y × (¬ P y) = rest g in (r.0, contains_rest x xs r.0 r.1, r.2)
+
+each_passes : {X : Type 0} (p : X → Bool) (P : X → Type 0) → ((x : X) → Decides (p x) (P x)) → (xs : List X) → list_all p xs ≡ true → All P xs
+each_passes p P d xs h = (Decides-by_and p P (list_all p) d refl (λ _ _. refl) xs).0 h
 
 -- ---- agents
 
 pub agent_count : (before : List Form) (k : Known) → Stands before k → length (agents k.script) ≡ length (agent_kinds before)
 agent_count before k s = sym (length-map (agents k.script) (λ (a : DeclaredAgent). a.kind)) ∙ ap length s.agents
 
-pub by_agent : {B : Type 0} (P : ScriptRead B → Type 0) (before : List Form) (k : Known) (at : ℕ) (g : AgentId → ScriptRead B) → Stands before k
-    → (length (agent_kinds before) ≤ at → P (Err UnknownName)) → (at < length (agent_kinds before) → P (g (record { 0 = at }))) → P (agent_of k at >>= g)
-by_agent {B} P before k at g s bad good = by (nat_lt at (length (agents k.script))) refl
+pub agent_decides : (before : List Form) (k : Known) (at : ℕ) → Stands before k → Decides (has_agent k at) (at < length (agent_kinds before))
+agent_decides before k at s = by (has_agent k at) refl
   where
-    by : (b : Bool) → nat_lt at (length (agents k.script)) ≡ b → P (cond b (Ok (record { 0 = at })) (Err UnknownName) >>= g)
-    by true e = good (omega (arith, ltb-true at (length (agents k.script)) e, agent_count before k s))
-    by false e = bad (omega (arith, ltb-false at (length (agents k.script)) e, agent_count before k s))
+    by : (b : Bool) → nat_lt at (length (agents k.script)) ≡ b → Decides b (at < length (agent_kinds before))
+    by true e = ((λ _. (omega (arith, ltb-true at (length (agents k.script)) e, agent_count before k s))), λ _. refl)
+    by false e = (clash, λ l. absurd (omega (arith, ltb-false at (length (agents k.script)) e, agent_count before k s)))
 
 is_kind-Decides : (kind other : AgentKind) → Decides (is_kind kind other) (other ≡ kind)
 is_kind-Decides Window Window = ((λ e. refl), λ e. refl)
@@ -73,60 +86,34 @@ kind_decides before k kind at s = by (slice_get (agents k.script) at) refl
 
 -- ---- names
 
-pub by_named : {B : Type 0} (P : ScriptRead B → Type 0) (before : List Form) (k : Known) (n : List ℕ) (g : NamedEnd → ScriptRead B) → Stands before k
-    → (¬ IsDeclared before n → P (Err UnknownName)) → ((x : NamedEnd) → k.names n ≡ Some x → P (g x)) → P (named k n >>= g)
-by_named {B} P before k n g s bad good = by (k.names n) refl (s.names n)
+pub port_decides : (before : List Form) (k : Known) (n : List ℕ) → Stands before k → Decides (is_port k n) (IsPort before n)
+port_decides before k n s = by (k.names n) (s.names n)
   where
-    by : (o : Option NamedEnd) → k.names n ≡ o → NameAs o (IsPort before n) (IsMember before n) → P (some_or UnknownName o >>= g)
-    by None e as_said = bad (elim [ inl h ↦ as_said.0 h | inr h ↦ as_said.1 h ])
-    by (Some x) e as_said = good x e
+    by_kind : (kind : NameKind) → KindAs kind (IsPort before n) (IsMember before n) → Decides (of_port kind) (IsPort before n)
+    by_kind Port said = ((λ _. said.0), λ _. refl)
+    by_kind Member said = (clash, λ h. absurd (said.1 h))
 
-pub by_port : {B : Type 0} (P : ScriptRead B → Type 0) (before : List Form) (k : Known) (n : List ℕ) (g : NamedEnd → ScriptRead B) → Stands before k
-    → (¬ IsPort before n → P (Err UnknownName)) → ((x : NamedEnd) → k.names n ≡ Some x → IsPort before n → P (g x)) → P (port_named k n >>= g)
-by_port {B} P before k n g s bad good = by (k.names n) refl (s.names n)
+    by : (o : Option NamedEnd) → NameAs o (IsPort before n) (IsMember before n) → Decides (names_port o) (IsPort before n)
+    by None said = (clash, λ h. absurd (said.0 h))
+    by (Some x) said = by_kind x.kind said
+
+member_decides : (before : List Form) (k : Known) (n : List ℕ) → Stands before k → Decides (is_member k n) (IsMember before n)
+member_decides before k n s = by (k.names n) (s.names n)
   where
-    by_kind : (kind : NameKind) (place number : ℕ) → k.names n ≡ Some (record { kind = kind; place = place; number = number }) → KindAs kind (IsPort before n) (IsMember before n) → P (port_only (record { kind = kind; place = place; number = number }) >>= g)
-    by_kind Port place number e said = good (record { kind = Port; place = place; number = number }) e said.0
-    by_kind Member place number e said = bad said.1
+    by_kind : (kind : NameKind) → KindAs kind (IsPort before n) (IsMember before n) → Decides (not (of_port kind)) (IsMember before n)
+    by_kind Port said = (clash, λ h. absurd (said.1 h))
+    by_kind Member said = ((λ _. said.0), λ _. refl)
 
-    by : (o : Option NamedEnd) → k.names n ≡ o → NameAs o (IsPort before n) (IsMember before n) → P (some_or UnknownName o >>= port_only >>= g)
-    by None e said = bad said.0
-    by (Some x) e said = by_kind x.kind x.place x.number e said
+    by : (o : Option NamedEnd) → NameAs o (IsPort before n) (IsMember before n) → Decides (names_member o) (IsMember before n)
+    by None said = (clash, λ h. absurd (said.1 h))
+    by (Some x) said = by_kind x.kind said
 
-pub by_member : {B : Type 0} (P : ScriptRead B → Type 0) (before : List Form) (k : Known) (n : List ℕ) (g : NamedEnd → ScriptRead B) → Stands before k
-    → (¬ IsMember before n → P (Err UnknownName)) → ((x : NamedEnd) → k.names n ≡ Some x → IsMember before n → P (g x)) → P (named k n >>= member_only >>= g)
-by_member {B} P before k n g s bad good = by (k.names n) refl (s.names n)
+held_decides : (before : List Form) (k : Known) (a : ℕ) (n : List ℕ) → Stands before k → Decides (is_held k a n) (Holds before a n)
+held_decides before k a n s = by (k.names n) refl (s.names n)
   where
-    by_kind : (kind : NameKind) (place number : ℕ) → k.names n ≡ Some (record { kind = kind; place = place; number = number }) → KindAs kind (IsPort before n) (IsMember before n) → P (member_only (record { kind = kind; place = place; number = number }) >>= g)
-    by_kind Port place number e said = bad said.1
-    by_kind Member place number e said = good (record { kind = Member; place = place; number = number }) e said.0
-
-    by : (o : Option NamedEnd) → k.names n ≡ o → NameAs o (IsPort before n) (IsMember before n) → P (some_or UnknownName o >>= member_only >>= g)
-    by None e said = bad said.1
-    by (Some x) e said = by_kind x.kind x.place x.number e said
-
-pub by_held : {B : Type 0} (P : ScriptRead B → Type 0) (before : List Form) (k : Known) (a : AgentId) (n : List ℕ) (x : NamedEnd) (g : NamedEnd → ScriptRead B) → Stands before k → k.names n ≡ Some x
-    → (¬ Holds before a.0 n → P (Err UnknownName)) → (Holds before a.0 n → P (g x)) → P (held_by k a x >>= g)
-by_held {B} P before k a n x g s is bad good = by (k.holds (holding a x)) (s.holds a n x is)
-  where
-    by : (b : Bool) → Decides b (Holds before a.0 n) → P (cond b (Ok x) (Err UnknownName) >>= g)
-    by true d = good (d.0 refl)
-    by false d = bad (not_from_Decides false d refl)
-
-pub by_held_port : {B : Type 0} (P : ScriptRead B → Type 0) (before : List Form) (k : Known) (a : AgentId) (n : List ℕ) (g : NamedEnd → ScriptRead B) → Stands before k
-    → (¬ IsPort before n → P (Err UnknownName)) → (¬ Holds before a.0 n → P (Err UnknownName)) → ((x : NamedEnd) → k.names n ≡ Some x → IsPort before n → Holds before a.0 n → P (g x)) → P (held_port k a n >>= g)
-by_held_port P before k a n g s no_port not_held good =
-    by_port (λ r. P (r >>= g)) before k n (held_by k a) s no_port (λ x is port. by_held P before k a n x g s is not_held (good x is port))
-
-pub by_held_member : {B : Type 0} (P : ScriptRead B → Type 0) (before : List Form) (k : Known) (a : AgentId) (n : List ℕ) (g : NamedEnd → ScriptRead B) → Stands before k
-    → (¬ IsMember before n → P (Err UnknownName)) → (¬ Holds before a.0 n → P (Err UnknownName)) → ((x : NamedEnd) → k.names n ≡ Some x → IsMember before n → Holds before a.0 n → P (g x)) → P (held_member k a n >>= g)
-by_held_member P before k a n g s no_member not_held good =
-    by_member (λ r. P (r >>= g)) before k n (held_by k a) s no_member (λ x is member. by_held P before k a n x g s is not_held (good x is member))
-
-pub by_held_end : {B : Type 0} (P : ScriptRead B → Type 0) (before : List Form) (k : Known) (a : AgentId) (n : List ℕ) (g : NamedEnd → ScriptRead B) → Stands before k
-    → (¬ Holds before a.0 n → P (Err UnknownName)) → ((x : NamedEnd) → k.names n ≡ Some x → Holds before a.0 n → P (g x)) → P (held_end k a n >>= g)
-by_held_end P before k a n g s not_held good =
-    by_named (λ r. P (r >>= g)) before k n (held_by k a) s (λ none. not_held (λ h. none (s.declared a.0 n h))) (λ x is. by_held P before k a n x g s is not_held (good x is))
+    by : (o : Option NamedEnd) → k.names n ≡ o → NameAs o (IsPort before n) (IsMember before n) → Decides (holds_end k a o) (Holds before a n)
+    by None e said = (clash, λ h. absurd (elim (s.declared a n h) [ inl p ↦ said.0 p | inr m ↦ said.1 m ]))
+    by (Some x) e said = s.holds (record { 0 = a }) n x e
 
 free_decides : (before : List Form) (k : Known) (n : List ℕ) → Stands before k → Decides (is_some (k.names n)) (IsDeclared before n)
 free_decides before k n s = by (k.names n) (s.names n)
@@ -158,29 +145,8 @@ free before k n s = by (bytes_eq n (codes "queue")) (is_some (k.names n)) (bytes
 
 -- ---- lists of ports
 
-zip_push : {A B : Type 0} (R : A → B → Type 0) (xs : List A) (ys : List B) (x : A) (y : B) → AllZip R xs ys → R x y → AllZip R (xs ++ x ∷ []) (ys ++ y ∷ [])
-zip_push R [] [] x y h r = (r, tt)
-zip_push R [] (w ∷ ys) x y h r = absurd h
-zip_push R (z ∷ xs) [] x y h r = absurd h
-zip_push R (z ∷ xs) (w ∷ ys) x y h r = (h.0, zip_push R xs ys x y h.1 r)
-
-pub zip_length : {A B : Type 0} (R : A → B → Type 0) (xs : List A) (ys : List B) → AllZip R xs ys → length xs ≡ length ys
-zip_length R [] [] h = refl
-zip_length R [] (w ∷ ys) h = absurd h
-zip_length R (z ∷ xs) [] h = absurd h
-zip_length R (z ∷ xs) (w ∷ ys) h = let same : length xs ≡ length ys = zip_length R xs ys h.1 in omega arith
-
-by_ports : {B : Type 0} (P : ScriptRead B → Type 0) (before : List Form) (k : Known) (found : List (List ℕ)) (xs : List NamedEnd) (names : List (List ℕ)) (g : List NamedEnd → ScriptRead B) → Stands before k
-    → AllZip (λ n x. k.names n ≡ Some x) found xs
-    → ((n : List ℕ) → Contains names n → ¬ IsPort before n → P (Err UnknownName))
-    → ((ports : List NamedEnd) → AllZip (λ n x. k.names n ≡ Some x) (found ++ names) ports → All (IsPort before) names → P (g ports))
-    → P (ports_from k xs names >>= g)
-by_ports P before k found xs [] g s are bad good = good xs (subst (λ ns. AllZip (λ n x. k.names n ≡ Some x) ns xs) (sym (append-nil found)) are) (All-nil (IsPort before))
-by_ports P before k found xs (n ∷ names) g s are bad good =
-    by_port (λ r. P (r >>= g)) before k n (λ x. ports_from k (xs ++ x ∷ []) names) s (bad n (contains_first n names))
-    (λ x is port. by_ports P before k (found ++ n ∷ []) (xs ++ x ∷ []) names g s (zip_push (λ m y. k.names m ≡ Some y) found xs n x are is)
-    (λ m c. bad m (contains_rest n names m c))
-    (λ ports zip all. good ports (subst (λ ns. AllZip (λ m y. k.names m ≡ Some y) ns ports) (append_assoc found (n ∷ []) names) zip) (All-cons (IsPort before) n names port all)))
+pub never_in : {X : Type 0} (x : X) → ¬ Contains [] x
+never_in x h = absurd (omega (arith, h.1))
 
 stands_decides : (n : List ℕ) (names : List (List ℕ)) → Decides (stands_in n names) (Contains names n)
 stands_decides n [] = ((λ e. absurd (let f : false ≡ true = e in cc)), λ h. absurd (omega (arith, h.1)))
@@ -205,110 +171,306 @@ twice_decides (n ∷ names) =
     (twice_cases n names)
     (Decides-or (stands_in n names) (has_twice names) (stands_decides n names) (twice_decides names))
 
--- the port that posts, if it is a port, is in the list
-abbrev pub IsSourceIn : Option (List ℕ) → List (List ℕ) → Type 0
-IsSourceIn None names = ⊥
-IsSourceIn (Some n) names = Contains names n
+source_decides : (f : Form) → Decides (lists_source f) (ListsSource f)
+source_decides (form.Action at (Post port body transfer)) = stands_decides port transfer
+source_decides f = (clash, λ h. absurd h)
 
-listed_decides : (source : Option (List ℕ)) (names : List (List ℕ)) → Decides (is_listed source names) (IsSourceIn source names)
-listed_decides None names = ((λ e. absurd (let f : false ≡ true = e in cc)), λ h. absurd h)
-listed_decides (Some n) names = stands_decides n names
+pub apart : (f : Form) → not (lists_source f) ≡ true → ¬ ListsSource f
+apart f h = not_from_Decides (lists_source f) (source_decides f) (not-true (lists_source f) h)
 
--- all are held, or one isn't
-held_cases : (before : List Form) (k : Known) (a : AgentId) (names : List (List ℕ)) (ports : List NamedEnd) → Stands before k → AllZip (λ n x. k.names n ≡ Some x) names ports
-    → ((list_all (λ x. k.holds (holding a x)) ports ≡ true) × All (Holds before a.0) names) ⊎ ((list_all (λ x. k.holds (holding a x)) ports ≡ false) × ((n : List ℕ) × Contains names n × (¬ Holds before a.0 n)))
-held_cases before k a [] [] s are = inl (refl, All-nil (Holds before a.0))
-held_cases before k a [] (x ∷ ports) s are = absurd are
-held_cases before k a (n ∷ names) [] s are = absurd are
-held_cases before k a (n ∷ names) (x ∷ ports) s are = by (k.holds (holding a x)) (s.holds a n x are.0) (list_all (λ y. k.holds (holding a y)) ports) (held_cases before k a names ports s are.1)
+pub listed : (f : Form) → not (lists_source f) ≡ false → ListsSource f
+listed f h = (source_decides f).0 (not-false (lists_source f) h)
+
+pub once : (f : Form) → not (has_twice (transfer_of f)) ≡ true → ¬ StandsTwice (transfer_of f)
+once f h = not_from_Decides (has_twice (transfer_of f)) (twice_decides (transfer_of f)) (not-true (has_twice (transfer_of f)) h)
+
+pub twice : (f : Form) → not (has_twice (transfer_of f)) ≡ false → StandsTwice (transfer_of f)
+twice f h = (twice_decides (transfer_of f)).0 (not-false (has_twice (transfer_of f)) h)
+
+-- what an action transfers
+transfers_so : (at : ℕ) (x : ActionForm) (a : ℕ) (n : List ℕ) → Transfers (form.Action at x) a n → (at ≡ a) × Contains (transferred x) n
+transfers_so at (Post port body transfer) a n h = h
+transfers_so at (Send to body transfer) a n h = h
+transfers_so at x a n h = absurd h
+
+transfers_each : (at : ℕ) (x : ActionForm) (n : List ℕ) → Contains (transferred x) n → Transfers (form.Action at x) at n
+transfers_each at (Post port body transfer) n h = (refl, h)
+transfers_each at (Send to body transfer) n h = (refl, h)
+transfers_each at x n h = absurd (never_in n h)
+
+pub all_held : (before : List Form) (k : Known) (f : Form) → Stands before k → holds_list k f ≡ true → (a : ℕ) (n : List ℕ) → Transfers f a n → Holds before a n
+all_held before k (form.Action at x) s h a n t =
+    let p : (at ≡ a) × Contains (transferred x) n = transfers_so at x a n t in
+    subst (λ b. Holds before b n) p.0 (All-contains (Holds before at) (transferred x) n (each_passes (is_held k at) (Holds before at) (λ m. held_decides before k at m s) (transferred x) h) p.1)
+all_held before k f s h a n t = absurd t
+
+pub detached : (before : List Form) (k : Known) (f : Form) → Stands before k → holds_list k f ≡ false → HasDetached before f
+detached before k (form.Action at x) s h =
+    let r : (n : List ℕ) × Contains (transferred x) n × (¬ Holds before at n) = one_fails (is_held k at) (Holds before at) (λ m. held_decides before k at m s) (transferred x) h in
+    record { agent = at; port = r.0; transfers = transfers_each at x r.0 r.1; detached = r.2 }
+detached before k f s h = absurd (cc)
+
+-- ---- agents and names
+
+pub known : (before : List Form) (k : Known) (f : Form) → Stands before k → are_known k f ≡ true → AreKnown before f
+known before k f s h =
+    let p = and_parts (list_all (has_agent k) (agents_named f)) (list_all (is_port k) (ports_named f) && (list_all (is_member k) (members_named f) && list_all (λ used. is_held k used.0 used.1) (names_used f))) h in
+    let q = and_parts (list_all (is_port k) (ports_named f)) (list_all (is_member k) (members_named f) && list_all (λ used. is_held k used.0 used.1) (names_used f)) p.1 in
+    let r = and_parts (list_all (is_member k) (members_named f)) (list_all (λ used. is_held k used.0 used.1) (names_used f)) q.1 in
+    record {
+      agents = each_passes (has_agent k) (λ a. a < length (agent_kinds before)) (λ a. agent_decides before k a s) (agents_named f) p.0;
+      ports = each_passes (is_port k) (IsPort before) (λ n. port_decides before k n s) (ports_named f) q.0;
+      members = each_passes (is_member k) (IsMember before) (λ n. member_decides before k n s) (members_named f) r.0;
+      held = each_passes (λ used. is_held k used.0 used.1) (λ used. Holds before used.0 used.1) (λ used. held_decides before k used.0 used.1 s) (names_used f) r.1;
+    }
+
+pub unknown : (before : List Form) (k : Known) (f : Form) → Stands before k → are_known k f ≡ false → HasUnknown before f
+unknown before k f s h = elim (and_cases (list_all (has_agent k) (agents_named f)) (list_all (is_port k) (ports_named f) && (list_all (is_member k) (members_named f) && list_all (λ used. is_held k used.0 used.1) (names_used f))) h) [
+  | inl e ↦ agent e
+  | inr e ↦ (elim (and_cases (list_all (is_port k) (ports_named f)) (list_all (is_member k) (members_named f) && list_all (λ used. is_held k used.0 used.1) (names_used f)) e) as (λ _. HasUnknown before f) [
+    | inl g ↦ port g
+    | inr g ↦ (elim (and_cases (list_all (is_member k) (members_named f)) (list_all (λ used. is_held k used.0 used.1) (names_used f)) g) as (λ _. HasUnknown before f) [ inl m ↦ member m | inr m ↦ held m ])
+  ])
+]
   where
-    by : (b : Bool) → Decides b (Holds before a.0 n) → (c : Bool)
-        → ((c ≡ true) × All (Holds before a.0) names) ⊎ ((c ≡ false) × ((m : List ℕ) × Contains names m × (¬ Holds before a.0 m)))
-        → (((b && c) ≡ true) × All (Holds before a.0) (n ∷ names)) ⊎ (((b && c) ≡ false) × ((m : List ℕ) × Contains (n ∷ names) m × (¬ Holds before a.0 m)))
-    by true d c (inl h) = inl (h.0, All-cons (Holds before a.0) n names (d.0 refl) h.1)
-    by true d c (inr h) = inr (h.0, (h.1.0, contains_rest n names h.1.0 h.1.1, h.1.2))
-    by false d c h = inr (refl, (n, contains_first n names, not_from_Decides false d refl))
+    agent : list_all (has_agent k) (agents_named f) ≡ false → HasUnknown before f
+    agent e = let r : (a : ℕ) × Contains (agents_named f) a × (¬ (a < length (agent_kinds before))) = one_fails (has_agent k) (λ a. a < length (agent_kinds before)) (λ a. agent_decides before k a s) (agents_named f) e in HasUnknown.no_agent r.0 r.1 (omega (arith, r.2))
 
-pub by_room : {B : Type 0} (P : ScriptRead B → Type 0) (before : List Form) (k : Known) (g : ⊤ → ScriptRead B) → Stands before k
-    → (MAX_SCRIPT_LINES ≤ length before → P (Err TooLarge)) → (length before < MAX_SCRIPT_LINES → P (g tt)) → P (has_room k >>= g)
-by_room P before k g s bad good =
-    by_require P TooLarge (nat_lt (length k.script.0 + length k.script.1 + length k.script.2 + length k.script.3) MAX_SCRIPT_LINES) g
-    (λ e. bad (subst (λ n. MAX_SCRIPT_LINES ≤ n) s.count (ltb-false (length k.script.0 + length k.script.1 + length k.script.2 + length k.script.3) MAX_SCRIPT_LINES e)))
-    (λ e. good (subst (λ n. n < MAX_SCRIPT_LINES) s.count (ltb-true (length k.script.0 + length k.script.1 + length k.script.2 + length k.script.3) MAX_SCRIPT_LINES e)))
+    port : list_all (is_port k) (ports_named f) ≡ false → HasUnknown before f
+    port e = let r : (n : List ℕ) × Contains (ports_named f) n × (¬ IsPort before n) = one_fails (is_port k) (IsPort before) (λ n. port_decides before k n s) (ports_named f) e in HasUnknown.no_port r.0 r.1 r.2
 
--- what a list of ports is that may be transferred
-pub record IsTransferable (before : List Form) (a : AgentId) (source : Option (List ℕ)) (names : List (List ℕ)) : Type 0 where
-  pub ports : All (IsPort before) names
-  pub apart : ¬ IsSourceIn source names
-  pub different : ¬ StandsTwice names
-  pub held : All (Holds before a.0) names
+    member : list_all (is_member k) (members_named f) ≡ false → HasUnknown before f
+    member e = let r : (n : List ℕ) × Contains (members_named f) n × (¬ IsMember before n) = one_fails (is_member k) (IsMember before) (λ n. member_decides before k n s) (members_named f) e in HasUnknown.no_member r.0 r.1 r.2
 
-pub by_list : {B : Type 0} (P : ScriptRead B → Type 0) (before : List Form) (k : Known) (a : AgentId) (source : Option (List ℕ)) (names : List (List ℕ)) (g : List NamedEnd → ScriptRead B) → Stands before k
-    → ((n : List ℕ) → Contains names n → ¬ IsPort before n → P (Err UnknownName))
-    → (All (IsPort before) names → IsSourceIn source names → P (Err (DataClone Source)))
-    → (All (IsPort before) names → ¬ IsSourceIn source names → StandsTwice names → P (Err (DataClone Twice)))
-    → (All (IsPort before) names → ¬ IsSourceIn source names → ¬ StandsTwice names → (n : List ℕ) → Contains names n → ¬ Holds before a.0 n → P (Err (DataClone Detached)))
-    → (IsTransferable before a source names → MAX_SCRIPT_LINES ≤ length before → P (Err TooLarge))
-    → (IsTransferable before a source names → MAX_PORTS < length names → P (Err TooLarge))
-    → ((ports : List NamedEnd) → AllZip (λ n x. k.names n ≡ Some x) names ports → IsTransferable before a source names → length before < MAX_SCRIPT_LINES → length names ≤ MAX_PORTS → P (g ports))
-    → P (ports_of k a source names >>= g)
-unfolding ports_of may_transfer
-by_list {B} P before k a source names g s unknown listed twice detached long many good =
-    by_ports (λ r. P (r >>= g)) before k [] [] names (λ ports. may_transfer k a source names ports >>= λ free. has_room k >>= λ room. require TooLarge (nat_le (length ports) MAX_PORTS) >>= λ few. Ok ports) s tt unknown
-    (λ ports zip all.
-    by_require (λ r. P (r >>= (λ free. has_room k >>= λ room. require TooLarge (nat_le (length ports) MAX_PORTS) >>= λ few. Ok ports) >>= g)) (DataClone Source) (not (is_listed source names))
-    (λ apart. require (DataClone Twice) (not (has_twice names)) >>= λ once. require (DataClone Detached) (list_all (λ x. k.holds (holding a x)) ports))
-    (λ e. listed all ((listed_decides source names).0 (truth (is_listed source names) e)))
-    (λ e. let apart : ¬ IsSourceIn source names = not_from_Decides (is_listed source names) (listed_decides source names) (untruth (is_listed source names) e) in
-    by_require (λ r. P (r >>= (λ free. has_room k >>= λ room. require TooLarge (nat_le (length ports) MAX_PORTS) >>= λ few. Ok ports) >>= g)) (DataClone Twice) (not (has_twice names))
-    (λ once. require (DataClone Detached) (list_all (λ x. k.holds (holding a x)) ports))
-    (λ d. twice all apart ((twice_decides names).0 (truth (has_twice names) d)))
-    (λ d. let different : ¬ StandsTwice names = not_from_Decides (has_twice names) (twice_decides names) (untruth (has_twice names) d) in
-    at_held ports zip all apart different (list_all (λ x. k.holds (holding a x)) ports) (held_cases before k a names ports s zip))))
+    held : list_all (λ used. is_held k used.0 used.1) (names_used f) ≡ false → HasUnknown before f
+    held e = let r : (u : ℕ × List ℕ) × Contains (names_used f) u × (¬ Holds before u.0 u.1) = one_fails (λ used. is_held k used.0 used.1) (λ used. Holds before used.0 used.1) (λ used. held_decides before k used.0 used.1 s) (names_used f) e in HasUnknown.not_held r.0 r.1 r.2
+
+-- ---- limits
+
+pub room : (before : List Form) (k : Known) → Stands before k → has_room k ≡ true → length before < MAX_SCRIPT_LINES
+room before k s h = subst (λ n. n < MAX_SCRIPT_LINES) s.count (ltb-true (line_count k.script) MAX_SCRIPT_LINES h)
+
+pub full : (before : List Form) (k : Known) → Stands before k → has_room k ≡ false → MAX_SCRIPT_LINES ≤ length before
+full before k s h = subst (λ n. MAX_SCRIPT_LINES ≤ n) s.count (ltb-false (line_count k.script) MAX_SCRIPT_LINES h)
+
+-- why a body isn't small
+large_body : (answer : Result (List ℕ) BodyError) → is_small answer ≡ false → (answer ≡ Err TooDeep) ⊎ (answer ≡ Err TooLong)
+large_body (Ok body) h = absurd (cc)
+large_body (Err NotJson) h = absurd (cc)
+large_body (Err NotWhole) h = absurd (cc)
+large_body (Err TooDeep) h = inl refl
+large_body (Err TooLong) h = inr refl
+large_body (Err NoMemory) h = absurd (cc)
+
+of_body : (before : List Form) (f : Form) (answer : Result (List ℕ) BodyError) → body_of f ≡ Some answer → is_small answer ≡ false → IsTooLarge before f
+of_body before f answer is h = elim (large_body answer h) [
+  | inl e ↦ IsTooLarge.depth (is ∙ ap (λ a. Some a) e)
+  | inr e ↦ IsTooLarge.size (is ∙ ap (λ a. Some a) e)
+]
+
+of_action : (before : List Form) (at : ℕ) (x : ActionForm) → has_small_body x ≡ false → IsTooLarge before (form.Action at x)
+of_action before at (Post port body transfer) h = of_body before (form.Action at (Post port body transfer)) body refl h
+of_action before at (Send to body transfer) h = of_body before (form.Action at (Send to body transfer)) body refl h
+of_action before at (Cast member body) h = of_body before (form.Action at (Cast member body)) body refl h
+of_action before at x h = absurd (cc)
+
+pub too_large : (before : List Form) (k : Known) (f : Form) → Stands before k → is_within k f ≡ false → IsTooLarge before f
+too_large before k (form.Agent kind origin) s h = IsTooLarge.agents refl (subst (λ n. MAX_AGENTS ≤ n) (agent_count before k s) (ltb-false (length (agents k.script)) MAX_AGENTS h))
+too_large before k (form.Action at x) s h = elim (and_cases (nat_le (length (transferred x)) MAX_PORTS) (has_small_body x) h) [
+  | inl e ↦ IsTooLarge.ports (leb-false (length (transferred x)) MAX_PORTS e)
+  | inr e ↦ of_action before at x e
+]
+too_large before k f s h = absurd (cc)
+
+small_answer : (answer : Result (List ℕ) BodyError) → is_small answer ≡ true → (¬ (Some answer ≡ Some (Err TooDeep))) × (¬ (Some answer ≡ Some (Err TooLong)))
+small_answer (Ok body) h = ((λ e. cc), λ e. cc)
+small_answer (Err NotJson) h = ((λ e. cc), λ e. cc)
+small_answer (Err NotWhole) h = ((λ e. cc), λ e. cc)
+small_answer (Err TooDeep) h = absurd (cc)
+small_answer (Err TooLong) h = absurd (cc)
+small_answer (Err NoMemory) h = ((λ e. cc), λ e. cc)
+
+small_body : (at : ℕ) (x : ActionForm) → has_small_body x ≡ true → (¬ (body_of (form.Action at x) ≡ Some (Err TooDeep))) × (¬ (body_of (form.Action at x) ≡ Some (Err TooLong)))
+small_body at (Post port body transfer) h = small_answer body h
+small_body at (Send to body transfer) h = small_answer body h
+small_body at (Cast member body) h = small_answer body h
+small_body at x h = ((λ e. cc), λ e. cc)
+
+pub within : (before : List Form) (k : Known) (f : Form) → Stands before k → has_room k ≡ true → is_within k f ≡ true → ¬ IsTooLarge before f
+within before k f s free h (IsTooLarge.text_lines l) = let r : length before < MAX_SCRIPT_LINES = room before k s free in omega arith
+within before k f s free h (IsTooLarge.agents is l) = few_agents f h is
   where
-    truth : (b : Bool) → not b ≡ false → b ≡ true
-    truth true e = refl
-    truth false e = absurd (let f : true ≡ false = e in cc)
+    few_agents : (g : Form) → is_within k g ≡ true → is_some (agent_kind g) ≡ true → ⊥
+    few_agents (form.Agent kind origin) e i = omega (arith, ltb-true (length (agents k.script)) MAX_AGENTS e, agent_count before k s, l)
+    few_agents g e i = cc
+within before k f s free h (IsTooLarge.ports l) = few_ports f h l
+  where
+    few_ports : (g : Form) → is_within k g ≡ true → MAX_PORTS < length (transfer_of g) → ⊥
+    few_ports (form.Action at x) e m = omega (arith, leb-true (length (transferred x)) MAX_PORTS (and_parts (nat_le (length (transferred x)) MAX_PORTS) (has_small_body x) e).0, m)
+    few_ports g e m = omega (arith, m)
+within before k f s free h (IsTooLarge.depth is) = not_deep f h is
+  where
+    not_deep : (g : Form) → is_within k g ≡ true → body_of g ≡ Some (Err TooDeep) → ⊥
+    not_deep (form.Action at x) e i = (small_body at x (and_parts (nat_le (length (transferred x)) MAX_PORTS) (has_small_body x) e).1).0 i
+    not_deep g e i = cc
+within before k f s free h (IsTooLarge.size is) = not_long f h is
+  where
+    not_long : (g : Form) → is_within k g ≡ true → body_of g ≡ Some (Err TooLong) → ⊥
+    not_long (form.Action at x) e i = (small_body at x (and_parts (nat_le (length (transferred x)) MAX_PORTS) (has_small_body x) e).1).1 i
+    not_long g e i = cc
 
-    untruth : (b : Bool) → not b ≡ true → b ≡ false
-    untruth true e = absurd (let f : false ≡ true = e in cc)
-    untruth false e = refl
+-- ---- the place in the script
 
-    at_count : (ports : List NamedEnd) → AllZip (λ n x. k.names n ≡ Some x) names ports → IsTransferable before a source names → length before < MAX_SCRIPT_LINES
-        → P (require TooLarge (nat_le (length ports) MAX_PORTS) >>= (λ few. Ok ports) >>= g)
-    at_count ports zip free room =
-        let same : length names ≡ length ports = zip_length (λ n x. k.names n ≡ Some x) names ports zip in
-        by_require (λ r. P (r >>= g)) TooLarge (nat_le (length ports) MAX_PORTS) (λ few. Ok ports)
-        (λ e. many free (subst (λ n. MAX_PORTS < n) (sym same) (leb-false (length ports) MAX_PORTS e)))
-        (λ e. good ports zip free room (subst (λ n. n ≤ MAX_PORTS) (sym same) (leb-true (length ports) MAX_PORTS e)))
+never_twice : ¬ StandsTwice []
+never_twice h = not_nil h.earlier h.later h.name h.first
 
-    at_room : (ports : List NamedEnd) → AllZip (λ n x. k.names n ≡ Some x) names ports → IsTransferable before a source names
-        → P (has_room k >>= (λ room. require TooLarge (nat_le (length ports) MAX_PORTS) >>= λ few. Ok ports) >>= g)
-    at_room ports zip free =
-        by_room (λ r. P (r >>= g)) before k (λ room. require TooLarge (nat_le (length ports) MAX_PORTS) >>= λ few. Ok ports) s (long free) (at_count ports zip free)
+-- an action whose queue, life and hands are in their place
+placed_so : (before : List Form) (at : ℕ) (x : ActionForm) → ((a : ℕ) → StartsQueue (form.Action at x) a → (¬ (slice_get (agent_kinds before) a ≡ Some Worker)) × (¬ HasHanded before a))
+    → ((a : ℕ) → HasEvent (form.Action at x) a → ¬ (slice_get (agent_kinds before) a ≡ Some Window)) → ¬ IsOwnQueue (form.Action at x) → ((a : ℕ) → Hands (form.Action at x) a → ¬ HasHanded before a)
+    → ¬ IsMisplaced before (form.Action at x)
+placed_so before at x starts event own hands (IsMisplaced.declared_late no_action h) = no_action tt
+placed_so before at x starts event own hands (IsMisplaced.reserved h) = never_in (codes "queue") h
+placed_so before at x starts event own hands (IsMisplaced.declared_before n h d) = never_in n h
+placed_so before at x starts event own hands (IsMisplaced.declared_twice h) = never_twice h
+placed_so before at x starts event own hands (IsMisplaced.queue_of_worker a h w) = (starts a h).0 w
+placed_so before at x starts event own hands (IsMisplaced.queue_handed a h w) = (starts a h).1 w
+placed_so before at x starts event own hands (IsMisplaced.event_of_window a h w) = event a h w
+placed_so before at x starts event own hands (IsMisplaced.own_queue h) = own h
+placed_so before at x starts event own hands (IsMisplaced.handed_again a h g) = hands a h g
 
-    at_held : (ports : List NamedEnd) → AllZip (λ n x. k.names n ≡ Some x) names ports → All (IsPort before) names → ¬ IsSourceIn source names → ¬ StandsTwice names → (b : Bool)
-        → ((b ≡ true) × All (Holds before a.0) names) ⊎ ((b ≡ false) × ((n : List ℕ) × Contains names n × (¬ Holds before a.0 n)))
-        → P (require (DataClone Detached) b >>= (λ free. has_room k >>= λ room. require TooLarge (nat_le (length ports) MAX_PORTS) >>= λ few. Ok ports) >>= g)
-    at_held ports zip all apart different true (inl h) = at_room ports zip (record { ports = all; apart = apart; different = different; held = h.1 })
-    at_held ports zip all apart different true (inr h) = absurd (cc h.0)
-    at_held ports zip all apart different false (inl h) = absurd (cc h.0)
-    at_held ports zip all apart different false (inr h) = detached all apart different h.1.0 h.1.1 h.1.2
+-- an own queue that may be started
+may_start : (before : List Form) (k : Known) (at a : ℕ) → Stands before k → may_start_queue k at ≡ true → at ≡ a → (¬ (slice_get (agent_kinds before) a ≡ Some Worker)) × (¬ HasHanded before a)
+may_start before k at a s h is =
+    let both : (is_agent k Worker at ≡ false) × (k.handed at ≡ false) = or_parts (is_agent k Worker at) (k.handed at) (not-true (is_agent k Worker at || k.handed at) h) in
+    subst (λ b. (¬ (slice_get (agent_kinds before) b ≡ Some Worker)) × (¬ HasHanded before b)) is
+    (not_from_Decides (is_agent k Worker at) (kind_decides before k Worker at s) both.0, not_from_Decides (k.handed at) (s.handed at) both.1)
 
--- ---- bodies
+may_not_start : (before : List Form) (k : Known) (at : ℕ) (f : Form) → Stands before k → may_start_queue k at ≡ false → StartsQueue f at → IsMisplaced before f
+may_not_start before k at f s h starts = elim (or_cases (is_agent k Worker at) (k.handed at) (not-false (is_agent k Worker at || k.handed at) h)) [
+  | inl e ↦ IsMisplaced.queue_of_worker at starts ((kind_decides before k Worker at s).0 e)
+  | inr e ↦ IsMisplaced.queue_handed at starts ((s.handed at).0 e)
+]
 
-pub by_body : {B : Type 0} (P : ScriptRead B → Type 0) (answer : Result (List ℕ) BodyError) (g : List ℕ → ScriptRead B)
-    → (answer ≡ Err TooDeep → P (Err TooLarge)) → (answer ≡ Err TooLong → P (Err TooLarge))
-    → ((e : BodyError) → answer ≡ Err e → ¬ (answer ≡ Err TooDeep) → ¬ (answer ≡ Err TooLong) → P (Err Syntax))
-    → ((body : List ℕ) → answer ≡ Ok body → P (g body)) → P (body_or answer >>= g)
-by_body P (Ok body) g deep long bad good = good body refl
-by_body P (Err NotJson) g deep long bad good = bad NotJson refl (λ e. cc) (λ e. cc)
-by_body P (Err NotWhole) g deep long bad good = bad NotWhole refl (λ e. cc) (λ e. cc)
-by_body P (Err TooDeep) g deep long bad good = deep refl
-by_body P (Err TooLong) g deep long bad good = long refl
-by_body P (Err NoMemory) g deep long bad good = bad NoMemory refl (λ e. cc) (λ e. cc)
+timely : (before : List Form) (k : Known) (at : ℕ) (x : ActionForm) → Stands before k → is_timely k at x ≡ true → ¬ IsMisplaced before (form.Action at x)
+timely before k at (Start n) s h = placed_so before at (Start n) (λ a g. starts a g (or_cases (not (bytes_eq n (codes "queue"))) (may_start_queue k at) h)) (λ a g. absurd g) (λ g. g) (λ a g. absurd g)
+  where
+    starts : (a : ℕ) → StartsQueue (form.Action at (Start n)) a → (not (bytes_eq n (codes "queue")) ≡ true) ⊎ (may_start_queue k at ≡ true) → (¬ (slice_get (agent_kinds before) a ≡ Some Worker)) × (¬ HasHanded before a)
+    starts a g (inl e) = absurd (not_from_Decides (bytes_eq n (codes "queue")) (bytes_decides n (codes "queue")) (not-true (bytes_eq n (codes "queue")) e) g.1)
+    starts a g (inr e) = may_start before k at a s e g.0
+timely before k at Loaded s h = placed_so before at Loaded (λ a g. may_start before k at a s h g) (λ a g. absurd g) (λ g. g) (λ a g. absurd g)
+timely before k at (LifeEvent e) s h =
+    let other : ¬ (slice_get (agent_kinds before) at ≡ Some Window) = not_from_Decides (is_agent k Window at) (kind_decides before k Window at s) (not-true (is_agent k Window at) h) in
+    placed_so before at (LifeEvent e) (λ a g. absurd g) (λ a g w. other (subst (λ b. slice_get (agent_kinds before) b ≡ Some Window) (sym g) w)) (λ g. g) (λ a g. absurd g)
+timely before k at (Hand to) s h =
+    let both : (not (at == to) ≡ true) × (not (k.handed at) ≡ true) = and_parts (not (at == to)) (not (k.handed at)) h in
+    let first : ¬ HasHanded before at = not_from_Decides (k.handed at) (s.handed at) (not-true (k.handed at) both.1) in
+    placed_so before at (Hand to) (λ a g. absurd g) (λ a g. absurd g) (not_from_Decides (at == to) (Decides-eqb at to) (not-true (at == to) both.0)) (λ a g w. first (subst (HasHanded before) (sym g) w))
+timely before k at (Fetch from) s h = placed_so before at (Fetch from) (λ a g. absurd g) (λ a g. absurd g) (not_from_Decides (at == from) (Decides-eqb at from) (not-true (at == from) h)) (λ a g. absurd g)
+timely before k at x s h = placed_so before at x (λ a g. absurd g) (λ a g. absurd g) (λ g. g) (λ a g. absurd g)
 
-pub by_origin : {B : Type 0} (P : ScriptRead B → Type 0) (answer : Result (List ℕ) OriginError) (g : List ℕ → ScriptRead B)
-    → ((e : OriginError) → answer ≡ Err e → P (Err Syntax)) → ((origin : List ℕ) → answer ≡ Ok origin → P (g origin)) → P (origin_or answer >>= g)
-by_origin P (Ok origin) g bad good = good origin refl
-by_origin P (Err e) g bad good = bad e refl
+untimely : (before : List Form) (k : Known) (at : ℕ) (x : ActionForm) → Stands before k → is_timely k at x ≡ false → IsMisplaced before (form.Action at x)
+untimely before k at (Start n) s h =
+    let both : (not (bytes_eq n (codes "queue")) ≡ false) × (may_start_queue k at ≡ false) = or_parts (not (bytes_eq n (codes "queue"))) (may_start_queue k at) h in
+    may_not_start before k at (form.Action at (Start n)) s both.1 (refl, (bytes_decides n (codes "queue")).0 (not-false (bytes_eq n (codes "queue")) both.0))
+untimely before k at Loaded s h = may_not_start before k at (form.Action at Loaded) s h refl
+untimely before k at (LifeEvent e) s h = IsMisplaced.event_of_window at refl ((kind_decides before k Window at s).0 (not-false (is_agent k Window at) h))
+untimely before k at (Hand to) s h = elim (and_cases (not (at == to)) (not (k.handed at)) h) [
+  | inl e ↦ IsMisplaced.own_queue ((Decides-eqb at to).0 (not-false (at == to) e))
+  | inr e ↦ IsMisplaced.handed_again at refl ((s.handed at).0 (not-false (k.handed at) e))
+]
+untimely before k at (Fetch from) s h = IsMisplaced.own_queue ((Decides-eqb at from).0 (not-false (at == from) h))
+untimely before k at x s h = absurd (cc)
+
+-- a declaration that stands before all actions, of names that are free and different
+placed_early : (before : List Form) (f : Form) → ¬ Any IsAction before → ((n : List ℕ) → Contains (names_declared f) n → (¬ (n ≡ codes "queue")) × (¬ IsDeclared before n)) → ¬ StandsTwice (names_declared f)
+    → ((a : ℕ) → ¬ StartsQueue f a) → ((a : ℕ) → ¬ HasEvent f a) → ¬ IsOwnQueue f → ((a : ℕ) → ¬ Hands f a) → ¬ IsMisplaced before f
+placed_early before f early names different starts event own hands (IsMisplaced.declared_late no_action h) = early h
+placed_early before f early names different starts event own hands (IsMisplaced.reserved h) = (names (codes "queue") h).0 refl
+placed_early before f early names different starts event own hands (IsMisplaced.declared_before n h d) = (names n h).1 d
+placed_early before f early names different starts event own hands (IsMisplaced.declared_twice h) = different h
+placed_early before f early names different starts event own hands (IsMisplaced.queue_of_worker a h w) = starts a h
+placed_early before f early names different starts event own hands (IsMisplaced.queue_handed a h w) = starts a h
+placed_early before f early names different starts event own hands (IsMisplaced.event_of_window a h w) = event a h
+placed_early before f early names different starts event own hands (IsMisplaced.own_queue h) = own h
+placed_early before f early names different starts event own hands (IsMisplaced.handed_again a h g) = hands a h
+
+early : (before : List Form) (k : Known) → Stands before k → has_no_action (actions k.script) ≡ true → ¬ Any IsAction before
+early before k s h = not_from_Decides (not (has_no_action (actions k.script))) s.acted (not_from_true (has_no_action (actions k.script)) h)
+
+late : (before : List Form) (k : Known) (f : Form) → Stands before k → ¬ IsAction f → has_no_action (actions k.script) ≡ false → IsMisplaced before f
+late before k f s none h = IsMisplaced.declared_late none (s.acted.0 (not_from_false (has_no_action (actions k.script)) h))
+
+is_taken : (before : List Form) (k : Known) (f : Form) (n : List ℕ) → Stands before k → Contains (names_declared f) n → is_free k n ≡ false → IsMisplaced before f
+is_taken before k f n s c h = elim (taken before k n s h) [
+  | inl e ↦ IsMisplaced.reserved (subst (Contains (names_declared f)) e c)
+  | inr d ↦ IsMisplaced.declared_before n c d
+]
+
+abbrev pub IsFresh : List Form → List ℕ → Type 0
+IsFresh before n = (¬ (n ≡ codes "queue")) × (¬ IsDeclared before n)
+
+one_fresh : (before : List Form) (name : List ℕ) → IsFresh before name → (n : List ℕ) → Contains (name ∷ []) n → IsFresh before n
+one_fresh before name h n c = elim (contains_cases name [] n c) [ inl e ↦ subst (IsFresh before) e h | inr g ↦ absurd (never_in n g) ]
+
+two_fresh : (before : List Form) (first second : List ℕ) → IsFresh before first → IsFresh before second → (n : List ℕ) → Contains (first ∷ second ∷ []) n → IsFresh before n
+two_fresh before first second h g n c = elim (contains_cases first (second ∷ []) n c) [ inl e ↦ subst (IsFresh before) e h | inr r ↦ one_fresh before second g n r ]
+
+one_name : (name : List ℕ) → ¬ StandsTwice (name ∷ [])
+one_name name h = elim (twice_cases name [] h) [ inl c ↦ never_in name c | inr t ↦ never_twice t ]
+
+two_names : (first second : List ℕ) → ¬ (first ≡ second) → ¬ StandsTwice (first ∷ second ∷ [])
+two_names first second differ h = elim (twice_cases first (second ∷ []) h) [ inl c ↦ apart_from c | inr t ↦ one_name second t ]
+  where
+    apart_from : ¬ Contains (second ∷ []) first
+    apart_from c = elim (contains_cases second [] first c) [ inl e ↦ differ (sym e) | inr n ↦ never_in first n ]
+
+-- what a channel's names are tested for
+pub record AreFree (k : Known) (first second : List ℕ) : Type 0 where
+  pub no_action : has_no_action (actions k.script) ≡ true
+  pub one : is_free k first ≡ true
+  pub other : is_free k second ≡ true
+  pub differ : ¬ (first ≡ second)
+
+pub are_free : (k : Known) (first second : List ℕ) (at : ℕ) → is_placed k (form.Channel first second at) ≡ true → AreFree k first second
+are_free k first second at h =
+    let p = and_parts (has_no_action (actions k.script)) (is_free k first && is_free k second && not (bytes_eq first second)) h in
+    let q = and_parts (is_free k first && is_free k second) (not (bytes_eq first second)) p.1 in
+    let r = and_parts (is_free k first) (is_free k second) q.0 in
+    record { no_action = p.0; one = r.0; other = r.1; differ = not_from_Decides (bytes_eq first second) (bytes_decides first second) (not-true (bytes_eq first second) q.1) }
+
+pub placed : (before : List Form) (k : Known) (f : Form) → Stands before k → is_placed k f ≡ true → ¬ IsMisplaced before f
+placed before k (form.Agent kind origin) s h = placed_early before (form.Agent kind origin) (early before k s h) (λ n c. absurd (never_in n c)) never_twice (λ a g. g) (λ a g. g) (λ g. g) (λ a g. g)
+placed before k (form.Channel first second at) s h =
+    let p : AreFree k first second = are_free k first second at h in
+    placed_early before (form.Channel first second at) (early before k s p.no_action) (two_fresh before first second (free before k first s p.one) (free before k second s p.other)) (two_names first second p.differ) (λ a g. g) (λ a g. g) (λ g. g) (λ a g. g)
+placed before k (form.Member name at on) s h =
+    let p = and_parts (has_no_action (actions k.script)) (is_free k name) h in
+    placed_early before (form.Member name at on) (early before k s p.0) (one_fresh before name (free before k name s p.1)) (one_name name) (λ a g. g) (λ a g. g) (λ g. g) (λ a g. g)
+placed before k (form.Action at x) s h = timely before k at x s h
+
+pub misplaced : (before : List Form) (k : Known) (f : Form) → Stands before k → is_placed k f ≡ false → IsMisplaced before f
+misplaced before k (form.Agent kind origin) s h = late before k (form.Agent kind origin) s (λ a. a) h
+misplaced before k (form.Channel first second at) s h = elim (and_cases (has_no_action (actions k.script)) (is_free k first && is_free k second && not (bytes_eq first second)) h) [
+  | inl e ↦ late before k f s (λ a. a) e
+  | inr e ↦ (elim (and_cases (is_free k first && is_free k second) (not (bytes_eq first second)) e) as (λ _. IsMisplaced before f) [
+    | inl g ↦ (elim (and_cases (is_free k first) (is_free k second) g) as (λ _. IsMisplaced before f) [
+      | inl t ↦ is_taken before k f first s (contains_first first (second ∷ [])) t
+      | inr t ↦ is_taken before k f second s in_second t
+    ])
+    | inr g ↦ IsMisplaced.declared_twice (same ((bytes_decides first second).0 (not-false (bytes_eq first second) g)))
+  ])
+]
+  where
+    f : Form
+    f = form.Channel first second at
+
+    in_second : Contains (first ∷ second ∷ []) second
+    in_second = contains_rest first (second ∷ []) second (contains_first second [])
+
+    same : first ≡ second → StandsTwice (first ∷ second ∷ [])
+    same e = record { name = second; earlier = []; later = second ∷ []; first = ap (λ n. n ∷ second ∷ []) e; second = contains_first second [] }
+misplaced before k (form.Member name at on) s h = elim (and_cases (has_no_action (actions k.script)) (is_free k name) h) [
+  | inl e ↦ late before k (form.Member name at on) s (λ a. a) e
+  | inr e ↦ is_taken before k (form.Member name at on) name s (contains_first name []) e
+]
+misplaced before k (form.Action at x) s h = untimely before k at x s h

@@ -1,5 +1,6 @@
 -- By cases, in plain words, what an answer says of a script.
-use Rattle.std.specs.Prelude.{◌≡◌, ◌⊎◌, ℕ, ◌+◌, List, [], ◌∷◌, ◌++◌, length, Result, Ok, Err}
+use Rattle.std.specs.Prelude.{◌≡◌, ◌⊎◌, ℕ, ◌+◌, List, [], ◌∷◌, ◌++◌, length, true, Result, Ok, Err}
+use Rattle.std.specs.Str.{is_utf8}
 use Rattle.hub_text.specs.TextLines.{text_lines_of}
 use Rattle.hub_script.specs.declared.script_error.ScriptError.{ScriptError}
 use Rattle.hub_script.specs.declared.script_error.ScriptError.TheVariants.{OutOfMemory}
@@ -22,6 +23,17 @@ pub record IsFirstBad (text : List ℕ) (n : ℕ) (e : ScriptError) : Type 0 whe
   pub number : n ≡ length before + 1
   pub obeyed : LeadsTo nothing before known
   pub fails : after_line known bad ≡ Err e
+
+-- the text line of that number is UTF-8, and those before it obey the rules
+pub record TakesMemoryAt (text : List ℕ) (n : ℕ) : Type 0 where
+  pub before : List (List ℕ)
+  pub line : List ℕ
+  pub behind : List (List ℕ)
+  pub known : Known
+  pub lines : text_lines_of text ≡ before ++ line ∷ behind
+  pub number : n ≡ length before + 1
+  pub obeyed : LeadsTo nothing before known
+  pub utf8 : is_utf8 line ≡ true
 
 -- want of memory says nothing of the text
 abbrev pub IsScriptAnswer : List ℕ → Result Contents (ℕ × ScriptError) → Type 0

@@ -59,10 +59,10 @@ abbrev pub queue_of : AgentId → EndId
 queue_of a = record { 0 = a.0 }
 
 abbrev pub holding : AgentId → NamedEnd → Holding
-holding a x = record { agent = a; number = x.number }
+holding a x = record { agent = a.0; number = x.number }
 
 abbrev pub is_same_holding : Holding → Holding → Bool
-is_same_holding x y = (x.agent.0 == y.agent.0) && (x.number == y.number)
+is_same_holding x y = (x.agent == y.agent) && (x.number == y.number)
 
 -- what names name, with one name more
 abbrev pub naming : List ℕ → NamedEnd → (List ℕ → Option NamedEnd) → List ℕ → Option NamedEnd

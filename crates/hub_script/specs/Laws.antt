@@ -1,15 +1,17 @@
 -- Laws of every script line that was read, and of what refusals mean.
-use Rattle.std.specs.Prelude.{◌≡◌, ℕ, ◌≤◌, List, [], length, true, false, Option, Some, None, Result, Ok, codes, bytes_eq}
+use Rattle.std.specs.Prelude.{◌≡◌, ℕ, ◌≤◌, List, length, Bool, true, false, Option, Some, None, Result, Ok, codes, bytes_eq}
 use Rattle.std.specs.List.{list_all}
 use Rattle.hub_envelope.specs.declared.body.BodyError.{BodyError}
 use Rattle.hub_envelope.specs.declared.ids.AgentId.{AgentId}
 use Rattle.hub_envelope.specs.declared.limits.TheConstants.{MAX_PORTS}
 use Rattle.hub_script.specs.declared.form.Form.{Form}
+use Rattle.hub_script.specs.declared.form.Form.TheVariants as form
+use Rattle.hub_script.specs.declared.form.ActionForm.TheVariants.{Post, Send, Start, Close}
 use Rattle.hub_script.specs.declared.named.NamedEnd.{NamedEnd}
 use Rattle.hub_script.specs.declared.named.NameKind.TheVariants.{Port}
 use Rattle.hub_script.specs.declared.script_error.ScriptError.{ScriptError}
 use Rattle.hub_text.specs.TextLines.{text_lines_of}
-use Rattle.hub_script.specs.Context.{after_close, after_post, after_send, after_start, has_twice, is_listed, ports_from}
+use Rattle.hub_script.specs.Context.{after_form, has_twice, is_held, is_port, stands_in}
 use Rattle.hub_script.specs.Known.{Known, holding}
 use Rattle.hub_script.specs.Refusals.{AreAccepted, IsAccepted, IsRefused, Means}
 use Rattle.hub_script.specs.Shown.{TextHasForm}
@@ -27,33 +29,37 @@ pub record HoldsPort (k : Known) (a : AgentId) (n : List ℕ) : Type 0 where
   pub kind : port.kind ≡ Port
   pub held : k.holds (holding a port) ≡ true
 
+-- the name stands in the list, where there is one
+abbrev pub is_listed : Option (List ℕ) → List (List ℕ) → Bool
+is_listed None names = false
+is_listed (Some n) names = stands_in n names
+
 -- at most 16 different names of ports that the agent holds, and the source port isn't among them
 pub record MayTransfer (k : Known) (a : AgentId) (source : Option (List ℕ)) (names : List (List ℕ)) : Type 0 where
-  pub ports : List NamedEnd
-  pub named : ports_from k [] names ≡ Ok ports
+  pub ports : list_all (is_port k) names ≡ true
   pub apart : is_listed source names ≡ false
   pub different : has_twice names ≡ false
-  pub held : list_all (λ x. k.holds (holding a x)) ports ≡ true
-  pub few : length ports ≤ MAX_PORTS
+  pub held : list_all (is_held k a.0) names ≡ true
+  pub few : length names ≤ MAX_PORTS
 
 -- a post that is read names a port that its agent holds, and what it transfers may be transferred
 abbrev pub PostsHeld : Type 0
-PostsHeld = (k next : Known) (at : ℕ) (n : List ℕ) (answer : Result (List ℕ) BodyError) (names : List (List ℕ)) → after_post k at n answer names ≡ Ok next
+PostsHeld = (k next : Known) (at : ℕ) (n : List ℕ) (answer : Result (List ℕ) BodyError) (names : List (List ℕ)) → after_form k (form.Action at (Post n answer names)) ≡ Ok next
     → (a : AgentId) × (a.0 ≡ at) × HoldsPort k a n × MayTransfer k a (Some n) names
 
 -- what a send transfers may be transferred
 abbrev pub SendsHeld : Type 0
-SendsHeld = (k next : Known) (at to : ℕ) (answer : Result (List ℕ) BodyError) (names : List (List ℕ)) → after_send k at to answer names ≡ Ok next
+SendsHeld = (k next : Known) (at to : ℕ) (answer : Result (List ℕ) BodyError) (names : List (List ℕ)) → after_form k (form.Action at (Send to answer names)) ≡ Ok next
     → (a : AgentId) × (a.0 ≡ at) × MayTransfer k a None names
 
 -- a start that is read names a port that its agent holds, or its queue
 abbrev pub StartsHeld : Type 0
-StartsHeld = (k next : Known) (at : ℕ) (n : List ℕ) → after_start k at n ≡ Ok next → bytes_eq n (codes "queue") ≡ false
+StartsHeld = (k next : Known) (at : ℕ) (n : List ℕ) → after_form k (form.Action at (Start n)) ≡ Ok next → bytes_eq n (codes "queue") ≡ false
     → (a : AgentId) × (a.0 ≡ at) × HoldsPort k a n
 
 -- a close that is read names what its agent holds
 abbrev pub ClosesHeld : Type 0
-ClosesHeld = (k next : Known) (at : ℕ) (n : List ℕ) → after_close k at n ≡ Ok next → (a : AgentId) × (a.0 ≡ at) × HoldsName k a n
+ClosesHeld = (k next : Known) (at : ℕ) (n : List ℕ) → after_form k (form.Action at (Close n)) ≡ Ok next → (a : AgentId) × (a.0 ≡ at) × HoldsName k a n
 
 -- behind the same lines a text line is refused in one way at most
 abbrev pub OneRefusal : Type 0

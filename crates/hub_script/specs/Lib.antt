@@ -3,6 +3,7 @@ pub mod Keyword
 pub mod Form
 pub mod Contents
 pub mod Known
+pub mod Uses
 pub mod Context
 pub mod Reader
 pub mod Script

@@ -9,7 +9,7 @@ use Rattle.hub_script.specs.Known.{Known}
 
 -- by agent, then by name
 abbrev pub holding_cmp : Holding → Holding → Ordering
-holding_cmp x y = ordering_then (nat_cmp x.agent.0 y.agent.0) (nat_cmp x.number y.number)
+holding_cmp x y = ordering_then (nat_cmp x.agent y.agent) (nat_cmp x.number y.number)
 
 abbrev pub known : ScriptReader → Known
 known r = record { script = r.script; names = λ n. get_by_text r.names n; holds = λ x. contains holding_cmp r.held x; handed = λ a. contains nat_cmp r.handed a }

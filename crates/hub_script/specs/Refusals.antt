@@ -2,7 +2,7 @@
 -- those before it. Tests are made in the order in which the cases stand here, so a refusal says also which tests
 -- were passed: first the text line by itself, then its place, agents and names, its list of ports, limits, and what
 -- is left of its body or URL.
-use Rattle.std.specs.Prelude.{◌≡◌, ◌⊎◌, ℕ, ◌+◌, ◌<◌, ◌≤◌, List, [], ◌∷◌, ◌++◌, length, Option, Some, None, Result, Ok, Err, codes, bytes_eq, slice_get, if◌then◌else◌, is_some, true}
+use Rattle.std.specs.Prelude.{◌≡◌, ◌⊎◌, ℕ, ◌+◌, ◌<◌, ◌≤◌, List, ◌∷◌, ◌++◌, length, Some, None, Result, Ok, Err, codes, slice_get, is_some, true}
 use Rattle.std.specs.List.{All, AllZip, Any, Contains}
 use Rattle.serde_json.specs.Data.{Data}
 use Rattle.serde_json.specs.Find.{get}
@@ -14,7 +14,7 @@ use Rattle.hub_text.specs.TextLines.{text_lines_of}
 use Rattle.hub_script.specs.declared.agent_kind.AgentKind.TheVariants.{Window, Worker}
 use Rattle.hub_script.specs.declared.form.Form.{Form}
 use Rattle.hub_script.specs.declared.form.Form.TheVariants as form
-use Rattle.hub_script.specs.declared.form.ActionForm.TheVariants.{Post, Send, Cast, Start, Loaded, Close, Receive, Order, Event as LifeEvent, Hand, Fetch}
+use Rattle.hub_script.specs.declared.form.ActionForm.TheVariants.{Post, Start, Loaded, Event as LifeEvent, Hand, Fetch}
 use Rattle.hub_script.specs.declared.keyword.Keyword.{Keyword}
 use Rattle.hub_script.specs.declared.script_error.ScriptError.{ScriptError}
 use Rattle.hub_script.specs.declared.script_error.ScriptError.TheVariants.{Syntax, UnknownAction, UnknownName, DataClone, TooLarge, OutOfMemory}
@@ -24,6 +24,7 @@ use Rattle.hub_script.specs.Before.{Hands, HasHanded, Holds, IsAction, IsDeclare
 use Rattle.hub_script.specs.Contents.{Contents}
 use Rattle.hub_script.specs.Keyword.{word_of}
 use Rattle.hub_script.specs.Shown.{HasForm, TextHasForm, IsObject}
+use Rattle.hub_script.specs.Uses.{agents_named, body_of, members_named, names_declared, names_used, ports_named, transfer_of, url_of}
 
 -- ---- the text line by itself
 
@@ -65,12 +66,6 @@ IsOwnQueue (form.Action at (Hand to)) = at ≡ to
 IsOwnQueue (form.Action at (Fetch from)) = at ≡ from
 IsOwnQueue f = ⊥
 
--- the names that are declared
-abbrev pub names_declared : Form → List (List ℕ)
-names_declared (form.Channel first second at) = first ∷ second ∷ []
-names_declared (form.Member name at on) = name ∷ []
-names_declared f = []
-
 -- a name stands twice in the list
 pub record StandsTwice (names : List (List ℕ)) : Type 0 where
   pub name : List ℕ
@@ -96,44 +91,6 @@ pub data IsMisplaced (before : List Form) (f : Form) : Type 0 where
   handed_again : (a : ℕ) → Hands f a → HasHanded before a → IsMisplaced before f
 
 -- ---- agents and names
-
--- the agents that are named
-abbrev pub agents_named : Form → List ℕ
-agents_named (form.Agent kind origin) = []
-agents_named (form.Channel first second at) = at ∷ []
-agents_named (form.Member name at on) = at ∷ []
-agents_named (form.Action at (Send to body transfer)) = at ∷ to ∷ []
-agents_named (form.Action at (Order to)) = at ∷ to ∷ []
-agents_named (form.Action at (Hand to)) = at ∷ to ∷ []
-agents_named (form.Action at (Fetch from)) = at ∷ from ∷ []
-agents_named (form.Action at action) = at ∷ []
-
--- the ports that are transferred
-abbrev pub transfer_of : Form → List (List ℕ)
-transfer_of (form.Action at (Post port body transfer)) = transfer
-transfer_of (form.Action at (Send to body transfer)) = transfer
-transfer_of f = []
-
--- the names that are to be those of ports
-abbrev pub ports_named : Form → List (List ℕ)
-ports_named (form.Action at (Post port body transfer)) = port ∷ transfer
-ports_named (form.Action at (Send to body transfer)) = transfer
-ports_named (form.Action at (Start name)) = if bytes_eq name (codes "queue") then [] else name ∷ []
-ports_named (form.Action at (Receive port)) = port ∷ []
-ports_named f = []
-
--- the names that are to be those of members
-abbrev pub members_named : Form → List (List ℕ)
-members_named (form.Action at (Cast member body)) = member ∷ []
-members_named f = []
-
--- the names that are used, each with the agent that has to hold it
-abbrev pub names_used : Form → List (ℕ × List ℕ)
-names_used (form.Action at (Post port body transfer)) = (at, port) ∷ []
-names_used (form.Action at (Cast member body)) = (at, member) ∷ []
-names_used (form.Action at (Start name)) = if bytes_eq name (codes "queue") then [] else (at, name) ∷ []
-names_used (form.Action at (Close name)) = (at, name) ∷ []
-names_used f = []
 
 -- an agent or a name that isn't declared before, is of another kind, or isn't held
 pub data HasUnknown (before : List Form) (f : Form) : Type 0 where
@@ -176,18 +133,6 @@ pub record CanTransfer (before : List Form) (f : Form) : Type 0 where
   pub held : (a : ℕ) (n : List ℕ) → Transfers f a n → Holds before a n
 
 -- ---- limits, bodies and URLs
-
--- the answer to the body, where the form has one
-abbrev pub body_of : Form → Option (Result (List ℕ) BodyError)
-body_of (form.Action at (Post port body transfer)) = Some body
-body_of (form.Action at (Send to body transfer)) = Some body
-body_of (form.Action at (Cast member body)) = Some body
-body_of f = None
-
--- the answer to the URL, where the form has one
-abbrev pub url_of : Form → Option (Result (List ℕ) OriginError)
-url_of (form.Agent kind origin) = Some origin
-url_of f = None
 
 -- a limit that is passed
 pub data IsTooLarge (before : List Form) (f : Form) : Type 0 where

@@ -6,10 +6,9 @@
 #![tactic(auto)]
 
 mod action;
-mod actions;
+mod adding;
 mod agent_kind;
 mod declaration;
-mod declarations;
 mod fields;
 mod form;
 mod keyword;
@@ -24,6 +23,7 @@ mod read_form;
 mod script;
 mod script_error;
 mod script_reader;
+mod testing;
 
 pub use action::{Action, ActionKind};
 pub use agent_kind::AgentKind;

@@ -1,25 +1,15 @@
 //! Tests of a list of names.
 
-ghost use Rattle.std.specs.Prelude.{◌≡◌, option_map};
-ghost use Rattle.hub_script.specs.Context.{has_twice, is_listed, stands_in};
+ghost use Rattle.std.specs.Prelude.{◌≡◌};
+ghost use Rattle.hub_script.specs.Context.{has_twice, stands_in};
 
 use crate::name::Name;
 
 /// Whether the name stands in the list.
-fn stands_in(name: &Name, names: &[Name]) -> bool
+pub(crate) fn stands_in(name: &Name, names: &[Name]) -> bool
     ensures { result ≡ stands_in name.now names.now }
 {
     names.iter().any(|other| other.as_str() == name.as_str())
-}
-
-/// Whether there is a name, and it stands in the list.
-pub(crate) fn is_listed(name: Option<&Name>, names: &[Name]) -> bool
-    ensures { result ≡ is_listed (option_map (λ n. n.now) name.entry) names.now }
-{
-    match name {
-        Some(name) => stands_in(name, names),
-        None => false,
-    }
 }
 
 /// Whether some name stands twice in the list. It takes time that grows with the square of the

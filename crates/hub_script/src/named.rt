@@ -1,5 +1,3 @@
-use hub_envelope::AgentId;
-
 /// What a name of a script names.
 #[derive(Clone, Copy, Debug, PartialEq, Eq)]
 pub(crate) enum NameKind {
@@ -18,9 +16,9 @@ pub(crate) struct NamedEnd {
     pub(crate) number: u16,
 }
 
-/// That an agent holds the name of that number.
+/// That the agent of that number holds the name of that number.
 #[derive(Clone, Copy, Debug, PartialEq, Eq, PartialOrd, Ord)]
 pub(crate) struct Holding {
-    pub(crate) agent: AgentId,
+    pub(crate) agent: u32,
     pub(crate) number: u16,
 }

@@ -1,6 +1,8 @@
 //! The reader of a whole script.
 
-ghost use Rattle.hub_script.specs.Answers.{IsScriptAnswer};
+ghost use Rattle.std.specs.Prelude.{◌≡◌, true, IfErr};
+ghost use Rattle.std.specs.Str.{is_utf8};
+ghost use Rattle.hub_script.specs.Answers.{IsScriptAnswer, TakesMemoryAt};
 ghost use Rattle.hub_script.specs.Refusals.{IsExplained};
 ghost use Rattle.hub_script.specs.Script.{after_line, script_of};
 ghost use Rattle.hub_text.specs.Reading.{AreLinesReadAs, IsReadAs};
@@ -17,13 +19,15 @@ impl Script {
     ///
     /// Text lines end at LF; the last LF may be missing, and no bytes at all are an empty script.
     /// An error comes with the number of its text line, from 1; of several bad ones the first is
-    /// told, with the first test that it fails. Memory may run out at any line. Time grows with the
+    /// told, with the first test that it fails. Memory may run out at any line that is UTF-8. Time grows with the
     /// length of the text and the logarithm of the number of names.
     pub fn read(alloc: Global, text: &[u8]) -> Result<Script, (usize, ScriptError)>
         ensures reads { AreLinesReadAs ScriptError.OutOfMemory (λ script. script) result
             (script_of text.now) }
         // Each text line obeys the rules after those before it, or it is the first that doesn't.
         ensures cases { IsScriptAnswer text.now result }
+        ensures memory { IfErr result
+            (λ e. e.1 ≡ ScriptError.OutOfMemory → TakesMemoryAt text.now e.0) }
         // What the kind of a refusal means, in terms of its text line and of those before it.
         ensures refusals { IsExplained text.now result }
     {
@@ -46,8 +50,10 @@ impl ScriptReader {
     ghost use Rattle.hub_script.specs.Reader.{known};
 
     fn add_line(&mut self, alloc: Global, line: &[u8]) -> Result<(), ScriptError>
-        ensures { IsReadAs ScriptError.OutOfMemory (λ _. known self.new) result
+        ensures says { IsReadAs ScriptError.OutOfMemory (λ _. known self.new) result
             (after_line (known self.old) line.now) }
+        ensures memory { IfErr result
+            (λ e. e ≡ ScriptError.OutOfMemory → is_utf8 line.now ≡ true) }
     {
         let form = read_form(alloc, line)?;
         self.add_form(alloc, form)

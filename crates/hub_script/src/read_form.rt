@@ -1,6 +1,7 @@
 //! The form of a text line, field by field.
 
-ghost use Rattle.std.specs.Prelude.{◌≡◌, ◌≤◌, IfOk};
+ghost use Rattle.std.specs.Prelude.{◌≡◌, ◌≤◌, true, IfErr, IfOk, OnOk};
+ghost use Rattle.std.specs.Str.{is_utf8};
 ghost use Rattle.hub_origin.specs.Origin.{origin_answer};
 ghost use Rattle.hub_envelope.specs.Answer.{answer_of};
 ghost use Rattle.hub_script.specs.Form.{agent_form, at_agent, body_in, cast_form, channel_form};
@@ -29,7 +30,10 @@ use std::alloc::Global;
 /// The form that a text line has.
 #[tactic(auto, unfolding(crate::specs::Form::form_of))]
 pub(crate) fn read_form(alloc: Global, bytes: &[u8]) -> Result<Form, ScriptError>
-    ensures { IsReadAs ScriptError.OutOfMemory (λ x. x) result (form_of bytes.now) }
+    ensures says { IsReadAs ScriptError.OutOfMemory (λ x. x) result (form_of bytes.now) }
+    // Only a text takes memory.
+    ensures memory { IfErr result (λ e. e ≡ ScriptError.OutOfMemory → is_utf8 bytes.now ≡ true) }
+    ensures utf8 { OnOk result (is_utf8 bytes.now ≡ true) }
 {
     let Ok(text) = str::from_utf8(bytes) else {
         return Err(ScriptError::Syntax);

@@ -1,12 +1,10 @@
-ghost use Rattle.std.specs.Prelude.{◌≡◌, ◌<◌, ◌≤◌, [], length, map, IfOk, OnOk, Ok, option_map};
-ghost use Rattle.std.specs.List.{list_all};
+ghost use Rattle.std.specs.Prelude.{◌≡◌, ◌<◌, ◌≤◌, [], length, map, nat_lt, IfOk, Ok};
 ghost use Rattle.hub_text.specs.Reading.{IsReadAs};
-ghost use Rattle.hub_script.specs.Contents.{agents, line_count, with_agent, with_channel};
+ghost use Rattle.hub_script.specs.Contents.{actions, agents, line_count, with_agent, with_channel};
 ghost use Rattle.hub_script.specs.Contents.{with_member};
-ghost use Rattle.hub_script.specs.Context.{acting, agent_of, declares, has_room, has_seat, held_by};
-ghost use Rattle.hub_script.specs.Context.{held_end, held_member, held_port, is_agent, is_free};
-ghost use Rattle.hub_script.specs.Context.{may_transfer, named, port_named, ports_from, ports_of};
-ghost use Rattle.hub_script.specs.Context.{require};
+ghost use Rattle.hub_script.specs.Context.{acting, agent_of, ends_from, has_agent, has_no_action};
+ghost use Rattle.hub_script.specs.Context.{has_room, is_agent, is_free, is_held, is_member};
+ghost use Rattle.hub_script.specs.Context.{is_port, named};
 ghost use Rattle.hub_script.specs.Known.{declaring, end_of, giving, giving_all, holding, naming};
 ghost use Rattle.hub_script.specs.Known.{next_member, next_port, nothing, queue_of, second_port};
 ghost use Rattle.hub_script.specs.Known.{taking, with_handed, with_holds, with_names, with_script};
@@ -15,12 +13,11 @@ use crate::action::{Action, ActionKind};
 use crate::agent_kind::AgentKind;
 use crate::declaration::{DeclaredAgent, DeclaredChannel, DeclaredMember};
 use crate::limits::QUEUE;
-use crate::lists::{has_twice, is_listed};
 use crate::name::Name;
 use crate::name_list::NameList;
 use crate::named::{Holding, NameKind, NamedEnd};
 use crate::script::Script;
-use crate::script_error::{DataCloneCause, ScriptError};
+use crate::script_error::ScriptError;
 use hub_envelope::{AgentId, EndId, MAX_AGENTS, MAX_PORTS, MAX_SCRIPT_LINES, OutOfMemory, Ports};
 use std::alloc::Global;
 use std::collections::{BTreeMap, BTreeSet};
@@ -35,18 +32,21 @@ pub(crate) struct ScriptReader {
     handed: BTreeSet<u32>,
 }
 
-/// An error unless the condition holds.
-pub(crate) fn require(condition: bool, error: ScriptError) -> Result<(), ScriptError>
-    ensures { IsReadAs ScriptError.OutOfMemory (λ _. tt) result (require error condition) }
-{
-    if condition { Ok(()) } else { Err(error) }
-}
-
 /// The queue that the agent got when it was declared.
 pub(crate) fn queue_of(agent: AgentId) -> EndId
     ensures { result ≡ queue_of agent }
 {
     EndId(u32::from(agent.0))
+}
+
+/// That the agent holds what was named.
+fn holding(agent: AgentId, named: NamedEnd) -> Holding
+    ensures { result ≡ holding agent named }
+{
+    Holding {
+        agent: u32::from(agent.0),
+        number: named.number,
+    }
 }
 
 impl ScriptReader {
@@ -71,34 +71,24 @@ impl ScriptReader {
     }
 
     /// Declarations stand before all actions.
-    pub(crate) fn declares(&self) -> Result<(), ScriptError>
-        ensures { IsReadAs ScriptError.OutOfMemory (λ _. tt) result (declares (known self.now)) }
+    pub(crate) fn declares(&self) -> bool
+        ensures { result ≡ has_no_action (actions (known self.now).script) }
     {
-        require(self.script.actions().is_empty(), ScriptError::Syntax)
+        self.script.actions().is_empty()
     }
 
     /// The script has room for a line more.
-    pub(crate) fn has_room(&self) -> Result<(), ScriptError>
-        ensures says { IsReadAs ScriptError.OutOfMemory (λ _. tt) result
-            (has_room (known self.now)) }
-        ensures room { OnOk result (line_count (known self.now).script < MAX_SCRIPT_LINES) }
+    pub(crate) fn has_room(&self) -> bool
+        ensures { result ≡ has_room (known self.now) }
     {
-        require(
-            self.script.line_count() < MAX_SCRIPT_LINES,
-            ScriptError::TooLarge,
-        )
+        self.script.line_count() < MAX_SCRIPT_LINES
     }
 
     /// The script has room for an agent more.
-    pub(crate) fn has_seat(&self) -> Result<(), ScriptError>
-        ensures says { IsReadAs ScriptError.OutOfMemory (λ _. tt) result
-            (has_seat (known self.now)) }
-        ensures seat { OnOk result (length (agents (known self.now).script) < MAX_AGENTS) }
+    pub(crate) fn has_seat(&self) -> bool
+        ensures { result ≡ nat_lt (length (agents (known self.now).script)) MAX_AGENTS }
     {
-        require(
-            self.script.agents().len() < MAX_AGENTS,
-            ScriptError::TooLarge,
-        )
+        self.script.agents().len() < MAX_AGENTS
     }
 
     /// The name isn't reserved, and isn't declared yet.
@@ -106,6 +96,12 @@ impl ScriptReader {
         ensures { result ≡ is_free (known self.now) name.now }
     {
         name.as_str() != QUEUE && !self.names.contains_key(name.as_str())
+    }
+
+    pub(crate) fn has_agent(&self, number: u32) -> bool
+        ensures { result ≡ has_agent (known self.now) number }
+    {
+        (number as usize) < self.script.agents().len()
     }
 
     /// The declared agent of that number.
@@ -131,142 +127,69 @@ impl ScriptReader {
     }
 
     /// What the name names.
-    fn named(&self, name: &Name) -> Result<NamedEnd, ScriptError>
+    pub(crate) fn look_up(&self, name: &Name) -> Option<NamedEnd>
+        ensures { result ≡ (known self.now).names name.now }
+    {
+        self.names.get(name.as_str()).copied()
+    }
+
+    /// What the name names, where it is declared.
+    pub(crate) fn named(&self, name: &Name) -> Result<NamedEnd, ScriptError>
         ensures { IsReadAs ScriptError.OutOfMemory (λ x. x) result
             (named (known self.now) name.now) }
     {
-        match self.names.get(name.as_str()) {
-            Some(named) => Ok(*named),
+        match self.look_up(name) {
+            Some(named) => Ok(named),
             None => Err(ScriptError::UnknownName),
         }
     }
 
-    /// The port of that name.
-    pub(crate) fn port_named(&self, name: &Name) -> Result<NamedEnd, ScriptError>
-        ensures { IsReadAs ScriptError.OutOfMemory (λ x. x) result
-            (port_named (known self.now) name.now) }
+    pub(crate) fn is_port(&self, name: &Name) -> bool
+        ensures { result ≡ is_port (known self.now) name.now }
     {
-        let named = self.named(name)?;
-        match named.kind {
-            NameKind::Port => Ok(named),
-            NameKind::Member => Err(ScriptError::UnknownName),
+        match self.look_up(name) {
+            Some(named) => matches!(named.kind, NameKind::Port),
+            None => false,
         }
     }
 
-    fn holds(&self, agent: AgentId, named: NamedEnd) -> bool
-        ensures { result ≡ (known self.now).holds (holding agent named) }
+    pub(crate) fn is_member(&self, name: &Name) -> bool
+        ensures { result ≡ is_member (known self.now) name.now }
     {
-        self.held.contains(&Holding {
-            agent,
-            number: named.number,
-        })
-    }
-
-    fn held_by(&self, agent: AgentId, named: NamedEnd) -> Result<NamedEnd, ScriptError>
-        ensures { IsReadAs ScriptError.OutOfMemory (λ x. x) result
-            (held_by (known self.now) agent named) }
-    {
-        if self.holds(agent, named) {
-            Ok(named)
-        } else {
-            Err(ScriptError::UnknownName)
+        match self.look_up(name) {
+            Some(named) => matches!(named.kind, NameKind::Member),
+            None => false,
         }
     }
 
-    /// The port or member of that name, which the agent holds.
-    pub(crate) fn held_end(&self, agent: AgentId, name: &Name) -> Result<NamedEnd, ScriptError>
-        ensures { IsReadAs ScriptError.OutOfMemory (λ x. x) result
-            (held_end (known self.now) agent name.now) }
+    /// The agent of that number holds what the name names.
+    pub(crate) fn is_held(&self, agent: u32, name: &Name) -> bool
+        ensures { result ≡ is_held (known self.now) agent name.now }
     {
-        let named = self.named(name)?;
-        self.held_by(agent, named)
-    }
-
-    /// The port of that name, which the agent holds.
-    pub(crate) fn held_port(&self, agent: AgentId, name: &Name) -> Result<NamedEnd, ScriptError>
-        ensures { IsReadAs ScriptError.OutOfMemory (λ x. x) result
-            (held_port (known self.now) agent name.now) }
-    {
-        let named = self.port_named(name)?;
-        self.held_by(agent, named)
-    }
-
-    /// The member of that name, which the agent holds.
-    pub(crate) fn held_member(&self, agent: AgentId, name: &Name) -> Result<NamedEnd, ScriptError>
-        ensures { IsReadAs ScriptError.OutOfMemory (λ x. x) result
-            (held_member (known self.now) agent name.now) }
-    {
-        let named = self.named(name)?;
-        match named.kind {
-            NameKind::Port => Err(ScriptError::UnknownName),
-            NameKind::Member => self.held_by(agent, named),
+        match self.look_up(name) {
+            Some(named) => self.held.contains(&Holding {
+                agent,
+                number: named.number,
+            }),
+            None => false,
         }
     }
 
-    /// The ports of those names.
-    fn ports_named(&self, alloc: Global, names: &NameList) -> Result<Vec<NamedEnd>, ScriptError>
-        ensures { IsReadAs ScriptError.OutOfMemory (λ x. x.items) result
-            (ports_from (known self.now) [] names.now) }
-    {
-        let mut ports = Vec::new(alloc);
-        for name in names.as_slice() {
-            ports.push(self.port_named(name)?)?;
-        }
-        Ok(ports)
-    }
-
-    fn holds_all(&self, agent: AgentId, ports: &[NamedEnd]) -> bool
-        ensures { result ≡ list_all (λ x. (known self.now).holds (holding agent x)) ports.now }
-    {
-        ports.iter().all(|port| self.holds(agent, *port))
-    }
-
-    /// The ports that the agent transfers by a post, at the source port if it is one.
-    #[tactic(auto, unfolding(crate::specs::Context::ports_of))]
-    pub(crate) fn ports_of(
+    /// What the names name.
+    pub(crate) fn ends_named(
         &self,
         alloc: Global,
-        agent: AgentId,
-        source: Option<&Name>,
         names: &NameList,
     ) -> Result<Vec<NamedEnd>, ScriptError>
         ensures says { IsReadAs ScriptError.OutOfMemory (λ x. x.items) result
-            (ports_of (known self.now) agent (option_map (λ n. n.now) source.entry) names.now) }
-        ensures room { OnOk result (line_count (known self.now).script < MAX_SCRIPT_LINES) }
-        ensures few { IfOk result (λ x. length x.items ≤ MAX_PORTS) }
+            (ends_from (known self.now) [] names.now) }
+        ensures each { IfOk result (λ x. length x.items ≡ length names.now) }
     {
-        let ports = self.ports_named(alloc, names)?;
-        self.may_transfer(agent, source, names, ports.as_slice())?;
-        self.has_room()?;
-        require(ports.len() <= MAX_PORTS, ScriptError::TooLarge)?;
-        Ok(ports)
-    }
-
-    /// Whether the agent may transfer the ports, which have those names.
-    #[tactic(auto, unfolding(crate::specs::Context::may_transfer))]
-    fn may_transfer(
-        &self,
-        agent: AgentId,
-        source: Option<&Name>,
-        names: &NameList,
-        ports: &[NamedEnd],
-    ) -> Result<(), ScriptError>
-        ensures { IsReadAs ScriptError.OutOfMemory (λ _. tt) result
-            (may_transfer (known self.now) agent (option_map (λ n. n.now) source.entry) names.now
-            ports.now) }
-    {
-        require(
-            !is_listed(source, names.as_slice()),
-            ScriptError::DataClone(DataCloneCause::Source),
-        )?;
-        require(
-            !has_twice(names.as_slice()),
-            ScriptError::DataClone(DataCloneCause::Twice),
-        )?;
-        require(
-            self.holds_all(agent, ports),
-            ScriptError::DataClone(DataCloneCause::Detached),
-        )
+        let mut ends = Vec::new(alloc);
+        for name in names.as_slice() {
+            ends.push(self.named(name)?)?;
+        }
+        Ok(ends)
     }
 
     /// The number of the port or member as an end.
@@ -380,10 +303,7 @@ impl ScriptReader {
         ensures { IsReadAs ScriptError.OutOfMemory (λ _. known self.new) result
             (Ok (with_holds (known self.old) (taking (holding agent named)))) }
     {
-        self.held.insert(Holding {
-            agent,
-            number: named.number,
-        })?;
+        self.held.insert(holding(agent, named))?;
         Ok(())
     }
 
@@ -391,10 +311,7 @@ impl ScriptReader {
     pub(crate) fn give(&mut self, agent: AgentId, named: NamedEnd)
         ensures { known self.new ≡ with_holds (known self.old) (giving (holding agent named)) }
     {
-        self.held.remove(&Holding {
-            agent,
-            number: named.number,
-        });
+        self.held.remove(&holding(agent, named));
     }
 
     /// The agent doesn't hold the ports any more.

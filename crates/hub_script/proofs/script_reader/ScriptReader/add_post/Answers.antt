@@ -10,13 +10,13 @@ use Rattle.hub_script.proofs.script_reader.ScriptReader.add_post.Goals as goal
 pub returns : goal.returns
 returns c =
     let k = known c.args.self.now in
-    let a = c.in_ok-agent.agent in
+    let a = c.args.agent in
     let body = c.in_ok-body.body in
     let ports = c.in_ok-ports.ports.items in
     let port = end_of k.script c.in_ok-source.source in
     let listed : map (end_of k.script) c.as_slice.result.now ≡ c.in_ok-transfer.transfer = cc (c.in_ok-transfer.ensures) in
     let acted : acting k a (action.Post port body c.in_ok-transfer.transfer) ≡ known c.act.new.self =
     ap (λ (e : EndId). acting k a (action.Post e body c.in_ok-transfer.transfer)) (sym c.end_of-port.ensures) ∙ cc (c.in_ok-act.ensures) in
-    posted k c.args.at c.args.port.now c.args.body c.args.transfer.now a c.in_ok-source.source ports body c.in_ok-agent.ensures c.in_ok-source.ensures c.in_ok-ports.ensures.says c.in_ok-body.ensures
+    posted k c.args.port.now c.args.body c.args.transfer.now a c.in_ok-source.source ports body c.in_ok-source.ensures c.in_ok-ports.ensures.says c.in_ok-body.ensures
     ∙ ap (λ (x : Known). Ok x) (transferred k (known c.act.new.self) (known c.give_all.new.self) a (λ ends. action.Post port body ends) ports c.as_slice.result.now c.as_slice-2.result.now c.in_ok-transfer.transfer
     c.as_slice.ensures.value c.as_slice-2.ensures.value listed acted c.give_all.ensures)

@@ -1,0 +1,287 @@
+//! What a form adds to what is known, once it has passed its tests.
+
+ghost use Rattle.std.specs.Prelude.{◌≡◌, ◌<◌, ◌≤◌, length, true};
+ghost use Rattle.hub_envelope.specs.declared.limits.TheConstants.{MAX_AGENTS, MAX_PORTS};
+ghost use Rattle.hub_envelope.specs.declared.limits.TheConstants.{MAX_SCRIPT_LINES};
+ghost use Rattle.hub_text.specs.Reading.{IsReadAs};
+ghost use Rattle.hub_script.specs.Contents.{agents, line_count};
+ghost use Rattle.hub_script.specs.Context.{adding, adding_action, adding_agent, adding_channel};
+ghost use Rattle.hub_script.specs.Context.{adding_member, after_form, casting, is_within};
+ghost use Rattle.hub_script.specs.Context.{posting, sending, start_of, value_or};
+ghost use Rattle.hub_script.specs.Uses.{transferred};
+
+use crate::action::ActionKind;
+use crate::agent_kind::AgentKind;
+use crate::declaration::{DeclaredAgent, DeclaredChannel, DeclaredMember};
+use crate::form::{ActionForm, Form};
+use crate::limits::QUEUE;
+use crate::name::Name;
+use crate::name_list::NameList;
+use crate::script_error::ScriptError;
+use crate::script_reader::{ScriptReader, queue_of};
+use hub_envelope::{AgentId, Body, BodyError, EndId};
+use hub_origin::{Origin, OriginError};
+use std::alloc::Global;
+
+/// The body that was read. What was refused as too large was refused before.
+fn body_or(answer: Result<Body, BodyError>) -> Result<Body, ScriptError>
+    ensures { IsReadAs ScriptError.OutOfMemory (λ x. x) result (value_or answer) }
+{
+    match answer {
+        Ok(body) => Ok(body),
+        Err(_) => Err(ScriptError::Syntax),
+    }
+}
+
+impl ScriptReader {
+    ghost use Rattle.hub_script.specs.Reader.{known};
+
+    /// Adds what a script line of that form says, or tells the first test that it fails. After an
+    /// error nothing is known of the reader.
+    #[tactic(auto, unfolding(crate::specs::Context::after_form))]
+    pub(crate) fn add_form(&mut self, alloc: Global, form: Form) -> Result<(), ScriptError>
+        ensures { IsReadAs ScriptError.OutOfMemory (λ _. known self.new) result
+            (after_form (known self.old) form) }
+    {
+        self.test(&form)?;
+        self.add(alloc, form)
+    }
+
+    fn add(&mut self, alloc: Global, form: Form) -> Result<(), ScriptError>
+        requires room { line_count (known self.old).script < MAX_SCRIPT_LINES }
+        requires within { is_within (known self.old) form ≡ true }
+        ensures { IsReadAs ScriptError.OutOfMemory (λ _. known self.new) result
+            (adding (known self.old) form) }
+    {
+        match form {
+            Form::Agent { kind, origin } => self.add_agent(kind, origin),
+            Form::Channel { first, second, at } => self.add_channel(alloc, first, second, at),
+            Form::Member { name, at, on } => self.add_member(alloc, name, at, on),
+            Form::Action { at, action } => {
+                let agent = self.agent_of(at)?;
+                self.add_action(alloc, agent, action)
+            }
+        }
+    }
+
+    fn add_agent(
+        &mut self,
+        kind: AgentKind,
+        origin: Result<Origin, OriginError>,
+    ) -> Result<(), ScriptError>
+        requires room { line_count (known self.old).script < MAX_SCRIPT_LINES }
+        requires seat { length (agents (known self.old).script) < MAX_AGENTS }
+        ensures { IsReadAs ScriptError.OutOfMemory (λ _. known self.new) result
+            (adding_agent (known self.old) kind origin) }
+    {
+        let Ok(origin) = origin else {
+            return Err(ScriptError::Syntax);
+        };
+        self.push_agent(DeclaredAgent { kind, origin })
+    }
+
+    #[tactic(auto, unfolding(crate::specs::Context::adding_channel))]
+    fn add_channel(
+        &mut self,
+        alloc: Global,
+        first: Name,
+        second: Name,
+        at: u32,
+    ) -> Result<(), ScriptError>
+        requires { line_count (known self.old).script < MAX_SCRIPT_LINES }
+        ensures { IsReadAs ScriptError.OutOfMemory (λ _. known self.new) result
+            (adding_channel (known self.old) first second at) }
+    {
+        let at = self.agent_of(at)?;
+        let (port, other) = self.next_ports();
+        self.declare(alloc, &first, port, at)?;
+        self.declare(alloc, &second, other, at)?;
+        self.push_channel(DeclaredChannel { at, first, second })
+    }
+
+    #[tactic(auto, unfolding(crate::specs::Context::adding_member))]
+    fn add_member(
+        &mut self,
+        alloc: Global,
+        name: Name,
+        at: u32,
+        on: Name,
+    ) -> Result<(), ScriptError>
+        requires { line_count (known self.old).script < MAX_SCRIPT_LINES }
+        ensures { IsReadAs ScriptError.OutOfMemory (λ _. known self.new) result
+            (adding_member (known self.old) name at on) }
+    {
+        let at = self.agent_of(at)?;
+        let member = self.next_member();
+        self.declare(alloc, &name, member, at)?;
+        self.push_member(DeclaredMember { at, name, on })
+    }
+
+    fn add_action(
+        &mut self,
+        alloc: Global,
+        agent: AgentId,
+        action: ActionForm,
+    ) -> Result<(), ScriptError>
+        requires room { line_count (known self.old).script < MAX_SCRIPT_LINES }
+        requires few { length (transferred action) ≤ MAX_PORTS }
+        ensures { IsReadAs ScriptError.OutOfMemory (λ _. known self.new) result
+            (adding_action (known self.old) agent action) }
+    {
+        match action {
+            ActionForm::Post {
+                port,
+                body,
+                transfer,
+            } => self.add_post(alloc, agent, &port, body, &transfer),
+            ActionForm::Send { to, body, transfer } => {
+                self.add_send(alloc, agent, to, body, &transfer)
+            }
+            ActionForm::Cast { member, body } => self.add_cast(agent, &member, body),
+            ActionForm::Start { name } => self.add_start(agent, &name),
+            ActionForm::Loaded => {
+                let queue = queue_of(agent);
+                self.act(agent, ActionKind::Loaded { queue })
+            }
+            ActionForm::Close { name } => self.add_close(agent, &name),
+            ActionForm::Wait { messages } => self.act(agent, ActionKind::Wait { messages }),
+            ActionForm::Receive { port } => self.add_receive(agent, &port),
+            ActionForm::Order { to } => {
+                let to = self.agent_of(to)?;
+                self.act(agent, ActionKind::Order { to })
+            }
+            ActionForm::Event { event } => self.act(agent, ActionKind::Event { event }),
+            ActionForm::Hand { to } => {
+                let to = self.agent_of(to)?;
+                self.act(agent, ActionKind::Hand { to })?;
+                self.hand(agent)
+            }
+            ActionForm::Fetch { from } => {
+                let queue = queue_of(self.agent_of(from)?);
+                self.act(agent, ActionKind::Fetch { queue })
+            }
+        }
+    }
+
+    #[tactic(auto, unfolding(crate::specs::Context::posting))]
+    fn add_post(
+        &mut self,
+        alloc: Global,
+        agent: AgentId,
+        port: &Name,
+        body: Result<Body, BodyError>,
+        transfer: &NameList,
+    ) -> Result<(), ScriptError>
+        requires room { line_count (known self.old).script < MAX_SCRIPT_LINES }
+        requires few { length transfer.now ≤ MAX_PORTS }
+        ensures { IsReadAs ScriptError.OutOfMemory (λ _. known self.new) result
+            (posting (known self.old) agent port.now body transfer.now) }
+    {
+        let source = self.named(port)?;
+        let ports = self.ends_named(alloc, transfer)?;
+        let body = body_or(body)?;
+        let transfer = self.ends_of(alloc, ports.as_slice())?;
+        let port = self.end_of(source);
+        self.act(
+            agent,
+            ActionKind::Post {
+                port,
+                body,
+                transfer,
+            },
+        )?;
+        self.give_all(agent, ports.as_slice());
+        Ok(())
+    }
+
+    #[tactic(auto, unfolding(crate::specs::Context::sending))]
+    fn add_send(
+        &mut self,
+        alloc: Global,
+        agent: AgentId,
+        to: u32,
+        body: Result<Body, BodyError>,
+        transfer: &NameList,
+    ) -> Result<(), ScriptError>
+        requires room { line_count (known self.old).script < MAX_SCRIPT_LINES }
+        requires few { length transfer.now ≤ MAX_PORTS }
+        ensures { IsReadAs ScriptError.OutOfMemory (λ _. known self.new) result
+            (sending (known self.old) agent to body transfer.now) }
+    {
+        let queue = queue_of(self.agent_of(to)?);
+        let ports = self.ends_named(alloc, transfer)?;
+        let body = body_or(body)?;
+        let transfer = self.ends_of(alloc, ports.as_slice())?;
+        self.act(
+            agent,
+            ActionKind::Send {
+                queue,
+                body,
+                transfer,
+            },
+        )?;
+        self.give_all(agent, ports.as_slice());
+        Ok(())
+    }
+
+    #[tactic(auto, unfolding(crate::specs::Context::casting))]
+    fn add_cast(
+        &mut self,
+        agent: AgentId,
+        member: &Name,
+        body: Result<Body, BodyError>,
+    ) -> Result<(), ScriptError>
+        requires { line_count (known self.old).script < MAX_SCRIPT_LINES }
+        ensures { IsReadAs ScriptError.OutOfMemory (λ _. known self.new) result
+            (casting (known self.old) agent member.now body) }
+    {
+        let named = self.named(member)?;
+        let body = body_or(body)?;
+        let member = self.end_of(named);
+        self.act(agent, ActionKind::Cast { member, body })
+    }
+
+    fn add_start(&mut self, agent: AgentId, name: &Name) -> Result<(), ScriptError>
+        requires { line_count (known self.old).script < MAX_SCRIPT_LINES }
+        ensures { IsReadAs ScriptError.OutOfMemory (λ _. known self.new) result
+            (adding_action (known self.old) agent (ActionForm.Start name.now)) }
+    {
+        let end = self.start_of(agent, name)?;
+        self.act(agent, ActionKind::Start { end })
+    }
+
+    /// What the agent starts: its own queue, or a port.
+    fn start_of(&self, agent: AgentId, name: &Name) -> Result<EndId, ScriptError>
+        ensures { IsReadAs ScriptError.OutOfMemory (λ x. x) result
+            (start_of (known self.now) agent name.now) }
+    {
+        if name.as_str() == QUEUE {
+            Ok(queue_of(agent))
+        } else {
+            Ok(self.end_of(self.named(name)?))
+        }
+    }
+
+    fn add_close(&mut self, agent: AgentId, name: &Name) -> Result<(), ScriptError>
+        requires { line_count (known self.old).script < MAX_SCRIPT_LINES }
+        ensures { IsReadAs ScriptError.OutOfMemory (λ _. known self.new) result
+            (adding_action (known self.old) agent (ActionForm.Close name.now)) }
+    {
+        let named = self.named(name)?;
+        let end = self.end_of(named);
+        self.act(agent, ActionKind::Close { end })?;
+        self.give(agent, named);
+        Ok(())
+    }
+
+    fn add_receive(&mut self, agent: AgentId, name: &Name) -> Result<(), ScriptError>
+        requires { line_count (known self.old).script < MAX_SCRIPT_LINES }
+        ensures { IsReadAs ScriptError.OutOfMemory (λ _. known self.new) result
+            (adding_action (known self.old) agent (ActionForm.Receive name.now)) }
+    {
+        let named = self.named(name)?;
+        let port = self.end_of(named);
+        self.act(agent, ActionKind::Receive { port })?;
+        self.take(agent, named)
+    }
+}

@@ -1,0 +1,263 @@
+//! The tests of a form behind what is known. They stand in the order in which they are made, so that
+//! the first that fails is told.
+
+ghost use Rattle.std.specs.Prelude.{◌≡◌, ◌<◌, true, OnOk};
+ghost use Rattle.std.specs.List.{list_all};
+ghost use Rattle.hub_envelope.specs.declared.limits.TheConstants.{MAX_SCRIPT_LINES};
+ghost use Rattle.hub_text.specs.Reading.{IsReadAs};
+ghost use Rattle.hub_script.specs.Contents.{line_count};
+ghost use Rattle.hub_script.specs.Context.{are_known, has_agent, has_twice, holds_list};
+ghost use Rattle.hub_script.specs.Context.{is_held, is_member, is_placed, is_port, is_small};
+ghost use Rattle.hub_script.specs.Context.{is_timely, is_within, lists_source, may_start_queue};
+ghost use Rattle.hub_script.specs.Context.{require, run, tests};
+ghost use Rattle.hub_script.specs.Uses.{agents_named, members_named, names_used, others_named};
+ghost use Rattle.hub_script.specs.Uses.{ports_named, transfer_of};
+
+use crate::agent_kind::AgentKind;
+use crate::form::{ActionForm, Form};
+use crate::limits::QUEUE;
+use crate::lists::{has_twice, stands_in};
+use crate::name::Name;
+use crate::name_list::NameList;
+use crate::script_error::{DataCloneCause, ScriptError};
+use crate::script_reader::ScriptReader;
+use hub_envelope::{Body, BodyError, MAX_PORTS};
+
+/// An error unless the condition holds.
+fn require(condition: bool, error: ScriptError) -> Result<(), ScriptError>
+    ensures { IsReadAs ScriptError.OutOfMemory (λ _. tt) result (require error condition) }
+{
+    if condition { Ok(()) } else { Err(error) }
+}
+
+/// A body that isn't nested too deep or too long.
+fn is_small(body: &Result<Body, BodyError>) -> bool
+    ensures { result ≡ is_small body.now }
+{
+    !matches!(body, Err(BodyError::TooDeep | BodyError::TooLong))
+}
+
+impl Form {
+    /// The port that posts is in its own list.
+    fn lists_source(&self) -> bool
+        ensures { result ≡ lists_source self.now }
+    {
+        match self {
+            Form::Action {
+                action: ActionForm::Post { port, transfer, .. },
+                ..
+            } => { stands_in(port, transfer.as_slice()) }
+            _ => false,
+        }
+    }
+
+    /// A name stands twice in the list of ports.
+    fn lists_twice(&self) -> bool
+        ensures { result ≡ has_twice (transfer_of self.now) }
+    {
+        match self {
+            Form::Action {
+                action: ActionForm::Post { transfer, .. } | ActionForm::Send { transfer, .. },
+                ..
+            } => has_twice(transfer.as_slice()),
+            _ => false,
+        }
+    }
+}
+
+impl ScriptReader {
+    ghost use Rattle.hub_script.specs.Reader.{known};
+
+    /// Makes the tests of the form. What is left of its body or URL is tested when it is added.
+    pub(crate) fn test(&self, form: &Form) -> Result<(), ScriptError>
+        ensures says { IsReadAs ScriptError.OutOfMemory (λ _. tt) result
+            (run (tests (known self.now) form.now)) }
+        ensures room { OnOk result (line_count (known self.now).script < MAX_SCRIPT_LINES) }
+        ensures within { OnOk result (is_within (known self.now) form.now ≡ true) }
+    {
+        require(self.is_placed(form), ScriptError::Syntax)?;
+        require(self.are_known(form), ScriptError::UnknownName)?;
+        require(
+            !form.lists_source(),
+            ScriptError::DataClone(DataCloneCause::Source),
+        )?;
+        require(
+            !form.lists_twice(),
+            ScriptError::DataClone(DataCloneCause::Twice),
+        )?;
+        require(
+            self.holds_list(form),
+            ScriptError::DataClone(DataCloneCause::Detached),
+        )?;
+        require(self.has_room(), ScriptError::TooLarge)?;
+        require(self.is_within(form), ScriptError::TooLarge)
+    }
+
+    /// Declarations stand before all actions, and declare different names that are free. An action
+    /// fits what its agent is and has done.
+    fn is_placed(&self, form: &Form) -> bool
+        ensures { result ≡ is_placed (known self.now) form.now }
+    {
+        match form {
+            Form::Agent { .. } => self.declares(),
+            Form::Channel { first, second, .. } => {
+                self.declares()
+                    && self.is_free(first)
+                    && self.is_free(second)
+                    && first.as_str() != second.as_str()
+            }
+            Form::Member { name, .. } => self.declares() && self.is_free(name),
+            Form::Action { at, action } => self.is_timely(*at, action),
+        }
+    }
+
+    fn is_timely(&self, at: u32, action: &ActionForm) -> bool
+        ensures { result ≡ is_timely (known self.now) at action.now }
+    {
+        match action {
+            ActionForm::Start { name } => name.as_str() != QUEUE || self.may_start_queue(at),
+            ActionForm::Loaded => self.may_start_queue(at),
+            ActionForm::Event { .. } => !self.is_agent(AgentKind::Window, at),
+            ActionForm::Hand { to } => at != *to && !self.has_handed(at),
+            ActionForm::Fetch { from } => at != *from,
+            _ => true,
+        }
+    }
+
+    /// A worker's queue is started by itself, and one that was handed on is another agent's.
+    fn may_start_queue(&self, at: u32) -> bool
+        ensures { result ≡ may_start_queue (known self.now) at }
+    {
+        !(self.is_agent(AgentKind::Worker, at) || self.has_handed(at))
+    }
+
+    /// Agents and names are declared, are of the kind that is meant, and are held where they are
+    /// used.
+    fn are_known(&self, form: &Form) -> bool
+        ensures { result ≡ are_known (known self.now) form.now }
+    {
+        self.are_agents(form)
+            && self.are_ports(form)
+            && self.are_members(form)
+            && self.are_held(form)
+    }
+
+    #[tactic(auto, using(crate::proofs::Tests::and_true))]
+    fn are_agents(&self, form: &Form) -> bool
+        ensures { result ≡ list_all (has_agent (known self.now)) (agents_named form.now) }
+    {
+        match form {
+            Form::Agent { .. } => true,
+            Form::Channel { at, .. } | Form::Member { at, .. } => self.has_agent(*at),
+            Form::Action { at, action } => self.has_agent(*at) && self.are_others(action),
+        }
+    }
+
+    #[tactic(auto, using(crate::proofs::Tests::and_true))]
+    fn are_others(&self, action: &ActionForm) -> bool
+        ensures { result ≡ list_all (has_agent (known self.now)) (others_named action.now) }
+    {
+        match action {
+            ActionForm::Send { to, .. } | ActionForm::Order { to } | ActionForm::Hand { to } => {
+                self.has_agent(*to)
+            }
+            ActionForm::Fetch { from } => self.has_agent(*from),
+            _ => true,
+        }
+    }
+
+    #[tactic(auto, using(crate::proofs::Tests::and_true))]
+    fn are_ports(&self, form: &Form) -> bool
+        ensures { result ≡ list_all (is_port (known self.now)) (ports_named form.now) }
+    {
+        let Form::Action { action, .. } = form else {
+            return true;
+        };
+        match action {
+            ActionForm::Post { port, transfer, .. } => {
+                self.is_port(port) && self.are_all_ports(transfer)
+            }
+            ActionForm::Send { transfer, .. } => self.are_all_ports(transfer),
+            ActionForm::Start { name } => name.as_str() == QUEUE || self.is_port(name),
+            ActionForm::Receive { port } => self.is_port(port),
+            _ => true,
+        }
+    }
+
+    fn are_all_ports(&self, names: &NameList) -> bool
+        ensures { result ≡ list_all (is_port (known self.now)) names.now }
+    {
+        names.as_slice().iter().all(|name| self.is_port(name))
+    }
+
+    #[tactic(auto, using(crate::proofs::Tests::and_true))]
+    fn are_members(&self, form: &Form) -> bool
+        ensures { result ≡ list_all (is_member (known self.now)) (members_named form.now) }
+    {
+        match form {
+            Form::Action {
+                action: ActionForm::Cast { member, .. },
+                ..
+            } => self.is_member(member),
+            _ => true,
+        }
+    }
+
+    #[tactic(auto, using(crate::proofs::Tests::and_true))]
+    fn are_held(&self, form: &Form) -> bool
+        ensures { result
+            ≡ list_all (λ used. is_held (known self.now) used.0 used.1) (names_used form.now) }
+    {
+        let Form::Action { at, action } = form else {
+            return true;
+        };
+        match action {
+            ActionForm::Post { port, .. } => self.is_held(*at, port),
+            ActionForm::Cast { member, .. } => self.is_held(*at, member),
+            ActionForm::Start { name } => name.as_str() == QUEUE || self.is_held(*at, name),
+            ActionForm::Close { name } => self.is_held(*at, name),
+            _ => true,
+        }
+    }
+
+    /// The agent holds the ports that it transfers.
+    fn holds_list(&self, form: &Form) -> bool
+        ensures { result ≡ holds_list (known self.now) form.now }
+    {
+        match form {
+            Form::Action {
+                at,
+                action: ActionForm::Post { transfer, .. } | ActionForm::Send { transfer, .. },
+            } => self.holds_all(*at, transfer),
+            _ => true,
+        }
+    }
+
+    fn holds_all(&self, agent: u32, names: &NameList) -> bool
+        ensures { result ≡ list_all (is_held (known self.now) agent) names.now }
+    {
+        names
+            .as_slice()
+            .iter()
+            .all(|name| self.is_held(agent, name))
+    }
+
+    /// Agents, listed ports and bodies are within their limits.
+    fn is_within(&self, form: &Form) -> bool
+        ensures { result ≡ is_within (known self.now) form.now }
+    {
+        match form {
+            Form::Agent { .. } => self.has_seat(),
+            Form::Action {
+                action: ActionForm::Post { body, transfer, .. }
+                | ActionForm::Send { body, transfer, .. },
+                ..
+            } => transfer.as_slice().len() <= MAX_PORTS && is_small(body),
+            Form::Action {
+                action: ActionForm::Cast { body, .. },
+                ..
+            } => is_small(body),
+            _ => true,
+        }
+    }
+}
