@@ -1,5 +1,5 @@
 -- Reading logs line by line, as a loop does.
-use Rattle.std.proofs.Common.{◌≡◌, ℕ, ◌+◌, ◌<◌, List, [], ◌∷◌, length, true, false, cond, bytes_eq, Option, Some, None, Ok, Err, ◌⊎◌, inl, inr, refl, sym, ap, subst, ◌∙◌, arith}
+use Rattle.std.proofs.Common.{◌≡◌, ℕ, ◌+◌, ◌<◌, List, [], ◌∷◌, ◌++◌, length, append_assoc, length-append, true, false, cond, bytes_eq, Option, Some, None, Ok, Err, ◌⊎◌, inl, inr, refl, sym, ap, subst, ◌∙◌, arith}
 use Rattle.hub_trace.specs.declared.log_version.LogVersion.{LogVersion}
 use Rattle.hub_trace.specs.LogVersion.{header_of, version_of}
 use Rattle.hub_trace.specs.declared.read.TheConstants.{LOGS_END}
@@ -9,12 +9,36 @@ use Rattle.hub_trace.specs.Accepted.{AgentLog}
 use Rattle.hub_text.specs.TextLines.{text_lines_of}
 use Rattle.hub_trace.specs.LogLine.{LogRead}
 use Rattle.hub_trace.specs.Read.{ComesAt, HasHeader, HasHeaderOf, HasOtherHeader, after_line, below_header, line_added, logs_below, logs_from, logs_of}
+use Rattle.hub_trace.specs.ReadMemory.{TakesMemory, TakesMemoryAt}
 use Rattle.hub_trace.proofs.BadLines.{bad_line}
 use Rattle.hub_trace.proofs.Versions.{header_found}
 
 -- what is read of the rest, after the logs so far and a line of that number, is what is read of all
 abbrev pub IsReadSoFar : LogVersion → List ℕ → ℕ → List AgentLog → List ℕ → Type 0
 IsReadSoFar v bytes n logs rest = logs_from v (n + 1) logs (text_lines_of rest) ≡ logs_of bytes
+
+-- the text lines before the rest are gone, as many as were counted
+abbrev pub HasGone : List ℕ → ℕ → List ℕ → Type 0
+HasGone bytes n rest = (before : List (List ℕ)) × (text_lines_of bytes ≡ before ++ text_lines_of rest) × (n ≡ length before)
+
+pub one_gone : (bytes : List ℕ) (n : ℕ) (rest line after : List ℕ) → HasGone bytes n rest → text_lines_of rest ≡ line ∷ text_lines_of after → HasGone bytes (n + 1) after
+one_gone bytes n rest line after gone cut = (
+  gone.0 ++ line ∷ [],
+  gone.1 ∙ ap (λ lines. gone.0 ++ lines) cut ∙ sym (append_assoc gone.0 (line ∷ []) (text_lines_of after)),
+  (let count : n ≡ length gone.0 = gone.2 in simp length-append (omega arith)),
+)
+
+pub takes_at : (v : LogVersion) (bytes : List ℕ) (n : ℕ) (rest line after : List ℕ) → HasHeaderOf v bytes → HasGone bytes n rest → text_lines_of rest ≡ line ∷ text_lines_of after → TakesMemory v line → TakesMemoryAt bytes (n + 1)
+takes_at v bytes n rest line after header gone cut takes = record {
+  version = v;
+  header = header;
+  before = gone.0;
+  line = line;
+  behind = text_lines_of after;
+  lines = gone.1 ∙ ap (λ lines. gone.0 ++ lines) cut;
+  number = ap (λ k. k + 1) gone.2;
+  takes = takes;
+}
 
 pub other_header : (bytes header rest : List ℕ) → text_lines_of bytes ≡ header ∷ text_lines_of rest → version_of header ≡ None → logs_of bytes ≡ Err (1, error.BadHeader)
 other_header bytes header rest cut none =

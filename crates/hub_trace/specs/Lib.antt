@@ -12,5 +12,6 @@ pub mod PortList
 pub mod Closings
 pub mod LogLine
 pub mod Read
+pub mod ReadMemory
 pub mod Limits
 pub mod Deliveries

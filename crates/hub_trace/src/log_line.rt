@@ -1,8 +1,9 @@
 //! The reader of one log line.
 
-ghost use Rattle.std.specs.Prelude.{◌≤◌, length, IfOk};
+ghost use Rattle.std.specs.Prelude.{◌≡◌, ◌≢◌, ◌≤◌, ◌&&◌, length, true, IfErr, IfOk, Some};
 ghost use Rattle.hub_envelope.specs.BodyText.{IsBodyText};
 ghost use Rattle.hub_text.specs.Reading.{IsReadAs};
+ghost use Rattle.hub_text.specs.Word.{cut};
 ghost use Rattle.hub_trace.specs.LogVersion.{max_body, max_line};
 ghost use Rattle.hub_trace.specs.Limits.{IsContentWithin, IsDeliveryWithin, IsLabelWithin};
 ghost use Rattle.hub_trace.specs.Limits.{IsLogLineWithin, IsMessageWithin, IsPortList};
@@ -10,6 +11,8 @@ ghost use Rattle.hub_trace.specs.LogLine.{adoption_in, agent_in, body_in, conten
 ghost use Rattle.hub_trace.specs.LogLine.{end_in, epoch_in, label_in, line_in, log_line_of};
 ghost use Rattle.hub_trace.specs.LogLine.{log_line_with, message_with, number_in, parts_in};
 ghost use Rattle.hub_trace.specs.LogLine.{ports_in, text_in};
+ghost use Rattle.hub_trace.specs.ReadMemory.{delivers_message, has_message, is_delivery};
+ghost use Rattle.hub_trace.specs.ReadMemory.{reads_memory};
 
 use crate::content::Content;
 use crate::label::Label;
@@ -41,6 +44,8 @@ pub(crate) fn read_log_line(
 ) -> Result<LogLine, LogError>
     ensures says { IsReadAs LogError.OutOfMemory (λ x. x) result (log_line_of version bytes.now) }
     ensures within { IfOk result (λ l. IsLogLineWithin version l) }
+    ensures memory { IfErr result (λ e. e ≡ LogError.OutOfMemory
+        → reads_memory bytes.now ≡ true) }
 {
     let Ok(text) = str::from_utf8(bytes) else {
         return Err(LogError::BadLine);
@@ -52,6 +57,8 @@ pub(crate) fn read_log_line(
 fn text_in(alloc: Global, version: LogVersion, text: &str) -> Result<LogLine, LogError>
     ensures says { IsReadAs LogError.OutOfMemory (λ x. x) result (text_in version text.now) }
     ensures within { IfOk result (λ l. IsLogLineWithin version l) }
+    ensures memory { IfErr result (λ e. e ≡ LogError.OutOfMemory
+        → reads_memory text.now ≡ true) }
 {
     let (name, rest) = first_word(text)?;
     log_line_with(alloc, version, name, rest)
@@ -68,6 +75,8 @@ fn log_line_with(
     ensures says { IsReadAs LogError.OutOfMemory (λ x. x) result
         (log_line_with version name.now rest.now) }
     ensures within { IfOk result (λ l. IsLogLineWithin version l) }
+    ensures memory { IfErr result (λ e. e ≡ LogError.OutOfMemory
+        → (is_delivery name.now && delivers_message rest.now) ≡ true) }
 {
     Ok(match name {
         "agent" => LogLine::Agent(agent_in(rest)?),
@@ -88,6 +97,7 @@ fn adoption_in(text: &str) -> Result<(EndId, u32), LogError>
     ensures says { IsReadAs LogError.OutOfMemory (λ x. x) result (adoption_in text.now) }
     ensures end { IfOk result (λ adoption. adoption.0.0 ≤ MAX_END) }
     ensures epoch { IfOk result (λ adoption. adoption.1 ≤ MAX_EPOCH) }
+    ensures memory { IfErr result (λ e. e ≢ LogError.OutOfMemory) }
 {
     let (end, epoch) = first_word(text)?;
     let end = end_in(end)?;
@@ -100,6 +110,8 @@ fn adoption_in(text: &str) -> Result<(EndId, u32), LogError>
 fn delivery_in(alloc: Global, version: LogVersion, text: &str) -> Result<Delivery, LogError>
     ensures says { IsReadAs LogError.OutOfMemory (λ x. x) result (delivery_in version text.now) }
     ensures within { IfOk result (λ d. IsDeliveryWithin version d) }
+    ensures memory { IfErr result (λ e. e ≡ LogError.OutOfMemory
+        → delivers_message text.now ≡ true) }
 {
     let (end, rest) = first_word(text)?;
     let (line, rest) = first_word(rest)?;
@@ -115,6 +127,7 @@ fn label_in(version: LogVersion, end: &str, line: &str, name: &str) -> Result<La
     ensures says { IsReadAs LogError.OutOfMemory (λ x. x) result
         (label_in version end.now line.now name.now) }
     ensures within { IfOk result (λ l. IsLabelWithin version l) }
+    ensures memory { IfErr result (λ e. e ≢ LogError.OutOfMemory) }
 {
     let (epoch, number) = name_parts(name)?;
     Ok(Label {
@@ -130,6 +143,8 @@ fn label_in(version: LogVersion, end: &str, line: &str, name: &str) -> Result<La
 fn content_in(alloc: Global, version: LogVersion, text: &str) -> Result<Content, LogError>
     ensures says { IsReadAs LogError.OutOfMemory (λ x. x) result (content_in version text.now) }
     ensures within { IfOk result (λ c. IsContentWithin version c) }
+    ensures memory { IfErr result (λ e. e ≡ LogError.OutOfMemory
+        → has_message text.now ≡ true) }
 {
     match next_word(text) {
         Some((list, body)) => {
@@ -159,8 +174,10 @@ fn message_with(
 
 /// The text up to the first space, and what comes after that.
 fn first_word(text: &str) -> Result<(&str, &str), LogError>
-    ensures { IsReadAs LogError.OutOfMemory (λ x. (x.0.now, x.1.now)) result
+    ensures says { IsReadAs LogError.OutOfMemory (λ x. (x.0.now, x.1.now)) result
         (parts_in 32 text.now) }
+    ensures parts { IfOk result (λ x. cut 32 text.now ≡ Some (x.0.now, x.1.now)) }
+    ensures memory { IfErr result (λ e. e ≢ LogError.OutOfMemory) }
 {
     match next_word(text) {
         Some(parts) => Ok(parts),
@@ -170,8 +187,9 @@ fn first_word(text: &str) -> Result<(&str, &str), LogError>
 
 /// The parts of `EP:N`.
 fn name_parts(name: &str) -> Result<(&str, &str), LogError>
-    ensures { IsReadAs LogError.OutOfMemory (λ x. (x.0.now, x.1.now)) result
+    ensures says { IsReadAs LogError.OutOfMemory (λ x. (x.0.now, x.1.now)) result
         (parts_in 58 name.now) }
+    ensures memory { IfErr result (λ e. e ≢ LogError.OutOfMemory) }
 {
     match cut_at(name, b':') {
         Some(parts) => Ok(parts),
@@ -182,6 +200,7 @@ fn name_parts(name: &str) -> Result<(&str, &str), LogError>
 fn number_in(word: &str, max: u64) -> Result<u64, LogError>
     ensures says { IsReadAs LogError.OutOfMemory (λ x. x) result (number_in max word.now) }
     ensures within { IfOk result (λ n. n ≤ max) }
+    ensures memory { IfErr result (λ e. e ≢ LogError.OutOfMemory) }
 {
     match number_of(word, max) {
         Some(number) => Ok(number),
@@ -192,6 +211,7 @@ fn number_in(word: &str, max: u64) -> Result<u64, LogError>
 fn agent_in(word: &str) -> Result<AgentId, LogError>
     ensures says { IsReadAs LogError.OutOfMemory (λ x. x) result (agent_in word.now) }
     ensures within { IfOk result (λ a. a.0 ≤ MAX_AGENT) }
+    ensures memory { IfErr result (λ e. e ≢ LogError.OutOfMemory) }
 {
     Ok(AgentId(number_in(word, MAX_AGENT)? as u8))
 }
@@ -199,6 +219,7 @@ fn agent_in(word: &str) -> Result<AgentId, LogError>
 fn end_in(word: &str) -> Result<EndId, LogError>
     ensures says { IsReadAs LogError.OutOfMemory (λ x. x) result (end_in word.now) }
     ensures within { IfOk result (λ e. e.0 ≤ MAX_END) }
+    ensures memory { IfErr result (λ e. e ≢ LogError.OutOfMemory) }
 {
     Ok(EndId(number_in(word, MAX_END)? as u32))
 }
@@ -206,6 +227,7 @@ fn end_in(word: &str) -> Result<EndId, LogError>
 fn line_in(version: LogVersion, word: &str) -> Result<LineId, LogError>
     ensures says { IsReadAs LogError.OutOfMemory (λ x. x) result (line_in version word.now) }
     ensures within { IfOk result (λ l. l.0 ≤ max_line version) }
+    ensures memory { IfErr result (λ e. e ≢ LogError.OutOfMemory) }
 {
     Ok(LineId(number_in(word, version.max_line())? as u8))
 }
@@ -213,6 +235,7 @@ fn line_in(version: LogVersion, word: &str) -> Result<LineId, LogError>
 fn epoch_in(word: &str) -> Result<u32, LogError>
     ensures says { IsReadAs LogError.OutOfMemory (λ x. x) result (epoch_in word.now) }
     ensures within { IfOk result (λ n. n ≤ MAX_EPOCH) }
+    ensures memory { IfErr result (λ e. e ≢ LogError.OutOfMemory) }
 {
     Ok(number_in(word, MAX_EPOCH)? as u32)
 }

@@ -13,6 +13,7 @@ ghost use Rattle.hub_trace.specs.Closings.{closes_one};
 ghost use Rattle.hub_trace.specs.Limits.{AreWithin, IsEntryWithin};
 ghost use Rattle.hub_trace.specs.Read.{ComesAt, HasHeader, HasHeaderOf, HasOtherHeader};
 ghost use Rattle.hub_trace.specs.Read.{TellsClosed, line_added, logs_of, with_line};
+ghost use Rattle.hub_trace.specs.ReadMemory.{TakesMemory, TakesMemoryAt};
 ghost use Rattle.hub_trace.specs.Text.{file_text};
 
 use crate::log::Log;
@@ -31,7 +32,7 @@ pub const LOGS_END: &str = "deliveries";
 /// The logs that the bytes spell, in any of the three versions, up to a text line `deliveries` or
 /// the end. Text lines end at LF; the last LF may be missing. No bytes at all are no logs. An error
 /// comes with the number of its text line, from 1; of several bad ones the first is told. Memory
-/// may run out at any text line below the header.
+/// may run out only at an entry with a body, and where the logs grow.
 pub fn read_logs(alloc: Global, bytes: &[u8]) -> Result<Vec<Log>, (usize, LogError)>
     ensures empty { length bytes.now ≡ 0 → IsOkAnd result (λ logs. logs.items ≡ []) }
     ensures header { OnOk result (0 < length bytes.now → HasHeader bytes.now) }
@@ -43,6 +44,8 @@ pub fn read_logs(alloc: Global, bytes: &[u8]) -> Result<Vec<Log>, (usize, LogErr
     // The logs, or the first bad line and its kind, are those of `logs_of`.
     ensures reads { AreLinesReadAs LogError.OutOfMemory (λ logs. logs.items) result
         (logs_of bytes.now) }
+    ensures memory { IfErr result
+        (λ error. error.1 ≡ LogError.OutOfMemory → TakesMemoryAt bytes.now error.0) }
     // What logs write below the header reads back to them, also where a line `deliveries` comes
     // next. Each log is within the limits by itself, so no more is asked of them than that no two
     // close one end.
@@ -87,6 +90,8 @@ fn add_line(
     ensures says { IsReadAs LogError.OutOfMemory (λ _. logs.new.items) result
         (line_added version logs.old.items line.now) }
     ensures closed { OnOk result (TellsClosed (contains nat_cmp closed.new) logs.new.items) }
+    ensures memory { IfErr result
+        (λ e. e ≡ LogError.OutOfMemory → TakesMemory version line.now) }
     ensures within { OnOk result
         (AreWithin version logs.old.items → AreWithin version logs.new.items) }
 {

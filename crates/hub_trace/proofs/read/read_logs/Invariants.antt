@@ -3,7 +3,7 @@ use Rattle.std.specs.BTreeSet.{contains}
 use Rattle.std.specs.Ordering.{nat_cmp}
 use Rattle.hub_trace.specs.Limits.{AreWithin}
 use Rattle.hub_trace.specs.Read.{TellsClosed}
-use Rattle.hub_trace.proofs.Reading.{IsReadSoFar}
+use Rattle.hub_trace.proofs.Reading.{HasGone, IsReadSoFar}
 use Rattle.hub_trace.proofs.read.read_logs.Given as goal
 
 abbrev pub invariant-loop-rest : goal.invariant-loop-rest
@@ -13,6 +13,7 @@ invariant-loop-rest l = record {
   closed : TellsClosed (contains nat_cmp l.closed) l.logs.items;
   within : AreWithin l.version l.logs.items;
   so_far : IsReadSoFar l.version l.fn.bytes l.number l.logs.items l.rest;
+  gone : HasGone l.fn.bytes l.number l.rest;
 }
 
 abbrev pub decreases-loop-rest : goal.decreases-loop-rest
