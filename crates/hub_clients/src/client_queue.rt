@@ -1,43 +1,49 @@
-ghost use Rattle.std.specs.Prelude.{◌≡◌, IfErr, length};
-ghost use Rattle.hub_queue.specs.Adopting.{IsAdopted, newest_epoch};
-ghost use Rattle.hub_queue.specs.Ending.{IsClosed};
-ghost use Rattle.hub_queue.specs.Taking.{IsTaken, started};
+ghost use Rattle.std.specs.Prelude.{◌≡◌};
+ghost use Rattle.hub_queue.specs.Adopting.{IsAdopted};
+ghost use Rattle.hub_queue.specs.Taking.{started};
 
-use crate::directory::Directory;
-use crate::hand_error::HandError;
 use crate::handed_queue::HandedQueue;
+use crate::kind::Kind;
+use crate::queue::Queue;
 use hub_depot::Depot;
-use hub_envelope::{AgentId, EndId};
-use hub_queue::{AdoptError, Bell, Grave, Onward, Steps, Taker, Took};
-use std::marker::Model;
+use hub_queue::{AdoptError, Bell, Onward};
 use std::sync::Wait;
-use std::sync::ledger::Ledger;
+
+/// That a queue is a client's.
+pub struct Client;
 
 /// The message queue of a client (W3C Service Workers, "client message queue").
 ///
-/// `Directory::client` makes one, empty and disabled. Others post at it over lines that the
-/// directory lends.
-#[derive(Drop)]
-pub struct ClientQueue {
-    pub(crate) taker: Taker,
-}
+/// `Directory::client` makes one, empty and disabled.
+pub type ClientQueue = Queue<Client>;
 
-impl Model for ClientQueue {
+impl Kind for Client {
+    ghost use Rattle.std.specs.Prelude.{◌≡◌};
     ghost use Rattle.hub_queue.specs.Taking.{TakerSeat};
+    ghost use Rattle.hub_clients.specs.declared.handed_queue.HandedQueue.TheVariants.{
+      Client as ClientHanded,
+    };
 
-    ghost Value = { TakerSeat };
+    ghost as_handed = { ClientHanded };
 
-    ghost view = { λ q. q.taker };
-}
-
-impl ClientQueue {
-    /// The number of the queue.
-    pub fn end(&self) -> EndId
-        ensures { result.0 ≡ self.now.end }
+    fn handed(queue: ClientQueue) -> HandedQueue
+        ensures { result ≡ ClientHanded queue }
     {
-        self.taker.end()
+        HandedQueue::Client(queue)
     }
 
+    fn given_back(queue: HandedQueue) -> ClientQueue
+        requires { (own : TakerSeat) × (queue ≡ ClientHanded own) }
+        ensures { (own : TakerSeat) → queue ≡ ClientHanded own → result ≡ own }
+    {
+        match queue {
+            HandedQueue::Client(queue) => queue,
+            HandedQueue::Worker(_) => unreachable!(),
+        }
+    }
+}
+
+impl Queue<Client> {
     /// Enables the queue (W3C Service Workers, "client message queue": `startMessages()`, or the
     /// first setting of `onmessage`). What it holds stays.
     pub fn start_messages(&mut self)
@@ -54,47 +60,6 @@ impl ClientQueue {
         self.taker.start();
     }
 
-    /// Takes the first envelope, as `Taker::take` does. The last parameter counts the pops.
-    pub fn take<L: Ledger, R: Wait>(&mut self, rt: &R, steps: &mut Steps<L>) -> Took
-        ensures { IsTaken self.old self.new steps.old steps.new result }
-    {
-        self.taker.take(rt, steps)
-    }
-
-    /// How often the queue was adopted.
-    pub fn moves(&self) -> u32
-        ensures { result ≡ newest_epoch self.now }
-    {
-        self.taker.moves()
-    }
-
-    /// How many queues there are from the taker's to the newest, that one not counted.
-    pub fn behind(&self) -> u32
-        ensures { result ≡ length self.now.retired }
-    {
-        self.taker.behind()
-    }
-
-    /// Hands the queue on to an agent, with all its lines and all that waits in it: the directory
-    /// keeps it until that agent fetches it.
-    ///
-    /// `OutOfMemory` where there was no memory for one more queue, `Taken` where a queue of that
-    /// number waits for that agent already. After either the queue comes back.
-    pub fn hand<R: Wait>(
-        self,
-        rt: &R,
-        directory: &Directory,
-        to: AgentId,
-    ) -> Result<(), (HandError, ClientQueue)>
-        ensures { IfErr result (λ refused. refused.1 ≡ self) }
-    {
-        match directory.keep(rt, HandedQueue::Client(self), to) {
-            Ok(()) => Ok(()),
-            Err((error, HandedQueue::Client(queue))) => Err((error, queue)),
-            Err((_, HandedQueue::Worker(_))) => unreachable!(),
-        }
-    }
-
     /// Moves the queue to the loop that has fetched it, as `Taker::adopt` does. It is disabled
     /// then. After an error it is as it was.
     pub fn adopt<R: Wait>(
@@ -105,18 +70,9 @@ impl ClientQueue {
     ) -> Result<ClientQueue, (AdoptError, ClientQueue)>
         ensures { IsAdopted self result }
     {
-        let ClientQueue { taker } = self;
-        match taker.adopt(rt, yard, bell) {
-            Ok(taker) => Ok(ClientQueue { taker }),
-            Err((error, taker)) => Err((error, ClientQueue { taker })),
+        match self.into_taker().adopt(rt, yard, bell) {
+            Ok(taker) => Ok(Queue::of(taker)),
+            Err((error, taker)) => Err((error, Queue::of(taker))),
         }
-    }
-
-    /// Closes the queue: whoever posts at it is turned from then on. The directory lists it still.
-    pub fn close(self) -> Grave
-        ensures { IsClosed self result }
-    {
-        let ClientQueue { taker } = self;
-        taker.close()
     }
 }

@@ -14,6 +14,7 @@ use crate::hears::Unheard;
 use crate::keeping::{fetch_from, keep_on};
 use crate::lent::{give_back_in, line_in, open_in};
 use crate::listing::Listing;
+use crate::queue::Queue;
 use crate::queue_error::QueueError;
 use crate::worker_queue::WorkerQueue;
 use hub_depot::Depot;
@@ -80,7 +81,7 @@ impl Directory {
         ensures many { IsErrOf result QueueError.TooManyEnds ↔ (MAX_ENDS ≤ ends.old.drawn) }
     {
         let taker = self.open(rt, ends, bell)?;
-        Ok(ClientQueue { taker })
+        Ok(Queue::of(taker))
     }
 
     /// Makes and lists the message queue of a worker, which is empty and enabled. All else is as of
@@ -98,7 +99,7 @@ impl Directory {
     {
         let mut taker = self.open(rt, ends, bell)?;
         taker.start();
-        Ok(WorkerQueue { taker })
+        Ok(Queue::of(taker))
     }
 
     /// Lends a line to an end, the least that is at home: `Listing::line_to` under the lock. The
