@@ -7,6 +7,9 @@ messages are posted, and is timed from there to the last of them. A turn in whic
 asks every enabled end once. Messages there and back go between two loops on two threads, which park
 where they have nothing to deliver; one holds a single port, and the other one or 10,000.
 
+Beside it too the channels of Rust's library in one thread, with no loop: what their takes cost more
+where 1,000 of them are busy, or all are asked in vain, is what memory costs that is seldom reached.
+
 The bounds are on the best runs: what one delivery takes more with many ports than with one, and how
 much longer Node takes.
 """
@@ -45,6 +48,13 @@ def run(bench):
         bench.shows(f"deliveries, {name}, Node", scaled(node, 1e6 / MESSAGES_OF_NODE), "us")
         beside = ratio(node, seconds, scale=MESSAGES / MESSAGES_OF_NODE)
         bench.at_least(LEAST_BESIDE_NODE, f"deliveries, {name}, beside Node", beside, "times")
+    one = runs["channels 1 1"].seconds
+    for ports, busy in shapes():
+        beside = ratio(runs[f"channels {ports} {busy}"].seconds, one)
+        bench.shows(f"channels of Rust, {named(ports, busy)}, beside 1 port", beside, "times")
+    for ports, turns in IDLE.items():
+        an_end = scaled(runs[f"idle channels {ports}"].seconds, 1e9 / turns / ports)
+        bench.shows(f"channels of Rust, idle, {ports:,} ports, an end", an_end, "ns")
     for ports, turns in IDLE.items():
         an_end = scaled(runs[f"idle {ports}"].seconds, 1e9 / turns / ports)
         name = f"idle, {ports:,} ports, an end"
@@ -72,9 +82,13 @@ def named(ports, busy):
 
 def jobs_of(bench):
     program, node = bench.built("loop"), bench.node("loop/reference.mjs")
+    channels = bench.rust("loop/reference.rs")
     jobs = {}
     for ports, busy in shapes():
         jobs[f"deliveries {ports} {busy}"] = program.job(
+            "deliveries", ports, busy, MESSAGES, told=[MESSAGES]
+        )
+        jobs[f"channels {ports} {busy}"] = channels.job(
             "deliveries", ports, busy, MESSAGES, told=[MESSAGES]
         )
         if busy == 1:
@@ -83,6 +97,7 @@ def jobs_of(bench):
             )
     for ports, turns in IDLE.items():
         jobs[f"idle {ports}"] = program.job("idle", ports, 1, turns, told=[turns])
+        jobs[f"idle channels {ports}"] = channels.job("idle", ports, 1, turns, told=[turns])
     for ports in (1, max(SIZES)):
         jobs[f"trips {ports}"] = program.job("trips", ports, 1, TRIPS, told=[TRIPS])
     return jobs
