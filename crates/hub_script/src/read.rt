@@ -19,8 +19,8 @@ impl Script {
     ///
     /// Text lines end at LF; the last LF may be missing, and no bytes at all are an empty script.
     /// An error comes with the number of its text line, from 1; of several bad ones the first is
-    /// told, with the first test that it fails. Memory may run out at any line that is UTF-8. Time grows with the
-    /// length of the text and the logarithm of the number of names.
+    /// told, with the first test that it fails. Memory may run out at any line that is UTF-8. Time
+    /// grows with the length of the text and the logarithm of the number of names.
     pub fn read(alloc: Global, text: &[u8]) -> Result<Script, (usize, ScriptError)>
         ensures reads { AreLinesReadAs ScriptError.OutOfMemory (λ script. script) result
             (script_of text.now) }

@@ -1,5 +1,5 @@
-//! The tests of a form behind what is known. They stand in the order in which they are made, so that
-//! the first that fails is told.
+//! The tests of a form behind what is known. They stand in the order in which they are made, so
+//! that the first that fails is told.
 
 ghost use Rattle.std.specs.Prelude.{◌≡◌, ◌<◌, true, OnOk};
 ghost use Rattle.std.specs.List.{list_all};
