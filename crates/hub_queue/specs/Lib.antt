@@ -3,6 +3,7 @@ pub mod Counting
 pub mod Draining
 pub mod Ending
 pub mod Graves
+pub mod Left
 pub mod Laws
 pub mod Mailboxes
 pub mod Meetings

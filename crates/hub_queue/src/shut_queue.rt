@@ -1,0 +1,44 @@
+ghost use Rattle.hub_queue.specs.Left.{IsNewestOf};
+
+use crate::grave::Grave;
+use crate::line_right::LineRight;
+use crate::store::Pass;
+use crate::taker_queue::TakerQueue;
+use hub_gate::KeeperWitness;
+use std::marker::Model;
+
+/// What shows the newest queue of an end that was closed. It has no bytes, and stands in proofs
+/// alone: the queue is freed.
+#[derive(Drop)]
+pub struct ShutQueue {
+    pass: Pass,
+    gate: KeeperWitness<LineRight>,
+}
+
+impl Model for ShutQueue {
+    ghost use Rattle.hub_queue.specs.Seats.{known_by, take_in};
+    ghost use Rattle.hub_queue.specs.TakerQueues.{TakerQueueSeat};
+
+    ghost Value = { TakerQueueSeat };
+
+    ghost view = { λ q. record {
+      queue = q.pass.web;
+      at = take_in (known_by q.pass);
+      keeper = q.gate;
+    } };
+}
+
+impl Grave {
+    /// What shows the newest queue. It is freed with those before it, and what they hold is
+    /// discarded.
+    pub fn into_shut(self) -> ShutQueue
+        ensures { IsNewestOf self result }
+    {
+        let Grave { newest, .. } = self;
+        let TakerQueue { pass, keeper, .. } = newest;
+        ShutQueue {
+            pass,
+            gate: keeper.into_witness(),
+        }
+    }
+}
