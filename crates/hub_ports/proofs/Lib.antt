@@ -1,5 +1,5 @@
 pub mod Arrivals
-pub mod Closes
+pub mod Dooms
 pub mod Flights
 pub mod Listed
 pub mod Refused

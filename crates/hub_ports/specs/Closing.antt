@@ -4,12 +4,15 @@ use Rattle.std.specs.FinMap as map
 use Rattle.hub_envelope.specs.Notice.{notice_draft}
 use Rattle.hub_envelope.specs.declared.ids.EndId.{EndId}
 use Rattle.hub_queue.specs.declared.post_error.PostError.TheVariants as why
-use Rattle.hub_queue.specs.Ending.{IsClosed, closed_queue}
+use Rattle.hub_queue.specs.Ending.{closed_queue}
 use Rattle.hub_queue.specs.Graves.{GraveSeat, SweptSeat}
+use Rattle.hub_queue.specs.Left.{unrung}
 use Rattle.hub_queue.specs.Posting.{IsPosted}
 use Rattle.hub_queue.specs.Standing.{StandSeat}
 use Rattle.hub_queue.specs.Sweeping.{IsSweptOut}
+use Rattle.hub_queue.specs.TakerQueues.{TakerQueueSeat}
 use Rattle.hub_queue.specs.Taking.{TakerSeat}
+use Rattle.hub_ports.specs.declared.closings.Closing.{Closing}
 use Rattle.hub_ports.specs.declared.noticed.Noticed.{Noticed}
 use Rattle.hub_ports.specs.declared.noticed.Noticed.TheVariants.{Put, PeerClosed, Moving, OutOfMemory}
 use Rattle.hub_ports.specs.Arriving.{Flight}
@@ -32,23 +35,23 @@ AreClosed [] closings = closings ≡ []
 AreClosed (p ∷ ps) closings =
     (closing : EndId × Noticed) × (rest : List (EndId × Noticed)) × (closings ≡ closing ∷ rest) × IsClosedAs p closing × AreClosed ps rest
 
--- what is left of a port that was closed: its closed end, its line, and what became of its notice
-abbrev pub Left : Type 0
-Left = GraveSeat × StandSeat × Noticed
+-- what shows the newest queue of the port, as it is closed once more
+abbrev pub IsShutAs : PortSeat → Option TakerQueueSeat → Type 0
+IsShutAs p queue = queue ≡ Some (closed_queue p.taker.newest)
 
--- the port's own end was closed, and its notice put or refused at its line
-abbrev pub IsLeft : PortSeat → Left → Type 0
-IsLeft p left = IsClosed p.taker left.0 × IsNoticed p.poster left.1 left.2
+-- what shows the line of the port, on which the notice was put or refused as is told; what its bell has done isn't shown
+abbrev pub IsLeftAs : PortSeat → Option StandSeat → Noticed → Type 0
+IsLeftAs p line noticed = (spent : StandSeat) × (line ≡ Some spent) × IsNoticed (unrung p.poster) spent noticed
 
--- of each port of a list, in order: the closing tells its number and what became of that very notice
-abbrev pub AreLeft : List PortSeat → List (EndId × Noticed) → List Left → Type 0
-AreLeft [] [] [] = Unit {0}
-AreLeft (p ∷ ps) (c ∷ cs) (l ∷ ls) = (c ≡ (end_of p, l.2)) × IsLeft p l × AreLeft ps cs ls
-AreLeft _ _ _ = ⊥
+-- a port that a doomed message has closed: its number, its own end that was closed, its line, and what became there of its notice
+abbrev pub IsDoomedAs : PortSeat → Closing → Type 0
+IsDoomedAs p c = (c.end ≡ end_of p) × IsShutAs p c.queue × IsLeftAs p c.line c.noticed
 
--- whoever is told was told what is left of each
-abbrev pub AreToldClosed : List PortSeat → List (EndId × Noticed) → List Left → Option (List Left) → Type 0
-AreToldClosed ports closings before after = (left : List Left) × (after ≡ Some (before ++ left)) × AreLeft ports closings left
+-- each port of a list was closed, in this order
+abbrev pub AreDoomed : List PortSeat → List Closing → Type 0
+AreDoomed [] closings = closings ≡ []
+AreDoomed (p ∷ ps) closings =
+    (closing : Closing) × (rest : List Closing) × (closings ≡ closing ∷ rest) × IsDoomedAs p closing × AreDoomed ps rest
 
 -- what is left of an end that was emptied, and, where it was a port's that was closed in this call, its line and what became of its notice
 abbrev pub Emptied : Type 0

@@ -1,5 +1,5 @@
 -- What a post with ports comes to.
-use Rattle.std.specs.Prelude.{◌≡◌, ◌⊎◌, ℕ, ◌<◌, false, List, length, Option, Some, Result, Ok, Err}
+use Rattle.std.specs.Prelude.{◌≡◌, ◌⊎◌, ℕ, ◌<◌, false, List, length, Result, Ok, Err}
 use Rattle.hub_envelope.specs.declared.envelope.Draft.{Draft}
 use Rattle.hub_envelope.specs.declared.ids.AgentId.{AgentId}
 use Rattle.hub_queue.specs.declared.post_error.PostError.{PostError}
@@ -9,7 +9,7 @@ use Rattle.hub_queue.specs.Posting.{IsPosted}
 use Rattle.hub_queue.specs.Standing.{StandSeat}
 use Rattle.hub_ports.specs.declared.port_error.PortError.{PortError}
 use Rattle.hub_ports.specs.declared.port_error.PortError.TheVariants.{Closed, Moving, OutOfMemory, Doomed, TooManyPorts, Strayed, Taken}
-use Rattle.hub_ports.specs.Closing.{AreClosed, AreToldClosed, Left}
+use Rattle.hub_ports.specs.Closing.{AreDoomed}
 use Rattle.hub_ports.specs.Seats.{PortSeat, ends_of}
 use Rattle.hub_ports.specs.Splitting.{IsSplit}
 
@@ -34,7 +34,7 @@ abbrev pub IsUnsent : StandSeat → StandSeat → Draft → List PortSeat → Po
 IsUnsent old new draft ports (Closed body back) = IsRefusedAtLine old new draft why.Closed × CameBack draft body back.items
 IsUnsent old new draft ports (Moving body back) = IsRefusedAtLine old new draft why.Moving × CameBack draft body back.items
 IsUnsent old new draft ports (OutOfMemory body back) = WantsMemory old new draft × CameBack draft body back.items
-IsUnsent old new draft ports (Doomed closings) = (new ≡ old) × AreClosed ports closings
+IsUnsent old new draft ports (Doomed closings) = (new ≡ old) × AreDoomed ports closings
 IsUnsent old new draft ports (TooManyPorts body back) = (new ≡ old) × (body ≡ draft.body) × (back.items ≡ ports)
 IsUnsent old new draft ports (Strayed missing body back) =
     (((why : PostError) × IsRefusedAtLine old new draft why) ⊎ (new ≡ old)) × (body ≡ draft.body) × (0 < length missing.items) × IsSplit draft.ports (ends_of back.items) missing.items
@@ -54,8 +54,3 @@ IsDoomed _ = ⊥
 abbrev pub IsTooMany : Result Posted PortError → Type 0
 IsTooMany (Err (TooManyPorts body back)) = Unit {0}
 IsTooMany _ = ⊥
-
--- Doomed: each port of the list was closed, and whoever is told was told what is left of it. Else nothing was told.
-abbrev pub IsToldSent : List PortSeat → List Left → Option (List Left) → Result Posted PortError → Type 0
-IsToldSent ports before after (Err (Doomed closings)) = AreToldClosed ports closings before after
-IsToldSent ports before after _ = after ≡ Some before

@@ -1,11 +1,10 @@
 //! How a port is closed, and how all ports of a list are.
-ghost use Rattle.std.specs.Prelude.{◌≡◌, ◌≤◌, length, IfSome};
+ghost use Rattle.std.specs.Prelude.{◌≡◌, ◌≤◌, length};
 ghost use Rattle.hub_envelope.specs.declared.limits.TheConstants.{MAX_PORTS};
 ghost use Rattle.hub_queue.specs.Ending.{IsClosed};
-ghost use Rattle.hub_ports.specs.Closing.{IsNoticed, AreClosed, AreToldClosed};
+ghost use Rattle.hub_ports.specs.Closing.{IsNoticed, AreDoomed};
 
-use crate::closings::Closings;
-use crate::hears::Hears;
+use crate::closings::{Closing, Closings};
 use crate::noticed::Noticed;
 use crate::port::Port;
 use crate::spent::Spent;
@@ -48,25 +47,26 @@ pub(crate) fn close_port<R: Wait>(
     (taker.close(), Spent { poster }, noticed)
 }
 
-/// Closes the ports of a list in order, and tells of each what is left of it.
-pub(crate) fn close_all<H: Hears<(Grave, Spent, Noticed)>, R: Wait>(
+/// Closes the ports of a list in order, and keeps of each what shows it.
+pub(crate) fn close_all<R: Wait>(
     rt: &R,
     alloc: Global,
     yard: &Depot<Onward>,
     ports: Vec<Port>,
-    heard: &mut H,
 ) -> Closings
     requires { length ports.items ≤ MAX_PORTS }
-    ensures closed { AreClosed ports.items result }
-    ensures told { IfSome (H.told heard.old) (λ before.
-        AreToldClosed ports.items result before (H.told heard.new)) }
+    ensures { AreDoomed ports.items result }
 {
     let mut closings = Closings::none();
     for port in ports {
         let end = port.end();
         let (grave, spent, noticed) = close_port(rt, alloc, yard, port);
-        heard.tell((grave, spent, noticed));
-        closings.push((end, noticed));
+        closings.push(Closing {
+            end,
+            queue: Some(grave.into_shut()),
+            line: spent.into_left(),
+            noticed,
+        });
     }
     closings
 }

@@ -30,7 +30,7 @@ mod spent;
 pub use arrival::Arrival;
 pub use arrived::Arrived;
 pub use channel_error::ChannelError;
-pub use closings::Closings;
+pub use closings::{Closing, Closings};
 pub use entangling::channel;
 pub use hub::Hub;
 pub use noticed::Noticed;

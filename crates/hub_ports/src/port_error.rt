@@ -1,6 +1,8 @@
 use crate::closings::Closings;
 use crate::port::Port;
 use hub_envelope::{Body, EndId};
+use hub_queue::Posted;
+use std::mem::size_of;
 
 /// Why a body and its ports were not posted. What comes back is in it: the ports in the order of
 /// their list.
@@ -23,3 +25,6 @@ pub enum PortError {
     /// A port of the same number is in flight: another port that uses this hub has it.
     Taken(Body, Vec<Port>),
 }
+
+// What shows that the ports of a doomed list were closed makes the answer of a post no larger.
+const _: () = prove!(size_of::<Result<Posted, PortError>>() == 664);

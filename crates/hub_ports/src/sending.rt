@@ -5,20 +5,17 @@ ghost use Rattle.hub_envelope.specs.declared.limits.TheConstants.{MAX_PORTS};
 ghost use Rattle.hub_ports.specs.Flying.{IsFlown};
 ghost use Rattle.hub_ports.specs.Refusing.{refusal_of, whole_error};
 ghost use Rattle.hub_ports.specs.Seats.{ends_of, has_end};
-ghost use Rattle.hub_ports.specs.Sending.{IsSent, IsDoomed, IsTooMany, IsToldSent};
+ghost use Rattle.hub_ports.specs.Sending.{IsSent, IsDoomed, IsTooMany};
 
 use crate::closing::close_all;
 use crate::flight::{call_back, send_off};
-use crate::hears::{Hears, Unheard};
 use crate::hub::Hub;
-use crate::noticed::Noticed;
 use crate::port::Port;
 use crate::port_error::PortError;
 use crate::send_refusal::SendRefusal;
-use crate::spent::Spent;
 use hub_depot::Shelf;
 use hub_envelope::{AgentId, Body, Draft, EndId, MAX_PORTS, OutOfMemory, Ports};
-use hub_queue::{Grave, PostError, Posted, Poster};
+use hub_queue::{PostError, Posted, Poster};
 use std::alloc::Global;
 use std::sync::Wait;
 
@@ -128,15 +125,13 @@ fn post_with_ports<S: Shelf<Port>, R: Wait>(
     }
 }
 
-// Posts a body with the ports of a list, over any shelf as the flight, and tells what is left of
-// each port of a doomed list. It is no part of `send`, so that a post without ports doesn't pay for
-// the room that the errors of a list take on the stack.
+// Posts a body with the ports of a list, over any shelf as the flight. It is no part of `send`, so
+// that a post without ports doesn't pay for the room that the errors of a list take on the stack.
 #[inline(never)]
-fn send_with_ports<S: Shelf<Port>, H: Hears<(Grave, Spent, Noticed)>, R: Wait>(
+fn send_with_ports<S: Shelf<Port>, R: Wait>(
     rt: &R,
     hub: &Hub,
     flight: &mut S,
-    heard: &mut H,
     line: &mut Poster,
     agent: AgentId,
     body: Body,
@@ -148,14 +143,12 @@ fn send_with_ports<S: Shelf<Port>, H: Hears<(Grave, Spent, Noticed)>, R: Wait>(
         × Contains (ends_of transfer.items) line.old.name.end) }
     ensures flown { IfSome (S.shown flight.old) (λ kept.
         IsFlown kept transfer.items (S.shown flight.new) result) }
-    ensures told { IfSome (H.told heard.old) (λ before.
-        IsToldSent transfer.items before (H.told heard.new) result) }
 {
     if transfer.len() > MAX_PORTS {
         return Err(PortError::TooManyPorts(body, transfer));
     }
     if holds(transfer.as_slice(), line.name().end) {
-        let closings = close_all(rt, hub.alloc, &hub.yard, transfer, heard);
+        let closings = close_all(rt, hub.alloc, &hub.yard, transfer);
         return Err(PortError::Doomed(closings));
     }
     post_with_ports(rt, hub, flight, line, agent, body, transfer)
@@ -182,16 +175,7 @@ pub fn send<R: Wait>(
 {
     if !transfer.is_empty() {
         let mut flight = &hub.flight;
-        return send_with_ports(
-            rt,
-            hub,
-            &mut flight,
-            &mut Unheard,
-            line,
-            agent,
-            body,
-            transfer,
-        );
+        return send_with_ports(rt, hub, &mut flight, line, agent, body, transfer);
     }
     let draft = Draft {
         agent,

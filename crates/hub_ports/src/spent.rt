@@ -1,4 +1,4 @@
-use hub_queue::Poster;
+use hub_queue::{LeftLine, Poster};
 use std::marker::Model;
 
 /// The poster of a port that was closed. Contracts see by it what the notice came to; it has no
@@ -14,4 +14,16 @@ impl Model for Spent {
     ghost Value = { StandSeat };
 
     ghost view = { λ s. s.poster };
+}
+
+impl Spent {
+    ghost use Rattle.std.specs.Prelude.{◌≡◌, Some};
+    ghost use Rattle.hub_queue.specs.Left.{unrung};
+
+    /// What shows the line.
+    pub(crate) fn into_left(self) -> LeftLine
+        ensures { result ≡ Some (unrung self) }
+    {
+        self.poster.into_left()
+    }
 }

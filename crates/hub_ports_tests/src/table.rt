@@ -72,7 +72,7 @@ fn told(alloc: Global, error: PortError) -> (Answer, Vec<Port>) {
         PortError::OutOfMemory(_body, back) => (Answer::OutOfMemory, back),
         PortError::Doomed(closings) => {
             let answer = match closings.as_slice() {
-                [(end, noticed)] => Answer::Doomed(end.0, *noticed),
+                [closing] => Answer::Doomed(closing.end.0, closing.noticed),
                 _ => Answer::ManyDoomed,
             };
             (answer, Vec::new(alloc))

@@ -10,7 +10,7 @@ use hub_broadcast::{CastError, CastOutcome};
 use hub_clients::DirectoryError;
 use hub_envelope::{Body, EndId, OutOfMemory, Ports};
 use hub_loop::{Checkpoint, Held, LoopError};
-use hub_ports::{Noticed, Port, PortError, send};
+use hub_ports::{Closing, Noticed, Port, PortError, send};
 use hub_queue::Posted;
 use std::sync::Wait;
 
@@ -117,11 +117,11 @@ impl<'s, C: Checkpoint> Agent<'s, C> {
     }
 
     // Logs what became of the ports that a doomed post has closed.
-    fn log_doomed(&mut self, closed: &[(EndId, Noticed)]) -> Result<(), OutOfMemory>
+    fn log_doomed(&mut self, closings: &[Closing]) -> Result<(), OutOfMemory>
         ensures { OnOk result (self.new ≡ self.old) }
     {
-        for (end, noticed) in closed {
-            self.log_closed(*end, *noticed)?;
+        for closing in closings {
+            self.log_closed(closing.end, closing.noticed)?;
         }
         Ok(())
     }

@@ -1,10 +1,9 @@
-use Rattle.std.proofs.Common.{arith, ◌≡◌, ◌≤◌, length, true, false, refl, ap, sym, ◌∙◌}
+use Rattle.std.proofs.Common.{arith, ◌≡◌, ◌≤◌, length, true, false, ap, sym, ◌∙◌}
 use Rattle.std.specs.List.{list_any}
 use Rattle.hub_depot.specs.declared.key.Key.{Key}
 use Rattle.hub_envelope.specs.declared.limits.TheConstants.{MAX_PORTS}
 use Rattle.hub_ports.specs.Seats.{has_end}
 use Rattle.hub_ports.proofs.Listed.{found-listed, listed-found}
-use Rattle.hub_ports.proofs.Tellings.{none_told}
 use Rattle.hub_ports.proofs.sending.send_with_ports.Goals as goal
 
 pub returns-then-holds-clause-doomed : goal.returns-then-holds-clause-doomed
@@ -23,6 +22,3 @@ returns-clause-doomed g c =
     let missed : list_any (has_end peer) ports ≡ false =
     sym (c.holds.ensures ∙ ap (λ (k : Key). list_any (has_end k.end) c.as_slice.result.now) c.name.ensures ∙ ap (list_any (has_end peer)) c.as_slice.ensures.value) ∙ c.if-holds.false in
     (λ doomed. absurd (c.post_with_ports.ensures.doomed doomed), λ holds. let wrong : true ≡ false = sym (listed-found peer ports holds.1) ∙ missed in cc)
-
-pub returns-clause-told : goal.returns-clause-told
-returns-clause-told g c = none_told _ _ c.args.transfer.items c.post_with_ports.result c.post_with_ports.ensures.doomed refl
