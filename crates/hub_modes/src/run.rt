@@ -90,7 +90,7 @@ pub fn run_script<C: Checkpoint, W: Write, T: Threads + Wait + Sync>(
     ensures flushed { CountsFlush result (flushes_made writer.old) (flushes_made writer.new) }
 {
     match run_agents(alloc, rt, script, checkpoint) {
-        Ok(logs) => write_run(alloc, &logs, writer),
+        Ok(run) => write_run(alloc, &run.logs, writer),
         Err(_) => end_out_of_memory(writer),
     }
 }

@@ -1,13 +1,13 @@
 -- What the logs of a run owe to its script: how many there are, whose each is, and the messages that it says were
 -- put.
-use Rattle.std.specs.Prelude.{◌≡◌, ◌⊎◌, ◌==◌, ℕ, List, [], ◌∷◌, ◌++◌, length, map, replicate, Some, slice_get}
-use Rattle.std.specs.List.{filter}
+use Rattle.std.specs.Prelude.{◌≡◌, ◌⊎◌, ◌<◌, ℕ, Bool, true, false, List, [], ◌∷◌, ◌++◌, length, replicate, take, Some, slice_get}
 use Rattle.hub_envelope.specs.declared.ids.AgentId.{AgentId}
 use Rattle.hub_envelope.specs.declared.ids.EndId.{EndId}
 use Rattle.hub_script.specs.Contents.{Contents, actions, agents}
-use Rattle.hub_script.specs.declared.action.Action.{Action}
 use Rattle.hub_script.specs.declared.action.ActionKind.{ActionKind}
 use Rattle.hub_script.specs.declared.action.ActionKind.TheVariants.{Post, Send, Cast}
+use Rattle.hub_acting.specs.Doing.{actions_of}
+use Rattle.hub_acting.specs.declared.acted.Acted.{Acted}
 use Rattle.hub_trace.specs.Accepted.{AgentLog}
 use Rattle.hub_run.specs.Posts.{Message, Posts, messages_put, posting}
 
@@ -29,16 +29,36 @@ ArePutFor [] messages = messages ≡ []
 ArePutFor (action ∷ later) messages =
     (first : List Message) × (rest : List Message) × (messages ≡ first ++ rest) × IsPutFor action first × ArePutFor later rest
 
--- the actions of the agent, in the order of the script
-abbrev pub actions_of : AgentId → List Action → List ActionKind
-actions_of agent all = map (λ a. a.kind) (filter (λ a. a.at.0 == agent.0) all)
-
 -- the action has put what it may
 abbrev pub Acts : ActionKind → Posts → Posts → Type 0
 Acts action before after = (messages : List Message) × IsPutFor action messages × (after ≡ posting before messages)
 
 abbrev pub ActsAll : List ActionKind → Posts → Posts → Type 0
 ActsAll all before after = (messages : List Message) × ArePutFor all messages × (after ≡ posting before messages)
+
+-- So many of all actions were done, before the next one of which the order to end came; or all were done.
+abbrev pub IsStoppedAt : Bool → ℕ → ℕ → Type 0
+IsStoppedAt true done all = done < all
+IsStoppedAt false done all = done ≡ all
+
+-- the first actions have put what they may, as many as were done
+pub record ActsFirst (acted : Acted) (all : List ActionKind) (before after : Posts) : Type 0 where
+  pub acts : ActsAll (take acted.done all) before after
+  pub stopped : IsStoppedAt acted.ordered acted.done (length all)
+
+-- The log is this agent's. The messages that it says were put are, in order, those of the first of the agent's actions,
+-- as many as it has done, and no others; an action may have put none. All were done, unless the order to end came.
+pub record IsRunFor (script : Contents) (agent : AgentId) (log : AgentLog) (acted : Acted) : Type 0 where
+  pub whose : log.0 ≡ agent
+  pub put : ArePutFor (take acted.done (actions_of agent (actions script))) (messages_put log.1)
+  pub stopped : IsStoppedAt acted.ordered acted.done (length (actions_of agent (actions script)))
+
+-- one log for each agent of the script and how far the agent came, in the order of the agents
+pub record AreRunsFor (script : Contents) (logs : List AgentLog) (acted : List Acted) : Type 0 where
+  pub count : length logs ≡ length (agents script)
+  pub all : length acted ≡ length (agents script)
+  pub each : (number : ℕ) (log : AgentLog) (a : Acted) → slice_get logs number ≡ Some log → slice_get acted number ≡ Some a
+      → IsRunFor script (record { 0 = number }) log a
 
 -- The log is this agent's. The messages that it says were put are, in order, those of the agent's actions and no others;
 -- an action may have put none.

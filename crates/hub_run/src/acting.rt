@@ -1,33 +1,38 @@
 //! The actions of an agent, in order. An action whose end isn't held any more is skipped.
 
-ghost use Rattle.std.specs.Prelude.{◌≡◌, OnOk};
+ghost use Rattle.std.specs.Prelude.{◌≡◌, IfOk, OnOk};
+ghost use Rattle.hub_acting.specs.Doing.{actions_of};
 ghost use Rattle.hub_script.specs.Contents.{actions};
-ghost use Rattle.hub_run.specs.Runs.{Acts, ActsAll, actions_of};
+ghost use Rattle.hub_run.specs.Runs.{Acts, ActsFirst};
 
 use crate::agent::Agent;
 use crate::awaited::Awaited;
 use crate::shared::Shared;
+use hub_acting::Acted;
 use hub_clients::HandError;
 use hub_envelope::{AgentId, EndId, OutOfMemory};
 use hub_loop::{Checkpoint, Held};
-use hub_script::{Action, ActionKind, Script};
+use hub_script::{ActionKind, Script};
 use std::sync::Wait;
 
 impl<'s, C: Checkpoint> Agent<'s, C> {
-    /// Does its actions, up to the last or to the order to end, which is looked at before each.
-    pub(crate) fn act_all<R: Wait>(&mut self, rt: &R, script: &Script) -> Result<(), OutOfMemory>
-        ensures { OnOk result (ActsAll (actions_of self.old.agent (actions script.now))
-            self.old self.new) }
+    /// Does its actions, up to the last or to the order to end, for which it looks before each.
+    pub(crate) fn act_all<R: Wait>(&mut self, rt: &R, script: &Script) -> Result<Acted, OutOfMemory>
+        ensures { IfOk result (λ acted. ActsFirst acted
+            (actions_of self.old.agent (actions script.now)) self.old self.new) }
     {
-        for Action { at, kind } in script.actions() {
-            if *at == self.number() {
-                if self.order.seen() {
-                    return Ok(());
-                }
-                self.act(rt, kind)?;
-            }
-        }
-        Ok(())
+        let number = self.number();
+        hub_acting::act_all(
+            self,
+            script,
+            number,
+            |agent: &mut Agent<'_, C>| -> bool
+                ensures { agent.new ≡ agent.old }
+            { agent.order.seen() },
+            |agent: &mut Agent<'_, C>, action: &ActionKind| -> Result<(), OutOfMemory>
+                ensures { OnOk result (Acts action.now agent.old agent.new) }
+            { agent.act(rt, action) },
+        )
     }
 
     fn act<R: Wait>(&mut self, rt: &R, action: &ActionKind) -> Result<(), OutOfMemory>

@@ -2,14 +2,17 @@
 //! logged.
 
 ghost use Rattle.std.specs.Prelude.{◌≡◌, ◌≤◌, IfOk, OnOk};
+ghost use Rattle.hub_acting.specs.Doing.{actions_of};
 ghost use Rattle.hub_run.specs.Posts.{posts_of};
-ghost use Rattle.hub_run.specs.Runs.{ActsAll, IsLogFor, actions_of};
+ghost use Rattle.hub_run.specs.Runs.{ActsFirst, IsRunFor};
 ghost use Rattle.hub_script.specs.Contents.{actions};
 ghost use Rattle.hub_trace.specs.declared.limits.TheConstants.{MAX_AGENT};
 
 use crate::agent::{Agent, AgentLoop};
 use crate::peer::order_all;
+use crate::run::AgentRun;
 use crate::shared::Shared;
+use hub_acting::Acted;
 use hub_envelope::{AgentId, EndId, OutOfMemory};
 use hub_logging::Scribe;
 use hub_loop::{Checkpoint, Ended, LoopError};
@@ -146,12 +149,12 @@ impl<'s, C: Checkpoint> Agent<'s, C> {
     }
 
     // Does the actions. Where memory runs out all agents are ordered to end.
-    fn act_or_order<R: Wait>(&mut self, rt: &R, script: &Script) -> Result<(), OutOfMemory>
-        ensures { OnOk result (ActsAll (actions_of self.old.agent (actions script.now))
-            self.old self.new) }
+    fn act_or_order<R: Wait>(&mut self, rt: &R, script: &Script) -> Result<Acted, OutOfMemory>
+        ensures { IfOk result (λ acted. ActsFirst acted
+            (actions_of self.old.agent (actions script.now)) self.old self.new) }
     {
         match self.act_all(rt, script) {
-            Ok(()) => Ok(()),
+            Ok(acted) => Ok(acted),
             Err(error) => {
                 order_all(&mut self.peers);
                 Err(error)
@@ -174,21 +177,24 @@ impl<'s, C: Checkpoint> Agent<'s, C> {
         }
     }
 
-    /// Does the actions of the agent of that number, ends the loop, and answers the log. Where
-    /// memory runs out all agents are ordered to end, so that none waits for this one.
+    /// Does the actions of the agent of that number, ends the loop, and answers the log and how
+    /// far it came. Where memory runs out all agents are ordered to end, so that none waits for
+    /// this one.
     pub(crate) fn run<R: Wait>(
         mut self,
         rt: &R,
         script: &Script,
         number: AgentId,
-    ) -> Result<Log, OutOfMemory>
+    ) -> Result<AgentRun, OutOfMemory>
         requires { number.0 ≤ MAX_AGENT }
-        ensures { IfOk result (λ log. IsLogFor script.now number log) }
+        ensures { IfOk result (λ ran. IsRunFor script.now number ran.log ran.acted) }
     {
         self.scribe = Scribe::new(self.alloc, number);
         let acted = self.act_or_order(rt, script);
         let finished = self.finish_or_order(rt);
-        acted?;
-        finished
+        Ok(AgentRun {
+            acted: acted?,
+            log: finished?,
+        })
     }
 }

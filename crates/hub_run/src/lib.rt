@@ -16,6 +16,7 @@ mod posting;
 mod run;
 mod shared;
 
+pub use hub_acting::Acted;
 pub use hub_envelope::OutOfMemory;
 pub use hub_loop::{Checkpoint, NoCheckpoint};
-pub use run::run_agents;
+pub use run::{Run, run_agents};

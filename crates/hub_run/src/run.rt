@@ -2,7 +2,7 @@
 
 ghost use Rattle.std.specs.Prelude.{◌≡◌, ◌≤◌, [], length, vec_len, IfOk};
 ghost use Rattle.hub_envelope.specs.declared.limits.TheConstants.{MAX_AGENTS};
-ghost use Rattle.hub_run.specs.Runs.{AreLogsFor, IsLogFor};
+ghost use Rattle.hub_run.specs.Runs.{AreRunsFor, IsRunFor};
 ghost use Rattle.hub_run.specs.Threads.{ArePromised};
 ghost use Rattle.hub_script.specs.Contents.{agents};
 ghost use Rattle.hub_trace.specs.declared.limits.TheConstants.{MAX_AGENT};
@@ -10,6 +10,7 @@ ghost use Rattle.hub_trace.specs.declared.limits.TheConstants.{MAX_AGENT};
 use crate::agent::Agent;
 use crate::making::Made;
 use crate::shared::Shared;
+use hub_acting::Acted;
 use hub_envelope::{AgentId, OutOfMemory};
 use hub_loop::Checkpoint;
 use hub_script::Script;
@@ -19,10 +20,27 @@ use std::sync::{OnceLock, Wait};
 use std::thread;
 use std::thread::{Promise, PromisedHandle, Scope, Threads};
 
-/// What a thread answers.
-type Ran = Result<Log, OutOfMemory>;
+/// What came of an agent.
+#[derive(Drop)]
+pub(crate) struct AgentRun {
+    pub(crate) log: Log,
+    pub(crate) acted: Acted,
+}
 
-/// Which agent of which script a thread runs. Its log is that agent's.
+/// What came of a script. Both lists are in the order of the agents.
+#[derive(Drop)]
+pub struct Run {
+    /// The logs that the agents kept.
+    pub logs: Vec<Log>,
+    /// How many of its actions each agent has done, and whether it was asked to end before the
+    /// next one.
+    pub acted: Vec<Acted>,
+}
+
+/// What a thread answers.
+type Ran = Result<AgentRun, OutOfMemory>;
+
+/// Which agent of which script a thread runs. What came of it is that agent's.
 #[derive(Clone, Copy)]
 struct Part<'a> {
     script: &'a Script,
@@ -31,9 +49,10 @@ struct Part<'a> {
 
 impl<'a> Promise<Ran> for Part<'a> {
     ghost use Rattle.std.specs.Prelude.{IfOk};
-    ghost use Rattle.hub_run.specs.Runs.{IsLogFor};
+    ghost use Rattle.hub_run.specs.Runs.{IsRunFor};
 
-    ghost kept_by = { λ part ran. IfOk ran (λ log. IsLogFor part.script.now part.number log) };
+    ghost kept_by = { λ part ran. IfOk ran (λ it.
+        IsRunFor part.script.now part.number it.log it.acted) };
 }
 
 /// The handle of an agent's thread.
@@ -48,7 +67,8 @@ fn wait_and_run<C: Checkpoint, R: Wait>(
     agent: Agent<'_, C>,
 ) -> Ran
     requires { part.number.0 ≤ MAX_AGENT }
-    ensures { IfOk result (λ log. IsLogFor part.entry.script.now part.entry.number log) }
+    ensures { IfOk result (λ it.
+        IsRunFor part.entry.script.now part.entry.number it.log it.acted) }
 {
     if *begun.wait(rt) {
         agent.run(rt, part.script, part.number)
@@ -79,8 +99,8 @@ fn start_all<'s, E, C: Checkpoint, R: Threads + Wait + Sync>(
             part,
             move || -> Ran
                 requires { part.number.0 ≤ MAX_AGENT }
-                ensures { IfOk result (λ log.
-                    IsLogFor part.entry.script.now part.entry.number log) }
+                ensures { IfOk result (λ it.
+                    IsRunFor part.entry.script.now part.entry.number it.log it.acted) }
             { wait_and_run(rt, begun, part, agent) },
         )?;
         handles.push(handle)?;
@@ -88,23 +108,25 @@ fn start_all<'s, E, C: Checkpoint, R: Threads + Wait + Sync>(
     Ok(handles)
 }
 
-// Waits for the threads, and answers their logs in order. Where one has none the scope waits for
-// the others.
+// Waits for the threads, and answers in their order what came of each. Where one has no log the
+// scope waits for the others.
 fn join_all<R: Threads + Wait>(
     rt: &R,
     _script: &Script,
     handles: Vec<Handle<'_>>,
-    mut logs: Vec<Log>,
-) -> Result<Vec<Log>, OutOfMemory>
-    requires none { logs.items ≡ [] }
+    mut run: Run,
+) -> Result<Run, OutOfMemory>
+    requires none { (run.logs.items ≡ []) × (run.acted.items ≡ []) }
     requires count { vec_len handles ≡ length (agents _script.now) }
     requires each { ArePromised _script.now handles.items }
-    ensures { IfOk result (λ joined. AreLogsFor _script.now joined.items) }
+    ensures { IfOk result (λ joined. AreRunsFor _script.now joined.logs.items joined.acted.items) }
 {
     for handle in handles {
-        logs.push(handle.join(rt)?)?;
+        let AgentRun { log, acted } = handle.join(rt)?;
+        run.logs.push(log)?;
+        run.acted.push(acted)?;
     }
-    Ok(logs)
+    Ok(run)
 }
 
 // Runs the agents, none of which begins before the threads of all were made.
@@ -113,25 +135,30 @@ fn run_made<C: Checkpoint, R: Threads + Wait + Sync>(
     rt: &R,
     script: &Script,
     made: Vec<Agent<'_, C>>,
-) -> Result<Vec<Log>, OutOfMemory>
+) -> Result<Run, OutOfMemory>
     requires { vec_len made ≡ length (agents script.now) }
-    ensures { IfOk result (λ logs. AreLogsFor script.now logs.items) }
+    ensures { IfOk result (λ run. AreRunsFor script.now run.logs.items run.acted.items) }
 {
-    let logs = Vec::with_capacity(alloc, script.agents().len())?;
+    let count = script.agents().len();
+    let run = Run {
+        logs: Vec::with_capacity(alloc, count)?,
+        acted: Vec::with_capacity(alloc, count)?,
+    };
     let started = OnceLock::new();
     let begun = &started;
     thread::scope(
         thread::scope_env(),
         rt,
-        move |scope| -> Result<Vec<Log>, OutOfMemory>
+        move |scope| -> Result<Run, OutOfMemory>
             requires few { vec_len made ≤ MAX_AGENTS }
             requires count { vec_len made ≡ length (agents script.now) }
-            requires none { logs.items ≡ [] }
-            ensures { IfOk result (λ joined. AreLogsFor script.entry.now joined.items) }
+            requires none { (run.logs.items ≡ []) × (run.acted.items ≡ []) }
+            ensures { IfOk result (λ joined.
+                AreRunsFor script.entry.now joined.logs.items joined.acted.items) }
         {
             let handles = start_all(scope, alloc, rt, begun, script, made);
             let _ = begun.set(rt, handles.is_ok());
-            join_all(rt, script, handles?, logs)
+            join_all(rt, script, handles?, run)
         },
     )
 }
@@ -143,16 +170,16 @@ fn run_shared<C: Checkpoint, R: Threads + Wait + Sync>(
     shared: &Shared,
     script: &Script,
     checkpoint: &C,
-) -> Result<Vec<Log>, OutOfMemory>
-    ensures { IfOk result (λ logs. AreLogsFor script.now logs.items) }
+) -> Result<Run, OutOfMemory>
+    ensures { IfOk result (λ run. AreRunsFor script.now run.logs.items run.acted.items) }
 {
     let Made { agents, .. } = Made::of_script(alloc, rt, shared, script, checkpoint)?;
     run_made(alloc, rt, script, agents)
 }
 
 /// Runs a script: each agent does its actions on a thread of its own, and its loop ends after the
-/// last or after an order. It answers the logs, in the order of the agents. What was posted and
-/// not taken is discarded, and the ends where it waited are closed.
+/// last or after an order. What was posted and not taken is discarded, and the ends where it waited
+/// are closed.
 ///
 /// The checkpoint is called before each delivery. It waits for all agents, and so for ever where an
 /// agent waits for what nobody posts.
@@ -164,13 +191,13 @@ pub fn run_agents<C: Checkpoint, R: Threads + Wait + Sync>(
     rt: &R,
     script: &Script,
     checkpoint: &C,
-) -> Result<Vec<Log>, OutOfMemory>
-    ensures { IfOk result (λ logs. AreLogsFor script.now logs.items) }
+) -> Result<Run, OutOfMemory>
+    ensures { IfOk result (λ run. AreRunsFor script.now run.logs.items run.acted.items) }
 {
     let shared = Shared::new(alloc);
     let ran = run_shared(alloc, rt, &shared, script, checkpoint);
     let ended = shared.end(rt);
-    let logs = ran?;
+    let run = ran?;
     ended?;
-    Ok(logs)
+    Ok(run)
 }

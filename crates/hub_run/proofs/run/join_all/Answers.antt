@@ -1,8 +1,11 @@
 use Rattle.std.specs.Prelude.{◌≡◌, ℕ, ◌+◌, ◌<◌, get_or, vec_items, vec_len}
-use Rattle.std.proofs.Common.{rules, arith, below_more, subst, sym}
-use Rattle.hub_script.specs.Contents.{Contents}
-use Rattle.hub_run.specs.Runs.{IsLogFor}
-use Rattle.hub_run.proofs.Logs.{logs_for}
+use Rattle.std.specs.Vec.Iter.{into_iter_len}
+use Rattle.std.proofs.Common.{rules, arith, below_more, length, subst, sym}
+use Rattle.hub_acting.specs.declared.acted.Acted.{Acted}
+use Rattle.hub_script.specs.Contents.{Contents, agents}
+use Rattle.hub_trace.specs.Accepted.{AgentLog}
+use Rattle.hub_run.specs.Runs.{IsRunFor}
+use Rattle.hub_run.proofs.Logs.{runs_for}
 use Rattle.hub_run.proofs.run.join_all.Goals as goal
 
 -- the handle that is joined stood first among the rest, so its promise is of the next agent
@@ -10,19 +13,37 @@ pub loop-handle-preserved : goal.loop-handle-preserved
 loop-handle-preserved g c =
     let was = c.loop-handle.invariant in
     let step = c.in-Some.ensures.steps in
-    let done = vec_len c.loop-handle.logs in
+    let done = vec_len c.loop-handle.run.logs in
     let script = c.args._script.now in
     let handle = c.in-Some.handle in
-    let log = c.in_ok-join.field-0 in
+    let ran = c.in_ok-log.field-0 in
+    let logs = vec_items c.push.new.self in
+    let acted = vec_items c.push-in-loop-handle.new.self in
     let number_is : handle.promise.number.0 ≡ done = let h = was.1 0 handle in grind rules in
     let script_is : handle.promise.script.now ≡ script = let h = was.2 0 handle in grind rules in
-    let here : IsLogFor script (record { 0 = done }) log =
-    subst (λ (s : Contents). IsLogFor s (record { 0 = done }) log) script_is (subst (λ (n : ℕ). IsLogFor handle.promise.script.now (record { 0 = n }) log) number_is c.in_ok-join.ensures) in
+    let here : IsRunFor script (record { 0 = done }) ran.log ran.acted =
+    subst (λ (s : Contents). IsRunFor s (record { 0 = done }) ran.log ran.acted) script_is
+    (subst (λ (n : ℕ). IsRunFor handle.promise.script.now (record { 0 = n }) ran.log ran.acted) number_is c.in_ok-log.ensures) in
     let grown : vec_len c.push.new.self ≡ done + 1 = search rules in (
       search rules,
       (λ k d below. let h = was.1 (k + 1) d in grind rules),
       (λ k d below. let h = was.2 (k + 1) d in grind rules),
-      λ k d below. below_more (λ i. IsLogFor script (record { 0 = i }) (get_or (vec_items c.push.new.self) i d)) done
-          (λ i low. subst (IsLogFor script (record { 0 = i })) (sym (c.push.ensures.by_index.0 i d low)) (was.3 i d low))
-          (subst (IsLogFor script (record { 0 = done })) (sym (c.push.ensures.by_index.1 d (search rules))) here) k (omega arith),
+      search rules,
+      λ k d e below. below_more (λ i. IsRunFor script (record { 0 = i }) (get_or logs i d) (get_or acted i e)) done
+          (λ i low. subst (λ (l : AgentLog). IsRunFor script (record { 0 = i }) l (get_or acted i e)) (sym (c.push.ensures.by_index.0 i d low))
+          (subst (λ (a : Acted). IsRunFor script (record { 0 = i }) (get_or (vec_items c.loop-handle.run.logs) i d) a) (sym (c.push-in-loop-handle.ensures.by_index.0 i e (subst (λ n. i < n) (sym was.3) low))) (was.4 i d e low)))
+          (subst (λ (l : AgentLog). IsRunFor script (record { 0 = done }) l (get_or acted done e)) (sym (c.push.ensures.by_index.1 d (search rules)))
+          (subst (λ (a : Acted). IsRunFor script (record { 0 = done }) ran.log a)
+          (sym (subst (λ n. get_or acted n e ≡ ran.acted) was.3 (c.push-in-loop-handle.ensures.by_index.1 e (search rules)))) here)) k (omega arith),
     )
+
+pub returns : goal.returns
+returns g c =
+    let was = c.loop-handle.invariant in
+    let logs = vec_items c.loop-handle.run.logs in
+    let acted = vec_items c.loop-handle.run.acted in
+    let ended : into_iter_len c.loop-handle.handle-iterator ≡ 0 = search rules in
+    let many : vec_len c.loop-handle.run.logs ≡ length (agents c.args._script.now) = search rules in
+    let as_many : length logs ≡ length (agents c.args._script.now) = search rules in
+    let all : length acted ≡ length (agents c.args._script.now) = search rules in
+    runs_for c.args._script.now logs acted as_many all (λ k d e below. was.4 k d e (search rules))
