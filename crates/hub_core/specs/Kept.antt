@@ -395,6 +395,10 @@ abbrev pub push_outcome : Result (Line × AgentId) Outcome → Outcome
 push_outcome (Ok p) = outcome.Accepted (record { agent = p.1; epoch = p.0.epoch; number = p.0.put })
 push_outcome (Err o) = o
 
+-- the ends after an envelope was put, its ports where they were
+abbrev pub PutLeaves : List End → Line → Envelope → List End → Type 0
+PutLeaves old y v new = IfSome (slice_get old v.end.0) (λ x. new ≡ slice_set old v.end.0 (put_end x y v))
+
 -- the ends after an envelope was put on a line: an envelope more at its end, and its ports in flight
 abbrev pub AcceptLeaves : List End → Line → Envelope → List End → Type 0
 AcceptLeaves old y v new =

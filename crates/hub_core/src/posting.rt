@@ -3,13 +3,13 @@
 ghost use Rattle.std.specs.Prelude.{◌≡◌, ◌<◌, ◌≤◌, ◌∷◌, [], length, slice_get, Some, IfOk, OnOk};
 ghost use Rattle.std.specs.Prelude.{OnErr};
 ghost use Rattle.hub_core.specs.KeptRoster.{cast_now, cast_left};
-ghost use Rattle.hub_core.specs.Posting.{is_fitting};
+ghost use Rattle.hub_core.specs.Posting.{is_fitting, is_good};
 ghost use Rattle.hub_core.specs.Kept.{enter_outcome_at, enter_ends_at, leave_outcome_at};
 ghost use Rattle.hub_core.specs.Kept.{leave_ends_at, hop_outcome_at, hop_ends_at, kept_may_enter};
 ghost use Rattle.hub_core.specs.Kept.{kept_noticing, notice_outcome, NoticeLeaves, kept_posting};
 ghost use Rattle.hub_core.specs.Kept.{kept_all_leave, kept_listing_to, kept_may_leave};
 ghost use Rattle.hub_core.specs.Kept.{kept_own_free, push_outcome, HasQueue, AcceptLeaves};
-ghost use Rattle.hub_core.specs.Kept.{PushLeaves, Moves};
+ghost use Rattle.hub_core.specs.Kept.{PushLeaves, PutLeaves, Moves};
 ghost use Rattle.hub_core.specs.KeptEnding.{kept_owner_of, enter_agents, leave_agents};
 
 use crate::end::Place;
@@ -169,8 +169,10 @@ impl Core {
         if ports.len() > MAX_PORTS {
             return Err(Outcome::TooManyPorts);
         }
-        let listing = self.listing_to(sender.end, agent, end.kind.source(), ports);
-        if !listing.is_good() || !self.is_fitting(end.kind, ports, body) {
+        let source = end.kind.source();
+        if !self.is_good_list(sender.end, agent, source, ports)
+            || !self.is_fitting(end.kind, ports, body)
+        {
             return Err(Outcome::NotNow);
         }
         if memory_refused {
@@ -263,12 +265,46 @@ impl Core {
         ensures agents { self.new.agents ≡ self.old.agents }
         ensures roster { self.new.roster ≡ self.old.roster }
     {
+        if envelope.ports.as_slice().is_empty() {
+            return self.put(line, envelope);
+        }
         // The ports are placed once the envelope is in its queue, which takes the list.
-        let travelling = Vec::from_slice(self.alloc, envelope.ports.as_slice())?;
-        let end = &mut self.ends[envelope.end.0 as usize];
-        end.put(line, envelope)?;
-        self.place_each(&travelling, Place::InFlight);
+        let mut travelling = [EndId(0); MAX_PORTS];
+        let listed = envelope.ports.as_slice();
+        let count = listed.len();
+        travelling[..count].copy_from_slice(listed);
+        self.put(line, envelope)?;
+        self.place_each(&travelling[..count], Place::InFlight);
         Ok(())
+    }
+
+    /// Puts an envelope last in the queue at which its line stands.
+    fn put(&mut self, line: Line, envelope: Envelope) -> Result<(), OutOfMemory>
+        requires there { envelope.end.0 < length self.old.ends.items }
+        requires queue { HasQueue self.old.ends.items
+            (record { end = envelope.end; line = envelope.line }) line }
+        ensures ok { OnOk result (PutLeaves self.old.ends.items line envelope
+            self.new.ends.items) }
+        ensures err { OnErr result (self.new.ends.items ≡ self.old.ends.items) }
+        ensures agents { self.new.agents ≡ self.old.agents }
+        ensures roster { self.new.roster ≡ self.old.roster }
+    {
+        self.ends[envelope.end.0 as usize].put(line, envelope)
+    }
+
+    /// Whether a message to an end may have these ports.
+    #[inline(always)]
+    fn is_good_list(
+        &self,
+        target: EndId,
+        agent: AgentId,
+        source: Option<EndId>,
+        ports: &[EndId],
+    ) -> bool
+        ensures { result
+            ≡ is_good (kept_listing_to self.now.ends.items target agent source ports.now) }
+    {
+        ports.is_empty() || self.listing_to(target, agent, source, ports).is_good()
     }
 
     /// What a list of ports is to a message to an end from an agent that posts with the source, or
