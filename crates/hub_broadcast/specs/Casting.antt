@@ -2,7 +2,7 @@
 use Rattle.std.specs.Prelude.{◌≡◌, ℕ, [], ◌∷◌, ◌++◌, false, List, MatchBool, Result, Ok, Err}
 use Rattle.hub_envelope.specs.declared.envelope.Draft.{Draft}
 use Rattle.hub_envelope.specs.declared.ids.EndId.{EndId}
-use Rattle.hub_queue.specs.declared.posted.Posted.{Posted}
+use Rattle.hub_envelope.specs.declared.posted.Posted.{Posted}
 use Rattle.hub_queue.specs.declared.post_error.PostError.{PostError}
 use Rattle.hub_queue.specs.declared.post_error.PostError.TheVariants as refusal
 use Rattle.hub_queue.specs.Posting.{IsPosted}

@@ -8,5 +8,6 @@ pub mod Answer
 pub mod Compact
 pub mod SameEnds
 pub mod Same
+pub mod Naming
 pub mod Notice
 pub mod Limits

@@ -11,6 +11,7 @@ mod envelope;
 mod ids;
 mod limits;
 mod ports;
+mod posted;
 mod profile;
 mod stored_text;
 
@@ -22,4 +23,5 @@ pub use limits::{
     MAX_NESTING, MAX_PORTS, MAX_PUT, MAX_READS, MAX_SCRIPT_LINES, limit_laws,
 };
 pub use ports::Ports;
+pub use posted::Posted;
 pub use std::alloc::AllocError as OutOfMemory;

@@ -1,7 +1,7 @@
 use hub_envelope::{AgentId, Body, BodyError, EndId, Envelope, LineId, Ports};
 use hub_trace::{
-    FaultKind, LOG_HEADER, Label, Log, LogError, Verdict, check, deliveries, is_port_list,
-    read_logs,
+    FaultKind, LOG_HEADER, Log, LogError, Posted, Verdict, check, deliveries, is_name,
+    is_port_list, read_logs,
 };
 use std::alloc::{AllocError, AllocFailed, Global};
 use std::fmt;
@@ -306,7 +306,7 @@ fn tells_the_first_bad_line(rt: HostRuntime) -> Result<(), Fail> {
 
 /// Logs of all kinds of entry.
 fn some_logs(alloc: Global) -> Result<Vec<Log>, Fail> {
-    let label = Label {
+    let posted = Posted {
         end: EndId(65_535),
         line: LineId(31),
         epoch: 65_535,
@@ -314,20 +314,20 @@ fn some_logs(alloc: Global) -> Result<Vec<Log>, Fail> {
     };
     let body = Body::read(alloc, "{\"b\": [1, null],\t\"a\": \"\u{e9}\\n\"}")?;
     let ports = [EndId(7), EndId(0), EndId(12)];
-    if !label.is_within() || !is_port_list(&ports) {
+    if !is_name(&posted) || !is_port_list(&ports) {
         return Err(Fail::Within);
     }
     let mut first = Log::new(alloc, AgentId(3));
-    first.put(alloc, label, &ports, &body)?;
-    first.put_notice(label)?;
+    first.put(alloc, posted, &ports, &body)?;
+    first.put_notice(posted)?;
     first.closed(EndId(2))?;
     let mut second = Log::new(alloc, AgentId(15));
     second.adopted(EndId(9), 1)?;
     if !is_port_list(&[]) {
         return Err(Fail::Within);
     }
-    second.got(alloc, label, &[], &body)?;
-    second.got_notice(label)?;
+    second.got(alloc, posted, &[], &body)?;
+    second.got_notice(posted)?;
     let mut logs = Vec::new(alloc);
     logs.push(first)?;
     logs.push(second)?;
@@ -373,7 +373,7 @@ fn reads_back_what_it_wrote(rt: HostRuntime) -> Result<(), Fail> {
 }
 
 #[test]
-fn labels_an_envelope(rt: HostRuntime) -> Result<(), Fail> {
+fn names_an_envelope(rt: HostRuntime) -> Result<(), Fail> {
     let alloc = rt.alloc();
     let envelope = Envelope {
         end: EndId(4),
@@ -386,11 +386,11 @@ fn labels_an_envelope(rt: HostRuntime) -> Result<(), Fail> {
         notice: false,
     };
     let mut log = Log::new(alloc, AgentId(1));
-    let label = Label::of(&envelope);
-    if !label.is_within() || !is_port_list(envelope.ports.as_slice()) {
+    let posted = Posted::of(&envelope);
+    if !is_name(&posted) || !is_port_list(envelope.ports.as_slice()) {
         return Err(Fail::Within);
     }
-    log.got(alloc, label, envelope.ports.as_slice(), &envelope.body)?;
+    log.got(alloc, posted, envelope.ports.as_slice(), &envelope.body)?;
     assert_eq!(rt;
         log.to_string(alloc)?.as_str(),
         "agent 1\ngot 4 1 2:9 - null\n"

@@ -1,7 +1,9 @@
 // Logs that are appended to, written, read, checked and listed by their deliveries while one
 // allocation is refused.
 use hub_envelope::{AgentId, Body, BodyError, EndId, LineId};
-use hub_trace::{LOG_HEADER, Label, Log, LogError, check, deliveries, is_port_list, read_logs};
+use hub_trace::{
+    LOG_HEADER, Log, LogError, Posted, check, deliveries, is_name, is_port_list, read_logs,
+};
 use std::alloc::{AllocError, AllocFailed, Global};
 use std::fmt;
 
@@ -62,7 +64,7 @@ fn once_more<T: Drop, F: Fn() -> Result<T, Refused>>(call: F) -> Result<T, Refus
 
 /// Appends an entry of one of the six kinds.
 fn append(alloc: Global, log: &mut Log, step: u32) -> Result<(), Refused> {
-    let label = Label {
+    let posted = Posted {
         end: EndId(4),
         line: LineId(31),
         epoch: 0,
@@ -70,21 +72,21 @@ fn append(alloc: Global, log: &mut Log, step: u32) -> Result<(), Refused> {
     };
     let ports = [EndId(7), EndId(0)];
     let closed = EndId(100 + step % 100);
-    if !label.is_within() || !is_port_list(&ports) || log.has_closed(closed) {
+    if !is_name(&posted) || !is_port_list(&ports) || log.has_closed(closed) {
         return Err(Refused::Wrong);
     }
     let body = Body::read(alloc, "[1,{\"a\":null,\"b\":[]}]")?;
     match step % 6 {
-        0 => log.put(alloc, label, &ports, &body)?,
-        1 => log.got(alloc, label, &ports, &body)?,
+        0 => log.put(alloc, posted, &ports, &body)?,
+        1 => log.got(alloc, posted, &ports, &body)?,
         2 => log.adopted(EndId(5), 1)?,
-        3 => log.put_notice(Label {
+        3 => log.put_notice(Posted {
             end: EndId(6),
-            ..label
+            ..posted
         })?,
-        4 => log.got_notice(Label {
+        4 => log.got_notice(Posted {
             end: EndId(6),
-            ..label
+            ..posted
         })?,
         _ => log.closed(closed)?,
     }

@@ -3,10 +3,9 @@ use Rattle.std.specs.Prelude.{ℕ, ◌+◌, ◌%◌, ◌^◌, Bool, true, false,
 use Rattle.std.specs.List.{filter}
 use Rattle.hub_envelope.specs.declared.envelope.Envelope.{Envelope}
 use Rattle.hub_envelope.specs.declared.ids.EndId.{EndId}
-use Rattle.hub_queue.specs.declared.posted.Posted.{Posted}
-use Rattle.hub_trace.specs.Accepted.{AgentLog, label_of, log_with, message_at, notice_at}
+use Rattle.hub_envelope.specs.Naming.{posted_of}
+use Rattle.hub_trace.specs.Accepted.{AgentLog, log_with, message_at, notice_at}
 use Rattle.hub_trace.specs.PortList.{has_end}
-use Rattle.hub_trace.specs.declared.label.Label.{Label}
 use Rattle.hub_trace.specs.declared.log_entry.Delivery.{Delivery}
 use Rattle.hub_trace.specs.declared.log_entry.LogEntry.TheVariants.{Got}
 
@@ -16,13 +15,9 @@ pub record Notes : Type 0 where
   pub adopted : List EndId
   pub messages : ℕ
 
--- the label of a post that was accepted
-abbrev pub posted_label : Posted → Label
-posted_label p = record { end = p.end; line = p.line; epoch = p.epoch; number = p.number }
-
 -- what the log says of an envelope that was delivered
 abbrev pub delivered : Envelope → Delivery
-delivered e = if e.notice then notice_at (label_of e) else message_at (label_of e) e.ports e.body
+delivered e = if e.notice then notice_at (posted_of e) else message_at (posted_of e) e.ports e.body
 
 -- a message counts, a notice doesn't; the count has 64 bits
 abbrev pub counted : Bool → ℕ → ℕ

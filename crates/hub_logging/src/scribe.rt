@@ -1,5 +1,5 @@
 ghost use Rattle.std.specs.Prelude.{◌≡◌, ◌≤◌, [], OnOk, OnErr};
-ghost use Rattle.hub_logging.specs.Notes.{delivered, posted_label};
+ghost use Rattle.hub_logging.specs.Notes.{delivered};
 ghost use Rattle.hub_trace.specs.Accepted.{log_with, message_at, notice_at};
 ghost use Rattle.hub_trace.specs.PortList.{has_end};
 ghost use Rattle.hub_trace.specs.declared.limits.TheConstants.{MAX_AGENT};
@@ -10,10 +10,9 @@ ghost use Rattle.hub_trace.specs.declared.log_entry.LogEntry.TheVariants.{
   Put,
 };
 
-use hub_envelope::{AgentId, Body, EndId, Envelope, OutOfMemory};
+use hub_envelope::{AgentId, Body, EndId, Envelope, OutOfMemory, Posted};
 use hub_loop::Handler;
-use hub_queue::Posted;
-use hub_trace::{Label, Log, MAX_END, MAX_EPOCH, is_port_list};
+use hub_trace::{Log, MAX_END, MAX_EPOCH, is_name, is_port_list};
 use std::alloc::Global;
 use std::collections::BTreeSet;
 use std::marker::Model;
@@ -56,18 +55,6 @@ impl Model for Scribe {
 
     ghost invariant = { λ s. (s.log.0.0 ≤ MAX_AGENT)
         × ((end : ℕ) → is_closed_by s.log.1 end ≡ true → contains nat_cmp s.closed end ≡ true) };
-}
-
-// The label of a post that was accepted.
-fn label_of(posted: Posted) -> Label
-    ensures { result ≡ posted_label posted }
-{
-    Label {
-        end: posted.end,
-        line: posted.line,
-        epoch: posted.epoch,
-        number: posted.number,
-    }
 }
 
 // Whether the end stands in the list.
@@ -135,30 +122,28 @@ impl Scribe {
     #[tactic(auto, using(crate::proofs::Notes::closed_more))]
     pub fn put(&mut self, posted: Posted, ports: &[EndId], body: &Body) -> Result<(), OutOfMemory>
         ensures ok { OnOk result (self.new ≡ record self.old {
-          log = log_with self.old.log (Put (message_at (posted_label posted) ports.now body.now));
+          log = log_with self.old.log (Put (message_at posted ports.now body.now));
         }) }
         ensures err { OnErr result (self.new ≡ self.old) }
     {
-        let label = label_of(posted);
-        if !label.is_within() || !is_port_list(ports) {
+        if !is_name(&posted) || !is_port_list(ports) {
             return Err(OutOfMemory);
         }
-        self.log.put(self.alloc, label, ports, body)
+        self.log.put(self.alloc, posted, ports, body)
     }
 
     /// Logs a notice that was put. An error changes nothing.
     #[tactic(auto, using(crate::proofs::Notes::closed_more))]
     pub fn put_notice(&mut self, posted: Posted) -> Result<(), OutOfMemory>
         ensures ok { OnOk result (self.new ≡ record self.old {
-          log = log_with self.old.log (Put (notice_at (posted_label posted)));
+          log = log_with self.old.log (Put (notice_at posted));
         }) }
         ensures err { OnErr result (self.new ≡ self.old) }
     {
-        let label = label_of(posted);
-        if !label.is_within() {
+        if !is_name(&posted) {
             return Err(OutOfMemory);
         }
-        self.log.put_notice(label)
+        self.log.put_notice(posted)
     }
 
     // Logs an envelope that was delivered. An error changes nothing.
@@ -169,15 +154,15 @@ impl Scribe {
         }) }
         ensures err { OnErr result (self.new ≡ self.old) }
     {
-        let label = Label::of(envelope);
+        let posted = Posted::of(envelope);
         let ports = envelope.ports.as_slice();
-        if !label.is_within() || !is_port_list(ports) {
+        if !is_name(&posted) || !is_port_list(ports) {
             return Err(OutOfMemory);
         }
         if envelope.notice {
-            self.log.got_notice(label)
+            self.log.got_notice(posted)
         } else {
-            self.log.got(self.alloc, label, ports, &envelope.body)
+            self.log.got(self.alloc, posted, ports, &envelope.body)
         }
     }
 

@@ -1,7 +1,7 @@
 -- What a post with ports does to the ports in flight.
 use Rattle.std.specs.Prelude.{◌≡◌, List, [], ◌∷◌, ◌++◌, IsNone, Option, Some, Result, Ok, Err}
 use Rattle.std.specs.FinMap as map
-use Rattle.hub_queue.specs.declared.posted.Posted.{Posted}
+use Rattle.hub_envelope.specs.declared.posted.Posted.{Posted}
 use Rattle.hub_ports.specs.declared.port_error.PortError.{PortError}
 use Rattle.hub_ports.specs.declared.port_error.PortError.TheVariants.{Closed, Moving, OutOfMemory, Doomed, TooManyPorts, Strayed, Taken}
 use Rattle.hub_ports.specs.Arriving.{Flight}

@@ -4,7 +4,7 @@ use Rattle.hub_envelope.specs.declared.envelope.Draft.{Draft}
 use Rattle.hub_envelope.specs.declared.ids.AgentId.{AgentId}
 use Rattle.hub_queue.specs.declared.post_error.PostError.{PostError}
 use Rattle.hub_queue.specs.declared.post_error.PostError.TheVariants as why
-use Rattle.hub_queue.specs.declared.posted.Posted.{Posted}
+use Rattle.hub_envelope.specs.declared.posted.Posted.{Posted}
 use Rattle.hub_queue.specs.Posting.{IsPosted}
 use Rattle.hub_queue.specs.Standing.{StandSeat}
 use Rattle.hub_ports.specs.declared.port_error.PortError.{PortError}

@@ -9,7 +9,7 @@ use Rattle.hub_gate.specs.declared.entered.Refusal.TheVariants as refusal
 use Rattle.hub_gate.specs.Entering.{left_seat}
 use Rattle.hub_gate.specs.GateSeats.{EntrySeat, InsideSeat, with_right}
 use Rattle.hub_queue.specs.declared.pass_view.PutView.{PutView}
-use Rattle.hub_queue.specs.declared.posted.Posted.{Posted}
+use Rattle.hub_envelope.specs.declared.posted.Posted.{Posted}
 use Rattle.hub_queue.specs.declared.posting.Tried.TheVariants.{Answered, Turned}
 use Rattle.hub_queue.specs.declared.post_error.PostError.{PostError}
 use Rattle.hub_queue.specs.Posting.{StaysAt, name_after, HasPassed, LeavesBehind, GoesTo, HasSeen, IsSeen, PutsNothing, IsPosted}

@@ -11,7 +11,7 @@ use Rattle.hub_envelope.specs.declared.envelope.Draft.{Draft}
 use Rattle.hub_queue.specs.declared.pass_view.PutView.{PutView}
 use Rattle.hub_queue.specs.declared.pause.Point.{Point}
 use Rattle.hub_queue.specs.declared.pause.Point.TheVariants.{Before, Hopping}
-use Rattle.hub_queue.specs.declared.posted.Posted.{Posted}
+use Rattle.hub_envelope.specs.declared.posted.Posted.{Posted}
 use Rattle.hub_queue.specs.declared.post_error.PostError.{PostError}
 use Rattle.hub_queue.specs.Posting.{StaysAt, name_after}
 use Rattle.hub_queue.specs.Standing.{StandSeat, IsNext}

@@ -6,7 +6,7 @@ use Rattle.hub_envelope.specs.declared.envelope.Draft.{Draft}
 use Rattle.hub_gate.specs.declared.entered.Refusal.{Refusal}
 use Rattle.hub_gate.specs.declared.entered.Refusal.TheVariants as refusal
 use Rattle.hub_queue.specs.declared.pass_view.PutView.{PutView}
-use Rattle.hub_queue.specs.declared.posted.Posted.{Posted}
+use Rattle.hub_envelope.specs.declared.posted.Posted.{Posted}
 use Rattle.hub_queue.specs.declared.post_error.PostError.{PostError}
 use Rattle.hub_queue.specs.declared.post_error.PostError.TheVariants.{Closed, Moving, OutOfMemory}
 use Rattle.hub_queue.specs.Putting.{IsPut, HadNoRoom}

@@ -5,7 +5,7 @@ use Rattle.hub_depot.specs.declared.key.Key.{Key}
 use Rattle.hub_envelope.specs.declared.envelope.Draft.{Draft}
 use Rattle.hub_queue.specs.declared.pause.Point.{Point}
 use Rattle.hub_queue.specs.declared.pause.Point.TheVariants.{Before, Inside, Pushed, Hopping}
-use Rattle.hub_queue.specs.declared.posted.Posted.{Posted}
+use Rattle.hub_envelope.specs.declared.posted.Posted.{Posted}
 use Rattle.hub_queue.specs.declared.posting.Tried.{Tried}
 use Rattle.hub_queue.specs.declared.posting.Tried.TheVariants.{Answered, Turned}
 use Rattle.hub_queue.specs.declared.post_error.PostError.{PostError}

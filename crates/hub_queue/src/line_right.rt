@@ -6,11 +6,10 @@ ghost use Rattle.hub_queue.specs.PassSteps.{refused_more};
 ghost use Rattle.hub_queue.specs.Putting.{IsPut, unnamed};
 ghost use Rattle.hub_queue.specs.Seats.{IsNameOf, known_by, put_in};
 
-use crate::posted::Posted;
 use crate::queue_rule::{CountRefusal, Put};
 use crate::store::{Pass, Store};
 use hub_depot::Key;
-use hub_envelope::{Draft, Envelope, MAX_PUT};
+use hub_envelope::{Draft, Envelope, MAX_PUT, Posted};
 use hub_gate::Right;
 use std::marker::Model;
 use std::sync::{Arc, Wait};

@@ -7,10 +7,9 @@ ghost use Rattle.hub_queue.specs.Yards.{IsHoppedOver};
 use crate::onward::Onward;
 use crate::pause::{NoPause, Pause, Watch};
 use crate::post_error::PostError;
-use crate::posted::Posted;
 use crate::stand::Stand;
 use hub_depot::{Depot, Key, Shelf};
-use hub_envelope::Draft;
+use hub_envelope::{Draft, Posted};
 use std::marker::Model;
 use std::sync::Wait;
 

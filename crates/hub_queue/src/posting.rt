@@ -13,11 +13,10 @@ use crate::line_right::LineRight;
 use crate::onward::{Onward, next_stand};
 use crate::pause::{Point, Watch};
 use crate::post_error::PostError;
-use crate::posted::Posted;
 use crate::stand::Stand;
 use hub_bell::Bell;
 use hub_depot::{Key, Shelf};
-use hub_envelope::{Draft, MAX_HOPS};
+use hub_envelope::{Draft, MAX_HOPS, Posted};
 use hub_gate::{Entered, Entry, Inside, Refusal};
 use std::sync::Wait;
 

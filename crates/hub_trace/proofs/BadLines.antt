@@ -16,7 +16,7 @@ use Rattle.hub_trace.specs.declared.log_line.LogLine.{LogLine}
 use Rattle.hub_trace.specs.declared.log_line.LogLine.TheVariants as line
 use Rattle.hub_trace.specs.Accepted.{AgentLog}
 use Rattle.hub_trace.specs.Closings.{closes_again}
-use Rattle.hub_trace.specs.LogLine.{LogRead, adoption_in, agent_in, begins_with_space, body_answer, body_in, content_cut, content_in, delivery_in, end_in, epoch_in, label_in, line_in, log_line_of, log_line_with, message_with, number_in, parts_in, ports_in, ports_tested, text_in}
+use Rattle.hub_trace.specs.LogLine.{LogRead, adoption_in, agent_in, begins_with_space, body_answer, body_in, content_cut, content_in, delivery_in, end_in, epoch_in, posted_in, line_in, log_line_of, log_line_with, message_with, number_in, parts_in, ports_in, ports_tested, text_in}
 use Rattle.hub_trace.specs.PortList.{is_port_list}
 use Rattle.hub_trace.specs.Read.{line_added, with_entry, with_line}
 
@@ -51,9 +51,9 @@ parts c text = some (cut c text)
 end : (word : List ℕ) → RefusesBad (end_in word)
 end word = then (number_in 65535 word) _ (number 65535 word) (λ n. ok (record { 0 = n }))
 
-label : (v : LogVersion) (e l name : List ℕ) → RefusesBad (label_in v e l name)
-unfolding label_in
-label v e l name =
+posted : (v : LogVersion) (e l name : List ℕ) → RefusesBad (posted_in v e l name)
+unfolding posted_in
+posted v e l name =
     then (parts_in 58 name) _ (parts 58 name) (λ p.
     then (end_in e) _ (end e) (λ x.
     then (line_in v l) _ (then (number_in (max_line v) l) _ (number (max_line v) l) (λ n. ok (record { 0 = n }))) (λ y.
@@ -92,8 +92,8 @@ delivery v text =
     then (parts_in 32 text) _ (parts 32 text) (λ e.
     then (parts_in 32 e.1) _ (parts 32 e.1) (λ l.
     then (parts_in 32 l.1) _ (parts 32 l.1) (λ n.
-    then (label_in v e.0 l.0 n.0) _ (label v e.0 l.0 n.0) (λ x.
-    then (content_in v n.1) _ (content v n.1) (λ c. ok (record { label = x; content = c }))))))
+    then (posted_in v e.0 l.0 n.0) _ (posted v e.0 l.0 n.0) (λ x.
+    then (content_in v n.1) _ (content v n.1) (λ c. ok (record { posted = x; content = c }))))))
 
 adoption : (text : List ℕ) → RefusesBad (adoption_in text)
 unfolding adoption_in

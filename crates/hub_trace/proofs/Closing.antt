@@ -35,19 +35,19 @@ closing_step h hs c end none over =
 
 -- what was got goes to its own end
 got_step : (h : Happening) (hs : List Happening) (c : Bool) (end : ℕ) (a : Arrival) (d : Bor Delivery) → h.got ≡ Some d
-    → a.label ≡ d.now.label → a.content.now ≡ d.now.content → ((h.end.0 == end) ≡ true → a.late ≡ c) → d.now.label.end.0 ≡ h.end.0
+    → a.posted ≡ d.now.posted → a.content.now ≡ d.now.content → ((h.end.0 == end) ≡ true → a.late ≡ c) → d.now.posted.end.0 ≡ h.end.0
     → receipts c (end_events_in (h ∷ hs) end) ≡ receipts_in (a ∷ []) end ++ receipts c (end_events_in hs end)
-got_step h hs c end a d got labels contents late own =
+got_step h hs c end a d got names contents late own =
     let rest = map end_event_of (filter (λ x. x.end.0 == end) hs) in
-    let at : h.end.0 ≡ a.label.end.0 = sym own ∙ ap (λ l. l.end.0) (sym labels) in
+    let at : h.end.0 ≡ a.posted.end.0 = sym own ∙ ap (λ l. l.end.0) (sym names) in
     by_test (λ b. receipts c (map end_event_of (cond b (h ∷ filter (λ x. x.end.0 == end) hs) (filter (λ x. x.end.0 == end) hs))) ≡ map receipt_of (cond b (a ∷ []) []) ++ receipts c rest) (h.end.0 == end)
     (λ t. (λ i. receipt c (option_map (λ d. d.now) (got i)) ++ receipts (is_closed_after c (option_map (λ d. d.now) (got i))) rest)
-    ∙ (λ i. record { delivery = record { label = sym labels i; content = sym contents i }; late = sym (late t) i } ∷ receipts c rest))
+    ∙ (λ i. record { delivery = record { posted = sym names i; content = sym contents i }; late = sym (late t) i } ∷ receipts c rest))
     (λ _. refl)
     ∙ (λ i. map receipt_of (cond (at i == end) (a ∷ []) []) ++ receipts c rest)
 
 receipts_in-append : (xs ys : List Arrival) (end : ℕ) → receipts_in (xs ++ ys) end ≡ receipts_in xs end ++ receipts_in ys end
-receipts_in-append xs ys end = ap (map receipt_of) (filter-append (λ a. a.label.end.0 == end) xs ys) ∙ map-append receipt_of (filter (λ a. a.label.end.0 == end) xs) (filter (λ a. a.label.end.0 == end) ys)
+receipts_in-append xs ys end = ap (map receipt_of) (filter-append (λ a. a.posted.end.0 == end) xs ys) ∙ map-append receipt_of (filter (λ a. a.posted.end.0 == end) xs) (filter (λ a. a.posted.end.0 == end) ys)
 
 differs : (x y z : ℕ) → x ≤ y → y ≤ z → (y == x) ≡ false → (z == x) ≡ false
 differs x y z h k t = grind (arith, nat_tests)
@@ -89,14 +89,14 @@ late_is None n end r is t = is
 late_is (Some x) n end r is t = is ∙ ap (λ m. x == m) (exact_unsigned_eq n end t)
 
 pub told_got : (xs : List Happening) (i : ℕ) (h : Happening) (closed : Option ℕ) (arrivals : List Arrival) (a : Arrival) (d : Bor Delivery) (end : ℕ) → i < length xs → h ≡ get_or xs i h
-    → h.got ≡ Some d → a.label ≡ d.now.label → a.content.now ≡ d.now.content → a.late ≡ option_eq nat_eq closed (Some h.end.0) → IsOwn h
+    → h.got ≡ Some d → a.posted ≡ d.now.posted → a.content.now ≡ d.now.content → a.late ≡ option_eq nat_eq closed (Some h.end.0) → IsOwn h
     → receipts_in arrivals end ++ receipts (is_closed closed end) (end_events_in (drop i xs) end) ≡ receipts false (end_events_in xs end)
     → receipts_in (arrivals ++ a ∷ []) end ++ receipts (is_closed closed end) (end_events_in (drop (i + 1) xs) end) ≡ receipts false (end_events_in xs end)
-told_got xs i h closed arrivals a d end lt is got labels contents late own told =
+told_got xs i h closed arrivals a d end lt is got names contents late own told =
     let c = is_closed closed end in
-    let own_end : d.now.label.end.0 ≡ h.end.0 = subst (λ (o : Option (Bor Delivery)). IfSome o (λ x. x.now.label.end.0 ≡ h.end.0)) got own in
+    let own_end : d.now.posted.end.0 ≡ h.end.0 = subst (λ (o : Option (Bor Delivery)). IfSome o (λ x. x.now.posted.end.0 ≡ h.end.0)) got own in
     ap (λ l. l ++ receipts c (end_events_in (drop (i + 1) xs) end)) (receipts_in-append arrivals (a ∷ []) end)
     ∙ append_assoc (receipts_in arrivals end) (receipts_in (a ∷ []) end) (receipts c (end_events_in (drop (i + 1) xs) end))
-    ∙ ap (λ l. receipts_in arrivals end ++ l) (sym (got_step h (drop (i + 1) xs) c end a d got labels contents (late_is closed h.end.0 end a.late late) own_end)
+    ∙ ap (λ l. receipts_in arrivals end ++ l) (sym (got_step h (drop (i + 1) xs) c end a d got names contents (late_is closed h.end.0 end a.late late) own_end)
     ∙ ap (λ l. receipts c (end_events_in l end)) (sym (drop_here xs i h lt is)))
     ∙ told

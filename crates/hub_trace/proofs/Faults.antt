@@ -110,7 +110,7 @@ nothing_is_clean put rs e = subst (IsCleanLine put) (sym e) ((put, refl), All-ni
 abbrev pub IsLeft : List AcceptedEnvelope → List Arrival → List Arrival → ℕ → ℕ → Type 0
 IsLeft accepted arrivals rest end line =
     (got_in rest end line ≡ got_in arrivals end line)
-    ⊎ (IsCleanLine (accepted_in accepted end line) (got_in arrivals end line) × (filter (λ a. is_of end line a.label) rest ≡ []))
+    ⊎ (IsCleanLine (accepted_in accepted end line) (got_in arrivals end line) × (filter (λ a. is_of end line a.posted) rest ≡ []))
 
 pub other_line : (a b e l x y : ℕ) → ((a == e) && (b == l)) ≡ true → ((e == x) && (l == y)) ≡ false → ((a == x) && (b == y)) ≡ false
 other_line a b e l x y h k = grind (arith, nat_tests)
@@ -128,44 +128,44 @@ self_append (x ∷ xs) ys h = let whole : x ∷ xs ≡ x ∷ (xs ++ ys) = h in l
 
 -- a front of the rest that is one line, and is clean, is done with
 step_by : (accepted : List AcceptedEnvelope) (arrivals rest front after : List Arrival) (end line : ℕ)
-    → front ≡ filter (λ a. is_of end line a.label) rest
+    → front ≡ filter (λ a. is_of end line a.posted) rest
     → IsCleanLine (accepted_in accepted end line) (map receipt_of front)
-    → (x y : ℕ) → filter (λ a. is_of x y a.label) rest ≡ filter (λ a. is_of x y a.label) front ++ filter (λ a. is_of x y a.label) after
+    → (x y : ℕ) → filter (λ a. is_of x y a.posted) rest ≡ filter (λ a. is_of x y a.posted) front ++ filter (λ a. is_of x y a.posted) after
     → (t : Bool) → ((end == x) && (line == y)) ≡ t
     → IsLeft accepted arrivals rest x y → IsLeft accepted arrivals after x y
 step_by accepted arrivals rest front after end line picked clean x y split t test (inr done) =
-    inr (done.0, append_nil_right (filter (λ a. is_of x y a.label) front) (filter (λ a. is_of x y a.label) after) (sym split ∙ done.1))
+    inr (done.0, append_nil_right (filter (λ a. is_of x y a.posted) front) (filter (λ a. is_of x y a.posted) after) (sym split ∙ done.1))
 step_by accepted arrivals rest front after end line picked clean x y split false test (inl same) =
-    let at_end_line : Each (λ a. is_of end line a.label ≡ true) front = subst (Each (λ a. is_of end line a.label ≡ true)) (sym picked) (Each-passes (λ a. is_of end line a.label) rest) in
-    let none = filter_none (λ a. is_of x y a.label) front (Each-weaker (λ a. is_of end line a.label ≡ true) (λ a. is_of x y a.label ≡ false) (λ a h. other_line a.label.end.0 a.label.line.0 end line x y h test) front at_end_line) in
-    inl (ap (map receipt_of) (sym (split ∙ ap (λ l. l ++ filter (λ a. is_of x y a.label) after) none)) ∙ same)
+    let at_end_line : Each (λ a. is_of end line a.posted ≡ true) front = subst (Each (λ a. is_of end line a.posted ≡ true)) (sym picked) (Each-passes (λ a. is_of end line a.posted) rest) in
+    let none = filter_none (λ a. is_of x y a.posted) front (Each-weaker (λ a. is_of end line a.posted ≡ true) (λ a. is_of x y a.posted ≡ false) (λ a h. other_line a.posted.end.0 a.posted.line.0 end line x y h test) front at_end_line) in
+    inl (ap (map receipt_of) (sym (split ∙ ap (λ l. l ++ filter (λ a. is_of x y a.posted) after) none)) ∙ same)
 step_by accepted arrivals rest front after end line picked clean x y split true test (inl same) =
     let at = same_line end line x y test in
-    let here : front ≡ filter (λ a. is_of x y a.label) rest = picked ∙ (λ i. filter (λ a. is_of (at.0 i) (at.1 i) a.label) rest) in
-    let at_end_line : Each (λ a. is_of x y a.label ≡ true) front = subst (Each (λ a. is_of x y a.label ≡ true)) (sym here) (Each-passes (λ a. is_of x y a.label) rest) in
+    let here : front ≡ filter (λ a. is_of x y a.posted) rest = picked ∙ (λ i. filter (λ a. is_of (at.0 i) (at.1 i) a.posted) rest) in
+    let at_end_line : Each (λ a. is_of x y a.posted ≡ true) front = subst (Each (λ a. is_of x y a.posted ≡ true)) (sym here) (Each-passes (λ a. is_of x y a.posted) rest) in
     let now : IsCleanLine (accepted_in accepted x y) (map receipt_of front) = subst (λ (e : ℕ). IsCleanLine (accepted_in accepted e y) (map receipt_of front)) at.0 (subst (λ (l : ℕ). IsCleanLine (accepted_in accepted end l) (map receipt_of front)) at.1 clean) in
     inr (
       subst (IsCleanLine (accepted_in accepted x y)) (ap (map receipt_of) here ∙ same) now,
-      self_append front (filter (λ a. is_of x y a.label) after) (here ∙ split ∙ ap (λ l. l ++ filter (λ a. is_of x y a.label) after) (filter_all (λ a. is_of x y a.label) front at_end_line)),
+      self_append front (filter (λ a. is_of x y a.posted) after) (here ∙ split ∙ ap (λ l. l ++ filter (λ a. is_of x y a.posted) after) (filter_all (λ a. is_of x y a.posted) front at_end_line)),
     )
 
 pub step_left : (accepted : List AcceptedEnvelope) (arrivals rest front after : List Arrival) (end line : ℕ)
-    → rest ≡ front ++ after → front ≡ filter (λ a. is_of end line a.label) rest
+    → rest ≡ front ++ after → front ≡ filter (λ a. is_of end line a.posted) rest
     → IsCleanLine (accepted_in accepted end line) (map receipt_of front)
     → ((x y : ℕ) → IsLeft accepted arrivals rest x y) → (x y : ℕ) → IsLeft accepted arrivals after x y
 step_left accepted arrivals rest front after end line cut picked clean left x y =
     step_by accepted arrivals rest front after end line picked clean x y
-    (ap (filter (λ a. is_of x y a.label)) cut ∙ filter-append (λ a. is_of x y a.label) front after)
+    (ap (filter (λ a. is_of x y a.posted)) cut ∙ filter-append (λ a. is_of x y a.posted) front after)
     ((end == x) && (line == y)) refl (left x y)
 
 -- nothing is left of a line of which nothing is in the rest
-pub gone_is_clean : (accepted : List AcceptedEnvelope) (arrivals rest : List Arrival) (x y : ℕ) → filter (λ a. is_of x y a.label) rest ≡ []
+pub gone_is_clean : (accepted : List AcceptedEnvelope) (arrivals rest : List Arrival) (x y : ℕ) → filter (λ a. is_of x y a.posted) rest ≡ []
     → IsLeft accepted arrivals rest x y → IsCleanLine (accepted_in accepted x y) (got_in arrivals x y)
 gone_is_clean accepted arrivals rest x y none (inr done) = done.0
 gone_is_clean accepted arrivals rest x y none (inl same) = nothing_is_clean (accepted_in accepted x y) (got_in arrivals x y) (sym same ∙ ap (map receipt_of) none)
 
 -- of a line of which something is in the rest all is
-pub whole_line : (accepted : List AcceptedEnvelope) (arrivals rest front : List Arrival) (x y : ℕ) → front ≡ filter (λ a. is_of x y a.label) rest → 0 < length front
+pub whole_line : (accepted : List AcceptedEnvelope) (arrivals rest front : List Arrival) (x y : ℕ) → front ≡ filter (λ a. is_of x y a.posted) rest → 0 < length front
     → IsLeft accepted arrivals rest x y → map receipt_of front ≡ got_in arrivals x y
 whole_line accepted arrivals rest front x y picked some (inl same) = ap (map receipt_of) picked ∙ same
 whole_line accepted arrivals rest front x y picked some (inr done) =
@@ -176,14 +176,14 @@ before_is_before a b c d x y h (inl k) = grind (arith, nat_tests)
 before_is_before a b c d x y h (inr k) = grind (arith, nat_tests)
 
 -- nothing is of a line before that of the first
-pub earlier_line_gone : (rest : List Arrival) (x y : ℕ) (first : Arrival) → 0 < length rest → first ≡ get_or rest 0 first → RisesByLine (λ a. a.label) rest
-    → IsLineBefore x y first.label.end.0 first.label.line.0 → filter (λ a. is_of x y a.label) rest ≡ []
+pub earlier_line_gone : (rest : List Arrival) (x y : ℕ) (first : Arrival) → 0 < length rest → first ≡ get_or rest 0 first → RisesByLine (λ a. a.posted) rest
+    → IsLineBefore x y first.posted.end.0 first.posted.line.0 → filter (λ a. is_of x y a.posted) rest ≡ []
 earlier_line_gone rest x y first some is rises before =
-    filter_none (λ a. is_of x y a.label) rest (recursion_from_All (λ a. is_of x y a.label ≡ false) rest (λ k d lt.
+    filter_none (λ a. is_of x y a.posted) rest (recursion_from_All (λ a. is_of x y a.posted ≡ false) rest (λ k d lt.
     let a = get_or rest k d in
     let front : get_or rest 0 d ≡ first = get_or_default rest 0 d first some ∙ sym is in
-    let not_before = subst (λ (f : Arrival). is_before f.label.end.0 f.label.line.0 a.label ≡ false) front (rises 0 k d (omega arith) lt) in
-    before_is_before a.label.end.0 a.label.line.0 first.label.end.0 first.label.line.0 x y not_before before))
+    let not_before = subst (λ (f : Arrival). is_before f.posted.end.0 f.posted.line.0 a.posted ≡ false) front (rises 0 k d (omega arith) lt) in
+    before_is_before a.posted.end.0 a.posted.line.0 first.posted.end.0 first.posted.line.0 x y not_before before))
 
 pub receipt_at : (got : List Arrival) (place : ℕ) (a : Arrival) → place < length got → a ≡ get_or got place a → slice_get (map receipt_of got) place ≡ Some (receipt_of a)
 receipt_at got place a lt is = slice_get-map receipt_of got place ∙ ap (option_map receipt_of) (slice_get-get_or got place a lt) ∙ ap (λ x. Some (receipt_of x)) (sym is)
@@ -241,6 +241,6 @@ pub list_any-map : {X Y : Type 0} (f : X → Y) (p : Y → Bool) (xs : List X) �
 list_any-map f p [] = refl
 list_any-map f p (x ∷ xs) = ap (λ b. p (f x) || b) (list_any-map f p xs)
 
-pub empty_gone : (rest : List Arrival) (x y : ℕ) → length rest ≤ 0 → filter (λ a. is_of x y a.label) rest ≡ []
+pub empty_gone : (rest : List Arrival) (x y : ℕ) → length rest ≤ 0 → filter (λ a. is_of x y a.posted) rest ≡ []
 empty_gone [] x y h = refl
 empty_gone (a ∷ rest) x y h = absurd (omega arith)

@@ -50,7 +50,7 @@ same_test a b e same h = ap (λ x. x == e) (sym (exact_unsigned a b same)) ∙ h
 
 -- by end, line, epoch and number
 abbrev pub put_key : AcceptedEnvelope → ℕ × ℕ × ℕ × ℕ
-put_key a = (a.label.end.0, a.label.line.0, a.label.epoch, a.label.number)
+put_key a = (a.posted.end.0, a.posted.line.0, a.posted.epoch, a.posted.number)
 
 abbrev pub put_cmp : (ℕ × ℕ × ℕ × ℕ) → (ℕ × ℕ × ℕ × ℕ) → Ordering
 put_cmp x y = ordering_then (ordering_then (ordering_then (nat_cmp x.0 y.0) (nat_cmp x.1 y.1)) (nat_cmp x.2 y.2)) (nat_cmp x.3 y.3)
@@ -59,19 +59,19 @@ put_total : IsTotalOrder put_cmp
 put_total = then_total (then_total (then_total (on_total (λ k. k.0) nat_cmp_total) (on_total (λ k. k.1) nat_cmp_total)) (on_total (λ k. k.2) nat_cmp_total)) (on_total (λ k. k.3) nat_cmp_total)
 
 name_total : IsTotalOrder name_cmp
-name_total = then_total (on_total (λ d. d.label.epoch) nat_cmp_total) (on_total (λ d. d.label.number) nat_cmp_total)
+name_total = then_total (on_total (λ d. d.posted.epoch) nat_cmp_total) (on_total (λ d. d.posted.number) nat_cmp_total)
 
 pub accepted_sorted : (xs ys : List AcceptedEnvelope) → IsSortedBy (λ x y. is_lt (put_cmp (put_key x) (put_key y))) ys → IsStableBy (λ x y. is_lt (put_cmp (put_key x) (put_key y))) xs ys
-    → (puts : List Delivery) → map delivery_of xs ≡ puts → (end line : ℕ) → accepted_in ys end line ≡ sorted name_cmp (filter (λ d. is_of end line d.label) puts)
+    → (puts : List Delivery) → map delivery_of xs ≡ puts → (end line : ℕ) → accepted_in ys end line ≡ sorted name_cmp (filter (λ d. is_of end line d.posted) puts)
 accepted_sorted xs ys up stable puts from end line =
-    ap (map delivery_of) (arranged (on_total put_key put_total) (on_total delivery_of name_total) (λ a. is_of end line a.label)
+    ap (map delivery_of) (arranged (on_total put_key put_total) (on_total delivery_of name_total) (λ a. is_of end line a.posted)
     (λ x y p q. let s = and_true _ _ p in let t = and_true _ _ q in
-    (λ i. ordering_then (ordering_then (ordering_then (same_number x.label.end.0 y.label.end.0 end s.0 t.0 i) (same_number x.label.line.0 y.label.line.0 line s.1 t.1 i)) (nat_cmp x.label.epoch y.label.epoch)) (nat_cmp x.label.number y.label.number)))
+    (λ i. ordering_then (ordering_then (ordering_then (same_number x.posted.end.0 y.posted.end.0 end s.0 t.0 i) (same_number x.posted.line.0 y.posted.line.0 line s.1 t.1 i)) (nat_cmp x.posted.epoch y.posted.epoch)) (nat_cmp x.posted.number y.posted.number)))
     (λ x y p e. let s = and_true _ _ p in let k = then_equal _ _ (then_equal _ _ (then_equal _ _ e).0).0 in
-    (λ i. same_test x.label.end.0 y.label.end.0 end k.0 s.0 i && same_test x.label.line.0 y.label.line.0 line k.1 s.1 i))
+    (λ i. same_test x.posted.end.0 y.posted.end.0 end k.0 s.0 i && same_test x.posted.line.0 y.posted.line.0 line k.1 s.1 i))
     xs ys up stable)
-    ∙ map-sorted delivery_of name_cmp (filter (λ a. is_of end line a.label) xs)
-    ∙ ap (sorted name_cmp) (sym (filter-map delivery_of (λ d. is_of end line d.label) xs) ∙ ap (filter (λ d. is_of end line d.label)) from)
+    ∙ map-sorted delivery_of name_cmp (filter (λ a. is_of end line a.posted) xs)
+    ∙ ap (sorted name_cmp) (sym (filter-map delivery_of (λ d. is_of end line d.posted) xs) ∙ ap (filter (λ d. is_of end line d.posted)) from)
 
 lt_cmp_by : (s t : Bool) → is_lt (cond s Less (cond t Equal Greater)) ≡ s
 lt_cmp_by true t = refl
@@ -86,15 +86,15 @@ first_not_less Less b h = cc
 first_not_less Equal b h = refl
 first_not_less Greater b h = refl
 
--- no label is of an earlier line where the keys do not fall
+-- no name is of an earlier line where the keys do not fall
 line_not_before : (a b c d : ℕ) → is_lt (ordering_then (nat_cmp a b) (nat_cmp c d)) ≡ false → (nat_lt a b || ((a == b) && nat_lt c d)) ≡ false
 line_not_before a b c d h = ap (λ t. nat_lt a b || ((a == b) && t)) (sym (lt_cmp c d)) ∙ sym (then_lt a b (nat_cmp c d)) ∙ h
 
-pub accepted_rise : (ys : List AcceptedEnvelope) → IsSortedBy (λ x y. is_lt (put_cmp (put_key x) (put_key y))) ys → RisesByLine (λ a. a.label) ys
+pub accepted_rise : (ys : List AcceptedEnvelope) → IsSortedBy (λ x y. is_lt (put_cmp (put_key x) (put_key y))) ys → RisesByLine (λ a. a.posted) ys
 accepted_rise ys up i j d le lt =
     let x = get_or ys i d in let y = get_or ys j d in
     let h = sorted_far _ (ranks_by put_total put_key) ys up i j d le lt in
-    line_not_before y.label.end.0 x.label.end.0 y.label.line.0 x.label.line.0 (first_not_less _ _ (first_not_less _ _ h))
+    line_not_before y.posted.end.0 x.posted.end.0 y.posted.line.0 x.posted.line.0 (first_not_less _ _ (first_not_less _ _ h))
 
 -- by end and stretch
 abbrev pub happening_key : Happening → ℕ × ℕ
@@ -128,7 +128,7 @@ happenings_rise ys up i j d le lt =
 
 -- by end and line
 abbrev pub line_key : Arrival → ℕ × ℕ
-line_key a = (a.label.end.0, a.label.line.0)
+line_key a = (a.posted.end.0, a.posted.line.0)
 
 at_front : {X : Type 0} (x : X) (ys : List X) → inserted (λ _ _. Equal) x ys ≡ x ∷ ys
 at_front x [] = refl
@@ -144,19 +144,19 @@ filter_both p q (x ∷ xs) = by_test (λ b. cond (b && q x) (x ∷ filter (λ x.
     (λ _. (λ i. cond (q x) (x ∷ filter_both p q xs i) (filter_both p q xs i))) (λ _. filter_both p q xs)
 
 pub arrivals_sorted : (xs ys : List Arrival) → IsSortedBy (λ x y. is_lt (pair_cmp (line_key x) (line_key y))) ys → IsStableBy (λ x y. is_lt (pair_cmp (line_key x) (line_key y))) xs ys
-    → (end line : ℕ) (receipts : List Receipt) → receipts_in xs end ≡ receipts → got_in ys end line ≡ filter (λ r. r.delivery.label.line.0 == line) receipts
+    → (end line : ℕ) (receipts : List Receipt) → receipts_in xs end ≡ receipts → got_in ys end line ≡ filter (λ r. r.delivery.posted.line.0 == line) receipts
 arrivals_sorted xs ys up stable end line receipts from =
-    ap (map receipt_of) (arranged (on_total line_key pair_total) point_total (λ a. is_of end line a.label)
+    ap (map receipt_of) (arranged (on_total line_key pair_total) point_total (λ a. is_of end line a.posted)
     (λ x y p q. let s = and_true _ _ p in let t = and_true _ _ q in
-    (λ i. ordering_then (same_number x.label.end.0 y.label.end.0 end s.0 t.0 i) (same_number x.label.line.0 y.label.line.0 line s.1 t.1 i)))
+    (λ i. ordering_then (same_number x.posted.end.0 y.posted.end.0 end s.0 t.0 i) (same_number x.posted.line.0 y.posted.line.0 line s.1 t.1 i)))
     (λ x y p e. let s = and_true _ _ p in let k = then_equal _ _ e in
-    (λ i. same_test x.label.end.0 y.label.end.0 end k.0 s.0 i && same_test x.label.line.0 y.label.line.0 line k.1 s.1 i))
-    xs ys up stable ∙ nothing_moves (filter (λ a. is_of end line a.label) xs)
-    ∙ filter_both (λ a. a.label.end.0 == end) (λ a. a.label.line.0 == line) xs)
-    ∙ sym (filter-map receipt_of (λ r. r.delivery.label.line.0 == line) (filter (λ a. a.label.end.0 == end) xs))
-    ∙ ap (filter (λ r. r.delivery.label.line.0 == line)) from
+    (λ i. same_test x.posted.end.0 y.posted.end.0 end k.0 s.0 i && same_test x.posted.line.0 y.posted.line.0 line k.1 s.1 i))
+    xs ys up stable ∙ nothing_moves (filter (λ a. is_of end line a.posted) xs)
+    ∙ filter_both (λ a. a.posted.end.0 == end) (λ a. a.posted.line.0 == line) xs)
+    ∙ sym (filter-map receipt_of (λ r. r.delivery.posted.line.0 == line) (filter (λ a. a.posted.end.0 == end) xs))
+    ∙ ap (filter (λ r. r.delivery.posted.line.0 == line)) from
 
-pub arrivals_rise : (ys : List Arrival) → IsSortedBy (λ x y. is_lt (pair_cmp (line_key x) (line_key y))) ys → RisesByLine (λ a. a.label) ys
+pub arrivals_rise : (ys : List Arrival) → IsSortedBy (λ x y. is_lt (pair_cmp (line_key x) (line_key y))) ys → RisesByLine (λ a. a.posted) ys
 arrivals_rise ys up i j d le lt =
     let x = get_or ys i d in let y = get_or ys j d in
-    line_not_before y.label.end.0 x.label.end.0 y.label.line.0 x.label.line.0 (sorted_far _ (ranks_by pair_total line_key) ys up i j d le lt)
+    line_not_before y.posted.end.0 x.posted.end.0 y.posted.line.0 x.posted.line.0 (sorted_far _ (ranks_by pair_total line_key) ys up i j d le lt)

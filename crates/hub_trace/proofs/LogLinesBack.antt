@@ -22,15 +22,16 @@ use Rattle.hub_trace.specs.declared.log_entry.LogEntry.TheVariants.{Put, Got, Ad
 use Rattle.hub_text.specs.Word.{cut}
 use Rattle.hub_trace.specs.declared.content.Content.{Content}
 use Rattle.hub_trace.specs.declared.content.Content.TheVariants.{Message, Notice}
-use Rattle.hub_trace.specs.declared.label.Label.{Label}
+use Rattle.hub_envelope.specs.Naming.{posted_text}
+use Rattle.hub_envelope.specs.declared.posted.Posted.{Posted}
 use Rattle.hub_trace.specs.declared.log_version.LogVersion.{LogVersion}
 use Rattle.hub_trace.specs.LogVersion.{max_body, max_line}
 use Rattle.hub_trace.specs.declared.log_line.LogLine.TheVariants as line
 use Rattle.hub_trace.specs.declared.log_error.LogError.TheVariants.{BadLine}
 use Rattle.hub_trace.specs.declared.read.TheConstants.{LOGS_END}
-use Rattle.hub_trace.specs.Limits.{IsContentWithin, IsDeliveryWithin, IsEntryWithin, IsLabelWithin, IsMessageWithin, IsPortList}
-use Rattle.hub_trace.specs.LogLine.{LogRead, adoption_in, begins_with_space, body_answer, body_in, content_cut, content_in, delivery_in, end_in, epoch_in, label_in, line_in, log_line_of, log_line_with, message_with, number_in, parts_in, ports_in, text_in}
-use Rattle.hub_trace.specs.Text.{content_text, delivery_text, entry_text, label_text}
+use Rattle.hub_trace.specs.Limits.{IsContentWithin, IsDeliveryWithin, IsEntryWithin, IsPostedWithin, IsMessageWithin, IsPortList}
+use Rattle.hub_trace.specs.LogLine.{LogRead, adoption_in, begins_with_space, body_answer, body_in, content_cut, content_in, delivery_in, end_in, epoch_in, posted_in, line_in, log_line_of, log_line_with, message_with, number_in, parts_in, ports_in, text_in}
+use Rattle.hub_trace.specs.Text.{content_text, delivery_text, entry_text}
 use Rattle.hub_trace.proofs.Bytes.{HasOnly, HasOnly-append, HasOnly-weaker, Lacks, Lacks-decimal, both, cut-here, decimal-visible, other_than-digit, is_visible-digit, is_visible, other_than}
 use Rattle.hub_trace.proofs.LogLineText.{text_line}
 use Rattle.hub_trace.proofs.Versions.{lines_few}
@@ -71,17 +72,17 @@ parts-here c a rest h = ap (some_or BadLine) (cut-here c a rest h)
 number_back : (max n : ℕ) → n ≤ max → max < 2 ^ 64 → number_in max (decimal n) ≡ Ok n
 number_back max n le fits = ap (some_or BadLine) (written_is max n (decimal n) le fits refl)
 
--- ---- labels
+-- ---- names
 
-name_no_space : (v : LogVersion) (l : Label) → IsLabelWithin v l → Lacks 32 (decimal l.epoch ++ 58 ∷ decimal l.number)
+name_no_space : (v : LogVersion) (l : Posted) → IsPostedWithin v l → Lacks 32 (decimal l.epoch ++ 58 ∷ decimal l.number)
 name_no_space v l h =
     let epoch = h.epoch in
     let number = h.number in
     HasOnly-append (other_than 32) (decimal l.epoch) (58 ∷ decimal l.number) (Lacks-decimal 32 l.epoch refl (omega arith)) (Lacks-decimal 32 l.number refl (omega arith))
 
-label_back : (v : LogVersion) (l : Label) → IsLabelWithin v l → label_in v (decimal l.end.0) (decimal l.line.0) (decimal l.epoch ++ 58 ∷ decimal l.number) ≡ Ok l
-unfolding label_in
-label_back v l h =
+posted_back : (v : LogVersion) (l : Posted) → IsPostedWithin v l → posted_in v (decimal l.end.0) (decimal l.line.0) (decimal l.epoch ++ 58 ∷ decimal l.number) ≡ Ok l
+unfolding posted_in
+posted_back v l h =
     let e1 : parts_in 58 (decimal l.epoch ++ 58 ∷ decimal l.number) ≡ Ok (decimal l.epoch, decimal l.number) = parts-here 58 (decimal l.epoch) (decimal l.number) (Lacks-decimal 58 l.epoch refl (let k = h.epoch in omega arith)) in
     let e2 : end_in (decimal l.end.0) ≡ Ok l.end = end_back l.end h.end in
     let e3 : line_in v (decimal l.line.0) ≡ Ok l.line = ap (λ (r : LogRead ℕ). r >>= λ (n : ℕ). Ok (record { 0 = n })) (number_back (max_line v) l.line.0 h.line (omega (arith, lines_few v))) in
@@ -89,18 +90,18 @@ label_back v l h =
     let e5 : number_in 4611686018427387903 (decimal l.number) ≡ Ok l.number = number_back 4611686018427387903 l.number h.number (omega arith) in
     rw (e1, e2, e3, e4, e5) refl
 
--- the words of a label, joined from the right
-label_words : (end line epoch number : List ℕ) → end ++ codes " " ++ line ++ codes " " ++ epoch ++ codes ":" ++ number ≡ end ++ (32 ∷ (line ++ (32 ∷ (epoch ++ (58 ∷ number)))))
-label_words end line epoch number = simp append_assoc
+-- the words of a name, joined from the right
+posted_words : (end line epoch number : List ℕ) → end ++ codes " " ++ line ++ codes " " ++ epoch ++ codes ":" ++ number ≡ end ++ (32 ∷ (line ++ (32 ∷ (epoch ++ (58 ∷ number)))))
+posted_words end line epoch number = simp append_assoc
 
-label_visible : (v : LogVersion) (l : Label) → IsLabelWithin v l → HasOnly is_visible (label_text l)
-label_visible v l h =
+posted_visible : (v : LogVersion) (l : Posted) → IsPostedWithin v l → HasOnly is_visible (posted_text l)
+posted_visible v l h =
     let end = h.end in
     let line = h.line in
     let few = lines_few v in
     let epoch = h.epoch in
     let number = h.number in
-    subst (HasOnly is_visible) (sym (label_words (decimal l.end.0) (decimal l.line.0) (decimal l.epoch) (decimal l.number)))
+    subst (HasOnly is_visible) (sym (posted_words (decimal l.end.0) (decimal l.line.0) (decimal l.epoch) (decimal l.number)))
     (HasOnly-append is_visible (decimal l.end.0) (32 ∷ (decimal l.line.0 ++ 32 ∷ (decimal l.epoch ++ 58 ∷ decimal l.number))) (decimal-visible l.end.0 (omega arith))
     (HasOnly-append is_visible (decimal l.line.0) (32 ∷ (decimal l.epoch ++ 58 ∷ decimal l.number)) (decimal-visible l.line.0 (omega arith))
     (HasOnly-append is_visible (decimal l.epoch) (58 ∷ decimal l.number) (decimal-visible l.epoch (omega arith)) (decimal-visible l.number (omega arith)))))
@@ -148,27 +149,27 @@ content_visible v Notice h = refl
 delivery_back : (v : LogVersion) (d : Delivery) → IsDeliveryWithin v d → delivery_in v (delivery_text d) ≡ Ok d
 unfolding delivery_in
 delivery_back v d h =
-    let l = d.label in
-    let label = h.label in
+    let l = d.posted in
+    let posted = h.posted in
     let end = decimal l.end.0 in
     let line = decimal l.line.0 in
     let name = decimal l.epoch ++ 58 ∷ decimal l.number in
     let content = content_text d.content in
-    let end_le = label.end in
-    let line_le = label.line in
+    let end_le = posted.end in
+    let line_le = posted.line in
     let few = lines_few v in
     let e0 : delivery_text d ≡ end ++ 32 ∷ (line ++ 32 ∷ (name ++ 32 ∷ content)) = delivery_words end line (decimal l.epoch) (decimal l.number) content in
     let e1 : parts_in 32 (end ++ 32 ∷ (line ++ 32 ∷ (name ++ 32 ∷ content))) ≡ Ok (end, line ++ 32 ∷ (name ++ 32 ∷ content)) = parts-here 32 end (line ++ 32 ∷ (name ++ 32 ∷ content)) (Lacks-decimal 32 l.end.0 refl (omega arith)) in
     let e2 : parts_in 32 (line ++ 32 ∷ (name ++ 32 ∷ content)) ≡ Ok (line, name ++ 32 ∷ content) = parts-here 32 line (name ++ 32 ∷ content) (Lacks-decimal 32 l.line.0 refl (omega arith)) in
-    let e3 : parts_in 32 (name ++ 32 ∷ content) ≡ Ok (name, content) = parts-here 32 name content (name_no_space v l label) in
-    let e4 : label_in v end line name ≡ Ok l = label_back v l label in
+    let e3 : parts_in 32 (name ++ 32 ∷ content) ≡ Ok (name, content) = parts-here 32 name content (name_no_space v l posted) in
+    let e4 : posted_in v end line name ≡ Ok l = posted_back v l posted in
     let e5 : content_in v content ≡ Ok d.content = content_back v d.content h.content in
     rw (e0, e1, e2, e3, e4, e5) refl
 
 delivery_visible : (v : LogVersion) (d : Delivery) → IsDeliveryWithin v d → HasOnly is_visible (delivery_text d)
 delivery_visible v d h =
-    subst (HasOnly is_visible) (sym (two_words (label_text d.label) (content_text d.content)))
-    (HasOnly-append is_visible (label_text d.label) (32 ∷ content_text d.content) (label_visible v d.label h.label) (content_visible v d.content h.content))
+    subst (HasOnly is_visible) (sym (two_words (posted_text d.posted) (content_text d.content)))
+    (HasOnly-append is_visible (posted_text d.posted) (32 ∷ content_text d.content) (posted_visible v d.posted h.posted) (content_visible v d.content h.content))
 
 -- ---- entries
 

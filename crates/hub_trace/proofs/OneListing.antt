@@ -4,7 +4,7 @@ use Rattle.std.specs.List.{AllPairs, filter, flat_map, AllByRecursion as Each}
 use Rattle.std.proofs.lemmas.Bool.Decides.{nat_tests}
 use Rattle.std.proofs.lemmas.List.Elements.{recursion_from_All}
 use Rattle.hub_trace.specs.declared.delivered_line.DeliveredLine.{DeliveredLine}
-use Rattle.hub_trace.specs.Deliveries.{DeliveriesAreOne, IsEarlierLine, labels_under, parts_of}
+use Rattle.hub_trace.specs.Deliveries.{DeliveriesAreOne, IsEarlierLine, names_under, parts_of}
 use Rattle.hub_trace.specs.Verdict.{IsLineBefore}
 use Rattle.hub_trace.proofs.Cases.{by_test, kept, dropped}
 use Rattle.hub_trace.proofs.Faults.{same_line}
@@ -37,35 +37,35 @@ at_itself : (a b : ℕ) → ((a == a) && (b == b)) ≡ true
 at_itself a b = grind (arith, nat_tests)
 
 -- nothing stands under a line before all of them
-under_none : (x y : ℕ) (ds : List DeliveredLine) → Each (λ d. IsLineBefore x y d.end.0 d.line.0) ds → labels_under x y ds ≡ []
+under_none : (x y : ℕ) (ds : List DeliveredLine) → Each (λ d. IsLineBefore x y d.end.0 d.line.0) ds → names_under x y ds ≡ []
 under_none x y ds h =
-    ap (flat_map (λ d. d.labels.items)) (filter_none (λ d. (d.end.0 == x) && (d.line.0 == y)) ds
+    ap (flat_map (λ d. d.names.items)) (filter_none (λ d. (d.end.0 == x) && (d.line.0 == y)) ds
     (Each-weaker (λ d. IsLineBefore x y d.end.0 d.line.0) (λ d. ((d.end.0 == x) && (d.line.0 == y)) ≡ false) (λ d k. before_other d.end.0 d.line.0 x y k) ds h))
 
--- under the first line stand its labels alone
-under_first : (d : DeliveredLine) (ds : List DeliveredLine) → Each (IsEarlierLine d) ds → labels_under d.end.0 d.line.0 (d ∷ ds) ≡ d.labels.items
+-- under the first line stand its names alone
+under_first : (d : DeliveredLine) (ds : List DeliveredLine) → Each (IsEarlierLine d) ds → names_under d.end.0 d.line.0 (d ∷ ds) ≡ d.names.items
 under_first d ds h =
     let p = λ (e : DeliveredLine). (e.end.0 == d.end.0) && (e.line.0 == d.line.0) in
-    ap (flat_map (λ e. e.labels.items)) (kept (p d) d (filter p ds) (at_itself d.end.0 d.line.0))
-    ∙ ap (λ l. d.labels.items ++ l) (under_none d.end.0 d.line.0 ds h) ∙ append-nil d.labels.items
+    ap (flat_map (λ e. e.names.items)) (kept (p d) d (filter p ds) (at_itself d.end.0 d.line.0))
+    ∙ ap (λ l. d.names.items ++ l) (under_none d.end.0 d.line.0 ds h) ∙ append-nil d.names.items
 
--- no line with labels stands before the first of the others
-no_earlier : (d : DeliveredLine) (ds others : List DeliveredLine) → Each (IsEarlierLine d) ds → d.labels.items ≢ [] → Each (λ o. IsLineBefore d.end.0 d.line.0 o.end.0 o.line.0) others
-    → ((x y : ℕ) → labels_under x y (d ∷ ds) ≡ labels_under x y others) → ⊥
+-- no line with names stands before the first of the others
+no_earlier : (d : DeliveredLine) (ds others : List DeliveredLine) → Each (IsEarlierLine d) ds → d.names.items ≢ [] → Each (λ o. IsLineBefore d.end.0 d.line.0 o.end.0 o.line.0) others
+    → ((x y : ℕ) → names_under x y (d ∷ ds) ≡ names_under x y others) → ⊥
 no_earlier d ds others rising some later same =
     some (sym (under_first d ds rising) ∙ same d.end.0 d.line.0 ∙ under_none d.end.0 d.line.0 others later)
 
 -- behind one first line the same stands
 same_behind : (d e : DeliveredLine) (ds es : List DeliveredLine) → d.end.0 ≡ e.end.0 → d.line.0 ≡ e.line.0 → Each (IsEarlierLine d) ds → Each (IsEarlierLine e) es
-    → ((x y : ℕ) → labels_under x y (d ∷ ds) ≡ labels_under x y (e ∷ es)) → (x y : ℕ) → labels_under x y ds ≡ labels_under x y es
+    → ((x y : ℕ) → names_under x y (d ∷ ds) ≡ names_under x y (e ∷ es)) → (x y : ℕ) → names_under x y ds ≡ names_under x y es
 same_behind d e ds es end line rd re same x y =
     let p = λ (o : DeliveredLine). (o.end.0 == x) && (o.line.0 == y) in
-    by_test (λ b. p d ≡ b → labels_under x y ds ≡ labels_under x y es) (p d)
+    by_test (λ b. p d ≡ b → names_under x y ds ≡ names_under x y es) (p d)
     (λ _ t. let at = same_line d.end.0 d.line.0 x y t in
     under_none x y ds (subst (λ (q : ℕ × ℕ). Each (λ o. IsLineBefore q.0 q.1 o.end.0 o.line.0) ds) (λ i. (at.0 i, at.1 i)) rd)
     ∙ sym (under_none x y es (subst (λ (q : ℕ × ℕ). Each (λ o. IsLineBefore q.0 q.1 o.end.0 o.line.0) es) (λ i. ((sym end ∙ at.0) i, (sym line ∙ at.1) i)) re)))
     (λ _ t. let other : p e ≡ false = (λ i. (sym end i == x) && (sym line i == y)) ∙ t in
-    ap (flat_map (λ o. o.labels.items)) (sym (dropped (p d) d (filter p ds) t)) ∙ same x y ∙ ap (flat_map (λ o. o.labels.items)) (dropped (p e) e (filter p es) other))
+    ap (flat_map (λ o. o.names.items)) (sym (dropped (p d) d (filter p ds) t)) ∙ same x y ∙ ap (flat_map (λ o. o.names.items)) (dropped (p e) e (filter p es) other))
     refl
 
 nat_cases : (a b : ℕ) → (a < b) ⊎ ((b < a) ⊎ (a ≡ b))
@@ -81,21 +81,21 @@ same_end a b c d end = elim (nat_cases b d) [ inl h ↦ inl (inr (end, h)) | inr
 three_ways : (a b c d : ℕ) → ((a < c) ⊎ ((a ≡ c) × (b < d))) ⊎ (((c < a) ⊎ ((c ≡ a) × (d < b))) ⊎ ((a ≡ c) × (b ≡ d)))
 three_ways a b c d = elim (nat_cases a c) [ inl h ↦ inl (inl h) | inr h ↦ elim h [ inl k ↦ inr (inl (inl k)) | inr k ↦ same_end a b c d k ] ]
 
-one_by : (d e : DeliveredLine) (ds es : List DeliveredLine) → Rising (d ∷ ds) → Rising (e ∷ es) → d.labels.items ≢ [] → e.labels.items ≢ []
-    → ((x y : ℕ) → labels_under x y (d ∷ ds) ≡ labels_under x y (e ∷ es)) → (((x y : ℕ) → labels_under x y ds ≡ labels_under x y es) → map parts_of ds ≡ map parts_of es)
+one_by : (d e : DeliveredLine) (ds es : List DeliveredLine) → Rising (d ∷ ds) → Rising (e ∷ es) → d.names.items ≢ [] → e.names.items ≢ []
+    → ((x y : ℕ) → names_under x y (d ∷ ds) ≡ names_under x y (e ∷ es)) → (((x y : ℕ) → names_under x y ds ≡ names_under x y es) → map parts_of ds ≡ map parts_of es)
     → IsEarlierLine d e ⊎ (IsEarlierLine e d ⊎ ((d.end.0 ≡ e.end.0) × (d.line.0 ≡ e.line.0))) → map parts_of (d ∷ ds) ≡ map parts_of (e ∷ es)
 one_by d e ds es rd re sd se same behind (inl h) =
     absurd (no_earlier d ds (e ∷ es) rd.0 sd (h, Each-weaker (IsEarlierLine e) (IsEarlierLine d) (λ o k. before_chain d.end.0 d.line.0 e.end.0 e.line.0 o.end.0 o.line.0 h k) es re.0) same)
 one_by d e ds es rd re sd se same behind (inr (inl h)) =
     absurd (no_earlier e es (d ∷ ds) re.0 se (h, Each-weaker (IsEarlierLine d) (IsEarlierLine e) (λ o k. before_chain e.end.0 e.line.0 d.end.0 d.line.0 o.end.0 o.line.0 h k) ds rd.0) (λ x y. sym (same x y)))
 one_by d e ds es rd re sd se same behind (inr (inr h)) =
-    let labels : d.labels.items ≡ e.labels.items = sym (under_first d ds rd.0) ∙ same d.end.0 d.line.0 ∙ (λ i. labels_under (h.0 i) (h.1 i) (e ∷ es)) ∙ under_first e es re.0 in
+    let names : d.names.items ≡ e.names.items = sym (under_first d ds rd.0) ∙ same d.end.0 d.line.0 ∙ (λ i. names_under (h.0 i) (h.1 i) (e ∷ es)) ∙ under_first e es re.0 in
     let rest = behind (same_behind d e ds es h.0 h.1 rd.0 re.0 same) in
-    (λ i. (record { 0 = h.0 i }, record { 0 = h.1 i }, labels i) ∷ rest i)
+    (λ i. (record { 0 = h.0 i }, record { 0 = h.1 i }, names i) ∷ rest i)
 
--- two lists that rise by line, in which no line is without a label, and in which the same stands under each line
-one : (ds es : List DeliveredLine) → Rising ds → Rising es → Each (λ d. d.labels.items ≢ []) ds → Each (λ d. d.labels.items ≢ []) es
-    → ((x y : ℕ) → labels_under x y ds ≡ labels_under x y es) → map parts_of ds ≡ map parts_of es
+-- two lists that rise by line, in which no line is without a name, and in which the same stands under each line
+one : (ds es : List DeliveredLine) → Rising ds → Rising es → Each (λ d. d.names.items ≢ []) ds → Each (λ d. d.names.items ≢ []) es
+    → ((x y : ℕ) → names_under x y ds ≡ names_under x y es) → map parts_of ds ≡ map parts_of es
 one [] [] rd re sd se same = refl
 one (d ∷ ds) [] rd re sd se same = absurd (no_earlier d ds [] rd.0 sd.0 tt same)
 one [] (e ∷ es) rd re sd se same = absurd (no_earlier e es [] re.0 se.0 tt (λ x y. sym (same x y)))
@@ -105,5 +105,5 @@ one (d ∷ ds) (e ∷ es) rd re sd se same =
 pub deliveries_are_one : DeliveriesAreOne
 deliveries_are_one logs lines others h k =
     one lines others (Rising-from_pairs lines h.rising) (Rising-from_pairs others k.rising)
-    (recursion_from_All (λ d. d.labels.items ≢ []) lines h.none_empty) (recursion_from_All (λ d. d.labels.items ≢ []) others k.none_empty)
-    (λ x y. h.labels x y ∙ sym (k.labels x y))
+    (recursion_from_All (λ d. d.names.items ≢ []) lines h.none_empty) (recursion_from_All (λ d. d.names.items ≢ []) others k.none_empty)
+    (λ x y. h.names x y ∙ sym (k.names x y))

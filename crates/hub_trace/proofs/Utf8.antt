@@ -65,12 +65,12 @@ content_utf8 v Notice h = notice_utf8
 
 delivery_utf8 : (v : LogVersion) (d : Delivery) → IsDeliveryWithin v d → IsUtf8 (delivery_text d)
 delivery_utf8 v d h =
-    let l = d.label in
-    let end = h.label.end in
-    let line = h.label.line in
+    let l = d.posted in
+    let end = h.posted.end in
+    let line = h.posted.line in
     let few = lines_few v in
-    let epoch = h.label.epoch in
-    let number_le = h.label.number in
+    let epoch = h.posted.epoch in
+    let number_le = h.posted.number in
     let name = pair (decimal l.epoch) (decimal l.number) 58 (number l.epoch (omega arith)) (omega arith) (number l.number (omega arith)) in
     subst IsUtf8 (sym (delivery_words (decimal l.end.0) (decimal l.line.0) (decimal l.epoch) (decimal l.number) (content_text d.content)))
     (pair (decimal l.end.0) _ 32 (number l.end.0 (omega arith)) (omega arith)

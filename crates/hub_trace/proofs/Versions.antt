@@ -4,13 +4,13 @@ use Rattle.std.specs.Cmp.Lexicographic.{bytes_decides}
 use Rattle.hub_envelope.specs.BodyText.{IsBodyText}
 use Rattle.hub_trace.specs.declared.content.Content.{Content}
 use Rattle.hub_trace.specs.declared.content.Content.TheVariants.{Message, Notice}
-use Rattle.hub_trace.specs.declared.label.Label.{Label}
+use Rattle.hub_envelope.specs.declared.posted.Posted.{Posted}
 use Rattle.hub_trace.specs.declared.log_entry.Delivery.{Delivery}
 use Rattle.hub_trace.specs.declared.log_entry.LogEntry.{LogEntry}
 use Rattle.hub_trace.specs.declared.log_entry.LogEntry.TheVariants.{Put, Got, Adopted, Closed}
 use Rattle.hub_trace.specs.declared.log_version.LogVersion.{LogVersion}
 use Rattle.hub_trace.specs.declared.log_version.LogVersion.TheVariants.{First, Second, Third}
-use Rattle.hub_trace.specs.Limits.{IsContentWithin, IsDeliveryWithin, IsEntryWithin, IsLabelWithin}
+use Rattle.hub_trace.specs.Limits.{IsContentWithin, IsDeliveryWithin, IsEntryWithin, IsPostedWithin}
 use Rattle.hub_trace.specs.LogVersion.{header_of, max_line, version_of}
 use Rattle.hub_trace.proofs.Cases.{by_test}
 
@@ -24,8 +24,8 @@ body_short text h = rw h.compact h.profile.short
 
 -- ---- what is within the limits of a version is within those of the third
 
-label_wider : (v : LogVersion) (l : Label) → IsLabelWithin v l → IsLabelWithin Third l
-label_wider v l h = record {
+posted_wider : (v : LogVersion) (l : Posted) → IsPostedWithin v l → IsPostedWithin Third l
+posted_wider v l h = record {
   end = h.end;
   line = let le = h.line in let few = lines_few v in omega arith;
   epoch = h.epoch;
@@ -37,7 +37,7 @@ content_wider v (Message m) h = record { ports = h.ports; body = h.body; short =
 content_wider v Notice h = refl
 
 delivery_wider : (v : LogVersion) (d : Delivery) → IsDeliveryWithin v d → IsDeliveryWithin Third d
-delivery_wider v d h = record { label = label_wider v d.label h.label; content = content_wider v d.content h.content }
+delivery_wider v d h = record { posted = posted_wider v d.posted h.posted; content = content_wider v d.content h.content }
 
 pub entry_wider : (v : LogVersion) (e : LogEntry) → IsEntryWithin v e → IsEntryWithin Third e
 entry_wider v (Put d) h = delivery_wider v d h

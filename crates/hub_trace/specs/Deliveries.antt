@@ -5,43 +5,43 @@ use Rattle.std.specs.List.{All, AllPairs, filter, flat_map}
 use Rattle.hub_envelope.specs.declared.ids.EndId.{EndId}
 use Rattle.hub_envelope.specs.declared.ids.LineId.{LineId}
 use Rattle.hub_trace.specs.declared.delivered_line.DeliveredLine.{DeliveredLine}
-use Rattle.hub_trace.specs.declared.label.Label.{Label}
+use Rattle.hub_envelope.specs.declared.posted.Posted.{Posted}
 use Rattle.hub_trace.specs.Accepted.{AgentLog}
 use Rattle.hub_trace.specs.Got.{Receipt, got}
 use Rattle.hub_trace.specs.Verdict.{IsLineBefore}
 
 -- ` EP:N`
-abbrev pub name_text : Label → List ℕ
+abbrev pub name_text : Posted → List ℕ
 name_text l = codes " " ++ decimal l.epoch ++ codes ":" ++ decimal l.number
 
 -- `end E line L EP:N EP:N ..`
 abbrev pub delivered_line_text : DeliveredLine → List ℕ
 delivered_line_text d =
     codes "end " ++ decimal d.end.0 ++ codes " line " ++ decimal d.line.0
-    ++ flat_map name_text d.labels.items
+    ++ flat_map name_text d.names.items
 
--- the labels of what was got
-abbrev pub labels_of : List Receipt → List Label
-labels_of receipts = map (λ r. r.delivery.label) receipts
+-- the names of what was got
+abbrev pub names_of : List Receipt → List Posted
+names_of receipts = map (λ r. r.delivery.posted) receipts
 
--- the labels that stand under an end and a line number
-abbrev pub labels_under : ℕ → ℕ → List DeliveredLine → List Label
-labels_under end line lines =
-    flat_map (λ d. d.labels.items) (filter (λ d. (d.end.0 == end) && (d.line.0 == line)) lines)
+-- the names that stand under an end and a line number
+abbrev pub names_under : ℕ → ℕ → List DeliveredLine → List Posted
+names_under end line lines =
+    flat_map (λ d. d.names.items) (filter (λ d. (d.end.0 == end) && (d.line.0 == line)) lines)
 
 -- the first comes before the second: by end, then by line number
 abbrev pub IsEarlierLine : DeliveredLine → DeliveredLine → Type 0
 IsEarlierLine a b = IsLineBefore a.end.0 a.line.0 b.end.0 b.line.0
 
--- each line of which something was got, with the labels of all that was got of it
+-- each line of which something was got, with the names of all that was got of it
 pub record AreDeliveries (logs : List AgentLog) (lines : List DeliveredLine) : Type 0 where
   pub rising : AllPairs IsEarlierLine lines
-  pub none_empty : All (λ d. d.labels.items ≢ []) lines
-  pub labels : (end line : ℕ) → labels_under end line lines ≡ labels_of (got logs end line)
+  pub none_empty : All (λ d. d.names.items ≢ []) lines
+  pub names : (end line : ℕ) → names_under end line lines ≡ names_of (got logs end line)
 
--- the end, the line number and the labels
-abbrev pub parts_of : DeliveredLine → EndId × LineId × List Label
-parts_of d = (d.end, d.line, d.labels.items)
+-- the end, the line number and the names
+abbrev pub parts_of : DeliveredLine → EndId × LineId × List Posted
+parts_of d = (d.end, d.line, d.names.items)
 
 -- all deliveries of the same logs have the same parts in the same order
 abbrev pub DeliveriesAreOne : Type 0

@@ -2,7 +2,7 @@
 use Rattle.std.specs.Prelude.{◌≡◌, ℕ, Bool, false, List, ◌<◌, ◌==◌, ◌&&◌, Option, Some, None, if◌then◌else◌, slice_get, take}
 use Rattle.std.specs.List.{list_any}
 use Rattle.hub_trace.specs.declared.log_entry.Delivery.{Delivery}
-use Rattle.hub_trace.specs.declared.label.Label.{Label}
+use Rattle.hub_envelope.specs.declared.posted.Posted.{Posted}
 use Rattle.hub_trace.specs.declared.verdict.FaultKind.{FaultKind}
 use Rattle.hub_trace.specs.declared.verdict.FaultKind.TheVariants.{AfterClose, AfterNotice, Changed, Twice, Gap, Foreign}
 use Rattle.hub_trace.specs.Content.{is_notice}
@@ -16,21 +16,21 @@ has_notice receipts = list_any (λ r. is_notice r.delivery.content) receipts
 abbrev pub IsRight : List Delivery → Bool → ℕ → Receipt → Type 0
 IsRight put noticed place r = (r.late ≡ false) × (noticed ≡ false) × (slice_get put place ≡ Some r.delivery)
 
-abbrev pub has_name : Label → Label → Bool
+abbrev pub has_name : Posted → Posted → Bool
 has_name a b = (a.epoch == b.epoch) && (a.number == b.number)
 
-abbrev pub is_named : Option Delivery → Label → Bool
-is_named None label = false
-is_named (Some d) label = has_name d.label label
+abbrev pub is_named : Option Delivery → Posted → Bool
+is_named None posted = false
+is_named (Some d) posted = has_name d.posted posted
 
 -- what is wrong with a receipt that is not right, by what was accepted and what was got earlier: the first kind that fits
 abbrev pub kind_at : List Delivery → List Receipt → ℕ → Receipt → FaultKind
 kind_at put earlier place r =
     if r.late then AfterClose
     else (if has_notice earlier then AfterNotice
-    else (if is_named (slice_get put place) r.delivery.label then Changed
-    else (if list_any (λ e. has_name e.delivery.label r.delivery.label) earlier then Twice
-    else (if list_any (λ d. has_name d.label r.delivery.label) put then Gap
+    else (if is_named (slice_get put place) r.delivery.posted then Changed
+    else (if list_any (λ e. has_name e.delivery.posted r.delivery.posted) earlier then Twice
+    else (if list_any (λ d. has_name d.posted r.delivery.posted) put then Gap
     else Foreign))))
 
 -- the receipt at the place is wrong, all before it are right, and this kind is the first that fits

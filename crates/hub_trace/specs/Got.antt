@@ -25,7 +25,7 @@ abbrev pub end_events : ℕ → ℕ → List LogEntry → List EndEvent
 end_events end stretch [] = []
 end_events end stretch (Put d ∷ entries) = end_events end stretch entries
 end_events end stretch (Got d ∷ entries) =
-    if d.label.end.0 == end then record { stretch = stretch; got = Some d } ∷ end_events end stretch entries else end_events end stretch entries
+    if d.posted.end.0 == end then record { stretch = stretch; got = Some d } ∷ end_events end stretch entries else end_events end stretch entries
 end_events end stretch (Adopted e k ∷ entries) = end_events end (if e.0 == end then k else stretch) entries
 end_events end stretch (Closed e ∷ entries) =
     if e.0 == end then record { stretch = stretch; got = None } ∷ end_events end stretch entries else end_events end stretch entries
@@ -58,4 +58,4 @@ receipts closed (e ∷ rest) = receipt closed e.got ++ receipts (is_closed_after
 
 -- the got list of a line
 unfoldable pub got : List AgentLog → ℕ → ℕ → List Receipt
-got logs end line = filter (λ r. r.delivery.label.line.0 == line) (receipts false (joined logs end))
+got logs end line = filter (λ r. r.delivery.posted.line.0 == line) (receipts false (joined logs end))

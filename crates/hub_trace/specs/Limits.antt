@@ -7,7 +7,7 @@ use Rattle.hub_envelope.specs.declared.limits.TheConstants.{MAX_PORTS}
 use Rattle.hub_trace.specs.declared.log_entry.Delivery.{Delivery}
 use Rattle.hub_trace.specs.declared.log_entry.LogEntry.{LogEntry}
 use Rattle.hub_trace.specs.declared.log_entry.LogEntry.TheVariants.{Put, Got, Adopted, Closed}
-use Rattle.hub_trace.specs.declared.label.Label.{Label}
+use Rattle.hub_envelope.specs.declared.posted.Posted.{Posted}
 use Rattle.hub_trace.specs.declared.limits.TheConstants.{MAX_AGENT, MAX_END, MAX_EPOCH, MAX_NUMBER}
 use Rattle.hub_trace.specs.declared.content.Content.{Content}
 use Rattle.hub_trace.specs.declared.content.Content.TheVariants.{Message, Notice}
@@ -19,7 +19,7 @@ use Rattle.hub_trace.specs.Accepted.{AgentLog}
 use Rattle.hub_trace.specs.Closings.{all_closings, closings}
 
 -- of logs of that version
-pub record IsLabelWithin (v : LogVersion) (l : Label) : Type 0 where
+pub record IsPostedWithin (v : LogVersion) (l : Posted) : Type 0 where
   pub end : l.end.0 ≤ MAX_END
   pub line : l.line.0 ≤ max_line v
   pub epoch : l.epoch ≤ MAX_EPOCH
@@ -46,7 +46,7 @@ IsContentWithin v (Message m) = IsMessageWithin v m
 IsContentWithin v Notice = has_notices v ≡ true
 
 pub record IsDeliveryWithin (v : LogVersion) (d : Delivery) : Type 0 where
-  pub label : IsLabelWithin v d.label
+  pub posted : IsPostedWithin v d.posted
   pub content : IsContentWithin v d.content
 
 abbrev pub IsEntryWithin : LogVersion → LogEntry → Type 0

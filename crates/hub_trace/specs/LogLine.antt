@@ -12,7 +12,7 @@ use Rattle.hub_text.specs.Reading.{◌>>=◌, some_or}
 use Rattle.hub_text.specs.Word.{cut}
 use Rattle.hub_trace.specs.declared.content.Content.{Content}
 use Rattle.hub_trace.specs.declared.content.Content.TheVariants.{Message, Notice}
-use Rattle.hub_trace.specs.declared.label.Label.{Label}
+use Rattle.hub_envelope.specs.declared.posted.Posted.{Posted}
 use Rattle.hub_trace.specs.declared.log_version.LogVersion.{LogVersion}
 use Rattle.hub_trace.specs.LogVersion.{has_notices, max_body, max_line}
 use Rattle.hub_trace.specs.declared.limits.TheConstants.{MAX_AGENT, MAX_END, MAX_EPOCH, MAX_NUMBER}
@@ -50,8 +50,8 @@ abbrev pub epoch_in : List ℕ → LogRead ℕ
 epoch_in word = number_in MAX_EPOCH word
 
 -- `EP:N`, after the words of an end and a line
-unfoldable pub label_in : LogVersion → List ℕ → List ℕ → List ℕ → LogRead Label
-label_in v end line name = do
+unfoldable pub posted_in : LogVersion → List ℕ → List ℕ → List ℕ → LogRead Posted
+posted_in v end line name = do
   parts ← parts_in 58 name
   e ← end_in end
   l ← line_in v line
@@ -105,9 +105,9 @@ delivery_in v text = do
   end ← parts_in 32 text
   line ← parts_in 32 end.1
   name ← parts_in 32 line.1
-  label ← label_in v end.0 line.0 name.0
+  posted ← posted_in v end.0 line.0 name.0
   content ← content_in v name.1
-  Ok (record { label = label; content = content })
+  Ok (record { posted = posted; content = content })
 
 -- `E EP`
 unfoldable pub adoption_in : List ℕ → LogRead (EndId × ℕ)

@@ -2,10 +2,10 @@
 use Rattle.std.specs.Prelude.{ℕ, List, ◌++◌, codes}
 use Rattle.std.specs.Fmt.{decimal}
 use Rattle.std.specs.List.{flat_map}
+use Rattle.hub_envelope.specs.Naming.{posted_text}
 use Rattle.hub_text.specs.EndList.{ends_text}
 use Rattle.hub_trace.specs.declared.content.Content.{Content}
 use Rattle.hub_trace.specs.declared.content.Content.TheVariants.{Message, Notice}
-use Rattle.hub_trace.specs.declared.label.Label.{Label}
 use Rattle.hub_trace.specs.declared.log_entry.Delivery.{Delivery}
 use Rattle.hub_trace.specs.declared.log_entry.LogEntry.{LogEntry}
 use Rattle.hub_trace.specs.declared.log_entry.LogEntry.TheVariants.{Put, Got, Adopted, Closed}
@@ -18,10 +18,6 @@ use Rattle.hub_trace.specs.declared.verdict.Verdict.TheVariants.{Clean, Fault}
 use Rattle.hub_trace.specs.declared.log.TheConstants.{LOG_HEADER}
 use Rattle.hub_trace.specs.Accepted.{AgentLog}
 
--- `E L EP:N`
-abbrev pub label_text : Label → List ℕ
-label_text l = decimal l.end.0 ++ codes " " ++ decimal l.line.0 ++ codes " " ++ decimal l.epoch ++ codes ":" ++ decimal l.number
-
 -- `LIST BODY`, or `notice`
 abbrev pub content_text : Content → List ℕ
 content_text (Message m) = ends_text m.0 ++ codes " " ++ m.1
@@ -29,7 +25,7 @@ content_text Notice = codes "notice"
 
 -- `E L EP:N LIST BODY`, or `E L EP:N notice`
 abbrev pub delivery_text : Delivery → List ℕ
-delivery_text d = label_text d.label ++ codes " " ++ content_text d.content
+delivery_text d = posted_text d.posted ++ codes " " ++ content_text d.content
 
 abbrev pub entry_text : LogEntry → List ℕ
 entry_text (Put d) = codes "put " ++ delivery_text d

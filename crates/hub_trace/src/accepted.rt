@@ -6,16 +6,16 @@ ghost use Rattle.hub_trace.specs.Accepted.{accepted, all_puts, is_of, puts};
 ghost use Rattle.hub_trace.specs.Views.{RisesByLine, accepted_in, delivery_of};
 
 use crate::content::Content;
-use crate::label::Label;
 use crate::log::Log;
 use crate::log_entry::LogEntry;
-use hub_envelope::{EndId, LineId, OutOfMemory};
+use crate::naming::{is_of_earlier_line, is_of_later_line};
+use hub_envelope::{EndId, LineId, OutOfMemory, Posted};
 use std::alloc::Global;
 
 /// An envelope or a notice that was accepted.
 #[derive(Clone, Copy, Debug)]
 pub(crate) struct AcceptedEnvelope<'a> {
-    pub(crate) label: Label,
+    pub(crate) posted: Posted,
     pub(crate) content: &'a Content,
 }
 
@@ -27,10 +27,15 @@ pub(crate) fn accepted_in_order(
 ) -> Result<Vec<AcceptedEnvelope<'_>>, OutOfMemory>
     ensures lines { IfOk result (λ v. (end line : ℕ) →
         accepted_in v.items end line ≡ accepted logs.now end line) }
-    ensures order { IfOk result (λ v. RisesByLine (λ a. a.label) v.items) }
+    ensures order { IfOk result (λ v. RisesByLine (λ a. a.posted) v.items) }
 {
     let mut found = all_accepted(alloc, logs)?;
-    found.sort_by_key(|a| (a.label.end.0, a.label.line.0, a.label.epoch, a.label.number))?;
+    found.sort_by_key(|a| (
+        a.posted.end.0,
+        a.posted.line.0,
+        a.posted.epoch,
+        a.posted.number,
+    ))?;
     Ok(found)
 }
 
@@ -56,7 +61,7 @@ fn add_accepted<'a>(
     for entry in entries {
         if let LogEntry::Put(delivery) = entry {
             found.push(AcceptedEnvelope {
-                label: delivery.label,
+                posted: delivery.posted,
                 content: &delivery.content,
             })?;
         }
@@ -70,11 +75,11 @@ pub(crate) fn accepted_of<'s, 'a>(
     end: EndId,
     line: LineId,
 ) -> &'s [AcceptedEnvelope<'a>]
-    requires { RisesByLine (λ a. a.label) accepted.now }
-    ensures { result.now ≡ filter (λ a. is_of end.0 line.0 a.label) accepted.now }
+    requires { RisesByLine (λ a. a.posted) accepted.now }
+    ensures { result.now ≡ filter (λ a. is_of end.0 line.0 a.posted) accepted.now }
 {
-    let from = accepted.partition_point(|a| a.label.is_before(end, line));
+    let from = accepted.partition_point(|a| is_of_earlier_line(&a.posted, end, line));
     let rest = &accepted[from..];
-    let count = rest.partition_point(|a| !a.label.is_after(end, line));
+    let count = rest.partition_point(|a| !is_of_later_line(&a.posted, end, line));
     &rest[..count]
 }

@@ -13,11 +13,11 @@ ghost use Rattle.hub_trace.specs.declared.verdict.Verdict.TheVariants.{Clean};
 ghost use Rattle.hub_trace.specs.Views.{RisesByLine, accepted_in, delivery_of, got_in, receipt_of};
 
 use crate::accepted::{AcceptedEnvelope, accepted_in_order, accepted_of};
-use crate::label::Label;
 use crate::log::Log;
+use crate::naming::has_name_of;
 use crate::received::{Arrival, arrivals_in_order, front_of_line};
 use crate::verdict::{FaultKind, Verdict};
-use hub_envelope::OutOfMemory;
+use hub_envelope::{OutOfMemory, Posted};
 use std::alloc::Global;
 
 /// Reads the logs of one run together, and says whether what was got of each line is the beginning
@@ -35,14 +35,14 @@ pub fn check(alloc: Global, logs: &[Log]) -> Result<Verdict, OutOfMemory>
 
 /// The fault of the least end, then line, then place.
 fn first_fault(accepted: &[AcceptedEnvelope<'_>], arrivals: &[Arrival<'_>]) -> Verdict
-    requires accepted { RisesByLine (λ a. a.label) accepted.now }
-    requires arrivals { RisesByLine (λ a. a.label) arrivals.now }
+    requires accepted { RisesByLine (λ a. a.posted) accepted.now }
+    requires arrivals { RisesByLine (λ a. a.posted) arrivals.now }
     ensures { IsVerdict (accepted_in accepted.now) (got_in arrivals.now) result }
 {
     let mut rest = arrivals;
     while let Some(first) = rest.first() {
-        let end = first.label.end;
-        let line = first.label.line;
+        let end = first.posted.end;
+        let line = first.posted.line;
         let put = accepted_of(accepted, end, line);
         let got = front_of_line(rest, end, line);
         if let Some((place, kind)) = fault_of_line(put, got) {
@@ -95,7 +95,7 @@ fn is_right(
         Some(expected) => {
             !arrival.late
                 && !noticed
-                && expected.label == arrival.label
+                && expected.posted == arrival.posted
                 && expected.content.is_same(arrival.content)
         }
         None => false,
@@ -119,40 +119,40 @@ fn kind_of(
     if noticed {
         return FaultKind::AfterNotice;
     }
-    if is_named_at(accepted, earlier.len(), &arrival.label) {
+    if is_named_at(accepted, earlier.len(), &arrival.posted) {
         return FaultKind::Changed;
     }
-    if is_among_got(earlier, &arrival.label) {
+    if is_among_got(earlier, &arrival.posted) {
         return FaultKind::Twice;
     }
-    if is_among_accepted(accepted, &arrival.label) {
+    if is_among_accepted(accepted, &arrival.posted) {
         return FaultKind::Gap;
     }
     FaultKind::Foreign
 }
 
 /// Whether the accepted envelope at the place has this name.
-fn is_named_at(accepted: &[AcceptedEnvelope<'_>], place: usize, label: &Label) -> bool
-    ensures { result ≡ is_named (slice_get (map delivery_of accepted.now) place) label.now }
+fn is_named_at(accepted: &[AcceptedEnvelope<'_>], place: usize, posted: &Posted) -> bool
+    ensures { result ≡ is_named (slice_get (map delivery_of accepted.now) place) posted.now }
 {
     match accepted.get(place) {
-        Some(expected) => expected.label.has_name_of(label),
+        Some(expected) => has_name_of(&expected.posted, posted),
         None => false,
     }
 }
 
 /// Whether an accepted envelope has this name.
-fn is_among_accepted(accepted: &[AcceptedEnvelope<'_>], label: &Label) -> bool
+fn is_among_accepted(accepted: &[AcceptedEnvelope<'_>], posted: &Posted) -> bool
     ensures { result
-        ≡ list_any (λ d. has_name d.label label.now) (map delivery_of accepted.now) }
+        ≡ list_any (λ d. has_name d.posted posted.now) (map delivery_of accepted.now) }
 {
-    accepted.iter().any(|a| a.label.has_name_of(label))
+    accepted.iter().any(|a| has_name_of(&a.posted, posted))
 }
 
 /// Whether an envelope that was got has this name.
-fn is_among_got(got: &[Arrival<'_>], label: &Label) -> bool
+fn is_among_got(got: &[Arrival<'_>], posted: &Posted) -> bool
     ensures { result
-        ≡ list_any (λ r. has_name r.delivery.label label.now) (map receipt_of got.now) }
+        ≡ list_any (λ r. has_name r.delivery.posted posted.now) (map receipt_of got.now) }
 {
-    got.iter().any(|a| a.label.has_name_of(label))
+    got.iter().any(|a| has_name_of(&a.posted, posted))
 }

@@ -6,7 +6,7 @@ use crate::message::Message;
 use hub_text::EndListText;
 use std::fmt;
 
-/// What a put or a got entry has under its label.
+/// What a put or a got entry has under its name.
 #[derive(Debug, Drop)]
 pub enum Content {
     /// A post.

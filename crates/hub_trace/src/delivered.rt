@@ -2,14 +2,13 @@
 
 ghost use Rattle.std.specs.Prelude.{◌≡◌, ◌≢◌, ℕ, [], IfOk, map};
 ghost use Rattle.std.specs.List.{All, AllPairs};
-ghost use Rattle.hub_trace.specs.Deliveries.{AreDeliveries, IsEarlierLine, labels_of, labels_under};
+ghost use Rattle.hub_trace.specs.Deliveries.{AreDeliveries, IsEarlierLine, names_of, names_under};
 ghost use Rattle.hub_trace.specs.Views.{RisesByLine, got_in};
 
 use crate::delivered_line::DeliveredLine;
-use crate::label::Label;
 use crate::log::Log;
 use crate::received::{Arrival, arrivals_in_order, front_of_line};
-use hub_envelope::OutOfMemory;
+use hub_envelope::{OutOfMemory, Posted};
 use std::alloc::Global;
 
 /// Reads the logs of one run together, and tells what was got of each line of each end. A line of
@@ -30,28 +29,28 @@ fn delivered_lines(
     alloc: Global,
     arrivals: &[Arrival<'_>],
 ) -> Result<Vec<DeliveredLine>, OutOfMemory>
-    requires { RisesByLine (λ a. a.label) arrivals.now }
+    requires { RisesByLine (λ a. a.posted) arrivals.now }
     ensures rising { IfOk result (λ lines. AllPairs IsEarlierLine lines.items) }
-    ensures none_empty { IfOk result (λ lines. All (λ d. d.labels.items ≢ []) lines.items) }
-    ensures labels { IfOk result (λ lines. (end line : ℕ) →
-        labels_under end line lines.items ≡ labels_of (got_in arrivals.now end line)) }
+    ensures none_empty { IfOk result (λ lines. All (λ d. d.names.items ≢ []) lines.items) }
+    ensures names { IfOk result (λ lines. (end line : ℕ) →
+        names_under end line lines.items ≡ names_of (got_in arrivals.now end line)) }
 {
     let mut lines = Vec::new(alloc);
     let mut rest = arrivals;
     while let Some(first) = rest.first() {
-        let end = first.label.end;
-        let line = first.label.line;
+        let end = first.posted.end;
+        let line = first.posted.line;
         let got = front_of_line(rest, end, line);
-        let labels = labels_of(alloc, got)?;
-        lines.push(DeliveredLine { end, line, labels })?;
+        let names = names_of(alloc, got)?;
+        lines.push(DeliveredLine { end, line, names })?;
         rest = &rest[got.len()..];
     }
     Ok(lines)
 }
 
-/// The labels of the arrivals.
-fn labels_of(alloc: Global, arrivals: &[Arrival<'_>]) -> Result<Vec<Label>, OutOfMemory>
-    ensures { IfOk result (λ labels. labels.items ≡ map (λ a. a.label) arrivals.now) }
+/// The names of the arrivals.
+fn names_of(alloc: Global, arrivals: &[Arrival<'_>]) -> Result<Vec<Posted>, OutOfMemory>
+    ensures { IfOk result (λ names. names.items ≡ map (λ a. a.posted) arrivals.now) }
 {
-    Ok(arrivals.iter().map(|a| a.label).collect(alloc)?)
+    Ok(arrivals.iter().map(|a| a.posted).collect(alloc)?)
 }

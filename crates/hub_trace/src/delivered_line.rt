@@ -1,8 +1,7 @@
 ghost use Rattle.std.specs.Prelude.{Some};
 ghost use Rattle.hub_trace.specs.Deliveries.{delivered_line_text};
 
-use crate::label::Label;
-use hub_envelope::{EndId, LineId};
+use hub_envelope::{EndId, LineId, Posted};
 use std::fmt;
 
 /// What was got of one line of an end.
@@ -10,12 +9,12 @@ use std::fmt;
 pub struct DeliveredLine {
     pub end: EndId,
     pub line: LineId,
-    /// The labels of the envelopes and notices that were got, in the order in which they were got:
+    /// The names of the envelopes and notices that were got, in the order in which they were got:
     /// by the epochs at which the agents' logs had adopted the end, then in the order of the logs.
-    pub labels: Vec<Label>,
+    pub names: Vec<Posted>,
 }
 
-/// `end E line L EP:N EP:N ..`: the end, the line number, and the epoch and number of each label.
+/// `end E line L EP:N EP:N ..`: the end, the line number, and the epoch and number of each name.
 impl fmt::Display for DeliveredLine {
     ghost output = { λ d. Some (delivered_line_text d) };
 
@@ -23,9 +22,9 @@ impl fmt::Display for DeliveredLine {
         let end = self.end.0;
         let line = self.line.0;
         write!(f, "end {end} line {line}")?;
-        for label in &self.labels {
-            let epoch = label.epoch;
-            let number = label.number;
+        for posted in &self.names {
+            let epoch = posted.epoch;
+            let number = posted.number;
             write!(f, " {epoch}:{number}")?;
         }
         Ok(())

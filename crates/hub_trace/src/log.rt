@@ -5,14 +5,13 @@ ghost use Rattle.hub_trace.specs.declared.limits.TheConstants.{MAX_AGENT, MAX_EN
 ghost use Rattle.hub_trace.specs.Accepted.{log_with, message_at, notice_at};
 ghost use Rattle.hub_trace.specs.declared.log_version.LogVersion.TheVariants.{Third};
 ghost use Rattle.hub_trace.specs.Closings.{closes_one, is_closed_by};
-ghost use Rattle.hub_trace.specs.Limits.{IsEntryWithin, IsLabelWithin, IsLogWithin, IsPortList};
+ghost use Rattle.hub_trace.specs.Limits.{IsEntryWithin, IsPostedWithin, IsLogWithin, IsPortList};
 ghost use Rattle.hub_trace.specs.Text.{log_text};
 
 use crate::content::Content;
-use crate::label::Label;
 use crate::log_entry::{Delivery, LogEntry};
 use crate::message::Message;
-use hub_envelope::{AgentId, Body, EndId, OutOfMemory};
+use hub_envelope::{AgentId, Body, EndId, OutOfMemory, Posted};
 use std::alloc::Global;
 use std::fmt;
 use std::marker::Model;
@@ -25,7 +24,7 @@ pub const LOG_HEADER: &str = "hublog 3";
 ///
 /// ```rust
 /// let mut log = Log::new(alloc, AgentId(0));
-/// log.put(alloc, Label::of(&envelope), &[], &envelope.body)?;
+/// log.put(alloc, Posted::of(&envelope), &[], &envelope.body)?;
 /// log.closed(EndId(2))?;
 /// let verdict = check(alloc, &[log])?;
 /// ```
@@ -90,60 +89,60 @@ impl Log {
         false
     }
 
-    /// Logs that a post was accepted under the label. An `Err` changes nothing.
+    /// Logs that a post was accepted under the name. An `Err` changes nothing.
     pub fn put(
         &mut self,
         alloc: Global,
-        label: Label,
+        posted: Posted,
         ports: &[EndId],
         body: &Body,
     ) -> Result<(), OutOfMemory>
-        requires label { IsLabelWithin Third label }
+        requires posted { IsPostedWithin Third posted }
         requires ports { IsPortList ports.now }
         ensures ok { OnOk result
-            (self.new ≡ log_with self.old (Put (message_at label ports.now body.now))) }
+            (self.new ≡ log_with self.old (Put (message_at posted ports.now body.now))) }
         ensures err { OnErr result (self.new ≡ self.old) }
     {
         let content = Content::Message(Message::copy_of(alloc, ports, body)?);
-        self.append(LogEntry::Put(Delivery { label, content }))
+        self.append(LogEntry::Put(Delivery { posted, content }))
     }
 
-    /// Logs that the agent put a notice under the label. An `Err` changes nothing.
-    pub fn put_notice(&mut self, label: Label) -> Result<(), OutOfMemory>
-        requires { IsLabelWithin Third label }
-        ensures ok { OnOk result (self.new ≡ log_with self.old (Put (notice_at label))) }
+    /// Logs that the agent put a notice under the name. An `Err` changes nothing.
+    pub fn put_notice(&mut self, posted: Posted) -> Result<(), OutOfMemory>
+        requires { IsPostedWithin Third posted }
+        ensures ok { OnOk result (self.new ≡ log_with self.old (Put (notice_at posted))) }
         ensures err { OnErr result (self.new ≡ self.old) }
     {
         let content = Content::Notice;
-        self.append(LogEntry::Put(Delivery { label, content }))
+        self.append(LogEntry::Put(Delivery { posted, content }))
     }
 
-    /// Logs that the agent took the envelope of the label. An `Err` changes nothing.
+    /// Logs that the agent took the envelope of the name. An `Err` changes nothing.
     pub fn got(
         &mut self,
         alloc: Global,
-        label: Label,
+        posted: Posted,
         ports: &[EndId],
         body: &Body,
     ) -> Result<(), OutOfMemory>
-        requires label { IsLabelWithin Third label }
+        requires posted { IsPostedWithin Third posted }
         requires ports { IsPortList ports.now }
         ensures ok { OnOk result
-            (self.new ≡ log_with self.old (Got (message_at label ports.now body.now))) }
+            (self.new ≡ log_with self.old (Got (message_at posted ports.now body.now))) }
         ensures err { OnErr result (self.new ≡ self.old) }
     {
         let content = Content::Message(Message::copy_of(alloc, ports, body)?);
-        self.append(LogEntry::Got(Delivery { label, content }))
+        self.append(LogEntry::Got(Delivery { posted, content }))
     }
 
-    /// Logs that the agent took the notice of the label. An `Err` changes nothing.
-    pub fn got_notice(&mut self, label: Label) -> Result<(), OutOfMemory>
-        requires { IsLabelWithin Third label }
-        ensures ok { OnOk result (self.new ≡ log_with self.old (Got (notice_at label))) }
+    /// Logs that the agent took the notice of the name. An `Err` changes nothing.
+    pub fn got_notice(&mut self, posted: Posted) -> Result<(), OutOfMemory>
+        requires { IsPostedWithin Third posted }
+        ensures ok { OnOk result (self.new ≡ log_with self.old (Got (notice_at posted))) }
         ensures err { OnErr result (self.new ≡ self.old) }
     {
         let content = Content::Notice;
-        self.append(LogEntry::Got(Delivery { label, content }))
+        self.append(LogEntry::Got(Delivery { posted, content }))
     }
 
     /// Logs that the agent adopted the end, whose newest queue is now that of the epoch. An `Err`

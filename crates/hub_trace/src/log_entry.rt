@@ -2,14 +2,13 @@ ghost use Rattle.std.specs.Prelude.{Some};
 ghost use Rattle.hub_trace.specs.Text.{delivery_text, entry_text};
 
 use crate::content::Content;
-use crate::label::Label;
-use hub_envelope::EndId;
+use hub_envelope::{EndId, Posted};
 use std::fmt;
 
 /// What a log says of one envelope or notice.
 #[derive(Debug, Drop)]
 pub struct Delivery {
-    pub label: Label,
+    pub posted: Posted,
     pub content: Content,
 }
 
@@ -51,8 +50,8 @@ impl fmt::Display for Delivery {
     ghost output = { λ d. Some (delivery_text d) };
 
     fn fmt<W: fmt::Write>(&self, f: &mut fmt::Formatter<W>) -> fmt::Result {
-        let label = &self.label;
+        let posted = &self.posted;
         let content = &self.content;
-        write!(f, "{label} {content}")
+        write!(f, "{posted} {content}")
     }
 }

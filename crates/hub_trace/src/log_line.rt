@@ -5,24 +5,23 @@ ghost use Rattle.hub_envelope.specs.BodyText.{IsBodyText};
 ghost use Rattle.hub_text.specs.Reading.{IsReadAs};
 ghost use Rattle.hub_text.specs.Word.{cut};
 ghost use Rattle.hub_trace.specs.LogVersion.{max_body, max_line};
-ghost use Rattle.hub_trace.specs.Limits.{IsContentWithin, IsDeliveryWithin, IsLabelWithin};
+ghost use Rattle.hub_trace.specs.Limits.{IsContentWithin, IsDeliveryWithin, IsPostedWithin};
 ghost use Rattle.hub_trace.specs.Limits.{IsLogLineWithin, IsMessageWithin, IsPortList};
 ghost use Rattle.hub_trace.specs.LogLine.{adoption_in, agent_in, body_in, content_in, delivery_in};
-ghost use Rattle.hub_trace.specs.LogLine.{end_in, epoch_in, label_in, line_in, log_line_of};
+ghost use Rattle.hub_trace.specs.LogLine.{end_in, epoch_in, posted_in, line_in, log_line_of};
 ghost use Rattle.hub_trace.specs.LogLine.{log_line_with, message_with, number_in, parts_in};
 ghost use Rattle.hub_trace.specs.LogLine.{ports_in, text_in};
 ghost use Rattle.hub_trace.specs.ReadMemory.{delivers_message, has_message, is_delivery};
 ghost use Rattle.hub_trace.specs.ReadMemory.{reads_memory};
 
 use crate::content::Content;
-use crate::label::Label;
 use crate::limits::{MAX_AGENT, MAX_END, MAX_EPOCH, MAX_NUMBER};
 use crate::log_entry::{Delivery, LogEntry};
 use crate::log_error::LogError;
 use crate::log_version::LogVersion;
 use crate::message::Message;
 use crate::port_list::is_port_list;
-use hub_envelope::{AgentId, Body, BodyError, EndId, LineId};
+use hub_envelope::{AgentId, Body, BodyError, EndId, LineId, Posted};
 use hub_text::{EndList, cut_at, next_word, number_of};
 use std::alloc::Global;
 
@@ -116,21 +115,21 @@ fn delivery_in(alloc: Global, version: LogVersion, text: &str) -> Result<Deliver
     let (end, rest) = first_word(text)?;
     let (line, rest) = first_word(rest)?;
     let (name, rest) = first_word(rest)?;
-    let label = label_in(version, end, line, name)?;
+    let posted = posted_in(version, end, line, name)?;
     let content = content_in(alloc, version, rest)?;
-    Ok(Delivery { label, content })
+    Ok(Delivery { posted, content })
 }
 
 /// The numbers of an end and a line, and `EP:N`.
-#[tactic(auto, unfolding(crate::specs::LogLine::label_in))]
-fn label_in(version: LogVersion, end: &str, line: &str, name: &str) -> Result<Label, LogError>
+#[tactic(auto, unfolding(crate::specs::LogLine::posted_in))]
+fn posted_in(version: LogVersion, end: &str, line: &str, name: &str) -> Result<Posted, LogError>
     ensures says { IsReadAs LogError.OutOfMemory (λ x. x) result
-        (label_in version end.now line.now name.now) }
-    ensures within { IfOk result (λ l. IsLabelWithin version l) }
+        (posted_in version end.now line.now name.now) }
+    ensures within { IfOk result (λ l. IsPostedWithin version l) }
     ensures memory { IfErr result (λ e. e ≢ LogError.OutOfMemory) }
 {
     let (epoch, number) = name_parts(name)?;
-    Ok(Label {
+    Ok(Posted {
         end: end_in(end)?,
         line: line_in(version, line)?,
         epoch: epoch_in(epoch)?,

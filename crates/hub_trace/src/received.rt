@@ -10,10 +10,10 @@ ghost use Rattle.hub_trace.specs.Views.{IsOwn, RisesByLine, RisesByEnd, end_even
 ghost use Rattle.hub_trace.specs.Views.{receipts_in};
 
 use crate::content::Content;
-use crate::label::Label;
 use crate::log::Log;
 use crate::log_entry::{Delivery, LogEntry};
-use hub_envelope::{EndId, LineId, OutOfMemory};
+use crate::naming::is_of_later_line;
+use hub_envelope::{EndId, LineId, OutOfMemory, Posted};
 use std::alloc::Global;
 use std::collections::BTreeMap;
 
@@ -29,7 +29,7 @@ pub(crate) struct Happening<'a> {
 /// An envelope or a notice that was got.
 #[derive(Clone, Copy, Debug)]
 pub(crate) struct Arrival<'a> {
-    pub(crate) label: Label,
+    pub(crate) posted: Posted,
     pub(crate) content: &'a Content,
     /// Whether the end had been closed before.
     pub(crate) late: bool,
@@ -43,11 +43,11 @@ pub(crate) fn arrivals_in_order(
 ) -> Result<Vec<Arrival<'_>>, OutOfMemory>
     ensures lines { IfOk result (λ v. (end line : ℕ) →
         got_in v.items end line ≡ got logs.now end line) }
-    ensures order { IfOk result (λ v. RisesByLine (λ a. a.label) v.items) }
+    ensures order { IfOk result (λ v. RisesByLine (λ a. a.posted) v.items) }
 {
     let happenings = happenings_in_order(alloc, logs)?;
     let mut arrivals = arrivals_of(alloc, &happenings)?;
-    arrivals.sort_by_key(|a| (a.label.end.0, a.label.line.0))?;
+    arrivals.sort_by_key(|a| (a.posted.end.0, a.posted.line.0))?;
     Ok(arrivals)
 }
 
@@ -96,7 +96,7 @@ fn add_happenings<'a>(
                 stretches.insert(end.0, *epoch)?;
             }
             LogEntry::Got(delivery) => {
-                let end = delivery.label.end;
+                let end = delivery.posted.end;
                 let stretch = stretches.get(&end.0).copied().unwrap_or(0);
                 happenings.push(Happening {
                     end,
@@ -135,7 +135,7 @@ fn arrivals_of<'a>(
             Some(delivery) => {
                 let late = closed == Some(happening.end.0);
                 arrivals.push(Arrival {
-                    label: delivery.label,
+                    posted: delivery.posted,
                     content: &delivery.content,
                     late,
                 })?;
@@ -151,15 +151,15 @@ pub(crate) fn front_of_line<'s, 'a>(
     end: EndId,
     line: LineId,
 ) -> &'s [Arrival<'a>]
-    requires order { RisesByLine (λ a. a.label) arrivals.now }
+    requires order { RisesByLine (λ a. a.posted) arrivals.now }
     requires some { 0 < length arrivals.now }
     requires first { (d : Arrival) →
-        is_of end.0 line.0 (slice_index_or arrivals.now 0 d).label ≡ true }
+        is_of end.0 line.0 (slice_index_or arrivals.now 0 d).posted ≡ true }
     ensures some { 0 < length result.now }
     ensures within { length result.now ≤ length arrivals.now }
     ensures front { arrivals.now ≡ result.now ++ drop (length result.now) arrivals.now }
-    ensures line { result.now ≡ filter (λ a. is_of end.0 line.0 a.label) arrivals.now }
+    ensures line { result.now ≡ filter (λ a. is_of end.0 line.0 a.posted) arrivals.now }
 {
-    let count = arrivals.partition_point(|a| !a.label.is_after(end, line));
+    let count = arrivals.partition_point(|a| !is_of_later_line(&a.posted, end, line));
     &arrivals[..count]
 }

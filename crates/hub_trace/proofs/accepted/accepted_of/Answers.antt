@@ -13,10 +13,10 @@ returns c =
     let line = c.args.line.0 in
     let n = c.partition_point-from.result in
     let m = c.partition_point-count.result in
-    let label = λ (a : AcceptedEnvelope). a.label in
+    let posted = λ (a : AcceptedEnvelope). a.posted in
     let rest = take_rest xs n in
     let le : n ≤ length xs = c.partition_point-from.ensures.bound in
-    let front = IsPartitionPoint-from_clause (λ (a : AcceptedEnvelope). is_before end line a.label) xs n c.partition_point-from.ensures.partitioned (before_parted label xs end line c.requires) (λ a r f k. search rules) in
-    let back = IsPartitionPoint-from_clause (λ (a : AcceptedEnvelope). not (is_after end line a.label)) _ m c.partition_point-count.ensures.partitioned
-    (rw rest (upto_parted label (drop n xs) end line (RisesByLine-drop label xs n le c.requires))) (λ a r f k. search rules) in
-    rw rest (cut label xs end line n m le front (rw rest at c.partition_point-count.ensures.bound) (rw rest at back))
+    let front = IsPartitionPoint-from_clause (λ (a : AcceptedEnvelope). is_before end line a.posted) xs n c.partition_point-from.ensures.partitioned (before_parted posted xs end line c.requires) (λ a r f k. search rules) in
+    let back = IsPartitionPoint-from_clause (λ (a : AcceptedEnvelope). not (is_after end line a.posted)) _ m c.partition_point-count.ensures.partitioned
+    (rw rest (upto_parted posted (drop n xs) end line (RisesByLine-drop posted xs n le c.requires))) (λ a r f k. search rules) in
+    rw rest (cut posted xs end line n m le front (rw rest at c.partition_point-count.ensures.bound) (rw rest at back))

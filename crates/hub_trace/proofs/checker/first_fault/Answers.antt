@@ -16,8 +16,8 @@ returns-in-Some-fault_of_line c =
     let arrivals = c.args.arrivals.now in
     let rest = c.loop-first.rest.now in
     let first = c.in-Some.first.now in
-    let end = first.label.end.0 in
-    let line = first.label.line.0 in
+    let end = first.posted.end.0 in
+    let line = first.posted.line.0 in
     let left = c.loop-first.invariant.left in
     let front = c.front_of_line-got.ensures in (
       subst (λ (p : List Delivery × List Receipt). IsFirstFault p.0 p.1 c.in-Some-fault_of_line.place c.in-Some-fault_of_line.kind)
@@ -32,14 +32,14 @@ loop-first-preserved c =
     let arrivals = c.args.arrivals.now in
     let rest = c.loop-first.rest.now in
     let first = c.in-Some.first.now in
-    let end = first.label.end.0 in
-    let line = first.label.line.0 in
+    let end = first.posted.end.0 in
+    let line = first.posted.line.0 in
     let front = c.front_of_line-got.ensures in
     let n = length c.front_of_line-got.result.now in
     let same = sym (take_rest rest n) in
     let clean = subst (λ (p : List Delivery). IsCleanLine p (map receipt_of c.front_of_line-got.result.now)) (ap (map delivery_of) c.accepted_of-put.ensures) c.in_default-fault_of_line.ensures in
     record {
-      order = subst (RisesByLine (λ (a : Arrival). a.label)) same (RisesByLine-drop (λ (a : Arrival). a.label) rest n front.within c.loop-first.invariant.order);
+      order = subst (RisesByLine (λ (a : Arrival). a.posted)) same (RisesByLine-drop (λ (a : Arrival). a.posted) rest n front.within c.loop-first.invariant.order);
       left = λ x y. subst (λ (l : List Arrival). IsLeft accepted arrivals l x y) same (step_left accepted arrivals rest c.front_of_line-got.result.now (drop n rest) end line front.front front.line clean c.loop-first.invariant.left x y);
     }
 

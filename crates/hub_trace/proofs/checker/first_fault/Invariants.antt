@@ -5,7 +5,7 @@ use Rattle.hub_trace.proofs.checker.first_fault.Given as goal
 
 abbrev pub invariant-loop-first : goal.invariant-loop-first
 invariant-loop-first l = record {
-  order : RisesByLine (λ a. a.label) l.rest;
+  order : RisesByLine (λ a. a.posted) l.rest;
   left : (end line : ℕ) → IsLeft l.accepted l.arrivals l.rest end line;
 }
 

@@ -9,5 +9,5 @@ use Rattle.hub_trace.proofs.checker.is_among_got.Goals as goal
 
 pub returns : goal.returns
 returns c =
-    any_from_yields_List (λ x. has_name x.label c.args.label.now) _ _ _ c.any.ensures.ran (YieldsList-from_slice c.args.got.now cc) (λ x b q k. search (rules, tests))
-    ∙ list_any-map receipt_of (λ (r : Receipt). has_name r.delivery.label c.args.label.now) c.args.got.now
+    any_from_yields_List (λ x. has_name x.posted c.args.posted.now) _ _ _ c.any.ensures.ran (YieldsList-from_slice c.args.got.now cc) (λ x b q k. search (rules, tests))
+    ∙ list_any-map receipt_of (λ (r : Receipt). has_name r.delivery.posted c.args.posted.now) c.args.got.now

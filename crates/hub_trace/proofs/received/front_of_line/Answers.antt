@@ -11,9 +11,9 @@ returns-clause-some c =
     let end = c.args.end.0 in
     let line = c.args.line.0 in
     let m = c.partition_point-count.result in
-    let parts = IsPartitionPoint-from_clause (λ (a : Arrival). not (is_after end line a.label)) xs m c.partition_point-count.ensures.partitioned
-    (upto_parted (λ a. a.label) xs end line c.requires.order) (λ a r f k. search rules) in
-    let some = front_some (λ (a : Arrival). a.label) xs end line m c.requires.some c.requires.first parts in
+    let parts = IsPartitionPoint-from_clause (λ (a : Arrival). not (is_after end line a.posted)) xs m c.partition_point-count.ensures.partitioned
+    (upto_parted (λ a. a.posted) xs end line c.requires.order) (λ a r f k. search rules) in
+    let some = front_some (λ (a : Arrival). a.posted) xs end line m c.requires.some c.requires.first parts in
     omega (arith, length-take m xs)
 
 pub returns-clause-line : goal.returns-clause-line
@@ -22,6 +22,6 @@ returns-clause-line c =
     let end = c.args.end.0 in
     let line = c.args.line.0 in
     let m = c.partition_point-count.result in
-    let parts = IsPartitionPoint-from_clause (λ (a : Arrival). not (is_after end line a.label)) xs m c.partition_point-count.ensures.partitioned
-    (upto_parted (λ a. a.label) xs end line c.requires.order) (λ a r f k. search rules) in
-    front_cut (λ a. a.label) xs end line m c.partition_point-count.ensures.bound (front_not_before (λ (a : Arrival). a.label) xs end line c.requires.order c.requires.first) parts
+    let parts = IsPartitionPoint-from_clause (λ (a : Arrival). not (is_after end line a.posted)) xs m c.partition_point-count.ensures.partitioned
+    (upto_parted (λ a. a.posted) xs end line c.requires.order) (λ a r f k. search rules) in
+    front_cut (λ a. a.posted) xs end line m c.partition_point-count.ensures.bound (front_not_before (λ (a : Arrival). a.posted) xs end line c.requires.order c.requires.first) parts
