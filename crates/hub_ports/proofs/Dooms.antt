@@ -1,7 +1,8 @@
 -- Ports that a doomed message closes one after another.
-use Rattle.std.proofs.Common.{arith, ◌≡◌, ℕ, zero, suc, ◌<◌, ◌≤◌, List, [], ◌∷◌, ◌++◌, length, refl, ap, sym, inl, inr, ◌∙◌, append_assoc, length-append, Some, Ok, Err}
+use Rattle.std.proofs.Common.{arith, ◌≡◌, ℕ, zero, suc, ◌<◌, ◌≤◌, List, [], ◌∷◌, ◌++◌, length, refl, ap, sym, inl, inr, ◌∙◌, append_assoc, length-append, Option, Some, Ok, Err}
 use Rattle.hub_envelope.specs.Notice.{notice_draft}
 use Rattle.hub_envelope.specs.declared.envelope.Draft.{Draft}
+use Rattle.hub_envelope.specs.declared.ids.EndId.{EndId}
 use Rattle.hub_queue.specs.declared.pass_view.PutView.{PutView}
 use Rattle.hub_queue.specs.declared.post_error.PostError.{PostError}
 use Rattle.hub_queue.specs.declared.post_error.PostError.TheVariants as why
@@ -17,7 +18,7 @@ use Rattle.hub_queue.proofs.Below.{parts_snoc}
 use Rattle.hub_ports.specs.declared.closings.Closing.{Closing}
 use Rattle.hub_ports.specs.declared.noticed.Noticed.{Noticed}
 use Rattle.hub_ports.specs.declared.noticed.Noticed.TheVariants as noticed
-use Rattle.hub_ports.specs.Closing.{IsNoticed, IsDoomedAs, AreDoomed}
+use Rattle.hub_ports.specs.Closing.{IsNoticed, IsToldAs, IsDoomedAs, AreDoomed}
 use Rattle.hub_ports.specs.Seats.{PortSeat}
 
 leaves_unrung : (old : StandSeat) (hops : ℕ) (left : _) → LeavesBehind old hops left → LeavesBehind (unrung old) hops left
@@ -54,11 +55,14 @@ newest_shut t g q closed (older, newest) =
     sym ((parts_snoc t.retired older (closed_queue t.newest) q (sym (ap (λ (grave : GraveSeat). grave.queues) closed) ∙ newest)).1)
 
 -- a port was closed, and its notice put or refused on its line
+pub told_one : (p : PortSeat) (spent : StandSeat) (end : EndId) (line : Option StandSeat) (n : Noticed) → line ≡ Some (unrung spent) → end ≡ record { 0 = p.taker.end } → IsNoticed p.poster spent n → IsToldAs p end line n
+told_one p spent end line n shown same told = (same, (unrung spent, shown, noticed_unrung p.poster spent n told))
+
+-- and what shows its newest queue
 pub doomed_one : (p : PortSeat) (g : GraveSeat) (spent : StandSeat) (c : Closing) (q : TakerQueueSeat) → c.queue ≡ Some q → c.line ≡ Some (unrung spent) → c.end ≡ record { 0 = p.taker.end } → IsClosed p.taker g → IsNewestOf g q → IsNoticed p.poster spent c.noticed → IsDoomedAs p c
 doomed_one p g spent c q queue line end closed newest told = (
-  end,
+  told_one p spent c.end c.line c.noticed line end told,
   queue ∙ ap Some (newest_shut p.taker g q closed newest),
-  (unrung spent, line, noticed_unrung p.poster spent c.noticed told),
 )
 
 -- one more was closed

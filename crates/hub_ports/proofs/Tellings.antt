@@ -32,3 +32,8 @@ one_emptied (Some before) now later grave flight here p e (first, rest, heard, i
   is_first,
   empties_more flight here rest p e empties got emptied,
 )
+
+-- two things were told, one after the other
+pub told_both : {T : Type 0} (was now later : Option (List T)) (first second : T) → now ≡ option_map (λ list. list ++ first ∷ []) was → later ≡ option_map (λ list. list ++ second ∷ []) now → later ≡ option_map (λ list. list ++ first ∷ second ∷ []) was
+told_both None now later first second one two = two ∙ ap (option_map (λ list. list ++ second ∷ [])) one
+told_both (Some list) now later first second one two = two ∙ ap (option_map (λ list. list ++ second ∷ [])) one ∙ ap Some (append_assoc list (first ∷ []) (second ∷ []))

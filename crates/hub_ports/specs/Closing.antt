@@ -25,7 +25,7 @@ IsNoticed old new PeerClosed = IsPosted old new notice_draft (Err (why.Closed, n
 IsNoticed old new Moving = IsPosted old new notice_draft (Err (why.Moving, notice_draft))
 IsNoticed old new OutOfMemory = IsPosted old new notice_draft (Err (why.OutOfMemory, notice_draft)) ⊎ (new ≡ old)
 
--- the number of the port, and what became of its notice
+-- The number of the port, and what became of its notice. A loop tells of a port by these two alone.
 abbrev pub IsClosedAs : PortSeat → EndId × Noticed → Type 0
 IsClosedAs p closing = (closing.0 ≡ end_of p) × ((spent : StandSeat) × IsNoticed p.poster spent closing.1)
 
@@ -43,9 +43,13 @@ IsShutAs p queue = queue ≡ Some (closed_queue p.taker.newest)
 abbrev pub IsLeftAs : PortSeat → Option StandSeat → Noticed → Type 0
 IsLeftAs p line noticed = (spent : StandSeat) × (line ≡ Some spent) × IsNoticed (unrung p.poster) spent noticed
 
--- a port that a doomed message has closed: its number, its own end that was closed, its line, and what became there of its notice
+-- what is told of a port that was closed: its number, its line, and what became there of its notice
+abbrev pub IsToldAs : PortSeat → EndId → Option StandSeat → Noticed → Type 0
+IsToldAs p end line noticed = (end ≡ end_of p) × IsLeftAs p line noticed
+
+-- a port that a doomed message has closed: what is told of it, and its own end that was closed
 abbrev pub IsDoomedAs : PortSeat → Closing → Type 0
-IsDoomedAs p c = (c.end ≡ end_of p) × IsShutAs p c.queue × IsLeftAs p c.line c.noticed
+IsDoomedAs p c = IsToldAs p c.end c.line c.noticed × IsShutAs p c.queue
 
 -- each port of a list was closed, in this order
 abbrev pub AreDoomed : List PortSeat → List Closing → Type 0

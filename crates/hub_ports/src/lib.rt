@@ -14,6 +14,7 @@ mod arrived;
 mod arriving;
 mod channel_error;
 mod closing;
+mod closing_step;
 mod closings;
 mod ending;
 mod entangling;

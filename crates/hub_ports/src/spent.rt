@@ -1,8 +1,8 @@
 use hub_queue::{LeftLine, Poster};
 use std::marker::Model;
 
-/// The poster of a port that was closed. Contracts see by it what the notice came to; it has no
-/// call, so nothing is put on its line after the notice.
+/// The poster of a port that was closed. Contracts see by it what the notice came to; no call of it
+/// posts, so nothing is put on its line after the notice.
 #[derive(Drop)]
 pub struct Spent {
     pub(crate) poster: Poster,
@@ -20,8 +20,8 @@ impl Spent {
     ghost use Rattle.std.specs.Prelude.{◌≡◌, Some};
     ghost use Rattle.hub_queue.specs.Left.{unrung};
 
-    /// What shows the line.
-    pub(crate) fn into_left(self) -> LeftLine
+    /// What shows the line, in which a contract sees what the notice came to. It has no bytes.
+    pub fn into_left(self) -> LeftLine
         ensures { result ≡ Some (unrung self) }
     {
         self.poster.into_left()
