@@ -5,6 +5,7 @@ pub mod Delivering
 pub mod Ending
 pub mod Holding
 pub mod Looking
+pub mod Looping
 pub mod Noticing
 pub mod Popping
 pub mod Reaching

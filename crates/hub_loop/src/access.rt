@@ -44,10 +44,8 @@ impl<H: Handler + Drop, C: Checkpoint + Drop> EventLoop<H, C> {
         ensures ok { OnOk result (HoldsMore self.old.holding.held self.new.holding.held held) }
         ensures back { IfErr result (λ refused. refused.1 ≡ held) }
         ensures err { OnErr result (SameValues self.old.holding.held self.new.holding.held) }
-        ensures kept { (self.new.kept ≡ self.old.kept) × (self.new.handler ≡ self.old.handler)
-            × (self.new.holding.closed ≡ self.old.holding.closed) }
-        ensures rest { (self.new.fetched ≡ self.old.fetched) × (self.new.opened ≡ self.old.opened)
-            × (self.new.closing ≡ self.old.closing) }
+        ensures closed { self.new.holding.closed ≡ self.old.holding.closed }
+        ensures rest { self.new ≡ record self.old { holding = self.new.holding } }
     {
         match self.holding.hold(held) {
             Ok(()) => Ok(()),
@@ -129,10 +127,8 @@ impl<H: Handler + Drop, C: Checkpoint + Drop> EventLoop<H, C> {
             × HoldsMore self.new.holding.held self.old.holding.held held) }
         ensures none { IfNone result (self.new.holding.held ≡ self.old.holding.held) }
         ensures missing { IfNone result (HoldsNoEnd self.old.holding.held end) }
-        ensures kept { (self.new.kept ≡ self.old.kept) × (self.new.handler ≡ self.old.handler)
-            × (self.new.holding.closed ≡ self.old.holding.closed) }
-        ensures rest { (self.new.fetched ≡ self.old.fetched) × (self.new.opened ≡ self.old.opened)
-            × (self.new.closing ≡ self.old.closing) }
+        ensures closed { self.new.holding.closed ≡ self.old.holding.closed }
+        ensures rest { self.new ≡ record self.old { holding = self.new.holding } }
     {
         self.holding.release(end)
     }

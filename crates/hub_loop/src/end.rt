@@ -3,17 +3,16 @@
 ghost use Rattle.std.specs.Prelude.{◌≡◌, OnOk, IfOk, IfErr, OnErr, ℕ, count_by};
 ghost use Rattle.hub_loop.specs.Ending.{
   closing_ends,
-  ends_in,
   is_grave,
   swept_ends,
   HasEnded,
   HasPaused,
 };
+ghost use Rattle.hub_loop.specs.Looping.{holds, open_ports};
 ghost use Rattle.hub_loop.specs.Noticing.{
   AllClosed,
   HasNoticed,
   HasNoticedSome,
-  ports_in,
   SomeClosed,
 };
 
@@ -49,24 +48,19 @@ impl<H: Handler + Drop, C: Checkpoint + Drop> EventLoop<H, C> {
         roster: &SharedRoster,
     ) -> Result<Ended, (LoopError, EventLoop<H, C>)>
         ensures ok { IfOk result (λ ended. HasEnded self.closing
-            (ends_in self.holding.held self.fetched.items self.kept self.opened.items
-            self.holding.closed.graves.items)
+            (holds self)
             (swept_ends ended.swept.items)) }
         ensures noticed { IfOk result (λ ended. HasNoticed self.closing
-            (ends_in self.holding.held self.fetched.items self.kept self.opened.items
-            self.holding.closed.graves.items)
-            (ports_in self.holding.held self.kept self.opened.items)
+            (holds self)
+            (open_ports self)
             (swept_ends ended.swept.items) self.holding.closed.noticed.items ended.noticed.items) }
         ensures err { IfErr result (λ failed. HasPaused self.closing failed.1.closing
-            (ends_in self.holding.held self.fetched.items self.kept self.opened.items
-            self.holding.closed.graves.items)
-            (ends_in failed.1.holding.held failed.1.fetched.items failed.1.kept
-            failed.1.opened.items failed.1.holding.closed.graves.items)) }
+            (holds self)
+            (holds failed.1)) }
         ensures noticed_err { IfErr result (λ failed. HasNoticedSome self.closing failed.1.closing
-            (ends_in self.holding.held self.fetched.items self.kept self.opened.items
-            self.holding.closed.graves.items)
-            (ports_in self.holding.held self.kept self.opened.items)
-            (ports_in failed.1.holding.held failed.1.kept failed.1.opened.items)
+            (holds self)
+            (open_ports self)
+            (open_ports failed.1)
             self.holding.closed.noticed.items failed.1.holding.closed.noticed.items) }
     {
         match self.close_all(rt, hub, directory, roster) {
@@ -87,20 +81,17 @@ impl<H: Handler + Drop, C: Checkpoint + Drop> EventLoop<H, C> {
         roster: &SharedRoster,
     ) -> Result<(), OutOfMemory>
         ensures moved { (e : ℕ) →
-            ends_in self.new.holding.held self.new.fetched.items self.new.kept
-            self.new.opened.items self.new.holding.closed.graves.items e
-            ≡ ends_in self.old.holding.held self.old.fetched.items self.old.kept
-            self.old.opened.items self.old.holding.closed.graves.items e }
+            holds self.new e
+            ≡ holds self.old e }
         ensures all { OnOk result ((e : ℕ) →
             count_by (is_grave e) self.new.holding.closed.graves.items
-            ≡ ends_in self.new.holding.held self.new.fetched.items self.new.kept
-            self.new.opened.items self.new.holding.closed.graves.items e) }
+            ≡ holds self.new e) }
         ensures noticed { OnOk result (AllClosed
-            (ports_in self.old.holding.held self.old.kept self.old.opened.items)
+            (open_ports self.old)
             self.old.holding.closed.noticed.items self.new.holding.closed.noticed.items) }
         ensures noticed_err { OnErr result (SomeClosed
-            (ports_in self.old.holding.held self.old.kept self.old.opened.items)
-            (ports_in self.new.holding.held self.new.kept self.new.opened.items)
+            (open_ports self.old)
+            (open_ports self.new)
             self.old.holding.closed.noticed.items self.new.holding.closed.noticed.items) }
         ensures closing { self.new.closing ≡ self.old.closing }
     {
@@ -121,24 +112,19 @@ impl<H: Handler + Drop, C: Checkpoint + Drop> EventLoop<H, C> {
         roster: &SharedRoster,
     ) -> Result<Closing, OutOfMemory>
         ensures ok { IfOk result (λ closing. HasEnded self.old.closing
-            (ends_in self.old.holding.held self.old.fetched.items self.old.kept
-            self.old.opened.items self.old.holding.closed.graves.items)
+            (holds self.old)
             (closing_ends closing)) }
         ensures noticed { IfOk result (λ closing. HasNoticed self.old.closing
-            (ends_in self.old.holding.held self.old.fetched.items self.old.kept
-            self.old.opened.items self.old.holding.closed.graves.items)
-            (ports_in self.old.holding.held self.old.kept self.old.opened.items)
+            (holds self.old)
+            (open_ports self.old)
             (closing_ends closing) self.old.holding.closed.noticed.items closing.noticed.items) }
         ensures err { OnErr result (HasPaused self.old.closing self.new.closing
-            (ends_in self.old.holding.held self.old.fetched.items self.old.kept
-            self.old.opened.items self.old.holding.closed.graves.items)
-            (ends_in self.new.holding.held self.new.fetched.items self.new.kept
-            self.new.opened.items self.new.holding.closed.graves.items)) }
+            (holds self.old)
+            (holds self.new)) }
         ensures noticed_err { OnErr result (HasNoticedSome self.old.closing self.new.closing
-            (ends_in self.old.holding.held self.old.fetched.items self.old.kept
-            self.old.opened.items self.old.holding.closed.graves.items)
-            (ports_in self.old.holding.held self.old.kept self.old.opened.items)
-            (ports_in self.new.holding.held self.new.kept self.new.opened.items)
+            (holds self.old)
+            (open_ports self.old)
+            (open_ports self.new)
             self.old.holding.closed.noticed.items self.new.holding.closed.noticed.items) }
     {
         match self.closing.take() {
@@ -160,25 +146,20 @@ impl<H: Handler + Drop, C: Checkpoint + Drop> EventLoop<H, C> {
         roster: &SharedRoster,
     ) -> Result<Ended, OutOfMemory>
         ensures ok { IfOk result (λ ended. HasEnded self.old.closing
-            (ends_in self.old.holding.held self.old.fetched.items self.old.kept
-            self.old.opened.items self.old.holding.closed.graves.items)
+            (holds self.old)
             (swept_ends ended.swept.items)) }
         ensures noticed { IfOk result (λ ended. HasNoticed self.old.closing
-            (ends_in self.old.holding.held self.old.fetched.items self.old.kept
-            self.old.opened.items self.old.holding.closed.graves.items)
-            (ports_in self.old.holding.held self.old.kept self.old.opened.items)
+            (holds self.old)
+            (open_ports self.old)
             (swept_ends ended.swept.items) self.old.holding.closed.noticed.items
             ended.noticed.items) }
         ensures err { OnErr result (HasPaused self.old.closing self.new.closing
-            (ends_in self.old.holding.held self.old.fetched.items self.old.kept
-            self.old.opened.items self.old.holding.closed.graves.items)
-            (ends_in self.new.holding.held self.new.fetched.items self.new.kept
-            self.new.opened.items self.new.holding.closed.graves.items)) }
+            (holds self.old)
+            (holds self.new)) }
         ensures noticed_err { OnErr result (HasNoticedSome self.old.closing self.new.closing
-            (ends_in self.old.holding.held self.old.fetched.items self.old.kept
-            self.old.opened.items self.old.holding.closed.graves.items)
-            (ports_in self.old.holding.held self.old.kept self.old.opened.items)
-            (ports_in self.new.holding.held self.new.kept self.new.opened.items)
+            (holds self.old)
+            (open_ports self.old)
+            (open_ports self.new)
             self.old.holding.closed.noticed.items self.new.holding.closed.noticed.items) }
     {
         let mut closing = self.begin_closing(rt, hub, roster)?;

@@ -45,7 +45,7 @@ use hub_life::Order;
 use hub_ports::{Hub, Port};
 use hub_queue::{Listener, Steps};
 use std::alloc::Global;
-use std::marker::Brand;
+use std::marker::{Brand, Model};
 use std::sync::Wait;
 use std::sync::ledger::{Blank, Ledger};
 use std::thread;
@@ -82,6 +82,23 @@ pub struct EventLoop<H: Handler + Drop, C: Checkpoint + Drop> {
     pub(crate) delivered: u64,
 }
 
+impl<H: Handler + Drop, C: Checkpoint + Drop> Model for EventLoop<H, C> {
+    ghost use Rattle.hub_loop.specs.Looping.{LoopState};
+
+    ghost Value = { LoopState H };
+
+    ghost view = { λ l. record {
+      order = l.order;
+      listener = l.listener;
+      handler = l.handler;
+      holding = l.holding;
+      kept = l.kept;
+      fetched = l.fetched.items;
+      opened = l.opened.items;
+      closing = l.closing;
+    } };
+}
+
 impl<H: Handler + Drop, C: Checkpoint + Drop> EventLoop<H, C> {
     /// A loop that holds nothing, for the agent of that number. It sleeps at `bell`, the listener
     /// whose bells are those of the ends that it is to hold.
@@ -99,8 +116,8 @@ impl<H: Handler + Drop, C: Checkpoint + Drop> EventLoop<H, C> {
         ensures kept { IfOk result (λ opened. opened.kept ≡ None) }
         ensures handler { IfOk result (λ opened. opened.handler ≡ handler) }
         ensures order { IfOk result (λ opened. opened.order ≡ order) }
-        ensures rest { IfOk result (λ opened. (opened.fetched.items ≡ [])
-            × (opened.opened.items ≡ []) × (opened.holding.closed.graves.items ≡ [])
+        ensures rest { IfOk result (λ opened. (opened.fetched ≡ [])
+            × (opened.opened ≡ []) × (opened.holding.closed.graves.items ≡ [])
             × (opened.closing ≡ None)) }
     {
         let holding = Holding::new(alloc, bell.bell()?);
@@ -130,10 +147,11 @@ impl<H: Handler + Drop, C: Checkpoint + Drop> EventLoop<H, C> {
         ensures keys { self.old.kept ≡ None →
             length self.old.holding.held.slots ≤ self.old.holding.held.capacity }
         ensures kept { self.new.kept ≡ None }
-        ensures order { self.new.order ≡ self.old.order }
-        ensures handler { self.new.handler ≡ self.old.handler }
-        ensures rest { (self.new.fetched ≡ self.old.fetched) × (self.new.opened ≡ self.old.opened)
-            × (self.new.closing ≡ self.old.closing) }
+        ensures rest { self.new ≡ record self.old {
+          listener = self.new.listener;
+          holding = self.new.holding;
+          kept = self.new.kept;
+        } }
     {
         if let Some(delivery) = self.kept.take() {
             return Due::Delivery(delivery);
@@ -173,8 +191,13 @@ impl<H: Handler + Drop, C: Checkpoint + Drop> EventLoop<H, C> {
         ensures others { TookNothingBut (Gave self.old.kept self.new.holding.next result)
             self.old.holding.held self.new.holding.held }
         ensures pops { PopsEach result self.old.holding.held steps.old steps.new }
-        ensures rest { (self.new.fetched ≡ self.old.fetched) × (self.new.opened ≡ self.old.opened)
-            × (self.new.closing ≡ self.old.closing) }
+        ensures rest { self.new ≡ record self.old {
+          order = self.new.order;
+          listener = self.new.listener;
+          handler = self.new.handler;
+          holding = self.new.holding;
+          kept = self.new.kept;
+        } }
     {
         if self.order.seen() {
             return Ok(Turn::Ending);
@@ -198,7 +221,8 @@ impl<H: Handler + Drop, C: Checkpoint + Drop> EventLoop<H, C> {
     /// Rests after a turn: where no end gave anything and none was busy the thread sleeps until
     /// somebody rings, and where one was busy it lets other threads run first.
     pub fn rest<R: Wait>(&mut self, rt: &R, turn: Turn)
-        ensures { Rests turn self.old.listener.at self.new.listener.at }
+        ensures rests { Rests turn self.old.listener.at self.new.listener.at }
+        ensures same { self.new ≡ record self.old { listener = self.new.listener } }
     {
         match turn {
             Turn::Idle { busy: false } => self.listener.sleep(rt),
@@ -253,8 +277,10 @@ impl<H: Handler + Drop, C: Checkpoint + Drop> EventLoop<H, C> {
             (store_of self.old.holding) (store_of self.new.holding) end) }
         ensures err { OnErr result (SameStored
             (store_of self.old.holding) (store_of self.new.holding)) }
-        ensures kept { (self.new.kept ≡ self.old.kept) × (self.new.handler ≡ self.old.handler) }
-        ensures rest { (self.new.opened ≡ self.old.opened) × (self.new.closing ≡ self.old.closing) }
+        ensures rest { self.new ≡ record self.old {
+          holding = self.new.holding;
+          fetched = self.new.fetched;
+        } }
     {
         self.fetched.reserve(1)?;
         let queue = match take_fetched(&mut self.fetched, end) {

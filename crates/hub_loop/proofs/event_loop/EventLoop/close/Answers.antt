@@ -1,7 +1,17 @@
-use Rattle.std.proofs.Common.{ap}
+use Rattle.std.proofs.Common.{◌≡◌, subst, sym}
 use Rattle.hub_loop.proofs.Closes.{if-none}
 use Rattle.hub_loop.proofs.event_loop.EventLoop.close.Goals as goal
 
 pub returns-in_err-held-clause-none : goal.returns-in_err-held-clause-none
 returns-in_err-held-clause-none g c =
-    if-none c.from_residual.result (ap (λ h. record c.args.self.now { holding = h }) c.in_err-held.ensures.unchanged)
+    let inside = c.self.inside in
+    if-none c.from_residual.result (sym (subst (λ h. c.args.self.now ≡ record {
+      order = inside.order;
+      listener = inside.listener;
+      handler = inside.handler;
+      holding = h;
+      kept = inside.kept;
+      fetched = inside.fetched.items;
+      opened = inside.opened.items;
+      closing = inside.closing;
+    }) (sym c.in_err-held.ensures.unchanged) (sym c.self.view_is)))

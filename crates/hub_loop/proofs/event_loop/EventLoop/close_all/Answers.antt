@@ -8,7 +8,7 @@ use Rattle.hub_loop.proofs.event_loop.EventLoop.close_all.Goals as goal
 pub returns-in-Ok-clause-ok : goal.returns-in-Ok-clause-ok
 returns-in-Ok-clause-ok g c =
     let old = c.args.self.now in
-    let ends = ends_in old.holding.held old.fetched.items old.kept old.opened.items old.holding.closed.graves.items in
+    let ends = ends_in old.holding.held old.fetched old.kept old.opened old.holding.closed.graves.items in
     let behind = c.in-Ok.ensures.further in
     let further = ends-further old.closing ends (closing_ends c.in_ok-closing.closing) (closing_ends c.finish.new.self) c.in_ok-closing.ensures.ok (port_numbers behind.0, behind.1) in
     subst (HasEnded old.closing ends)
@@ -18,8 +18,8 @@ returns-in-Ok-clause-ok g c =
 pub returns-in-Ok-clause-noticed : goal.returns-in-Ok-clause-noticed
 returns-in-Ok-clause-noticed g c =
     let old = c.args.self.now in
-    let ends = ends_in old.holding.held old.fetched.items old.kept old.opened.items old.holding.closed.graves.items in
-    let ports = ports_in old.holding.held old.kept old.opened.items in
+    let ends = ends_in old.holding.held old.fetched old.kept old.opened old.holding.closed.graves.items in
+    let ports = ports_in old.holding.held old.kept old.opened in
     let before = old.holding.closed.noticed.items in
     let begun = c.in_ok-closing.closing in
     let done = c.finish.new.self in
@@ -30,14 +30,14 @@ returns-in-Ok-clause-noticed g c =
 pub returns-in-Err-clause-err : goal.returns-in-Err-clause-err
 returns-in-Err-clause-err g c =
     let old = c.args.self.now in
-    let ends = ends_in old.holding.held old.fetched.items old.kept old.opened.items old.holding.closed.graves.items in
+    let ends = ends_in old.holding.held old.fetched old.kept old.opened old.holding.closed.graves.items in
     let behind = c.in-Err.ensures.further in
     ends-further old.closing ends (closing_ends c.in_ok-closing.closing) (closing_ends c.finish.new.self) c.in_ok-closing.ensures.ok (port_numbers behind.0, behind.1)
 
 pub returns-in-Err-clause-noticed_err : goal.returns-in-Err-clause-noticed_err
 returns-in-Err-clause-noticed_err g c =
     let old = c.args.self.now in
-    let ends = ends_in old.holding.held old.fetched.items old.kept old.opened.items old.holding.closed.graves.items in
+    let ends = ends_in old.holding.held old.fetched old.kept old.opened old.holding.closed.graves.items in
     let begun = c.in_ok-closing.closing in
     let done = c.finish.new.self in
-    noticed-further old.closing ends (ports_in old.holding.held old.kept old.opened.items) (closing_ends begun) (closing_ends done) old.holding.closed.noticed.items begun.noticed.items done.noticed.items c.in_ok-closing.ensures.noticed c.in-Err.ensures.further
+    noticed-further old.closing ends (ports_in old.holding.held old.kept old.opened) (closing_ends begun) (closing_ends done) old.holding.closed.noticed.items begun.noticed.items done.noticed.items c.in_ok-closing.ensures.noticed c.in-Err.ensures.further
