@@ -1,6 +1,7 @@
 -- What a step line asks for, or what is wrong with it: the first test that it fails, in their order.
 use Rattle.std.specs.Prelude.{ℕ, ◌==◌, nat_lt, List, [], ◌∷◌, Bool, true, false, Option, Some, None, option_and_then, option_map, Result, Ok, Err, codes, bytes_eq, if◌then◌else◌}
 use Rattle.std.specs.Str.{is_utf8}
+use Rattle.hub_core.specs.declared.step.Action.TheVariants as action
 use Rattle.hub_envelope.specs.Answer.{answer_of}
 use Rattle.hub_envelope.specs.declared.body.BodyError.{BodyError}
 use Rattle.hub_envelope.specs.declared.ids.AgentId.{AgentId}
@@ -190,28 +191,28 @@ row name words asks = record { name = name; words = words; asks = asks }
 abbrev pub table : List Row
 table =
     row (codes "agent") (U ∷ []) command.Agent
-    ∷ row (codes "channel") (A ∷ []) command.Channel
-    ∷ row (codes "client") (A ∷ []) command.Client
+    ∷ row (codes "channel") (A ∷ []) (λ a. command.Step (action.Channel a))
+    ∷ row (codes "client") (A ∷ []) (λ a. command.Step (action.Client a))
     ∷ row (codes "worker") (A ∷ []) command.Worker
     ∷ row (codes "member") (A ∷ NAME ∷ []) (λ x. command.Member x.0 x.1)
-    ∷ row (codes "line") (E ∷ A ∷ []) (λ x. command.Line x.0 x.1)
+    ∷ row (codes "line") (E ∷ A ∷ []) (λ x. command.Step (action.Line x.0 x.1))
     ∷ row (codes "back") (P ∷ []) (λ p. command.At p Back)
     ∷ row (codes "enter") (P ∷ []) (λ p. command.At p Enter)
     ∷ row (codes "push") (P ∷ LIST ∷ BODY ∷ []) (λ x. command.At x.0 (Push x.1.0 x.1.1))
     ∷ row (codes "leave") (P ∷ []) (λ p. command.At p Leave)
     ∷ row (codes "hop") (P ∷ []) (λ p. command.At p Hop)
     ∷ row (codes "post") (P ∷ LIST ∷ BODY ∷ []) (λ x. command.At x.0 (Post x.1.0 x.1.1))
-    ∷ row (codes "start") (E ∷ []) command.Start
+    ∷ row (codes "start") (E ∷ []) (λ e. command.Step (action.Start e))
     ∷ row (codes "loaded") (E ∷ []) command.Loaded
-    ∷ row (codes "take") (E ∷ []) command.Take
-    ∷ row (codes "look") (E ∷ []) command.Look
-    ∷ row (codes "hand") (E ∷ A ∷ []) (λ x. command.Hand x.0 x.1)
+    ∷ row (codes "take") (E ∷ []) (λ e. command.Step (action.Take e))
+    ∷ row (codes "look") (E ∷ []) (λ e. command.Step (action.Look e))
+    ∷ row (codes "hand") (E ∷ A ∷ []) (λ x. command.Step (action.Hand x.0 x.1))
     ∷ row (codes "adopt") (E ∷ A ∷ []) (λ x. command.Adopt x.0 x.1)
     ∷ row (codes "close") (E ∷ []) command.Close
     ∷ row (codes "sweep") (E ∷ []) command.Sweep
     ∷ row (codes "cast") (E ∷ LIST ∷ BODY ∷ []) (λ x. command.Cast x.0 x.1.0 x.1.1)
-    ∷ row (codes "part") (E ∷ []) command.Part
-    ∷ row (codes "order") (A ∷ []) command.Order
+    ∷ row (codes "part") (E ∷ []) (λ e. command.Step (action.Part e))
+    ∷ row (codes "order") (A ∷ []) (λ a. command.Step (action.Order a))
     ∷ row (codes "see") (A ∷ []) command.See
     ∷ row (codes "event") (A ∷ WORD ∷ []) (λ x. command.Event x.0 x.1)
     ∷ []

@@ -14,6 +14,7 @@ use Rattle.hub_core.specs.declared.listing.Listing.TheVariants.{Good, HoldsTarge
 use Rattle.hub_core.specs.Facts.{Facts}
 use Rattle.hub_core.specs.Made.{is_queue, lines_of, maker_of, peer_of}
 use Rattle.hub_core.specs.Making.{is_client, is_worker}
+use Rattle.hub_core.specs.Memory.{takes_memory}
 use Rattle.hub_core.specs.Moving.{may_close}
 use Rattle.hub_core.specs.Posting.{may_post, listing}
 use Rattle.hub_steps.specs.declared.shown.Shown.{Shown}
@@ -41,25 +42,17 @@ poster_command_takes_memory (poster.Post ports body) = true
 
 -- the commands whose steps may be answered want of memory
 abbrev pub command_takes_memory : Command → Bool
+command_takes_memory (command.Step a) = takes_memory a
 command_takes_memory (command.Agent url) = true
-command_takes_memory (command.Channel a) = true
-command_takes_memory (command.Client a) = true
 command_takes_memory (command.Worker a) = true
 command_takes_memory (command.Member a name) = true
-command_takes_memory (command.Line e a) = false
 command_takes_memory (command.At p c) = poster_command_takes_memory c
-command_takes_memory (command.Start e) = false
 command_takes_memory (command.Loaded e) = false
-command_takes_memory (command.Take e) = false
-command_takes_memory (command.Look e) = false
-command_takes_memory (command.Hand e a) = false
 command_takes_memory (command.Adopt e a) = true
 command_takes_memory (command.Close e) = true
 command_takes_memory (command.Sweep e) = true
-command_takes_memory (command.Order a) = false
 command_takes_memory (command.See a) = true
 command_takes_memory (command.Cast e ports body) = true
-command_takes_memory (command.Part e) = false
 command_takes_memory (command.Event a event) = false
 
 -- a post takes several steps; each other command of a poster takes one
@@ -69,25 +62,17 @@ is_post c = false
 
 -- the commands that take one step of the core, or none
 abbrev pub takes_one_step : Command → Bool
+takes_one_step (command.Step a) = true
 takes_one_step (command.Agent url) = true
-takes_one_step (command.Channel a) = true
-takes_one_step (command.Client a) = true
 takes_one_step (command.Worker a) = false
 takes_one_step (command.Member a name) = false
-takes_one_step (command.Line e a) = true
 takes_one_step (command.At p c) = not (is_post c)
-takes_one_step (command.Start e) = true
 takes_one_step (command.Loaded e) = true
-takes_one_step (command.Take e) = true
-takes_one_step (command.Look e) = true
-takes_one_step (command.Hand e a) = true
 takes_one_step (command.Adopt e a) = false
 takes_one_step (command.Close e) = false
 takes_one_step (command.Sweep e) = false
-takes_one_step (command.Order a) = true
 takes_one_step (command.See a) = true
 takes_one_step (command.Cast e ports body) = false
-takes_one_step (command.Part e) = true
 takes_one_step (command.Event a event) = true
 
 -- a step whose outcome is shown
@@ -352,23 +337,15 @@ line_steps refused (poster.Post ports body) s = post refused ports body s
 
 -- what a command unfolds to, with memory refused or not. An event takes no step, and shows what the lives so far say.
 abbrev pub core_steps : AllLives → Bool → Command → Computation Shown
+core_steps lives refused (command.Step a) = shown_step refused a
 core_steps lives refused (command.Agent url) = agent refused url
-core_steps lives refused (command.Channel a) = shown_step refused (action.Channel a)
-core_steps lives refused (command.Client a) = shown_step refused (action.Client a)
 core_steps lives refused (command.Worker a) = worker refused a
 core_steps lives refused (command.Member a name) = member refused a name
-core_steps lives refused (command.Line e a) = shown_step refused (action.Line e a)
 core_steps lives refused (command.At p c) = on_line_of p (line_steps refused c)
-core_steps lives refused (command.Start e) = shown_step refused (action.Start e)
 core_steps lives refused (command.Loaded e) = load refused e
-core_steps lives refused (command.Take e) = shown_step refused (action.Take e)
-core_steps lives refused (command.Look e) = shown_step refused (action.Look e)
-core_steps lives refused (command.Hand e a) = shown_step refused (action.Hand e a)
 core_steps lives refused (command.Adopt e a) = adopt refused e a
 core_steps lives refused (command.Close e) = close refused e
 core_steps lives refused (command.Sweep e) = sweep refused e
-core_steps lives refused (command.Order a) = shown_step refused (action.Order a)
 core_steps lives refused (command.See a) = shown_step refused (action.See a)
 core_steps lives refused (command.Cast e ports body) = cast refused e ports body
-core_steps lives refused (command.Part e) = shown_step refused (action.Part e)
 core_steps lives refused (command.Event a event) = pure (event_shown event (slice_get lives a.0))

@@ -48,7 +48,7 @@ pub fn perform(
     } = line;
     match command {
         Command::At(poster, command) => perform_at(core, poster, command, memory_refused),
-        Command::Take(end) => show_step(core, Action::Take(end), memory_refused),
+        Command::Step(Action::Take(end)) => show_step(core, Action::Take(end), memory_refused),
         command => {
             let line = StepLine {
                 command,
@@ -80,28 +80,20 @@ fn perform_rarer(
         memory_refused,
     } = line;
     match command {
+        Command::Step(action) => show_step(core, action, memory_refused),
         Command::Agent(url) => make_agent(core, lives, url, memory_refused),
-        Command::Channel(agent) => show_step(core, Action::Channel(agent), memory_refused),
-        Command::Client(agent) => show_step(core, Action::Client(agent), memory_refused),
         Command::Worker(agent) => make_worker(core, lives, agent, memory_refused),
         Command::Member(agent, name) => make_member(core, agent, name, memory_refused),
-        Command::Line(end, agent) => show_step(core, Action::Line(end, agent), memory_refused),
         Command::At(poster, command) => perform_at(core, poster, command, memory_refused),
-        Command::Start(end) => show_step(core, Action::Start(end), memory_refused),
         Command::Loaded(end) => load(core, end, memory_refused),
-        Command::Take(end) => show_step(core, Action::Take(end), memory_refused),
-        Command::Look(end) => show_step(core, Action::Look(end), memory_refused),
-        Command::Hand(end, agent) => show_step(core, Action::Hand(end, agent), memory_refused),
         Command::Adopt(end, agent) => adopt(core, end, agent, memory_refused),
         Command::Close(end) => close(core, end, memory_refused),
         Command::Sweep(end) => sweep(core, end, memory_refused),
-        Command::Order(agent) => show_step(core, Action::Order(agent), memory_refused),
         Command::See(agent) => see(core, lives, agent, memory_refused),
         Command::Cast(end, ports, body) => {
             let ports = EndIds::of(ports.into_ends());
             cast(alloc, core, end, ports, body, memory_refused)
         }
-        Command::Part(end) => show_step(core, Action::Part(end), memory_refused),
         Command::Event(agent, event) => Ok(lives.event(agent, event)),
     }
 }

@@ -38,7 +38,7 @@ ghost use Rattle.hub_steps.specs.StepLine.{
 };
 
 use crate::step_line::{AgentUrl, Command, Poster, PosterCommand, StepLine, StepLineError};
-use hub_core::Text;
+use hub_core::{Action, Text};
 use hub_envelope::{AgentId, Body, EndId, LineId};
 use hub_life::Event;
 use hub_origin::{OriginError, origin_of};
@@ -109,7 +109,7 @@ fn command_of(alloc: Global, name: &str, rest: Option<&str>) -> Result<Command, 
             let (poster, ports, body) = posting_after(alloc, rest)?;
             Ok(Command::At(poster, PosterCommand::Post(ports, body)))
         }
-        "take" => Ok(Command::Take(end_after(rest)?)),
+        "take" => Ok(Command::Step(Action::Take(end_after(rest)?))),
         _ => rarer_command_of(alloc, name, rest),
     }
 }
@@ -126,8 +126,8 @@ fn rarer_command_of(alloc: Global, name: &str, rest: Option<&str>) -> Result<Com
 {
     match name {
         "agent" => Ok(Command::Agent(url_in(alloc, one_word(rest)?)?)),
-        "channel" => Ok(Command::Channel(agent_after(rest)?)),
-        "client" => Ok(Command::Client(agent_after(rest)?)),
+        "channel" => Ok(Command::Step(Action::Channel(agent_after(rest)?))),
+        "client" => Ok(Command::Step(Action::Client(agent_after(rest)?))),
         "worker" => Ok(Command::Worker(agent_after(rest)?)),
         "member" => {
             let (agent, name) = word_and_rest(rest)?;
@@ -135,7 +135,7 @@ fn rarer_command_of(alloc: Global, name: &str, rest: Option<&str>) -> Result<Com
         }
         "line" => {
             let (end, agent) = end_and_agent_after(rest)?;
-            Ok(Command::Line(end, agent))
+            Ok(Command::Step(Action::Line(end, agent)))
         }
         "back" => Ok(Command::At(poster_after(rest)?, PosterCommand::Back)),
         "enter" => Ok(Command::At(poster_after(rest)?, PosterCommand::Enter)),
@@ -145,12 +145,12 @@ fn rarer_command_of(alloc: Global, name: &str, rest: Option<&str>) -> Result<Com
         }
         "leave" => Ok(Command::At(poster_after(rest)?, PosterCommand::Leave)),
         "hop" => Ok(Command::At(poster_after(rest)?, PosterCommand::Hop)),
-        "start" => Ok(Command::Start(end_after(rest)?)),
+        "start" => Ok(Command::Step(Action::Start(end_after(rest)?))),
         "loaded" => Ok(Command::Loaded(end_after(rest)?)),
-        "look" => Ok(Command::Look(end_after(rest)?)),
+        "look" => Ok(Command::Step(Action::Look(end_after(rest)?))),
         "hand" => {
             let (end, agent) = end_and_agent_after(rest)?;
-            Ok(Command::Hand(end, agent))
+            Ok(Command::Step(Action::Hand(end, agent)))
         }
         "adopt" => {
             let (end, agent) = end_and_agent_after(rest)?;
@@ -164,8 +164,8 @@ fn rarer_command_of(alloc: Global, name: &str, rest: Option<&str>) -> Result<Com
             let ports = list_in(alloc, list)?;
             Ok(Command::Cast(end, ports, Body::read(alloc, body)?))
         }
-        "part" => Ok(Command::Part(end_after(rest)?)),
-        "order" => Ok(Command::Order(agent_after(rest)?)),
+        "part" => Ok(Command::Step(Action::Part(end_after(rest)?))),
+        "order" => Ok(Command::Step(Action::Order(agent_after(rest)?))),
         "see" => Ok(Command::See(agent_after(rest)?)),
         "event" => {
             let (agent, event) = two_words(rest)?;

@@ -1,6 +1,6 @@
 ghost use Rattle.std.specs.Prelude.{◌≡◌, option_map};
 
-use hub_core::Text;
+use hub_core::{Action, Text};
 use hub_envelope::{AgentId, Body, BodyError, EndId, LineId, OutOfMemory};
 use hub_life::Event;
 use hub_text::EndList;
@@ -41,34 +41,27 @@ pub enum AgentUrl {
 /// What a step line asks for.
 #[derive(Debug, Drop)]
 pub enum Command {
+    /// One step of the core, and no more.
+    Step(Action),
     /// Agent, where the URL gives an origin or there is none.
     Agent(AgentUrl),
-    Channel(AgentId),
-    Client(AgentId),
     /// A worker's queue, and its Start.
     Worker(AgentId),
     /// A broadcast channel of this name, and its Start.
     Member(AgentId, Text),
-    Line(EndId, AgentId),
     At(Poster, PosterCommand),
-    Start(EndId),
     /// Start of a client's queue, whose document is parsed.
     Loaded(EndId),
-    Take(EndId),
-    Look(EndId),
-    Hand(EndId, AgentId),
     /// Adopt, and Start where the end is a worker's queue.
     Adopt(EndId, AgentId),
     /// The notice of a port, and Close.
     Close(EndId),
     /// Sweep, and the closing of each end that what was discarded names.
     Sweep(EndId),
-    Order(AgentId),
     /// See, and the termination of the life of a worker agent that is found ending.
     See(AgentId),
     /// Cast, and then Enter, Push and Leave at each destination.
     Cast(EndId, EndList, Body),
-    Part(EndId),
     /// No step: an event of the life of a worker agent.
     Event(AgentId, Event),
 }

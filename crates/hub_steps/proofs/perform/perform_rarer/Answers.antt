@@ -2,9 +2,9 @@ use Rattle.hub_steps.specs.declared.step_line.Command.TheVariants as command
 use Rattle.hub_steps.proofs.Computing.{performed}
 use Rattle.hub_steps.proofs.perform.perform_rarer.Goals as goal
 
-pub returns-in-Line-clause-performed : goal.returns-in-Line-clause-performed
-returns-in-Line-clause-performed c =
-    performed c.args.core.now c.show_step-in-Line.new.core c.args.lives.now c.args.line (command.Line c.in-Line.end c.in-Line.agent) c.show_step-in-Line.result c.in-Line.is c.show_step-in-Line.ensures.shown
+pub returns-in-Step-clause-performed : goal.returns-in-Step-clause-performed
+returns-in-Step-clause-performed c =
+    performed c.args.core.now c.show_step.new.core c.args.lives.now c.args.line (command.Step c.in-Step.action) c.show_step.result c.in-Step.is c.show_step.ensures.shown
 
 pub returns-in-At-clause-performed : goal.returns-in-At-clause-performed
 returns-in-At-clause-performed c =
