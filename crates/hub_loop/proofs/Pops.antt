@@ -45,7 +45,7 @@ pops-answer s t before after (Got v) taken =
 pops-answer s t before after Empty taken =
     let one = one-at-most (is_seat_enabled (Some s)) in
     ⊎_elim
-    (λ (newest : _). let more = ap (λ count. count.pops) newest.3.2 in omega (arith, one, more))
+    (λ (newest : _). let more = ap (λ count. count.pops) newest.3.1 in omega (arith, one, more))
     (λ (retired : _). absurd retired.1.5)
     taken.1
 pops-answer s t before after Busy taken =

@@ -167,7 +167,7 @@ pub counts_again : (now next : TakerSeat) (before after : Count) → IsTaken now
 counts_again now next before after did = ⊎_elim (λ newest. absurd newest.3) (λ retired. retired.1.5.2) did.1
 
 pub counts_empty : (now next : TakerSeat) (before after : Count) → IsTaken now next before after Empty → after ≡ counted before true
-counts_empty now next before after did = ⊎_elim (λ newest. newest.3.2) (λ retired. absurd retired.1.5) did.1
+counts_empty now next before after did = ⊎_elim (λ newest. newest.3.1) (λ retired. absurd retired.1.5) did.1
 
 pub counts_busy : (now next : TakerSeat) (before after : Count) → IsTaken now next before after Busy → after ≡ counted before true
 counts_busy now next before after did = ⊎_elim (λ newest. absurd newest.3) (λ retired. retired.1.5.1) did.1

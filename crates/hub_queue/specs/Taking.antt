@@ -5,7 +5,7 @@ use Rattle.hub_envelope.specs.declared.limits.TheConstants.{MAX_MOVES}
 use Rattle.hub_queue.specs.declared.took.Took.{Took}
 use Rattle.hub_queue.specs.declared.took.Took.TheVariants.{Got, Empty, Busy, Again, Disabled, Closed}
 use Rattle.hub_queue.specs.Counting.{Count, counted}
-use Rattle.hub_queue.specs.PassSteps.{got_more, IsPopped, ShowsHeld}
+use Rattle.hub_queue.specs.PassSteps.{got_more, IsPopped}
 use Rattle.hub_queue.specs.TakerQueues.{TakerQueueSeat, TakesMore, IsHeldUp, IsSettled, IsQueueOf}
 
 -- the gate of the queue is enabled
@@ -16,10 +16,10 @@ IsEnabled p = 0 < p.keeper.at.enables
 abbrev pub taken_from : TakerQueueSeat → Envelope → TakerQueueSeat
 taken_from p v = record { queue = p.queue; at = got_more p.at v; keeper = p.keeper }
 
--- A take at the newest queue of an end. Got: one pop. Empty: one pop, which found none: what was taken is what a state of the queue machine has taken that holds nothing.
+-- A take at the newest queue of an end. Got: one pop. Empty: one pop, which found none.
 abbrev pub IsTakenAt : TakerQueueSeat → TakerQueueSeat → Count → Count → Took → Type 0
 IsTakenAt old new before after (Got v) = (new ≡ taken_from old v) × IsPopped old.at v × (after ≡ counted before false)
-IsTakenAt old new before after Empty = (new ≡ old) × ShowsHeld old.at [] × (after ≡ counted before true)
+IsTakenAt old new before after Empty = (new ≡ old) × (after ≡ counted before true)
 IsTakenAt old new before after Disabled = ⊥
 IsTakenAt old new before after Busy = ⊥
 IsTakenAt old new before after Again = ⊥
