@@ -2,8 +2,8 @@
 //! printed with what it is answered.
 #![tactic(auto)]
 
-use hub_core::{Action, Core, EndIds, OutOfMemory, Sender, Step};
-use hub_envelope::{AgentId, Body, EndId};
+use hub_core::{Action, Core, OutOfMemory, Sender, Step};
+use hub_envelope::{AgentId, Body, EndId, Items};
 use std::alloc::Global;
 use std::io;
 
@@ -14,7 +14,7 @@ fn actions(alloc: Global, line: Sender) -> Result<Vec<Action>, OutOfMemory> {
     };
     let mut actions = Vec::with_capacity(alloc, 6)?;
     actions.push(Action::Enter(line))?;
-    actions.push(Action::Push(line, EndIds::of(Vec::new(alloc)), body))?;
+    actions.push(Action::Push(line, Items::none(alloc), body))?;
     actions.push(Action::Leave(line))?;
     actions.push(Action::Start(EndId(1)))?;
     actions.push(Action::Take(EndId(1)))?;

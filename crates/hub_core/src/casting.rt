@@ -11,13 +11,11 @@ ghost use Rattle.hub_core.specs.KeptRoster.{PartLeaves, SameRoster};
 ghost use Rattle.hub_core.specs.Posting.{is_empty};
 
 use crate::end::End;
-use crate::end_ids::EndIds;
 use crate::kind::Kind;
 use crate::machine::Core;
 use crate::outcome::Outcome;
 use crate::roster::Destinations;
-use crate::text::Text;
-use hub_envelope::{AgentId, Body, EndId, MAX_ENDS, OutOfMemory};
+use hub_envelope::{AgentId, Body, EndId, Items, MAX_ENDS, OutOfMemory, Text};
 
 impl Core {
     /// The agent makes a broadcast channel of this name.
@@ -66,7 +64,7 @@ impl Core {
     pub(crate) fn cast(
         &mut self,
         end: EndId,
-        ports: EndIds,
+        ports: Items<EndId>,
         body: Body,
     ) -> Result<Outcome, OutOfMemory>
         ensures outcome { let ends = self.old.ends.items in
@@ -99,7 +97,7 @@ impl Core {
         let ends = self.roster.members.others(self.alloc, end.0)?;
         let left = Destinations::of(self.alloc, &ends)?;
         self.roster.begin(end, body, left);
-        Ok(Outcome::Destinations(EndIds { ends }))
+        Ok(Outcome::Destinations(Items::of(ends)))
     }
 
     /// The agent that made a broadcast channel.

@@ -9,13 +9,12 @@ ghost use Rattle.hub_core.specs.KeptEnding.{see_outcome, see_agents, kept_ends_a
 
 use crate::agent::Agent;
 use crate::end::Place;
-use crate::end_ids::EndIds;
 use crate::kind::Kind;
 use crate::line::Line;
 use crate::machine::Core;
 use crate::outcome::Outcome;
 use crate::sender::Sender;
-use hub_envelope::{AgentId, EndId, OutOfMemory};
+use hub_envelope::{AgentId, EndId, Items, OutOfMemory};
 
 impl Core {
     pub(crate) fn order(&mut self, agent: AgentId) -> Outcome
@@ -63,7 +62,7 @@ impl Core {
     }
 
     /// The ends that an agent has, and those that have arrived at it.
-    fn ends_at(&self, agent: AgentId) -> Result<EndIds, OutOfMemory>
+    fn ends_at(&self, agent: AgentId) -> Result<Items<EndId>, OutOfMemory>
         ensures { let ends = self.now.ends.items in
             IfOk result (λ found. found ≡ kept_ends_at agent ends (length ends)) }
     {
@@ -71,7 +70,7 @@ impl Core {
         for (number, end) in self.ends.iter().enumerate() {
             add_where(&mut ends, end.place.is_at(agent), number)?;
         }
-        Ok(EndIds { ends })
+        Ok(Items::of(ends))
     }
 
     /// The agent, running or ending, whose poster a line has.

@@ -1,7 +1,6 @@
 ghost use Rattle.std.specs.Prelude.{◌≡◌};
 
-use crate::text::Text;
-use hub_envelope::OutOfMemory;
+use hub_envelope::{OutOfMemory, Text};
 
 /// What the broadcast channels that reach one another have in common (WHATWG HTML, "Broadcasting
 /// to other browsing contexts"): the origin of their agents, and their name.

@@ -7,9 +7,7 @@
 mod agent;
 mod casting;
 mod end;
-mod end_ids;
 mod ending;
-mod envelopes;
 mod group;
 mod holding;
 mod kind;
@@ -30,10 +28,7 @@ mod runs;
 mod sender;
 mod step;
 mod taking;
-mod text;
 
-pub use end_ids::EndIds;
-pub use envelopes::Envelopes;
 pub use hub_envelope::OutOfMemory;
 pub use kind::Kind;
 pub use laws::{chain_laws, gate_machine_laws, history_laws, mailbox_laws, pair_laws, queue_laws};
@@ -43,4 +38,3 @@ pub use outcome::{Acceptance, Outcome};
 pub use runs::run;
 pub use sender::Sender;
 pub use step::{Action, Step};
-pub use text::Text;

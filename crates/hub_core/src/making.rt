@@ -11,8 +11,7 @@ use crate::end::End;
 use crate::kind::Kind;
 use crate::machine::Core;
 use crate::outcome::Outcome;
-use crate::text::Text;
-use hub_envelope::{AgentId, EndId, MAX_AGENTS, MAX_ENDS, OutOfMemory};
+use hub_envelope::{AgentId, EndId, MAX_AGENTS, MAX_ENDS, OutOfMemory, Text};
 
 impl Core {
     pub(crate) fn make_agent(

@@ -9,8 +9,7 @@ ghost use Rattle.hub_core.specs.Roster.{group_named};
 ghost use Rattle.hub_core.specs.declared.group.Group.{Group as GroupValue};
 
 use crate::group::Group;
-use crate::text::Text;
-use hub_envelope::{AgentId, EndId, OutOfMemory};
+use hub_envelope::{AgentId, EndId, OutOfMemory, Text};
 use std::alloc::Global;
 use std::collections::{BTreeMap, BTreeSet};
 

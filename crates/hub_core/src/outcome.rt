@@ -1,6 +1,4 @@
-use crate::end_ids::EndIds;
-use crate::envelopes::Envelopes;
-use hub_envelope::{AgentId, EndId, Envelope, LineId};
+use hub_envelope::{AgentId, EndId, Envelope, Items, LineId};
 
 /// The part of an accepted envelope's name that its `Push` doesn't say.
 #[derive(Clone, Copy, Debug, PartialEq, Eq)]
@@ -86,9 +84,9 @@ pub enum Outcome {
     GoingOn,
     /// The agent found the order and is ending; these ends are with it or have arrived at it, in
     /// rising order.
-    Ending(EndIds),
+    Ending(Items<EndId>),
     /// The ends to which the cast goes, in the order in which they were made.
-    Destinations(EndIds),
+    Destinations(Items<EndId>),
     /// What waited at the end, in order of the queues and then of acceptance. It waits no more.
-    Discarded(Envelopes),
+    Discarded(Items<Envelope>),
 }

@@ -13,14 +13,13 @@ ghost use Rattle.hub_core.specs.Kept.{PushLeaves, PutLeaves, Moves};
 ghost use Rattle.hub_core.specs.KeptEnding.{kept_owner_of, enter_agents, leave_agents};
 
 use crate::end::Place;
-use crate::end_ids::EndIds;
 use crate::kind::Kind;
 use crate::line::{Line, Phase};
 use crate::listing::Listing;
 use crate::machine::Core;
 use crate::outcome::{Acceptance, Outcome};
 use crate::sender::Sender;
-use hub_envelope::{AgentId, Body, EndId, Envelope, MAX_PORTS, OutOfMemory, Ports};
+use hub_envelope::{AgentId, Body, EndId, Envelope, Items, MAX_PORTS, OutOfMemory, Ports};
 
 impl Core {
     pub(crate) fn enter(&mut self, sender: Sender) -> Outcome
@@ -97,7 +96,7 @@ impl Core {
     pub(crate) fn push(
         &mut self,
         sender: Sender,
-        ports: EndIds,
+        ports: Items<EndId>,
         body: Body,
         memory_refused: bool,
     ) -> Result<Outcome, OutOfMemory>
@@ -293,6 +292,7 @@ impl Core {
     }
 
     /// Whether a message to an end may have these ports.
+    // It is inlined, so that a post without ports makes no call.
     #[inline(always)]
     fn is_good_list(
         &self,

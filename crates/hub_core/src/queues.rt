@@ -3,8 +3,7 @@ ghost use Rattle.std.specs.Prelude.{drop, IfOk, OnOk, OnErr, MatchOption, List};
 ghost use Rattle.hub_envelope.specs.declared.envelope.Envelope.{Envelope as EnvelopeValue};
 ghost use Rattle.hub_core.specs.Kept.{joined};
 
-use crate::envelopes::Envelopes;
-use hub_envelope::Envelope;
+use hub_envelope::{Envelope, Items};
 use std::alloc::{AllocError, Global};
 use std::collections::VecDeque;
 use std::marker::Model;
@@ -136,7 +135,7 @@ impl Queues {
     }
 
     /// Takes all envelopes, queue after queue, and leaves no queue.
-    pub(crate) fn empty(&mut self, alloc: Global) -> Result<Envelopes, AllocError>
+    pub(crate) fn empty(&mut self, alloc: Global) -> Result<Items<Envelope>, AllocError>
         ensures ok { IfOk result (λ envelopes. envelopes ≡ joined self.old) }
         ensures none { OnOk result (self.new ≡ []) }
         ensures err { OnErr result (self.new ≡ self.old) }
@@ -149,7 +148,7 @@ impl Queues {
                 envelopes.push(envelope).unwrap();
             }
         }
-        Ok(Envelopes { envelopes })
+        Ok(Items::of(envelopes))
     }
 }
 

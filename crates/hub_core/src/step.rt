@@ -1,7 +1,5 @@
-use crate::end_ids::EndIds;
 use crate::sender::Sender;
-use crate::text::Text;
-use hub_envelope::{AgentId, Body, EndId};
+use hub_envelope::{AgentId, Body, EndId, Items, Text};
 
 /// One event of the hub. A number that names nothing is answered by `NotNow`.
 #[derive(Debug, Drop)]
@@ -26,7 +24,7 @@ pub enum Action {
     /// A poster passes the gate of its line's queue, or is turned back there.
     Enter(Sender),
     /// A poster that is inside a queue puts a body in it, with the ports that travel along.
-    Push(Sender, EndIds, Body),
+    Push(Sender, Items<EndId>, Body),
     /// A poster that is inside a queue says that the port that it posts for is closed (WHATWG HTML,
     /// "Message ports", the `close` event). It is the last that the line puts.
     Notice(Sender),
@@ -53,7 +51,7 @@ pub enum Action {
     Hand(EndId, AgentId),
     /// A member casts a body to the others of its origin and name, which are fixed now; each gets
     /// it by an `Enter`, `Push` and `Leave` on its line 0, one destination after the other.
-    Cast(EndId, EndIds, Body),
+    Cast(EndId, Items<EndId>, Body),
     /// A member leaves the roster, and is no destination of later casts.
     Part(EndId),
     /// The agent is ordered to end (WHATWG HTML, "terminate a worker").

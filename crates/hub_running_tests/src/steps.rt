@@ -2,8 +2,8 @@
 //!
 //! A function that drops a step or an outcome costs some seconds of the check for each place where
 //! it may end, so lists of both are made row by row.
-use hub_core::{Action, Core, EndIds, OutOfMemory, Outcome, Sender, Step, Text, run};
-use hub_envelope::{AgentId, Body, EndId, Envelope, LineId};
+use hub_core::{Action, Core, OutOfMemory, Outcome, Sender, Step, run};
+use hub_envelope::{AgentId, Body, EndId, Envelope, Items, LineId, Text};
 use std::alloc::Global;
 use std::process::Abort;
 use std::test::Fail;
@@ -67,12 +67,12 @@ fn body(alloc: Global, text: &str) -> Result<Body, OutOfMemory> {
     }
 }
 
-fn list(alloc: Global, ends: &[u32]) -> Result<EndIds, OutOfMemory> {
+fn list(alloc: Global, ends: &[u32]) -> Result<Items<EndId>, OutOfMemory> {
     let ends = ends
         .iter()
         .map(|end| EndId(*end))
         .collect::<Vec<EndId>>(alloc)?;
-    Ok(EndIds::of(ends))
+    Ok(Items::of(ends))
 }
 
 fn push(alloc: Global, line: Sender, ports: &[u32], text: &str) -> Result<Action, OutOfMemory> {

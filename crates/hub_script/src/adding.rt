@@ -15,11 +15,9 @@ use crate::agent_kind::AgentKind;
 use crate::declaration::{DeclaredAgent, DeclaredChannel, DeclaredMember};
 use crate::form::{ActionForm, Form};
 use crate::limits::QUEUE;
-use crate::name::Name;
-use crate::name_list::NameList;
 use crate::script_error::ScriptError;
 use crate::script_reader::{ScriptReader, queue_of};
-use hub_envelope::{AgentId, Body, BodyError, EndId};
+use hub_envelope::{AgentId, Body, BodyError, EndId, Items, Text};
 use hub_origin::{Origin, OriginError};
 use std::alloc::Global;
 
@@ -84,8 +82,8 @@ impl ScriptReader {
     fn add_channel(
         &mut self,
         alloc: Global,
-        first: Name,
-        second: Name,
+        first: Text,
+        second: Text,
         at: u32,
     ) -> Result<(), ScriptError>
         requires { line_count (known self.old).script < MAX_SCRIPT_LINES }
@@ -103,9 +101,9 @@ impl ScriptReader {
     fn add_member(
         &mut self,
         alloc: Global,
-        name: Name,
+        name: Text,
         at: u32,
-        on: Name,
+        on: Text,
     ) -> Result<(), ScriptError>
         requires { line_count (known self.old).script < MAX_SCRIPT_LINES }
         ensures { IsReadAs ScriptError.OutOfMemory (λ _. known self.new) result
@@ -168,9 +166,9 @@ impl ScriptReader {
         &mut self,
         alloc: Global,
         agent: AgentId,
-        port: &Name,
+        port: &Text,
         body: Result<Body, BodyError>,
-        transfer: &NameList,
+        transfer: &Items<Text>,
     ) -> Result<(), ScriptError>
         requires room { line_count (known self.old).script < MAX_SCRIPT_LINES }
         requires few { length transfer.now ≤ MAX_PORTS }
@@ -201,7 +199,7 @@ impl ScriptReader {
         agent: AgentId,
         to: u32,
         body: Result<Body, BodyError>,
-        transfer: &NameList,
+        transfer: &Items<Text>,
     ) -> Result<(), ScriptError>
         requires room { line_count (known self.old).script < MAX_SCRIPT_LINES }
         requires few { length transfer.now ≤ MAX_PORTS }
@@ -228,7 +226,7 @@ impl ScriptReader {
     fn add_cast(
         &mut self,
         agent: AgentId,
-        member: &Name,
+        member: &Text,
         body: Result<Body, BodyError>,
     ) -> Result<(), ScriptError>
         requires { line_count (known self.old).script < MAX_SCRIPT_LINES }
@@ -241,7 +239,7 @@ impl ScriptReader {
         self.act(agent, ActionKind::Cast { member, body })
     }
 
-    fn add_start(&mut self, agent: AgentId, name: &Name) -> Result<(), ScriptError>
+    fn add_start(&mut self, agent: AgentId, name: &Text) -> Result<(), ScriptError>
         requires { line_count (known self.old).script < MAX_SCRIPT_LINES }
         ensures { IsReadAs ScriptError.OutOfMemory (λ _. known self.new) result
             (adding_action (known self.old) agent (ActionForm.Start name.now)) }
@@ -251,7 +249,7 @@ impl ScriptReader {
     }
 
     /// What the agent starts: its own queue, or a port.
-    fn start_of(&self, agent: AgentId, name: &Name) -> Result<EndId, ScriptError>
+    fn start_of(&self, agent: AgentId, name: &Text) -> Result<EndId, ScriptError>
         ensures { IsReadAs ScriptError.OutOfMemory (λ x. x) result
             (start_of (known self.now) agent name.now) }
     {
@@ -262,7 +260,7 @@ impl ScriptReader {
         }
     }
 
-    fn add_close(&mut self, agent: AgentId, name: &Name) -> Result<(), ScriptError>
+    fn add_close(&mut self, agent: AgentId, name: &Text) -> Result<(), ScriptError>
         requires { line_count (known self.old).script < MAX_SCRIPT_LINES }
         ensures { IsReadAs ScriptError.OutOfMemory (λ _. known self.new) result
             (adding_action (known self.old) agent (ActionForm.Close name.now)) }
@@ -274,7 +272,7 @@ impl ScriptReader {
         Ok(())
     }
 
-    fn add_receive(&mut self, agent: AgentId, name: &Name) -> Result<(), ScriptError>
+    fn add_receive(&mut self, agent: AgentId, name: &Text) -> Result<(), ScriptError>
         requires { line_count (known self.old).script < MAX_SCRIPT_LINES }
         ensures { IsReadAs ScriptError.OutOfMemory (λ _. known self.new) result
             (adding_action (known self.old) agent (ActionForm.Receive name.now)) }

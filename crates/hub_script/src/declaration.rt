@@ -1,6 +1,5 @@
 use crate::agent_kind::AgentKind;
-use crate::name::Name;
-use hub_envelope::AgentId;
+use hub_envelope::{AgentId, Text};
 use hub_origin::Origin;
 
 /// An agent of a script. Agents are numbered from 0 in the order of the file.
@@ -15,8 +14,8 @@ pub struct DeclaredAgent {
 #[derive(Debug, Drop)]
 pub struct DeclaredChannel {
     pub at: AgentId,
-    pub first: Name,
-    pub second: Name,
+    pub first: Text,
+    pub second: Text,
 }
 
 /// A broadcast member of a script: its agent, its name in the script, and the name of the channel
@@ -24,6 +23,6 @@ pub struct DeclaredChannel {
 #[derive(Debug, Drop)]
 pub struct DeclaredMember {
     pub at: AgentId,
-    pub name: Name,
-    pub on: Name,
+    pub name: Text,
+    pub on: Text,
 }

@@ -1,7 +1,5 @@
 use crate::agent_kind::AgentKind;
-use crate::name::Name;
-use crate::name_list::NameList;
-use hub_envelope::{Body, BodyError};
+use hub_envelope::{Body, BodyError, Items, Text};
 use hub_life::Event;
 use hub_origin::{Origin, OriginError};
 
@@ -14,14 +12,14 @@ pub(crate) enum Form {
         origin: Result<Origin, OriginError>,
     },
     Channel {
-        first: Name,
-        second: Name,
+        first: Text,
+        second: Text,
         at: u32,
     },
     Member {
-        name: Name,
+        name: Text,
         at: u32,
-        on: Name,
+        on: Text,
     },
     Action {
         at: u32,
@@ -33,32 +31,32 @@ pub(crate) enum Form {
 #[derive(Debug, Drop)]
 pub(crate) enum ActionForm {
     Post {
-        port: Name,
+        port: Text,
         body: Result<Body, BodyError>,
-        transfer: NameList,
+        transfer: Items<Text>,
     },
     Send {
         to: u32,
         body: Result<Body, BodyError>,
-        transfer: NameList,
+        transfer: Items<Text>,
     },
     Cast {
-        member: Name,
+        member: Text,
         body: Result<Body, BodyError>,
     },
     /// A port, or `queue`.
     Start {
-        name: Name,
+        name: Text,
     },
     Loaded,
     Close {
-        name: Name,
+        name: Text,
     },
     Wait {
         messages: u32,
     },
     Receive {
-        port: Name,
+        port: Text,
     },
     Order {
         to: u32,

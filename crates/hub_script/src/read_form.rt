@@ -18,10 +18,8 @@ use crate::fields::{field_count, number_in, text_in, value_in};
 use crate::form::{ActionForm, Form};
 use crate::keyword::Keyword;
 use crate::limits::QUEUE;
-use crate::name::Name;
-use crate::name_list::NameList;
 use crate::script_error::ScriptError;
-use hub_envelope::{Body, BodyError};
+use hub_envelope::{Body, BodyError, Items, Text};
 use hub_life::Event;
 use hub_origin::{Origin, OriginError, origin_of};
 use serde_json::Value;
@@ -83,12 +81,12 @@ fn form_with(alloc: Global, keyword: Keyword, line: &Value) -> Result<Form, Scri
         Keyword::Send => at_agent(line, send_form(alloc, line)?),
         Keyword::Cast => at_agent(line, cast_form(alloc, line)?),
         Keyword::Start => {
-            let name = Name::of(alloc, text_in(line, "start")?)?;
+            let name = Text::of(alloc, text_in(line, "start")?)?;
             at_agent(line, ActionForm::Start { name })
         }
         Keyword::Loaded => at_agent(line, loaded_form(line)?),
         Keyword::Close => {
-            let name = Name::of(alloc, text_in(line, "close")?)?;
+            let name = Text::of(alloc, text_in(line, "close")?)?;
             at_agent(line, ActionForm::Close { name })
         }
         Keyword::Wait => {
@@ -96,7 +94,7 @@ fn form_with(alloc: Global, keyword: Keyword, line: &Value) -> Result<Form, Scri
             at_agent(line, ActionForm::Wait { messages })
         }
         Keyword::Receive => {
-            let port = Name::of(alloc, text_in(line, "receive")?)?;
+            let port = Text::of(alloc, text_in(line, "receive")?)?;
             at_agent(line, ActionForm::Receive { port })
         }
         Keyword::Order => {
@@ -173,8 +171,8 @@ fn channel_form(alloc: Global, line: &Value) -> Result<Form, ScriptError>
     let (first, second) = pair_of(value_in(line, "channel")?)?;
     let at = number_in(line, "at")?;
     Ok(Form::Channel {
-        first: Name::of(alloc, first)?,
-        second: Name::of(alloc, second)?,
+        first: Text::of(alloc, first)?,
+        second: Text::of(alloc, second)?,
         at,
     })
 }
@@ -204,9 +202,9 @@ fn member_form(alloc: Global, line: &Value) -> Result<Form, ScriptError>
     let at = number_in(line, "at")?;
     let on = text_in(line, "on")?;
     Ok(Form::Member {
-        name: Name::of(alloc, name)?,
+        name: Text::of(alloc, name)?,
         at,
-        on: Name::of(alloc, on)?,
+        on: Text::of(alloc, on)?,
     })
 }
 
@@ -219,7 +217,7 @@ fn post_form(alloc: Global, line: &Value) -> Result<ActionForm, ScriptError>
     let body = body_in(alloc, line)?;
     let transfer = transfer_in(alloc, line)?;
     Ok(ActionForm::Post {
-        port: Name::of(alloc, port)?,
+        port: Text::of(alloc, port)?,
         body,
         transfer,
     })
@@ -244,7 +242,7 @@ fn cast_form(alloc: Global, line: &Value) -> Result<ActionForm, ScriptError>
     let member = text_in(line, "cast")?;
     let body = body_in(alloc, line)?;
     Ok(ActionForm::Cast {
-        member: Name::of(alloc, member)?,
+        member: Text::of(alloc, member)?,
         body,
     })
 }
@@ -270,28 +268,28 @@ fn body_answer(alloc: Global, text: &str) -> Result<Result<Body, BodyError>, Scr
 }
 
 /// The names in the field `transfer`, none where it is missing.
-fn transfer_in(alloc: Global, line: &Value) -> Result<NameList, ScriptError>
+fn transfer_in(alloc: Global, line: &Value) -> Result<Items<Text>, ScriptError>
     ensures { IsReadAs ScriptError.OutOfMemory (λ x. x) result (transfer_in (view line.now)) }
 {
     match line.get("transfer") {
         Some(value) => names_of(alloc, value),
-        None => Ok(NameList::none(alloc)),
+        None => Ok(Items::none(alloc)),
     }
 }
 
 /// The texts of an array.
-fn names_of(alloc: Global, value: &Value) -> Result<NameList, ScriptError>
+fn names_of(alloc: Global, value: &Value) -> Result<Items<Text>, ScriptError>
     ensures { IsReadAs ScriptError.OutOfMemory (λ x. x) result (names_of (view value.now)) }
 {
     let Some(list) = value.as_array() else {
         return Err(ScriptError::Syntax);
     };
-    let mut names = NameList::none(alloc);
+    let mut names = Items::none(alloc);
     for item in list {
         let Some(text) = item.as_str() else {
             return Err(ScriptError::Syntax);
         };
-        names.push(Name::of(alloc, text)?)?;
+        names.push(Text::of(alloc, text)?)?;
     }
     Ok(names)
 }

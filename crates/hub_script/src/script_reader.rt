@@ -13,12 +13,12 @@ use crate::action::{Action, ActionKind};
 use crate::agent_kind::AgentKind;
 use crate::declaration::{DeclaredAgent, DeclaredChannel, DeclaredMember};
 use crate::limits::QUEUE;
-use crate::name::Name;
-use crate::name_list::NameList;
 use crate::named::{Holding, NameKind, NamedEnd};
 use crate::script::Script;
 use crate::script_error::ScriptError;
-use hub_envelope::{AgentId, EndId, MAX_AGENTS, MAX_PORTS, MAX_SCRIPT_LINES, OutOfMemory, Ports};
+use hub_envelope::{
+    AgentId, EndId, Items, MAX_AGENTS, MAX_PORTS, MAX_SCRIPT_LINES, OutOfMemory, Ports, Text,
+};
 use std::alloc::Global;
 use std::collections::{BTreeMap, BTreeSet};
 
@@ -92,7 +92,7 @@ impl ScriptReader {
     }
 
     /// The name isn't reserved, and isn't declared yet.
-    pub(crate) fn is_free(&self, name: &Name) -> bool
+    pub(crate) fn is_free(&self, name: &Text) -> bool
         ensures { result ≡ is_free (known self.now) name.now }
     {
         name.as_str() != QUEUE && !self.names.contains_key(name.as_str())
@@ -127,14 +127,14 @@ impl ScriptReader {
     }
 
     /// What the name names.
-    pub(crate) fn look_up(&self, name: &Name) -> Option<NamedEnd>
+    pub(crate) fn look_up(&self, name: &Text) -> Option<NamedEnd>
         ensures { result ≡ (known self.now).names name.now }
     {
         self.names.get(name.as_str()).copied()
     }
 
     /// What the name names, where it is declared.
-    pub(crate) fn named(&self, name: &Name) -> Result<NamedEnd, ScriptError>
+    pub(crate) fn named(&self, name: &Text) -> Result<NamedEnd, ScriptError>
         ensures { IsReadAs ScriptError.OutOfMemory (λ x. x) result
             (named (known self.now) name.now) }
     {
@@ -144,7 +144,7 @@ impl ScriptReader {
         }
     }
 
-    pub(crate) fn is_port(&self, name: &Name) -> bool
+    pub(crate) fn is_port(&self, name: &Text) -> bool
         ensures { result ≡ is_port (known self.now) name.now }
     {
         match self.look_up(name) {
@@ -153,7 +153,7 @@ impl ScriptReader {
         }
     }
 
-    pub(crate) fn is_member(&self, name: &Name) -> bool
+    pub(crate) fn is_member(&self, name: &Text) -> bool
         ensures { result ≡ is_member (known self.now) name.now }
     {
         match self.look_up(name) {
@@ -163,7 +163,7 @@ impl ScriptReader {
     }
 
     /// The agent of that number holds what the name names.
-    pub(crate) fn is_held(&self, agent: u32, name: &Name) -> bool
+    pub(crate) fn is_held(&self, agent: u32, name: &Text) -> bool
         ensures { result ≡ is_held (known self.now) agent name.now }
     {
         match self.look_up(name) {
@@ -179,7 +179,7 @@ impl ScriptReader {
     pub(crate) fn ends_named(
         &self,
         alloc: Global,
-        names: &NameList,
+        names: &Items<Text>,
     ) -> Result<Vec<NamedEnd>, ScriptError>
         ensures says { IsReadAs ScriptError.OutOfMemory (λ x. x.items) result
             (ends_from (known self.now) [] names.now) }
@@ -338,7 +338,7 @@ impl ScriptReader {
     pub(crate) fn declare(
         &mut self,
         alloc: Global,
-        name: &Name,
+        name: &Text,
         named: NamedEnd,
         agent: AgentId,
     ) -> Result<(), ScriptError>
@@ -349,7 +349,7 @@ impl ScriptReader {
         self.take(agent, named)
     }
 
-    fn set_name(&mut self, alloc: Global, name: &Name, named: NamedEnd) -> Result<(), ScriptError>
+    fn set_name(&mut self, alloc: Global, name: &Text, named: NamedEnd) -> Result<(), ScriptError>
         ensures { IsReadAs ScriptError.OutOfMemory (λ _. known self.new) result
             (Ok (with_names (known self.old) (naming name.now named (known self.old).names))) }
     {

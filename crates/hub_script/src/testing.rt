@@ -17,11 +17,9 @@ use crate::agent_kind::AgentKind;
 use crate::form::{ActionForm, Form};
 use crate::limits::QUEUE;
 use crate::lists::{has_twice, stands_in};
-use crate::name::Name;
-use crate::name_list::NameList;
 use crate::script_error::{DataCloneCause, ScriptError};
 use crate::script_reader::ScriptReader;
-use hub_envelope::{Body, BodyError, MAX_PORTS};
+use hub_envelope::{Body, BodyError, Items, MAX_PORTS, Text};
 
 /// An error unless the condition holds.
 fn require(condition: bool, error: ScriptError) -> Result<(), ScriptError>
@@ -184,7 +182,7 @@ impl ScriptReader {
         }
     }
 
-    fn are_all_ports(&self, names: &NameList) -> bool
+    fn are_all_ports(&self, names: &Items<Text>) -> bool
         ensures { result ≡ list_all (is_port (known self.now)) names.now }
     {
         names.as_slice().iter().all(|name| self.is_port(name))
@@ -233,7 +231,7 @@ impl ScriptReader {
         }
     }
 
-    fn holds_all(&self, agent: u32, names: &NameList) -> bool
+    fn holds_all(&self, agent: u32, names: &Items<Text>) -> bool
         ensures { result ≡ list_all (is_held (known self.now) agent) names.now }
     {
         names

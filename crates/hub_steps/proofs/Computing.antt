@@ -27,7 +27,7 @@ use Rattle.hub_steps.specs.Computation.{Computation, MayGive, pair, pure, ask, a
 use Rattle.hub_steps.specs.Performed.{ComputesAt, PerformsAt}
 use Rattle.hub_steps.specs.Lives.{AllLives}
 use Rattle.hub_steps.specs.Unfolding.{sender_of, on_line, on_line_of, enter, go_on, send_inside, send, post_listing, post_count, post_may, post, start_made, worker, start_worker, start_adopted, adopt, notice_line, tell_inside, tell, close_shown, close_on, close, close_each, close_ports, close_swept, sweep, core_steps, member, cast_inside, line_zero, cast_to, cast_each, cast_all, cast}
-use Rattle.hub_steps.specs.declared.cast_posts.CastPost.{CastPost}
+use Rattle.hub_steps.specs.declared.cast_post.CastPost.{CastPost}
 
 -- ---- computations in general
 

@@ -20,7 +20,7 @@ use Rattle.hub_core.specs.Posting.{may_post, listing}
 use Rattle.hub_steps.specs.declared.shown.Shown.{Shown}
 use Rattle.hub_steps.specs.declared.shown.Shown.TheVariants as shown
 use Rattle.hub_steps.specs.declared.shown.Shown.TheVariants.{Answer, Moving, Doomed, DoneNoMemory, DoneMoving, Cast}
-use Rattle.hub_steps.specs.declared.cast_posts.CastPost.{CastPost}
+use Rattle.hub_steps.specs.declared.cast_post.CastPost.{CastPost}
 use Rattle.hub_steps.specs.declared.step_line.AgentUrl.{AgentUrl}
 use Rattle.hub_steps.specs.declared.step_line.AgentUrl.TheVariants.{NoUrl, Origin, BadUrl, OpaqueOrigin}
 use Rattle.hub_steps.specs.declared.step_line.Poster.{Poster}

@@ -4,11 +4,11 @@ ghost use Rattle.std.specs.Prelude.{IfOk};
 ghost use Rattle.hub_steps.specs.Performed.{ComputesAt};
 ghost use Rattle.hub_steps.specs.Unfolding.{cast, cast_each, cast_inside, cast_to};
 
-use crate::cast_posts::{CastPost, CastPosts};
+use crate::cast_post::CastPost;
 use crate::entering::take_step;
 use crate::shown::Shown;
-use hub_core::{Action, Core, EndIds, OutOfMemory, Outcome, Sender};
-use hub_envelope::{Body, EndId, LineId};
+use hub_core::{Action, Core, OutOfMemory, Outcome, Sender};
+use hub_envelope::{Body, EndId, Items, LineId};
 use std::alloc::Global;
 
 /// Casts a body, and posts it at each destination.
@@ -16,7 +16,7 @@ pub fn cast(
     alloc: Global,
     core: &mut Core,
     end: EndId,
-    ports: EndIds,
+    ports: Items<EndId>,
     body: Body,
     memory_refused: bool,
 ) -> Result<Shown, OutOfMemory>
@@ -40,7 +40,7 @@ fn cast_each(
     ends: &[EndId],
     body: &Body,
     memory_refused: bool,
-) -> Result<CastPosts, OutOfMemory>
+) -> Result<Items<CastPost>, OutOfMemory>
     ensures { IfOk result (λ posts.
         ComputesAt core.old core.new (cast_each memory_refused body.now ends.now) posts) }
 {
@@ -50,7 +50,7 @@ fn cast_each(
         let end = *end;
         posts.push(CastPost { end, outcome })?;
     }
-    Ok(CastPosts { posts })
+    Ok(Items::of(posts))
 }
 
 /// Enters, pushes where the poster is inside, and leaves.
@@ -87,7 +87,7 @@ fn push_inside(
 {
     match entered {
         Outcome::In => {
-            let push = Action::Push(sender, EndIds::of(Vec::new(alloc)), body.clone()?);
+            let push = Action::Push(sender, Items::none(alloc), body.clone()?);
             take_step(core, push, memory_refused)
         }
         entered => Ok(entered),

@@ -1,7 +1,7 @@
 //! Step lines run through the hub's machine, one outcome line for each.
 #![tactic(auto)]
 
-mod cast_posts;
+mod cast_post;
 mod casting;
 mod closing;
 mod ending;
@@ -10,7 +10,7 @@ mod entering;
 mod lives;
 mod perform;
 mod posting;
-mod read_step_line;
+pub mod read_step_line;
 mod run;
 mod session;
 mod short_text;
@@ -20,5 +20,9 @@ mod step_line;
 mod test_steps;
 mod text;
 
+pub use cast_post::CastPost;
 pub use engine::{run_steps, step_text_laws};
 pub use session::{Reply, Session, session_laws};
+pub use shown::Shown;
+pub use step_line::{AgentUrl, Command, Poster, PosterCommand, StepLine, StepLineError};
+pub use text::write_shown;

@@ -18,7 +18,7 @@ use crate::posting::post;
 use crate::shown::Shown;
 use crate::starting::{adopt, load, make_agent, make_member, make_worker};
 use crate::step_line::{Command, Poster, PosterCommand, StepLine};
-use hub_core::{Action, Core, EndIds, Kind, OutOfMemory, Outcome, Sender};
+use hub_core::{Action, Core, Kind, OutOfMemory, Outcome, Sender};
 use hub_envelope::{EndId, LineId, MAX_LINES};
 use std::alloc::Global;
 
@@ -90,10 +90,7 @@ fn perform_rarer(
         Command::Close(end) => close(core, end, memory_refused),
         Command::Sweep(end) => sweep(core, end, memory_refused),
         Command::See(agent) => see(core, lives, agent, memory_refused),
-        Command::Cast(end, ports, body) => {
-            let ports = EndIds::of(ports.into_ends());
-            cast(alloc, core, end, ports, body, memory_refused)
-        }
+        Command::Cast(end, ports, body) => cast(alloc, core, end, ports, body, memory_refused),
         Command::Event(agent, event) => Ok(lives.event(agent, event)),
     }
 }
@@ -116,14 +113,11 @@ fn perform_at(
     };
     let action = match command {
         PosterCommand::Enter => Action::Enter(sender),
-        PosterCommand::Push(ports, body) => {
-            Action::Push(sender, EndIds::of(ports.into_ends()), body)
-        }
+        PosterCommand::Push(ports, body) => Action::Push(sender, ports, body),
         PosterCommand::Leave => Action::Leave(sender),
         PosterCommand::Hop => Action::Hop(sender),
         PosterCommand::Back => Action::Back(sender),
         PosterCommand::Post(ports, body) => {
-            let ports = EndIds::of(ports.into_ends());
             return post(core, sender, ports, body, memory_refused);
         }
     };

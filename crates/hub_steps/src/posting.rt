@@ -11,15 +11,15 @@ ghost use Rattle.hub_steps.specs.Unfolding.{post, send};
 use crate::closing::close_each;
 use crate::entering::{enter, take_step};
 use crate::shown::Shown;
-use hub_core::{Action, Core, EndIds, Listing, OutOfMemory, Outcome, Sender};
-use hub_envelope::{Body, EndId, MAX_PORTS};
+use hub_core::{Action, Core, Listing, OutOfMemory, Outcome, Sender};
+use hub_envelope::{Body, EndId, Items, MAX_PORTS};
 
 /// Posts a message, where its tests don't refuse it before the first step. A list that holds the
 /// end to which the message goes has each of its ports closed.
 pub fn post(
     core: &mut Core,
     sender: Sender,
-    ports: EndIds,
+    ports: Items<EndId>,
     body: Body,
     memory_refused: bool,
 ) -> Result<Shown, OutOfMemory>
@@ -60,7 +60,7 @@ fn listing_of(core: &Core, sender: Sender, ports: &[EndId]) -> Listing
 fn send(
     core: &mut Core,
     sender: Sender,
-    ports: EndIds,
+    ports: Items<EndId>,
     body: Body,
     memory_refused: bool,
 ) -> Result<Shown, OutOfMemory>

@@ -38,11 +38,11 @@ ghost use Rattle.hub_steps.specs.StepLine.{
 };
 
 use crate::step_line::{AgentUrl, Command, Poster, PosterCommand, StepLine, StepLineError};
-use hub_core::{Action, Text};
-use hub_envelope::{AgentId, Body, EndId, LineId};
+use hub_core::Action;
+use hub_envelope::{AgentId, Body, EndId, Items, LineId, Text};
 use hub_life::Event;
 use hub_origin::{OriginError, origin_of};
-use hub_text::{EndList, cut_at, next_word, number_of as number_up_to};
+use hub_text::{cut_at, next_word, number_of as number_up_to, read_ends};
 use serde_json::Value;
 use std::alloc::Global;
 
@@ -213,7 +213,7 @@ fn end_and_agent_after(rest: Option<&str>) -> Result<(EndId, AgentId), StepLineE
 fn posting_after(
     alloc: Global,
     rest: Option<&str>,
-) -> Result<(Poster, EndList, Body), StepLineError>
+) -> Result<(Poster, Items<EndId>, Body), StepLineError>
     ensures { IsReadAs StepLineError.OutOfMemory (λ x. (x.0, (x.1, x.2))) result
         (words_after (P ∷ LIST ∷ BODY ∷ []) (option_map (λ x. x.now) rest.entry)) }
 {
@@ -345,10 +345,10 @@ fn line_of(number: u32) -> LineId
 }
 
 #[inline(always)]
-fn list_in(alloc: Global, word: &str) -> Result<EndList, StepLineError>
+fn list_in(alloc: Global, word: &str) -> Result<Items<EndId>, StepLineError>
     ensures { IsReadAs StepLineError.OutOfMemory (λ x. x) result (word_of LIST word.now) }
 {
-    match EndList::read(alloc, word, u32::MAX) {
+    match read_ends(alloc, word, u32::MAX) {
         Ok(Some(list)) => Ok(list),
         Ok(None) => Err(StepLineError::BadList),
         Err(_) => Err(StepLineError::OutOfMemory),
@@ -374,7 +374,7 @@ fn url_in(alloc: Global, word: &str) -> Result<AgentUrl, StepLineError>
         return Ok(AgentUrl::NoUrl);
     }
     match origin_of(alloc, word) {
-        Ok(origin) => Ok(AgentUrl::Origin(Text::of(alloc, origin.as_str())?)),
+        Ok(origin) => Ok(AgentUrl::Origin(origin)),
         Err(OriginError::BadUrl) => Ok(AgentUrl::BadUrl),
         Err(OriginError::OpaqueOrigin) => Ok(AgentUrl::OpaqueOrigin),
         Err(OriginError::OutOfMemory) => Err(StepLineError::OutOfMemory),

@@ -1,5 +1,6 @@
-use crate::cast_posts::CastPosts;
+use crate::cast_post::CastPost;
 use hub_core::Outcome;
+use hub_envelope::Items;
 use hub_life::{LifeError, State};
 
 /// What a step line shows.
@@ -19,7 +20,7 @@ pub enum Shown {
     BadUrl,
     OpaqueOrigin,
     /// What was posted at each destination of a cast.
-    Cast(CastPosts),
+    Cast(Items<CastPost>),
     /// The state of a worker agent after an event.
     State(State),
     /// The life of a worker agent refused an event.

@@ -11,8 +11,8 @@ use crate::entering::{show_step, take_step};
 use crate::lives::Lives;
 use crate::shown::Shown;
 use crate::step_line::{AgentUrl, Command};
-use hub_core::{Action, Core, Kind, OutOfMemory, Outcome, Text};
-use hub_envelope::{AgentId, EndId};
+use hub_core::{Action, Core, Kind, OutOfMemory, Outcome};
+use hub_envelope::{AgentId, EndId, Text};
 
 /// Makes an agent, where its URL is one with an origin, or there is none.
 pub fn make_agent(

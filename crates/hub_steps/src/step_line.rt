@@ -1,9 +1,8 @@
 ghost use Rattle.std.specs.Prelude.{◌≡◌, option_map};
 
-use hub_core::{Action, Text};
-use hub_envelope::{AgentId, Body, BodyError, EndId, LineId, OutOfMemory};
+use hub_core::Action;
+use hub_envelope::{AgentId, Body, BodyError, EndId, Items, LineId, OutOfMemory, Text};
 use hub_life::Event;
-use hub_text::EndList;
 use std::alloc::{AllocError, AllocFailed};
 
 /// Whose poster a step line speaks of.
@@ -19,13 +18,13 @@ pub enum Poster {
 #[derive(Debug, Drop)]
 pub enum PosterCommand {
     Enter,
-    Push(EndList, Body),
+    Push(Items<EndId>, Body),
     Leave,
     Hop,
     /// The line is given back.
     Back,
     /// Tests, and then Enter, Push and Leave in one step line.
-    Post(EndList, Body),
+    Post(Items<EndId>, Body),
 }
 
 /// The origin that the URL of a new agent gives, or why it gives none.
@@ -61,7 +60,7 @@ pub enum Command {
     /// See, and the termination of the life of a worker agent that is found ending.
     See(AgentId),
     /// Cast, and then Enter, Push and Leave at each destination.
-    Cast(EndId, EndList, Body),
+    Cast(EndId, Items<EndId>, Body),
     /// No step: an event of the life of a worker agent.
     Event(AgentId, Event),
 }

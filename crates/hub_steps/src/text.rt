@@ -7,7 +7,7 @@ ghost use Rattle.hub_steps.specs.OutcomeText.{outcome_line, ports_text};
 ghost use Rattle.hub_steps.specs.ShownText.{cast_line, post_text, posts_text, refused_line};
 ghost use Rattle.hub_steps.specs.ShownText.{shown_line, state_text};
 
-use crate::cast_posts::CastPost;
+use crate::cast_post::CastPost;
 use crate::shown::Shown;
 use hub_core::Outcome;
 use hub_envelope::{EndId, Envelope};

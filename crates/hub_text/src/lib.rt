@@ -10,7 +10,7 @@ mod number;
 mod text_lines;
 mod word;
 
-pub use end_list::{EndList, EndListText};
+pub use end_list::{EndListText, read_ends};
 pub use number::number_of;
 pub use text_lines::split_text_line;
 pub use word::{cut_at, next_word};

@@ -21,8 +21,8 @@ use crate::log_error::LogError;
 use crate::log_version::LogVersion;
 use crate::message::Message;
 use crate::port_list::is_port_list;
-use hub_envelope::{AgentId, Body, BodyError, EndId, LineId, Posted};
-use hub_text::{EndList, cut_at, next_word, number_of};
+use hub_envelope::{AgentId, Body, BodyError, EndId, Items, LineId, Posted};
+use hub_text::{cut_at, next_word, number_of, read_ends};
 use std::alloc::Global;
 
 /// What a log line below the header says.
@@ -168,7 +168,7 @@ fn message_with(
 {
     let ports = ports_in(alloc, list)?;
     let body = body_in(alloc, version, body)?;
-    Ok(Message::of(ports.into_ends(), body))
+    Ok(Message::of(ports.into_list(), body))
 }
 
 /// The text up to the first space, and what comes after that.
@@ -241,11 +241,11 @@ fn epoch_in(word: &str) -> Result<u32, LogError>
 
 /// `-`, or at most `MAX_PORTS` different ends joined by single commas.
 #[tactic(auto, unfolding(crate::specs::LogLine::ports_in))]
-fn ports_in(alloc: Global, list: &str) -> Result<EndList, LogError>
+fn ports_in(alloc: Global, list: &str) -> Result<Items<EndId>, LogError>
     ensures says { IsReadAs LogError.OutOfMemory (λ x. x) result (ports_in list.now) }
     ensures within { IfOk result (λ ports. IsPortList ports) }
 {
-    match EndList::read(alloc, list, MAX_END as u32)? {
+    match read_ends(alloc, list, MAX_END as u32)? {
         Some(ports) if is_port_list(ports.as_slice()) => Ok(ports),
         _ => Err(LogError::BadLine),
     }

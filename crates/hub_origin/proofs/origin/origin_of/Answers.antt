@@ -19,4 +19,4 @@ pub returns-clause-reads : goal.returns-clause-reads
 returns-clause-reads c =
     let origin = origin_tuple c.in_ok-origin.origin in
     let tuple : is_some origin ≡ true = search rules in
-    by_origin c.args.text.now c.in_ok-url.url origin c.in_ok-url.ensures c.in_ok-origin.ensures ∙ is_told origin tuple ∙ ap (λ x. Ok x) (sym c.in_ok-text.ensures)
+    by_origin c.args.text.now c.in_ok-url.url origin c.in_ok-url.ensures c.in_ok-origin.ensures ∙ is_told origin tuple ∙ ap (λ x. Ok x) (sym (c.of_string.ensures ∙ c.in_ok-ascii_serialization.ensures))

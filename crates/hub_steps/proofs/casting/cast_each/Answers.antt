@@ -1,6 +1,8 @@
 use Rattle.std.proofs.Common.{◌+◌, subst, sym}
 use Rattle.std.proofs.Math.ListN.{drop_of_length-le}
 use Rattle.std.proofs.Math.Seq.{drop-cons}
+use Rattle.hub_steps.specs.Performed.{ComputesAt}
+use Rattle.hub_steps.specs.Unfolding.{cast_each}
 use Rattle.hub_steps.proofs.Computing.{CastFirst, cast_done, cast_more}
 use Rattle.hub_steps.proofs.casting.cast_each.Goals as goal
 
@@ -15,4 +17,5 @@ loop-end-preserved c =
 
 pub returns : goal.returns
 returns c =
-    cast_done c.loop-end.end-index c.args.core.now c.loop-end.core c.args.memory_refused c.args.body.now c.args.ends.now c.loop-end.posts.items (drop_of_length-le c.args.ends.now c.loop-end-test.false) c.loop-end.invariant
+    subst (ComputesAt c.args.core.now c.loop-end.core (cast_each c.args.memory_refused c.args.body.now c.args.ends.now)) (sym c.of.ensures)
+    (cast_done c.loop-end.end-index c.args.core.now c.loop-end.core c.args.memory_refused c.args.body.now c.args.ends.now c.loop-end.posts.items (drop_of_length-le c.args.ends.now c.loop-end-test.false) c.loop-end.invariant)

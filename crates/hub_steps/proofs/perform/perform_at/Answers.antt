@@ -1,8 +1,8 @@
-use Rattle.std.proofs.Common.{sym, subst, IfOk, ◌∙◌}
+use Rattle.std.proofs.Common.{sym, subst, IfOk}
 use Rattle.hub_steps.specs.declared.step_line.PosterCommand.{PosterCommand}
 use Rattle.hub_steps.specs.declared.step_line.PosterCommand.TheVariants as poster
 use Rattle.hub_steps.specs.Performed.{ComputesAt}
-use Rattle.hub_steps.specs.Unfolding.{line_steps, on_line_of, post}
+use Rattle.hub_steps.specs.Unfolding.{line_steps, on_line_of}
 use Rattle.hub_steps.proofs.Computing.{if_ok, named}
 use Rattle.hub_steps.proofs.perform.perform_at.Goals as goal
 
@@ -15,6 +15,5 @@ returns-in-Post-clause-performed c =
     let ports = c.in-Post.ports in
     let body = c.in-Post.body in
     let steps = line_steps refused (poster.Post ports body) in
-    let did = subst (λ listed. IfOk c.post.result (λ shown. ComputesAt old new (post refused listed body s) shown)) (c.of-ports.ensures ∙ c.into_ends-in-Post.ensures) c.post.ensures in
     subst (λ (command : PosterCommand). IfOk c.post.result (λ shown. ComputesAt old new (on_line_of c.args.poster (line_steps refused command)) shown)) (sym c.in-Post.is)
-    (if_ok (λ shown. ComputesAt old new (steps s) shown) (λ shown. ComputesAt old new (on_line_of c.args.poster steps) shown) (λ shown. named old new c.args.poster s steps shown c.in-Some.ensures) c.post.result did)
+    (if_ok (λ shown. ComputesAt old new (steps s) shown) (λ shown. ComputesAt old new (on_line_of c.args.poster steps) shown) (λ shown. named old new c.args.poster s steps shown c.in-Some.ensures) c.post.result c.post.ensures)
