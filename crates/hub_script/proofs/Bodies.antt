@@ -1,5 +1,5 @@
 -- The value of a field as a body.
-use Rattle.std.proofs.Common.{◌≡◌, ℕ, ◌≤◌, max, codes, List, Option, Some, None, Ok, ap, sym, ◌∙◌, arith}
+use Rattle.std.proofs.Common.{◌≡◌, ℕ, ◌≤◌, max, List, Option, Some, None, Ok, ap, sym, ◌∙◌, arith}
 use Rattle.std.specs.Ordering.{match_ordering, nat_cmp}
 use Rattle.std.specs.Cmp.Lexicographic.{slice_cmp}
 use Rattle.std.specs.declared.cmp.Ordering.{Ordering}
@@ -10,8 +10,8 @@ use Rattle.serde_json.specs.Find.{get, get_member}
 use Rattle.serde_json.specs.Read.{read}
 use Rattle.hub_envelope.specs.Answer.{answer_of, answer_to}
 use Rattle.hub_script.specs.declared.script_error.ScriptError.TheVariants.{Syntax}
-use Rattle.hub_script.specs.Fields.{value_in}
-use Rattle.hub_script.specs.Form.{body_in}
+use Rattle.hub_script.specs.Fields.{field_in, value_in}
+use Rattle.hub_script.specs.Shapes.{BODY}
 
 by_order : (o : Ordering) (e v : Data) (ms : Members) (found : Option Data) → (found ≡ Some v → depth v ≤ members_depth ms)
     → match_ordering o found (Some e) found ≡ Some v → depth v ≤ max (depth e) (members_depth ms)
@@ -36,8 +36,8 @@ pub is_field : (o : Option Data) (v : Data) → some_or Syntax o ≡ Ok v → o 
 is_field None v h = cc
 is_field (Some x) v h = let same : x ≡ v = cc in ap (λ (y : Data). Some y) same
 
--- a text that reads to the value of the field `body` is answered as the field is
-pub answered : (d v : Data) (text : List ℕ) → value_in (codes "body") d ≡ Ok v → read text ≡ Some v → body_in d ≡ Ok (answer_of text)
+-- a text that reads to the value of a field is answered as the field is
+pub answered : (name : List ℕ) (d v : Data) (text : List ℕ) → value_in name d ≡ Ok v → read text ≡ Some v → field_in BODY name d ≡ Ok (answer_of text)
 unfolding answer_of
-answered d v text found reads =
+answered name d v text found reads =
     ap (λ r. r >>= λ (x : Data). Ok (answer_to (Some x))) found ∙ ap (λ (o : Option Data). Ok (answer_to o)) (sym reads)

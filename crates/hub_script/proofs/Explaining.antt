@@ -18,16 +18,15 @@ use Rattle.hub_script.specs.Contents.{Contents}
 use Rattle.hub_script.specs.Context.{after_form}
 use Rattle.hub_script.specs.Fields.{ScriptRead}
 use Rattle.hub_script.specs.Form.{form_of, form_with, object_form, object_only, text_form}
-use Rattle.hub_script.specs.Keyword.{keyword_of, word_of}
+use Rattle.hub_script.specs.Shapes.{keyword_of, word_of}
 use Rattle.hub_script.specs.Known.{Known, nothing}
 use Rattle.hub_script.specs.Refusals.{HasNoForm, HasNoKeyword, IsAccepted, IsExplained, IsNoObject, IsSyntaxError, Means}
 use Rattle.hub_script.specs.Script.{after_line}
 use Rattle.hub_script.specs.Shown.{TextHasForm, IsObject}
-use Rattle.hub_script.proofs.FormsRead.{among, find_none, find_passes, read_as_shown}
+use Rattle.hub_script.proofs.FormsRead.{find_passes, form_read, none_has, only_syntax_with, read_as_shown}
 use Rattle.hub_script.proofs.Obeying.{parts}
 use Rattle.hub_script.proofs.OneLineMore.{IsSplit, not_nil, split_last}
 use Rattle.hub_script.proofs.Outcomes.{FormMeans, Outcome, outcome}
-use Rattle.hub_script.proofs.ShownForms.{form_read, only_syntax_with}
 use Rattle.hub_script.proofs.Standing.{Stands, at_first}
 
 -- ---- one text line
@@ -69,7 +68,7 @@ by_form P bytes d is no_keyword no_form good = by (keyword_of d) refl
         (no_form (record { value = d; is_object = is; keyword = k; told = told; none = λ f h. (let clash : Ok f ≡ Err x = sym (read_as_shown d f h) ∙ same ∙ e in cc) }))
 
     by : (o : Option Keyword) → keyword_of d ≡ o → P (some_or UnknownAction o >>= λ k. form_with k d)
-    by None e = no_keyword (record { value = d; is_object = is; none = λ k. is_none (get (word_of k) d) (find_none (λ x. is_some (get (word_of x) d)) KEYWORDS k e (among k)) })
+    by None e = no_keyword (record { value = d; is_object = is; none = λ k. is_none (get (word_of k) d) (none_has (λ x. is_some (get (word_of x) d)) k e) })
     by (Some k) e = by_read k (find_passes (λ x. is_some (get (word_of x) d)) KEYWORDS k e) (ap (λ (o : Option Keyword). some_or UnknownAction o >>= λ x. form_with x d) e) (form_with k d) refl
 
 is_line : (bytes : List ℕ) (f : Form) → form_of bytes ≡ Ok f → TextHasForm bytes f

@@ -1,250 +1,173 @@
--- Of an object that has a form that form is read.
-use Rattle.std.proofs.Common.{◌≡◌, ◌⊎◌, ℕ, List, [], ◌∷◌, ◌++◌, Bool, true, false, cond, Option, Some, None, Result, Ok, Err, refl, ap, sym, ◌∙◌, inl, inr, arith, append_assoc, append-nil, eq-eqb}
-use Rattle.std.specs.List.{Contains, find}
-use Rattle.std.specs.Prelude.{codes, is_some}
-use Rattle.std.specs.Str.{bytes_eq}
-use Rattle.serde_json.specs.Data.{Data}
-use Rattle.serde_json.specs.Find.{get}
-use Rattle.hub_origin.specs.Origin.{origin_answer}
-use Rattle.hub_envelope.specs.Answer.{answer_to}
-use Rattle.hub_envelope.specs.declared.body.BodyError.{BodyError}
-use Rattle.hub_life.specs.declared.event.Event.{Event}
-use Rattle.hub_life.specs.declared.event.Event.TheVariants.{Install, Activate, Extend, Settle, Fail, Returned, Discard, Terminate}
+-- A form is read of an object exactly where the object has that form.
+use Rattle.std.proofs.Common.{◌≡◌, ℕ, List, [], ◌∷◌, Bool, true, false, cond, Option, Some, None, Ok, Err, refl, ap, sym, ◌∙◌, subst, inl, inr}
+use Rattle.std.specs.Cmp.Lexicographic.{bytes_decides, slice_cmp}
+use Rattle.std.specs.List.{find, list_all}
+use Rattle.std.specs.Ordering.{is_eq, match_ordering, nat_cmp}
+use Rattle.std.specs.declared.cmp.Ordering.{Ordering}
+use Rattle.std.specs.declared.cmp.Ordering.TheVariants.{Less, Equal, Greater}
+use Rattle.std.specs.Prelude.{is_some}
+use Rattle.std.proofs.lemmas.Bool.{and_from, and_parts}
+use Rattle.std.proofs.lemmas.Map.Text.{is_eq-slice_cmp}
+use Rattle.serde_json.specs.Data.{Data, null, object, Members, no_members, member}
+use Rattle.serde_json.specs.Find.{get, get_member}
 use Rattle.hub_text.specs.Reading.{◌>>=◌, some_or}
-use Rattle.hub_script.specs.declared.agent_kind.AgentKind.{AgentKind}
-use Rattle.hub_script.specs.declared.agent_kind.AgentKind.TheVariants.{Window, Worker}
-use Rattle.hub_script.specs.declared.form.ActionForm.{ActionForm}
-use Rattle.hub_script.specs.declared.form.ActionForm.TheVariants as act
 use Rattle.hub_script.specs.declared.form.Form.{Form}
-use Rattle.hub_script.specs.declared.form.Form.TheVariants as form
 use Rattle.hub_script.specs.declared.keyword.Keyword.{Keyword}
-use Rattle.hub_script.specs.declared.keyword.Keyword.TheVariants.{Agent, Channel, Member, Post, Send, Cast, Start, Loaded, Close, Wait, Receive, Order, Event as EventWord, Hand, Fetch}
+use Rattle.hub_script.specs.declared.keyword.Keyword.TheVariants.{Agent}
 use Rattle.hub_script.specs.declared.keyword.TheConstants.{KEYWORDS}
 use Rattle.hub_script.specs.declared.script_error.ScriptError.TheVariants.{Syntax, UnknownAction}
-use Rattle.hub_script.specs.Context.{has_twice, stands_in}
-use Rattle.hub_script.specs.Fields.{ScriptRead, field_count, number_in, text_in}
-use Rattle.hub_life.specs.Word.{event_of}
-use Rattle.hub_script.specs.Form.{agent_form, at_agent, body_in, cast_form, channel_form, event_form, form_by, form_with, kind_of, loaded_form, member_form, names_at, names_from, object_form, pair_of, post_form, send_form, shown_fields, transfer_in}
-use Rattle.hub_script.specs.Keyword.{keyword_of, word_of}
-use Rattle.hub_script.specs.Shown.{AreFields, AreTexts, HasForm, IsBody, IsNumber, IsText, IsTransfer, event_word, fields_of, kind_word, strings}
-use Rattle.hub_script.proofs.OtherFields.{no_other_field}
-use Rattle.hub_origin.specs.declared.origin_error.OriginError.{OriginError}
-use Rattle.hub_script.proofs.Naming.{contains_cases}
-use Rattle.hub_script.proofs.ShownForms.{keyword, number_is, shown, text_is}
+use Rattle.hub_script.specs.Fields.{field_in, member_names}
+use Rattle.hub_script.specs.Form.{fields_in, form_by, form_in, form_with, has_only, object_form}
+use Rattle.hub_script.specs.Shapes.{Fields, FieldValue, FormOf, Shape, shape, fields_of, first_name, has_name, keyword_of, shape_of, word_of}
+use Rattle.hub_script.specs.Shown.{HasFields, HasForm, HasOnly, HasShape, MayMiss}
+use Rattle.hub_script.proofs.FieldsRead.{IsSyntax, bound, field_found, field_is, field_syntax, then_syntax}
 
--- ---- fields
+-- ---- the fields, in order
 
-at_is : (d : Data) (at : ℕ) (x : ActionForm) → IsNumber d (codes "at") at → at_agent d x ≡ Ok (form.Action at x)
-at_is d at x h = ap (λ (r : ScriptRead ℕ). r >>= λ n. Ok (form.Action n x)) (number_is d (codes "at") at h)
+fields_are : (fields : Fields) (made : FormOf fields) (d : Data) (f : Form) → HasFields fields made d f → fields_in fields made d ≡ Ok f
+fields_are [] made d f h = ap (λ (g : Form). Ok g) h
+fields_are (x ∷ fields) made d f h = ap (λ r. r >>= λ value. fields_in fields (made value) d) (field_is x.1 x.0 d h.0 h.1) ∙ fields_are fields (made h.0) d f h.2
 
-body_is : (d : Data) (answer : Result (List ℕ) BodyError) → IsBody d answer → body_in d ≡ Ok answer
-body_is d answer h = ap (λ (o : Option Data). some_or Syntax o >>= λ v. Ok (answer_to (Some v))) h.1 ∙ ap (λ (a : Result (List ℕ) BodyError). Ok a) (sym h.2)
+fields_found : (fields : Fields) (made : FormOf fields) (d : Data) (f : Form) → fields_in fields made d ≡ Ok f → HasFields fields made d f
+fields_found [] made d f h = cc
+fields_found (x ∷ fields) made d f h =
+    let here = bound (field_in x.1 x.0 d) (λ value. fields_in fields (made value) d) f h in
+    (here.0, field_found x.1 x.0 d here.0 here.1, fields_found fields (made here.0) d f here.2)
 
-names_are : (before names : List (List ℕ)) → names_from before (strings names) ≡ Ok (before ++ names)
-names_are before [] = ap (λ (xs : List (List ℕ)). Ok xs) (sym (append-nil before))
-names_are before (n ∷ names) = names_are (before ++ n ∷ []) names ∙ ap (λ (xs : List (List ℕ)). Ok xs) (append_assoc before (n ∷ []) names)
+fields_syntax : (fields : Fields) (made : FormOf fields) (d : Data) → IsSyntax (fields_in fields made d)
+fields_syntax [] made d = λ e h. absurd (cc)
+fields_syntax (x ∷ fields) made d = then_syntax (field_in x.1 x.0 d) (λ value. fields_in fields (made value) d) (field_syntax x.1 x.0 d) (λ value. fields_syntax fields (made value) d)
 
-transfer_is : (d : Data) (names : List (List ℕ)) → IsTransfer d names → transfer_in d ≡ Ok names
-transfer_is d names (inl h) = ap names_at h ∙ names_are [] names
-transfer_is d names (inr h) = ap names_at h.0 ∙ ap (λ (xs : List (List ℕ)). Ok xs) (sym h.1)
+shape_is : (s : Shape) (d : Data) (f : Form) → HasShape s d f → form_in s d ≡ Ok f
+shape_is (shape fields made) d f h = fields_are fields made d f h
 
-kind_is : (kind : AgentKind) → kind_of (kind_word kind) ≡ Ok kind
-kind_is Window = refl
-kind_is Worker = refl
+shape_found : (s : Shape) (d : Data) (f : Form) → form_in s d ≡ Ok f → HasShape s d f
+shape_found (shape fields made) d f h = fields_found fields made d f h
 
-event_is : (e : Event) → event_of (event_word e) ≡ Some e
-event_is Install = refl
-event_is Activate = refl
-event_is Extend = refl
-event_is Settle = refl
-event_is Fail = refl
-event_is Returned = refl
-event_is Discard = refl
-event_is Terminate = refl
+shape_syntax : (s : Shape) (d : Data) → IsSyntax (form_in s d)
+shape_syntax (shape fields made) d = fields_syntax fields made d
 
--- ---- forms
+-- ---- no other fields
 
-agent_is : (d : Data) (kind : AgentKind) (url : List ℕ) → IsText d (codes "agent") (kind_word kind) → IsText d (codes "origin") url → agent_form d ≡ Ok (form.Agent kind (origin_answer url))
-unfolding agent_form
-agent_is d kind url h g =
-    ap (λ (r : ScriptRead (List ℕ)). r >>= λ word. kind_of word >>= λ k. text_in (codes "origin") d >>= λ u. Ok (form.Agent k (origin_answer u))) (text_is d (codes "agent") (kind_word kind) h)
-    ∙ ap (λ (r : ScriptRead AgentKind). r >>= λ k. text_in (codes "origin") d >>= λ u. Ok (form.Agent k (origin_answer u))) (kind_is kind)
-    ∙ ap (λ (r : ScriptRead (List ℕ)). r >>= λ u. Ok (form.Agent kind (origin_answer u))) (text_is d (codes "origin") url g)
+there : (o : Ordering) (e : Data) (rest : Option Data) → is_some rest ≡ true → is_some (match_ordering o rest (Some e) rest) ≡ true
+there Less e rest h = h
+there Equal e rest h = refl
+there Greater e rest h = h
 
-channel_is : (d : Data) (first second : List ℕ) (at : ℕ) → AreTexts d (codes "channel") (first ∷ second ∷ []) → IsNumber d (codes "at") at → channel_form d ≡ Ok (form.Channel first second at)
-unfolding channel_form
-channel_is d first second at h g =
-    ap (λ (o : Option Data). some_or Syntax o >>= λ names. pair_of names >>= λ pair. number_in (codes "at") d >>= λ n. Ok (form.Channel pair.0 pair.1 n)) h
-    ∙ ap (λ (r : ScriptRead ℕ). r >>= λ n. Ok (form.Channel first second n)) (number_is d (codes "at") at g)
+here : (o : Ordering) (e : Data) (rest : Option Data) → is_eq o ≡ true → is_some (match_ordering o rest (Some e) rest) ≡ true
+here Less e rest h = absurd (cc)
+here Equal e rest h = refl
+here Greater e rest h = absurd (cc)
 
-member_is : (d : Data) (name : List ℕ) (at : ℕ) (on : List ℕ) → IsText d (codes "member") name → IsNumber d (codes "at") at → IsText d (codes "on") on → member_form d ≡ Ok (form.Member name at on)
-unfolding member_form
-member_is d name at on h g k =
-    ap (λ (r : ScriptRead (List ℕ)). r >>= λ n. number_in (codes "at") d >>= λ a. text_in (codes "on") d >>= λ o. Ok (form.Member n a o)) (text_is d (codes "member") name h)
-    ∙ ap (λ (r : ScriptRead ℕ). r >>= λ a. text_in (codes "on") d >>= λ o. Ok (form.Member name a o)) (number_is d (codes "at") at g)
-    ∙ ap (λ (r : ScriptRead (List ℕ)). r >>= λ o. Ok (form.Member name at o)) (text_is d (codes "on") on k)
+either : (o : Ordering) (e : Data) (rest : Option Data) (b : Bool) → is_some (match_ordering o rest (Some e) rest) ≡ true → (is_eq o ≡ true → b ≡ true) → (is_some rest ≡ true → b ≡ true) → b ≡ true
+either Less e rest b h first more = more h
+either Equal e rest b h first more = first refl
+either Greater e rest b h first more = more h
 
-post_is : (d : Data) (port : List ℕ) (answer : Result (List ℕ) BodyError) (names : List (List ℕ)) → IsText d (codes "post") port → IsBody d answer → IsTransfer d names → post_form d ≡ Ok (act.Post port answer names)
-unfolding post_form
-post_is d port answer names h g k =
-    ap (λ (r : ScriptRead (List ℕ)). r >>= λ n. body_in d >>= λ b. transfer_in d >>= λ t. Ok (act.Post n b t)) (text_is d (codes "post") port h)
-    ∙ ap (λ (r : ScriptRead (Result (List ℕ) BodyError)). r >>= λ b. transfer_in d >>= λ t. Ok (act.Post port b t)) (body_is d answer g)
-    ∙ ap (λ (r : ScriptRead (List (List ℕ))). r >>= λ t. Ok (act.Post port answer t)) (transfer_is d names k)
+all_named : (p : List ℕ → Bool) (ms : Members) → ((name : List ℕ) → is_some (get_member name ms) ≡ true → p name ≡ true) → list_all p (member_names ms) ≡ true
+all_named p no_members h = refl
+all_named p (member l e ms) h =
+    and_from (p l) (list_all p (member_names ms))
+    (h l (here (slice_cmp nat_cmp l l) e (get_member l ms) (is_eq-slice_cmp l l ∙ (bytes_decides l l).1 refl)))
+    (all_named p ms (λ name found. h name (there (slice_cmp nat_cmp name l) e (get_member name ms) found)))
 
-send_is : (d : Data) (to : ℕ) (answer : Result (List ℕ) BodyError) (names : List (List ℕ)) → IsNumber d (codes "send") to → IsBody d answer → IsTransfer d names → send_form d ≡ Ok (act.Send to answer names)
-unfolding send_form
-send_is d to answer names h g k =
-    ap (λ (r : ScriptRead ℕ). r >>= λ n. body_in d >>= λ b. transfer_in d >>= λ t. Ok (act.Send n b t)) (number_is d (codes "send") to h)
-    ∙ ap (λ (r : ScriptRead (Result (List ℕ) BodyError)). r >>= λ b. transfer_in d >>= λ t. Ok (act.Send to b t)) (body_is d answer g)
-    ∙ ap (λ (r : ScriptRead (List (List ℕ))). r >>= λ t. Ok (act.Send to answer t)) (transfer_is d names k)
+each_named : (p : List ℕ → Bool) (ms : Members) (name : List ℕ) → list_all p (member_names ms) ≡ true → is_some (get_member name ms) ≡ true → p name ≡ true
+each_named p no_members name h found = absurd (cc)
+each_named p (member l e ms) name h found =
+    let parts = and_parts (p l) (list_all p (member_names ms)) h in
+    either (slice_cmp nat_cmp name l) e (get_member name ms) (p name) found
+    (λ same. subst (λ n. p n ≡ true) (sym ((bytes_decides name l).0 (sym (is_eq-slice_cmp name l) ∙ same))) parts.0)
+    (each_named p ms name parts.1)
 
-cast_is : (d : Data) (member : List ℕ) (answer : Result (List ℕ) BodyError) → IsText d (codes "cast") member → IsBody d answer → cast_form d ≡ Ok (act.Cast member answer)
-unfolding cast_form
-cast_is d member answer h g =
-    ap (λ (r : ScriptRead (List ℕ)). r >>= λ n. body_in d >>= λ b. Ok (act.Cast n b)) (text_is d (codes "cast") member h)
-    ∙ ap (λ (r : ScriptRead (Result (List ℕ) BodyError)). r >>= λ b. Ok (act.Cast member b)) (body_is d answer g)
+only_is : (d : Data) (k : Keyword) → HasOnly d k → has_only k d ≡ true
+only_is (object ms) k h = all_named (has_name k) ms h
+only_is null k h = refl
+only_is d k h = refl
 
-loaded_is : (d : Data) → IsText d (codes "loaded") (codes "queue") → loaded_form d ≡ Ok act.Loaded
-loaded_is d h = ap (λ (r : ScriptRead (List ℕ)). r >>= λ word. cond (bytes_eq word (codes "queue")) (Ok act.Loaded) (Err Syntax)) (text_is d (codes "loaded") (codes "queue") h)
-
-life_event_is : (d : Data) (e : Event) → IsText d (codes "event") (event_word e) → event_form d ≡ Ok (act.Event e)
-life_event_is d e h =
-    ap (λ (r : ScriptRead (List ℕ)). r >>= λ word. some_or Syntax (event_of word) >>= λ x. Ok (act.Event x)) (text_is d (codes "event") (event_word e) h)
-    ∙ ap (λ (o : Option Event). some_or Syntax o >>= λ x. Ok (act.Event x)) (event_is e)
-
-action_is : (d : Data) (at : ℕ) (x : ActionForm) (r : ScriptRead ActionForm) → r ≡ Ok x → IsNumber d (codes "at") at → (r >>= at_agent d) ≡ Ok (form.Action at x)
-action_is d at x r h g = ap (λ (s : ScriptRead ActionForm). s >>= at_agent d) h ∙ at_is d at x g
-
-name_is : (d : Data) (at : ℕ) (word name : List ℕ) (x : List ℕ → ActionForm) → IsText d word name → IsNumber d (codes "at") at → (text_in word d >>= λ n. at_agent d (x n)) ≡ Ok (form.Action at (x name))
-name_is d at word name x h g = ap (λ (r : ScriptRead (List ℕ)). r >>= λ n. at_agent d (x n)) (text_is d word name h) ∙ at_is d at (x name) g
-
-agent_number_is : (d : Data) (at n : ℕ) (word : List ℕ) (x : ℕ → ActionForm) → IsNumber d word n → IsNumber d (codes "at") at → (number_in word d >>= λ m. at_agent d (x m)) ≡ Ok (form.Action at (x n))
-agent_number_is d at n word x h g = ap (λ (r : ScriptRead ℕ). r >>= λ m. at_agent d (x m)) (number_is d word n h) ∙ at_is d at (x n) g
-
-form_is : (d : Data) (f : Form) → AreFields d f → form_by (keyword f) d ≡ Ok f
-form_is d (form.Agent kind origin) h = agent_is d kind h.1.0 h.0 h.1.1 ∙ ap (λ (a : Result (List ℕ) OriginError). Ok (form.Agent kind a)) (sym h.1.2)
-form_is d (form.Channel first second at) h = channel_is d first second at h.0 h.1
-form_is d (form.Member name at on) h = member_is d name at on h.0 h.1 h.2
-form_is d (form.Action at (act.Post port body transfer)) h = action_is d at (act.Post port body transfer) (post_form d) (post_is d port body transfer h.1 h.2 h.3) h.0
-form_is d (form.Action at (act.Send to body transfer)) h = action_is d at (act.Send to body transfer) (send_form d) (send_is d to body transfer h.1 h.2 h.3) h.0
-form_is d (form.Action at (act.Cast member body)) h = action_is d at (act.Cast member body) (cast_form d) (cast_is d member body h.1 h.2) h.0
-form_is d (form.Action at (act.Start name)) h = name_is d at (codes "start") name (λ n. act.Start n) h.1 h.0
-form_is d (form.Action at act.Loaded) h = action_is d at act.Loaded (loaded_form d) (loaded_is d h.1) h.0
-form_is d (form.Action at (act.Close name)) h = name_is d at (codes "close") name (λ n. act.Close n) h.1 h.0
-form_is d (form.Action at (act.Wait messages)) h = agent_number_is d at messages (codes "wait") (λ n. act.Wait n) h.1 h.0
-form_is d (form.Action at (act.Receive port)) h = name_is d at (codes "receive") port (λ n. act.Receive n) h.1 h.0
-form_is d (form.Action at (act.Order to)) h = agent_number_is d at to (codes "order") (λ n. act.Order n) h.1 h.0
-form_is d (form.Action at (act.Event event)) h = action_is d at (act.Event event) (event_form d) (life_event_is d event h.1) h.0
-form_is d (form.Action at (act.Hand to)) h = agent_number_is d at to (codes "hand") (λ n. act.Hand n) h.1 h.0
-form_is d (form.Action at (act.Fetch from)) h = agent_number_is d at from (codes "fetch") (λ n. act.Fetch n) h.1 h.0
+only_found : (d : Data) (k : Keyword) → has_only k d ≡ true → HasOnly d k
+only_found (object ms) k h name found = each_named (has_name k) ms name h found
+only_found null k h name found = absurd (cc)
+only_found d k h name found = absurd (cc)
 
 -- ---- the field by which the form is told
 
 pub find_passes : {X : Type 0} (p : X → Bool) (xs : List X) (x : X) → find p xs ≡ Some x → p x ≡ true
-find_passes p [] x h = cc
+find_passes p [] x h = absurd (cc)
 find_passes {X} p (y ∷ ys) x h = by (find_passes p ys x) (p y) refl h
   where
     by : (find p ys ≡ Some x → p x ≡ true) → (b : Bool) → p y ≡ b → cond b (Some y) (find p ys) ≡ Some x → p x ≡ true
     by rest true e g = let same : y ≡ x = cc in sym (ap p same) ∙ e
     by rest false e g = rest g
 
-pub find_none : {X : Type 0} (p : X → Bool) (xs : List X) (x : X) → find p xs ≡ None → Contains xs x → p x ≡ false
-find_none p [] x h c = absurd (omega (arith, c.1))
-find_none {X} p (y ∷ ys) x h c = by (find_none p ys x) (p y) refl h (contains_cases y ys x c)
+-- what passes fewer tests is found where it passes, and nothing is found where it doesn't
+found_too : {X : Type 0} (p q : X → Bool) (xs : List X) (x : X) → ((y : X) → p y ≡ true → q y ≡ true) → find q xs ≡ Some x → p x ≡ true → find p xs ≡ Some x
+found_too p q [] x fewer h passes = absurd (cc)
+found_too {X} p q (y ∷ ys) x fewer h passes = by (λ g. found_too p q ys x fewer g passes) (q y) refl (p y) refl h
   where
-    by : (find p ys ≡ None → Contains ys x → p x ≡ false) → (b : Bool) → p y ≡ b → cond b (Some y) (find p ys) ≡ None → (y ≡ x) ⊎ Contains ys x → p x ≡ false
-    by rest true e g d = absurd (cc)
-    by rest false e g (inl same) = sym (ap p same) ∙ e
-    by rest false e g (inr d) = rest g d
+    by : (find q ys ≡ Some x → find p ys ≡ Some x) → (b : Bool) → q y ≡ b → (c : Bool) → p y ≡ c → cond b (Some y) (find q ys) ≡ Some x → cond c (Some y) (find p ys) ≡ Some x
+    by rest true e true g h = h
+    by rest true e false g h = absurd (let same : y ≡ x = cc in let clash : false ≡ true = sym g ∙ ap p same ∙ passes in cc)
+    by rest false e true g h = absurd (let clash : false ≡ true = sym e ∙ fewer y g in cc)
+    by rest false e false g h = rest h
 
-pub among : (k : Keyword) → Contains KEYWORDS k
-among Agent = (0, omega arith, refl)
-among Channel = (1, omega arith, refl)
-among Member = (2, omega arith, refl)
-among Post = (3, omega arith, refl)
-among Send = (4, omega arith, refl)
-among Cast = (5, omega arith, refl)
-among Start = (6, omega arith, refl)
-among Loaded = (7, omega arith, refl)
-among Close = (8, omega arith, refl)
-among Wait = (9, omega arith, refl)
-among Receive = (10, omega arith, refl)
-among Order = (11, omega arith, refl)
-among EventWord = (12, omega arith, refl)
-among Hand = (13, omega arith, refl)
-among Fetch = (14, omega arith, refl)
-
-different_fields : (f : Form) → has_twice (fields_of f) ≡ false
-different_fields (form.Agent kind origin) = refl
-different_fields (form.Channel first second at) = refl
-different_fields (form.Member name at on) = refl
-different_fields (form.Action at (act.Post port body transfer)) = refl
-different_fields (form.Action at (act.Send to body transfer)) = refl
-different_fields (form.Action at (act.Cast member body)) = refl
-different_fields (form.Action at (act.Start name)) = refl
-different_fields (form.Action at act.Loaded) = refl
-different_fields (form.Action at (act.Close name)) = refl
-different_fields (form.Action at (act.Wait messages)) = refl
-different_fields (form.Action at (act.Receive port)) = refl
-different_fields (form.Action at (act.Order to)) = refl
-different_fields (form.Action at (act.Event event)) = refl
-different_fields (form.Action at (act.Hand to)) = refl
-different_fields (form.Action at (act.Fetch from)) = refl
-
-pub has_keyword : (d : Data) (f : Form) → AreFields d f → is_some (get (word_of (keyword f)) d) ≡ true
-has_keyword d (form.Agent kind origin) h = ap is_some h.0
-has_keyword d (form.Channel first second at) h = ap is_some h.0
-has_keyword d (form.Member name at on) h = ap is_some h.0
-has_keyword d (form.Action at (act.Post port body transfer)) h = ap is_some h.1
-has_keyword d (form.Action at (act.Send to body transfer)) h = ap is_some h.1.0
-has_keyword d (form.Action at (act.Cast member body)) h = ap is_some h.1
-has_keyword d (form.Action at (act.Start name)) h = ap is_some h.1
-has_keyword d (form.Action at act.Loaded) h = ap is_some h.1
-has_keyword d (form.Action at (act.Close name)) h = ap is_some h.1
-has_keyword d (form.Action at (act.Wait messages)) h = ap is_some h.1.0
-has_keyword d (form.Action at (act.Receive port)) h = ap is_some h.1
-has_keyword d (form.Action at (act.Order to)) h = ap is_some h.1.0
-has_keyword d (form.Action at (act.Event event)) h = ap is_some h.1
-has_keyword d (form.Action at (act.Hand to)) h = ap is_some h.1.0
-has_keyword d (form.Action at (act.Fetch from)) h = ap is_some h.1.0
-
--- the one keyword among the fields of a form
-one_keyword : (f : Form) (k : Keyword) → stands_in (word_of k) (fields_of f) ≡ true → keyword f ≡ k
-one_keyword (form.Agent kind origin) Agent h = refl
-one_keyword (form.Channel first second at) Channel h = refl
-one_keyword (form.Member name at on) Member h = refl
-one_keyword (form.Action at (act.Post port body transfer)) Post h = refl
-one_keyword (form.Action at (act.Send to body transfer)) Send h = refl
-one_keyword (form.Action at (act.Cast member body)) Cast h = refl
-one_keyword (form.Action at (act.Start name)) Start h = refl
-one_keyword (form.Action at act.Loaded) Loaded h = refl
-one_keyword (form.Action at (act.Close name)) Close h = refl
-one_keyword (form.Action at (act.Wait messages)) Wait h = refl
-one_keyword (form.Action at (act.Receive port)) Receive h = refl
-one_keyword (form.Action at (act.Order to)) Order h = refl
-one_keyword (form.Action at (act.Event event)) EventWord h = refl
-one_keyword (form.Action at (act.Hand to)) Hand h = refl
-one_keyword (form.Action at (act.Fetch from)) Fetch h = refl
-one_keyword f k h = cc
-
-keyword_is : (d : Data) (f : Form) → HasForm d f → keyword_of d ≡ Some (keyword f)
-keyword_is d f h = by (keyword_of d) refl
+-- where none is found, what would be found by other tests doesn't pass
+none_found : {X : Type 0} (p q : X → Bool) (xs : List X) (x : X) → find q xs ≡ Some x → find p xs ≡ None → p x ≡ false
+none_found p q [] x h none = absurd (cc)
+none_found {X} p q (y ∷ ys) x h none = by (none_found p q ys x) (q y) (p y) refl h none
   where
-    by : (o : Option Keyword) → keyword_of d ≡ o → o ≡ Some (keyword f)
-    by None e = absurd (let none : is_some (get (word_of (keyword f)) d) ≡ false = find_none (λ k. is_some (get (word_of k) d)) KEYWORDS (keyword f) e (among (keyword f)) in let clash : true ≡ false = sym (has_keyword d f h.fields) ∙ none in cc)
-    by (Some k) e = ap (λ (x : Keyword). Some x) (sym (by_field (stands_in (word_of k) (fields_of f)) refl))
-      where
-        has_field : is_some (get (word_of k) d) ≡ true
-        has_field = find_passes (λ x. is_some (get (word_of x) d)) KEYWORDS k e
+    by : (find q ys ≡ Some x → find p ys ≡ None → p x ≡ false) → (b c : Bool) → p y ≡ c → cond b (Some y) (find q ys) ≡ Some x → cond c (Some y) (find p ys) ≡ None → p x ≡ false
+    by rest b true g h none = absurd (cc)
+    by rest true false g h none = let same : y ≡ x = cc in sym (ap p same) ∙ g
+    by rest false false g h none = rest h none
 
-        by_field : (b : Bool) → stands_in (word_of k) (fields_of f) ≡ b → keyword f ≡ k
-        by_field true g = one_keyword f k g
-        by_field false g = absurd (let none : is_some (get (word_of k) d) ≡ false = no_other_field d (fields_of f) (word_of k) (different_fields f) g h.only in let clash : true ≡ false = sym has_field ∙ none in cc)
+first_is : (k : Keyword) → find (λ j. has_name k (word_of j)) KEYWORDS ≡ Some k
+first_is Agent = refl
+first_is k = refl
+
+pub none_has : (p : Keyword → Bool) (k : Keyword) → find p KEYWORDS ≡ None → p k ≡ false
+none_has p k = none_found p (λ j. has_name k (word_of j)) KEYWORDS k (first_is k)
+
+-- the first field isn't one that may be missing
+abbrev Stays : Shape → Type 0
+Stays (shape [] made) = ⊥
+Stays (shape (x ∷ fields) made) = (value : FieldValue x.1) → ¬ MayMiss x.1 value
+
+stays : (k : Keyword) → Stays (shape_of k)
+stays Agent = λ value h. h
+stays k = λ value h. h
+
+has_first : (s : Shape) (d : Data) (f : Form) → Stays s → HasShape s d f → is_some (get (first_name (fields_of s)) d) ≡ true
+has_first (shape [] made) d f s h = absurd s
+has_first (shape (x ∷ fields) made) d f s h = elim h.1 [ inl shown ↦ ap is_some shown.1 | inr missing ↦ absurd (s h.0 missing.1) ]
+
+pub has_keyword : (d : Data) (f : Form) (h : HasForm d f) → is_some (get (word_of h.keyword) d) ≡ true
+has_keyword d f h = has_first (shape_of h.keyword) d f (stays h.keyword) h.fields
+
+keyword_is : (d : Data) (f : Form) (h : HasForm d f) → keyword_of d ≡ Some h.keyword
+keyword_is d f h = found_too (λ k. is_some (get (word_of k) d)) (λ k. has_name h.keyword (word_of k)) KEYWORDS h.keyword (λ k. h.only (word_of k)) (first_is h.keyword) (has_keyword d f h)
+
+-- ---- forms
 
 -- an object that has a form is read as that form
 pub read_as_shown : (d : Data) (f : Form) → HasForm d f → object_form d ≡ Ok f
 unfolding form_with
 read_as_shown d f h =
     ap (λ (o : Option Keyword). some_or UnknownAction o >>= λ k. form_with k d) (keyword_is d f h)
-    ∙ ap (λ (b : Bool). cond b (form_by (keyword f) d) (Err Syntax)) (eq-eqb (field_count d) (shown_fields (keyword f) d) (h.only ∙ shown d f h.fields))
-    ∙ form_is d f h.fields
+    ∙ ap (λ (b : Bool). cond b (form_by h.keyword d) (Err Syntax)) (only_is d h.keyword h.only)
+    ∙ shape_is (shape_of h.keyword) d f h.fields
+
+pub form_read : (k : Keyword) (d : Data) (f : Form) → form_with k d ≡ Ok f → HasForm d f
+unfolding form_with
+form_read k d f = by (has_only k d) refl
+  where
+    by : (b : Bool) → has_only k d ≡ b → cond b (form_by k d) (Err Syntax) ≡ Ok f → HasForm d f
+    by true e h = record { keyword = k; only = only_found d k e; fields = shape_found (shape_of k) d f h }
+    by false e h = absurd (cc)
+
+pub only_syntax_with : (k : Keyword) (d : Data) → IsSyntax (form_with k d)
+unfolding form_with
+only_syntax_with k d = by (has_only k d)
+  where
+    by : (b : Bool) → IsSyntax (cond b (form_by k d) (Err Syntax))
+    by true = shape_syntax (shape_of k) d
+    by false = λ e h. cc

@@ -1,4 +1,3 @@
-pub mod Counting
 pub mod Arrays
 pub mod Bodies
 pub mod Changes
@@ -14,8 +13,7 @@ pub mod Standing
 pub mod Continuing
 pub mod Tests
 pub mod Outcomes
-pub mod OtherFields
-pub mod ShownForms
+pub mod FieldsRead
 pub mod FormsRead
 pub mod Explaining
 pub mod OneMeaning

@@ -14,14 +14,13 @@ use Rattle.hub_script.specs.declared.script_error.DataCloneCause.{DataCloneCause
 use Rattle.hub_script.specs.declared.script_error.DataCloneCause.TheVariants.{Source, Twice, Detached}
 use Rattle.hub_script.specs.Before.{Holds, IsMember, IsPort, agent_kinds}
 use Rattle.hub_script.specs.Form.{object_form}
-use Rattle.hub_script.specs.Keyword.{word_of}
+use Rattle.hub_script.specs.Shapes.{word_of}
 use Rattle.hub_script.specs.Laws.{NoScript, NoneAccepted, OneAnswer, OneRefusal}
 use Rattle.hub_script.specs.Refusals.{AreAccepted, AreKnown, CanTransfer, CannotTransfer, HasUnknown, IsAccepted, IsMisplaced, IsRefusedValue, IsSyntaxError, IsTooLarge, Means}
 use Rattle.hub_script.specs.Shown.{HasForm, TextHasForm, IsObject}
 use Rattle.hub_script.specs.Uses.{agents_named, members_named, names_used, ports_named}
 use Rattle.hub_script.proofs.FormsRead.{has_keyword, read_as_shown}
 use Rattle.hub_script.proofs.Outcomes.{FormMeans}
-use Rattle.hub_script.proofs.ShownForms.{keyword}
 
 -- ---- the tests of a line of one form
 
@@ -126,9 +125,6 @@ no_keyword bytes d c k h g none told =
     let absent : is_some (get (word_of k) c) ≡ false = ap (λ x. is_some (get (word_of k) x)) same ∙ ap is_some (none k) in
     let clash : true ≡ false = sym told ∙ absent in cc
 
-line_told : (d : Data) (f : Form) → HasForm d f → is_some (get (word_of (keyword f)) d) ≡ true
-line_told d f h = has_keyword d f h.fields
-
 one_case : (before : List Form) (bytes : List ℕ) (e g : ScriptError) → Cases before bytes e → Cases before bytes g → e ≡ g
 unfolding Cases
 one_case before bytes e g (inl h) (inl k) = sym h.1 ∙ k.1
@@ -138,13 +134,13 @@ one_case before bytes e g (inl h) (inr (inr (inr k))) = absurd (h.0 k.1.value k.
 one_case before bytes e g (inr (inl h)) (inl k) = absurd (k.0 h.0.0 h.0.1)
 one_case before bytes e g (inr (inl h)) (inr (inl k)) = sym h.1 ∙ k.1
 one_case before bytes e g (inr (inl h)) (inr (inr (inl k))) = absurd (no_keyword bytes h.0.0 k.0.0 k.0.1 h.0.1 k.0.2 h.0.2 k.0.3)
-one_case before bytes e g (inr (inl h)) (inr (inr (inr k))) = absurd (no_keyword bytes h.0.0 k.1.value (keyword k.0) h.0.1 k.1.is_object h.0.2 (line_told k.1.value k.0 k.1.form))
+one_case before bytes e g (inr (inl h)) (inr (inr (inr k))) = absurd (no_keyword bytes h.0.0 k.1.value k.1.form.keyword h.0.1 k.1.is_object h.0.2 (has_keyword k.1.value k.0 k.1.form))
 one_case before bytes e g (inr (inr (inl h))) (inl k) = sym h.1 ∙ k.1
 one_case before bytes e g (inr (inr (inl h))) (inr (inl k)) = absurd (no_keyword bytes k.0.0 h.0.0 h.0.1 k.0.1 h.0.2 k.0.2 h.0.3)
 one_case before bytes e g (inr (inr (inl h))) (inr (inr (inl k))) = sym h.1 ∙ k.1
 one_case before bytes e g (inr (inr (inl h))) (inr (inr (inr k))) = absurd (h.0.4 k.0 (subst (λ d. HasForm d k.0) (same_object bytes k.1.value h.0.0 k.1.is_object h.0.2) k.1.form))
 one_case before bytes e g (inr (inr (inr h))) (inl k) = absurd (k.0 h.1.value h.1.is_object)
-one_case before bytes e g (inr (inr (inr h))) (inr (inl k)) = absurd (no_keyword bytes k.0.0 h.1.value (keyword h.0) k.0.1 h.1.is_object k.0.2 (line_told h.1.value h.0 h.1.form))
+one_case before bytes e g (inr (inr (inr h))) (inr (inl k)) = absurd (no_keyword bytes k.0.0 h.1.value h.1.form.keyword k.0.1 h.1.is_object k.0.2 (has_keyword h.1.value h.0 h.1.form))
 one_case before bytes e g (inr (inr (inr h))) (inr (inr (inl k))) = absurd (k.0.4 h.0 (subst (λ d. HasForm d h.0) (same_object bytes h.1.value k.0.0 h.1.is_object k.0.2) h.1.form))
 one_case before bytes e g (inr (inr (inr h))) (inr (inr (inr k))) = one_of_form before h.0 e g h.2 (subst (λ f. FormMeans before f g) (one_form bytes k.0 h.0 k.1 h.1) k.2)
 
@@ -154,7 +150,7 @@ one_refusal before bytes e g h k = one_case before bytes e g (cases before bytes
 none_of_case : (before : List Form) (bytes : List ℕ) (f : Form) (e : ScriptError) → TextHasForm bytes f → IsAccepted before f → Cases before bytes e → ⊥
 unfolding Cases
 none_of_case before bytes f e line a (inl h) = h.0 line.value line.is_object
-none_of_case before bytes f e line a (inr (inl h)) = no_keyword bytes h.0.0 line.value (keyword f) h.0.1 line.is_object h.0.2 (line_told line.value f line.form)
+none_of_case before bytes f e line a (inr (inl h)) = no_keyword bytes h.0.0 line.value line.form.keyword h.0.1 line.is_object h.0.2 (has_keyword line.value f line.form)
 none_of_case before bytes f e line a (inr (inr (inl h))) = h.0.4 f (subst (λ d. HasForm d f) (same_object bytes line.value h.0.0 line.is_object h.0.2) line.form)
 none_of_case before bytes f e line a (inr (inr (inr h))) = accepted_not before f e a (subst (λ g. FormMeans before g e) (one_form bytes h.0 f h.1 line) h.2)
 

@@ -1,5 +1,5 @@
+pub mod Shapes
 pub mod Fields
-pub mod Keyword
 pub mod Form
 pub mod Contents
 pub mod Known

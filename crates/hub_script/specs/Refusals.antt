@@ -22,7 +22,7 @@ use Rattle.hub_script.specs.declared.script_error.DataCloneCause.{DataCloneCause
 use Rattle.hub_script.specs.declared.script_error.DataCloneCause.TheVariants.{Source, Twice, Detached}
 use Rattle.hub_script.specs.Before.{Hands, HasHanded, Holds, IsAction, IsDeclared, IsMember, IsPort, Transfers, agent_kind, agent_kinds}
 use Rattle.hub_script.specs.Contents.{Contents}
-use Rattle.hub_script.specs.Keyword.{word_of}
+use Rattle.hub_script.specs.Shapes.{word_of}
 use Rattle.hub_script.specs.Shown.{HasForm, TextHasForm, IsObject}
 use Rattle.hub_script.specs.Uses.{agents_named, body_of, members_named, names_declared, names_used, ports_named, transfer_of, url_of}
 

@@ -8,6 +8,7 @@ ghost use Rattle.hub_script.specs.Contents.{agents, line_count};
 ghost use Rattle.hub_script.specs.Context.{adding, adding_action, adding_agent, adding_channel};
 ghost use Rattle.hub_script.specs.Context.{adding_member, after_form, casting, is_within};
 ghost use Rattle.hub_script.specs.Context.{posting, sending, start_of, value_or};
+ghost use Rattle.hub_script.specs.Fields.{IsRead};
 ghost use Rattle.hub_script.specs.Uses.{transferred};
 
 use crate::action::ActionKind;
@@ -23,7 +24,7 @@ use std::alloc::Global;
 
 /// The body that was read. What was refused as too large was refused before.
 fn body_or(answer: Result<Body, BodyError>) -> Result<Body, ScriptError>
-    ensures { IsReadAs ScriptError.OutOfMemory (λ x. x) result (value_or answer) }
+    ensures { IsRead result (value_or answer) }
 {
     match answer {
         Ok(body) => Ok(body),
@@ -250,8 +251,7 @@ impl ScriptReader {
 
     /// What the agent starts: its own queue, or a port.
     fn start_of(&self, agent: AgentId, name: &Text) -> Result<EndId, ScriptError>
-        ensures { IsReadAs ScriptError.OutOfMemory (λ x. x) result
-            (start_of (known self.now) agent name.now) }
+        ensures { IsRead result (start_of (known self.now) agent name.now) }
     {
         if name.as_str() == QUEUE {
             Ok(queue_of(agent))

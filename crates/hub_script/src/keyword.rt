@@ -1,5 +1,5 @@
 ghost use Rattle.std.specs.Prelude.{◌≡◌};
-ghost use Rattle.hub_script.specs.Keyword.{keyword_of, word_of};
+ghost use Rattle.hub_script.specs.Shapes.{has_name, keyword_of, word_of};
 ghost use Rattle.serde_json.specs.View.{view};
 
 use serde_json::Value;
@@ -74,5 +74,21 @@ impl Keyword {
             Keyword::Hand => "hand",
             Keyword::Fetch => "fetch",
         }
+    }
+
+    /// Whether the form that it tells has a field of that name.
+    pub(crate) fn has_field(self, name: &str) -> bool
+        ensures { result ≡ has_name self name.now }
+    {
+        name == self.word()
+            || match self {
+                Keyword::Agent => name == "origin",
+                Keyword::Member => name == "at" || name == "on",
+                Keyword::Post | Keyword::Send => {
+                    name == "body" || name == "transfer" || name == "at"
+                }
+                Keyword::Cast => name == "body" || name == "at",
+                _ => name == "at",
+            }
     }
 }

@@ -5,6 +5,7 @@ ghost use Rattle.hub_script.specs.Contents.{with_member};
 ghost use Rattle.hub_script.specs.Context.{acting, agent_of, ends_from, has_agent, has_no_action};
 ghost use Rattle.hub_script.specs.Context.{has_room, is_agent, is_free, is_held, is_member};
 ghost use Rattle.hub_script.specs.Context.{is_port, named};
+ghost use Rattle.hub_script.specs.Fields.{IsRead};
 ghost use Rattle.hub_script.specs.Known.{declaring, end_of, giving, giving_all, holding, naming};
 ghost use Rattle.hub_script.specs.Known.{next_member, next_port, nothing, queue_of, second_port};
 ghost use Rattle.hub_script.specs.Known.{taking, with_handed, with_holds, with_names, with_script};
@@ -135,8 +136,7 @@ impl ScriptReader {
 
     /// What the name names, where it is declared.
     pub(crate) fn named(&self, name: &Text) -> Result<NamedEnd, ScriptError>
-        ensures { IsReadAs ScriptError.OutOfMemory (λ x. x) result
-            (named (known self.now) name.now) }
+        ensures { IsRead result (named (known self.now) name.now) }
     {
         match self.look_up(name) {
             Some(named) => Ok(named),
@@ -206,8 +206,7 @@ impl ScriptReader {
     /// The numbers of the ports as ends.
     pub(crate) fn ends_of(&self, alloc: Global, ports: &[NamedEnd]) -> Result<Ports, ScriptError>
         requires few { length ports.now ≤ MAX_PORTS }
-        ensures { IsReadAs ScriptError.OutOfMemory (λ x. x) result
-            (Ok (map (end_of (known self.now).script) ports.now)) }
+        ensures { IsRead result (Ok (map (end_of (known self.now).script) ports.now)) }
     {
         let ends = self.numbers_of(alloc, ports)?;
         Ok(Ports::of_list(ends).unwrap())
