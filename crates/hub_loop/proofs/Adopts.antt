@@ -16,9 +16,9 @@ holds-after old mid new h same more =
 closed-after : (old mid new : Closed) → SameClosed old mid → SameClosed mid new → SameClosed old new
 closed-after old mid new first second = (second.0 ∙ first.0, second.1 ∙ first.1)
 
-buried-after : (p : PortSeat) (old mid new : Closed) → SameClosed old mid → IsPortBuried p mid new → IsPortBuried p old new
+pub buried-after : (p : PortSeat) (old mid new : Closed) → SameClosed old mid → IsPortBuried p mid new → IsPortBuried p old new
 buried-after p old mid new same buried =
-    (buried.0, buried.1, buried.2 ∙ ap (λ graves. graves ++ buried.0.0 ∷ []) same.0, buried.3 ∙ ap (λ noticed. noticed ++ (end_of p, buried.0.2) ∷ []) same.1)
+    (buried.0, buried.1, buried.2, buried.3, buried.4 ∙ ap (λ graves. graves ++ buried.0 ∷ []) same.0, buried.5 ∙ ap (λ noticed. noticed ++ buried.1 ∷ []) same.1)
 
 one-after : (p : PortSeat) (old mid new : Stored) (before after : List EndId) → SameStored old mid → IsOneAdopted p mid new before after → IsOneAdopted p old new before after
 one-after p old mid new before after same one =

@@ -1,16 +1,16 @@
 -- What is kept of an end that was closed.
 use Rattle.std.proofs.Common.{◌≡◌, ◌∙◌, ℕ, ◌+◌, cond, Bool, List, [], ◌∷◌, ◌++◌, Option, Some, None, ap, append-nil, subst, sym}
 use Rattle.std.specs.List.{count_by}
-use Rattle.std.specs.Prelude.{IfNone}
-use Rattle.hub_envelope.specs.declared.ids.EndId.{EndId}
-use Rattle.hub_ports.specs.Seats.{PortSeat, end_of}
-use Rattle.hub_ports.specs.declared.noticed.Noticed.{Noticed}
+use Rattle.std.specs.Prelude.{IfNone, option_to_list}
+use Rattle.hub_ports.specs.Seats.{PortSeat}
 use Rattle.hub_queue.specs.Graves.{GraveSeat}
 use Rattle.hub_queue.specs.Standing.{StandSeat}
-use Rattle.hub_loop.specs.Closing.{IsTold, IsOpenClosed, notices_of}
+use Rattle.hub_loop.specs.Closing.{IsOpenClosed}
 use Rattle.hub_loop.specs.Ending.{is_grave, is_open}
-use Rattle.hub_loop.specs.Noticing.{Notice, NoticesMore, open_number, port_in}
+use Rattle.hub_loop.specs.Noticing.{port_in}
+use Rattle.hub_loop.specs.Telling.{IsTold, NoticesMore}
 use Rattle.hub_loop.specs.declared.closed_end.ClosedEnd.{ClosedEnd}
+use Rattle.hub_loop.specs.declared.closed_port.ClosedPort.{ClosedPort}
 use Rattle.hub_loop.specs.declared.ending.Open.{Open}
 use Rattle.hub_loop.specs.declared.ending.Open.TheVariants as opens
 use Rattle.hub_loop.specs.declared.held.Held.TheVariants.{Port, Client, Worker, Member, Line}
@@ -32,24 +32,23 @@ buries o c e before after closed more =
     ap (count_by (is_grave e)) more ∙ count-push (is_grave e) before c.grave ∙ ap (λ (b : Bool). count_by (is_grave e) before + cond b 1 0) (grave-of o c e closed)
 
 -- of a port its notice is told
-port-closed : (p : PortSeat) (notice : Option (StandSeat × Noticed)) (end : EndId) (before after : List Notice) → IsTold p.poster notice → end ≡ end_of p → after ≡ before ++ notices_of end notice → NoticesMore (p ∷ []) before after
-port-closed p None end before after told is more = absurd told
-port-closed p (Some n) end before after told is more = notices-one p (end, n.1) before after more (is, (n.0, told))
+port-closed : (p : PortSeat) (port : Option ClosedPort) (before after : List ClosedPort) → ((told : ClosedPort) × (port ≡ Some told) × IsTold p told) → after ≡ before ++ option_to_list port → NoticesMore (p ∷ []) before after
+port-closed p port before after (told, is, closed) more = notices-one p told before after (more ∙ ap (λ o. before ++ option_to_list o) is) closed
 
 -- of any other end nothing is told
-alone-closed : (notice : Option (StandSeat × Noticed)) (end : EndId) (before after : List Notice) → notice ≡ None → after ≡ before ++ notices_of end notice → NoticesMore [] before after
-alone-closed notice end before after none more = notices-none before after (more ∙ ap (λ n. before ++ notices_of end n) none ∙ append-nil before)
+alone-closed : (port : Option ClosedPort) (before after : List ClosedPort) → port ≡ None → after ≡ before ++ option_to_list port → NoticesMore [] before after
+alone-closed port before after none more = notices-none before after (more ∙ ap (λ o. before ++ option_to_list o) none ∙ append-nil before)
 
-pub notices-closed : (o : Open) (c : ClosedEnd) (end : EndId) (before after : List Notice) → IsOpenClosed o c → end ≡ open_number o → after ≡ before ++ notices_of end c.notice → NoticesMore (port_in o) before after
-notices-closed (opens.Held (Port p)) c end before after closed is more = port-closed p c.notice end before after closed.1 is more
-notices-closed (opens.Held (Client t)) c end before after closed is more = alone-closed c.notice end before after closed.1 more
-notices-closed (opens.Held (Worker t)) c end before after closed is more = alone-closed c.notice end before after closed.1 more
-notices-closed (opens.Held (Member m)) c end before after closed is more = alone-closed c.notice end before after closed.1 more
-notices-closed (opens.Held (Line s)) c end before after closed is more = absurd closed
-notices-closed (opens.Arrived p) c end before after closed is more = port-closed p c.notice end before after closed.1 is more
+pub notices-closed : (o : Open) (c : ClosedEnd) (before after : List ClosedPort) → IsOpenClosed o c → after ≡ before ++ option_to_list c.port → NoticesMore (port_in o) before after
+notices-closed (opens.Held (Port p)) c before after closed more = port-closed p c.port before after closed.1 more
+notices-closed (opens.Held (Client t)) c before after closed more = alone-closed c.port before after closed.1 more
+notices-closed (opens.Held (Worker t)) c before after closed more = alone-closed c.port before after closed.1 more
+notices-closed (opens.Held (Member m)) c before after closed more = alone-closed c.port before after closed.1 more
+notices-closed (opens.Held (Line s)) c before after closed more = absurd closed
+notices-closed (opens.Arrived p) c before after closed more = port-closed p c.port before after closed.1 more
 
 -- the line that comes back was closed to nothing
-pub notices-line : (o : Open) (s : StandSeat) (before after : List Notice) → o ≡ opens.Held (Line s) → after ≡ before → NoticesMore (port_in o) before after
+pub notices-line : (o : Open) (s : StandSeat) (before after : List ClosedPort) → o ≡ opens.Held (Line s) → after ≡ before → NoticesMore (port_in o) before after
 notices-line o s before after is same = subst (λ x. NoticesMore (port_in x) before after) (sym is) (notices-none before after same)
 
 pub if-none : {A : Type 0} {P : Type 0} (r : Option A) → P → IfNone r P

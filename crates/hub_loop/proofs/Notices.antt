@@ -8,16 +8,17 @@ use Rattle.std.proofs.lemmas.List.Kept.{IsNonDecreasingBy-filter}
 use Rattle.std.proofs.lemmas.List.Sums.{sum_by-append, sum_by-cons}
 use Rattle.hub_clients.specs.declared.handed_queue.HandedQueue.{HandedQueue}
 use Rattle.hub_clients.specs.declared.handed_queue.HandedQueue.TheVariants as handed
-use Rattle.hub_ports.specs.Closing.{IsClosedAs, AreClosed}
 use Rattle.hub_ports.specs.Seats.{PortSeat}
 use Rattle.hub_queue.specs.Graves.{GraveSeat}
+use Rattle.hub_loop.specs.declared.closed_port.ClosedPort.{ClosedPort}
 use Rattle.hub_loop.specs.declared.closing.Closing.{Closing}
 use Rattle.hub_loop.specs.declared.ending.Open.{Open}
 use Rattle.hub_loop.specs.declared.ending.Open.TheVariants as opens
 use Rattle.hub_loop.specs.declared.held.Held.{Held}
 use Rattle.hub_loop.specs.declared.held.Held.TheVariants.{Port, Client, Worker, Member, Line}
 use Rattle.hub_loop.specs.Ending.{is_held, is_open, is_queue, slot_passes, queue_passes, is_grave, grave_ends, swept_ends, closing_ends}
-use Rattle.hub_loop.specs.Noticing.{Notice, open_number, port_in, ports_back, is_port_passing, port_numbers, NoticesMore, ClosesLast, AllClosed, SomeClosed, NamedBehind, HasNoticed}
+use Rattle.hub_loop.specs.Noticing.{open_number, port_in, ports_back, is_port_passing, port_numbers, ClosesLast, AllClosed, SomeClosed, NamedBehind, HasNoticed}
+use Rattle.hub_loop.specs.Telling.{IsTold, AreTold, NoticesMore}
 use Rattle.hub_loop.proofs.Ends.{rises, count-map}
 
 -- one more was put at the end of a list that is as it was
@@ -25,20 +26,20 @@ pub push-same : {X : Type 0} (old same new : List X) (x : X) → same ≡ old �
 push-same old same new x is more = more ∙ ap (λ xs. xs ++ x ∷ []) is
 
 -- some ports were closed, and then others
-closed-append : (ps qs : List PortSeat) (cs ds : List Notice) → AreClosed ps cs → AreClosed qs ds → AreClosed (ps ++ qs) (cs ++ ds)
-closed-append [] qs cs ds first further = subst (λ xs. AreClosed qs (xs ++ ds)) (sym first) further
+closed-append : (ps qs : List PortSeat) (cs ds : List ClosedPort) → AreTold ps cs → AreTold qs ds → AreTold (ps ++ qs) (cs ++ ds)
+closed-append [] qs cs ds first further = subst (λ xs. AreTold qs (xs ++ ds)) (sym first) further
 closed-append (p ∷ ps) qs cs ds first further =
     (first.0, first.1 ++ ds, ap (λ xs. xs ++ ds) first.2, first.3, closed-append ps qs first.1 ds first.4 further)
 
 -- no port was closed
-pub notices-none : (before after : List Notice) → after ≡ before → NoticesMore [] before after
+pub notices-none : (before after : List ClosedPort) → after ≡ before → NoticesMore [] before after
 notices-none before after same = ([], same ∙ sym (append-nil before), refl)
 
 -- one port was closed
-pub notices-one : (p : PortSeat) (c : Notice) (before after : List Notice) → after ≡ before ++ c ∷ [] → IsClosedAs p c → NoticesMore (p ∷ []) before after
+pub notices-one : (p : PortSeat) (c : ClosedPort) (before after : List ClosedPort) → after ≡ before ++ c ∷ [] → IsTold p c → NoticesMore (p ∷ []) before after
 notices-one p c before after more closed = (c ∷ [], more, (c, [], refl, closed, refl))
 
-pub notices-twice : (ps qs : List PortSeat) (before between after : List Notice) → NoticesMore ps before between → NoticesMore qs between after → NoticesMore (ps ++ qs) before after
+pub notices-twice : (ps qs : List PortSeat) (before between after : List ClosedPort) → NoticesMore ps before between → NoticesMore qs between after → NoticesMore (ps ++ qs) before after
 notices-twice ps qs before between after first further = (
   first.0 ++ further.0,
   further.1 ∙ ap (λ xs. xs ++ further.0) first.1 ∙ append_assoc before first.0 further.0,
@@ -46,11 +47,11 @@ notices-twice ps qs before between after first further = (
 )
 
 -- no port was named
-pub behind-none : (closed numbers : List ℕ) (before after : List Notice) → numbers ≡ closed → after ≡ before → NamedBehind closed numbers before after
+pub behind-none : (closed numbers : List ℕ) (before after : List ClosedPort) → numbers ≡ closed → after ≡ before → NamedBehind closed numbers before after
 behind-none closed numbers before after is same = ([], is ∙ sym (append-nil closed), notices-none before after same)
 
 -- ports were named, and then others
-pub behind-twice : (a b c : List ℕ) (before between after : List Notice) → NamedBehind a b before between → NamedBehind b c between after → NamedBehind a c before after
+pub behind-twice : (a b c : List ℕ) (before between after : List ClosedPort) → NamedBehind a b before between → NamedBehind b c between after → NamedBehind a c before after
 behind-twice a b c before between after first further = (
   first.0 ++ further.0,
   further.1
@@ -61,7 +62,7 @@ behind-twice a b c before between after first further = (
 )
 
 -- one more that was named was closed
-pub behind-one : (closed swept : List ℕ) (old new : List GraveSeat) (g : GraveSeat) (p : PortSeat) (before between after : List Notice) → NamedBehind closed (swept ++ grave_ends old) before between → new ≡ old ++ g ∷ [] → g.end ≡ p.taker.end → NoticesMore (p ∷ []) between after → NamedBehind closed (swept ++ grave_ends new) before after
+pub behind-one : (closed swept : List ℕ) (old new : List GraveSeat) (g : GraveSeat) (p : PortSeat) (before between after : List ClosedPort) → NamedBehind closed (swept ++ grave_ends old) before between → new ≡ old ++ g ∷ [] → g.end ≡ p.taker.end → NoticesMore (p ∷ []) between after → NamedBehind closed (swept ++ grave_ends new) before after
 behind-one closed swept old new g p before between after first more same told =
     behind-twice closed (swept ++ grave_ends old) (swept ++ grave_ends new) before between after first (
       p ∷ [],
@@ -83,12 +84,12 @@ behind-same first c d behind ends told =
     (subst (λ ns. NamedBehind (closing_ends first) ns first.noticed.items c.noticed.items) (sym ends) behind)
 
 -- what is told goes on from what had begun
-pub noticed-begun : (c : Closing) (ends : ℕ → ℕ) (ports : (PortSeat → Bool) → ℕ) (before : List Notice) (o : Option Closing) → o ≡ Some c → HasNoticed o ends ports (closing_ends c) before c.noticed.items
+pub noticed-begun : (c : Closing) (ends : ℕ → ℕ) (ports : (PortSeat → Bool) → ℕ) (before : List ClosedPort) (o : Option Closing) → o ≡ Some c → HasNoticed o ends ports (closing_ends c) before c.noticed.items
 noticed-begun c ends ports before o is =
     subst (λ (p : Option Closing). HasNoticed p ends ports (closing_ends c) before c.noticed.items) (sym is) (behind-none (closing_ends c) (closing_ends c) c.noticed.items c.noticed.items refl refl)
 
 -- nothing had begun
-pub noticed-begins : (c : Closing) (ends : ℕ → ℕ) (ports : (PortSeat → Bool) → ℕ) (before between : List Notice) (o : Option Closing) → o ≡ None → c.swept.items ≡ [] → IsNonDecreasing (grave_ends c.graves.items) → ((e : ℕ) → count_by (is_grave e) c.graves.items ≡ ends e) → AllClosed ports before between → c.noticed.items ≡ between → HasNoticed o ends ports (closing_ends c) before c.noticed.items
+pub noticed-begins : (c : Closing) (ends : ℕ → ℕ) (ports : (PortSeat → Bool) → ℕ) (before between : List ClosedPort) (o : Option Closing) → o ≡ None → c.swept.items ≡ [] → IsNonDecreasing (grave_ends c.graves.items) → ((e : ℕ) → count_by (is_grave e) c.graves.items ≡ ends e) → AllClosed ports before between → c.noticed.items ≡ between → HasNoticed o ends ports (closing_ends c) before c.noticed.items
 noticed-begins c ends ports before between o is none rise each all same =
     subst (λ (p : Option Closing). HasNoticed p ends ports (closing_ends c) before c.noticed.items) (sym is) (
       grave_ends c.graves.items,
@@ -100,7 +101,7 @@ noticed-begins c ends ports before between o is none rise each all same =
     )
 
 -- more was closed behind
-pub noticed-further : (o : Option Closing) (ends : ℕ → ℕ) (ports : (PortSeat → Bool) → ℕ) (first then : List ℕ) (before between after : List Notice) → HasNoticed o ends ports first before between → NamedBehind first then between after → HasNoticed o ends ports then before after
+pub noticed-further : (o : Option Closing) (ends : ℕ → ℕ) (ports : (PortSeat → Bool) → ℕ) (first then : List ℕ) (before between after : List ClosedPort) → HasNoticed o ends ports first before between → NamedBehind first then between after → HasNoticed o ends ports then before after
 noticed-further None ends ports first then before between after told further =
     (told.0, told.1, told.2, told.3, told.4, behind-twice told.0 first then told.1 between after told.5 further)
 noticed-further (Some c) ends ports first then before between after told further =
@@ -112,11 +113,11 @@ back-push [] o = sym (append-nil (port_in o))
 back-push (x ∷ os) o = ap (λ ps. ps ++ port_in x) (back-push os o) ∙ append_assoc (port_in o) (ports_back os) (port_in x)
 
 -- none was closed
-pub closes-none : (os : List Open) (before : List Notice) → ClosesLast os os before before
+pub closes-none : (os : List Open) (before : List ClosedPort) → ClosesLast os os before before
 closes-none os before = ([], refl, notices-none before before refl)
 
 -- the last was closed
-pub closes-one : (first all rest : List Open) (popped : Option Open) (o : Open) (before between after : List Notice) → ClosesLast first all before between → all ≡ rest ++ option_to_list popped → popped ≡ Some o → NoticesMore (port_in o) between after → ClosesLast first rest before after
+pub closes-one : (first all rest : List Open) (popped : Option Open) (o : Open) (before between after : List ClosedPort) → ClosesLast first all before between → all ≡ rest ++ option_to_list popped → popped ≡ Some o → NoticesMore (port_in o) between after → ClosesLast first rest before after
 closes-one first all rest popped o before between after done last some told = (
   done.0 ++ port_in o,
   done.1
@@ -184,10 +185,10 @@ back-rises sorted reversed up is =
     (rises number_out (filter is_any_port sorted) (IsNonDecreasingBy-filter number_out is_any_port sorted up))
 
 -- some of those that were taken out were closed, or all
-pub some-closed : (ports left : (PortSeat → Bool) → ℕ) (old new : List Open) (before after : List Notice) → ClosesLast old new before after → ((passes : PortSeat → Bool) (closed : List PortSeat) → ports_back old ≡ closed ++ ports_back new → count_by passes closed + left passes ≡ ports passes) → SomeClosed ports left before after
+pub some-closed : (ports left : (PortSeat → Bool) → ℕ) (old new : List Open) (before after : List ClosedPort) → ClosesLast old new before after → ((passes : PortSeat → Bool) (closed : List PortSeat) → ports_back old ≡ closed ++ ports_back new → count_by passes closed + left passes ≡ ports passes) → SomeClosed ports left before after
 some-closed ports left old new before after closed each = (closed.0, (λ passes. each passes closed.0 closed.1), closed.2)
 
-pub all-closed : (ports left : (PortSeat → Bool) → ℕ) (old new : List Open) (before after : List Notice) → ClosesLast old new before after → ((passes : PortSeat → Bool) (closed : List PortSeat) → ports_back old ≡ closed ++ ports_back new → count_by passes closed + left passes ≡ ports passes) → IsNonDecreasing (port_numbers (ports_back old)) → new ≡ [] → ((passes : PortSeat → Bool) → left passes ≡ 0) → AllClosed ports before after
+pub all-closed : (ports left : (PortSeat → Bool) → ℕ) (old new : List Open) (before after : List ClosedPort) → ClosesLast old new before after → ((passes : PortSeat → Bool) (closed : List PortSeat) → ports_back old ≡ closed ++ ports_back new → count_by passes closed + left passes ≡ ports passes) → IsNonDecreasing (port_numbers (ports_back old)) → new ≡ [] → ((passes : PortSeat → Bool) → left passes ≡ 0) → AllClosed ports before after
 all-closed ports left old new before after closed each rise done none =
     let all : ports_back old ≡ closed.0 = closed.1 ∙ ap (λ os. closed.0 ++ ports_back os) done ∙ append-nil closed.0 in (
       closed.0,
@@ -201,7 +202,7 @@ on-err (Ok x) holds = tt
 on-err (Err x) holds = holds
 
 -- no port was closed yet
-pub some-none : (ports left : (PortSeat → Bool) → ℕ) (before : List Notice) → ((passes : PortSeat → Bool) → left passes ≡ ports passes) → SomeClosed ports left before before
+pub some-none : (ports left : (PortSeat → Bool) → ℕ) (before : List ClosedPort) → ((passes : PortSeat → Bool) → left passes ≡ ports passes) → SomeClosed ports left before before
 some-none ports left before same = ([], (λ passes. let here = same passes in omega (arith, here)), notices-none before before refl)
 
 -- as many pass two tests that agree

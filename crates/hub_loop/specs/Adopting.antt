@@ -6,20 +6,19 @@ use Rattle.hub_clients.specs.declared.handed_queue.HandedQueue.TheVariants as ha
 use Rattle.hub_clients.specs.Handing.{taker_of, IsAdoptedAndStarted}
 use Rattle.hub_envelope.specs.declared.ids.EndId.{EndId}
 use Rattle.hub_ports.specs.Adopting.{IsReceived}
-use Rattle.hub_ports.specs.declared.noticed.Noticed.{Noticed}
-use Rattle.hub_ports.specs.Closing.{IsNoticed}
 use Rattle.hub_ports.specs.Seats.{PortSeat, end_of}
 use Rattle.hub_queue.specs.declared.adopt_error.AdoptError.{AdoptError}
 use Rattle.hub_queue.specs.declared.adopt_error.AdoptError.TheVariants as why
 use Rattle.hub_queue.specs.Adopting.{IsAdopted}
 use Rattle.hub_queue.specs.Ending.{IsClosed}
 use Rattle.hub_queue.specs.Graves.{GraveSeat}
-use Rattle.hub_queue.specs.Standing.{StandSeat}
 use Rattle.hub_queue.specs.Taking.{TakerSeat}
+use Rattle.hub_loop.specs.declared.closed_port.ClosedPort.{ClosedPort}
 use Rattle.hub_loop.specs.declared.delivery.Receiving.{Receiving}
 use Rattle.hub_loop.specs.declared.ending.Closed.{Closed}
 use Rattle.hub_loop.specs.declared.held.Held.{Held}
 use Rattle.hub_loop.specs.declared.held.Held.TheVariants.{Port, Client, Worker}
+use Rattle.hub_loop.specs.Telling.{IsTold}
 
 -- what a loop holds, and what it has closed and not swept yet
 pub record Stored : Type 0 where
@@ -47,18 +46,11 @@ IsUnfit why.OutOfMemory = ⊥
 IsUnfit why.TooManyMoves = Unit {0}
 IsUnfit why.Taken = Unit {0}
 
--- what is left of a port that was closed: its closed end, its line, and what became of its notice
-abbrev pub Left : Type 0
-Left = GraveSeat × StandSeat × Noticed
-
--- the port's own end was closed, and its notice put or refused at its line
-abbrev pub IsLeft : PortSeat → Left → Type 0
-IsLeft p left = IsClosed p.taker left.0 × IsNoticed p.poster left.1 left.2
-
--- The port was closed with its notice: its grave is kept, and what became of the notice.
+-- The port was closed with its notice: its grave is kept, and what is told of it.
 abbrev pub IsPortBuried : PortSeat → Closed → Closed → Type 0
 IsPortBuried p old new =
-    (left : Left) × IsLeft p left × (new.graves.items ≡ old.graves.items ++ left.0 ∷ []) × (new.noticed.items ≡ old.noticed.items ++ (end_of p, left.2) ∷ [])
+    (grave : GraveSeat) × (told : ClosedPort) × IsClosed p.taker grave × IsTold p told
+    × (new.graves.items ≡ old.graves.items ++ grave ∷ []) × (new.noticed.items ≡ old.noticed.items ++ told ∷ [])
 
 -- The queue was closed: its grave is kept.
 abbrev pub IsQueueBuried : HandedQueue → Closed → Closed → Type 0

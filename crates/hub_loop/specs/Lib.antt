@@ -13,4 +13,5 @@ pub mod Resting
 pub mod Scanning
 pub mod Serving
 pub mod TakingNothing
+pub mod Telling
 pub mod Turning

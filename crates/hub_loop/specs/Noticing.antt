@@ -3,9 +3,8 @@ use Rattle.std.specs.Prelude.{◌≡◌, ℕ, ◌+◌, ◌==◌, Bool, false, Li
 use Rattle.std.specs.List.Sorted.{IsNonDecreasing}
 use Rattle.slab.specs.Slab.{Slab}
 use Rattle.hub_envelope.specs.declared.ids.EndId.{EndId}
-use Rattle.hub_ports.specs.declared.noticed.Noticed.{Noticed}
-use Rattle.hub_ports.specs.Closing.{AreClosed}
 use Rattle.hub_ports.specs.Seats.{PortSeat, end_of}
+use Rattle.hub_loop.specs.declared.closed_port.ClosedPort.{ClosedPort}
 use Rattle.hub_loop.specs.declared.closing.Closing.{Closing}
 use Rattle.hub_loop.specs.declared.delivery.Delivery.{Delivery}
 use Rattle.hub_loop.specs.declared.ending.Open.{Open}
@@ -14,10 +13,7 @@ use Rattle.hub_loop.specs.declared.held.Held.{Held}
 use Rattle.hub_loop.specs.declared.held.Held.TheVariants.{Port, Client, Worker, Member, Line}
 use Rattle.hub_loop.specs.Ending.{found_of, slot_passes, closing_ends}
 use Rattle.hub_loop.specs.Holding.{number_of}
-
--- the number of a port that was closed, and what became of its notice
-abbrev pub Notice : Type 0
-Notice = EndId × Noticed
+use Rattle.hub_loop.specs.Telling.{NoticesMore}
 
 -- the number of the end that was taken out to be closed, or of the end at which the line posts
 abbrev pub open_number : Open → EndId
@@ -56,42 +52,38 @@ ports_in held kept opened passes =
 abbrev pub port_numbers : List PortSeat → List ℕ
 port_numbers ports = map (λ p. p.taker.end) ports
 
--- These ports were closed, in this order, and so many notices more are told.
-abbrev pub NoticesMore : List PortSeat → List Notice → List Notice → Type 0
-NoticesMore ports before after = (notices : List Notice) × (after ≡ before ++ notices) × AreClosed ports notices
-
 -- The last of those that were taken out were closed, the last first, and of each port among them the notice is told.
-abbrev pub ClosesLast : List Open → List Open → List Notice → List Notice → Type 0
+abbrev pub ClosesLast : List Open → List Open → List ClosedPort → List ClosedPort → Type 0
 ClosesLast old new before after = (closed : List PortSeat) × (ports_back old ≡ closed ++ ports_back new) × NoticesMore closed before after
 
 -- Each port that the loop had was closed, in rising order of the numbers: whatever is asked of a port, as many pass.
-abbrev pub AllClosed : ((PortSeat → Bool) → ℕ) → List Notice → List Notice → Type 0
+abbrev pub AllClosed : ((PortSeat → Bool) → ℕ) → List ClosedPort → List ClosedPort → Type 0
 AllClosed ports before after =
     (closed : List PortSeat) × IsNonDecreasing (port_numbers closed)
     × ((passes : PortSeat → Bool) → count_by passes closed ≡ ports passes)
     × NoticesMore closed before after
 
 -- Some of the ports that the loop had were closed, and the others are still there.
-abbrev pub SomeClosed : ((PortSeat → Bool) → ℕ) → ((PortSeat → Bool) → ℕ) → List Notice → List Notice → Type 0
+abbrev pub SomeClosed : ((PortSeat → Bool) → ℕ) → ((PortSeat → Bool) → ℕ) → List ClosedPort → List ClosedPort → Type 0
 SomeClosed ports left before after =
     (closed : List PortSeat)
     × ((passes : PortSeat → Bool) → count_by passes closed + left passes ≡ ports passes)
     × NoticesMore closed before after
 
 -- Ports that were named were closed behind these ends: they are swept in the order in which their notices are told.
-abbrev pub NamedBehind : List ℕ → List ℕ → List Notice → List Notice → Type 0
+abbrev pub NamedBehind : List ℕ → List ℕ → List ClosedPort → List ClosedPort → Type 0
 NamedBehind closed numbers before after =
     (named : List PortSeat) × (numbers ≡ closed ++ port_numbers named) × NoticesMore named before after
 
 -- The notices are those that were told already, then those of the ports that the loop had, in rising order, and then those of the ports that were named, whose numbers are those of the ends behind the ones that the loop had. Where the end had begun before, they go on from what was told by then.
-abbrev pub HasNoticed : Option Closing → (ℕ → ℕ) → ((PortSeat → Bool) → ℕ) → List ℕ → List Notice → List Notice → Type 0
+abbrev pub HasNoticed : Option Closing → (ℕ → ℕ) → ((PortSeat → Bool) → ℕ) → List ℕ → List ClosedPort → List ClosedPort → Type 0
 HasNoticed None ends ports numbers before after =
-    (first : List ℕ) × (between : List Notice)
+    (first : List ℕ) × (between : List ClosedPort)
     × IsNonDecreasing first × ((e : ℕ) → count_by (λ n. n == e) first ≡ ends e)
     × AllClosed ports before between × NamedBehind first numbers between after
 HasNoticed (Some begun) ends ports numbers before after = NamedBehind (closing_ends begun) numbers begun.noticed.items after
 
 -- After want of memory: what is told has come that far, or nothing was swept yet, and of the ports some were closed.
-abbrev pub HasNoticedSome : Option Closing → Option Closing → (ℕ → ℕ) → ((PortSeat → Bool) → ℕ) → ((PortSeat → Bool) → ℕ) → List Notice → List Notice → Type 0
+abbrev pub HasNoticedSome : Option Closing → Option Closing → (ℕ → ℕ) → ((PortSeat → Bool) → ℕ) → ((PortSeat → Bool) → ℕ) → List ClosedPort → List ClosedPort → Type 0
 HasNoticedSome old None ends ports left before after = (old ≡ None) × SomeClosed ports left before after
 HasNoticedSome old (Some begun) ends ports left before after = HasNoticed old ends ports (closing_ends begun) before begun.noticed.items

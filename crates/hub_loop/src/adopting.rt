@@ -27,6 +27,7 @@ ghost use Rattle.hub_loop.specs.Adopting.{
 };
 ghost use Rattle.hub_marks.specs.Marking.{HasBit};
 
+use crate::closed_port::ClosedPort;
 use crate::delivery::Receiving;
 use crate::held::Held;
 use crate::holding::Holding;
@@ -86,10 +87,8 @@ impl Holding {
         ensures held { self.new.held ≡ self.old.held }
         ensures next { self.new.next ≡ self.old.next }
     {
-        let end = arrived.end();
-        let (grave, spent, noticed) = arrived.close(rt, hub);
-        drop(spent);
-        self.closed.bury(end, grave, noticed);
+        let (grave, port) = ClosedPort::close_arrived(rt, hub, arrived);
+        self.closed.bury(grave, port);
     }
 
     /// Adopts a queue that was fetched, and holds it. False where it was refused for good: then it

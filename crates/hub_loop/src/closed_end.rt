@@ -1,6 +1,6 @@
 ghost use Rattle.std.specs.Prelude.{◌≡◌, Some, None};
 
-use hub_ports::{Noticed, Spent};
+use crate::closed_port::ClosedPort;
 use hub_queue::Grave;
 
 /// What is left of an end that was closed.
@@ -8,31 +8,28 @@ use hub_queue::Grave;
 pub struct ClosedEnd {
     /// The closed end, which is still to be swept.
     pub grave: Grave,
-    /// Of a port what became of its notice, beside the line that put it. Other ends have none.
-    pub notice: Option<(Spent, Noticed)>,
+    /// Of a port what is told of it. Other ends have nothing to tell.
+    pub port: Option<ClosedPort>,
 }
 
 impl ClosedEnd {
-    /// A port was closed to this: its end, its line, and what became of its notice.
-    pub(crate) fn of_port(left: (Grave, Spent, Noticed)) -> ClosedEnd
+    /// A port was closed to this: its end, and what is told of it.
+    pub(crate) fn of_port(left: (Grave, ClosedPort)) -> ClosedEnd
         ensures grave { result.grave ≡ left.0 }
-        ensures notice { result.notice ≡ Some (left.1, left.2) }
+        ensures port { result.port ≡ Some left.1 }
     {
-        let (grave, spent, noticed) = left;
+        let (grave, port) = left;
         ClosedEnd {
             grave,
-            notice: Some((spent, noticed)),
+            port: Some(port),
         }
     }
 
     /// A queue's or a member's end was closed to this.
-    pub(crate) fn without_notice(grave: Grave) -> ClosedEnd
+    pub(crate) fn alone(grave: Grave) -> ClosedEnd
         ensures grave { result.grave ≡ grave }
-        ensures notice { result.notice ≡ None }
+        ensures port { result.port ≡ None }
     {
-        ClosedEnd {
-            grave,
-            notice: None,
-        }
+        ClosedEnd { grave, port: None }
     }
 }

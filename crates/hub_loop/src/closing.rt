@@ -5,11 +5,12 @@ ghost use Rattle.std.specs.List.Sorted.{IsNonDecreasing};
 ghost use Rattle.hub_loop.specs.Ending.{is_grave, grave_ends, closing_ends};
 ghost use Rattle.hub_loop.specs.Noticing.{NamedBehind};
 
+use crate::closed_port::ClosedPort;
 use crate::delivery::Delivery;
 use crate::ending::Closed;
 use hub_clients::Directory;
-use hub_envelope::{EndId, Envelope, OutOfMemory};
-use hub_ports::{Arrival, Arrived, Hub, Noticed};
+use hub_envelope::{Envelope, OutOfMemory};
+use hub_ports::{Arrival, Arrived, Hub};
 use hub_queue::{Grave, Poster, Swept};
 use std::alloc::Global;
 use std::collections::VecDeque;
@@ -20,9 +21,8 @@ use std::sync::Wait;
 pub struct Ended {
     /// What was swept: first the ends that the loop held, in rising order of their numbers.
     pub swept: Vec<Swept>,
-    /// The number of each port that was closed, and what became of its notice, in the order of
-    /// closing.
-    pub noticed: Vec<(EndId, Noticed)>,
+    /// The ports that were closed, in the order of closing.
+    pub noticed: Vec<ClosedPort>,
 }
 
 /// How far the end of a loop has come. After want of memory the next call goes on from here.
@@ -36,7 +36,7 @@ pub(crate) struct Closing {
     /// The discarded envelope whose ports are to be looked for next: of which swept end, and which
     /// one there.
     next: (usize, usize),
-    noticed: Vec<(EndId, Noticed)>,
+    noticed: Vec<ClosedPort>,
     lines: Vec<Poster>,
 }
 
@@ -121,11 +121,9 @@ impl Closing {
             self.graves.reserve(1)?;
             self.noticed.reserve(1)?;
             let arrived = self.found.pop_front().unwrap();
-            let end = arrived.end();
-            let (grave, spent, noticed) = arrived.close(rt, hub);
-            drop(spent);
+            let (grave, port) = ClosedPort::close_arrived(rt, hub, arrived);
             self.graves.push_back_reserved(grave);
-            self.noticed.push_reserved((end, noticed));
+            self.noticed.push_reserved(port);
         }
         Ok(())
     }

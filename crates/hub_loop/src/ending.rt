@@ -17,13 +17,14 @@ ghost use Rattle.std.specs.Prelude.{
   ◌++◌,
   cond,
   count_by,
+  option_to_list,
   IfErr,
   IfOk,
   OnOk,
   vec_len,
   vec_capacity,
 };
-ghost use Rattle.hub_loop.specs.Closing.{IsOpenClosed, notices_of};
+ghost use Rattle.hub_loop.specs.Closing.{IsOpenClosed};
 ghost use Rattle.hub_loop.specs.Ending.{
   is_grave,
   is_open,
@@ -34,15 +35,17 @@ ghost use Rattle.hub_loop.specs.Ending.{
 };
 ghost use Rattle.hub_loop.specs.declared.ending.Open.TheVariants.{Held as HeldOpen};
 ghost use Rattle.hub_loop.specs.declared.held.Held.TheVariants.{Line as LineHeld};
-ghost use Rattle.hub_loop.specs.Noticing.{ClosesLast, NoticesMore, open_number, port_in};
+ghost use Rattle.hub_loop.specs.Noticing.{ClosesLast, open_number, port_in};
+ghost use Rattle.hub_loop.specs.Telling.{NoticesMore};
 
 use crate::closed_end::ClosedEnd;
+use crate::closed_port::ClosedPort;
 use crate::delivery::Delivery;
 use crate::held::Held;
 use hub_broadcast::SharedRoster;
 use hub_clients::HandedQueue;
 use hub_envelope::{EndId, OutOfMemory};
-use hub_ports::{Arrived, Hub, Noticed};
+use hub_ports::{Arrived, Hub};
 use hub_queue::{Grave, Poster};
 use slab::Slab;
 use std::alloc::Global;
@@ -85,7 +88,9 @@ impl Open {
     {
         match self {
             Open::Held(held) => held.shut(rt, hub),
-            Open::Arrived(arrived) => Ok(ClosedEnd::of_port(arrived.close(rt, hub))),
+            Open::Arrived(arrived) => {
+                Ok(ClosedEnd::of_port(ClosedPort::close_arrived(rt, hub, arrived)))
+            },
         }
     }
 }
@@ -94,8 +99,8 @@ impl Open {
 #[derive(Drop)]
 pub(crate) struct Closed {
     pub(crate) graves: Vec<Grave>,
-    /// The notice of each port, in the order of closing.
-    pub(crate) noticed: Vec<(EndId, Noticed)>,
+    /// What is told of each port, in the order of closing.
+    pub(crate) noticed: Vec<ClosedPort>,
     pub(crate) lines: Vec<Poster>,
 }
 
@@ -129,32 +134,29 @@ impl Closed {
     }
 
     /// Keeps what a port was closed to.
-    pub(crate) fn bury(&mut self, end: EndId, grave: Grave, noticed: Noticed)
+    pub(crate) fn bury(&mut self, grave: Grave, port: ClosedPort)
         requires graves { vec_len self.old.graves < vec_capacity self.old.graves }
         requires noticed { vec_len self.old.noticed < vec_capacity self.old.noticed }
         ensures graves { self.new.graves.items ≡ self.old.graves.items ++ grave ∷ [] }
-        ensures noticed { self.new.noticed.items ≡ self.old.noticed.items ++ (end, noticed) ∷ [] }
+        ensures noticed { self.new.noticed.items ≡ self.old.noticed.items ++ port ∷ [] }
         ensures lines { self.new.lines ≡ self.old.lines }
     {
         self.graves.push_reserved(grave);
-        self.noticed.push_reserved((end, noticed));
+        self.noticed.push_reserved(port);
     }
 
     // Keeps what an end was closed to.
-    fn keep(&mut self, end: EndId, closed: ClosedEnd)
+    fn keep(&mut self, closed: ClosedEnd)
         requires graves { vec_len self.old.graves < vec_capacity self.old.graves }
         requires noticed { vec_len self.old.noticed < vec_capacity self.old.noticed }
         ensures graves { self.new.graves.items ≡ self.old.graves.items ++ closed.grave ∷ [] }
         ensures noticed { self.new.noticed.items
-            ≡ self.old.noticed.items ++ notices_of end closed.notice }
+            ≡ self.old.noticed.items ++ option_to_list closed.port }
         ensures lines { self.new.lines ≡ self.old.lines }
     {
-        let ClosedEnd { grave, notice } = closed;
-        match notice {
-            Some((spent, noticed)) => {
-                drop(spent);
-                self.bury(end, grave, noticed);
-            }
+        let ClosedEnd { grave, port } = closed;
+        match port {
+            Some(port) => self.bury(grave, port),
             None => self.graves.push_reserved(grave),
         }
     }
@@ -168,9 +170,8 @@ impl Closed {
             ≡ count_by (is_grave e) self.old.graves.items + cond (is_open e opened) 1 0 }
         ensures told { NoticesMore (port_in opened) self.old.noticed.items self.new.noticed.items }
     {
-        let end = opened.end();
         match opened.close(rt, hub) {
-            Ok(closed) => self.keep(end, closed),
+            Ok(closed) => self.keep(closed),
             Err(poster) => self.lines.push_reserved(poster),
         }
     }

@@ -15,6 +15,7 @@ ghost use Rattle.hub_loop.specs.declared.held.Held.TheVariants.{
 };
 
 use crate::closed_end::ClosedEnd;
+use crate::closed_port::ClosedPort;
 use hub_broadcast::{Member, SharedRoster};
 use hub_clients::{ClientQueue, WorkerQueue};
 use hub_envelope::EndId;
@@ -199,10 +200,10 @@ impl Held {
         ensures err { IfErr result (λ line. self ≡ LineHeld line) }
     {
         match self {
-            Held::Port(port) => Ok(ClosedEnd::of_port(port.close(rt, hub))),
-            Held::Client(queue) => Ok(ClosedEnd::without_notice(queue.close())),
-            Held::Worker(queue) => Ok(ClosedEnd::without_notice(queue.close())),
-            Held::Member(member) => Ok(ClosedEnd::without_notice(member.close())),
+            Held::Port(port) => Ok(ClosedEnd::of_port(ClosedPort::close(rt, hub, port))),
+            Held::Client(queue) => Ok(ClosedEnd::alone(queue.close())),
+            Held::Worker(queue) => Ok(ClosedEnd::alone(queue.close())),
+            Held::Member(member) => Ok(ClosedEnd::alone(member.close())),
             Held::Line(poster) => Err(poster),
         }
     }

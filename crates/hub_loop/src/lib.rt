@@ -5,6 +5,7 @@ mod access;
 mod adopting;
 mod checkpoint;
 mod closed_end;
+mod closed_port;
 mod closing;
 mod delivery;
 mod end;
@@ -21,6 +22,7 @@ mod turn;
 
 pub use checkpoint::{Checkpoint, NoCheckpoint};
 pub use closed_end::ClosedEnd;
+pub use closed_port::ClosedPort;
 pub use closing::Ended;
 pub use event_loop::EventLoop;
 pub use handler::Handler;

@@ -1,7 +1,7 @@
 //! What a loop leaves when it ends, as the rows write it.
 use crate::mail::{Mail, is_mail};
 use hub_envelope::{EndId, Envelope, LineId};
-use hub_loop::{ClosedEnd, Ended};
+use hub_loop::{ClosedEnd, ClosedPort, Ended};
 use hub_ports::Noticed;
 use hub_queue::{Posted, Swept};
 use std::sync::Wait;
@@ -57,8 +57,9 @@ pub(crate) fn are_swept_below(swept: &[Swept], count: u32) -> bool {
 }
 
 // A notice for which there was no memory is told so.
-fn is_closing(pair: (EndId, Noticed), row: Closing, may_refuse: bool) -> bool {
-    let (end, noticed) = pair;
+fn is_closing(port: &ClosedPort, row: Closing, may_refuse: bool) -> bool {
+    let end = port.end;
+    let noticed = port.noticed;
     match row {
         Closing::Put(number, peer, epoch, count) => {
             let put = Noticed::Put(Posted {
@@ -73,12 +74,12 @@ fn is_closing(pair: (EndId, Noticed), row: Closing, may_refuse: bool) -> bool {
     }
 }
 
-fn are_closings(pairs: &[(EndId, Noticed)], rows: &[Closing], may_refuse: bool) -> bool {
-    if pairs.len() != rows.len() {
+fn are_closings(ports: &[ClosedPort], rows: &[Closing], may_refuse: bool) -> bool {
+    if ports.len() != rows.len() {
         return false;
     }
-    for (pair, row) in pairs.iter().zip(rows) {
-        if !is_closing(*pair, *row, may_refuse) {
+    for (port, row) in ports.iter().zip(rows) {
+        if !is_closing(port, *row, may_refuse) {
             return false;
         }
     }
@@ -96,9 +97,9 @@ pub(crate) fn is_left(
         && are_closings(ended.noticed.as_slice(), closings, may_refuse)
 }
 
-fn is_told(noticed: Option<Noticed>, end: u32, row: Option<Closing>) -> bool {
-    match (noticed, row) {
-        (Some(noticed), Some(row)) => is_closing((EndId(end), noticed), row, false),
+fn is_told(port: Option<ClosedPort>, row: Option<Closing>) -> bool {
+    match (&port, row) {
+        (Some(port), Some(row)) => is_closing(port, row, false),
         (None, None) => true,
         _ => false,
     }
@@ -113,16 +114,9 @@ pub(crate) fn is_closed<R: Wait>(
     row: &[Mail],
     closing: Option<Closing>,
 ) -> bool {
-    let ClosedEnd { grave, notice } = closed;
-    let noticed = match notice {
-        Some((spent, noticed)) => {
-            drop(spent);
-            Some(noticed)
-        }
-        None => None,
-    };
+    let ClosedEnd { grave, port } = closed;
     match grave.sweep_out(rt) {
-        Ok(swept) => is_swept(&swept, end, row) && is_told(noticed, end, closing),
+        Ok(swept) => is_swept(&swept, end, row) && is_told(port, closing),
         Err(grave) => {
             drop(grave);
             false

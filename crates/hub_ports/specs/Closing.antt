@@ -25,16 +25,6 @@ IsNoticed old new PeerClosed = IsPosted old new notice_draft (Err (why.Closed, n
 IsNoticed old new Moving = IsPosted old new notice_draft (Err (why.Moving, notice_draft))
 IsNoticed old new OutOfMemory = IsPosted old new notice_draft (Err (why.OutOfMemory, notice_draft)) ⊎ (new ≡ old)
 
--- The number of the port, and what became of its notice. A loop tells of a port by these two alone.
-abbrev pub IsClosedAs : PortSeat → EndId × Noticed → Type 0
-IsClosedAs p closing = (closing.0 ≡ end_of p) × ((spent : StandSeat) × IsNoticed p.poster spent closing.1)
-
--- the closings of the ports, in this order: the number of each, and what became of its notice
-abbrev pub AreClosed : List PortSeat → List (EndId × Noticed) → Type 0
-AreClosed [] closings = closings ≡ []
-AreClosed (p ∷ ps) closings =
-    (closing : EndId × Noticed) × (rest : List (EndId × Noticed)) × (closings ≡ closing ∷ rest) × IsClosedAs p closing × AreClosed ps rest
-
 -- what shows the newest queue of the port, as it is closed once more
 abbrev pub IsShutAs : PortSeat → Option TakerQueueSeat → Type 0
 IsShutAs p queue = queue ≡ Some (closed_queue p.taker.newest)

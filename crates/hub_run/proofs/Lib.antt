@@ -1,4 +1,8 @@
-pub mod Posts
+pub mod Messages
+pub mod Writing
+pub mod Walking
+pub mod Waiting
+pub mod Endings
 pub mod Turns
 pub mod OneByOne
 pub mod Logs

@@ -1,5 +1,5 @@
--- The log of an agent that began with none of its posts and did its actions.
-use Rattle.std.proofs.Common.{◌≡◌, ◌∙◌, ◌<◌, List, [], false, ap, length, get_or, subst, sym, take, drop}
+-- The log of an agent that began with no entry and did its actions.
+use Rattle.std.proofs.Common.{◌≡◌, ◌∙◌, ◌<◌, ◌++◌, ℕ, List, [], false, ap, length, get_or, subst, sym, take, drop}
 use Rattle.std.proofs.lemmas.List.{take-append-drop}
 use Rattle.std.proofs.lemmas.Option.{get_or_from_slice_get, slice_get-get_or, slice_get_within}
 use Rattle.hub_acting.specs.Doing.{actions_of}
@@ -8,24 +8,32 @@ use Rattle.hub_envelope.specs.declared.ids.AgentId.{AgentId}
 use Rattle.hub_script.specs.Contents.{Contents, actions, agents}
 use Rattle.hub_script.specs.declared.action.ActionKind.{ActionKind}
 use Rattle.hub_trace.specs.Accepted.{AgentLog}
-use Rattle.hub_run.specs.Posts.{Message, Posts, messages_put, posting, posts_of}
-use Rattle.hub_run.specs.Runs.{ActsFirst, ArePutFor, AreLogsFor, AreRunsFor, IsLogFor, IsRunFor, IsStoppedAt}
+use Rattle.hub_logging.specs.Notes.{Notes}
+use Rattle.hub_trace.specs.declared.log_entry.LogEntry.{LogEntry}
+use Rattle.hub_run.specs.Entries.{AreEndings, AreLoggedFor, log_and}
+use Rattle.hub_run.specs.Runs.{ActsFirst, AreEntriesFor, AreLogsFor, AreRunsFor, IsLogFor, IsRunFor, IsStoppedAt}
 use Rattle.hub_run.specs.Threads.{AreInOrder}
+use Rattle.hub_run.proofs.Messages.{entries_put}
 use Rattle.hub_run.proofs.OneByOne.{no_more}
 
-abbrev begun : AgentId → Posts
-begun number = record { agent = number; put = [] }
-
-pub run_of : (script : Contents) (number : AgentId) (start after : Posts) (acted : Acted) (log : AgentLog) → start ≡ begun number
-    → ActsFirst acted (actions_of start.agent (actions script)) start after → posts_of log ≡ after → IsRunFor script number log acted
-run_of script number start after acted log is_begun acts said =
-    let agent_is : start.agent ≡ number = ap (λ (p : Posts). p.agent) is_begun in
-    let messages = acts.acts.0 in
-    let all : posts_of log ≡ posting (begun number) messages = said ∙ acts.acts.2 ∙ ap (λ p. posting p messages) is_begun in
+pub run_of : (script : Contents) (number : AgentId) (start after : Notes) (acted : Acted) (log : AgentLog) → start.log ≡ (number, [])
+    → ActsFirst acted (actions_of start.log.0 (actions script)) start after → ((endings : List LogEntry) × AreEndings endings × (log ≡ log_and after.log endings)) → IsRunFor script number log acted
+run_of script number start after acted log is_begun acts (endings, ended, said) =
+    let agent_is : start.log.0 ≡ number = ap (λ (l : AgentLog). l.0) is_begun in
+    let entries = acts.acts.0 in
+    let all : log ≡ (number, entries ++ endings) = said ∙ ap (λ (l : AgentLog). log_and l endings) (acts.acts.2 ∙ ap (λ (l : AgentLog). log_and l entries) is_begun) in
+    let done : ℕ = acted.done in
+    let written : AreEntriesFor (take done (actions_of number (actions script))) log.1 = (
+      entries,
+      endings,
+      ap (λ (l : AgentLog). l.1) all,
+      subst (λ (a : AgentId). AreLoggedFor (take done (actions_of a (actions script))) entries) agent_is acts.acts.1,
+      ended,
+    ) in
     record {
-      whose = ap (λ (p : Posts). p.agent) all;
-      put = subst (λ (ms : List Message). ArePutFor (take acted.done (actions_of number (actions script))) ms) (sym (ap (λ (p : Posts). p.put) all))
-          (subst (λ (a : AgentId). ArePutFor (take acted.done (actions_of a (actions script))) messages) agent_is acts.acts.1);
+      whose = ap (λ (l : AgentLog). l.0) all;
+      entries = written;
+      put = entries_put (take done (actions_of number (actions script))) log.1 written;
       stopped = subst (λ (a : AgentId). IsStoppedAt acted.ordered acted.done (length (actions_of a (actions script)))) agent_is acts.stopped;
     }
 
@@ -42,10 +50,15 @@ runs_for script logs acted as_many all in_order = record {
 log_of : (script : Contents) (agent : AgentId) (log : AgentLog) (acted : Acted) → IsRunFor script agent log acted → IsLogFor script agent log
 log_of script agent log acted run =
     let all = actions_of agent (actions script) in
-    record {
-      whose = run.whose;
-      put = subst (λ (xs : List ActionKind). ArePutFor xs (messages_put log.1)) (take-append-drop acted.done all) (no_more (take acted.done all) (drop acted.done all) (messages_put log.1) run.put);
-    }
+    let (acts, endings, is, logged, ended) = run.entries in
+    let written : AreEntriesFor all log.1 = (
+      acts,
+      endings,
+      is,
+      subst (λ (xs : List ActionKind). AreLoggedFor xs acts) (take-append-drop acted.done all) (no_more (take acted.done all) (drop acted.done all) acts logged),
+      ended,
+    ) in
+    record { whose = run.whose; entries = written; put = entries_put all log.1 written }
 
 none : Acted
 none = record { done = 0; ordered = false }

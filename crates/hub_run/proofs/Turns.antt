@@ -1,8 +1,8 @@
--- A turn puts nothing: what the handler of an agent's loop writes down is a delivery.
-use Rattle.std.proofs.Common.{◌≡◌, ◌∙◌, List, Option, Result, Ok, Err, OnOk, ap}
+-- What a turn leaves of the notes of an agent: a delivery is written down, and nothing else.
+use Rattle.std.proofs.Common.{◌≡◌, ◌∙◌, List, Option, Result, Ok, Err, IfOk, ap, subst, sym}
 use Rattle.hub_envelope.specs.declared.envelope.Envelope.{Envelope}
 use Rattle.hub_envelope.specs.declared.ids.EndId.{EndId}
-use Rattle.hub_logging.specs.Notes.{Notes, delivered, notes_of}
+use Rattle.hub_logging.specs.Notes.{Notes, notes_of}
 use Rattle.hub_loop.specs.Turning.{IsTurn}
 use Rattle.hub_loop.specs.declared.delivery.Delivery.{Delivery}
 use Rattle.hub_loop.specs.declared.holding.Holding.{Holding}
@@ -10,8 +10,7 @@ use Rattle.hub_loop.specs.declared.loop_error.LoopError.{LoopError}
 use Rattle.hub_loop.specs.declared.turn.Turn.{Turn}
 use Rattle.hub_loop.specs.declared.turn.Turn.TheVariants.{Delivered, Idle, Ending}
 use Rattle.hub_queue.specs.Counting.{Count}
-use Rattle.hub_run.specs.Posts.{Posts, posts_of}
-use Rattle.hub_run.proofs.Posts.{getting}
+use Rattle.hub_run.specs.Entries.{TurnLeaves}
 
 -- what a delivery leaves of the notes
 abbrev pub leaves : Notes → Envelope → List EndId → Notes → Type 0
@@ -21,14 +20,15 @@ leaves before envelope missing after = after ≡ notes_of before envelope missin
 abbrev pub refuses : Notes → Envelope → List EndId → Notes → Type 0
 refuses before envelope missing after = after ≡ before
 
-pub turned : (old new : Holding) (looks : _) (kept keeps : Option Delivery) (h left : Notes) (before after : Count) (turn : Turn) → IsTurn {E = LoopError} leaves refuses old new looks kept keeps h left before after (Ok turn) → posts_of left.log ≡ posts_of h.log
-turned old new looks kept keeps h left before after Ending t = ap (λ n. posts_of n.log) t.2
-turned old new looks kept keeps h left before after (Idle busy) t = ap (λ n. posts_of n.log) t.2
-turned old new looks kept keeps h left before after Delivered t = ap (λ n. posts_of n.log) t.4.4 ∙ getting h.log (delivered t.0.envelope)
+turned : (old new : Holding) (looks : _) (kept keeps : Option Delivery) (h left : Notes) (before after : Count) (turn : Turn) → IsTurn {E = LoopError} leaves refuses old new looks kept keeps h left before after (Ok turn) → TurnLeaves turn h left
+turned old new looks kept keeps h left before after Ending t = t.2
+turned old new looks kept keeps h left before after (Idle busy) t = t.2
+turned old new looks kept keeps h left before after Delivered t = (t.0.envelope, t.4.1, t.4.4)
 
--- where a turn is no error, the handler that was taken out behind it says the same of the posts as the one put in
-pub counted : (old new : Holding) (looks : _) (kept keeps : Option Delivery) (h left taken : Notes) (before after : Count) (now : Posts) (result : Result Turn LoopError)
-    → IsTurn leaves refuses old new looks kept keeps h left before after result → taken ≡ left → posts_of h.log ≡ now → OnOk result (posts_of taken.log ≡ now)
-counted old new looks kept keeps h left taken before after now (Ok turn) t given same =
-    ap (λ n. posts_of n.log) given ∙ turned old new looks kept keeps h left before after turn t ∙ same
-counted old new looks kept keeps h left taken before after now (Err e) t given same = tt
+-- where a turn is no error, the notes that were taken out behind it are those that it left of the notes put in
+pub counted : (old new : Holding) (looks : _) (kept keeps : Option Delivery) (h left taken now : Notes) (before after : Count) (result : Result Turn LoopError)
+    → IsTurn leaves refuses old new looks kept keeps h left before after result → taken ≡ left → h ≡ now → IfOk result (λ turn. TurnLeaves turn now taken)
+counted old new looks kept keeps h left taken now before after (Ok turn) t given same =
+    subst (λ (n : Notes). TurnLeaves turn n taken) same
+    (subst (λ (n : Notes). TurnLeaves turn h n) (sym given) (turned old new looks kept keeps h left before after turn t))
+counted old new looks kept keeps h left taken now before after (Err e) t given same = tt

@@ -1,3 +1,4 @@
+pub mod Entries
 pub mod Posts
 pub mod Runs
 pub mod Threads

@@ -1,9 +1,7 @@
--- What the log of an agent says of its posts.
-use Rattle.std.specs.Prelude.{ℕ, List, ◌++◌, Option, Some, None}
+-- The messages that the log of an agent says were put.
+use Rattle.std.specs.Prelude.{ℕ, List, Option, Some, None}
 use Rattle.std.specs.List.{filter_map}
-use Rattle.hub_envelope.specs.declared.ids.AgentId.{AgentId}
 use Rattle.hub_envelope.specs.declared.ids.EndId.{EndId}
-use Rattle.hub_trace.specs.Accepted.{AgentLog}
 use Rattle.hub_trace.specs.declared.content.Content.{Content}
 use Rattle.hub_trace.specs.declared.content.Content.TheVariants as content
 use Rattle.hub_trace.specs.declared.log_entry.LogEntry.{LogEntry}
@@ -27,15 +25,3 @@ message_put (Closed e) = None
 -- the messages that the entries say were put, in their order
 abbrev pub messages_put : List LogEntry → List Message
 messages_put entries = filter_map message_put entries
-
--- the agent of a log, and the messages that the log says it put
-pub record Posts : Type 0 where
-  pub agent : AgentId
-  pub put : List Message
-
-abbrev pub posts_of : AgentLog → Posts
-posts_of log = record { agent = log.0; put = messages_put log.1 }
-
--- with these messages behind the others
-abbrev pub posting : Posts → List Message → Posts
-posting posts messages = record { agent = posts.agent; put = posts.put ++ messages }

@@ -1,5 +1,4 @@
--- What the logs of a run owe to its script: how many there are, whose each is, and the messages that it says were
--- put.
+-- What the logs of a run owe to its script: how many there are, whose each is, and what is written in it.
 use Rattle.std.specs.Prelude.{◌≡◌, ◌⊎◌, ◌<◌, ℕ, Bool, true, false, List, [], ◌∷◌, ◌++◌, length, replicate, take, Some, slice_get}
 use Rattle.hub_envelope.specs.declared.ids.AgentId.{AgentId}
 use Rattle.hub_envelope.specs.declared.ids.EndId.{EndId}
@@ -9,7 +8,10 @@ use Rattle.hub_script.specs.declared.action.ActionKind.TheVariants.{Post, Send, 
 use Rattle.hub_acting.specs.Doing.{actions_of}
 use Rattle.hub_acting.specs.declared.acted.Acted.{Acted}
 use Rattle.hub_trace.specs.Accepted.{AgentLog}
-use Rattle.hub_run.specs.Posts.{Message, Posts, messages_put, posting}
+use Rattle.hub_logging.specs.Notes.{Notes}
+use Rattle.hub_trace.specs.declared.log_entry.LogEntry.{LogEntry}
+use Rattle.hub_run.specs.Entries.{AreEndings, AreLoggedFor, IsLoggedFor, Writes}
+use Rattle.hub_run.specs.Posts.{Message, messages_put}
 
 -- nothing, or the one message of a post
 abbrev pub IsNoneOr : Message → List Message → Type 0
@@ -29,27 +31,33 @@ ArePutFor [] messages = messages ≡ []
 ArePutFor (action ∷ later) messages =
     (first : List Message) × (rest : List Message) × (messages ≡ first ++ rest) × IsPutFor action first × ArePutFor later rest
 
--- the action has put what it may
-abbrev pub Acts : ActionKind → Posts → Posts → Type 0
-Acts action before after = (messages : List Message) × IsPutFor action messages × (after ≡ posting before messages)
+-- the agent has written of the action what it may
+abbrev pub Acts : ActionKind → Notes → Notes → Type 0
+Acts action before after = (entries : List LogEntry) × IsLoggedFor action entries × Writes entries before after
 
-abbrev pub ActsAll : List ActionKind → Posts → Posts → Type 0
-ActsAll all before after = (messages : List Message) × ArePutFor all messages × (after ≡ posting before messages)
+abbrev pub ActsAll : List ActionKind → Notes → Notes → Type 0
+ActsAll all before after = (entries : List LogEntry) × AreLoggedFor all entries × Writes entries before after
 
 -- So many of all actions were done, before the next one of which the order to end came; or all were done.
 abbrev pub IsStoppedAt : Bool → ℕ → ℕ → Type 0
 IsStoppedAt true done all = done < all
 IsStoppedAt false done all = done ≡ all
 
--- the first actions have put what they may, as many as were done
-pub record ActsFirst (acted : Acted) (all : List ActionKind) (before after : Posts) : Type 0 where
+-- of the first actions the agent has written what it may, as many as were done
+pub record ActsFirst (acted : Acted) (all : List ActionKind) (before after : Notes) : Type 0 where
   pub acts : ActsAll (take acted.done all) before after
   pub stopped : IsStoppedAt acted.ordered acted.done (length all)
 
--- The log is this agent's. The messages that it says were put are, in order, those of the first of the agent's actions,
--- as many as it has done, and no others; an action may have put none. All were done, unless the order to end came.
+-- The entries are those of these actions, in order, and behind them those of the end of the loop.
+abbrev pub AreEntriesFor : List ActionKind → List LogEntry → Type 0
+AreEntriesFor all entries =
+    (acts : List LogEntry) × (endings : List LogEntry) × (entries ≡ acts ++ endings) × AreLoggedFor all acts × AreEndings endings
+
+-- The log is this agent's. Its entries are, in order, those of the first of the agent's actions, as many as it has done, and no
+-- others but those of the end; so are the messages that it says were put. All were done, unless the order to end came.
 pub record IsRunFor (script : Contents) (agent : AgentId) (log : AgentLog) (acted : Acted) : Type 0 where
   pub whose : log.0 ≡ agent
+  pub entries : AreEntriesFor (take acted.done (actions_of agent (actions script))) log.1
   pub put : ArePutFor (take acted.done (actions_of agent (actions script))) (messages_put log.1)
   pub stopped : IsStoppedAt acted.ordered acted.done (length (actions_of agent (actions script)))
 
@@ -60,21 +68,14 @@ pub record AreRunsFor (script : Contents) (logs : List AgentLog) (acted : List A
   pub each : (number : ℕ) (log : AgentLog) (a : Acted) → slice_get logs number ≡ Some log → slice_get acted number ≡ Some a
       → IsRunFor script (record { 0 = number }) log a
 
--- The log is this agent's. The messages that it says were put are, in order, those of the agent's actions and no others;
--- an action may have put none.
+-- The log is this agent's. Its entries are, in order, those of the agent's actions, and no others but those of the end; of an
+-- action it may have none. So are the messages that it says were put.
 pub record IsLogFor (script : Contents) (agent : AgentId) (log : AgentLog) : Type 0 where
   pub whose : log.0 ≡ agent
+  pub entries : AreEntriesFor (actions_of agent (actions script)) log.1
   pub put : ArePutFor (actions_of agent (actions script)) (messages_put log.1)
 
 -- one log for each agent of the script, in the order of the agents
 pub record AreLogsFor (script : Contents) (logs : List AgentLog) : Type 0 where
   pub count : length logs ≡ length (agents script)
   pub each : (number : ℕ) (log : AgentLog) → slice_get logs number ≡ Some log → IsLogFor script (record { 0 = number }) log
-
--- the agent has put this message, or nothing
-abbrev pub PutsOneOf : Message → Posts → Posts → Type 0
-PutsOneOf m before after = (messages : List Message) × IsNoneOr m messages × (after ≡ posting before messages)
-
--- the agent has put this body, some times and with no ports
-abbrev pub PutsCopies : List ℕ → Posts → Posts → Type 0
-PutsCopies body before after = (count : ℕ) × (after ≡ posting before (replicate count ([], body)))

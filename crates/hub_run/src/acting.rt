@@ -1,9 +1,11 @@
 //! The actions of an agent, in order. An action whose end isn't held any more is skipped.
 
-ghost use Rattle.std.specs.Prelude.{◌≡◌, IfOk, OnOk};
+ghost use Rattle.std.specs.Prelude.{◌≡◌, List, IfOk, OnOk};
 ghost use Rattle.hub_acting.specs.Doing.{actions_of};
 ghost use Rattle.hub_script.specs.Contents.{actions};
+ghost use Rattle.hub_run.specs.Entries.{IsCloseLogged, Writes};
 ghost use Rattle.hub_run.specs.Runs.{Acts, ActsFirst};
+ghost use Rattle.hub_trace.specs.declared.log_entry.LogEntry.{LogEntry};
 
 use crate::agent::Agent;
 use crate::awaited::Awaited;
@@ -11,7 +13,8 @@ use crate::shared::Shared;
 use hub_acting::Acted;
 use hub_clients::HandError;
 use hub_envelope::{AgentId, EndId, OutOfMemory};
-use hub_loop::{Checkpoint, Held};
+use hub_life::Event;
+use hub_loop::{Checkpoint, ClosedEnd, Held};
 use hub_script::{ActionKind, Script};
 use std::sync::Wait;
 
@@ -19,7 +22,7 @@ impl<'s, C: Checkpoint> Agent<'s, C> {
     /// Does its actions, up to the last or to the order to end, for which it looks before each.
     pub(crate) fn act_all<R: Wait>(&mut self, rt: &R, script: &Script) -> Result<Acted, OutOfMemory>
         ensures { IfOk result (λ acted. ActsFirst acted
-            (actions_of self.old.agent (actions script.now)) self.old self.new) }
+            (actions_of self.old.log.0 (actions script.now)) self.old self.new) }
     {
         let number = self.number();
         hub_acting::act_all(
@@ -55,9 +58,7 @@ impl<'s, C: Checkpoint> Agent<'s, C> {
                 Ok(())
             }
             ActionKind::Loaded { queue } => {
-                if let Some(queue) = self.event_loop.client_mut(*queue) {
-                    queue.loaded();
-                }
+                self.load(*queue);
                 Ok(())
             }
             ActionKind::Close { end } => self.close(rt, *end),
@@ -72,9 +73,7 @@ impl<'s, C: Checkpoint> Agent<'s, C> {
                 Ok(())
             }
             ActionKind::Event { event } => {
-                if let Some(life) = &mut self.life {
-                    let _refused = life.event(*event);
-                }
+                self.live(*event);
                 Ok(())
             }
             ActionKind::Hand { to } => self.hand(rt, *to),
@@ -93,26 +92,38 @@ impl<'s, C: Checkpoint> Agent<'s, C> {
         }
     }
 
+    // Its document is parsed, which enables its client's queue.
+    fn load(&mut self, queue: EndId)
+        ensures { self.new ≡ self.old }
+    {
+        if let Some(queue) = self.event_loop.client_mut(queue) {
+            queue.loaded();
+        }
+    }
+
+    // An event of the life of a worker, which refuses what its state doesn't allow.
+    fn live(&mut self, event: Event)
+        ensures { self.new ≡ self.old }
+    {
+        if let Some(life) = &mut self.life {
+            let _refused = life.event(event);
+        }
+    }
+
     // Closes a port or a member, and logs it. What waits there is discarded once the loop has
     // ended.
     fn close<R: Wait>(&mut self, rt: &R, end: EndId) -> Result<(), OutOfMemory>
-        ensures { OnOk result (self.new ≡ self.old) }
+        ensures { OnOk result ((entries : List LogEntry) × IsCloseLogged end entries
+            × Writes entries self.old self.new) }
     {
+        let Shared { hub, roster, .. } = self.shared;
         self.graves.reserve(1)?;
-        match self.event_loop.release(end) {
-            Some(Held::Port(port)) => {
-                let (grave, _spent, noticed) = port.close(rt, &self.shared.hub);
-                self.graves.push(grave)?;
-                self.log_closed(end, noticed)
-            }
-            Some(Held::Member(member)) => {
-                self.shared.roster.leave(rt, end);
-                self.graves.push(member.close())?;
-                self.log_close(end)
-            }
-            Some(held) => self.hold(rt, held),
-            None => Ok(()),
-        }
+        let Some(closed) = self.event_loop.close(rt, hub, roster, end) else {
+            return Ok(());
+        };
+        let ClosedEnd { grave, port } = closed;
+        self.graves.push(grave)?;
+        self.log_closed_end(end, port)
     }
 
     fn give_order(&mut self, to: AgentId)

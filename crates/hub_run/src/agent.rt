@@ -1,13 +1,30 @@
-ghost use Rattle.std.specs.Prelude.{◌≡◌, OnOk};
+ghost use Rattle.std.specs.Prelude.{◌≡◌, ◌≤◌, ◌∷◌, [], ℕ, List, IfOk, OnOk};
+ghost use Rattle.hub_acting.specs.Doing.{actions_of};
+ghost use Rattle.hub_run.specs.Entries.{
+  AreAdoptions,
+  IsComeLogged,
+  IsTurnLogged,
+  IsWaitLogged,
+  TurnLeaves,
+  Writes,
+};
+ghost use Rattle.hub_run.specs.Runs.{ActsFirst, IsRunFor};
+ghost use Rattle.hub_script.specs.Contents.{actions};
+ghost use Rattle.hub_trace.specs.declared.limits.TheConstants.{MAX_AGENT};
+ghost use Rattle.hub_trace.specs.declared.log_entry.LogEntry.{LogEntry};
+ghost use Rattle.hub_trace.specs.declared.log_entry.LogEntry.TheVariants.{Adopted};
 
 use crate::awaited::Awaited;
-use crate::peer::Peer;
+use crate::peer::{Peer, order_all};
+use crate::run::AgentRun;
 use crate::shared::Shared;
+use hub_acting::Acted;
 use hub_envelope::{AgentId, EndId, OutOfMemory};
 use hub_life::{Life, Order};
 use hub_logging::Scribe;
 use hub_loop::{Checkpoint, EventLoop, Held, LoopError, Turn};
 use hub_queue::{Grave, Steps};
+use hub_script::Script;
 use std::alloc::Global;
 use std::marker::{Brand, Model};
 use std::sync::Wait;
@@ -34,13 +51,13 @@ pub(crate) struct Agent<'s, C: Checkpoint> {
     pub(crate) graves: Vec<Grave>,
 }
 
-/// An agent is seen as what its log says of its posts.
+/// An agent is seen as its notes, which have its log.
 impl<'s, C: Checkpoint> Model for Agent<'s, C> {
-    ghost use Rattle.hub_run.specs.Posts.{Posts, posts_of};
+    ghost use Rattle.hub_logging.specs.Notes.{Notes};
 
-    ghost Value = { Posts };
+    ghost Value = { Notes };
 
-    ghost view = { λ a. posts_of a.scribe.log };
+    ghost view = { λ a. a.scribe };
 }
 
 // How often an end has moved. A member and a line are never adopted.
@@ -54,8 +71,43 @@ fn moves_of(held: &Held) -> u32 {
 }
 
 impl<'s, C: Checkpoint> Agent<'s, C> {
+    /// Does the actions of the agent of that number, ends the loop, and answers the log and how
+    /// far it came. Where memory runs out all agents are ordered to end, so that none waits for
+    /// this one.
+    pub(crate) fn run<R: Wait>(
+        mut self,
+        rt: &R,
+        script: &Script,
+        number: AgentId,
+    ) -> Result<AgentRun, OutOfMemory>
+        requires { number.0 ≤ MAX_AGENT }
+        ensures { IfOk result (λ ran. IsRunFor script.now number ran.log ran.acted) }
+    {
+        self.scribe = Scribe::new(self.alloc, number);
+        let acted = self.act_or_order(rt, script);
+        let finished = self.finish_or_order(rt);
+        Ok(AgentRun {
+            acted: acted?,
+            log: finished?,
+        })
+    }
+
+    // Does the actions. Where memory runs out all agents are ordered to end.
+    fn act_or_order<R: Wait>(&mut self, rt: &R, script: &Script) -> Result<Acted, OutOfMemory>
+        ensures { IfOk result (λ acted. ActsFirst acted
+            (actions_of self.old.log.0 (actions script.now)) self.old self.new) }
+    {
+        match self.act_all(rt, script) {
+            Ok(acted) => Ok(acted),
+            Err(error) => {
+                order_all(&mut self.peers);
+                Err(error)
+            }
+        }
+    }
+
     pub(crate) fn number(&self) -> AgentId
-        ensures { result ≡ self.now.agent }
+        ensures { result ≡ self.now.log.0 }
     {
         self.scribe.agent()
     }
@@ -70,26 +122,28 @@ impl<'s, C: Checkpoint> Agent<'s, C> {
         matches!(self.event_loop.held(end), Some(Held::Port(_)))
     }
 
-    // Logs that it has adopted an end, which it holds.
+    // Logs that it has adopted an end. The loop holds what it has adopted, so there is an epoch to
+    // be logged; were there none, an error is better than a log that leaves an adoption out.
     fn log_adopted(&mut self, end: EndId) -> Result<(), OutOfMemory>
-        ensures { OnOk result (self.new ≡ self.old) }
+        ensures { OnOk result ((epoch : ℕ) × Writes (Adopted end epoch ∷ []) self.old self.new) }
     {
         let Some(held) = self.event_loop.held(end) else {
-            return Ok(());
+            return Err(OutOfMemory);
         };
         let epoch = moves_of(held);
         self.log_adoption(end, epoch)
     }
 
     fn log_adoption(&mut self, end: EndId, epoch: u32) -> Result<(), OutOfMemory>
-        ensures { OnOk result (self.new ≡ self.old) }
+        ensures { OnOk result (Writes (Adopted end epoch ∷ []) self.old self.new) }
     {
         self.scribe.adopt(end, epoch)
     }
 
-    // Logs that it has adopted these ends, as far as it holds them.
+    // Logs that it has adopted these ends, in order.
     fn log_all_adopted(&mut self, ends: &[EndId]) -> Result<(), OutOfMemory>
-        ensures { OnOk result (self.new ≡ self.old) }
+        ensures { OnOk result ((entries : List LogEntry) × AreAdoptions ends.now entries
+            × Writes entries self.old self.new) }
     {
         for end in ends {
             self.log_adopted(*end)?;
@@ -97,9 +151,18 @@ impl<'s, C: Checkpoint> Agent<'s, C> {
         Ok(())
     }
 
+    // Logs that it has adopted the ports that came with the last delivery.
+    fn log_delivered(&mut self) -> Result<(), OutOfMemory>
+        ensures { OnOk result ((entries : List LogEntry) × AreAdoptions self.old.adopted entries
+            × Writes entries self.old self.new) }
+    {
+        let adopted = self.scribe.take_adopted();
+        self.log_all_adopted(&adopted)
+    }
+
     fn turn_counted<L: Ledger, R: Wait>(&mut self, rt: &R, blank: Blank) -> Result<Turn, LoopError>
         requires { (blank.name ≡ L.name) × (blank.parts ≡ L.parts) × (L.parts ≡ 2) }
-        ensures { OnOk result (self.new ≡ self.old) }
+        ensures { IfOk result (λ turn. TurnLeaves turn self.old self.new) }
     {
         let mut steps = Steps::<L>::begin(blank);
         let scribe = self.scribe.take();
@@ -111,22 +174,26 @@ impl<'s, C: Checkpoint> Agent<'s, C> {
 
     // Makes a turn, and logs the ports that were adopted in it.
     fn turn<R: Wait>(&mut self, rt: &R) -> Result<Turn, OutOfMemory>
-        ensures { OnOk result (self.new ≡ self.old) }
+        ensures { OnOk result ((entries : List LogEntry) × IsTurnLogged entries
+            × Writes entries self.old self.new) }
     {
         let turn = match self.turn_counted::<Brand, R>(rt, Blank::new(2)) {
             Ok(turn) => turn,
             Err(LoopError::OutOfMemory) => return Err(OutOfMemory),
         };
-        if turn == Turn::Delivered {
-            let adopted = self.scribe.take_adopted();
-            self.log_all_adopted(&adopted)?;
+        match turn {
+            Turn::Delivered => {
+                self.log_delivered()?;
+                Ok(Turn::Delivered)
+            }
+            turn => Ok(turn),
         }
-        Ok(turn)
     }
 
     // Takes the queue that was handed to it, logs that and enables the queue. Whether it was there.
     fn fetch<R: Wait>(&mut self, rt: &R, end: EndId) -> Result<bool, OutOfMemory>
-        ensures { OnOk result (self.new ≡ self.old) }
+        ensures { IfOk result (λ came. (entries : List LogEntry)
+            × IsComeLogged (Awaited.Queue end) came entries × Writes entries self.old self.new) }
     {
         let Shared { hub, directory, .. } = self.shared;
         match self.event_loop.fetch(rt, hub, directory, end) {
@@ -141,8 +208,10 @@ impl<'s, C: Checkpoint> Agent<'s, C> {
         Ok(true)
     }
 
+    // Whether what it waits for has come.
     fn has_come<R: Wait>(&mut self, rt: &R, awaited: Awaited) -> Result<bool, OutOfMemory>
-        ensures { OnOk result (self.new ≡ self.old) }
+        ensures { IfOk result (λ came. (entries : List LogEntry)
+            × IsComeLogged awaited came entries × Writes entries self.old self.new) }
     {
         match awaited {
             Awaited::Messages { after, count } => {
@@ -161,7 +230,8 @@ impl<'s, C: Checkpoint> Agent<'s, C> {
         rt: &R,
         awaited: Awaited,
     ) -> Result<(), OutOfMemory>
-        ensures { OnOk result (self.new ≡ self.old) }
+        ensures { OnOk result ((entries : List LogEntry) × IsWaitLogged awaited entries
+            × Writes entries self.old self.new) }
     {
         for _ in rt.forever() {
             if self.has_come(rt, awaited)? {

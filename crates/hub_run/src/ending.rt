@@ -1,24 +1,19 @@
-//! How an agent runs and ends: it does its actions, its loop is ended, and what it closed there is
-//! logged.
+//! How an agent ends: its loop is ended, and what was closed there is logged.
 
-ghost use Rattle.std.specs.Prelude.{◌≡◌, ◌≤◌, IfOk, OnOk};
-ghost use Rattle.hub_acting.specs.Doing.{actions_of};
-ghost use Rattle.hub_run.specs.Posts.{posts_of};
-ghost use Rattle.hub_run.specs.Runs.{ActsFirst, IsRunFor};
-ghost use Rattle.hub_script.specs.Contents.{actions};
-ghost use Rattle.hub_trace.specs.declared.limits.TheConstants.{MAX_AGENT};
+ghost use Rattle.std.specs.Prelude.{◌≡◌, ◌∷◌, [], List, IfOk, OnOk};
+ghost use Rattle.hub_run.specs.Entries.{AreEndings, Writes, ending_entries, log_and};
+ghost use Rattle.hub_trace.specs.Accepted.{notice_at};
+ghost use Rattle.hub_trace.specs.declared.log_entry.LogEntry.{LogEntry};
+ghost use Rattle.hub_trace.specs.declared.log_entry.LogEntry.TheVariants.{Closed, Put};
 
 use crate::agent::{Agent, AgentLoop};
 use crate::peer::order_all;
-use crate::run::AgentRun;
 use crate::shared::Shared;
-use hub_acting::Acted;
-use hub_envelope::{AgentId, EndId, OutOfMemory};
+use hub_envelope::{EndId, OutOfMemory};
 use hub_logging::Scribe;
-use hub_loop::{Checkpoint, Ended, LoopError};
+use hub_loop::{Checkpoint, ClosedPort, Ended, LoopError};
 use hub_ports::Noticed;
 use hub_queue::{Grave, Posted};
-use hub_script::Script;
 use hub_trace::Log;
 use std::alloc::Global;
 use std::collections::{BTreeMap, BTreeSet};
@@ -60,13 +55,13 @@ fn sweep_all<R: Wait>(rt: &R, graves: Vec<Grave>) -> Result<(), OutOfMemory> {
 // The notices that were put, by the ports that were closed.
 fn notices_of(
     alloc: Global,
-    noticed: &[(EndId, Noticed)],
+    closed: &[ClosedPort],
 ) -> Result<BTreeMap<EndId, Posted>, OutOfMemory> {
     let mut notices = BTreeMap::new(alloc);
-    for (end, notice) in noticed {
-        match notice {
+    for port in closed {
+        match port.noticed {
             Noticed::Put(posted) => {
-                notices.insert(*end, *posted)?;
+                notices.insert(port.end, posted)?;
             }
             Noticed::OutOfMemory => return Err(OutOfMemory),
             Noticed::PeerClosed | Noticed::Moving => {}
@@ -83,7 +78,8 @@ fn log_ended(
     held: &[EndId],
     ended: &Ended,
 ) -> Result<(), OutOfMemory>
-    ensures { OnOk result (posts_of scribe.new.log ≡ posts_of scribe.old.log) }
+    ensures { OnOk result ((entries : List LogEntry) × AreEndings entries
+        × Writes entries scribe.old scribe.new) }
 {
     let held = held.iter().copied().collect::<BTreeSet<EndId>>(alloc)?;
     let mut notices = notices_of(alloc, &ended.noticed)?;
@@ -104,7 +100,7 @@ fn log_closing(
     notice: Option<Posted>,
     is_held: bool,
 ) -> Result<(), OutOfMemory>
-    ensures { OnOk result (posts_of scribe.new.log ≡ posts_of scribe.old.log) }
+    ensures { OnOk result (Writes (ending_entries end notice is_held) scribe.old scribe.new) }
 {
     if let Some(posted) = notice {
         log_notice(scribe, posted)?;
@@ -116,13 +112,13 @@ fn log_closing(
 }
 
 fn log_close(scribe: &mut Scribe, end: EndId) -> Result<(), OutOfMemory>
-    ensures { OnOk result (posts_of scribe.new.log ≡ posts_of scribe.old.log) }
+    ensures { OnOk result (Writes (Closed end ∷ []) scribe.old scribe.new) }
 {
     scribe.close(end)
 }
 
 fn log_notice(scribe: &mut Scribe, posted: Posted) -> Result<(), OutOfMemory>
-    ensures { OnOk result (posts_of scribe.new.log ≡ posts_of scribe.old.log) }
+    ensures { OnOk result (Writes (Put (notice_at posted) ∷ []) scribe.old scribe.new) }
 {
     scribe.put_notice(posted)
 }
@@ -130,7 +126,8 @@ fn log_notice(scribe: &mut Scribe, posted: Posted) -> Result<(), OutOfMemory>
 impl<'s, C: Checkpoint> Agent<'s, C> {
     // Ends the loop, and answers the log.
     fn finish<R: Wait>(self, rt: &R) -> Result<Log, OutOfMemory>
-        ensures { IfOk result (λ log. posts_of log ≡ self.entry) }
+        ensures { IfOk result (λ log. (entries : List LogEntry) × AreEndings entries
+            × (log ≡ log_and self.entry.log entries)) }
     {
         let Agent {
             alloc,
@@ -148,23 +145,10 @@ impl<'s, C: Checkpoint> Agent<'s, C> {
         Ok(scribe.into_log())
     }
 
-    // Does the actions. Where memory runs out all agents are ordered to end.
-    fn act_or_order<R: Wait>(&mut self, rt: &R, script: &Script) -> Result<Acted, OutOfMemory>
-        ensures { IfOk result (λ acted. ActsFirst acted
-            (actions_of self.old.agent (actions script.now)) self.old self.new) }
-    {
-        match self.act_all(rt, script) {
-            Ok(acted) => Ok(acted),
-            Err(error) => {
-                order_all(&mut self.peers);
-                Err(error)
-            }
-        }
-    }
-
     // Ends the loop, and answers the log. Where memory runs out all agents are ordered to end.
-    fn finish_or_order<R: Wait>(mut self, rt: &R) -> Result<Log, OutOfMemory>
-        ensures { IfOk result (λ log. posts_of log ≡ self.entry) }
+    pub(crate) fn finish_or_order<R: Wait>(mut self, rt: &R) -> Result<Log, OutOfMemory>
+        ensures { IfOk result (λ log. (entries : List LogEntry) × AreEndings entries
+            × (log ≡ log_and self.entry.log entries)) }
     {
         let none = Vec::new(self.alloc);
         let mut peers = replace(&mut self.peers, none);
@@ -175,26 +159,5 @@ impl<'s, C: Checkpoint> Agent<'s, C> {
                 Err(error)
             }
         }
-    }
-
-    /// Does the actions of the agent of that number, ends the loop, and answers the log and how
-    /// far it came. Where memory runs out all agents are ordered to end, so that none waits for
-    /// this one.
-    pub(crate) fn run<R: Wait>(
-        mut self,
-        rt: &R,
-        script: &Script,
-        number: AgentId,
-    ) -> Result<AgentRun, OutOfMemory>
-        requires { number.0 ≤ MAX_AGENT }
-        ensures { IfOk result (λ ran. IsRunFor script.now number ran.log ran.acted) }
-    {
-        self.scribe = Scribe::new(self.alloc, number);
-        let acted = self.act_or_order(rt, script);
-        let finished = self.finish_or_order(rt);
-        Ok(AgentRun {
-            acted: acted?,
-            log: finished?,
-        })
     }
 }

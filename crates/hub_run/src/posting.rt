@@ -1,15 +1,28 @@
 //! The actions that post: at a port, at a queue, from a broadcast member.
 
-ghost use Rattle.std.specs.Prelude.{◌≡◌, ◌∷◌, [], OnOk};
-ghost use Rattle.hub_run.specs.Posts.{posting};
-ghost use Rattle.hub_run.specs.Runs.{PutsCopies, PutsOneOf};
+ghost use Rattle.std.specs.Prelude.{◌≡◌, ◌∷◌, [], List, map, IfOk, IfSome, OnOk};
+ghost use Rattle.hub_ports.specs.Seats.{ends_of};
+ghost use Rattle.hub_run.specs.Entries.{
+  IsCastLogged,
+  IsPostLogged,
+  Writes,
+  answer_entries,
+  cast_entries,
+  closed_entries,
+  closing_entries,
+  doomed_entries,
+  outcome_entries,
+};
+ghost use Rattle.hub_trace.specs.Accepted.{message_at, notice_at};
+ghost use Rattle.hub_trace.specs.declared.log_entry.LogEntry.{LogEntry};
+ghost use Rattle.hub_trace.specs.declared.log_entry.LogEntry.TheVariants.{Closed, Put};
 
 use crate::agent::Agent;
 use crate::shared::Shared;
 use hub_broadcast::{CastError, CastOutcome};
 use hub_clients::DirectoryError;
 use hub_envelope::{Body, EndId, OutOfMemory, Ports};
-use hub_loop::{Checkpoint, Held, LoopError};
+use hub_loop::{Checkpoint, ClosedPort, Held, LoopError};
 use hub_ports::{Closing, Noticed, Port, PortError, send};
 use hub_queue::Posted;
 use std::sync::Wait;
@@ -39,20 +52,12 @@ impl<'s, C: Checkpoint> Agent<'s, C> {
             directory,
             roster,
         } = self.shared;
-        let grave = match held {
-            Held::Port(port) => port.close(rt, hub).0,
-            Held::Client(queue) => queue.close(),
-            Held::Worker(queue) => queue.close(),
-            Held::Member(member) => {
-                roster.leave(rt, member.end());
-                member.close()
-            }
-            Held::Line(line) => {
+        match held.close(rt, hub, roster) {
+            Ok(closed) => self.graves.push(closed.grave)?,
+            Err(line) => {
                 let _refused = directory.give_back(rt, line);
-                return Ok(());
             }
-        };
-        self.graves.push(grave)?;
+        }
         Ok(())
     }
 
@@ -70,24 +75,38 @@ impl<'s, C: Checkpoint> Agent<'s, C> {
         ends.iter().all(|end| self.holds_port(*end))
     }
 
-    // Takes the ports out of the loop, in order.
-    fn release_ports<R: Wait>(&mut self, rt: &R, ends: &[EndId]) -> Result<Vec<Port>, OutOfMemory>
-        ensures { self.new ≡ self.old }
+    // Takes the ports out of the loop, in order. `None` where one isn't held; then it holds again
+    // those that it took out.
+    fn release_ports<R: Wait>(
+        &mut self,
+        rt: &R,
+        ends: &[EndId],
+    ) -> Result<Option<Vec<Port>>, OutOfMemory>
+        ensures same { self.new ≡ self.old }
+        ensures ports { IfOk result (λ ports. IfSome ports (λ released.
+            ends_of released.items ≡ ends.now)) }
     {
         let mut ports = Vec::with_capacity(self.alloc, ends.len())?;
         for end in ends {
             match self.event_loop.release(*end) {
                 Some(Held::Port(port)) => ports.push_reserved(port),
-                Some(held) => self.hold(rt, held)?,
-                None => {}
+                Some(held) => {
+                    let again = self.hold(rt, held);
+                    self.hold_ports(rt, ports).and(again)?;
+                    return Ok(None);
+                }
+                None => {
+                    self.hold_ports(rt, ports)?;
+                    return Ok(None);
+                }
             }
         }
-        Ok(ports)
+        Ok(Some(ports))
     }
 
-    /// Logs the notice of a port that was closed, where it was put, and the closing.
-    pub(crate) fn log_closed(&mut self, end: EndId, noticed: Noticed) -> Result<(), OutOfMemory>
-        ensures { OnOk result (self.new ≡ self.old) }
+    // Logs the notice of a port that was closed, where it was put, and the closing.
+    fn log_closed(&mut self, end: EndId, noticed: Noticed) -> Result<(), OutOfMemory>
+        ensures { OnOk result (Writes (closing_entries end noticed) self.old self.new) }
     {
         match noticed {
             Noticed::Put(posted) => self.log_notice(posted)?,
@@ -97,28 +116,43 @@ impl<'s, C: Checkpoint> Agent<'s, C> {
         self.log_close(end)
     }
 
+    /// Logs that an end was closed, a port with what became of its notice.
+    pub(crate) fn log_closed_end(
+        &mut self,
+        end: EndId,
+        port: Option<ClosedPort>,
+    ) -> Result<(), OutOfMemory>
+        ensures { OnOk result (Writes (closed_entries end port) self.old self.new) }
+    {
+        match port {
+            Some(port) => self.log_closed(end, port.noticed),
+            None => self.log_close(end),
+        }
+    }
+
     fn log_notice(&mut self, posted: Posted) -> Result<(), OutOfMemory>
-        ensures { OnOk result (self.new ≡ self.old) }
+        ensures { OnOk result (Writes (Put (notice_at posted) ∷ []) self.old self.new) }
     {
         self.scribe.put_notice(posted)
     }
 
-    pub(crate) fn log_close(&mut self, end: EndId) -> Result<(), OutOfMemory>
-        ensures { OnOk result (self.new ≡ self.old) }
+    fn log_close(&mut self, end: EndId) -> Result<(), OutOfMemory>
+        ensures { OnOk result (Writes (Closed end ∷ []) self.old self.new) }
     {
         self.scribe.close(end)
     }
 
     // Logs a post that was accepted.
     fn log_put(&mut self, posted: Posted, ports: &[EndId], body: &Body) -> Result<(), OutOfMemory>
-        ensures { OnOk result (self.new ≡ posting self.old ((ports.now, body.now) ∷ [])) }
+        ensures { OnOk result (Writes (Put (message_at posted ports.now body.now) ∷ [])
+            self.old self.new) }
     {
         self.scribe.put(posted, ports, body)
     }
 
     // Logs what became of the ports that a doomed post has closed.
     fn log_doomed(&mut self, closings: &[Closing]) -> Result<(), OutOfMemory>
-        ensures { OnOk result (self.new ≡ self.old) }
+        ensures { OnOk result (Writes (doomed_entries closings.now) self.old self.new) }
     {
         for closing in closings {
             self.log_closed(closing.end, closing.noticed)?;
@@ -134,7 +168,8 @@ impl<'s, C: Checkpoint> Agent<'s, C> {
         body: &Body,
         transfer: &Ports,
     ) -> Result<(), OutOfMemory>
-        ensures { OnOk result (PutsOneOf (transfer.now, body.now) self.old self.new) }
+        ensures { OnOk result (Writes (answer_entries transfer.now body.now answer)
+            self.old self.new) }
     {
         match answer {
             Ok(posted) => self.log_put(posted, transfer.as_slice(), body),
@@ -161,13 +196,16 @@ impl<'s, C: Checkpoint> Agent<'s, C> {
         body: &Body,
         transfer: &Ports,
     ) -> Result<(), OutOfMemory>
-        ensures { OnOk result (PutsOneOf (transfer.now, body.now) self.old self.new) }
+        ensures { OnOk result ((entries : List LogEntry)
+            × IsPostLogged transfer.now body.now entries × Writes entries self.old self.new) }
     {
         if !self.holds_port(port) || !self.holds_ports(transfer.as_slice()) {
             return Ok(());
         }
         let copy = body.clone()?;
-        let ports = self.release_ports(rt, transfer.as_slice())?;
+        let Some(ports) = self.release_ports(rt, transfer.as_slice())? else {
+            return Ok(());
+        };
         let number = self.number();
         let Some(source) = self.event_loop.port_mut(port) else {
             return self.hold_ports(rt, ports);
@@ -201,13 +239,16 @@ impl<'s, C: Checkpoint> Agent<'s, C> {
         body: &Body,
         transfer: &Ports,
     ) -> Result<(), OutOfMemory>
-        ensures { OnOk result (PutsOneOf (transfer.now, body.now) self.old self.new) }
+        ensures { OnOk result ((entries : List LogEntry)
+            × IsPostLogged transfer.now body.now entries × Writes entries self.old self.new) }
     {
         if !self.holds_ports(transfer.as_slice()) || !self.take_line(rt, queue)? {
             return Ok(());
         }
         let copy = body.clone()?;
-        let ports = self.release_ports(rt, transfer.as_slice())?;
+        let Some(ports) = self.release_ports(rt, transfer.as_slice())? else {
+            return Ok(());
+        };
         let number = self.number();
         let Some(line) = self.event_loop.line_mut(queue) else {
             return self.hold_ports(rt, ports);
@@ -223,7 +264,8 @@ impl<'s, C: Checkpoint> Agent<'s, C> {
         member: EndId,
         body: &Body,
     ) -> Result<(), OutOfMemory>
-        ensures { OnOk result (PutsCopies body.now self.old self.new) }
+        ensures { OnOk result ((entries : List LogEntry) × IsCastLogged body.now entries
+            × Writes entries self.old self.new) }
     {
         let copy = body.clone()?;
         let Some(source) = self.event_loop.member_mut(member) else {
@@ -243,16 +285,25 @@ impl<'s, C: Checkpoint> Agent<'s, C> {
         outcomes: &[(EndId, CastOutcome)],
         body: &Body,
     ) -> Result<(), OutOfMemory>
-        ensures { OnOk result (PutsCopies body.now self.old self.new) }
+        ensures { OnOk result (Writes (cast_entries body.now outcomes.now) self.old self.new) }
     {
         let mut refused = Ok(());
         for (_, outcome) in outcomes {
-            match outcome {
-                CastOutcome::Accepted(posted) => self.log_put(*posted, &[], body)?,
-                CastOutcome::OutOfMemory => refused = Err(OutOfMemory),
-                CastOutcome::Closed | CastOutcome::Moving => {}
+            self.log_outcome(outcome, body)?;
+            if matches!(outcome, CastOutcome::OutOfMemory) {
+                refused = Err(OutOfMemory);
             }
         }
         refused
+    }
+
+    // Logs a post of a cast, where it was accepted.
+    fn log_outcome(&mut self, outcome: &CastOutcome, body: &Body) -> Result<(), OutOfMemory>
+        ensures { OnOk result (Writes (outcome_entries body.now outcome.now) self.old self.new) }
+    {
+        match outcome {
+            CastOutcome::Accepted(posted) => self.log_put(*posted, &[], body),
+            CastOutcome::Closed | CastOutcome::Moving | CastOutcome::OutOfMemory => Ok(()),
+        }
     }
 }

@@ -1,5 +1,6 @@
-use Rattle.hub_run.proofs.Posts.{closing, told}
+use Rattle.std.proofs.Common.{refl}
+use Rattle.hub_run.proofs.Writing.{wrote}
 use Rattle.hub_run.proofs.ending.log_close.Goals as goal
 
 pub returns : goal.returns
-returns c = told c.close.result _ c.args.scribe.now _ _ c.close.ensures.ok (closing c.args.scribe.now.log c.args.end)
+returns c = wrote c.close.result c.args.scribe.now _ _ _ c.close.ensures.ok refl

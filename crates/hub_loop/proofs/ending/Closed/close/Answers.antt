@@ -8,7 +8,7 @@ returns-in-Ok-clause-buried g c e =
 
 pub returns-in-Ok-clause-told : goal.returns-in-Ok-clause-told
 returns-in-Ok-clause-told g c =
-    notices-closed c.args.opened c.in-Ok.closed c.end-end.result c.args.self.now.noticed.items c.keep.new.self.noticed.items c.in-Ok.ensures.ok c.end-end.ensures c.keep.ensures.noticed
+    notices-closed c.args.opened c.in-Ok.closed c.args.self.now.noticed.items c.keep.new.self.noticed.items c.in-Ok.ensures.ok c.keep.ensures.noticed
 
 pub returns-in-Err-clause-told : goal.returns-in-Err-clause-told
 returns-in-Err-clause-told g c =

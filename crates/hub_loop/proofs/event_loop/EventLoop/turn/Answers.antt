@@ -7,6 +7,7 @@ use Rattle.hub_loop.specs.declared.delivery.Due.TheVariants as turn_has
 use Rattle.hub_loop.specs.declared.loop_error.LoopError.{LoopError}
 use Rattle.hub_loop.specs.declared.loop_error.LoopError.TheVariants.{OutOfMemory}
 use Rattle.hub_loop.specs.declared.turn.Turn.TheVariants.{Delivered}
+use Rattle.hub_loop.proofs.Delivers.{taken-up}
 use Rattle.hub_loop.proofs.Pops.{pops-due}
 use Rattle.hub_loop.proofs.TakesNothing.{all-due, others-turn}
 use Rattle.hub_loop.proofs.event_loop.EventLoop.turn.Goals as goal
@@ -34,14 +35,9 @@ returns-in-Nothing-clause-pops g c =
 pub returns-in-Ok-clause-turn : goal.returns-in-Ok-clause-turn
 returns-in-Ok-clause-turn g c =
     let old = c.args.self.now in
-    let inside = c.self.inside in
     let after = c.self-2.inside in
     let looks = c.take_up.ensures.due.0 in
-    let stepped = subst (λ l. HasStepped l.listener after.listener looks) c.self.view_is
-    (subst (λ l. HasStepped inside.listener l.listener looks) (sym c.self-2.view_is) c.take_up.ensures.due.1) in
-    let taken = subst (IsDue inside.kept inside.holding c.take_up.new.self.holding looks c.args.steps.now c.take_up.new.steps) c.in-Delivery.is c.take_up.ensures.due.2 in
-    let due = subst (λ l. IsDue l.kept l.holding after.holding looks c.args.steps.now c.take_up.new.steps (turn_has.Delivery c.in-Delivery.delivery)) c.self.view_is
-    (subst (λ l. IsDue inside.kept inside.holding l.holding looks c.args.steps.now c.take_up.new.steps (turn_has.Delivery c.in-Delivery.delivery)) (sym c.self-2.view_is) taken) in
+    let (stepped, due) = taken-up _ old _ c.take_up.new.self looks c.args.steps.now c.take_up.new.steps c.take_up.result (turn_has.Delivery c.in-Delivery.delivery) c.self.view_is c.self-2.view_is c.take_up.ensures.due.1 c.in-Delivery.is c.take_up.ensures.due.2 in
     let handler : after.handler ≡ old.handler = ap (λ l. l.handler) c.self-2.view_is ∙ ap (λ l. l.handler) c.take_up.ensures.rest ∙ ap (λ l. l.handler) c.self.view_is in
     let did = c.in-Ok.ensures.delivered in
     let told = subst (λ h. g.H.Handler.leaves h c.in-Delivery.delivery.envelope did.1 c.deliver.new.handler) handler did.4 in
@@ -66,14 +62,9 @@ returns-in-Ok-clause-others g c =
 pub returns-in-Err-clause-turn : goal.returns-in-Err-clause-turn
 returns-in-Err-clause-turn g c =
     let old = c.args.self.now in
-    let inside = c.self.inside in
     let after = c.self-2.inside in
     let looks = c.take_up.ensures.due.0 in
-    let stepped = subst (λ l. HasStepped l.listener after.listener looks) c.self.view_is
-    (subst (λ l. HasStepped inside.listener l.listener looks) (sym c.self-2.view_is) c.take_up.ensures.due.1) in
-    let taken = subst (IsDue inside.kept inside.holding c.take_up.new.self.holding looks c.args.steps.now c.take_up.new.steps) c.in-Delivery.is c.take_up.ensures.due.2 in
-    let due = subst (λ l. IsDue l.kept l.holding after.holding looks c.args.steps.now c.take_up.new.steps (turn_has.Delivery c.in-Delivery.delivery)) c.self.view_is
-    (subst (λ l. IsDue inside.kept inside.holding l.holding looks c.args.steps.now c.take_up.new.steps (turn_has.Delivery c.in-Delivery.delivery)) (sym c.self-2.view_is) taken) in
+    let (stepped, due) = taken-up _ old _ c.take_up.new.self looks c.args.steps.now c.take_up.new.steps c.take_up.result (turn_has.Delivery c.in-Delivery.delivery) c.self.view_is c.self-2.view_is c.take_up.ensures.due.1 c.in-Delivery.is c.take_up.ensures.due.2 in
     let handler : after.handler ≡ old.handler = ap (λ l. l.handler) c.self-2.view_is ∙ ap (λ l. l.handler) c.take_up.ensures.rest ∙ ap (λ l. l.handler) c.self.view_is in
     let did = subst (λ h. IsDelivered {E = LoopError} g.H.Handler.leaves g.H.Handler.refuses c.in-Delivery.delivery c.deliver.new.self (store_of after.holding) (store_of c.deliver.new.holding) h c.deliver.new.handler (Err OutOfMemory)) handler c.in-Err.ensures.delivered in
     (looks, stepped, (c.in-Delivery.delivery, c.deliver.new.self, after.holding, due, did, refl, c.deliver.ensures.next))

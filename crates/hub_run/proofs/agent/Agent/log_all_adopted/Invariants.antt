@@ -1,5 +1,6 @@
-use Rattle.std.proofs.Common.{◌≡◌}
+use Rattle.std.proofs.Common.{take}
+use Rattle.hub_run.proofs.Walking.{Adopts}
 use Rattle.hub_run.proofs.agent.Agent.log_all_adopted.Given as goal
 
 abbrev pub invariant-loop-end : goal.invariant-loop-end
-invariant-loop-end g l = l.self ≡ l.fn.self
+invariant-loop-end g l = Adopts (take l.end-index l.ends) l.fn.self l.self

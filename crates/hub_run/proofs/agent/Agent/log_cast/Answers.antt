@@ -1,14 +1,11 @@
-use Rattle.hub_run.proofs.OneByOne.{copies_more, copies_same}
-use Rattle.hub_run.proofs.agent.Agent.log_cast.Goals.{in-Accepted+in_ok-log_put-in-Accepted, in-OutOfMemory, in-Closed-1, in-Moving-1}
+use Rattle.std.proofs.Common.{◌≡◌, ◌∙◌, ◌+◌, suc, take, ap, arith}
+use Rattle.std.proofs.Math.Seq.{take-suc}
+use Rattle.hub_run.proofs.Walking.{cast_more}
 use Rattle.hub_run.proofs.agent.Agent.log_cast.Goals as goal
 
 pub loop-outcome-preserved : goal.loop-outcome-preserved
 loop-outcome-preserved g c =
-    let before = c.args.self.now in
-    let body = c.args.body.now in
-    elim c.match-outcome.branch [
-      | in-Accepted+in_ok-log_put-in-Accepted w ↦ copies_more body before c.loop-outcome.self w.log_put.new.self c.match-outcome.self c.loop-outcome.invariant w.in_ok-log_put-in-Accepted.ensures w.self-is
-      | in-OutOfMemory w ↦ copies_same body before c.loop-outcome.self c.match-outcome.self c.loop-outcome.invariant w.self-is
-      | in-Closed-1 w ↦ copies_same body before c.loop-outcome.self c.match-outcome.self c.loop-outcome.invariant w.self-is
-      | in-Moving-1 w ↦ copies_same body before c.loop-outcome.self c.match-outcome.self c.loop-outcome.invariant w.self-is
-    ]
+    let all = c.args.outcomes.now in
+    let done = c.loop-outcome.outcome-index in
+    let next : done + 1 ≡ suc done = omega arith in
+    cast_more c.args.body.now (take done all) (take (done + 1) all) _ c.args.self.now c.loop-outcome.self c.log_outcome.new.self (ap (λ n. take n all) next ∙ take-suc all done _ c.loop-outcome-test.true) c.loop-outcome.invariant c.in_ok-log_outcome.ensures

@@ -1,10 +1,9 @@
 use Rattle.std.proofs.Common.{ap}
 use Rattle.hub_logging.specs.Notes.{Notes}
-use Rattle.hub_run.specs.Posts.{posts_of}
 use Rattle.hub_run.proofs.Logs.{run_of}
 use Rattle.hub_run.proofs.agent.Agent.run.Goals as goal
 
 pub returns : goal.returns
 returns g c =
-    run_of c.args.script.now c.args.number (posts_of c.new.result.log) c.act_or_order-acted.new.self c.in_ok-acted.field-0 c.in_ok-finished.field-0
-    (ap (λ (n : Notes). posts_of n.log) c.new.ensures) c.in_ok-acted.ensures c.in_ok-finished.ensures
+    run_of c.args.script.now c.args.number c.new.result c.act_or_order-acted.new.self c.in_ok-acted.field-0 c.in_ok-finished.field-0
+    (ap (λ (n : Notes). n.log) c.new.ensures) c.in_ok-acted.ensures c.in_ok-finished.ensures
