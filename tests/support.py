@@ -17,6 +17,8 @@ sys.path.append(str(ROOT / "tools"))
 BUILT = ROOT / "crates" / "messagehub" / "out" / "messagehub"
 # Where `tests/all --program` says which program is tested.
 PROGRAM = os.environ.get("VARUKONI_PROGRAM", str(BUILT))
+# The program that plays step files on the parts that threads share.
+PLAYER = str(ROOT / "crates" / "hub_player" / "out" / "hub_player")
 MODES = ("steps", "run", "check")
 # A longer input or output stands in the repository as a recipe.
 MOST_BYTES = 100_000

@@ -8,7 +8,7 @@ with cc from refuse.c, refuses the Nth call of malloc and realloc.
 import re
 
 import support
-from support import PROGRAM, ROOT, outcome_of
+from support import PLAYER, PROGRAM, ROOT, outcome_of
 
 SETTING = "REFUSED_ALLOCATION"
 ENDING = "whichever_allocation_is_refused"
@@ -28,6 +28,12 @@ ROWS = {
         "ring-of-sixteen",
     ],
 }
+
+# The rows that are played on the running parts with each allocation refused.
+PLAYED = [
+    "arrived-port-closed", "client-queue-goes-on", "long-body-taken", "sixteen-ports",
+    "swept-after-moves", "three-ports-sent", "transfer-with-backlog", "worker-queue-goes-on",
+]
 
 # Bodies that are compact already, each of which is posted too in a list beside the string, and one
 # that isn't.
@@ -74,6 +80,43 @@ def is_cut_short(mode, output, whole):
     if mode == "run" or front == output:
         return output == LAST_LINE
     return whole.startswith(front) and (not front or front.endswith(b"\n"))
+
+
+class Player(Refusing):
+    """The program that plays step files on the parts that threads share.
+
+    It plays a line once more where there was no memory. So whichever call was refused, what is left
+    of the line is as if it had not been played, and its outcome is the right one; but the notice of
+    a close may have found no memory. Where the input found none, `out of memory` is alone.
+    """
+
+    @staticmethod
+    def right_outcomes(text):
+        """The outcome, and those in which the notice of one close finds no memory."""
+        lines = text.splitlines(keepends=True)
+        marked = [
+            b"".join([*lines[:at], b"!" + line, *lines[at + 1:]])
+            for at, line in enumerate(lines) if line.startswith(b"close ")
+        ]
+        return [outcome_of([PROGRAM, "steps"], it) for it in [text, *marked]]
+
+    def test_rows(self):
+        calls = unread = 0
+        for name in PLAYED:
+            row = support.row("steps", name)
+            with self.subTest(row=name):
+                right = self.right_outcomes(row.text)
+                self.assertEqual(right[0], row.wanted())
+                for number, found, was_refused in self.outcomes([PLAYER], row.text):
+                    if was_refused and found.status == 3:
+                        self.assertEqual((found.output, found.errors), (LAST_LINE, b""), number)
+                        unread += 1
+                    else:
+                        self.assertIn(found, right, f"call {number} refused")
+                    calls += was_refused
+        self.assertLessEqual(unread, 4 * len(PLAYED), "most calls come after the input was read")
+        self.says(len(PLAYED), "rows")
+        self.says(calls, "calls", 200)
 
 
 class Program(Refusing):
@@ -187,8 +230,8 @@ class Crates(Refusing):
         return refused
 
     def test_sources(self):
-        """No test of that kind is lost from the sources."""
-        self.says(sum(map(len, CRATES.values())), "tests in the sources", 26)
+        """No test of that kind is lost from the sources; ports are played as files (`Player`)."""
+        self.says(sum(map(len, CRATES.values())), "tests in the sources", 24)
 
 
 def method_of(crate):

@@ -21,7 +21,7 @@ class Rows(support.TestCase):
         self.says(len(rows), "rows", floor)
 
     def test_steps(self):
-        self.compare("steps", 98)
+        self.compare("steps", 105)
 
     def test_run(self):
         self.compare("run", 44)

@@ -1,0 +1,193 @@
+//! Agents and new ends.
+
+use crate::agent::Agent;
+use crate::player::{Player, answer, not_now};
+use crate::seat::{Kind, Place, Seat};
+use crate::stop::Stop;
+use hub_broadcast::{JoinError, Origin};
+use hub_clients::{HandedQueue, QueueError};
+use hub_core::Outcome;
+use hub_envelope::{AgentId, EndId, MAX_AGENTS, Text};
+use hub_ports::{ChannelError, Port, channel};
+use hub_queue::Bell;
+use hub_steps::{AgentUrl, Shown};
+use std::sync::Wait;
+
+impl Player {
+    pub(crate) fn make_agent(&mut self, url: AgentUrl) -> Result<Shown, Stop> {
+        match url {
+            AgentUrl::NoUrl => self.add_agent(None),
+            AgentUrl::Origin(origin) => self.add_agent(Some(origin)),
+            AgentUrl::BadUrl => Ok(Shown::BadUrl),
+            AgentUrl::OpaqueOrigin => Ok(Shown::OpaqueOrigin),
+        }
+    }
+
+    fn add_agent(&mut self, origin: Option<Origin>) -> Result<Shown, Stop> {
+        let number = self.agents.len();
+        if number >= MAX_AGENTS {
+            return answer(Outcome::TooManyAgents);
+        }
+        let Some(agent) = Agent::open(self.alloc, origin) else {
+            return Err(Stop::OutOfMemory);
+        };
+        match self.agents.push(agent) {
+            Ok(()) => answer(Outcome::Agent(AgentId(number as u8))),
+            Err(_) => Err(Stop::OutOfMemory),
+        }
+    }
+
+    /// One more bell of an agent.
+    pub(crate) fn bell_of(&self, agent: AgentId) -> Result<Bell, Stop> {
+        match self.agent(agent) {
+            Some(agent) => agent.bell().ok_or(Stop::OutOfMemory),
+            None => Err(Stop::Unexpected),
+        }
+    }
+
+    /// Finds room for so many ends, before they are made.
+    fn reserve(&mut self, count: usize) -> Result<(), Stop> {
+        match self.seats.reserve(count) {
+            Ok(()) => Ok(()),
+            Err(_) => Err(Stop::OutOfMemory),
+        }
+    }
+
+    /// Keeps a new end. Whether its number is the next one.
+    fn add(&mut self, end: EndId, seat: Seat) -> bool {
+        let is_next = end.0 as usize == self.seats.len();
+        self.seats.push(seat).is_ok() && is_next
+    }
+
+    pub(crate) fn make_channel(&mut self, agent: AgentId) -> Result<Shown, Stop> {
+        if !self.is_running(agent) {
+            return not_now();
+        }
+        self.reserve(2)?;
+        let bell = self.bell_of(agent)?;
+        match channel(self.alloc, &mut self.ends, bell) {
+            Ok((first, second)) => self.add_ports(agent, first, second),
+            Err(ChannelError::TooManyEnds) => answer(Outcome::TooManyEnds),
+            Err(ChannelError::OutOfMemory) => Err(Stop::OutOfMemory),
+        }
+    }
+
+    fn add_ports(&mut self, agent: AgentId, first: Port, second: Port) -> Result<Shown, Stop> {
+        let (one, other) = (first.end(), second.end());
+        let has_one = self.add(one, Seat::of_port(agent, first));
+        let has_other = self.add(other, Seat::of_port(agent, second));
+        if has_one && has_other {
+            answer(Outcome::Ends(one, other))
+        } else {
+            Err(Stop::Unexpected)
+        }
+    }
+
+    /// What is shown of a new end.
+    fn added(&mut self, end: EndId, seat: Seat) -> Result<Shown, Stop> {
+        if self.add(end, seat) {
+            answer(Outcome::End(end))
+        } else {
+            Err(Stop::Unexpected)
+        }
+    }
+
+    fn has_queue(&self, kind: Kind, agent: AgentId) -> bool {
+        self.seats.iter().any(|seat| {
+            seat.kind == kind && seat.place == Place::Held && seat.agent == agent
+        })
+    }
+
+    fn open_queue<R: Wait>(
+        &mut self,
+        rt: &R,
+        kind: Kind,
+        bell: Bell,
+    ) -> Result<HandedQueue, QueueError> {
+        if kind == Kind::Client {
+            let queue = self.directory.client(rt, &mut self.ends, bell)?;
+            Ok(HandedQueue::Client(queue))
+        } else {
+            let queue = self.directory.worker(rt, &mut self.ends, bell)?;
+            Ok(HandedQueue::Worker(queue))
+        }
+    }
+
+    /// Makes the queue of a client or worker, where the agent has none of that kind.
+    pub(crate) fn make_queue<R: Wait>(
+        &mut self,
+        rt: &R,
+        kind: Kind,
+        agent: AgentId,
+    ) -> Result<Shown, Stop> {
+        if !self.is_running(agent) || self.has_queue(kind, agent) {
+            return not_now();
+        }
+        self.reserve(1)?;
+        let bell = self.bell_of(agent)?;
+        match self.open_queue(rt, kind, bell) {
+            Ok(queue) => {
+                self.begin_life(kind, agent);
+                self.added(queue.end(), Seat::of_queue(agent, kind, queue))
+            }
+            Err(QueueError::TooManyEnds) => answer(Outcome::TooManyEnds),
+            Err(QueueError::OutOfMemory) => Err(Stop::OutOfMemory),
+        }
+    }
+
+    fn begin_life(&mut self, kind: Kind, agent: AgentId) {
+        if kind == Kind::Worker {
+            if let Some(agent) = self.agent_mut(agent) {
+                agent.begin_life();
+            }
+        }
+    }
+
+    pub(crate) fn make_member<R: Wait>(
+        &mut self,
+        rt: &R,
+        agent: AgentId,
+        name: Text,
+    ) -> Result<Shown, Stop> {
+        if !self.is_running(agent) {
+            return not_now();
+        }
+        match self.origin_of(agent)? {
+            Some(origin) => self.join(rt, agent, origin, name.as_str()),
+            None => answer(Outcome::NoOrigin),
+        }
+    }
+
+    fn origin_of(&self, agent: AgentId) -> Result<Option<Origin>, Stop> {
+        let Some(agent) = self.agent(agent) else {
+            return Ok(None);
+        };
+        match &agent.origin {
+            Some(origin) => match origin.clone() {
+                Ok(origin) => Ok(Some(origin)),
+                Err(_) => Err(Stop::OutOfMemory),
+            },
+            None => Ok(None),
+        }
+    }
+
+    fn join<R: Wait>(
+        &mut self,
+        rt: &R,
+        agent: AgentId,
+        origin: Origin,
+        name: &str,
+    ) -> Result<Shown, Stop> {
+        self.reserve(1)?;
+        let Ok(name) = String::from_str(self.alloc, name) else {
+            return Err(Stop::OutOfMemory);
+        };
+        let bell = self.bell_of(agent)?;
+        let ends = &mut self.ends;
+        match self.roster.join(rt, ends, agent, origin, name, bell) {
+            Ok(member) => self.added(member.end(), Seat::of_member(agent, member)),
+            Err(JoinError::TooManyEnds) => answer(Outcome::TooManyEnds),
+            Err(JoinError::OutOfMemory) => Err(Stop::OutOfMemory),
+        }
+    }
+}

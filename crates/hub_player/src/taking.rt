@@ -1,0 +1,103 @@
+//! Starts and takes.
+
+use crate::player::{Player, Standing, answer, not_now};
+use crate::seat::Kind;
+use crate::stop::Stop;
+use hub_core::Outcome;
+use hub_envelope::{AgentId, EndId, Envelope};
+use hub_ports::Arrived;
+use hub_queue::Took;
+use hub_steps::Shown;
+use std::sync::Wait;
+
+impl Player {
+    pub(crate) fn start(&mut self, end: EndId) -> Result<Shown, Stop> {
+        match self.standing(end) {
+            Standing::Closed => answer(Outcome::Closed),
+            Standing::Elsewhere => not_now(),
+            Standing::AtHand => match self.seat_mut(end) {
+                Some(seat) => match seat.start() {
+                    Some(()) => answer(Outcome::Started),
+                    None => Err(Stop::Start),
+                },
+                None => Err(Stop::Unexpected),
+            },
+        }
+    }
+
+    pub(crate) fn load(&mut self, end: EndId) -> Result<Shown, Stop> {
+        let is_client = match self.seat(end) {
+            Some(seat) => seat.kind == Kind::Client,
+            None => false,
+        };
+        if !is_client {
+            return not_now();
+        }
+        match self.standing(end) {
+            Standing::Closed => answer(Outcome::Closed),
+            Standing::Elsewhere => not_now(),
+            Standing::AtHand => match self.seat_mut(end) {
+                Some(seat) => match seat.loaded() {
+                    Some(()) => answer(Outcome::Started),
+                    None => Err(Stop::Unexpected),
+                },
+                None => Err(Stop::Unexpected),
+            },
+        }
+    }
+
+    pub(crate) fn take<R: Wait>(&mut self, rt: &R, end: EndId) -> Result<Shown, Stop> {
+        match self.standing(end) {
+            Standing::Closed => answer(Outcome::Closed),
+            Standing::Elsewhere => not_now(),
+            Standing::AtHand => self.take_at(rt, end),
+        }
+    }
+
+    fn take_at<R: Wait>(&mut self, rt: &R, end: EndId) -> Result<Shown, Stop> {
+        let Some(seat) = self.seat_mut(end) else {
+            return Err(Stop::Unexpected);
+        };
+        let agent = seat.agent;
+        match seat.take(rt) {
+            Some(Took::Got(envelope)) => self.got(rt, agent, envelope),
+            Some(Took::Empty) => answer(Outcome::Empty),
+            Some(Took::Busy) => answer(Outcome::Busy),
+            Some(Took::Again) => answer(Outcome::Again),
+            Some(Took::Disabled) => answer(Outcome::Disabled),
+            Some(Took::Closed) | None => Err(Stop::Unexpected),
+        }
+    }
+
+    /// The ports that the envelope names have come to the agent.
+    fn got<R: Wait>(&mut self, rt: &R, agent: AgentId, envelope: Envelope) -> Result<Shown, Stop> {
+        let arrived = self.arrivals(rt, &envelope)?;
+        for arrived in arrived {
+            if let Some(seat) = self.seat_mut(arrived.end()) {
+                seat.arrive(arrived, agent);
+            }
+        }
+        answer(Outcome::Got(envelope))
+    }
+
+    /// The ports that an envelope names, which are all in flight. Where there is no memory it looks
+    /// once more, since the envelope was taken.
+    pub(crate) fn arrivals<R: Wait>(
+        &self,
+        rt: &R,
+        envelope: &Envelope,
+    ) -> Result<Vec<Arrived>, Stop> {
+        let arrival = match self.hub.arrive(rt, envelope) {
+            Ok(arrival) => arrival,
+            Err(_) => match self.hub.arrive(rt, envelope) {
+                Ok(arrival) => arrival,
+                Err(_) => return Err(Stop::OutOfMemory),
+            },
+        };
+        if arrival.missing.is_empty() {
+            Ok(arrival.found)
+        } else {
+            Err(Stop::Unexpected)
+        }
+    }
+}
