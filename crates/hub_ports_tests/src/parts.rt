@@ -63,19 +63,6 @@ pub(crate) fn take<R: Wait>(rt: &R, port: &mut Port) -> Took {
     take_counted::<Brand, R>(rt, port, Blank::new(2))
 }
 
-/// Whether these numbers are these, in order.
-pub(crate) fn are_numbers(ends: &[EndId], numbers: &[u32]) -> bool {
-    if ends.len() != numbers.len() {
-        return false;
-    }
-    for (end, number) in ends.iter().zip(numbers) {
-        if end.0 != *number {
-            return false;
-        }
-    }
-    true
-}
-
 /// Whether the numbers of these ports are these, in order.
 pub(crate) fn are_numbered(ports: &[Port], numbers: &[u32]) -> bool {
     if ports.len() != numbers.len() {
