@@ -2,21 +2,20 @@
 use Rattle.std.proofs.Common.{◌≡◌, List, [], ◌∷◌, ◌++◌, refl, sym, ap, ◌∙◌, subst, ⊎_elim, inl, inr, append_assoc, append-nil}
 use Rattle.slab.specs.Slab.{Slab, SameValues}
 use Rattle.hub_envelope.specs.declared.ids.EndId.{EndId}
-use Rattle.hub_ports.specs.Seats.{PortSeat, end_of}
+use Rattle.hub_ports.specs.Seats.{PortSeat}
 use Rattle.hub_loop.specs.declared.held.Held.{Held}
-use Rattle.hub_loop.specs.declared.ending.Closed.{Closed}
 use Rattle.hub_loop.specs.Adopting.{Stored, HoldsMore, SameClosed, SameStored, IsPortBuried, IsOneAdopted, AreAdopted, ArePartlyAdopted}
-use Rattle.hub_loop.specs.declared.delivery.Receiving.{Receiving}
+use Rattle.hub_loop.specs.States.{ClosedState, ReceivingState}
 
 -- what was held before may be told of another slab that holds the same
 holds-after : (old mid new : Slab Held) (h : Held) → SameValues old mid → HoldsMore mid new h → HoldsMore old new h
 holds-after old mid new h same more =
     (more.0, sym (same more.0) ∙ more.1, record { changed = more.2.changed; others = λ k other. more.2.others k other ∙ same k })
 
-closed-after : (old mid new : Closed) → SameClosed old mid → SameClosed mid new → SameClosed old new
+closed-after : (old mid new : ClosedState) → SameClosed old mid → SameClosed mid new → SameClosed old new
 closed-after old mid new first second = (second.0 ∙ first.0, second.1 ∙ first.1)
 
-pub buried-after : (p : PortSeat) (old mid new : Closed) → SameClosed old mid → IsPortBuried p mid new → IsPortBuried p old new
+pub buried-after : (p : PortSeat) (old mid new : ClosedState) → SameClosed old mid → IsPortBuried p mid new → IsPortBuried p old new
 buried-after p old mid new same buried =
     (buried.0, buried.1, buried.2, buried.3, buried.4 ∙ ap (λ graves. graves ++ buried.0 ∷ []) same.0, buried.5 ∙ ap (λ noticed. noticed ++ buried.1 ∷ []) same.1)
 
@@ -41,28 +40,28 @@ adopts-same (q ∷ ps) old mid new a b did same =
     (did.0, did.1, did.2, adopts-same ps did.0 mid new did.1 b did.3 same)
 
 -- one port more was adopted or refused for good
-pub partly-more : (old mid new : Receiving) (before between after : Stored) (p : PortSeat) → ((done : List PortSeat) × ArePartlyAdopted old mid before between done) → mid.found.items ≡ p ∷ new.found.items → IsOneAdopted p between after mid.missing.items new.missing.items → (done : List PortSeat) × ArePartlyAdopted old new before after done
+pub partly-more : (old mid new : ReceivingState) (before between after : Stored) (p : PortSeat) → ((done : List PortSeat) × ArePartlyAdopted old mid before between done) → mid.found ≡ p ∷ new.found → IsOneAdopted p between after mid.missing new.missing → (done : List PortSeat) × ArePartlyAdopted old new before after done
 partly-more old mid new before between after p partly first one = (
   partly.0 ++ p ∷ [],
   (
-    partly.1.0 ∙ ap (λ ps. partly.0 ++ ps) first ∙ sym (append_assoc partly.0 (p ∷ []) new.found.items),
-    adopts-more partly.0 p before between after old.missing.items mid.missing.items new.missing.items partly.1.1 one,
+    partly.1.0 ∙ ap (λ ps. partly.0 ++ ps) first ∙ sym (append_assoc partly.0 (p ∷ []) new.found),
+    adopts-more partly.0 p before between after old.missing mid.missing new.missing partly.1.1 one,
   ),
 )
 
 -- nothing more was done
-pub partly-same : (old mid new : Receiving) (before between after : Stored) → ((done : List PortSeat) × ArePartlyAdopted old mid before between done) → new.found.items ≡ mid.found.items → SameStored between after → new.missing.items ≡ mid.missing.items → (done : List PortSeat) × ArePartlyAdopted old new before after done
+pub partly-same : (old mid new : ReceivingState) (before between after : Stored) → ((done : List PortSeat) × ArePartlyAdopted old mid before between done) → new.found ≡ mid.found → SameStored between after → new.missing ≡ mid.missing → (done : List PortSeat) × ArePartlyAdopted old new before after done
 partly-same old mid new before between after partly found same missing = (
   partly.0,
   (
     partly.1.0 ∙ ap (λ ps. partly.0 ++ ps) (sym found),
-    subst (λ m. AreAdopted partly.0 before after old.missing.items m) (sym missing)
-        (adopts-same partly.0 before between after old.missing.items mid.missing.items partly.1.1 same),
+    subst (λ m. AreAdopted partly.0 before after old.missing m) (sym missing)
+        (adopts-same partly.0 before between after old.missing mid.missing partly.1.1 same),
   ),
 )
 
 -- no port is left
-pub all-done : (old new : Receiving) (before after : Stored) → ((done : List PortSeat) × ArePartlyAdopted old new before after done) → new.found.items ≡ [] → AreAdopted old.found.items before after old.missing.items new.missing.items
+pub all-done : (old new : ReceivingState) (before after : Stored) → ((done : List PortSeat) × ArePartlyAdopted old new before after done) → new.found ≡ [] → AreAdopted old.found before after old.missing new.missing
 all-done old new before after partly none =
-    let all : old.found.items ≡ partly.0 = partly.1.0 ∙ ap (λ ps. partly.0 ++ ps) none ∙ append-nil partly.0 in
-    subst (λ ps. AreAdopted ps before after old.missing.items new.missing.items) (sym all) partly.1.1
+    let all : old.found ≡ partly.0 = partly.1.0 ∙ ap (λ ps. partly.0 ++ ps) none ∙ append-nil partly.0 in
+    subst (λ ps. AreAdopted ps before after old.missing new.missing) (sym all) partly.1.1

@@ -1,14 +1,13 @@
 -- How many ends of a number there are, while they go from one list to another.
-use Rattle.std.proofs.Common.{◌≡◌, ◌≢◌, ℕ, suc, ◌+◌, ◌<◌, ◌≤◌, cond, Bool, false, List, [], ◌∷◌, ◌++◌, map, length, get_or, refl, sym, ap, ◌∙◌, subst, ⊎_elim, append_assoc, append-nil, arith, Option, Some, None}
-use Rattle.std.specs.Prelude.{option_to_list, Result, Ok, Err, OnOk, ◌==◌}
+use Rattle.std.proofs.Common.{◌≡◌, ◌≢◌, ℕ, suc, ◌+◌, ◌<◌, ◌≤◌, cond, Bool, false, List, [], ◌∷◌, ◌++◌, map, length, get_or, refl, sym, ap, ◌∙◌, subst, ⊎_elim, append-nil, arith, Option, Some, None}
+use Rattle.std.specs.Prelude.{option_to_list, Result, Ok, Err, OnOk}
 use Rattle.std.specs.List.{count_by}
 use Rattle.std.specs.List.Sorted.{IsPermutation, IsNonDecreasing, IsNonDecreasingBy}
 use Rattle.std.proofs.lemmas.List.Sorted.{sum_by-IsPermutation}
 use Rattle.std.proofs.lemmas.Bool.{cases_lt}
 use Rattle.std.proofs.lemmas.List.{get_or_past, get_or-map, length-map}
-use Rattle.hub_queue.specs.Graves.{GraveSeat}
-use Rattle.hub_loop.specs.Ending.{is_grave, grave_ends, swept_ends, closing_ends, GoesOn, HasEnded}
-use Rattle.hub_loop.specs.declared.closing.Closing.{Closing}
+use Rattle.hub_loop.specs.Ending.{grave_ends, swept_ends, closing_ends}
+use Rattle.hub_loop.specs.States.{ClosingState}
 use Rattle.std.proofs.lemmas.List.Sums.{sum_by_push, sum_by-cons}
 
 -- one more at the end
@@ -84,27 +83,6 @@ count-map q f (x ∷ xs) =
     let rest = count-map q f xs in
     omega (arith, left, right, rest)
 
--- the end goes on from what had begun
-pub begun : (c : Closing) (ends : ℕ → ℕ) (o : Option Closing) → o ≡ Some c → HasEnded o ends (closing_ends c)
-begun c ends o is = subst (λ (p : Option Closing). HasEnded p ends (closing_ends c)) (sym is) ([], sym (append-nil (closing_ends c)))
-
--- nothing had begun
-pub begins : (c : Closing) (ends : ℕ → ℕ) (o : Option Closing) → o ≡ None → c.swept.items ≡ [] → IsNonDecreasing (grave_ends c.graves.items) → ((e : ℕ) → count_by (is_grave e) c.graves.items ≡ ends e) → HasEnded o ends (closing_ends c)
-begins c ends o is none rise each =
-    subst (λ (p : Option Closing). HasEnded p ends (closing_ends c)) (sym is) (
-      grave_ends c.graves.items,
-      ([], ap (λ swept. swept_ends swept ++ grave_ends c.graves.items) none ∙ sym (append-nil (grave_ends c.graves.items))),
-      rise,
-      λ e. count-map (λ n. n == e) (λ (g : GraveSeat). g.end) c.graves.items ∙ each e,
-    )
-
--- more ends were swept
-pub ends-further : (o : Option Closing) (ends : ℕ → ℕ) (before after : List ℕ) → HasEnded o ends before → GoesOn before after → HasEnded o ends after
-ends-further None ends before after ended further =
-    (ended.0, (ended.1.0 ++ further.0, further.1 ∙ ap (λ ns. ns ++ further.0) ended.1.1 ∙ append_assoc ended.0 ended.1.0 further.0), ended.2, ended.3)
-ends-further (Some c) ends before after ended further =
-    (ended.0 ++ further.0, further.1 ∙ ap (λ ns. ns ++ further.0) ended.1 ∙ append_assoc (closing_ends c) ended.0 further.0)
-
 -- all was swept
-pub all-swept : (c : Closing) → c.graves.items ≡ [] → closing_ends c ≡ swept_ends c.swept.items
-all-swept c none = ap (λ graves. swept_ends c.swept.items ++ grave_ends graves) none ∙ append-nil (swept_ends c.swept.items)
+pub all-swept : (c : ClosingState) → c.graves ≡ [] → closing_ends c ≡ swept_ends c.swept
+all-swept c none = ap (λ graves. swept_ends c.swept ++ grave_ends graves) none ∙ append-nil (swept_ends c.swept)

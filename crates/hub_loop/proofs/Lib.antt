@@ -7,5 +7,6 @@ mod Looks
 mod Notices
 mod Pops
 mod Reaches
+mod Scans
 mod Serves
 mod TakesNothing

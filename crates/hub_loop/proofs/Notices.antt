@@ -11,13 +11,13 @@ use Rattle.hub_clients.specs.declared.handed_queue.HandedQueue.TheVariants as ha
 use Rattle.hub_ports.specs.Seats.{PortSeat}
 use Rattle.hub_queue.specs.Graves.{GraveSeat}
 use Rattle.hub_loop.specs.declared.closed_port.ClosedPort.{ClosedPort}
-use Rattle.hub_loop.specs.declared.closing.Closing.{Closing}
 use Rattle.hub_loop.specs.declared.ending.Open.{Open}
 use Rattle.hub_loop.specs.declared.ending.Open.TheVariants as opens
 use Rattle.hub_loop.specs.declared.held.Held.{Held}
 use Rattle.hub_loop.specs.declared.held.Held.TheVariants.{Port, Client, Worker, Member, Line}
 use Rattle.hub_loop.specs.Ending.{is_held, is_open, is_queue, slot_passes, queue_passes, is_grave, grave_ends, swept_ends, closing_ends}
-use Rattle.hub_loop.specs.Noticing.{open_number, port_in, ports_back, is_port_passing, port_numbers, ClosesLast, AllClosed, SomeClosed, NamedBehind, HasNoticed}
+use Rattle.hub_loop.specs.Noticing.{open_number, port_in, ports_back, is_port_passing, port_numbers, ClosesLast, AllClosed, SomeClosed, NamedBehind, AreEnded}
+use Rattle.hub_loop.specs.States.{ClosingState}
 use Rattle.hub_loop.specs.Telling.{IsTold, AreTold, NoticesMore}
 use Rattle.hub_loop.proofs.Ends.{rises, count-map}
 
@@ -74,38 +74,34 @@ behind-one closed swept old new g p before between after first more same told =
     )
 
 -- the same ends stand in the same order, and the same is told
-pub ends-same : (c d : Closing) → d.graves ≡ c.graves → d.swept ≡ c.swept → closing_ends d ≡ closing_ends c
-ends-same c d graves swept =
-    ap (λ s. swept_ends s.items ++ grave_ends d.graves.items) swept ∙ ap (λ g. swept_ends c.swept.items ++ grave_ends g.items) graves
-
-pub behind-same : (first c d : Closing) → NamedBehind (closing_ends first) (closing_ends c) first.noticed.items c.noticed.items → closing_ends d ≡ closing_ends c → d.noticed ≡ c.noticed → NamedBehind (closing_ends first) (closing_ends d) first.noticed.items d.noticed.items
+pub behind-same : (first c d : ClosingState) → NamedBehind (closing_ends first) (closing_ends c) first.noticed c.noticed → closing_ends d ≡ closing_ends c → d.noticed ≡ c.noticed → NamedBehind (closing_ends first) (closing_ends d) first.noticed d.noticed
 behind-same first c d behind ends told =
-    subst (λ n. NamedBehind (closing_ends first) (closing_ends d) first.noticed.items n.items) (sym told)
-    (subst (λ ns. NamedBehind (closing_ends first) ns first.noticed.items c.noticed.items) (sym ends) behind)
+    subst (λ n. NamedBehind (closing_ends first) (closing_ends d) first.noticed n) (sym told)
+    (subst (λ ns. NamedBehind (closing_ends first) ns first.noticed c.noticed) (sym ends) behind)
 
 -- what is told goes on from what had begun
-pub noticed-begun : (c : Closing) (ends : ℕ → ℕ) (ports : (PortSeat → Bool) → ℕ) (before : List ClosedPort) (o : Option Closing) → o ≡ Some c → HasNoticed o ends ports (closing_ends c) before c.noticed.items
-noticed-begun c ends ports before o is =
-    subst (λ (p : Option Closing). HasNoticed p ends ports (closing_ends c) before c.noticed.items) (sym is) (behind-none (closing_ends c) (closing_ends c) c.noticed.items c.noticed.items refl refl)
+pub ended-begun : (c : ClosingState) (ends : ℕ → ℕ) (ports : (PortSeat → Bool) → ℕ) (before : List ClosedPort) (o : Option ClosingState) → o ≡ Some c → AreEnded o ends ports (closing_ends c) before c.noticed
+ended-begun c ends ports before o is =
+    subst (λ (p : Option ClosingState). AreEnded p ends ports (closing_ends c) before c.noticed) (sym is) (behind-none (closing_ends c) (closing_ends c) c.noticed c.noticed refl refl)
 
 -- nothing had begun
-pub noticed-begins : (c : Closing) (ends : ℕ → ℕ) (ports : (PortSeat → Bool) → ℕ) (before between : List ClosedPort) (o : Option Closing) → o ≡ None → c.swept.items ≡ [] → IsNonDecreasing (grave_ends c.graves.items) → ((e : ℕ) → count_by (is_grave e) c.graves.items ≡ ends e) → AllClosed ports before between → c.noticed.items ≡ between → HasNoticed o ends ports (closing_ends c) before c.noticed.items
-noticed-begins c ends ports before between o is none rise each all same =
-    subst (λ (p : Option Closing). HasNoticed p ends ports (closing_ends c) before c.noticed.items) (sym is) (
-      grave_ends c.graves.items,
+pub ended-begins : (c : ClosingState) (ends : ℕ → ℕ) (ports : (PortSeat → Bool) → ℕ) (before between : List ClosedPort) (o : Option ClosingState) → o ≡ None → c.swept ≡ [] → IsNonDecreasing (grave_ends c.graves) → ((e : ℕ) → count_by (is_grave e) c.graves ≡ ends e) → AllClosed ports before between → c.noticed ≡ between → AreEnded o ends ports (closing_ends c) before c.noticed
+ended-begins c ends ports before between o is none rise each all same =
+    subst (λ (p : Option ClosingState). AreEnded p ends ports (closing_ends c) before c.noticed) (sym is) (
+      grave_ends c.graves,
       between,
       rise,
-      (λ e. count-map (λ n. n == e) (λ (g : GraveSeat). g.end) c.graves.items ∙ each e),
+      (λ e. count-map (λ n. n == e) (λ (g : GraveSeat). g.end) c.graves ∙ each e),
       all,
-      behind-none (grave_ends c.graves.items) (closing_ends c) between c.noticed.items (ap (λ swept. swept_ends swept ++ grave_ends c.graves.items) none) same,
+      behind-none (grave_ends c.graves) (closing_ends c) between c.noticed (ap (λ swept. swept_ends swept ++ grave_ends c.graves) none) same,
     )
 
 -- more was closed behind
-pub noticed-further : (o : Option Closing) (ends : ℕ → ℕ) (ports : (PortSeat → Bool) → ℕ) (first then : List ℕ) (before between after : List ClosedPort) → HasNoticed o ends ports first before between → NamedBehind first then between after → HasNoticed o ends ports then before after
-noticed-further None ends ports first then before between after told further =
+pub ended-further : (o : Option ClosingState) (ends : ℕ → ℕ) (ports : (PortSeat → Bool) → ℕ) (first then : List ℕ) (before between after : List ClosedPort) → AreEnded o ends ports first before between → NamedBehind first then between after → AreEnded o ends ports then before after
+ended-further None ends ports first then before between after told further =
     (told.0, told.1, told.2, told.3, told.4, behind-twice told.0 first then told.1 between after told.5 further)
-noticed-further (Some c) ends ports first then before between after told further =
-    behind-twice (closing_ends c) first then c.noticed.items between after told further
+ended-further (Some c) ends ports first then before between after told further =
+    behind-twice (closing_ends c) first then c.noticed between after told further
 
 -- one more stands at the end of those that were taken out
 back-push : (os : List Open) (o : Open) → ports_back (os ++ o ∷ []) ≡ port_in o ++ ports_back os

@@ -1,6 +1,6 @@
 -- Each enabled end that was asked costs a pop at least.
 use Rattle.std.proofs.Common.{◌≡◌, ℕ, zero, suc, ◌+◌, ◌-◌, ◌<◌, ◌≤◌, cond, Bool, false, ◌||◌, List, [], ◌∷◌, ◌++◌, subst, take, length, refl, sym, ap, ◌∙◌, ⊎_elim, arith, Option, Some, None}
-use Rattle.std.specs.Prelude.{nat_lt}
+use Rattle.std.specs.Prelude.{nat_lt, Err}
 use Rattle.std.specs.List.{count_by}
 use Rattle.std.proofs.lemmas.Bool.{cases_eq, cases_lt, cond_both}
 use Rattle.std.proofs.lemmas.List.{get_or_past, take_all}
@@ -15,12 +15,10 @@ use Rattle.hub_loop.specs.Holding.{seat_of}
 use Rattle.hub_loop.specs.Popping.{is_seat_enabled, is_enabled}
 use Rattle.hub_loop.specs.Serving.{IsSlotAsked, IsAskedAt, AskedAll, HasOrder, InOrder}
 use Rattle.hub_loop.specs.Turning.{IsDue}
-use Rattle.hub_loop.specs.declared.delivery.Delivery.{Delivery}
-use Rattle.hub_loop.specs.declared.delivery.Due.TheVariants as turn_has
 use Rattle.hub_loop.specs.declared.held.Held.{Held}
-use Rattle.hub_loop.specs.declared.holding.Holding.{Holding}
+use Rattle.hub_loop.specs.declared.serving.Served.TheVariants.{Nothing}
+use Rattle.hub_loop.specs.States.{DeliveryState, HoldingState}
 use Rattle.hub_bell.specs.declared.steps.BoardStep.{BoardStep}
-use Rattle.hub_loop.specs.declared.serving.Asked.TheVariants as asked
 use Rattle.hub_loop.proofs.Asks.{seat-with}
 
 -- one for a taker whose newest gate is enabled
@@ -147,7 +145,7 @@ enables-slot None new before after answer came = ap is_enabled came.0
 enables-slot (Some h) new before after answer came = ap is_enabled came.1 ∙ enables-held h came.0 before after answer came.2
 
 -- under each key an end is enabled as it was, wherever one was asked
-enables-at : (old new : Slab Held) (key : ℕ) (before after : Count) (busy : Bool) → IsAskedAt old new key before after (asked.Nothing busy) → (other : ℕ) → is_enabled (get new other) ≡ is_enabled (get old other)
+enables-at : (old new : Slab Held) (key : ℕ) (before after : Count) (busy : Bool) → IsAskedAt old new key before after (Nothing busy) → (other : ℕ) → is_enabled (get new other) ≡ is_enabled (get old other)
 enables-at old new key before after busy at other =
     ⊎_elim
     (λ same. subst (λ k. is_enabled (get new k) ≡ is_enabled (get old k)) (sym same) (enables-slot (get old key) (get new key) before after at.0 at.1.at))
@@ -252,7 +250,7 @@ pops-served next busy keys old new before after within gave order =
     omega (arith, ahead, behind, same, split, counted, all)
 
 -- where no delivery was kept and no end gave an envelope
-pub pops-due : (kept : Option Delivery) (busy : Bool) (old new : Holding) (looks : List BoardStep) (before after : Count) → (kept ≡ None → length old.held.slots ≤ old.held.capacity) → IsDue kept old new looks before after (turn_has.Nothing busy) → count_by is_enabled old.held.slots + before.pops ≤ after.pops
+pub pops-due : (kept : Option DeliveryState) (busy : Bool) (old new : HoldingState) (looks : List BoardStep) (before after : Count) → (kept ≡ None → length old.held.slots ≤ old.held.capacity) → IsDue kept old new looks before after (Err busy) → count_by is_enabled old.held.slots + before.pops ≤ after.pops
 pops-due None busy old new looks before after within due =
     let served = due.0 in
     pops-served old.next busy served.0 old.held new.held before after (within refl) served.1 served.2

@@ -11,7 +11,7 @@ use Rattle.hub_loop.specs.Holding.{end_held}
 use Rattle.hub_loop.specs.Reaching.{IsReached, AreReached}
 use Rattle.hub_queue.specs.declared.took.Took.{Took}
 use Rattle.hub_queue.specs.Counting.{Count}
-use Rattle.hub_loop.specs.declared.serving.Asked.{Asked}
+use Rattle.hub_loop.specs.declared.serving.Served.{Served}
 use Rattle.hub_loop.specs.Serving.{IsAskedAt, IsSlotAsked}
 
 -- what makes an end that was reached be reached still
@@ -106,7 +106,7 @@ was-held None new before after answer held came is = absurd (let gone : new ≡ 
 was-held (Some was) new before after answer held came is = (was, refl)
 
 -- an end that was asked is marked
-pub asked-marked : (old new : Slab Held) (r q : Ready) (key : ℕ) (before after : Count) (came : Asked) → IsAskedAt old new key before after came → q.listed ≡ r.listed → SameBut key r.marks q.marks → (HasBit r.marks key → mark_of q.marks key ≡ 1) → AreReached old r → AreReached new q
+pub asked-marked : (old new : Slab Held) (r q : Ready) (key : ℕ) (before after : Count) (came : Served) → IsAskedAt old new key before after came → q.listed ≡ r.listed → SameBut key r.marks q.marks → (HasBit r.marks key → mark_of q.marks key ≡ 1) → AreReached old r → AreReached new q
 asked-marked old new r q key before after came at listed same set reached =
     all-but old new r q key at.1.others
     (λ other differs. moves-set r q key listed same set other)

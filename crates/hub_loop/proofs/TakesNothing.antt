@@ -14,14 +14,12 @@ use Rattle.hub_loop.specs.Adopting.{Stored, IsOneAdopted, AreAdopted}
 use Rattle.hub_loop.specs.Asking.{Leaves, IsAsked, IsHeldAsked}
 use Rattle.hub_loop.specs.Delivering.{IsDelivered}
 use Rattle.hub_loop.specs.Holding.{seat_of, with_seat}
-use Rattle.hub_loop.specs.Serving.{asked_by, IsSlotAsked, IsAskedAt, AskedAll, HasGiven}
+use Rattle.hub_loop.specs.Serving.{served_by, IsSlotAsked, IsAskedAt, AskedAll, HasGiven}
 use Rattle.hub_loop.specs.TakingNothing.{got_of, TookNothing, SeatTookNothing, HeldTookNothing, SlotTookNothing, TookNothingBut, Gave}
 use Rattle.hub_loop.specs.Turning.{store_of, IsDue, IsTurn}
-use Rattle.hub_loop.specs.declared.delivery.Delivery.{Delivery}
-use Rattle.hub_loop.specs.declared.delivery.Due.TheVariants as turn_has
 use Rattle.hub_loop.specs.declared.held.Held.{Held}
-use Rattle.hub_loop.specs.declared.holding.Holding.{Holding}
-use Rattle.hub_loop.specs.declared.serving.Asked.TheVariants as asked
+use Rattle.hub_loop.specs.States.{DeliveryState, HoldingState}
+use Rattle.hub_loop.specs.declared.serving.Served.TheVariants.{Given, Nothing}
 use Rattle.hub_loop.specs.declared.turn.Turn.{Turn}
 use Rattle.hub_loop.specs.declared.turn.Turn.TheVariants.{Delivered, Idle, Ending}
 use Rattle.hub_loop.proofs.Asks.{seat-with, with-twice, with-own}
@@ -86,13 +84,13 @@ took-empty s t before after taken =
     taken.1
 
 -- an answer that gives no envelope
-took-answer : (s t : TakerSeat) (before after : Count) (took : Took) (busy : Bool) → IsTaken s t before after took → asked.Nothing busy ≡ asked_by (Some took) → TookNothing s t
-took-answer s t before after (Got v) busy taken none = absurd cc
-took-answer s t before after Empty busy taken none = took-empty s t before after taken
-took-answer s t before after Busy busy taken none = took-busy s t before after taken
-took-answer s t before after Again busy taken none = took-again s t before after taken
-took-answer s t before after Disabled busy taken none = subst (TookNothing s) (sym taken.1) (took-none s)
-took-answer s t before after Closed busy taken none = ⊎_elim (λ (newest : _). absurd newest.3) (λ (retired : _). absurd retired.1.5) taken.1
+took-answer : (key : ℕ) (s t : TakerSeat) (before after : Count) (took : Took) (busy : Bool) → IsTaken s t before after took → Nothing busy ≡ served_by key (Some took) → TookNothing s t
+took-answer key s t before after (Got v) busy taken none = absurd cc
+took-answer key s t before after Empty busy taken none = took-empty s t before after taken
+took-answer key s t before after Busy busy taken none = took-busy s t before after taken
+took-answer key s t before after Again busy taken none = took-again s t before after taken
+took-answer key s t before after Disabled busy taken none = subst (TookNothing s) (sym taken.1) (took-none s)
+took-answer key s t before after Closed busy taken none = ⊎_elim (λ (newest : _). absurd newest.3) (λ (retired : _). absurd retired.1.5) taken.1
 
 -- so many queues were left
 took-leaving : (n : ℕ) (s t : TakerSeat) (before after : Count) → Leaves n s t before after → TookNothing s t
@@ -101,18 +99,18 @@ took-leaving (suc n) s t before after left =
     took-twice s left.0 t (took-leaving n s left.0 before left.1 left.2) (took-again left.0 t left.1 after left.3)
 
 -- an end that was asked and gave no envelope
-took-asked : (s t : TakerSeat) (before after : Count) (took : Took) (busy : Bool) → IsAsked s t before after took → asked.Nothing busy ≡ asked_by (Some took) → TookNothing s t
-took-asked s t before after took busy came none =
-    took-twice s came.at t (took-leaving came.queues s came.at before came.count came.left) (took-answer came.at t came.count after took busy came.taken none)
+took-asked : (key : ℕ) (s t : TakerSeat) (before after : Count) (took : Took) (busy : Bool) → IsAsked s t before after took → Nothing busy ≡ served_by key (Some took) → TookNothing s t
+took-asked key s t before after took busy came none =
+    took-twice s came.at t (took-leaving came.queues s came.at before came.count came.left) (took-answer key came.at t came.count after took busy came.taken none)
 
-held-asked : (old new : Held) (before after : Count) (answer : Option Took) (busy : Bool) → IsHeldAsked old new before after answer → asked.Nothing busy ≡ asked_by answer → HeldTookNothing old new
-held-asked old new before after None busy came none = subst (λ o. SeatTookNothing o old new) (sym came.0) came.1
-held-asked old new before after (Some took) busy came none =
-    subst (λ o. SeatTookNothing o old new) (sym came.2) (came.1, came.3, took-asked came.0 came.1 before after took busy came.4 none)
+held-asked : (key : ℕ) (old new : Held) (before after : Count) (answer : Option Took) (busy : Bool) → IsHeldAsked old new before after answer → Nothing busy ≡ served_by key answer → HeldTookNothing old new
+held-asked key old new before after None busy came none = subst (λ o. SeatTookNothing o old new) (sym came.0) came.1
+held-asked key old new before after (Some took) busy came none =
+    subst (λ o. SeatTookNothing o old new) (sym came.2) (came.1, came.3, took-asked key came.0 came.1 before after took busy came.4 none)
 
-slot-asked : (old new : Option Held) (before after : Count) (answer : Option Took) (busy : Bool) → IsSlotAsked old new before after answer → asked.Nothing busy ≡ asked_by answer → SlotTookNothing old new
-slot-asked None new before after answer busy came none = tt
-slot-asked (Some h) new before after answer busy came none = (came.0, came.1, held-asked h came.0 before after answer busy came.2 none)
+slot-asked : (key : ℕ) (old new : Option Held) (before after : Count) (answer : Option Took) (busy : Bool) → IsSlotAsked old new before after answer → Nothing busy ≡ served_by key answer → SlotTookNothing old new
+slot-asked key None new before after answer busy came none = tt
+slot-asked key (Some h) new before after answer busy came none = (came.0, came.1, held-asked key h came.0 before after answer busy came.2 none)
 
 -- what is held is as it was
 held-same : (o : Option TakerSeat) (h : Held) → seat_of h ≡ o → SeatTookNothing o h h
@@ -153,11 +151,11 @@ slot-kept (Some h) b c first kept = (first.0, kept first.0 first.1, first.2)
 others-asked : (old new : Slab Held) (key : ℕ) (before after : Count) (came : _) → IsAskedAt old new key before after came → (other : ℕ) → other ≢ key → SlotTookNothing (get old other) (get new other)
 others-asked old new key before after came at other differs = slot-same (get old other) (get new other) (at.1.others other differs)
 
-all-asked : (old new : Slab Held) (key : ℕ) (before after : Count) (busy : Bool) → IsAskedAt old new key before after (asked.Nothing busy) → (other : ℕ) → SlotTookNothing (get old other) (get new other)
+all-asked : (old new : Slab Held) (key : ℕ) (before after : Count) (busy : Bool) → IsAskedAt old new key before after (Nothing busy) → (other : ℕ) → SlotTookNothing (get old other) (get new other)
 all-asked old new key before after busy at other =
     ⊎_elim
-    (λ same. subst (λ k. SlotTookNothing (get old k) (get new k)) (sym same) (slot-asked (get old key) (get new key) before after at.0 busy at.1.at at.2))
-    (λ differs. others-asked old new key before after (asked.Nothing busy) at other differs)
+    (λ same. subst (λ k. SlotTookNothing (get old k) (get new k)) (sym same) (slot-asked key (get old key) (get new key) before after at.0 busy at.1.at at.2))
+    (λ differs. others-asked old new key before after (Nothing busy) at other differs)
     (cases_eq other key)
 
 all-asked-none : (keys : List ℕ) (old new : Slab Held) (before after : Count) (busy : Bool) → AskedAll keys old new before after busy → (other : ℕ) → SlotTookNothing (get old other) (get new other)
@@ -172,7 +170,7 @@ others-given : (keys : List ℕ) (key : ℕ) (v : Envelope) (old new : Slab Held
 others-given keys key v old new before after given other differs =
     slot-twice (get old other) (get given.middle other) (get new other)
     (all-asked-none keys old given.middle before given.count given.busy given.earlier other)
-    (others-asked given.middle new key given.count after (asked.Given v) given.given other differs)
+    (others-asked given.middle new key given.count after (Given key v) given.given other differs)
 
 -- what was held before ports were adopted is held afterwards
 one-kept : (p : PortSeat) (old new : Stored) (before after : List EndId) (key : ℕ) (h : Held) → IsOneAdopted p old new before after → get old.held key ≡ Some h → get new.held key ≡ Some h
@@ -191,7 +189,7 @@ adopted-kept (p ∷ ps) old new before after key h did there =
     adopted-kept ps did.0 new did.1 after key h did.3 (one-kept p old did.0 before did.1 key h did.2 there)
 
 -- of the ends under the other keys nothing was taken before the delivery
-others-due : (kept : Option Delivery) (old new : Holding) (looks : List BoardStep) (before after : Count) (d : Delivery) (key : ℕ) → IsDue kept old new looks before after (turn_has.Delivery d) → (kept ≡ None → new.next ≡ key + 1 → ⊥) → SlotTookNothing (get old.held key) (get new.held key)
+others-due : (kept : Option DeliveryState) (old new : HoldingState) (looks : List BoardStep) (before after : Count) (d : DeliveryState) (key : ℕ) → IsDue kept old new looks before after (Ok d) → (kept ≡ None → new.next ≡ key + 1 → ⊥) → SlotTookNothing (get old.held key) (get new.held key)
 others-due (Some k) old new looks before after d key due gave = slot-same (get old.held key) (get new.held key) (ap (λ holding. get holding.held key) due.1)
 others-due None old new looks before after d key due gave =
     let served = due.3 in
@@ -199,23 +197,23 @@ others-due None old new looks before after d key due gave =
     (λ same. gave refl (due.4 ∙ ap (λ k. k + 1) (sym same)))
 
 -- of no end anything was taken where nothing is due
-pub all-due : (kept : Option Delivery) (old new : Holding) (looks : List BoardStep) (before after : Count) (busy : Bool) (key : ℕ) → IsDue kept old new looks before after (turn_has.Nothing busy) → SlotTookNothing (get old.held key) (get new.held key)
+pub all-due : (kept : Option DeliveryState) (old new : HoldingState) (looks : List BoardStep) (before after : Count) (busy : Bool) (key : ℕ) → IsDue kept old new looks before after (Err busy) → SlotTookNothing (get old.held key) (get new.held key)
 all-due (Some k) old new looks before after busy key due = slot-same (get old.held key) (get new.held key) (ap (λ holding. get holding.held key) due.1)
 all-due None old new looks before after busy key due =
     let served = due.0 in
     all-asked-none served.0 old.held new.held before after busy served.1 key
 
 module _ {H E : Type 0} (leaves refuses : H → Envelope → List EndId → H → Type 0) where
-  delivered-kept : (d e : Delivery) (before after : Stored) (h left : H) (result : Result (Unit {0}) E) → IsDelivered {E = E} leaves refuses d e before after h left result → (key : ℕ) (held : Held) → get before.held key ≡ Some held → get after.held key ≡ Some held
-  delivered-kept d e before after h left (Ok done) did key held there = adopted-kept did.0.found.items before after did.0.missing.items did.1 key held did.3 there
+  delivered-kept : (d e : DeliveryState) (before after : Stored) (h left : H) (result : Result (Unit {0}) E) → IsDelivered {E = E} leaves refuses d e before after h left result → (key : ℕ) (held : Held) → get before.held key ≡ Some held → get after.held key ≡ Some held
+  delivered-kept d e before after h left (Ok done) did key held there = adopted-kept did.0.found before after did.0.missing did.1 key held did.3 there
   delivered-kept d e before after h left (Err error) did key held there =
       ⊎_elim
       (λ (none : _). ap (λ (s : Stored). get s.held key) none.2 ∙ there)
-      (λ (partly : _). adopted-kept partly.2 before after partly.0.missing.items partly.1.missing.items key held partly.5.1 there)
+      (λ (partly : _). adopted-kept partly.2 before after partly.0.missing partly.1.missing key held partly.5.1 there)
       did.1
 
   -- a turn takes of no end but the one that gave its envelope
-  pub others-turn : (old new : Holding) (looks : List BoardStep) (kept keeps : Option Delivery) (h left : H) (before after : Count) (result : Result Turn E) → IsTurn leaves refuses old new looks kept keeps h left before after result → TookNothingBut (Gave kept new.next result) old.held new.held
+  pub others-turn : (old new : HoldingState) (looks : List BoardStep) (kept keeps : Option DeliveryState) (h left : H) (before after : Count) (result : Result Turn E) → IsTurn leaves refuses old new looks kept keeps h left before after result → TookNothingBut (Gave kept new.next result) old.held new.held
   others-turn old new looks kept keeps h left before after (Ok Ending) turn key gave = slot-same (get old.held key) (get new.held key) (ap (λ holding. get holding.held key) turn.0)
   others-turn old new looks kept keeps h left before after (Ok (Idle busy)) turn key gave = all-due kept old new looks before after busy key turn.0
   others-turn old new looks kept keeps h left before after (Ok Delivered) turn key gave =

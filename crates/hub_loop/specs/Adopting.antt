@@ -14,27 +14,30 @@ use Rattle.hub_queue.specs.Ending.{IsClosed}
 use Rattle.hub_queue.specs.Graves.{GraveSeat}
 use Rattle.hub_queue.specs.Taking.{TakerSeat}
 use Rattle.hub_loop.specs.declared.closed_port.ClosedPort.{ClosedPort}
-use Rattle.hub_loop.specs.declared.delivery.Receiving.{Receiving}
 use Rattle.hub_loop.specs.declared.ending.Closed.{Closed}
 use Rattle.hub_loop.specs.declared.held.Held.{Held}
 use Rattle.hub_loop.specs.declared.held.Held.TheVariants.{Port, Client, Worker}
+use Rattle.hub_loop.specs.States.{ClosedState, ReceivingState}
 use Rattle.hub_loop.specs.Telling.{IsTold}
 
 -- what a loop holds, and what it has closed and not swept yet
 pub record Stored : Type 0 where
   pub held : Slab Held
-  pub closed : Closed
+  pub closed : ClosedState
+
+abbrev pub closed_of : Closed → ClosedState
+closed_of c = record { graves = c.graves.items; noticed = c.noticed.items; lines = c.lines.items }
 
 abbrev pub stored : Slab Held → Closed → Stored
-stored held closed = record { held = held; closed = closed }
+stored held closed = record { held = held; closed = closed_of closed }
 
 -- What is held grew by this, under a key where nothing was held.
 abbrev pub HoldsMore : Slab Held → Slab Held → Held → Type 0
 HoldsMore old new h = (key : ℕ) × (get old key ≡ None) × Updates old new key (Some h)
 
 -- the same graves are kept, and the same notices
-abbrev pub SameClosed : Closed → Closed → Type 0
-SameClosed old new = (new.graves.items ≡ old.graves.items) × (new.noticed.items ≡ old.noticed.items)
+abbrev pub SameClosed : ClosedState → ClosedState → Type 0
+SameClosed old new = (new.graves ≡ old.graves) × (new.noticed ≡ old.noticed)
 
 -- the same is held, and the same was closed
 abbrev pub SameStored : Stored → Stored → Type 0
@@ -47,15 +50,15 @@ IsUnfit why.TooManyMoves = Unit {0}
 IsUnfit why.Taken = Unit {0}
 
 -- The port was closed with its notice: its grave is kept, and what is told of it.
-abbrev pub IsPortBuried : PortSeat → Closed → Closed → Type 0
+abbrev pub IsPortBuried : PortSeat → ClosedState → ClosedState → Type 0
 IsPortBuried p old new =
     (grave : GraveSeat) × (told : ClosedPort) × IsClosed p.taker grave × IsTold p told
-    × (new.graves.items ≡ old.graves.items ++ grave ∷ []) × (new.noticed.items ≡ old.noticed.items ++ told ∷ [])
+    × (new.graves ≡ old.graves ++ grave ∷ []) × (new.noticed ≡ old.noticed ++ told ∷ [])
 
 -- The queue was closed: its grave is kept.
-abbrev pub IsQueueBuried : HandedQueue → Closed → Closed → Type 0
+abbrev pub IsQueueBuried : HandedQueue → ClosedState → ClosedState → Type 0
 IsQueueBuried q old new =
-    (grave : GraveSeat) × IsClosed (taker_of q) grave × (new.graves.items ≡ old.graves.items ++ grave ∷ []) × (new.noticed.items ≡ old.noticed.items)
+    (grave : GraveSeat) × IsClosed (taker_of q) grave × (new.graves ≡ old.graves ++ grave ∷ []) × (new.noticed ≡ old.noticed)
 
 -- One port more was adopted and is held; or it was refused for good: it was closed, and counts as missing.
 abbrev pub IsOneAdopted : PortSeat → Stored → Stored → List EndId → List EndId → Type 0
@@ -70,22 +73,22 @@ AreAdopted (p ∷ ps) old new before after =
     (middle : Stored) × (missing : List EndId) × IsOneAdopted p old middle before missing × AreAdopted ps middle new missing after
 
 -- The first of the ports that were found is found no more; true: it was adopted or refused for good; false: there is none. After an error all is as it was.
-abbrev pub IsFirstAdopted : {E : Type 0} → Receiving → Receiving → Stored → Stored → Result Bool E → Type 0
+abbrev pub IsFirstAdopted : {E : Type 0} → ReceivingState → ReceivingState → Stored → Stored → Result Bool E → Type 0
 IsFirstAdopted old new before after (Ok true) =
-    (p : PortSeat) × (old.found.items ≡ p ∷ new.found.items) × IsOneAdopted p before after old.missing.items new.missing.items
+    (p : PortSeat) × (old.found ≡ p ∷ new.found) × IsOneAdopted p before after old.missing new.missing
 IsFirstAdopted old new before after (Ok false) =
-    (old.found.items ≡ []) × (new.found.items ≡ []) × SameStored before after × (new.missing.items ≡ old.missing.items)
+    (old.found ≡ []) × (new.found ≡ []) × SameStored before after × (new.missing ≡ old.missing)
 IsFirstAdopted old new before after (Err error) =
-    (new.found.items ≡ old.found.items) × SameStored before after × (new.missing.items ≡ old.missing.items)
+    (new.found ≡ old.found) × SameStored before after × (new.missing ≡ old.missing)
 
 -- These were adopted or refused for good, and the others are still found.
-abbrev pub ArePartlyAdopted : Receiving → Receiving → Stored → Stored → List PortSeat → Type 0
+abbrev pub ArePartlyAdopted : ReceivingState → ReceivingState → Stored → Stored → List PortSeat → Type 0
 ArePartlyAdopted old new before after done =
-    (old.found.items ≡ done ++ new.found.items) × AreAdopted done before after old.missing.items new.missing.items
+    (old.found ≡ done ++ new.found) × AreAdopted done before after old.missing new.missing
 
 -- Ok: no port is left among those that were found. After an error some may be.
-abbrev pub AreAllAdopted : {E : Type 0} → Receiving → Receiving → Stored → Stored → Result (Unit {0}) E → Type 0
-AreAllAdopted old new before after (Ok all) = (new.found.items ≡ []) × AreAdopted old.found.items before after old.missing.items new.missing.items
+abbrev pub AreAllAdopted : {E : Type 0} → ReceivingState → ReceivingState → Stored → Stored → Result (Unit {0}) E → Type 0
+AreAllAdopted old new before after (Ok all) = (new.found ≡ []) × AreAdopted old.found before after old.missing new.missing
 AreAllAdopted old new before after (Err error) = (done : List PortSeat) × ArePartlyAdopted old new before after done
 
 -- The queue was adopted and stands so where it is held; a worker's was enabled then.

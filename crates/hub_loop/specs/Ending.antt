@@ -1,6 +1,5 @@
 -- How a loop ends.
-use Rattle.std.specs.Prelude.{◌≡◌, ℕ, ◌+◌, ◌==◌, Bool, false, List, [], ◌++◌, map, count_by, Option, Some, None}
-use Rattle.std.specs.List.Sorted.{IsNonDecreasing}
+use Rattle.std.specs.Prelude.{ℕ, ◌+◌, ◌==◌, Bool, false, List, [], ◌++◌, map, count_by, Option, Some, None}
 use Rattle.slab.specs.Slab.{Slab}
 use Rattle.hub_clients.specs.declared.handed_queue.HandedQueue.{HandedQueue}
 use Rattle.hub_clients.specs.declared.handed_queue.HandedQueue.TheVariants as handed
@@ -8,14 +7,12 @@ use Rattle.hub_clients.specs.Handing.{taker_of}
 use Rattle.hub_ports.specs.Seats.{PortSeat}
 use Rattle.hub_queue.specs.Graves.{GraveSeat, SweptSeat}
 use Rattle.hub_queue.specs.Taking.{TakerSeat}
-use Rattle.hub_loop.specs.declared.closing.Closing.{Closing}
-use Rattle.hub_loop.specs.declared.delivery.Delivery.{Delivery}
-use Rattle.hub_loop.specs.declared.delivery.Receiving.{Receiving}
 use Rattle.hub_loop.specs.declared.ending.Open.{Open}
 use Rattle.hub_loop.specs.declared.ending.Open.TheVariants as opens
 use Rattle.hub_loop.specs.declared.held.Held.{Held}
 use Rattle.hub_loop.specs.declared.held.Held.TheVariants.{Client, Worker}
 use Rattle.hub_loop.specs.Holding.{seat_of}
+use Rattle.hub_loop.specs.States.{ClosingState, DeliveryState, ReceivingState}
 
 -- whoever takes here takes from the end of this number
 abbrev pub is_seat_of : ℕ → Option TakerSeat → Bool
@@ -54,16 +51,16 @@ abbrev pub arrived_passes : (Open → Bool) → PortSeat → Bool
 arrived_passes passes p = passes (opens.Arrived p)
 
 -- the ports that were found for a delivery and not adopted yet
-abbrev pub found_in : Option Receiving → List PortSeat
+abbrev pub found_in : Option ReceivingState → List PortSeat
 found_in None = []
-found_in (Some r) = r.found.items
+found_in (Some r) = r.found
 
-abbrev pub found_of : Option Delivery → List PortSeat
+abbrev pub found_of : Option DeliveryState → List PortSeat
 found_of None = []
 found_of (Some d) = found_in d.arrival
 
 -- How many ends of this number there are among those that are held, that were fetched, that were found for a kept delivery, that were taken out to be closed, and that were closed.
-abbrev pub ends_in : Slab Held → List HandedQueue → Option Delivery → List Open → List GraveSeat → ℕ → ℕ
+abbrev pub ends_in : Slab Held → List HandedQueue → Option DeliveryState → List Open → List GraveSeat → ℕ → ℕ
 ends_in held fetched kept opened graves e =
     count_by (is_held e) held.slots + count_by (is_queue e) fetched + count_by (is_port e) (found_of kept)
     + count_by (is_open e) opened + count_by (is_grave e) graves
@@ -76,21 +73,5 @@ abbrev pub grave_ends : List GraveSeat → List ℕ
 grave_ends graves = map (λ g. g.end) graves
 
 -- the numbers of the ends that were closed and swept, and then of those that are to be swept
-abbrev pub closing_ends : Closing → List ℕ
-closing_ends c = swept_ends c.swept.items ++ grave_ends c.graves.items
-
--- the one list begins the other
-abbrev pub GoesOn : List ℕ → List ℕ → Type 0
-GoesOn begun numbers = (rest : List ℕ) × (numbers ≡ begun ++ rest)
-
--- The numbers begin with those of the ends that the loop held, one for each, in rising order; where the end had begun before, with those that were closed then.
-abbrev pub HasEnded : Option Closing → (ℕ → ℕ) → List ℕ → Type 0
-HasEnded None ends numbers =
-    (first : List ℕ) × GoesOn first numbers × IsNonDecreasing first
-    × ((e : ℕ) → count_by (λ n. n == e) first ≡ ends e)
-HasEnded (Some begun) ends numbers = GoesOn (closing_ends begun) numbers
-
--- After want of memory: either it has ended that far, or nothing was swept yet, and the same ends are there.
-abbrev pub HasPaused : Option Closing → Option Closing → (ℕ → ℕ) → (ℕ → ℕ) → Type 0
-HasPaused old None ends left = (old ≡ None) × ((e : ℕ) → left e ≡ ends e)
-HasPaused old (Some begun) ends left = HasEnded old ends (closing_ends begun)
+abbrev pub closing_ends : ClosingState → List ℕ
+closing_ends c = swept_ends c.swept ++ grave_ends c.graves

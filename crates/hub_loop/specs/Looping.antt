@@ -1,32 +1,87 @@
 -- All that a loop has, as one value.
-use Rattle.std.specs.Prelude.{ℕ, Bool, List, Option}
+use Rattle.std.specs.Prelude.{◌≡◌, ℕ, Bool, List, Option, Some, None, Result, map}
 use Rattle.hub_bell.specs.Seats.{BoardSeat}
+use Rattle.hub_bell.specs.declared.steps.BoardStep.{BoardStep}
 use Rattle.hub_clients.specs.declared.handed_queue.HandedQueue.{HandedQueue}
+use Rattle.hub_envelope.specs.declared.envelope.Envelope.{Envelope}
+use Rattle.hub_envelope.specs.declared.ids.EndId.{EndId}
 use Rattle.hub_life.specs.OrderSeat.{OrderSeat}
+use Rattle.hub_marks.specs.Finding.{HasStepped}
 use Rattle.hub_ports.specs.Seats.{PortSeat}
-use Rattle.hub_loop.specs.declared.closing.Closing.{Closing}
-use Rattle.hub_loop.specs.declared.delivery.Delivery.{Delivery}
+use Rattle.hub_queue.specs.Counting.{Count}
+use Rattle.hub_loop.specs.declared.closed_port.ClosedPort.{ClosedPort}
 use Rattle.hub_loop.specs.declared.ending.Open.{Open}
 use Rattle.hub_loop.specs.declared.holding.Holding.{Holding}
-use Rattle.hub_loop.specs.Ending.{ends_in}
-use Rattle.hub_loop.specs.Noticing.{ports_in}
+use Rattle.hub_loop.specs.declared.listed.Listed.{Listed}
+use Rattle.hub_loop.specs.declared.turn.Turn.{Turn}
+use Rattle.hub_loop.specs.Adopting.{closed_of}
+use Rattle.hub_loop.specs.Ending.{closing_ends, ends_in}
+use Rattle.hub_loop.specs.Noticing.{AllClosed, AreEnded, SomeClosed, ports_in}
+use Rattle.hub_loop.specs.States.{ClosingState, DeliveryState, HoldingState}
+use Rattle.hub_loop.specs.Turning.{IsDue, IsTurn}
 
 -- What the loop has seen of the order to end, and of the ends that rang; its handler; what it holds, with the ports that could not be adopted; the delivery that was kept and the queues that were fetched, for want of memory; and how far its end has come: what is still to be closed, and what was closed.
 pub record LoopState (H : Type 0) : Type 0 where
   pub order : OrderSeat
   pub listener : BoardSeat
   pub handler : H
-  pub holding : Holding
-  pub kept : Option Delivery
+  pub holding : HoldingState
+  pub kept : Option DeliveryState
   pub fetched : List HandedQueue
   pub opened : List Open
-  pub closing : Option Closing
+  pub closing : Option ClosingState
+
+abbrev pub holding_of : Holding → HoldingState
+holding_of h = record { bell = h.bell; held = h.held; ready = h.ready; next = h.next; lines = map (λ (l : Listed). (l.end, l.key)) h.lines.keys; closed = closed_of h.closed }
 
 module _ {H : Type 0} where
   -- how many ends of this number the loop has, in whatever place
   abbrev pub holds : LoopState H → ℕ → ℕ
-  holds l = ends_in l.holding.held l.fetched l.kept l.opened l.holding.closed.graves.items
+  holds l = ends_in l.holding.held l.fetched l.kept l.opened l.holding.closed.graves
 
   -- how many ports pass among those that it has and has not closed
   abbrev pub open_ports : LoopState H → (PortSeat → Bool) → ℕ
   open_ports l = ports_in l.holding.held l.kept l.opened
+
+  -- The loop took up what is due: what it stepped through at its listener may have told it which ends were rung.
+  abbrev pub TakesUp : LoopState H → LoopState H → Count → Count → Result DeliveryState Bool → Type 0
+  TakesUp old new before after due =
+      (looks : List BoardStep) × HasStepped old.listener new.listener looks
+      × IsDue old.kept old.holding new.holding looks before after due
+
+  -- The loop made a turn.
+  abbrev pub MakesTurn : {E : Type 0} → (H → Envelope → List EndId → H → Type 0) → (H → Envelope → List EndId → H → Type 0) → LoopState H → LoopState H → Count → Count → Result Turn E → Type 0
+  MakesTurn leaves refuses old new before after result =
+      (looks : List BoardStep) × HasStepped old.listener new.listener looks
+      × IsTurn leaves refuses old.holding new.holding looks old.kept new.kept old.handler new.handler before after result
+
+  -- All else is as it was: what was fetched, and how far the end of the loop has come.
+  abbrev pub SameButTurn : LoopState H → LoopState H → Type 0
+  SameButTurn old new =
+      new ≡ record old { order = new.order; listener = new.listener; handler = new.handler; holding = new.holding; kept = new.kept }
+
+  abbrev pub SameButTaken : LoopState H → LoopState H → Type 0
+  SameButTaken old new = new ≡ record old { listener = new.listener; holding = new.holding; kept = new.kept }
+
+  abbrev pub SameButFetched : LoopState H → LoopState H → Type 0
+  SameButFetched old new = new ≡ record old { holding = new.holding; fetched = new.fetched }
+
+  -- each port that the loop had was closed
+  abbrev pub ClosesAll : LoopState H → LoopState H → Type 0
+  ClosesAll old new = AllClosed (open_ports old) old.holding.closed.noticed new.holding.closed.noticed
+
+  -- some of the ports that the loop had were closed, and the others are still there
+  abbrev pub ClosesSome : LoopState H → LoopState H → Type 0
+  ClosesSome old new = SomeClosed (open_ports old) (open_ports new) old.holding.closed.noticed new.holding.closed.noticed
+
+  -- The loop has ended: these are the numbers of what was swept, and this is told of the ports.
+  abbrev pub HasEnded : LoopState H → List ℕ → List ClosedPort → Type 0
+  HasEnded l numbers told = AreEnded l.closing (holds l) (open_ports l) numbers l.holding.closed.noticed told
+
+  -- After want of memory: the loop has ended that far; or nothing was swept yet, the same ends are there, and some of the ports were closed.
+  abbrev pub HasEndedTo : LoopState H → LoopState H → Option ClosingState → Type 0
+  HasEndedTo old new None = (old.closing ≡ None) × ((e : ℕ) → holds new e ≡ holds old e) × ClosesSome old new
+  HasEndedTo old new (Some begun) = HasEnded old (closing_ends begun) begun.noticed
+
+  abbrev pub HasPaused : LoopState H → LoopState H → Type 0
+  HasPaused old new = HasEndedTo old new new.closing

@@ -5,14 +5,13 @@ use Rattle.slab.specs.Slab.{Slab}
 use Rattle.hub_envelope.specs.declared.ids.EndId.{EndId}
 use Rattle.hub_ports.specs.Seats.{PortSeat, end_of}
 use Rattle.hub_loop.specs.declared.closed_port.ClosedPort.{ClosedPort}
-use Rattle.hub_loop.specs.declared.closing.Closing.{Closing}
-use Rattle.hub_loop.specs.declared.delivery.Delivery.{Delivery}
 use Rattle.hub_loop.specs.declared.ending.Open.{Open}
 use Rattle.hub_loop.specs.declared.ending.Open.TheVariants as opens
 use Rattle.hub_loop.specs.declared.held.Held.{Held}
 use Rattle.hub_loop.specs.declared.held.Held.TheVariants.{Port, Client, Worker, Member, Line}
 use Rattle.hub_loop.specs.Ending.{found_of, slot_passes, closing_ends}
 use Rattle.hub_loop.specs.Holding.{number_of}
+use Rattle.hub_loop.specs.States.{ClosingState, DeliveryState}
 use Rattle.hub_loop.specs.Telling.{NoticesMore}
 
 -- the number of the end that was taken out to be closed, or of the end at which the line posts
@@ -44,7 +43,7 @@ is_port_passing passes (opens.Held (Line s)) = false
 is_port_passing passes (opens.Arrived p) = passes p
 
 -- How many ports pass among those that are held, that were found for a kept delivery, and that were taken out to be closed.
-abbrev pub ports_in : Slab Held → Option Delivery → List Open → (PortSeat → Bool) → ℕ
+abbrev pub ports_in : Slab Held → Option DeliveryState → List Open → (PortSeat → Bool) → ℕ
 ports_in held kept opened passes =
     count_by (slot_passes (is_port_passing passes)) held.slots + count_by passes (found_of kept) + count_by (is_port_passing passes) opened
 
@@ -75,15 +74,10 @@ abbrev pub NamedBehind : List ℕ → List ℕ → List ClosedPort → List Clos
 NamedBehind closed numbers before after =
     (named : List PortSeat) × (numbers ≡ closed ++ port_numbers named) × NoticesMore named before after
 
--- The notices are those that were told already, then those of the ports that the loop had, in rising order, and then those of the ports that were named, whose numbers are those of the ends behind the ones that the loop had. Where the end had begun before, they go on from what was told by then.
-abbrev pub HasNoticed : Option Closing → (ℕ → ℕ) → ((PortSeat → Bool) → ℕ) → List ℕ → List ClosedPort → List ClosedPort → Type 0
-HasNoticed None ends ports numbers before after =
+-- The numbers begin with those of the ends that the loop had, one for each, in rising order, and go on with those of the ports that were named. The notices are those that were told already, then those of the ports that the loop had, and then those of the ports that were named. Where the end had begun before, both go on from what was done by then.
+abbrev pub AreEnded : Option ClosingState → (ℕ → ℕ) → ((PortSeat → Bool) → ℕ) → List ℕ → List ClosedPort → List ClosedPort → Type 0
+AreEnded None ends ports numbers before after =
     (first : List ℕ) × (between : List ClosedPort)
     × IsNonDecreasing first × ((e : ℕ) → count_by (λ n. n == e) first ≡ ends e)
     × AllClosed ports before between × NamedBehind first numbers between after
-HasNoticed (Some begun) ends ports numbers before after = NamedBehind (closing_ends begun) numbers begun.noticed.items after
-
--- After want of memory: what is told has come that far, or nothing was swept yet, and of the ports some were closed.
-abbrev pub HasNoticedSome : Option Closing → Option Closing → (ℕ → ℕ) → ((PortSeat → Bool) → ℕ) → ((PortSeat → Bool) → ℕ) → List ClosedPort → List ClosedPort → Type 0
-HasNoticedSome old None ends ports left before after = (old ≡ None) × SomeClosed ports left before after
-HasNoticedSome old (Some begun) ends ports left before after = HasNoticed old ends ports (closing_ends begun) before begun.noticed.items
+AreEnded (Some begun) ends ports numbers before after = NamedBehind (closing_ends begun) numbers begun.noticed after

@@ -11,8 +11,6 @@ use Rattle.hub_queue.specs.Counting.{Count}
 use Rattle.hub_loop.specs.declared.held.Held.{Held}
 use Rattle.hub_loop.specs.declared.holding.Holding.{Holding}
 use Rattle.hub_marks.specs.declared.ready.Ready.{Ready}
-use Rattle.hub_loop.specs.declared.serving.Asked.{Asked}
-use Rattle.hub_loop.specs.declared.serving.Asked.TheVariants as asked
 use Rattle.hub_loop.specs.declared.serving.Served.{Served}
 use Rattle.hub_loop.specs.declared.serving.Served.TheVariants.{Given, Nothing}
 use Rattle.hub_loop.specs.Holding.{end_held}
@@ -23,10 +21,6 @@ abbrev pub IsListedAt : List ℕ → ℕ → Option Held → Type 0
 IsListedAt listed key slot = (held : Held) (end : EndId) → slot ≡ Some held → end_held held ≡ Some end → LeadsTo listed end key
 
 -- an end that gave an envelope is marked
-abbrev pub IsMarkedAfter : List ℕ → ℕ → Asked → Type 0
-IsMarkedAfter marks key (asked.Given v) = mark_of marks key ≡ 1
-IsMarkedAfter marks key (asked.Nothing busy) = Unit {0}
-
 abbrev pub IsServedMarked : List ℕ → Served → Type 0
 IsServedMarked marks (Given key v) = mark_of marks key ≡ 1
 IsServedMarked marks (Nothing busy) = Unit {0}

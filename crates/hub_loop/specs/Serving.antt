@@ -5,8 +5,6 @@ use Rattle.hub_queue.specs.declared.took.Took.{Took}
 use Rattle.hub_queue.specs.declared.took.Took.TheVariants.{Got, Empty, Busy, Again, Disabled, Closed}
 use Rattle.hub_queue.specs.Counting.{Count}
 use Rattle.hub_loop.specs.declared.held.Held.{Held}
-use Rattle.hub_loop.specs.declared.serving.Asked.{Asked}
-use Rattle.hub_loop.specs.declared.serving.Asked.TheVariants as asked
 use Rattle.hub_loop.specs.declared.serving.Served.{Served}
 use Rattle.hub_loop.specs.declared.serving.Served.TheVariants.{Given, Nothing}
 use Rattle.hub_bell.specs.declared.steps.BoardStep.{BoardStep}
@@ -28,19 +26,19 @@ pub record IsTakenAtKey (old new : Slab Held) (key : ℕ) (before after : Count)
   pub others : (other : ℕ) → other ≢ key → get new other ≡ get old other
   pub capacity : new.capacity ≡ old.capacity
 
--- what an answer comes to
-abbrev pub asked_by : Option Took → Asked
-asked_by (Some (Got v)) = asked.Given v
-asked_by (Some Busy) = asked.Nothing true
-asked_by (Some Empty) = asked.Nothing false
-asked_by (Some Again) = asked.Nothing false
-asked_by (Some Disabled) = asked.Nothing false
-asked_by (Some Closed) = asked.Nothing false
-asked_by None = asked.Nothing false
+-- what the answer of the end under this key comes to
+abbrev pub served_by : ℕ → Option Took → Served
+served_by key (Some (Got v)) = Given key v
+served_by key (Some Busy) = Nothing true
+served_by key (Some Empty) = Nothing false
+served_by key (Some Again) = Nothing false
+served_by key (Some Disabled) = Nothing false
+served_by key (Some Closed) = Nothing false
+served_by key None = Nothing false
 
 -- What is held under this key was asked, and this is what it came to.
-abbrev pub IsAskedAt : Slab Held → Slab Held → ℕ → Count → Count → Asked → Type 0
-IsAskedAt old new key before after came = (answer : Option Took) × IsTakenAtKey old new key before after answer × (came ≡ asked_by answer)
+abbrev pub IsAskedAt : Slab Held → Slab Held → ℕ → Count → Count → Served → Type 0
+IsAskedAt old new key before after served = (answer : Option Took) × IsTakenAtKey old new key before after answer × (served ≡ served_by key answer)
 
 -- These keys were asked, the last of them first in the list, and no end gave an envelope; whether one was busy.
 abbrev pub AskedAll : List ℕ → Slab Held → Slab Held → Count → Count → Bool → Type 0
@@ -48,7 +46,7 @@ AskedAll [] old new before after busy = (new ≡ old) × (after ≡ before) × (
 AskedAll (key ∷ earlier) old new before after busy =
     (middle : Slab Held) × (count : Count) × (was : Bool) × (here : Bool)
     × AskedAll earlier old middle before count was
-    × IsAskedAt middle new key count after (asked.Nothing here)
+    × IsAskedAt middle new key count after (Nothing here)
     × (busy ≡ (here || was))
 
 -- the key is one of these
@@ -72,7 +70,7 @@ pub record HasGiven (keys : List ℕ) (old new : Slab Held) (before after : Coun
   pub count : Count
   pub busy : Bool
   pub earlier : AskedAll keys old middle before count busy
-  pub given : IsAskedAt middle new key count after (asked.Given v)
+  pub given : IsAskedAt middle new key count after (Given key v)
 
 -- the one key stands before the other in the order in which ends are served, where that begins with `next`
 abbrev pub IsBefore : ℕ → ℕ → ℕ → Type 0

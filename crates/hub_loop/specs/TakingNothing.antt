@@ -4,11 +4,11 @@ use Rattle.slab.specs.Slab.{Slab, get}
 use Rattle.hub_envelope.specs.declared.envelope.Envelope.{Envelope}
 use Rattle.hub_queue.specs.TakerQueues.{TakerQueueSeat}
 use Rattle.hub_queue.specs.Taking.{TakerSeat}
-use Rattle.hub_loop.specs.declared.delivery.Delivery.{Delivery}
 use Rattle.hub_loop.specs.declared.held.Held.{Held}
 use Rattle.hub_loop.specs.declared.turn.Turn.{Turn}
 use Rattle.hub_loop.specs.declared.turn.Turn.TheVariants.{Delivered, Idle, Ending}
 use Rattle.hub_loop.specs.Holding.{seat_of, with_seat}
+use Rattle.hub_loop.specs.States.{DeliveryState}
 
 -- what was taken from a queue
 abbrev pub got_of : TakerQueueSeat → List Envelope
@@ -40,7 +40,7 @@ abbrev pub TookNothingBut : (ℕ → Type 0) → Slab Held → Slab Held → Typ
 TookNothingBut gave old new = (key : ℕ) → (gave key → ⊥) → SlotTookNothing (get old key) (get new key)
 
 -- Under this key stands the end that gave the envelope of the turn: the next asking begins behind it. No end did where a delivery was kept, and none at Idle and Ending.
-abbrev pub Gave : {E : Type 0} → Option Delivery → ℕ → Result Turn E → ℕ → Type 0
+abbrev pub Gave : {E : Type 0} → Option DeliveryState → ℕ → Result Turn E → ℕ → Type 0
 Gave (Some kept) next result key = ⊥
 Gave None next (Ok Ending) key = ⊥
 Gave None next (Ok (Idle busy)) key = ⊥

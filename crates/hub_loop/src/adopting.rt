@@ -16,6 +16,7 @@ ghost use Rattle.slab.specs.Slab.{HasRoomFor, SameValues};
 ghost use Rattle.hub_clients.specs.Handing.{taker_of};
 ghost use Rattle.hub_queue.specs.Adopting.{IsAdopted};
 ghost use Rattle.hub_loop.specs.Adopting.{
+  closed_of,
   stored,
   AreAllAdopted,
   IsFirstAdopted,
@@ -70,7 +71,7 @@ impl Holding {
         ensures noticed { OnOk result
             (vec_len self.new.closed.noticed + 1 ≤ vec_capacity self.new.closed.noticed) }
         ensures same { SameValues self.old.held self.new.held }
-        ensures closed { SameClosed self.old.closed self.new.closed }
+        ensures closed { SameClosed (closed_of self.old.closed) (closed_of self.new.closed) }
         ensures next { self.new.next ≡ self.old.next }
     {
         self.held.reserve(1)?;
@@ -83,7 +84,8 @@ impl Holding {
         requires graves { vec_len self.old.closed.graves + 1 ≤ vec_capacity self.old.closed.graves }
         requires noticed { vec_len self.old.closed.noticed + 1
             ≤ vec_capacity self.old.closed.noticed }
-        ensures buried { IsPortBuried arrived self.old.closed self.new.closed }
+        ensures buried { IsPortBuried arrived (closed_of self.old.closed)
+            (closed_of self.new.closed) }
         ensures held { self.new.held ≡ self.old.held }
         ensures next { self.new.next ≡ self.old.next }
     {
@@ -131,7 +133,7 @@ impl Holding {
         ensures noticed { OnOk result
             (vec_len self.new.closed.noticed + 1 ≤ vec_capacity self.new.closed.noticed) }
         ensures same { SameValues self.old.held self.new.held }
-        ensures closed { SameClosed self.old.closed self.new.closed }
+        ensures closed { SameClosed (closed_of self.old.closed) (closed_of self.new.closed) }
         ensures next { self.new.next ≡ self.old.next }
     {
         self.make_room()?;

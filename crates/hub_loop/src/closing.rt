@@ -14,6 +14,7 @@ use hub_ports::{Arrival, Arrived, Hub};
 use hub_queue::{Grave, Poster, Swept};
 use std::alloc::Global;
 use std::collections::VecDeque;
+use std::marker::Model;
 use std::sync::Wait;
 
 /// What is left of a loop that has ended.
@@ -40,6 +41,18 @@ pub(crate) struct Closing {
     lines: Vec<Poster>,
 }
 
+impl Model for Closing {
+    ghost use Rattle.hub_loop.specs.States.{ClosingState};
+
+    ghost Value = { ClosingState };
+
+    ghost view = { λ c. record {
+      swept = c.swept.items;
+      graves = c.graves.items;
+      noticed = c.noticed.items;
+    } };
+}
+
 // Takes the ports that an envelope names out of flight.
 fn take_named<R: Wait>(
     rt: &R,
@@ -54,11 +67,11 @@ fn take_named<R: Wait>(
 impl Closing {
     /// These were closed, and nothing was swept yet.
     pub(crate) fn new(alloc: Global, closed: Closed) -> Closing
-        ensures swept { result.swept.items ≡ [] }
-        ensures sorted { IsNonDecreasing (grave_ends result.graves.items) }
-        ensures same { (e : ℕ) → count_by (is_grave e) result.graves.items
+        ensures swept { result.swept ≡ [] }
+        ensures sorted { IsNonDecreasing (grave_ends result.graves) }
+        ensures same { (e : ℕ) → count_by (is_grave e) result.graves
             ≡ count_by (is_grave e) closed.graves.items }
-        ensures noticed { result.noticed.items ≡ closed.noticed.items }
+        ensures noticed { result.noticed ≡ closed.noticed.items }
     {
         let Closed {
             mut graves,
@@ -78,8 +91,8 @@ impl Closing {
 
     /// What is left once all was swept.
     pub(crate) fn into_ended(self) -> Ended
-        ensures swept { result.swept.items ≡ self.swept.items }
-        ensures noticed { result.noticed.items ≡ self.noticed.items }
+        ensures swept { result.swept.items ≡ self.swept }
+        ensures noticed { result.noticed.items ≡ self.noticed }
     {
         let Closing {
             found: _,
@@ -96,7 +109,7 @@ impl Closing {
     fn sweep_all<R: Wait>(&mut self, rt: &R) -> Result<(), OutOfMemory>
         ensures same { closing_ends self.new ≡ closing_ends self.old }
         ensures noticed { self.new.noticed ≡ self.old.noticed }
-        ensures all { OnOk result (self.new.graves.items ≡ []) }
+        ensures all { OnOk result (self.new.graves ≡ []) }
     {
         while !self.graves.is_empty() {
             self.swept.reserve(1)?;
@@ -115,7 +128,7 @@ impl Closing {
     // Closes the ports that were found, in order.
     fn close_found<R: Wait>(&mut self, rt: &R, hub: &Hub) -> Result<(), OutOfMemory>
         ensures { NamedBehind (closing_ends self.old) (closing_ends self.new)
-            self.old.noticed.items self.new.noticed.items }
+            self.old.noticed self.new.noticed }
     {
         while !self.found.is_empty() {
             self.graves.reserve(1)?;
@@ -130,9 +143,7 @@ impl Closing {
 
     // Takes the ports of the next discarded envelope out of flight. Whether there was one.
     fn look_further<R: Wait>(&mut self, rt: &R, hub: &Hub) -> Result<bool, OutOfMemory>
-        ensures graves { self.new.graves ≡ self.old.graves }
-        ensures swept { self.new.swept ≡ self.old.swept }
-        ensures noticed { self.new.noticed ≡ self.old.noticed }
+        ensures { self.new ≡ self.old }
     {
         let (place, count) = self.next;
         let Some(swept) = self.swept.get(place) else {
@@ -149,9 +160,7 @@ impl Closing {
 
     // Gives the lines back. One that the directory refuses is dropped.
     fn give_back<R: Wait>(&mut self, rt: &R, directory: &Directory)
-        ensures graves { self.new.graves ≡ self.old.graves }
-        ensures swept { self.new.swept ≡ self.old.swept }
-        ensures noticed { self.new.noticed ≡ self.old.noticed }
+        ensures { self.new ≡ self.old }
     {
         while let Some(poster) = self.lines.pop() {
             drop(directory.give_back(rt, poster));
@@ -165,18 +174,12 @@ impl Closing {
         hub: &Hub,
         kept: &mut Option<Delivery>,
     ) -> Result<(), OutOfMemory>
-        ensures graves { self.new.graves ≡ self.old.graves }
-        ensures swept { self.new.swept ≡ self.old.swept }
-        ensures noticed { self.new.noticed ≡ self.old.noticed }
+        ensures { self.new ≡ self.old }
     {
-        if let Some(
-            Delivery {
-                envelope,
-                arrival: None,
-            },
-        ) = kept
-        {
-            self.found = take_named(rt, hub, envelope)?;
+        if let Some(delivery) = kept {
+            if delivery.arrival.is_none() {
+                self.found = take_named(rt, hub, &delivery.envelope)?;
+            }
         }
         *kept = None;
         Ok(())
@@ -186,8 +189,8 @@ impl Closing {
     // envelope. Whether there was one.
     fn close_further<R: Wait>(&mut self, rt: &R, hub: &Hub) -> Result<bool, OutOfMemory>
         ensures further { NamedBehind (closing_ends self.old) (closing_ends self.new)
-            self.old.noticed.items self.new.noticed.items }
-        ensures all { OnOk result (self.new.graves.items ≡ []) }
+            self.old.noticed self.new.noticed }
+        ensures all { OnOk result (self.new.graves ≡ []) }
     {
         self.close_found(rt, hub)?;
         self.sweep_all(rt)?;
@@ -204,8 +207,8 @@ impl Closing {
         kept: &mut Option<Delivery>,
     ) -> Result<(), OutOfMemory>
         ensures further { NamedBehind (closing_ends self.old) (closing_ends self.new)
-            self.old.noticed.items self.new.noticed.items }
-        ensures all { OnOk result (self.new.graves.items ≡ []) }
+            self.old.noticed self.new.noticed }
+        ensures all { OnOk result (self.new.graves ≡ []) }
     {
         self.sweep_all(rt)?;
         self.give_back(rt, directory);

@@ -3,13 +3,14 @@ ghost use Rattle.hub_ports.specs.Seats.{ends_of};
 ghost use Rattle.hub_ports.specs.Splitting.{IsSplit};
 ghost use Rattle.hub_loop.specs.Adopting.{stored};
 ghost use Rattle.hub_loop.specs.Delivering.{IsDelivered, IsLookedFor};
-ghost use Rattle.hub_loop.specs.declared.delivery.Receiving.{Receiving};
+ghost use Rattle.hub_loop.specs.States.{ReceivingState};
 
 use crate::handler::Handler;
 use crate::holding::Holding;
 use hub_envelope::{EndId, Envelope, OutOfMemory};
 use hub_ports::{Arrival, Arrived, Hub};
 use std::collections::VecDeque;
+use std::marker::Model;
 use std::sync::Wait;
 
 /// An envelope that was taken and of which the handler has not yet taken note.
@@ -18,6 +19,14 @@ pub(crate) struct Delivery {
     pub(crate) envelope: Envelope,
     /// `None` where its ports were not looked for yet.
     pub(crate) arrival: Option<Receiving>,
+}
+
+impl Model for Delivery {
+    ghost use Rattle.hub_loop.specs.States.{DeliveryState};
+
+    ghost Value = { DeliveryState };
+
+    ghost view = { λ d. record { envelope = d.envelope; arrival = d.arrival } };
 }
 
 /// The ports of a delivery, once they were looked for.
@@ -29,18 +38,18 @@ pub(crate) struct Receiving {
     pub(crate) missing: Vec<EndId>,
 }
 
-/// What a turn has to deliver.
-#[derive(Drop)]
-pub(crate) enum Due {
-    Delivery(Delivery),
-    /// No end gave anything. Whether one was busy.
-    Nothing(bool),
+impl Model for Receiving {
+    ghost use Rattle.hub_loop.specs.States.{ReceivingState};
+
+    ghost Value = { ReceivingState };
+
+    ghost view = { λ r. record { found = r.found.items; missing = r.missing.items } };
 }
 
 // Takes the ports of an envelope out of flight.
 fn look_for<R: Wait>(rt: &R, hub: &Hub, envelope: &Envelope) -> Result<Receiving, OutOfMemory>
     ensures { IfOk result (λ r.
-        IsSplit envelope.now.ports (ends_of r.found.items) r.missing.items) }
+        IsSplit envelope.now.ports (ends_of r.found) r.missing) }
 {
     let Arrival { found, missing } = hub.arrive(rt, envelope)?;
     Ok(Receiving {
@@ -52,8 +61,7 @@ fn look_for<R: Wait>(rt: &R, hub: &Hub, envelope: &Envelope) -> Result<Receiving
 impl Delivery {
     /// The delivery of an envelope that was just taken.
     pub(crate) fn new(envelope: Envelope) -> Delivery
-        ensures envelope { result.envelope ≡ envelope }
-        ensures arrival { result.arrival ≡ None }
+        ensures { result ≡ record { envelope = envelope; arrival = None } }
     {
         Delivery {
             envelope,
@@ -65,7 +73,7 @@ impl Delivery {
     fn look<R: Wait>(&mut self, rt: &R, hub: &Hub) -> Result<(), OutOfMemory>
         ensures envelope { self.new.envelope ≡ self.old.envelope }
         ensures ok { IfOk result (λ _.
-            (r : Receiving) × (self.new.arrival ≡ Some r) × IsLookedFor self.old r) }
+            (r : ReceivingState) × (self.new.arrival ≡ Some r) × IsLookedFor self.old r) }
         ensures err { OnErr result ((self.old.arrival ≡ None) × (self.new.arrival ≡ None)) }
     {
         match &self.arrival {

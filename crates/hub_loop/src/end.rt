@@ -1,19 +1,13 @@
 //! The end of a loop.
 
 ghost use Rattle.std.specs.Prelude.{◌≡◌, OnOk, IfOk, IfErr, OnErr, ℕ, count_by};
-ghost use Rattle.hub_loop.specs.Ending.{
-  closing_ends,
-  is_grave,
-  swept_ends,
+ghost use Rattle.hub_loop.specs.Ending.{closing_ends, is_grave, swept_ends};
+ghost use Rattle.hub_loop.specs.Looping.{
+  holds,
+  ClosesAll,
+  ClosesSome,
   HasEnded,
   HasPaused,
-};
-ghost use Rattle.hub_loop.specs.Looping.{holds, open_ports};
-ghost use Rattle.hub_loop.specs.Noticing.{
-  AllClosed,
-  HasNoticed,
-  HasNoticedSome,
-  SomeClosed,
 };
 
 use crate::checkpoint::Checkpoint;
@@ -47,21 +41,9 @@ impl<H: Handler + Drop, C: Checkpoint + Drop> EventLoop<H, C> {
         directory: &Directory,
         roster: &SharedRoster,
     ) -> Result<Ended, (LoopError, EventLoop<H, C>)>
-        ensures ok { IfOk result (λ ended. HasEnded self.closing
-            (holds self)
-            (swept_ends ended.swept.items)) }
-        ensures noticed { IfOk result (λ ended. HasNoticed self.closing
-            (holds self)
-            (open_ports self)
-            (swept_ends ended.swept.items) self.holding.closed.noticed.items ended.noticed.items) }
-        ensures err { IfErr result (λ failed. HasPaused self.closing failed.1.closing
-            (holds self)
-            (holds failed.1)) }
-        ensures noticed_err { IfErr result (λ failed. HasNoticedSome self.closing failed.1.closing
-            (holds self)
-            (open_ports self)
-            (open_ports failed.1)
-            self.holding.closed.noticed.items failed.1.holding.closed.noticed.items) }
+        ensures ok { IfOk result (λ ended.
+            HasEnded self (swept_ends ended.swept.items) ended.noticed.items) }
+        ensures err { IfErr result (λ failed. HasPaused self failed.1) }
     {
         match self.close_all(rt, hub, directory, roster) {
             Ok(ended) => {
@@ -80,19 +62,11 @@ impl<H: Handler + Drop, C: Checkpoint + Drop> EventLoop<H, C> {
         hub: &Hub,
         roster: &SharedRoster,
     ) -> Result<(), OutOfMemory>
-        ensures moved { (e : ℕ) →
-            holds self.new e
-            ≡ holds self.old e }
+        ensures moved { (e : ℕ) → holds self.new e ≡ holds self.old e }
         ensures all { OnOk result ((e : ℕ) →
-            count_by (is_grave e) self.new.holding.closed.graves.items
-            ≡ holds self.new e) }
-        ensures noticed { OnOk result (AllClosed
-            (open_ports self.old)
-            self.old.holding.closed.noticed.items self.new.holding.closed.noticed.items) }
-        ensures noticed_err { OnErr result (SomeClosed
-            (open_ports self.old)
-            (open_ports self.new)
-            self.old.holding.closed.noticed.items self.new.holding.closed.noticed.items) }
+            count_by (is_grave e) self.new.holding.closed.graves ≡ holds self.new e) }
+        ensures noticed { OnOk result (ClosesAll self.old self.new) }
+        ensures noticed_err { OnErr result (ClosesSome self.old self.new) }
         ensures closing { self.new.closing ≡ self.old.closing }
     {
         take_held(&mut self.holding.held, &mut self.opened)?;
@@ -111,21 +85,9 @@ impl<H: Handler + Drop, C: Checkpoint + Drop> EventLoop<H, C> {
         hub: &Hub,
         roster: &SharedRoster,
     ) -> Result<Closing, OutOfMemory>
-        ensures ok { IfOk result (λ closing. HasEnded self.old.closing
-            (holds self.old)
-            (closing_ends closing)) }
-        ensures noticed { IfOk result (λ closing. HasNoticed self.old.closing
-            (holds self.old)
-            (open_ports self.old)
-            (closing_ends closing) self.old.holding.closed.noticed.items closing.noticed.items) }
-        ensures err { OnErr result (HasPaused self.old.closing self.new.closing
-            (holds self.old)
-            (holds self.new)) }
-        ensures noticed_err { OnErr result (HasNoticedSome self.old.closing self.new.closing
-            (holds self.old)
-            (open_ports self.old)
-            (open_ports self.new)
-            self.old.holding.closed.noticed.items self.new.holding.closed.noticed.items) }
+        ensures ok { IfOk result (λ closing.
+            HasEnded self.old (closing_ends closing) closing.noticed) }
+        ensures err { OnErr result (HasPaused self.old self.new) }
     {
         match self.closing.take() {
             Some(closing) => Ok(closing),
@@ -145,22 +107,9 @@ impl<H: Handler + Drop, C: Checkpoint + Drop> EventLoop<H, C> {
         directory: &Directory,
         roster: &SharedRoster,
     ) -> Result<Ended, OutOfMemory>
-        ensures ok { IfOk result (λ ended. HasEnded self.old.closing
-            (holds self.old)
-            (swept_ends ended.swept.items)) }
-        ensures noticed { IfOk result (λ ended. HasNoticed self.old.closing
-            (holds self.old)
-            (open_ports self.old)
-            (swept_ends ended.swept.items) self.old.holding.closed.noticed.items
-            ended.noticed.items) }
-        ensures err { OnErr result (HasPaused self.old.closing self.new.closing
-            (holds self.old)
-            (holds self.new)) }
-        ensures noticed_err { OnErr result (HasNoticedSome self.old.closing self.new.closing
-            (holds self.old)
-            (open_ports self.old)
-            (open_ports self.new)
-            self.old.holding.closed.noticed.items self.new.holding.closed.noticed.items) }
+        ensures ok { IfOk result (λ ended.
+            HasEnded self.old (swept_ends ended.swept.items) ended.noticed.items) }
+        ensures err { OnErr result (HasPaused self.old self.new) }
     {
         let mut closing = self.begin_closing(rt, hub, roster)?;
         match closing.finish(rt, hub, directory, &mut self.kept) {

@@ -16,22 +16,26 @@ ghost use Rattle.std.specs.Prelude.{
   vec_capacity,
   [],
   length,
-  List,
 };
-ghost use Rattle.hub_bell.specs.declared.steps.BoardStep.{BoardStep};
 ghost use Rattle.hub_clients.specs.Handing.{taker_of};
-ghost use Rattle.hub_marks.specs.Finding.{HasStepped};
 ghost use Rattle.hub_life.specs.OrderSeat.{knows};
 ghost use Rattle.hub_loop.specs.Adopting.{IsFetched, SameStored};
+ghost use Rattle.hub_loop.specs.Looping.{
+  MakesTurn,
+  SameButFetched,
+  SameButTaken,
+  SameButTurn,
+  TakesUp,
+};
 ghost use Rattle.hub_loop.specs.Popping.{PopsEach};
 ghost use Rattle.hub_loop.specs.Resting.{Rests};
 ghost use Rattle.hub_loop.specs.TakingNothing.{Gave, TookNothingBut};
-ghost use Rattle.hub_loop.specs.Turning.{store_of, IsDue, IsTurn};
+ghost use Rattle.hub_loop.specs.Turning.{store_of};
 ghost use Rattle.hub_loop.specs.declared.turn.Turn.TheVariants.{Ending};
 
 use crate::checkpoint::Checkpoint;
 use crate::closing::Closing;
-use crate::delivery::{Delivery, Due};
+use crate::delivery::Delivery;
 use crate::ending::Open;
 use crate::handler::Handler;
 use crate::held::Held;
@@ -83,7 +87,7 @@ pub struct EventLoop<H: Handler + Drop, C: Checkpoint + Drop> {
 }
 
 impl<H: Handler + Drop, C: Checkpoint + Drop> Model for EventLoop<H, C> {
-    ghost use Rattle.hub_loop.specs.Looping.{LoopState};
+    ghost use Rattle.hub_loop.specs.Looping.{LoopState, holding_of};
 
     ghost Value = { LoopState H };
 
@@ -91,7 +95,7 @@ impl<H: Handler + Drop, C: Checkpoint + Drop> Model for EventLoop<H, C> {
       order = l.order;
       listener = l.listener;
       handler = l.handler;
-      holding = l.holding;
+      holding = holding_of l.holding;
       kept = l.kept;
       fetched = l.fetched.items;
       opened = l.opened.items;
@@ -117,7 +121,7 @@ impl<H: Handler + Drop, C: Checkpoint + Drop> EventLoop<H, C> {
         ensures handler { IfOk result (λ opened. opened.handler ≡ handler) }
         ensures order { IfOk result (λ opened. opened.order ≡ order) }
         ensures rest { IfOk result (λ opened. (opened.fetched ≡ [])
-            × (opened.opened ≡ []) × (opened.holding.closed.graves.items ≡ [])
+            × (opened.opened ≡ []) × (opened.holding.closed.graves ≡ [])
             × (opened.closing ≡ None)) }
     {
         let holding = Holding::new(alloc, bell.bell()?);
@@ -137,30 +141,27 @@ impl<H: Handler + Drop, C: Checkpoint + Drop> EventLoop<H, C> {
         })
     }
 
-    // Takes up the delivery that was kept, or else asks the ends. The checkpoint is called once for
-    // each envelope.
-    fn take_up<L: Ledger, R: Wait>(&mut self, rt: &R, steps: &mut Steps<L>) -> Due
-        ensures due { (looks : List BoardStep)
-            × HasStepped self.old.listener self.new.listener looks
-            × IsDue self.old.kept self.old.holding self.new.holding looks steps.old steps.new
-            result }
+    // Takes up the delivery that was kept, or else asks the ends. Where none gave an envelope it
+    // says whether one was busy. The checkpoint is called once for each envelope.
+    fn take_up<L: Ledger, R: Wait>(
+        &mut self,
+        rt: &R,
+        steps: &mut Steps<L>,
+    ) -> Result<Delivery, bool>
+        ensures due { TakesUp self.old self.new steps.old steps.new result }
         ensures keys { self.old.kept ≡ None →
             length self.old.holding.held.slots ≤ self.old.holding.held.capacity }
         ensures kept { self.new.kept ≡ None }
-        ensures rest { self.new ≡ record self.old {
-          listener = self.new.listener;
-          holding = self.new.holding;
-          kept = self.new.kept;
-        } }
+        ensures rest { SameButTaken self.old self.new }
     {
         if let Some(delivery) = self.kept.take() {
-            return Due::Delivery(delivery);
+            return Ok(delivery);
         }
         match self.holding.serve(rt, &mut self.listener, steps) {
-            Served::Nothing(busy) => Due::Nothing(busy),
+            Served::Nothing(busy) => Err(busy),
             Served::Given(_, envelope) => {
                 self.checkpoint.at(rt, self.agent, self.delivered);
-                Due::Delivery(Delivery::new(envelope))
+                Ok(Delivery::new(envelope))
             }
         }
     }
@@ -183,28 +184,18 @@ impl<H: Handler + Drop, C: Checkpoint + Drop> EventLoop<H, C> {
     ) -> Result<Turn, LoopError>
         ensures looked { self.new.order.looks ≡ self.old.order.looks + 1 }
         ensures ending { (result ≡ Ok Ending) ↔ (knows self.new.order ≡ true) }
-        ensures turn { (looks : List BoardStep)
-            × HasStepped self.old.listener self.new.listener looks
-            × IsTurn H.leaves H.refuses self.old.holding self.new.holding looks
-            self.old.kept self.new.kept self.old.handler self.new.handler
-            steps.old steps.new result }
+        ensures turn { MakesTurn H.leaves H.refuses self.old self.new steps.old steps.new result }
         ensures others { TookNothingBut (Gave self.old.kept self.new.holding.next result)
             self.old.holding.held self.new.holding.held }
         ensures pops { PopsEach result self.old.holding.held steps.old steps.new }
-        ensures rest { self.new ≡ record self.old {
-          order = self.new.order;
-          listener = self.new.listener;
-          handler = self.new.handler;
-          holding = self.new.holding;
-          kept = self.new.kept;
-        } }
+        ensures rest { SameButTurn self.old self.new }
     {
         if self.order.seen() {
             return Ok(Turn::Ending);
         }
         let mut delivery = match self.take_up(rt, steps) {
-            Due::Delivery(delivery) => delivery,
-            Due::Nothing(busy) => return Ok(Turn::Idle { busy }),
+            Ok(delivery) => delivery,
+            Err(busy) => return Ok(Turn::Idle { busy }),
         };
         match delivery.deliver(rt, hub, &mut self.holding, &mut self.handler) {
             Ok(()) => {
@@ -277,10 +268,7 @@ impl<H: Handler + Drop, C: Checkpoint + Drop> EventLoop<H, C> {
             (store_of self.old.holding) (store_of self.new.holding) end) }
         ensures err { OnErr result (SameStored
             (store_of self.old.holding) (store_of self.new.holding)) }
-        ensures rest { self.new ≡ record self.old {
-          holding = self.new.holding;
-          fetched = self.new.fetched;
-        } }
+        ensures rest { SameButFetched self.old self.new }
     {
         self.fetched.reserve(1)?;
         let queue = match take_fetched(&mut self.fetched, end) {

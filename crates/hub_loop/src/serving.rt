@@ -11,18 +11,16 @@ ghost use Rattle.hub_loop.specs.Scanning.{
   AreMarkedServed,
   ends_of,
   IsListedAt,
-  IsMarkedAfter,
   IsRange,
   IsServed,
   IsServedInside,
   IsServedMarked,
 };
 ghost use Rattle.hub_loop.specs.Serving.{
-  asked_by,
   next_after,
+  served_by,
   IsTakenAtKey,
   IsAskedAt,
-  AreServed,
 };
 
 use crate::held::Held;
@@ -39,28 +37,21 @@ use std::sync::ledger::Ledger;
 pub(crate) enum Served {
     /// The end under this key gave an envelope.
     Given(usize, Envelope),
-    /// No end gave one. Whether one was busy.
+    /// No end gave one. Whether one was busy: somebody is still inside a queue that it has left
+    /// behind.
     Nothing(bool),
 }
 
-// What the asking of one end came to.
-#[derive(Drop)]
-enum Asked {
-    Given(Envelope),
-    // Whether somebody is still inside a queue that the end has left behind.
-    Nothing(bool),
-}
-
-impl Asked {
-    // What this answer of an end comes to; of a line and of nothing there is none.
-    fn by(answer: Option<Took>) -> Asked
-        ensures { result ≡ asked_by answer }
+impl Served {
+    // What the answer of the end under this key comes to; of a line and of nothing there is none.
+    fn by(key: usize, answer: Option<Took>) -> Served
+        ensures { result ≡ served_by key answer }
     {
         match answer {
-            Some(Took::Got(envelope)) => Asked::Given(envelope),
-            Some(Took::Busy) => Asked::Nothing(true),
+            Some(Took::Got(envelope)) => Served::Given(key, envelope),
+            Some(Took::Busy) => Served::Nothing(true),
             Some(Took::Empty | Took::Again | Took::Disabled | Took::Closed) | None => {
-                Asked::Nothing(false)
+                Served::Nothing(false)
             }
         }
     }
@@ -84,10 +75,10 @@ fn ask_at<L: Ledger, R: Wait>(
     held: &mut Slab<Held>,
     key: usize,
     steps: &mut Steps<L>,
-) -> Asked
+) -> Served
     ensures { IsAskedAt held.old held.new key steps.old steps.new result }
 {
-    Asked::by(take_at(rt, held, key, steps))
+    Served::by(key, take_at(rt, held, key, steps))
 }
 
 // Whether an end that gave nothing can go without its mark: its number leads to it. One that wasn't
@@ -109,23 +100,23 @@ const A_TIME: usize = 64;
 
 impl Holding {
     // Asks the end under a key, if there is one. Its mark stays where more may wait there.
-    fn ask<L: Ledger, R: Wait>(&mut self, rt: &R, key: usize, steps: &mut Steps<L>) -> Asked
+    fn ask<L: Ledger, R: Wait>(&mut self, rt: &R, key: usize, steps: &mut Steps<L>) -> Served
         ensures asked { IsAskedAt self.old.held self.new.held key steps.old steps.new result }
         ensures others { SameBut key self.old.ready.marks self.new.ready.marks }
-        ensures given { IsMarkedAfter self.new.ready.marks key result }
+        ensures given { IsServedMarked self.new.ready.marks result }
         ensures capacity { self.new.held.capacity ≡ self.old.held.capacity }
         ensures listed { self.new.ready.listed ≡ self.old.ready.listed }
         ensures next { self.new.next ≡ self.old.next }
         ensures closed { self.new.closed ≡ self.old.closed }
     {
-        let asked = ask_at(rt, &mut self.held, key, steps);
-        match &asked {
-            Asked::Nothing(false) if is_listed(&self.held, &self.ready, key) => {
+        let served = ask_at(rt, &mut self.held, key, steps);
+        match &served {
+            Served::Nothing(false) if is_listed(&self.held, &self.ready, key) => {
                 self.ready.marks.clear(key);
             }
-            Asked::Nothing(_) | Asked::Given(_) => self.ready.marks.set(key),
+            Served::Nothing(_) | Served::Given(_, _) => self.ready.marks.set(key),
         }
-        asked
+        served
     }
 
     // Asks the marked ends under these keys in order, up to the first that gives an envelope.
@@ -151,8 +142,8 @@ impl Holding {
                 return Served::Nothing(busy);
             }
             match self.ask(rt, marked, steps) {
-                Asked::Given(envelope) => return Served::Given(marked, envelope),
-                Asked::Nothing(here) => busy = here | busy,
+                Served::Nothing(here) => busy = here | busy,
+                served => return served,
             }
             key = marked + 1;
         }
@@ -223,8 +214,8 @@ impl Holding {
                 served => return served,
             }
             match self.ask(rt, key, steps) {
-                Asked::Given(envelope) => return Served::Given(key, envelope),
-                Asked::Nothing(here) => busy = here | busy,
+                Served::Nothing(here) => busy = here | busy,
+                served => return served,
             }
         }
         Served::Nothing(busy)
@@ -288,10 +279,8 @@ impl Holding {
         listener: &mut Listener,
         steps: &mut Steps<L>,
     ) -> Served
-        ensures served { (looks : List BoardStep)
-            × HasStepped listener.old listener.new looks
-            × AreServed self.old.next self.old.held self.new.held self.old.ready.marks looks
-            steps.old steps.new result }
+        ensures served { IsServed self.old self.new listener.old listener.new steps.old steps.new
+            result }
         ensures keys { length self.old.held.slots ≤ self.old.held.capacity }
         ensures given { IsServedMarked self.new.ready.marks result }
         ensures next { self.new.next ≡ next_after self.old.next result }

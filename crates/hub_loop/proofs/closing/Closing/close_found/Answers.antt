@@ -7,11 +7,11 @@ use Rattle.hub_loop.proofs.closing.Closing.close_found.Goals as goal
 pub loop-self-preserved : goal.loop-self-preserved
 loop-self-preserved g c =
     let old = c.args.self.now in
-    let self = c.loop-self.self in
+    let self = c.loop-self.self-inside in
     let grave = c.close_arrived-grave.result.0 in
     let port : ClosedPort = c.close_arrived-grave.result.1 in
     behind-one (closing_ends old) (swept_ends self.swept.items) self.graves.items c.push_back_reserved.new.self.items grave c.unwrap-arrived.result
-    old.noticed.items self.noticed.items c.push_reserved.new.self.items
+    old.noticed self.noticed.items c.push_reserved.new.self.items
     c.loop-self.invariant
     (push-same self.graves.items c.reserve.new.self.items c.push_back_reserved.new.self.items grave c.reserve.ensures.items c.push_back_reserved.ensures.items)
     (ap (λ g. g.end) c.close_arrived-grave.ensures.grave)

@@ -1,10 +1,12 @@
+use Rattle.std.proofs.Common.{◌++◌}
 use Rattle.std.specs.VecDeque.{deque_len}
-use Rattle.hub_loop.specs.Ending.{closing_ends}
+use Rattle.hub_loop.specs.Ending.{closing_ends, grave_ends, swept_ends}
 use Rattle.hub_loop.specs.Noticing.{NamedBehind}
 use Rattle.hub_loop.proofs.closing.Closing.close_found.Given as goal
 
 abbrev pub invariant-loop-self : goal.invariant-loop-self
-invariant-loop-self g l = NamedBehind (closing_ends l.fn.self) (closing_ends l.self) l.fn.self.noticed.items l.self.noticed.items
+invariant-loop-self g l =
+    NamedBehind (closing_ends l.fn.self) (swept_ends l.self-inside.swept.items ++ grave_ends l.self-inside.graves.items) l.fn.self.noticed l.self-inside.noticed.items
 
 abbrev pub decreases-loop-self : goal.decreases-loop-self
-decreases-loop-self g l = deque_len l.self.found
+decreases-loop-self g l = deque_len l.self-inside.found

@@ -7,19 +7,19 @@ returns-in_err-close_further-clause-further g c =
     let old = c.args.self.now in
     let self = c.loop.self in
     let closed = c.close_further.new.self in
-    behind-twice (closing_ends old) (closing_ends self) (closing_ends closed) old.noticed.items self.noticed.items closed.noticed.items c.loop.invariant.2 c.close_further.ensures.further
+    behind-twice (closing_ends old) (closing_ends self) (closing_ends closed) old.noticed self.noticed closed.noticed c.loop.invariant.2 c.close_further.ensures.further
 
 pub returns-then-not-branch-clause-further : goal.returns-then-not-branch-clause-further
 returns-then-not-branch-clause-further g c =
     let old = c.args.self.now in
     let self = c.loop.self in
     let closed = c.close_further.new.self in
-    behind-twice (closing_ends old) (closing_ends self) (closing_ends closed) old.noticed.items self.noticed.items closed.noticed.items c.loop.invariant.2 c.close_further.ensures.further
+    behind-twice (closing_ends old) (closing_ends self) (closing_ends closed) old.noticed self.noticed closed.noticed c.loop.invariant.2 c.close_further.ensures.further
 
 pub loop-preserved : goal.loop-preserved
 loop-preserved g c =
     let old = c.args.self.now in
     let self = c.loop.self in
     let closed = c.close_further.new.self in
-    let behind = behind-twice (closing_ends old) (closing_ends self) (closing_ends closed) old.noticed.items self.noticed.items closed.noticed.items c.loop.invariant.2 c.close_further.ensures.further in
+    let behind = behind-twice (closing_ends old) (closing_ends self) (closing_ends closed) old.noticed self.noticed closed.noticed c.loop.invariant.2 c.close_further.ensures.further in
     (tt, tt, behind)

@@ -1,12 +1,18 @@
-use Rattle.std.proofs.Common.{refl}
+use Rattle.std.proofs.Common.{◌∙◌, ap, refl, subst, sym}
+use Rattle.hub_loop.specs.Delivering.{IsLookedForIn}
 use Rattle.hub_loop.proofs.Delivers.{looked-new, looked-old}
 use Rattle.hub_loop.proofs.delivery.Delivery.look.Goals as goal
 
 pub returns-in-Some-clause-ok : goal.returns-in-Some-clause-ok
 returns-in-Some-clause-ok g c =
-    (c.in-Some.field-0, c.in-Some.is, looked-old c.args.self.now.arrival c.args.self.now.envelope c.in-Some.field-0 c.in-Some.is)
+    let old = c.args.self.now in
+    let r = c.in-Some.field-0 in
+    let is = sym (ap (λ d. d.arrival) c.self.view_is) ∙ c.in-Some.is in
+    (r, is, looked-old old.arrival old.envelope r is)
 
 pub returns-in_ok-look_for-in-None-clause-ok : goal.returns-in_ok-look_for-in-None-clause-ok
 returns-in_ok-look_for-in-None-clause-ok g c =
+    let old = c.args.self.now in
     let r = c.in_ok-look_for-in-None.field-0 in
-    (r, refl, looked-new c.args.self.now.arrival c.args.self.now.envelope r c.in-None.is c.in_ok-look_for-in-None.ensures)
+    let none = sym (ap (λ d. d.arrival) c.self.view_is) ∙ c.in-None.is in
+    (r, refl, subst (λ v. IsLookedForIn old.arrival v r) (ap (λ d. d.envelope) c.self.view_is) (looked-new old.arrival c.self.inside.envelope r none c.in_ok-look_for-in-None.ensures))

@@ -1,4 +1,5 @@
 use Rattle.std.proofs.Common.{◌≡◌, subst, sym}
+use Rattle.hub_loop.specs.Looping.{holding_of}
 use Rattle.hub_loop.proofs.Closes.{if-none}
 use Rattle.hub_loop.proofs.event_loop.EventLoop.close.Goals as goal
 
@@ -9,7 +10,7 @@ returns-in_err-held-clause-none g c =
       order = inside.order;
       listener = inside.listener;
       handler = inside.handler;
-      holding = h;
+      holding = holding_of h;
       kept = inside.kept;
       fetched = inside.fetched.items;
       opened = inside.opened.items;

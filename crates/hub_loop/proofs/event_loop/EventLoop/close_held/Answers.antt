@@ -20,7 +20,7 @@ pub returns-in_err-take_held-clause-noticed_err : goal.returns-in_err-take_held-
 returns-in_err-take_held-clause-noticed_err g c =
     let old = c.self.inside in
     on-err c.from_residual.result
-    (subst (λ l. SomeClosed (open_ports l) (ports_in c.take_held.new.held old.kept c.take_held.new.opened.items) l.holding.closed.noticed.items old.holding.closed.noticed.items) c.self.view_is
+    (subst (λ l. SomeClosed (open_ports l) (ports_in c.take_held.new.held old.kept c.take_held.new.opened.items) l.holding.closed.noticed old.holding.closed.noticed.items) c.self.view_is
     (some-none (ports_in old.holding.held old.kept old.opened.items) (ports_in c.take_held.new.held old.kept c.take_held.new.opened.items) old.holding.closed.noticed.items
     (λ passes. let held = c.take_held.ensures.moved (is_port_passing passes) in omega (arith, held))))
 
@@ -39,7 +39,7 @@ pub returns-in_err-take_queues-clause-noticed_err : goal.returns-in_err-take_que
 returns-in_err-take_queues-clause-noticed_err g c =
     let old = c.self.inside in
     on-err c.from_residual-in_err-take_queues.result
-    (subst (λ l. SomeClosed (open_ports l) (ports_in c.take_held.new.held old.kept c.take_queues.new.opened.items) l.holding.closed.noticed.items old.holding.closed.noticed.items) c.self.view_is
+    (subst (λ l. SomeClosed (open_ports l) (ports_in c.take_held.new.held old.kept c.take_queues.new.opened.items) l.holding.closed.noticed old.holding.closed.noticed.items) c.self.view_is
     (some-none (ports_in old.holding.held old.kept old.opened.items) (ports_in c.take_held.new.held old.kept c.take_queues.new.opened.items) old.holding.closed.noticed.items
     (λ passes.
     let held = c.take_held.ensures.moved (is_port_passing passes) in
@@ -64,7 +64,7 @@ pub returns-in_err-take_found-clause-noticed_err : goal.returns-in_err-take_foun
 returns-in_err-take_found-clause-noticed_err g c =
     let old = c.self.inside in
     on-err c.from_residual-in_err-take_found.result
-    (subst (λ l. SomeClosed (open_ports l) (ports_in c.take_held.new.held c.take_found.new.kept c.take_found.new.opened.items) l.holding.closed.noticed.items old.holding.closed.noticed.items) c.self.view_is
+    (subst (λ l. SomeClosed (open_ports l) (ports_in c.take_held.new.held c.take_found.new.kept c.take_found.new.opened.items) l.holding.closed.noticed old.holding.closed.noticed.items) c.self.view_is
     (some-none (ports_in old.holding.held old.kept old.opened.items) (ports_in c.take_held.new.held c.take_found.new.kept c.take_found.new.opened.items) old.holding.closed.noticed.items
     (λ passes.
     let held = c.take_held.ensures.moved (is_port_passing passes) in
@@ -106,7 +106,7 @@ returns-clause-noticed g c =
     let reversed = c.reverse.new.self.items in
     let left = ports_in c.take_held.new.held c.take_found.new.kept c.close_all.new.all.items in
     on-ok c.close_all.result c.close_all.ensures.all (λ done.
-    subst (λ l. AllClosed (open_ports l) l.holding.closed.noticed.items c.close_all.new.self.noticed.items) c.self.view_is (
+    subst (λ l. AllClosed (open_ports l) l.holding.closed.noticed c.close_all.new.self.noticed.items) c.self.view_is (
     all-closed (ports_in old.holding.held old.kept old.opened.items) left
     reversed c.close_all.new.all.items old.holding.closed.noticed.items c.close_all.new.self.noticed.items
     c.close_all.ensures.told
@@ -135,7 +135,7 @@ returns-clause-noticed_err g c =
     let reversed = c.reverse.new.self.items in
     let left = ports_in c.take_held.new.held c.take_found.new.kept c.close_all.new.all.items in
     on-err c.close_all.result
-    (subst (λ l. SomeClosed (open_ports l) left l.holding.closed.noticed.items c.close_all.new.self.noticed.items) c.self.view_is
+    (subst (λ l. SomeClosed (open_ports l) left l.holding.closed.noticed c.close_all.new.self.noticed.items) c.self.view_is
     (some-closed (ports_in old.holding.held old.kept old.opened.items) left
     reversed c.close_all.new.all.items old.holding.closed.noticed.items c.close_all.new.self.noticed.items
     c.close_all.ensures.told

@@ -1,5 +1,4 @@
-use Rattle.std.specs.VecDeque.{deque_len}
-use Rattle.std.proofs.Common.{◌≡◌, List}
+use Rattle.std.proofs.Common.{◌≡◌, List, length}
 use Rattle.hub_ports.specs.Seats.{PortSeat}
 use Rattle.hub_loop.specs.Adopting.{stored, ArePartlyAdopted}
 use Rattle.hub_loop.proofs.holding.Holding.adopt_all.Given as goal
@@ -11,4 +10,4 @@ invariant-loop-error g l = record {
 }
 
 abbrev pub decreases-loop-error : goal.decreases-loop-error
-decreases-loop-error g l = deque_len l.receiving.found
+decreases-loop-error g l = length l.receiving.found

@@ -1,6 +1,6 @@
 use Rattle.std.proofs.Common.{◌≡◌, ◌∙◌, rules, inr, subst}
 use Rattle.slab.specs.Slab.{SameValues}
-use Rattle.hub_loop.specs.Adopting.{IsPortBuried, IsUnfit}
+use Rattle.hub_loop.specs.Adopting.{closed_of, IsPortBuried, IsUnfit}
 use Rattle.hub_ports.specs.Adopting.{IsReceived}
 use Rattle.std.specs.Prelude.{Err}
 use Rattle.hub_loop.proofs.Adopts.{buried-after}
@@ -16,8 +16,8 @@ returns-in-Err-TooManyMoves-default g c =
     let received : IsReceived p (Err (error, p)) = search rules in
     let same : SameValues old.held c.close_unfit.new.self.held = search rules in
     let came : c.in-Err-TooManyMoves-default.arrived ≡ p = search rules in
-    let buried = subst (λ q. IsPortBuried q mid.closed c.close_unfit.new.self.closed) came c.close_unfit.ensures.buried in
+    let buried = subst (λ q. IsPortBuried q (closed_of mid.closed) (closed_of c.close_unfit.new.self.closed)) came c.close_unfit.ensures.buried in
     record {
-      adopted = (p, search rules, inr (error, unfit, received, same, buried-after p old.closed mid.closed c.close_unfit.new.self.closed c.in_ok-bell.ensures.closed buried, search rules));
+      adopted = (p, search rules, inr (error, unfit, received, same, buried-after p (closed_of old.closed) (closed_of mid.closed) (closed_of c.close_unfit.new.self.closed) c.in_ok-bell.ensures.closed buried, search rules));
       next = c.close_unfit.ensures.next ∙ c.in_ok-bell.ensures.next;
     }

@@ -8,6 +8,6 @@ invariant_of-self-in-Nothing g c =
     let old = c.args.self.now in
     let q : Ready = record { marks = c.set.new.self; listed = old.ready.listed } in
     record {
-      room = omega (arith, old.room, c.ask_at-asked.ensures.1.capacity);
-      reached = asked-marked old.held c.ask_at-asked.new.held old.ready q c.args.key c.args.steps.now c.ask_at-asked.new.steps c.ask_at-asked.result c.ask_at-asked.ensures refl c.set.ensures.others c.set.ensures.set old.reached;
+      room = omega (arith, old.room, c.ask_at-served.ensures.1.capacity);
+      reached = asked-marked old.held c.ask_at-served.new.held old.ready q c.args.key c.args.steps.now c.ask_at-served.new.steps c.ask_at-served.result c.ask_at-served.ensures refl c.set.ensures.others c.set.ensures.set old.reached;
     }

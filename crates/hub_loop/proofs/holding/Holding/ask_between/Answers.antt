@@ -1,7 +1,8 @@
-use Rattle.std.proofs.Common.{◌<◌, ◌^◌, ◌+◌, ◌++◌, ◌∷◌, ◌∙◌, [], ◌||◌, subst, arith}
-use Rattle.hub_loop.specs.Scanning.{ends_of, AreMarkedServed, IsMarkedAfter}
+use Rattle.std.proofs.Common.{◌<◌, ◌^◌, ◌+◌, ◌++◌, ◌∷◌, ◌∙◌, [], ◌||◌, subst, sym, arith}
+use Rattle.hub_loop.specs.Scanning.{ends_of, AreAskedBetween, AreMarkedServed, IsServedMarked}
 use Rattle.hub_loop.specs.Serving.{IsAskedAt}
-use Rattle.hub_loop.proofs.Serves.{these-join, these-more, ask-same, behind-join, behind-one, between-rung, before-range, order-later, order-more, steps-join}
+use Rattle.hub_loop.proofs.Scans.{between-rung, steps-join}
+use Rattle.hub_loop.proofs.Serves.{given-at, these-join, these-more, ask-same, behind-join, behind-one, before-range, order-later, order-more}
 use Rattle.hub_loop.proofs.holding.Holding.ask_between.Goals as goal
 
 pub returns-in_default-clause-served : goal.returns-in_default-clause-served
@@ -15,8 +16,8 @@ returns-in_default-clause-looks g c =
     let rung = c.serve_rung.ensures.looks in
     (kept.looks.0 ++ rung.0, steps-join c.args.listener.now c.loop-key.listener c.serve_rung.new.listener kept.looks.0 rung.0 kept.looks.1 rung.1)
 
-pub returns-in-Given-clause-served : goal.returns-in-Given-clause-served
-returns-in-Given-clause-served g c =
+pub returns-in_default-ask-clause-served : goal.returns-in_default-ask-clause-served
+returns-in_default-ask-clause-served g c =
     let kept = c.loop-key.invariant in
     let old = ends_of c.args.self.now in
     let mid = ends_of c.loop-key.self in
@@ -26,22 +27,24 @@ returns-in-Given-clause-served g c =
     let rung = subst (AreMarkedServed mid then c.loop-key.steps c.serve_rung.new.steps) c.in-Nothing.is c.serve_rung.ensures.served in
     let keys = rung.0 ++ kept.keys.0 in
     let these = these-join kept.keys.0 rung.0 old mid then c.args.steps.now c.loop-key.steps c.serve_rung.new.steps c.loop-key.busy c.in-Nothing.here kept.keys.1 rung.1 in
-    let came = subst (IsAskedAt then.held new.held key c.serve_rung.new.steps c.ask.new.steps) c.in-Given.is c.ask.ensures.asked in
-    let marked = subst (IsMarkedAfter new.ready.marks key) c.in-Given.is c.ask.ensures.given in
+    let gave = given-at then.held new.held key c.serve_rung.new.steps c.ask.new.steps c.ask.result c.ask.ensures.asked c.in_default-ask.not-Nothing in
+    let came = subst (IsAskedAt then.held new.held key c.serve_rung.new.steps c.ask.new.steps) gave.1 c.ask.ensures.asked in
+    let marked = subst (IsServedMarked new.ready.marks) gave.1 c.ask.ensures.given in
     let less = c.loop-key-test.true in
     let high = c.requires.1 in
     let inside : key < then.held.capacity = omega (arith, less, high, these.same.capacity) in
     let top = c.ranges.high in
-    let fits : key + 1 < 2 ^ 64 = omega (arith, less, top) in (
+    let fits : key + 1 < 2 ^ 64 = omega (arith, less, top) in
+    subst (AreAskedBetween c.args.low c.args.high old new c.args.steps.now c.ask.new.steps) (sym gave.1) (
       keys,
-      behind-join keys [] old then new c.args.steps.now c.serve_rung.new.steps c.ask.new.steps (c.in-Nothing.here || c.loop-key.busy) key c.in-Given.envelope these
-          (behind-one key then new c.serve_rung.new.steps c.ask.new.steps c.in-Given.envelope came inside fits marked
+      behind-join keys [] old then new c.args.steps.now c.serve_rung.new.steps c.ask.new.steps (c.in-Nothing.here || c.loop-key.busy) key gave.0 these
+          (behind-one key then new c.serve_rung.new.steps c.ask.new.steps gave.0 came inside fits marked
           (ask-same key then new c.ask.ensures.others c.ask.ensures.listed c.ask.ensures.next c.ask.ensures.capacity)),
       before-range old.next c.args.low c.args.high key keys old.ready.marks c.requires.2 kept.low less (order-later c.args.low _ kept.keys.0 rung.0 kept.keys.2),
     )
 
-pub returns-in-Given-clause-looks : goal.returns-in-Given-clause-looks
-returns-in-Given-clause-looks g c =
+pub returns-in_default-ask-clause-looks : goal.returns-in_default-ask-clause-looks
+returns-in_default-ask-clause-looks g c =
     let kept = c.loop-key.invariant in
     let rung = c.serve_rung.ensures.looks in
     (kept.looks.0 ++ rung.0, steps-join c.args.listener.now c.loop-key.listener c.serve_rung.new.listener kept.looks.0 rung.0 kept.looks.1 rung.1)

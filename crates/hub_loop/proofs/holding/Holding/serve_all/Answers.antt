@@ -1,6 +1,6 @@
 use Rattle.std.proofs.Common.{subst}
 use Rattle.hub_loop.specs.Scanning.{ends_of, AreAskedBetween}
-use Rattle.hub_loop.proofs.Serves.{all-nothing, all-behind, all-ahead}
+use Rattle.hub_loop.proofs.Scans.{all-nothing, all-behind, all-ahead}
 use Rattle.hub_loop.proofs.holding.Holding.serve_all.Goals as goal
 
 pub returns-in-Nothing-ask_between-clause-served : goal.returns-in-Nothing-ask_between-clause-served

@@ -1,6 +1,6 @@
 use Rattle.std.proofs.Common.{◌++◌, refl, subst}
 use Rattle.hub_loop.specs.Scanning.{ends_of, EndsSeat, AreMarkedServed, AreAllServed}
-use Rattle.hub_loop.proofs.Serves.{found-same, marked-first, all-first, nothing-first, steps-join, inside-marked, inside-all}
+use Rattle.hub_loop.proofs.Scans.{found-same, marked-first, all-first, nothing-first, steps-join, inside-marked, inside-all}
 use Rattle.hub_loop.proofs.holding.Holding.serve_first.Goals as goal
 
 pub returns-in-Nothing-serve_all-clause-served : goal.returns-in-Nothing-serve_all-clause-served

@@ -1,6 +1,7 @@
 use Rattle.std.proofs.Common.{◌++◌, subst}
 use Rattle.hub_loop.specs.Scanning.{ends_of, AreMarkedAsked}
-use Rattle.hub_loop.proofs.Serves.{these-join, marked-behind}
+use Rattle.hub_loop.proofs.Scans.{marked-behind}
+use Rattle.hub_loop.proofs.Serves.{these-join}
 use Rattle.hub_loop.proofs.holding.Holding.serve_marked.Goals as goal
 
 pub returns-in-Nothing-ask_marked-clause-served : goal.returns-in-Nothing-ask_marked-clause-served

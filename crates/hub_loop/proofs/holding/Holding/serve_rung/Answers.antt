@@ -1,6 +1,6 @@
 use Rattle.std.proofs.Common.{refl}
 use Rattle.hub_loop.specs.Scanning.{ends_of, EndsSeat}
-use Rattle.hub_loop.proofs.Serves.{rung-served, found-same}
+use Rattle.hub_loop.proofs.Scans.{rung-served, found-same}
 use Rattle.hub_loop.proofs.holding.Holding.serve_rung.Goals as goal
 
 pub returns-clause-served : goal.returns-clause-served
