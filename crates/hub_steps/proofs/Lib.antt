@@ -7,3 +7,4 @@ pub mod Saying
 pub mod UnderWay
 pub mod Held
 pub mod Sessions
+pub mod Names

@@ -23,8 +23,8 @@ pub fn enter(core: &mut Core, sender: Sender, memory_refused: bool) -> Result<Ou
         if !matches!(entered, Outcome::Moved) {
             return Ok(entered);
         }
-        take_step(core, Action::Leave(sender), memory_refused)?;
-        take_step(core, Action::Hop(sender), memory_refused)?;
+        drop(take_step(core, Action::Leave(sender), memory_refused)?);
+        drop(take_step(core, Action::Hop(sender), memory_refused)?);
     }
     take_step(core, Action::Enter(sender), memory_refused)
 }

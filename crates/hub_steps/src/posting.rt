@@ -72,15 +72,15 @@ fn send(
             let push = Action::Push(sender, ports, body);
             let answer = take_step(core, push, memory_refused)?;
             // It leaves whatever the push was answered.
-            take_step(core, Action::Leave(sender), memory_refused)?;
+            drop(take_step(core, Action::Leave(sender), memory_refused)?);
             Ok(Shown::Answer(answer))
         }
         Outcome::Closed => {
-            take_step(core, Action::Leave(sender), memory_refused)?;
+            drop(take_step(core, Action::Leave(sender), memory_refused)?);
             Ok(Shown::Answer(Outcome::Closed))
         }
         Outcome::Moved => {
-            take_step(core, Action::Leave(sender), memory_refused)?;
+            drop(take_step(core, Action::Leave(sender), memory_refused)?);
             Ok(Shown::Moving)
         }
         entered => Ok(Shown::Answer(entered)),

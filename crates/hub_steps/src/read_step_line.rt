@@ -7,36 +7,19 @@ ghost use Rattle.std.specs.Prelude.{
   ◌∷◌,
   IfErr,
   Ok,
-  bytes_eq,
-  codes,
   false,
   option_map,
   true,
 };
 ghost use Rattle.hub_text.specs.Reading.{IsReadAs};
+ghost use Rattle.hub_steps.specs.RarerStep.{spelled};
 ghost use Rattle.hub_steps.specs.ReadMemory.{has_part, reads_memory, text_reads_memory};
-ghost use Rattle.hub_steps.specs.StepLine.{
-  A,
-  BODY,
-  E,
-  LIST,
-  NAME,
-  P,
-  U,
-  WORD,
-  command_in,
-  command_of,
-  cut_after,
-  last_word,
-  line_of,
-  mark,
-  number_of,
-  poster_named,
-  step_line_of,
-  word_of,
-  words_after,
-};
+ghost use Rattle.hub_steps.specs.StepLine.{A, BODY, E, LIST, NAME, P, U, WORD, command_in};
+ghost use Rattle.hub_steps.specs.StepLine.{command_of, cut_after, last_word, line_of, mark};
+ghost use Rattle.hub_steps.specs.StepLine.{number_of, poster_named, step_line_of, word_of};
+ghost use Rattle.hub_steps.specs.StepLine.{words_after};
 
+use crate::rarer_step::{RarerStep, rarer_step_named};
 use crate::step_line::{AgentUrl, Command, Poster, PosterCommand, StepLine, StepLineError};
 use hub_core::Action;
 use hub_envelope::{AgentId, Body, EndId, Items, LineId, Text};
@@ -110,68 +93,72 @@ fn command_of(alloc: Global, name: &str, rest: Option<&str>) -> Result<Command, 
             Ok(Command::At(poster, PosterCommand::Post(ports, body)))
         }
         "take" => Ok(Command::Step(Action::Take(end_after(rest)?))),
-        _ => rarer_command_of(alloc, name, rest),
+        _ => match rarer_step_named(name) {
+            Some(step) => rarer_command_of(alloc, step, rest),
+            None => Err(StepLineError::UnknownStep),
+        },
     }
 }
 
-/// What the step of that name asks for, where it is neither `post` nor `take`.
+/// What a step asks for that is neither a post nor a take.
 #[tactic(auto, unfolding(crate::specs::StepLine::command_of))]
-fn rarer_command_of(alloc: Global, name: &str, rest: Option<&str>) -> Result<Command, StepLineError>
-    requires { (bytes_eq name.now (codes "post") ≡ false)
-        × (bytes_eq name.now (codes "take") ≡ false) }
+fn rarer_command_of(
+    alloc: Global,
+    step: RarerStep,
+    rest: Option<&str>,
+) -> Result<Command, StepLineError>
     ensures read { IsReadAs StepLineError.OutOfMemory (λ x. x) result
-        (command_of name.now (option_map (λ x. x.now) rest.entry)) }
+        (command_of (spelled step) (option_map (λ x. x.now) rest.entry)) }
     ensures memory { IfErr result (λ e. e ≡ StepLineError.OutOfMemory
-        → has_part name.now ≡ true) }
+        → has_part (spelled step) ≡ true) }
 {
-    match name {
-        "agent" => Ok(Command::Agent(url_in(alloc, one_word(rest)?)?)),
-        "channel" => Ok(Command::Step(Action::Channel(agent_after(rest)?))),
-        "client" => Ok(Command::Step(Action::Client(agent_after(rest)?))),
-        "worker" => Ok(Command::Worker(agent_after(rest)?)),
-        "member" => {
+    match step {
+        RarerStep::Agent => Ok(Command::Agent(url_in(alloc, one_word(rest)?)?)),
+        RarerStep::Channel => Ok(Command::Step(Action::Channel(agent_after(rest)?))),
+        RarerStep::Client => Ok(Command::Step(Action::Client(agent_after(rest)?))),
+        RarerStep::Worker => Ok(Command::Worker(agent_after(rest)?)),
+        RarerStep::Member => {
             let (agent, name) = word_and_rest(rest)?;
             Ok(Command::Member(agent_in(agent)?, name_in(alloc, name)?))
         }
-        "line" => {
+        RarerStep::Line => {
             let (end, agent) = end_and_agent_after(rest)?;
             Ok(Command::Step(Action::Line(end, agent)))
         }
-        "back" => Ok(Command::At(poster_after(rest)?, PosterCommand::Back)),
-        "enter" => Ok(Command::At(poster_after(rest)?, PosterCommand::Enter)),
-        "push" => {
+        RarerStep::Back => Ok(Command::At(poster_after(rest)?, PosterCommand::Back)),
+        RarerStep::Enter => Ok(Command::At(poster_after(rest)?, PosterCommand::Enter)),
+        RarerStep::Push => {
             let (poster, ports, body) = posting_after(alloc, rest)?;
             Ok(Command::At(poster, PosterCommand::Push(ports, body)))
         }
-        "leave" => Ok(Command::At(poster_after(rest)?, PosterCommand::Leave)),
-        "hop" => Ok(Command::At(poster_after(rest)?, PosterCommand::Hop)),
-        "start" => Ok(Command::Step(Action::Start(end_after(rest)?))),
-        "loaded" => Ok(Command::Loaded(end_after(rest)?)),
-        "look" => Ok(Command::Step(Action::Look(end_after(rest)?))),
-        "hand" => {
+        RarerStep::Leave => Ok(Command::At(poster_after(rest)?, PosterCommand::Leave)),
+        RarerStep::Hop => Ok(Command::At(poster_after(rest)?, PosterCommand::Hop)),
+        RarerStep::Start => Ok(Command::Step(Action::Start(end_after(rest)?))),
+        RarerStep::Loaded => Ok(Command::Loaded(end_after(rest)?)),
+        RarerStep::Look => Ok(Command::Step(Action::Look(end_after(rest)?))),
+        RarerStep::Hand => {
             let (end, agent) = end_and_agent_after(rest)?;
             Ok(Command::Step(Action::Hand(end, agent)))
         }
-        "adopt" => {
+        RarerStep::Adopt => {
             let (end, agent) = end_and_agent_after(rest)?;
             Ok(Command::Adopt(end, agent))
         }
-        "close" => Ok(Command::Close(end_after(rest)?)),
-        "sweep" => Ok(Command::Sweep(end_after(rest)?)),
-        "cast" => {
+        RarerStep::Close => Ok(Command::Close(end_after(rest)?)),
+        RarerStep::Sweep => Ok(Command::Sweep(end_after(rest)?)),
+        RarerStep::Cast => {
             let (end, list, body) = two_words_and_rest(rest)?;
             let end = end_in(end)?;
             let ports = list_in(alloc, list)?;
             Ok(Command::Cast(end, ports, Body::read(alloc, body)?))
         }
-        "part" => Ok(Command::Step(Action::Part(end_after(rest)?))),
-        "order" => Ok(Command::Step(Action::Order(agent_after(rest)?))),
-        "see" => Ok(Command::See(agent_after(rest)?)),
-        "event" => {
+        RarerStep::Part => Ok(Command::Step(Action::Part(end_after(rest)?))),
+        RarerStep::Order => Ok(Command::Step(Action::Order(agent_after(rest)?))),
+        RarerStep::See => Ok(Command::See(agent_after(rest)?)),
+        RarerStep::Event => {
             let (agent, event) = two_words(rest)?;
             Ok(Command::Event(agent_in(agent)?, event_in(event)?))
         }
-        _ => Err(StepLineError::UnknownStep),
     }
 }
 

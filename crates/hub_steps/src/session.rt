@@ -35,7 +35,6 @@ pub enum Reply {
 }
 
 /// What the last text line was answered with that was run or bad.
-#[derive(Drop)]
 pub enum Last {
     /// The outcome line that the run keeps; nothing before the first text line.
     Kept,
@@ -43,6 +42,16 @@ pub enum Last {
     Untold(Shown),
     /// The name of the first test that the text line fails.
     Bad(&'static str),
+}
+
+// By hand, as that of what is shown.
+impl Drop for Last {
+    fn drop(self) {
+        match self {
+            Last::Untold(shown) => drop(shown),
+            Last::Kept | Last::Bad(_) => {}
+        }
+    }
 }
 
 /// A core and the lives of its agents, after the step lines so far.

@@ -4,7 +4,7 @@ use hub_envelope::Items;
 use hub_life::{LifeError, State};
 
 /// What a step line shows.
-#[derive(Debug, Drop)]
+#[derive(Debug)]
 pub enum Shown {
     /// The outcome of one of its core steps, or what its first failed test says.
     Answer(Outcome),
@@ -25,4 +25,22 @@ pub enum Shown {
     State(State),
     /// The life of a worker agent refused an event.
     Refused(LifeError),
+}
+
+// By hand, so that whoever drops one makes one call, and its proof has no cases of its outcome.
+impl Drop for Shown {
+    fn drop(self) {
+        match self {
+            Shown::Answer(outcome) => drop(outcome),
+            Shown::Cast(posts) => drop(posts),
+            Shown::Moving
+            | Shown::Doomed
+            | Shown::DoneNoMemory
+            | Shown::DoneMoving
+            | Shown::BadUrl
+            | Shown::OpaqueOrigin
+            | Shown::State(_)
+            | Shown::Refused(_) => {}
+        }
+    }
 }
