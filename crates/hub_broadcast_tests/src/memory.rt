@@ -55,6 +55,22 @@ fn join(alloc: Global, roster: &mut Roster, ends: &mut Ends) -> Option<Member> {
     }
 }
 
+fn room(alloc: Global, count: usize) -> Option<Vec<Member>> {
+    match Vec::with_capacity(alloc, count) {
+        Ok(members) => Some(members),
+        Err(_) => Vec::with_capacity(alloc, count).ok(),
+    }
+}
+
+fn join_four(alloc: Global, roster: &mut Roster) -> Option<Vec<Member>> {
+    let mut ends = Ends::new();
+    let mut members = room(alloc, 4)?;
+    for _ in 0..4 {
+        members.push(join(alloc, roster, &mut ends)?).ok()?;
+    }
+    Some(members)
+}
+
 // What the members take is what they were told: the first envelope where it was accepted.
 fn are_told<R: Wait>(rt: &R, members: &mut [Member], outcomes: &[(EndId, CastOutcome)]) -> bool {
     for (member, (end, outcome)) in members.iter_mut().zip(outcomes.iter()) {
@@ -84,17 +100,12 @@ fn took_nothing<R: Wait>(rt: &R, members: &mut [Member]) -> bool {
 fn casts_to_three<R: Wait>(rt: &R, alloc: Global) -> Option<bool> {
     let yard = Depot::<Onward>::new(alloc);
     let mut roster = Roster::new(alloc);
-    let mut ends = Ends::new();
-    let source = join(alloc, &mut roster, &mut ends)?;
-    let one = join(alloc, &mut roster, &mut ends)?;
-    let two = join(alloc, &mut roster, &mut ends)?;
-    let three = join(alloc, &mut roster, &mut ends)?;
-    let mut members = [one, two, three];
+    let mut members = join_four(alloc, &mut roster)?;
+    let (source, others) = members.split_first_mut()?;
     Some(
-        match roster.cast(rt, &yard, &source, body(alloc)?, NO_PORTS.as_slice()) {
-            Ok(outcomes) => are_told(rt, members.as_mut_slice(), outcomes.as_slice()),
-            Err(error) => error == CastError::OutOfMemory
-                && took_nothing(rt, members.as_mut_slice()),
+        match roster.cast(rt, &yard, source, body(alloc)?, NO_PORTS.as_slice()) {
+            Ok(outcomes) => are_told(rt, others, outcomes.as_slice()),
+            Err(error) => error == CastError::OutOfMemory && took_nothing(rt, others),
         },
     )
 }

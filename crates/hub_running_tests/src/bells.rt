@@ -1,3 +1,4 @@
+use crate::assertions::assert_same;
 use hub_bell::{Bell, Listener};
 use hub_envelope::EndId;
 use std::sync::Wait;
@@ -28,50 +29,52 @@ fn rung(listener: &mut Listener) -> Option<u32> {
     Some(64 * word + bits.trailing_zeros())
 }
 
+// Ends, each with the one that is found where it was rung.
+const RINGS: &[(u32, u32)] = &[
+    (0, 0),
+    (63, 63),
+    (64, 64),
+    (4_095, 4_095),
+    (4_096, 0),
+    (65_535, 4_095),
+];
+
 #[test]
 fn a_ring_sets_the_bit_of_its_end(rt: HostRuntime) -> Result<(), Fail> {
     let (mut listener, mut bell) = Listener::open(rt.alloc())?;
-    assert_eq!(rt; listener.take_names(), 0);
-    for (end, found) in [
-        (0, 0),
-        (63, 63),
-        (64, 64),
-        (4_095, 4_095),
-        (4_096, 0),
-        (65_535, 4_095),
-    ] {
-        bell.ring(EndId(end));
-        assert_eq!(rt; rung(&mut listener), Some(found));
-        assert_eq!(rt; rung(&mut listener), None);
+    assert_same(&rt, "before a ring", listener.take_names(), 0);
+    for (end, found) in RINGS {
+        bell.ring(EndId(*end));
+        assert_same(&rt, "after a ring", rung(&mut listener), Some(*found));
+        assert_same(&rt, "once more", rung(&mut listener), None);
     }
     Ok(())
 }
 
 #[test]
-fn rings_of_two_bells_are_found_together(rt: HostRuntime) -> Result<(), Fail> {
-    let (mut listener, mut bell) = Listener::open(rt.alloc())?;
-    let mut other = listener.bell()?;
+fn rings_of_two_bells_are_found_together(rt: HostRuntime) {
+    let (mut listener, mut bell) = Listener::open(rt.alloc()).expect(&rt, "memory");
+    let mut other = listener.bell().expect(&rt, "memory");
     bell.ring(EndId(7));
     other.ring(EndId(5));
-    bell.clone()?.ring(EndId(330));
+    bell.clone().expect(&rt, "memory").ring(EndId(330));
     other.ring(EndId(7));
-    assert_eq!(rt; listener.take_names(), 1 | 1 << 5);
-    assert_eq!(rt; listener.take_bits(0), 1 << 5 | 1 << 7);
-    assert_eq!(rt; listener.take_bits(5), 1 << 10);
-    assert_eq!(rt; listener.take_bits(5), 0);
-    Ok(())
+    assert_same(&rt, "names", listener.take_names(), 1 | 1 << 5);
+    assert_same(&rt, "word 0", listener.take_bits(0), 1 << 5 | 1 << 7);
+    assert_same(&rt, "word 5", listener.take_bits(5), 1 << 10);
+    assert_same(&rt, "word 5 again", listener.take_bits(5), 0);
 }
 
 #[test]
 fn after_clear_a_ring_is_found_again(rt: HostRuntime) -> Result<(), Fail> {
     let (mut listener, mut bell) = Listener::open(rt.alloc())?;
-    for end in [3, 300, 3_000] {
-        bell.ring(EndId(end));
-    }
-    listener.clear();
-    assert_eq!(rt; listener.take_names(), 0);
+    bell.ring(EndId(3));
     bell.ring(EndId(300));
-    assert_eq!(rt; rung(&mut listener), Some(300));
+    bell.ring(EndId(3_000));
+    listener.clear();
+    assert_same(&rt, "after clear", listener.take_names(), 0);
+    bell.ring(EndId(300));
+    assert_same(&rt, "after a ring", rung(&mut listener), Some(300));
     Ok(())
 }
 
@@ -84,7 +87,7 @@ fn nobody_sleeps_who_was_rung_or_woken(rt: HostRuntime) -> Result<(), Fail> {
     listener.clear();
     bell.wake();
     listener.sleep(&rt);
-    assert_eq!(rt; listener.take_names(), 0);
+    assert_same(&rt, "names", listener.take_names(), 0);
     Ok(())
 }
 
@@ -123,7 +126,7 @@ fn two_threads_ring_each_other_awake(rt: HostRuntime) -> Result<(), Fail> {
         || rounds(&rt, one, to_two, true),
         || rounds(&rt, two, to_one, false),
     );
-    assert_eq!(rt; (first, second), (ROUNDS, ROUNDS));
+    assert_same(&rt, "right rounds", (first, second), (ROUNDS, ROUNDS));
     Ok(())
 }
 
@@ -135,6 +138,6 @@ fn opens_a_listener_whichever_allocation_is_refused(rt: HostRuntime) -> Result<(
         Err(_) => Listener::open(rt.alloc())?,
     };
     bell.ring(EndId(1));
-    assert_eq!(rt; rung(&mut listener), Some(1));
+    assert_same(&rt, "after a ring", rung(&mut listener), Some(1));
     Ok(())
 }

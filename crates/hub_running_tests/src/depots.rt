@@ -1,5 +1,6 @@
 ghost use Rattle.std.specs.Prelude.{◌<◌};
 
+use crate::assertions::assert_same;
 use hub_depot::{Depot, DepotError, Kept, Key, Named};
 use hub_envelope::{EndId, LineId};
 use std::process::Abort;
@@ -43,6 +44,17 @@ fn key(number: u32) -> Key {
     }
 }
 
+/// Asserts that this is what is taken by the name of that number.
+fn assert_taken<R: Abort + Wait>(
+    rt: &R,
+    which: &str,
+    depot: &Depot<Ticket>,
+    number: u32,
+    expected: Option<Ticket>,
+) {
+    assert_same(rt, which, depot.take(rt, key(number)), expected);
+}
+
 /// Puts one thread's tickets, every `THREADS`th one. Whether all were kept.
 fn put_share<R: Wait>(rt: &R, depot: &Depot<Ticket>, share: usize) -> bool
     requires { share < 4 }
@@ -67,15 +79,12 @@ fn depot_keeps(rt: HostRuntime) -> Result<(), Fail> {
         4,
         &|share| { put_share(handle, shared, share) },
     )?;
-    assert_eq!(rt; kept.as_slice(), [true; 4].as_slice());
+    assert_same(&rt, "put", kept.as_slice(), [true; 4].as_slice());
     for number in 0..THREADS * EACH {
-        assert_eq!(rt;
-            depot.take(&rt, key(number)),
-            Some(Ticket::numbered(number))
-        );
-        assert_eq!(rt; depot.take(&rt, key(number)), None, "{number} again");
+        assert_taken(&rt, "once", &depot, number, Some(Ticket::numbered(number)));
+        assert_taken(&rt, "again", &depot, number, None);
     }
-    assert_eq!(rt; depot.take_any(&rt), None);
+    assert_same(&rt, "any other", depot.take_any(&rt), None);
     Ok(())
 }
 
@@ -88,10 +97,11 @@ fn one_value_a_name(rt: HostRuntime) -> Result<(), Fail> {
     };
     assert!(rt; depot.put(&rt, Ticket::numbered(7)).is_ok());
     match depot.put(&rt, second) {
-        Err(DepotError::Taken(back)) => assert_eq!(rt; back.number, 8),
+        Err(DepotError::Taken(back)) => assert_same(&rt, "back", back.number, 8),
         _ => panic!(rt; "the name is taken"),
     }
-    assert_eq!(rt; depot.take_any(&rt), Some(Ticket::numbered(7)));
+    let left = Some(Ticket::numbered(7));
+    assert_same(&rt, "any other", depot.take_any(&rt), left);
     Ok(())
 }
 
@@ -123,7 +133,7 @@ fn keeps_names_at_the_ends_of_their_ranges(rt: HostRuntime) {
     }
     for row in EXTREMES {
         let ticket = ticket_of(*row);
-        assert_eq!(rt; depot.take(&rt, ticket.name), Some(ticket));
+        assert_same(&rt, "kept", depot.take(&rt, ticket.name), Some(ticket));
     }
 }
 
@@ -136,19 +146,16 @@ fn depot_keeps_whichever_allocation_is_refused(rt: HostRuntime) {
         match depot.put(&rt, Ticket::numbered(number)) {
             Ok(()) => {}
             Err(DepotError::OutOfMemory(back)) => {
-                assert_eq!(rt; back, Ticket::numbered(number));
+                assert_same(&rt, "back", back, Ticket::numbered(number));
                 assert!(rt; depot.put(&rt, back).is_ok());
             }
             Err(DepotError::Taken(_)) => panic!(rt; "the name is free"),
         }
     }
     for number in 0..60 {
-        assert_eq!(rt;
-            depot.take(&rt, key(number)),
-            Some(Ticket::numbered(number))
-        );
+        assert_taken(&rt, "kept", &depot, number, Some(Ticket::numbered(number)));
     }
-    assert_eq!(rt; depot.take_any(&rt), None);
+    assert_same(&rt, "any other", depot.take_any(&rt), None);
 }
 
 /// It passes whichever allocation is refused: the put that asked for it gives its value back, and
@@ -161,8 +168,8 @@ fn kept_changes_nothing_whichever_allocation_is_refused(rt: HostRuntime) -> Resu
         match kept.put(Ticket::numbered(number)) {
             Ok(()) => {}
             Err(DepotError::OutOfMemory(back)) => {
-                assert_eq!(rt; back, Ticket::numbered(number));
-                assert_eq!(rt; refused, None);
+                assert_same(&rt, "back", back, Ticket::numbered(number));
+                assert_same(&rt, "refused before", refused, None);
                 refused = Some(number);
             }
             Err(DepotError::Taken(_)) => panic!(rt; "the name is free"),
@@ -174,9 +181,9 @@ fn kept_changes_nothing_whichever_allocation_is_refused(rt: HostRuntime) -> Resu
         } else {
             Some(Ticket::numbered(number))
         };
-        assert_eq!(rt; kept.take(key(number)), expected);
+        assert_same(&rt, "kept", kept.take(key(number)), expected);
     }
-    assert_eq!(rt; kept.take_any(), None);
+    assert_same(&rt, "any other", kept.take_any(), None);
     Ok(())
 }
 
@@ -220,10 +227,10 @@ fn keeps_what_may_not_be_dropped(rt: HostRuntime) {
         put_passport(&rt, &depot, key(number));
     }
     match depot.take(&rt, key(3)) {
-        Some(Passport { name }) => assert_eq!(rt; name, key(3)),
+        Some(Passport { name }) => assert_same(&rt, "taken", name, key(3)),
         None => panic!(rt; "it was put"),
     }
-    assert_eq!(rt; take_all(depot.into_kept()), 9);
+    assert_same(&rt, "left", take_all(depot.into_kept()), 9);
 }
 
 #[test]
@@ -231,9 +238,7 @@ fn says_why(rt: HostRuntime) -> Result<(), Fail> {
     let taken = DepotError::Taken(Ticket::numbered(0));
     let refused = DepotError::OutOfMemory(Ticket::numbered(0));
     let told = format!(in rt.alloc(); "{taken}; {refused}")?;
-    assert_eq!(rt;
-        told.as_str(),
-        "a value of that name is kept already; out of memory"
-    );
+    let expected = "a value of that name is kept already; out of memory";
+    assert_same(&rt, "why", told.as_str(), expected);
     Ok(())
 }

@@ -1,5 +1,6 @@
 ghost use Rattle.std.specs.Prelude.{◌≡◌, [], IfSome};
 
+use crate::assertions::assert_same;
 use hub_gate::{Entered, Entry, Gate, GateError, Inside, Keeper, Looked, Refusal, word_of};
 use std::alloc::{AllocError, Global};
 use std::process::Abort;
@@ -33,13 +34,13 @@ fn open(
 // The keeper shows the gate's word, which no other call tells.
 fn assert_shows(rt: &(impl Abort + AllocGlobal), keeper: &Keeper<u64>, wanted: &str) {
     let shown = format!(in rt.alloc(); "{keeper:?}").expect(rt, "memory");
-    assert_eq!(rt; shown.as_str(), wanted);
+    assert_same(rt, "word", shown.as_str(), wanted);
 }
 
 // The keeper finds these rights, and that they were given.
 fn assert_gives(rt: &impl Abort, keeper: &mut Keeper<u64>, wanted: &[u64]) {
     match keeper.look() {
-        Looked::Rights(rights) => assert_eq!(rt; rights.as_slice(), wanted),
+        Looked::Rights(rights) => assert_same(rt, "rights", rights.as_slice(), wanted),
         _ => panic!(rt; "no rights"),
     }
     assert!(rt; matches!(keeper.look(), Looked::Given));
@@ -93,10 +94,10 @@ fn assert_retires(rt: &(impl Abort + AllocGlobal), keeper: &mut Keeper<u64>) {
 
 #[test]
 fn gate_words(rt: HostRuntime) {
-    assert_eq!(rt; word_of(true, true, true, 16), 4103);
-    assert_eq!(rt; word_of(true, true, true, 32), 8199);
+    assert_same(&rt, "16 inside", word_of(true, true, true, 16), 4103);
+    assert_same(&rt, "32 inside", word_of(true, true, true, 32), 8199);
     let (mut keeper, mut entries) = open(&rt, 2, 5);
-    assert_eq!(rt; entries.len(), 2);
+    assert_same(&rt, "entries", entries.len(), 2);
     assert_enables(&rt, &mut keeper);
     let other = enter_last(&mut entries).expect(&rt, "the second entry");
     let one = enter_last(&mut entries).expect(&rt, "the first entry");
@@ -108,13 +109,13 @@ fn gate_words(rt: HostRuntime) {
     assert_gives(&rt, &mut keeper, &[5, 6]);
     keeper.close();
     assert_shows(&rt, &keeper, "Keeper { word: 7 }");
-    assert_eq!(rt; refusal_of(one), Some(Refusal::Moved));
+    assert_same(&rt, "one entry", refusal_of(one), Some(Refusal::Moved));
     assert_shows(&rt, &keeper, "Keeper { word: 7 }");
     let Err(keeper) = keeper.into_word() else {
         panic!(rt; "an entry is left");
     };
     drop(other);
-    assert_eq!(rt; keeper.into_word().ok(), Some(7));
+    assert_same(&rt, "last word", keeper.into_word().ok(), Some(7));
 }
 
 #[test]
@@ -122,7 +123,7 @@ fn a_closed_gate_turns_its_entries(rt: HostRuntime) {
     let (mut keeper, mut entries) = open(&rt, 1, 0);
     keeper.close();
     let entry = entries.pop().expect(&rt, "an entry");
-    assert_eq!(rt; refusal_of(entry), Some(Refusal::Closed));
+    assert_same(&rt, "an entry", refusal_of(entry), Some(Refusal::Closed));
     assert_shows(&rt, &keeper, "Keeper { word: 4 }");
 }
 
@@ -131,8 +132,9 @@ fn a_bad_count_gives_the_rights_back(rt: HostRuntime) {
     for count in [0, 33] {
         let refused = Gate::open(rt.alloc(), some_rights(&rt, count, 7));
         let (error, back) = refused.err().expect(&rt, "no gate");
-        assert_eq!(rt; error, GateError::BadCount, "{count}");
-        assert_eq!(rt; back.as_slice(), some_rights(&rt, count, 7).as_slice());
+        assert_same(&rt, "error", error, GateError::BadCount);
+        let rights = some_rights(&rt, count, 7);
+        assert_same(&rt, "back", back.as_slice(), rights.as_slice());
     }
 }
 
@@ -141,8 +143,8 @@ fn open_again(rt: &(impl Abort + AllocGlobal), rights: Vec<u64>) -> (Keeper<u64>
     match Gate::open(rt.alloc(), rights) {
         Ok(gate) => gate,
         Err((error, back)) => {
-            assert_eq!(rt; error, GateError::OutOfMemory);
-            assert_eq!(rt; back.as_slice(), [1, 2, 3].as_slice());
+            assert_same(rt, "error", error, GateError::OutOfMemory);
+            assert_same(rt, "back", back.as_slice(), [1, 2, 3].as_slice());
             Gate::open(rt.alloc(), back).expect(rt, "a gate")
         }
     }
@@ -156,7 +158,7 @@ fn gives_the_rights_back_whichever_allocation_is_refused(rt: HostRuntime) -> Res
         Err(_) => rights(rt.alloc(), 3, 1)?,
     };
     let (mut keeper, entries) = open_again(&rt, first);
-    assert_eq!(rt; entries.len(), 3);
+    assert_same(&rt, "entries", entries.len(), 3);
     keeper.close();
     assert_gives(&rt, &mut keeper, &[1, 2, 3]);
     Ok(())
@@ -186,7 +188,7 @@ fn sixteen_entries(rt: HostRuntime) {
     let entries = thread::map_vec(&rt, entries, &|entry| add_rounds(entry, 1000)).expect(
         &rt, "memory",
     );
-    assert_eq!(rt; entries.len(), 32);
+    assert_same(&rt, "entries", entries.len(), 32);
     keeper.close();
     assert_gives(&rt, &mut keeper, &[1000; 32]);
 }

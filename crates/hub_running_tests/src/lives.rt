@@ -1,3 +1,4 @@
+use crate::assertions::assert_same;
 use Event::*;
 use State::*;
 use hub_envelope::MAX_EXTENSIONS;
@@ -19,10 +20,15 @@ fn life_after(rt: &impl Abort, events: &[Event]) -> Life {
     life
 }
 
+// The life gives this answer to the event, which comes after these.
+fn assert_answers(rt: &impl Abort, life: &mut Life, way: &[Event], event: Event, expected: Answer) {
+    assert_eq!(rt; life.event(event), expected, "{event:?} after {way:?}");
+}
+
 fn expect_answers(rt: &impl Abort, steps: &[(Event, Answer)]) {
     let mut life = Life::new();
     for (event, answer) in steps {
-        assert_eq!(rt; life.event(*event), *answer, "{event:?}");
+        assert_answers(rt, &mut life, &[], *event, *answer);
     }
 }
 
@@ -61,15 +67,13 @@ fn a_failed_activation_is_activated(rt: HostRuntime) {
 fn the_65th_extension_is_refused(rt: HostRuntime) {
     let mut life = life_after(&rt, &[Event::Install]);
     for _ in 0..64 {
-        assert_eq!(rt; life.event(Event::Extend), Ok(State::Installing));
+        assert_answers(&rt, &mut life, &[Install], Extend, Ok(State::Installing));
     }
-    assert_eq!(rt;
-        life.event(Event::Extend),
-        Err(LifeError::TooManyExtensions)
-    );
-    assert_eq!(rt; life.open_extensions(), MAX_EXTENSIONS);
-    assert_eq!(rt; life.event(Event::Terminate), Ok(State::Redundant));
-    assert_eq!(rt; life.event(Event::Install), WRONG);
+    let refused = Err(LifeError::TooManyExtensions);
+    assert_answers(&rt, &mut life, &[Install, Extend], Extend, refused);
+    assert_same(&rt, "open", life.open_extensions(), MAX_EXTENSIONS);
+    assert_answers(&rt, &mut life, &[Install], Terminate, Ok(State::Redundant));
+    assert_answers(&rt, &mut life, &[Install, Terminate], Install, WRONG);
 }
 
 #[test]
@@ -78,8 +82,8 @@ fn a_life_shows_what_it_waits_for(rt: HostRuntime) {
         &rt,
         &[Event::Install, Event::Extend, Event::Extend, Event::Fail],
     );
-    assert_eq!(rt; life.state(), State::Installing);
-    assert_eq!(rt; life.open_extensions(), 1);
+    assert_same(&rt, "state", life.state(), State::Installing);
+    assert_same(&rt, "open", life.open_extensions(), 1);
     assert!(rt; life.is_handling() && life.has_failed());
 }
 
@@ -174,7 +178,7 @@ fn each_cell_of_the_table(rt: HostRuntime) {
     for (way, answers) in ROWS {
         for (event, answer) in COLUMNS.iter().zip(answers) {
             let mut life = life_after(&rt, way);
-            assert_eq!(rt; life.event(*event), *answer, "{event:?} after {way:?}");
+            assert_answers(&rt, &mut life, way, *event, *answer);
         }
     }
 }

@@ -1,4 +1,5 @@
 //! The machine as a caller meets it: its steps with their outcomes, its questions and its laws.
+use crate::assertions::assert_same;
 use crate::steps::{Row, answers_to, line_of, outcomes_again, outcomes_of, take_all};
 use hub_core::{
     Core, Kind, Listing, OutOfMemory, Outcome, chain_laws, gate_machine_laws, history_laws,
@@ -265,21 +266,25 @@ const CAST: &str = "Agent(AgentId(0)); Agent(AgentId(1)); Agent(AgentId(2)); Age
     Destinations 1; Closed; Left; InvalidState; Destinations; Done; InvalidState; ";
 
 /// The tables with what their steps are answered.
-const TABLES: &[(&[Row], &str)] = &[
-    (POSTS_AND_TAKES, POSTED_AND_TAKEN),
-    (PORTS, PORTS_SENT),
-    (MOVING, MOVED),
-    (CLOSING, CLOSED),
-    (HANDING, HANDED),
-    (ENDING, ENDED),
-    (CASTING, CAST),
-];
+// Whoever names a constant is proved with all its rows, and the more so where constants are nested:
+// so the tables are named by one function, and together make an array.
+fn tables() -> [(&'static [Row], &'static str); 7] {
+    [
+        (POSTS_AND_TAKES, POSTED_AND_TAKEN),
+        (PORTS, PORTS_SENT),
+        (MOVING, MOVED),
+        (CLOSING, CLOSED),
+        (HANDING, HANDED),
+        (ENDING, ENDED),
+        (CASTING, CAST),
+    ]
+}
 
 #[test]
 fn answers_as_the_tables_say(rt: HostRuntime) -> Result<(), Fail> {
-    for (rows, expected) in TABLES {
+    for (rows, expected) in &tables() {
         let words = outcomes_of(&rt, rt.alloc(), rows)?;
-        assert_eq!(rt; words.as_str(), *expected);
+        assert_same(&rt, "outcomes", words.as_str(), *expected);
     }
     Ok(())
 }
@@ -314,9 +319,10 @@ fn says_what_may_be_done(rt: HostRuntime) {
     let mut core = Core::new(rt.alloc());
     for (moment, rows, expected) in MOMENTS {
         take_all(&rt, &mut core, rows);
-        assert_eq!(rt; may_be_done(&core), *expected, "{moment}");
+        assert_same(&rt, moment, may_be_done(&core), *expected);
     }
-    assert_eq!(rt; core.listing(line_of(0), &[]), Listing::Bad, "no holder");
+    let listing = core.listing(line_of(0), &[]);
+    assert_same(&rt, "no holder", listing, Listing::Bad);
 }
 
 /// What lists of ports are to a message of port 0.
@@ -333,10 +339,11 @@ fn says_what_a_list_is(rt: HostRuntime) {
     let mut core = Core::new(rt.alloc());
     take_all(&rt, &mut core, TWO_CHANNELS);
     for (which, list, expected) in LISTS {
-        assert_eq!(rt; core.listing(line_of(0), list), *expected, "{which}");
+        assert_same(&rt, which, core.listing(line_of(0), list), *expected);
     }
-    assert_eq!(rt; core.kind_of(EndId(0)), Some(Kind::Port(EndId(1))));
-    assert_eq!(rt; core.kind_of(EndId(4)), None, "no end");
+    let port = Some(Kind::Port(EndId(1)));
+    assert_same(&rt, "a port", core.kind_of(EndId(0)), port);
+    assert_same(&rt, "no end", core.kind_of(EndId(4)), None);
 }
 
 // It passes whichever allocation is refused: the step that asked for it changed nothing, so that
@@ -344,13 +351,13 @@ fn says_what_a_list_is(rt: HostRuntime) {
 #[test]
 fn goes_on_whichever_allocation_is_refused(rt: HostRuntime) -> Result<(), Fail> {
     let alloc = rt.alloc();
-    for (rows, expected) in TABLES {
+    for (rows, expected) in &tables() {
         let mut words = match String::with_capacity(alloc, expected.len()) {
             Ok(words) => words,
             Err(OutOfMemory) => String::with_capacity(alloc, expected.len())?,
         };
         outcomes_again(alloc, &mut words, rows)?;
-        assert_eq!(rt; words.as_str(), *expected);
+        assert_same(&rt, "outcomes", words.as_str(), *expected);
     }
     Ok(())
 }
@@ -366,8 +373,8 @@ fn has_sixteen_agents(rt: HostRuntime) {
             [Outcome::TooManyAgents, Outcome::Ends(EndId(0), EndId(1))]
         )
     );
-    assert_eq!(rt; core.sender_of(EndId(0)), Some(line_of(0)));
-    assert_eq!(rt; core.sender_of(EndId(2)), None);
+    assert_same(&rt, "a port", core.sender_of(EndId(0)), Some(line_of(0)));
+    assert_same(&rt, "no end", core.sender_of(EndId(2)), None);
 }
 
 // The laws are the contracts of these functions, which do nothing.
