@@ -135,7 +135,8 @@ fn has_only(keyword: Keyword, line: &Value) -> bool
 
 /// The action of the agent that the field `at` names.
 fn at_agent(line: &Value, action: ActionForm) -> Result<Form, ScriptError>
-    ensures { IsRead result (fields_in ((codes "at", NUMBER) ∷ []) (λ at. Form.Action at action) (view line.now)) }
+    ensures { IsRead result (fields_in ((codes "at", NUMBER) ∷ []) (λ at. Form.Action at action)
+        (view line.now)) }
 {
     let at = number_in(line, "at")?;
     Ok(Form::Action { at, action })

@@ -6,9 +6,9 @@ use hub_envelope::{EndId, Items, OutOfMemory};
 use std::alloc::Global;
 use std::fmt;
 
-/// The list of ends that a word writes in the text formats: `-`, or numbers joined by single commas,
-/// none above `max`. It may have any length, and an end may stand in it twice. `None` where the word
-/// writes none.
+/// The list of ends that a word writes in the text formats: `-`, or numbers joined by single
+/// commas, none above `max`. It may have any length, and an end may stand in it twice. `None` where
+/// the word writes none.
 ///
 /// ```rust
 /// let ends = read_ends(alloc, "7,0,12", 65_535)?;
