@@ -1,5 +1,5 @@
 -- What the handler of an agent's loop writes down.
-use Rattle.std.specs.Prelude.{ℕ, ◌+◌, ◌%◌, ◌^◌, Bool, true, false, not, List, if◌then◌else◌}
+use Rattle.std.specs.Prelude.{ℕ, ◌+◌, ◌%◌, ◌^◌, Bool, true, false, not, List, [], if◌then◌else◌}
 use Rattle.std.specs.List.{filter}
 use Rattle.hub_envelope.specs.declared.envelope.Envelope.{Envelope}
 use Rattle.hub_envelope.specs.declared.ids.EndId.{EndId}
@@ -28,10 +28,14 @@ counted false messages = (messages + 1) % 2 ^ 64
 abbrev pub not_missing : List EndId → List EndId → List EndId
 not_missing missing ports = filter (λ p. not (has_end missing p.0)) ports
 
+-- the ports that came with an envelope and that the loop holds; a notice brings none
+abbrev pub found : List EndId → Envelope → List EndId
+found missing e = if e.notice then [] else not_missing missing e.ports
+
 -- a delivery leaves one entry more in the log, and what was adopted with it
 abbrev pub notes_of : Notes → Envelope → List EndId → Notes
 notes_of notes e missing = record {
   log = log_with notes.log (Got (delivered e));
-  adopted = not_missing missing e.ports;
+  adopted = found missing e;
   messages = counted e.notice notes.messages;
 }

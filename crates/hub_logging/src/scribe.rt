@@ -1,5 +1,5 @@
-ghost use Rattle.std.specs.Prelude.{◌≡◌, ◌≤◌, [], OnOk, OnErr};
-ghost use Rattle.hub_logging.specs.Notes.{delivered};
+ghost use Rattle.std.specs.Prelude.{◌≡◌, ◌≤◌, [], OnOk, OnErr, IfOk};
+ghost use Rattle.hub_logging.specs.Notes.{delivered, found};
 ghost use Rattle.hub_trace.specs.Accepted.{log_with, message_at, notice_at};
 ghost use Rattle.hub_trace.specs.PortList.{has_end};
 ghost use Rattle.hub_trace.specs.declared.limits.TheConstants.{MAX_AGENT};
@@ -62,6 +62,23 @@ fn is_listed(ends: &[EndId], end: EndId) -> bool
     ensures { result ≡ has_end ends.now end.0 }
 {
     ends.iter().any(|other| other.0 == end.0)
+}
+
+// The ports that came with an envelope and that the loop holds. A notice brings none.
+fn found_ports(
+    alloc: Global,
+    envelope: &Envelope,
+    missing: &[EndId],
+) -> Result<Vec<EndId>, OutOfMemory>
+    ensures { IfOk result (λ ports. ports.items ≡ found missing.now envelope.now) }
+{
+    if envelope.notice {
+        return Ok(Vec::new(alloc));
+    }
+    let ports = envelope.ports.as_slice().iter().copied();
+    ports
+        .filter(|port| !is_listed(missing, *port))
+        .collect::<Vec<EndId>>(alloc)
 }
 
 impl Scribe {
@@ -211,10 +228,7 @@ impl Handler for Scribe {
         envelope: &Envelope,
         missing: &[EndId],
     ) -> Result<(), OutOfMemory> {
-        let ports = envelope.ports.as_slice().iter().copied();
-        let adopted = ports
-            .filter(|port| !is_listed(missing, *port))
-            .collect::<Vec<EndId>>(self.alloc)?;
+        let adopted = found_ports(self.alloc, envelope, missing)?;
         self.log_delivery(envelope)?;
         self.adopted = adopted;
         if !envelope.notice {

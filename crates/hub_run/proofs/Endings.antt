@@ -1,5 +1,5 @@
 -- What is written at the end of a loop.
-use Rattle.std.proofs.Common.{◌≡◌, Bool, true, false, List, [], ◌∷◌, ◌++◌, Option, Some, None, refl}
+use Rattle.std.proofs.Common.{Bool, true, false, List, [], ◌∷◌, ◌++◌, Option, Some, None, refl}
 use Rattle.hub_envelope.specs.declared.ids.EndId.{EndId}
 use Rattle.hub_envelope.specs.declared.posted.Posted.{Posted}
 use Rattle.hub_logging.specs.Notes.{Notes}

@@ -1,18 +1,16 @@
 -- The messages that are put by what is written of actions, of turns and of the end.
-use Rattle.std.proofs.Common.{◌≡◌, ◌∙◌, ℕ, suc, replicate, length, List, [], ◌∷◌, ◌++◌, map, Some, None, ap, sym, refl, inl, inr, subst, ⊎_elim}
+use Rattle.std.proofs.Common.{◌≡◌, ◌∙◌, ℕ, replicate, length, List, [], ◌∷◌, ◌++◌, map, ap, sym, refl, inl, inr, subst}
 use Rattle.std.proofs.lemmas.List.{append-nil}
 use Rattle.std.proofs.lemmas.List.Elements.{filter_map-append}
 use Rattle.std.specs.List.{cons_option, flat_map}
 use Rattle.hub_envelope.specs.declared.ids.EndId.{EndId}
 use Rattle.hub_envelope.specs.declared.posted.Posted.{Posted}
-use Rattle.hub_ports.specs.declared.noticed.Noticed.{Noticed}
-use Rattle.hub_ports.specs.declared.noticed.Noticed.TheVariants as notice
 use Rattle.hub_script.specs.declared.action.ActionKind.{ActionKind}
 use Rattle.hub_script.specs.declared.action.ActionKind.TheVariants.{Post, Send, Cast, Start, Loaded, Close, Wait, Receive, Order, Event, Hand, Fetch}
 use Rattle.hub_trace.specs.Accepted.{message_at}
 use Rattle.hub_trace.specs.declared.log_entry.LogEntry.{LogEntry}
 use Rattle.hub_trace.specs.declared.log_entry.LogEntry.TheVariants.{Put, Got, Adopted, Closed}
-use Rattle.hub_run.specs.Entries.{AreAdoptions, AreClosings, AreEndings, AreLoggedFor, AreTurns, AreTurnsLogged, IsCastLogged, IsCloseLogged, IsFetchLogged, IsLoggedFor, IsPostLogged, IsTurnLogged, closing_entries}
+use Rattle.hub_run.specs.Entries.{AreAdoptedOf, AreClosings, AreEndings, AreLoggedFor, AreTurns, AreTurnsLogged, IsCloseLogged, IsClosing, IsFetchLogged, IsLoggedFor, IsPostLogged, IsTurnLogged, ports_in}
 use Rattle.hub_run.specs.Posts.{Message, message_in, message_put, messages_put}
 use Rattle.hub_run.specs.Runs.{ArePutFor, AreEntriesFor, IsNoneOr, IsPutFor}
 
@@ -30,16 +28,14 @@ silent_both entries xs ys is first second =
 silent_as : (entries others : List LogEntry) → entries ≡ others → Silent others → Silent entries
 silent_as entries others is silent = ap messages_put is ∙ silent
 
-closing_silent : (end : EndId) (noticed : Noticed) → Silent (closing_entries end noticed)
-closing_silent end (notice.Put posted) = refl
-closing_silent end notice.PeerClosed = refl
-closing_silent end notice.Moving = refl
-closing_silent end notice.OutOfMemory = refl
+closing_silent : (end : EndId) (entries : List LogEntry) → IsClosing end entries → Silent entries
+closing_silent end entries (inl closed) = ap messages_put closed
+closing_silent end entries (inr (posted, noticed)) = ap messages_put noticed
 
 closings_silent : (ends : List EndId) (entries : List LogEntry) → AreClosings ends entries → Silent entries
 closings_silent [] entries is = ap messages_put is
-closings_silent (end ∷ ends) entries (noticed, rest, is, closed) =
-    silent_both entries (closing_entries end noticed) rest is (closing_silent end noticed) (closings_silent ends rest closed)
+closings_silent (end ∷ ends) entries (first, rest, is, closing, closed) =
+    silent_both entries first rest is (closing_silent end first closing) (closings_silent ends rest closed)
 
 post_put : (ports : List EndId) (body : List ℕ) (entries : List LogEntry) → IsPostLogged ports body entries → IsNoneOr (ports, body) (messages_put entries)
 post_put ports body entries (inl none) = inl (ap messages_put none)
@@ -52,18 +48,18 @@ cast_put body (posted ∷ all) = ap (λ (ms : List Message). ([], body) ∷ ms) 
 
 close_silent : (end : EndId) (entries : List LogEntry) → IsCloseLogged end entries → Silent entries
 close_silent end entries (inl none) = ap messages_put none
-close_silent end entries (inr (None, is)) = ap messages_put is
-close_silent end entries (inr (Some port, is)) = silent_as entries (closing_entries end port.noticed) is (closing_silent end port.noticed)
+close_silent end entries (inr closing) = closing_silent end entries closing
 
-adoptions_silent : (ends : List EndId) (entries : List LogEntry) → AreAdoptions ends entries → Silent entries
-adoptions_silent [] entries is = ap messages_put is
-adoptions_silent (end ∷ ends) entries (epoch, rest, is, adopted) =
-    silent_as entries (Adopted end epoch ∷ rest) is (adoptions_silent ends rest adopted)
+adopted_silent : (ends : List EndId) (entries : List LogEntry) → AreAdoptedOf ends entries → Silent entries
+adopted_silent [] entries is = ap messages_put is
+adopted_silent (end ∷ ends) entries (inl adopted) = adopted_silent ends entries adopted
+adopted_silent (end ∷ ends) entries (inr (epoch, rest, is, adopted)) =
+    silent_as entries (Adopted end epoch ∷ rest) is (adopted_silent ends rest adopted)
 
 turn_silent : (entries : List LogEntry) → IsTurnLogged entries → Silent entries
 turn_silent entries (inl none) = ap messages_put none
-turn_silent entries (inr (e, missing, adoptions, is, adopted)) =
-    silent_as entries _ is (adoptions_silent _ adoptions adopted)
+turn_silent entries (inr (d, adoptions, is, adopted)) =
+    silent_as entries (Got d ∷ adoptions) is (adopted_silent (ports_in d.content) adoptions adopted)
 
 each_silent : (turns : List (List LogEntry)) → AreTurns turns → Silent (flat_map (λ turn. turn) turns)
 each_silent [] none = refl

@@ -1,16 +1,20 @@
 -- What is written while an agent takes turns.
-use Rattle.std.proofs.Common.{◌≡◌, ◌∙◌, ℕ, Bool, true, false, List, [], ◌∷◌, ◌++◌, ap, sym, refl, inl, inr, subst}
+use Rattle.std.proofs.Common.{◌≡◌, ◌∙◌, ℕ, Bool, true, false, not, if◌then◌else◌, List, [], ◌∷◌, ◌++◌, ap, sym, refl, inl, inr, subst}
 use Rattle.std.specs.List.{flat_map}
 use Rattle.std.proofs.lemmas.Grind.{flat_map-append}
 use Rattle.std.proofs.lemmas.List.{append-nil}
+use Rattle.hub_envelope.specs.Naming.{posted_of}
 use Rattle.hub_envelope.specs.declared.envelope.Envelope.{Envelope}
 use Rattle.hub_envelope.specs.declared.ids.EndId.{EndId}
+use Rattle.hub_envelope.specs.declared.posted.Posted.{Posted}
 use Rattle.hub_logging.specs.Notes.{Notes, delivered, not_missing, notes_of}
 use Rattle.hub_loop.specs.declared.turn.Turn.{Turn}
 use Rattle.hub_loop.specs.declared.turn.Turn.TheVariants.{Delivered, Idle, Ending}
 use Rattle.hub_trace.specs.declared.log_entry.LogEntry.{LogEntry}
-use Rattle.hub_trace.specs.declared.log_entry.LogEntry.TheVariants.{Got, Adopted}
-use Rattle.hub_run.specs.Entries.{AreAdoptions, AreTurns, AreTurnsLogged, IsComeLogged, IsTurnLogged, IsWaitLogged, TurnLeaves, Writes, log_and}
+use Rattle.hub_trace.specs.declared.log_entry.LogEntry.TheVariants.{Got}
+use Rattle.hub_trace.specs.Accepted.{message_at, notice_at}
+use Rattle.hub_trace.specs.PortList.{has_end}
+use Rattle.hub_run.specs.Entries.{AreAdoptedOf, AreAdoptions, AreTurns, AreTurnsLogged, IsComeLogged, IsTurnLogged, IsWaitLogged, TurnLeaves, Writes, log_and, ports_in}
 use Rattle.hub_run.specs.declared.awaited.Awaited.{Awaited}
 use Rattle.hub_run.specs.declared.awaited.Awaited.TheVariants.{Messages, Port, Queue}
 use Rattle.hub_run.proofs.Writing.{log_and_both, writes_both, writes_same}
@@ -28,13 +32,28 @@ other_turn Delivered before after left differs = absurd (differs refl)
 other_turn (Idle busy) before after left differs = turn_none before after left
 other_turn Ending before after left differs = turn_none before after left
 
+-- one port more of a list, of which those that aren't missing are adopted
+adopted_more : (is_found : Bool) (found : List EndId) (port : EndId) (ports : List EndId) → ((entries : List LogEntry) → AreAdoptions found entries → AreAdoptedOf ports entries)
+    → (entries : List LogEntry) → AreAdoptions (if is_found then port ∷ found else found) entries → AreAdoptedOf (port ∷ ports) entries
+adopted_more true found port ports behind entries (epoch, rest, is, adopted) = inr (epoch, rest, is, behind rest adopted)
+adopted_more false found port ports behind entries adopted = inl (behind entries adopted)
+
+adopted_of : (missing ports : List EndId) (entries : List LogEntry) → AreAdoptions (not_missing missing ports) entries → AreAdoptedOf ports entries
+adopted_of missing [] entries none = none
+adopted_of missing (port ∷ ports) entries adopted = adopted_more (not (has_end missing port.0)) (not_missing missing ports) port ports (adopted_of missing ports) entries adopted
+
+-- the ports that were found are of those that the log says were delivered
+found_of : (is_notice : Bool) (posted : Posted) (body : List ℕ) (missing ports : List EndId) (entries : List LogEntry) → AreAdoptions (if is_notice then [] else not_missing missing ports) entries
+    → AreAdoptedOf (ports_in (if is_notice then notice_at posted else message_at posted ports body).content) entries
+found_of true posted body missing ports entries none = none
+found_of false posted body missing ports entries adopted = adopted_of missing ports entries adopted
+
 -- a delivery, and then the adoptions
-pub turn_more : (before told taken after : Notes) → ((e : Envelope) × (missing : List EndId) × (told ≡ notes_of before e missing)) → (adopted : List EndId) → adopted ≡ told.adopted → taken ≡ record told { adopted = [] }
-    → ((entries : List LogEntry) × AreAdoptions adopted entries × Writes entries taken after) → Turns before after
-turn_more before told taken after (e, missing, is) adopted given left (entries, all, written) = (
+pub turn_told : (before told after : Notes) → ((e : Envelope) × (missing : List EndId) × (told ≡ notes_of before e missing)) → ((entries : List LogEntry) × AreAdoptions told.adopted entries × Writes entries told after) → Turns before after
+turn_told before told after (e, missing, is) (entries, all, written) = (
   Got (delivered e) ∷ entries,
-  inr (e, missing, entries, refl, subst (λ (ends : List EndId). AreAdoptions ends entries) (given ∙ ap (λ (n : Notes). n.adopted) is) all),
-  written ∙ ap (λ (n : Notes). log_and n.log entries) left ∙ ap (λ (n : Notes). log_and n.log entries) is ∙ log_and_both before.log (Got (delivered e) ∷ []) entries,
+  inr (delivered e, entries, refl, found_of e.notice (posted_of e) e.body missing e.ports entries (subst (λ (ends : List EndId). AreAdoptions ends entries) (ap (λ (n : Notes). n.adopted) is) all)),
+  written ∙ ap (λ (n : Notes). log_and n.log entries) is ∙ log_and_both before.log (Got (delivered e) ∷ []) entries,
 )
 
 -- an agent has written turns

@@ -1,6 +1,5 @@
 -- What is written while a list is walked.
-use Rattle.std.proofs.Common.{◌≡◌, ◌∙◌, ℕ, List, [], ◌∷◌, ◌++◌, Result, Ok, Err, OnOk, ap, sym, refl, inl, inr, subst}
-use Rattle.std.specs.List.{flat_map}
+use Rattle.std.proofs.Common.{◌≡◌, ◌∙◌, ℕ, List, [], ◌∷◌, ◌++◌, Option, Some, None, Result, Ok, Err, OnOk, ap, sym, refl, inl, inr, subst}
 use Rattle.std.proofs.lemmas.Grind.{flat_map-append}
 use Rattle.std.proofs.lemmas.List.{append-nil}
 use Rattle.hub_broadcast.specs.declared.cast_outcome.CastOutcome.{CastOutcome}
@@ -9,17 +8,20 @@ use Rattle.hub_envelope.specs.declared.ids.EndId.{EndId}
 use Rattle.hub_logging.specs.Notes.{Notes}
 use Rattle.hub_envelope.specs.declared.ids.AgentId.{AgentId}
 use Rattle.hub_envelope.specs.declared.posted.Posted.{Posted}
+use Rattle.hub_loop.specs.declared.closed_port.ClosedPort.{ClosedPort}
 use Rattle.hub_ports.specs.Closing.{AreDoomed}
 use Rattle.hub_ports.specs.Seats.{PortSeat, ends_of}
 use Rattle.hub_ports.specs.Sending.{IsSent}
 use Rattle.hub_ports.specs.declared.closings.Closing.{Closing}
+use Rattle.hub_ports.specs.declared.noticed.Noticed.{Noticed}
+use Rattle.hub_ports.specs.declared.noticed.Noticed.TheVariants as notice
 use Rattle.hub_ports.specs.declared.port_error.PortError.{PortError}
 use Rattle.hub_ports.specs.declared.port_error.PortError.TheVariants as error
 use Rattle.hub_queue.specs.Standing.{StandSeat}
 use Rattle.hub_trace.specs.Accepted.{message_at}
 use Rattle.hub_trace.specs.declared.log_entry.LogEntry.{LogEntry}
 use Rattle.hub_trace.specs.declared.log_entry.LogEntry.TheVariants.{Put, Adopted}
-use Rattle.hub_run.specs.Entries.{AreAdoptions, AreClosings, IsCastLogged, IsPostLogged, Writes, answer_entries, cast_entries, closing_entries, doomed_entries, log_and, outcome_entries}
+use Rattle.hub_run.specs.Entries.{AreAdoptions, AreClosings, IsCastLogged, IsCloseLogged, IsClosing, IsPostLogged, Writes, answer_entries, cast_entries, closed_entries, closing_entries, doomed_entries, log_and, outcome_entries}
 use Rattle.hub_run.proofs.Writing.{writes_both, writes_same}
 
 -- these ends were adopted, and nothing else is written
@@ -71,11 +73,27 @@ doomed_more closings all c before now after is written more =
     ∙ sym (flat_map-append (λ (d : Closing). closing_entries d.end d.noticed) closings (c ∷ []))
     ∙ ap doomed_entries (sym is))
 
+-- an end that was closed, a port with what became of its notice
+is_closing : (end : EndId) (noticed : Noticed) → IsClosing end (closing_entries end noticed)
+is_closing end (notice.Put posted) = inr (posted, refl)
+is_closing end notice.PeerClosed = inl refl
+is_closing end notice.Moving = inl refl
+is_closing end notice.OutOfMemory = inl refl
+
+closed_so : (end : EndId) (port : Option ClosedPort) → IsClosing end (closed_entries end port)
+closed_so end None = inl refl
+closed_so end (Some port) = is_closing end port.noticed
+
+pub close_of : {X E : Type 0} (result : Result X E) (end : EndId) (port : Option ClosedPort) (old now new : Notes) → old ≡ now → OnOk result (Writes (closed_entries end port) old new)
+    → OnOk result ((entries : List LogEntry) × IsCloseLogged end entries × Writes entries now new)
+close_of (Ok x) end port old now new same written = (closed_entries end port, inr (closed_so end port), written ∙ ap (λ (n : Notes). log_and n.log (closed_entries end port)) same)
+close_of (Err e) end port old now new same written = tt
+
 -- the ports that a doomed post has closed are those that it was to transfer
 pub doomed_closings : (ports : List PortSeat) (closings : List Closing) → AreDoomed ports closings → AreClosings (ends_of ports) (doomed_entries closings)
 doomed_closings [] closings none = ap doomed_entries none
 doomed_closings (p ∷ ps) closings (c, rest, is, doomed, more) =
-    (c.noticed, doomed_entries rest, ap doomed_entries is ∙ ap (λ (end : EndId). closing_entries end c.noticed ++ doomed_entries rest) doomed.0.0, doomed_closings ps rest more)
+    (closing_entries c.end c.noticed, doomed_entries rest, ap doomed_entries is, subst (λ (end : EndId). IsClosing end (closing_entries c.end c.noticed)) doomed.0.0 (is_closing c.end c.noticed), doomed_closings ps rest more)
 
 -- what is logged of the answer to a post of these ports
 pub answer_logged : (old new : StandSeat) (agent : AgentId) (body posted_body : List ℕ) (ports : List PortSeat) (ends : List EndId) (answer : Result Posted PortError) → ends_of ports ≡ ends → IsSent old new agent posted_body ports answer → IsPostLogged ends body (answer_entries ends body answer)

@@ -6,7 +6,7 @@ use Rattle.hub_broadcast.specs.declared.cast_outcome.CastOutcome.TheVariants.{Ac
 use Rattle.hub_envelope.specs.declared.envelope.Envelope.{Envelope}
 use Rattle.hub_envelope.specs.declared.ids.EndId.{EndId}
 use Rattle.hub_envelope.specs.declared.posted.Posted.{Posted}
-use Rattle.hub_logging.specs.Notes.{Notes, delivered, not_missing, notes_of}
+use Rattle.hub_logging.specs.Notes.{Notes, notes_of}
 use Rattle.hub_loop.specs.declared.closed_port.ClosedPort.{ClosedPort}
 use Rattle.hub_loop.specs.declared.turn.Turn.{Turn}
 use Rattle.hub_loop.specs.declared.turn.Turn.TheVariants.{Delivered, Idle, Ending}
@@ -18,7 +18,9 @@ use Rattle.hub_ports.specs.declared.noticed.Noticed.TheVariants as notice
 use Rattle.hub_script.specs.declared.action.ActionKind.{ActionKind}
 use Rattle.hub_script.specs.declared.action.ActionKind.TheVariants.{Post, Send, Cast, Start, Loaded, Close, Wait, Receive, Order, Event, Hand, Fetch}
 use Rattle.hub_trace.specs.Accepted.{AgentLog, message_at, notice_at}
+use Rattle.hub_trace.specs.declared.content.Content.{Content}
 use Rattle.hub_trace.specs.declared.content.Content.TheVariants as content
+use Rattle.hub_trace.specs.declared.log_entry.Delivery.{Delivery}
 use Rattle.hub_trace.specs.declared.log_entry.LogEntry.{LogEntry}
 use Rattle.hub_trace.specs.declared.log_entry.LogEntry.TheVariants.{Put, Got, Adopted, Closed}
 use Rattle.hub_run.specs.declared.awaited.Awaited.{Awaited}
@@ -51,11 +53,15 @@ closing_entries end noticed = notice_entries noticed ++ Closed end ∷ []
 abbrev pub doomed_entries : List Closing → List LogEntry
 doomed_entries closings = flat_map (λ c. closing_entries c.end c.noticed) closings
 
--- These ends were closed, in this order. The notice of each, where one was put, comes first.
+-- an end was closed; its notice, where one was put, comes first
+abbrev pub IsClosing : EndId → List LogEntry → Type 0
+IsClosing end entries = (entries ≡ Closed end ∷ []) ⊎ ((posted : Posted) × (entries ≡ Put (notice_at posted) ∷ Closed end ∷ []))
+
+-- these ends were closed, in this order
 abbrev pub AreClosings : List EndId → List LogEntry → Type 0
 AreClosings [] entries = entries ≡ []
 AreClosings (end ∷ ends) entries =
-    (noticed : Noticed) × (rest : List LogEntry) × (entries ≡ closing_entries end noticed ++ rest) × AreClosings ends rest
+    (first : List LogEntry) × (rest : List LogEntry) × (entries ≡ first ++ rest) × IsClosing end first × AreClosings ends rest
 
 -- A post of these ports and this body. Accepted: one entry, with both. Doomed: the ports were closed. Else nothing.
 abbrev pub IsPostLogged : List EndId → List ℕ → List LogEntry → Type 0
@@ -87,7 +93,7 @@ IsCastLogged body entries = (all : List Posted) × (entries ≡ map (λ posted. 
 
 -- a closing, or nothing where the end wasn't held
 abbrev pub IsCloseLogged : EndId → List LogEntry → Type 0
-IsCloseLogged end entries = (entries ≡ []) ⊎ ((port : Option ClosedPort) × (entries ≡ closed_entries end port))
+IsCloseLogged end entries = (entries ≡ []) ⊎ IsClosing end entries
 
 -- these ends were adopted, in this order
 abbrev pub AreAdoptions : List EndId → List LogEntry → Type 0
@@ -95,11 +101,21 @@ AreAdoptions [] entries = entries ≡ []
 AreAdoptions (end ∷ ends) entries =
     (epoch : ℕ) × (rest : List LogEntry) × (entries ≡ Adopted end epoch ∷ rest) × AreAdoptions ends rest
 
--- A turn: nothing, or one delivery, behind which each port of the list that wasn't missing was adopted, in list order.
+-- the ports that a delivery lists; a notice lists none
+abbrev pub ports_in : Content → List EndId
+ports_in (content.Message m) = m.0
+ports_in content.Notice = []
+
+-- some of these ends were adopted, in the order of the list
+abbrev pub AreAdoptedOf : List EndId → List LogEntry → Type 0
+AreAdoptedOf [] entries = entries ≡ []
+AreAdoptedOf (end ∷ ends) entries =
+    AreAdoptedOf ends entries ⊎ ((epoch : ℕ) × (rest : List LogEntry) × (entries ≡ Adopted end epoch ∷ rest) × AreAdoptedOf ends rest)
+
+-- A turn: nothing, or one delivery, behind which those of its ports that were found are adopted, in list order.
 abbrev pub IsTurnLogged : List LogEntry → Type 0
 IsTurnLogged entries =
-    (entries ≡ []) ⊎ ((e : Envelope) × (missing : List EndId) × (adoptions : List LogEntry)
-    × (entries ≡ Got (delivered e) ∷ adoptions) × AreAdoptions (not_missing missing e.ports) adoptions)
+    (entries ≡ []) ⊎ ((d : Delivery) × (adoptions : List LogEntry) × (entries ≡ Got d ∷ adoptions) × AreAdoptedOf (ports_in d.content) adoptions)
 
 -- turns, one after the other
 abbrev pub AreTurns : List (List LogEntry) → Type 0

@@ -1,3 +1,4 @@
+pub mod Agents
 pub mod Entries
 pub mod Posts
 pub mod Runs

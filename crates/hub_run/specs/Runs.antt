@@ -1,7 +1,6 @@
 -- What the logs of a run owe to its script: how many there are, whose each is, and what is written in it.
 use Rattle.std.specs.Prelude.{◌≡◌, ◌⊎◌, ◌<◌, ℕ, Bool, true, false, List, [], ◌∷◌, ◌++◌, length, replicate, take, Some, slice_get}
 use Rattle.hub_envelope.specs.declared.ids.AgentId.{AgentId}
-use Rattle.hub_envelope.specs.declared.ids.EndId.{EndId}
 use Rattle.hub_script.specs.Contents.{Contents, actions, agents}
 use Rattle.hub_script.specs.declared.action.ActionKind.{ActionKind}
 use Rattle.hub_script.specs.declared.action.ActionKind.TheVariants.{Post, Send, Cast}
@@ -10,6 +9,7 @@ use Rattle.hub_acting.specs.declared.acted.Acted.{Acted}
 use Rattle.hub_trace.specs.Accepted.{AgentLog}
 use Rattle.hub_logging.specs.Notes.{Notes}
 use Rattle.hub_trace.specs.declared.log_entry.LogEntry.{LogEntry}
+use Rattle.hub_run.specs.Agents.{AgentState, Changes}
 use Rattle.hub_run.specs.Entries.{AreEndings, AreLoggedFor, IsLoggedFor, Writes}
 use Rattle.hub_run.specs.Posts.{Message, messages_put}
 
@@ -32,8 +32,12 @@ ArePutFor (action ∷ later) messages =
     (first : List Message) × (rest : List Message) × (messages ≡ first ++ rest) × IsPutFor action first × ArePutFor later rest
 
 -- the agent has written of the action what it may
-abbrev pub Acts : ActionKind → Notes → Notes → Type 0
-Acts action before after = (entries : List LogEntry) × IsLoggedFor action entries × Writes entries before after
+abbrev pub ActLogs : ActionKind → Notes → Notes → Type 0
+ActLogs action before after = (entries : List LogEntry) × IsLoggedFor action entries × Writes entries before after
+
+-- the agent has done the action: it has written what it may, and changed of itself what the action names
+abbrev pub Acts : ActionKind → AgentState → AgentState → Type 0
+Acts action before after = ActLogs action before.notes after.notes × Changes action before after
 
 abbrev pub ActsAll : List ActionKind → Notes → Notes → Type 0
 ActsAll all before after = (entries : List LogEntry) × AreLoggedFor all entries × Writes entries before after

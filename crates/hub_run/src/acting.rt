@@ -1,8 +1,11 @@
 //! The actions of an agent, in order. An action whose end isn't held any more is skipped.
 
-ghost use Rattle.std.specs.Prelude.{◌≡◌, List, IfOk, OnOk};
+ghost use Rattle.std.specs.Prelude.{◌≡◌, List, IfOk, OnOk, option_map};
 ghost use Rattle.hub_acting.specs.Doing.{actions_of};
+ghost use Rattle.hub_life.specs.Course.{after as lived};
 ghost use Rattle.hub_script.specs.Contents.{actions};
+ghost use Rattle.hub_script.specs.declared.action.ActionKind.TheVariants.{Hand};
+ghost use Rattle.hub_run.specs.Agents.{Changes, KeepsElse, LooksFor, ordered, with_peer, woken};
 ghost use Rattle.hub_run.specs.Entries.{IsCloseLogged, Writes};
 ghost use Rattle.hub_run.specs.Runs.{Acts, ActsFirst};
 ghost use Rattle.hub_trace.specs.declared.log_entry.LogEntry.{LogEntry};
@@ -22,7 +25,8 @@ impl<'s, C: Checkpoint> Agent<'s, C> {
     /// Does its actions, up to the last or to the order to end, for which it looks before each.
     pub(crate) fn act_all<R: Wait>(&mut self, rt: &R, script: &Script) -> Result<Acted, OutOfMemory>
         ensures { IfOk result (λ acted. ActsFirst acted
-            (actions_of self.old.log.0 (actions script.now)) self.old self.new) }
+            (actions_of self.old.notes.log.0 (actions script.now)) self.old.notes
+            self.new.notes) }
     {
         let number = self.number();
         hub_acting::act_all(
@@ -30,7 +34,7 @@ impl<'s, C: Checkpoint> Agent<'s, C> {
             script,
             number,
             |agent: &mut Agent<'_, C>| -> bool
-                ensures { agent.new ≡ agent.old }
+                ensures { LooksFor agent.old result agent.new }
             { agent.order.seen() },
             |agent: &mut Agent<'_, C>, action: &ActionKind| -> Result<(), OutOfMemory>
                 ensures { OnOk result (Acts action.now agent.old agent.new) }
@@ -103,7 +107,9 @@ impl<'s, C: Checkpoint> Agent<'s, C> {
 
     // An event of the life of a worker, which refuses what its state doesn't allow.
     fn live(&mut self, event: Event)
-        ensures { self.new ≡ self.old }
+        ensures { self.new ≡ record self.old {
+          life = option_map (λ p. lived p event) self.old.life;
+        } }
     {
         if let Some(life) = &mut self.life {
             let _refused = life.event(event);
@@ -113,8 +119,9 @@ impl<'s, C: Checkpoint> Agent<'s, C> {
     // Closes a port or a member, and logs it. What waits there is discarded once the loop has
     // ended.
     fn close<R: Wait>(&mut self, rt: &R, end: EndId) -> Result<(), OutOfMemory>
-        ensures { OnOk result ((entries : List LogEntry) × IsCloseLogged end entries
-            × Writes entries self.old self.new) }
+        ensures written { OnOk result ((entries : List LogEntry) × IsCloseLogged end entries
+            × Writes entries self.old.notes self.new.notes) }
+        ensures rest { KeepsElse self.old self.new }
     {
         let Shared { hub, roster, .. } = self.shared;
         self.graves.reserve(1)?;
@@ -127,7 +134,7 @@ impl<'s, C: Checkpoint> Agent<'s, C> {
     }
 
     fn give_order(&mut self, to: AgentId)
-        ensures { self.new ≡ self.old }
+        ensures { self.new ≡ record self.old { peers = with_peer ordered to.0 self.old.peers } }
     {
         if let Some(peer) = self.peers.get_mut(usize::from(to.0)) {
             peer.order();
@@ -136,39 +143,45 @@ impl<'s, C: Checkpoint> Agent<'s, C> {
 
     // Hands its own queue to an agent, which it wakes.
     fn hand<R: Wait>(&mut self, rt: &R, to: AgentId) -> Result<(), OutOfMemory>
-        ensures { OnOk result (self.new ≡ self.old) }
+        ensures { OnOk result (Changes (Hand to) self.old self.new) }
+    {
+        if self.hand_queue(rt, to)? {
+            self.wake(to);
+        }
+        Ok(())
+    }
+
+    // Gives its own queue to an agent, and answers whether it was handed. Where it wasn't it holds
+    // the queue again.
+    fn hand_queue<R: Wait>(&mut self, rt: &R, to: AgentId) -> Result<bool, OutOfMemory>
+        ensures { self.new ≡ self.old }
     {
         let Shared { directory, .. } = self.shared;
         let queue = self.queue();
-        let refused = match self.event_loop.release(queue) {
+        let (error, held) = match self.event_loop.release(queue) {
             Some(Held::Client(queue)) => match queue.hand(rt, directory, to) {
-                Ok(()) => None,
-                Err((error, queue)) => Some((error, Held::Client(queue))),
+                Ok(()) => return Ok(true),
+                Err((error, queue)) => (error, Held::Client(queue)),
             },
             Some(Held::Worker(queue)) => match queue.hand(rt, directory, to) {
-                Ok(()) => None,
-                Err((error, queue)) => Some((error, Held::Worker(queue))),
+                Ok(()) => return Ok(true),
+                Err((error, queue)) => (error, Held::Worker(queue)),
             },
-            Some(held) => return self.hold(rt, held),
-            None => return Ok(()),
-        };
-        match refused {
-            None => {
-                self.wake(to);
-                Ok(())
-            }
-            Some((error, held)) => {
+            Some(held) => {
                 self.hold(rt, held)?;
-                match error {
-                    HandError::OutOfMemory => Err(OutOfMemory),
-                    HandError::Taken => Ok(()),
-                }
+                return Ok(false);
             }
+            None => return Ok(false),
+        };
+        self.hold(rt, held)?;
+        match error {
+            HandError::OutOfMemory => Err(OutOfMemory),
+            HandError::Taken => Ok(false),
         }
     }
 
     fn wake(&mut self, agent: AgentId)
-        ensures { self.new ≡ self.old }
+        ensures { self.new ≡ record self.old { peers = with_peer woken agent.0 self.old.peers } }
     {
         if let Some(peer) = self.peers.get_mut(usize::from(agent.0)) {
             peer.wake();

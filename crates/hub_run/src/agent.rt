@@ -1,5 +1,6 @@
 ghost use Rattle.std.specs.Prelude.{◌≡◌, ◌≤◌, ◌∷◌, [], ℕ, List, IfOk, OnOk};
 ghost use Rattle.hub_acting.specs.Doing.{actions_of};
+ghost use Rattle.hub_run.specs.Agents.{KeepsElse};
 ghost use Rattle.hub_run.specs.Entries.{
   AreAdoptions,
   IsComeLogged,
@@ -51,13 +52,17 @@ pub(crate) struct Agent<'s, C: Checkpoint> {
     pub(crate) graves: Vec<Grave>,
 }
 
-/// An agent is seen as its notes, which have its log.
 impl<'s, C: Checkpoint> Model for Agent<'s, C> {
-    ghost use Rattle.hub_logging.specs.Notes.{Notes};
+    ghost use Rattle.hub_run.specs.Agents.{AgentState};
 
-    ghost Value = { Notes };
+    ghost Value = { AgentState };
 
-    ghost view = { λ a. a.scribe };
+    ghost view = { λ a. record {
+      notes = a.scribe;
+      order = a.order;
+      peers = a.peers.items;
+      life = a.life;
+    } };
 }
 
 // How often an end has moved. A member and a line are never adopted.
@@ -95,7 +100,8 @@ impl<'s, C: Checkpoint> Agent<'s, C> {
     // Does the actions. Where memory runs out all agents are ordered to end.
     fn act_or_order<R: Wait>(&mut self, rt: &R, script: &Script) -> Result<Acted, OutOfMemory>
         ensures { IfOk result (λ acted. ActsFirst acted
-            (actions_of self.old.log.0 (actions script.now)) self.old self.new) }
+            (actions_of self.old.notes.log.0 (actions script.now)) self.old.notes
+            self.new.notes) }
     {
         match self.act_all(rt, script) {
             Ok(acted) => Ok(acted),
@@ -107,7 +113,7 @@ impl<'s, C: Checkpoint> Agent<'s, C> {
     }
 
     pub(crate) fn number(&self) -> AgentId
-        ensures { result ≡ self.now.log.0 }
+        ensures { result ≡ self.now.notes.log.0 }
     {
         self.scribe.agent()
     }
@@ -125,7 +131,9 @@ impl<'s, C: Checkpoint> Agent<'s, C> {
     // Logs that it has adopted an end. The loop holds what it has adopted, so there is an epoch to
     // be logged; were there none, an error is better than a log that leaves an adoption out.
     fn log_adopted(&mut self, end: EndId) -> Result<(), OutOfMemory>
-        ensures { OnOk result ((epoch : ℕ) × Writes (Adopted end epoch ∷ []) self.old self.new) }
+        ensures written { OnOk result ((epoch : ℕ)
+            × Writes (Adopted end epoch ∷ []) self.old.notes self.new.notes) }
+        ensures rest { KeepsElse self.old self.new }
     {
         let Some(held) = self.event_loop.held(end) else {
             return Err(OutOfMemory);
@@ -135,15 +143,18 @@ impl<'s, C: Checkpoint> Agent<'s, C> {
     }
 
     fn log_adoption(&mut self, end: EndId, epoch: u32) -> Result<(), OutOfMemory>
-        ensures { OnOk result (Writes (Adopted end epoch ∷ []) self.old self.new) }
+        ensures written { OnOk result
+            (Writes (Adopted end epoch ∷ []) self.old.notes self.new.notes) }
+        ensures rest { KeepsElse self.old self.new }
     {
         self.scribe.adopt(end, epoch)
     }
 
     // Logs that it has adopted these ends, in order.
     fn log_all_adopted(&mut self, ends: &[EndId]) -> Result<(), OutOfMemory>
-        ensures { OnOk result ((entries : List LogEntry) × AreAdoptions ends.now entries
-            × Writes entries self.old self.new) }
+        ensures written { OnOk result ((entries : List LogEntry) × AreAdoptions ends.now entries
+            × Writes entries self.old.notes self.new.notes) }
+        ensures rest { KeepsElse self.old self.new }
     {
         for end in ends {
             self.log_adopted(*end)?;
@@ -153,8 +164,10 @@ impl<'s, C: Checkpoint> Agent<'s, C> {
 
     // Logs that it has adopted the ports that came with the last delivery.
     fn log_delivered(&mut self) -> Result<(), OutOfMemory>
-        ensures { OnOk result ((entries : List LogEntry) × AreAdoptions self.old.adopted entries
-            × Writes entries self.old self.new) }
+        ensures written { OnOk result ((entries : List LogEntry)
+            × AreAdoptions self.old.notes.adopted entries
+            × Writes entries self.old.notes self.new.notes) }
+        ensures rest { KeepsElse self.old self.new }
     {
         let adopted = self.scribe.take_adopted();
         self.log_all_adopted(&adopted)
@@ -162,7 +175,8 @@ impl<'s, C: Checkpoint> Agent<'s, C> {
 
     fn turn_counted<L: Ledger, R: Wait>(&mut self, rt: &R, blank: Blank) -> Result<Turn, LoopError>
         requires { (blank.name ≡ L.name) × (blank.parts ≡ L.parts) × (L.parts ≡ 2) }
-        ensures { IfOk result (λ turn. TurnLeaves turn self.old self.new) }
+        ensures left { IfOk result (λ turn. TurnLeaves turn self.old.notes self.new.notes) }
+        ensures rest { KeepsElse self.old self.new }
     {
         let mut steps = Steps::<L>::begin(blank);
         let scribe = self.scribe.take();
@@ -174,8 +188,9 @@ impl<'s, C: Checkpoint> Agent<'s, C> {
 
     // Makes a turn, and logs the ports that were adopted in it.
     fn turn<R: Wait>(&mut self, rt: &R) -> Result<Turn, OutOfMemory>
-        ensures { OnOk result ((entries : List LogEntry) × IsTurnLogged entries
-            × Writes entries self.old self.new) }
+        ensures written { OnOk result ((entries : List LogEntry) × IsTurnLogged entries
+            × Writes entries self.old.notes self.new.notes) }
+        ensures rest { KeepsElse self.old self.new }
     {
         let turn = match self.turn_counted::<Brand, R>(rt, Blank::new(2)) {
             Ok(turn) => turn,
@@ -192,8 +207,10 @@ impl<'s, C: Checkpoint> Agent<'s, C> {
 
     // Takes the queue that was handed to it, logs that and enables the queue. Whether it was there.
     fn fetch<R: Wait>(&mut self, rt: &R, end: EndId) -> Result<bool, OutOfMemory>
-        ensures { IfOk result (λ came. (entries : List LogEntry)
-            × IsComeLogged (Awaited.Queue end) came entries × Writes entries self.old self.new) }
+        ensures written { IfOk result (λ came. (entries : List LogEntry)
+            × IsComeLogged (Awaited.Queue end) came entries
+            × Writes entries self.old.notes self.new.notes) }
+        ensures rest { KeepsElse self.old self.new }
     {
         let Shared { hub, directory, .. } = self.shared;
         match self.event_loop.fetch(rt, hub, directory, end) {
@@ -210,8 +227,10 @@ impl<'s, C: Checkpoint> Agent<'s, C> {
 
     // Whether what it waits for has come.
     fn has_come<R: Wait>(&mut self, rt: &R, awaited: Awaited) -> Result<bool, OutOfMemory>
-        ensures { IfOk result (λ came. (entries : List LogEntry)
-            × IsComeLogged awaited came entries × Writes entries self.old self.new) }
+        ensures written { IfOk result (λ came. (entries : List LogEntry)
+            × IsComeLogged awaited came entries
+            × Writes entries self.old.notes self.new.notes) }
+        ensures rest { KeepsElse self.old self.new }
     {
         match awaited {
             Awaited::Messages { after, count } => {
@@ -230,8 +249,9 @@ impl<'s, C: Checkpoint> Agent<'s, C> {
         rt: &R,
         awaited: Awaited,
     ) -> Result<(), OutOfMemory>
-        ensures { OnOk result ((entries : List LogEntry) × IsWaitLogged awaited entries
-            × Writes entries self.old self.new) }
+        ensures written { OnOk result ((entries : List LogEntry) × IsWaitLogged awaited entries
+            × Writes entries self.old.notes self.new.notes) }
+        ensures rest { KeepsElse self.old self.new }
     {
         for _ in rt.forever() {
             if self.has_come(rt, awaited)? {

@@ -127,7 +127,7 @@ impl<'s, C: Checkpoint> Agent<'s, C> {
     // Ends the loop, and answers the log.
     fn finish<R: Wait>(self, rt: &R) -> Result<Log, OutOfMemory>
         ensures { IfOk result (λ log. (entries : List LogEntry) × AreEndings entries
-            × (log ≡ log_and self.entry.log entries)) }
+            × (log ≡ log_and self.entry.notes.log entries)) }
     {
         let Agent {
             alloc,
@@ -148,7 +148,7 @@ impl<'s, C: Checkpoint> Agent<'s, C> {
     // Ends the loop, and answers the log. Where memory runs out all agents are ordered to end.
     pub(crate) fn finish_or_order<R: Wait>(mut self, rt: &R) -> Result<Log, OutOfMemory>
         ensures { IfOk result (λ log. (entries : List LogEntry) × AreEndings entries
-            × (log ≡ log_and self.entry.log entries)) }
+            × (log ≡ log_and self.entry.notes.log entries)) }
     {
         let none = Vec::new(self.alloc);
         let mut peers = replace(&mut self.peers, none);

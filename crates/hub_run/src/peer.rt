@@ -1,3 +1,6 @@
+ghost use Rattle.std.specs.Prelude.{◌≡◌};
+ghost use Rattle.hub_run.specs.Agents.{ordered, woken};
+
 use hub_life::Order;
 use hub_queue::Bell;
 
@@ -10,18 +13,24 @@ pub(crate) struct Peer {
 }
 
 impl Peer {
-    pub(crate) fn new(order: Order, bell: Bell) -> Peer {
+    pub(crate) fn new(order: Order, bell: Bell) -> Peer
+        ensures { result ≡ record { order = order; bell = bell } }
+    {
         Peer { order, bell }
     }
 
     /// Gives the agent the order to end, and wakes it.
-    pub(crate) fn order(&mut self) {
+    pub(crate) fn order(&mut self)
+        ensures { self.new ≡ ordered self.old }
+    {
         self.order.give();
         self.bell.wake();
     }
 
     /// Wakes the agent.
-    pub(crate) fn wake(&mut self) {
+    pub(crate) fn wake(&mut self)
+        ensures { self.new ≡ woken self.old }
+    {
         self.bell.wake();
     }
 }

@@ -1,7 +1,8 @@
 //! The actions that post: at a port, at a queue, from a broadcast member.
 
-ghost use Rattle.std.specs.Prelude.{◌≡◌, ◌∷◌, [], List, map, IfOk, IfSome, OnOk};
+ghost use Rattle.std.specs.Prelude.{◌≡◌, ◌∷◌, [], List, IfOk, IfSome, OnOk};
 ghost use Rattle.hub_ports.specs.Seats.{ends_of};
+ghost use Rattle.hub_run.specs.Agents.{KeepsElse};
 ghost use Rattle.hub_run.specs.Entries.{
   IsCastLogged,
   IsPostLogged,
@@ -106,7 +107,9 @@ impl<'s, C: Checkpoint> Agent<'s, C> {
 
     // Logs the notice of a port that was closed, where it was put, and the closing.
     fn log_closed(&mut self, end: EndId, noticed: Noticed) -> Result<(), OutOfMemory>
-        ensures { OnOk result (Writes (closing_entries end noticed) self.old self.new) }
+        ensures written { OnOk result
+            (Writes (closing_entries end noticed) self.old.notes self.new.notes) }
+        ensures rest { KeepsElse self.old self.new }
     {
         match noticed {
             Noticed::Put(posted) => self.log_notice(posted)?,
@@ -122,7 +125,9 @@ impl<'s, C: Checkpoint> Agent<'s, C> {
         end: EndId,
         port: Option<ClosedPort>,
     ) -> Result<(), OutOfMemory>
-        ensures { OnOk result (Writes (closed_entries end port) self.old self.new) }
+        ensures written { OnOk result
+            (Writes (closed_entries end port) self.old.notes self.new.notes) }
+        ensures rest { KeepsElse self.old self.new }
     {
         match port {
             Some(port) => self.log_closed(end, port.noticed),
@@ -131,28 +136,34 @@ impl<'s, C: Checkpoint> Agent<'s, C> {
     }
 
     fn log_notice(&mut self, posted: Posted) -> Result<(), OutOfMemory>
-        ensures { OnOk result (Writes (Put (notice_at posted) ∷ []) self.old self.new) }
+        ensures written { OnOk result
+            (Writes (Put (notice_at posted) ∷ []) self.old.notes self.new.notes) }
+        ensures rest { KeepsElse self.old self.new }
     {
         self.scribe.put_notice(posted)
     }
 
     fn log_close(&mut self, end: EndId) -> Result<(), OutOfMemory>
-        ensures { OnOk result (Writes (Closed end ∷ []) self.old self.new) }
+        ensures written { OnOk result (Writes (Closed end ∷ []) self.old.notes self.new.notes) }
+        ensures rest { KeepsElse self.old self.new }
     {
         self.scribe.close(end)
     }
 
     // Logs a post that was accepted.
     fn log_put(&mut self, posted: Posted, ports: &[EndId], body: &Body) -> Result<(), OutOfMemory>
-        ensures { OnOk result (Writes (Put (message_at posted ports.now body.now) ∷ [])
-            self.old self.new) }
+        ensures written { OnOk result (Writes (Put (message_at posted ports.now body.now) ∷ [])
+            self.old.notes self.new.notes) }
+        ensures rest { KeepsElse self.old self.new }
     {
         self.scribe.put(posted, ports, body)
     }
 
     // Logs what became of the ports that a doomed post has closed.
     fn log_doomed(&mut self, closings: &[Closing]) -> Result<(), OutOfMemory>
-        ensures { OnOk result (Writes (doomed_entries closings.now) self.old self.new) }
+        ensures written { OnOk result
+            (Writes (doomed_entries closings.now) self.old.notes self.new.notes) }
+        ensures rest { KeepsElse self.old self.new }
     {
         for closing in closings {
             self.log_closed(closing.end, closing.noticed)?;
@@ -168,8 +179,9 @@ impl<'s, C: Checkpoint> Agent<'s, C> {
         body: &Body,
         transfer: &Ports,
     ) -> Result<(), OutOfMemory>
-        ensures { OnOk result (Writes (answer_entries transfer.now body.now answer)
-            self.old self.new) }
+        ensures written { OnOk result (Writes (answer_entries transfer.now body.now answer)
+            self.old.notes self.new.notes) }
+        ensures rest { KeepsElse self.old self.new }
     {
         match answer {
             Ok(posted) => self.log_put(posted, transfer.as_slice(), body),
@@ -196,8 +208,10 @@ impl<'s, C: Checkpoint> Agent<'s, C> {
         body: &Body,
         transfer: &Ports,
     ) -> Result<(), OutOfMemory>
-        ensures { OnOk result ((entries : List LogEntry)
-            × IsPostLogged transfer.now body.now entries × Writes entries self.old self.new) }
+        ensures written { OnOk result ((entries : List LogEntry)
+            × IsPostLogged transfer.now body.now entries
+            × Writes entries self.old.notes self.new.notes) }
+        ensures rest { KeepsElse self.old self.new }
     {
         if !self.holds_port(port) || !self.holds_ports(transfer.as_slice()) {
             return Ok(());
@@ -239,8 +253,10 @@ impl<'s, C: Checkpoint> Agent<'s, C> {
         body: &Body,
         transfer: &Ports,
     ) -> Result<(), OutOfMemory>
-        ensures { OnOk result ((entries : List LogEntry)
-            × IsPostLogged transfer.now body.now entries × Writes entries self.old self.new) }
+        ensures written { OnOk result ((entries : List LogEntry)
+            × IsPostLogged transfer.now body.now entries
+            × Writes entries self.old.notes self.new.notes) }
+        ensures rest { KeepsElse self.old self.new }
     {
         if !self.holds_ports(transfer.as_slice()) || !self.take_line(rt, queue)? {
             return Ok(());
@@ -264,8 +280,9 @@ impl<'s, C: Checkpoint> Agent<'s, C> {
         member: EndId,
         body: &Body,
     ) -> Result<(), OutOfMemory>
-        ensures { OnOk result ((entries : List LogEntry) × IsCastLogged body.now entries
-            × Writes entries self.old self.new) }
+        ensures written { OnOk result ((entries : List LogEntry) × IsCastLogged body.now entries
+            × Writes entries self.old.notes self.new.notes) }
+        ensures rest { KeepsElse self.old self.new }
     {
         let copy = body.clone()?;
         let Some(source) = self.event_loop.member_mut(member) else {
@@ -285,7 +302,9 @@ impl<'s, C: Checkpoint> Agent<'s, C> {
         outcomes: &[(EndId, CastOutcome)],
         body: &Body,
     ) -> Result<(), OutOfMemory>
-        ensures { OnOk result (Writes (cast_entries body.now outcomes.now) self.old self.new) }
+        ensures written { OnOk result
+            (Writes (cast_entries body.now outcomes.now) self.old.notes self.new.notes) }
+        ensures rest { KeepsElse self.old self.new }
     {
         let mut refused = Ok(());
         for (_, outcome) in outcomes {
@@ -299,7 +318,9 @@ impl<'s, C: Checkpoint> Agent<'s, C> {
 
     // Logs a post of a cast, where it was accepted.
     fn log_outcome(&mut self, outcome: &CastOutcome, body: &Body) -> Result<(), OutOfMemory>
-        ensures { OnOk result (Writes (outcome_entries body.now outcome.now) self.old self.new) }
+        ensures written { OnOk result
+            (Writes (outcome_entries body.now outcome.now) self.old.notes self.new.notes) }
+        ensures rest { KeepsElse self.old self.new }
     {
         match outcome {
             CastOutcome::Accepted(posted) => self.log_put(*posted, &[], body),

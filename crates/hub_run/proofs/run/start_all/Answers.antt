@@ -1,4 +1,4 @@
-use Rattle.std.specs.Prelude.{◌≡◌, ℕ, ◌+◌, ◌<◌, get_or, vec_items, vec_len}
+use Rattle.std.specs.Prelude.{◌≡◌, ◌+◌, get_or, vec_items, vec_len}
 use Rattle.std.proofs.Common.{rules, arith, below_more, ap, ◌∙◌}
 use Rattle.hub_run.specs.Threads.{Handle}
 use Rattle.hub_run.specs.declared.run.Part.{Part}
