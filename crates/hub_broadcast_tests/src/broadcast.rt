@@ -35,8 +35,8 @@ fn member<R: Wait>(
         .ok()
 }
 
-// Members in a list, since a function that holds each of them by name is proved with each one's drop
-// at each of its ends.
+// Members in a list, since a function that holds each of them by name is proved with each one's
+// drop at each of its ends.
 fn joined<R: Wait>(
     rt: &R,
     alloc: Global,
