@@ -1,12 +1,11 @@
 -- Each poster at its own line of its queue.
-use Rattle.std.proofs.Common.{◌≡◌, ℕ, zero, suc, ◌<◌, List, [], ◌∷◌, map, length, refl, sym, ap, ◌∙◌, subst, ⊎_elim, arith, Option, Some, None, false, get_or}
+use Rattle.std.proofs.Common.{◌≡◌, ℕ, zero, suc, ◌<◌, List, [], ◌∷◌, map, length, set, refl, sym, ap, ◌∙◌, subst, arith, Option, Some, None, false, get_or}
 use Rattle.std.specs.Prelude.{slice_get, position, is_some, IfSome}
 use Rattle.std.proofs.lemmas.List.{length-set}
 use Rattle.std.proofs.lemmas.List.Quantifiers.{position-Some}
-use Rattle.std.proofs.lemmas.Option.{slice_get_read}
+use Rattle.std.proofs.lemmas.Option.{slice_get_read, slice_get_within, same_Some}
 use Rattle.hub_envelope.specs.declared.limits.TheConstants.{MAX_LINES}
 use Rattle.hub_envelope.specs.declared.ids.EndId.{EndId}
-use Rattle.hub_gate.proofs.Got.{some_is, none_got, got_set, got_within}
 use Rattle.hub_queue.specs.Mailboxes.{IsOpenMailbox, new_stand, new_stands}
 use Rattle.hub_queue.specs.Standing.{StandSeat}
 use Rattle.hub_queue.specs.Taking.{TakerSeat}
@@ -15,11 +14,19 @@ use Rattle.hub_clients.specs.Lines.{with_line, IsTakenOut}
 use Rattle.hub_clients.specs.Listings.{ListedSeat, IsPosterOf, IsInPlace, ArePostersOf}
 use Rattle.hub_clients.specs.NewQueues.{listed_of}
 
+-- a poster that stands there once another line's is out stood there before
+still_there : {A : Type 0} (l : List (Option A)) (i j : ℕ) (p : A) → slice_get (set l i None) j ≡ Some (Some p) → slice_get l j ≡ Some (Some p)
+still_there [] i j p e = e
+still_there (x ∷ xs) zero zero p e = cc
+still_there (x ∷ xs) zero (suc j) p e = e
+still_there (x ∷ xs) (suc i) zero p e = e
+still_there (x ∷ xs) (suc i) (suc j) p e = still_there xs i j p e
+
 -- a line whose poster is out
 pub taken_out : (q : ListedSeat) (line : ℕ) → IsInPlace q → IsInPlace (with_line q line None)
 taken_out q line held = record {
   count = length-set q.lines line None ∙ held.count;
-  each = λ i p e. ⊎_elim (λ t. none_got p t.1) (λ t. held.each i p t.1) (got_set q.lines line i None (Some p) e);
+  each = λ i p e. held.each i p (still_there q.lines line i p e);
 }
 
 -- the posters of a queue whose lines are all at home
@@ -27,8 +34,8 @@ pub all_home : (end : EndId) (posters : List StandSeat) → ArePostersOf end pos
 all_home end posters own line p e = own line p (unwrapped posters line p e)
   where
     unwrapped : (xs : List StandSeat) (i : ℕ) (y : StandSeat) → slice_get (map Some xs) i ≡ Some (Some y) → slice_get xs i ≡ Some y
-    unwrapped [] i y e = none_got (Some y) e
-    unwrapped (x ∷ xs) zero y e = some_is (Some x) (Some y) e
+    unwrapped [] i y e = cc
+    unwrapped (x ∷ xs) zero y e = same_Some (Some x) (Some y) e
     unwrapped (x ∷ xs) (suc i) y e = unwrapped xs i y e
 
 -- the posters of a new mailbox are those of its lines, in order
@@ -39,8 +46,8 @@ opened_posters end lines t posters opened =
     let many : length posters ≡ lines = ap length opened.posters_are ∙ many_below stand stands refl (λ n. refl) lines in (
       many,
       λ line p e.
-          let within : line < length posters = got_within posters line p e in
-          let is : stand line ≡ p = some_is (stand line) p (sym (at_below stand stands refl (λ n. refl) lines line (omega arith)) ∙ ap (λ (l : List StandSeat). slice_get l line) (sym opened.posters_are) ∙ e) in
+          let within : line < length posters = slice_get_within posters line p e in
+          let is : stand line ≡ p = same_Some (stand line) p (sym (at_below stand stands refl (λ n. refl) lines line (omega arith)) ∙ ap (λ (l : List StandSeat). slice_get l line) (sym opened.posters_are) ∙ e) in
           record { end_is = ap (λ s. s.name.end) (sym is); line_is = ap (λ s. s.name.line.0) (sym is) },
     )
 

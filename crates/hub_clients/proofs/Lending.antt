@@ -3,9 +3,8 @@ use Rattle.std.proofs.Common.{◌≡◌, ℕ, ◌<◌, List, set, get_or, refl, 
 use Rattle.std.specs.Prelude.{slice_get, ok_or, IfOk, IfSome}
 use Rattle.std.proofs.lemmas.Bool.{cases_lt}
 use Rattle.std.proofs.lemmas.List.{set-get_or}
-use Rattle.std.proofs.lemmas.Option.{get_or_from_slice_get}
+use Rattle.std.proofs.lemmas.Option.{get_or_from_slice_get, same_Some}
 use Rattle.hub_envelope.specs.declared.ids.EndId.{EndId}
-use Rattle.hub_gate.proofs.Got.{some_is}
 use Rattle.hub_queue.specs.Standing.{StandSeat}
 use Rattle.hub_clients.specs.declared.directory_error.DirectoryError.TheVariants.{NoLine}
 use Rattle.hub_clients.specs.Lines.{IsTakenOut, IsPutBack, IsLent, IsGivenBack, IsOut}
@@ -21,7 +20,7 @@ same_first queues end a b q r one other = ⊎_elim
     (λ less. absurd (other.first a q (omega arith) less (ap (λ s. s.end) (get_or_from_slice_get queues a q q one.found) ∙ one.end_is)))
     (λ le. ⊎_elim
     (λ less. absurd (one.first b r (omega arith) less (ap (λ s. s.end) (get_or_from_slice_get queues b r r other.found) ∙ other.end_is)))
-    (λ ge. let same : b ≡ a = omega arith in some_is r q (sym other.found ∙ ap (slice_get queues) same ∙ one.found))
+    (λ ge. let same : b ≡ a = omega arith in same_Some r q (sym other.found ∙ ap (slice_get queues) same ∙ one.found))
     (cases_lt b a))
     (cases_lt a b)
 

@@ -5,7 +5,9 @@ use crate::queue::Queue;
 pub trait Kind {
     ghost use Rattle.std.specs.Prelude.{◌≡◌};
     ghost use Rattle.hub_queue.specs.Taking.{TakerSeat};
-    ghost use Rattle.hub_clients.specs.declared.handed_queue.HandedQueue.{HandedQueue as HandedSeat};
+    ghost use Rattle.hub_clients.specs.declared.handed_queue.HandedQueue.{
+      HandedQueue as HandedSeat,
+    };
 
     /// A queue of this kind, as it is handed on.
     ghost as_handed: { TakerSeat → HandedSeat };

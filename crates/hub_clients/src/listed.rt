@@ -3,8 +3,7 @@ ghost use Rattle.hub_envelope.specs.declared.limits.TheConstants.{MAX_LINES};
 ghost use Rattle.hub_clients.specs.Lines.{IsPutBack, IsTakenOut};
 ghost use Rattle.hub_clients.specs.Listings.{ArePostersOf};
 
-use hub_core::OutOfMemory;
-use hub_envelope::EndId;
+use hub_envelope::{EndId, OutOfMemory};
 use hub_queue::Poster;
 use std::alloc::Global;
 use std::marker::Model;

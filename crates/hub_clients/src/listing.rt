@@ -5,8 +5,7 @@ ghost use Rattle.hub_clients.specs.Listings.{IsInOrder, IsListed, IsPlaceBehind,
 
 use crate::directory_error::DirectoryError;
 use crate::listed::Listed;
-use hub_core::OutOfMemory;
-use hub_envelope::EndId;
+use hub_envelope::{EndId, OutOfMemory};
 use hub_queue::Poster;
 use std::alloc::Global;
 use std::marker::Model;

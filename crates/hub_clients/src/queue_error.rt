@@ -1,4 +1,4 @@
-use hub_core::OutOfMemory;
+use hub_envelope::OutOfMemory;
 use thiserror::Error;
 
 /// Why no queue was made. No number was drawn, and nothing is listed.

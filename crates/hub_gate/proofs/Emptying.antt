@@ -1,10 +1,10 @@
 -- One more right is out of the slot of its line.
 use Rattle.std.proofs.Common.{rules, ◌≡◌, ℕ, suc, ◌+◌, ◌<◌, Bool, true, false, true≢false, List, [], ◌∷◌, ◌++◌, map, length, refl, sym, ap, ◌∙◌, subst, arith, append_assoc, append-nil, length-append, Option, Some, None}
 use Rattle.std.specs.Prelude.{is_none, MatchOption, IsSome}
-use Rattle.std.proofs.lemmas.List.{map-append}
+use Rattle.std.proofs.lemmas.List.{map-append, length-map}
 use Rattle.atomic_table.specs.Table.{Me, rest, turned}
 use Rattle.hub_gate.specs.Taking.{numbered, values_in}
-use Rattle.hub_gate.proofs.Got.{some_is, len-map}
+use Rattle.hub_core.proofs.Items.{some_is}
 use Rattle.hub_gate.proofs.Takings.{turn_once}
 
 abbrev pub nothing : {T : Type 0} → T → Option T
@@ -63,7 +63,7 @@ module _ {T V : Type 0} where
         next.1,
         is ∙ (λ i. items ++ todo_is i) ∙ sym (append_assoc items (right ∷ []) next.1) ∙ (λ i. sym new_is i ++ next.1),
         ap length new_is ∙ length-append items (right ∷ []) ∙ ap (λ n. n + 1) many,
-        turn_once line (Some right) None (map Some next.1) (map nothing items) v me me1 me2 (len-map nothing items ∙ many) (me_is ∙ (λ i. (v, numbered line (map Some (todo_is i)) ++ numbered 0 (map nothing items)))) is1 is2
+        turn_once line (Some right) None (map Some next.1) (map nothing items) v me me1 me2 (length-map items nothing ∙ many) (me_is ∙ (λ i. (v, numbered line (map Some (todo_is i)) ++ numbered 0 (map nothing items)))) is1 is2
             ∙ ap (λ (l : List (Option T)). (v, numbered (line + 1) (map Some next.1) ++ numbered 0 l)) (sym (map-append nothing items (right ∷ [])) ∙ ap (map nothing) (sym new_is)),
       )
 

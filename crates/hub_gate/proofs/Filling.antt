@@ -1,10 +1,9 @@
 -- One more right is in the slot of its line.
 use Rattle.std.proofs.Common.{◌≡◌, ℕ, suc, ◌+◌, List, [], ◌∷◌, ◌++◌, map, length, replicate, reverse, sym, ap, ◌∙◌, arith, append_assoc, length-append, Option, Some, None}
-use Rattle.std.proofs.lemmas.List.{reverse-append, map-append}
+use Rattle.std.proofs.lemmas.List.{reverse-append, map-append, length-map}
 use Rattle.std.specs.Option.{option_to_list}
 use Rattle.atomic_table.specs.Table.{Me, rest, turned}
 use Rattle.hub_gate.specs.Taking.{numbered}
-use Rattle.hub_gate.proofs.Got.{len-map}
 use Rattle.hub_gate.proofs.Takings.{turn_once}
 
 -- what was popped, as the last of the list before
@@ -23,7 +22,7 @@ module _ {T V : Type 0} where
     done ++ right ∷ [],
     all_is ∙ ap (λ (l : List T). done ++ reverse l) last ∙ ap (λ (l : List T). done ++ l) (reverse-append new (right ∷ [])) ∙ sym (append_assoc done (right ∷ []) (reverse new)),
     (let a = length-append done (right ∷ []) in omega arith),
-    turn_once line None (Some right) (replicate (length new) None) (map Some done) v me me1 me2 (len-map Some done ∙ many) (is ∙ ap (λ (n : ℕ). (v, numbered line (replicate n None) ++ numbered 0 (map Some done))) one_more) is1 is2
+    turn_once line None (Some right) (replicate (length new) None) (map Some done) v me me1 me2 (length-map done Some ∙ many) (is ∙ ap (λ (n : ℕ). (v, numbered line (replicate n None) ++ numbered 0 (map Some done))) one_more) is1 is2
         ∙ ap (λ (l : List (Option T)). (v, numbered (line + 1) (replicate (length new) None) ++ numbered 0 l)) (sym (map-append Some done (right ∷ []))),
   )
     where

@@ -2,12 +2,14 @@
 use Rattle.std.proofs.Common.{◌≡◌, ℕ, zero, suc, ◌≤◌, ◌||◌, Bool, true, false, true≢false, List, [], ◌∷◌, length, set, refl, sym, ap, ◌∙◌, subst, ⊎_elim, arith, length-set, Option, Some, None}
 use Rattle.std.specs.Prelude.{slice_get, sum_by}
 use Rattle.std.proofs.lemmas.List.Sums.{sum_by-cons}
+use Rattle.std.proofs.lemmas.List.{length-map}
 use Rattle.hub_core.specs.declared.line.Phase.{Phase}
 use Rattle.hub_core.specs.declared.line.Phase.TheVariants.{Out, Inside, Turned}
 use Rattle.hub_core.specs.GateMachine.{Gate, opened, is_shut, Steps, finds_moved, finds_closed, goes_in, goes_out, turns_back, enables, retires, closes, gave, is_open, is_busy, gives, Reached, opens, goes_on}
 use Rattle.hub_core.specs.GateMachine as machine
 use Rattle.hub_gate.specs.GateRule.{is_inside}
-use Rattle.hub_gate.proofs.Got.{none_got, some_is, got_within, got_there, got_set, got_here, got_else, got-map, got_of-map, len-map}
+use Rattle.hub_core.proofs.Items.{none_got, some_is, got_within, got_there, got_set, got-map, got_of-map}
+use Rattle.hub_gate.proofs.Got.{got_here, got_else}
 
 -- a line that isn't inside has its right at home until all are collected, which they are only in a gate that is moved or closed, with nobody inside
 pub record IsFormed {R : Type 0} (owns : ℕ → R → Type 0) (g : Gate R) : Type 0 where
@@ -39,7 +41,7 @@ or_right false = refl
 module _ {R : Type 0} (owns : ℕ → R → Type 0) where
   at_first : (rights : List R) → ((l : ℕ) (r : R) → slice_get rights l ≡ Some r → owns l r) → IsFormed owns (opened rights)
   at_first rights own = record {
-    same = len-map Some rights ∙ sym (len-map (λ (r : R). Out) rights);
+    same = length-map rights Some ∙ sym (length-map rights (λ (r : R). Out));
     home = λ c l p there out. let was = got_of-map (λ (r : R). Out) rights l p there in (was.0, got-map Some rights l was.0 was.1, own l was.0 was.1);
     shut = λ c. absurd (true≢false (sym c));
     nobody = λ c. absurd (true≢false (sym c));
@@ -97,7 +99,7 @@ module _ {R : Type 0} (owns : ℕ → R → Type 0) where
     steps g' (is_open c s) = formed
     steps g' (is_busy c s b) = formed
     steps g' (gives rights c s b h) = record {
-      same = len-map (λ (h : Option R). None) g.homes ∙ formed.same;
+      same = length-map g.homes (λ (h : Option R). None) ∙ formed.same;
       home = λ c' l p there out. absurd (true≢false c');
       shut = λ c'. s;
       nobody = λ c' l p there. let h = weight_le g.phases l p there in not_inside p (omega arith);

@@ -22,7 +22,8 @@ use Rattle.hub_gate.specs.Entering.{IsLetIn, IsLetOut, left_seat}
 use Rattle.hub_gate.specs.GatePlays.{entered_line, left_line, turned_line, Happens, IsTurned, IsIn, Enters, Leaves, TurnsBack}
 use Rattle.hub_gate.proofs.Cases.{match_true, match_false, case_true, case_false}
 use Rattle.hub_gate.proofs.Found.{new_word, found_flag, few_busy, happens_now}
-use Rattle.hub_gate.proofs.Got.{none_got, some_is, got_here, got_else, set-map, sum_by-got_set}
+use Rattle.hub_core.proofs.Items.{none_got, some_is}
+use Rattle.hub_gate.proofs.Got.{got_here, got_else, set-map, sum_by-got_set}
 use Rattle.hub_gate.proofs.Formed.{formed, there_again}
 use Rattle.hub_gate.proofs.AfterRights.{let_in_before}
 use Rattle.hub_gate.proofs.Seats.{shown_where, at_within, after, others_stay}

@@ -18,7 +18,7 @@ use Rattle.hub_gate.specs.GateSeats.{KeeperSeat, keeper_in}
 use Rattle.hub_gate.specs.Looking.{IsLast}
 use Rattle.hub_gate.specs.GatePlays.{looked_keeper, has_shut, KeeperStep, IsSeen, IsGiven, SeesOpen, SeesBusy, SeesShut, LooksAt, Looks}
 use Rattle.hub_gate.specs.Taking.{take_from, all_out}
-use Rattle.hub_gate.proofs.Got.{some_is, got_there}
+use Rattle.hub_core.proofs.Items.{some_is, got_there}
 use Rattle.hub_gate.proofs.Formed.{formed, weight_le, not_inside}
 use Rattle.hub_gate.proofs.AfterRights.{over_from}
 use Rattle.hub_gate.proofs.Cases.{match_true, match_false, case_true, case_false}

@@ -2,6 +2,8 @@
 use Rattle.std.proofs.Common.{◌≡◌, ℕ, zero, suc, ◌+◌, ◌<◌, ◌≤◌, Bool, true, false, true≢false, List, [], ◌∷◌, ◌++◌, map, length, set, get_or, replicate, refl, sym, ap, ◌∙◌, subst, inl, inr, ⊎_elim, arith, length-set, length-append, Option, Some, None}
 use Rattle.std.specs.Prelude.{slice_get, nat_lt}
 use Rattle.std.proofs.lemmas.List.Sums.{sum_by-cons}
+use Rattle.std.proofs.lemmas.List.{length-map}
+use Rattle.std.proofs.lemmas.Option.{slice_get-get_or}
 use mathlib.Core.Option.{some, none, some-injective, some-ne-none}
 use mathlib.Core.Option as maybe
 use lib.ListN.{get_elem?}
@@ -20,7 +22,7 @@ use Rattle.hub_gate.specs.GateSeats.{EntrySeat, line_in, keeper_in, first_entrie
 use Rattle.hub_gate.specs.GatePlays.{tags_in, Gathers, Opens}
 use Rattle.hub_gate.specs.Taking.{take_from, give_each, numbered, values_in}
 use Rattle.hub_gate.proofs.Emptying.{values-numbered}
-use Rattle.hub_gate.proofs.Got.{got-map, got_or, got_there, len-map}
+use Rattle.hub_core.proofs.Items.{got-map, got_there}
 use Rattle.hub_gate.proofs.Seats.{one_seat, at_end, shown_where, lines_stay}
 use Rattle.hub_gate.proofs.Takings.{carried-take_from, valid-take_from, carried-give_each, homes-give_each, valid-give_each}
 
@@ -74,7 +76,7 @@ module _ {T : Type 0} (tag : T → List ℕ) where
       (λ filled.
       let mine = one_seat {T = T} (Filling new.0) (Filling tags) s.views id filled at in
       let views : set s.views id (Keeping (keeper_at tags rights 0)) ≡ Keeping (keeper_at tags rights 0) ∷ [] = ap (λ (l : List (View T)). set l id (Keeping (keeper_at tags rights 0))) filled ∙ ap (λ (i : ℕ). set (Filling new.0 ∷ []) i (Keeping (keeper_at tags rights 0))) mine.0 in
-      let same : length s.homes ≡ length (map Some rights) = fits ∙ many ∙ sym (len-map Some rights) in (
+      let same : length s.homes ≡ length (map Some rights) = fits ∙ many ∙ sym (length-map rights Some) in (
         Keeping (keeper_at tags rights 0),
         give_each (map Some rights),
         valid-give_each 0 (map Some rights) s.homes,
@@ -82,8 +84,8 @@ module _ {T : Type 0} (tag : T → List ℕ) where
           gate = machine.opened rights;
           tags = tags;
           reached = machine.opens rights (λ l r there. ap (λ (t : Tags). slice_get t l) (sym tags_are) ∙ got-map tag rights l r there);
-          lines = len-map (λ _. phase.Out) rights ∙ sym (len-map tag rights) ∙ ap length tags_are;
-          few = let e = len-map tag rights in let e' = ap length tags_are in omega arith;
+          lines = length-map rights (λ _. phase.Out) ∙ sym (length-map rights tag) ∙ ap length tags_are;
+          few = let e = length-map rights tag in let e' = ap length tags_are in omega arith;
           word = same_word s.words new.1 ∙ (λ i. machine.word_of false false false (sym (none_busy rights) i) ∷ []);
           homes = homes-give_each [] s.homes (map Some rights) 0 refl same ∙ sym (slots-opened rights);
           seats = subst (λ (l : List (View T)). (seat : ℕ) (v : View T) → get_elem? l seat ≡ some v → Knows tags (machine.opened rights) (length l) seat v) (sym views) (seated tags rights tags_are);
@@ -97,8 +99,8 @@ module _ {T : Type 0} (tag : T → List ℕ) where
       seated tags rights tags_are zero v there = subst (λ (w : View T). Knows tags (machine.opened rights) 1 0 w) (some-injective (Keeping (keeper_at tags rights 0)) v there) (record {
         stands = refl;
         next = omega arith;
-        later = λ l low high. let e = len-map tag rights in let e' = ap length tags_are in let t = got_there rights l (omega arith) in got-map (λ _. phase.Out) rights l t.0 t.1;
-        rights = λ not_yet l low high. let e = len-map tag rights in let e' = ap length tags_are in let t = got_there rights l (omega arith) in got-map Some rights l t.0 t.1 ∙ ap Some (sym t.1);
+        later = λ l low high. let e = length-map rights tag in let e' = ap length tags_are in let t = got_there rights l (omega arith) in got-map (λ _. phase.Out) rights l t.0 t.1;
+        rights = λ not_yet l low high. let e = length-map rights tag in let e' = ap length tags_are in let t = got_there rights l (omega arith) in got-map Some rights l t.0 t.1 ∙ ap Some (sym t.1);
         shows = record { tags = refl; enabled = refl; moved = refl; closed = refl; collected = refl };
       })
       seated tags rights tags_are (suc seat) v there = absurd (some-ne-none v (sym there))
@@ -127,7 +129,7 @@ module _ {T : Type 0} (tag : T → List ℕ) where
     line_cut = record {
       stands = length-set s.views id (Keeping (cut_off k)) ∙ sym mine.next;
       at = let many = ap length mine.shows.tags in mine.later k.next (omega arith) (omega arith);
-      tag = ap (λ (t : Tags). slice_get t k.next) (sym mine.shows.tags) ∙ got_or k.tags k.next [] lt;
+      tag = ap (λ (t : Tags). slice_get t k.next) (sym mine.shows.tags) ∙ slice_get-get_or k.tags k.next [] lt;
       home = λ out not_yet. let many = ap length mine.shows.tags in mine.rights not_yet k.next (omega arith) (omega arith);
     }
 
@@ -184,7 +186,7 @@ first_more gate tags rights line = let e : line + 1 ≡ suc line = omega arith i
 pub gathered : {T : Type 0} (tag : T → List ℕ) (rights : List T) (me me1 : Me (Option T) (View T)) → me ≡ (Fresh (map tag rights), []) → me1 ≡ (Filling (tags_in me.0), numbered 0 (replicate (length (tags_in me.0)) None)) → me1 ≡ (Filling (map tag rights), numbered 0 (replicate (length rights) None))
 gathered {T = T} tag rights me me1 is is1 =
     is1 ∙ ap (λ (m : Me (Option T) (View T)). (Filling (tags_in m.0), numbered 0 (replicate (length (tags_in m.0)) None))) is
-    ∙ ap (λ (n : ℕ). (Filling (map tag rights), numbered 0 (replicate n None))) (len-map tag rights)
+    ∙ ap (λ (n : ℕ). (Filling (map tag rights), numbered 0 (replicate n None))) (length-map rights tag)
 
 -- the seat after it has put the rights there
 pub filled_with : {T : Type 0} (tag : T → List ℕ) (rights : List T) (me1 me2 : Me (Option T) (View T)) → me1 ≡ (Filling (map tag rights), numbered 0 (replicate (length rights) None)) → me2 ≡ (me1.0, numbered 0 (map Some rights)) → me2 ≡ (Filling (map tag rights), numbered 0 (map Some rights))
@@ -200,7 +202,7 @@ pub just_opened : {T : Type 0} (tag : T → List ℕ) (rights : List T) (me me1 
 just_opened {T = T} tag rights me me1 gate gate1 entries is is1 entries_are stays =
     let same : (keeper_in me.0).tags ≡ map tag rights = ap (λ (m : Me (Option T) (View T)). (keeper_in m.0).tags) is in
     let given : (keeper_in me.0).rights ≡ rights = ap (λ (m : Me (Option T) (View T)). (keeper_in m.0).rights) is in
-    let many : length (keeper_in me.0).tags ≡ length rights = ap length same ∙ len-map tag rights in
+    let many : length (keeper_in me.0).tags ≡ length rights = ap length same ∙ length-map rights tag in
     let keeper : keeper_in me1.0 ≡ keeper_at (map tag rights) rights (length rights) = ap (λ (m : Me (Option T) (View T)). keeper_in m.0) is1 ∙ (λ i. keeper_at (same i) (given i) (many i)) in record {
       keeper_is = keeper;
       entries_are = entries_are ∙ (λ i. first_entries (sym stays i) (same i) (given i) (many i));

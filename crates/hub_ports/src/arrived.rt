@@ -49,7 +49,7 @@ impl Arrived {
     ) -> Result<Port, (AdoptError, Arrived)>
         ensures { IsReceived self result }
     {
-        let Port { taker, poster } = self.port;
+        let (taker, poster) = self.port.into_parts();
         match taker.adopt(rt, &hub.yard, bell) {
             Ok(taker) => Ok(Port { taker, poster }),
             Err((error, taker)) => {

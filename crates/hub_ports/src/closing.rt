@@ -76,7 +76,7 @@ fn close_in_order<H: Hears<ClosingStep>, R: Wait>(
     ensures order { H.told heard.new ≡ option_map (λ list. list
         ++ ClosingStep.Notice result.2 ∷ ClosingStep.Close (end_of port) ∷ []) (H.told heard.old) }
 {
-    let Port { taker, mut poster } = port;
+    let (taker, mut poster) = port.into_parts();
     let noticed = put_notice(rt, alloc, yard, &mut poster, heard);
     let grave = shut(taker, heard);
     (grave, Spent { poster }, noticed)

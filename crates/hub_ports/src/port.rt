@@ -15,10 +15,18 @@ use std::sync::ledger::Ledger;
 /// One of two entangled ports (WHATWG HTML, "Message ports"): it takes from its own end, and posts
 /// at the end of its peer. A port that was sent is no value of its sender's any more, so a list
 /// can't hold a detached port, a port twice, or the port that posts.
-#[derive(Drop)]
 pub struct Port {
     pub(crate) taker: Taker,
     pub(crate) poster: Poster,
+}
+
+// By hand, so that whoever drops one makes one call, and its proof has no cases of its fields.
+impl Drop for Port {
+    fn drop(self) {
+        let Port { taker, poster } = self;
+        drop(taker);
+        drop(poster);
+    }
 }
 
 impl Model for Port {
@@ -55,6 +63,15 @@ impl Port {
     ghost use Rattle.hub_ports.specs.Closing.{IsNoticed};
     ghost use Rattle.hub_ports.specs.Seats.{end_of, ends_of};
     ghost use Rattle.hub_ports.specs.Sending.{IsSent, IsDoomed, IsTooMany};
+
+    /// What it takes from and what it posts over, which are all that it has.
+    pub(crate) fn into_parts(self) -> (Taker, Poster)
+        ensures taker { result.0 ≡ self.taker }
+        ensures poster { result.1 ≡ self.poster }
+    {
+        let Port { taker, poster } = self;
+        (taker, poster)
+    }
 
     /// The number of its end.
     pub fn end(&self) -> EndId

@@ -8,7 +8,7 @@ use Rattle.crossbeam_queue.specs.Fifo.{Forks, Merges, Held}
 use Rattle.crossbeam_queue.proofs.Lists.{at_set}
 use Rattle.hub_envelope.specs.declared.envelope.Envelope.{Envelope}
 use Rattle.hub_core.specs.Sender.{by, Prefix}
-use Rattle.hub_gate.proofs.Got.{some_is, none_got}
+use Rattle.hub_core.proofs.Items.{some_is, none_got}
 use Rattle.hub_queue.specs.declared.pass_view.PutView.{PutView}
 use Rattle.hub_queue.specs.declared.pass_view.TakeView.{TakeView}
 use Rattle.hub_queue.specs.declared.pass_view.PassView.{PassView}

@@ -10,7 +10,7 @@ use Rattle.hub_depot.specs.declared.key.Key.{Key}
 use Rattle.hub_depot.specs.Putting.{with_all, IsTakenAmong}
 use Rattle.hub_depot.proofs.Keys.{keys_total}
 use Rattle.hub_envelope.specs.declared.ids.EndId.{EndId}
-use Rattle.hub_gate.proofs.Got.{some_is}
+use Rattle.hub_core.proofs.Items.{some_is}
 use Rattle.hub_queue.specs.Adopting.{name_at, KeepsName}
 use Rattle.hub_queue.specs.Mailboxes.{new_stand, stands_at}
 use Rattle.hub_queue.specs.Standing.{StandSeat}

@@ -1,11 +1,11 @@
 -- The rights of all lines of a queue, and what the taker knows once it has taken in their passes.
 use Rattle.std.proofs.Common.{◌≡◌, ℕ, zero, suc, ◌<◌, ◌≤◌, List, [], ◌∷◌, ◌++◌, map, length, get_or, refl, sym, ap, ◌∙◌, subst, arith, length-append, Some}
 use Rattle.std.specs.Prelude.{slice_get}
-use Rattle.std.proofs.lemmas.List.{map-append}
+use Rattle.std.proofs.lemmas.List.{map-append, length-map}
 use Rattle.atomic_blocks.specs.Laid.{WebId}
 use Rattle.hub_envelope.specs.declared.limits.TheConstants.{MAX_LINES}
 use Rattle.hub_gate.specs.GateSeats.{KeeperSeat}
-use Rattle.hub_gate.proofs.Got.{some_is, got_there, got-map, len-map}
+use Rattle.hub_core.proofs.Items.{some_is, got_there, got-map}
 use Rattle.hub_queue.specs.declared.pass_view.PutView.{PutView}
 use Rattle.hub_queue.specs.declared.pass_view.TakeView.{TakeView}
 use Rattle.hub_queue.specs.declared.pass_view.PassView.{PassView}
@@ -26,7 +26,7 @@ tag_at web n i low = at_below (λ i. web.0 ∷ web.1 ∷ i ∷ []) (tags_of web)
 pub tags_by_count : (web : WebId) (at : TakeView) (keeper : KeeperSeat LineSeat) (rights : List LineSeat) → HasTags web at keeper → map tag_of rights ≡ keeper.at.tags → map tag_of rights ≡ tags_of web (length rights)
 tags_by_count web at keeper rights has is =
     let all : map tag_of rights ≡ tags_of web at.lines = is ∙ has.tags in
-    let many : at.lines ≡ length rights = sym (many_tags web at.lines) ∙ sym (ap length all) ∙ len-map tag_of rights in
+    let many : at.lines ≡ length rights = sym (many_tags web at.lines) ∙ sym (ap length all) ∙ length-map rights tag_of in
     all ∙ ap (tags_of web) many
 
 -- the tags stay while neither they nor the number of lines change
@@ -55,9 +55,9 @@ got_front (x ∷ xs) ys (suc i) low = got_front xs ys i (omega arith)
 -- with the rights of all lines every line is known
 pub knows_all : (web : WebId) (t : TakeView) (rights : List LineSeat) → map tag_of rights ≡ tags_of web t.lines → KnowsAll (knowing t rights)
 knows_all web t rights is line low =
-    let many : length rights ≡ t.lines = sym (len-map tag_of rights) ∙ ap length is ∙ many_tags web t.lines in
+    let many : length rights ≡ t.lines = sym (length-map rights tag_of) ∙ ap length is ∙ many_tags web t.lines in
     let there = got_there rights line (omega arith) in
-    let longer = len-map (λ (r : LineSeat). r.at) rights in
+    let longer = length-map rights (λ (r : LineSeat). r.at) in
     let tag_is : tag_of there.0 ≡ web.0 ∷ web.1 ∷ line ∷ [] = some_is _ _ (sym (got-map tag_of rights line there.0 there.1) ∙ ap (λ (l : List (List ℕ)). slice_get l line) is ∙ tag_at web t.lines line low) in (
       there.0.at,
       got_front (map (λ r. r.at) rights) t.known line (omega arith) ∙ got-map (λ (r : LineSeat). r.at) rights line there.0 there.1,

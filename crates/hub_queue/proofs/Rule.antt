@@ -11,7 +11,7 @@ use Rattle.hub_envelope.specs.declared.envelope.Envelope.{Envelope}
 use Rattle.hub_core.specs.Sender.{by}
 use Rattle.hub_core.specs.QueueMachine.{Queue, new_queue, IsNamed, MayPush, pushed, pop_of, IsQueue}
 use Rattle.hub_core.proofs.Queueing.{at_first_queue, after_push, after_pop, queue_laws}
-use Rattle.hub_gate.proofs.Got.{some_is, none_got}
+use Rattle.hub_core.proofs.Items.{some_is, none_got}
 use Rattle.hub_envelope.specs.declared.limits.TheConstants.{MAX_PUT}
 use Rattle.hub_queue.specs.declared.pass_view.PutView.{PutView}
 use Rattle.hub_queue.specs.declared.pass_view.TakeView.{TakeView}

@@ -1,14 +1,15 @@
 -- The posters of a queue that was just opened.
 use Rattle.std.proofs.Common.{◌≡◌, ℕ, suc, ◌+◌, ◌<◌, ◌≤◌, List, [], ◌∷◌, ◌++◌, map, length, reverse, get_or, refl, sym, ap, ◌∙◌, subst, arith, append_assoc, Option, Some, None}
 use Rattle.std.specs.Prelude.{slice_get}
-use Rattle.std.proofs.lemmas.List.{reverse-append}
+use Rattle.std.proofs.lemmas.List.{reverse-append, length-map}
+use Rattle.std.proofs.lemmas.Option.{slice_get-get_or}
 use Rattle.atomic_blocks.specs.Laid.{WebId}
 use Rattle.atomic_table.specs.Seated.{TableId}
 use Rattle.hub_envelope.specs.declared.ids.EndId.{EndId}
 use Rattle.hub_envelope.specs.declared.limits.TheConstants.{MAX_MOVES}
 use Rattle.hub_gate.specs.GateRule.{Tags, new_line, keeper_at}
 use Rattle.hub_gate.specs.GateSeats.{EntrySeat, first_entries}
-use Rattle.hub_gate.proofs.Got.{some_is, got_or, got-map, len-map}
+use Rattle.hub_core.proofs.Items.{some_is, got-map}
 use Rattle.hub_queue.specs.Mailboxes.{new_stand, new_stands, stands_at, IsNewTakerQueue, IsOpenMailbox}
 use Rattle.hub_queue.specs.Opening.{new_right, new_rights, IsOpenTakerQueue}
 use Rattle.hub_queue.specs.TakerQueues.{TakerQueueSeat}
@@ -33,9 +34,9 @@ entry_at end epoch lines p entries opened i low =
     let many : length rights ≡ lines = as_many p.queue end.0 epoch lines in
     let same_count : length entries ≡ length rights = ap length opened.entries_are ∙ many_below (entry_of p.keeper.gate tags rights) (λ n. first_entries p.keeper.gate tags rights n) refl (λ n. refl) (length rights) in
     let own : slice_get rights i ≡ Some (new_right p.queue end.0 epoch i) = right_at p.queue end.0 epoch lines i (omega arith) in
-    let longer = len-map tag_of rights in
+    let longer = length-map rights tag_of in
     let tagged : slice_get tags i ≡ Some (tag_of (new_right p.queue end.0 epoch i)) = got-map tag_of rights i _ own in
-    let tag_is : get_or tags i [] ≡ tag_of (new_right p.queue end.0 epoch i) = some_is _ _ (sym (got_or tags i [] (omega arith)) ∙ tagged) in
+    let tag_is : get_or tags i [] ≡ tag_of (new_right p.queue end.0 epoch i) = some_is _ _ (sym (slice_get-get_or tags i [] (omega arith)) ∙ tagged) in
     ap (λ (l : List (EntrySeat LineSeat)). slice_get l i) opened.entries_are
     ∙ at_below (entry_of p.keeper.gate tags rights) (λ n. first_entries p.keeper.gate tags rights n) refl (λ n. refl) (length rights) i (omega arith)
     ∙ (λ j. Some (record { gate = p.keeper.gate; at = new_line i (tag_is j) (own j) }))

@@ -1,9 +1,11 @@
 ghost use Rattle.std.specs.Prelude.{◌≡◌, ◌∷◌, [], ◌++◌};
 ghost use Rattle.std.specs.List.{AllByRecursion};
+ghost use Rattle.hub_queue.specs.Left.{IsNewestOf};
 ghost use Rattle.hub_queue.specs.TakerQueues.{IsShut};
 ghost use Rattle.hub_queue.specs.Sweeping.{AreSwept};
 
 use crate::settling::{Stop, empty};
+use crate::shut_queue::ShutQueue;
 use crate::swept::Swept;
 use crate::taker_queue::TakerQueue;
 use hub_envelope::{EndId, Envelope};
@@ -13,13 +15,28 @@ use std::sync::Wait;
 use std::thread;
 
 /// A closed end: its queues from the taker's on, and the envelopes that were collected from them.
-#[derive(Drop)]
 pub struct Grave {
     pub(crate) end: EndId,
     pub(crate) epoch: u32,
     pub(crate) retired: VecDeque<TakerQueue>,
     pub(crate) newest: TakerQueue,
     pub(crate) envelopes: Vec<Envelope>,
+}
+
+// By hand, so that whoever drops one makes one call, and its proof has no cases of its fields.
+impl Drop for Grave {
+    fn drop(self) {
+        let Grave {
+            end: _,
+            epoch: _,
+            retired,
+            newest,
+            envelopes,
+        } = self;
+        drop(retired);
+        drop(newest);
+        drop(envelopes);
+    }
 }
 
 impl Model for Grave {
@@ -81,6 +98,21 @@ impl Grave {
         ensures { result.0 ≡ self.now.end }
     {
         self.end
+    }
+
+    /// What shows the newest queue. It is freed with those before it, and what they hold is
+    /// discarded.
+    pub fn into_shut(self) -> ShutQueue
+        ensures { IsNewestOf self result }
+    {
+        let Grave {
+            end: _,
+            epoch: _,
+            retired: _,
+            newest,
+            envelopes: _,
+        } = self;
+        newest.into_shut()
     }
 
     /// Discards what is left at the closed end, queue after queue, the oldest first. At each it

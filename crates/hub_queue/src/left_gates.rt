@@ -7,12 +7,27 @@ use std::marker::Model;
 
 /// What shows the gates that a line left in the last post that went on, the last of them first. It
 /// has no bytes, and stands in proofs alone.
-#[derive(Drop)]
 pub struct LeftGates {
     last: EntryWitness<LineRight>,
     second: EntryWitness<LineRight>,
     third: EntryWitness<LineRight>,
     fourth: EntryWitness<LineRight>,
+}
+
+// By hand, so that whoever drops one makes one call, and its proof has no cases of its fields.
+impl Drop for LeftGates {
+    fn drop(self) {
+        let LeftGates {
+            last,
+            second,
+            third,
+            fourth,
+        } = self;
+        drop(last);
+        drop(second);
+        drop(third);
+        drop(fourth);
+    }
 }
 
 impl Model for LeftGates {

@@ -4,16 +4,23 @@ ghost use Rattle.hub_queue.specs.Left.{unrung};
 use crate::left_gates::LeftGates;
 use crate::line_right::LineRight;
 use crate::poster::Poster;
-use crate::stand::Stand;
 use hub_gate::EntryWitness;
 use std::marker::Model;
 
 /// What shows a line that nobody posts over any more, or nothing. It has no bytes, and stands in
 /// proofs alone.
-#[derive(Drop)]
 pub struct LeftLine {
     entry: EntryWitness<LineRight>,
     left: LeftGates,
+}
+
+// By hand, so that whoever drops one makes one call, and its proof has no cases of its fields.
+impl Drop for LeftLine {
+    fn drop(self) {
+        let LeftLine { entry, left } = self;
+        drop(entry);
+        drop(left);
+    }
 }
 
 impl Model for LeftLine {
@@ -45,9 +52,9 @@ impl Poster {
         ensures { result ≡ Some (unrung self) }
     {
         let Poster { stand } = self;
-        let Stand { entry, left, .. } = stand;
+        let (entry, left) = stand.into_parts();
         LeftLine {
-            entry: entry.unwrap().into_witness(),
+            entry: entry.into_witness(),
             left,
         }
     }

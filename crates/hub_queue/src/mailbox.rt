@@ -8,8 +8,7 @@ use crate::opening::open_taker_queue;
 use crate::poster::Poster;
 use crate::taker::Taker;
 use hub_bell::Bell;
-use hub_core::OutOfMemory;
-use hub_envelope::EndId;
+use hub_envelope::{EndId, OutOfMemory};
 use std::alloc::Global;
 use std::collections::VecDeque;
 

@@ -1,9 +1,5 @@
-ghost use Rattle.hub_queue.specs.Left.{IsNewestOf};
-
-use crate::grave::Grave;
 use crate::line_right::LineRight;
 use crate::store::Pass;
-use crate::taker_queue::TakerQueue;
 use hub_gate::KeeperWitness;
 use std::marker::Model;
 
@@ -11,8 +7,8 @@ use std::marker::Model;
 /// alone: the queue is freed.
 #[derive(Drop)]
 pub struct ShutQueue {
-    pass: Pass,
-    gate: KeeperWitness<LineRight>,
+    pub(crate) pass: Pass,
+    pub(crate) gate: KeeperWitness<LineRight>,
 }
 
 impl Model for ShutQueue {
@@ -26,19 +22,4 @@ impl Model for ShutQueue {
       at = take_in (known_by q.pass);
       keeper = q.gate;
     } };
-}
-
-impl Grave {
-    /// What shows the newest queue. It is freed with those before it, and what they hold is
-    /// discarded.
-    pub fn into_shut(self) -> ShutQueue
-        ensures { IsNewestOf self result }
-    {
-        let Grave { newest, .. } = self;
-        let TakerQueue { pass, keeper, .. } = newest;
-        ShutQueue {
-            pass,
-            gate: keeper.into_witness(),
-        }
-    }
 }

@@ -10,13 +10,27 @@ use std::marker::Model;
 use std::mem::replace;
 
 /// Where a line stands: at which queue, with the entry of its gate and the bell of its loop.
-#[derive(Drop)]
 pub struct Stand {
     pub(crate) name: Key,
     /// The line's entry. It is `None` during a post alone.
     pub(crate) entry: Option<Entry<LineRight>>,
     pub(crate) bell: Bell,
     pub(crate) left: LeftGates,
+}
+
+// By hand, so that whoever drops one makes one call, and its proof has no cases of its fields.
+impl Drop for Stand {
+    fn drop(self) {
+        let Stand {
+            name: _,
+            entry,
+            bell,
+            left,
+        } = self;
+        drop(entry);
+        drop(bell);
+        drop(left);
+    }
 }
 
 impl Model for Stand {
@@ -42,11 +56,25 @@ impl Model for Stand {
 }
 
 impl Stand {
+    /// The entry, and what shows the gates that the line has left.
+    pub(crate) fn into_parts(self) -> (Entry<LineRight>, LeftGates)
+        ensures entry { result.0 ≡ self.entry }
+        ensures left { result.1 ≡ self.left }
+    {
+        let Stand {
+            name: _,
+            entry,
+            bell: _,
+            left,
+        } = self;
+        (entry.unwrap(), left)
+    }
+
     /// Goes on to the next queue, and keeps what shows the gate that it leaves.
     pub(crate) fn go_to(&mut self, next: Stand)
         ensures { self.new ≡ gone_to self.old next }
     {
-        let Stand { entry, left, .. } = replace(self, next);
-        self.left = left.with(entry.unwrap());
+        let (entry, left) = replace(self, next).into_parts();
+        self.left = left.with(entry);
     }
 }

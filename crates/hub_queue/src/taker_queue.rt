@@ -9,6 +9,7 @@ ghost use Rattle.hub_queue.specs.Taking.{IsTakenAt, IsTakenOff, enabled_queue};
 use crate::left_queue::LeftQueue;
 use crate::line_right::LineRight;
 use crate::pop::pop;
+use crate::shut_queue::ShutQueue;
 use crate::steps::Steps;
 use crate::store::{Pass, Store};
 use crate::took::Took;
@@ -19,13 +20,27 @@ use std::sync::ledger::Ledger;
 use std::sync::{Arc, Wait};
 
 /// One queue at the end that takes from it: the queue, its taker's pass and the keeper of its gate.
-#[derive(Drop)]
 pub struct TakerQueue {
     pub(crate) store: Arc<Store>,
     pub(crate) pass: Pass,
     pub(crate) keeper: Keeper<LineRight>,
     /// How many envelopes of each line were taken.
     pub(crate) taken: [u64; MAX_LINES],
+}
+
+// By hand, so that whoever drops one makes one call, and its proof has no cases of its fields.
+impl Drop for TakerQueue {
+    fn drop(self) {
+        let TakerQueue {
+            store,
+            pass,
+            keeper,
+            taken: _,
+        } = self;
+        drop(store);
+        drop(pass);
+        drop(keeper);
+    }
 }
 
 impl Model for TakerQueue {
@@ -108,12 +123,33 @@ impl TakerQueue {
         }
     }
 
+    /// What shows the queue, which is freed with what it holds.
+    pub(crate) fn into_shut(self) -> ShutQueue
+        ensures { result ≡ self }
+    {
+        let TakerQueue {
+            store: _,
+            pass,
+            keeper,
+            taken: _,
+        } = self;
+        ShutQueue {
+            pass,
+            gate: keeper.into_witness(),
+        }
+    }
+
     /// What shows the queue, which is done with.
     pub(crate) fn leave(self) -> LeftQueue
         requires { IsSettled self }
         ensures { result ≡ self }
     {
-        let TakerQueue { pass, keeper, .. } = self;
+        let TakerQueue {
+            store: _,
+            pass,
+            keeper,
+            taken: _,
+        } = self;
         LeftQueue {
             pass,
             gate: keeper.into_witness(),

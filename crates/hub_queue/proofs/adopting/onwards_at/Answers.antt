@@ -1,7 +1,7 @@
 use Rattle.std.proofs.Common.{arith, refl, ◌≡◌, ◌<◌, ◌+◌, ◌++◌, ◌∷◌, [], length, ap, sym, ◌∙◌, length-append}
 use Rattle.hub_bell.specs.Seats.{BoardSeat}
 use Rattle.hub_gate.proofs.Filling.{popped_last}
-use Rattle.hub_gate.proofs.Got.{some_is}
+use Rattle.hub_core.proofs.Items.{some_is}
 use Rattle.hub_queue.specs.Mailboxes.{stands_at}
 use Rattle.hub_queue.proofs.Seating.{entry_at, many_entries, next_is, stands_more, stand_holds}
 use Rattle.std.specs.Prelude.{slice_get}

@@ -1,7 +1,7 @@
 use Rattle.std.proofs.Common.{rules, arith, ◌≡◌, sym, ap, ◌∙◌, length}
+use Rattle.std.proofs.lemmas.List.{length-map}
 use Rattle.hub_core.specs.GateMachine as machine
 use Rattle.hub_gate.specs.GateSeats.{keeper_in}
-use Rattle.hub_gate.proofs.Got.{len-map}
 use Rattle.hub_gate.proofs.Looking.{looks_at, told_rights, last_look}
 use Rattle.hub_gate.proofs.Emptying.{none_out, ready, holds_values}
 use Rattle.hub_gate.proofs.keeper.Keeper.look.Goals as goal
@@ -21,7 +21,7 @@ take_out-requires g c =
       here = search rules;
       held = held.0;
       room = (fresh.1, omega arith);
-      count = slots ∙ sym (ap length told.1.2) ∙ len-map g.T.Right.tag told.1.0 ∙ sym (ap length held.1);
+      count = slots ∙ sym (ap length told.1.2) ∙ length-map told.1.0 g.T.Right.tag ∙ sym (ap length held.1);
     }
 
 pub returns : goal.returns
