@@ -29,7 +29,6 @@ use std::sync::Wait;
 /// scribe.put(posted, &[], &body)?;
 /// let log = scribe.into_log();
 /// ```
-#[derive(Drop)]
 pub struct Scribe {
     alloc: Global,
     log: Log,
@@ -39,6 +38,22 @@ pub struct Scribe {
     adopted: Vec<EndId>,
     /// How many messages were delivered, notices not counted.
     messages: u64,
+}
+
+// By hand, so that whoever drops one makes one call, and its proof has no cases of its fields.
+impl Drop for Scribe {
+    fn drop(self) {
+        let Scribe {
+            alloc: _,
+            log,
+            closed,
+            adopted,
+            messages: _,
+        } = self;
+        drop(log);
+        drop(closed);
+        drop(adopted);
+    }
 }
 
 impl Model for Scribe {
@@ -117,7 +132,14 @@ impl Scribe {
     pub fn into_log(self) -> Log
         ensures { result ≡ self.log }
     {
-        self.log
+        let Scribe {
+            alloc: _,
+            log,
+            closed: _,
+            adopted: _,
+            messages: _,
+        } = self;
+        log
     }
 
     /// How many messages were delivered, notices not counted.

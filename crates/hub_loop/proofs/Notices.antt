@@ -11,13 +11,11 @@ use Rattle.hub_clients.specs.declared.handed_queue.HandedQueue.TheVariants as ha
 use Rattle.hub_ports.specs.Seats.{PortSeat}
 use Rattle.hub_queue.specs.Graves.{GraveSeat}
 use Rattle.hub_loop.specs.declared.closed_port.ClosedPort.{ClosedPort}
-use Rattle.hub_loop.specs.declared.ending.Open.{Open}
-use Rattle.hub_loop.specs.declared.ending.Open.TheVariants as opens
 use Rattle.hub_loop.specs.declared.held.Held.{Held}
 use Rattle.hub_loop.specs.declared.held.Held.TheVariants.{Port, Client, Worker, Member, Line}
 use Rattle.hub_loop.specs.Ending.{is_held, is_open, is_queue, slot_passes, queue_passes, is_grave, grave_ends, swept_ends, closing_ends}
 use Rattle.hub_loop.specs.Noticing.{open_number, port_in, ports_back, is_port_passing, port_numbers, ClosesLast, AllClosed, SomeClosed, NamedBehind, AreEnded}
-use Rattle.hub_loop.specs.States.{ClosingState}
+use Rattle.hub_loop.specs.States.{ClosingState, OpenState, open_arrived, open_held}
 use Rattle.hub_loop.specs.Telling.{IsTold, AreTold, NoticesMore}
 use Rattle.hub_loop.proofs.Ends.{rises, count-map}
 
@@ -104,16 +102,16 @@ ended-further (Some c) ends ports first then before between after told further =
     behind-twice (closing_ends c) first then c.noticed between after told further
 
 -- one more stands at the end of those that were taken out
-back-push : (os : List Open) (o : Open) → ports_back (os ++ o ∷ []) ≡ port_in o ++ ports_back os
+back-push : (os : List OpenState) (o : OpenState) → ports_back (os ++ o ∷ []) ≡ port_in o ++ ports_back os
 back-push [] o = sym (append-nil (port_in o))
 back-push (x ∷ os) o = ap (λ ps. ps ++ port_in x) (back-push os o) ∙ append_assoc (port_in o) (ports_back os) (port_in x)
 
 -- none was closed
-pub closes-none : (os : List Open) (before : List ClosedPort) → ClosesLast os os before before
+pub closes-none : (os : List OpenState) (before : List ClosedPort) → ClosesLast os os before before
 closes-none os before = ([], refl, notices-none before before refl)
 
 -- the last was closed
-pub closes-one : (first all rest : List Open) (popped : Option Open) (o : Open) (before between after : List ClosedPort) → ClosesLast first all before between → all ≡ rest ++ option_to_list popped → popped ≡ Some o → NoticesMore (port_in o) between after → ClosesLast first rest before after
+pub closes-one : (first all rest : List OpenState) (popped : Option OpenState) (o : OpenState) (before between after : List ClosedPort) → ClosesLast first all before between → all ≡ rest ++ option_to_list popped → popped ≡ Some o → NoticesMore (port_in o) between after → ClosesLast first rest before after
 closes-one first all rest popped o before between after done last some told = (
   done.0 ++ port_in o,
   done.1
@@ -123,15 +121,15 @@ closes-one first all rest popped o before between after done last some told = (
 )
 
 -- one port passes, or not
-count-one : (passes : PortSeat → Bool) (o : Open) → count_by passes (port_in o) ≡ cond (is_port_passing passes o) 1 0
-count-one passes (opens.Held (Port p)) = let one = sum_by-cons (λ q. cond {A = ℕ} (passes q) 1 0) p [] in omega (arith, one)
-count-one passes (opens.Held (Client t)) = refl
-count-one passes (opens.Held (Worker t)) = refl
-count-one passes (opens.Held (Member m)) = refl
-count-one passes (opens.Held (Line s)) = refl
-count-one passes (opens.Arrived p) = let one = sum_by-cons (λ q. cond {A = ℕ} (passes q) 1 0) p [] in omega (arith, one)
+count-one : (passes : PortSeat → Bool) (o : OpenState) → count_by passes (port_in o) ≡ cond (is_port_passing passes o) 1 0
+count-one passes (open_held (Port p)) = let one = sum_by-cons (λ q. cond {A = ℕ} (passes q) 1 0) p [] in omega (arith, one)
+count-one passes (open_held (Client t)) = refl
+count-one passes (open_held (Worker t)) = refl
+count-one passes (open_held (Member m)) = refl
+count-one passes (open_held (Line s)) = refl
+count-one passes (open_arrived p) = let one = sum_by-cons (λ q. cond {A = ℕ} (passes q) 1 0) p [] in omega (arith, one)
 
-count-back : (passes : PortSeat → Bool) (os : List Open) → count_by passes (ports_back os) ≡ count_by (is_port_passing passes) os
+count-back : (passes : PortSeat → Bool) (os : List OpenState) → count_by passes (ports_back os) ≡ count_by (is_port_passing passes) os
 count-back passes [] = refl
 count-back passes (o ∷ os) =
     let both = sum_by-append (λ p. cond {A = ℕ} (passes p) 1 0) (ports_back os) (port_in o) in
@@ -141,7 +139,7 @@ count-back passes (o ∷ os) =
     omega (arith, both, one, rest, split)
 
 -- as many ports pass among those that were closed and those that are left as among all
-pub count-closes : (passes : PortSeat → Bool) (old new : List Open) (closed : List PortSeat) → ports_back old ≡ closed ++ ports_back new → count_by passes closed + count_by (is_port_passing passes) new ≡ count_by (is_port_passing passes) old
+pub count-closes : (passes : PortSeat → Bool) (old new : List OpenState) (closed : List PortSeat) → ports_back old ≡ closed ++ ports_back new → count_by passes closed + count_by (is_port_passing passes) new ≡ count_by (is_port_passing passes) old
 count-closes passes old new closed is =
     let all = count-back passes old in
     let left = count-back passes new in
@@ -150,41 +148,41 @@ count-closes passes old new closed is =
     omega (arith, all, left, split, both)
 
 -- the ports among those that were taken out, the first first
-abbrev ports_forth : List Open → List PortSeat
+abbrev ports_forth : List OpenState → List PortSeat
 ports_forth [] = []
 ports_forth (o ∷ os) = port_in o ++ ports_forth os
 
-back-reversed : (os : List Open) → ports_back (reverse os) ≡ ports_forth os
+back-reversed : (os : List OpenState) → ports_back (reverse os) ≡ ports_forth os
 back-reversed [] = refl
 back-reversed (o ∷ os) =
     ap ports_back (reverse-append (o ∷ []) os) ∙ back-push (reverse os) o ∙ ap (λ ps. port_in o ++ ps) (back-reversed os)
 
-abbrev is_any_port : Open → Bool
+abbrev is_any_port : OpenState → Bool
 is_any_port o = is_port_passing (λ p. true) o
 
-abbrev number_out : Open → ℕ
+abbrev number_out : OpenState → ℕ
 number_out o = (open_number o).0
 
-forth-numbers : (os : List Open) → port_numbers (ports_forth os) ≡ map number_out (filter is_any_port os)
+forth-numbers : (os : List OpenState) → port_numbers (ports_forth os) ≡ map number_out (filter is_any_port os)
 forth-numbers [] = refl
-forth-numbers (opens.Held (Port p) ∷ os) = ap (λ ns. p.taker.end ∷ ns) (forth-numbers os)
-forth-numbers (opens.Held (Client t) ∷ os) = forth-numbers os
-forth-numbers (opens.Held (Worker t) ∷ os) = forth-numbers os
-forth-numbers (opens.Held (Member m) ∷ os) = forth-numbers os
-forth-numbers (opens.Held (Line s) ∷ os) = forth-numbers os
-forth-numbers (opens.Arrived p ∷ os) = ap (λ ns. p.taker.end ∷ ns) (forth-numbers os)
+forth-numbers (open_held (Port p) ∷ os) = ap (λ ns. p.taker.end ∷ ns) (forth-numbers os)
+forth-numbers (open_held (Client t) ∷ os) = forth-numbers os
+forth-numbers (open_held (Worker t) ∷ os) = forth-numbers os
+forth-numbers (open_held (Member m) ∷ os) = forth-numbers os
+forth-numbers (open_held (Line s) ∷ os) = forth-numbers os
+forth-numbers (open_arrived p ∷ os) = ap (λ ns. p.taker.end ∷ ns) (forth-numbers os)
 
 -- the ports rise where all that were taken out rise
-pub back-rises : (sorted reversed : List Open) → IsNonDecreasingBy (λ o. (open_number o).0) sorted → reversed ≡ reverse sorted → IsNonDecreasing (port_numbers (ports_back reversed))
+pub back-rises : (sorted reversed : List OpenState) → IsNonDecreasingBy (λ o. (open_number o).0) sorted → reversed ≡ reverse sorted → IsNonDecreasing (port_numbers (ports_back reversed))
 back-rises sorted reversed up is =
     subst (λ ns. IsNonDecreasing ns) (sym (ap (λ os. port_numbers (ports_back os)) is ∙ ap port_numbers (back-reversed sorted) ∙ forth-numbers sorted))
     (rises number_out (filter is_any_port sorted) (IsNonDecreasingBy-filter number_out is_any_port sorted up))
 
 -- some of those that were taken out were closed, or all
-pub some-closed : (ports left : (PortSeat → Bool) → ℕ) (old new : List Open) (before after : List ClosedPort) → ClosesLast old new before after → ((passes : PortSeat → Bool) (closed : List PortSeat) → ports_back old ≡ closed ++ ports_back new → count_by passes closed + left passes ≡ ports passes) → SomeClosed ports left before after
+pub some-closed : (ports left : (PortSeat → Bool) → ℕ) (old new : List OpenState) (before after : List ClosedPort) → ClosesLast old new before after → ((passes : PortSeat → Bool) (closed : List PortSeat) → ports_back old ≡ closed ++ ports_back new → count_by passes closed + left passes ≡ ports passes) → SomeClosed ports left before after
 some-closed ports left old new before after closed each = (closed.0, (λ passes. each passes closed.0 closed.1), closed.2)
 
-pub all-closed : (ports left : (PortSeat → Bool) → ℕ) (old new : List Open) (before after : List ClosedPort) → ClosesLast old new before after → ((passes : PortSeat → Bool) (closed : List PortSeat) → ports_back old ≡ closed ++ ports_back new → count_by passes closed + left passes ≡ ports passes) → IsNonDecreasing (port_numbers (ports_back old)) → new ≡ [] → ((passes : PortSeat → Bool) → left passes ≡ 0) → AllClosed ports before after
+pub all-closed : (ports left : (PortSeat → Bool) → ℕ) (old new : List OpenState) (before after : List ClosedPort) → ClosesLast old new before after → ((passes : PortSeat → Bool) (closed : List PortSeat) → ports_back old ≡ closed ++ ports_back new → count_by passes closed + left passes ≡ ports passes) → IsNonDecreasing (port_numbers (ports_back old)) → new ≡ [] → ((passes : PortSeat → Bool) → left passes ≡ 0) → AllClosed ports before after
 all-closed ports left old new before after closed each rise done none =
     let all : ports_back old ≡ closed.0 = closed.1 ∙ ap (λ os. closed.0 ++ ports_back os) done ∙ append-nil closed.0 in (
       closed.0,

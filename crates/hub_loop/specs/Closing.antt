@@ -7,13 +7,12 @@ use Rattle.hub_queue.specs.Ending.{IsClosed}
 use Rattle.hub_queue.specs.Taking.{TakerSeat}
 use Rattle.hub_loop.specs.declared.closed_end.ClosedEnd.{ClosedEnd}
 use Rattle.hub_loop.specs.declared.closed_port.ClosedPort.{ClosedPort}
-use Rattle.hub_loop.specs.declared.ending.Open.{Open}
-use Rattle.hub_loop.specs.declared.ending.Open.TheVariants as opens
 use Rattle.hub_loop.specs.declared.held.Held.{Held}
 use Rattle.hub_loop.specs.declared.held.Held.TheVariants.{Port, Client, Worker, Member, Line}
 use Rattle.hub_loop.specs.Adopting.{HoldsMore}
 use Rattle.hub_loop.specs.Holding.{end_held}
 use Rattle.hub_loop.specs.Telling.{IsTold}
+use Rattle.hub_loop.specs.States.{OpenState, open_held, open_arrived}
 
 -- the end was closed, and nothing is told of a port
 abbrev pub IsClosedAlone : TakerSeat → ClosedEnd → Type 0
@@ -31,9 +30,9 @@ IsEndClosed (Worker t) c = IsClosedAlone t c
 IsEndClosed (Member m) c = IsClosedAlone m.taker c
 IsEndClosed (Line s) c = ⊥
 
-abbrev pub IsOpenClosed : Open → ClosedEnd → Type 0
-IsOpenClosed (opens.Held h) c = IsEndClosed h c
-IsOpenClosed (opens.Arrived p) c = IsPortClosed p c
+abbrev pub IsOpenClosed : OpenState → ClosedEnd → Type 0
+IsOpenClosed (open_held h) c = IsEndClosed h c
+IsOpenClosed (open_arrived p) c = IsPortClosed p c
 
 -- The end of this number is held no more: it was closed.
 abbrev pub ClosesEnd : Slab Held → Slab Held → EndId → ClosedEnd → Type 0

@@ -7,12 +7,10 @@ use Rattle.hub_clients.specs.Handing.{taker_of}
 use Rattle.hub_ports.specs.Seats.{PortSeat}
 use Rattle.hub_queue.specs.Graves.{GraveSeat, SweptSeat}
 use Rattle.hub_queue.specs.Taking.{TakerSeat}
-use Rattle.hub_loop.specs.declared.ending.Open.{Open}
-use Rattle.hub_loop.specs.declared.ending.Open.TheVariants as opens
 use Rattle.hub_loop.specs.declared.held.Held.{Held}
 use Rattle.hub_loop.specs.declared.held.Held.TheVariants.{Client, Worker}
 use Rattle.hub_loop.specs.Holding.{seat_of}
-use Rattle.hub_loop.specs.States.{ClosingState, DeliveryState, ReceivingState}
+use Rattle.hub_loop.specs.States.{ClosingState, DeliveryState, OpenState, ReceivingState, open_arrived, open_held}
 
 -- whoever takes here takes from the end of this number
 abbrev pub is_seat_of : ℕ → Option TakerSeat → Bool
@@ -34,21 +32,21 @@ is_port e p = p.taker.end == e
 abbrev pub is_grave : ℕ → GraveSeat → Bool
 is_grave e g = g.end == e
 
-abbrev pub is_open : ℕ → Open → Bool
-is_open e (opens.Held h) = is_seat_of e (seat_of h)
-is_open e (opens.Arrived p) = is_port e p
+abbrev pub is_open : ℕ → OpenState → Bool
+is_open e (open_held h) = is_seat_of e (seat_of h)
+is_open e (open_arrived p) = is_port e p
 
 -- what is held under this key, this queue or this port passes, once it is taken out
-abbrev pub slot_passes : (Open → Bool) → Option Held → Bool
+abbrev pub slot_passes : (OpenState → Bool) → Option Held → Bool
 slot_passes passes None = false
-slot_passes passes (Some h) = passes (opens.Held h)
+slot_passes passes (Some h) = passes (open_held h)
 
-abbrev pub queue_passes : (Open → Bool) → HandedQueue → Bool
-queue_passes passes (handed.Client t) = passes (opens.Held (Client t))
-queue_passes passes (handed.Worker t) = passes (opens.Held (Worker t))
+abbrev pub queue_passes : (OpenState → Bool) → HandedQueue → Bool
+queue_passes passes (handed.Client t) = passes (open_held (Client t))
+queue_passes passes (handed.Worker t) = passes (open_held (Worker t))
 
-abbrev pub arrived_passes : (Open → Bool) → PortSeat → Bool
-arrived_passes passes p = passes (opens.Arrived p)
+abbrev pub arrived_passes : (OpenState → Bool) → PortSeat → Bool
+arrived_passes passes p = passes (open_arrived p)
 
 -- the ports that were found for a delivery and not adopted yet
 abbrev pub found_in : Option ReceivingState → List PortSeat
@@ -60,7 +58,7 @@ found_of None = []
 found_of (Some d) = found_in d.arrival
 
 -- How many ends of this number there are among those that are held, that were fetched, that were found for a kept delivery, that were taken out to be closed, and that were closed.
-abbrev pub ends_in : Slab Held → List HandedQueue → Option DeliveryState → List Open → List GraveSeat → ℕ → ℕ
+abbrev pub ends_in : Slab Held → List HandedQueue → Option DeliveryState → List OpenState → List GraveSeat → ℕ → ℕ
 ends_in held fetched kept opened graves e =
     count_by (is_held e) held.slots + count_by (is_queue e) fetched + count_by (is_port e) (found_of kept)
     + count_by (is_open e) opened + count_by (is_grave e) graves

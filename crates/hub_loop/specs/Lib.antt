@@ -12,6 +12,7 @@ pub mod Reaching
 pub mod Resting
 pub mod Scanning
 pub mod Serving
+pub mod Starting
 pub mod States
 pub mod TakingNothing
 pub mod Telling

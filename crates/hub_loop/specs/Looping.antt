@@ -10,14 +10,13 @@ use Rattle.hub_marks.specs.Finding.{HasStepped}
 use Rattle.hub_ports.specs.Seats.{PortSeat}
 use Rattle.hub_queue.specs.Counting.{Count}
 use Rattle.hub_loop.specs.declared.closed_port.ClosedPort.{ClosedPort}
-use Rattle.hub_loop.specs.declared.ending.Open.{Open}
 use Rattle.hub_loop.specs.declared.holding.Holding.{Holding}
 use Rattle.hub_loop.specs.declared.listed.Listed.{Listed}
 use Rattle.hub_loop.specs.declared.turn.Turn.{Turn}
 use Rattle.hub_loop.specs.Adopting.{closed_of}
 use Rattle.hub_loop.specs.Ending.{closing_ends, ends_in}
 use Rattle.hub_loop.specs.Noticing.{AllClosed, AreEnded, SomeClosed, ports_in}
-use Rattle.hub_loop.specs.States.{ClosingState, DeliveryState, HoldingState}
+use Rattle.hub_loop.specs.States.{ClosingState, DeliveryState, HoldingState, OpenState}
 use Rattle.hub_loop.specs.Turning.{IsDue, IsTurn}
 
 -- What the loop has seen of the order to end, and of the ends that rang; its handler; what it holds, with the ports that could not be adopted; the delivery that was kept and the queues that were fetched, for want of memory; and how far its end has come: what is still to be closed, and what was closed.
@@ -28,7 +27,7 @@ pub record LoopState (H : Type 0) : Type 0 where
   pub holding : HoldingState
   pub kept : Option DeliveryState
   pub fetched : List HandedQueue
-  pub opened : List Open
+  pub opened : List OpenState
   pub closing : Option ClosingState
 
 abbrev pub holding_of : Holding → HoldingState

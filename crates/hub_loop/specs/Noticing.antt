@@ -5,45 +5,43 @@ use Rattle.slab.specs.Slab.{Slab}
 use Rattle.hub_envelope.specs.declared.ids.EndId.{EndId}
 use Rattle.hub_ports.specs.Seats.{PortSeat, end_of}
 use Rattle.hub_loop.specs.declared.closed_port.ClosedPort.{ClosedPort}
-use Rattle.hub_loop.specs.declared.ending.Open.{Open}
-use Rattle.hub_loop.specs.declared.ending.Open.TheVariants as opens
 use Rattle.hub_loop.specs.declared.held.Held.{Held}
 use Rattle.hub_loop.specs.declared.held.Held.TheVariants.{Port, Client, Worker, Member, Line}
 use Rattle.hub_loop.specs.Ending.{found_of, slot_passes, closing_ends}
 use Rattle.hub_loop.specs.Holding.{number_of}
-use Rattle.hub_loop.specs.States.{ClosingState, DeliveryState}
+use Rattle.hub_loop.specs.States.{ClosingState, DeliveryState, OpenState, open_arrived, open_held}
 use Rattle.hub_loop.specs.Telling.{NoticesMore}
 
 -- the number of the end that was taken out to be closed, or of the end at which the line posts
-abbrev pub open_number : Open → EndId
-open_number (opens.Held h) = number_of h
-open_number (opens.Arrived p) = end_of p
+abbrev pub open_number : OpenState → EndId
+open_number (open_held h) = number_of h
+open_number (open_arrived p) = end_of p
 
 -- the port that was taken out to be closed, where it is one
-abbrev pub port_in : Open → List PortSeat
-port_in (opens.Held (Port p)) = p ∷ []
-port_in (opens.Held (Client t)) = []
-port_in (opens.Held (Worker t)) = []
-port_in (opens.Held (Member m)) = []
-port_in (opens.Held (Line s)) = []
-port_in (opens.Arrived p) = p ∷ []
+abbrev pub port_in : OpenState → List PortSeat
+port_in (open_held (Port p)) = p ∷ []
+port_in (open_held (Client t)) = []
+port_in (open_held (Worker t)) = []
+port_in (open_held (Member m)) = []
+port_in (open_held (Line s)) = []
+port_in (open_arrived p) = p ∷ []
 
 -- the ports among those that were taken out to be closed, the last first
-abbrev pub ports_back : List Open → List PortSeat
+abbrev pub ports_back : List OpenState → List PortSeat
 ports_back [] = []
 ports_back (o ∷ rest) = ports_back rest ++ port_in o
 
 -- it is a port that passes
-abbrev pub is_port_passing : (PortSeat → Bool) → Open → Bool
-is_port_passing passes (opens.Held (Port p)) = passes p
-is_port_passing passes (opens.Held (Client t)) = false
-is_port_passing passes (opens.Held (Worker t)) = false
-is_port_passing passes (opens.Held (Member m)) = false
-is_port_passing passes (opens.Held (Line s)) = false
-is_port_passing passes (opens.Arrived p) = passes p
+abbrev pub is_port_passing : (PortSeat → Bool) → OpenState → Bool
+is_port_passing passes (open_held (Port p)) = passes p
+is_port_passing passes (open_held (Client t)) = false
+is_port_passing passes (open_held (Worker t)) = false
+is_port_passing passes (open_held (Member m)) = false
+is_port_passing passes (open_held (Line s)) = false
+is_port_passing passes (open_arrived p) = passes p
 
 -- How many ports pass among those that are held, that were found for a kept delivery, and that were taken out to be closed.
-abbrev pub ports_in : Slab Held → Option DeliveryState → List Open → (PortSeat → Bool) → ℕ
+abbrev pub ports_in : Slab Held → Option DeliveryState → List OpenState → (PortSeat → Bool) → ℕ
 ports_in held kept opened passes =
     count_by (slot_passes (is_port_passing passes)) held.slots + count_by passes (found_of kept) + count_by (is_port_passing passes) opened
 
@@ -52,7 +50,7 @@ abbrev pub port_numbers : List PortSeat → List ℕ
 port_numbers ports = map (λ p. p.taker.end) ports
 
 -- The last of those that were taken out were closed, the last first, and of each port among them the notice is told.
-abbrev pub ClosesLast : List Open → List Open → List ClosedPort → List ClosedPort → Type 0
+abbrev pub ClosesLast : List OpenState → List OpenState → List ClosedPort → List ClosedPort → Type 0
 ClosesLast old new before after = (closed : List PortSeat) × (ports_back old ≡ closed ++ ports_back new) × NoticesMore closed before after
 
 -- Each port that the loop had was closed, in rising order of the numbers: whatever is asked of a port, as many pass.

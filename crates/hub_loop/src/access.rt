@@ -14,6 +14,7 @@ ghost use Rattle.hub_loop.specs.Looking.{
   HoldsNoMember,
   HoldsNoPort,
 };
+ghost use Rattle.hub_loop.specs.Starting.{StartsClient, StartsPort};
 ghost use Rattle.hub_loop.specs.declared.held.Held.TheVariants.{
   Port as PortHeld,
   Client as ClientHeld,
@@ -51,6 +52,27 @@ impl<H: Handler + Drop, C: Checkpoint + Drop> EventLoop<H, C> {
             Ok(()) => Ok(()),
             Err(back) => Err((LoopError::OutOfMemory, back)),
         }
+    }
+
+    /// Enables the port of this number, as `Port::start`. False where the loop doesn't hold it.
+    pub fn start_port(&mut self, end: EndId) -> bool
+        ensures started { StartsPort self.old.holding.held self.new.holding.held end result }
+        ensures same { (self.new.holding.next ≡ self.old.holding.next)
+            × (self.new.holding.closed ≡ self.old.holding.closed) }
+        ensures rest { self.new ≡ record self.old { holding = self.new.holding } }
+    {
+        self.holding.start_port(end)
+    }
+
+    /// Enables the client's queue of this number, as `ClientQueue::start_messages` and `loaded`.
+    /// False where the loop doesn't hold it.
+    pub fn start_client(&mut self, end: EndId) -> bool
+        ensures started { StartsClient self.old.holding.held self.new.holding.held end result }
+        ensures same { (self.new.holding.next ≡ self.old.holding.next)
+            × (self.new.holding.closed ≡ self.old.holding.closed) }
+        ensures rest { self.new ≡ record self.old { holding = self.new.holding } }
+    {
+        self.holding.start_client(end)
     }
 
     /// Lends the port of this number. `None` where the loop doesn't hold it.

@@ -14,11 +14,19 @@ use std::marker::Model;
 use std::sync::Wait;
 
 /// An envelope that was taken and of which the handler has not yet taken note.
-#[derive(Drop)]
 pub(crate) struct Delivery {
     pub(crate) envelope: Envelope,
     /// `None` where its ports were not looked for yet.
     pub(crate) arrival: Option<Receiving>,
+}
+
+// By hand, so that whoever drops one makes one call, and its proof has no cases of its fields.
+impl Drop for Delivery {
+    fn drop(self) {
+        let Delivery { envelope, arrival } = self;
+        drop(envelope);
+        drop(arrival);
+    }
 }
 
 impl Model for Delivery {

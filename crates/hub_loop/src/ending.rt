@@ -33,9 +33,9 @@ ghost use Rattle.hub_loop.specs.Ending.{
   queue_passes,
   slot_passes,
 };
-ghost use Rattle.hub_loop.specs.declared.ending.Open.TheVariants.{Held as HeldOpen};
 ghost use Rattle.hub_loop.specs.declared.held.Held.TheVariants.{Line as LineHeld};
 ghost use Rattle.hub_loop.specs.Noticing.{ClosesLast, open_number, port_in};
+ghost use Rattle.hub_loop.specs.States.{OpenState, open_arrived, open_held};
 ghost use Rattle.hub_loop.specs.Telling.{NoticesMore};
 
 use crate::closed_end::ClosedEnd;
@@ -50,24 +50,57 @@ use hub_queue::{Grave, Poster};
 use slab::Slab;
 use std::alloc::Global;
 use std::collections::VecDeque;
+use std::marker::Model;
 use std::sync::Wait;
 
 /// What is closed when a loop ends.
 #[derive(Drop)]
-pub(crate) enum Open {
+pub(crate) struct Open {
+    end: Opened,
+}
+
+/// What was taken out to be closed.
+#[derive(Drop)]
+pub(crate) enum Opened {
     Held(Held),
     /// A port that was received and not yet adopted.
     Arrived(Arrived),
 }
 
+impl Model for Open {
+    ghost use Rattle.hub_loop.specs.States.{OpenState, open_of};
+
+    ghost Value = { OpenState };
+
+    ghost view = { λ o. open_of o.end };
+}
+
 impl Open {
+    /// An end that was held.
+    fn of_held(held: Held) -> Open
+        ensures { result ≡ open_held held }
+    {
+        Open {
+            end: Opened::Held(held),
+        }
+    }
+
+    /// A port that was received and not yet adopted.
+    fn of_arrived(arrived: Arrived) -> Open
+        ensures { result ≡ open_arrived arrived }
+    {
+        Open {
+            end: Opened::Arrived(arrived),
+        }
+    }
+
     /// A queue that was fetched.
     fn of_queue(queue: HandedQueue) -> Open
-        ensures { (passes : Open → Bool) → passes result ≡ queue_passes passes queue }
+        ensures { (passes : OpenState → Bool) → passes result ≡ queue_passes passes queue }
     {
         match queue {
-            HandedQueue::Client(queue) => Open::Held(Held::Client(queue)),
-            HandedQueue::Worker(queue) => Open::Held(Held::Worker(queue)),
+            HandedQueue::Client(queue) => Open::of_held(Held::Client(queue)),
+            HandedQueue::Worker(queue) => Open::of_held(Held::Worker(queue)),
         }
     }
 
@@ -75,20 +108,27 @@ impl Open {
     pub(crate) fn end(&self) -> EndId
         ensures { result ≡ open_number self.now }
     {
-        match self {
-            Open::Held(held) => held.end(),
-            Open::Arrived(arrived) => arrived.end(),
+        match &self.end {
+            Opened::Held(held) => held.end(),
+            Opened::Arrived(arrived) => arrived.end(),
+        }
+    }
+
+    // Takes a member out of the roster.
+    fn leave<R: Wait>(&self, rt: &R, roster: &SharedRoster) {
+        if let Opened::Held(held) = &self.end {
+            held.leave(rt, roster);
         }
     }
 
     // Closes it, a port with its notice. A line comes back.
     fn close<R: Wait>(self, rt: &R, hub: &Hub) -> Result<ClosedEnd, Poster>
         ensures ok { IfOk result (IsOpenClosed self) }
-        ensures err { IfErr result (λ line. self ≡ HeldOpen (LineHeld line)) }
+        ensures err { IfErr result (λ line. self ≡ open_held (LineHeld line)) }
     {
-        match self {
-            Open::Held(held) => held.shut(rt, hub),
-            Open::Arrived(arrived) => {
+        match self.end {
+            Opened::Held(held) => held.shut(rt, hub),
+            Opened::Arrived(arrived) => {
                 Ok(ClosedEnd::of_port(ClosedPort::close_arrived(rt, hub, arrived)))
             },
         }
@@ -204,9 +244,7 @@ impl Closed {
 /// a member of an agent whose queue is closed already.
 pub(crate) fn leave_all<R: Wait>(rt: &R, roster: &SharedRoster, all: &[Open]) {
     for opened in all {
-        if let Open::Held(held) = opened {
-            held.leave(rt, roster);
-        }
+        opened.leave(rt, roster);
     }
 }
 
@@ -217,12 +255,12 @@ fn take_at(held: &mut Slab<Held>, key: usize, opened: &mut Vec<Open>)
     ensures length { length held.new.slots ≡ length held.old.slots }
     ensures gone { get held.new key ≡ None }
     ensures others { (other : ℕ) → other ≢ key → get held.new other ≡ get held.old other }
-    ensures moved { (passes : Open → Bool) →
+    ensures moved { (passes : OpenState → Bool) →
         count_by (slot_passes passes) held.new.slots + count_by passes opened.new.items
         ≡ count_by (slot_passes passes) held.old.slots + count_by passes opened.old.items }
 {
     match held.try_remove(key) {
-        Some(held) => opened.push_reserved(Open::Held(held)),
+        Some(held) => opened.push_reserved(Open::of_held(held)),
         None => {}
     }
 }
@@ -231,10 +269,10 @@ fn take_at(held: &mut Slab<Held>, key: usize, opened: &mut Vec<Open>)
 pub(crate) fn take_held(held: &mut Slab<Held>, opened: &mut Vec<Open>) -> Result<(), OutOfMemory>
     ensures capacity { held.new.capacity ≡ held.old.capacity }
     ensures rest { (key : ℕ) → (get held.new key ≡ None) ⊎ (get held.new key ≡ get held.old key) }
-    ensures moved { (passes : Open → Bool) →
+    ensures moved { (passes : OpenState → Bool) →
         count_by (slot_passes passes) held.new.slots + count_by passes opened.new.items
         ≡ count_by (slot_passes passes) held.old.slots + count_by passes opened.old.items }
-    ensures all { OnOk result ((passes : Open → Bool) →
+    ensures all { OnOk result ((passes : OpenState → Bool) →
         count_by (slot_passes passes) held.new.slots ≡ 0) }
 {
     for key in 0..held.capacity() {
@@ -249,7 +287,7 @@ pub(crate) fn take_queues(
     queues: &mut Vec<HandedQueue>,
     opened: &mut Vec<Open>,
 ) -> Result<(), OutOfMemory>
-    ensures moved { (passes : Open → Bool) →
+    ensures moved { (passes : OpenState → Bool) →
         count_by (queue_passes passes) queues.new.items + count_by passes opened.new.items
         ≡ count_by (queue_passes passes) queues.old.items + count_by passes opened.old.items }
     ensures all { OnOk result (queues.new.items ≡ []) }
@@ -267,7 +305,7 @@ pub(crate) fn take_found(
     kept: &mut Option<Delivery>,
     opened: &mut Vec<Open>,
 ) -> Result<(), OutOfMemory>
-    ensures moved { (passes : Open → Bool) →
+    ensures moved { (passes : OpenState → Bool) →
         count_by (arrived_passes passes) (found_of kept.new) + count_by passes opened.new.items
         ≡ count_by (arrived_passes passes) (found_of kept.old) + count_by passes opened.old.items }
     ensures all { OnOk result (found_of kept.new ≡ []) }
@@ -282,7 +320,7 @@ pub(crate) fn take_found(
 }
 
 fn take_ports(found: &mut VecDeque<Arrived>, opened: &mut Vec<Open>) -> Result<(), OutOfMemory>
-    ensures moved { (passes : Open → Bool) →
+    ensures moved { (passes : OpenState → Bool) →
         count_by (arrived_passes passes) found.new.items + count_by passes opened.new.items
         ≡ count_by (arrived_passes passes) found.old.items + count_by passes opened.old.items }
     ensures all { OnOk result (found.new.items ≡ []) }
@@ -290,7 +328,7 @@ fn take_ports(found: &mut VecDeque<Arrived>, opened: &mut Vec<Open>) -> Result<(
     while !found.is_empty() {
         opened.reserve(1)?;
         let arrived = found.pop_front().unwrap();
-        opened.push_reserved(Open::Arrived(arrived));
+        opened.push_reserved(Open::of_arrived(arrived));
     }
     Ok(())
 }

@@ -65,7 +65,6 @@ use std::thread;
 /// event_loop.run(rt, &hub)?;          // until the order to end
 /// let ended = event_loop.end(rt, &hub, &directory, &roster)?;
 /// ```
-#[derive(Drop)]
 pub struct EventLoop<H: Handler + Drop, C: Checkpoint + Drop> {
     pub(crate) alloc: Global,
     pub(crate) agent: AgentId,
@@ -84,6 +83,35 @@ pub struct EventLoop<H: Handler + Drop, C: Checkpoint + Drop> {
     pub(crate) closing: Option<Closing>,
     /// How many deliveries were made.
     pub(crate) delivered: u64,
+}
+
+// By hand, so that whoever drops one makes one call, and its proof has no cases of its fields.
+impl<H: Handler + Drop, C: Checkpoint + Drop> Drop for EventLoop<H, C> {
+    fn drop(self) {
+        let EventLoop {
+            alloc: _,
+            agent: _,
+            order,
+            listener,
+            handler,
+            checkpoint,
+            holding,
+            kept,
+            fetched,
+            opened,
+            closing,
+            delivered: _,
+        } = self;
+        drop(order);
+        drop(listener);
+        drop(handler);
+        drop(checkpoint);
+        drop(holding);
+        drop(kept);
+        drop(fetched);
+        drop(opened);
+        drop(closing);
+    }
 }
 
 impl<H: Handler + Drop, C: Checkpoint + Drop> Model for EventLoop<H, C> {

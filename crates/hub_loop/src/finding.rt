@@ -22,6 +22,7 @@ ghost use Rattle.hub_loop.specs.declared.held.Held.TheVariants.{
   Member as MemberHeld,
   Line as LineHeld,
 };
+ghost use Rattle.hub_loop.specs.Starting.{IsStartedAs, IsStartedAt, StartsClient, StartsPort};
 ghost use Rattle.hub_marks.specs.Marking.{mark_of};
 ghost use Rattle.hub_ports.specs.Seats.{end_of};
 
@@ -130,6 +131,54 @@ impl Holding {
         }
         self.ready.marks.set(key);
         self.held.get_mut(key)
+    }
+
+    // Enables what is held under a key, and marks it: something may wait there.
+    fn start_at(&mut self, key: usize)
+        ensures held { IsStartedAt self.old.held self.new.held key }
+        ensures next { self.new.next ≡ self.old.next }
+        ensures closed { self.new.closed ≡ self.old.closed }
+    {
+        if !self.held.contains(key) {
+            return;
+        }
+        self.ready.marks.set(key);
+        if let Some(held) = self.held.get_mut(key) {
+            held.start();
+        }
+    }
+
+    // Enables the end of this kind and number. Whether it is held.
+    fn start_kind(&mut self, kind: Kind, end: EndId) -> bool
+        ensures held { IsStartedAs kind self.old.held self.new.held end result }
+        ensures next { self.new.next ≡ self.old.next }
+        ensures closed { self.new.closed ≡ self.old.closed }
+    {
+        match self.find_end(kind, end) {
+            Some(key) => {
+                self.start_at(key);
+                true
+            }
+            None => false,
+        }
+    }
+
+    /// Enables the port of this number. Whether it is held.
+    pub(crate) fn start_port(&mut self, end: EndId) -> bool
+        ensures held { StartsPort self.old.held self.new.held end result }
+        ensures next { self.new.next ≡ self.old.next }
+        ensures closed { self.new.closed ≡ self.old.closed }
+    {
+        self.start_kind(Kind::Port, end)
+    }
+
+    /// Enables the client's queue of this number. Whether it is held.
+    pub(crate) fn start_client(&mut self, end: EndId) -> bool
+        ensures held { StartsClient self.old.held self.new.held end result }
+        ensures next { self.new.next ≡ self.old.next }
+        ensures closed { self.new.closed ≡ self.old.closed }
+    {
+        self.start_kind(Kind::Client, end)
     }
 
     /// Lends the port of this number.

@@ -7,6 +7,7 @@ ghost use Rattle.hub_loop.specs.Asking.{IsHeldAsked, IsHeldTaken};
 ghost use Rattle.hub_loop.specs.Closing.{IsEndClosed};
 ghost use Rattle.hub_loop.specs.Holding.{behind_of, end_held, number_of, seat_of};
 ghost use Rattle.hub_loop.specs.Looking.{is_a, IsEndOf, IsLineTo};
+ghost use Rattle.hub_loop.specs.Starting.{started_held};
 ghost use Rattle.hub_loop.specs.declared.held.Held.TheVariants.{
   Port as PortHeld,
   Client as ClientHeld,
@@ -144,6 +145,17 @@ impl Held {
         match self {
             Held::Line(poster) => Some(poster),
             _ => None,
+        }
+    }
+
+    /// Enables a port or a client's queue. Anything else is as it was.
+    pub(crate) fn start(&mut self)
+        ensures { self.new ≡ started_held self.old }
+    {
+        match self {
+            Held::Port(port) => port.start(),
+            Held::Client(queue) => queue.start_messages(),
+            Held::Worker(_) | Held::Member(_) | Held::Line(_) => {}
         }
     }
 

@@ -12,7 +12,6 @@ use Rattle.hub_loop.proofs.Delivers.{taken-up}
 use Rattle.hub_loop.proofs.Pops.{pops-due}
 use Rattle.hub_loop.proofs.TakesNothing.{all-due, others-turn}
 use Rattle.hub_loop.proofs.event_loop.EventLoop.turn.Goals as goal
-use Rattle.hub_loop.proofs.event_loop.EventLoop.turn.Goals.{in-Some-1, in-None-2}
 
 pub returns-in-Err-clause-others : goal.returns-in-Err-clause-others
 returns-in-Err-clause-others g c key gave =
@@ -43,20 +42,13 @@ returns-in-Ok-deliver-clause-turn g c =
     let did = c.in-Ok-deliver.ensures.delivered in
     let told = subst (λ h. g.H.Handler.leaves h c.in-Ok.delivery.envelope did.1 c.deliver.new.handler) handler did.4 in
     let none : after.kept ≡ None = ap (λ l. l.kept) c.self-2.view_is ∙ c.take_up.ensures.kept in
-    let turn : (looks : List BoardStep) × HasStepped old.listener after.listener looks
-    × IsTurn {E = LoopError} g.H.Handler.leaves g.H.Handler.refuses old.holding (holding_of c.deliver.new.holding) looks old.kept after.kept old.handler c.deliver.new.handler c.args.steps.now c.take_up.new.steps (Ok Delivered) =
-    (looks, stepped, (c.in-Ok.delivery, c.deliver.new.self, holding_of after.holding, due, (did.0, did.1, did.2, did.3, told), none, c.deliver.ensures.next)) in
-    elim c.match-delivery.branch [
-      | in-Some-1 w ↦ subst (λ l. MakesTurn {E = LoopError} g.H.Handler.leaves g.H.Handler.refuses old l c.args.steps.now c.take_up.new.steps (Ok Delivered)) (sym w.self-is) turn
-      | in-None-2 w ↦ subst (λ l. MakesTurn {E = LoopError} g.H.Handler.leaves g.H.Handler.refuses old l c.args.steps.now c.take_up.new.steps (Ok Delivered)) (sym w.self-is) turn
-    ]
+    (looks, stepped, (c.in-Ok.delivery, c.deliver.new.self, holding_of after.holding, due, (did.0, did.1, did.2, did.3, told), none, c.deliver.ensures.next))
 
 pub returns-in-Ok-deliver-clause-others : goal.returns-in-Ok-deliver-clause-others
 returns-in-Ok-deliver-clause-others g c =
     let old = c.args.self.now in
-    let left = c.match-delivery.self in
     let turn = returns-in-Ok-deliver-clause-turn g c in
-    others-turn {E = LoopError} g.H.Handler.leaves g.H.Handler.refuses old.holding left.holding turn.0 old.kept left.kept old.handler left.handler c.args.steps.now c.take_up.new.steps (Ok Delivered) turn.2
+    others-turn {E = LoopError} g.H.Handler.leaves g.H.Handler.refuses old.holding (holding_of c.deliver.new.holding) turn.0 old.kept c.self-2.inside.kept old.handler c.deliver.new.handler c.args.steps.now c.take_up.new.steps (Ok Delivered) turn.2
 
 pub returns-in-Err-deliver-clause-turn : goal.returns-in-Err-deliver-clause-turn
 returns-in-Err-deliver-clause-turn g c =
