@@ -6,6 +6,7 @@ mod Ends
 mod Looks
 mod Notices
 mod Pops
+mod Posts
 mod Reaches
 mod Scans
 mod Serves

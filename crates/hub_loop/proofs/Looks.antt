@@ -1,17 +1,18 @@
 -- What is looked for is found, where it is held.
-use Rattle.std.proofs.Common.{◌≡◌, ℕ, Bool, true, false, List, Option, Some, None, refl, ap, subst, ⊎_elim, arith}
-use Rattle.std.specs.Prelude.{IfSome, IfNone, ◌↔◌}
+use Rattle.std.proofs.Common.{◌≡◌, ◌∙◌, ℕ, Bool, true, false, List, Option, Some, None, refl, ap, subst, ⊎_elim, arith}
+use Rattle.std.specs.Prelude.{IfSome, IfNone, ◌↔◌, is_some}
 use Rattle.slab.specs.Slab.{Slab, get}
 use Rattle.hub_envelope.specs.declared.ids.EndId.{EndId}
 use Rattle.hub_marks.specs.declared.ready.Ready.{Ready}
 use Rattle.hub_marks.specs.Finding.{LeadsTo, IsKeyOf}
 use Rattle.hub_marks.specs.Marking.{mark_of}
+use Rattle.hub_queue.specs.Standing.{StandSeat}
 use Rattle.hub_loop.specs.declared.held.Held.{Held}
 use Rattle.hub_loop.specs.declared.held.Held.TheVariants.{Port, Client, Worker, Member, Line}
 use Rattle.hub_loop.specs.declared.held.Kind.{Kind}
 use Rattle.hub_loop.specs.declared.held.Kind.TheVariants as kind
 use Rattle.hub_loop.specs.Holding.{end_held}
-use Rattle.hub_loop.specs.Looking.{IsEndOf, IsSlotOf, IsFound}
+use Rattle.hub_loop.specs.Looking.{Holds, IsEndOf, IsLineTo, IsSlotOf, IsFound}
 use Rattle.hub_loop.specs.Reaching.{AreReached}
 use Rattle.hub_loop.proofs.Serves.{mark-cases}
 
@@ -70,3 +71,19 @@ if-none (Some a) holds then = tt
 -- a test that failed
 pub not-so : {P : Type 0} (b : Bool) → (b ≡ true) ↔ P → b ≡ false → P → ⊥
 not-so b iff fails is = absurd (let yes = iff.1 is in cc)
+
+-- a line that posts at the end of a number
+line-of : (end : EndId) (held : Held) → IsLineTo end held → (line : StandSeat) × (held ≡ Line line) × (line.name.end ≡ end)
+line-of end (Port p) is = absurd is
+line-of end (Client t) is = absurd is
+line-of end (Worker t) is = absurd is
+line-of end (Member m) is = absurd is
+line-of end (Line s) is = (s, refl, is)
+
+-- a key that was found is that of such a line
+pub line-found : (slots : Slab Held) (end : EndId) (place : Option ℕ) → IsFound (IsLineTo end) slots place → is_some place ≡ true → (line : StandSeat) × Holds slots (Line line) × (line.name.end ≡ end)
+line-found slots end None is found = absurd cc
+line-found slots end (Some key) is found =
+    let (held, there, to) = slot-of (IsLineTo end) (get slots key) is in
+    let (line, same, number) = line-of end held to in
+    (line, (key, there ∙ ap (λ h. Some h) same), number)

@@ -8,6 +8,7 @@ pub mod Looking
 pub mod Looping
 pub mod Noticing
 pub mod Popping
+pub mod Posting
 pub mod Reaching
 pub mod Resting
 pub mod Scanning

@@ -1,6 +1,18 @@
 //! What a loop holds: it is held, lent, shown, given out and closed.
 
-ghost use Rattle.std.specs.Prelude.{◌≡◌, Some, OnOk, IfOk, IfErr, OnErr, IfSome, IfNone};
+ghost use Rattle.std.specs.Prelude.{
+  ◌≡◌,
+  true,
+  false,
+  Some,
+  OnOk,
+  IfOk,
+  IfErr,
+  OnErr,
+  IfSome,
+  IfNone,
+};
+ghost use Rattle.hub_queue.specs.Standing.{StandSeat};
 ghost use Rattle.slab.specs.Slab.{SameValues};
 ghost use Rattle.hub_ports.specs.Seats.{end_of};
 ghost use Rattle.hub_loop.specs.Adopting.{HoldsMore};
@@ -109,6 +121,15 @@ impl<H: Handler + Drop, C: Checkpoint + Drop> EventLoop<H, C> {
         ensures none { IfNone result (HoldsNoLine self.old.holding.held end) }
     {
         self.holding.line_mut(end)
+    }
+
+    /// Whether it holds a line that posts at the end of this number.
+    pub fn has_line(&self, end: EndId) -> bool
+        ensures some { result ≡ true → (line : StandSeat)
+            × Holds self.now.holding.held (LineHeld line) × (line.name.end ≡ end) }
+        ensures none { result ≡ false → HoldsNoLine self.now.holding.held end }
+    {
+        self.holding.find_line(end).is_some()
     }
 
     /// Lends the handler.

@@ -106,7 +106,7 @@ impl Holding {
 
     // The key of a line that posts at the end of this number. A borrower may have left another one
     // where it is listed, so that all are looked at where it isn't found there.
-    fn find_line(&self, end: EndId) -> Option<usize>
+    pub(crate) fn find_line(&self, end: EndId) -> Option<usize>
         ensures { IsFound (IsLineTo end) self.now.held result }
     {
         if let Some(key) = key_of(&self.lines, end) {

@@ -17,6 +17,7 @@ mod held;
 mod holding;
 mod listed;
 mod loop_error;
+mod posting;
 mod serving;
 mod turn;
 
@@ -28,4 +29,5 @@ pub use event_loop::EventLoop;
 pub use handler::Handler;
 pub use held::Held;
 pub use loop_error::LoopError;
+pub use posting::FromHeld;
 pub use turn::Turn;
