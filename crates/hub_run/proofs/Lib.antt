@@ -1,8 +1,9 @@
-pub mod Messages
-pub mod Writing
-pub mod Walking
-pub mod Waiting
 pub mod Endings
-pub mod Turns
-pub mod OneByOne
+pub mod Holdings
 pub mod Logs
+pub mod Messages
+pub mod OneByOne
+pub mod Turns
+pub mod Waiting
+pub mod Walking
+pub mod Writing

@@ -1,16 +1,28 @@
 -- An agent of a run, as its own calls see it, and what an action changes of it beside its log.
-use Rattle.std.specs.Prelude.{◌≡◌, ◌⊎◌, ◌+◌, ℕ, Bool, List, Option, Some, None, option_map, slice_get, slice_set}
+use Rattle.std.specs.Prelude.{◌≡◌, ◌⊎◌, ◌+◌, ℕ, Bool, true, List, [], ◌∷◌, Option, Some, None, option_map, slice_get, slice_set}
+use Rattle.slab.specs.Slab.{Slab}
+use Rattle.hub_broadcast.specs.Members.{MemberSeat}
+use Rattle.hub_envelope.specs.declared.ids.EndId.{EndId}
 use Rattle.hub_life.specs.Course.{after}
 use Rattle.hub_life.specs.Lifecycle.{Progress}
 use Rattle.hub_life.specs.OrderSeat.{OrderSeat, knows}
 use Rattle.hub_logging.specs.Notes.{Notes}
+use Rattle.hub_loop.specs.declared.held.Held.{Held}
+use Rattle.hub_loop.specs.declared.held.Held.TheVariants.{Port, Member}
+use Rattle.hub_loop.specs.Adopting.{HoldsMore}
+use Rattle.hub_loop.specs.Holding.{end_held}
+use Rattle.hub_loop.specs.Looking.{Holds, HoldsNoEnd, HoldsNoPort}
+use Rattle.hub_loop.specs.Starting.{StartsClient, StartsPort}
+use Rattle.hub_ports.specs.Seats.{PortSeat, end_of}
 use Rattle.hub_run.specs.declared.peer.Peer.{Peer}
 use Rattle.hub_script.specs.declared.action.ActionKind.{ActionKind}
-use Rattle.hub_script.specs.declared.action.ActionKind.TheVariants.{Order, Event, Hand}
+use Rattle.hub_script.specs.declared.action.ActionKind.TheVariants.{Post, Send, Cast, Start, Loaded, Close, Order, Event, Hand}
 
--- its notes, its seat at the word of its order, what it has of all agents by number, and the life of a worker
+-- its notes, the ends and lines that its loop holds, its seat at the word of its order, what it has of all agents by number, and the
+-- life of a worker
 pub record AgentState : Type 0 where
   pub notes : Notes
+  pub ends : Slab Held
   pub order : OrderSeat
   pub peers : List Peer
   pub life : Option Progress
@@ -31,19 +43,71 @@ with_found change number peers (Some peer) = slice_set peers number (change peer
 abbrev pub with_peer : (Peer → Peer) → ℕ → List Peer → List Peer
 with_peer change number peers = with_found change number peers (slice_get peers number)
 
--- Nothing but its notes has changed.
+-- Nothing but its notes and what its loop holds has changed.
 abbrev pub KeepsElse : AgentState → AgentState → Type 0
-KeepsElse before now = now ≡ record before { notes = now.notes }
+KeepsElse before now = now ≡ record before { notes = now.notes; ends = now.ends }
+
+-- Nothing but its notes has changed.
+abbrev pub KeepsButNotes : AgentState → AgentState → Type 0
+KeepsButNotes before now = now ≡ record before { notes = now.notes }
+
+-- Nothing but what its loop holds has changed.
+abbrev pub KeepsButEnds : AgentState → AgentState → Type 0
+KeepsButEnds before now = now ≡ record before { ends = now.ends }
+
+-- its loop holds the port of this number
+abbrev pub HoldsPort : AgentState → EndId → Type 0
+HoldsPort a end = (port : PortSeat) × Holds a.ends (Port port) × (end_of port ≡ end)
+
+-- its loop holds each of these ports
+abbrev pub HoldsPorts : AgentState → List EndId → Type 0
+HoldsPorts a [] = Unit {0}
+HoldsPorts a (end ∷ ends) = HoldsPort a end × HoldsPorts a ends
+
+-- its loop holds the member of this number
+abbrev pub HoldsMember : AgentState → EndId → Type 0
+HoldsMember a end = (member : MemberSeat) × Holds a.ends (Member member) × (member.taker.end ≡ end.0)
+
+-- nothing was written
+abbrev pub IsUnwritten : AgentState → AgentState → Type 0
+IsUnwritten before now = now.notes ≡ before.notes
+
+-- The port of this number was started, or else the client's queue of this number; where neither is held nothing has changed.
+abbrev pub StartsEnd : EndId → AgentState → AgentState → Type 0
+StartsEnd end before now =
+    KeepsButEnds before now
+    × (StartsPort before.ends now.ends end true
+    ⊎ (HoldsNoPort before.ends end × ((is_held : Bool) × StartsClient before.ends now.ends end is_held)))
+
+-- the client's queue of this number was started, where it is held
+abbrev pub StartsQueue : EndId → AgentState → AgentState → Type 0
+StartsQueue queue before now = KeepsButEnds before now × ((is_held : Bool) × StartsClient before.ends now.ends queue is_held)
+
+-- The end of this number is held no more; where it wasn't held nothing was written, and nothing has changed.
+abbrev pub ClosesHeld : EndId → AgentState → AgentState → Type 0
+ClosesHeld end before now =
+    (HoldsNoEnd before.ends end × (now ≡ before))
+    ⊎ ((held : Held) × (end_held held ≡ Some end) × HoldsMore now.ends before.ends held)
 
 -- a look for the order to end at the agent's own seat, which gave this answer
 abbrev pub LooksFor : AgentState → Bool → AgentState → Type 0
 LooksFor before seen now =
     (seen ≡ knows now.order) × (now ≡ record before { order = record before.order { looks = before.order.looks + 1; found = seen } })
 
--- What an action changes of the agent beside its notes: an order goes to the agent that it names, an event to the agent's own
--- life, and a hand wakes the agent that it names where the queue was handed.
+-- What an action changes of the agent beside its log, and what it does at the ends that the loop holds. A post, a send or a cast writes
+-- nothing unless what it posts from and what it sends along is held. A start or a loaded enables what it names, a close takes out the
+-- end that it names. An order goes to the agent that it names, an event to the agent's own life, and a hand wakes the agent that it
+-- names where the queue was handed.
 abbrev pub Changes : ActionKind → AgentState → AgentState → Type 0
+Changes (Post port body transfer) before now =
+    KeepsElse before now × (IsUnwritten before now ⊎ (HoldsPort before port × HoldsPorts before transfer))
+Changes (Send queue body transfer) before now = KeepsElse before now × (IsUnwritten before now ⊎ HoldsPorts before transfer)
+Changes (Cast member body) before now = KeepsElse before now × (IsUnwritten before now ⊎ HoldsMember before member)
+Changes (Start end) before now = StartsEnd end before now
+Changes (Loaded queue) before now = StartsQueue queue before now
+Changes (Close end) before now = KeepsElse before now × ClosesHeld end before now
 Changes (Order to) before now = now ≡ record before { peers = with_peer ordered to.0 before.peers }
 Changes (Event event) before now = now ≡ record before { life = option_map (λ p. after p event) before.life }
-Changes (Hand to) before now = (now ≡ before) ⊎ (now ≡ record before { peers = with_peer woken to.0 before.peers })
+Changes (Hand to) before now =
+    KeepsButEnds before now ⊎ (now ≡ record before { ends = now.ends; peers = with_peer woken to.0 before.peers })
 Changes action before now = KeepsElse before now

@@ -5,7 +5,18 @@ ghost use Rattle.hub_acting.specs.Doing.{actions_of};
 ghost use Rattle.hub_life.specs.Course.{after as lived};
 ghost use Rattle.hub_script.specs.Contents.{actions};
 ghost use Rattle.hub_script.specs.declared.action.ActionKind.TheVariants.{Hand};
-ghost use Rattle.hub_run.specs.Agents.{Changes, KeepsElse, LooksFor, ordered, with_peer, woken};
+ghost use Rattle.hub_run.specs.Agents.{
+  Changes,
+  ClosesHeld,
+  KeepsButEnds,
+  KeepsElse,
+  LooksFor,
+  StartsEnd,
+  StartsQueue,
+  ordered,
+  with_peer,
+  woken,
+};
 ghost use Rattle.hub_run.specs.Entries.{IsCloseLogged, Writes};
 ghost use Rattle.hub_run.specs.Runs.{Acts, ActsFirst};
 ghost use Rattle.hub_trace.specs.declared.log_entry.LogEntry.{LogEntry};
@@ -87,22 +98,18 @@ impl<'s, C: Checkpoint> Agent<'s, C> {
 
     // Enables a port or a client's queue.
     fn start(&mut self, end: EndId)
-        ensures { self.new ≡ self.old }
+        ensures { StartsEnd end self.old self.new }
     {
-        if let Some(port) = self.event_loop.port_mut(end) {
-            port.start();
-        } else if let Some(queue) = self.event_loop.client_mut(end) {
-            queue.start_messages();
+        if !self.event_loop.start_port(end) {
+            self.event_loop.start_client(end);
         }
     }
 
     // Its document is parsed, which enables its client's queue.
     fn load(&mut self, queue: EndId)
-        ensures { self.new ≡ self.old }
+        ensures { StartsQueue queue self.old self.new }
     {
-        if let Some(queue) = self.event_loop.client_mut(queue) {
-            queue.loaded();
-        }
+        self.event_loop.start_client(queue);
     }
 
     // An event of the life of a worker, which refuses what its state doesn't allow.
@@ -121,6 +128,7 @@ impl<'s, C: Checkpoint> Agent<'s, C> {
     fn close<R: Wait>(&mut self, rt: &R, end: EndId) -> Result<(), OutOfMemory>
         ensures written { OnOk result ((entries : List LogEntry) × IsCloseLogged end entries
             × Writes entries self.old.notes self.new.notes) }
+        ensures held { OnOk result (ClosesHeld end self.old self.new) }
         ensures rest { KeepsElse self.old self.new }
     {
         let Shared { hub, roster, .. } = self.shared;
@@ -154,7 +162,7 @@ impl<'s, C: Checkpoint> Agent<'s, C> {
     // Gives its own queue to an agent, and answers whether it was handed. Where it wasn't it holds
     // the queue again.
     fn hand_queue<R: Wait>(&mut self, rt: &R, to: AgentId) -> Result<bool, OutOfMemory>
-        ensures { self.new ≡ self.old }
+        ensures { KeepsButEnds self.old self.new }
     {
         let Shared { directory, .. } = self.shared;
         let queue = self.queue();

@@ -1,6 +1,6 @@
-ghost use Rattle.std.specs.Prelude.{◌≡◌, ◌≤◌, ◌∷◌, [], ℕ, List, IfOk, OnOk};
+ghost use Rattle.std.specs.Prelude.{◌≡◌, ◌≤◌, ◌∷◌, [], ℕ, List, true, IfOk, OnOk};
 ghost use Rattle.hub_acting.specs.Doing.{actions_of};
-ghost use Rattle.hub_run.specs.Agents.{KeepsElse};
+ghost use Rattle.hub_run.specs.Agents.{HoldsPort, KeepsButNotes, KeepsElse};
 ghost use Rattle.hub_run.specs.Entries.{
   AreAdoptions,
   IsComeLogged,
@@ -35,7 +35,6 @@ use std::sync::ledger::{Blank, Ledger};
 pub(crate) type AgentLoop<'s, C> = EventLoop<Scribe, &'s C>;
 
 /// An agent of a run.
-#[derive(Drop)]
 pub(crate) struct Agent<'s, C: Checkpoint> {
     pub(crate) alloc: Global,
     pub(crate) shared: &'s Shared,
@@ -52,6 +51,27 @@ pub(crate) struct Agent<'s, C: Checkpoint> {
     pub(crate) graves: Vec<Grave>,
 }
 
+// By hand, so that whoever drops one makes one call, and its proof has no cases of its fields.
+impl<'s, C: Checkpoint> Drop for Agent<'s, C> {
+    fn drop(self) {
+        let Agent {
+            alloc: _,
+            shared: _,
+            event_loop,
+            scribe,
+            order,
+            peers,
+            life: _,
+            graves,
+        } = self;
+        drop(event_loop);
+        drop(scribe);
+        drop(order);
+        drop(peers);
+        drop(graves);
+    }
+}
+
 impl<'s, C: Checkpoint> Model for Agent<'s, C> {
     ghost use Rattle.hub_run.specs.Agents.{AgentState};
 
@@ -59,6 +79,7 @@ impl<'s, C: Checkpoint> Model for Agent<'s, C> {
 
     ghost view = { λ a. record {
       notes = a.scribe;
+      ends = a.event_loop.holding.held;
       order = a.order;
       peers = a.peers.items;
       life = a.life;
@@ -112,6 +133,23 @@ impl<'s, C: Checkpoint> Agent<'s, C> {
         }
     }
 
+    /// Its loop, what keeps its log, and the ends that it has closed and not swept yet.
+    pub(crate) fn into_parts(self) -> (AgentLoop<'s, C>, Scribe, Vec<Grave>)
+        ensures { result.1 ≡ self.entry.notes }
+    {
+        let Agent {
+            alloc: _,
+            shared: _,
+            event_loop,
+            scribe,
+            order: _,
+            peers: _,
+            life: _,
+            graves,
+        } = self;
+        (event_loop, scribe, graves)
+    }
+
     pub(crate) fn number(&self) -> AgentId
         ensures { result ≡ self.now.notes.log.0 }
     {
@@ -124,7 +162,9 @@ impl<'s, C: Checkpoint> Agent<'s, C> {
     }
 
     /// Whether it holds the port.
-    pub(crate) fn holds_port(&self, end: EndId) -> bool {
+    pub(crate) fn holds_port(&self, end: EndId) -> bool
+        ensures { result ≡ true → HoldsPort self.now end }
+    {
         matches!(self.event_loop.held(end), Some(Held::Port(_)))
     }
 
@@ -133,7 +173,7 @@ impl<'s, C: Checkpoint> Agent<'s, C> {
     fn log_adopted(&mut self, end: EndId) -> Result<(), OutOfMemory>
         ensures written { OnOk result ((epoch : ℕ)
             × Writes (Adopted end epoch ∷ []) self.old.notes self.new.notes) }
-        ensures rest { KeepsElse self.old self.new }
+        ensures rest { KeepsButNotes self.old self.new }
     {
         let Some(held) = self.event_loop.held(end) else {
             return Err(OutOfMemory);
@@ -145,7 +185,7 @@ impl<'s, C: Checkpoint> Agent<'s, C> {
     fn log_adoption(&mut self, end: EndId, epoch: u32) -> Result<(), OutOfMemory>
         ensures written { OnOk result
             (Writes (Adopted end epoch ∷ []) self.old.notes self.new.notes) }
-        ensures rest { KeepsElse self.old self.new }
+        ensures rest { KeepsButNotes self.old self.new }
     {
         self.scribe.adopt(end, epoch)
     }
@@ -154,7 +194,7 @@ impl<'s, C: Checkpoint> Agent<'s, C> {
     fn log_all_adopted(&mut self, ends: &[EndId]) -> Result<(), OutOfMemory>
         ensures written { OnOk result ((entries : List LogEntry) × AreAdoptions ends.now entries
             × Writes entries self.old.notes self.new.notes) }
-        ensures rest { KeepsElse self.old self.new }
+        ensures rest { KeepsButNotes self.old self.new }
     {
         for end in ends {
             self.log_adopted(*end)?;
@@ -167,7 +207,7 @@ impl<'s, C: Checkpoint> Agent<'s, C> {
         ensures written { OnOk result ((entries : List LogEntry)
             × AreAdoptions self.old.notes.adopted entries
             × Writes entries self.old.notes self.new.notes) }
-        ensures rest { KeepsElse self.old self.new }
+        ensures rest { KeepsButNotes self.old self.new }
     {
         let adopted = self.scribe.take_adopted();
         self.log_all_adopted(&adopted)
@@ -219,9 +259,7 @@ impl<'s, C: Checkpoint> Agent<'s, C> {
             Err(LoopError::OutOfMemory) => return Err(OutOfMemory),
         }
         self.log_adopted(end)?;
-        if let Some(queue) = self.event_loop.client_mut(end) {
-            queue.start_messages();
-        }
+        self.event_loop.start_client(end);
         Ok(true)
     }
 

@@ -129,14 +129,8 @@ impl<'s, C: Checkpoint> Agent<'s, C> {
         ensures { IfOk result (λ log. (entries : List LogEntry) × AreEndings entries
             × (log ≡ log_and self.entry.notes.log entries)) }
     {
-        let Agent {
-            alloc,
-            shared,
-            event_loop,
-            mut scribe,
-            graves,
-            ..
-        } = self;
+        let Agent { alloc, shared, .. } = self;
+        let (event_loop, mut scribe, graves) = self.into_parts();
         let held = event_loop.ends();
         let ended = end_loop(rt, shared, event_loop);
         let swept = sweep_all(rt, graves);

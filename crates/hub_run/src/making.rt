@@ -43,11 +43,24 @@ struct Seats {
 }
 
 /// The agents of a run before it begins.
-#[derive(Drop)]
 pub(crate) struct Made<'s, C: Checkpoint> {
     pub(crate) agents: Vec<Agent<'s, C>>,
     bells: Vec<Bell>,
     ends: Ends,
+}
+
+// By hand, so that whoever drops one makes one call, and its proof has no cases of its fields.
+impl<'s, C: Checkpoint> Drop for Made<'s, C> {
+    fn drop(self) {
+        let Made {
+            agents,
+            bells,
+            ends,
+        } = self;
+        drop(agents);
+        drop(bells);
+        drop(ends);
+    }
 }
 
 // Gives each agent a seat at the word of one more agent, which the bell wakes.
@@ -164,6 +177,18 @@ fn give<C: Checkpoint>(
 }
 
 impl<'s, C: Checkpoint> Made<'s, C> {
+    /// The agents.
+    pub(crate) fn into_agents(self) -> Vec<Agent<'s, C>>
+        ensures { vec_len result ≡ vec_len self.entry.agents }
+    {
+        let Made {
+            agents,
+            bells: _,
+            ends: _,
+        } = self;
+        agents
+    }
+
     // The agents, which hold nothing yet.
     fn open(
         alloc: Global,

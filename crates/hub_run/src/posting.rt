@@ -1,8 +1,16 @@
 //! The actions that post: at a port, at a queue, from a broadcast member.
 
-ghost use Rattle.std.specs.Prelude.{◌≡◌, ◌∷◌, [], List, IfOk, IfSome, OnOk};
+ghost use Rattle.std.specs.Prelude.{◌≡◌, ◌⊎◌, ◌∷◌, [], List, true, IfOk, IfSome, OnOk};
 ghost use Rattle.hub_ports.specs.Seats.{ends_of};
-ghost use Rattle.hub_run.specs.Agents.{KeepsElse};
+ghost use Rattle.hub_run.specs.Agents.{
+  HoldsMember,
+  HoldsPort,
+  HoldsPorts,
+  IsUnwritten,
+  KeepsButEnds,
+  KeepsButNotes,
+  KeepsElse,
+};
 ghost use Rattle.hub_run.specs.Entries.{
   IsCastLogged,
   IsPostLogged,
@@ -24,7 +32,7 @@ use hub_broadcast::{CastError, CastOutcome};
 use hub_clients::DirectoryError;
 use hub_envelope::{Body, EndId, OutOfMemory, Ports};
 use hub_loop::{Checkpoint, ClosedPort, Held, LoopError};
-use hub_ports::{Closing, Noticed, Port, PortError, send};
+use hub_ports::{Closing, Noticed, Port, PortError};
 use hub_queue::Posted;
 use std::sync::Wait;
 
@@ -32,7 +40,7 @@ impl<'s, C: Checkpoint> Agent<'s, C> {
     /// Holds an end or a line. Where there is no memory an end is closed, so that nobody waits for
     /// what is posted there.
     pub(crate) fn hold<R: Wait>(&mut self, rt: &R, held: Held) -> Result<(), OutOfMemory>
-        ensures { self.new ≡ self.old }
+        ensures { KeepsButEnds self.old self.new }
     {
         match self.event_loop.hold(held) {
             Ok(()) => Ok(()),
@@ -46,7 +54,7 @@ impl<'s, C: Checkpoint> Agent<'s, C> {
     // Closes what can't be held, so that it is swept with what was closed by actions. A line is
     // given back.
     fn bury<R: Wait>(&mut self, rt: &R, held: Held) -> Result<(), OutOfMemory>
-        ensures { self.new ≡ self.old }
+        ensures { KeepsButEnds self.old self.new }
     {
         let Shared {
             hub,
@@ -63,7 +71,7 @@ impl<'s, C: Checkpoint> Agent<'s, C> {
     }
 
     fn hold_ports<R: Wait>(&mut self, rt: &R, ports: Vec<Port>) -> Result<(), OutOfMemory>
-        ensures { self.new ≡ self.old }
+        ensures { KeepsButEnds self.old self.new }
     {
         let mut held = Ok(());
         for port in ports {
@@ -72,8 +80,15 @@ impl<'s, C: Checkpoint> Agent<'s, C> {
         held
     }
 
-    fn holds_ports(&self, ends: &[EndId]) -> bool {
-        ends.iter().all(|end| self.holds_port(*end))
+    fn holds_ports(&self, ends: &[EndId]) -> bool
+        ensures { result ≡ true → HoldsPorts self.now ends.now }
+    {
+        for end in ends {
+            if !self.holds_port(*end) {
+                return false;
+            }
+        }
+        true
     }
 
     // Takes the ports out of the loop, in order. `None` where one isn't held; then it holds again
@@ -83,7 +98,7 @@ impl<'s, C: Checkpoint> Agent<'s, C> {
         rt: &R,
         ends: &[EndId],
     ) -> Result<Option<Vec<Port>>, OutOfMemory>
-        ensures same { self.new ≡ self.old }
+        ensures same { KeepsButEnds self.old self.new }
         ensures ports { IfOk result (λ ports. IfSome ports (λ released.
             ends_of released.items ≡ ends.now)) }
     {
@@ -109,7 +124,7 @@ impl<'s, C: Checkpoint> Agent<'s, C> {
     fn log_closed(&mut self, end: EndId, noticed: Noticed) -> Result<(), OutOfMemory>
         ensures written { OnOk result
             (Writes (closing_entries end noticed) self.old.notes self.new.notes) }
-        ensures rest { KeepsElse self.old self.new }
+        ensures rest { KeepsButNotes self.old self.new }
     {
         match noticed {
             Noticed::Put(posted) => self.log_notice(posted)?,
@@ -127,7 +142,7 @@ impl<'s, C: Checkpoint> Agent<'s, C> {
     ) -> Result<(), OutOfMemory>
         ensures written { OnOk result
             (Writes (closed_entries end port) self.old.notes self.new.notes) }
-        ensures rest { KeepsElse self.old self.new }
+        ensures rest { KeepsButNotes self.old self.new }
     {
         match port {
             Some(port) => self.log_closed(end, port.noticed),
@@ -138,14 +153,14 @@ impl<'s, C: Checkpoint> Agent<'s, C> {
     fn log_notice(&mut self, posted: Posted) -> Result<(), OutOfMemory>
         ensures written { OnOk result
             (Writes (Put (notice_at posted) ∷ []) self.old.notes self.new.notes) }
-        ensures rest { KeepsElse self.old self.new }
+        ensures rest { KeepsButNotes self.old self.new }
     {
         self.scribe.put_notice(posted)
     }
 
     fn log_close(&mut self, end: EndId) -> Result<(), OutOfMemory>
         ensures written { OnOk result (Writes (Closed end ∷ []) self.old.notes self.new.notes) }
-        ensures rest { KeepsElse self.old self.new }
+        ensures rest { KeepsButNotes self.old self.new }
     {
         self.scribe.close(end)
     }
@@ -154,7 +169,7 @@ impl<'s, C: Checkpoint> Agent<'s, C> {
     fn log_put(&mut self, posted: Posted, ports: &[EndId], body: &Body) -> Result<(), OutOfMemory>
         ensures written { OnOk result (Writes (Put (message_at posted ports.now body.now) ∷ [])
             self.old.notes self.new.notes) }
-        ensures rest { KeepsElse self.old self.new }
+        ensures rest { KeepsButNotes self.old self.new }
     {
         self.scribe.put(posted, ports, body)
     }
@@ -163,7 +178,7 @@ impl<'s, C: Checkpoint> Agent<'s, C> {
     fn log_doomed(&mut self, closings: &[Closing]) -> Result<(), OutOfMemory>
         ensures written { OnOk result
             (Writes (doomed_entries closings.now) self.old.notes self.new.notes) }
-        ensures rest { KeepsElse self.old self.new }
+        ensures rest { KeepsButNotes self.old self.new }
     {
         for closing in closings {
             self.log_closed(closing.end, closing.noticed)?;
@@ -211,6 +226,8 @@ impl<'s, C: Checkpoint> Agent<'s, C> {
         ensures written { OnOk result ((entries : List LogEntry)
             × IsPostLogged transfer.now body.now entries
             × Writes entries self.old.notes self.new.notes) }
+        ensures held { OnOk result (IsUnwritten self.old self.new
+            ⊎ (HoldsPort self.old port × HoldsPorts self.old transfer.now)) }
         ensures rest { KeepsElse self.old self.new }
     {
         if !self.holds_port(port) || !self.holds_ports(transfer.as_slice()) {
@@ -221,18 +238,18 @@ impl<'s, C: Checkpoint> Agent<'s, C> {
             return Ok(());
         };
         let number = self.number();
-        let Some(source) = self.event_loop.port_mut(port) else {
-            return self.hold_ports(rt, ports);
-        };
-        let answer = source.post(rt, &self.shared.hub, number, copy, ports);
-        self.settle(rt, answer, body, transfer)
+        let hub = &self.shared.hub;
+        match self.event_loop.post(rt, hub, number, port, copy, ports) {
+            Ok(answer) => self.settle(rt, answer, body, transfer),
+            Err((_body, ports)) => self.hold_ports(rt, ports),
+        }
     }
 
     // Holds a line to a queue, unless it does. False where the directory lends none.
     fn take_line<R: Wait>(&mut self, rt: &R, queue: EndId) -> Result<bool, OutOfMemory>
-        ensures { self.new ≡ self.old }
+        ensures { KeepsButEnds self.old self.new }
     {
-        if self.event_loop.line_mut(queue).is_some() {
+        if self.event_loop.has_line(queue) {
             return Ok(true);
         }
         match self.shared.directory.line_to(rt, queue) {
@@ -256,6 +273,8 @@ impl<'s, C: Checkpoint> Agent<'s, C> {
         ensures written { OnOk result ((entries : List LogEntry)
             × IsPostLogged transfer.now body.now entries
             × Writes entries self.old.notes self.new.notes) }
+        ensures held { OnOk result (IsUnwritten self.old self.new
+            ⊎ HoldsPorts self.old transfer.now) }
         ensures rest { KeepsElse self.old self.new }
     {
         if !self.holds_ports(transfer.as_slice()) || !self.take_line(rt, queue)? {
@@ -266,11 +285,11 @@ impl<'s, C: Checkpoint> Agent<'s, C> {
             return Ok(());
         };
         let number = self.number();
-        let Some(line) = self.event_loop.line_mut(queue) else {
-            return self.hold_ports(rt, ports);
-        };
-        let answer = send(line, rt, &self.shared.hub, number, copy, ports);
-        self.settle(rt, answer, body, transfer)
+        let hub = &self.shared.hub;
+        match self.event_loop.send(rt, hub, number, queue, copy, ports) {
+            Ok(answer) => self.settle(rt, answer, body, transfer),
+            Err((_body, ports)) => self.hold_ports(rt, ports),
+        }
     }
 
     /// Casts from a member, unless it isn't held.
@@ -282,10 +301,12 @@ impl<'s, C: Checkpoint> Agent<'s, C> {
     ) -> Result<(), OutOfMemory>
         ensures written { OnOk result ((entries : List LogEntry) × IsCastLogged body.now entries
             × Writes entries self.old.notes self.new.notes) }
+        ensures held { OnOk result (IsUnwritten self.old self.new
+            ⊎ HoldsMember self.old member) }
         ensures rest { KeepsElse self.old self.new }
     {
         let copy = body.clone()?;
-        let Some(source) = self.event_loop.member_mut(member) else {
+        let Some(Held::Member(source)) = self.event_loop.held(member) else {
             return Ok(());
         };
         let yard = &self.shared.hub.yard;
@@ -304,7 +325,7 @@ impl<'s, C: Checkpoint> Agent<'s, C> {
     ) -> Result<(), OutOfMemory>
         ensures written { OnOk result
             (Writes (cast_entries body.now outcomes.now) self.old.notes self.new.notes) }
-        ensures rest { KeepsElse self.old self.new }
+        ensures rest { KeepsButNotes self.old self.new }
     {
         let mut refused = Ok(());
         for (_, outcome) in outcomes {
@@ -320,7 +341,7 @@ impl<'s, C: Checkpoint> Agent<'s, C> {
     fn log_outcome(&mut self, outcome: &CastOutcome, body: &Body) -> Result<(), OutOfMemory>
         ensures written { OnOk result
             (Writes (outcome_entries body.now outcome.now) self.old.notes self.new.notes) }
-        ensures rest { KeepsElse self.old self.new }
+        ensures rest { KeepsButNotes self.old self.new }
     {
         match outcome {
             CastOutcome::Accepted(posted) => self.log_put(*posted, &[], body),

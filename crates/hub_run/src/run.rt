@@ -173,8 +173,8 @@ fn run_shared<C: Checkpoint, R: Threads + Wait + Sync>(
 ) -> Result<Run, OutOfMemory>
     ensures { IfOk result (λ run. AreRunsFor script.now run.logs.items run.acted.items) }
 {
-    let Made { agents, .. } = Made::of_script(alloc, rt, shared, script, checkpoint)?;
-    run_made(alloc, rt, script, agents)
+    let made = Made::of_script(alloc, rt, shared, script, checkpoint)?;
+    run_made(alloc, rt, script, made.into_agents())
 }
 
 /// Runs a script: each agent does its actions on a thread of its own, and its loop ends after the

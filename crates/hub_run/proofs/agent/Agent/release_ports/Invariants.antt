@@ -1,10 +1,11 @@
 use Rattle.std.proofs.Common.{◌≡◌, ◌+◌, ◌≤◌, length, take, vec_len, vec_capacity}
 use Rattle.hub_ports.specs.Seats.{ends_of}
+use Rattle.hub_run.specs.Agents.{KeepsButEnds}
 use Rattle.hub_run.proofs.agent.Agent.release_ports.Given as goal
 
 abbrev pub invariant-loop-end : goal.invariant-loop-end
 invariant-loop-end g l = record {
   room : vec_len l.ports + length l.ends ≤ vec_capacity l.ports + l.end-index;
   ports : ends_of l.ports.items ≡ take l.end-index l.ends;
-  same : l.self ≡ l.fn.self;
+  same : KeepsButEnds l.fn.self l.self;
 }

@@ -1,0 +1,36 @@
+-- What an agent's loop holds, and what is said of it.
+use Rattle.std.proofs.Common.{◌≡◌, ◌∙◌, ◌⊎◌, Bool, true, false, List, [], ◌∷◌, ◌++◌, Option, Some, None, Result, Ok, Err, IfSome, OnOk, inl, inr, ap, sym, subst}
+use Rattle.slab.specs.Slab.{Slab}
+use Rattle.hub_envelope.specs.declared.ids.EndId.{EndId}
+use Rattle.hub_loop.specs.declared.closed_end.ClosedEnd.{ClosedEnd}
+use Rattle.hub_loop.specs.declared.held.Held.{Held}
+use Rattle.hub_loop.specs.Closing.{ClosesEnd}
+use Rattle.hub_loop.specs.Starting.{StartsClient, StartsPort}
+use Rattle.hub_loop.specs.Looking.{HoldsNoPort}
+use Rattle.hub_run.specs.Agents.{AgentState, ClosesHeld, HoldsPort, HoldsPorts}
+
+-- one port more
+pub ports_more : (a : AgentState) (ends : List EndId) (end : EndId) → HoldsPorts a ends → HoldsPort a end → HoldsPorts a (ends ++ end ∷ [])
+ports_more a [] end all one = (one, tt)
+ports_more a (e ∷ ends) end (first, rest) one = (first, ports_more a ends end rest one)
+
+-- what holds anyway holds where it is no error
+pub on_ok : {X E P : Type 0} (r : Result X E) → P → OnOk r P
+on_ok (Ok x) p = p
+on_ok (Err e) p = tt
+
+-- what is said of an action together
+pub acts_of : {X E : Type 0} (A B C : Type 0) (r : Result X E) → OnOk r A → OnOk r B → C → OnOk r (A × (C × B))
+acts_of A B C (Ok x) a b c = (a, (c, b))
+acts_of A B C (Err e) a b c = tt
+
+-- the end that was closed is held no more
+pub closed_held : (end : EndId) (before now : AgentState) (old : Slab Held) (closed : ClosedEnd) → old ≡ before.ends → ClosesEnd old now.ends end closed → ClosesHeld end before now
+closed_held end before now old closed same (held, is, more, left) =
+    subst (λ (ends : Slab Held). ClosesHeld end (record before { ends = ends }) now) same (inr (held, is, more))
+
+-- where no such port is held the queue was started, or nothing
+pub no_port : (old mid new : Slab Held) (end : EndId) (asked started : Bool) → asked ≡ false → StartsPort old mid end asked → StartsClient mid new end started → HoldsNoPort old end × StartsClient old new end started
+no_port old mid new end asked started refused port client =
+    let none = subst (StartsPort old mid end) refused port in
+    (none.0, subst (λ (ends : Slab Held). StartsClient ends new end started) none.1 client)
