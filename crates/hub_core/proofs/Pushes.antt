@@ -1,7 +1,8 @@
 -- Push: what the core answers fits, and it shows the facts with the answered step.
-use Rattle.std.proofs.Common.{◌≡◌, ℕ, Bool, true, false, cond, List, length, set, Option, Some, None, Ok, Err, refl, sym, ap, subst, ◌∙◌}
+use Rattle.std.proofs.Common.{◌≡◌, ℕ, Bool, true, false, cond, List, length, set, Option, Some, None, Result, Ok, Err, refl, sym, ap, subst, ◌∙◌}
 use Rattle.std.specs.Prelude.{not, ◌&&◌, nat_lt, IfSome}
 use Rattle.std.specs.List.{slice_get}
+use Rattle.std.proofs.lemmas.Bool.{false≢true}
 use Rattle.hub_envelope.specs.declared.ids.AgentId.{AgentId}
 use Rattle.hub_envelope.specs.declared.ids.EndId.{EndId}
 use Rattle.hub_envelope.specs.declared.envelope.Envelope.{Envelope}
@@ -21,6 +22,7 @@ use Rattle.hub_core.specs.Posting.{phase_of_line, is_inside, poster, is_good, li
 use Rattle.hub_core.specs.Sound.{no_line}
 use Rattle.hub_core.specs.Shows.{line_now, ShowsPut, ShowsFacts}
 use Rattle.hub_core.specs.Kept.{kept_listing_to, has_queue, posting_line, kept_posting_by, kept_posting_line, kept_posting_at, kept_posting, push_outcome, put_end, PushLeaves, Moves, kept_poster_by, source_of, kept_poster_of, kept_poster_on}
+use Rattle.hub_core.specs.Unchanged.{changes_nothing}
 use Rattle.hub_core.proofs.Lists.{both_of}
 use Rattle.hub_core.proofs.Frames.{ShownAt, Stepped, changed, unchanged}
 use Rattle.hub_core.proofs.Holders.{poster_kept}
@@ -128,3 +130,8 @@ push_at agents ends new f c s ports body refused o h cast (Some x) at shown says
 pub push_shown : (agents : List Agent) (ends new : List End) (f : Facts) (c : Option CastNow) (s : Sender) (ports : List EndId) (body : List ℕ) (refused : Bool) (o : Outcome) → ShowsFacts agents ends f → f.roster.cast ≡ c → o ≡ push_outcome (kept_posting agents ends c s ports body refused) → PushLeaves s ports body ends (kept_posting agents ends c s ports body refused) new → Stepped agents new f (action.Push s ports body) refused o
 push_shown agents ends new f c s ports body refused o h cast says leaves =
     push_at agents ends new f c s ports body refused o h cast (slice_get ends s.end.0) refl (h.end s.end.0) says leaves
+
+-- a push that is refused leaves the ends
+pub push_same : (old new : List End) (s : Sender) (ports : List EndId) (body : List ℕ) (r : Result (Line × AgentId) Outcome) (o : Outcome) → o ≡ push_outcome r → PushLeaves s ports body old r new → changes_nothing o (action.Push s ports body) ≡ true → new ≡ old
+push_same old new s ports body (Ok p) o says leaves h = absurd (false≢true (subst (λ q. changes_nothing q (action.Push s ports body) ≡ true) says h))
+push_same old new s ports body (Err e) o says leaves h = leaves

@@ -11,6 +11,7 @@ pub mod Clear
 pub mod Discarded
 pub mod Roster
 pub mod Facts
+pub mod CoreState
 pub mod Making
 pub mod Posting
 pub mod Looking

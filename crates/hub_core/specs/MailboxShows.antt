@@ -38,4 +38,4 @@ HoldsKept x m = (i : ℕ) (q : Queue) → QueueAt m (x.taker + i) q → q.held �
 
 -- each end of the core is kept as a mailbox that shows the history there
 abbrev pub MailboxesShow : Core → History → Type 0
-MailboxesShow core h = (e : ℕ) (x : End) → slice_get core.ends.items e ≡ Some x → (m : Mailbox (Unit {0})) × HoldsKept x m × ShowsMailbox h e [] m
+MailboxesShow core h = (e : ℕ) (x : End) → slice_get core.ends e ≡ Some x → (m : Mailbox (Unit {0})) × HoldsKept x m × ShowsMailbox h e [] m

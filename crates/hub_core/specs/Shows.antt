@@ -129,7 +129,7 @@ pub record ShowsRoster (kept : Roster) (f : Facts) : Type 0 where
 
 -- the core's agents, ends and roster are those of the history
 abbrev pub Shows : Core → History → Type 0
-Shows core h = ShowsFacts core.agents.items core.ends.items (facts h) × ShowsRoster core.roster (facts h)
+Shows core h = ShowsFacts core.agents core.ends (facts h) × ShowsRoster core.roster (facts h)
 
 -- After every history that the old core shows the outcome of the step fits, and the new core shows the longer history.
 abbrev pub FitsAndShows : Core → Core → Step → Outcome → Type 0

@@ -36,4 +36,4 @@ changes_nothing _ _ = false
 
 -- the core's agents, ends and roster are as before
 abbrev pub SameContent : Core → Core → Type 0
-SameContent old new = (new.agents.items ≡ old.agents.items) × (new.ends.items ≡ old.ends.items) × SameRoster (length old.ends.items) old.roster new.roster
+SameContent old new = (new.agents ≡ old.agents) × (new.ends ≡ old.ends) × SameRoster (length old.ends) old.roster new.roster

@@ -28,15 +28,15 @@ impl Core {
         ensures outcome { let origin = origin_at
             (slice_get self.old.roster.members.origins.items agent.0) in
             let casting = is_some (cast_now self.old.roster.cast) in
-            let may = kept_running self.old.agents.items agent.0 && not casting in
-            let count = length self.old.ends.items in
+            let may = kept_running self.old.agents agent.0 && not casting in
+            let count = length self.old.ends in
             IfOk result (λ o. o ≡ kept_member_answer may (is_some origin) count memory_refused) }
-        ensures ends { IfOk result (λ o. self.new.ends.items
-            ≡ member_made agent self.old.ends.items o) }
+        ensures ends { IfOk result (λ o. self.new.ends
+            ≡ member_made agent self.old.ends o) }
         ensures roster { IfOk result (λ o. MemberLeaves agent.0 name self.old.roster o
             self.new.roster) }
-        ensures err_ends { OnErr result (self.new.ends.items ≡ self.old.ends.items) }
-        ensures err_roster { let count = length self.old.ends.items in
+        ensures err_ends { OnErr result (self.new.ends ≡ self.old.ends) }
+        ensures err_roster { let count = length self.old.ends in
             OnErr result (SameRoster count self.old.roster self.new.roster) }
         ensures agents { self.new.agents ≡ self.old.agents }
     {
@@ -67,13 +67,13 @@ impl Core {
         ports: Items<EndId>,
         body: Body,
     ) -> Result<Outcome, OutOfMemory>
-        ensures outcome { let ends = self.old.ends.items in
+        ensures outcome { let ends = self.old.ends in
             let members = self.old.roster.members in
             let found = slice_get ends end.0 in
             let casting = is_some (cast_now self.old.roster.cast) in
             let may = is_some (kept_maker found) && not casting in
             let seated = is_seated_in members end.0 (group_of members end.0) in
-            let holder = kept_holder self.old.agents.items ends end.0 in
+            let holder = kept_holder self.old.agents ends end.0 in
             let others = kept_destinations members end.0 in
             IfOk result (λ o. o ≡ kept_cast_answer may (seated && is_kept_open found) holder
             (is_empty ports) others) }
@@ -102,13 +102,13 @@ impl Core {
 
     /// The agent that made a broadcast channel.
     pub(crate) fn maker_of(&self, end: EndId) -> Option<AgentId>
-        ensures { result ≡ kept_maker (slice_get self.now.ends.items end.0) }
+        ensures { result ≡ kept_maker (slice_get self.now.ends end.0) }
     {
         self.ends.get(end.0 as usize)?.kind.maker()
     }
 
     fn is_open(&self, end: EndId) -> bool
-        ensures { result ≡ is_kept_open (slice_get self.now.ends.items end.0) }
+        ensures { result ≡ is_kept_open (slice_get self.now.ends end.0) }
     {
         match self.ends.get(end.0 as usize) {
             Some(end) => !end.is_closed,

@@ -18,8 +18,8 @@ use hub_envelope::{AgentId, EndId, Items, OutOfMemory};
 
 impl Core {
     pub(crate) fn order(&mut self, agent: AgentId) -> Outcome
-        ensures outcome { result ≡ order_outcome_at (slice_get self.old.agents.items agent.0) }
-        ensures agents { self.new.agents.items ≡ order_agents agent.0 self.old.agents.items }
+        ensures outcome { result ≡ order_outcome_at (slice_get self.old.agents agent.0) }
+        ensures agents { self.new.agents ≡ order_agents agent.0 self.old.agents }
         ensures ends { self.new.ends ≡ self.old.ends }
         ensures roster { self.new.roster ≡ self.old.roster }
     {
@@ -32,11 +32,11 @@ impl Core {
 
     /// An agent looks whether it was ordered to end.
     pub(crate) fn see(&mut self, agent: AgentId) -> Result<Outcome, OutOfMemory>
-        ensures outcome { let found = slice_get self.old.agents.items agent.0 in
-            IfOk result (λ o. o ≡ see_outcome agent self.old.ends.items found) }
-        ensures agents { let agents = self.old.agents.items in
-            IfOk result (λ o. self.new.agents.items ≡ see_agents agent.0 agents o) }
-        ensures err { OnErr result (self.new.agents.items ≡ self.old.agents.items) }
+        ensures outcome { let found = slice_get self.old.agents agent.0 in
+            IfOk result (λ o. o ≡ see_outcome agent self.old.ends found) }
+        ensures agents { let agents = self.old.agents in
+            IfOk result (λ o. self.new.agents ≡ see_agents agent.0 agents o) }
+        ensures err { OnErr result (self.new.agents ≡ self.old.agents) }
         ensures ends { self.new.ends ≡ self.old.ends }
         ensures roster { self.new.roster ≡ self.old.roster }
     {
@@ -63,7 +63,7 @@ impl Core {
 
     /// The ends that an agent has, and those that have arrived at it.
     fn ends_at(&self, agent: AgentId) -> Result<Items<EndId>, OutOfMemory>
-        ensures { let ends = self.now.ends.items in
+        ensures { let ends = self.now.ends in
             IfOk result (λ found. found ≡ kept_ends_at agent ends (length ends)) }
     {
         let mut ends = Vec::new(self.alloc);
@@ -75,7 +75,7 @@ impl Core {
 
     /// The agent, running or ending, whose poster a line has.
     pub(crate) fn owner_of(&self, sender: Sender) -> Option<AgentId>
-        ensures { result ≡ kept_owner_of self.now.ends.items sender }
+        ensures { result ≡ kept_owner_of self.now.ends sender }
     {
         let end = self.ends.get(sender.end.0 as usize)?;
         let line = end.lines.get(sender.line)?;
@@ -84,7 +84,7 @@ impl Core {
 
     /// The agent, running or ending, whose poster a line of an end of this kind has.
     fn owner_by(&self, kind: Kind, line: Line) -> Option<AgentId>
-        ensures { result ≡ kept_owner self.now.ends.items kind line }
+        ensures { result ≡ kept_owner self.now.ends kind line }
     {
         match kind {
             Kind::Port(peer) => self.agent_with(peer),
@@ -95,7 +95,7 @@ impl Core {
 
     /// The agent, running or ending, that has an end.
     fn agent_with(&self, end: EndId) -> Option<AgentId>
-        ensures { result ≡ with_agent (kept_place self.now.ends.items end.0) }
+        ensures { result ≡ with_agent (kept_place self.now.ends end.0) }
     {
         match self.ends.get(end.0 as usize)?.place {
             Place::With(agent) => Some(agent),
@@ -105,8 +105,8 @@ impl Core {
 
     /// A poster of the agent came inside, or is being turned back.
     pub(crate) fn count_away(&mut self, owner: Option<AgentId>)
-        ensures agents { self.new.agents.items
-            ≡ change_owner one_away owner self.old.agents.items }
+        ensures agents { self.new.agents
+            ≡ change_owner one_away owner self.old.agents }
         ensures ends { self.new.ends ≡ self.old.ends }
         ensures roster { self.new.roster ≡ self.old.roster }
     {
@@ -122,8 +122,8 @@ impl Core {
 
     /// A poster of the agent left.
     pub(crate) fn count_out(&mut self, owner: Option<AgentId>)
-        ensures agents { self.new.agents.items
-            ≡ change_owner one_out owner self.old.agents.items }
+        ensures agents { self.new.agents
+            ≡ change_owner one_out owner self.old.agents }
         ensures ends { self.new.ends ≡ self.old.ends }
         ensures roster { self.new.roster ≡ self.old.roster }
     {

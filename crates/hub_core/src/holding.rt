@@ -15,11 +15,11 @@ use hub_envelope::{AgentId, EndId, OutOfMemory};
 
 impl Core {
     pub(crate) fn hold(&mut self, end: EndId, agent: AgentId) -> Outcome
-        ensures outcome { let runs = kept_running self.old.agents.items agent.0 in
-            result ≡ line_outcome_at runs (slice_get self.old.ends.items end.0) }
-        ensures ends { let runs = kept_running self.old.agents.items agent.0 in
-            let ends = self.old.ends.items in
-            self.new.ends.items ≡ line_ends_at runs agent end.0 ends (slice_get ends end.0) }
+        ensures outcome { let runs = kept_running self.old.agents agent.0 in
+            result ≡ line_outcome_at runs (slice_get self.old.ends end.0) }
+        ensures ends { let runs = kept_running self.old.agents agent.0 in
+            let ends = self.old.ends in
+            self.new.ends ≡ line_ends_at runs agent end.0 ends (slice_get ends end.0) }
         ensures agents { self.new.agents ≡ self.old.agents }
         ensures roster { self.new.roster ≡ self.old.roster }
     {
@@ -33,10 +33,10 @@ impl Core {
     }
 
     pub(crate) fn give_back(&mut self, sender: Sender) -> Outcome
-        ensures outcome { let found = slice_get self.old.ends.items sender.end.0 in
+        ensures outcome { let found = slice_get self.old.ends sender.end.0 in
             result ≡ back_outcome_at sender.line.0 found }
-        ensures ends { let ends = self.old.ends.items in
-            self.new.ends.items ≡ back_ends_at sender ends (slice_get ends sender.end.0) }
+        ensures ends { let ends = self.old.ends in
+            self.new.ends ≡ back_ends_at sender ends (slice_get ends sender.end.0) }
         ensures agents { self.new.agents ≡ self.old.agents }
         ensures roster { self.new.roster ≡ self.old.roster }
     {
@@ -48,7 +48,7 @@ impl Core {
 
     /// How many queues of a kind an agent has.
     pub(crate) fn count_of(&self, kind: Kind, agent: AgentId) -> u32
-        ensures { result ≡ count_of kind (slice_get self.now.agents.items agent.0) }
+        ensures { result ≡ count_of kind (slice_get self.now.agents agent.0) }
     {
         match self.agents.get(agent.0 as usize) {
             Some(found) => found.count(kind),
@@ -63,7 +63,7 @@ impl Core {
         agent: AgentId,
     ) -> Result<Option<Agent>, OutOfMemory>
         ensures { IfOk result (λ found. found
-            ≡ option_map (one_more kind) (slice_get self.now.agents.items agent.0)) }
+            ≡ option_map (one_more kind) (slice_get self.now.agents agent.0)) }
     {
         match self.agents.get(agent.0 as usize) {
             Some(found) => Ok(Some(found.with_one_more(kind)?)),
@@ -73,7 +73,7 @@ impl Core {
 
     /// Changes what is kept of an agent.
     pub(crate) fn set_agent(&mut self, agent: AgentId, value: Option<Agent>)
-        ensures agents { self.new.agents.items ≡ set_agent agent.0 self.old.agents.items value }
+        ensures agents { self.new.agents ≡ set_agent agent.0 self.old.agents value }
         ensures ends { self.new.ends ≡ self.old.ends }
         ensures roster { self.new.roster ≡ self.old.roster }
     {
@@ -87,7 +87,7 @@ impl Core {
 
     /// An end of this kind went from this place.
     pub(crate) fn went_from(&mut self, kind: Kind, place: Place)
-        ensures agents { self.new.agents.items ≡ gone kind place self.old.agents.items }
+        ensures agents { self.new.agents ≡ gone kind place self.old.agents }
         ensures ends { self.new.ends ≡ self.old.ends }
         ensures roster { self.new.roster ≡ self.old.roster }
     {

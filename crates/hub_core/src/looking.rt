@@ -11,9 +11,9 @@ use hub_envelope::{EndId, Envelope, OutOfMemory};
 
 impl Core {
     pub(crate) fn look(&mut self, end: EndId) -> Outcome
-        ensures outcome { result ≡ look_outcome_at (slice_get self.old.ends.items end.0) }
-        ensures ends { let ends = self.old.ends.items in
-            self.new.ends.items ≡ look_ends_at end.0 ends (slice_get ends end.0) }
+        ensures outcome { result ≡ look_outcome_at (slice_get self.old.ends end.0) }
+        ensures ends { let ends = self.old.ends in
+            self.new.ends ≡ look_ends_at end.0 ends (slice_get ends end.0) }
         ensures agents { self.new.agents ≡ self.old.agents }
         ensures roster { self.new.roster ≡ self.old.roster }
     {
@@ -26,10 +26,10 @@ impl Core {
     /// Discards what waits at a closed end, where every queue is settled.
     pub(crate) fn sweep(&mut self, end: EndId) -> Result<Outcome, OutOfMemory>
         ensures outcome { IfOk result (λ o. o
-            ≡ sweep_outcome_at (slice_get self.old.ends.items end.0)) }
-        ensures ends { let ends = self.old.ends.items in
-            OnOk result (SweepLeaves end.0 ends (slice_get ends end.0) self.new.ends.items) }
-        ensures err { OnErr result (self.new.ends.items ≡ self.old.ends.items) }
+            ≡ sweep_outcome_at (slice_get self.old.ends end.0)) }
+        ensures ends { let ends = self.old.ends in
+            OnOk result (SweepLeaves end.0 ends (slice_get ends end.0) self.new.ends) }
+        ensures err { OnErr result (self.new.ends ≡ self.old.ends) }
         ensures agents { self.new.agents ≡ self.old.agents }
         ensures roster { self.new.roster ≡ self.old.roster }
     {
@@ -46,8 +46,8 @@ impl Core {
 
     /// Gives each port that the envelopes name its place.
     fn place_swept(&mut self, envelopes: &[Envelope])
-        ensures ends { Moves (ports_of envelopes.now) Place.Swept self.old.ends.items
-            self.new.ends.items }
+        ensures ends { Moves (ports_of envelopes.now) Place.Swept self.old.ends
+            self.new.ends }
         ensures agents { self.new.agents ≡ self.old.agents }
         ensures roster { self.new.roster ≡ self.old.roster }
     {

@@ -35,6 +35,7 @@ use crate::sender::Sender;
 use crate::step::{Action, Step};
 use hub_envelope::{AgentId, EndId, LineId, OutOfMemory};
 use std::alloc::Global;
+use std::marker::Model;
 
 /// The hub as a machine: its agents and ends, changed one step at a time.
 ///
@@ -49,6 +50,20 @@ pub struct Core {
     pub(crate) agents: Vec<Agent>,
     pub(crate) ends: Vec<End>,
     pub(crate) roster: Roster,
+}
+
+impl Model for Core {
+    ghost use Rattle.hub_core.specs.CoreState.{CoreState, core_coded};
+
+    ghost Value = { CoreState };
+
+    ghost coded = { core_coded };
+
+    ghost view = { λ c. record {
+      agents = c.agents.items;
+      ends = c.ends.items;
+      roster = c.roster;
+    } };
 }
 
 impl Core {
@@ -129,7 +144,7 @@ impl Core {
     }
 
     fn line_held_by(&self, port: EndId) -> Option<Sender>
-        ensures { result ≡ kept_line_of_port (slice_get self.now.ends.items port.0) }
+        ensures { result ≡ kept_line_of_port (slice_get self.now.ends port.0) }
     {
         let end = self.ends.get(port.0 as usize)?.kind.source()?;
         let line = LineId(0);
@@ -137,7 +152,7 @@ impl Core {
     }
 
     pub(crate) fn is_running(&self, agent: AgentId) -> bool
-        ensures { result ≡ kept_running self.now.agents.items agent.0 }
+        ensures { result ≡ kept_running self.now.agents agent.0 }
     {
         match self.agents.get(agent.0 as usize) {
             Some(agent) => agent.is_running,
@@ -147,7 +162,7 @@ impl Core {
 
     /// The running agent that has the end, where one has it.
     pub(crate) fn running_holder(&self, end: EndId) -> Option<AgentId>
-        ensures { result ≡ kept_holder self.now.agents.items self.now.ends.items end.0 }
+        ensures { result ≡ kept_holder self.now.agents self.now.ends end.0 }
     {
         match self.ends.get(end.0 as usize)?.place {
             Place::With(agent) if self.is_running(agent) => Some(agent),
@@ -157,7 +172,7 @@ impl Core {
 
     /// The agent, where it runs.
     fn running(&self, agent: Option<AgentId>) -> Option<AgentId>
-        ensures { result ≡ kept_runs self.now.agents.items agent }
+        ensures { result ≡ kept_runs self.now.agents agent }
     {
         agent.filter(|agent| self.is_running(*agent))
     }
@@ -165,7 +180,7 @@ impl Core {
     /// The agent whose cast goes to the end next, running or ending.
     fn speaker(&self, end: EndId) -> Option<AgentId>
         ensures { let cast = cast_now self.now.roster.cast in
-            result ≡ kept_speaker self.now.ends.items cast end.0 }
+            result ≡ kept_speaker self.now.ends cast end.0 }
     {
         let source = self.roster.source_for(end)?;
         self.maker_of(source)
@@ -174,9 +189,9 @@ impl Core {
     /// The agent that posts on a line of an end of this kind, where one does: for a port's line the
     /// running one that has the port at the other side.
     pub(crate) fn poster_by(&self, end: EndId, kind: Kind, line: Line) -> Option<AgentId>
-        ensures { let ends = self.now.ends.items in
+        ensures { let ends = self.now.ends in
             let cast = cast_now self.now.roster.cast in
-            result ≡ kept_poster_by self.now.agents.items ends cast end.0 kind line }
+            result ≡ kept_poster_by self.now.agents ends cast end.0 kind line }
     {
         match kind {
             Kind::Port(peer) => self.running_holder(peer),
@@ -188,7 +203,7 @@ impl Core {
     /// The agent that posts on a line, where one does.
     pub(crate) fn poster_of(&self, sender: Sender) -> Option<AgentId>
         ensures { let cast = cast_now self.now.roster.cast in
-            result ≡ kept_poster self.now.agents.items self.now.ends.items cast sender }
+            result ≡ kept_poster self.now.agents self.now.ends cast sender }
     {
         let end = self.ends.get(sender.end.0 as usize)?;
         let line = end.lines.get(sender.line)?;
@@ -197,7 +212,7 @@ impl Core {
 
     /// Whether an end has a place where it can be closed.
     pub(crate) fn is_here(&self, end: EndId) -> bool
-        ensures { result ≡ is_here (kept_place self.now.ends.items end.0) }
+        ensures { result ≡ is_here (kept_place self.now.ends end.0) }
     {
         match self.ends.get(end.0 as usize) {
             Some(end) => end.place.is_here(),
@@ -207,7 +222,7 @@ impl Core {
 
     /// Whether the place of the port that posts on a line lets its poster put a notice.
     pub(crate) fn hears_notice(&self, sender: Sender) -> bool
-        ensures { result ≡ kept_hears self.now.ends.items sender }
+        ensures { result ≡ kept_hears self.now.ends sender }
     {
         let Some(end) = self.ends.get(sender.end.0 as usize) else {
             return false;
@@ -221,7 +236,7 @@ impl Core {
     /// Whether a poster may enter: to post, or to put a notice alone.
     pub(crate) fn may_enter(&self, sender: Sender) -> bool
         ensures { let cast = cast_now self.now.roster.cast in
-            result ≡ kept_may_enter self.now.agents.items self.now.ends.items cast sender }
+            result ≡ kept_may_enter self.now.agents self.now.ends cast sender }
     {
         self.poster_of(sender).is_some() || self.hears_notice(sender)
     }

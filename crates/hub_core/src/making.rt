@@ -20,12 +20,12 @@ impl Core {
         memory_refused: bool,
     ) -> Result<Outcome, OutOfMemory>
         ensures outcome { IfOk result (λ o. o
-            ≡ kept_agent_answer (length self.old.agents.items) memory_refused) }
-        ensures agents { IfOk result (λ o. self.new.agents.items
-            ≡ agents_made self.old.agents.items o) }
+            ≡ kept_agent_answer (length self.old.agents) memory_refused) }
+        ensures agents { IfOk result (λ o. self.new.agents
+            ≡ agents_made self.old.agents o) }
         ensures roster { IfOk result (λ o. AgentLeaves origin self.old.roster o self.new.roster) }
-        ensures err { OnErr result (self.new.agents.items ≡ self.old.agents.items) }
-        ensures err_roster { let count = length self.old.ends.items in
+        ensures err { OnErr result (self.new.agents ≡ self.old.agents) }
+        ensures err_roster { let count = length self.old.ends in
             OnErr result (SameRoster count self.old.roster self.new.roster) }
         ensures ends { self.new.ends ≡ self.old.ends }
     {
@@ -47,12 +47,12 @@ impl Core {
         agent: AgentId,
         memory_refused: bool,
     ) -> Result<Outcome, OutOfMemory>
-        ensures outcome { let runs = kept_running self.old.agents.items agent.0 in
-            let count = length self.old.ends.items in
+        ensures outcome { let runs = kept_running self.old.agents agent.0 in
+            let count = length self.old.ends in
             IfOk result (λ o. o ≡ kept_channel_answer runs count memory_refused) }
-        ensures ends { IfOk result (λ o. self.new.ends.items
-            ≡ ends_made agent self.old.ends.items o) }
-        ensures err { OnErr result (self.new.ends.items ≡ self.old.ends.items) }
+        ensures ends { IfOk result (λ o. self.new.ends
+            ≡ ends_made agent self.old.ends o) }
+        ensures err { OnErr result (self.new.ends ≡ self.old.ends) }
         ensures agents { self.new.agents ≡ self.old.agents }
         ensures roster { self.new.roster ≡ self.old.roster }
     {
@@ -84,17 +84,17 @@ impl Core {
         agent: AgentId,
         memory_refused: bool,
     ) -> Result<Outcome, OutOfMemory>
-        ensures outcome { let agents = self.old.agents.items in
+        ensures outcome { let agents = self.old.agents in
             let held = count_of kind (slice_get agents agent.0) in
-            let count = length self.old.ends.items in
+            let count = length self.old.ends in
             IfOk result (λ o. o
             ≡ kept_queue_answer (kept_running agents agent.0) held count memory_refused) }
-        ensures ends { IfOk result (λ o. self.new.ends.items
-            ≡ queue_made agent kind self.old.ends.items o) }
-        ensures agents { IfOk result (λ o. self.new.agents.items
-            ≡ queue_counted agent kind self.old.agents.items o) }
-        ensures err_ends { OnErr result (self.new.ends.items ≡ self.old.ends.items) }
-        ensures err_agents { OnErr result (self.new.agents.items ≡ self.old.agents.items) }
+        ensures ends { IfOk result (λ o. self.new.ends
+            ≡ queue_made agent kind self.old.ends o) }
+        ensures agents { IfOk result (λ o. self.new.agents
+            ≡ queue_counted agent kind self.old.agents o) }
+        ensures err_ends { OnErr result (self.new.ends ≡ self.old.ends) }
+        ensures err_agents { OnErr result (self.new.agents ≡ self.old.agents) }
         ensures roster { self.new.roster ≡ self.old.roster }
     {
         if !self.is_running(agent) || self.count_of(kind, agent) != 0 {

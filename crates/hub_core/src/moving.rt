@@ -20,19 +20,19 @@ impl Core {
         agent: AgentId,
         memory_refused: bool,
     ) -> Result<Outcome, OutOfMemory>
-        ensures outcome { let runs = kept_running self.old.agents.items agent.0 in
-            let found = slice_get self.old.ends.items end.0 in
+        ensures outcome { let runs = kept_running self.old.agents agent.0 in
+            let found = slice_get self.old.ends end.0 in
             IfOk result (λ o. o ≡ adopt_outcome_at runs agent memory_refused found) }
-        ensures ends { let runs = kept_running self.old.agents.items agent.0 in
-            let ends = self.old.ends.items in
-            OnOk result (self.new.ends.items
+        ensures ends { let runs = kept_running self.old.agents agent.0 in
+            let ends = self.old.ends in
+            OnOk result (self.new.ends
             ≡ adopt_ends_at runs agent memory_refused end.0 ends (slice_get ends end.0)) }
-        ensures err { OnErr result (self.new.ends.items ≡ self.old.ends.items) }
-        ensures agents { let agents = self.old.agents.items in
-            let found = slice_get self.old.ends.items end.0 in
-            let ends = self.old.ends.items in
-            IfOk result (λ o. self.new.agents.items ≡ adopt_agents ends agent agents found o) }
-        ensures err_agents { OnErr result (self.new.agents.items ≡ self.old.agents.items) }
+        ensures err { OnErr result (self.new.ends ≡ self.old.ends) }
+        ensures agents { let agents = self.old.agents in
+            let found = slice_get self.old.ends end.0 in
+            let ends = self.old.ends in
+            IfOk result (λ o. self.new.agents ≡ adopt_agents ends agent agents found o) }
+        ensures err_agents { OnErr result (self.new.agents ≡ self.old.agents) }
         ensures roster { self.new.roster ≡ self.old.roster }
     {
         let Some(kind) = self.kind_at(end) else {
@@ -53,13 +53,13 @@ impl Core {
     }
 
     pub(crate) fn close(&mut self, end: EndId) -> Outcome
-        ensures outcome { let ends = self.old.ends.items in
+        ensures outcome { let ends = self.old.ends in
             result ≡ close_outcome_at (kept_may_close ends end.0) (slice_get ends end.0) }
-        ensures ends { let ends = self.old.ends.items in
+        ensures ends { let ends = self.old.ends in
             let may = kept_may_close ends end.0 in
-            self.new.ends.items ≡ close_ends_at may end.0 ends (slice_get ends end.0) }
-        ensures agents { let found = slice_get self.old.ends.items end.0 in
-            self.new.agents.items ≡ close_agents self.old.agents.items found result }
+            self.new.ends ≡ close_ends_at may end.0 ends (slice_get ends end.0) }
+        ensures agents { let found = slice_get self.old.ends end.0 in
+            self.new.agents ≡ close_agents self.old.agents found result }
         ensures roster { self.new.roster ≡ self.old.roster }
     {
         let may = self.can_close(end);
@@ -76,7 +76,7 @@ impl Core {
     }
 
     pub(crate) fn can_close(&self, end: EndId) -> bool
-        ensures { result ≡ kept_may_close self.now.ends.items end.0 }
+        ensures { result ≡ kept_may_close self.now.ends end.0 }
     {
         let Some(found) = self.ends.get(end.0 as usize) else {
             return false;
@@ -86,7 +86,7 @@ impl Core {
 
     /// Whether an end of this kind is no port whose own poster is inside or being turned back.
     fn is_released(&self, kind: Kind) -> bool
-        ensures { result ≡ kept_released self.now.ends.items kind }
+        ensures { result ≡ kept_released self.now.ends kind }
     {
         let Kind::Port(peer) = kind else {
             return true;
@@ -99,24 +99,24 @@ impl Core {
 
     /// Line 0 of the port with which a port is entangled.
     pub(crate) fn own_line(&self, peer: EndId) -> Option<Line>
-        ensures { result ≡ kept_own_line (slice_get self.now.ends.items peer.0) }
+        ensures { result ≡ kept_own_line (slice_get self.now.ends peer.0) }
     {
         self.ends.get(peer.0 as usize)?.lines.get(LineId(0))
     }
 
     pub(crate) fn hand(&mut self, end: EndId, agent: AgentId) -> Outcome
-        ensures outcome { let agents = self.old.agents.items in
-            let ends = self.old.ends.items in
+        ensures outcome { let agents = self.old.agents in
+            let ends = self.old.ends in
             let holder = kept_holder agents ends end.0 in
             let may = kept_may_take_over (length agents) agent holder in
             result ≡ hand_outcome_at may (slice_get ends end.0) }
-        ensures ends { let agents = self.old.agents.items in
-            let ends = self.old.ends.items in
+        ensures ends { let agents = self.old.agents in
+            let ends = self.old.ends in
             let holder = kept_holder agents ends end.0 in
             let may = kept_may_take_over (length agents) agent holder in
-            self.new.ends.items ≡ hand_ends_at may agent end.0 ends (slice_get ends end.0) }
-        ensures agents { let found = slice_get self.old.ends.items end.0 in
-            self.new.agents.items ≡ hand_agents self.old.agents.items found result }
+            self.new.ends ≡ hand_ends_at may agent end.0 ends (slice_get ends end.0) }
+        ensures agents { let found = slice_get self.old.ends end.0 in
+            self.new.agents ≡ hand_agents self.old.agents found result }
         ensures roster { self.new.roster ≡ self.old.roster }
     {
         let may = self.may_take_over(agent, self.running_holder(end));
@@ -134,7 +134,7 @@ impl Core {
 
     /// Whether an agent may take over what another one has.
     fn may_take_over(&self, agent: AgentId, holder: Option<AgentId>) -> bool
-        ensures { result ≡ kept_may_take_over (length self.now.agents.items) agent holder }
+        ensures { result ≡ kept_may_take_over (length self.now.agents) agent holder }
     {
         match holder {
             Some(holder) => (agent.0 as usize) < self.agents.len() && holder != agent,

@@ -23,16 +23,16 @@ use hub_envelope::{AgentId, Body, EndId, Envelope, Items, MAX_PORTS, OutOfMemory
 
 impl Core {
     pub(crate) fn enter(&mut self, sender: Sender) -> Outcome
-        ensures outcome { let ends = self.old.ends.items in
+        ensures outcome { let ends = self.old.ends in
             let cast = cast_now self.old.roster.cast in
-            let may = kept_may_enter self.old.agents.items ends cast sender in
+            let may = kept_may_enter self.old.agents ends cast sender in
             result ≡ enter_outcome_at may sender.line.0 (slice_get ends sender.end.0) }
-        ensures ends { let ends = self.old.ends.items in
+        ensures ends { let ends = self.old.ends in
             let cast = cast_now self.old.roster.cast in
-            let may = kept_may_enter self.old.agents.items ends cast sender in
-            self.new.ends.items ≡ enter_ends_at may sender ends (slice_get ends sender.end.0) }
-        ensures agents { let owner = kept_owner_of self.old.ends.items sender in
-            self.new.agents.items ≡ enter_agents owner self.old.agents.items result }
+            let may = kept_may_enter self.old.agents ends cast sender in
+            self.new.ends ≡ enter_ends_at may sender ends (slice_get ends sender.end.0) }
+        ensures agents { let owner = kept_owner_of self.old.ends sender in
+            self.new.agents ≡ enter_agents owner self.old.agents result }
         ensures roster { self.new.roster ≡ self.old.roster }
     {
         if !self.may_enter(sender) {
@@ -50,12 +50,12 @@ impl Core {
     }
 
     pub(crate) fn leave(&mut self, sender: Sender) -> Outcome
-        ensures outcome { let ends = self.old.ends.items in
+        ensures outcome { let ends = self.old.ends in
             result ≡ leave_outcome_at sender.line.0 (slice_get ends sender.end.0) }
-        ensures ends { let ends = self.old.ends.items in
-            self.new.ends.items ≡ leave_ends_at sender ends (slice_get ends sender.end.0) }
-        ensures agents { let owner = kept_owner_of self.old.ends.items sender in
-            self.new.agents.items ≡ leave_agents owner self.old.agents.items result }
+        ensures ends { let ends = self.old.ends in
+            self.new.ends ≡ leave_ends_at sender ends (slice_get ends sender.end.0) }
+        ensures agents { let owner = kept_owner_of self.old.ends sender in
+            self.new.agents ≡ leave_agents owner self.old.agents result }
         ensures cast { let cast = cast_now self.old.roster.cast in
             cast_now self.new.roster.cast ≡ cast_left sender.end.0 result cast }
         ensures members { self.new.roster.members ≡ self.old.roster.members }
@@ -73,14 +73,14 @@ impl Core {
     }
 
     pub(crate) fn hop(&mut self, sender: Sender) -> Outcome
-        ensures outcome { let ends = self.old.ends.items in
+        ensures outcome { let ends = self.old.ends in
             let cast = cast_now self.old.roster.cast in
-            let may = kept_may_enter self.old.agents.items ends cast sender in
+            let may = kept_may_enter self.old.agents ends cast sender in
             result ≡ hop_outcome_at may sender.line.0 (slice_get ends sender.end.0) }
-        ensures ends { let ends = self.old.ends.items in
+        ensures ends { let ends = self.old.ends in
             let cast = cast_now self.old.roster.cast in
-            let may = kept_may_enter self.old.agents.items ends cast sender in
-            self.new.ends.items ≡ hop_ends_at may sender ends (slice_get ends sender.end.0) }
+            let may = kept_may_enter self.old.agents ends cast sender in
+            self.new.ends ≡ hop_ends_at may sender ends (slice_get ends sender.end.0) }
         ensures agents { self.new.agents ≡ self.old.agents }
         ensures roster { self.new.roster ≡ self.old.roster }
     {
@@ -100,17 +100,17 @@ impl Core {
         body: Body,
         memory_refused: bool,
     ) -> Result<Outcome, OutOfMemory>
-        ensures outcome { let agents = self.old.agents.items in
-            let ends = self.old.ends.items in
+        ensures outcome { let agents = self.old.agents in
+            let ends = self.old.ends in
             let cast = cast_now self.old.roster.cast in
             let posting = kept_posting agents ends cast sender ports body memory_refused in
             IfOk result (λ o. o ≡ push_outcome posting) }
-        ensures ends { let agents = self.old.agents.items in
-            let ends = self.old.ends.items in
+        ensures ends { let agents = self.old.agents in
+            let ends = self.old.ends in
             let cast = cast_now self.old.roster.cast in
             let posting = kept_posting agents ends cast sender ports body memory_refused in
-            OnOk result (PushLeaves sender ports body ends posting self.new.ends.items) }
-        ensures err { OnErr result (self.new.ends.items ≡ self.old.ends.items) }
+            OnOk result (PushLeaves sender ports body ends posting self.new.ends) }
+        ensures err { OnErr result (self.new.ends ≡ self.old.ends) }
         ensures agents { self.new.agents ≡ self.old.agents }
         ensures roster { self.new.roster ≡ self.old.roster }
     {
@@ -148,13 +148,13 @@ impl Core {
         body: &Body,
         memory_refused: bool,
     ) -> Result<(Line, AgentId), Outcome>
-        ensures answer { let agents = self.now.agents.items in
-            let ends = self.now.ends.items in
+        ensures answer { let agents = self.now.agents in
+            let ends = self.now.ends in
             let cast = cast_now self.now.roster.cast in
             result ≡ kept_posting agents ends cast sender ports.now body.now memory_refused }
         ensures few { OnOk result (length ports.now ≤ MAX_PORTS) }
-        ensures there { IfOk result (λ p. (sender.end.0 < length self.now.ends.items)
-            × HasQueue self.now.ends.items sender p.0) }
+        ensures there { IfOk result (λ p. (sender.end.0 < length self.now.ends)
+            × HasQueue self.now.ends sender p.0) }
     {
         let Some(end) = self.ends.get(sender.end.0 as usize) else {
             return Err(Outcome::NotNow);
@@ -198,13 +198,13 @@ impl Core {
         sender: Sender,
         memory_refused: bool,
     ) -> Result<Outcome, OutOfMemory>
-        ensures outcome { let ends = self.old.ends.items in
+        ensures outcome { let ends = self.old.ends in
             let noticing = kept_noticing ends sender memory_refused in
             IfOk result (λ o. o ≡ notice_outcome noticing) }
-        ensures ends { let ends = self.old.ends.items in
+        ensures ends { let ends = self.old.ends in
             let noticing = kept_noticing ends sender memory_refused in
-            OnOk result (NoticeLeaves sender ends noticing self.new.ends.items) }
-        ensures err { OnErr result (self.new.ends.items ≡ self.old.ends.items) }
+            OnOk result (NoticeLeaves sender ends noticing self.new.ends) }
+        ensures err { OnErr result (self.new.ends ≡ self.old.ends) }
         ensures agents { self.new.agents ≡ self.old.agents }
         ensures roster { self.new.roster ≡ self.old.roster }
     {
@@ -234,9 +234,9 @@ impl Core {
 
     /// The line, where its poster may put a notice now; or what the step is answered.
     fn noticing(&self, sender: Sender, memory_refused: bool) -> Result<Line, Outcome>
-        ensures answer { result ≡ kept_noticing self.now.ends.items sender memory_refused }
-        ensures there { IfOk result (λ line. (sender.end.0 < length self.now.ends.items)
-            × HasQueue self.now.ends.items sender line) }
+        ensures answer { result ≡ kept_noticing self.now.ends sender memory_refused }
+        ensures there { IfOk result (λ line. (sender.end.0 < length self.now.ends)
+            × HasQueue self.now.ends sender line) }
     {
         let Some(end) = self.ends.get(sender.end.0 as usize) else {
             return Err(Outcome::NotNow);
@@ -255,12 +255,12 @@ impl Core {
 
     /// Puts an envelope on a line, and its ports in flight.
     fn accept(&mut self, line: Line, envelope: Envelope) -> Result<(), OutOfMemory>
-        requires there { envelope.end.0 < length self.old.ends.items }
-        requires queue { HasQueue self.old.ends.items
+        requires there { envelope.end.0 < length self.old.ends }
+        requires queue { HasQueue self.old.ends
             (record { end = envelope.end; line = envelope.line }) line }
-        ensures ok { OnOk result (AcceptLeaves self.old.ends.items line envelope
-            self.new.ends.items) }
-        ensures err { OnErr result (self.new.ends.items ≡ self.old.ends.items) }
+        ensures ok { OnOk result (AcceptLeaves self.old.ends line envelope
+            self.new.ends) }
+        ensures err { OnErr result (self.new.ends ≡ self.old.ends) }
         ensures agents { self.new.agents ≡ self.old.agents }
         ensures roster { self.new.roster ≡ self.old.roster }
     {
@@ -279,12 +279,12 @@ impl Core {
 
     /// Puts an envelope last in the queue at which its line stands.
     fn put(&mut self, line: Line, envelope: Envelope) -> Result<(), OutOfMemory>
-        requires there { envelope.end.0 < length self.old.ends.items }
-        requires queue { HasQueue self.old.ends.items
+        requires there { envelope.end.0 < length self.old.ends }
+        requires queue { HasQueue self.old.ends
             (record { end = envelope.end; line = envelope.line }) line }
-        ensures ok { OnOk result (PutLeaves self.old.ends.items line envelope
-            self.new.ends.items) }
-        ensures err { OnErr result (self.new.ends.items ≡ self.old.ends.items) }
+        ensures ok { OnOk result (PutLeaves self.old.ends line envelope
+            self.new.ends) }
+        ensures err { OnErr result (self.new.ends ≡ self.old.ends) }
         ensures agents { self.new.agents ≡ self.old.agents }
         ensures roster { self.new.roster ≡ self.old.roster }
     {
@@ -302,7 +302,7 @@ impl Core {
         ports: &[EndId],
     ) -> bool
         ensures { result
-            ≡ is_good (kept_listing_to self.now.ends.items target agent source ports.now) }
+            ≡ is_good (kept_listing_to self.now.ends target agent source ports.now) }
     {
         ports.is_empty() || self.listing_to(target, agent, source, ports).is_good()
     }
@@ -316,7 +316,7 @@ impl Core {
         source: Option<EndId>,
         ports: &[EndId],
     ) -> Listing
-        ensures { result ≡ kept_listing_to self.now.ends.items target agent source ports.now }
+        ensures { result ≡ kept_listing_to self.now.ends target agent source ports.now }
     {
         if !self.may_all_leave(agent, source, ports) {
             return Listing::Bad;
@@ -330,7 +330,7 @@ impl Core {
 
     /// Whether these are distinct ports that may leave an agent.
     fn may_all_leave(&self, agent: AgentId, source: Option<EndId>, ports: &[EndId]) -> bool
-        ensures { result ≡ kept_all_leave self.now.ends.items agent source ports.now }
+        ensures { result ≡ kept_all_leave self.now.ends agent source ports.now }
     {
         for (i, port) in ports.iter().enumerate() {
             if ports[i + 1..].contains(port) || !self.may_leave(agent, source, *port) {
@@ -342,7 +342,7 @@ impl Core {
 
     /// Whether a port may leave an agent that posts with another one, the source, or with none.
     fn may_leave(&self, agent: AgentId, source: Option<EndId>, port: EndId) -> bool
-        ensures { result ≡ kept_may_leave self.now.ends.items agent source port }
+        ensures { result ≡ kept_may_leave self.now.ends agent source port }
     {
         let Some(end) = self.ends.get(port.0 as usize) else {
             return false;
@@ -352,7 +352,7 @@ impl Core {
 
     /// Whether an end of this kind is a port whose own poster is out, with no notice of it.
     fn is_free(&self, kind: Kind) -> bool
-        ensures { result ≡ kept_own_free self.now.ends.items kind }
+        ensures { result ≡ kept_own_free self.now.ends kind }
     {
         let Kind::Port(peer) = kind else {
             return false;
@@ -365,7 +365,7 @@ impl Core {
 
     /// Gives each listed port a new place.
     pub(crate) fn place_each(&mut self, ports: &[EndId], place: Place)
-        ensures ends { Moves ports.now place self.old.ends.items self.new.ends.items }
+        ensures ends { Moves ports.now place self.old.ends self.new.ends }
         ensures agents { self.new.agents ≡ self.old.agents }
         ensures roster { self.new.roster ≡ self.old.roster }
     {
@@ -376,7 +376,7 @@ impl Core {
 
     /// Gives a port a new place.
     fn place(&mut self, port: EndId, place: Place)
-        ensures ends { Moves (port ∷ []) place self.old.ends.items self.new.ends.items }
+        ensures ends { Moves (port ∷ []) place self.old.ends self.new.ends }
         ensures agents { self.new.agents ≡ self.old.agents }
         ensures roster { self.new.roster ≡ self.old.roster }
     {

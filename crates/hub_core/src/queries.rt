@@ -28,7 +28,7 @@ impl Core {
 
     fn can_post(&self, sender: Sender) -> bool
         ensures { let cast = cast_now self.now.roster.cast in
-            result ≡ kept_may_post self.now.agents.items self.now.ends.items cast sender }
+            result ≡ kept_may_post self.now.agents self.now.ends cast sender }
     {
         let Some(end) = self.ends.get(sender.end.0 as usize) else {
             return false;
@@ -48,9 +48,9 @@ impl Core {
     }
 
     fn kind_of_list(&self, sender: Sender, ports: &[EndId]) -> Listing
-        ensures { let ends = self.now.ends.items in
+        ensures { let ends = self.now.ends in
             let cast = cast_now self.now.roster.cast in
-            result ≡ kept_listing self.now.agents.items ends cast sender ports.now }
+            result ≡ kept_listing self.now.agents ends cast sender ports.now }
     {
         let Some(end) = self.ends.get(sender.end.0 as usize) else {
             return Listing::Bad;
@@ -69,7 +69,7 @@ impl Core {
     }
 
     pub(crate) fn kind_at(&self, end: EndId) -> Option<Kind>
-        ensures { result ≡ option_map (λ x. x.kind) (slice_get self.now.ends.items end.0) }
+        ensures { result ≡ option_map (λ x. x.kind) (slice_get self.now.ends end.0) }
     {
         Some(self.ends.get(end.0 as usize)?.kind)
     }

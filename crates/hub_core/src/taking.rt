@@ -10,12 +10,12 @@ use hub_envelope::EndId;
 
 impl Core {
     pub(crate) fn start(&mut self, end: EndId) -> Outcome
-        ensures outcome { let ends = self.old.ends.items in
-            let holder = kept_holder self.old.agents.items ends end.0 in
+        ensures outcome { let ends = self.old.ends in
+            let holder = kept_holder self.old.agents ends end.0 in
             result ≡ start_outcome holder (slice_get ends end.0) }
-        ensures ends { let ends = self.old.ends.items in
-            let holder = kept_holder self.old.agents.items ends end.0 in
-            self.new.ends.items ≡ start_ends holder end.0 ends (slice_get ends end.0) }
+        ensures ends { let ends = self.old.ends in
+            let holder = kept_holder self.old.agents ends end.0 in
+            self.new.ends ≡ start_ends holder end.0 ends (slice_get ends end.0) }
         ensures agents { self.new.agents ≡ self.old.agents }
         ensures roster { self.new.roster ≡ self.old.roster }
     {
@@ -34,9 +34,9 @@ impl Core {
     }
 
     pub(crate) fn take(&mut self, end: EndId) -> Outcome
-        ensures ends { let ends = self.old.ends.items in
-            let holder = kept_holder self.old.agents.items ends end.0 in
-            TakeLeaves holder end.0 ends (slice_get ends end.0) result self.new.ends.items }
+        ensures ends { let ends = self.old.ends in
+            let holder = kept_holder self.old.agents ends end.0 in
+            TakeLeaves holder end.0 ends (slice_get ends end.0) result self.new.ends }
         ensures agents { self.new.agents ≡ self.old.agents }
         ensures roster { self.new.roster ≡ self.old.roster }
     {

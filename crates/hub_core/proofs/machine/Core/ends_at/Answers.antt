@@ -9,9 +9,9 @@ use Rattle.hub_core.proofs.machine.Core.ends_at.Goals as goal
 pub loop-number-preserved : goal.loop-number-preserved
 loop-number-preserved c =
     let n : ℕ = c.loop-number.number in
-    let ends : List End = c.args.self.now.ends.items in
+    let ends : List End = c.args.self.now.ends in
     let next_one : n + 1 ≡ suc n = omega arith in
-    let same : c.deref-end-items.result.now ≡ ends = c.deref-end-items.ensures.value in
+    let same : c.deref-end-items.result.now ≡ ends = c.deref-end-items.ensures.value ∙ ap (λ s. s.ends) c.self.view_is in
     let at : slice_get ends n ≡ Some c.end-item.result = ap (λ xs. slice_get xs n) (sym same) ∙ slice_get_read c.deref-end-items.result.now (length c.deref-end-items.result.now) n c.end-item.result refl c.loop-number-test.true c.end-item.is in
     let found : is_kept_at c.args.agent (slice_get ends n) ≡ c.is_at.result = ap (is_kept_at c.args.agent) at ∙ sym c.is_at.ensures in
     c.in_ok-add_where.ensures

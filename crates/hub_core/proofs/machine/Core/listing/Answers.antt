@@ -5,4 +5,4 @@ use Rattle.hub_core.proofs.Asks.{listing_kept}
 use Rattle.hub_core.proofs.machine.Core.listing.Goals as goal
 
 pub returns : goal.returns
-returns c = λ h s. c.kind_of_list.ensures ∙ listing_kept c.args.self.now.agents.items c.args.self.now.ends.items (facts h) _ c.args.sender c.args.ports.now s.0 s.1.cast
+returns c = λ h s. c.kind_of_list.ensures ∙ listing_kept c.args.self.now.agents c.args.self.now.ends (facts h) _ c.args.sender c.args.ports.now s.0 s.1.cast

@@ -5,4 +5,4 @@ use Rattle.hub_core.proofs.Closes.{may_close_kept}
 use Rattle.hub_core.proofs.machine.Core.may_close.Goals as goal
 
 pub returns : goal.returns
-returns c = λ h s. c.can_close.ensures ∙ may_close_kept c.args.self.now.agents.items c.args.self.now.ends.items (facts h) c.args.end.0 s.0
+returns c = λ h s. c.can_close.ensures ∙ may_close_kept c.args.self.now.agents c.args.self.now.ends (facts h) c.args.end.0 s.0

@@ -5,4 +5,4 @@ use Rattle.hub_core.proofs.Asks.{post_kept}
 use Rattle.hub_core.proofs.machine.Core.may_post.Goals as goal
 
 pub returns : goal.returns
-returns c = λ h s. c.can_post.ensures ∙ post_kept c.args.self.now.agents.items c.args.self.now.ends.items (facts h) _ c.args.sender s.0 s.1.cast
+returns c = λ h s. c.can_post.ensures ∙ post_kept c.args.self.now.agents c.args.self.now.ends (facts h) _ c.args.sender s.0 s.1.cast

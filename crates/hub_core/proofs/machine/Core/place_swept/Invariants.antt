@@ -6,7 +6,7 @@ use Rattle.hub_core.proofs.machine.Core.place_swept.Given as goal
 -- the ports of the envelopes so far are placed
 abbrev pub invariant-loop-envelope : goal.invariant-loop-envelope
 invariant-loop-envelope l = record {
-  ends : Moves (ports_of (take l.envelope-index l.envelopes)) Swept l.fn.self.ends.items l.self.ends.items;
+  ends : Moves (ports_of (take l.envelope-index l.envelopes)) Swept l.fn.self.ends l.self.ends;
   agents : l.self.agents ≡ l.fn.self.agents;
   roster : l.self.roster ≡ l.fn.self.roster;
 }
