@@ -22,7 +22,7 @@ use Rattle.hub_core.specs.Casting.{cast_answer, destinations, is_casting, part_a
 use Rattle.hub_core.specs.Shows.{ShowsFacts, ShowsRoster, end_now}
 use Rattle.hub_core.specs.Kept.{kept_holder, kept_maker, kept_running}
 use Rattle.hub_core.specs.KeptCasting.{is_kept_open, kept_cast_answer, kept_member_answer, member_made, part_outcome}
-use Rattle.hub_core.specs.KeptRoster.{cast_now, group_of, is_seated_in, kept_destinations, origin_at}
+use Rattle.hub_core.specs.KeptRoster.{group_of, is_seated_in, kept_destinations, origin_at}
 use Rattle.hub_core.proofs.Casts.{destinations_kept, seated_kept}
 use Rattle.hub_core.proofs.Frames.{Stepped}
 use Rattle.hub_core.proofs.Holders.{holder_kept, maker_now, runs_kept}
@@ -32,13 +32,13 @@ use Rattle.hub_core.proofs.Nexts.{next}
 
 -- ---- Member
 
-casting_kept : (r : Roster) (f : Facts) → ShowsRoster r f → is_some (cast_now r.cast) ≡ is_casting f
+casting_kept : (r : Roster) (f : Facts) → ShowsRoster r f → is_some r.cast ≡ is_casting f
 casting_kept r f h = ap is_some (sym h.cast)
 
-pub member_told : (agents : List Agent) (ends new : List End) (r : Roster) (f : Facts) (a : AgentId) (name : List ℕ) (refused : Bool) (o : Outcome) → ShowsFacts agents ends f → ShowsRoster r f → o ≡ kept_member_answer (kept_running agents a.0 && not (is_some (cast_now r.cast))) (is_some (origin_at (slice_get r.members.origins.items a.0))) (length ends) refused → new ≡ member_made a ends o → Stepped agents new f (action.Member a name) refused o
+pub member_told : (agents : List Agent) (ends new : List End) (r : Roster) (f : Facts) (a : AgentId) (name : List ℕ) (refused : Bool) (o : Outcome) → ShowsFacts agents ends f → ShowsRoster r f → o ≡ kept_member_answer (kept_running agents a.0 && not (is_some r.cast)) (is_some (origin_at (slice_get r.members.origins.items a.0))) (length ends) refused → new ≡ member_made a ends o → Stepped agents new f (action.Member a name) refused o
 member_told agents ends new r f a name refused o h w says leaves =
-    member_shown agents ends new f a name (kept_running agents a.0 && not (is_some (cast_now r.cast))) (is_some (origin_at (slice_get r.members.origins.items a.0))) refused o h
-    (ap (λ b. b && not (is_some (cast_now r.cast))) (runs_kept agents ends f a.0 h) ∙ ap (λ b. (f.agent a.0).runs && not b) (casting_kept r f w))
+    member_shown agents ends new f a name (kept_running agents a.0 && not (is_some r.cast)) (is_some (origin_at (slice_get r.members.origins.items a.0))) refused o h
+    (ap (λ b. b && not (is_some r.cast)) (runs_kept agents ends f a.0 h) ∙ ap (λ b. (f.agent a.0).runs && not b) (casting_kept r f w))
     (ap is_some (sym (w.origins a.0))) says leaves
 
 -- ---- another roster
@@ -79,12 +79,12 @@ cast_tests false seated held none u p ds es a b c casting = refl
 cast_tests true seated held none u p ds es a b c true = refl
 cast_tests true seated held none u p ds es a b c false = rw (a refl, b, c refl) refl
 
-pub cast_told : (agents : List Agent) (ends : List End) (r : Roster) (f : Facts) (e : EndId) (ports : List EndId) (body : List ℕ) (refused : Bool) → ShowsFacts agents ends f → ShowsRoster r f → (let o : Outcome = kept_cast_answer (is_some (kept_maker (slice_get ends e.0)) && not (is_some (cast_now r.cast))) (is_seated_in r.members e.0 (group_of r.members e.0) && is_kept_open (slice_get ends e.0)) (kept_holder agents ends e.0) (is_empty ports) (kept_destinations r.members e.0) in Stepped agents ends f (action.Cast e ports body) refused o)
+pub cast_told : (agents : List Agent) (ends : List End) (r : Roster) (f : Facts) (e : EndId) (ports : List EndId) (body : List ℕ) (refused : Bool) → ShowsFacts agents ends f → ShowsRoster r f → (let o : Outcome = kept_cast_answer (is_some (kept_maker (slice_get ends e.0)) && not (is_some r.cast)) (is_seated_in r.members e.0 (group_of r.members e.0) && is_kept_open (slice_get ends e.0)) (kept_holder agents ends e.0) (is_empty ports) (kept_destinations r.members e.0) in Stepped agents ends f (action.Cast e ports body) refused o)
 cast_told agents ends r f e ports body refused h w =
     let found : Option End = slice_get ends e.0 in
     let maker : kept_maker found ≡ maker_of (f.end e.0).kind = maker_now found ∙ ap (λ (y : EndNow). maker_of y.kind) (sym (h.end e.0).same) in
-    let answer : kept_cast_answer (is_some (kept_maker found) && not (is_some (cast_now r.cast))) (is_seated_in r.members e.0 (group_of r.members e.0) && is_kept_open found) (kept_holder agents ends e.0) (is_empty ports) (kept_destinations r.members e.0) ≡ cast_answer f e ports =
-    ap (λ m. kept_cast_answer (is_some m && not (is_some (cast_now r.cast))) (is_seated_in r.members e.0 (group_of r.members e.0) && is_kept_open found) (kept_holder agents ends e.0) (is_empty ports) (kept_destinations r.members e.0)) maker
+    let answer : kept_cast_answer (is_some (kept_maker found) && not (is_some r.cast)) (is_seated_in r.members e.0 (group_of r.members e.0) && is_kept_open found) (kept_holder agents ends e.0) (is_empty ports) (kept_destinations r.members e.0) ≡ cast_answer f e ports =
+    ap (λ m. kept_cast_answer (is_some m && not (is_some r.cast)) (is_seated_in r.members e.0 (group_of r.members e.0) && is_kept_open found) (kept_holder agents ends e.0) (is_empty ports) (kept_destinations r.members e.0)) maker
     ∙ ap (λ b. kept_cast_answer (is_some (maker_of (f.end e.0).kind) && not b) (is_seated_in r.members e.0 (group_of r.members e.0) && is_kept_open found) (kept_holder agents ends e.0) (is_empty ports) (kept_destinations r.members e.0)) (casting_kept r f w)
     ∙ cast_tests (is_some (maker_of (f.end e.0).kind)) (has_end e.0 f.roster.members && not (f.end e.0).closed) (is_some (holder f e.0)) (is_empty ports) _ (kept_holder agents ends e.0) (kept_destinations r.members e.0) (destinations f e.0)
     (λ made. ap (λ b. b && is_kept_open found) (seated_kept r f e.0 w) ∙ ap (λ b. has_end e.0 f.roster.members && b) (open_now found (ap is_some (sym (maker_now found) ∙ maker) ∙ made) ∙ ap (λ (y : EndNow). not y.closed) (sym (h.end e.0).same)))
@@ -96,10 +96,10 @@ cast_told agents ends r f e ports body refused h w =
 
 -- ---- Part
 
-pub part_told : (agents : List Agent) (ends : List End) (r : Roster) (f : Facts) (e : EndId) (refused : Bool) → ShowsFacts agents ends f → ShowsRoster r f → (let o : Outcome = part_outcome (is_seated_in r.members e.0 (group_of r.members e.0) && not (is_some (cast_now r.cast))) in Stepped agents ends f (action.Part e) refused o)
+pub part_told : (agents : List Agent) (ends : List End) (r : Roster) (f : Facts) (e : EndId) (refused : Bool) → ShowsFacts agents ends f → ShowsRoster r f → (let o : Outcome = part_outcome (is_seated_in r.members e.0 (group_of r.members e.0) && not (is_some r.cast)) in Stepped agents ends f (action.Part e) refused o)
 part_told agents ends r f e refused h w =
     part_leaves agents ends f e refused _ h
-    (ap (λ b. part_outcome (b && not (is_some (cast_now r.cast)))) (seated_kept r f e.0 w) ∙ ap (λ b. part_outcome (has_end e.0 f.roster.members && not b)) (casting_kept r f w))
+    (ap (λ b. part_outcome (b && not (is_some r.cast))) (seated_kept r f e.0 w) ∙ ap (λ b. part_outcome (has_end e.0 f.roster.members && not b)) (casting_kept r f w))
 
 -- a cast that passes each test goes to the destinations
 pub cast_goes : (m : Option AgentId) (casting seated shut none : Bool) (p : Option AgentId) (ds es : List EndId) → is_some m ≡ true → casting ≡ false → seated ≡ true → shut ≡ true → is_some p ≡ true → none ≡ true → ds ≡ es → outcome.Destinations ds ≡ kept_cast_answer (is_some m && not casting) (seated && shut) p none es

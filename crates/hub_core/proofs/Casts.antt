@@ -13,7 +13,6 @@ use Rattle.hub_envelope.specs.declared.ids.EndId.{EndId}
 use Rattle.hub_core.specs.declared.group.Group.{Group}
 use Rattle.hub_core.specs.declared.kind.Kind.{Kind}
 use Rattle.hub_core.specs.declared.kind.Kind.TheVariants.{Port, Client, Worker, Member}
-use Rattle.hub_core.specs.declared.members.Members.{Members}
 use Rattle.hub_core.specs.declared.roster.Roster.{Roster}
 use Rattle.hub_core.specs.declared.sender.Sender.{Sender}
 use Rattle.hub_core.specs.declared.step.Action.{Action}
@@ -22,12 +21,12 @@ use Rattle.hub_core.specs.declared.outcome.Outcome.{Outcome}
 use Rattle.hub_core.specs.declared.outcome.Outcome.TheVariants as outcome
 use Rattle.hub_core.specs.Facts.{Facts, facts}
 use Rattle.hub_core.specs.Fits.{Answers}
-use Rattle.hub_core.specs.Roster.{CastNow, RosterNow, is_same_group, is_of_group, has_end, group_named, cast_after}
+use Rattle.hub_core.specs.Roster.{CastNow, RosterNow, is_same_group, is_of_group, has_end, group_named, cast_to, cast_after}
 use Rattle.hub_core.specs.Sound.{Sound, SoundPlaces}
 use Rattle.hub_core.specs.Unchanged.{changes_nothing}
 use Rattle.hub_core.specs.Shows.{IsMemberNow, ShowsRoster}
 use Rattle.hub_core.specs.Casting.{destinations, destinations_of, is_casting, part_answer}
-use Rattle.hub_core.specs.KeptRoster.{AgentLeaves, CastLeaves, IsFirst, JoinsGroup, MemberLeaves, PartLeaves, SameRoster, cast_left, cast_now, group_cmp, group_of, is_in, is_seated_in, kept_destinations, numbers_in, numbers_of, numbers_with, origin_at, others_of, parted, seated_without}
+use Rattle.hub_core.specs.KeptRoster.{AgentLeaves, IsFirst, JoinsGroup, MemberLeaves, PartLeaves, SameRoster, cast_left, cast_roster, group_cmp, group_of, is_in, is_seated_in, kept_destinations, numbers_in, numbers_of, numbers_with, origin_at, others_of, parted, seated_without}
 use Rattle.hub_core.proofs.Lists.{eqb_same, slice_get-append_front, slice_get-append_back}
 use Rattle.std.proofs.lemmas.Option.{slice_get_past}
 use Rattle.std.proofs.Common.{length-append}
@@ -50,7 +49,7 @@ roster_first r h = record {
   groups = λ x a is. absurd (search (rules, is));
   seated = h.seated;
   each = tt;
-  cast = sym (ap cast_now h.cast);
+  cast = sym h.cast;
 }
 
 pub same_members : (n : ℕ) (r s : Roster) → s ≡ r → SameRoster n r s
@@ -60,17 +59,7 @@ same_members n r s same = record {
     groups = λ x _. ap (λ (t : Roster). group_of t.members x) same;
     seated = λ k. ap (λ (t : Roster). numbers_of t.members k) same;
   };
-  cast = ap (λ (t : Roster). cast_now t.cast) same;
-}
-
-pub same_cast : (n : ℕ) (r s : Roster) → s.members ≡ r.members → cast_now s.cast ≡ cast_now r.cast → SameRoster n r s
-same_cast n r s same cast = record {
-  members = record {
-    origins = ap (λ (m : Members). m.origins.items) same;
-    groups = λ x _. ap (λ (m : Members). group_of m x) same;
-    seated = λ k. ap (λ (m : Members). numbers_of m k) same;
-  };
-  cast = cast;
+  cast = ap (λ (t : Roster). t.cast) same;
 }
 
 -- the same agents, and the same members
@@ -81,7 +70,7 @@ same_enrolled n r s origins groups seated cast = record {
     groups = λ x _. ap (λ m. get nat_cmp m x) groups;
     seated = λ k. ap (λ m. numbers_in (get group_cmp m k)) seated;
   };
-  cast = ap cast_now cast;
+  cast = cast;
 }
 
 -- a Leave that changes nothing leaves the cast
@@ -236,7 +225,7 @@ roster_agent r s f origin refused (outcome.Agent n) h fits leaves =
       groups = λ x a is. h.groups x a is ∙ ap (λ m. get nat_cmp m x) (sym leaves.1);
       seated = λ k. ap (λ m. numbers_in (get group_cmp m k)) leaves.2 ∙ h.seated k;
       each = members_still f (next f (action.Agent origin) (outcome.Agent n)) (λ x k is. is) (λ x a is. refl) f.roster.members h.each;
-      cast = h.cast ∙ sym (ap cast_now leaves.3);
+      cast = h.cast ∙ sym leaves.3;
     }
 roster_agent r s f origin refused (outcome.Clear None) h fits leaves = subst (λ t. ShowsRoster t f) (sym leaves) h
 roster_agent r s f origin refused (outcome.Clear (Some k)) h fits leaves = subst (λ t. ShowsRoster t f) (sym leaves) h
@@ -245,27 +234,27 @@ roster_agent r s f origin refused o h fits leaves = subst (λ t. ShowsRoster t f
 -- ---- another cast
 
 -- the same members, and another cast
-recast : (r s : Roster) (f g : Facts) → ShowsRoster r f → s.members ≡ r.members → g.agents ≡ f.agents → ((x : ℕ) → (g.end x).kind ≡ (f.end x).kind) → g.roster ≡ record f.roster { cast = g.roster.cast } → g.roster.cast ≡ cast_now s.cast → ShowsRoster s g
-recast r s f g h same agents kinds roster cast = record {
-  agents = ap (λ (m : Members). length m.origins.items) same ∙ h.agents ∙ sym agents;
-  origins = λ a. ap (λ (w : RosterNow). w.origin a) roster ∙ h.origins a ∙ ap (λ (m : Members). origin_at (slice_get m.origins.items a)) (sym same);
-  groups = λ x a is. ap (λ (w : RosterNow). w.group x) roster ∙ h.groups x a (sym (kinds x) ∙ is) ∙ ap (λ (m : Members). group_of m x) (sym same);
-  seated = λ k. ap (λ (m : Members). numbers_of m k) same ∙ h.seated k ∙ ap (λ (w : RosterNow). numbers_with w k w.members) (sym roster);
+recast : (r : Roster) (c : Option CastNow) (f g : Facts) → ShowsRoster r f → g.agents ≡ f.agents → ((x : ℕ) → (g.end x).kind ≡ (f.end x).kind) → g.roster ≡ record f.roster { cast = g.roster.cast } → g.roster.cast ≡ c → ShowsRoster (record r { cast = c }) g
+recast r c f g h agents kinds roster cast = record {
+  agents = h.agents ∙ sym agents;
+  origins = λ a. ap (λ (w : RosterNow). w.origin a) roster ∙ h.origins a;
+  groups = λ x a is. ap (λ (w : RosterNow). w.group x) roster ∙ h.groups x a (sym (kinds x) ∙ is);
+  seated = λ k. h.seated k ∙ ap (λ (w : RosterNow). numbers_with w k w.members) (sym roster);
   each = subst (AllByRecursion (IsMemberNow g)) (ap (λ (w : RosterNow). w.members) (sym roster)) (members_still f g (λ x k is. kinds x ∙ is) (λ x a _. ap (λ (w : RosterNow). w.group x) roster) f.roster.members h.each);
   cast = cast;
 }
 
-pub roster_leave : (r s : Roster) (f : Facts) (t : Sender) (o : Outcome) → ShowsRoster r f → s.members ≡ r.members → cast_now s.cast ≡ cast_left t.end.0 o (cast_now r.cast) → ShowsRoster s (next f (action.Leave t) o)
-roster_leave r s f t outcome.Left h same cast = recast r s f (next f (action.Leave t) outcome.Left) h same refl (λ x. refl) refl (ap (cast_after t.end.0) h.cast ∙ sym cast)
-roster_leave r s f t (outcome.Clear None) h same cast = recast r s f f h same refl (λ x. refl) refl (h.cast ∙ sym cast)
-roster_leave r s f t (outcome.Clear (Some k)) h same cast = recast r s f f h same refl (λ x. refl) refl (h.cast ∙ sym cast)
-roster_leave r s f t o h same cast = recast r s f f h same refl (λ x. refl) refl (h.cast ∙ sym cast)
+pub roster_leave : (r : Roster) (f : Facts) (t : Sender) (o : Outcome) → ShowsRoster r f → ShowsRoster (record r { cast = cast_left t.end.0 o r.cast }) (next f (action.Leave t) o)
+roster_leave r f t outcome.Left h = recast r (cast_after t.end.0 r.cast) f (next f (action.Leave t) outcome.Left) h refl (λ x. refl) refl (ap (cast_after t.end.0) h.cast)
+roster_leave r f t (outcome.Clear None) h = h
+roster_leave r f t (outcome.Clear (Some k)) h = h
+roster_leave r f t o h = h
 
-pub roster_cast : (r s : Roster) (f : Facts) (e : EndId) (ports : List EndId) (body : List ℕ) (o : Outcome) → ShowsRoster r f → CastLeaves e body r o s → ShowsRoster s (next f (action.Cast e ports body) o)
-roster_cast r s f e ports body (outcome.Destinations ends) h leaves = recast r s f (next f (action.Cast e ports body) (outcome.Destinations ends)) h leaves.0 refl (λ x. refl) refl (sym leaves.1)
-roster_cast r s f e ports body (outcome.Clear None) h leaves = subst (λ t. ShowsRoster t f) (sym leaves) h
-roster_cast r s f e ports body (outcome.Clear (Some k)) h leaves = subst (λ t. ShowsRoster t f) (sym leaves) h
-roster_cast r s f e ports body o h leaves = subst (λ t. ShowsRoster t f) (sym leaves) h
+pub roster_cast : (r : Roster) (f : Facts) (e : EndId) (ports : List EndId) (body : List ℕ) (o : Outcome) → ShowsRoster r f → ShowsRoster (cast_roster e body r o) (next f (action.Cast e ports body) o)
+roster_cast r f e ports body (outcome.Destinations ends) h = recast r (cast_to e body ends) f (next f (action.Cast e ports body) (outcome.Destinations ends)) h refl (λ x. refl) refl refl
+roster_cast r f e ports body (outcome.Clear None) h = h
+roster_cast r f e ports body (outcome.Clear (Some k)) h = h
+roster_cast r f e ports body o h = h
 
 -- ---- a member more
 
@@ -311,7 +300,7 @@ module _ (r s : Roster) (f : Facts) (a : AgentId) (name : List ℕ) (refused : B
         each = all_more (IsMemberNow after) f.roster.members e
             (members_still f after (λ x u is. rw (old_one f e x made.number (kind_made f x u sound.places is)) is) (λ x b is. old x (let less : x < f.ends = kind_made f x (Member b) sound.places is in omega arith)) f.roster.members h.each)
             (record { maker = a; kind = ap (λ c. cond c (Some (Member a)) (f.end e.0).kind) (eqb_same e.0); group = k; is = here });
-        cast = h.cast ∙ sym (ap cast_now cast);
+        cast = h.cast ∙ sym cast;
       }
 
 pub roster_member : (r s : Roster) (f : Facts) (a : AgentId) (name : List ℕ) (refused : Bool) (o : Outcome) → Sound f → ShowsRoster r f → Answers f (action.Member a name) refused o → MemberLeaves a.0 name r o s → ShowsRoster s (next f (action.Member a name) o)
@@ -361,7 +350,7 @@ roster_part r s f e outcome.Done h fits leaves =
           ∙ ap (λ b. cond b (seated_without e.0 (numbers_with f.roster k f.roster.members)) (numbers_with f.roster k f.roster.members)) (group_flips at.group k ∙ ap (is_of_group k) (sym at.is))
           ∙ sym (numbers_less f.roster k e.0 f.roster.members);
       each = all_without (IsMemberNow after) e.0 f.roster.members (members_still f after (λ x k is. is) (λ x a is. refl) f.roster.members h.each);
-      cast = h.cast ∙ sym (ap cast_now leaves.1);
+      cast = h.cast ∙ sym leaves.1;
     }
   where
     parts_when : (there casting : Bool) → outcome.Done ≡ cond (there && not casting) outcome.Done outcome.NotNow → there ≡ true

@@ -16,6 +16,7 @@ use Rattle.hub_core.specs.declared.sender.Sender.{Sender}
 use Rattle.hub_core.specs.declared.end.End.{End}
 use Rattle.hub_core.specs.declared.step.Action.TheVariants as action
 use Rattle.hub_core.specs.declared.outcome.Outcome.TheVariants as outcome
+use Rattle.hub_core.specs.CoreState.{CoreState}
 use Rattle.hub_core.specs.Facts.{EndNow, LineNow, Facts}
 use Rattle.hub_core.specs.Posting.{is_out, enter_answer, leave_answer, may_enter, is_here, poster_of, is_with}
 use Rattle.hub_core.specs.Sound.{no_end, no_line, Sound}
@@ -211,6 +212,28 @@ enter_end_shown agents ends f s refused h (Some x) at shown true is =
 
 pub enter_shown : (agents : List Agent) (ends : List End) (f : Facts) (c : Option CastNow) (s : Sender) (refused : Bool) → ShowsFacts agents ends f → f.roster.cast ≡ c → (let o : Outcome = enter_outcome_at (kept_may_enter agents ends c s) s.line.0 (slice_get ends s.end.0) in Stepped (enter_agents (kept_owner_of ends s) agents o) (enter_ends_at (kept_may_enter agents ends c s) s ends (slice_get ends s.end.0)) f (action.Enter s) refused o)
 enter_shown agents ends f c s refused h cast = enter_end_shown agents ends f s refused h (slice_get ends s.end.0) refl (h.end s.end.0) (kept_may_enter agents ends c s) (may_kept agents ends f c s h cast)
+
+gate_counts : (agents : List Agent) (owner : Option AgentId) (retired closed : Bool) → change_owner one_away owner agents ≡ enter_agents owner agents (cond retired outcome.Moved (cond closed outcome.Closed outcome.In))
+gate_counts agents owner true closed = refl
+gate_counts agents owner false true = refl
+gate_counts agents owner false false = refl
+
+line_counts : (agents : List Agent) (owner : Option AgentId) (x : End) (q : Option Line) → (enter_outcome x q ≡ outcome.NotNow → ⊥) → change_owner one_away owner agents ≡ enter_agents owner agents (enter_outcome x q)
+line_counts agents owner x None comes = absurd (comes refl)
+line_counts agents owner x (Some y) comes = elim (may_come y) as (λ b. (cond b (gate_answer x y) outcome.NotNow ≡ outcome.NotNow → ⊥) → change_owner one_away owner agents ≡ enter_agents owner agents (cond b (gate_answer x y) outcome.NotNow)) [
+  | true ↦ λ _. gate_counts agents owner (nat_lt y.epoch x.newest) x.is_closed
+  | false ↦ λ no. absurd (no refl)
+] comes
+
+end_counts : (agents : List Agent) (owner : Option AgentId) (may : Bool) (l : ℕ) (q : Option End) → (enter_outcome_at may l q ≡ outcome.NotNow → ⊥) → change_owner one_away owner agents ≡ enter_agents owner agents (enter_outcome_at may l q)
+end_counts agents owner may l None comes = absurd (comes refl)
+end_counts agents owner false l (Some x) comes = absurd (comes refl)
+end_counts agents owner true l (Some x) comes = line_counts agents owner x (slice_get x.lines l) comes
+
+-- whoever comes inside, or is being turned back, is counted
+pub enter_counts : (c : CoreState) (s : Sender) (owner : Option AgentId) (o : Outcome) → o ≡ enter_outcome_at (kept_may_enter c.agents c.ends c.roster.cast s) s.line.0 (slice_get c.ends s.end.0) → (o ≡ outcome.NotNow → ⊥) → change_owner one_away owner c.agents ≡ enter_agents owner c.agents o
+enter_counts c s owner o says =
+    subst (λ p. (p ≡ outcome.NotNow → ⊥) → change_owner one_away owner c.agents ≡ enter_agents owner c.agents p) (sym says) (end_counts c.agents owner (kept_may_enter c.agents c.ends c.roster.cast s) s.line.0 (slice_get c.ends s.end.0))
 
 pub enter_agents_same : (owner : Option AgentId) (agents : List Agent) (s : Sender) (o : Outcome) → changes_nothing o (action.Enter s) ≡ true → enter_agents owner agents o ≡ agents
 enter_agents_same owner agents s outcome.In h = absurd (false≢true h)

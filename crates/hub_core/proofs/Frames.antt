@@ -5,12 +5,20 @@ use Rattle.hub_core.specs.declared.agent.Agent.{Agent}
 use Rattle.hub_core.specs.declared.end.End.{End}
 use Rattle.hub_core.specs.declared.step.Action.{Action}
 use Rattle.hub_core.specs.declared.outcome.Outcome.{Outcome}
+use Rattle.hub_core.specs.CoreState.{CoreState}
 use Rattle.hub_core.specs.Facts.{Facts, facts}
 use Rattle.hub_core.specs.Fits.{Answers}
 use Rattle.hub_core.specs.Shows.{ShowsEnd, ShowsFacts, agent_now}
 use Rattle.hub_core.proofs.Nexts.{next}
 use Rattle.hub_core.proofs.Counts.{Counted}
 use Rattle.hub_core.proofs.Sounds.{sound_first, sound_next}
+
+-- a core with other ends, and one with other agents
+abbrev pub with_ends : CoreState → List End → CoreState
+with_ends c ends = record c { ends = ends }
+
+abbrev pub with_agents : CoreState → List Agent → CoreState
+with_agents c agents = record c { agents = agents }
 
 -- what is shown of an end
 abbrev pub ShownAt : Facts → ℕ → Option End → Type 0

@@ -42,6 +42,7 @@ pub mod Hands
 pub mod Endings
 pub mod Stepping
 pub mod Stills
+pub mod Took
 pub mod Items
 pub mod Queueing
 pub mod Gating

@@ -21,11 +21,11 @@ use Rattle.hub_core.specs.Place.{names}
 use Rattle.hub_core.specs.Posting.{phase_of_line, is_inside, next_name}
 use Rattle.hub_core.specs.Sound.{Sound}
 use Rattle.hub_core.specs.Shows.{line_now, ShowsPut, ShowsEnd, ShowsFacts}
-use Rattle.hub_core.specs.Kept.{has_queue, put_end, Moves}
+use Rattle.hub_core.specs.Kept.{has_queue, put_end}
 use Rattle.hub_core.proofs.Lists.{eqb_same, both_of, each_set, get_or-set_same, get_or-set_other, is_there}
 use Rattle.hub_core.proofs.Waits.{queue_more, queue_other}
 use Rattle.hub_core.proofs.Frames.{ShownAt}
-use Rattle.hub_core.proofs.Placing.{moved_shown}
+use Rattle.hub_core.proofs.Placing.{Moves, moved_shown}
 use Rattle.hub_core.proofs.SoundWaiting.{inside_of}
 
 -- one envelope more of the line

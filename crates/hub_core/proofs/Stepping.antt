@@ -1,49 +1,25 @@
 -- From what the parts of the core did to the clauses of a step.
-use Rattle.std.proofs.Common.{◌≡◌, Bool, true, false, cond, set, List, [], ◌∷◌, ◌++◌, Option, Some, None, Result, Ok, Err, refl, sym, subst, ◌∙◌, ap}
-use Rattle.std.specs.Prelude.{IfOk, nat_lt, nat_le}
+use Rattle.std.proofs.Common.{◌≡◌, ℕ, Bool, true, false, cond, set, List, Option, Some, None, Result, Ok, Err, refl, sym, subst, ◌∙◌, ap}
+use Rattle.std.specs.Prelude.{IfOk, is_some, nat_lt, nat_le}
 use Rattle.std.specs.Bool.{MatchBool}
 use Rattle.std.specs.List.{slice_get}
 use Rattle.std.proofs.lemmas.Bool.{false≢true}
 use Rattle.hub_envelope.specs.declared.ids.AgentId.{AgentId}
 use Rattle.hub_envelope.specs.declared.ids.EndId.{EndId}
-use Rattle.hub_core.specs.declared.agent.Agent.{Agent}
+use Rattle.hub_core.specs.declared.kind.Kind.TheVariants.{Client, Worker}
+use Rattle.hub_core.specs.CoreState.{CoreState}
+use Rattle.hub_core.specs.CoreSteps.{queue_core}
 use Rattle.hub_core.specs.declared.line.Line.{Line}
 use Rattle.hub_core.specs.declared.line.Phase.TheVariants.{Out}
 use Rattle.hub_core.specs.declared.sender.Sender.{Sender}
 use Rattle.hub_core.specs.declared.end.End.{End}
-use Rattle.hub_core.specs.declared.step.Step.{Step}
-use Rattle.hub_core.specs.declared.step.Action.{Action}
 use Rattle.hub_core.specs.declared.step.Action.TheVariants as action
 use Rattle.hub_core.specs.declared.outcome.Outcome.{Outcome}
 use Rattle.hub_core.specs.declared.outcome.Outcome.TheVariants as outcome
-use Rattle.hub_core.specs.History.{History}
-use Rattle.hub_core.specs.Facts.{Facts, facts}
-use Rattle.hub_core.specs.Fits.{Answers, Fits}
 use Rattle.hub_core.specs.Posting.{is_out}
-use Rattle.hub_core.specs.Shows.{ShowsFacts, ShowsRoster}
-use Rattle.hub_core.specs.declared.roster.Roster.{Roster}
-use Rattle.hub_core.proofs.Casts.{leaves_roster, roster_stays}
 use Rattle.hub_core.specs.Unchanged.{changes_nothing}
-use Rattle.hub_core.specs.Kept.{gate_answer, phase_of, enter_outcome, enter_end, enter_outcome_at, enter_ends_at, leave_outcome, leave_end, leave_outcome_at, leave_ends_at, TakeServes, TakeHeld, TakeLeaves, advanced_end, kept_settled, may_come}
+use Rattle.hub_core.specs.Kept.{gate_answer, phase_of, enter_outcome, enter_end, enter_outcome_at, enter_ends_at, leave_outcome, leave_end, leave_outcome_at, leave_ends_at, TakeServes, TakeHeld, TakeLeaves, advanced_end, kept_settled, may_come, ends_made, start_outcome, start_ends, push_outcome, push_ends, notice_outcome, notice_ends}
 use Rattle.hub_core.proofs.Lists.{set_again}
-use Rattle.hub_core.proofs.Nexts.{next, facts_next}
-use Rattle.hub_core.proofs.Frames.{Stepped}
-
--- what a step answers and leaves, after every history that is shown
-pub stepped_with : (agents after_agents : List Agent) (ends after_ends : List End) (r after_r : Roster) (step : Step) (o : Outcome) (a : Action) → step.action ≡ a → ((f : Facts) → ShowsFacts agents ends f → ShowsRoster r f → Stepped after_agents after_ends f a step.memory_refused o × ShowsRoster after_r (next f a o)) → (h : History) → ShowsFacts agents ends (facts h) × ShowsRoster r (facts h) → Fits h (step, o) × (ShowsFacts after_agents after_ends (facts (h ++ (step, o) ∷ [])) × ShowsRoster after_r (facts (h ++ (step, o) ∷ [])))
-stepped_with agents after_agents ends after_ends r after_r step o a is k h s =
-    let at = k (facts h) s.0 s.1 in
-    let longer : facts (h ++ (step, o) ∷ []) ≡ next (facts h) a o = facts_next h (step, o) ∙ ap (λ b. next (facts h) b o) is in (
-      subst (λ b. Answers (facts h) b step.memory_refused o) (sym is) at.0.fits,
-      (subst (ShowsFacts after_agents after_ends) (sym longer) at.0.shows, subst (ShowsRoster after_r) (sym longer) at.1),
-    )
-
--- the same for a step that leaves the roster
-pub stepped : (agents after_agents : List Agent) (ends after_ends : List End) (r after_r : Roster) (step : Step) (o : Outcome) (a : Action) → step.action ≡ a → after_r ≡ r → leaves_roster a ≡ true → ((f : Facts) → ShowsFacts agents ends f → ShowsRoster r f → Stepped after_agents after_ends f a step.memory_refused o) → (h : History) → ShowsFacts agents ends (facts h) × ShowsRoster r (facts h) → Fits h (step, o) × (ShowsFacts after_agents after_ends (facts (h ++ (step, o) ∷ [])) × ShowsRoster after_r (facts (h ++ (step, o) ∷ [])))
-stepped agents after_agents ends after_ends r after_r step o a is same leaves k =
-    stepped_with agents after_agents ends after_ends r after_r step o a is (λ f s w.
-    let at = k f s w in
-    (at, subst (λ t. ShowsRoster t (next f a o)) (sym same) (roster_stays r f a step.memory_refused o s.sound at.fits leaves w)))
 
 -- two facts of what was answered Ok give a third
 pub ok_both : {E : Type 0} (r : Result Outcome E) (P Q R : Outcome → Type 0) → IfOk r P → IfOk r Q → ((o : Outcome) → P o → Q o → R o) → IfOk r R
@@ -55,6 +31,35 @@ ok_all (Ok o) P Q p q = (p, q)
 ok_all (Err e) P Q p q = tt
 
 -- ---- what changes nothing leaves the ends
+
+pub channel_same : (a : AgentId) (ends : List End) (o : Outcome) → changes_nothing o (action.Channel a) ≡ true → ends_made a ends o ≡ ends
+channel_same a ends (outcome.Ends e p) h = absurd (false≢true h)
+channel_same a ends o h = refl
+
+pub client_same : (a : AgentId) (c : CoreState) (o : Outcome) → changes_nothing o (action.Client a) ≡ true → queue_core a Client c o ≡ c
+client_same a c (outcome.End e) h = absurd (false≢true h)
+client_same a c o h = refl
+
+pub worker_same : (a : AgentId) (c : CoreState) (o : Outcome) → changes_nothing o (action.Worker a) ≡ true → queue_core a Worker c o ≡ c
+worker_same a c (outcome.End e) h = absurd (false≢true h)
+worker_same a c o h = refl
+
+pub start_same : (ends : List End) (e : EndId) (P : Option AgentId) (q : Option End) → changes_nothing (start_outcome P q) (action.Start e) ≡ true → start_ends P e.0 ends q ≡ ends
+start_same ends e P None h = refl
+start_same ends e P (Some x) h = go x.is_closed P h
+  where
+    go : (closed : Bool) (P : Option AgentId) → changes_nothing (cond closed outcome.Closed (cond (is_some P) outcome.Started outcome.NotNow)) (action.Start e) ≡ true → cond closed ends (cond (is_some P) (set ends e.0 (record x { is_enabled = true })) ends) ≡ ends
+    go true P h = refl
+    go false None h = refl
+    go false (Some a) h = absurd (false≢true h)
+
+pub push_same : (ends : List End) (s : Sender) (ports : List EndId) (body : List ℕ) (r : Result (Line × AgentId) Outcome) → changes_nothing (push_outcome r) (action.Push s ports body) ≡ true → push_ends s ports body ends r ≡ ends
+push_same ends s ports body (Ok p) h = absurd (false≢true h)
+push_same ends s ports body (Err o) h = refl
+
+pub notice_same : (ends : List End) (s : Sender) (r : Result Line Outcome) → changes_nothing (notice_outcome r) (action.Notice s) ≡ true → notice_ends s ends r ≡ ends
+notice_same ends s (Ok y) h = absurd (false≢true h)
+notice_same ends s (Err o) h = refl
 
 gate_changes : (closed retired : Bool) (s : Sender) → changes_nothing (cond retired outcome.Moved (cond closed outcome.Closed outcome.In)) (action.Enter s) ≡ false
 gate_changes closed true s = refl

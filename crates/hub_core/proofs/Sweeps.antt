@@ -22,11 +22,11 @@ use Rattle.hub_core.specs.Posting.{is_out}
 use Rattle.hub_core.specs.Looking.{any_below, is_away_at, someone_at, is_settled, all_from, all_settled, IsAllWaiting, FitsSweep}
 use Rattle.hub_core.specs.Sound.{Sound}
 use Rattle.hub_core.specs.Shows.{ShowsEnd, ShowsFacts}
-use Rattle.hub_core.specs.Kept.{is_anyone_from, joined, sweep_outcome, swept_end, sweep_outcome_at, SweepLeaves, ports_of, Moves, swept_ports, moved_end}
+use Rattle.hub_core.specs.Kept.{is_anyone_from, joined, sweep_outcome, swept_end, sweep_outcome_at, sweep_ends, moved_ends, ports_of, swept_ports}
 use Rattle.hub_core.proofs.Lists.{eqb_same, set_again, each_set, is_there, both_of, AllByRecursion-weaker, AllByRecursion-append}
 use Rattle.hub_core.proofs.Waits.{filters, of_queue, all_kept, rises_back}
 use Rattle.hub_core.proofs.Frames.{ShownAt, Stepped, changed, unchanged}
-use Rattle.hub_core.proofs.Placing.{moved_shown}
+use Rattle.hub_core.proofs.Placing.{Moves, moves_to, moved_end, moved_shown}
 use Rattle.hub_core.proofs.Speakers.{placed_made, swept_flies}
 use Rattle.hub_core.proofs.SoundWaiting.{nobody_there, rises_joined}
 use Rattle.hub_core.proofs.Fitting.{swept_of, any_of, none_of_any, each_of}
@@ -76,22 +76,6 @@ rises_by l (v ∷ vs) h = elim (eqb v.line.0 l) as (λ b. Rises (cond b (v ∷ b
   | true ↦ (all_kept (λ (u : Envelope). v.epoch ≤ u.epoch) (λ (u : Envelope). eqb u.line.0 l) vs h.0, rises_by l vs h.1)
   | false ↦ rises_by l vs h.1
 ]
-
-same_end : (o : Option End) → option_map (λ (x : End). x) o ≡ o
-same_end None = refl
-same_end (Some x) = refl
-
-each_same : (us vs : List End) → ((d : ℕ) → slice_get us d ≡ slice_get vs d) → length us ≡ length vs → us ≡ vs
-each_same [] [] h count = refl
-each_same [] (v ∷ vs) h count = absurd (omega (arith, count))
-each_same (u ∷ us) [] h count = absurd (omega (arith, count))
-each_same (u ∷ us) (v ∷ vs) h count =
-    let first : u ≡ v = (let at : Some u ≡ Some v = h 0 in cc) in
-    ap (λ x. x ∷ us) first ∙ ap (λ xs. v ∷ xs) (each_same us vs (λ d. h (suc d)) (omega (arith, count)))
-
--- where no port is placed all ends are as before
-nothing_moved : (old new : List End) → Moves [] Swept old new → new ≡ old
-nothing_moved old new moves = each_same new old (λ d. moves.each d ∙ same_end (slice_get old d)) moves.count
 
 -- ---- whether every queue is settled
 
@@ -253,11 +237,12 @@ named_ports d [] = refl
 named_ports d (v ∷ vs) = either_any (λ p. eqb p.0 d) v.ports (ports_of vs) ∙ ap (λ b. names v.ports d || b) (named_ports d vs)
 
 -- every end, with what waited discarded and its ports swept
-swept_shown : (agents : List Agent) (ends new : List End) (f : Facts) (e : EndId) (refused : Bool) (x : End) → ShowsFacts agents ends f → slice_get ends e.0 ≡ Some x → x.is_closed ≡ true → all_settled f e.0 ≡ true → FitsSweep f e (outcome.Discarded (joined x.queues)) → Moves (ports_of (joined x.queues)) Swept (set ends e.0 (record x { queues = [] })) new → Stepped agents new f (action.Sweep e) refused (outcome.Discarded (joined x.queues))
-swept_shown agents ends new f e refused x h at closed settled fits moves =
+swept_shown : (agents : List Agent) (ends new : List End) (f : Facts) (e : EndId) (refused : Bool) (x : End) → ShowsFacts agents ends f → slice_get ends e.0 ≡ Some x → x.is_closed ≡ true → all_settled f e.0 ≡ true → FitsSweep f e (outcome.Discarded (joined x.queues)) → new ≡ moved_ends (ports_of (joined x.queues)) Swept (set ends e.0 (record x { queues = [] })) → Stepped agents new f (action.Sweep e) refused (outcome.Discarded (joined x.queues))
+swept_shown agents ends new f e refused x h at closed settled fits leaves =
     let vs : List Envelope = joined x.queues in
     let y : End = record x { queues = [] } in
     let base : List End = set ends e.0 y in
+    let moves : Moves (ports_of vs) Swept base new = moves_to (ports_of vs) Swept base new leaves in
     let shown : ShownAt f e.0 (Some x) = subst (ShownAt f e.0) at (h.end e.0) in
     let each : (d : ℕ) → ShowsEnd (f.end d) (f.line d) (f.clear d) (f.accepted d) (f.taken d ++ cond (eqb d e.0) (f.discarded d ++ vs) (f.discarded d)) (slice_get base d) =
     each_set (λ d o. ShowsEnd (f.end d) (f.line d) (f.clear d) (f.accepted d) (f.taken d ++ cond (eqb d e.0) (f.discarded d ++ vs) (f.discarded d)) o) ends e.0 y (slice_get_within ends e.0 x at)
@@ -289,29 +274,29 @@ fits_swept : (f : Facts) (e : EndId) (vs : List Envelope) → (f.end e.0).closed
 fits_swept f e vs closed settled all = rw (closed, settled) all
 
 sweep_by : (agents : List Agent) (ends new : List End) (f : Facts) (e : EndId) (refused : Bool) (x : End) (o : Outcome) → ShowsFacts agents ends f → slice_get ends e.0 ≡ Some x → ShownAt f e.0 (Some x) → (closed anyone : Bool) → x.is_closed ≡ closed → is_anyone_from x.looked x.lines ≡ anyone
-    → (let p : Outcome = cond (not closed) outcome.NotNow (cond anyone outcome.Busy (outcome.Discarded (joined x.queues))) in o ≡ p → Moves (swept_ports p) Swept (set ends e.0 (swept_end x p)) new → Stepped agents new f (action.Sweep e) refused o)
+    → (let p : Outcome = cond (not closed) outcome.NotNow (cond anyone outcome.Busy (outcome.Discarded (joined x.queues))) in o ≡ p → new ≡ moved_ends (swept_ports p) Swept (set ends e.0 (swept_end x p)) → Stepped agents new f (action.Sweep e) refused o)
 sweep_by agents ends new f e refused x o h at shown false anyone opened who says moves =
-    unchanged agents ends new f (action.Sweep e) refused o outcome.NotNow h refl says (nothing_moved (set ends e.0 x) new moves ∙ set_again ends e.0 x at) (fits_open f e (ap (λ (y : EndNow). y.closed) shown.same ∙ opened))
+    unchanged agents ends new f (action.Sweep e) refused o outcome.NotNow h refl says (moves ∙ set_again ends e.0 x at) (fits_open f e (ap (λ (y : EndNow). y.closed) shown.same ∙ opened))
 sweep_by agents ends new f e refused x o h at shown true true closed who says moves =
-    unchanged agents ends new f (action.Sweep e) refused o outcome.Busy h refl says (nothing_moved (set ends e.0 x) new moves ∙ set_again ends e.0 x at) (fits_busy f e (ap (λ (y : EndNow). y.closed) shown.same ∙ closed) (somebody_from f e.0 x h.sound shown who))
+    unchanged agents ends new f (action.Sweep e) refused o outcome.Busy h refl says (moves ∙ set_again ends e.0 x at) (fits_busy f e (ap (λ (y : EndNow). y.closed) shown.same ∙ closed) (somebody_from f e.0 x h.sound shown who))
 sweep_by agents ends new f e refused x o h at shown true false closed who says moves =
     let settled : all_settled f e.0 ≡ true = nobody_from f e.0 x h.sound shown who in
     subst (λ p. Stepped agents new f (action.Sweep e) refused p) (sym says)
     (swept_shown agents ends new f e refused x h at closed settled (fits_swept f e (joined x.queues) (ap (λ (y : EndNow). y.closed) shown.same ∙ closed) settled (all_waiting f e.0 x h.sound shown)) moves)
 
-sweep_at : (agents : List Agent) (ends new : List End) (f : Facts) (e : EndId) (refused : Bool) (o : Outcome) → ShowsFacts agents ends f → (q : Option End) → slice_get ends e.0 ≡ q → ShownAt f e.0 q → o ≡ sweep_outcome_at q → SweepLeaves e.0 ends q new → Stepped agents new f (action.Sweep e) refused o
+sweep_at : (agents : List Agent) (ends new : List End) (f : Facts) (e : EndId) (refused : Bool) (o : Outcome) → ShowsFacts agents ends f → (q : Option End) → slice_get ends e.0 ≡ q → ShownAt f e.0 q → o ≡ sweep_outcome_at q → new ≡ sweep_ends e.0 ends q → Stepped agents new f (action.Sweep e) refused o
 sweep_at agents ends new f e refused o h None at shown says leaves = unchanged agents ends new f (action.Sweep e) refused o outcome.NotNow h refl says leaves (fits_open f e (ap (λ (y : EndNow). y.closed) shown.same))
 sweep_at agents ends new f e refused o h (Some x) at shown says leaves = sweep_by agents ends new f e refused x o h at shown x.is_closed (is_anyone_from x.looked x.lines) refl refl says leaves
 
-pub sweep_shown : (agents : List Agent) (ends new : List End) (f : Facts) (e : EndId) (refused : Bool) (o : Outcome) → ShowsFacts agents ends f → o ≡ sweep_outcome_at (slice_get ends e.0) → SweepLeaves e.0 ends (slice_get ends e.0) new → Stepped agents new f (action.Sweep e) refused o
+pub sweep_shown : (agents : List Agent) (ends new : List End) (f : Facts) (e : EndId) (refused : Bool) (o : Outcome) → ShowsFacts agents ends f → o ≡ sweep_outcome_at (slice_get ends e.0) → new ≡ sweep_ends e.0 ends (slice_get ends e.0) → Stepped agents new f (action.Sweep e) refused o
 sweep_shown agents ends new f e refused o h says leaves = sweep_at agents ends new f e refused o h (slice_get ends e.0) refl (h.end e.0) says leaves
 
 -- ---- what changes nothing leaves the ends
 
-swept_same : (ends new : List End) (e : EndId) (x : End) (o : Outcome) → slice_get ends e.0 ≡ Some x → changes_nothing o (action.Sweep e) ≡ true → Moves (swept_ports o) Swept (set ends e.0 (swept_end x o)) new → new ≡ ends
-swept_same ends new e x (outcome.Discarded vs) at h moves = absurd (false≢true h)
-swept_same ends new e x o at h moves = nothing_moved (set ends e.0 x) new moves ∙ set_again ends e.0 x at
+swept_same : (ends : List End) (e : EndId) (x : End) (o : Outcome) → slice_get ends e.0 ≡ Some x → changes_nothing o (action.Sweep e) ≡ true → moved_ends (swept_ports o) Swept (set ends e.0 (swept_end x o)) ≡ ends
+swept_same ends e x (outcome.Discarded vs) at h = absurd (false≢true h)
+swept_same ends e x o at h = set_again ends e.0 x at
 
-pub sweep_same : (ends new : List End) (e : EndId) (q : Option End) → slice_get ends e.0 ≡ q → changes_nothing (sweep_outcome_at q) (action.Sweep e) ≡ true → SweepLeaves e.0 ends q new → new ≡ ends
-sweep_same ends new e None at h leaves = leaves
-sweep_same ends new e (Some x) at h leaves = swept_same ends new e x (sweep_outcome x) at h leaves
+pub sweep_same : (ends : List End) (e : EndId) (q : Option End) → slice_get ends e.0 ≡ q → changes_nothing (sweep_outcome_at q) (action.Sweep e) ≡ true → sweep_ends e.0 ends q ≡ ends
+sweep_same ends e None at h = refl
+sweep_same ends e (Some x) at h = swept_same ends e x (sweep_outcome x) at h

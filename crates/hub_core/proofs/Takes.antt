@@ -23,12 +23,12 @@ use Rattle.hub_core.specs.Posting.{running_at, holder, is_with}
 use Rattle.hub_core.specs.Taking.{IsNext, Serves, FitsTake, start_answer}
 use Rattle.hub_core.specs.Sound.{no_end, IsOfEnd, Sound}
 use Rattle.hub_core.specs.Shows.{end_now, ShowsEnd, ShowsFacts}
-use Rattle.hub_core.specs.Kept.{kept_holder, start_outcome, start_ends, with_taker_queue, Moves, TakeServes, TakeHeld, TakeLeaves}
+use Rattle.hub_core.specs.Kept.{kept_holder, start_outcome, start_ends, with_taker_queue, moved_ends, TakeServes, TakeHeld, TakeLeaves}
 use Rattle.hub_core.proofs.Lists.{eqb_same, each_set, get_or-set_same, get_or-set_other, is_there}
 use Rattle.hub_core.proofs.Waits.{all_kept, all_back, of_queue, queue_more, queue_other, next_in_line}
 use Rattle.hub_core.proofs.Frames.{ShownAt, Stepped, changed, unchanged}
 use Rattle.hub_core.proofs.Holders.{holder_kept}
-use Rattle.hub_core.proofs.Placing.{moved_shown}
+use Rattle.hub_core.proofs.Placing.{Moves, moves_to, moved_shown}
 use Rattle.hub_core.proofs.Speakers.{runs_there, placed_made, taken_flies}
 use Rattle.hub_core.proofs.GoingOn.{taker_queue_at, nothing_shown}
 use Rattle.hub_core.proofs.SoundWaiting.{nothing_more, taken_prefix}
@@ -132,9 +132,10 @@ taken_end f e x v rest s none h front =
     }
 
 -- every end, with the envelope taken and its ports arrived
-got_shown : (agents : List Agent) (ends new : List End) (f : Facts) (e : EndId) (refused : Bool) (x : End) (a : AgentId) (v : Envelope) (rest : List Envelope) → ShowsFacts agents ends f → slice_get ends e.0 ≡ Some x → (f.end e.0).place ≡ Some (With a) → (f.end e.0).closed ≡ false → FitsTake f e (outcome.Got v) → get_or x.queues 0 [] ≡ v ∷ rest → IsNext f e v → Moves v.ports (Arrived a) (set ends e.0 (with_taker_queue x rest)) new → Stepped agents new f (action.Take e) refused (outcome.Got v)
-got_shown agents ends new f e refused x a v rest h at has opened fits front n moves =
+got_shown : (agents : List Agent) (ends new : List End) (f : Facts) (e : EndId) (refused : Bool) (x : End) (a : AgentId) (v : Envelope) (rest : List Envelope) → ShowsFacts agents ends f → slice_get ends e.0 ≡ Some x → (f.end e.0).place ≡ Some (With a) → (f.end e.0).closed ≡ false → FitsTake f e (outcome.Got v) → get_or x.queues 0 [] ≡ v ∷ rest → IsNext f e v → new ≡ moved_ends v.ports (Arrived a) (set ends e.0 (with_taker_queue x rest)) → Stepped agents new f (action.Take e) refused (outcome.Got v)
+got_shown agents ends new f e refused x a v rest h at has opened fits front n leaves =
     let base : List End = set ends e.0 (with_taker_queue x rest) in
+    let moves : Moves v.ports (Arrived a) base new = moves_to v.ports (Arrived a) base new leaves in
     let shown : ShownAt f e.0 (Some x) = subst (ShownAt f e.0) at (h.end e.0) in
     let none : f.discarded e.0 ≡ [] = (h.sound.waiting e.0).kept opened in
     let each : (d : ℕ) → ShowsEnd (f.end d) (f.line d) (f.clear d) (f.accepted d) (cond (eqb d e.0) (f.taken d ++ v ∷ []) (f.taken d) ++ f.discarded d) (slice_get base d) =

@@ -1,6 +1,6 @@
 -- For private clauses: what the parts of the core do to what it keeps.
 use Rattle.std.specs.Prelude.{ℕ, ◌+◌, ◌==◌, if◌then◌else◌, nat_lt, Bool, List, [], ◌∷◌, ◌++◌, length, slice_set, slice_get, slice_index_or, drop, Option, Some, None, option_map, is_some, false, true, ◌≡◌, ◌&&◌, ◌||◌, not, Result, Ok, Err, IfSome, nat_le, ◌-◌, replicate}
-use Rattle.std.specs.List.{list_any, flat_map, position}
+use Rattle.std.specs.List.{fold, list_any, flat_map, position}
 use Rattle.std.specs.Bool.{MatchBool}
 use Rattle.hub_envelope.specs.declared.limits.TheConstants.{MAX_AGENTS, MAX_ENDS, MAX_LINES, MAX_MOVES, MAX_PORTS}
 use Rattle.hub_envelope.specs.declared.ids.LineId.{LineId}
@@ -191,14 +191,17 @@ taker_queue x = slice_index_or x.queues 0 []
 abbrev pub with_taker_queue : End → List Envelope → End
 with_taker_queue x rest = record x { queues = slice_set x.queues 0 rest }
 
--- an end whose place is another where the list names it
-abbrev pub moved_end : List EndId → Place → ℕ → End → End
-moved_end ports p e x = if names ports e then record x { place = p } else x
+-- the ends with one of them changed, where it is there
+abbrev pub changed_ends : (End → End) → ℕ → List End → Option End → List End
+changed_ends change e ends None = ends
+changed_ends change e ends (Some x) = slice_set ends e (change x)
 
--- the second list of ends is the first with those that the list of ports names at another place
-pub record Moves (ports : List EndId) (p : Place) (old new : List End) : Type 0 where
-  pub count : length new ≡ length old
-  pub each : (e : ℕ) → slice_get new e ≡ option_map (moved_end ports p e) (slice_get old e)
+-- the ends with one of them, and with those that the list names, at another place
+abbrev pub end_moved : Place → List End → EndId → List End
+end_moved p ends e = changed_ends (λ x. record x { place = p }) e.0 ends (slice_get ends e.0)
+
+abbrev pub moved_ends : List EndId → Place → List End → List End
+moved_ends ports p ends = fold (end_moved p) ends ports
 
 abbrev pub is_running_agent : Option Agent → Bool
 is_running_agent None = false
@@ -396,20 +399,18 @@ push_outcome (Ok p) = outcome.Accepted (record { agent = p.1; epoch = p.0.epoch;
 push_outcome (Err o) = o
 
 -- the ends after an envelope was put, its ports where they were
-abbrev pub PutLeaves : List End → Line → Envelope → List End → Type 0
-PutLeaves old y v new = IfSome (slice_get old v.end.0) (λ x. new ≡ slice_set old v.end.0 (put_end x y v))
+abbrev pub put_ends : List End → Line → Envelope → List End
+put_ends ends y v = changed_ends (λ x. put_end x y v) v.end.0 ends (slice_get ends v.end.0)
 
 -- the ends after an envelope was put on a line: an envelope more at its end, and its ports in flight
-abbrev pub AcceptLeaves : List End → Line → Envelope → List End → Type 0
-AcceptLeaves old y v new =
-    IfSome (slice_get old v.end.0)
-    (λ x. Moves v.ports InFlight (slice_set old v.end.0 (put_end x y v)) new)
+abbrev pub accept_ends : List End → Line → Envelope → List End
+accept_ends ends y v = moved_ends v.ports InFlight (put_ends ends y v)
 
 -- the ends after a push: those after it was accepted, or no change
-abbrev pub PushLeaves : Sender → List EndId → List ℕ → List End → Result (Line × AgentId) Outcome → List End → Type 0
-PushLeaves s ports body old (Ok p) new =
-    AcceptLeaves old p.0 (named_envelope s (record { agent = p.1; epoch = p.0.epoch; number = p.0.put }) body ports) new
-PushLeaves s ports body old (Err o) new = new ≡ old
+abbrev pub push_ends : Sender → List EndId → List ℕ → List End → Result (Line × AgentId) Outcome → List End
+push_ends s ports body ends (Ok p) =
+    accept_ends ends p.0 (named_envelope s (record { agent = p.1; epoch = p.0.epoch; number = p.0.put }) body ports)
+push_ends s ports body ends (Err o) = ends
 
 -- a line on which a notice may be put, or why it may not
 abbrev pub kept_noticing_line : Bool → Bool → Option Line → Result Line Outcome
@@ -429,10 +430,10 @@ notice_outcome (Ok y) = outcome.Accepted (record { agent = record { 0 = 0 }; epo
 notice_outcome (Err o) = o
 
 -- the ends after a notice: those after it was accepted, or no change
-abbrev pub NoticeLeaves : Sender → List End → Result Line Outcome → List End → Type 0
-NoticeLeaves s old (Ok y) new =
-    AcceptLeaves old y (named_notice s (record { agent = record { 0 = 0 }; epoch = y.epoch; number = y.put })) new
-NoticeLeaves s old (Err o) new = new ≡ old
+abbrev pub notice_ends : Sender → List End → Result Line Outcome → List End
+notice_ends s ends (Ok y) =
+    accept_ends ends y (named_notice s (record { agent = record { 0 = 0 }; epoch = y.epoch; number = y.put }))
+notice_ends s ends (Err o) = ends
 
 -- whether an end of this kind is no port whose own poster is inside or being turned back
 abbrev pub kept_released : List End → Kind → Bool
@@ -497,9 +498,9 @@ swept_ports (outcome.Discarded vs) = ports_of vs
 swept_ports _ = []
 
 -- the ends after a sweep of one: its queues are empty, and the ports of what was discarded are swept
-abbrev pub SweepLeaves : ℕ → List End → Option End → List End → Type 0
-SweepLeaves e old None new = new ≡ old
-SweepLeaves e old (Some x) new = Moves (swept_ports (sweep_outcome x)) Swept (slice_set old e (swept_end x (sweep_outcome x))) new
+abbrev pub sweep_ends : ℕ → List End → Option End → List End
+sweep_ends e ends None = ends
+sweep_ends e ends (Some x) = moved_ends (swept_ports (sweep_outcome x)) Swept (slice_set ends e (swept_end x (sweep_outcome x)))
 
 abbrev pub start_outcome : Option AgentId → Option End → Outcome
 start_outcome holder None = outcome.NotNow
@@ -515,7 +516,7 @@ start_ends holder e old (Some x) =
 abbrev pub TakeServes : AgentId → ℕ → List End → End → Outcome → List End → Type 0
 TakeServes a e old x (outcome.Got v) new =
     (rest : List Envelope) × (taker_queue x ≡ v ∷ rest)
-    × Moves v.ports (Arrived a) (slice_set old e (with_taker_queue x rest)) new
+    × (new ≡ moved_ends v.ports (Arrived a) (slice_set old e (with_taker_queue x rest)))
 TakeServes a e old x o new = (taker_queue x ≡ []) × (o ≡ left_outcome x) × (new ≡ slice_set old e (left_end x))
 
 abbrev pub TakeHeld : Option AgentId → ℕ → List End → End → Outcome → List End → Type 0

@@ -10,7 +10,6 @@ use Rattle.std.specs.List.{filter, list_any}
 use Rattle.std.specs.Prelude.{not, map, slice_get}
 use Rattle.hub_core.specs.declared.group.Group.{Group}
 use Rattle.hub_core.specs.declared.members.Members.{Members}
-use Rattle.hub_core.specs.declared.roster.Cast.{Cast}
 use Rattle.hub_core.specs.declared.roster.Roster.{Roster}
 use Rattle.hub_envelope.specs.declared.ids.EndId.{EndId}
 use Rattle.hub_core.specs.Roster.{CastNow, RosterNow, is_same_group, is_of_group, is_first, group_named, cast_to, cast_after}
@@ -79,11 +78,6 @@ abbrev pub origin_at : Option (Option (List ℕ)) → Option (List ℕ)
 origin_at None = None
 origin_at (Some o) = o
 
--- the cast that is kept
-abbrev pub cast_now : Option Cast → Option CastNow
-cast_now None = None
-cast_now (Some c) = Some (record { source = c.source; body = c.body; left = c.left })
-
 -- the numbers of those of the ends that are of the group
 abbrev pub numbers_with : RosterNow → Group → List EndId → List ℕ
 numbers_with r k ends = map (λ y. y.0) (filter (λ y. is_of_group k (r.group y.0)) ends)
@@ -100,7 +94,7 @@ has_body body (Some c) = bytes_eq body c.body
 -- the same roster, among the ends below a number
 pub record SameRoster (n : ℕ) (old new : Roster) : Type 0 where
   pub members : SameMembers n old.members new.members
-  pub cast : cast_now new.cast ≡ cast_now old.cast
+  pub cast : new.cast ≡ old.cast
 
 abbrev pub is_none : List EndId → Bool
 is_none [] = true
@@ -127,9 +121,9 @@ MemberLeaves a name old (outcome.End e) new =
 MemberLeaves a name old _ new = new ≡ old
 
 -- the roster after a cast, or no change
-abbrev pub CastLeaves : EndId → List ℕ → Roster → Outcome → Roster → Type 0
-CastLeaves e body old (outcome.Destinations ends) new = (new.members ≡ old.members) × (cast_now new.cast ≡ cast_to e body ends)
-CastLeaves e body old _ new = new ≡ old
+abbrev pub cast_roster : EndId → List ℕ → Roster → Outcome → Roster
+cast_roster e body r (outcome.Destinations ends) = record r { cast = cast_to e body ends }
+cast_roster e body r _ = r
 
 -- the roster after a member parted, or no change
 abbrev pub PartLeaves : ℕ → Roster → Outcome → Roster → Type 0

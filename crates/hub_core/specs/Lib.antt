@@ -12,6 +12,7 @@ pub mod Discarded
 pub mod Roster
 pub mod Facts
 pub mod CoreState
+pub mod CoreSteps
 pub mod Making
 pub mod Posting
 pub mod Looking

@@ -9,7 +9,7 @@ use Rattle.hub_core.specs.declared.end.End.{End}
 use Rattle.hub_core.specs.declared.machine.Core.{Core}
 use Rattle.hub_core.specs.declared.group.Group.{Group}
 use Rattle.hub_core.specs.declared.roster.Roster.{Roster}
-use Rattle.hub_core.specs.KeptRoster.{origin_at, group_of, numbers_of, numbers_with, cast_now}
+use Rattle.hub_core.specs.KeptRoster.{origin_at, group_of, numbers_of, numbers_with}
 use Rattle.std.specs.List.{AllByRecursion}
 use Rattle.hub_envelope.specs.declared.ids.EndId.{EndId}
 use Rattle.hub_core.specs.declared.kind.Kind.TheVariants.{Member}
@@ -125,7 +125,7 @@ pub record ShowsRoster (kept : Roster) (f : Facts) : Type 0 where
   pub groups : (x : ℕ) (a : AgentId) → (f.end x).kind ≡ Some (Member a) → f.roster.group x ≡ group_of kept.members x
   pub seated : (k : Group) → numbers_of kept.members k ≡ numbers_with f.roster k f.roster.members
   pub each : AllByRecursion (IsMemberNow f) f.roster.members
-  pub cast : f.roster.cast ≡ cast_now kept.cast
+  pub cast : f.roster.cast ≡ kept.cast
 
 -- the core's agents, ends and roster are those of the history
 abbrev pub Shows : Core → History → Type 0

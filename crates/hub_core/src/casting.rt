@@ -1,14 +1,13 @@
 //! Broadcast channels: Member, Cast and Part.
 
-ghost use Rattle.std.specs.Prelude.{◌≡◌, ◌++◌, ◌∷◌, ◌&&◌, [], length, not, is_some, slice_get};
-ghost use Rattle.std.specs.Prelude.{IfOk, OnOk, OnErr};
+ghost use Rattle.std.specs.Prelude.{◌≡◌, ◌&&◌, length, not, is_some, slice_get, IfOk, OnErr};
 ghost use Rattle.hub_core.specs.Kept.{kept_running, kept_holder, kept_maker};
 ghost use Rattle.hub_core.specs.KeptCasting.{kept_member_answer, is_kept_open, kept_cast_answer};
 ghost use Rattle.hub_core.specs.KeptCasting.{member_made, part_outcome};
-ghost use Rattle.hub_core.specs.KeptRoster.{cast_now, origin_at, group_of, is_seated_in};
-ghost use Rattle.hub_core.specs.KeptRoster.{kept_destinations, MemberLeaves, CastLeaves};
-ghost use Rattle.hub_core.specs.KeptRoster.{PartLeaves, SameRoster};
+ghost use Rattle.hub_core.specs.KeptRoster.{origin_at, group_of, is_seated_in, kept_destinations};
+ghost use Rattle.hub_core.specs.KeptRoster.{MemberLeaves, cast_roster, PartLeaves};
 ghost use Rattle.hub_core.specs.Posting.{is_empty};
+ghost use Rattle.hub_core.specs.Unchanged.{SameContent};
 
 use crate::end::End;
 use crate::kind::Kind;
@@ -27,18 +26,17 @@ impl Core {
     ) -> Result<Outcome, OutOfMemory>
         ensures outcome { let origin = origin_at
             (slice_get self.old.roster.members.origins.items agent.0) in
-            let casting = is_some (cast_now self.old.roster.cast) in
+            let casting = is_some self.old.roster.cast in
             let may = kept_running self.old.agents agent.0 && not casting in
             let count = length self.old.ends in
             IfOk result (λ o. o ≡ kept_member_answer may (is_some origin) count memory_refused) }
-        ensures ends { IfOk result (λ o. self.new.ends
-            ≡ member_made agent self.old.ends o) }
         ensures roster { IfOk result (λ o. MemberLeaves agent.0 name self.old.roster o
             self.new.roster) }
-        ensures err_ends { OnErr result (self.new.ends ≡ self.old.ends) }
-        ensures err_roster { let count = length self.old.ends in
-            OnErr result (SameRoster count self.old.roster self.new.roster) }
-        ensures agents { self.new.agents ≡ self.old.agents }
+        ensures new { IfOk result (λ o. self.new ≡ record self.old {
+          ends = member_made agent self.old.ends o;
+          roster = self.new.roster;
+        }) }
+        ensures err { OnErr result (SameContent self.old self.new) }
     {
         if !self.is_running(agent) || self.roster.is_casting() {
             return Ok(Outcome::NotNow);
@@ -70,17 +68,17 @@ impl Core {
         ensures outcome { let ends = self.old.ends in
             let members = self.old.roster.members in
             let found = slice_get ends end.0 in
-            let casting = is_some (cast_now self.old.roster.cast) in
+            let casting = is_some self.old.roster.cast in
             let may = is_some (kept_maker found) && not casting in
             let seated = is_seated_in members end.0 (group_of members end.0) in
             let holder = kept_holder self.old.agents ends end.0 in
             let others = kept_destinations members end.0 in
             IfOk result (λ o. o ≡ kept_cast_answer may (seated && is_kept_open found) holder
             (is_empty ports) others) }
-        ensures roster { IfOk result (λ o. CastLeaves end body self.old.roster o self.new.roster) }
-        ensures err { OnErr result (self.new.roster ≡ self.old.roster) }
-        ensures ends { self.new.ends ≡ self.old.ends }
-        ensures agents { self.new.agents ≡ self.old.agents }
+        ensures new { IfOk result (λ o. self.new ≡ record self.old {
+          roster = cast_roster end body self.old.roster o;
+        }) }
+        ensures err { OnErr result (self.new ≡ self.old) }
     {
         if self.maker_of(end).is_none() || self.roster.is_casting() {
             return Ok(Outcome::NotNow);
@@ -119,12 +117,11 @@ impl Core {
     /// A member leaves the roster.
     pub(crate) fn part(&mut self, end: EndId) -> Outcome
         ensures outcome { let members = self.old.roster.members in
-            let casting = is_some (cast_now self.old.roster.cast) in
+            let casting = is_some self.old.roster.cast in
             let seated = is_seated_in members end.0 (group_of members end.0) in
             result ≡ part_outcome (seated && not casting) }
         ensures roster { PartLeaves end.0 self.old.roster result self.new.roster }
-        ensures ends { self.new.ends ≡ self.old.ends }
-        ensures agents { self.new.agents ≡ self.old.agents }
+        ensures rest { self.new ≡ record self.old { roster = self.new.roster } }
     {
         if self.roster.is_casting() || !self.roster.members.has(end.0) {
             return Outcome::NotNow;

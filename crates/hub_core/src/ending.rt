@@ -19,9 +19,9 @@ use hub_envelope::{AgentId, EndId, Items, OutOfMemory};
 impl Core {
     pub(crate) fn order(&mut self, agent: AgentId) -> Outcome
         ensures outcome { result ≡ order_outcome_at (slice_get self.old.agents agent.0) }
-        ensures agents { self.new.agents ≡ order_agents agent.0 self.old.agents }
-        ensures ends { self.new.ends ≡ self.old.ends }
-        ensures roster { self.new.roster ≡ self.old.roster }
+        ensures new { self.new ≡ record self.old {
+          agents = order_agents agent.0 self.old.agents;
+        } }
     {
         let Some(found) = self.agents.get_mut(agent.0 as usize) else {
             return Outcome::NotNow;
@@ -34,11 +34,10 @@ impl Core {
     pub(crate) fn see(&mut self, agent: AgentId) -> Result<Outcome, OutOfMemory>
         ensures outcome { let found = slice_get self.old.agents agent.0 in
             IfOk result (λ o. o ≡ see_outcome agent self.old.ends found) }
-        ensures agents { let agents = self.old.agents in
-            IfOk result (λ o. self.new.agents ≡ see_agents agent.0 agents o) }
-        ensures err { OnErr result (self.new.agents ≡ self.old.agents) }
-        ensures ends { self.new.ends ≡ self.old.ends }
-        ensures roster { self.new.roster ≡ self.old.roster }
+        ensures new { IfOk result (λ o. self.new ≡ record self.old {
+          agents = see_agents agent.0 self.old.agents o;
+        }) }
+        ensures err { OnErr result (self.new ≡ self.old) }
     {
         let Some(found) = self.agents.get(agent.0 as usize).copied() else {
             return Ok(Outcome::NotNow);
@@ -105,10 +104,9 @@ impl Core {
 
     /// A poster of the agent came inside, or is being turned back.
     pub(crate) fn count_away(&mut self, owner: Option<AgentId>)
-        ensures agents { self.new.agents
-            ≡ change_owner one_away owner self.old.agents }
-        ensures ends { self.new.ends ≡ self.old.ends }
-        ensures roster { self.new.roster ≡ self.old.roster }
+        ensures { self.new ≡ record self.old {
+          agents = change_owner one_away owner self.old.agents;
+        } }
     {
         let Some(agent) = owner else {
             return;
@@ -122,10 +120,9 @@ impl Core {
 
     /// A poster of the agent left.
     pub(crate) fn count_out(&mut self, owner: Option<AgentId>)
-        ensures agents { self.new.agents
-            ≡ change_owner one_out owner self.old.agents }
-        ensures ends { self.new.ends ≡ self.old.ends }
-        ensures roster { self.new.roster ≡ self.old.roster }
+        ensures { self.new ≡ record self.old {
+          agents = change_owner one_out owner self.old.agents;
+        } }
     {
         let Some(agent) = owner else {
             return;

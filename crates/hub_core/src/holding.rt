@@ -3,7 +3,8 @@
 
 ghost use Rattle.std.specs.Prelude.{◌≡◌, option_map, slice_get, IfOk};
 ghost use Rattle.hub_core.specs.Kept.{count_of, one_more, set_agent, gone, kept_running};
-ghost use Rattle.hub_core.specs.Kept.{line_outcome_at, line_ends_at, back_outcome_at, back_ends_at};
+ghost use Rattle.hub_core.specs.Kept.{line_outcome_at, back_outcome_at};
+ghost use Rattle.hub_core.specs.CoreSteps.{line_core, back_core};
 
 use crate::agent::Agent;
 use crate::end::Place;
@@ -17,11 +18,7 @@ impl Core {
     pub(crate) fn hold(&mut self, end: EndId, agent: AgentId) -> Outcome
         ensures outcome { let runs = kept_running self.old.agents agent.0 in
             result ≡ line_outcome_at runs (slice_get self.old.ends end.0) }
-        ensures ends { let runs = kept_running self.old.agents agent.0 in
-            let ends = self.old.ends in
-            self.new.ends ≡ line_ends_at runs agent end.0 ends (slice_get ends end.0) }
-        ensures agents { self.new.agents ≡ self.old.agents }
-        ensures roster { self.new.roster ≡ self.old.roster }
+        ensures new { self.new ≡ line_core self.old end agent }
     {
         if !self.is_running(agent) {
             return Outcome::NotNow;
@@ -35,10 +32,7 @@ impl Core {
     pub(crate) fn give_back(&mut self, sender: Sender) -> Outcome
         ensures outcome { let found = slice_get self.old.ends sender.end.0 in
             result ≡ back_outcome_at sender.line.0 found }
-        ensures ends { let ends = self.old.ends in
-            self.new.ends ≡ back_ends_at sender ends (slice_get ends sender.end.0) }
-        ensures agents { self.new.agents ≡ self.old.agents }
-        ensures roster { self.new.roster ≡ self.old.roster }
+        ensures new { self.new ≡ back_core self.old sender }
     {
         let Some(end) = self.ends.get_mut(sender.end.0 as usize) else {
             return Outcome::NotNow;
@@ -73,9 +67,9 @@ impl Core {
 
     /// Changes what is kept of an agent.
     pub(crate) fn set_agent(&mut self, agent: AgentId, value: Option<Agent>)
-        ensures agents { self.new.agents ≡ set_agent agent.0 self.old.agents value }
-        ensures ends { self.new.ends ≡ self.old.ends }
-        ensures roster { self.new.roster ≡ self.old.roster }
+        ensures { self.new ≡ record self.old {
+          agents = set_agent agent.0 self.old.agents value;
+        } }
     {
         let Some(value) = value else {
             return;
@@ -87,9 +81,7 @@ impl Core {
 
     /// An end of this kind went from this place.
     pub(crate) fn went_from(&mut self, kind: Kind, place: Place)
-        ensures agents { self.new.agents ≡ gone kind place self.old.agents }
-        ensures ends { self.new.ends ≡ self.old.ends }
-        ensures roster { self.new.roster ≡ self.old.roster }
+        ensures { self.new ≡ record self.old { agents = gone kind place self.old.agents } }
     {
         if let Place::With(agent) = place {
             let counted = self

@@ -1,8 +1,8 @@
 //! Steps that look who is inside: Look and Sweep.
 
 ghost use Rattle.std.specs.Prelude.{◌≡◌, slice_get, IfOk, OnOk, OnErr};
-ghost use Rattle.hub_core.specs.Kept.{look_outcome_at, look_ends_at, sweep_outcome_at, SweepLeaves};
-ghost use Rattle.hub_core.specs.Kept.{Moves, ports_of};
+ghost use Rattle.hub_core.specs.Kept.{look_outcome_at, sweep_outcome_at, moved_ends, ports_of};
+ghost use Rattle.hub_core.specs.CoreSteps.{look_core, sweep_core};
 
 use crate::end::Place;
 use crate::machine::Core;
@@ -12,10 +12,7 @@ use hub_envelope::{EndId, Envelope, OutOfMemory};
 impl Core {
     pub(crate) fn look(&mut self, end: EndId) -> Outcome
         ensures outcome { result ≡ look_outcome_at (slice_get self.old.ends end.0) }
-        ensures ends { let ends = self.old.ends in
-            self.new.ends ≡ look_ends_at end.0 ends (slice_get ends end.0) }
-        ensures agents { self.new.agents ≡ self.old.agents }
-        ensures roster { self.new.roster ≡ self.old.roster }
+        ensures new { self.new ≡ look_core self.old end }
     {
         let Some(found) = self.ends.get_mut(end.0 as usize) else {
             return Outcome::NotNow;
@@ -27,11 +24,8 @@ impl Core {
     pub(crate) fn sweep(&mut self, end: EndId) -> Result<Outcome, OutOfMemory>
         ensures outcome { IfOk result (λ o. o
             ≡ sweep_outcome_at (slice_get self.old.ends end.0)) }
-        ensures ends { let ends = self.old.ends in
-            OnOk result (SweepLeaves end.0 ends (slice_get ends end.0) self.new.ends) }
-        ensures err { OnErr result (self.new.ends ≡ self.old.ends) }
-        ensures agents { self.new.agents ≡ self.old.agents }
-        ensures roster { self.new.roster ≡ self.old.roster }
+        ensures new { OnOk result (self.new ≡ sweep_core self.old end) }
+        ensures err { OnErr result (self.new ≡ self.old) }
     {
         let alloc = self.alloc;
         let Some(found) = self.ends.get_mut(end.0 as usize) else {
@@ -46,10 +40,9 @@ impl Core {
 
     /// Gives each port that the envelopes name its place.
     fn place_swept(&mut self, envelopes: &[Envelope])
-        ensures ends { Moves (ports_of envelopes.now) Place.Swept self.old.ends
-            self.new.ends }
-        ensures agents { self.new.agents ≡ self.old.agents }
-        ensures roster { self.new.roster ≡ self.old.roster }
+        ensures { self.new ≡ record self.old {
+          ends = moved_ends (ports_of envelopes.now) Place.Swept self.old.ends;
+        } }
     {
         for envelope in envelopes {
             self.place_each(envelope.ports.as_slice(), Place::Swept);

@@ -22,7 +22,6 @@ ghost use Rattle.hub_core.specs.Laws.{InOrder};
 ghost use Rattle.hub_core.specs.Made.{line_of_port};
 ghost use Rattle.hub_core.specs.Memory.{takes_memory};
 ghost use Rattle.hub_core.specs.Shows.{Shows, FitsAndShows, StillShows};
-ghost use Rattle.hub_core.specs.KeptRoster.{cast_now};
 ghost use Rattle.hub_core.specs.Unchanged.{changes_nothing, SameContent};
 
 use crate::agent::Agent;
@@ -179,7 +178,7 @@ impl Core {
 
     /// The agent whose cast goes to the end next, running or ending.
     fn speaker(&self, end: EndId) -> Option<AgentId>
-        ensures { let cast = cast_now self.now.roster.cast in
+        ensures { let cast = self.now.roster.cast in
             result ≡ kept_speaker self.now.ends cast end.0 }
     {
         let source = self.roster.source_for(end)?;
@@ -190,7 +189,7 @@ impl Core {
     /// running one that has the port at the other side.
     pub(crate) fn poster_by(&self, end: EndId, kind: Kind, line: Line) -> Option<AgentId>
         ensures { let ends = self.now.ends in
-            let cast = cast_now self.now.roster.cast in
+            let cast = self.now.roster.cast in
             result ≡ kept_poster_by self.now.agents ends cast end.0 kind line }
     {
         match kind {
@@ -202,7 +201,7 @@ impl Core {
 
     /// The agent that posts on a line, where one does.
     pub(crate) fn poster_of(&self, sender: Sender) -> Option<AgentId>
-        ensures { let cast = cast_now self.now.roster.cast in
+        ensures { let cast = self.now.roster.cast in
             result ≡ kept_poster self.now.agents self.now.ends cast sender }
     {
         let end = self.ends.get(sender.end.0 as usize)?;
@@ -235,7 +234,7 @@ impl Core {
 
     /// Whether a poster may enter: to post, or to put a notice alone.
     pub(crate) fn may_enter(&self, sender: Sender) -> bool
-        ensures { let cast = cast_now self.now.roster.cast in
+        ensures { let cast = self.now.roster.cast in
             result ≡ kept_may_enter self.now.agents self.now.ends cast sender }
     {
         self.poster_of(sender).is_some() || self.hears_notice(sender)

@@ -1,10 +1,11 @@
 //! Steps that make agents and ends: Agent, Channel, Client and Worker.
 
 ghost use Rattle.std.specs.Prelude.{◌≡◌, length, slice_get, IfOk, OnErr};
-ghost use Rattle.hub_core.specs.KeptRoster.{AgentLeaves, SameRoster};
+ghost use Rattle.hub_core.specs.KeptRoster.{AgentLeaves};
+ghost use Rattle.hub_core.specs.Unchanged.{SameContent};
 ghost use Rattle.hub_core.specs.Kept.{kept_running, kept_agent_answer, agents_made};
 ghost use Rattle.hub_core.specs.Kept.{kept_channel_answer, ends_made, count_of, kept_queue_answer};
-ghost use Rattle.hub_core.specs.Kept.{queue_made, queue_counted};
+ghost use Rattle.hub_core.specs.CoreSteps.{queue_core};
 
 use crate::agent::Agent;
 use crate::end::End;
@@ -21,13 +22,12 @@ impl Core {
     ) -> Result<Outcome, OutOfMemory>
         ensures outcome { IfOk result (λ o. o
             ≡ kept_agent_answer (length self.old.agents) memory_refused) }
-        ensures agents { IfOk result (λ o. self.new.agents
-            ≡ agents_made self.old.agents o) }
         ensures roster { IfOk result (λ o. AgentLeaves origin self.old.roster o self.new.roster) }
-        ensures err { OnErr result (self.new.agents ≡ self.old.agents) }
-        ensures err_roster { let count = length self.old.ends in
-            OnErr result (SameRoster count self.old.roster self.new.roster) }
-        ensures ends { self.new.ends ≡ self.old.ends }
+        ensures new { IfOk result (λ o. self.new ≡ record self.old {
+          agents = agents_made self.old.agents o;
+          roster = self.new.roster;
+        }) }
+        ensures err { OnErr result (SameContent self.old self.new) }
     {
         if memory_refused {
             return Ok(Outcome::NoMemory);
@@ -50,11 +50,10 @@ impl Core {
         ensures outcome { let runs = kept_running self.old.agents agent.0 in
             let count = length self.old.ends in
             IfOk result (λ o. o ≡ kept_channel_answer runs count memory_refused) }
-        ensures ends { IfOk result (λ o. self.new.ends
-            ≡ ends_made agent self.old.ends o) }
-        ensures err { OnErr result (self.new.ends ≡ self.old.ends) }
-        ensures agents { self.new.agents ≡ self.old.agents }
-        ensures roster { self.new.roster ≡ self.old.roster }
+        ensures new { IfOk result (λ o. self.new ≡ record self.old {
+          ends = ends_made agent self.old.ends o;
+        }) }
+        ensures err { OnErr result (self.new ≡ self.old) }
     {
         if !self.is_running(agent) {
             return Ok(Outcome::NotNow);
@@ -89,13 +88,8 @@ impl Core {
             let count = length self.old.ends in
             IfOk result (λ o. o
             ≡ kept_queue_answer (kept_running agents agent.0) held count memory_refused) }
-        ensures ends { IfOk result (λ o. self.new.ends
-            ≡ queue_made agent kind self.old.ends o) }
-        ensures agents { IfOk result (λ o. self.new.agents
-            ≡ queue_counted agent kind self.old.agents o) }
-        ensures err_ends { OnErr result (self.new.ends ≡ self.old.ends) }
-        ensures err_agents { OnErr result (self.new.agents ≡ self.old.agents) }
-        ensures roster { self.new.roster ≡ self.old.roster }
+        ensures new { IfOk result (λ o. self.new ≡ queue_core agent kind self.old o) }
+        ensures err { OnErr result (self.new ≡ self.old) }
     {
         if !self.is_running(agent) || self.count_of(kind, agent) != 0 {
             return Ok(Outcome::NotNow);

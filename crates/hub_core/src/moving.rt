@@ -1,11 +1,10 @@
 //! Steps that move an end or close it: Adopt, Close and Hand.
 
-ghost use Rattle.std.specs.Prelude.{◌≡◌, length, slice_get, IfOk, OnOk, OnErr};
+ghost use Rattle.std.specs.Prelude.{◌≡◌, length, slice_get, IfOk, OnErr};
 ghost use Rattle.hub_core.specs.Kept.{kept_running, kept_holder, kept_own_line, kept_released};
-ghost use Rattle.hub_core.specs.Kept.{kept_may_take_over, adopt_outcome_at, adopt_ends_at};
-ghost use Rattle.hub_core.specs.Kept.{adopt_agents, kept_may_close, close_outcome_at};
-ghost use Rattle.hub_core.specs.Kept.{close_ends_at, close_agents, hand_outcome_at, hand_ends_at};
-ghost use Rattle.hub_core.specs.Kept.{hand_agents};
+ghost use Rattle.hub_core.specs.Kept.{kept_may_take_over, adopt_outcome_at, kept_may_close};
+ghost use Rattle.hub_core.specs.Kept.{close_outcome_at, hand_outcome_at};
+ghost use Rattle.hub_core.specs.CoreSteps.{adopt_core, close_core, hand_core};
 
 use crate::kind::Kind;
 use crate::line::{Line, Phase};
@@ -23,17 +22,9 @@ impl Core {
         ensures outcome { let runs = kept_running self.old.agents agent.0 in
             let found = slice_get self.old.ends end.0 in
             IfOk result (λ o. o ≡ adopt_outcome_at runs agent memory_refused found) }
-        ensures ends { let runs = kept_running self.old.agents agent.0 in
-            let ends = self.old.ends in
-            OnOk result (self.new.ends
-            ≡ adopt_ends_at runs agent memory_refused end.0 ends (slice_get ends end.0)) }
-        ensures err { OnErr result (self.new.ends ≡ self.old.ends) }
-        ensures agents { let agents = self.old.agents in
-            let found = slice_get self.old.ends end.0 in
-            let ends = self.old.ends in
-            IfOk result (λ o. self.new.agents ≡ adopt_agents ends agent agents found o) }
-        ensures err_agents { OnErr result (self.new.agents ≡ self.old.agents) }
-        ensures roster { self.new.roster ≡ self.old.roster }
+        ensures new { IfOk result (λ o. self.new
+            ≡ adopt_core self.old end agent memory_refused o) }
+        ensures err { OnErr result (self.new ≡ self.old) }
     {
         let Some(kind) = self.kind_at(end) else {
             return Ok(Outcome::NotNow);
@@ -55,12 +46,7 @@ impl Core {
     pub(crate) fn close(&mut self, end: EndId) -> Outcome
         ensures outcome { let ends = self.old.ends in
             result ≡ close_outcome_at (kept_may_close ends end.0) (slice_get ends end.0) }
-        ensures ends { let ends = self.old.ends in
-            let may = kept_may_close ends end.0 in
-            self.new.ends ≡ close_ends_at may end.0 ends (slice_get ends end.0) }
-        ensures agents { let found = slice_get self.old.ends end.0 in
-            self.new.agents ≡ close_agents self.old.agents found result }
-        ensures roster { self.new.roster ≡ self.old.roster }
+        ensures new { self.new ≡ close_core self.old end result }
     {
         let may = self.can_close(end);
         let Some(found) = self.ends.get_mut(end.0 as usize) else {
@@ -110,14 +96,7 @@ impl Core {
             let holder = kept_holder agents ends end.0 in
             let may = kept_may_take_over (length agents) agent holder in
             result ≡ hand_outcome_at may (slice_get ends end.0) }
-        ensures ends { let agents = self.old.agents in
-            let ends = self.old.ends in
-            let holder = kept_holder agents ends end.0 in
-            let may = kept_may_take_over (length agents) agent holder in
-            self.new.ends ≡ hand_ends_at may agent end.0 ends (slice_get ends end.0) }
-        ensures agents { let found = slice_get self.old.ends end.0 in
-            self.new.agents ≡ hand_agents self.old.agents found result }
-        ensures roster { self.new.roster ≡ self.old.roster }
+        ensures new { self.new ≡ hand_core self.old end agent result }
     {
         let may = self.may_take_over(agent, self.running_holder(end));
         let Some(found) = self.ends.get_mut(end.0 as usize) else {

@@ -1,16 +1,14 @@
 //! A post, in three steps and what goes with them: Enter, Push, Leave, Notice and Hop.
 
-ghost use Rattle.std.specs.Prelude.{◌≡◌, ◌<◌, ◌≤◌, ◌∷◌, [], length, slice_get, Some, IfOk, OnOk};
-ghost use Rattle.std.specs.Prelude.{OnErr};
-ghost use Rattle.hub_core.specs.KeptRoster.{cast_now, cast_left};
+ghost use Rattle.std.specs.Prelude.{◌≡◌, ◌<◌, ◌≤◌, length, slice_get, Some, IfOk, OnOk, OnErr};
 ghost use Rattle.hub_core.specs.Posting.{is_fitting, is_good};
-ghost use Rattle.hub_core.specs.Kept.{enter_outcome_at, enter_ends_at, leave_outcome_at};
-ghost use Rattle.hub_core.specs.Kept.{leave_ends_at, hop_outcome_at, hop_ends_at, kept_may_enter};
-ghost use Rattle.hub_core.specs.Kept.{kept_noticing, notice_outcome, NoticeLeaves, kept_posting};
+ghost use Rattle.hub_core.specs.Kept.{enter_outcome_at, enter_ends_at, leave_outcome_at, hop_outcome_at};
+ghost use Rattle.hub_core.specs.Kept.{kept_may_enter, kept_noticing, notice_outcome};
 ghost use Rattle.hub_core.specs.Kept.{kept_all_leave, kept_listing_to, kept_may_leave};
-ghost use Rattle.hub_core.specs.Kept.{kept_own_free, push_outcome, HasQueue, AcceptLeaves};
-ghost use Rattle.hub_core.specs.Kept.{PushLeaves, PutLeaves, Moves};
-ghost use Rattle.hub_core.specs.KeptEnding.{kept_owner_of, enter_agents, leave_agents};
+ghost use Rattle.hub_core.specs.Kept.{kept_own_free, push_outcome, HasQueue};
+ghost use Rattle.hub_core.specs.Kept.{put_ends, accept_ends, moved_ends, end_moved};
+ghost use Rattle.hub_core.specs.CoreSteps.{enter_core, leave_core, hop_core, core_posting};
+ghost use Rattle.hub_core.specs.CoreSteps.{push_core, notice_core};
 
 use crate::end::Place;
 use crate::kind::Kind;
@@ -24,41 +22,42 @@ use hub_envelope::{AgentId, Body, EndId, Envelope, Items, MAX_PORTS, OutOfMemory
 impl Core {
     pub(crate) fn enter(&mut self, sender: Sender) -> Outcome
         ensures outcome { let ends = self.old.ends in
-            let cast = cast_now self.old.roster.cast in
-            let may = kept_may_enter self.old.agents ends cast sender in
+            let may = kept_may_enter self.old.agents ends self.old.roster.cast sender in
             result ≡ enter_outcome_at may sender.line.0 (slice_get ends sender.end.0) }
-        ensures ends { let ends = self.old.ends in
-            let cast = cast_now self.old.roster.cast in
-            let may = kept_may_enter self.old.agents ends cast sender in
-            self.new.ends ≡ enter_ends_at may sender ends (slice_get ends sender.end.0) }
-        ensures agents { let owner = kept_owner_of self.old.ends sender in
-            self.new.agents ≡ enter_agents owner self.old.agents result }
-        ensures roster { self.new.roster ≡ self.old.roster }
+        ensures new { self.new ≡ enter_core self.old sender result }
     {
-        if !self.may_enter(sender) {
-            return Outcome::NotNow;
-        }
         let owner = self.owner_of(sender);
-        let Some(end) = self.ends.get_mut(sender.end.0 as usize) else {
-            return Outcome::NotNow;
-        };
-        let outcome = end.enter(sender.line);
+        let outcome = self.pass_gate(sender);
         if !matches!(outcome, Outcome::NotNow) {
             self.count_away(owner);
         }
         outcome
     }
 
+    /// Enters, and leaves what is counted of agents.
+    fn pass_gate(&mut self, sender: Sender) -> Outcome
+        ensures outcome { let ends = self.old.ends in
+            let may = kept_may_enter self.old.agents ends self.old.roster.cast sender in
+            result ≡ enter_outcome_at may sender.line.0 (slice_get ends sender.end.0) }
+        ensures new { let ends = self.old.ends in
+            let may = kept_may_enter self.old.agents ends self.old.roster.cast sender in
+            self.new ≡ record self.old {
+              ends = enter_ends_at may sender ends (slice_get ends sender.end.0);
+            } }
+    {
+        if !self.may_enter(sender) {
+            return Outcome::NotNow;
+        }
+        let Some(end) = self.ends.get_mut(sender.end.0 as usize) else {
+            return Outcome::NotNow;
+        };
+        end.enter(sender.line)
+    }
+
     pub(crate) fn leave(&mut self, sender: Sender) -> Outcome
         ensures outcome { let ends = self.old.ends in
             result ≡ leave_outcome_at sender.line.0 (slice_get ends sender.end.0) }
-        ensures ends { let ends = self.old.ends in
-            self.new.ends ≡ leave_ends_at sender ends (slice_get ends sender.end.0) }
-        ensures agents { let owner = kept_owner_of self.old.ends sender in
-            self.new.agents ≡ leave_agents owner self.old.agents result }
-        ensures cast { let cast = cast_now self.old.roster.cast in
-            cast_now self.new.roster.cast ≡ cast_left sender.end.0 result cast }
-        ensures members { self.new.roster.members ≡ self.old.roster.members }
+        ensures new { self.new ≡ leave_core self.old sender result }
     {
         let owner = self.owner_of(sender);
         let Some(end) = self.ends.get_mut(sender.end.0 as usize) else {
@@ -74,15 +73,9 @@ impl Core {
 
     pub(crate) fn hop(&mut self, sender: Sender) -> Outcome
         ensures outcome { let ends = self.old.ends in
-            let cast = cast_now self.old.roster.cast in
-            let may = kept_may_enter self.old.agents ends cast sender in
+            let may = kept_may_enter self.old.agents ends self.old.roster.cast sender in
             result ≡ hop_outcome_at may sender.line.0 (slice_get ends sender.end.0) }
-        ensures ends { let ends = self.old.ends in
-            let cast = cast_now self.old.roster.cast in
-            let may = kept_may_enter self.old.agents ends cast sender in
-            self.new.ends ≡ hop_ends_at may sender ends (slice_get ends sender.end.0) }
-        ensures agents { self.new.agents ≡ self.old.agents }
-        ensures roster { self.new.roster ≡ self.old.roster }
+        ensures new { self.new ≡ hop_core self.old sender }
     {
         if !self.may_enter(sender) {
             return Outcome::NotNow;
@@ -100,19 +93,11 @@ impl Core {
         body: Body,
         memory_refused: bool,
     ) -> Result<Outcome, OutOfMemory>
-        ensures outcome { let agents = self.old.agents in
-            let ends = self.old.ends in
-            let cast = cast_now self.old.roster.cast in
-            let posting = kept_posting agents ends cast sender ports body memory_refused in
+        ensures outcome { let posting = core_posting self.old sender ports body memory_refused in
             IfOk result (λ o. o ≡ push_outcome posting) }
-        ensures ends { let agents = self.old.agents in
-            let ends = self.old.ends in
-            let cast = cast_now self.old.roster.cast in
-            let posting = kept_posting agents ends cast sender ports body memory_refused in
-            OnOk result (PushLeaves sender ports body ends posting self.new.ends) }
-        ensures err { OnErr result (self.new.ends ≡ self.old.ends) }
-        ensures agents { self.new.agents ≡ self.old.agents }
-        ensures roster { self.new.roster ≡ self.old.roster }
+        ensures new { let posting = core_posting self.old sender ports body memory_refused in
+            OnOk result (self.new ≡ push_core self.old sender ports body posting) }
+        ensures err { OnErr result (self.new ≡ self.old) }
     {
         match self.posting(sender, ports.as_slice(), &body, memory_refused) {
             Ok((line, agent)) => {
@@ -148,10 +133,7 @@ impl Core {
         body: &Body,
         memory_refused: bool,
     ) -> Result<(Line, AgentId), Outcome>
-        ensures answer { let agents = self.now.agents in
-            let ends = self.now.ends in
-            let cast = cast_now self.now.roster.cast in
-            result ≡ kept_posting agents ends cast sender ports.now body.now memory_refused }
+        ensures answer { result ≡ core_posting self.now sender ports.now body.now memory_refused }
         ensures few { OnOk result (length ports.now ≤ MAX_PORTS) }
         ensures there { IfOk result (λ p. (sender.end.0 < length self.now.ends)
             × HasQueue self.now.ends sender p.0) }
@@ -183,8 +165,7 @@ impl Core {
     /// Whether a message may go to an end of this kind: to a broadcast channel only the body of the
     /// cast, with no ports.
     fn is_fitting(&self, kind: Kind, ports: &[EndId], body: &Body) -> bool
-        ensures { let cast = cast_now self.now.roster.cast in
-            result ≡ is_fitting cast (Some kind) ports.now body.now }
+        ensures { result ≡ is_fitting self.now.roster.cast (Some kind) ports.now body.now }
     {
         match kind {
             Kind::Port(_) | Kind::Client | Kind::Worker => true,
@@ -198,15 +179,11 @@ impl Core {
         sender: Sender,
         memory_refused: bool,
     ) -> Result<Outcome, OutOfMemory>
-        ensures outcome { let ends = self.old.ends in
-            let noticing = kept_noticing ends sender memory_refused in
+        ensures outcome { let noticing = kept_noticing self.old.ends sender memory_refused in
             IfOk result (λ o. o ≡ notice_outcome noticing) }
-        ensures ends { let ends = self.old.ends in
-            let noticing = kept_noticing ends sender memory_refused in
-            OnOk result (NoticeLeaves sender ends noticing self.new.ends) }
-        ensures err { OnErr result (self.new.ends ≡ self.old.ends) }
-        ensures agents { self.new.agents ≡ self.old.agents }
-        ensures roster { self.new.roster ≡ self.old.roster }
+        ensures new { let noticing = kept_noticing self.old.ends sender memory_refused in
+            OnOk result (self.new ≡ notice_core self.old sender noticing) }
+        ensures err { OnErr result (self.new ≡ self.old) }
     {
         match self.noticing(sender, memory_refused) {
             Ok(line) => {
@@ -258,11 +235,10 @@ impl Core {
         requires there { envelope.end.0 < length self.old.ends }
         requires queue { HasQueue self.old.ends
             (record { end = envelope.end; line = envelope.line }) line }
-        ensures ok { OnOk result (AcceptLeaves self.old.ends line envelope
-            self.new.ends) }
-        ensures err { OnErr result (self.new.ends ≡ self.old.ends) }
-        ensures agents { self.new.agents ≡ self.old.agents }
-        ensures roster { self.new.roster ≡ self.old.roster }
+        ensures ok { OnOk result (self.new ≡ record self.old {
+          ends = accept_ends self.old.ends line envelope;
+        }) }
+        ensures err { OnErr result (self.new ≡ self.old) }
     {
         if envelope.ports.as_slice().is_empty() {
             return self.put(line, envelope);
@@ -282,11 +258,10 @@ impl Core {
         requires there { envelope.end.0 < length self.old.ends }
         requires queue { HasQueue self.old.ends
             (record { end = envelope.end; line = envelope.line }) line }
-        ensures ok { OnOk result (PutLeaves self.old.ends line envelope
-            self.new.ends) }
-        ensures err { OnErr result (self.new.ends ≡ self.old.ends) }
-        ensures agents { self.new.agents ≡ self.old.agents }
-        ensures roster { self.new.roster ≡ self.old.roster }
+        ensures ok { OnOk result (self.new ≡ record self.old {
+          ends = put_ends self.old.ends line envelope;
+        }) }
+        ensures err { OnErr result (self.new ≡ self.old) }
     {
         self.ends[envelope.end.0 as usize].put(line, envelope)
     }
@@ -365,9 +340,9 @@ impl Core {
 
     /// Gives each listed port a new place.
     pub(crate) fn place_each(&mut self, ports: &[EndId], place: Place)
-        ensures ends { Moves ports.now place self.old.ends self.new.ends }
-        ensures agents { self.new.agents ≡ self.old.agents }
-        ensures roster { self.new.roster ≡ self.old.roster }
+        ensures { self.new ≡ record self.old {
+          ends = moved_ends ports.now place self.old.ends;
+        } }
     {
         for port in ports {
             self.place(*port, place);
@@ -376,9 +351,7 @@ impl Core {
 
     /// Gives a port a new place.
     fn place(&mut self, port: EndId, place: Place)
-        ensures ends { Moves (port ∷ []) place self.old.ends self.new.ends }
-        ensures agents { self.new.agents ≡ self.old.agents }
-        ensures roster { self.new.roster ≡ self.old.roster }
+        ensures { self.new ≡ record self.old { ends = end_moved place self.old.ends port } }
     {
         if let Some(end) = self.ends.get_mut(port.0 as usize) {
             end.place = place;

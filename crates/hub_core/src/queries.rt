@@ -3,7 +3,6 @@
 ghost use Rattle.std.specs.Prelude.{◌≡◌, length, option_map, slice_get};
 ghost use Rattle.hub_core.specs.Facts.{facts};
 ghost use Rattle.hub_core.specs.History.{History};
-ghost use Rattle.hub_core.specs.KeptRoster.{cast_now};
 ghost use Rattle.hub_core.specs.Kept.{kept_may_post, kept_listing};
 ghost use Rattle.hub_core.specs.Made.{kind};
 ghost use Rattle.hub_core.specs.Moving.{may_close};
@@ -27,7 +26,7 @@ impl Core {
     }
 
     fn can_post(&self, sender: Sender) -> bool
-        ensures { let cast = cast_now self.now.roster.cast in
+        ensures { let cast = self.now.roster.cast in
             result ≡ kept_may_post self.now.agents self.now.ends cast sender }
     {
         let Some(end) = self.ends.get(sender.end.0 as usize) else {
@@ -49,7 +48,7 @@ impl Core {
 
     fn kind_of_list(&self, sender: Sender, ports: &[EndId]) -> Listing
         ensures { let ends = self.now.ends in
-            let cast = cast_now self.now.roster.cast in
+            let cast = self.now.roster.cast in
             result ≡ kept_listing self.now.agents ends cast sender ports.now }
     {
         let Some(end) = self.ends.get(sender.end.0 as usize) else {

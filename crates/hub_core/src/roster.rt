@@ -1,5 +1,5 @@
 ghost use Rattle.std.specs.Prelude.{◌≡◌, ◌++◌, ◌∷◌, [], drop, None, is_some, IfOk, OnOk, OnErr};
-ghost use Rattle.hub_core.specs.KeptRoster.{cast_now, has_body, source_for, is_none, IsFirst};
+ghost use Rattle.hub_core.specs.KeptRoster.{has_body, source_for, is_none, IsFirst};
 ghost use Rattle.hub_core.specs.Roster.{is_first, cast_to, cast_after};
 
 use crate::members::Members;
@@ -65,6 +65,14 @@ pub struct Cast {
     left: Destinations,
 }
 
+impl Model for Cast {
+    ghost use Rattle.hub_core.specs.Roster.{CastNow};
+
+    ghost Value = { CastNow };
+
+    ghost view = { λ c. record { source = c.source; body = c.body; left = c.left } };
+}
+
 /// What the core keeps of broadcast channels.
 #[derive(Drop)]
 pub struct Roster {
@@ -85,14 +93,14 @@ impl Roster {
 
     /// Whether a cast has destinations left.
     pub(crate) fn is_casting(&self) -> bool
-        ensures { result ≡ is_some (cast_now self.now.cast) }
+        ensures { result ≡ is_some self.now.cast }
     {
         self.cast.is_some()
     }
 
     /// The source of the cast that goes to the end next.
     pub(crate) fn source_for(&self, end: EndId) -> Option<EndId>
-        ensures { result ≡ source_for (cast_now self.now.cast) end.0 }
+        ensures { result ≡ source_for self.now.cast end.0 }
     {
         let cast = self.cast.as_ref()?;
         if cast.left.is_first(end) {
@@ -104,7 +112,7 @@ impl Roster {
 
     /// Whether the body is that of the cast.
     pub(crate) fn is_cast(&self, body: &Body) -> bool
-        ensures { result ≡ has_body body.now (cast_now self.now.cast) }
+        ensures { result ≡ has_body body.now self.now.cast }
     {
         match &self.cast {
             Some(cast) => *body == cast.body,
@@ -114,8 +122,7 @@ impl Roster {
 
     /// A cast goes to these destinations.
     pub(crate) fn begin(&mut self, source: EndId, body: Body, left: Destinations)
-        ensures cast { cast_now self.new.cast ≡ cast_to source body left }
-        ensures members { self.new.members ≡ self.old.members }
+        ensures { self.new ≡ record self.old { cast = cast_to source body left } }
     {
         self.cast = if left.is_empty() {
             None
@@ -126,8 +133,7 @@ impl Roster {
 
     /// A poster left the end: where that is the first destination left, it is done with.
     pub(crate) fn leave(&mut self, end: EndId)
-        ensures cast { cast_now self.new.cast ≡ cast_after end.0 (cast_now self.old.cast) }
-        ensures members { self.new.members ≡ self.old.members }
+        ensures { self.new ≡ record self.old { cast = cast_after end.0 self.old.cast } }
     {
         let Some(mut cast) = self.cast.take() else {
             return;

@@ -1,7 +1,8 @@
 //! Steps of whoever takes: Start and Take.
 
 ghost use Rattle.std.specs.Prelude.{◌≡◌, slice_get};
-ghost use Rattle.hub_core.specs.Kept.{kept_holder, start_outcome, start_ends, TakeLeaves};
+ghost use Rattle.hub_core.specs.Kept.{kept_holder, start_outcome, TakeLeaves};
+ghost use Rattle.hub_core.specs.CoreSteps.{start_core};
 
 use crate::end::Place;
 use crate::machine::Core;
@@ -13,11 +14,7 @@ impl Core {
         ensures outcome { let ends = self.old.ends in
             let holder = kept_holder self.old.agents ends end.0 in
             result ≡ start_outcome holder (slice_get ends end.0) }
-        ensures ends { let ends = self.old.ends in
-            let holder = kept_holder self.old.agents ends end.0 in
-            self.new.ends ≡ start_ends holder end.0 ends (slice_get ends end.0) }
-        ensures agents { self.new.agents ≡ self.old.agents }
-        ensures roster { self.new.roster ≡ self.old.roster }
+        ensures new { self.new ≡ start_core self.old end }
     {
         let at = end.0 as usize;
         let Some(found) = self.ends.get(at) else {
@@ -37,8 +34,7 @@ impl Core {
         ensures ends { let ends = self.old.ends in
             let holder = kept_holder self.old.agents ends end.0 in
             TakeLeaves holder end.0 ends (slice_get ends end.0) result self.new.ends }
-        ensures agents { self.new.agents ≡ self.old.agents }
-        ensures roster { self.new.roster ≡ self.old.roster }
+        ensures rest { self.new ≡ record self.old { ends = self.new.ends } }
     {
         let at = end.0 as usize;
         let Some(found) = self.ends.get(at) else {

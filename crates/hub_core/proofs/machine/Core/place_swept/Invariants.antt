@@ -1,12 +1,9 @@
 use Rattle.std.proofs.Common.{◌≡◌, take}
 use Rattle.hub_core.specs.declared.end.Place.TheVariants.{Swept}
-use Rattle.hub_core.specs.Kept.{Moves, ports_of}
+use Rattle.hub_core.specs.Kept.{moved_ends, ports_of}
 use Rattle.hub_core.proofs.machine.Core.place_swept.Given as goal
 
 -- the ports of the envelopes so far are placed
 abbrev pub invariant-loop-envelope : goal.invariant-loop-envelope
-invariant-loop-envelope l = record {
-  ends : Moves (ports_of (take l.envelope-index l.envelopes)) Swept l.fn.self.ends l.self.ends;
-  agents : l.self.agents ≡ l.fn.self.agents;
-  roster : l.self.roster ≡ l.fn.self.roster;
-}
+invariant-loop-envelope l =
+    l.self ≡ record l.fn.self { ends = moved_ends (ports_of (take l.envelope-index l.envelopes)) Swept l.fn.self.ends }

@@ -1,0 +1,190 @@
+-- A step of the core from one value to another, and the clauses of `Core::step` that follow.
+use Rattle.std.proofs.Common.{◌≡◌, ℕ, Bool, true, List, [], ◌∷◌, ◌++◌, length, Option, Result, Ok, Err, refl, sym, ap, subst, ◌∙◌}
+use Rattle.std.specs.Prelude.{IfOk, OnErr, is_some, not, ◌&&◌}
+use Rattle.std.specs.List.{slice_get}
+use Rattle.std.proofs.lemmas.Bool.{false≢true}
+use Rattle.hub_envelope.specs.declared.ids.AgentId.{AgentId}
+use Rattle.hub_envelope.specs.declared.ids.EndId.{EndId}
+use Rattle.hub_core.specs.declared.agent.Agent.{Agent}
+use Rattle.hub_core.specs.declared.end.End.{End}
+use Rattle.hub_core.specs.declared.members.Members.{Members}
+use Rattle.hub_core.specs.declared.roster.Roster.{Roster}
+use Rattle.hub_core.specs.declared.sender.Sender.{Sender}
+use Rattle.hub_core.specs.declared.step.Action.TheVariants as action
+use Rattle.hub_core.specs.declared.outcome.Outcome.TheVariants as outcome
+use Rattle.hub_core.specs.CoreSteps.{leave_core}
+use Rattle.hub_core.specs.Kept.{kept_running, kept_holder, kept_maker, kept_agent_answer, agents_made, leave_outcome_at}
+use Rattle.hub_core.specs.KeptCasting.{kept_member_answer, kept_cast_answer, is_kept_open, part_outcome, member_made}
+use Rattle.hub_core.specs.KeptEnding.{kept_owner_of, leave_agents}
+use Rattle.hub_core.specs.KeptRoster.{origin_at, group_of, is_seated_in, kept_destinations, AgentLeaves, MemberLeaves, PartLeaves, cast_roster}
+use Rattle.hub_core.specs.Posting.{is_empty}
+use Rattle.hub_core.specs.CoreState.{CoreState}
+use Rattle.hub_core.specs.declared.step.Step.{Step}
+use Rattle.hub_core.specs.declared.step.Action.{Action}
+use Rattle.hub_core.specs.declared.outcome.Outcome.{Outcome}
+use Rattle.hub_core.specs.Facts.{Facts, facts}
+use Rattle.hub_core.specs.Fits.{Answers}
+use Rattle.hub_core.specs.History.{History}
+use Rattle.hub_core.specs.Laws.{InOrder}
+use Rattle.hub_core.specs.Memory.{takes_memory}
+use Rattle.hub_core.specs.Shows.{Shows, ShowsFacts, ShowsRoster, FitsAndShows, StillShows}
+use Rattle.hub_core.specs.Unchanged.{changes_nothing, SameContent}
+use Rattle.hub_core.proofs.Broadcasts.{member_told, cast_told, part_told}
+use Rattle.hub_core.proofs.Casts.{same_members, left_same, leaves_roster, roster_stays, roster_agent, roster_member, roster_leave, roster_cast, roster_part}
+use Rattle.hub_core.proofs.Entering.{leave_shown, leave_agents_same}
+use Rattle.hub_core.proofs.Frames.{Stepped, along}
+use Rattle.hub_core.proofs.Makes.{agent_shown}
+use Rattle.hub_core.proofs.Nexts.{next, facts_next}
+use Rattle.hub_core.proofs.Orders.{shows_in_order}
+use Rattle.hub_core.proofs.Stepping.{leave_same}
+use Rattle.hub_core.proofs.Stills.{same_shown}
+
+-- After all that the old core shows the step got an answer that fits, and the new core shows what is so then; where
+-- the answer says that nothing changed all is as before.
+pub record Took (a : Action) (refused : Bool) (old new : CoreState) (o : Outcome) : Type 0 where
+  pub shown : (f : Facts) → ShowsFacts old.agents old.ends f → ShowsRoster old.roster f → Stepped new.agents new.ends f a refused o × ShowsRoster new.roster (next f a o)
+  pub same : changes_nothing o a ≡ true → SameContent old new
+
+pub same_content : (old new : CoreState) → new ≡ old → SameContent old new
+same_content old new same = (
+  ap (λ (c : CoreState). c.agents) same,
+  ap (λ (c : CoreState). c.ends) same,
+  same_members (length old.ends) old.roster new.roster (ap (λ (c : CoreState). c.roster) same),
+)
+
+pub same_err : {E : Type 0} (r : Result Outcome E) (old new : CoreState) → OnErr r (new ≡ old) → OnErr r (SameContent old new)
+same_err (Ok o) old new same = tt
+same_err (Err e) old new same = same_content old new same
+
+pub both_same : (c : CoreState) {agents : List Agent} {ends : List End} → agents ≡ c.agents → ends ≡ c.ends → (let d : CoreState = record c { agents = agents; ends = ends } in d) ≡ c
+both_same c same_agents same_ends = λ i. record c { agents = same_agents i; ends = same_ends i }
+
+-- a step that leaves the roster, by what it was answered and what it left
+pub took : (a : Action) (refused : Bool) (old new after : CoreState) (o p : Outcome) → o ≡ p → new ≡ after → after.roster ≡ old.roster → leaves_roster a ≡ true → ((f : Facts) → ShowsFacts old.agents old.ends f → f.roster.cast ≡ old.roster.cast → Stepped after.agents after.ends f a refused p) → (changes_nothing p a ≡ true → after ≡ old) → Took a refused old new o
+took a refused old new after o p says leaves roster stays k same = record {
+  shown = λ f s w.
+      let at : Stepped new.agents new.ends f a refused o = subst (λ q. Stepped new.agents new.ends f a refused q) (sym says) (subst (λ (c : CoreState). Stepped c.agents c.ends f a refused p) (sym leaves) (k f s w.cast)) in
+      (at, subst (λ r. ShowsRoster r (next f a o)) (sym (ap (λ (c : CoreState). c.roster) leaves ∙ roster)) (roster_stays old.roster f a refused o s.sound at.fits stays w));
+  same = λ nothing. same_content old new (leaves ∙ same (subst (λ q. changes_nothing q a ≡ true) says nothing));
+}
+
+-- ---- steps that change the roster
+
+agent_same : (origin : Option (List ℕ)) (c : CoreState) (r : Roster) (o : Outcome) → AgentLeaves origin c.roster o r → changes_nothing o (action.Agent origin) ≡ true → (let d : CoreState = record c { agents = agents_made c.agents o; roster = r } in d) ≡ c
+agent_same origin c r (outcome.Agent a) leaves h = absurd (false≢true h)
+agent_same origin c r o leaves h = ap (λ q. let d : CoreState = record c { roster = q } in d) leaves
+
+pub agent_took : (origin : Option (List ℕ)) (refused : Bool) (old new : CoreState) (o : Outcome) → o ≡ kept_agent_answer (length old.agents) refused → AgentLeaves origin old.roster o new.roster → new ≡ record old { agents = agents_made old.agents o; roster = new.roster } → Took (action.Agent origin) refused old new o
+agent_took origin refused old new o says leaves same = record {
+  shown = λ f s w.
+      let at = agent_shown old.agents new.agents old.ends f origin refused o s says (ap (λ (c : CoreState). c.agents) same) in
+      (subst (λ es. Stepped new.agents es f (action.Agent origin) refused o) (sym (ap (λ (c : CoreState). c.ends) same)) at, roster_agent old.roster new.roster f origin refused o w at.fits leaves);
+  same = λ nothing. same_content old new (same ∙ agent_same origin old new.roster o leaves nothing);
+}
+
+member_same : (a : AgentId) (name : List ℕ) (c : CoreState) (r : Roster) (o : Outcome) → MemberLeaves a.0 name c.roster o r → changes_nothing o (action.Member a name) ≡ true → (let d : CoreState = record c { ends = member_made a c.ends o; roster = r } in d) ≡ c
+member_same a name c r (outcome.End e) leaves h = absurd (false≢true h)
+member_same a name c r o leaves h = ap (λ q. let d : CoreState = record c { roster = q } in d) leaves
+
+pub member_took : (a : AgentId) (name : List ℕ) (refused : Bool) (old new : CoreState) (o : Outcome) → o ≡ kept_member_answer (kept_running old.agents a.0 && not (is_some old.roster.cast)) (is_some (origin_at (slice_get old.roster.members.origins.items a.0))) (length old.ends) refused → MemberLeaves a.0 name old.roster o new.roster → new ≡ record old { ends = member_made a old.ends o; roster = new.roster } → Took (action.Member a name) refused old new o
+member_took a name refused old new o says leaves same = record {
+  shown = λ f s w.
+      let at = member_told old.agents old.ends new.ends old.roster f a name refused o s w says (ap (λ (c : CoreState). c.ends) same) in
+      (subst (λ gs. Stepped gs new.ends f (action.Member a name) refused o) (sym (ap (λ (c : CoreState). c.agents) same)) at, roster_member old.roster new.roster f a name refused o s.sound w at.fits leaves);
+  same = λ nothing. same_content old new (same ∙ member_same a name old new.roster o leaves nothing);
+}
+
+pub leave_took : (t : Sender) (refused : Bool) (old new : CoreState) (o : Outcome) → o ≡ leave_outcome_at t.line.0 (slice_get old.ends t.end.0) → new ≡ leave_core old t o → Took (action.Leave t) refused old new o
+leave_took t refused old new o says same = record {
+  shown = λ f s w. (
+    along (λ gs es q. Stepped gs es f (action.Leave t) refused q) (ap (λ (c : CoreState). c.agents) same ∙ ap (leave_agents (kept_owner_of old.ends t) old.agents) says) (ap (λ (c : CoreState). c.ends) same) says
+        (leave_shown old.agents old.ends f t refused s),
+    subst (λ r. ShowsRoster r (next f (action.Leave t) o)) (sym (ap (λ (c : CoreState). c.roster) same)) (roster_leave old.roster f t o w),
+  );
+  same = λ nothing.
+      let plain = subst (λ q. changes_nothing q (action.Leave t) ≡ true) says nothing in
+      same_content old new (same ∙ (λ i. record {
+        agents = leave_agents_same (kept_owner_of old.ends t) old.agents t o nothing i;
+        ends = leave_same old.ends t (slice_get old.ends t.end.0) refl plain i;
+        roster = record old.roster { cast = left_same t o old.roster.cast nothing i };
+      }));
+}
+
+cast_same : (e : EndId) (ports : List EndId) (body : List ℕ) (r : Roster) (o : Outcome) → changes_nothing o (action.Cast e ports body) ≡ true → cast_roster e body r o ≡ r
+cast_same e ports body r (outcome.Destinations ends) h = absurd (false≢true h)
+cast_same e ports body r o h = refl
+
+pub cast_took : (e : EndId) (ports : List EndId) (body : List ℕ) (refused : Bool) (old new : CoreState) (o : Outcome) → (let m : Members = old.roster.members in o ≡ kept_cast_answer (is_some (kept_maker (slice_get old.ends e.0)) && not (is_some old.roster.cast)) (is_seated_in m e.0 (group_of m e.0) && is_kept_open (slice_get old.ends e.0)) (kept_holder old.agents old.ends e.0) (is_empty ports) (kept_destinations m e.0)) → new ≡ record old { roster = cast_roster e body old.roster o } → Took (action.Cast e ports body) refused old new o
+cast_took e ports body refused old new o says same = record {
+  shown = λ f s w. (
+    along (λ gs es q. Stepped gs es f (action.Cast e ports body) refused q) (ap (λ (c : CoreState). c.agents) same) (ap (λ (c : CoreState). c.ends) same) says (cast_told old.agents old.ends old.roster f e ports body refused s w),
+    subst (λ r. ShowsRoster r (next f (action.Cast e ports body) o)) (sym (ap (λ (c : CoreState). c.roster) same)) (roster_cast old.roster f e ports body o w),
+  );
+  same = λ nothing. same_content old new (same ∙ ap (λ r. let d : CoreState = record old { roster = r } in d) (cast_same e ports body old.roster o nothing));
+}
+
+part_same : (e : EndId) (r s : Roster) (o : Outcome) → PartLeaves e.0 r o s → changes_nothing o (action.Part e) ≡ true → s ≡ r
+part_same e r s outcome.Done leaves h = absurd (false≢true h)
+part_same e r s o leaves h = leaves
+
+pub part_took : (e : EndId) (refused : Bool) (old new : CoreState) (o : Outcome) → (let m : Members = old.roster.members in o ≡ part_outcome (is_seated_in m e.0 (group_of m e.0) && not (is_some old.roster.cast))) → PartLeaves e.0 old.roster o new.roster → new ≡ record old { roster = new.roster } → Took (action.Part e) refused old new o
+part_took e refused old new o says leaves same = record {
+  shown = λ f s w.
+      let at = along (λ gs es q. Stepped gs es f (action.Part e) refused q) (ap (λ (c : CoreState). c.agents) same) (ap (λ (c : CoreState). c.ends) same) says (part_told old.agents old.ends old.roster f e refused s w) in
+      (at, roster_part old.roster new.roster f e o w at.fits leaves);
+  same = λ nothing. same_content old new (same ∙ ap (λ r. let d : CoreState = record old { roster = r } in d) (part_same e old.roster new.roster o leaves nothing));
+}
+
+-- ---- the clauses
+
+fits_of : (step : Step) (a : Action) (old new : CoreState) (o : Outcome) → step.action ≡ a → Took a step.memory_refused old new o → FitsAndShows old new step o
+fits_of step a old new o is t = λ h s.
+    let at = t.shown (facts h) s.0 s.1 in
+    let longer : facts (h ++ (step, o) ∷ []) ≡ next (facts h) a o = facts_next h (step, o) ∙ ap (λ b. next (facts h) b o) is in (
+      subst (λ b. Answers (facts h) b step.memory_refused o) (sym is) at.0.fits,
+      (subst (ShowsFacts new.agents new.ends) (sym longer) at.0.shows, subst (ShowsRoster new.roster) (sym longer) at.1),
+    )
+
+same_of : (step : Step) (a : Action) (old new : CoreState) (o : Outcome) → step.action ≡ a → Took a step.memory_refused old new o → changes_nothing o step.action ≡ true → SameContent old new
+same_of step a old new o is t nothing = t.same (subst (λ b. changes_nothing o b ≡ true) is nothing)
+
+-- of a step that takes no memory
+pub told : (step : Step) (a : Action) (old new : CoreState) (o : Outcome) → step.action ≡ a → Took a step.memory_refused old new o → record {
+  fits : FitsAndShows old new step o;
+  unchanged : changes_nothing o step.action ≡ true → SameContent old new;
+  err : Unit {0};
+  still : changes_nothing o step.action ≡ true → StillShows old new;
+  err_still : Unit {0};
+  memory : Unit {0};
+  in_order : (h : History) → Shows new h → InOrder h;
+}
+told step a old new o is t = record {
+  fits = fits_of step a old new o is t;
+  unchanged = same_of step a old new o is t;
+  err = tt;
+  still = λ nothing. same_shown old new (same_of step a old new o is t nothing);
+  err_still = tt;
+  memory = tt;
+  in_order = shows_in_order new;
+}
+
+-- of a step that may find no memory
+pub told_ok : {E : Type 0} (step : Step) (a : Action) (old new : CoreState) (r : Result Outcome E) → step.action ≡ a → takes_memory a ≡ true → IfOk r (Took a step.memory_refused old new) → OnErr r (SameContent old new) → record {
+  fits : IfOk r (FitsAndShows old new step);
+  unchanged : IfOk r (λ o. changes_nothing o step.action ≡ true → SameContent old new);
+  err : OnErr r (SameContent old new);
+  still : IfOk r (λ o. changes_nothing o step.action ≡ true → StillShows old new);
+  err_still : OnErr r (StillShows old new);
+  memory : OnErr r (takes_memory step.action ≡ true);
+  in_order : (h : History) → Shows new h → InOrder h;
+}
+told_ok step a old new (Ok o) is takes t err = told step a old new o is t
+told_ok step a old new (Err e) is takes t err = record {
+  fits = tt;
+  unchanged = tt;
+  err = err;
+  still = tt;
+  err_still = same_shown old new err;
+  memory = ap takes_memory is ∙ takes;
+  in_order = shows_in_order new;
+}

@@ -1,0 +1,80 @@
+-- For private clauses: the core after a step, where the step got this answer.
+use Rattle.std.specs.Prelude.{ℕ, Bool, List, length, slice_get, Result}
+use Rattle.hub_envelope.specs.declared.ids.AgentId.{AgentId}
+use Rattle.hub_envelope.specs.declared.ids.EndId.{EndId}
+use Rattle.hub_core.specs.declared.kind.Kind.{Kind}
+use Rattle.hub_core.specs.declared.line.Line.{Line}
+use Rattle.hub_core.specs.declared.outcome.Outcome.{Outcome}
+use Rattle.hub_core.specs.declared.sender.Sender.{Sender}
+use Rattle.hub_core.specs.CoreState.{CoreState}
+use Rattle.hub_core.specs.Kept.{kept_running, kept_holder, kept_may_enter, kept_may_close, kept_may_take_over, kept_posting}
+use Rattle.hub_core.specs.Kept.{enter_ends_at, leave_ends_at, hop_ends_at, push_ends, notice_ends, look_ends_at, sweep_ends, start_ends}
+use Rattle.hub_core.specs.Kept.{line_ends_at, back_ends_at, adopt_ends_at, adopt_agents, close_ends_at, close_agents, hand_ends_at, hand_agents, queue_made, queue_counted}
+use Rattle.hub_core.specs.KeptEnding.{kept_owner_of, enter_agents, leave_agents}
+use Rattle.hub_core.specs.KeptRoster.{cast_left}
+
+abbrev pub queue_core : AgentId → Kind → CoreState → Outcome → CoreState
+queue_core a kind c o = record c { agents = queue_counted a kind c.agents o; ends = queue_made a kind c.ends o }
+
+abbrev pub line_core : CoreState → EndId → AgentId → CoreState
+line_core c e a = record c { ends = line_ends_at (kept_running c.agents a.0) a e.0 c.ends (slice_get c.ends e.0) }
+
+abbrev pub back_core : CoreState → Sender → CoreState
+back_core c s = record c { ends = back_ends_at s c.ends (slice_get c.ends s.end.0) }
+
+abbrev pub enter_core : CoreState → Sender → Outcome → CoreState
+enter_core c s o = record c {
+  agents = enter_agents (kept_owner_of c.ends s) c.agents o;
+  ends = enter_ends_at (kept_may_enter c.agents c.ends c.roster.cast s) s c.ends (slice_get c.ends s.end.0);
+}
+
+abbrev pub leave_core : CoreState → Sender → Outcome → CoreState
+leave_core c s o = record c {
+  agents = leave_agents (kept_owner_of c.ends s) c.agents o;
+  ends = leave_ends_at s c.ends (slice_get c.ends s.end.0);
+  roster = record c.roster { cast = cast_left s.end.0 o c.roster.cast };
+}
+
+abbrev pub hop_core : CoreState → Sender → CoreState
+hop_core c s = record c { ends = hop_ends_at (kept_may_enter c.agents c.ends c.roster.cast s) s c.ends (slice_get c.ends s.end.0) }
+
+-- the line on which the message may be pushed, and the agent that posts; or why it may not
+abbrev pub core_posting : CoreState → Sender → List EndId → List ℕ → Bool → Result (Line × AgentId) Outcome
+core_posting c s ports body refused = kept_posting c.agents c.ends c.roster.cast s ports body refused
+
+abbrev pub push_core : CoreState → Sender → List EndId → List ℕ → Result (Line × AgentId) Outcome → CoreState
+push_core c s ports body posting = record c { ends = push_ends s ports body c.ends posting }
+
+abbrev pub notice_core : CoreState → Sender → Result Line Outcome → CoreState
+notice_core c s noticing = record c { ends = notice_ends s c.ends noticing }
+
+abbrev pub start_core : CoreState → EndId → CoreState
+start_core c e = record c { ends = start_ends (kept_holder c.agents c.ends e.0) e.0 c.ends (slice_get c.ends e.0) }
+
+abbrev pub look_core : CoreState → EndId → CoreState
+look_core c e = record c { ends = look_ends_at e.0 c.ends (slice_get c.ends e.0) }
+
+abbrev pub sweep_core : CoreState → EndId → CoreState
+sweep_core c e = record c { ends = sweep_ends e.0 c.ends (slice_get c.ends e.0) }
+
+abbrev pub adopt_core : CoreState → EndId → AgentId → Bool → Outcome → CoreState
+adopt_core c e a refused o = record c {
+  agents = adopt_agents c.ends a c.agents (slice_get c.ends e.0) o;
+  ends = adopt_ends_at (kept_running c.agents a.0) a refused e.0 c.ends (slice_get c.ends e.0);
+}
+
+abbrev pub close_core : CoreState → EndId → Outcome → CoreState
+close_core c e o = record c {
+  agents = close_agents c.agents (slice_get c.ends e.0) o;
+  ends = close_ends_at (kept_may_close c.ends e.0) e.0 c.ends (slice_get c.ends e.0);
+}
+
+-- whether another agent may take over what the holder of the end has
+abbrev pub core_may_take_over : CoreState → EndId → AgentId → Bool
+core_may_take_over c e b = kept_may_take_over (length c.agents) b (kept_holder c.agents c.ends e.0)
+
+abbrev pub hand_core : CoreState → EndId → AgentId → Outcome → CoreState
+hand_core c e b o = record c {
+  agents = hand_agents c.agents (slice_get c.ends e.0) o;
+  ends = hand_ends_at (core_may_take_over c e b) b e.0 c.ends (slice_get c.ends e.0);
+}
