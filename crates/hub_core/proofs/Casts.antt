@@ -62,17 +62,6 @@ same_members n r s same = record {
   cast = ap (λ (t : Roster). t.cast) same;
 }
 
--- the same agents, and the same members
-pub same_enrolled : (n : ℕ) (r s : Roster) → s.members.origins.items ≡ r.members.origins.items → s.members.groups ≡ r.members.groups → s.members.seated ≡ r.members.seated → s.cast ≡ r.cast → SameRoster n r s
-same_enrolled n r s origins groups seated cast = record {
-  members = record {
-    origins = origins;
-    groups = λ x _. ap (λ m. get nat_cmp m x) groups;
-    seated = λ k. ap (λ m. numbers_in (get group_cmp m k)) seated;
-  };
-  cast = cast;
-}
-
 -- a Leave that changes nothing leaves the cast
 pub left_same : (t : Sender) (o : Outcome) (c : Option CastNow) → changes_nothing o (action.Leave t) ≡ true → cast_left t.end.0 o c ≡ c
 left_same t outcome.Left c h = absurd (false≢true h)

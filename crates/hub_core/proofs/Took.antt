@@ -52,9 +52,14 @@ same_content old new same = (
   same_members (length old.ends) old.roster new.roster (ap (λ (c : CoreState). c.roster) same),
 )
 
-pub same_err : {E : Type 0} (r : Result Outcome E) (old new : CoreState) → OnErr r (new ≡ old) → OnErr r (SameContent old new)
-same_err (Ok o) old new same = tt
-same_err (Err e) old new same = same_content old new same
+-- after an error
+pub same_err : {E : Type 0} (a : Action) (r : Result Outcome E) (old new : CoreState) → takes_memory a ≡ true → OnErr r (new ≡ old) → OnErr r ((takes_memory a ≡ true) × SameContent old new)
+same_err a (Ok o) old new takes same = tt
+same_err a (Err e) old new takes same = (takes, same_content old new same)
+
+pub same_err_with : {E : Type 0} (a : Action) (r : Result Outcome E) (old new : CoreState) → takes_memory a ≡ true → OnErr r (SameContent old new) → OnErr r ((takes_memory a ≡ true) × SameContent old new)
+same_err_with a (Ok o) old new takes same = tt
+same_err_with a (Err e) old new takes same = (takes, same)
 
 pub both_same : (c : CoreState) {agents : List Agent} {ends : List End} → agents ≡ c.agents → ends ≡ c.ends → (let d : CoreState = record c { agents = agents; ends = ends } in d) ≡ c
 both_same c same_agents same_ends = λ i. record c { agents = same_agents i; ends = same_ends i }
@@ -137,6 +142,10 @@ part_took e refused old new o says leaves same = record {
 
 -- ---- the clauses
 
+-- what a step that can't fail was answered
+abbrev pub ok : Outcome → Result Outcome (Unit {0})
+ok o = Ok o
+
 fits_of : (step : Step) (a : Action) (old new : CoreState) (o : Outcome) → step.action ≡ a → Took a step.memory_refused old new o → FitsAndShows old new step o
 fits_of step a old new o is t = λ h s.
     let at = t.shown (facts h) s.0 s.1 in
@@ -148,28 +157,7 @@ fits_of step a old new o is t = λ h s.
 same_of : (step : Step) (a : Action) (old new : CoreState) (o : Outcome) → step.action ≡ a → Took a step.memory_refused old new o → changes_nothing o step.action ≡ true → SameContent old new
 same_of step a old new o is t nothing = t.same (subst (λ b. changes_nothing o b ≡ true) is nothing)
 
--- of a step that takes no memory
-pub told : (step : Step) (a : Action) (old new : CoreState) (o : Outcome) → step.action ≡ a → Took a step.memory_refused old new o → record {
-  fits : FitsAndShows old new step o;
-  unchanged : changes_nothing o step.action ≡ true → SameContent old new;
-  err : Unit {0};
-  still : changes_nothing o step.action ≡ true → StillShows old new;
-  err_still : Unit {0};
-  memory : Unit {0};
-  in_order : (h : History) → Shows new h → InOrder h;
-}
-told step a old new o is t = record {
-  fits = fits_of step a old new o is t;
-  unchanged = same_of step a old new o is t;
-  err = tt;
-  still = λ nothing. same_shown old new (same_of step a old new o is t nothing);
-  err_still = tt;
-  memory = tt;
-  in_order = shows_in_order new;
-}
-
--- of a step that may find no memory
-pub told_ok : {E : Type 0} (step : Step) (a : Action) (old new : CoreState) (r : Result Outcome E) → step.action ≡ a → takes_memory a ≡ true → IfOk r (Took a step.memory_refused old new) → OnErr r (SameContent old new) → record {
+pub told : {E : Type 0} (step : Step) (a : Action) (old new : CoreState) (r : Result Outcome E) → step.action ≡ a → IfOk r (Took a step.memory_refused old new) → OnErr r ((takes_memory a ≡ true) × SameContent old new) → record {
   fits : IfOk r (FitsAndShows old new step);
   unchanged : IfOk r (λ o. changes_nothing o step.action ≡ true → SameContent old new);
   err : OnErr r (SameContent old new);
@@ -178,13 +166,21 @@ pub told_ok : {E : Type 0} (step : Step) (a : Action) (old new : CoreState) (r :
   memory : OnErr r (takes_memory step.action ≡ true);
   in_order : (h : History) → Shows new h → InOrder h;
 }
-told_ok step a old new (Ok o) is takes t err = told step a old new o is t
-told_ok step a old new (Err e) is takes t err = record {
+told step a old new (Ok o) is t err = record {
+  fits = fits_of step a old new o is t;
+  unchanged = same_of step a old new o is t;
+  err = tt;
+  still = λ nothing. same_shown old new (same_of step a old new o is t nothing);
+  err_still = tt;
+  memory = tt;
+  in_order = shows_in_order new;
+}
+told step a old new (Err e) is t err = record {
   fits = tt;
   unchanged = tt;
-  err = err;
+  err = err.1;
   still = tt;
-  err_still = same_shown old new err;
-  memory = ap takes_memory is ∙ takes;
+  err_still = same_shown old new err.1;
+  memory = ap takes_memory is ∙ err.0;
   in_order = shows_in_order new;
 }

@@ -22,10 +22,13 @@ line_core c e a = record c { ends = line_ends_at (kept_running c.agents a.0) a e
 abbrev pub back_core : CoreState → Sender → CoreState
 back_core c s = record c { ends = back_ends_at s c.ends (slice_get c.ends s.end.0) }
 
+abbrev pub core_may_enter : CoreState → Sender → Bool
+core_may_enter c s = kept_may_enter c.agents c.ends c.roster.cast s
+
 abbrev pub enter_core : CoreState → Sender → Outcome → CoreState
 enter_core c s o = record c {
   agents = enter_agents (kept_owner_of c.ends s) c.agents o;
-  ends = enter_ends_at (kept_may_enter c.agents c.ends c.roster.cast s) s c.ends (slice_get c.ends s.end.0);
+  ends = enter_ends_at (core_may_enter c s) s c.ends (slice_get c.ends s.end.0);
 }
 
 abbrev pub leave_core : CoreState → Sender → Outcome → CoreState
@@ -36,7 +39,7 @@ leave_core c s o = record c {
 }
 
 abbrev pub hop_core : CoreState → Sender → CoreState
-hop_core c s = record c { ends = hop_ends_at (kept_may_enter c.agents c.ends c.roster.cast s) s c.ends (slice_get c.ends s.end.0) }
+hop_core c s = record c { ends = hop_ends_at (core_may_enter c s) s c.ends (slice_get c.ends s.end.0) }
 
 -- the line on which the message may be pushed, and the agent that posts; or why it may not
 abbrev pub core_posting : CoreState → Sender → List EndId → List ℕ → Bool → Result (Line × AgentId) Outcome

@@ -15,7 +15,8 @@
 ghost use Rattle.std.specs.Prelude.{◌≡◌, [], true, slice_get, IfOk, OnErr};
 ghost use Rattle.hub_core.specs.Kept.{kept_running, kept_runs, kept_holder, kept_line_of_port};
 ghost use Rattle.hub_core.specs.Kept.{kept_poster_by, kept_poster, kept_place, kept_hears};
-ghost use Rattle.hub_core.specs.Kept.{kept_may_enter, kept_speaker};
+ghost use Rattle.hub_core.specs.Kept.{kept_speaker};
+ghost use Rattle.hub_core.specs.CoreSteps.{core_may_enter};
 ghost use Rattle.hub_core.specs.Posting.{is_here};
 ghost use Rattle.hub_core.specs.History.{History};
 ghost use Rattle.hub_core.specs.Laws.{InOrder};
@@ -178,8 +179,7 @@ impl Core {
 
     /// The agent whose cast goes to the end next, running or ending.
     fn speaker(&self, end: EndId) -> Option<AgentId>
-        ensures { let cast = self.now.roster.cast in
-            result ≡ kept_speaker self.now.ends cast end.0 }
+        ensures { result ≡ kept_speaker self.now.ends self.now.roster.cast end.0 }
     {
         let source = self.roster.source_for(end)?;
         self.maker_of(source)
@@ -234,8 +234,7 @@ impl Core {
 
     /// Whether a poster may enter: to post, or to put a notice alone.
     pub(crate) fn may_enter(&self, sender: Sender) -> bool
-        ensures { let cast = self.now.roster.cast in
-            result ≡ kept_may_enter self.now.agents self.now.ends cast sender }
+        ensures { result ≡ core_may_enter self.now sender }
     {
         self.poster_of(sender).is_some() || self.hears_notice(sender)
     }

@@ -1,10 +1,10 @@
 //! Steps that move an end or close it: Adopt, Close and Hand.
 
 ghost use Rattle.std.specs.Prelude.{◌≡◌, length, slice_get, IfOk, OnErr};
-ghost use Rattle.hub_core.specs.Kept.{kept_running, kept_holder, kept_own_line, kept_released};
+ghost use Rattle.hub_core.specs.Kept.{kept_running, kept_own_line, kept_released};
 ghost use Rattle.hub_core.specs.Kept.{kept_may_take_over, adopt_outcome_at, kept_may_close};
 ghost use Rattle.hub_core.specs.Kept.{close_outcome_at, hand_outcome_at};
-ghost use Rattle.hub_core.specs.CoreSteps.{adopt_core, close_core, hand_core};
+ghost use Rattle.hub_core.specs.CoreSteps.{adopt_core, close_core, core_may_take_over, hand_core};
 
 use crate::kind::Kind;
 use crate::line::{Line, Phase};
@@ -91,11 +91,8 @@ impl Core {
     }
 
     pub(crate) fn hand(&mut self, end: EndId, agent: AgentId) -> Outcome
-        ensures outcome { let agents = self.old.agents in
-            let ends = self.old.ends in
-            let holder = kept_holder agents ends end.0 in
-            let may = kept_may_take_over (length agents) agent holder in
-            result ≡ hand_outcome_at may (slice_get ends end.0) }
+        ensures outcome { let may = core_may_take_over self.old end agent in
+            result ≡ hand_outcome_at may (slice_get self.old.ends end.0) }
         ensures new { self.new ≡ hand_core self.old end agent result }
     {
         let may = self.may_take_over(agent, self.running_holder(end));

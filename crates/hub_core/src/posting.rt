@@ -3,11 +3,11 @@
 ghost use Rattle.std.specs.Prelude.{◌≡◌, ◌<◌, ◌≤◌, length, slice_get, Some, IfOk, OnOk, OnErr};
 ghost use Rattle.hub_core.specs.Posting.{is_fitting, is_good};
 ghost use Rattle.hub_core.specs.Kept.{enter_outcome_at, enter_ends_at, leave_outcome_at, hop_outcome_at};
-ghost use Rattle.hub_core.specs.Kept.{kept_may_enter, kept_noticing, notice_outcome};
+ghost use Rattle.hub_core.specs.Kept.{kept_noticing, notice_outcome};
 ghost use Rattle.hub_core.specs.Kept.{kept_all_leave, kept_listing_to, kept_may_leave};
 ghost use Rattle.hub_core.specs.Kept.{kept_own_free, push_outcome, HasQueue};
 ghost use Rattle.hub_core.specs.Kept.{put_ends, accept_ends, moved_ends, end_moved};
-ghost use Rattle.hub_core.specs.CoreSteps.{enter_core, leave_core, hop_core, core_posting};
+ghost use Rattle.hub_core.specs.CoreSteps.{core_may_enter, enter_core, leave_core, hop_core, core_posting};
 ghost use Rattle.hub_core.specs.CoreSteps.{push_core, notice_core};
 
 use crate::end::Place;
@@ -21,9 +21,8 @@ use hub_envelope::{AgentId, Body, EndId, Envelope, Items, MAX_PORTS, OutOfMemory
 
 impl Core {
     pub(crate) fn enter(&mut self, sender: Sender) -> Outcome
-        ensures outcome { let ends = self.old.ends in
-            let may = kept_may_enter self.old.agents ends self.old.roster.cast sender in
-            result ≡ enter_outcome_at may sender.line.0 (slice_get ends sender.end.0) }
+        ensures outcome { let may = core_may_enter self.old sender in
+            result ≡ enter_outcome_at may sender.line.0 (slice_get self.old.ends sender.end.0) }
         ensures new { self.new ≡ enter_core self.old sender result }
     {
         let owner = self.owner_of(sender);
@@ -36,11 +35,9 @@ impl Core {
 
     /// Enters, and leaves what is counted of agents.
     fn pass_gate(&mut self, sender: Sender) -> Outcome
-        ensures outcome { let ends = self.old.ends in
-            let may = kept_may_enter self.old.agents ends self.old.roster.cast sender in
-            result ≡ enter_outcome_at may sender.line.0 (slice_get ends sender.end.0) }
-        ensures new { let ends = self.old.ends in
-            let may = kept_may_enter self.old.agents ends self.old.roster.cast sender in
+        ensures outcome { let may = core_may_enter self.old sender in
+            result ≡ enter_outcome_at may sender.line.0 (slice_get self.old.ends sender.end.0) }
+        ensures new { let may = core_may_enter self.old sender in let ends = self.old.ends in
             self.new ≡ record self.old {
               ends = enter_ends_at may sender ends (slice_get ends sender.end.0);
             } }
@@ -72,9 +69,8 @@ impl Core {
     }
 
     pub(crate) fn hop(&mut self, sender: Sender) -> Outcome
-        ensures outcome { let ends = self.old.ends in
-            let may = kept_may_enter self.old.agents ends self.old.roster.cast sender in
-            result ≡ hop_outcome_at may sender.line.0 (slice_get ends sender.end.0) }
+        ensures outcome { let may = core_may_enter self.old sender in
+            result ≡ hop_outcome_at may sender.line.0 (slice_get self.old.ends sender.end.0) }
         ensures new { self.new ≡ hop_core self.old sender }
     {
         if !self.may_enter(sender) {
