@@ -114,11 +114,8 @@ adopt_at agents ends f e a refused runs h is None at shown = unchanged agents en
 adopt_at agents ends f e a refused runs h is (Some x) at shown =
     adopt_by agents ends f e a refused x h at x.is_closed (is_arrived a (Some x.place) && runs) (nat_le MAX_MOVES x.newest) refused (x.newest + 1) (adopt_as f e a refused runs (end_now (Some x)) shown.same is)
 
-pub adopt_shown : (agents new_agents : List Agent) (ends new : List End) (f : Facts) (e : EndId) (a : AgentId) (refused : Bool) (o : Outcome) → ShowsFacts agents ends f → o ≡ adopt_outcome_at (kept_running agents a.0) a refused (slice_get ends e.0) → new ≡ adopt_ends_at (kept_running agents a.0) a refused e.0 ends (slice_get ends e.0) → new_agents ≡ adopt_agents ends a agents (slice_get ends e.0) o → Stepped new_agents new f (action.Adopt e a) refused o
-adopt_shown agents new_agents ends new f e a refused o h says leaves counts =
-    let p : Outcome = adopt_outcome_at (kept_running agents a.0) a refused (slice_get ends e.0) in
-    along (λ gs es q. Stepped gs es f (action.Adopt e a) refused q) (counts ∙ ap (adopt_agents ends a agents (slice_get ends e.0)) says) leaves says
-    (adopt_at agents ends f e a refused (kept_running agents a.0) h (runs_kept agents ends f a.0 h) (slice_get ends e.0) refl (h.end e.0))
+pub adopt_shown : (agents : List Agent) (ends : List End) (f : Facts) (e : EndId) (a : AgentId) (refused : Bool) → ShowsFacts agents ends f → (let o : Outcome = adopt_outcome_at (kept_running agents a.0) a refused (slice_get ends e.0) in Stepped (adopt_agents ends a agents (slice_get ends e.0) o) (adopt_ends_at (kept_running agents a.0) a refused e.0 ends (slice_get ends e.0)) f (action.Adopt e a) refused o)
+adopt_shown agents ends f e a refused h = adopt_at agents ends f e a refused (kept_running agents a.0) h (runs_kept agents ends f a.0 h) (slice_get ends e.0) refl (h.end e.0)
 
 -- ---- what changes nothing leaves the ends
 

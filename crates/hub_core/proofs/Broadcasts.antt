@@ -35,11 +35,11 @@ use Rattle.hub_core.proofs.Nexts.{next}
 casting_kept : (r : Roster) (f : Facts) → ShowsRoster r f → is_some r.cast ≡ is_casting f
 casting_kept r f h = ap is_some (sym h.cast)
 
-pub member_told : (agents : List Agent) (ends new : List End) (r : Roster) (f : Facts) (a : AgentId) (name : List ℕ) (refused : Bool) (o : Outcome) → ShowsFacts agents ends f → ShowsRoster r f → o ≡ kept_member_answer (kept_running agents a.0 && not (is_some r.cast)) (is_some (origin_at (slice_get r.members.origins.items a.0))) (length ends) refused → new ≡ member_made a ends o → Stepped agents new f (action.Member a name) refused o
-member_told agents ends new r f a name refused o h w says leaves =
-    member_shown agents ends new f a name (kept_running agents a.0 && not (is_some r.cast)) (is_some (origin_at (slice_get r.members.origins.items a.0))) refused o h
+pub member_told : (agents : List Agent) (ends : List End) (r : Roster) (f : Facts) (a : AgentId) (name : List ℕ) (refused : Bool) → ShowsFacts agents ends f → ShowsRoster r f → (let o : Outcome = kept_member_answer (kept_running agents a.0 && not (is_some r.cast)) (is_some (origin_at (slice_get r.members.origins.items a.0))) (length ends) refused in Stepped agents (member_made a ends o) f (action.Member a name) refused o)
+member_told agents ends r f a name refused h w =
+    member_shown agents ends f a name (kept_running agents a.0 && not (is_some r.cast)) (is_some (origin_at (slice_get r.members.origins.items a.0))) refused h
     (ap (λ b. b && not (is_some r.cast)) (runs_kept agents ends f a.0 h) ∙ ap (λ b. (f.agent a.0).runs && not b) (casting_kept r f w))
-    (ap is_some (sym (w.origins a.0))) says leaves
+    (ap is_some (sym (w.origins a.0)))
 
 -- ---- another roster
 

@@ -170,10 +170,8 @@ see_at agents ends f a refused h (Some x) at =
     (ap (λ b. see_by true b x.is_ordered (kept_ends_at a ends (length ends))) still ∙ ap (λ b. see_by true (not (has_away f a)) b (kept_ends_at a ends (length ends))) ordered
     ∙ ap (see_by true (not (has_away f a)) (f.agent a.0).ordered) (ends_kept agents ends f a h) ∙ ap (λ b. see_by b (not (has_away f a)) (f.agent a.0).ordered (ends_at f a)) (sym made))
 
-pub see_shown : (agents new : List Agent) (ends : List End) (f : Facts) (a : AgentId) (refused : Bool) (o : Outcome) → ShowsFacts agents ends f → o ≡ see_outcome a ends (slice_get agents a.0) → new ≡ see_agents a.0 agents o → Stepped new ends f (action.See a) refused o
-see_shown agents new ends f a refused o h says counts =
-    along (λ gs es q. Stepped gs es f (action.See a) refused q) (counts ∙ ap (see_agents a.0 agents) says) refl says
-    (see_at agents ends f a refused h (slice_get agents a.0) refl)
+pub see_shown : (agents : List Agent) (ends : List End) (f : Facts) (a : AgentId) (refused : Bool) → ShowsFacts agents ends f → (let o : Outcome = see_outcome a ends (slice_get agents a.0) in Stepped (see_agents a.0 agents o) ends f (action.See a) refused o)
+see_shown agents ends f a refused h = see_at agents ends f a refused h (slice_get agents a.0) refl
 
 pub see_same : (agents : List Agent) (a : AgentId) (o : Outcome) → changes_nothing o (action.See a) ≡ true → see_agents a.0 agents o ≡ agents
 see_same agents a (outcome.Ending es) h = absurd (false≢true h)

@@ -101,12 +101,9 @@ hand_at : (agents : List Agent) (ends : List End) (f : Facts) (e : EndId) (b : A
 hand_at agents ends f e b refused may h is None at shown = unchanged agents ends ends f (action.Hand e b) refused outcome.NotNow outcome.NotNow h refl refl refl (hand_as f e b may no_end shown.same is)
 hand_at agents ends f e b refused may h is (Some x) at shown = hand_step agents ends f e b refused x h at x.is_closed (is_queue (Some x.kind) && may) (hand_as f e b may (end_now (Some x)) shown.same is)
 
-pub hand_shown : (agents new_agents : List Agent) (ends : List End) (f : Facts) (e : EndId) (b : AgentId) (refused : Bool) (o : Outcome) → ShowsFacts agents ends f → o ≡ hand_outcome_at (kept_may_take_over (length agents) b (kept_holder agents ends e.0)) (slice_get ends e.0) → (new : List End) → new ≡ hand_ends_at (kept_may_take_over (length agents) b (kept_holder agents ends e.0)) b e.0 ends (slice_get ends e.0) → new_agents ≡ hand_agents agents (slice_get ends e.0) o → Stepped new_agents new f (action.Hand e b) refused o
-hand_shown agents new_agents ends f e b refused o h says new leaves counts =
-    let may : Bool = kept_may_take_over (length agents) b (kept_holder agents ends e.0) in
-    let same : may ≡ may_take_over f b (holder f e.0) = take_over_kept agents ends f b (kept_holder agents ends e.0) h ∙ ap (may_take_over f b) (holder_kept agents ends f e.0 h) in
-    along (λ gs es q. Stepped gs es f (action.Hand e b) refused q) (counts ∙ ap (hand_agents agents (slice_get ends e.0)) says) leaves says
-    (hand_at agents ends f e b refused may h same (slice_get ends e.0) refl (h.end e.0))
+pub hand_shown : (agents : List Agent) (ends : List End) (f : Facts) (e : EndId) (b : AgentId) (refused : Bool) → ShowsFacts agents ends f → (let may : Bool = kept_may_take_over (length agents) b (kept_holder agents ends e.0) in let o : Outcome = hand_outcome_at may (slice_get ends e.0) in Stepped (hand_agents agents (slice_get ends e.0) o) (hand_ends_at may b e.0 ends (slice_get ends e.0)) f (action.Hand e b) refused o)
+hand_shown agents ends f e b refused h =
+    hand_at agents ends f e b refused (kept_may_take_over (length agents) b (kept_holder agents ends e.0)) h (take_over_kept agents ends f b (kept_holder agents ends e.0) h ∙ ap (may_take_over f b) (holder_kept agents ends f e.0 h)) (slice_get ends e.0) refl (h.end e.0)
 
 -- ---- what changes nothing leaves the ends and the agents
 

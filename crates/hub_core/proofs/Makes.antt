@@ -21,7 +21,7 @@ use Rattle.hub_core.specs.Sound.{no_end, no_line, total, Sound}
 use Rattle.hub_core.specs.Shows.{agent_now, end_now, line_now, ShowsPut, ShowsEnd, ShowsFacts, kept_clients, count_with, kept_workers, count_away, kept_away}
 use Rattle.hub_core.specs.Kept.{queue_made, kept_running, kept_agent_answer, agents_made, kept_channel_answer, ends_made, first_line, kept_queue_answer, new_end, count_of, queue_counted, come, first_agent}
 use Rattle.hub_core.proofs.Lists.{slice_get-append_front, slice_get-append_back, eqb_same}
-use Rattle.hub_core.proofs.Frames.{Stepped, unchanged, along}
+use Rattle.hub_core.proofs.Frames.{Stepped, unchanged}
 use Rattle.hub_core.proofs.Holders.{runs_kept}
 use Rattle.hub_core.proofs.Sounds.{sound_next}
 use Rattle.hub_core.proofs.Speakers.{nothing_accepted, nothing_removed, running_made, entangled_made}
@@ -92,11 +92,8 @@ agent_by agents ends f origin false h false is fits =
       };
     })
 
-pub agent_shown : (agents new : List Agent) (ends : List End) (f : Facts) (origin : Option (List ℕ)) (refused : Bool) (o : Outcome) → ShowsFacts agents ends f → o ≡ kept_agent_answer (length agents) refused → new ≡ agents_made agents o → Stepped new ends f (action.Agent origin) refused o
-agent_shown agents new ends f origin refused o h is made =
-    let at = agent_by agents ends f origin refused h (nat_le MAX_AGENTS (length agents)) refl (ap (λ n. kept_agent_answer n refused) (sym h.agents)) in
-    let written : new ≡ agents_made agents (kept_agent_answer (length agents) refused) = made ∙ ap (agents_made agents) is in
-    subst (λ n. Stepped n ends f (action.Agent origin) refused o) (sym written) (subst (λ p. Stepped (agents_made agents (kept_agent_answer (length agents) refused)) ends f (action.Agent origin) refused p) (sym is) at)
+pub agent_shown : (agents : List Agent) (ends : List End) (f : Facts) (origin : Option (List ℕ)) (refused : Bool) → ShowsFacts agents ends f → (let o : Outcome = kept_agent_answer (length agents) refused in Stepped (agents_made agents o) ends f (action.Agent origin) refused o)
+agent_shown agents ends f origin refused h = agent_by agents ends f origin refused h (nat_le MAX_AGENTS (length agents)) refl (ap (λ n. kept_agent_answer n refused) (sym h.agents))
 
 -- ---- Channel
 
@@ -268,11 +265,8 @@ channel_by agents ends f a refused h true true runs is = rw is (unchanged agents
 channel_by agents ends f a true h true false runs is = rw is (unchanged agents ends ends f (action.Channel a) true outcome.NoMemory outcome.NoMemory h refl refl refl (rw (runs, h.ends, is) refl))
 channel_by agents ends f a false h true false runs is = rw is (ports_made agents ends f a h (rw (runs, h.ends, is) refl))
 
-pub channel_shown : (agents : List Agent) (ends new : List End) (f : Facts) (a : AgentId) (refused : Bool) (o : Outcome) → ShowsFacts agents ends f → o ≡ kept_channel_answer (kept_running agents a.0) (length ends) refused → new ≡ ends_made a ends o → Stepped agents new f (action.Channel a) refused o
-channel_shown agents ends new f a refused o h is made =
-    let at = channel_by agents ends f a refused h (kept_running agents a.0) (nat_lt MAX_ENDS (length ends + 2)) (sym (runs_kept agents ends f a.0 h)) refl in
-    let written : new ≡ ends_made a ends (kept_channel_answer (kept_running agents a.0) (length ends) refused) = made ∙ ap (ends_made a ends) is in
-    subst (λ n. Stepped agents n f (action.Channel a) refused o) (sym written) (subst (λ p. Stepped agents (ends_made a ends (kept_channel_answer (kept_running agents a.0) (length ends) refused)) f (action.Channel a) refused p) (sym is) at)
+pub channel_shown : (agents : List Agent) (ends : List End) (f : Facts) (a : AgentId) (refused : Bool) → ShowsFacts agents ends f → (let o : Outcome = kept_channel_answer (kept_running agents a.0) (length ends) refused in Stepped agents (ends_made a ends o) f (action.Channel a) refused o)
+channel_shown agents ends f a refused h = channel_by agents ends f a refused h (kept_running agents a.0) (nat_lt MAX_ENDS (length ends + 2)) (sym (runs_kept agents ends f a.0 h)) refl
 
 -- ---- Client and Worker
 
@@ -297,7 +291,7 @@ queue_at agents ends f a k h d false false is here =
     subst (ShowsEnd _ _ _ _ _) (slice_get_past ends d (ltb-false d (length ends) is) ∙ sym (slice_get_past (ends ++ new_end a k ∷ []) d beyond)) (h.end d)
 
 -- the two steps that make a queue, and the kind that they make
-data Makes : Action → Kind → (Option Kind → Bool) → AgentId → Type 0 where
+pub data Makes : Action → Kind → (Option Kind → Bool) → AgentId → Type 0 where
   makes_client : (a : AgentId) → Makes (action.Client a) Client is_client a
   makes_worker : (a : AgentId) → Makes (action.Worker a) Worker is_worker a
 
@@ -380,20 +374,13 @@ queue_step agents ends f {b = b} refused makes h true false true is answer = unc
 queue_step agents ends f {b = b} {k = k} {test = test} {a = a} refused makes h true false false is answer =
     subst (λ r. outcome.End (record { 0 = length ends }) ≡ queue_answer test f a r → Stepped (come k a agents) (ends ++ new_end a k ∷ []) f b r (outcome.End (record { 0 = length ends }))) (sym is) (queue_shows agents ends f makes h) answer
 
-queue_whole : (agents new_agents : List Agent) (ends new : List End) (f : Facts) {b : Action} {k : Kind} {test : Option Kind → Bool} {a : AgentId} (refused : Bool) (o : Outcome) → Makes b k test a → ShowsFacts agents ends f → o ≡ kept_queue_answer (kept_running agents a.0) (count_of k (slice_get agents a.0)) (length ends) refused → new ≡ queue_made a k ends o → new_agents ≡ queue_counted a k agents o → Stepped new_agents new f b refused o
-queue_whole agents new_agents ends new f {b = b} {k = k} {test = test} {a = a} refused o makes h says leaves counts =
+pub queue_shown : (agents : List Agent) (ends : List End) (f : Facts) {b : Action} {k : Kind} {test : Option Kind → Bool} {a : AgentId} (refused : Bool) → Makes b k test a → ShowsFacts agents ends f → (let o : Outcome = kept_queue_answer (kept_running agents a.0) (count_of k (slice_get agents a.0)) (length ends) refused in Stepped (queue_counted a k agents o) (queue_made a k ends o) f b refused o)
+queue_shown agents ends f {b = b} {k = k} {test = test} {a = a} refused makes h =
     let may : Bool = kept_running agents a.0 && eqb (count_of k (slice_get agents a.0)) 0 in
     let full : Bool = nat_le MAX_ENDS (length ends) in
     let same : may ≡ ((f.agent a.0).runs && not (has_one test a f)) = ap (λ r. r && eqb (count_of k (slice_get agents a.0)) 0) (runs_kept agents ends f a.0 h) ∙ ap (λ c. (f.agent a.0).runs && c) (ap (λ n. eqb n 0) (count_kept agents ends f makes h) ∙ none_of_kind test a f) in
     let answer : made_by may full refused (length ends) ≡ queue_answer test f a refused = ap (λ c. made_by c full refused (length ends)) same ∙ ap (λ n. made_by ((f.agent a.0).runs && not (has_one test a f)) (nat_le MAX_ENDS n) refused n) (sym h.ends) in
-    along (λ gs es q. Stepped gs es f b refused q) (counts ∙ ap (queue_counted a k agents) says) (leaves ∙ ap (queue_made a k ends) says) says
-    (queue_step agents ends f refused makes h may full refused refl answer)
-
-pub client_shown : (agents new_agents : List Agent) (ends new : List End) (f : Facts) (a : AgentId) (refused : Bool) (o : Outcome) → ShowsFacts agents ends f → o ≡ kept_queue_answer (kept_running agents a.0) (count_of Client (slice_get agents a.0)) (length ends) refused → new ≡ queue_made a Client ends o → new_agents ≡ queue_counted a Client agents o → Stepped new_agents new f (action.Client a) refused o
-client_shown agents new_agents ends new f a refused o h says leaves counts = queue_whole agents new_agents ends new f refused o (makes_client a) h says leaves counts
-
-pub worker_shown : (agents new_agents : List Agent) (ends new : List End) (f : Facts) (a : AgentId) (refused : Bool) (o : Outcome) → ShowsFacts agents ends f → o ≡ kept_queue_answer (kept_running agents a.0) (count_of Worker (slice_get agents a.0)) (length ends) refused → new ≡ queue_made a Worker ends o → new_agents ≡ queue_counted a Worker agents o → Stepped new_agents new f (action.Worker a) refused o
-worker_shown agents new_agents ends new f a refused o h says leaves counts = queue_whole agents new_agents ends new f refused o (makes_worker a) h says leaves counts
+    queue_step agents ends f refused makes h may full refused refl answer
 
 -- ---- Member
 
@@ -447,9 +434,8 @@ member_step agents ends f a name refused h true true false true is answer = unch
 member_step agents ends f a name refused h true true false false is answer =
     subst (λ r. outcome.End (record { 0 = length ends }) ≡ member_answer f a r → Stepped agents (ends ++ new_end a (Member a) ∷ []) f (action.Member a name) r (outcome.End (record { 0 = length ends }))) (sym is) (member_shows agents ends f a name h) answer
 
-pub member_shown : (agents : List Agent) (ends new : List End) (f : Facts) (a : AgentId) (name : List ℕ) (may named refused : Bool) (o : Outcome) → ShowsFacts agents ends f → may ≡ ((f.agent a.0).runs && not (is_casting f)) → named ≡ is_some (f.roster.origin a.0) → o ≡ kept_member_answer may named (length ends) refused → new ≡ member_made a ends o → Stepped agents new f (action.Member a name) refused o
-member_shown agents ends new f a name may named refused o h mays names says leaves =
+pub member_shown : (agents : List Agent) (ends : List End) (f : Facts) (a : AgentId) (name : List ℕ) (may named refused : Bool) → ShowsFacts agents ends f → may ≡ ((f.agent a.0).runs && not (is_casting f)) → named ≡ is_some (f.roster.origin a.0) → (let o : Outcome = kept_member_answer may named (length ends) refused in Stepped agents (member_made a ends o) f (action.Member a name) refused o)
+member_shown agents ends f a name may named refused h mays names =
     let full : Bool = nat_le MAX_ENDS (length ends) in
     let answer : joined_by may named full refused (length ends) ≡ member_answer f a refused = ap (λ c. joined_by c named full refused (length ends)) mays ∙ ap (λ c. joined_by ((f.agent a.0).runs && not (is_casting f)) c full refused (length ends)) names ∙ ap (λ n. joined_by ((f.agent a.0).runs && not (is_casting f)) (is_some (f.roster.origin a.0)) (nat_le MAX_ENDS n) refused n) (sym h.ends) in
-    along (λ gs es q. Stepped gs es f (action.Member a name) refused q) (let same : agents ≡ agents = refl in same) (leaves ∙ ap (member_made a ends) says) says
-    (member_step agents ends f a name refused h may named full refused refl answer)
+    member_step agents ends f a name refused h may named full refused refl answer

@@ -1,5 +1,5 @@
 -- Notice: what the core answers fits, and it shows the facts with the answered step.
-use Rattle.std.proofs.Common.{◌≡◌, ℕ, Bool, true, false, cond, eqb, List, [], set, Option, Some, None, refl, sym, ap, subst, ◌∙◌}
+use Rattle.std.proofs.Common.{◌≡◌, ℕ, Bool, true, false, cond, eqb, List, [], set, Option, Some, None, Result, Ok, Err, refl, sym, ap, subst, ◌∙◌}
 use Rattle.std.specs.Prelude.{not, ◌&&◌}
 use Rattle.std.specs.List.{slice_get}
 use Rattle.std.proofs.lemmas.Bool.{ne_eqb, false≢true}
@@ -18,7 +18,7 @@ use Rattle.hub_core.specs.Accepted.{named_notice}
 use Rattle.hub_core.specs.Posting.{phase_of_line, is_inside, next_name, is_posting, hears_notice, notice_answer}
 use Rattle.hub_core.specs.Sound.{no_line}
 use Rattle.hub_core.specs.Shows.{line_now, ShowsPut, ShowsFacts}
-use Rattle.hub_core.specs.Kept.{has_queue, posting_line, put_end, changed_ends, kept_noticing_line, kept_noticing_at, kept_noticing, notice_outcome, notice_ends, kept_hears}
+use Rattle.hub_core.specs.Kept.{has_queue, posting_line, put_end, changed_ends, accept_ends, kept_noticing_line, kept_noticing_at, kept_noticing, notice_outcome, notice_ends, kept_hears}
 use Rattle.hub_core.proofs.Placing.{Moves, moves_to}
 use Rattle.hub_core.proofs.Lists.{eqb_same, both_of}
 use Rattle.hub_core.proofs.Frames.{ShownAt, Stepped, changed, unchanged}
@@ -57,42 +57,36 @@ not_heard f s refused posting h = rw (posting, h) refl
 heard : (f : Facts) (s : Sender) (refused : Bool) → is_posting f s ≡ true → hears_notice f s ≡ true → cond refused outcome.NoMemory (outcome.Accepted (next_name f s (record { 0 = 0 }))) ≡ notice_answer f s refused
 heard f s refused posting h = rw (posting, h) refl
 
-notice_held : (agents : List Agent) (ends new : List End) (f : Facts) (s : Sender) (refused : Bool) (x : End) (y : Line) (o : Outcome) → ShowsFacts agents ends f → slice_get ends s.end.0 ≡ Some x → slice_get x.lines s.line.0 ≡ Some y → ShownAt f s.end.0 (Some x) → has_queue x y.epoch ≡ true → is_posting f s ≡ true → (hears : Bool) → hears ≡ hears_notice f s
-    → o ≡ notice_outcome (kept_noticing_line hears refused (Some y)) → new ≡ notice_ends s ends (kept_noticing_line hears refused (Some y)) → Stepped agents new f (action.Notice s) refused o
-notice_held agents ends new f s refused x y o h at is shown queue posting false hears says leaves =
-    unchanged agents ends new f (action.Notice s) refused o outcome.NotNow h refl says leaves (not_heard f s refused posting (sym hears))
-notice_held agents ends new f s true x y o h at is shown queue posting true hears says leaves =
-    unchanged agents ends new f (action.Notice s) true o outcome.NoMemory h refl says leaves (heard f s true posting (sym hears))
-notice_held agents ends new f s false x y o h at is shown queue posting true hears says leaves =
+-- a notice with this answer of the tests is shown
+abbrev NoticeShown : List Agent → List End → Facts → Sender → Bool → Result Line Outcome → Type 0
+NoticeShown agents ends f s refused r = Stepped agents (notice_ends s ends r) f (action.Notice s) refused (notice_outcome r)
+
+notice_held : (agents : List Agent) (ends : List End) (f : Facts) (s : Sender) (refused : Bool) (x : End) (y : Line) → ShowsFacts agents ends f → slice_get ends s.end.0 ≡ Some x → slice_get x.lines s.line.0 ≡ Some y → ShownAt f s.end.0 (Some x) → has_queue x y.epoch ≡ true → is_posting f s ≡ true → (hears : Bool) → hears ≡ hears_notice f s → NoticeShown agents ends f s refused (kept_noticing_line hears refused (Some y))
+notice_held agents ends f s refused x y h at is shown queue posting false hears = unchanged agents ends ends f (action.Notice s) refused outcome.NotNow outcome.NotNow h refl refl refl (not_heard f s refused posting (sym hears))
+notice_held agents ends f s true x y h at is shown queue posting true hears = unchanged agents ends ends f (action.Notice s) true outcome.NoMemory outcome.NoMemory h refl refl refl (heard f s true posting (sym hears))
+notice_held agents ends f s false x y h at is shown queue posting true hears =
     let n : Acceptance = record { agent = record { 0 = 0 }; epoch = y.epoch; number = y.put } in
     let v : Envelope = named_notice s n in
     let line : f.line s.end.0 s.line.0 ≡ line_now (Some y) = shown.lines s.line.0 ∙ ap line_now is in
     let same : n ≡ next_name f s (record { 0 = 0 }) = name_kept f s (record { 0 = 0 }) y line (subst (ShowsPut (f.accepted s.end.0) s.line.0) is (shown.put s.line.0)) in
-    let moves : Moves [] InFlight (set ends s.end.0 (put_end x y v)) new = moves_to [] InFlight (set ends s.end.0 (put_end x y v)) new (leaves ∙ ap (changed_ends (λ z. put_end z y v) s.end.0 ends) at) in
-    subst (λ q. Stepped agents new f (action.Notice s) false q) (sym says)
-    (noticed_shown agents ends new f s false n x y h at is line refl queue (ap outcome.Accepted same ∙ heard f s false posting (sym hears)) moves)
+    noticed_shown agents ends (accept_ends ends y v) f s false n x y h at is line refl queue (ap outcome.Accepted same ∙ heard f s false posting (sym hears))
+    (moves_to [] InFlight (set ends s.end.0 (put_end x y v)) (accept_ends ends y v) (ap (changed_ends (λ z. put_end z y v) s.end.0 ends) at))
 
-notice_line : (agents : List Agent) (ends new : List End) (f : Facts) (s : Sender) (refused : Bool) (x : End) (o : Outcome) (hears : Bool) → hears ≡ hears_notice f s → ShowsFacts agents ends f → slice_get ends s.end.0 ≡ Some x → ShownAt f s.end.0 (Some x) → (q : Option Line) → slice_get x.lines s.line.0 ≡ q → f.line s.end.0 s.line.0 ≡ line_now q → o ≡ notice_outcome (kept_noticing_line hears refused (posting_line x q)) → new ≡ notice_ends s ends (kept_noticing_line hears refused (posting_line x q)) → Stepped agents new f (action.Notice s) refused o
-notice_line agents ends new f s refused x o hears heard_is h at shown None is line says leaves =
-    unchanged agents ends new f (action.Notice s) refused o outcome.NotNow h refl says leaves (not_posting f s refused (posting_as f s no_line line))
-notice_line agents ends new f s refused x o hears heard_is h at shown (Some y) is line says leaves =
-    elim (is_inside y.phase && not y.has_noticed) as (λ b. (is_inside y.phase && not y.has_noticed) ≡ b → o ≡ notice_outcome (kept_noticing_line hears refused (cond (b && has_queue x y.epoch) (Some y) None)) → new ≡ notice_ends s ends (kept_noticing_line hears refused (cond (b && has_queue x y.epoch) (Some y) None)) → Stepped agents new f (action.Notice s) refused o) [
-      | true ↦ λ posting says leaves.
+notice_line : (agents : List Agent) (ends : List End) (f : Facts) (s : Sender) (refused : Bool) (x : End) (hears : Bool) → hears ≡ hears_notice f s → ShowsFacts agents ends f → slice_get ends s.end.0 ≡ Some x → ShownAt f s.end.0 (Some x) → (q : Option Line) → slice_get x.lines s.line.0 ≡ q → f.line s.end.0 s.line.0 ≡ line_now q → NoticeShown agents ends f s refused (kept_noticing_line hears refused (posting_line x q))
+notice_line agents ends f s refused x hears heard_is h at shown None is line = unchanged agents ends ends f (action.Notice s) refused outcome.NotNow outcome.NotNow h refl refl refl (not_posting f s refused (posting_as f s no_line line))
+notice_line agents ends f s refused x hears heard_is h at shown (Some y) is line =
+    elim (is_inside y.phase && not y.has_noticed) as (λ b. (is_inside y.phase && not y.has_noticed) ≡ b → NoticeShown agents ends f s refused (kept_noticing_line hears refused (cond (b && has_queue x y.epoch) (Some y) None))) [
+      | true ↦ λ posting.
           let mine : is_posting f s ≡ true = posting_as f s (line_now (Some y)) line ∙ posting in
           let inside : is_inside (phase_of_line f s) ≡ true = (both_of (is_inside (phase_of_line f s)) (not (f.line s.end.0 s.line.0).noticed) mine).0 in
           let queue : has_queue x y.epoch ≡ true = queue_kept f s x y h.sound shown line inside in
-          notice_held agents ends new f s refused x y o h at is shown queue mine hears heard_is
-          (says ∙ ap (λ c. notice_outcome (kept_noticing_line hears refused (cond c (Some y) None))) queue)
-          (subst (λ c. new ≡ notice_ends s ends (kept_noticing_line hears refused (cond c (Some y) None))) queue leaves)
-      | false ↦ λ outside says leaves. unchanged agents ends new f (action.Notice s) refused o outcome.NotNow h refl says leaves (not_posting f s refused (posting_as f s (line_now (Some y)) line ∙ outside))
-    ] refl says leaves
+          subst (λ c. NoticeShown agents ends f s refused (kept_noticing_line hears refused (cond c (Some y) None))) (sym queue) (notice_held agents ends f s refused x y h at is shown queue mine hears heard_is)
+      | false ↦ λ outside. unchanged agents ends ends f (action.Notice s) refused outcome.NotNow outcome.NotNow h refl refl refl (not_posting f s refused (posting_as f s (line_now (Some y)) line ∙ outside))
+    ] refl
 
-notice_at : (agents : List Agent) (ends new : List End) (f : Facts) (s : Sender) (refused : Bool) (o : Outcome) (hears : Bool) → hears ≡ hears_notice f s → ShowsFacts agents ends f → (q : Option End) → slice_get ends s.end.0 ≡ q → ShownAt f s.end.0 q → o ≡ notice_outcome (kept_noticing_at hears s.line.0 refused q) → new ≡ notice_ends s ends (kept_noticing_at hears s.line.0 refused q) → Stepped agents new f (action.Notice s) refused o
-notice_at agents ends new f s refused o hears heard_is h None at shown says leaves =
-    unchanged agents ends new f (action.Notice s) refused o outcome.NotNow h refl says leaves (not_posting f s refused (posting_as f s no_line (shown.lines s.line.0)))
-notice_at agents ends new f s refused o hears heard_is h (Some x) at shown says leaves =
-    notice_line agents ends new f s refused x o hears heard_is h at shown (slice_get x.lines s.line.0) refl (shown.lines s.line.0) says leaves
+notice_at : (agents : List Agent) (ends : List End) (f : Facts) (s : Sender) (refused : Bool) (hears : Bool) → hears ≡ hears_notice f s → ShowsFacts agents ends f → (q : Option End) → slice_get ends s.end.0 ≡ q → ShownAt f s.end.0 q → NoticeShown agents ends f s refused (kept_noticing_at hears s.line.0 refused q)
+notice_at agents ends f s refused hears heard_is h None at shown = unchanged agents ends ends f (action.Notice s) refused outcome.NotNow outcome.NotNow h refl refl refl (not_posting f s refused (posting_as f s no_line (shown.lines s.line.0)))
+notice_at agents ends f s refused hears heard_is h (Some x) at shown = notice_line agents ends f s refused x hears heard_is h at shown (slice_get x.lines s.line.0) refl (shown.lines s.line.0)
 
-pub notice_shown : (agents : List Agent) (ends new : List End) (f : Facts) (s : Sender) (refused : Bool) (o : Outcome) → ShowsFacts agents ends f → o ≡ notice_outcome (kept_noticing ends s refused) → new ≡ notice_ends s ends (kept_noticing ends s refused) → Stepped agents new f (action.Notice s) refused o
-notice_shown agents ends new f s refused o h says leaves =
-    notice_at agents ends new f s refused o (kept_hears ends s) (hears_kept agents ends f s h) h (slice_get ends s.end.0) refl (h.end s.end.0) says leaves
+pub notice_shown : (agents : List Agent) (ends : List End) (f : Facts) (s : Sender) (refused : Bool) → ShowsFacts agents ends f → (let r = kept_noticing ends s refused in Stepped agents (notice_ends s ends r) f (action.Notice s) refused (notice_outcome r))
+notice_shown agents ends f s refused h = notice_at agents ends f s refused (kept_hears ends s) (hears_kept agents ends f s h) h (slice_get ends s.end.0) refl (h.end s.end.0)

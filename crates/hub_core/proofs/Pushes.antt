@@ -1,5 +1,5 @@
 -- Push: what the core answers fits, and it shows the facts with the answered step.
-use Rattle.std.proofs.Common.{◌≡◌, ℕ, Bool, true, false, cond, List, length, set, Option, Some, None, Ok, Err, refl, sym, ap, subst, ◌∙◌}
+use Rattle.std.proofs.Common.{◌≡◌, ℕ, Bool, true, false, cond, List, length, set, Option, Some, None, Result, Ok, Err, refl, sym, ap, subst, ◌∙◌}
 use Rattle.std.specs.Prelude.{not, ◌&&◌, nat_lt}
 use Rattle.std.specs.List.{slice_get}
 use Rattle.hub_envelope.specs.declared.ids.AgentId.{AgentId}
@@ -20,7 +20,7 @@ use Rattle.hub_core.specs.Accepted.{named_envelope}
 use Rattle.hub_core.specs.Posting.{phase_of_line, is_inside, poster, is_good, listing_of, push_answer_of, push_answer, next_name, is_posting, is_fitting}
 use Rattle.hub_core.specs.Sound.{no_line}
 use Rattle.hub_core.specs.Shows.{line_now, ShowsPut, ShowsFacts}
-use Rattle.hub_core.specs.Kept.{kept_listing_to, has_queue, posting_line, kept_posting_by, kept_posting_line, kept_posting_at, kept_posting, push_outcome, put_end, changed_ends, moved_ends, push_ends, kept_poster_by, source_of, kept_poster_of, kept_poster_on}
+use Rattle.hub_core.specs.Kept.{kept_listing_to, has_queue, posting_line, kept_posting_by, kept_posting_line, kept_posting_at, kept_posting, push_outcome, put_end, changed_ends, moved_ends, accept_ends, push_ends, kept_poster_by, source_of, kept_poster_of, kept_poster_on}
 use Rattle.hub_core.proofs.Lists.{both_of}
 use Rattle.hub_core.proofs.Frames.{ShownAt, Stepped, changed, unchanged}
 use Rattle.hub_core.proofs.Holders.{poster_kept}
@@ -70,62 +70,55 @@ poster_here : (agents : List Agent) (ends : List End) (f : Facts) (c : Option Ca
 poster_here agents ends f c s x y h cast shown at is =
     sym (poster_kept agents ends f c s h cast) ∙ ap (kept_poster_of agents ends c s) at ∙ ap (kept_poster_on agents ends c s.end.0 x) is
 
-push_good : (agents : List Agent) (ends new : List End) (f : Facts) (s : Sender) (ports : List EndId) (body : List ℕ) (refused : Bool) (x : End) (y : Line) (a : AgentId) (o : Outcome) → ShowsFacts agents ends f → slice_get ends s.end.0 ≡ Some x → slice_get x.lines s.line.0 ≡ Some y → ShownAt f s.end.0 (Some x) → has_queue x y.epoch ≡ true → cond refused outcome.NoMemory (outcome.Accepted (next_name f s a)) ≡ push_answer f s ports body refused → o ≡ push_outcome (cond refused (Err outcome.NoMemory) (Ok (y, a))) → new ≡ push_ends s ports body ends (cond refused (Err outcome.NoMemory) (Ok (y, a))) → Stepped agents new f (action.Push s ports body) refused o
-push_good agents ends new f s ports body true x y a o h at is shown queue answer says leaves =
-    unchanged agents ends new f (action.Push s ports body) true o outcome.NoMemory h refl says leaves answer
-push_good agents ends new f s ports body false x y a o h at is shown queue answer says leaves =
+-- a push with this answer of the tests is shown
+abbrev PushShown : List Agent → List End → Facts → Sender → List EndId → List ℕ → Bool → Result (Line × AgentId) Outcome → Type 0
+PushShown agents ends f s ports body refused r = Stepped agents (push_ends s ports body ends r) f (action.Push s ports body) refused (push_outcome r)
+
+push_good : (agents : List Agent) (ends : List End) (f : Facts) (s : Sender) (ports : List EndId) (body : List ℕ) (refused : Bool) (x : End) (y : Line) (a : AgentId) → ShowsFacts agents ends f → slice_get ends s.end.0 ≡ Some x → slice_get x.lines s.line.0 ≡ Some y → ShownAt f s.end.0 (Some x) → has_queue x y.epoch ≡ true → cond refused outcome.NoMemory (outcome.Accepted (next_name f s a)) ≡ push_answer f s ports body refused → PushShown agents ends f s ports body refused (cond refused (Err outcome.NoMemory) (Ok (y, a)))
+push_good agents ends f s ports body true x y a h at is shown queue answer = unchanged agents ends ends f (action.Push s ports body) true outcome.NoMemory outcome.NoMemory h refl refl refl answer
+push_good agents ends f s ports body false x y a h at is shown queue answer =
     let n : Acceptance = record { agent = a; epoch = y.epoch; number = y.put } in
     let v : Envelope = named_envelope s n body ports in
     let line : f.line s.end.0 s.line.0 ≡ line_now (Some y) = shown.lines s.line.0 ∙ ap line_now is in
     let same : n ≡ next_name f s a = name_kept f s a y line (subst (ShowsPut (f.accepted s.end.0) s.line.0) is (shown.put s.line.0)) in
-    let moves : Moves ports InFlight (set ends s.end.0 (put_end x y v)) new = moves_to ports InFlight (set ends s.end.0 (put_end x y v)) new (leaves ∙ ap (λ q. moved_ends ports InFlight (changed_ends (λ z. put_end z y v) s.end.0 ends q)) at) in
-    subst (λ q. Stepped agents new f (action.Push s ports body) false q) (sym says)
-    (pushed_shown agents ends new f s ports body false n x y h at is line refl queue (ap outcome.Accepted same ∙ answer) moves)
+    pushed_shown agents ends (accept_ends ends y v) f s ports body false n x y h at is line refl queue (ap outcome.Accepted same ∙ answer)
+    (moves_to ports InFlight (set ends s.end.0 (put_end x y v)) (accept_ends ends y v) (ap (λ q. moved_ends ports InFlight (changed_ends (λ z. put_end z y v) s.end.0 ends q)) at))
 
-push_few : (agents : List Agent) (ends new : List End) (f : Facts) (s : Sender) (ports : List EndId) (body : List ℕ) (fit refused : Bool) (x : End) (y : Line) (a : AgentId) (o : Outcome) → ShowsFacts agents ends f → slice_get ends s.end.0 ≡ Some x → slice_get x.lines s.line.0 ≡ Some y → ShownAt f s.end.0 (Some x) → has_queue x y.epoch ≡ true → push_answer_of f s ports fit refused (Some a) ≡ push_answer f s ports body refused
-    → (many fine : Bool) → nat_lt MAX_PORTS (length ports) ≡ many → (is_good (kept_listing_to ends s.end a (source_of x.kind) ports) && fit) ≡ fine
-    → o ≡ push_outcome (cond many (Err outcome.TooManyPorts) (cond fine (cond refused (Err outcome.NoMemory) (Ok (y, a))) (Err outcome.NotNow))) → new ≡ push_ends s ports body ends (cond many (Err outcome.TooManyPorts) (cond fine (cond refused (Err outcome.NoMemory) (Ok (y, a))) (Err outcome.NotNow))) → Stepped agents new f (action.Push s ports body) refused o
-push_few agents ends new f s ports body fit refused x y a o h at is shown queue falls true fine many good_is says leaves =
-    unchanged agents ends new f (action.Push s ports body) refused o outcome.TooManyPorts h refl says leaves (too_many f s ports fit refused a many ∙ falls)
-push_few agents ends new f s ports body fit refused x y a o h at is shown queue falls false fine few good_is says leaves =
+push_few : (agents : List Agent) (ends : List End) (f : Facts) (s : Sender) (ports : List EndId) (body : List ℕ) (fit refused : Bool) (x : End) (y : Line) (a : AgentId) → ShowsFacts agents ends f → slice_get ends s.end.0 ≡ Some x → slice_get x.lines s.line.0 ≡ Some y → ShownAt f s.end.0 (Some x) → has_queue x y.epoch ≡ true → push_answer_of f s ports fit refused (Some a) ≡ push_answer f s ports body refused → (many : Bool) → nat_lt MAX_PORTS (length ports) ≡ many
+    → PushShown agents ends f s ports body refused (cond many (Err outcome.TooManyPorts) (cond (is_good (kept_listing_to ends s.end a (source_of x.kind) ports) && fit) (cond refused (Err outcome.NoMemory) (Ok (y, a))) (Err outcome.NotNow)))
+push_few agents ends f s ports body fit refused x y a h at is shown queue falls true many = unchanged agents ends ends f (action.Push s ports body) refused outcome.TooManyPorts outcome.TooManyPorts h refl refl refl (too_many f s ports fit refused a many ∙ falls)
+push_few agents ends f s ports body fit refused x y a h at is shown queue falls false few =
     let same : (is_good (kept_listing_to ends s.end a (source_of x.kind) ports) && fit) ≡ (is_good (listing_of f s ports (Some a)) && fit) = ap (λ l. is_good l && fit) (listed_kept agents ends f a s x.kind h (ap (λ (z : EndNow). z.kind) shown.same) ports) in
-    elim fine as (λ b. (is_good (kept_listing_to ends s.end a (source_of x.kind) ports) && fit) ≡ b → o ≡ push_outcome (cond b (cond refused (Err outcome.NoMemory) (Ok (y, a))) (Err outcome.NotNow)) → new ≡ push_ends s ports body ends (cond b (cond refused (Err outcome.NoMemory) (Ok (y, a))) (Err outcome.NotNow)) → Stepped agents new f (action.Push s ports body) refused o) [
-      | true ↦ λ found says leaves. push_good agents ends new f s ports body refused x y a o h at is shown queue (good f s ports fit refused a few (sym same ∙ found) ∙ falls) says leaves
-      | false ↦ λ bad says leaves. unchanged agents ends new f (action.Push s ports body) refused o outcome.NotNow h refl says leaves (not_good f s ports fit refused a few (sym same ∙ bad) ∙ falls)
-    ] good_is says leaves
+    elim (is_good (kept_listing_to ends s.end a (source_of x.kind) ports) && fit) as (λ b. (is_good (kept_listing_to ends s.end a (source_of x.kind) ports) && fit) ≡ b → PushShown agents ends f s ports body refused (cond b (cond refused (Err outcome.NoMemory) (Ok (y, a))) (Err outcome.NotNow))) [
+      | true ↦ λ found. push_good agents ends f s ports body refused x y a h at is shown queue (good f s ports fit refused a few (sym same ∙ found) ∙ falls)
+      | false ↦ λ bad. unchanged agents ends ends f (action.Push s ports body) refused outcome.NotNow outcome.NotNow h refl refl refl (not_good f s ports fit refused a few (sym same ∙ bad) ∙ falls)
+    ] refl
 
-push_held : (agents : List Agent) (ends new : List End) (f : Facts) (s : Sender) (ports : List EndId) (body : List ℕ) (fit refused : Bool) (x : End) (y : Line) (o : Outcome) → ShowsFacts agents ends f → slice_get ends s.end.0 ≡ Some x → slice_get x.lines s.line.0 ≡ Some y → ShownAt f s.end.0 (Some x) → has_queue x y.epoch ≡ true → (q : Option AgentId) → push_answer_of f s ports fit refused q ≡ push_answer f s ports body refused → o ≡ push_outcome (kept_posting_by ends (source_of x.kind) s.end ports fit refused y q) → new ≡ push_ends s ports body ends (kept_posting_by ends (source_of x.kind) s.end ports fit refused y q) → Stepped agents new f (action.Push s ports body) refused o
-push_held agents ends new f s ports body fit refused x y o h at is shown queue None falls says leaves =
-    unchanged agents ends new f (action.Push s ports body) refused o outcome.NotNow h refl says leaves falls
-push_held agents ends new f s ports body fit refused x y o h at is shown queue (Some a) falls says leaves =
-    push_few agents ends new f s ports body fit refused x y a o h at is shown queue falls (nat_lt MAX_PORTS (length ports)) (is_good (kept_listing_to ends s.end a (source_of x.kind) ports) && fit) refl refl says leaves
+push_held : (agents : List Agent) (ends : List End) (f : Facts) (s : Sender) (ports : List EndId) (body : List ℕ) (fit refused : Bool) (x : End) (y : Line) → ShowsFacts agents ends f → slice_get ends s.end.0 ≡ Some x → slice_get x.lines s.line.0 ≡ Some y → ShownAt f s.end.0 (Some x) → has_queue x y.epoch ≡ true → (q : Option AgentId) → push_answer_of f s ports fit refused q ≡ push_answer f s ports body refused → PushShown agents ends f s ports body refused (kept_posting_by ends (source_of x.kind) s.end ports fit refused y q)
+push_held agents ends f s ports body fit refused x y h at is shown queue None falls = unchanged agents ends ends f (action.Push s ports body) refused outcome.NotNow outcome.NotNow h refl refl refl falls
+push_held agents ends f s ports body fit refused x y h at is shown queue (Some a) falls = push_few agents ends f s ports body fit refused x y a h at is shown queue falls (nat_lt MAX_PORTS (length ports)) refl
 
 -- whether the line posts, by what is kept of it
 pub posting_as : (f : Facts) (s : Sender) (y : LineNow) → f.line s.end.0 s.line.0 ≡ y → is_posting f s ≡ (is_inside y.phase && not y.noticed)
 posting_as f s y line = ap (λ (z : LineNow). is_inside z.phase && not z.noticed) line
 
-push_line : (agents : List Agent) (ends new : List End) (f : Facts) (c : Option CastNow) (s : Sender) (ports : List EndId) (body : List ℕ) (refused : Bool) (x : End) (o : Outcome) → ShowsFacts agents ends f → f.roster.cast ≡ c → slice_get ends s.end.0 ≡ Some x → ShownAt f s.end.0 (Some x) → (q : Option Line) → slice_get x.lines s.line.0 ≡ q → f.line s.end.0 s.line.0 ≡ line_now q → o ≡ push_outcome (kept_posting_line agents ends c s ports body refused x (posting_line x q)) → new ≡ push_ends s ports body ends (kept_posting_line agents ends c s ports body refused x (posting_line x q)) → Stepped agents new f (action.Push s ports body) refused o
-push_line agents ends new f c s ports body refused x o h cast at shown None is line says leaves =
-    unchanged agents ends new f (action.Push s ports body) refused o outcome.NotNow h refl says leaves (not_posting f s ports body refused (posting_as f s no_line line))
-push_line agents ends new f c s ports body refused x o h cast at shown (Some y) is line says leaves =
-    elim (is_inside y.phase && not y.has_noticed) as (λ b. (is_inside y.phase && not y.has_noticed) ≡ b → o ≡ push_outcome (kept_posting_line agents ends c s ports body refused x (cond (b && has_queue x y.epoch) (Some y) None)) → new ≡ push_ends s ports body ends (kept_posting_line agents ends c s ports body refused x (cond (b && has_queue x y.epoch) (Some y) None)) → Stepped agents new f (action.Push s ports body) refused o) [
-      | true ↦ λ posting says leaves.
+push_line : (agents : List Agent) (ends : List End) (f : Facts) (c : Option CastNow) (s : Sender) (ports : List EndId) (body : List ℕ) (refused : Bool) (x : End) → ShowsFacts agents ends f → f.roster.cast ≡ c → slice_get ends s.end.0 ≡ Some x → ShownAt f s.end.0 (Some x) → (q : Option Line) → slice_get x.lines s.line.0 ≡ q → f.line s.end.0 s.line.0 ≡ line_now q → PushShown agents ends f s ports body refused (kept_posting_line agents ends c s ports body refused x (posting_line x q))
+push_line agents ends f c s ports body refused x h cast at shown None is line = unchanged agents ends ends f (action.Push s ports body) refused outcome.NotNow outcome.NotNow h refl refl refl (not_posting f s ports body refused (posting_as f s no_line line))
+push_line agents ends f c s ports body refused x h cast at shown (Some y) is line =
+    elim (is_inside y.phase && not y.has_noticed) as (λ b. (is_inside y.phase && not y.has_noticed) ≡ b → PushShown agents ends f s ports body refused (kept_posting_line agents ends c s ports body refused x (cond (b && has_queue x y.epoch) (Some y) None))) [
+      | true ↦ λ posting.
           let mine : is_posting f s ≡ true = posting_as f s (line_now (Some y)) line ∙ posting in
           let inside : is_inside (phase_of_line f s) ≡ true = (both_of (is_inside (phase_of_line f s)) (not (f.line s.end.0 s.line.0).noticed) mine).0 in
           let queue : has_queue x y.epoch ≡ true = queue_kept f s x y h.sound shown line inside in
-          push_held agents ends new f s ports body (is_fitting c (Some x.kind) ports body) refused x y o h at is shown queue (kept_poster_by agents ends c s.end.0 x.kind y)
-          (posts f s ports body (is_fitting c (Some x.kind) ports body) refused (kept_poster_by agents ends c s.end.0 x.kind y) mine (poster_here agents ends f c s x y h cast shown at is) (ap (λ d. is_fitting d (f.end s.end.0).kind ports body) cast ∙ ap (λ (z : EndNow). is_fitting c z.kind ports body) shown.same))
-          (says ∙ ap (λ d. push_outcome (kept_posting_line agents ends c s ports body refused x (cond d (Some y) None))) queue)
-          (subst (λ d. new ≡ push_ends s ports body ends (kept_posting_line agents ends c s ports body refused x (cond d (Some y) None))) queue leaves)
-      | false ↦ λ outside says leaves. unchanged agents ends new f (action.Push s ports body) refused o outcome.NotNow h refl says leaves (not_posting f s ports body refused (posting_as f s (line_now (Some y)) line ∙ outside))
-    ] refl says leaves
+          subst (λ d. PushShown agents ends f s ports body refused (kept_posting_line agents ends c s ports body refused x (cond d (Some y) None))) (sym queue)
+          (push_held agents ends f s ports body (is_fitting c (Some x.kind) ports body) refused x y h at is shown queue (kept_poster_by agents ends c s.end.0 x.kind y)
+          (posts f s ports body (is_fitting c (Some x.kind) ports body) refused (kept_poster_by agents ends c s.end.0 x.kind y) mine (poster_here agents ends f c s x y h cast shown at is) (ap (λ d. is_fitting d (f.end s.end.0).kind ports body) cast ∙ ap (λ (z : EndNow). is_fitting c z.kind ports body) shown.same)))
+      | false ↦ λ outside. unchanged agents ends ends f (action.Push s ports body) refused outcome.NotNow outcome.NotNow h refl refl refl (not_posting f s ports body refused (posting_as f s (line_now (Some y)) line ∙ outside))
+    ] refl
 
-push_at : (agents : List Agent) (ends new : List End) (f : Facts) (c : Option CastNow) (s : Sender) (ports : List EndId) (body : List ℕ) (refused : Bool) (o : Outcome) → ShowsFacts agents ends f → f.roster.cast ≡ c → (q : Option End) → slice_get ends s.end.0 ≡ q → ShownAt f s.end.0 q → o ≡ push_outcome (kept_posting_at agents ends c s ports body refused q) → new ≡ push_ends s ports body ends (kept_posting_at agents ends c s ports body refused q) → Stepped agents new f (action.Push s ports body) refused o
-push_at agents ends new f c s ports body refused o h cast None at shown says leaves =
-    unchanged agents ends new f (action.Push s ports body) refused o outcome.NotNow h refl says leaves (not_posting f s ports body refused (posting_as f s no_line (shown.lines s.line.0)))
-push_at agents ends new f c s ports body refused o h cast (Some x) at shown says leaves =
-    push_line agents ends new f c s ports body refused x o h cast at shown (slice_get x.lines s.line.0) refl (shown.lines s.line.0) says leaves
+push_at : (agents : List Agent) (ends : List End) (f : Facts) (c : Option CastNow) (s : Sender) (ports : List EndId) (body : List ℕ) (refused : Bool) → ShowsFacts agents ends f → f.roster.cast ≡ c → (q : Option End) → slice_get ends s.end.0 ≡ q → ShownAt f s.end.0 q → PushShown agents ends f s ports body refused (kept_posting_at agents ends c s ports body refused q)
+push_at agents ends f c s ports body refused h cast None at shown = unchanged agents ends ends f (action.Push s ports body) refused outcome.NotNow outcome.NotNow h refl refl refl (not_posting f s ports body refused (posting_as f s no_line (shown.lines s.line.0)))
+push_at agents ends f c s ports body refused h cast (Some x) at shown = push_line agents ends f c s ports body refused x h cast at shown (slice_get x.lines s.line.0) refl (shown.lines s.line.0)
 
-pub push_shown : (agents : List Agent) (ends new : List End) (f : Facts) (c : Option CastNow) (s : Sender) (ports : List EndId) (body : List ℕ) (refused : Bool) (o : Outcome) → ShowsFacts agents ends f → f.roster.cast ≡ c → o ≡ push_outcome (kept_posting agents ends c s ports body refused) → new ≡ push_ends s ports body ends (kept_posting agents ends c s ports body refused) → Stepped agents new f (action.Push s ports body) refused o
-push_shown agents ends new f c s ports body refused o h cast says leaves =
-    push_at agents ends new f c s ports body refused o h cast (slice_get ends s.end.0) refl (h.end s.end.0) says leaves
+pub push_shown : (agents : List Agent) (ends : List End) (f : Facts) (c : Option CastNow) (s : Sender) (ports : List EndId) (body : List ℕ) (refused : Bool) → ShowsFacts agents ends f → f.roster.cast ≡ c → (let r = kept_posting agents ends c s ports body refused in Stepped agents (push_ends s ports body ends r) f (action.Push s ports body) refused (push_outcome r))
+push_shown agents ends f c s ports body refused h cast = push_at agents ends f c s ports body refused h cast (slice_get ends s.end.0) refl (h.end s.end.0)

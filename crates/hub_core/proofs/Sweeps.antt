@@ -26,7 +26,7 @@ use Rattle.hub_core.specs.Kept.{is_anyone_from, joined, sweep_outcome, swept_end
 use Rattle.hub_core.proofs.Lists.{eqb_same, set_again, each_set, is_there, both_of, AllByRecursion-weaker, AllByRecursion-append}
 use Rattle.hub_core.proofs.Waits.{filters, of_queue, all_kept, rises_back}
 use Rattle.hub_core.proofs.Frames.{ShownAt, Stepped, changed, unchanged}
-use Rattle.hub_core.proofs.Placing.{Moves, moves_to, moved_end, moved_shown}
+use Rattle.hub_core.proofs.Placing.{moves_of, moved_end, moved_shown}
 use Rattle.hub_core.proofs.Speakers.{placed_made, swept_flies}
 use Rattle.hub_core.proofs.SoundWaiting.{nobody_there, rises_joined}
 use Rattle.hub_core.proofs.Fitting.{swept_of, any_of, none_of_any, each_of}
@@ -237,12 +237,12 @@ named_ports d [] = refl
 named_ports d (v ∷ vs) = either_any (λ p. eqb p.0 d) v.ports (ports_of vs) ∙ ap (λ b. names v.ports d || b) (named_ports d vs)
 
 -- every end, with what waited discarded and its ports swept
-swept_shown : (agents : List Agent) (ends new : List End) (f : Facts) (e : EndId) (refused : Bool) (x : End) → ShowsFacts agents ends f → slice_get ends e.0 ≡ Some x → x.is_closed ≡ true → all_settled f e.0 ≡ true → FitsSweep f e (outcome.Discarded (joined x.queues)) → new ≡ moved_ends (ports_of (joined x.queues)) Swept (set ends e.0 (record x { queues = [] })) → Stepped agents new f (action.Sweep e) refused (outcome.Discarded (joined x.queues))
-swept_shown agents ends new f e refused x h at closed settled fits leaves =
+swept_shown : (agents : List Agent) (ends : List End) (f : Facts) (e : EndId) (refused : Bool) (x : End) → ShowsFacts agents ends f → slice_get ends e.0 ≡ Some x → x.is_closed ≡ true → all_settled f e.0 ≡ true → FitsSweep f e (outcome.Discarded (joined x.queues)) → Stepped agents (moved_ends (ports_of (joined x.queues)) Swept (set ends e.0 (record x { queues = [] }))) f (action.Sweep e) refused (outcome.Discarded (joined x.queues))
+swept_shown agents ends f e refused x h at closed settled fits =
     let vs : List Envelope = joined x.queues in
     let y : End = record x { queues = [] } in
     let base : List End = set ends e.0 y in
-    let moves : Moves (ports_of vs) Swept base new = moves_to (ports_of vs) Swept base new leaves in
+    let moves = moves_of (ports_of vs) Swept base in
     let shown : ShownAt f e.0 (Some x) = subst (ShownAt f e.0) at (h.end e.0) in
     let each : (d : ℕ) → ShowsEnd (f.end d) (f.line d) (f.clear d) (f.accepted d) (f.taken d ++ cond (eqb d e.0) (f.discarded d ++ vs) (f.discarded d)) (slice_get base d) =
     each_set (λ d o. ShowsEnd (f.end d) (f.line d) (f.clear d) (f.accepted d) (f.taken d ++ cond (eqb d e.0) (f.discarded d ++ vs) (f.discarded d)) o) ends e.0 y (slice_get_within ends e.0 x at)
@@ -251,7 +251,7 @@ swept_shown agents ends new f e refused x h at closed settled fits leaves =
     in
     let same_count : length base ≡ length ends = length-set ends e.0 y in
     let count : f.ends ≡ length ends = h.ends in
-    changed agents ends new f (action.Sweep e) refused (outcome.Discarded vs) h fits refl refl refl (moves.count ∙ same_count)
+    changed agents ends _ f (action.Sweep e) refused (outcome.Discarded vs) h fits refl refl refl (moves.count ∙ same_count)
     (counted_ports agents f (next f (action.Sweep e) (outcome.Discarded vs)) (is_named vs) (λ d. Some Swept) refl (λ d. refl) (λ d. refl) (λ d named. h.sound.places.flying d (swept_flies f e vs d h.sound (swept_of f e vs fits) named)) (λ b x less. calm_landed b f (next f (action.Sweep e) (outcome.Discarded vs)) (is_named vs) (λ d. Some Swept) x refl (λ l. refl) (λ q. refl) (λ q named. swept_flies f e vs q h.sound (swept_of f e vs fits) named) (λ q. refl)) (counts_of agents ends f h)) (λ d.
     subst (ShowsEnd _ _ _ _ _) (sym (moves.each d))
     (subst (λ b. ShowsEnd (record (f.end d) { place = cond b (Some Swept) (f.end d).place }) (f.line d) (f.clear d) (f.accepted d) (f.taken d ++ cond (eqb d e.0) (f.discarded d ++ vs) (f.discarded d)) (option_map (moved_end (ports_of vs) Swept d) (slice_get base d))) (named_ports d vs)
@@ -273,23 +273,22 @@ fits_busy f e closed busy = rw (closed, busy) refl
 fits_swept : (f : Facts) (e : EndId) (vs : List Envelope) → (f.end e.0).closed ≡ true → all_settled f e.0 ≡ true → IsAllWaiting f e.0 vs → FitsSweep f e (outcome.Discarded vs)
 fits_swept f e vs closed settled all = rw (closed, settled) all
 
-sweep_by : (agents : List Agent) (ends new : List End) (f : Facts) (e : EndId) (refused : Bool) (x : End) (o : Outcome) → ShowsFacts agents ends f → slice_get ends e.0 ≡ Some x → ShownAt f e.0 (Some x) → (closed anyone : Bool) → x.is_closed ≡ closed → is_anyone_from x.looked x.lines ≡ anyone
-    → (let p : Outcome = cond (not closed) outcome.NotNow (cond anyone outcome.Busy (outcome.Discarded (joined x.queues))) in o ≡ p → new ≡ moved_ends (swept_ports p) Swept (set ends e.0 (swept_end x p)) → Stepped agents new f (action.Sweep e) refused o)
-sweep_by agents ends new f e refused x o h at shown false anyone opened who says moves =
-    unchanged agents ends new f (action.Sweep e) refused o outcome.NotNow h refl says (moves ∙ set_again ends e.0 x at) (fits_open f e (ap (λ (y : EndNow). y.closed) shown.same ∙ opened))
-sweep_by agents ends new f e refused x o h at shown true true closed who says moves =
-    unchanged agents ends new f (action.Sweep e) refused o outcome.Busy h refl says (moves ∙ set_again ends e.0 x at) (fits_busy f e (ap (λ (y : EndNow). y.closed) shown.same ∙ closed) (somebody_from f e.0 x h.sound shown who))
-sweep_by agents ends new f e refused x o h at shown true false closed who says moves =
+sweep_by : (agents : List Agent) (ends : List End) (f : Facts) (e : EndId) (refused : Bool) (x : End) → ShowsFacts agents ends f → slice_get ends e.0 ≡ Some x → ShownAt f e.0 (Some x) → (closed anyone : Bool) → x.is_closed ≡ closed → is_anyone_from x.looked x.lines ≡ anyone
+    → (let p : Outcome = cond (not closed) outcome.NotNow (cond anyone outcome.Busy (outcome.Discarded (joined x.queues))) in Stepped agents (moved_ends (swept_ports p) Swept (set ends e.0 (swept_end x p))) f (action.Sweep e) refused p)
+sweep_by agents ends f e refused x h at shown false anyone opened who =
+    unchanged agents ends _ f (action.Sweep e) refused outcome.NotNow outcome.NotNow h refl refl (set_again ends e.0 x at) (fits_open f e (ap (λ (y : EndNow). y.closed) shown.same ∙ opened))
+sweep_by agents ends f e refused x h at shown true true closed who =
+    unchanged agents ends _ f (action.Sweep e) refused outcome.Busy outcome.Busy h refl refl (set_again ends e.0 x at) (fits_busy f e (ap (λ (y : EndNow). y.closed) shown.same ∙ closed) (somebody_from f e.0 x h.sound shown who))
+sweep_by agents ends f e refused x h at shown true false closed who =
     let settled : all_settled f e.0 ≡ true = nobody_from f e.0 x h.sound shown who in
-    subst (λ p. Stepped agents new f (action.Sweep e) refused p) (sym says)
-    (swept_shown agents ends new f e refused x h at closed settled (fits_swept f e (joined x.queues) (ap (λ (y : EndNow). y.closed) shown.same ∙ closed) settled (all_waiting f e.0 x h.sound shown)) moves)
+    swept_shown agents ends f e refused x h at closed settled (fits_swept f e (joined x.queues) (ap (λ (y : EndNow). y.closed) shown.same ∙ closed) settled (all_waiting f e.0 x h.sound shown))
 
-sweep_at : (agents : List Agent) (ends new : List End) (f : Facts) (e : EndId) (refused : Bool) (o : Outcome) → ShowsFacts agents ends f → (q : Option End) → slice_get ends e.0 ≡ q → ShownAt f e.0 q → o ≡ sweep_outcome_at q → new ≡ sweep_ends e.0 ends q → Stepped agents new f (action.Sweep e) refused o
-sweep_at agents ends new f e refused o h None at shown says leaves = unchanged agents ends new f (action.Sweep e) refused o outcome.NotNow h refl says leaves (fits_open f e (ap (λ (y : EndNow). y.closed) shown.same))
-sweep_at agents ends new f e refused o h (Some x) at shown says leaves = sweep_by agents ends new f e refused x o h at shown x.is_closed (is_anyone_from x.looked x.lines) refl refl says leaves
+sweep_at : (agents : List Agent) (ends : List End) (f : Facts) (e : EndId) (refused : Bool) → ShowsFacts agents ends f → (q : Option End) → slice_get ends e.0 ≡ q → ShownAt f e.0 q → Stepped agents (sweep_ends e.0 ends q) f (action.Sweep e) refused (sweep_outcome_at q)
+sweep_at agents ends f e refused h None at shown = unchanged agents ends ends f (action.Sweep e) refused outcome.NotNow outcome.NotNow h refl refl refl (fits_open f e (ap (λ (y : EndNow). y.closed) shown.same))
+sweep_at agents ends f e refused h (Some x) at shown = sweep_by agents ends f e refused x h at shown x.is_closed (is_anyone_from x.looked x.lines) refl refl
 
-pub sweep_shown : (agents : List Agent) (ends new : List End) (f : Facts) (e : EndId) (refused : Bool) (o : Outcome) → ShowsFacts agents ends f → o ≡ sweep_outcome_at (slice_get ends e.0) → new ≡ sweep_ends e.0 ends (slice_get ends e.0) → Stepped agents new f (action.Sweep e) refused o
-sweep_shown agents ends new f e refused o h says leaves = sweep_at agents ends new f e refused o h (slice_get ends e.0) refl (h.end e.0) says leaves
+pub sweep_shown : (agents : List Agent) (ends : List End) (f : Facts) (e : EndId) (refused : Bool) → ShowsFacts agents ends f → Stepped agents (sweep_ends e.0 ends (slice_get ends e.0)) f (action.Sweep e) refused (sweep_outcome_at (slice_get ends e.0))
+sweep_shown agents ends f e refused h = sweep_at agents ends f e refused h (slice_get ends e.0) refl (h.end e.0)
 
 -- ---- what changes nothing leaves the ends
 

@@ -82,8 +82,8 @@ agent_same origin c r o leaves h = ap (λ q. let d : CoreState = record c { rost
 pub agent_took : (origin : Option (List ℕ)) (refused : Bool) (old new : CoreState) (o : Outcome) → o ≡ kept_agent_answer (length old.agents) refused → AgentLeaves origin old.roster o new.roster → new ≡ record old { agents = agents_made old.agents o; roster = new.roster } → Took (action.Agent origin) refused old new o
 agent_took origin refused old new o says leaves same = record {
   shown = λ f s w.
-      let at = agent_shown old.agents new.agents old.ends f origin refused o s says (ap (λ (c : CoreState). c.agents) same) in
-      (subst (λ es. Stepped new.agents es f (action.Agent origin) refused o) (sym (ap (λ (c : CoreState). c.ends) same)) at, roster_agent old.roster new.roster f origin refused o w at.fits leaves);
+      let at = along (λ gs es q. Stepped gs es f (action.Agent origin) refused q) (ap (λ (c : CoreState). c.agents) same ∙ ap (agents_made old.agents) says) (ap (λ (c : CoreState). c.ends) same) says (agent_shown old.agents old.ends f origin refused s) in
+      (at, roster_agent old.roster new.roster f origin refused o w at.fits leaves);
   same = λ nothing. same_content old new (same ∙ agent_same origin old new.roster o leaves nothing);
 }
 
@@ -94,8 +94,8 @@ member_same a name c r o leaves h = ap (λ q. let d : CoreState = record c { ros
 pub member_took : (a : AgentId) (name : List ℕ) (refused : Bool) (old new : CoreState) (o : Outcome) → o ≡ kept_member_answer (kept_running old.agents a.0 && not (is_some old.roster.cast)) (is_some (origin_at (slice_get old.roster.members.origins.items a.0))) (length old.ends) refused → MemberLeaves a.0 name old.roster o new.roster → new ≡ record old { ends = member_made a old.ends o; roster = new.roster } → Took (action.Member a name) refused old new o
 member_took a name refused old new o says leaves same = record {
   shown = λ f s w.
-      let at = member_told old.agents old.ends new.ends old.roster f a name refused o s w says (ap (λ (c : CoreState). c.ends) same) in
-      (subst (λ gs. Stepped gs new.ends f (action.Member a name) refused o) (sym (ap (λ (c : CoreState). c.agents) same)) at, roster_member old.roster new.roster f a name refused o s.sound w at.fits leaves);
+      let at = along (λ gs es q. Stepped gs es f (action.Member a name) refused q) (ap (λ (c : CoreState). c.agents) same) (ap (λ (c : CoreState). c.ends) same ∙ ap (member_made a old.ends) says) says (member_told old.agents old.ends old.roster f a name refused s w) in
+      (at, roster_member old.roster new.roster f a name refused o s.sound w at.fits leaves);
   same = λ nothing. same_content old new (same ∙ member_same a name old new.roster o leaves nothing);
 }
 

@@ -9,7 +9,7 @@ use Rattle.hub_core.specs.declared.step.Action.TheVariants as action
 use Rattle.hub_core.proofs.Stepping.{ok_both, ok_all, channel_same, client_same, worker_same, start_same, push_same, notice_same, enter_same, take_same}
 use Rattle.hub_core.proofs.Took.{ok, took, same_err, same_err_with, told, agent_took, member_took, leave_took, cast_took, part_took, both_same}
 use Rattle.hub_core.proofs.Frames.{with_ends, with_agents}
-use Rattle.hub_core.proofs.Makes.{channel_shown, client_shown, worker_shown}
+use Rattle.hub_core.proofs.Makes.{makes_client, makes_worker, channel_shown, queue_shown}
 use Rattle.hub_core.proofs.Holds.{line_shown, line_same, back_shown, back_same}
 use Rattle.hub_core.proofs.Hands.{hand_shown, hand_same, hand_agents_same}
 use Rattle.hub_core.proofs.Entering.{enter_shown, enter_agents_same}
@@ -43,21 +43,21 @@ pub returns-in-Leave : goal.returns-in-Leave
 returns-in-Leave c = told c.args.step (action.Leave c.in-Leave.sender) _ _ (ok c.leave.result) c.in-Leave.is (leave_took c.in-Leave.sender c.args.step.memory_refused _ _ _ c.leave.ensures.outcome c.leave.ensures.new) tt
 
 pub returns-in-Channel : goal.returns-in-Channel
-returns-in-Channel c = told c.args.step (action.Channel c.in-Channel.agent) _ _ _ c.in-Channel.is (ok_both c.make_channel.result _ _ _ c.make_channel.ensures.outcome c.make_channel.ensures.new (λ o is leaves. took _ _ _ _ (with_ends c.args.self.now (ends_made c.in-Channel.agent c.args.self.now.ends o)) _ _ refl leaves refl refl
-    (λ f s cast. channel_shown _ _ _ f c.in-Channel.agent _ o s is refl)
-    (λ h. ap (with_ends c.args.self.now) (channel_same _ _ o h))))
+returns-in-Channel c = told c.args.step (action.Channel c.in-Channel.agent) _ _ _ c.in-Channel.is (ok_both c.make_channel.result _ _ _ c.make_channel.ensures.outcome c.make_channel.ensures.new (λ o is leaves. took _ _ _ _ _ _ _ is (leaves ∙ ap (λ p. with_ends c.args.self.now (ends_made c.in-Channel.agent c.args.self.now.ends p)) is) refl refl
+    (λ f s cast. channel_shown _ _ f c.in-Channel.agent _ s)
+    (λ h. ap (with_ends c.args.self.now) (channel_same _ _ _ h))))
     (same_err (action.Channel c.in-Channel.agent) c.make_channel.result _ _ refl c.make_channel.ensures.err)
 
 pub returns-in-Client : goal.returns-in-Client
-returns-in-Client c = told c.args.step (action.Client c.in-Client.agent) _ _ _ c.in-Client.is (ok_both c.make_queue.result _ _ _ c.make_queue.ensures.outcome c.make_queue.ensures.new (λ o is leaves. took _ _ _ _ (queue_core c.in-Client.agent Client c.args.self.now o) _ _ refl leaves refl refl
-    (λ f s cast. client_shown _ _ _ _ f c.in-Client.agent _ o s is refl refl)
-    (λ h. client_same _ _ o h)))
+returns-in-Client c = told c.args.step (action.Client c.in-Client.agent) _ _ _ c.in-Client.is (ok_both c.make_queue.result _ _ _ c.make_queue.ensures.outcome c.make_queue.ensures.new (λ o is leaves. took _ _ _ _ _ _ _ is (leaves ∙ ap (queue_core c.in-Client.agent Client c.args.self.now) is) refl refl
+    (λ f s cast. queue_shown _ _ f _ (makes_client c.in-Client.agent) s)
+    (λ h. client_same _ _ _ h)))
     (same_err (action.Client c.in-Client.agent) c.make_queue.result _ _ refl c.make_queue.ensures.err)
 
 pub returns-in-Worker : goal.returns-in-Worker
-returns-in-Worker c = told c.args.step (action.Worker c.in-Worker.agent) _ _ _ c.in-Worker.is (ok_both c.make_queue-in-Worker.result _ _ _ c.make_queue-in-Worker.ensures.outcome c.make_queue-in-Worker.ensures.new (λ o is leaves. took _ _ _ _ (queue_core c.in-Worker.agent Worker c.args.self.now o) _ _ refl leaves refl refl
-    (λ f s cast. worker_shown _ _ _ _ f c.in-Worker.agent _ o s is refl refl)
-    (λ h. worker_same _ _ o h)))
+returns-in-Worker c = told c.args.step (action.Worker c.in-Worker.agent) _ _ _ c.in-Worker.is (ok_both c.make_queue-in-Worker.result _ _ _ c.make_queue-in-Worker.ensures.outcome c.make_queue-in-Worker.ensures.new (λ o is leaves. took _ _ _ _ _ _ _ is (leaves ∙ ap (queue_core c.in-Worker.agent Worker c.args.self.now) is) refl refl
+    (λ f s cast. queue_shown _ _ f _ (makes_worker c.in-Worker.agent) s)
+    (λ h. worker_same _ _ _ h)))
     (same_err (action.Worker c.in-Worker.agent) c.make_queue-in-Worker.result _ _ refl c.make_queue-in-Worker.ensures.err)
 
 pub returns-in-Line : goal.returns-in-Line
@@ -102,37 +102,37 @@ returns-in-Close c = told c.args.step (action.Close c.in-Close.end) _ _ (ok c.cl
 
 pub returns-in-Hand : goal.returns-in-Hand
 returns-in-Hand c = told c.args.step (action.Hand c.in-Hand.end c.in-Hand.agent) _ _ (ok c.hand.result) c.in-Hand.is (took _ _ _ _ _ _ _ c.hand.ensures.outcome (c.hand.ensures.new ∙ ap (hand_core c.args.self.now c.in-Hand.end c.in-Hand.agent) c.hand.ensures.outcome) refl refl
-    (λ f s cast. hand_shown _ _ _ f c.in-Hand.end c.in-Hand.agent _ _ s refl _ refl refl)
+    (λ f s cast. hand_shown _ _ f c.in-Hand.end c.in-Hand.agent _ s)
     (λ h. both_same _ (hand_agents_same _ c.in-Hand.end c.in-Hand.agent _ _ h) (hand_same _ _ c.in-Hand.agent _ _ refl h))) tt
 
 pub returns-in-Adopt : goal.returns-in-Adopt
 returns-in-Adopt c = told c.args.step (action.Adopt c.in-Adopt.end c.in-Adopt.agent) _ _ _ c.in-Adopt.is (ok_both c.adopt.result _ _ _ c.adopt.ensures.outcome c.adopt.ensures.new (λ o is leaves. took _ _ _ _ _ _ _ is (leaves ∙ ap (adopt_core c.args.self.now c.in-Adopt.end c.in-Adopt.agent c.args.step.memory_refused) is) refl refl
-    (λ f s cast. adopt_shown _ _ _ _ f c.in-Adopt.end c.in-Adopt.agent _ _ s refl refl refl)
+    (λ f s cast. adopt_shown _ _ f c.in-Adopt.end c.in-Adopt.agent _ s)
     (λ h. both_same _ (adopt_agents_same _ _ c.in-Adopt.end c.in-Adopt.agent _ _ h) (adopt_same _ _ c.in-Adopt.agent _ _ _ refl h))))
     (same_err (action.Adopt c.in-Adopt.end c.in-Adopt.agent) c.adopt.result _ _ refl c.adopt.ensures.err)
 
 pub returns-in-Push : goal.returns-in-Push
 returns-in-Push c = told c.args.step (action.Push c.in-Push.sender c.in-Push.ports c.in-Push.body) _ _ _ c.in-Push.is (ok_both c.push.result _ _ _ c.push.ensures.outcome c.push.ensures.new (λ o is leaves. took _ _ _ _ (push_core c.args.self.now c.in-Push.sender c.in-Push.ports c.in-Push.body (core_posting c.args.self.now c.in-Push.sender c.in-Push.ports c.in-Push.body c.args.step.memory_refused)) _ _ is leaves refl refl
-    (λ f s cast. push_shown _ _ _ f _ c.in-Push.sender c.in-Push.ports c.in-Push.body _ _ s cast refl refl)
+    (λ f s cast. push_shown _ _ f _ c.in-Push.sender c.in-Push.ports c.in-Push.body _ s cast)
     (λ h. ap (with_ends c.args.self.now) (push_same _ c.in-Push.sender c.in-Push.ports c.in-Push.body _ h))))
     (same_err (action.Push c.in-Push.sender c.in-Push.ports c.in-Push.body) c.push.result _ _ refl c.push.ensures.err)
 
 pub returns-in-Notice : goal.returns-in-Notice
 returns-in-Notice c = told c.args.step (action.Notice c.in-Notice.sender) _ _ _ c.in-Notice.is (ok_both c.notice.result _ _ _ c.notice.ensures.outcome c.notice.ensures.new (λ o is leaves. took _ _ _ _ (notice_core c.args.self.now c.in-Notice.sender (kept_noticing c.args.self.now.ends c.in-Notice.sender c.args.step.memory_refused)) _ _ is leaves refl refl
-    (λ f s cast. notice_shown _ _ _ f c.in-Notice.sender _ _ s refl refl)
+    (λ f s cast. notice_shown _ _ f c.in-Notice.sender _ s)
     (λ h. ap (with_ends c.args.self.now) (notice_same _ c.in-Notice.sender _ h))))
     (same_err (action.Notice c.in-Notice.sender) c.notice.result _ _ refl c.notice.ensures.err)
 
 pub returns-in-Sweep : goal.returns-in-Sweep
 returns-in-Sweep c = told c.args.step (action.Sweep c.in-Sweep.end) _ _ _ c.in-Sweep.is (ok_both c.sweep.result _ _ _ c.sweep.ensures.outcome c.sweep.ensures.new (λ o is leaves. took _ _ _ _ (sweep_core c.args.self.now c.in-Sweep.end) _ _ is leaves refl refl
-    (λ f s cast. sweep_shown _ _ _ f c.in-Sweep.end _ _ s refl refl)
+    (λ f s cast. sweep_shown _ _ f c.in-Sweep.end _ s)
     (λ h. ap (with_ends c.args.self.now) (sweep_same _ c.in-Sweep.end _ refl h))))
     (same_err (action.Sweep c.in-Sweep.end) c.sweep.result _ _ refl c.sweep.ensures.err)
 
 pub returns-in-See : goal.returns-in-See
-returns-in-See c = told c.args.step (action.See c.in-See.agent) _ _ _ c.in-See.is (ok_both c.see.result _ _ _ c.see.ensures.outcome c.see.ensures.new (λ o is leaves. took _ _ _ _ (with_agents c.args.self.now (see_agents c.in-See.agent.0 c.args.self.now.agents o)) _ _ refl leaves refl refl
-    (λ f s cast. see_shown _ _ _ f c.in-See.agent _ o s is refl)
-    (λ h. ap (with_agents c.args.self.now) (see_same _ c.in-See.agent o h))))
+returns-in-See c = told c.args.step (action.See c.in-See.agent) _ _ _ c.in-See.is (ok_both c.see.result _ _ _ c.see.ensures.outcome c.see.ensures.new (λ o is leaves. took _ _ _ _ _ _ _ is (leaves ∙ ap (λ p. with_agents c.args.self.now (see_agents c.in-See.agent.0 c.args.self.now.agents p)) is) refl refl
+    (λ f s cast. see_shown _ _ f c.in-See.agent _ s)
+    (λ h. ap (with_agents c.args.self.now) (see_same _ c.in-See.agent _ h))))
     (same_err (action.See c.in-See.agent) c.see.result _ _ refl c.see.ensures.err)
 
 pub returns-in-Take : goal.returns-in-Take
