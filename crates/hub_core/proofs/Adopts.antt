@@ -20,9 +20,9 @@ use Rattle.hub_core.specs.Moving.{is_arrived, adopt_answer, is_released}
 use Rattle.hub_core.specs.Sound.{no_end, SoundPlaces}
 use Rattle.hub_core.specs.Shows.{end_now, ShowsEnd, ShowsFacts}
 use Rattle.hub_core.specs.Unchanged.{changes_nothing}
-use Rattle.hub_core.specs.Kept.{adopted_end, adopt_outcome, adopted_by, adopt_outcome_at, adopt_ends_at, kept_running, adopt_agents, change_agent, adopting, kept_released}
+use Rattle.hub_core.specs.Kept.{adopted_end, adopt_outcome, adopted_by, adopt_outcome_at, adopt_end, changed_ends, kept_running, adopt_agents, change_agent, adopting, kept_released}
 use Rattle.hub_core.proofs.Lists.{eqb_same, set_again, each_set}
-use Rattle.hub_core.proofs.Frames.{ShownAt, Stepped, unchanged, along, recounted}
+use Rattle.hub_core.proofs.Frames.{ShownAt, Stepped, unchanged, recounted}
 use Rattle.hub_core.proofs.Holders.{runs_kept}
 use Rattle.hub_core.specs.Sender.{in_queue}
 use Rattle.hub_core.proofs.Counts.{Came, counted_came, counts_of, change_length, adopted_now}
@@ -109,12 +109,12 @@ adopt_as f e a refused runs x end is =
     ap (λ r. answer_by x.closed (is_arrived a x.place && r) (nat_le MAX_MOVES x.newest) refused (x.newest + 1)) is
     ∙ ap (λ (y : EndNow). answer_by y.closed (is_arrived a y.place && (f.agent a.0).runs) (nat_le MAX_MOVES y.newest) refused (y.newest + 1)) (sym end)
 
-adopt_at : (agents : List Agent) (ends : List End) (f : Facts) (e : EndId) (a : AgentId) (refused runs : Bool) → ShowsFacts agents ends f → runs ≡ (f.agent a.0).runs → (o : Option End) → slice_get ends e.0 ≡ o → ShownAt f e.0 o → Stepped (adopt_agents ends a agents o (adopt_outcome_at runs a refused o)) (adopt_ends_at runs a refused e.0 ends o) f (action.Adopt e a) refused (adopt_outcome_at runs a refused o)
+adopt_at : (agents : List Agent) (ends : List End) (f : Facts) (e : EndId) (a : AgentId) (refused runs : Bool) → ShowsFacts agents ends f → runs ≡ (f.agent a.0).runs → (o : Option End) → slice_get ends e.0 ≡ o → ShownAt f e.0 o → Stepped (adopt_agents ends a agents o (adopt_outcome_at runs a refused o)) (changed_ends (adopt_end runs a refused) e.0 ends o) f (action.Adopt e a) refused (adopt_outcome_at runs a refused o)
 adopt_at agents ends f e a refused runs h is None at shown = unchanged agents ends ends f (action.Adopt e a) refused outcome.NotNow outcome.NotNow h refl refl refl (adopt_as f e a refused runs no_end shown.same is)
 adopt_at agents ends f e a refused runs h is (Some x) at shown =
     adopt_by agents ends f e a refused x h at x.is_closed (is_arrived a (Some x.place) && runs) (nat_le MAX_MOVES x.newest) refused (x.newest + 1) (adopt_as f e a refused runs (end_now (Some x)) shown.same is)
 
-pub adopt_shown : (agents : List Agent) (ends : List End) (f : Facts) (e : EndId) (a : AgentId) (refused : Bool) → ShowsFacts agents ends f → (let o : Outcome = adopt_outcome_at (kept_running agents a.0) a refused (slice_get ends e.0) in Stepped (adopt_agents ends a agents (slice_get ends e.0) o) (adopt_ends_at (kept_running agents a.0) a refused e.0 ends (slice_get ends e.0)) f (action.Adopt e a) refused o)
+pub adopt_shown : (agents : List Agent) (ends : List End) (f : Facts) (e : EndId) (a : AgentId) (refused : Bool) → ShowsFacts agents ends f → (let o : Outcome = adopt_outcome_at (kept_running agents a.0) a refused (slice_get ends e.0) in Stepped (adopt_agents ends a agents (slice_get ends e.0) o) (changed_ends (adopt_end (kept_running agents a.0) a refused) e.0 ends (slice_get ends e.0)) f (action.Adopt e a) refused o)
 adopt_shown agents ends f e a refused h = adopt_at agents ends f e a refused (kept_running agents a.0) h (runs_kept agents ends f a.0 h) (slice_get ends e.0) refl (h.end e.0)
 
 -- ---- what changes nothing leaves the ends
@@ -123,7 +123,7 @@ adopted_same : (e : EndId) (a : AgentId) (x : End) (o : Outcome) → changes_not
 adopted_same e a x (outcome.Adopted k) h = absurd (false≢true h)
 adopted_same e a x o h = refl
 
-pub adopt_same : (ends : List End) (e : EndId) (a : AgentId) (runs refused : Bool) (q : Option End) → slice_get ends e.0 ≡ q → changes_nothing (adopt_outcome_at runs a refused q) (action.Adopt e a) ≡ true → adopt_ends_at runs a refused e.0 ends q ≡ ends
+pub adopt_same : (ends : List End) (e : EndId) (a : AgentId) (runs refused : Bool) (q : Option End) → slice_get ends e.0 ≡ q → changes_nothing (adopt_outcome_at runs a refused q) (action.Adopt e a) ≡ true → changed_ends (adopt_end runs a refused) e.0 ends q ≡ ends
 adopt_same ends e a runs refused None at h = refl
 adopt_same ends e a runs refused (Some x) at h = ap (set ends e.0) (adopted_same e a x (adopt_outcome runs a refused x) h) ∙ set_again ends e.0 x at
 

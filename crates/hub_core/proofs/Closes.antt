@@ -18,7 +18,7 @@ use Rattle.hub_core.specs.Moving.{may_close, close_answer, is_released}
 use Rattle.hub_core.specs.Sound.{no_end, SoundPlaces}
 use Rattle.hub_core.specs.Shows.{end_now, ShowsEnd, ShowsFacts}
 use Rattle.hub_core.specs.Unchanged.{changes_nothing}
-use Rattle.hub_core.specs.Kept.{kept_may_close_of, kept_may_close, closed_end, close_outcome_at, close_ends_at, close_agents, gone, kept_released}
+use Rattle.hub_core.specs.Kept.{kept_may_close_of, kept_may_close, closed_end, close_outcome_at, close_end, changed_ends, close_agents, gone, kept_released}
 use Rattle.hub_core.proofs.Lists.{eqb_same, set_again, each_set, is_there}
 use Rattle.hub_core.proofs.Frames.{ShownAt, Stepped, unchanged, recounted}
 use Rattle.hub_core.proofs.Travels.{own_end}
@@ -103,11 +103,11 @@ close_as f e may x end is = ap (λ b. cond x.closed outcome.Closed (cond b outco
 close_none : (f : Facts) (e : EndId) → f.end e.0 ≡ no_end → outcome.NotNow ≡ close_answer f e
 close_none f e none = ap (λ (y : EndNow). cond y.closed outcome.Closed (cond (is_here y.place && is_released f y.kind) outcome.Done outcome.NotNow)) (sym none)
 
-close_at : (agents : List Agent) (ends : List End) (f : Facts) (e : EndId) (refused may : Bool) → ShowsFacts agents ends f → may ≡ may_close f e.0 → (o : Option End) → slice_get ends e.0 ≡ o → ShownAt f e.0 o → Stepped (close_agents agents o (close_outcome_at may o)) (close_ends_at may e.0 ends o) f (action.Close e) refused (close_outcome_at may o)
+close_at : (agents : List Agent) (ends : List End) (f : Facts) (e : EndId) (refused may : Bool) → ShowsFacts agents ends f → may ≡ may_close f e.0 → (o : Option End) → slice_get ends e.0 ≡ o → ShownAt f e.0 o → Stepped (close_agents agents o (close_outcome_at may o)) (changed_ends (close_end may) e.0 ends o) f (action.Close e) refused (close_outcome_at may o)
 close_at agents ends f e refused may h is None at shown = unchanged agents ends ends f (action.Close e) refused outcome.NotNow outcome.NotNow h refl refl refl (close_none f e shown.same)
 close_at agents ends f e refused may h is (Some x) at shown = close_by agents ends f e refused x h at x.is_closed may (close_as f e may (end_now (Some x)) shown.same is)
 
-pub close_shown : (agents : List Agent) (ends : List End) (f : Facts) (e : EndId) (refused : Bool) → ShowsFacts agents ends f → Stepped (close_agents agents (slice_get ends e.0) (close_outcome_at (kept_may_close ends e.0) (slice_get ends e.0))) (close_ends_at (kept_may_close ends e.0) e.0 ends (slice_get ends e.0)) f (action.Close e) refused (close_outcome_at (kept_may_close ends e.0) (slice_get ends e.0))
+pub close_shown : (agents : List Agent) (ends : List End) (f : Facts) (e : EndId) (refused : Bool) → ShowsFacts agents ends f → Stepped (close_agents agents (slice_get ends e.0) (close_outcome_at (kept_may_close ends e.0) (slice_get ends e.0))) (changed_ends (close_end (kept_may_close ends e.0)) e.0 ends (slice_get ends e.0)) f (action.Close e) refused (close_outcome_at (kept_may_close ends e.0) (slice_get ends e.0))
 close_shown agents ends f e refused h = close_at agents ends f e refused (kept_may_close ends e.0) h (may_close_kept agents ends f e.0 h) (slice_get ends e.0) refl (h.end e.0)
 
 -- ---- what changes nothing leaves the ends
@@ -117,7 +117,7 @@ close_end_same e x true may h = refl
 close_end_same e x false true h = absurd (false≢true h)
 close_end_same e x false false h = refl
 
-pub close_same : (ends : List End) (e : EndId) (may : Bool) (q : Option End) → slice_get ends e.0 ≡ q → changes_nothing (close_outcome_at may q) (action.Close e) ≡ true → close_ends_at may e.0 ends q ≡ ends
+pub close_same : (ends : List End) (e : EndId) (may : Bool) (q : Option End) → slice_get ends e.0 ≡ q → changes_nothing (close_outcome_at may q) (action.Close e) ≡ true → changed_ends (close_end may) e.0 ends q ≡ ends
 close_same ends e may None at h = refl
 close_same ends e may (Some x) at h = ap (set ends e.0) (close_end_same e x x.is_closed may h) ∙ set_again ends e.0 x at
 

@@ -24,7 +24,7 @@ use Rattle.hub_core.specs.Shows.{agent_now, end_now, kept_clients, kept_workers,
 use Rattle.hub_core.specs.Kept.{set_agent}
 use Rattle.hub_core.specs.KeptEnding.{order_outcome_at, order_agents, is_kept_at, kept_ends_at, see_outcome, see_agents}
 use Rattle.hub_core.proofs.Sounds.{sound_next}
-use Rattle.hub_core.proofs.Frames.{Stepped, unchanged, along}
+use Rattle.hub_core.proofs.Frames.{Stepped, unchanged}
 use Rattle.hub_core.proofs.Counts.{change_get, change_length, change_each, away_at, none_counted}
 
 -- ---- an agent that was ordered, and one that runs no more

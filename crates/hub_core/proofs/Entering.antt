@@ -21,7 +21,7 @@ use Rattle.hub_core.specs.Facts.{EndNow, LineNow, Facts}
 use Rattle.hub_core.specs.Posting.{is_out, enter_answer, leave_answer, may_enter, is_here, poster_of, is_with}
 use Rattle.hub_core.specs.Sound.{no_end, no_line, Sound}
 use Rattle.hub_core.specs.Shows.{end_now, line_now, ShowsPut, ShowsEnd, ShowsFacts, count_away}
-use Rattle.hub_core.specs.Kept.{gate_answer, phase_of, enter_outcome, enter_end, enter_outcome_at, enter_ends_at, leave_outcome, leave_end, leave_outcome_at, leave_ends_at, may_come, kept_may_enter, change_owner, kept_owner, with_agent, one_out, one_away, kept_place}
+use Rattle.hub_core.specs.Kept.{gate_answer, phase_of, enter_outcome, enter_end, enter_outcome_at, enter_ends_at, leave_outcome, leave_end, leave_outcome_at, changed_ends, may_come, kept_may_enter, change_owner, kept_owner, with_agent, one_out, one_away, kept_place}
 use Rattle.hub_core.specs.KeptEnding.{enter_agents, leave_agents, kept_owner_of, kept_owner_at, kept_owner_on}
 use Rattle.hub_core.proofs.Lists.{eqb_same, set_again, each_set, is_there}
 use Rattle.hub_core.proofs.Frames.{ShownAt, Stepped, unchanged, recounted}
@@ -267,11 +267,11 @@ leave_line agents ends f s refused x h at (Some y) is line =
       | false ↦ λ away answer. recounted agents (change_owner one_out (kept_owner ends x.kind y) agents) ends _ f (action.Leave s) refused outcome.Left h answer refl refl (owner_length one_out (kept_owner ends x.kind y) agents) (owner_now_out (kept_owner ends x.kind y) agents) (h.ends ∙ sym (length-set ends s.end.0 (with_phase x y s.line.0 Out))) (left_counts agents ends f s x y h (subst (ShownAt f s.end.0) at (h.end s.end.0)) is (ap (λ (z : LineNow). is_out z.phase) line ∙ away)) (phased_shown agents ends f s Out x y h at is (λ no. cc))
     ] refl (leave_as f s (line_now (Some y)) line)
 
-leave_end_shown : (agents : List Agent) (ends : List End) (f : Facts) (s : Sender) (refused : Bool) → ShowsFacts agents ends f → (o : Option End) → slice_get ends s.end.0 ≡ o → ShownAt f s.end.0 o → Stepped (leave_agents (kept_owner_at ends s.line.0 o) agents (leave_outcome_at s.line.0 o)) (leave_ends_at s ends o) f (action.Leave s) refused (leave_outcome_at s.line.0 o)
+leave_end_shown : (agents : List Agent) (ends : List End) (f : Facts) (s : Sender) (refused : Bool) → ShowsFacts agents ends f → (o : Option End) → slice_get ends s.end.0 ≡ o → ShownAt f s.end.0 o → Stepped (leave_agents (kept_owner_at ends s.line.0 o) agents (leave_outcome_at s.line.0 o)) (changed_ends (λ x. leave_end x s.line.0 (slice_get x.lines s.line.0)) s.end.0 ends o) f (action.Leave s) refused (leave_outcome_at s.line.0 o)
 leave_end_shown agents ends f s refused h None at shown = unchanged agents ends ends f (action.Leave s) refused outcome.NotNow outcome.NotNow h refl refl refl (leave_as f s no_line (shown.lines s.line.0))
 leave_end_shown agents ends f s refused h (Some x) at shown = leave_line agents ends f s refused x h at (slice_get x.lines s.line.0) refl (shown.lines s.line.0)
 
-pub leave_shown : (agents : List Agent) (ends : List End) (f : Facts) (s : Sender) (refused : Bool) → ShowsFacts agents ends f → (let o : Outcome = leave_outcome_at s.line.0 (slice_get ends s.end.0) in Stepped (leave_agents (kept_owner_of ends s) agents o) (leave_ends_at s ends (slice_get ends s.end.0)) f (action.Leave s) refused o)
+pub leave_shown : (agents : List Agent) (ends : List End) (f : Facts) (s : Sender) (refused : Bool) → ShowsFacts agents ends f → (let o : Outcome = leave_outcome_at s.line.0 (slice_get ends s.end.0) in Stepped (leave_agents (kept_owner_of ends s) agents o) (changed_ends (λ x. leave_end x s.line.0 (slice_get x.lines s.line.0)) s.end.0 ends (slice_get ends s.end.0)) f (action.Leave s) refused o)
 leave_shown agents ends f s refused h = leave_end_shown agents ends f s refused h (slice_get ends s.end.0) refl (h.end s.end.0)
 
 pub leave_agents_same : (owner : Option AgentId) (agents : List Agent) (s : Sender) (o : Outcome) → changes_nothing o (action.Leave s) ≡ true → leave_agents owner agents o ≡ agents

@@ -20,11 +20,11 @@ use Rattle.hub_core.specs.Moving.{may_take_over, hand_answer, is_released}
 use Rattle.hub_core.specs.Unchanged.{changes_nothing}
 use Rattle.hub_core.specs.Sound.{no_end, SoundPlaces}
 use Rattle.hub_core.specs.Shows.{end_now, ShowsEnd, ShowsFacts}
-use Rattle.hub_core.specs.Kept.{kept_holder, kept_may_take_over, hand_outcome, handed_end, hand_outcome_at, hand_ends_at, hand_agents, gone}
+use Rattle.hub_core.specs.Kept.{kept_holder, kept_may_take_over, hand_outcome, handed_end, hand_outcome_at, changed_ends, hand_agents, gone}
 use Rattle.hub_core.proofs.Lists.{set_again, each_set, eqb_same}
 use Rattle.hub_core.proofs.Nexts.{next}
 use Rattle.hub_core.proofs.Speakers.{placed_made}
-use Rattle.hub_core.proofs.Frames.{ShownAt, Stepped, unchanged, recounted, along}
+use Rattle.hub_core.proofs.Frames.{ShownAt, Stepped, unchanged, recounted}
 use Rattle.hub_core.proofs.Counts.{Went, counted_went, counts_of, gone_length, gone_now}
 use Rattle.hub_core.proofs.Holders.{holder_kept}
 use Rattle.hub_core.proofs.Fitting.{handed_of}
@@ -97,11 +97,11 @@ hand_as f e b may x end is =
     ap (λ c. hand_by x.closed (is_queue x.kind && c)) is
     ∙ ap (λ (y : EndNow). hand_by y.closed (is_queue y.kind && may_take_over f b (holder f e.0))) (sym end)
 
-hand_at : (agents : List Agent) (ends : List End) (f : Facts) (e : EndId) (b : AgentId) (refused may : Bool) → ShowsFacts agents ends f → may ≡ may_take_over f b (holder f e.0) → (o : Option End) → slice_get ends e.0 ≡ o → ShownAt f e.0 o → Stepped (hand_agents agents o (hand_outcome_at may o)) (hand_ends_at may b e.0 ends o) f (action.Hand e b) refused (hand_outcome_at may o)
+hand_at : (agents : List Agent) (ends : List End) (f : Facts) (e : EndId) (b : AgentId) (refused may : Bool) → ShowsFacts agents ends f → may ≡ may_take_over f b (holder f e.0) → (o : Option End) → slice_get ends e.0 ≡ o → ShownAt f e.0 o → Stepped (hand_agents agents o (hand_outcome_at may o)) (changed_ends (λ x. handed_end b x (hand_outcome may x)) e.0 ends o) f (action.Hand e b) refused (hand_outcome_at may o)
 hand_at agents ends f e b refused may h is None at shown = unchanged agents ends ends f (action.Hand e b) refused outcome.NotNow outcome.NotNow h refl refl refl (hand_as f e b may no_end shown.same is)
 hand_at agents ends f e b refused may h is (Some x) at shown = hand_step agents ends f e b refused x h at x.is_closed (is_queue (Some x.kind) && may) (hand_as f e b may (end_now (Some x)) shown.same is)
 
-pub hand_shown : (agents : List Agent) (ends : List End) (f : Facts) (e : EndId) (b : AgentId) (refused : Bool) → ShowsFacts agents ends f → (let may : Bool = kept_may_take_over (length agents) b (kept_holder agents ends e.0) in let o : Outcome = hand_outcome_at may (slice_get ends e.0) in Stepped (hand_agents agents (slice_get ends e.0) o) (hand_ends_at may b e.0 ends (slice_get ends e.0)) f (action.Hand e b) refused o)
+pub hand_shown : (agents : List Agent) (ends : List End) (f : Facts) (e : EndId) (b : AgentId) (refused : Bool) → ShowsFacts agents ends f → (let may : Bool = kept_may_take_over (length agents) b (kept_holder agents ends e.0) in let o : Outcome = hand_outcome_at may (slice_get ends e.0) in Stepped (hand_agents agents (slice_get ends e.0) o) (changed_ends (λ x. handed_end b x (hand_outcome may x)) e.0 ends (slice_get ends e.0)) f (action.Hand e b) refused o)
 hand_shown agents ends f e b refused h =
     hand_at agents ends f e b refused (kept_may_take_over (length agents) b (kept_holder agents ends e.0)) h (take_over_kept agents ends f b (kept_holder agents ends e.0) h ∙ ap (may_take_over f b) (holder_kept agents ends f e.0 h)) (slice_get ends e.0) refl (h.end e.0)
 
@@ -111,7 +111,7 @@ handed_same : (e : EndId) (b : AgentId) (x : End) (o : Outcome) → changes_noth
 handed_same e b x outcome.Handed h = absurd (false≢true h)
 handed_same e b x o h = refl
 
-pub hand_same : (ends : List End) (e : EndId) (b : AgentId) (may : Bool) (q : Option End) → slice_get ends e.0 ≡ q → changes_nothing (hand_outcome_at may q) (action.Hand e b) ≡ true → hand_ends_at may b e.0 ends q ≡ ends
+pub hand_same : (ends : List End) (e : EndId) (b : AgentId) (may : Bool) (q : Option End) → slice_get ends e.0 ≡ q → changes_nothing (hand_outcome_at may q) (action.Hand e b) ≡ true → changed_ends (λ x. handed_end b x (hand_outcome may x)) e.0 ends q ≡ ends
 hand_same ends e b may None at h = refl
 hand_same ends e b may (Some x) at h = ap (set ends e.0) (handed_same e b x (hand_outcome may x) h) ∙ set_again ends e.0 x at
 

@@ -25,7 +25,7 @@ use Rattle.hub_core.specs.Holding.{free_line, line_found, line_answer, back_answ
 use Rattle.hub_core.specs.Unchanged.{changes_nothing}
 use Rattle.hub_core.specs.Sound.{no_line}
 use Rattle.hub_core.specs.Shows.{line_now, ShowsPut, ShowsEnd, ShowsFacts}
-use Rattle.hub_core.specs.Kept.{kept_running, line_within, first_free, hold_outcome_of, hold_outcome, held_lines, held_end, line_outcome_at, line_ends_at, may_give_back, back_outcome, back_end, back_outcome_at, back_ends_at}
+use Rattle.hub_core.specs.Kept.{kept_running, line_within, first_free, hold_outcome_of, hold_outcome, held_lines, held_end, line_outcome_at, line_ends_at, may_give_back, back_outcome, back_end, back_outcome_at, changed_ends}
 use Rattle.hub_core.proofs.Lists.{set_again, each_set, eqb_same, is_there}
 use Rattle.hub_core.proofs.Fitting.{line_got_of, first_failing_of, back_of}
 use Rattle.hub_core.proofs.SoundLines.{held_line_as, queue_lines}
@@ -158,11 +158,11 @@ back_line agents ends f s refused x h at (Some y) is line =
       | false ↦ λ answer. unchanged agents ends _ f (action.Back s) refused outcome.NotNow outcome.NotNow h refl refl (set_again ends s.end.0 x at) answer
     ] (back_as f s (line_now (Some y)) line)
 
-back_at : (agents : List Agent) (ends : List End) (f : Facts) (s : Sender) (refused : Bool) → ShowsFacts agents ends f → (o : Option End) → slice_get ends s.end.0 ≡ o → ShownAt f s.end.0 o → Stepped agents (back_ends_at s ends o) f (action.Back s) refused (back_outcome_at s.line.0 o)
+back_at : (agents : List Agent) (ends : List End) (f : Facts) (s : Sender) (refused : Bool) → ShowsFacts agents ends f → (o : Option End) → slice_get ends s.end.0 ≡ o → ShownAt f s.end.0 o → Stepped agents (changed_ends (λ x. back_end x s.line.0 (slice_get x.lines s.line.0)) s.end.0 ends o) f (action.Back s) refused (back_outcome_at s.line.0 o)
 back_at agents ends f s refused h None at shown = unchanged agents ends ends f (action.Back s) refused outcome.NotNow outcome.NotNow h refl refl refl (back_as f s no_line (shown.lines s.line.0))
 back_at agents ends f s refused h (Some x) at shown = back_line agents ends f s refused x h at (slice_get x.lines s.line.0) refl (shown.lines s.line.0)
 
-pub back_shown : (agents : List Agent) (ends : List End) (f : Facts) (s : Sender) (refused : Bool) → ShowsFacts agents ends f → Stepped agents (back_ends_at s ends (slice_get ends s.end.0)) f (action.Back s) refused (back_outcome_at s.line.0 (slice_get ends s.end.0))
+pub back_shown : (agents : List Agent) (ends : List End) (f : Facts) (s : Sender) (refused : Bool) → ShowsFacts agents ends f → Stepped agents (changed_ends (λ x. back_end x s.line.0 (slice_get x.lines s.line.0)) s.end.0 ends (slice_get ends s.end.0)) f (action.Back s) refused (back_outcome_at s.line.0 (slice_get ends s.end.0))
 back_shown agents ends f s refused h = back_at agents ends f s refused h (slice_get ends s.end.0) refl (h.end s.end.0)
 
 -- ---- what changes nothing leaves the ends
@@ -183,6 +183,6 @@ back_line_same ends s x at (Some y) h = elim (may_give_back y) as (λ b. changes
   | false ↦ λ _. set_again ends s.end.0 x at
 ] h
 
-pub back_same : (ends : List End) (s : Sender) (q : Option End) → slice_get ends s.end.0 ≡ q → changes_nothing (back_outcome_at s.line.0 q) (action.Back s) ≡ true → back_ends_at s ends q ≡ ends
+pub back_same : (ends : List End) (s : Sender) (q : Option End) → slice_get ends s.end.0 ≡ q → changes_nothing (back_outcome_at s.line.0 q) (action.Back s) ≡ true → changed_ends (λ x. back_end x s.line.0 (slice_get x.lines s.line.0)) s.end.0 ends q ≡ ends
 back_same ends s None at h = refl
 back_same ends s (Some x) at h = back_line_same ends s x at (slice_get x.lines s.line.0) h

@@ -18,7 +18,7 @@ use Rattle.hub_core.specs.Looking.{first_failing, lookable, looked, look_answer_
 use Rattle.hub_core.specs.Sound.{no_end}
 use Rattle.hub_core.specs.Shows.{ShowsEnd, ShowsFacts, KeepsQueues}
 use Rattle.hub_core.specs.Unchanged.{changes_nothing}
-use Rattle.hub_core.specs.Kept.{is_anyone_at, kept_looked, look_answer_at, may_look, look_outcome, looked_end, look_outcome_at, look_ends_at}
+use Rattle.hub_core.specs.Kept.{is_anyone_at, kept_looked, look_answer_at, may_look, look_outcome, looked_end, look_outcome_at, look_end, changed_ends}
 use Rattle.hub_core.proofs.Lists.{eqb_same, set_again, each_set}
 use Rattle.hub_core.proofs.Frames.{ShownAt, Stepped, changed, unchanged}
 use Rattle.hub_core.proofs.Presence.{someone_kept}
@@ -124,12 +124,12 @@ look_at agents ends f e refused x h at true true false who answer =
     let found : cond (is_anyone_at x.looked x.lines) outcome.Busy (outcome.Clear (Some x.looked)) ≡ outcome.Clear (Some x.looked) = ap (λ b. cond b outcome.Busy (outcome.Clear (Some x.looked))) who in
     subst (λ o. Stepped agents (set ends e.0 (looked_end x o)) f (action.Look e) refused o) (sym found) (cleared_shown agents ends f e refused x h at (sym found ∙ answer))
 
-look_end_shown : (agents : List Agent) (ends : List End) (f : Facts) (e : EndId) (refused : Bool) → ShowsFacts agents ends f → (o : Option End) → slice_get ends e.0 ≡ o → ShownAt f e.0 o → Stepped agents (look_ends_at e.0 ends o) f (action.Look e) refused (look_outcome_at o)
+look_end_shown : (agents : List Agent) (ends : List End) (f : Facts) (e : EndId) (refused : Bool) → ShowsFacts agents ends f → (o : Option End) → slice_get ends e.0 ≡ o → ShownAt f e.0 o → Stepped agents (changed_ends look_end e.0 ends o) f (action.Look e) refused (look_outcome_at o)
 look_end_shown agents ends f e refused h None at shown = unchanged agents ends ends f (action.Look e) refused outcome.NotNow outcome.NotNow h refl refl refl (look_none f e shown.same)
 look_end_shown agents ends f e refused h (Some x) at shown =
     look_at agents ends f e refused x h at (may_look x) (nat_lt x.looked x.newest || (x.is_closed && eqb x.looked x.newest)) (is_anyone_at x.looked x.lines) refl (look_as f e x shown (h.sound.lines e.0).taker_stand)
 
-pub look_shown : (agents : List Agent) (ends : List End) (f : Facts) (e : EndId) (refused : Bool) → ShowsFacts agents ends f → Stepped agents (look_ends_at e.0 ends (slice_get ends e.0)) f (action.Look e) refused (look_outcome_at (slice_get ends e.0))
+pub look_shown : (agents : List Agent) (ends : List End) (f : Facts) (e : EndId) (refused : Bool) → ShowsFacts agents ends f → Stepped agents (changed_ends look_end e.0 ends (slice_get ends e.0)) f (action.Look e) refused (look_outcome_at (slice_get ends e.0))
 look_shown agents ends f e refused h = look_end_shown agents ends f e refused h (slice_get ends e.0) refl (h.end e.0)
 
 -- ---- what changes nothing leaves the ends
@@ -139,6 +139,6 @@ looked_same e x (outcome.Clear (Some k)) h = absurd (false≢true h)
 looked_same e x (outcome.Clear None) h = refl
 looked_same e x o h = refl
 
-pub look_same : (ends : List End) (e : EndId) (q : Option End) → slice_get ends e.0 ≡ q → changes_nothing (look_outcome_at q) (action.Look e) ≡ true → look_ends_at e.0 ends q ≡ ends
+pub look_same : (ends : List End) (e : EndId) (q : Option End) → slice_get ends e.0 ≡ q → changes_nothing (look_outcome_at q) (action.Look e) ≡ true → changed_ends look_end e.0 ends q ≡ ends
 look_same ends e None at h = refl
 look_same ends e (Some x) at h = ap (set ends e.0) (looked_same e x (look_outcome x) h) ∙ set_again ends e.0 x at

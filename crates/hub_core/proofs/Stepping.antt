@@ -18,7 +18,7 @@ use Rattle.hub_core.specs.declared.outcome.Outcome.{Outcome}
 use Rattle.hub_core.specs.declared.outcome.Outcome.TheVariants as outcome
 use Rattle.hub_core.specs.Posting.{is_out}
 use Rattle.hub_core.specs.Unchanged.{changes_nothing}
-use Rattle.hub_core.specs.Kept.{gate_answer, phase_of, enter_outcome, enter_end, enter_outcome_at, enter_ends_at, leave_outcome, leave_end, leave_outcome_at, leave_ends_at, TakeServes, TakeHeld, TakeLeaves, advanced_end, kept_settled, may_come, ends_made, start_outcome, start_ends, push_outcome, push_ends, notice_outcome, notice_ends}
+use Rattle.hub_core.specs.Kept.{gate_answer, phase_of, enter_outcome, enter_end, enter_outcome_at, enter_ends_at, leave_outcome, leave_end, leave_outcome_at, changed_ends, TakeServes, TakeHeld, TakeLeaves, advanced_end, kept_settled, may_come, ends_made, start_outcome, start_ends, push_outcome, push_ends, notice_outcome, notice_ends}
 use Rattle.hub_core.proofs.Lists.{set_again}
 
 -- two facts of what was answered Ok give a third
@@ -85,7 +85,7 @@ leave_line_same ends s x at (Some y) h = elim (is_out y.phase) as (λ b. changes
   | false ↦ λ left. absurd (false≢true left)
 ] h
 
-pub leave_same : (ends : List End) (s : Sender) (q : Option End) → slice_get ends s.end.0 ≡ q → changes_nothing (leave_outcome_at s.line.0 q) (action.Leave s) ≡ true → leave_ends_at s ends q ≡ ends
+pub leave_same : (ends : List End) (s : Sender) (q : Option End) → slice_get ends s.end.0 ≡ q → changes_nothing (leave_outcome_at s.line.0 q) (action.Leave s) ≡ true → changed_ends (λ x. leave_end x s.line.0 (slice_get x.lines s.line.0)) s.end.0 ends q ≡ ends
 leave_same ends s None at h = refl
 leave_same ends s (Some x) at h = leave_line_same ends s x at (slice_get x.lines s.line.0) h
 

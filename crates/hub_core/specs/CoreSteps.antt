@@ -8,8 +8,9 @@ use Rattle.hub_core.specs.declared.outcome.Outcome.{Outcome}
 use Rattle.hub_core.specs.declared.sender.Sender.{Sender}
 use Rattle.hub_core.specs.CoreState.{CoreState}
 use Rattle.hub_core.specs.Kept.{kept_running, kept_holder, kept_may_enter, kept_may_close, kept_may_take_over, kept_posting}
-use Rattle.hub_core.specs.Kept.{enter_ends_at, leave_ends_at, hop_ends_at, push_ends, notice_ends, look_ends_at, sweep_ends, start_ends}
-use Rattle.hub_core.specs.Kept.{line_ends_at, back_ends_at, adopt_ends_at, adopt_agents, close_ends_at, close_agents, hand_ends_at, hand_agents, queue_made, queue_counted}
+use Rattle.hub_core.specs.Kept.{enter_ends_at, hop_ends_at, push_ends, notice_ends, sweep_ends, start_ends, line_ends_at, queue_made}
+use Rattle.hub_core.specs.Kept.{change_end, leave_end, look_end, back_end, adopt_end, close_end, handed_end, hand_outcome}
+use Rattle.hub_core.specs.Kept.{adopt_agents, close_agents, hand_agents, queue_counted}
 use Rattle.hub_core.specs.KeptEnding.{kept_owner_of, enter_agents, leave_agents}
 use Rattle.hub_core.specs.KeptRoster.{cast_left}
 
@@ -20,7 +21,7 @@ abbrev pub line_core : CoreState → EndId → AgentId → CoreState
 line_core c e a = record c { ends = line_ends_at (kept_running c.agents a.0) a e.0 c.ends (slice_get c.ends e.0) }
 
 abbrev pub back_core : CoreState → Sender → CoreState
-back_core c s = record c { ends = back_ends_at s c.ends (slice_get c.ends s.end.0) }
+back_core c s = record c { ends = change_end (λ x. back_end x s.line.0 (slice_get x.lines s.line.0)) s.end.0 c.ends }
 
 abbrev pub core_may_enter : CoreState → Sender → Bool
 core_may_enter c s = kept_may_enter c.agents c.ends c.roster.cast s
@@ -34,7 +35,7 @@ enter_core c s o = record c {
 abbrev pub leave_core : CoreState → Sender → Outcome → CoreState
 leave_core c s o = record c {
   agents = leave_agents (kept_owner_of c.ends s) c.agents o;
-  ends = leave_ends_at s c.ends (slice_get c.ends s.end.0);
+  ends = change_end (λ x. leave_end x s.line.0 (slice_get x.lines s.line.0)) s.end.0 c.ends;
   roster = record c.roster { cast = cast_left s.end.0 o c.roster.cast };
 }
 
@@ -55,7 +56,7 @@ abbrev pub start_core : CoreState → EndId → CoreState
 start_core c e = record c { ends = start_ends (kept_holder c.agents c.ends e.0) e.0 c.ends (slice_get c.ends e.0) }
 
 abbrev pub look_core : CoreState → EndId → CoreState
-look_core c e = record c { ends = look_ends_at e.0 c.ends (slice_get c.ends e.0) }
+look_core c e = record c { ends = change_end look_end e.0 c.ends }
 
 abbrev pub sweep_core : CoreState → EndId → CoreState
 sweep_core c e = record c { ends = sweep_ends e.0 c.ends (slice_get c.ends e.0) }
@@ -63,13 +64,13 @@ sweep_core c e = record c { ends = sweep_ends e.0 c.ends (slice_get c.ends e.0) 
 abbrev pub adopt_core : CoreState → EndId → AgentId → Bool → Outcome → CoreState
 adopt_core c e a refused o = record c {
   agents = adopt_agents c.ends a c.agents (slice_get c.ends e.0) o;
-  ends = adopt_ends_at (kept_running c.agents a.0) a refused e.0 c.ends (slice_get c.ends e.0);
+  ends = change_end (adopt_end (kept_running c.agents a.0) a refused) e.0 c.ends;
 }
 
 abbrev pub close_core : CoreState → EndId → Outcome → CoreState
 close_core c e o = record c {
   agents = close_agents c.agents (slice_get c.ends e.0) o;
-  ends = close_ends_at (kept_may_close c.ends e.0) e.0 c.ends (slice_get c.ends e.0);
+  ends = change_end (close_end (kept_may_close c.ends e.0)) e.0 c.ends;
 }
 
 -- whether another agent may take over what the holder of the end has
@@ -79,5 +80,5 @@ core_may_take_over c e b = kept_may_take_over (length c.agents) b (kept_holder c
 abbrev pub hand_core : CoreState → EndId → AgentId → Outcome → CoreState
 hand_core c e b o = record c {
   agents = hand_agents c.agents (slice_get c.ends e.0) o;
-  ends = hand_ends_at (core_may_take_over c e b) b e.0 c.ends (slice_get c.ends e.0);
+  ends = change_end (λ x. handed_end b x (hand_outcome (core_may_take_over c e b) x)) e.0 c.ends;
 }

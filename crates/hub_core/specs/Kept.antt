@@ -84,10 +84,6 @@ abbrev pub look_outcome_at : Option End → Outcome
 look_outcome_at None = outcome.NotNow
 look_outcome_at (Some x) = look_outcome x
 
-abbrev pub look_ends_at : ℕ → List End → Option End → List End
-look_ends_at e ends None = ends
-look_ends_at e ends (Some x) = slice_set ends e (look_end x)
-
 -- the end with its taker at the next queue
 abbrev pub advanced_end : End → End
 advanced_end x = record x {
@@ -137,10 +133,6 @@ adopt_end runs a refused x = adopted_by a x (adopt_outcome runs a refused x)
 abbrev pub adopt_outcome_at : Bool → AgentId → Bool → Option End → Outcome
 adopt_outcome_at runs a refused None = outcome.NotNow
 adopt_outcome_at runs a refused (Some x) = adopt_outcome runs a refused x
-
-abbrev pub adopt_ends_at : Bool → AgentId → Bool → ℕ → List End → Option End → List End
-adopt_ends_at runs a refused e ends None = ends
-adopt_ends_at runs a refused e ends (Some x) = slice_set ends e (adopt_end runs a refused x)
 
 -- the phase of a line whose Enter got this answer
 abbrev pub phase_of : Outcome → Phase
@@ -196,9 +188,12 @@ abbrev pub changed_ends : (End → End) → ℕ → List End → Option End → 
 changed_ends change e ends None = ends
 changed_ends change e ends (Some x) = slice_set ends e (change x)
 
+abbrev pub change_end : (End → End) → ℕ → List End → List End
+change_end change e ends = changed_ends change e ends (slice_get ends e)
+
 -- the ends with one of them, and with those that the list names, at another place
 abbrev pub end_moved : Place → List End → EndId → List End
-end_moved p ends e = changed_ends (λ x. record x { place = p }) e.0 ends (slice_get ends e.0)
+end_moved p ends e = change_end (λ x. record x { place = p }) e.0 ends
 
 abbrev pub moved_ends : List EndId → Place → List End → List End
 moved_ends ports p ends = fold (end_moved p) ends ports
@@ -315,10 +310,6 @@ abbrev pub leave_outcome_at : ℕ → Option End → Outcome
 leave_outcome_at l None = outcome.NotNow
 leave_outcome_at l (Some x) = leave_outcome (slice_get x.lines l)
 
-abbrev pub leave_ends_at : Sender → List End → Option End → List End
-leave_ends_at s ends None = ends
-leave_ends_at s ends (Some x) = slice_set ends s.end.0 (leave_end x s.line.0 (slice_get x.lines s.line.0))
-
 -- line 0 of an end
 abbrev pub kept_own_line : Option End → Option Line
 kept_own_line None = None
@@ -400,7 +391,7 @@ push_outcome (Err o) = o
 
 -- the ends after an envelope was put, its ports where they were
 abbrev pub put_ends : List End → Line → Envelope → List End
-put_ends ends y v = changed_ends (λ x. put_end x y v) v.end.0 ends (slice_get ends v.end.0)
+put_ends ends y v = change_end (λ x. put_end x y v) v.end.0 ends
 
 -- the ends after an envelope was put on a line: an envelope more at its end, and its ports in flight
 abbrev pub accept_ends : List End → Line → Envelope → List End
@@ -462,10 +453,6 @@ close_end may x = if x.is_closed then x else (if may then closed_end x else x)
 abbrev pub close_outcome_at : Bool → Option End → Outcome
 close_outcome_at may None = outcome.NotNow
 close_outcome_at may (Some x) = close_outcome may x
-
-abbrev pub close_ends_at : Bool → ℕ → List End → Option End → List End
-close_ends_at may e ends None = ends
-close_ends_at may e ends (Some x) = slice_set ends e (close_end may x)
 
 -- some queues, one after another
 abbrev pub joined : List (List Envelope) → List Envelope
@@ -724,10 +711,6 @@ abbrev pub back_outcome_at : ℕ → Option End → Outcome
 back_outcome_at l None = outcome.NotNow
 back_outcome_at l (Some x) = back_outcome (slice_get x.lines l)
 
-abbrev pub back_ends_at : Sender → List End → Option End → List End
-back_ends_at s ends None = ends
-back_ends_at s ends (Some x) = slice_set ends s.end.0 (back_end x s.line.0 (slice_get x.lines s.line.0))
-
 -- whether an agent may take over what this agent has: it is another one of so many
 abbrev pub kept_may_take_over : ℕ → AgentId → Option AgentId → Bool
 kept_may_take_over n b None = false
@@ -746,10 +729,6 @@ handed_end b x _ = x
 abbrev pub hand_outcome_at : Bool → Option End → Outcome
 hand_outcome_at may None = outcome.NotNow
 hand_outcome_at may (Some x) = hand_outcome may x
-
-abbrev pub hand_ends_at : Bool → AgentId → ℕ → List End → Option End → List End
-hand_ends_at may b e ends None = ends
-hand_ends_at may b e ends (Some x) = slice_set ends e (handed_end b x (hand_outcome may x))
 
 -- the agents after an end got this answer to a Hand, to a Close, and to an Adopt
 abbrev pub hand_agents : List Agent → Option End → Outcome → List Agent
