@@ -35,9 +35,9 @@ use Rattle.hub_core.proofs.Nexts.{next}
 casting_kept : (r : Roster) (f : Facts) → ShowsRoster r f → is_some r.cast ≡ is_casting f
 casting_kept r f h = ap is_some (sym h.cast)
 
-pub member_told : (agents : List Agent) (ends : List End) (r : Roster) (f : Facts) (a : AgentId) (name : List ℕ) (refused : Bool) → ShowsFacts agents ends f → ShowsRoster r f → (let o : Outcome = kept_member_answer (kept_running agents a.0 && not (is_some r.cast)) (is_some (origin_at (slice_get r.members.origins.items a.0))) (length ends) refused in Stepped agents (member_made a ends o) f (action.Member a name) refused o)
+pub member_told : (agents : List Agent) (ends : List End) (r : Roster) (f : Facts) (a : AgentId) (name : List ℕ) (refused : Bool) → ShowsFacts agents ends f → ShowsRoster r f → (let o : Outcome = kept_member_answer (kept_running agents a.0 && not (is_some r.cast)) (is_some (origin_at (slice_get r.members.origins a.0))) (length ends) refused in Stepped agents (member_made a ends o) f (action.Member a name) refused o)
 member_told agents ends r f a name refused h w =
-    member_shown agents ends f a name (kept_running agents a.0 && not (is_some r.cast)) (is_some (origin_at (slice_get r.members.origins.items a.0))) refused h
+    member_shown agents ends f a name (kept_running agents a.0 && not (is_some r.cast)) (is_some (origin_at (slice_get r.members.origins a.0))) refused h
     (ap (λ b. b && not (is_some r.cast)) (runs_kept agents ends f a.0 h) ∙ ap (λ b. (f.agent a.0).runs && not b) (casting_kept r f w))
     (ap is_some (sym (w.origins a.0)))
 

@@ -26,7 +26,7 @@ use Rattle.hub_core.specs.Sound.{Sound, SoundPlaces}
 use Rattle.hub_core.specs.Unchanged.{changes_nothing}
 use Rattle.hub_core.specs.Shows.{IsMemberNow, ShowsRoster}
 use Rattle.hub_core.specs.Casting.{destinations, destinations_of, is_casting, part_answer}
-use Rattle.hub_core.specs.KeptRoster.{AgentLeaves, IsFirst, JoinsGroup, MemberLeaves, PartLeaves, SameRoster, cast_left, cast_roster, group_cmp, group_of, is_in, is_seated_in, kept_destinations, numbers_in, numbers_of, numbers_with, origin_at, others_of, parted, seated_without}
+use Rattle.hub_core.specs.KeptRoster.{agent_roster, IsFirst, JoinsGroup, MemberLeaves, PartLeaves, SameRoster, cast_left, cast_roster, group_of, is_in, is_seated_in, kept_destinations, numbers_of, numbers_with, origin_at, others_of, parted, seated_without}
 use Rattle.hub_core.proofs.Lists.{eqb_same, slice_get-append_front, slice_get-append_back}
 use Rattle.std.proofs.lemmas.Option.{slice_get_past}
 use Rattle.std.proofs.Common.{length-append}
@@ -45,7 +45,7 @@ no_agent xs a none = ap (λ ys. origin_at (slice_get ys a)) none
 pub roster_first : (r : Roster) → IsFirst r → ShowsRoster r (facts [])
 roster_first r h = record {
   agents = ap length h.origins;
-  origins = λ a. sym (no_agent r.members.origins.items a h.origins);
+  origins = λ a. sym (no_agent r.members.origins a h.origins);
   groups = λ x a is. absurd (search (rules, is));
   seated = h.seated;
   each = tt;
@@ -55,7 +55,7 @@ roster_first r h = record {
 pub same_members : (n : ℕ) (r s : Roster) → s ≡ r → SameRoster n r s
 same_members n r s same = record {
   members = record {
-    origins = ap (λ (t : Roster). t.members.origins.items) same;
+    origins = ap (λ (t : Roster). t.members.origins) same;
     groups = λ x _. ap (λ (t : Roster). group_of t.members x) same;
     seated = λ k. ap (λ (t : Roster). numbers_of t.members k) same;
   };
@@ -202,23 +202,22 @@ origin_more xs o a false false is here =
     let from : length xs ≤ a = ltb-false a (length xs) is in
     ap origin_at (slice_get_past xs a from ∙ sym (slice_get_past (xs ++ o ∷ []) a (past_origins xs o a from (eqb-false a (length xs) here))))
 
-pub roster_agent : (r s : Roster) (f : Facts) (origin : Option (List ℕ)) (refused : Bool) (o : Outcome) → ShowsRoster r f → Answers f (action.Agent origin) refused o → AgentLeaves origin r o s → ShowsRoster s (next f (action.Agent origin) o)
-roster_agent r s f origin refused (outcome.Agent n) h fits leaves =
+pub roster_agent : (r : Roster) (f : Facts) (origin : Option (List ℕ)) (refused : Bool) (o : Outcome) → ShowsRoster r f → Answers f (action.Agent origin) refused o → ShowsRoster (agent_roster origin r o) (next f (action.Agent origin) o)
+roster_agent r f origin refused (outcome.Agent n) h fits =
     let number : n.0 ≡ f.agents = new_agent f refused n fits in
     record {
-      agents = ap length leaves.0 ∙ length-append r.members.origins.items (origin ∷ []) ∙ ap (λ m. m + 1) h.agents;
+      agents = length-append r.members.origins (origin ∷ []) ∙ ap (λ m. m + 1) h.agents;
       origins = λ a.
-          ap (λ b. cond b origin (f.roster.origin a)) (ap (eqb a) (number ∙ sym h.agents)) ∙ ap (cond (eqb a (length r.members.origins.items)) origin) (h.origins a)
-          ∙ origin_more r.members.origins.items origin a (nat_lt a (length r.members.origins.items)) (eqb a (length r.members.origins.items)) refl refl
-          ∙ ap (λ xs. origin_at (slice_get xs a)) (sym leaves.0);
-      groups = λ x a is. h.groups x a is ∙ ap (λ m. get nat_cmp m x) (sym leaves.1);
-      seated = λ k. ap (λ m. numbers_in (get group_cmp m k)) leaves.2 ∙ h.seated k;
+          ap (λ b. cond b origin (f.roster.origin a)) (ap (eqb a) (number ∙ sym h.agents)) ∙ ap (cond (eqb a (length r.members.origins)) origin) (h.origins a)
+          ∙ origin_more r.members.origins origin a (nat_lt a (length r.members.origins)) (eqb a (length r.members.origins)) refl refl;
+      groups = h.groups;
+      seated = h.seated;
       each = members_still f (next f (action.Agent origin) (outcome.Agent n)) (λ x k is. is) (λ x a is. refl) f.roster.members h.each;
-      cast = h.cast ∙ sym leaves.3;
+      cast = h.cast;
     }
-roster_agent r s f origin refused (outcome.Clear None) h fits leaves = subst (λ t. ShowsRoster t f) (sym leaves) h
-roster_agent r s f origin refused (outcome.Clear (Some k)) h fits leaves = subst (λ t. ShowsRoster t f) (sym leaves) h
-roster_agent r s f origin refused o h fits leaves = subst (λ t. ShowsRoster t f) (sym leaves) h
+roster_agent r f origin refused (outcome.Clear None) h fits = h
+roster_agent r f origin refused (outcome.Clear (Some k)) h fits = h
+roster_agent r f origin refused o h fits = h
 
 -- ---- another cast
 
@@ -294,7 +293,7 @@ module _ (r s : Roster) (f : Facts) (a : AgentId) (name : List ℕ) (refused : B
 
 pub roster_member : (r s : Roster) (f : Facts) (a : AgentId) (name : List ℕ) (refused : Bool) (o : Outcome) → Sound f → ShowsRoster r f → Answers f (action.Member a name) refused o → MemberLeaves a.0 name r o s → ShowsRoster s (next f (action.Member a name) o)
 roster_member r s f a name refused (outcome.End e) sound h fits leaves =
-    member_joins r s f a name refused e sound h fits (group_named (origin_at (slice_get r.members.origins.items a.0)) name) (ap (λ q. group_named q name) (h.origins a.0)) leaves.0 leaves.1
+    member_joins r s f a name refused e sound h fits (group_named (origin_at (slice_get r.members.origins a.0)) name) (ap (λ q. group_named q name) (h.origins a.0)) leaves.0 leaves.1
 roster_member r s f a name refused (outcome.Clear None) sound h fits leaves = subst (λ t. ShowsRoster t f) (sym leaves) h
 roster_member r s f a name refused (outcome.Clear (Some k)) sound h fits leaves = subst (λ t. ShowsRoster t f) (sym leaves) h
 roster_member r s f a name refused o sound h fits leaves = subst (λ t. ShowsRoster t f) (sym leaves) h

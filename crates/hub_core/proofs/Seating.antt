@@ -94,7 +94,7 @@ leaves old new g n w u wrote k =
       | false ↦ λ _. refl
     ] refl
 
-pub parts : (old new : Members) (g : Group) (n : ℕ) (was w : BTreeSet ℕ) → new.origins.items ≡ old.origins.items → new.groups ≡ old.groups → Some g ≡ group_of old n → WritesThrough group_cmp (group_cmp g) old.seated w new.seated → Some was ≡ get group_cmp old.seated g → w.keys ≡ remove_key (λ x. is_eq (nat_cmp n x)) was.keys → Parts n old new
+pub parts : (old new : Members) (g : Group) (n : ℕ) (was w : BTreeSet ℕ) → new.origins ≡ old.origins → new.groups ≡ old.groups → Some g ≡ group_of old n → WritesThrough group_cmp (group_cmp g) old.seated w new.seated → Some was ≡ get group_cmp old.seated g → w.keys ≡ remove_key (λ x. is_eq (nat_cmp n x)) was.keys → Parts n old new
 parts old new g n was w origins groups is writes there removed =
     let u = written old.seated new.seated g was w writes there in
     record {

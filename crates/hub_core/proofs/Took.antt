@@ -16,7 +16,7 @@ use Rattle.hub_core.specs.CoreSteps.{leave_core}
 use Rattle.hub_core.specs.Kept.{kept_running, kept_holder, kept_maker, kept_agent_answer, agents_made, leave_outcome_at}
 use Rattle.hub_core.specs.KeptCasting.{kept_member_answer, kept_cast_answer, is_kept_open, part_outcome, member_made}
 use Rattle.hub_core.specs.KeptEnding.{kept_owner_of, leave_agents}
-use Rattle.hub_core.specs.KeptRoster.{origin_at, group_of, is_seated_in, kept_destinations, AgentLeaves, MemberLeaves, PartLeaves, cast_roster}
+use Rattle.hub_core.specs.KeptRoster.{origin_at, group_of, is_seated_in, kept_destinations, agent_roster, MemberLeaves, PartLeaves, cast_roster}
 use Rattle.hub_core.specs.Posting.{is_empty}
 use Rattle.hub_core.specs.CoreState.{CoreState}
 use Rattle.hub_core.specs.declared.step.Step.{Step}
@@ -75,23 +75,23 @@ took a refused old new after o p says leaves roster stays k same = record {
 
 -- ---- steps that change the roster
 
-agent_same : (origin : Option (List ℕ)) (c : CoreState) (r : Roster) (o : Outcome) → AgentLeaves origin c.roster o r → changes_nothing o (action.Agent origin) ≡ true → (let d : CoreState = record c { agents = agents_made c.agents o; roster = r } in d) ≡ c
-agent_same origin c r (outcome.Agent a) leaves h = absurd (false≢true h)
-agent_same origin c r o leaves h = ap (λ q. let d : CoreState = record c { roster = q } in d) leaves
+agent_same : (origin : Option (List ℕ)) (c : CoreState) (o : Outcome) → changes_nothing o (action.Agent origin) ≡ true → (let d : CoreState = record c { agents = agents_made c.agents o; roster = agent_roster origin c.roster o } in d) ≡ c
+agent_same origin c (outcome.Agent a) h = absurd (false≢true h)
+agent_same origin c o h = refl
 
-pub agent_took : (origin : Option (List ℕ)) (refused : Bool) (old new : CoreState) (o : Outcome) → o ≡ kept_agent_answer (length old.agents) refused → AgentLeaves origin old.roster o new.roster → new ≡ record old { agents = agents_made old.agents o; roster = new.roster } → Took (action.Agent origin) refused old new o
-agent_took origin refused old new o says leaves same = record {
+pub agent_took : (origin : Option (List ℕ)) (refused : Bool) (old new : CoreState) (o : Outcome) → o ≡ kept_agent_answer (length old.agents) refused → new ≡ record old { agents = agents_made old.agents o; roster = agent_roster origin old.roster o } → Took (action.Agent origin) refused old new o
+agent_took origin refused old new o says same = record {
   shown = λ f s w.
       let at = along (λ gs es q. Stepped gs es f (action.Agent origin) refused q) (ap (λ (c : CoreState). c.agents) same ∙ ap (agents_made old.agents) says) (ap (λ (c : CoreState). c.ends) same) says (agent_shown old.agents old.ends f origin refused s) in
-      (at, roster_agent old.roster new.roster f origin refused o w at.fits leaves);
-  same = λ nothing. same_content old new (same ∙ agent_same origin old new.roster o leaves nothing);
+      (at, subst (λ r. ShowsRoster r (next f (action.Agent origin) o)) (sym (ap (λ (c : CoreState). c.roster) same)) (roster_agent old.roster f origin refused o w at.fits));
+  same = λ nothing. same_content old new (same ∙ agent_same origin old o nothing);
 }
 
 member_same : (a : AgentId) (name : List ℕ) (c : CoreState) (r : Roster) (o : Outcome) → MemberLeaves a.0 name c.roster o r → changes_nothing o (action.Member a name) ≡ true → (let d : CoreState = record c { ends = member_made a c.ends o; roster = r } in d) ≡ c
 member_same a name c r (outcome.End e) leaves h = absurd (false≢true h)
 member_same a name c r o leaves h = ap (λ q. let d : CoreState = record c { roster = q } in d) leaves
 
-pub member_took : (a : AgentId) (name : List ℕ) (refused : Bool) (old new : CoreState) (o : Outcome) → o ≡ kept_member_answer (kept_running old.agents a.0 && not (is_some old.roster.cast)) (is_some (origin_at (slice_get old.roster.members.origins.items a.0))) (length old.ends) refused → MemberLeaves a.0 name old.roster o new.roster → new ≡ record old { ends = member_made a old.ends o; roster = new.roster } → Took (action.Member a name) refused old new o
+pub member_took : (a : AgentId) (name : List ℕ) (refused : Bool) (old new : CoreState) (o : Outcome) → o ≡ kept_member_answer (kept_running old.agents a.0 && not (is_some old.roster.cast)) (is_some (origin_at (slice_get old.roster.members.origins a.0))) (length old.ends) refused → MemberLeaves a.0 name old.roster o new.roster → new ≡ record old { ends = member_made a old.ends o; roster = new.roster } → Took (action.Member a name) refused old new o
 member_took a name refused old new o says leaves same = record {
   shown = λ f s w.
       let at = along (λ gs es q. Stepped gs es f (action.Member a name) refused q) (ap (λ (c : CoreState). c.agents) same) (ap (λ (c : CoreState). c.ends) same ∙ ap (member_made a old.ends) says) says (member_told old.agents old.ends old.roster f a name refused s w) in

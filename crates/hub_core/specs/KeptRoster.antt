@@ -48,13 +48,13 @@ is_seated_in m n (Some g) = is_in n (numbers_of m g)
 
 -- an end has joined a group
 pub record Joins (n : ℕ) (g : Group) (old new : Members) : Type 0 where
-  pub origins : new.origins.items ≡ old.origins.items
+  pub origins : new.origins ≡ old.origins
   pub groups : (x : ℕ) → group_of new x ≡ (if n == x then Some g else group_of old x)
   pub seated : (k : Group) → numbers_of new k ≡ seated_with g n k (numbers_of old k)
 
 -- the same members, among the ends below a number
 pub record SameMembers (n : ℕ) (old new : Members) : Type 0 where
-  pub origins : new.origins.items ≡ old.origins.items
+  pub origins : new.origins ≡ old.origins
   pub groups : (x : ℕ) → x < n → group_of new x ≡ group_of old x
   pub seated : (k : Group) → numbers_of new k ≡ numbers_of old k
 
@@ -64,7 +64,7 @@ parted n None k numbers = numbers
 parted n (Some g) k numbers = if is_same_group g k then seated_without n numbers else numbers
 
 pub record Parts (n : ℕ) (old new : Members) : Type 0 where
-  pub origins : new.origins.items ≡ old.origins.items
+  pub origins : new.origins ≡ old.origins
   pub groups : new.groups ≡ old.groups
   pub seated : (k : Group) → numbers_of new k ≡ parted n (group_of old n) k (numbers_of old k)
 
@@ -106,7 +106,7 @@ kept_destinations m x = map (λ n. record { 0 = n }) (others_of m x (group_of m 
 
 -- a roster with no agent, no member and no cast
 pub record IsFirst (r : Roster) : Type 0 where
-  pub origins : r.members.origins.items ≡ []
+  pub origins : r.members.origins ≡ []
   pub seated : (k : Group) → numbers_of r.members k ≡ []
   pub cast : r.cast ≡ None
 
@@ -117,7 +117,7 @@ JoinsGroup n (Some g) old new = Joins n g old new
 -- the roster after the agent made a channel of this name, or no change
 abbrev pub MemberLeaves : ℕ → List ℕ → Roster → Outcome → Roster → Type 0
 MemberLeaves a name old (outcome.End e) new =
-    JoinsGroup e.0 (group_named (origin_at (slice_get old.members.origins.items a)) name) old.members new.members × (new.cast ≡ old.cast)
+    JoinsGroup e.0 (group_named (origin_at (slice_get old.members.origins a)) name) old.members new.members × (new.cast ≡ old.cast)
 MemberLeaves a name old _ new = new ≡ old
 
 -- the roster after a cast, or no change
@@ -131,11 +131,9 @@ PartLeaves x old outcome.Done new = Parts x old.members new.members × (new.cast
 PartLeaves x old _ new = new ≡ old
 
 -- the roster after an agent of this origin was made, or no change
-abbrev pub AgentLeaves : Option (List ℕ) → Roster → Outcome → Roster → Type 0
-AgentLeaves origin old (outcome.Agent a) new =
-    (new.members.origins.items ≡ old.members.origins.items ++ origin ∷ []) × (new.members.groups ≡ old.members.groups)
-    × (new.members.seated ≡ old.members.seated) × (new.cast ≡ old.cast)
-AgentLeaves origin old _ new = new ≡ old
+abbrev pub agent_roster : Option (List ℕ) → Roster → Outcome → Roster
+agent_roster origin r (outcome.Agent a) = record r { members = record r.members { origins = r.members.origins ++ origin ∷ [] } }
+agent_roster origin r _ = r
 
 -- the cast after a Leave of a line of this end got its answer
 abbrev pub cast_left : ℕ → Outcome → Option CastNow → Option CastNow

@@ -120,8 +120,8 @@ pub record IsMemberNow (f : Facts) (y : EndId) : Type 0 where
 -- What is kept of the roster is the roster of the facts: the origin of each agent, the origin and name of each broadcast
 -- channel, of each origin and name the members, and the cast that isn't over.
 pub record ShowsRoster (kept : Roster) (f : Facts) : Type 0 where
-  pub agents : length kept.members.origins.items ≡ f.agents
-  pub origins : (a : ℕ) → f.roster.origin a ≡ origin_at (slice_get kept.members.origins.items a)
+  pub agents : length kept.members.origins ≡ f.agents
+  pub origins : (a : ℕ) → f.roster.origin a ≡ origin_at (slice_get kept.members.origins a)
   pub groups : (x : ℕ) (a : AgentId) → (f.end x).kind ≡ Some (Member a) → f.roster.group x ≡ group_of kept.members x
   pub seated : (k : Group) → numbers_of kept.members k ≡ numbers_with f.roster k f.roster.members
   pub each : AllByRecursion (IsMemberNow f) f.roster.members

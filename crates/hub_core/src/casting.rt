@@ -25,7 +25,7 @@ impl Core {
         memory_refused: bool,
     ) -> Result<Outcome, OutOfMemory>
         ensures outcome { let origin = origin_at
-            (slice_get self.old.roster.members.origins.items agent.0) in
+            (slice_get self.old.roster.members.origins agent.0) in
             let casting = is_some self.old.roster.cast in
             let may = kept_running self.old.agents agent.0 && not casting in
             let count = length self.old.ends in

@@ -1,8 +1,7 @@
 //! Steps that make agents and ends: Agent, Channel, Client and Worker.
 
 ghost use Rattle.std.specs.Prelude.{◌≡◌, length, slice_get, IfOk, OnErr};
-ghost use Rattle.hub_core.specs.KeptRoster.{AgentLeaves};
-ghost use Rattle.hub_core.specs.Unchanged.{SameContent};
+ghost use Rattle.hub_core.specs.KeptRoster.{agent_roster};
 ghost use Rattle.hub_core.specs.Kept.{kept_running, kept_agent_answer, agents_made};
 ghost use Rattle.hub_core.specs.Kept.{kept_channel_answer, ends_made, count_of, kept_queue_answer};
 ghost use Rattle.hub_core.specs.CoreSteps.{queue_core};
@@ -22,12 +21,11 @@ impl Core {
     ) -> Result<Outcome, OutOfMemory>
         ensures outcome { IfOk result (λ o. o
             ≡ kept_agent_answer (length self.old.agents) memory_refused) }
-        ensures roster { IfOk result (λ o. AgentLeaves origin self.old.roster o self.new.roster) }
         ensures new { IfOk result (λ o. self.new ≡ record self.old {
           agents = agents_made self.old.agents o;
-          roster = self.new.roster;
+          roster = agent_roster origin self.old.roster o;
         }) }
-        ensures err { OnErr result (SameContent self.old self.new) }
+        ensures err { OnErr result (self.new ≡ self.old) }
     {
         if memory_refused {
             return Ok(Outcome::NoMemory);

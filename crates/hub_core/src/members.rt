@@ -12,12 +12,27 @@ use crate::group::Group;
 use hub_envelope::{AgentId, EndId, OutOfMemory, Text};
 use std::alloc::Global;
 use std::collections::{BTreeMap, BTreeSet};
+use std::marker::Model;
+
+/// The origin of each agent, or none.
+#[derive(Drop)]
+pub struct Origins {
+    origins: Vec<Option<Text>>,
+}
+
+impl Model for Origins {
+    ghost use Rattle.std.specs.Prelude.{List, Option};
+    ghost use Rattle.hub_envelope.specs.declared.text.Text.{Text};
+
+    ghost Value = { List (Option Text) };
+
+    ghost view = { λ o. o.origins.items };
+}
 
 /// The members of the roster.
 #[derive(Drop)]
 pub struct Members {
-    /// The origin of each agent.
-    pub(crate) origins: Vec<Option<Text>>,
+    origins: Origins,
     /// The group of each member, by the number of its end; of those that have parted too.
     groups: BTreeMap<u32, Group>,
     /// The members of each group that haven't parted, by the numbers of their ends.
@@ -26,11 +41,13 @@ pub struct Members {
 
 impl Members {
     pub(crate) fn new(alloc: Global) -> Members
-        ensures origins { result.origins.items ≡ [] }
+        ensures origins { result.origins ≡ [] }
         ensures seated { (k : GroupValue) → numbers_of result k ≡ [] }
     {
         Members {
-            origins: Vec::new(alloc),
+            origins: Origins {
+                origins: Vec::new(alloc),
+            },
             groups: BTreeMap::new(alloc),
             seated: BTreeMap::new(alloc),
         }
@@ -38,12 +55,13 @@ impl Members {
 
     /// One more agent, of this origin or of none.
     pub(crate) fn enrol(&mut self, origin: Option<Text>) -> Result<(), OutOfMemory>
-        ensures ok { OnOk result (self.new.origins.items ≡ self.old.origins.items ++ origin ∷ []) }
-        ensures err { OnErr result (self.new.origins.items ≡ self.old.origins.items) }
-        ensures groups { self.new.groups ≡ self.old.groups }
-        ensures seated { self.new.seated ≡ self.old.seated }
+        ensures ok { OnOk result (self.new ≡ record self.old {
+          origins = self.old.origins ++ origin ∷ [];
+        }) }
+        ensures err { OnErr result (self.new ≡ self.old) }
     {
-        self.origins.push(origin)?;
+        let agents = &mut self.origins;
+        agents.origins.push(origin)?;
         Ok(())
     }
 
@@ -53,10 +71,11 @@ impl Members {
         agent: AgentId,
         name: Text,
     ) -> Result<Option<Group>, OutOfMemory>
-        ensures { let origin = origin_at (slice_get self.now.origins.items agent.0) in
+        ensures { let origin = origin_at (slice_get self.now.origins agent.0) in
             IfOk result (λ group. group ≡ group_named origin name) }
     {
-        match self.origins.get(agent.0 as usize) {
+        let agents = &self.origins;
+        match agents.origins.get(agent.0 as usize) {
             Some(Some(origin)) => {
                 let origin = origin.clone()?;
                 Ok(Some(Group { origin, name }))

@@ -25,8 +25,8 @@ use Rattle.hub_core.proofs.Sweeps.{sweep_shown, sweep_same}
 use Rattle.hub_core.proofs.machine.Core.step.Goals as goal
 
 pub returns-in-Agent : goal.returns-in-Agent
-returns-in-Agent c = told c.args.step (action.Agent c.in-Agent.origin) _ _ _ c.in-Agent.is (ok_both c.make_agent.result _ _ _ c.make_agent.ensures.outcome (ok_all c.make_agent.result _ _ c.make_agent.ensures.roster c.make_agent.ensures.new) (λ o is made.
-    agent_took c.in-Agent.origin c.args.step.memory_refused _ _ o is made.0 made.1)) (same_err_with (action.Agent c.in-Agent.origin) c.make_agent.result _ _ refl c.make_agent.ensures.err)
+returns-in-Agent c = told c.args.step (action.Agent c.in-Agent.origin) _ _ _ c.in-Agent.is (ok_both c.make_agent.result _ _ _ c.make_agent.ensures.outcome c.make_agent.ensures.new (λ o is leaves.
+    agent_took c.in-Agent.origin c.args.step.memory_refused _ _ o is leaves)) (same_err (action.Agent c.in-Agent.origin) c.make_agent.result _ _ refl c.make_agent.ensures.err)
 
 pub returns-in-Member : goal.returns-in-Member
 returns-in-Member c = told c.args.step (action.Member c.in-Member.agent c.in-Member.name) _ _ _ c.in-Member.is (ok_both c.make_member.result _ _ _ c.make_member.ensures.outcome (ok_all c.make_member.result _ _ c.make_member.ensures.roster c.make_member.ensures.new) (λ o is made.
