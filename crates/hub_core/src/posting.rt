@@ -2,13 +2,13 @@
 
 ghost use Rattle.std.specs.Prelude.{◌≡◌, ◌<◌, ◌≤◌, length, slice_get, Some, IfOk, OnOk, OnErr};
 ghost use Rattle.hub_core.specs.Posting.{is_fitting, is_good};
-ghost use Rattle.hub_core.specs.Kept.{enter_outcome_at, enter_ends_at, leave_outcome_at, hop_outcome_at};
-ghost use Rattle.hub_core.specs.Kept.{kept_noticing, notice_outcome};
+ghost use Rattle.hub_core.specs.Kept.{enter_outcome_at, enter_ends_at, leave_outcome_at};
+ghost use Rattle.hub_core.specs.Kept.{hop_outcome_at, kept_noticing, notice_outcome};
 ghost use Rattle.hub_core.specs.Kept.{kept_all_leave, kept_listing_to, kept_may_leave};
 ghost use Rattle.hub_core.specs.Kept.{kept_own_free, push_outcome, HasQueue};
 ghost use Rattle.hub_core.specs.Kept.{put_ends, accept_ends, moved_ends, end_moved};
-ghost use Rattle.hub_core.specs.CoreSteps.{core_may_enter, enter_core, leave_core, hop_core, core_posting};
-ghost use Rattle.hub_core.specs.CoreSteps.{push_core, notice_core};
+ghost use Rattle.hub_core.specs.CoreSteps.{core_may_enter, enter_core, leave_core, hop_core};
+ghost use Rattle.hub_core.specs.CoreSteps.{core_posting, push_core, notice_core};
 
 use crate::end::Place;
 use crate::kind::Kind;
@@ -33,7 +33,7 @@ impl Core {
         outcome
     }
 
-    /// Enters, and leaves what is counted of agents.
+    /// The poster passes the gate or is turned back there; what is counted of its agent stays.
     fn pass_gate(&mut self, sender: Sender) -> Outcome
         ensures outcome { let may = core_may_enter self.old sender in
             result ≡ enter_outcome_at may sender.line.0 (slice_get self.old.ends sender.end.0) }
