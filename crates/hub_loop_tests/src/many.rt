@@ -93,3 +93,38 @@ fn a_port_that_has_moved_too_often_is_closed(rt: HostRuntime) {
     assert!(rt; is_open && has_moved);
     assert!(rt; is_refused);
 }
+
+// Queue 0 goes on from each agent to the other.
+fn moves_queue<R: Wait>(rt: &R, table: &mut Table<'_>, count: u32) -> bool {
+    for moved in 0..count {
+        let (from, to) = if moved % 2 == 0 { (0, 1) } else { (1, 0) };
+        let steps = [(from, Step::Hand(0, to)), (to, Step::Fetch(0, true))];
+        if !walks_all(rt, table, &steps) {
+            return false;
+        }
+    }
+    true
+}
+
+// It has moved as often as it may, and is closed. It is swept when the loop ends.
+const REFUSED_QUEUE: &[(u8, Step)] = &[
+    (1, Step::Moves(0, MAX_MOVES)),
+    (1, Step::Hand(0, 0)),
+    (0, Step::Fetch(0, false)),
+    (0, Step::HasNone(0)),
+    (0, Step::End(&[(0, &[])], &[])),
+];
+
+#[test]
+fn a_queue_that_has_moved_too_often_is_closed(rt: HostRuntime) {
+    let shared = Shared::new(rt.alloc());
+    let mut table = Table::new(&shared, false);
+    let opened = [(0, Step::Open), (1, Step::Open), (0, Step::Client(0))];
+    let is_open = walks_all(&rt, &mut table, &opened);
+    let has_moved = moves_queue(&rt, &mut table, MAX_MOVES);
+    let is_refused = walks_all(&rt, &mut table, REFUSED_QUEUE);
+    drop(table);
+    drop(shared);
+    assert!(rt; is_open && has_moved);
+    assert!(rt; is_refused);
+}
