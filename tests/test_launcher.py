@@ -241,6 +241,8 @@ class Launcher(support.TestCase):
         rt = self.kit / "bin" / "rt"
         rt.write_text(FAKE_RT.replace("case $1 in", f"{waits}case $1 in"), encoding="utf-8")
         how = {"stdout": subprocess.PIPE, "stderr": subprocess.PIPE, "start_new_session": True}
+        # A command behind a shell's back ignores Ctrl-C, and so would what it starts.
+        how["preexec_fn"] = lambda: signal.signal(signal.SIGINT, signal.SIG_DFL)
         words = [self.root / "messagehub", "steps"]
         with subprocess.Popen(words, env=self.settings, **how) as build:
             while not (self.folder / "waits").exists() and build.poll() is None:
