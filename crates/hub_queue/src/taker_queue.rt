@@ -144,16 +144,8 @@ impl TakerQueue {
         requires { IsSettled self }
         ensures { result ≡ self }
     {
-        let TakerQueue {
-            store: _,
-            pass,
-            keeper,
-            taken: _,
-        } = self;
-        LeftQueue {
-            pass,
-            gate: keeper.into_witness(),
-        }
+        let ShutQueue { pass, gate } = self.into_shut();
+        LeftQueue { pass, gate }
     }
 
     /// Takes from a retired queue. The look comes before the pop: where it found nobody, nothing is
