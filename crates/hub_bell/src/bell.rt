@@ -47,7 +47,7 @@ impl Bell {
 
     // Leaves a bit set, and answers whether it was clear.
     fn mark(&mut self, word: usize, mask: u64) -> bool
-        requires { word < 80 }
+        requires { word < 1040 }
         ensures { (found : ℕ) × (result ≡ not (is_set found mask))
             × (self.new ≡ record self.old {
               at = record self.old.at {

@@ -20,7 +20,7 @@ pub type BoardWords = Table<(), Steps, (), BoardRule, Global>;
 pub(crate) struct Board {
     pub(crate) words: BoardWords,
     pub(crate) waker: Waker,
-    ghost count: { words.shared.table_id.words ≡ 80 },
+    ghost count: { words.shared.table_id.words ≡ 1040 },
 }
 
 /// The words are hints, so nothing has to hold of them.

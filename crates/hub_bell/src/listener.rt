@@ -3,7 +3,7 @@ ghost use Rattle.std.specs.Arc.{arc_value};
 
 use crate::OutOfMemory;
 use crate::bell::Bell;
-use crate::bits::{ASLEEP, FIRST_BITS, NAMES, WIDTH, WORDS, has_bit, mask_of};
+use crate::bits::{ASLEEP, FIRST_BITS, NAMES, WORDS};
 use crate::board::{Board, BoardSeat, BoardWords, Look, Store, Take};
 use crate::waking::{Sleep, Sleeper, WakePass};
 use std::alloc::Global;
@@ -43,7 +43,7 @@ impl Listener {
     ghost use Rattle.hub_bell.specs.declared.steps.BoardStep.{BoardStep};
     ghost use Rattle.hub_bell.specs.Ready.{names_word};
     ghost use Rattle.hub_bell.specs.Seats.{new_at};
-    ghost use Rattle.hub_bell.specs.Listening.{HasCleared, HasSlept, IsTaken, TakesNamed};
+    ghost use Rattle.hub_bell.specs.Listening.{HasSlept, IsTaken};
 
     /// A listener, and the first of its bells. No bit is set.
     pub fn open(alloc: Global) -> Result<(Listener, Bell), OutOfMemory>
@@ -71,8 +71,8 @@ impl Listener {
         Ok(Bell::at(Arc::try_clone(&self.board)?))
     }
 
-    /// Takes out the names of the words in which bits were set: bit `n` is set where one was set in
-    /// word `n` since the names were last taken out.
+    /// Takes out the names of the groups in which bits were set: bit `n` is set where one was set in
+    /// the words from `16 * n` to `16 * n + 15` since the names were last taken out.
     pub fn take_names(&mut self) -> u64
         ensures { (self.new.board ≡ self.old.board)
             × IsTaken self.old.at self.new.at names_word result }
@@ -81,43 +81,18 @@ impl Listener {
     }
 
     /// Takes out the bits of a word: bit `k` of word `n` is that of the end whose number is
-    /// `64 * n + k`, or more by a multiple of 4,096.
+    /// `64 * n + k`.
     pub fn take_bits(&mut self, word: usize) -> u64
-        requires { word < 64 }
+        requires { word < 1024 }
         ensures { (self.new.board ≡ self.old.board)
             × IsTaken self.old.at self.new.at (16 + word) result }
     {
         self.take(FIRST_BITS + word)
     }
 
-    /// Takes all bits out, so that whoever rings from now on sets its bit again.
-    pub fn clear(&mut self)
-        ensures { (self.new.board ≡ self.old.board) × HasCleared self.old.at self.new.at }
-    {
-        let names = self.take_names();
-        if names == 0 {
-            return;
-        }
-        for word in 0..WIDTH {
-            self.take_named(names, word);
-        }
-    }
-
-    // Takes out the bits of a word that the names have.
-    fn take_named(&mut self, names: u64, word: usize)
-        requires { word < 64 }
-        ensures { (self.new.board ≡ self.old.board) × ((steps : List BoardStep)
-            × TakesNamed names word steps
-            × (self.new.at ≡ record self.old.at { steps = self.old.at.steps ++ steps })) }
-    {
-        if has_bit(names, mask_of(word as u32)) {
-            self.take_bits(word);
-        }
-    }
-
     // A load comes first, since mostly there is nothing to take out.
     fn take(&mut self, word: usize) -> u64
-        requires { word < 80 }
+        requires { word < 1040 }
         ensures { (self.new.board ≡ self.old.board)
             × IsTaken self.old.at self.new.at word result }
     {

@@ -1,13 +1,13 @@
 -- What was read.
-use Rattle.std.proofs.Common.{◌≡◌, ◌⊎◌, ℕ, zero, suc, ◌==◌, Bool, false, if◌then◌else◌, rules, slice_index, subst, append_assoc, ◌+◌, ◌*◌, ◌/◌, ◌%◌, ◌<◌, ◌≤◌, List, [], ◌∷◌, ◌++◌, inl, inr, refl, sym, ap, ◌∙◌, arith}
+use Rattle.std.proofs.Common.{◌≡◌, ℕ, zero, suc, ◌==◌, false, if◌then◌else◌, rules, slice_index, subst, append_assoc, ◌+◌, ◌*◌, ◌/◌, ◌%◌, ◌<◌, List, [], ◌∷◌, ◌++◌, inl, inr, refl, sym, ap, ◌∙◌, arith}
+use Rattle.std.proofs.lemmas.Bool.{cases_lt}
 use Rattle.hub_bell.specs.declared.steps.BoardStep.{BoardStep}
 use Rattle.hub_envelope.specs.declared.ids.EndId.{EndId}
 use Rattle.hub_bell.specs.declared.steps.BoardStep.TheVariants.{Looked, Took}
 use Rattle.hub_bell.specs.Listening.{taking}
 use Rattle.hub_bell.specs.Ready.{names_word, bits_word}
 use Rattle.hub_bell.specs.Seats.{BoardSeat, Done}
-use Rattle.hub_marks.specs.Finding.{IsReading, HasRead, WasClear, HasStepped, KeepsMarks, LeadsTo, MarksBit, FindsIn, FindsAll}
-use Rattle.hub_marks.specs.Marking.{mark_of, HasBit}
+use Rattle.hub_marks.specs.Finding.{HasRead, WasClear, HasStepped, KeepsMarks, MarksBit, FindsBetween, FindsAll}
 use Rattle.hub_marks.proofs.BitLemmas.{bit-cases}
 use Rattle.std.specs.Int.{bit_at}
 
@@ -49,9 +49,9 @@ pub marks-kept : (bit : ℕ) (listed more : List ℕ) (marks new : List ℕ) →
 marks-kept bit listed more marks new marked same keeps end key is leads has =
     keeps.1 key (marked end key is (sym (ap (λ l. slice_index l end.0) same) ∙ leads) (omega (arith, has, keeps.0)))
 
-pub finds-kept : (word : ℕ) (listed more : List ℕ) (marks new : List ℕ) (steps all : List BoardStep) → FindsIn word listed marks steps → more ≡ listed → KeepsMarks marks new → ((end : EndId) → WasClear end steps → WasClear end all) → FindsIn word more new all
-finds-kept word listed more marks new steps all finds same keeps clear end key is leads has =
-    elim (finds end key is (sym (ap (λ l. slice_index l end.0) same) ∙ leads) (omega (arith, has, keeps.0))) [
+pub finds-kept : (low high : ℕ) (listed more : List ℕ) (marks new : List ℕ) (steps all : List BoardStep) → FindsBetween low high listed marks steps → more ≡ listed → KeepsMarks marks new → ((end : EndId) → WasClear end steps → WasClear end all) → FindsBetween low high more new all
+finds-kept low high listed more marks new steps all finds same keeps clear end key from below leads has =
+    elim (finds end key from below (sym (ap (λ l. slice_index l end.0) same) ∙ leads) (omega (arith, has, keeps.0))) [
       | inl marked ↦ inl (keeps.1 key marked)
       | inr was ↦ inr (clear end was)
     ]
@@ -60,20 +60,29 @@ pub keeps-both : (a b c : List ℕ) → KeepsMarks a b → KeepsMarks b c → Ke
 keeps-both a b c first second = (second.0 ∙ first.0, λ key marked. second.1 key (first.1 key marked))
 
 -- the ends that have their bits in a word whose bits were taken out
-pub word-found : (word bits found : ℕ) (listed marks : List ℕ) → (found ≡ 0 → bits ≡ 0) → ((bit : ℕ) → bit < 64 → bit_at bits bit ≡ 1 → MarksBit (word * 64 + bit) listed marks) → FindsIn word listed marks (taking (16 + word) found bits)
-word-found word bits found listed marks none marked end key is leads has =
+pub word-found : (word bits found : ℕ) (listed marks : List ℕ) → (found ≡ 0 → bits ≡ 0) → ((bit : ℕ) → bit < 64 → bit_at bits bit ≡ 1 → MarksBit (word * 64 + bit) listed marks) → FindsBetween word (word + 1) listed marks (taking (16 + word) found bits)
+word-found word bits found listed marks none marked end key from below leads has =
+    let is : (end.0 / 64) % 1024 ≡ word = omega (arith, from, below) in
     elim (bit-cases bits (end.0 % 64)) [
       | inl clear ↦ inr (inr (bits, let at : bits_word end ≡ 16 + word = omega (arith, is) in subst (λ w. HasRead w bits (taking (16 + word) found bits)) (sym at) (read-taken (16 + word) found bits none), clear))
       | inr set ↦ inl (marked (end.0 % 64) (omega arith) set end key (omega (arith, is)) leads has)
     ]
 
--- all ends, once the names were taken out and the bits of each word that they had
-pub all-found : (names found : ℕ) (listed marks : List ℕ) (steps : List BoardStep) → (found ≡ 0 → names ≡ 0) → ((word : ℕ) → word < 64 → bit_at names word ≡ 1 → FindsIn word listed marks steps) → FindsAll listed marks (taking names_word found names ++ steps)
+-- the words of one list of steps, and those behind them
+pub words-joined : (low mid high : ℕ) (listed marks : List ℕ) (steps : List BoardStep) → FindsBetween low mid listed marks steps → FindsBetween mid high listed marks steps → FindsBetween low high listed marks steps
+words-joined low mid high listed marks steps front back end key from below leads has =
+    elim (cases_lt ((end.0 / 64) % 1024) mid) [
+      | inl before ↦ front end key from before leads has
+      | inr behind ↦ back end key behind below leads has
+    ]
+
+-- all ends, once the names were taken out and the bits of each group of words that they had
+pub all-found : (names found : ℕ) (listed marks : List ℕ) (steps : List BoardStep) → (found ≡ 0 → names ≡ 0) → ((group : ℕ) → group < 64 → bit_at names group ≡ 1 → FindsBetween (16 * group) (16 * group + 16) listed marks steps) → FindsAll listed marks (taking names_word found names ++ steps)
 all-found names found listed marks steps none each end key leads has =
-    elim (bit-cases names (end.0 / 64 % 64)) [
+    elim (bit-cases names (end.0 / 1024 % 64)) [
       | inl clear ↦ inr (inl (names, read-left names_word names (taking names_word found names) steps (read-taken names_word found names none), clear))
       | inr set ↦
-          elim (each (end.0 / 64 % 64) (omega arith) set end key refl leads has) [
+          elim (each (end.0 / 1024 % 64) (omega arith) set end key (omega arith) (omega arith) leads has) [
             | inl marked ↦ inl marked
             | inr was ↦ inr (clear-right end (taking names_word found names) steps was)
           ]

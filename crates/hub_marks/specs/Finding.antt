@@ -1,10 +1,10 @@
 -- Which ends a loop finds at its listener.
-use Rattle.std.specs.Prelude.{◌≡◌, ◌⊎◌, ℕ, ◌+◌, ◌*◌, ◌/◌, ◌%◌, ◌<◌, ◌≤◌, List, [], ◌∷◌, ◌++◌, length, slice_index, Option, Some, None}
+use Rattle.std.specs.Prelude.{◌≡◌, ◌⊎◌, ℕ, ◌+◌, ◌/◌, ◌%◌, ◌<◌, ◌≤◌, List, [], ◌∷◌, ◌++◌, length, slice_index, Option, Some, None}
 use Rattle.std.specs.Int.{bit_at}
 use Rattle.hub_bell.specs.declared.steps.BoardStep.{BoardStep}
 use Rattle.hub_bell.specs.declared.steps.BoardStep.TheVariants.{Looked, Set, Took, Stored}
 use Rattle.hub_bell.specs.Ready.{names_word, bits_word}
-use Rattle.hub_bell.specs.Seats.{BoardSeat, Done}
+use Rattle.hub_bell.specs.Seats.{BoardSeat}
 use Rattle.hub_envelope.specs.declared.ids.EndId.{EndId}
 use Rattle.hub_marks.specs.Marking.{mark_of, HasBit}
 
@@ -37,10 +37,10 @@ abbrev pub HasRead : ℕ → ℕ → List BoardStep → Type 0
 HasRead word value [] = ⊥
 HasRead word value (step ∷ steps) = IsReading word value step ⊎ HasRead word value steps
 
--- The ready bit of the end was found clear: the bit itself, or the one that names its word.
+-- The ready bit of the end was found clear: the bit itself, or the one that names the group of its word.
 abbrev pub WasClear : EndId → List BoardStep → Type 0
 WasClear end steps =
-    ((names : ℕ) × HasRead names_word names steps × (bit_at names ((end.0 / 64) % 64) ≡ 0))
+    ((names : ℕ) × HasRead names_word names steps × (bit_at names ((end.0 / 1024) % 64) ≡ 0))
     ⊎ ((bits : ℕ) × HasRead (bits_word end) bits steps × (bit_at bits (end.0 % 64) ≡ 0))
 
 -- the listener has made these steps more, and nothing else
@@ -55,10 +55,10 @@ KeepsMarks old new = (length new ≡ length old) × ((key : ℕ) → mark_of old
 abbrev pub FindsAll : List ℕ → List ℕ → List BoardStep → Type 0
 FindsAll listed marks steps = (end : EndId) (key : ℕ) → LeadsTo listed end key → HasBit marks key → (mark_of marks key ≡ 1) ⊎ WasClear end steps
 
--- the same of the ends whose bits are in one word
-abbrev pub FindsIn : ℕ → List ℕ → List ℕ → List BoardStep → Type 0
-FindsIn word listed marks steps = (end : EndId) (key : ℕ) → (end.0 / 64) % 64 ≡ word → LeadsTo listed end key → HasBit marks key → (mark_of marks key ≡ 1) ⊎ WasClear end steps
+-- the same of the ends whose bits are in the words from the one up to the other
+abbrev pub FindsBetween : ℕ → ℕ → List ℕ → List ℕ → List BoardStep → Type 0
+FindsBetween low high listed marks steps = (end : EndId) (key : ℕ) → low ≤ (end.0 / 64) % 1024 → (end.0 / 64) % 1024 < high → LeadsTo listed end key → HasBit marks key → (mark_of marks key ≡ 1) ⊎ WasClear end steps
 
 -- each key to which the number of an end leads that has this bit is marked
 abbrev pub MarksBit : ℕ → List ℕ → List ℕ → Type 0
-MarksBit bit listed marks = (end : EndId) (key : ℕ) → end.0 % 4096 ≡ bit → LeadsTo listed end key → HasBit marks key → mark_of marks key ≡ 1
+MarksBit bit listed marks = (end : EndId) (key : ℕ) → end.0 % 65536 ≡ bit → LeadsTo listed end key → HasBit marks key → mark_of marks key ≡ 1

@@ -1,5 +1,5 @@
 -- Which keys of a loop are marked: a bit for each key.
-use Rattle.std.specs.Prelude.{◌≡◌, ◌≢◌, ℕ, ◌+◌, ◌*◌, ◌/◌, ◌%◌, ◌<◌, ◌≤◌, List, length, slice_index, Option, Some, None}
+use Rattle.std.specs.Prelude.{◌≡◌, ◌≢◌, ℕ, ◌*◌, ◌/◌, ◌%◌, ◌<◌, ◌≤◌, List, length, slice_index, Option, Some, None}
 use Rattle.std.specs.Int.{bit_at}
 
 -- the mark of a key: 1 where it is marked, and else 0

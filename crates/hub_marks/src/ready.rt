@@ -23,7 +23,7 @@ ghost use Rattle.hub_bell.specs.declared.steps.BoardStep.{BoardStep};
 ghost use Rattle.hub_envelope.specs.declared.ids.EndId.{EndId as Number};
 ghost use Rattle.hub_marks.specs.Finding.{
   FindsAll,
-  FindsIn,
+  FindsBetween,
   GrowsMarks,
   HasStepped,
   IsKeyOf,
@@ -40,8 +40,11 @@ use hub_bell::Listener;
 use hub_envelope::{EndId, MAX_ENDS};
 use std::alloc::Global;
 
-/// How many bits a board has: the numbers of ends that share one differ by a multiple of it.
-const BITS: usize = 4096;
+/// How many bits a board has: one for each end that there may be.
+const BITS: usize = MAX_ENDS;
+
+/// How many words of bits have one name.
+const GROUP: usize = 16;
 
 /// The marks of a loop, and the keys of its ends by their numbers.
 ///
@@ -141,21 +144,35 @@ impl Ready {
     {
         let names = listener.take_names();
         let mut left = names;
-        'words: while left != 0 {
-            let word = left.trailing_zeros();
-            left &= !(1u64 << word);
-            self.gather_word(listener, word as usize);
+        'groups: while left != 0 {
+            let group = left.trailing_zeros();
+            left &= !(1u64 << group);
+            self.gather_group(listener, group as usize);
         }
         names != 0
     }
 
-    // Marks the keys of the ends that were rung and have their bits in this word.
-    fn gather_word(&mut self, listener: &mut Listener, word: usize)
-        requires { word < 64 }
+    // Marks the keys of the ends that were rung and have their bits in the words of this group.
+    fn gather_group(&mut self, listener: &mut Listener, group: usize)
+        requires { group < 64 }
         ensures listed { self.new.listed ≡ self.old.listed }
         ensures keeps { KeepsMarks self.old.marks self.new.marks }
         ensures found { (steps : List BoardStep) × HasStepped listener.old listener.new steps
-            × FindsIn word self.new.listed.items self.new.marks steps }
+            × FindsBetween (16 * group) (16 * group + 16) self.new.listed.items self.new.marks
+            steps }
+    {
+        for word in GROUP * group..GROUP * group + GROUP {
+            self.gather_word(listener, word);
+        }
+    }
+
+    // Marks the keys of the ends that were rung and have their bits in this word.
+    fn gather_word(&mut self, listener: &mut Listener, word: usize)
+        requires { word < 1024 }
+        ensures listed { self.new.listed ≡ self.old.listed }
+        ensures keeps { KeepsMarks self.old.marks self.new.marks }
+        ensures found { (steps : List BoardStep) × HasStepped listener.old listener.new steps
+            × FindsBetween word (word + 1) self.new.listed.items self.new.marks steps }
     {
         let bits = listener.take_bits(word);
         self.mark_bits(word, bits);
@@ -163,7 +180,7 @@ impl Ready {
 
     // Marks the keys of the ends that have one of these bits of a word.
     fn mark_bits(&mut self, word: usize, bits: u64)
-        requires { word < 64 }
+        requires { word < 1024 }
         ensures listed { self.new.listed ≡ self.old.listed }
         ensures keeps { KeepsMarks self.old.marks self.new.marks }
         ensures found { (bit : ℕ) → bit < 64 → bit_at bits bit ≡ 1
@@ -179,7 +196,7 @@ impl Ready {
 
     // Marks the keys of the ends that have this bit.
     fn mark_bit(&mut self, bit: usize)
-        requires { bit < 4096 }
+        requires { bit < 65536 }
         ensures listed { self.new.listed ≡ self.old.listed }
         ensures keeps { KeepsMarks self.old.marks self.new.marks }
         ensures found { MarksBit bit self.new.listed.items self.new.marks }

@@ -1,4 +1,4 @@
-use Rattle.std.proofs.Common.{◌≡◌, ◌+◌, ◌<◌, ◌^◌, ◌/◌, arith, rules, w64}
+use Rattle.std.proofs.Common.{◌+◌, ◌<◌, ◌^◌, ◌/◌, arith, rules, w64}
 use Rattle.std.proofs.lemmas.Nat.Bits.{bit_at-trailing_zeros}
 use Rattle.hub_marks.proofs.BitLemmas.{moved-none, moved-set, moved-clear, moved-small}
 use Rattle.hub_marks.proofs.marks.first_bit.Goals as goal

@@ -1,4 +1,4 @@
-use Rattle.std.proofs.Common.{◌≡◌, ◌<◌, ◌≤◌, ◌*◌, ◌+◌}
+use Rattle.std.proofs.Common.{◌<◌, ◌≤◌, ◌*◌, ◌+◌}
 use Rattle.hub_marks.specs.Marking.{ClearBetween}
 use Rattle.hub_marks.proofs.marks.first_in.Given as goal
 

@@ -1,4 +1,4 @@
-use Rattle.std.proofs.Common.{◌≡◌, ◌≤◌, ◌+◌, ◌*◌, ◌/◌, ◌%◌, ◌∙◌, Some, None, slice_index, subst, sym, arith, rules, ℕ, Option}
+use Rattle.std.proofs.Common.{◌≡◌, ◌+◌, ◌*◌, ◌/◌, Some, None, slice_index, subst, sym, arith, rules, ℕ, Option}
 use Rattle.hub_marks.specs.Marking.{ClearBetween, IsNext, IsFirstFrom}
 use Rattle.hub_marks.proofs.BitLemmas.{next-none, next-by}
 use Rattle.hub_marks.proofs.marks.Marks.next_from.Goals as goal

@@ -1,5 +1,5 @@
 use Rattle.hub_bell.specs.Listening.{taking}
-use Rattle.std.proofs.Common.{◌+◌, rules}
+use Rattle.std.proofs.Common.{◌+◌}
 use Rattle.hub_marks.proofs.FindLemmas.{word-found}
 use Rattle.hub_marks.proofs.ready.Ready.gather_word.Goals as goal
 

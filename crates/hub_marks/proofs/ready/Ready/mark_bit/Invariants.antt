@@ -8,5 +8,5 @@ abbrev pub invariant-loop-row : goal.invariant-loop-row
 invariant-loop-row l = record {
   listed : l.self.listed ≡ l.fn.self.listed;
   keeps : KeepsMarks l.fn.self.marks l.self.marks;
-  found : (end : EndId) (key : ℕ) → end.0 % 4096 ≡ l.bit → end.0 / 4096 < l.row → LeadsTo l.self.listed.items end key → HasBit l.self.marks key → mark_of l.self.marks key ≡ 1;
+  found : (end : EndId) (key : ℕ) → end.0 % 65536 ≡ l.bit → end.0 / 65536 < l.row → LeadsTo l.self.listed.items end key → HasBit l.self.marks key → mark_of l.self.marks key ≡ 1;
 }
