@@ -1,10 +1,12 @@
 """Runs whose threads can't be made, and runs that wait for ever.
 
 A library, made with cc from refuse.c, refuses the Nth thread of a run. All agents are ordered to
-end then, and `out of memory` is printed alone. A run that waits for what nobody sends is ended by
-SIGINT and SIGTERM at once, and prints nothing.
+end then, and `out of memory` is printed alone. A run that waits for what nobody sends takes no
+processor time, is ended by SIGINT and SIGTERM at once, and prints nothing.
 """
 
+import contextlib
+import os
 import signal
 import subprocess
 import time
@@ -26,6 +28,8 @@ THREADS = 3
 SECONDS = 20
 # What it may take to end.
 MOST_DELAY = 2
+# Which part of the time that passes it may take of a processor while it waits.
+MOST_BUSY = 0.1
 
 
 class Refused(support.TestCase):
@@ -58,14 +62,16 @@ def heed_signals():
 
 
 class Waiting(support.TestCase):
-    """Whoever sees that a run waits can end it."""
+    """Whoever sees that a run waits can end it, and it costs nothing meanwhile."""
 
-    def end(self, number):
-        """Ends a run that waits, and tells what it printed, its status and how long it took."""
+    @contextlib.contextmanager
+    def waiting(self):
+        """A run whose agents all wait."""
         with subprocess.Popen(
             [PROGRAM, "run"], stdin=subprocess.PIPE, stdout=subprocess.PIPE,
             stderr=subprocess.PIPE, preexec_fn=heed_signals,
         ) as run:
+            self.addCleanup(run.kill)
             run.stdin.write(WAITING)
             run.stdin.close()
             run.stdin = None
@@ -76,6 +82,11 @@ class Waiting(support.TestCase):
             # A run that would end by itself would have ended by now.
             time.sleep(0.5)
             self.assertIsNone(run.poll())
+            yield run
+
+    def end(self, number):
+        """Ends a run that waits, and tells what it printed, its status and how long it took."""
+        with self.waiting() as run:
             begun = time.monotonic()
             run.send_signal(number)
             output, errors = run.communicate(timeout=SECONDS)
@@ -89,3 +100,20 @@ class Waiting(support.TestCase):
                 self.assert_outcome(found, Outcome(b"", b"", -number))
                 self.assertLess(seconds, MOST_DELAY)
         self.says(len(signals), "signals", 2)
+
+    def test_sleep(self):
+        with self.waiting() as run:
+            begun, used = time.monotonic(), processor_seconds(run.pid)
+            time.sleep(1)
+            passed = time.monotonic() - begun
+            self.assertLess(processor_seconds(run.pid) - used, MOST_BUSY * passed)
+            run.kill()
+            run.communicate(timeout=SECONDS)
+        self.says(THREADS, "threads", 3)
+
+
+def processor_seconds(process):
+    """What the threads of a process have taken of processors so far."""
+    fields = Path(f"/proc/{process}/stat").read_text(encoding="utf-8").rpartition(")")[2].split()
+    # Behind the name come the state and the fields from the fourth on; these are 14 and 15.
+    return (int(fields[11]) + int(fields[12])) / os.sysconf("SC_CLK_TCK")
