@@ -7,7 +7,7 @@ use Rattle.hub_bell.specs.declared.steps.BoardStep.TheVariants.{Looked, Took}
 use Rattle.hub_bell.specs.Listening.{taking}
 use Rattle.hub_bell.specs.Ready.{names_word, bits_word}
 use Rattle.hub_bell.specs.Seats.{BoardSeat, Done}
-use Rattle.hub_marks.specs.Finding.{HasRead, WasClear, HasStepped, KeepsMarks, MarksBit, FindsBetween, FindsAll}
+use Rattle.hub_marks.specs.Finding.{HasRead, WasClear, HasStepped, KeepsMarks, MarksBit, FindsBetween, FindsAll, MarksFound, MarksOfWord, MarksOfBit, MarksOfNumber}
 use Rattle.hub_marks.proofs.BitLemmas.{bit-cases}
 use Rattle.std.specs.Int.{bit_at}
 
@@ -92,3 +92,41 @@ all-found names found listed marks steps none each end key leads has =
 pub stepped-both : (a b c : BoardSeat) (front back : List BoardStep) → HasStepped a b front → HasStepped b c back → HasStepped a c (front ++ back)
 stepped-both a b c front back first second =
     (second.0 ∙ first.0, second.1 ∙ ap (λ (at : Done). record at { steps = at.steps ++ back }) first.1 ∙ ap (λ (steps : List BoardStep). record a.at { steps = steps }) (append_assoc a.at.steps front back))
+
+-- what was marked by steps and by those behind them
+pub marks-found : (listed more a b c : List ℕ) (front back : List BoardStep) → more ≡ listed → MarksFound listed a b front → MarksFound more b c back → MarksFound listed a c (front ++ back)
+marks-found listed more a b c front back same first second key marked =
+    elim (second key marked) [
+      | inl before ↦
+          elim (first key before) [
+            | inl old ↦ inl old
+            | inr found ↦ inr (found.0, found.1, (found.2.0, read-left (bits_word found.0) found.2.0 front back found.2.1, found.2.2))
+          ]
+      | inr found ↦ inr (found.0, sym (ap (λ l. slice_index l found.0.0) same) ∙ found.1, (found.2.0, read-right (bits_word found.0) found.2.0 front back found.2.1, found.2.2))
+    ]
+
+-- what was marked by the bits of a word that were taken out
+pub marks-taken : (word bits found : ℕ) (listed old new : List ℕ) → (found ≡ 0 → bits ≡ 0) → MarksOfWord word bits listed old new → MarksFound listed old new (taking (16 + word) found bits)
+marks-taken word bits found listed old new none marks key marked =
+    elim (marks key marked) [
+      | inl before ↦ inl before
+      | inr of ↦ inr (of.0, of.1, (bits, subst (λ w. HasRead w bits (taking (16 + word) found bits)) (sym of.2) (read-taken (16 + word) found bits none), of.3))
+    ]
+
+-- what was marked by bits of a word before, and then by one more
+pub marks-bit : (word bits bit : ℕ) (listed more a b c : List ℕ) → bit < 64 → bit_at bits bit ≡ 1 → word < 1024 → more ≡ listed → MarksOfWord word bits listed a b → MarksOfBit (word * 64 + bit) more b c → MarksOfWord word bits listed a c
+marks-bit word bits bit listed more a b c small set few same first second key marked =
+    elim (second key marked) [
+      | inl before ↦ first key before
+      | inr of ↦
+          let at : of.0.0 % 64 ≡ bit = omega (arith, of.2) in
+          inr (of.0, sym (ap (λ l. slice_index l of.0.0) same) ∙ of.1, omega (arith, of.2), ap (bit_at bits) at ∙ set)
+    ]
+
+-- what was marked by the numbers of a bit before, and then by one more
+pub marks-number : (bit row : ℕ) (listed more a b c : List ℕ) → bit < 65536 → more ≡ listed → MarksOfBit bit listed a b → MarksOfNumber (row * 65536 + bit) more b c → MarksOfBit bit listed a c
+marks-number bit row listed more a b c small same first second key marked =
+    elim (second key marked) [
+      | inl before ↦ first key before
+      | inr leads ↦ inr (let end : EndId = record { 0 = row * 65536 + bit } in (end, sym (ap (λ l. slice_index l end.0) same) ∙ leads, omega (arith, small)))
+    ]

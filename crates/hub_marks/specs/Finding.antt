@@ -62,3 +62,23 @@ FindsBetween low high listed marks steps = (end : EndId) (key : ℕ) → low ≤
 -- each key to which the number of an end leads that has this bit is marked
 abbrev pub MarksBit : ℕ → List ℕ → List ℕ → Type 0
 MarksBit bit listed marks = (end : EndId) (key : ℕ) → end.0 % 65536 ≡ bit → LeadsTo listed end key → HasBit marks key → mark_of marks key ≡ 1
+
+-- the ready bit of the end was found set
+abbrev pub WasSet : EndId → List BoardStep → Type 0
+WasSet end steps = (bits : ℕ) × HasRead (bits_word end) bits steps × (bit_at bits (end.0 % 64) ≡ 1)
+
+-- whatever is marked was marked before, or the number of an end leads to it whose bit was found set
+abbrev pub MarksFound : List ℕ → List ℕ → List ℕ → List BoardStep → Type 0
+MarksFound listed old new steps = (key : ℕ) → mark_of new key ≡ 1 → (mark_of old key ≡ 1) ⊎ ((end : EndId) × LeadsTo listed end key × WasSet end steps)
+
+-- the same of the ends that have one of these bits of a word
+abbrev pub MarksOfWord : ℕ → ℕ → List ℕ → List ℕ → List ℕ → Type 0
+MarksOfWord word bits listed old new = (key : ℕ) → mark_of new key ≡ 1 → (mark_of old key ≡ 1) ⊎ ((end : EndId) × LeadsTo listed end key × (bits_word end ≡ 16 + word) × (bit_at bits (end.0 % 64) ≡ 1))
+
+-- the same of the ends that have this bit
+abbrev pub MarksOfBit : ℕ → List ℕ → List ℕ → List ℕ → Type 0
+MarksOfBit bit listed old new = (key : ℕ) → mark_of new key ≡ 1 → (mark_of old key ≡ 1) ⊎ ((end : EndId) × LeadsTo listed end key × (end.0 % 65536 ≡ bit))
+
+-- the same of one number
+abbrev pub MarksOfNumber : ℕ → List ℕ → List ℕ → List ℕ → Type 0
+MarksOfNumber number listed old new = (key : ℕ) → mark_of new key ≡ 1 → (mark_of old key ≡ 1) ⊎ (slice_index listed number ≡ key + 1)

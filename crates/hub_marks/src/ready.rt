@@ -30,6 +30,10 @@ ghost use Rattle.hub_marks.specs.Finding.{
   KeepsMarks,
   LeadsTo,
   MarksBit,
+  MarksFound,
+  MarksOfBit,
+  MarksOfNumber,
+  MarksOfWord,
   SameEntries,
 };
 ghost use Rattle.hub_marks.specs.Marking.{mark_of, HasBit, SameBut};
@@ -141,6 +145,8 @@ impl Ready {
         ensures keeps { KeepsMarks self.old.marks self.new.marks }
         ensures found { (steps : List BoardStep) × HasStepped listener.old listener.new steps
             × FindsAll self.new.listed.items self.new.marks steps }
+        ensures only { (steps : List BoardStep) × HasStepped listener.old listener.new steps
+            × MarksFound self.old.listed.items self.old.marks self.new.marks steps }
     {
         let names = listener.take_names();
         let mut left = names;
@@ -160,6 +166,8 @@ impl Ready {
         ensures found { (steps : List BoardStep) × HasStepped listener.old listener.new steps
             × FindsBetween (16 * group) (16 * group + 16) self.new.listed.items self.new.marks
             steps }
+        ensures only { (steps : List BoardStep) × HasStepped listener.old listener.new steps
+            × MarksFound self.old.listed.items self.old.marks self.new.marks steps }
     {
         for word in GROUP * group..GROUP * group + GROUP {
             self.gather_word(listener, word);
@@ -173,6 +181,8 @@ impl Ready {
         ensures keeps { KeepsMarks self.old.marks self.new.marks }
         ensures found { (steps : List BoardStep) × HasStepped listener.old listener.new steps
             × FindsBetween word (word + 1) self.new.listed.items self.new.marks steps }
+        ensures only { (steps : List BoardStep) × HasStepped listener.old listener.new steps
+            × MarksFound self.old.listed.items self.old.marks self.new.marks steps }
     {
         let bits = listener.take_bits(word);
         self.mark_bits(word, bits);
@@ -185,6 +195,7 @@ impl Ready {
         ensures keeps { KeepsMarks self.old.marks self.new.marks }
         ensures found { (bit : ℕ) → bit < 64 → bit_at bits bit ≡ 1
             → MarksBit (word * 64 + bit) self.new.listed.items self.new.marks }
+        ensures only { MarksOfWord word bits self.old.listed.items self.old.marks self.new.marks }
     {
         let mut left = bits;
         'bits: while left != 0 {
@@ -200,6 +211,7 @@ impl Ready {
         ensures listed { self.new.listed ≡ self.old.listed }
         ensures keeps { KeepsMarks self.old.marks self.new.marks }
         ensures found { MarksBit bit self.new.listed.items self.new.marks }
+        ensures only { MarksOfBit bit self.old.listed.items self.old.marks self.new.marks }
     {
         for row in 0..self.listed.len() / BITS + 1 {
             self.mark_listed(row * BITS + bit);
@@ -212,6 +224,7 @@ impl Ready {
         ensures keeps { KeepsMarks self.old.marks self.new.marks }
         ensures found { (key : ℕ) → slice_index self.old.listed.items number ≡ key + 1
             → HasBit self.new.marks key → mark_of self.new.marks key ≡ 1 }
+        ensures only { MarksOfNumber number self.old.listed.items self.old.marks self.new.marks }
     {
         if let Some(entry) = self.listed.get(number) {
             let entry = *entry as usize;

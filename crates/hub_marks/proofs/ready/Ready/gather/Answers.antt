@@ -5,7 +5,7 @@ use Rattle.std.specs.Int.{trailing_zeros, bit_at}
 use Rattle.hub_bell.specs.Listening.{taking}
 use Rattle.hub_bell.specs.Ready.{names_word}
 use Rattle.hub_marks.proofs.BitLemmas.{cleared}
-use Rattle.hub_marks.proofs.FindLemmas.{finds-kept, keeps-both, stepped-both, all-found, clear-left, clear-right}
+use Rattle.hub_marks.proofs.FindLemmas.{finds-kept, keeps-both, marks-found, stepped-both, all-found, clear-left, clear-right}
 use Rattle.hub_marks.proofs.ready.Ready.gather.Goals as goal
 
 pub groups-smaller : goal.groups-smaller
@@ -33,6 +33,11 @@ groups-preserved c =
               | inl same ↦ rw same (finds-kept _ _ c.gather_group.new.self.listed.items _ c.gather_group.new.self.marks _ back (front ++ back) did.found.2 (search rules) (search rules) (λ end was. clear-right end front back was))
               | inr other ↦ finds-kept _ _ c.groups.self.listed.items _ c.groups.self.marks _ front (front ++ back) (kept.found.2 group small set (λ still. gone (others group small other ∙ still))) listed did.keeps (λ end was. clear-left end front back was)
             ],
+      );
+      only = (
+        kept.only.0 ++ did.only.0,
+        stepped-both _ c.groups.listener _ kept.only.0 did.only.0 kept.only.1 did.only.1,
+        marks-found c.args.self.now.listed.items _ _ c.groups.self.marks _ kept.only.0 did.only.0 (ap (λ l. l.items) kept.listed) kept.only.2 did.only.2,
       );
     }
 

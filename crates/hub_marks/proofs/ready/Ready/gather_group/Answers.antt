@@ -1,5 +1,5 @@
-use Rattle.std.proofs.Common.{rules, ◌≡◌, ◌++◌, ◌∙◌}
-use Rattle.hub_marks.proofs.FindLemmas.{clear-left, clear-right, finds-kept, keeps-both, stepped-both, words-joined}
+use Rattle.std.proofs.Common.{rules, ap, ◌≡◌, ◌++◌, ◌∙◌}
+use Rattle.hub_marks.proofs.FindLemmas.{clear-left, clear-right, finds-kept, keeps-both, marks-found, stepped-both, words-joined}
 use Rattle.hub_marks.proofs.ready.Ready.gather_group.Goals as goal
 
 pub loop-word-preserved : goal.loop-word-preserved
@@ -19,5 +19,10 @@ loop-word-preserved c =
         words-joined _ c.loop-word.word _ new.listed.items new.marks (front ++ back)
             (finds-kept _ _ c.loop-word.self.listed.items _ c.loop-word.self.marks _ front (front ++ back) kept.found.2 listed did.keeps (λ end was. clear-left end front back was))
             (finds-kept _ _ new.listed.items _ new.marks _ back (front ++ back) did.found.2 (search rules) (search rules) (λ end was. clear-right end front back was)),
+      );
+      only = (
+        kept.only.0 ++ did.only.0,
+        stepped-both _ c.loop-word.listener _ kept.only.0 did.only.0 kept.only.1 did.only.1,
+        marks-found c.args.self.now.listed.items _ _ c.loop-word.self.marks _ kept.only.0 did.only.0 (ap (λ l. l.items) kept.listed) kept.only.2 did.only.2,
       );
     }
