@@ -6,6 +6,7 @@ use Rattle.std.specs.List.Sorted.{IsNonDecreasing, IsNonDecreasingBy}
 use Rattle.std.proofs.lemmas.List.{map-append, map_push, reverse-append}
 use Rattle.std.proofs.lemmas.List.Kept.{IsNonDecreasingBy-filter}
 use Rattle.std.proofs.lemmas.List.Sums.{sum_by-append, sum_by-cons}
+use Rattle.slab.specs.Slab.{Slab}
 use Rattle.hub_clients.specs.declared.handed_queue.HandedQueue.{HandedQueue}
 use Rattle.hub_clients.specs.declared.handed_queue.HandedQueue.TheVariants as handed
 use Rattle.hub_ports.specs.Seats.{PortSeat}
@@ -13,9 +14,9 @@ use Rattle.hub_queue.specs.Graves.{GraveSeat}
 use Rattle.hub_loop.specs.declared.closed_port.ClosedPort.{ClosedPort}
 use Rattle.hub_loop.specs.declared.held.Held.{Held}
 use Rattle.hub_loop.specs.declared.held.Held.TheVariants.{Port, Client, Worker, Member, Line}
-use Rattle.hub_loop.specs.Ending.{is_held, is_open, is_queue, slot_passes, queue_passes, is_grave, grave_ends, swept_ends, closing_ends}
-use Rattle.hub_loop.specs.Noticing.{open_number, port_in, ports_back, is_port_passing, port_numbers, ClosesLast, AllClosed, SomeClosed, NamedBehind, AreEnded}
-use Rattle.hub_loop.specs.States.{ClosingState, OpenState, open_arrived, open_held}
+use Rattle.hub_loop.specs.Ending.{is_held, is_open, is_queue, slot_passes, queue_passes, is_grave, grave_ends, swept_ends, closing_ends, ends_in, passing_in}
+use Rattle.hub_loop.specs.Noticing.{open_number, port_in, ports_back, is_port_passing, port_numbers, ports_in, ClosesLast, AllClosed, SomeClosed, NamedBehind, AreEnded}
+use Rattle.hub_loop.specs.States.{ClosingState, DeliveryState, OpenState, open_arrived, open_held}
 use Rattle.hub_loop.specs.Telling.{IsTold, AreTold, NoticesMore}
 use Rattle.hub_loop.proofs.Ends.{rises, count-map}
 
@@ -238,3 +239,14 @@ queue-no-port passes (handed.Worker t) = refl
 
 pub count-no-port : (passes : PortSeat → Bool) (queues : List HandedQueue) → count_by (queue_passes (is_port_passing passes)) queues ≡ 0
 count-no-port passes queues = count-nothing (queue_passes (is_port_passing passes)) queues (queue-no-port passes)
+
+-- the ends of a number are those that were not closed, and those that were
+pub holds-open : (held : Slab Held) (fetched : List HandedQueue) (kept : Option DeliveryState) (opened : List OpenState) (graves : List GraveSeat) (e : ℕ) → ends_in held fetched kept opened graves e ≡ passing_in held fetched kept opened (is_open e) + count_by (is_grave e) graves
+holds-open held fetched kept opened graves e =
+    let slots = count-held e held.slots in
+    let queues = count-queues e fetched in
+    omega (arith, slots, queues)
+
+-- the ports are among them, and none is among the queues that were fetched
+pub ports-open : (held : Slab Held) (fetched : List HandedQueue) (kept : Option DeliveryState) (opened : List OpenState) (passes : PortSeat → Bool) → ports_in held kept opened passes ≡ passing_in held fetched kept opened (is_port_passing passes)
+ports-open held fetched kept opened passes = let none = count-no-port passes fetched in omega (arith, none)

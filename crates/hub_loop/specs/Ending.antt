@@ -63,6 +63,12 @@ ends_in held fetched kept opened graves e =
     count_by (is_held e) held.slots + count_by (is_queue e) fetched + count_by (is_port e) (found_of kept)
     + count_by (is_open e) opened + count_by (is_grave e) graves
 
+-- How many pass among what is held, what was fetched, what was found for a kept delivery, and what was taken out to be closed.
+abbrev pub passing_in : Slab Held → List HandedQueue → Option DeliveryState → List OpenState → (OpenState → Bool) → ℕ
+passing_in held fetched kept opened passes =
+    count_by (slot_passes passes) held.slots + count_by (queue_passes passes) fetched + count_by (arrived_passes passes) (found_of kept)
+    + count_by passes opened
+
 -- the numbers of the ends that were swept
 abbrev pub swept_ends : List SweptSeat → List ℕ
 swept_ends swept = map (λ s. s.end) swept

@@ -14,7 +14,7 @@ use Rattle.hub_loop.specs.declared.holding.Holding.{Holding}
 use Rattle.hub_loop.specs.declared.listed.Listed.{Listed}
 use Rattle.hub_loop.specs.declared.turn.Turn.{Turn}
 use Rattle.hub_loop.specs.Adopting.{closed_of}
-use Rattle.hub_loop.specs.Ending.{closing_ends, ends_in}
+use Rattle.hub_loop.specs.Ending.{closing_ends, ends_in, passing_in}
 use Rattle.hub_loop.specs.Noticing.{AllClosed, AreEnded, SomeClosed, ports_in}
 use Rattle.hub_loop.specs.States.{ClosingState, DeliveryState, HoldingState, OpenState}
 use Rattle.hub_loop.specs.Turning.{IsDue, IsTurn}
@@ -42,6 +42,10 @@ module _ {H : Type 0} where
   abbrev pub open_ports : LoopState H → (PortSeat → Bool) → ℕ
   open_ports l = ports_in l.holding.held l.kept l.opened
 
+  -- how many pass of what it has and has not closed
+  abbrev pub passing : LoopState H → (OpenState → Bool) → ℕ
+  passing l = passing_in l.holding.held l.fetched l.kept l.opened
+
   -- The loop took up what is due: what it stepped through at its listener may have told it which ends were rung.
   abbrev pub TakesUp : LoopState H → LoopState H → Count → Count → Result DeliveryState Bool → Type 0
   TakesUp old new before after due =
@@ -61,6 +65,11 @@ module _ {H : Type 0} where
 
   abbrev pub SameButTaken : LoopState H → LoopState H → Type 0
   SameButTaken old new = new ≡ record old { listener = new.listener; holding = new.holding; kept = new.kept }
+
+  -- all but what was taken out to be closed is as it was
+  abbrev pub SameButOpened : LoopState H → LoopState H → Type 0
+  SameButOpened old new =
+      new ≡ record old { holding = record old.holding { held = new.holding.held }; kept = new.kept; fetched = new.fetched; opened = new.opened }
 
   abbrev pub SameButFetched : LoopState H → LoopState H → Type 0
   SameButFetched old new = new ≡ record old { holding = new.holding; fetched = new.fetched }

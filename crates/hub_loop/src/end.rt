@@ -1,14 +1,17 @@
 //! The end of a loop.
 
-ghost use Rattle.std.specs.Prelude.{◌≡◌, OnOk, IfOk, IfErr, OnErr, ℕ, count_by};
+ghost use Rattle.std.specs.Prelude.{◌≡◌, OnOk, IfOk, IfErr, OnErr, ℕ, Bool, count_by};
 ghost use Rattle.hub_loop.specs.Ending.{closing_ends, is_grave, swept_ends};
 ghost use Rattle.hub_loop.specs.Looping.{
   holds,
+  passing,
   ClosesAll,
   ClosesSome,
   HasEnded,
   HasPaused,
+  SameButOpened,
 };
+ghost use Rattle.hub_loop.specs.States.{OpenState};
 
 use crate::checkpoint::Checkpoint;
 use crate::closing::{Closing, Ended};
@@ -54,8 +57,21 @@ impl<H: Handler + Drop, C: Checkpoint + Drop> EventLoop<H, C> {
         }
     }
 
-    // Closes what is held, in rising order of the numbers: the ports that were found for a kept
-    // delivery and the queues that were fetched are among them.
+    // Takes out what is to be closed: what is held, the queues that were fetched, and the ports that
+    // were found for a kept delivery.
+    fn take_open(&mut self) -> Result<(), OutOfMemory>
+        ensures moved { (passes : OpenState → Bool) →
+            passing self.new passes ≡ passing self.old passes }
+        ensures all { OnOk result ((passes : OpenState → Bool) →
+            count_by passes self.new.opened ≡ passing self.new passes) }
+        ensures rest { SameButOpened self.old self.new }
+    {
+        take_held(&mut self.holding.held, &mut self.opened)?;
+        take_queues(&mut self.fetched, &mut self.opened)?;
+        take_found(&mut self.kept, &mut self.opened)
+    }
+
+    // Closes what the loop has, in rising order of the numbers.
     fn close_held<R: Wait>(
         &mut self,
         rt: &R,
@@ -69,9 +85,7 @@ impl<H: Handler + Drop, C: Checkpoint + Drop> EventLoop<H, C> {
         ensures noticed_err { OnErr result (ClosesSome self.old self.new) }
         ensures closing { self.new.closing ≡ self.old.closing }
     {
-        take_held(&mut self.holding.held, &mut self.opened)?;
-        take_queues(&mut self.fetched, &mut self.opened)?;
-        take_found(&mut self.kept, &mut self.opened)?;
+        self.take_open()?;
         self.opened.sort_unstable_by_key(|open| open.end().0);
         self.opened.reverse();
         leave_all(rt, roster, self.opened.as_slice());
