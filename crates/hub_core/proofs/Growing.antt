@@ -3,12 +3,12 @@ use Rattle.std.proofs.Common.{◌≡◌, ℕ, zero, suc, ◌<◌, Bool, true, fa
 use Rattle.std.specs.Prelude.{slice_get, flat_map}
 use Rattle.std.proofs.lemmas.Bool.{eqb-true}
 use Rattle.hub_envelope.specs.declared.envelope.Envelope.{Envelope}
-use Rattle.hub_core.specs.QueueMachine.{Queue, new_queue, pushed, popped}
+use Rattle.hub_core.specs.QueueMachine.{Queue, new_queue, pushed}
 use Rattle.hub_core.specs.Mailbox.{Mailbox, QueueAt, StandsAt, put_by, got_from, IsMailbox}
-use Rattle.hub_core.specs.MailboxSteps.{with_queue}
+use Rattle.hub_core.specs.MailboxSteps.{HoldsFirst, taken_out, with_queue}
 use Rattle.hub_core.specs.ChainLaws.{Grows}
 use Rattle.hub_core.proofs.Items.{none_got, some_is}
-use Rattle.hub_core.proofs.Queueing.{Found, found}
+use Rattle.hub_core.proofs.TakenOut.{some_held}
 
 -- what a list of queues has, joined
 module _ (f : Queue → List Envelope) where
@@ -71,12 +71,11 @@ module _ {R : Type 0} (end lines : ℕ) (m : Mailbox R) (is : IsMailbox end line
     gots = one_same (λ u. u.got) m.queues k q (pushed q v) at refl ∙ sym (append-nil (got_from m));
   }
 
-  pub pop_grows : (k : ℕ) (q rest : Queue) (v : Envelope) → QueueAt m k q → popped q ≡ Some (v, rest) → Grows m [] (v ∷ []) (with_queue m k rest)
-  pop_grows k q rest v at pop =
-      let of : Found q v rest = found q rest v pop in record {
-        puts = λ line. one_same (λ u. u.put line) m.queues k q rest at (ap (λ (p : ℕ → List Envelope). p line) of.same) ∙ sym (append-nil (put_by m line));
-        gots = one_more (λ u. u.got) m.queues k q rest (v ∷ []) at of.got (λ j u there later. ⊎_elim
-            (λ none. absurd (of.some none))
-            (λ none. none)
-            (is.in_turn k j q u at there later));
-      }
+  pub pop_grows : (k : ℕ) (q : Queue) (v : Envelope) → QueueAt m k q → HoldsFirst q v → Grows m [] (v ∷ []) (with_queue m k (taken_out q v))
+  pop_grows k q v at first = record {
+    puts = λ line. one_same (λ u. u.put line) m.queues k q (taken_out q v) at refl ∙ sym (append-nil (put_by m line));
+    gots = one_more (λ u. u.got) m.queues k q (taken_out q v) (v ∷ []) at refl (λ j u there later. ⊎_elim
+        (λ none. absurd (some_held q v first none))
+        (λ none. none)
+        (is.in_turn k j q u at there later));
+  }

@@ -61,6 +61,7 @@ pub mod PairLooks
 pub mod PairMoves
 pub mod PairSweeps
 pub mod MailboxPairs
+pub mod TakenOut
 pub mod Names
 pub mod Fating
 pub mod Asks

@@ -1,5 +1,5 @@
 -- Each pair of a history is events of the mailbox of an end, or leaves it.
-use Rattle.std.proofs.Common.{◌≡◌, ℕ, ◌+◌, ◌-◌, ◌<◌, ◌&&◌, Bool, true, false, cond, eqb, List, [], ◌∷◌, ◌++◌, length, refl, sym, ap, subst, ◌∙◌, inl, inr, arith, Some, None, Option}
+use Rattle.std.proofs.Common.{◌≡◌, ℕ, ◌+◌, ◌-◌, ◌<◌, ◌&&◌, Bool, true, false, cond, eqb, List, [], ◌∷◌, ◌++◌, length, refl, sym, ap, subst, inl, inr, arith, Some, None, Option}
 use Rattle.std.specs.Prelude.{◌⊎◌, not}
 use Rattle.std.proofs.lemmas.Bool.{eqb-true, ne_eqb, or_parts, not-false}
 use Rattle.hub_envelope.specs.declared.ids.EndId.{EndId}
@@ -12,21 +12,21 @@ use Rattle.hub_core.specs.Facts.{Facts, facts}
 use Rattle.hub_core.specs.Accepted.{named_envelope, named_notice}
 use Rattle.hub_core.specs.Made.{lines_of}
 use Rattle.hub_core.specs.Sender.{in_queue}
-use Rattle.hub_core.specs.Looking.{someone_at, looked, look_answer}
+use Rattle.hub_core.specs.Looking.{someone_at, looked, look_answer, FitsSweep}
 use Rattle.hub_core.specs.Taking.{IsDrained, IsLeft, FitsTake}
 use Rattle.hub_core.specs.Fits.{Answers}
 use Rattle.hub_core.specs.Sound.{Sound}
 use Rattle.hub_core.specs.GateMachine.{enter, enable, look, close, lets_in, says_moved, says_closed, says_done, gives_rights}
 use Rattle.hub_core.specs.Mailbox.{Mailbox}
 use Rattle.hub_core.specs.MailboxSteps.{MailboxEvent, at_gate, push, pop, hop, advance, add, IsSettled, HoldsNothing}
-use Rattle.hub_core.specs.MailboxPairs.{OneRight, leaving, finds_busy, finds_busy_at, rights_of, events_of, HoldsAll, HoldsWhatLeaves, sweeping, PairsAreEvents}
+use Rattle.hub_core.specs.MailboxPairs.{OneRight, leaving, finds_busy, finds_busy_at, unsettled, rights_of, events_of, sweeping, PairsAreEvents}
 use Rattle.hub_core.proofs.Nexts.{next, Change, agent_made, channel_made, let_in, found_moved, found_closed, put, left, hopped, started, got, went_on, cleared, adopted, notice_put, end_closed, end_swept, client_made, worker_made, line_got, line_back, handed, agent_ordered, agent_ended, member_joined, cast_begun, member_parted}
 use Rattle.hub_core.proofs.Fitting.{new_ends, pushed_of, noticed_of, hopped_of, got_of, empty_of, busy_of, went_on_of, cleared_of, FindsBusy, look_busy_of, adopted_of, swept_of, queue_made_of, member_made_of}
 use Rattle.hub_core.proofs.Sounds.{sound_legal}
 use Rattle.hub_core.proofs.MailboxShown.{View, view, ShownAt, IsShown, Leads, of_history, with_pair, at_end_or}
 use Rattle.hub_core.proofs.PairGates.{with_line, entered, turned_moved, turned_closed, left_line, started_there, closed_there}
 use Rattle.hub_core.proofs.PairQueues.{pushed_there, with_notice, noticed_there, taken_there, taken_all, none_there}
-use Rattle.hub_core.proofs.PairLooks.{settled_there, busy_there, look_busy_there, cleared_there}
+use Rattle.hub_core.proofs.PairLooks.{settled_there, busy_there, look_busy_there, SweepsBusy, sweep_busy_of, sweep_busy_there, cleared_there}
 use Rattle.hub_core.proofs.PairSweeps.{swept_there}
 use Rattle.hub_core.proofs.PairMoves.{with_next, hopped_there, with_taker_at, went_on_there, with_queue_new, adopted_there}
 use Rattle.hub_core.specs.declared.kind.Kind.{Kind}
@@ -42,6 +42,7 @@ data Happens : Action → Outcome → Type 0 where
   drained : (x : EndId) → Happens (action.Take x) outcome.Empty
   found_busy : (x : EndId) → Happens (action.Take x) outcome.Busy
   looked_busy : (x : EndId) → Happens (action.Look x) outcome.Busy
+  swept_busy : (x : EndId) → Happens (action.Sweep x) outcome.Busy
 
 -- every other pair is none, and changes nothing
 kind_of : (f : Facts) (e : ℕ) (m : Mailbox OneRight) (o : Outcome) (a : Action) → ((events_of f e m o a ≡ []) × (next f a o ≡ f)) ⊎ Happens a o
@@ -70,6 +71,7 @@ kind_of f e m outcome.Empty (action.Take x) = inr (drained x)
 kind_of f e m outcome.Busy (action.Take x) = inr (found_busy x)
 kind_of f e m outcome.Again (action.Take x) = inr (changes _ _ (went_on x))
 kind_of f e m outcome.Busy (action.Look x) = inr (looked_busy x)
+kind_of f e m outcome.Busy (action.Sweep x) = inr (swept_busy x)
 kind_of f e m (outcome.Clear (Some k)) (action.Look x) = inr (changes _ _ (cleared x k))
 kind_of f e m (outcome.Adopted k) (action.Adopt x a) = inr (changes _ _ (adopted x a k))
 kind_of f e m outcome.Done (action.Close x) = inr (changes _ _ (end_closed x))
@@ -159,82 +161,85 @@ module _ (f : Facts) (e : ℕ) (m : Mailbox OneRight) (sound : Sound f) (shown :
       let busy : FindsBusy f x.0 = look_busy_of f x fits in
       subst (λ o. Leads x.0 (lines x.0) m (finds_busy_at m o) (view f x.0)) (sym busy.is_looked) (m, (m, look_busy_there f x.0 m there sound busy, refl), there)
 
+  swept_busy_at : (x : EndId) → FitsSweep f x outcome.Busy → ShownAt f x.0 m → Leads x.0 (lines x.0) m (finds_busy_at m (unsettled f x.0)) (view f x.0)
+  swept_busy_at x fits there =
+      let busy : SweepsBusy f x.0 = sweep_busy_of f x fits in
+      subst (λ o. Leads x.0 (lines x.0) m (finds_busy_at m o) (view f x.0)) (sym busy.is_unsettled) (m, (m, sweep_busy_there f x.0 m there sound busy, refl), there)
+
   -- ---- all pairs
 
-  changed : {a : Action} (refused : Bool) {o : Outcome} → Answers f a refused o → e < f.ends → Change a o → HoldsWhatLeaves e (record { action = a; memory_refused = refused }, o) m → Leads e (lines e) m (events_of f e m o a) (view (next f a o) e)
-  changed refused fits made (agent_made origin n) first = (m, refl, shown)
-  changed refused fits made (channel_made a x y) first =
+  changed : {a : Action} (refused : Bool) {o : Outcome} → Answers f a refused o → e < f.ends → Change a o → Leads e (lines e) m (events_of f e m o a) (view (next f a o) e)
+  changed refused fits made (agent_made origin n) = (m, refl, shown)
+  changed refused fits made (channel_made a x y) =
       let new = new_ends f a refused x y fits in
       (m, refl, made_channel x y made (ap (λ (n : EndId). n.0) new.1) (ap (λ (n : EndId). n.0) new.2))
-  changed refused fits made (client_made a x) first = (m, refl, made_queue x Client made (ap (λ (n : EndId). n.0) (queue_made_of f is_client a refused x fits).number))
-  changed refused fits made (worker_made a x) first = (m, refl, made_queue x Worker made (ap (λ (n : EndId). n.0) (queue_made_of f is_worker a refused x fits).number))
-  changed refused fits made (member_joined a name x) first = (m, refl, made_queue x (Member a) made (ap (λ (n : EndId). n.0) (member_made_of f a refused x fits).number))
-  changed refused fits made (line_got x a l) first = (m, refl, held_shown (λ i. on_line e i (record { end = x; line = l }) (Some a) (f.line e i).held_by))
-  changed refused fits made (line_back s) first = (m, refl, held_shown (λ i. on_line e i s None (f.line e i).held_by))
-  changed refused fits made (handed x b) first = (m, refl, shown)
-  changed refused fits made (agent_ordered a) first = (m, refl, shown)
-  changed refused fits made (cast_begun x ports body ends) first = (m, refl, shown)
-  changed refused fits made (member_parted x) first = (m, refl, shown)
-  changed refused fits made (agent_ended a es) first = (m, refl, shown)
-  changed refused fits made (let_in s) first =
+  changed refused fits made (client_made a x) = (m, refl, made_queue x Client made (ap (λ (n : EndId). n.0) (queue_made_of f is_client a refused x fits).number))
+  changed refused fits made (worker_made a x) = (m, refl, made_queue x Worker made (ap (λ (n : EndId). n.0) (queue_made_of f is_worker a refused x fits).number))
+  changed refused fits made (member_joined a name x) = (m, refl, made_queue x (Member a) made (ap (λ (n : EndId). n.0) (member_made_of f a refused x fits).number))
+  changed refused fits made (line_got x a l) = (m, refl, held_shown (λ i. on_line e i (record { end = x; line = l }) (Some a) (f.line e i).held_by))
+  changed refused fits made (line_back s) = (m, refl, held_shown (λ i. on_line e i s None (f.line e i).held_by))
+  changed refused fits made (handed x b) = (m, refl, shown)
+  changed refused fits made (agent_ordered a) = (m, refl, shown)
+  changed refused fits made (cast_begun x ports body ends) = (m, refl, shown)
+  changed refused fits made (member_parted x) = (m, refl, shown)
+  changed refused fits made (agent_ended a es) = (m, refl, shown)
+  changed refused fits made (let_in s) =
       at_step s.end.0 (λ y. at_gate ((f.line y s.line.0).stand) (enter s.line.0) (lets_in tt) ∷ []) (λ y. with_line f y s.line.0 Inside) shown (λ there. entered f s m there (sound.lines s.end.0) fits)
-  changed refused fits made (found_moved s) first =
+  changed refused fits made (found_moved s) =
       at_step s.end.0 (λ y. at_gate ((f.line y s.line.0).stand) (enter s.line.0) says_moved ∷ []) (λ y. with_line f y s.line.0 Turned) shown (λ there. turned_moved f s m there (sound.lines s.end.0) fits)
-  changed refused fits made (found_closed s) first =
+  changed refused fits made (found_closed s) =
       at_step s.end.0 (λ y. at_gate ((f.line y s.line.0).stand) (enter s.line.0) says_closed ∷ []) (λ y. with_line f y s.line.0 Turned) shown (λ there. turned_closed f s m there (sound.lines s.end.0) fits)
-  changed refused fits made (put s ports body n) first =
+  changed refused fits made (put s ports body n) =
       at_step s.end.0 (λ y. push (named_envelope s n body ports) ∷ [])
       (λ y b. record (view f y) { accepted = cond b (f.accepted y ++ named_envelope s n body ports ∷ []) (f.accepted y) }) shown
       (λ there. pushed_there f s ports body n m there (sound.lines s.end.0) (pushed_of f s ports body refused n fits))
-  changed refused fits made (notice_put s n) first =
+  changed refused fits made (notice_put s n) =
       at_step s.end.0 (λ y. push (named_notice s n) ∷ []) (λ y. with_notice f y s n) shown (λ there. noticed_there f s n m there (noticed_of f s refused n fits))
-  changed refused fits made (left s) first =
+  changed refused fits made (left s) =
       at_step s.end.0 (λ y. leaving m ((f.line y s.line.0).stand) s.line.0 ((f.line y s.line.0).phase) ∷ []) (λ y. with_line f y s.line.0 Out) shown (λ there. left_line f s m there sound fits)
-  changed refused fits made (hopped s k) first =
+  changed refused fits made (hopped s k) =
       let may = hopped_of f s k fits in
       at_step s.end.0 (λ y. hop s.line.0 ∷ []) (λ y. with_next f y s.line.0) shown (λ there. hopped_there f s m there (sound.lines s.end.0) may.may may.out may.retired)
-  changed refused fits made (started x) first =
+  changed refused fits made (started x) =
       at_step x.0 (λ y. at_gate ((f.end y).newest) enable says_done ∷ []) (λ y b. record (view f y) { enabled = cond b true ((f.end y).enabled) }) shown (λ there. started_there f x.0 m there)
-  changed refused fits made (got x v) first =
-      at_end_or e (lines e) m (pop ((f.end e).taker_stand) (Some v) ∷ []) (λ b. record (view f e) { removed = cond b (f.taken e ++ v ∷ []) (f.taken e) ++ f.discarded e }) (eqb e x.0) shown
-      (λ here.
-      let same : e ≡ x.0 = eqb-true e x.0 here in
-      taken_there f e m v shown (none_discarded e (ap (λ y. (f.end y).closed) same ∙ (got_of f x v fits).is_open)) (first.got x v refl refl same))
-  changed refused fits made (went_on x) first =
+  changed refused fits made (got x v) =
+      let served = got_of f x v fits in
+      at_step x.0 (λ y. pop ((f.end y).taker_stand) (Some v) ∷ []) (λ y b. record (view f y) { removed = cond b (f.taken y ++ v ∷ []) (f.taken y) ++ f.discarded y }) shown
+      (λ there. taken_there f x m v there (none_discarded x.0 served.is_open) served.serves)
+  changed refused fits made (went_on x) =
       at_step x.0 (λ y. pop ((f.end y).taker_stand) None ∷ advance ∷ []) (λ y. with_taker_at f y) shown (λ there. went_on_at x fits there)
-  changed refused fits made (cleared x k) first =
+  changed refused fits made (cleared x k) =
       at_step x.0 (λ y. at_gate k look (gives_rights (rights_of m)) ∷ []) (λ y b. record (view f y) { clear = λ i. cond (b && eqb i k) true (f.clear y i) }) shown
       (λ there. cleared_there f x.0 m there k sound (cleared_of f x k fits))
-  changed refused fits made (adopted x a k) first =
+  changed refused fits made (adopted x a k) =
       at_step x.0 (λ y. add (rights_of m) ∷ []) (λ y. with_queue_new f y) shown
       (λ there. adopted_there f x.0 m there sound (adopted_of f x a refused k fits).is_open)
-  changed refused fits made (end_closed x) first =
+  changed refused fits made (end_closed x) =
       at_step x.0 (λ y. at_gate ((f.end y).newest) close says_done ∷ []) (λ y b. record (view f y) { closed = cond b true ((f.end y).closed) }) shown (λ there. closed_there f x.0 m there)
-  changed refused fits made (end_swept x vs) first =
-      let here : ℕ → List (MailboxEvent OneRight) = λ y. sweeping vs ((f.end y).taker_stand) ((f.end y).newest - (f.end y).taker_stand + 1) in
-      at_end_or e (lines e) m (here e) (λ b. record (view f e) { removed = f.taken e ++ cond b (f.discarded e ++ vs) (f.discarded e) }) (eqb e x.0) shown
-      (λ is.
-      let same : e ≡ x.0 = eqb-true e x.0 is in
-      subst (λ y. ShownAt f y m → HoldsAll m vs → Leads y (lines y) m (here y) (record (view f y) { removed = f.taken y ++ (f.discarded y ++ vs) })) (sym same) (λ there. swept_there f x m vs there sound (swept_of f x vs fits)) shown (first.swept x vs refl refl same))
+  changed refused fits made (end_swept x vs) =
+      at_step x.0 (λ y. sweeping vs ((f.end y).taker_stand) ((f.end y).newest - (f.end y).taker_stand + 1)) (λ y b. record (view f y) { removed = f.taken y ++ cond b (f.discarded y ++ vs) (f.discarded y) }) shown
+      (λ there. swept_there f x m vs there sound (swept_of f x vs fits))
 
-  happened : {a : Action} (refused : Bool) {o : Outcome} → Answers f a refused o → e < f.ends → Happens a o → HoldsWhatLeaves e (record { action = a; memory_refused = refused }, o) m → Leads e (lines e) m (events_of f e m o a) (view (next f a o) e)
-  happened refused fits made (changes a o change) first = changed refused fits made change first
-  happened refused fits made (drained x) first =
+  happened : {a : Action} (refused : Bool) {o : Outcome} → Answers f a refused o → e < f.ends → Happens a o → Leads e (lines e) m (events_of f e m o a) (view (next f a o) e)
+  happened refused fits made (changes a o change) = changed refused fits made change
+  happened refused fits made (drained x) =
       at_step x.0 (λ y. pop ((f.end y).taker_stand) None ∷ []) (λ y _. view f y) shown (λ there. empty_at x fits there)
-  happened refused fits made (found_busy x) first =
+  happened refused fits made (found_busy x) =
       at_step x.0 (λ y. finds_busy m ((f.end y).taker_stand) ∷ pop ((f.end y).taker_stand) None ∷ []) (λ y _. view f y) shown (λ there. busy_at_taker x fits there)
-  happened refused fits made (looked_busy x) first =
+  happened refused fits made (looked_busy x) =
       at_step x.0 (λ y. finds_busy_at m (looked f y)) (λ y _. view f y) shown (λ there. looked_busy_at x fits there)
+  happened refused fits made (swept_busy x) =
+      at_step x.0 (λ y. finds_busy_at m (unsettled f y)) (λ y _. view f y) shown (λ there. swept_busy_at x fits there)
 
-  goes : (a : Action) (refused : Bool) (o : Outcome) → Answers f a refused o → e < f.ends → HoldsWhatLeaves e (record { action = a; memory_refused = refused }, o) m → Leads e (lines e) m (events_of f e m o a) (view (next f a o) e)
-  goes a refused o fits made first = elim (kind_of f e m o a) [
+  goes : (a : Action) (refused : Bool) (o : Outcome) → Answers f a refused o → e < f.ends → Leads e (lines e) m (events_of f e m o a) (view (next f a o) e)
+  goes a refused o fits made = elim (kind_of f e m o a) [
     | inl none ↦
         let still : ShownAt (next f a o) e m = subst (λ g. ShownAt g e m) (sym none.1) shown in
         subst (λ events. Leads e (lines e) m events (view (next f a o) e)) (sym none.0) (m, refl, still)
-    | inr happens ↦ happened refused fits made happens first
+    | inr happens ↦ happened refused fits made happens
   ]
 
 pub pairs_are_events : PairsAreEvents
-pairs_are_events h p e m legal fits made shows first =
-    let done = goes (facts h) e m (sound_legal h legal) (of_history h e m shows) p.0.action p.0.memory_refused p.1 fits made first in
+pairs_are_events h p e m legal fits made shows =
+    let done = goes (facts h) e m (sound_legal h legal) (of_history h e m shows) p.0.action p.0.memory_refused p.1 fits made in
     (done.0, done.1, with_pair h p e done.0 done.2)

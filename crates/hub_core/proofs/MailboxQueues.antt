@@ -1,16 +1,17 @@
--- A mailbox after a push or a pop.
-use Rattle.std.proofs.Common.{◌≡◌, ◌≢◌, ◌⊎◌, ℕ, ◌<◌, false, true≢false, cond, List, [], ◌∷◌, ◌++◌, sym, ap, ◌∙◌, inl, inr, ⊎_elim, arith, length-set, Some}
+-- A mailbox after an envelope was put in or taken out.
+use Rattle.std.proofs.Common.{◌≡◌, ◌≢◌, ◌⊎◌, ℕ, ◌<◌, false, true≢false, cond, [], ◌∷◌, ◌++◌, sym, ap, ◌∙◌, inl, inr, ⊎_elim, arith, length-set}
 use Rattle.std.specs.Prelude.{slice_get}
 use Rattle.std.proofs.lemmas.Bool.{cases_lt, ne_eqb}
 use Rattle.hub_envelope.specs.declared.envelope.Envelope.{Envelope}
 use Rattle.hub_core.specs.declared.line.Phase.TheVariants.{Inside}
 use Rattle.hub_core.specs.GateMachine.{Gate, IsAt}
-use Rattle.hub_core.specs.QueueMachine.{Queue, MayPush, pushed, popped, IsQueue}
+use Rattle.hub_core.specs.QueueMachine.{Queue, MayPush, pushed, IsQueue}
 use Rattle.hub_core.specs.Mailbox.{Mailbox, GateAt, QueueAt, StandsAt, IsNewest, IsMailbox}
-use Rattle.hub_core.specs.MailboxSteps.{with_queue, IsSettled, HoldsNothing, MaySweep}
+use Rattle.hub_core.specs.MailboxSteps.{HoldsFirst, taken_out, with_queue, IsSettled, HoldsNothing, MaySweep}
 use Rattle.hub_core.proofs.Items.{got_same, got_same_at, at_written, pairs_written}
 use Rattle.hub_core.proofs.Gating.{nobody_left}
-use Rattle.hub_core.proofs.Queueing.{Found, found, after_push, after_pop, none_held}
+use Rattle.hub_core.proofs.Queueing.{after_push, none_held}
+use Rattle.hub_core.proofs.TakenOut.{some_held, queue_taken}
 
 -- where a pop may happen
 record MayPop {R : Type 0} (m : Mailbox R) (k : ℕ) : Type 0 where
@@ -51,30 +52,30 @@ module _ {R : Type 0} (end lines : ℕ) (m : Mailbox R) (is : IsMailbox end line
         (λ i w _ at behind. is.nothing_got_while_open i last f w newest at_f shut at behind) j u there later;
   }
 
-  popped_kept : (k : ℕ) (q rest : Queue) (v : Envelope) → MayPop m k → QueueAt m k q → popped q ≡ Some (v, rest) → IsMailbox end lines (with_queue m k rest)
-  popped_kept k q rest v may at_q pop =
-      let of : Found q v rest = found q rest v pop in record {
+  popped_kept : (k : ℕ) (q : Queue) (v : Envelope) → MayPop m k → QueueAt m k q → HoldsFirst q v → IsMailbox end lines (with_queue m k (taken_out q v))
+  popped_kept k q v may at_q first =
+      let rest : Queue = taken_out q v in record {
         queues = length-set m.queues k rest ∙ is.queues;
         stands = is.stands;
         stands_within = is.stands_within;
         taker_within = is.taker_within;
         each_gate = is.each_gate;
-        each_queue = at_written m.queues k rest (λ j u. IsQueue end j lines u) (after_pop end k lines q rest v pop (is.each_queue k q at_q)) (λ j u _ there. is.each_queue j u there);
+        each_queue = at_written m.queues k rest (λ j u. IsQueue end j lines u) (queue_taken q v end k lines first (is.each_queue k q at_q)) (λ j u _ there. is.each_queue j u there);
         retired = is.retired;
         newest = is.newest;
         out_elsewhere = is.out_elsewhere;
         nothing_put_ahead = λ line place j u there found later. at_written m.queues k rest (λ i w. place < i → w.put line ≡ [])
-            (λ behind. ap (λ (f : ℕ → List Envelope). f line) of.same ∙ is.nothing_put_ahead line place k q there at_q behind)
+            (λ behind. is.nothing_put_ahead line place k q there at_q behind)
             (λ i w _ at behind. is.nothing_put_ahead line place i w there at behind) j u found later;
         inside_from_taker = is.inside_from_taker;
         nothing_got_ahead = λ line j newer f u at_f here there later. at_written m.queues k rest (λ i w. j < i → w.got ≡ [])
             (λ behind. absurd (may.nobody j line f at_f behind here))
             (λ i w _ at behind. is.nothing_got_ahead line j i f w at_f here at behind) newer u there later;
         nothing_held_before = at_written m.queues k rest (λ j u. j < m.taker → u.held ≡ [])
-            (λ low. absurd (of.some (is.nothing_held_before k q at_q low)))
+            (λ low. absurd (some_held q v first (is.nothing_held_before k q at_q low)))
             (λ j u _ there low. is.nothing_held_before j u there low);
         in_turn = pairs_written m.queues k rest (λ p u. (p.held ≡ []) ⊎ (u.got ≡ []))
-            (λ j u there later. ⊎_elim (λ none. absurd (of.some none)) (λ none. inr none) (is.in_turn k j q u at_q there later))
+            (λ j u there later. ⊎_elim (λ none. absurd (some_held q v first none)) (λ none. inr none) (is.in_turn k j q u at_q there later))
             (λ j p there later. inl (may.before j p there later))
             is.in_turn;
         nothing_got_while_open = λ j last f u newest at_f shut there later. at_written m.queues k rest (λ i w. m.taker < i → w.got ≡ [])
@@ -82,15 +83,15 @@ module _ {R : Type 0} (end lines : ℕ) (m : Mailbox R) (is : IsMailbox end line
             (λ i w _ at behind. is.nothing_got_while_open i last f w newest at_f shut at behind) j u there later;
       }
 
-  pub taken_kept : (q rest : Queue) (v : Envelope) → QueueAt m m.taker q → popped q ≡ Some (v, rest) → IsMailbox end lines (with_queue m m.taker rest)
-  taken_kept q rest v at_q pop = popped_kept m.taker q rest v (record {
+  pub taken_kept : (q : Queue) (v : Envelope) → QueueAt m m.taker q → HoldsFirst q v → IsMailbox end lines (with_queue m m.taker (taken_out q v))
+  taken_kept q v at_q first = popped_kept m.taker q v (record {
     before = λ older p at low. is.nothing_held_before older p at low;
     nobody = λ older line g at low here. let high = is.inside_from_taker line older g at here in omega arith;
     shut = λ last g newest at shut later. omega arith;
-  }) at_q pop
+  }) at_q first
 
-  pub swept_kept : (k : ℕ) (q rest : Queue) (v : Envelope) → MaySweep m k → QueueAt m k q → popped q ≡ Some (v, rest) → IsMailbox end lines (with_queue m k rest)
-  swept_kept k q rest v may at_q pop = popped_kept k q rest v (record {
+  pub swept_kept : (k : ℕ) (q : Queue) (v : Envelope) → MaySweep m k → QueueAt m k q → HoldsFirst q v → IsMailbox end lines (with_queue m k (taken_out q v))
+  swept_kept k q v may at_q first = popped_kept k q v (record {
     before = λ older p at low. ⊎_elim
         (λ low. is.nothing_held_before older p at low)
         (λ high.
@@ -109,4 +110,4 @@ module _ {R : Type 0} (end lines : ℕ) (m : Mailbox R) (is : IsMailbox end line
         let place : may.newest ≡ last = let n = may.is_newest in omega arith in
         let same : may.gate ≡ g = got_same_at m.gates may.newest last may.gate g place may.is_gate at in
         true≢false (sym may.closed ∙ ap (λ (f : Gate R). f.closed) same ∙ shut);
-  }) at_q pop
+  }) at_q first

@@ -1,26 +1,29 @@
 -- Who is at a gate, and the pairs that are looks: at a queue where somebody is, and at one that becomes clear.
-use Rattle.std.proofs.Common.{◌≡◌, ◌⊎◌, ℕ, zero, suc, ◌+◌, ◌<◌, ◌≤◌, ◌&&◌, Bool, true, false, cond, eqb, List, [], ◌∷◌, length, map, refl, sym, ap, subst, ◌∙◌, inl, inr, ⊎_elim, arith, Some}
+use Rattle.std.proofs.Common.{◌≡◌, ◌⊎◌, ℕ, zero, suc, ◌+◌, ◌-◌, ◌<◌, ◌≤◌, ◌&&◌, Bool, true, false, true≢false, cond, eqb, List, [], ◌∷◌, length, map, refl, sym, ap, subst, ◌∙◌, inl, inr, ⊎_elim, arith, Some}
 use Rattle.std.specs.Prelude.{slice_get, not, sum_by}
-use Rattle.std.proofs.lemmas.Bool.{false≢true, not-true, and_parts, eqb-true, eq-eqb, cases_eq, or_cases, or_left, or_right}
+use Rattle.std.specs.Bool.{MatchBool}
+use Rattle.std.proofs.lemmas.Bool.{false≢true, not-true, not-false, and_parts, or_parts, eqb-true, eq-eqb, cases_eq, cases_lt, or_cases, or_left, or_right}
 use Rattle.std.proofs.lemmas.List.{length-map}
 use Rattle.std.proofs.lemmas.List.Sums.{sum_by-cons}
+use Rattle.hub_envelope.specs.declared.ids.EndId.{EndId}
+use Rattle.hub_core.specs.declared.outcome.Outcome.TheVariants as outcome
 use Rattle.hub_core.specs.declared.line.Phase.{Phase}
 use Rattle.hub_core.specs.declared.line.Phase.TheVariants.{Out, Inside, Turned}
 use Rattle.hub_core.specs.Facts.{Facts}
 use Rattle.hub_core.specs.Made.{lines_of}
 use Rattle.hub_core.specs.Posting.{is_out}
-use Rattle.hub_core.specs.Looking.{is_away_at, someone_at, is_settled}
+use Rattle.hub_core.specs.Looking.{is_away_at, someone_at, is_settled, first_failing, all_from, all_settled, FitsSweep}
 use Rattle.hub_core.specs.Sound.{Sound}
 use Rattle.hub_core.specs.GateMachine as machine
 use Rattle.hub_core.specs.GateMachine.{Gate, weight, busy, is_shut, IsAt, with_none, is_busy, gives}
 use Rattle.hub_core.specs.GateMachineLaws.{IsGateOf}
 use Rattle.hub_core.specs.Mailbox.{Mailbox, GateAt, StandsAt}
 use Rattle.hub_core.specs.MailboxSteps.{at_gate, MailboxStep, gate_steps, with_gate, IsSettled}
-use Rattle.hub_core.specs.MailboxPairs.{OneRight, busy_at, rights_of, finds_busy}
+use Rattle.hub_core.specs.MailboxPairs.{OneRight, busy_at, rights_of, finds_busy, unsettled}
 use Rattle.hub_core.proofs.Lists.{set_again}
 use Rattle.hub_core.proofs.Items.{some_is, got_within, got_there, got_same}
 use Rattle.hub_core.proofs.Gating.{weight_le, gate_machine_laws}
-use Rattle.hub_core.proofs.Fitting.{any_of, none_of_any, LooksAt, Clears, FindsBusy, looked_where}
+use Rattle.hub_core.proofs.Fitting.{any_of, none_of_any, FirstFailing, first_failing_of, LooksAt, Clears, FindsBusy, looked_where}
 use Rattle.hub_core.proofs.MailboxStepping.{step_kept}
 use Rattle.hub_core.proofs.MailboxShown.{view, ShownAt, HasRight, Leads, one_step, Standing, standing, clear_shown}
 use Rattle.hub_core.proofs.PairGates.{is_out_of}
@@ -50,6 +53,33 @@ same_rights [] [] same = refl
 same_rights [] (y ∷ ys) same = absurd (omega arith)
 same_rights (x ∷ xs) [] same = absurd (omega arith)
 same_rights (x ∷ xs) (y ∷ ys) same = ap (λ zs. tt ∷ zs) (same_rights xs ys (omega arith))
+
+-- ---- a Sweep that finds somebody
+
+pub record SweepsBusy (f : Facts) (x : ℕ) : Type 0 where
+  pub is_closed : (f.end x).closed ≡ true
+  pub queue : ℕ
+  pub is_unsettled : unsettled f x ≡ Some queue
+  pub looks : FirstFailing (is_settled f x) (f.end x).taker_stand ((f.end x).newest - (f.end x).taker_stand + 1) queue
+
+busy_when : (closed settled : Bool) → MatchBool closed (MatchBool settled ⊥ (outcome.Busy ≡ outcome.Busy)) (outcome.Busy ≡ outcome.NotNow) → (closed ≡ true) × (settled ≡ false)
+busy_when true true h = absurd h
+busy_when true false h = (refl, refl)
+busy_when false settled h = cc
+
+-- where not all queues pass the test, one is the first that fails
+some_failing : (test : ℕ → Bool) (k n : ℕ) → all_from test k n ≡ false → (j : ℕ) × (first_failing test k n ≡ Some j)
+some_failing test k zero h = absurd (true≢false h)
+some_failing test k (suc n) h = elim (test k) as (λ b. (b && all_from test (k + 1) n) ≡ false → (j : ℕ) × (cond b (first_failing test (k + 1) n) (Some k) ≡ Some j)) [
+  | true ↦ λ rest. some_failing test (k + 1) n rest
+  | false ↦ λ _. (k, refl)
+] h
+
+pub sweep_busy_of : (f : Facts) (e : EndId) → FitsSweep f e outcome.Busy → SweepsBusy f e.0
+sweep_busy_of f e h =
+    let r = busy_when (f.end e.0).closed (all_settled f e.0) h in
+    let found = some_failing (is_settled f e.0) (f.end e.0).taker_stand ((f.end e.0).newest - (f.end e.0).taker_stand + 1) r.1 in
+    record { is_closed = r.0; queue = found.0; is_unsettled = found.1; looks = first_failing_of (is_settled f e.0) _ _ found.0 found.1 }
 
 -- ---- who is at a gate
 
@@ -139,6 +169,17 @@ module _ (f : Facts) (e : ℕ) (m : Mailbox OneRight) (is : ShownAt f e m) where
   look_busy_there sound b =
       let which = looks_where b.queue sound b.looks in
       busy_there b.queue (looks_within b.queue which) which b.looks.unclear b.somebody
+
+  -- ---- Sweep
+
+  pub sweep_busy_there : Sound f → (b : SweepsBusy f e) → MailboxStep HasRight e lines m (finds_busy m b.queue) m
+  sweep_busy_there sound b =
+      let k : ℕ = b.queue in
+      let neither = or_parts (f.clear e k) (not (someone_at f e k)) b.looks.unclear in
+      let below : k < (f.end e).taker_stand + ((f.end e).newest - (f.end e).taker_stand + 1) = b.looks.below in
+      let taker : (f.end e).taker_stand ≤ (f.end e).newest = (sound.lines e).taker_stand in
+      let which = ⊎_elim (λ older. inl older) (λ from. inr (let last : k ≡ (f.end e).newest = omega arith in last, b.is_closed)) (cases_lt k (f.end e).newest) in
+      busy_there k (looks_within k which) which neither.0 (not-false (someone_at f e k) neither.1)
 
   pub cleared_there : (k : ℕ) → Sound f → Clears f e k → Leads e lines m (at_gate k machine.look (machine.gives_rights (rights_of m)) ∷ []) (record (view f e) { clear = λ i. cond (eqb i k) true (f.clear e i) })
   cleared_there k sound clears =

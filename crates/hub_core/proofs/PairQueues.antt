@@ -1,8 +1,9 @@
 -- The pairs that are events of a queue: a Push or a Notice that was accepted, and a pop, which finds an envelope or none.
-use Rattle.std.proofs.Common.{◌≡◌, ◌≢◌, ℕ, zero, suc, ◌<◌, ◌&&◌, Bool, true, cond, eqb, List, [], ◌∷◌, ◌++◌, length, refl, sym, ap, subst, ◌∙◌, arith, append-nil, Some, None}
+use Rattle.std.proofs.Common.{◌≡◌, ◌≢◌, ℕ, zero, suc, ◌<◌, ◌&&◌, Bool, true, cond, eqb, List, [], ◌∷◌, ◌++◌, length, refl, sym, ap, subst, ◌∙◌, arith, append-nil, append_assoc, Some, None}
 use Rattle.std.specs.Prelude.{slice_get, flat_map}
 use Rattle.std.specs.List.{filter, AllByRecursion}
 use Rattle.std.proofs.lemmas.Bool.{ne_eqb, eq-eqb}
+use Rattle.std.proofs.lemmas.List.{append_cancel_left}
 use Rattle.std.proofs.lemmas.List.Elements.{filter-append, recursion_from_All}
 use Rattle.hub_envelope.specs.declared.envelope.Envelope.{Envelope}
 use Rattle.hub_envelope.specs.declared.ids.EndId.{EndId}
@@ -16,23 +17,21 @@ use Rattle.hub_core.specs.Sender.{by, in_queue, count_in_queue}
 use Rattle.hub_core.specs.Posting.{phase_of_line}
 use Rattle.hub_core.specs.QueueMachine.{Queue, IsNamed, MayPush, pushed, pop_of}
 use Rattle.hub_core.specs.Mailbox.{Mailbox, QueueAt, put_by, got_from, IsMailbox}
-use Rattle.hub_core.specs.MailboxSteps.{push, pop, MailboxStep, pushes, takes, finds_none, with_queue, HoldsNothing}
-use Rattle.hub_core.specs.MailboxPairs.{OneRight, HoldsFirst}
-use Rattle.hub_core.proofs.Lists.{AllByRecursion-weaker}
+use Rattle.hub_core.specs.MailboxSteps.{push, pop, MailboxStep, pushes, takes, finds_none, HoldsFirst, taken_out, with_queue, HoldsNothing}
+use Rattle.hub_core.specs.MailboxPairs.{OneRight}
+use Rattle.hub_core.specs.Taking.{IsNext}
+use Rattle.hub_core.proofs.Lists.{eqb_same, AllByRecursion-weaker}
 use Rattle.hub_core.proofs.Items.{none_got, some_is, got_there}
-use Rattle.hub_core.proofs.Waits.{all_kept, filters}
+use Rattle.hub_core.proofs.Waits.{all_kept, filters, queue_more}
+use Rattle.hub_core.proofs.TakenOut.{all_front}
 use Rattle.hub_core.proofs.Fitting.{Pushed, Noticed}
-use Rattle.hub_core.proofs.SoundLines.{MayPut, message_may, notice_may, LinesAt}
+use Rattle.hub_core.proofs.SoundLines.{MayPut, message_may, notice_may, LinesAt, by_more}
 use Rattle.hub_core.proofs.SoundWaiting.{inside_of}
 use Rattle.hub_core.proofs.MailboxStepping.{step_kept}
-use Rattle.hub_core.proofs.Joins.{all_pass, filter_both, nothing_there, nothing_more}
+use Rattle.hub_core.proofs.Joins.{all_pass, filter_both, nothing_there}
 use Rattle.hub_core.proofs.MailboxShown.{View, view, ShownAt, IsShown, HasRight, Leads, one_step, event_grows, Standing, standing, queue_shown}
 
 -- ---- what was put in a queue and taken out of it, by what was put and taken at the end
-
-all_front : {A : Type 0} (P : A → Type 0) (xs ys : List A) → AllByRecursion P (xs ++ ys) → AllByRecursion P xs
-all_front P [] ys h = tt
-all_front P (x ∷ xs) ys h = (h.0, all_front P xs ys h.1)
 
 -- the envelopes of one queue, and of another one
 all_in : (k : ℕ) (vs : List Envelope) → AllByRecursion (λ (v : Envelope). v.epoch ≡ k) vs → in_queue k vs ≡ vs
@@ -78,16 +77,18 @@ module _ (e n : ℕ) (m : Mailbox OneRight) (is : IsMailbox e n m) where
   pub got_there_in : (k : ℕ) (q : Queue) → QueueAt m k q → in_queue k (got_from m) ≡ q.got
   got_there_in k q at = in_joined (λ u. u.got) m.queues k q at (λ j u there. all_front (λ (v : Envelope). v.epoch ≡ j) u.got u.held (of_epoch j u there))
 
+  -- line by line a queue holds what was put there and not taken out
+  pub held_there : (k l : ℕ) (q : Queue) (ws : List Envelope) → QueueAt m k q → in_queue k (put_by m l) ≡ in_queue k (by l (got_from m)) ++ ws → by l q.held ≡ ws
+  held_there k l q ws at left = append_cancel_left (by l q.got) (by l q.held) ws
+      (sym (filter-append _ q.got q.held) ∙ (is.each_queue k q at).put l ∙ sym (put_there l k q at) ∙ left ∙ ap (λ us. us ++ ws) (filters _ _ (got_from m) ∙ ap (by l) (got_there_in k q at)))
+
   -- a queue of which everything that was put was taken out, line by line, holds nothing
   pub holds_nothing : (k : ℕ) → k < length m.gates → ((l : ℕ) → in_queue k (by l (got_from m)) ≡ in_queue k (put_by m l)) → HoldsNothing m k
   holds_nothing k within all =
       let many : length m.queues ≡ length m.gates = is.queues in
       let there = got_there m.queues k (omega arith) in
       let q : Queue = there.0 in
-      let empty : q.held ≡ [] = nothing_there q.held (λ l. nothing_more (by l q.got) (by l q.held)
-      (sym (filter-append _ q.got q.held) ∙ (is.each_queue k q there.1).put l ∙ sym (put_there l k q there.1) ∙ sym (all l) ∙ filters _ _ (got_from m) ∙ ap (by l) (got_there_in k q there.1)))
-      in
-      record { queue = q; is_queue = there.1; nothing = ap (pop_of q) empty }
+      record { queue = q; is_queue = there.1; nothing = ap (pop_of q) (nothing_there q.held (λ l. held_there k l q [] there.1 (sym (all l) ∙ sym (append-nil (in_queue k (by l (got_from m))))))) }
 
 -- ---- Push and Notice
 
@@ -151,20 +152,45 @@ noticed_there f s n m is p =
       },
     )
 
+-- line by line a queue holds what was accepted there and neither taken nor discarded
+pub held_of : (f : Facts) (e : ℕ) (m : Mailbox OneRight) → ShownAt f e m → (k l : ℕ) (q : Queue) (ws : List Envelope) → QueueAt m k q → in_queue k (by l (f.accepted e)) ≡ in_queue k (by l (f.taken e ++ f.discarded e)) ++ ws → by l q.held ≡ ws
+held_of f e m is k l q ws at left = held_there e (lines_of ((f.end e).kind)) m is.is_mailbox k l q ws at (ap (in_queue k) (is.put l) ∙ left ∙ ap (λ us. in_queue k (by l us) ++ ws) (sym is.got))
+
 -- ---- pops at the taker's queue
 
--- one that finds an envelope, where nothing was discarded
-pub taken_there : (f : Facts) (e : ℕ) (m : Mailbox OneRight) (v : Envelope) → ShownAt f e m → f.discarded e ≡ [] → HoldsFirst m m.taker v
-    → Leads e (lines_of ((f.end e).kind)) m (pop ((f.end e).taker_stand) (Some v) ∷ []) (record (view f e) { removed = (f.taken e ++ v ∷ []) ++ f.discarded e })
-taken_there f e m v is kept holds =
+-- the next of its line is held first of its line, where nothing was discarded
+next_held : (f : Facts) (x : EndId) (m : Mailbox OneRight) (v : Envelope) (q : Queue) → ShownAt f x.0 m → f.discarded x.0 ≡ [] → IsNext f x v → QueueAt m m.taker q → HoldsFirst q v
+next_held f x m v q is kept next at =
+    let l : ℕ = v.line.0 in
+    let t : ℕ = (f.end x.0).taker_stand in
+    let taken : List Envelope = by l (f.taken x.0) in
+    let rest : List Envelope = in_queue t next.order.0 in
+    let whole : in_queue t (by l (f.accepted x.0)) ≡ in_queue t (taken ++ v ∷ []) ++ rest =
+    ap (in_queue t) (next.order.1 ∙ ap (λ us. us ++ next.order.0) (by_more l (f.taken x.0) v true (eqb_same l))) ∙ filter-append _ (taken ++ v ∷ []) next.order.0
+    in
+    let removed : by l (f.taken x.0 ++ f.discarded x.0) ≡ taken = ap (λ us. by l (f.taken x.0 ++ us)) kept ∙ ap (by l) (append-nil (f.taken x.0)) in (
+      rest,
+      held_of f x.0 m is t l q (v ∷ rest) (subst (λ k. QueueAt m k q) is.taker_at at)
+          (whole ∙ ap (λ us. us ++ rest) (queue_more t taken v next.epoch) ∙ append_assoc (in_queue t taken) (v ∷ []) rest ∙ ap (λ us. in_queue t us ++ (v ∷ rest)) (sym removed)),
+    )
+
+-- one that finds an envelope
+pub taken_there : (f : Facts) (x : EndId) (m : Mailbox OneRight) (v : Envelope) → ShownAt f x.0 m → f.discarded x.0 ≡ [] → IsNext f x v
+    → Leads x.0 (lines_of ((f.end x.0).kind)) m (pop ((f.end x.0).taker_stand) (Some v) ∷ []) (record (view f x.0) { removed = (f.taken x.0 ++ v ∷ []) ++ f.discarded x.0 })
+taken_there f x m v is kept next =
+    let e : ℕ = x.0 in
     let lines : ℕ = lines_of ((f.end e).kind) in
-    let after : Mailbox OneRight = with_queue m m.taker holds.rest in
-    let step : MailboxStep HasRight e lines m (pop m.taker (Some v)) after = takes holds.queue holds.rest v holds.is_queue holds.first in
+    let within : m.taker < length m.gates = is.is_mailbox.taker_within in
+    let many : length m.queues ≡ length m.gates = is.is_mailbox.queues in
+    let there = got_there m.queues m.taker (omega arith) in
+    let q : Queue = there.0 in
+    let after : Mailbox OneRight = with_queue m m.taker (taken_out q v) in
+    let step : MailboxStep HasRight e lines m (pop m.taker (Some v)) after = takes q v there.1 (next_held f x m v q is kept next there.1) in
     let last : (f.taken e ++ f.discarded e) ++ v ∷ [] ≡ (f.taken e ++ v ∷ []) ++ f.discarded e =
     ap (λ us. (f.taken e ++ us) ++ v ∷ []) kept ∙ ap (λ us. us ++ v ∷ []) (append-nil (f.taken e)) ∙ sym (append-nil (f.taken e ++ v ∷ [])) ∙ ap (λ us. (f.taken e ++ v ∷ []) ++ us) (sym kept)
     in
     let grown : IsShown e (record (view f e) { accepted = f.accepted e ++ []; removed = (f.taken e ++ f.discarded e) ++ v ∷ [] }) after =
-    queue_shown e (view f e) m is m.taker holds.rest [] (v ∷ []) (step_kept e lines m after is.is_mailbox step) (event_grows e lines m after _ is.is_mailbox step)
+    queue_shown e (view f e) m is m.taker (taken_out q v) [] (v ∷ []) (step_kept e lines m after is.is_mailbox step) (event_grows e lines m after _ is.is_mailbox step)
     in
     subst (λ k. Leads e lines m (pop k (Some v) ∷ []) (record (view f e) { removed = (f.taken e ++ v ∷ []) ++ f.discarded e })) is.taker_at
     (one_step e lines m after (pop m.taker (Some v)) (record (view f e) { removed = (f.taken e ++ v ∷ []) ++ f.discarded e }) step

@@ -13,8 +13,8 @@ use Rattle.hub_core.specs.Looking.{is_settled, IsAllWaiting}
 use Rattle.hub_core.specs.Sound.{Sound}
 use Rattle.hub_core.specs.QueueMachine.{Queue, pop_of, popped}
 use Rattle.hub_core.specs.Mailbox.{Mailbox, QueueAt}
-use Rattle.hub_core.specs.MailboxSteps.{MailboxEvent, pop, MailboxStep, sweeps, finds_none, with_queue, IsSettled, HoldsNothing, MaySweep}
-use Rattle.hub_core.specs.MailboxPairs.{OneRight, Runs, sweeping, HoldsAll}
+use Rattle.hub_core.specs.MailboxSteps.{MailboxEvent, pop, MailboxStep, sweeps, finds_none, taken_out, with_queue, IsSettled, HoldsNothing, MaySweep}
+use Rattle.hub_core.specs.MailboxPairs.{OneRight, Runs, sweeping}
 use Rattle.hub_core.proofs.Lists.{slice_get-set_same, slice_get-set_other}
 use Rattle.hub_core.proofs.Items.{got_within, got_there}
 use Rattle.hub_core.proofs.Waits.{filters}
@@ -23,6 +23,8 @@ use Rattle.hub_core.proofs.MailboxStepping.{step_kept}
 use Rattle.hub_core.proofs.Joins.{queues_from, joined_from, prefixes_pass, nothing_there, nothing_more}
 use Rattle.hub_core.proofs.MailboxOfEnd.{accepted_below}
 use Rattle.hub_core.proofs.MailboxShown.{view, ShownAt, IsShown, HasRight, Leads, event_grows, queue_shown}
+use Rattle.hub_core.proofs.TakenOut.{first_of, left_same}
+use Rattle.hub_core.proofs.PairQueues.{held_of}
 use Rattle.hub_core.proofs.PairLooks.{settled_there}
 
 module _ (f : Facts) (e : ℕ) (vs : List Envelope) where
@@ -81,12 +83,12 @@ module _ (f : Facts) (e : ℕ) (vs : List Envelope) where
   -- ---- the pops
 
   -- The mailbox in a sweep: so much was removed, the queues before k were popped until none was found, and the queues
-  -- from some queue on are as they were.
+  -- from some queue on hold what they held.
   record Sweeping (gone : List Envelope) (k untouched : ℕ) (m : Mailbox OneRight) : Type 0 where
     shown : IsShown e (record (view f e) { removed = gone }) m
     settled : (j : ℕ) → taker ≤ j → j ≤ newest → IsSettled m j
     nothing : (j : ℕ) → taker ≤ j → j < k → HoldsNothing m j
-    ahead : (j : ℕ) (q : Queue) → untouched ≤ j → QueueAt m j q → q.held ≡ in_queue j vs
+    ahead : (j : ℕ) (q : Queue) → untouched ≤ j → QueueAt m j q → (l : ℕ) → by l q.held ≡ by l (in_queue j vs)
 
   -- the pops at the queue k lead to a mailbox from which the sweep goes on
   abbrev Drains : List Envelope → ℕ → Mailbox OneRight → List Envelope → Type 0
@@ -110,8 +112,8 @@ module _ (f : Facts) (e : ℕ) (vs : List Envelope) where
         }
 
     -- one envelope is popped
-    popped_one : (gone : List Envelope) (k : ℕ) (m : Mailbox OneRight) (q rest : Queue) (v : Envelope) → Sweeping gone k (k + 1) m → QueueAt m k q → MailboxStep HasRight e lines m (pop k (Some v)) (with_queue m k rest) → Sweeping (gone ++ v ∷ []) k (k + 1) (with_queue m k rest)
-    popped_one gone k m q rest v s at step = record {
+    popped_one : (gone : List Envelope) (k : ℕ) (m : Mailbox OneRight) (rest : Queue) (v : Envelope) → Sweeping gone k (k + 1) m → MailboxStep HasRight e lines m (pop k (Some v)) (with_queue m k rest) → Sweeping (gone ++ v ∷ []) k (k + 1) (with_queue m k rest)
+    popped_one gone k m rest v s step = record {
       shown = subst (λ us. IsShown e (record (view f e) { accepted = us; removed = gone ++ v ∷ [] }) (with_queue m k rest)) (append-nil (f.accepted e))
           (queue_shown e (record (view f e) { removed = gone }) m s.shown k rest [] (v ∷ []) (step_kept e lines m (with_queue m k rest) s.shown.is_mailbox step) (event_grows e lines m (with_queue m k rest) _ s.shown.is_mailbox step));
       settled = λ j low high. let old = s.settled j low high in record { gate = old.gate; is_gate = old.is_gate; left = old.left };
@@ -133,19 +135,19 @@ module _ (f : Facts) (e : ℕ) (vs : List Envelope) where
       ahead = s.ahead;
     }
 
-    drained : (ws gone : List Envelope) (k : ℕ) (m : Mailbox OneRight) (q : Queue) → Sweeping gone k (k + 1) m → taker ≤ k → k ≤ newest → QueueAt m k q → q.held ≡ ws → Drains gone k m ws
+    drained : (ws gone : List Envelope) (k : ℕ) (m : Mailbox OneRight) (q : Queue) → Sweeping gone k (k + 1) m → taker ≤ k → k ≤ newest → QueueAt m k q → ((l : ℕ) → by l q.held ≡ by l ws) → Drains gone k m ws
     drained [] gone k m q s from within at held =
-        let none : popped q ≡ None = ap (pop_of q) held in (
+        let none : popped q ≡ None = ap (pop_of q) (nothing_there q.held held) in (
           m,
           subst (λ us. Sweeping us (k + 1) (k + 1) m) (sym (append-nil gone)) (queue_done gone k m s (record { queue = q; is_queue = at; nothing = none })),
           (λ events last runs. (m, finds_none k q at none, runs)),
         )
     drained (v ∷ ws) gone k m q s from within at held =
-        let rest : Queue = record { put = q.put; held = ws; got = q.got ++ v ∷ [] } in
+        let rest : Queue = taken_out q v in
         let after : Mailbox OneRight = with_queue m k rest in
-        let step : MailboxStep HasRight e lines m (pop k (Some v)) after = sweeps k q rest v (may_sweep gone k (k + 1) m s from within) at (ap (pop_of q) held) in
+        let step : MailboxStep HasRight e lines m (pop k (Some v)) after = sweeps k q v (may_sweep gone k (k + 1) m s from within) at (first_of q v ws held) in
         let there : QueueAt after k rest = slice_get-set_same m.queues k rest (got_within m.queues k q at) in
-        let more : Drains (gone ++ v ∷ []) k after ws = drained ws (gone ++ v ∷ []) k after rest (popped_one gone k m q rest v s at step) from within there refl in
+        let more : Drains (gone ++ v ∷ []) k after ws = drained ws (gone ++ v ∷ []) k after rest (popped_one gone k m rest v s step) from within there (left_same q v ws held) in
         (more.0, subst (λ us. Sweeping us (k + 1) (k + 1) more.0) (append_assoc gone (v ∷ []) ws) more.1, (λ events last runs. (after, step, more.2 events last runs)))
 
     -- the queues from k on
@@ -166,9 +168,9 @@ module _ (f : Facts) (e : ℕ) (vs : List Envelope) where
         )
 
 -- a Sweep pops all that waits
-pub swept_there : (f : Facts) (x : EndId) (m : Mailbox OneRight) (vs : List Envelope) → ShownAt f x.0 m → Sound f → SweptWith f x vs → HoldsAll m vs
+pub swept_there : (f : Facts) (x : EndId) (m : Mailbox OneRight) (vs : List Envelope) → ShownAt f x.0 m → Sound f → SweptWith f x vs
     → Leads x.0 (lines_of ((f.end x.0).kind)) m (sweeping vs (f.end x.0).taker_stand ((f.end x.0).newest - (f.end x.0).taker_stand + 1)) (record (view f x.0) { removed = f.taken x.0 ++ (f.discarded x.0 ++ vs) })
-swept_there f x m vs is sound s holds =
+swept_there f x m vs is sound s =
     let e : ℕ = x.0 in
     let t : ℕ = (f.end e).taker_stand in
     let n : ℕ = (f.end e).newest - t + 1 in
@@ -179,7 +181,9 @@ swept_there f x m vs is sound s holds =
       shown = is;
       settled = λ j low high. settled_there f e m is j (omega arith) (each_of (is_settled f e) t n s.settled j low (omega arith));
       nothing = λ j low less. absurd (omega arith);
-      ahead = λ j q from at. holds j q (omega arith) at;
+      ahead = λ j q from at l. held_of f e m is j l q (by l (in_queue j vs)) at
+          (ap (in_queue j) (sym (s.all.all l) ∙ filter-append _ (f.taken e ++ f.discarded e) vs) ∙ filter-append _ (by l (f.taken e ++ f.discarded e)) (by l vs)
+          ∙ ap (λ us. in_queue j (by l (f.taken e ++ f.discarded e)) ++ us) (filters _ _ vs));
     } in
     let last : (f.taken e ++ f.discarded e) ++ queues_from t n vs ≡ f.taken e ++ (f.discarded e ++ vs) =
     ap (λ us. (f.taken e ++ f.discarded e) ++ us) (all_queues f e vs sound s.all) ∙ append_assoc (f.taken e) (f.discarded e) vs

@@ -73,28 +73,6 @@ module _ (e k n : ℕ) where
       let other : eqb v.line.0 line ≡ false = ne_eqb v.line.0 line (λ same. let low = first.line in omega arith) in
       ap (λ b. cond b (v ∷ by line vs) (by line vs)) other ∙ by_none vs line (All-tail (IsNamed e k n) v vs named) past
 
--- what a pop that finds an envelope says
-pub record Found (q : Queue) (v : Envelope) (rest : Queue) : Type 0 where
-  pub same : rest.put ≡ q.put
-  pub got : rest.got ≡ q.got ++ v ∷ []
-  pub some : q.held ≡ [] → ⊥
-
-pub found : (q rest : Queue) (v : Envelope) → popped q ≡ Some (v, rest) → Found q v rest
-found q rest v is = cases q.held refl is
-  where
-    cases : (held : List Envelope) → q.held ≡ held → pop_of q held ≡ Some (v, rest) → Found q v rest
-    cases [] same p = absurd (search (rules, p))
-    cases (u ∷ left) same p =
-        let next : Queue = record { put = q.put; held = left; got = q.got ++ u ∷ [] } in
-        let one : Envelope × Queue = (u, next) in
-        let other : Envelope × Queue = (v, rest) in
-        let both : one ≡ other = cc in
-        let first : u ≡ v = ap (λ (w : Envelope × Queue). w.0) both in record {
-          same = ap (λ (w : Envelope × Queue). w.1.put) (sym both);
-          got = ap (λ (w : Envelope × Queue). w.1.got) (sym both) ∙ ap (λ w. q.got ++ w ∷ []) first;
-          some = λ none. cc;
-        }
-
 -- a queue that holds nothing gives none, and no other
 pub none_held : (q : Queue) → popped q ≡ None → q.held ≡ []
 none_held q is = none_cases q q.held refl is

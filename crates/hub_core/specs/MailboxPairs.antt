@@ -1,5 +1,5 @@
 -- What each pair of a history is to the mailbox of one end: events there, or nothing.
-use Rattle.std.specs.Prelude.{◌≡◌, ℕ, ◌<◌, ◌==◌, if◌then◌else◌, Bool, true, false, IsTrue, [], ◌∷◌, ◌++◌, Option, Some, None, slice_get, List, map, zero, suc, ◌+◌, ◌-◌, ◌≤◌}
+use Rattle.std.specs.Prelude.{◌≡◌, ℕ, ◌<◌, ◌==◌, if◌then◌else◌, Bool, true, false, IsTrue, [], ◌∷◌, ◌++◌, Option, Some, None, slice_get, List, map, zero, suc, ◌+◌, ◌-◌}
 use Rattle.hub_envelope.specs.declared.envelope.Envelope.{Envelope}
 use Rattle.hub_envelope.specs.declared.ids.EndId.{EndId}
 use Rattle.hub_core.specs.declared.line.Phase.{Phase}
@@ -15,11 +15,10 @@ use Rattle.hub_core.specs.Made.{ends, kind, lines_of}
 use Rattle.hub_core.specs.Fits.{Fits}
 use Rattle.hub_core.specs.Legal.{Legal}
 use Rattle.hub_core.specs.GateMachine.{Gate, enter, leave, turn_back, enable, lets_in, says_moved, says_closed, lets_out, says_done, busy, look, says_inside, gives_rights, close}
-use Rattle.hub_core.specs.QueueMachine.{Queue, popped}
-use Rattle.hub_core.specs.Mailbox.{Mailbox, QueueAt}
+use Rattle.hub_core.specs.Mailbox.{Mailbox}
 use Rattle.hub_core.specs.MailboxSteps.{MailboxEvent, at_gate, push, pop, MailboxStep, hop, advance, add}
 use Rattle.hub_core.specs.MailboxShows.{ShowsMailbox}
-use Rattle.hub_core.specs.Looking.{looked}
+use Rattle.hub_core.specs.Looking.{looked, is_settled, first_failing}
 use Rattle.hub_core.specs.Sender.{in_queue}
 
 -- A history says nothing of rights. So there is one right, which each line has at every epoch.
@@ -61,6 +60,10 @@ finds_busy_at m (Some k) = finds_busy m k ∷ []
 abbrev pub at_end : ℕ → EndId → List (MailboxEvent OneRight) → List (MailboxEvent OneRight)
 at_end e x events = if e == x.0 then events else []
 
+-- the oldest queue from the taker's on that isn't settled
+abbrev pub unsettled : Facts → ℕ → Option ℕ
+unsettled f x = first_failing (is_settled f x) (f.end x).taker_stand ((f.end x).newest - (f.end x).taker_stand + 1)
+
 -- pops at n queues, from the epoch k on, each until it finds none
 abbrev pub sweeping : List Envelope → ℕ → ℕ → List (MailboxEvent OneRight)
 sweeping vs k zero = []
@@ -69,7 +72,8 @@ sweeping vs k (suc n) = map (λ v. pop k (Some v)) (in_queue k vs) ++ (pop k Non
 -- The events of the mailbox of the end that an answered step is. An event of a line is at the gate or the queue where
 -- the line stands, a Start at the newest gate, and a Take at the taker's queue. A Take that finds a retired queue
 -- empty looks for somebody there, or goes on. An Adopt retires the newest gate and adds a queue, a Close closes the newest
--- gate, and a Sweep pops at each queue from the taker's on. Every other answered step is none.
+-- gate, and a Sweep pops at each queue from the taker's on, or looks at the first that isn't settled. Every other answered
+-- step is none.
 abbrev pub events_of : Facts → ℕ → Mailbox OneRight → Outcome → Action → List (MailboxEvent OneRight)
 events_of f e m outcome.In (action.Enter s) = at_end e s.end (at_gate ((f.line e s.line.0).stand) (enter s.line.0) (lets_in tt) ∷ [])
 events_of f e m outcome.Moved (action.Enter s) = at_end e s.end (at_gate ((f.line e s.line.0).stand) (enter s.line.0) says_moved ∷ [])
@@ -87,6 +91,7 @@ events_of f e m outcome.Busy (action.Look x) = at_end e x (finds_busy_at m (look
 events_of f e m (outcome.Clear (Some k)) (action.Look x) = at_end e x (at_gate k look (gives_rights (rights_of m)) ∷ [])
 events_of f e m (outcome.Adopted n) (action.Adopt x a) = at_end e x (add (rights_of m) ∷ [])
 events_of f e m outcome.Done (action.Close x) = at_end e x (at_gate ((f.end e).newest) close says_done ∷ [])
+events_of f e m outcome.Busy (action.Sweep x) = at_end e x (finds_busy_at m (unsettled f e))
 events_of f e m (outcome.Discarded vs) (action.Sweep x) = at_end e x (sweeping vs ((f.end e).taker_stand) ((f.end e).newest - (f.end e).taker_stand + 1))
 events_of f e m _ _ = []
 
@@ -95,25 +100,8 @@ abbrev pub Runs : (end lines : ℕ) → Mailbox OneRight → List (MailboxEvent 
 Runs end lines m [] after = after ≡ m
 Runs end lines m (event ∷ events) after = (between : Mailbox OneRight) × MailboxStep (λ k line right. IsTrue (has_right k line right)) end lines m event between × Runs end lines between events after
 
--- the queue of this epoch holds the envelope first
-pub record HoldsFirst (m : Mailbox OneRight) (k : ℕ) (v : Envelope) : Type 0 where
-  pub queue : Queue
-  pub rest : Queue
-  pub is_queue : QueueAt m k queue
-  pub first : popped queue ≡ Some (v, rest)
-
--- the queues from the taker's on hold these envelopes
-abbrev pub HoldsAll : Mailbox OneRight → List Envelope → Type 0
-HoldsAll m vs = (k : ℕ) (q : Queue) → m.taker ≤ k → QueueAt m k q → q.held ≡ in_queue k vs
-
--- what a history leaves free and a queue does not: from which line an envelope comes first
-pub record HoldsWhatLeaves (e : ℕ) (p : Pair) (m : Mailbox OneRight) : Type 0 where
-  pub got : (t : EndId) (v : Envelope) → p.0.action ≡ action.Take t → p.1 ≡ outcome.Got v → e ≡ t.0 → HoldsFirst m m.taker v
-  pub swept : (t : EndId) (vs : List Envelope) → p.0.action ≡ action.Sweep t → p.1 ≡ outcome.Discarded vs → e ≡ t.0 → HoldsAll m vs
-
 -- A pair that fits is what its events make of each mailbox that shows the history at an end: the mailbox after them shows
--- the history with the pair. Where there is no event, that is the mailbox as it was. What is taken or discarded there the
--- queues hold in that order.
+-- the history with the pair. Where there is no event, that is the mailbox as it was.
 abbrev pub PairsAreEvents : Type 0
-PairsAreEvents = (h : History) (p : Pair) (e : ℕ) (m : Mailbox OneRight) → Legal h → Fits h p → e < ends h → ShowsMailbox h e [] m → HoldsWhatLeaves e p m
+PairsAreEvents = (h : History) (p : Pair) (e : ℕ) (m : Mailbox OneRight) → Legal h → Fits h p → e < ends h → ShowsMailbox h e [] m
     → (after : Mailbox OneRight) × Runs e (lines_of (kind h e)) m (events_of (facts h) e m p.1 p.0.action) after × ShowsMailbox (h ++ p ∷ []) e [] after

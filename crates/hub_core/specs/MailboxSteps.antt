@@ -1,12 +1,26 @@
 -- What may happen at a mailbox, and what it makes of it.
-use Rattle.std.specs.Prelude.{◌≡◌, ◌⊎◌, ℕ, ◌+◌, ◌<◌, ◌≤◌, true, false, List, [], ◌∷◌, ◌++◌, length, slice_get, slice_set, Option, Some, None}
+use Rattle.std.specs.Prelude.{◌≡◌, ◌⊎◌, ℕ, ◌+◌, ◌<◌, ◌≤◌, ◌==◌, if◌then◌else◌, true, false, List, [], ◌∷◌, ◌++◌, length, slice_get, slice_set, Option, Some, None}
 use Rattle.std.specs.Option.{option_to_list}
 use Rattle.hub_envelope.specs.declared.envelope.Envelope.{Envelope}
 use Rattle.hub_core.specs.declared.line.Phase.TheVariants.{Out, Inside}
+use Rattle.hub_core.specs.Sender.{by}
 use Rattle.hub_core.specs.GateMachine as machine
 use Rattle.hub_core.specs.GateMachine.{Gate, IsAt, opened, busy, Steps}
 use Rattle.hub_core.specs.QueueMachine.{Queue, new_queue, MayPush, pushed, popped}
 use Rattle.hub_core.specs.Mailbox.{Mailbox, GateAt, QueueAt, StandsAt, IsNewest}
+
+-- Of its line the queue holds this envelope first. Between two lines the choice is free.
+abbrev pub HoldsFirst : Queue → Envelope → Type 0
+HoldsFirst q v = (rest : List Envelope) × (by v.line.0 q.held ≡ v ∷ rest)
+
+-- the envelopes without the first of the line
+abbrev pub without_first : ℕ → List Envelope → List Envelope
+without_first line [] = []
+without_first line (v ∷ vs) = if v.line.0 == line then vs else v ∷ without_first line vs
+
+-- the queue after the envelope was taken out; a pop takes out the one that is held first of all
+abbrev pub taken_out : Queue → Envelope → Queue
+taken_out q v = record { put = q.put; held = without_first v.line.0 q.held; got = q.got ++ v ∷ [] }
 
 module _ {R : Type 0} (m : Mailbox R) where
   -- the mailbox with another gate or queue at an epoch
@@ -67,7 +81,7 @@ pub data MailboxEvent (R : Type 0) : Type 0 where
   -- an event of the gate of an epoch
   at_gate : ℕ → machine.Event R → machine.Answer R → MailboxEvent R
   push : Envelope → MailboxEvent R
-  -- a pop at the queue of an epoch, and what it finds
+  -- the queue of an epoch is asked for an envelope, and what is taken out
   pop : ℕ → Option Envelope → MailboxEvent R
   -- a line goes on to the next epoch
   hop : ℕ → MailboxEvent R
@@ -102,11 +116,11 @@ pub data MailboxStep {R : Type 0} (owns : ℕ → ℕ → R → Type 0) (end lin
   -- a line that is inside puts an envelope in the queue where it stands
   pushes : (k : ℕ) (g : Gate R) (q : Queue) (v : Envelope) → StandsAt m v.line.0 k → GateAt m k g → IsAt g v.line.0 Inside → QueueAt m k q → MayPush end k lines q v
       → MailboxStep owns end lines m (push v) (with_queue m k (pushed q v))
-  -- a pop at the taker's queue, and in a sweep
-  takes : (q rest : Queue) (v : Envelope) → QueueAt m m.taker q → popped q ≡ Some (v, rest)
-      → MailboxStep owns end lines m (pop m.taker (Some v)) (with_queue m m.taker rest)
-  sweeps : (k : ℕ) (q rest : Queue) (v : Envelope) → MaySweep m k → QueueAt m k q → popped q ≡ Some (v, rest)
-      → MailboxStep owns end lines m (pop k (Some v)) (with_queue m k rest)
+  -- the first of a line is taken out of the taker's queue, and in a sweep
+  takes : (q : Queue) (v : Envelope) → QueueAt m m.taker q → HoldsFirst q v
+      → MailboxStep owns end lines m (pop m.taker (Some v)) (with_queue m m.taker (taken_out q v))
+  sweeps : (k : ℕ) (q : Queue) (v : Envelope) → MaySweep m k → QueueAt m k q → HoldsFirst q v
+      → MailboxStep owns end lines m (pop k (Some v)) (with_queue m k (taken_out q v))
   -- a pop that finds none changes nothing
   finds_none : (k : ℕ) (q : Queue) → QueueAt m k q → popped q ≡ None
       → MailboxStep owns end lines m (pop k None) m
