@@ -62,6 +62,8 @@ pub mod PairMoves
 pub mod PairSweeps
 pub mod MailboxPairs
 pub mod TakenOut
+pub mod MailboxRuns
+pub mod MailboxOf
 pub mod Names
 pub mod Fating
 pub mod Asks

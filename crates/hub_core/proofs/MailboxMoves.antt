@@ -16,7 +16,7 @@ use Rattle.hub_core.proofs.Queueing.{at_first_queue, none_held}
 
 -- a gate as it opens has all lines out
 module _ {R : Type 0} (rights : List R) where
-  opened_out : (line : ℕ) → line < length rights → IsAt (opened rights) line Out
+  pub opened_out : (line : ℕ) → line < length rights → IsAt (opened rights) line Out
   opened_out line low = let there = got_there rights line low in got-map (λ (_ : R). Out) rights line there.0 there.1
 
   opened_empty : (line : ℕ) → ¬ IsAt (opened rights) line Inside
@@ -147,7 +147,7 @@ module _ {R : Type 0} (end lines : ℕ) (m : Mailbox R) (is : IsMailbox end line
         }
 
 -- the only item of a list of one
-only : {A : Type 0} (a : A) (P : ℕ → A → Type 0) → P zero a → (j : ℕ) (b : A) → slice_get (a ∷ []) j ≡ Some b → P j b
+pub only : {A : Type 0} (a : A) (P : ℕ → A → Type 0) → P zero a → (j : ℕ) (b : A) → slice_get (a ∷ []) j ≡ Some b → P j b
 only a P here j b at = at_pushed [] a P (λ i c there. cc) here j b at
 
 -- a new mailbox

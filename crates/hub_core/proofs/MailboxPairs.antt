@@ -231,7 +231,7 @@ module _ (f : Facts) (e : ℕ) (m : Mailbox OneRight) (sound : Sound f) (shown :
   happened refused fits made (swept_busy x) =
       at_step x.0 (λ y. finds_busy_at m (unsettled f y)) (λ y _. view f y) shown (λ there. swept_busy_at x fits there)
 
-  goes : (a : Action) (refused : Bool) (o : Outcome) → Answers f a refused o → e < f.ends → Leads e (lines e) m (events_of f e m o a) (view (next f a o) e)
+  pub goes : (a : Action) (refused : Bool) (o : Outcome) → Answers f a refused o → e < f.ends → Leads e (lines e) m (events_of f e m o a) (view (next f a o) e)
   goes a refused o fits made = elim (kind_of f e m o a) [
     | inl none ↦
         let still : ShownAt (next f a o) e m = subst (λ g. ShownAt g e m) (sym none.1) shown in

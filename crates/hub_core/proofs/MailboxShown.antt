@@ -76,7 +76,7 @@ of_history h e m s = record {
   taker_at = s.taker;
 }
 
-to_history : (h : History) (e : ℕ) (m : Mailbox OneRight) → ShownAt (facts h) e m → ShowsMailbox h e [] m
+pub to_history : (h : History) (e : ℕ) (m : Mailbox OneRight) → ShownAt (facts h) e m → ShowsMailbox h e [] m
 to_history h e m s = record {
   is_mailbox = s.is_mailbox;
   gates = s.gates;

@@ -21,7 +21,7 @@ module _ {R : Type 0} {owns : ℕ → ℕ → R → Type 0} (end lines : ℕ) wh
   step_kept m after is (advances older settled nothing) = advanced_kept end lines m is older settled nothing
   step_kept m after is (adds k g g' rights newest at open_yet step many own) = added_kept end lines m is k g g' rights newest at open_yet step many
 
-  step_grows : (m after : Mailbox R) {event : MailboxEvent R} → IsMailbox end lines m → MailboxStep owns end lines m event after → Grows m (put_in event) (got_in event) after
+  pub step_grows : (m after : Mailbox R) {event : MailboxEvent R} → IsMailbox end lines m → MailboxStep owns end lines m event after → Grows m (put_in event) (got_in event) after
   step_grows m after is (gate_steps k g g' event answer at there step) = same_grows m after refl
   step_grows m after is (pushes k g q v stands at_g inside at_q may) = push_grows end lines m is k q v stands at_q
   step_grows m after is (takes q v at_q first) = pop_grows end lines m is m.taker q v at_q first

@@ -87,7 +87,7 @@ all_where : {A : Type 0} (b : Bool) (vs ws : List A) → vs ++ cond b ws [] ≡ 
 all_where true vs ws = refl
 all_where false vs ws = append-nil vs
 
-accepted_one : (x : ℕ) (vs : List Envelope) (o : Outcome) (a : Action) → vs ++ accepted_by x o a ≡ accepted_after x vs o a
+pub accepted_one : (x : ℕ) (vs : List Envelope) (o : Outcome) (a : Action) → vs ++ accepted_by x o a ≡ accepted_after x vs o a
 accepted_one x vs (outcome.Accepted n) (action.Push s ports body) = one_where (eqb x s.end.0) vs (named_envelope s n body ports)
 accepted_one x vs (outcome.Accepted n) (action.Notice s) = one_where (eqb x s.end.0) vs (named_notice s n)
 accepted_one x vs o a = append-nil vs

@@ -43,3 +43,4 @@ pub mod MailboxSteps
 pub mod ChainLaws
 pub mod MailboxShows
 pub mod MailboxPairs
+pub mod MailboxOf

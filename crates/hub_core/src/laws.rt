@@ -1,7 +1,9 @@
 //! The laws of histories, of the machines, and of what joins them. Each function does nothing: its
 //! contract is the law.
 
-ghost use Rattle.hub_core.specs.History.{History};
+ghost use Rattle.std.specs.Prelude.{ℕ};
+ghost use Rattle.hub_core.specs.History.{Pair, History};
+ghost use Rattle.hub_core.specs.Fits.{Fits};
 ghost use Rattle.hub_core.specs.Legal.{Legal};
 ghost use Rattle.hub_core.specs.Headline.{Headline};
 ghost use Rattle.hub_core.specs.QueueMachine.{QueueLaws};
@@ -9,6 +11,7 @@ ghost use Rattle.hub_core.specs.declared.machine.Core.{Core};
 ghost use Rattle.hub_core.specs.Shows.{Shows};
 ghost use Rattle.hub_core.specs.GateMachineLaws.{GateMachineLaws};
 ghost use Rattle.hub_core.specs.ChainLaws.{ChainLaws};
+ghost use Rattle.hub_core.specs.MailboxOf.{EachShows, GoesOn, KeepsMailboxes};
 ghost use Rattle.hub_core.specs.MailboxShows.{MailboxesShow};
 ghost use Rattle.hub_core.specs.MailboxPairs.{PairsAreEvents};
 ghost use Rattle.hub_core.specs.Facts.{facts};
@@ -52,10 +55,15 @@ pub fn chain_laws<R>()
 {}
 
 /// The ends of a core that shows a history are mailboxes that show it: queue by queue a gate and
-/// what it holds. And what such a core took is in order, queue by queue. The function does nothing;
+/// what it holds. After a legal history these are the mailboxes that the events of its pairs make:
+/// each shows the history, goes on by the events of a pair that fits, and has the queues that the
+/// core keeps. And what such a core took is in order, queue by queue. The function does nothing;
 /// the laws are its contract.
 pub fn mailbox_laws()
     ensures shown { (core : Core) (h : History) → Shows core h → MailboxesShow core h }
+    ensures shows { (h : History) → Legal h → EachShows h }
+    ensures goes_on { (h : History) (p : Pair) → Legal h → Fits h p → (e : ℕ) → GoesOn h p e }
+    ensures kept { (core : Core) (h : History) → Legal h → Shows core h → KeepsMailboxes core h }
     ensures in_order { (core : Core) (h : History) → Shows core h → InOrder h }
 {}
 

@@ -1,10 +1,20 @@
--- An end of the core as a mailbox, and in order.
+-- An end of the core as a mailbox, the mailbox of an end after a history, and in order.
 use Rattle.hub_core.proofs.Mailboxes.{mailboxes_show}
+use Rattle.hub_core.proofs.MailboxOf.{each_shows, goes_on, keeps_mailboxes}
 use Rattle.hub_core.proofs.Orders.{shows_in_order}
 use Rattle.hub_core.proofs.laws.mailbox_laws.Goals as goal
 
 pub returns-clause-shown : goal.returns-clause-shown
 returns-clause-shown c = mailboxes_show
+
+pub returns-clause-shows : goal.returns-clause-shows
+returns-clause-shows c = each_shows
+
+pub returns-clause-kept : goal.returns-clause-kept
+returns-clause-kept c = keeps_mailboxes
+
+pub returns-clause-goes_on : goal.returns-clause-goes_on
+returns-clause-goes_on c = goes_on
 
 pub returns-clause-in_order : goal.returns-clause-in_order
 returns-clause-in_order c = shows_in_order
