@@ -88,8 +88,8 @@ pop_takes q rest v is = cases q.held refl is
         let first : u ≡ v = ap (λ (w : Envelope × Queue). w.0) both in
         let found : rest ≡ next = sym (ap (λ (w : Envelope × Queue). w.1) both) in
         let here : eqb u.line.0 line ≡ true = ap (λ (w : Envelope). eqb w.line.0 line) first ∙ eqb_same line in
+        let as_first : next ≡ record { put = q.put; held = us; got = q.got ++ v ∷ [] } = ap (λ w. record { put = q.put; held = us; got = q.got ++ w ∷ [] }) first in
         let left : without_first line q.held ≡ us = ap (without_first line) same ∙ ap (λ b. cond b us (u ∷ without_first line us)) here in (
           (by line us, ap (by line) same ∙ ap (λ b. cond b (u ∷ by line us) (by line us)) here ∙ ap (λ w. w ∷ by line us) first),
-          found ∙ ap (λ w. record { put = q.put; held = us; got = q.got ++ w ∷ [] }) first
-              ∙ ap (λ hs. record { put = q.put; held = hs; got = q.got ++ v ∷ [] }) (sym left),
+          found ∙ as_first ∙ ap (λ hs. record { put = q.put; held = hs; got = q.got ++ v ∷ [] }) (sym left),
         )
