@@ -37,17 +37,17 @@ slice_get_none agents a none = elim (slice_get_cases agents a).1 [
 ]
 
 -- each agent, one of them ordered
-ordered_each : (agents : List Agent) (f : Facts) (a c : ℕ) → ((b : ℕ) → f.agent b ≡ agent_now (slice_get agents b)) → (x : Agent) → slice_get agents a ≡ Some x → (b : Bool) → eqb c a ≡ b → (let y : AgentNow = record { runs = (f.agent c).runs; ordered = cond b true (f.agent c).ordered } in y ≡ agent_now (cond b (option_map (λ (z : Agent). let w : Agent = record z { is_ordered = true } in w) (slice_get agents c)) (slice_get agents c)))
+ordered_each : (agents : List Agent) (f : Facts) (a c : ℕ) → ((b : ℕ) → f.agent b ≡ agent_now (slice_get agents b)) → (x : Agent) → slice_get agents a ≡ Some x → (b : Bool) → eqb c a ≡ b → (let y : AgentNow = record (f.agent c) { ordered = cond b true (f.agent c).ordered } in y ≡ agent_now (cond b (option_map (λ (z : Agent). let w : Agent = record z { is_ordered = true } in w) (slice_get agents c)) (slice_get agents c)))
 ordered_each agents f a c h x at true is =
     let here : slice_get agents c ≡ Some x = ap (slice_get agents) (eqb-true c a is) ∙ at in
-    ap (λ (z : AgentNow). let y : AgentNow = record { runs = z.runs; ordered = true } in y) (h c ∙ ap agent_now here) ∙ sym (ap (λ o. agent_now (option_map (λ (z : Agent). let w : Agent = record z { is_ordered = true } in w) o)) here)
+    ap (λ (z : AgentNow). let y : AgentNow = record z { ordered = true } in y) (h c ∙ ap agent_now here) ∙ sym (ap (λ o. agent_now (option_map (λ (z : Agent). let w : Agent = record z { is_ordered = true } in w) o)) here)
 ordered_each agents f a c h x at false is = h c
 
 -- each agent, one of which runs no more
-ended_each : (agents : List Agent) (f : Facts) (a c : ℕ) → ((b : ℕ) → f.agent b ≡ agent_now (slice_get agents b)) → (x : Agent) → slice_get agents a ≡ Some x → (b : Bool) → eqb c a ≡ b → (let y : AgentNow = record { runs = cond b false (f.agent c).runs; ordered = (f.agent c).ordered } in y ≡ agent_now (cond b (option_map (λ (z : Agent). let w : Agent = record z { is_running = false } in w) (slice_get agents c)) (slice_get agents c)))
+ended_each : (agents : List Agent) (f : Facts) (a c : ℕ) → ((b : ℕ) → f.agent b ≡ agent_now (slice_get agents b)) → (x : Agent) → slice_get agents a ≡ Some x → (b : Bool) → eqb c a ≡ b → (let y : AgentNow = record (f.agent c) { runs = cond b false (f.agent c).runs } in y ≡ agent_now (cond b (option_map (λ (z : Agent). let w : Agent = record z { is_running = false } in w) (slice_get agents c)) (slice_get agents c)))
 ended_each agents f a c h x at true is =
     let here : slice_get agents c ≡ Some x = ap (slice_get agents) (eqb-true c a is) ∙ at in
-    ap (λ (z : AgentNow). let y : AgentNow = record { runs = false; ordered = z.ordered } in y) (h c ∙ ap agent_now here) ∙ sym (ap (λ o. agent_now (option_map (λ (z : Agent). let w : Agent = record z { is_running = false } in w) o)) here)
+    ap (λ (z : AgentNow). let y : AgentNow = record z { runs = false } in y) (h c ∙ ap agent_now here) ∙ sym (ap (λ o. agent_now (option_map (λ (z : Agent). let w : Agent = record z { is_running = false } in w) o)) here)
 ended_each agents f a c h x at false is = h c
 
 -- ---- Order

@@ -54,15 +54,15 @@ phased_inside old k bound p l true is may kept at = subst (λ i. (old i).stand <
 phased_inside old k bound p l false is may kept at = kept at
 
 -- the end at which the line is
-phased_end : (now : EndNow) (old : ℕ → LineNow) (clear : ℕ → Bool) (vs ts : List Envelope) (x : End) (y : Line) (k : ℕ) (p : Phase) → slice_get x.lines k ≡ Some y → (p ≡ Inside → (old k).stand < x.taker + length x.queues) → ShowsEnd now old clear vs ts (Some x) → ShowsEnd now (λ l. record { phase = cond (eqb l k) p (old l).phase; stand = (old l).stand; noticed = (old l).noticed; held_by = (old l).held_by }) clear vs ts (Some (with_phase x y k p))
+phased_end : (now : EndNow) (old : ℕ → LineNow) (clear : ℕ → Bool) (vs ts : List Envelope) (x : End) (y : Line) (k : ℕ) (p : Phase) → slice_get x.lines k ≡ Some y → (p ≡ Inside → (old k).stand < x.taker + length x.queues) → ShowsEnd now old clear vs ts (Some x) → ShowsEnd now (λ l. record (old l) { phase = cond (eqb l k) p (old l).phase }) clear vs ts (Some (with_phase x y k p))
 phased_end now old clear vs ts x y k p is may h =
     let within : k < length x.lines = slice_get_within x.lines k y is in
     record {
       same = h.same;
       count = length-set x.lines k (record y { phase = p }) ∙ h.count;
-      lines = each_set (λ l o. (let z : LineNow = record { phase = cond (eqb l k) p (old l).phase; stand = (old l).stand; noticed = (old l).noticed; held_by = (old l).held_by } in z ≡ line_now o)) x.lines k (record y { phase = p }) within
-          (ap (λ b. let z : LineNow = record { phase = cond b p (old k).phase; stand = (old k).stand; noticed = (old k).noticed; held_by = (old k).held_by } in z) (eqb_same k) ∙ ap (λ (z : LineNow). let w : LineNow = record { phase = p; stand = z.stand; noticed = z.noticed; held_by = z.held_by } in w) (h.lines k ∙ ap line_now is))
-          (λ l other. ap (λ b. let z : LineNow = record { phase = cond b p (old l).phase; stand = (old l).stand; noticed = (old l).noticed; held_by = (old l).held_by } in z) (ne_eqb l k other) ∙ h.lines l);
+      lines = each_set (λ l o. (let z : LineNow = record (old l) { phase = cond (eqb l k) p (old l).phase } in z ≡ line_now o)) x.lines k (record y { phase = p }) within
+          (ap (λ b. let z : LineNow = record (old k) { phase = cond b p (old k).phase } in z) (eqb_same k) ∙ ap (λ (z : LineNow). let w : LineNow = record z { phase = p } in w) (h.lines k ∙ ap line_now is))
+          (λ l other. ap (λ b. let z : LineNow = record (old l) { phase = cond b p (old l).phase } in z) (ne_eqb l k other) ∙ h.lines l);
       put = each_set (ShowsPut vs) x.lines k (record y { phase = p }) within
           (subst (ShowsPut vs k) is (h.put k))
           (λ l other. h.put l);
@@ -73,9 +73,9 @@ phased_end now old clear vs ts x y k p is may h =
 pub phased_shown : (agents : List Agent) (ends : List End) (f : Facts) (s : Sender) (p : Phase) (x : End) (y : Line) → ShowsFacts agents ends f → slice_get ends s.end.0 ≡ Some x → slice_get x.lines s.line.0 ≡ Some y → (p ≡ Inside → (f.line s.end.0 s.line.0).stand < x.taker + length x.queues) → (d : ℕ) → ShowsEnd (f.end d) (phased_line f s p d) (f.clear d) (f.accepted d) (f.taken d ++ f.discarded d) (slice_get (set ends s.end.0 (with_phase x y s.line.0 p)) d)
 phased_shown agents ends f s p x y h at is may =
     each_set (λ d o. ShowsEnd (f.end d) (phased_line f s p d) (f.clear d) (f.accepted d) (f.taken d ++ f.discarded d) o) ends s.end.0 (with_phase x y s.line.0 p) (slice_get_within ends s.end.0 x at)
-    (subst (λ b. ShowsEnd (f.end s.end.0) (λ l. record { phase = cond (b && eqb l s.line.0) p (f.line s.end.0 l).phase; stand = (f.line s.end.0 l).stand; noticed = (f.line s.end.0 l).noticed; held_by = (f.line s.end.0 l).held_by }) (f.clear s.end.0) (f.accepted s.end.0) (f.taken s.end.0 ++ f.discarded s.end.0) (Some (with_phase x y s.line.0 p))) (sym (eqb_same s.end.0))
+    (subst (λ b. ShowsEnd (f.end s.end.0) (λ l. record (f.line s.end.0 l) { phase = cond (b && eqb l s.line.0) p (f.line s.end.0 l).phase }) (f.clear s.end.0) (f.accepted s.end.0) (f.taken s.end.0 ++ f.discarded s.end.0) (Some (with_phase x y s.line.0 p))) (sym (eqb_same s.end.0))
     (phased_end (f.end s.end.0) (f.line s.end.0) (f.clear s.end.0) (f.accepted s.end.0) (f.taken s.end.0 ++ f.discarded s.end.0) x y s.line.0 p is may (subst (ShownAt f s.end.0) at (h.end s.end.0))))
-    (λ d other. subst (λ b. ShowsEnd (f.end d) (λ l. record { phase = cond (b && eqb l s.line.0) p (f.line d l).phase; stand = (f.line d l).stand; noticed = (f.line d l).noticed; held_by = (f.line d l).held_by }) (f.clear d) (f.accepted d) (f.taken d ++ f.discarded d) (slice_get ends d)) (sym (ne_eqb d s.end.0 other)) (h.end d))
+    (λ d other. subst (λ b. ShowsEnd (f.end d) (λ l. record (f.line d l) { phase = cond (b && eqb l s.line.0) p (f.line d l).phase }) (f.clear d) (f.accepted d) (f.taken d ++ f.discarded d) (slice_get ends d)) (sym (ne_eqb d s.end.0 other)) (h.end d))
 
 -- ---- Enter
 

@@ -41,15 +41,15 @@ use Rattle.hub_core.proofs.Calms.{calm_held, free_out}
 abbrev with_holder : End → Line → ℕ → Option AgentId → End
 with_holder x y l holder = record x { lines = set x.lines l (record y { held_by = holder }) }
 
-held_end_shown : (now : EndNow) (old : ℕ → LineNow) (clear : ℕ → Bool) (vs ts : List Envelope) (x : End) (y : Line) (k : ℕ) (holder : Option AgentId) → slice_get x.lines k ≡ Some y → ShowsEnd now old clear vs ts (Some x) → ShowsEnd now (λ l. record { phase = (old l).phase; stand = (old l).stand; noticed = (old l).noticed; held_by = cond (eqb l k) holder (old l).held_by }) clear vs ts (Some (with_holder x y k holder))
+held_end_shown : (now : EndNow) (old : ℕ → LineNow) (clear : ℕ → Bool) (vs ts : List Envelope) (x : End) (y : Line) (k : ℕ) (holder : Option AgentId) → slice_get x.lines k ≡ Some y → ShowsEnd now old clear vs ts (Some x) → ShowsEnd now (λ l. record (old l) { held_by = cond (eqb l k) holder (old l).held_by }) clear vs ts (Some (with_holder x y k holder))
 held_end_shown now old clear vs ts x y k holder is h =
     let within : k < length x.lines = slice_get_within x.lines k y is in
     record {
       same = h.same;
       count = length-set x.lines k (record y { held_by = holder }) ∙ h.count;
-      lines = each_set (λ l o. (let z : LineNow = record { phase = (old l).phase; stand = (old l).stand; noticed = (old l).noticed; held_by = cond (eqb l k) holder (old l).held_by } in z ≡ line_now o)) x.lines k (record y { held_by = holder }) within
-          (ap (λ b. let z : LineNow = record { phase = (old k).phase; stand = (old k).stand; noticed = (old k).noticed; held_by = cond b holder (old k).held_by } in z) (eqb_same k) ∙ ap (λ (z : LineNow). let w : LineNow = record { phase = z.phase; stand = z.stand; noticed = z.noticed; held_by = holder } in w) (h.lines k ∙ ap line_now is))
-          (λ l other. ap (λ b. let z : LineNow = record { phase = (old l).phase; stand = (old l).stand; noticed = (old l).noticed; held_by = cond b holder (old l).held_by } in z) (ne_eqb l k other) ∙ h.lines l);
+      lines = each_set (λ l o. (let z : LineNow = record (old l) { held_by = cond (eqb l k) holder (old l).held_by } in z ≡ line_now o)) x.lines k (record y { held_by = holder }) within
+          (ap (λ b. let z : LineNow = record (old k) { held_by = cond b holder (old k).held_by } in z) (eqb_same k) ∙ ap (λ (z : LineNow). let w : LineNow = record z { held_by = holder } in w) (h.lines k ∙ ap line_now is))
+          (λ l other. ap (λ b. let z : LineNow = record (old l) { held_by = cond b holder (old l).held_by } in z) (ne_eqb l k other) ∙ h.lines l);
       put = each_set (ShowsPut vs) x.lines k (record y { held_by = holder }) within
           (subst (ShowsPut vs k) is (h.put k))
           (λ l other. h.put l);
@@ -60,9 +60,9 @@ held_end_shown now old clear vs ts x y k holder is h =
 held_shown : (agents : List Agent) (ends : List End) (f : Facts) (s : Sender) (holder : Option AgentId) (x : End) (y : Line) → ShowsFacts agents ends f → slice_get ends s.end.0 ≡ Some x → slice_get x.lines s.line.0 ≡ Some y → (d : ℕ) → ShowsEnd (f.end d) (held_line_as f s holder d) (f.clear d) (f.accepted d) (f.taken d ++ f.discarded d) (slice_get (set ends s.end.0 (with_holder x y s.line.0 holder)) d)
 held_shown agents ends f s holder x y h at is =
     each_set (λ d o. ShowsEnd (f.end d) (held_line_as f s holder d) (f.clear d) (f.accepted d) (f.taken d ++ f.discarded d) o) ends s.end.0 (with_holder x y s.line.0 holder) (slice_get_within ends s.end.0 x at)
-    (subst (λ b. ShowsEnd (f.end s.end.0) (λ l. record { phase = (f.line s.end.0 l).phase; stand = (f.line s.end.0 l).stand; noticed = (f.line s.end.0 l).noticed; held_by = cond (b && eqb l s.line.0) holder (f.line s.end.0 l).held_by }) (f.clear s.end.0) (f.accepted s.end.0) (f.taken s.end.0 ++ f.discarded s.end.0) (Some (with_holder x y s.line.0 holder))) (sym (eqb_same s.end.0))
+    (subst (λ b. ShowsEnd (f.end s.end.0) (λ l. record (f.line s.end.0 l) { held_by = cond (b && eqb l s.line.0) holder (f.line s.end.0 l).held_by }) (f.clear s.end.0) (f.accepted s.end.0) (f.taken s.end.0 ++ f.discarded s.end.0) (Some (with_holder x y s.line.0 holder))) (sym (eqb_same s.end.0))
     (held_end_shown (f.end s.end.0) (f.line s.end.0) (f.clear s.end.0) (f.accepted s.end.0) (f.taken s.end.0 ++ f.discarded s.end.0) x y s.line.0 holder is (subst (ShownAt f s.end.0) at (h.end s.end.0))))
-    (λ d other. subst (λ b. ShowsEnd (f.end d) (λ l. record { phase = (f.line d l).phase; stand = (f.line d l).stand; noticed = (f.line d l).noticed; held_by = cond (b && eqb l s.line.0) holder (f.line d l).held_by }) (f.clear d) (f.accepted d) (f.taken d ++ f.discarded d) (slice_get ends d)) (sym (ne_eqb d s.end.0 other)) (h.end d))
+    (λ d other. subst (λ b. ShowsEnd (f.end d) (λ l. record (f.line d l) { held_by = cond (b && eqb l s.line.0) holder (f.line d l).held_by }) (f.clear d) (f.accepted d) (f.taken d ++ f.discarded d) (slice_get ends d)) (sym (ne_eqb d s.end.0 other)) (h.end d))
 
 -- ---- the first line that no agent holds
 

@@ -51,7 +51,7 @@ gone_inside : (old : ℕ → LineNow) (k bound l : ℕ) → (b : Bool) → eqb l
 gone_inside old k bound l true is out kept at = absurd (out (ap (λ i. (old i).phase) (sym (eqb-true l k is)) ∙ at))
 gone_inside old k bound l false is out kept at = kept at
 
-gone_end : (e n : ℕ) (now : EndNow) (old : ℕ → LineNow) (clear : ℕ → Bool) (vs ts : List Envelope) (x : End) (y : Line) (k : ℕ) → slice_get x.lines k ≡ Some y → AllByRecursion (IsOfEnd e n old) vs → ((old k).phase ≡ Inside → ⊥) → ShowsEnd now old clear vs ts (Some x) → ShowsEnd now (λ l. record { phase = (old l).phase; stand = cond (eqb l k) ((old l).stand + 1) (old l).stand; noticed = (old l).noticed; held_by = (old l).held_by }) clear vs ts (Some (hopped_end x k y))
+gone_end : (e n : ℕ) (now : EndNow) (old : ℕ → LineNow) (clear : ℕ → Bool) (vs ts : List Envelope) (x : End) (y : Line) (k : ℕ) → slice_get x.lines k ≡ Some y → AllByRecursion (IsOfEnd e n old) vs → ((old k).phase ≡ Inside → ⊥) → ShowsEnd now old clear vs ts (Some x) → ShowsEnd now (λ l. record (old l) { stand = cond (eqb l k) ((old l).stand + 1) (old l).stand }) clear vs ts (Some (hopped_end x k y))
 gone_end e n now old clear vs ts x y k is named out h =
     let within : k < length x.lines = slice_get_within x.lines k y is in
     let mine : old k ≡ line_now (Some y) = h.lines k ∙ ap line_now is in
@@ -59,9 +59,9 @@ gone_end e n now old clear vs ts x y k is named out h =
     record {
       same = h.same;
       count = length-set x.lines k next ∙ h.count;
-      lines = each_set (λ l o. (let z : LineNow = record { phase = (old l).phase; stand = cond (eqb l k) ((old l).stand + 1) (old l).stand; noticed = (old l).noticed; held_by = (old l).held_by } in z ≡ line_now o)) x.lines k next within
-          (ap (λ b. let z : LineNow = record { phase = (old k).phase; stand = cond b ((old k).stand + 1) (old k).stand; noticed = (old k).noticed; held_by = (old k).held_by } in z) (eqb_same k) ∙ ap (λ (z : LineNow). let w : LineNow = record { phase = z.phase; stand = z.stand + 1; noticed = z.noticed; held_by = z.held_by } in w) mine)
-          (λ l other. ap (λ b. let z : LineNow = record { phase = (old l).phase; stand = cond b ((old l).stand + 1) (old l).stand; noticed = (old l).noticed; held_by = (old l).held_by } in z) (ne_eqb l k other) ∙ h.lines l);
+      lines = each_set (λ l o. (let z : LineNow = record (old l) { stand = cond (eqb l k) ((old l).stand + 1) (old l).stand } in z ≡ line_now o)) x.lines k next within
+          (ap (λ b. let z : LineNow = record (old k) { stand = cond b ((old k).stand + 1) (old k).stand } in z) (eqb_same k) ∙ ap (λ (z : LineNow). let w : LineNow = record z { stand = z.stand + 1 } in w) mine)
+          (λ l other. ap (λ b. let z : LineNow = record (old l) { stand = cond b ((old l).stand + 1) (old l).stand } in z) (ne_eqb l k other) ∙ h.lines l);
       put = each_set (ShowsPut vs) x.lines k next within
           (nothing_next e n old k y.epoch (ap (λ (z : LineNow). z.stand) mine) vs named)
           (λ l other. h.put l);
@@ -72,9 +72,9 @@ gone_end e n now old clear vs ts x y k is named out h =
 gone_shown : (agents : List Agent) (ends : List End) (f : Facts) (s : Sender) (x : End) (y : Line) → ShowsFacts agents ends f → slice_get ends s.end.0 ≡ Some x → slice_get x.lines s.line.0 ≡ Some y → is_out (f.line s.end.0 s.line.0).phase ≡ true → (d : ℕ) → ShowsEnd (f.end d) (gone_line f s d) (f.clear d) (f.accepted d) (f.taken d ++ f.discarded d) (slice_get (set ends s.end.0 (hopped_end x s.line.0 y)) d)
 gone_shown agents ends f s x y h at is out =
     each_set (λ d o. ShowsEnd (f.end d) (gone_line f s d) (f.clear d) (f.accepted d) (f.taken d ++ f.discarded d) o) ends s.end.0 (hopped_end x s.line.0 y) (slice_get_within ends s.end.0 x at)
-    (subst (λ b. ShowsEnd (f.end s.end.0) (λ l. record { phase = (f.line s.end.0 l).phase; stand = cond (b && eqb l s.line.0) ((f.line s.end.0 l).stand + 1) (f.line s.end.0 l).stand; noticed = (f.line s.end.0 l).noticed; held_by = (f.line s.end.0 l).held_by }) (f.clear s.end.0) (f.accepted s.end.0) (f.taken s.end.0 ++ f.discarded s.end.0) (Some (hopped_end x s.line.0 y))) (sym (eqb_same s.end.0))
+    (subst (λ b. ShowsEnd (f.end s.end.0) (λ l. record (f.line s.end.0 l) { stand = cond (b && eqb l s.line.0) ((f.line s.end.0 l).stand + 1) (f.line s.end.0 l).stand }) (f.clear s.end.0) (f.accepted s.end.0) (f.taken s.end.0 ++ f.discarded s.end.0) (Some (hopped_end x s.line.0 y))) (sym (eqb_same s.end.0))
     (gone_end s.end.0 _ (f.end s.end.0) (f.line s.end.0) (f.clear s.end.0) (f.accepted s.end.0) (f.taken s.end.0 ++ f.discarded s.end.0) x y s.line.0 is (h.sound.lines s.end.0).named (λ inside. false≢true (sym (ap is_out inside) ∙ out)) (subst (ShownAt f s.end.0) at (h.end s.end.0))))
-    (λ d other. subst (λ b. ShowsEnd (f.end d) (λ l. record { phase = (f.line d l).phase; stand = cond (b && eqb l s.line.0) ((f.line d l).stand + 1) (f.line d l).stand; noticed = (f.line d l).noticed; held_by = (f.line d l).held_by }) (f.clear d) (f.accepted d) (f.taken d ++ f.discarded d) (slice_get ends d)) (sym (ne_eqb d s.end.0 other)) (h.end d))
+    (λ d other. subst (λ b. ShowsEnd (f.end d) (λ l. record (f.line d l) { stand = cond (b && eqb l s.line.0) ((f.line d l).stand + 1) (f.line d l).stand }) (f.clear d) (f.accepted d) (f.taken d ++ f.discarded d) (slice_get ends d)) (sym (ne_eqb d s.end.0 other)) (h.end d))
 
 -- ---- what is answered
 

@@ -105,7 +105,7 @@ module _ (f : Facts) (e : ℕ) (m : Mailbox OneRight) (sound : Sound f) (shown :
   made_queue x k made first = subst (λ b. IsShown e (record (view f e) { kind = cond b (Some k) (f.end e).kind }) m) (sym (unmade e f.ends x.0 first made)) shown
 
   -- who holds a line isn't shown
-  held_shown : (holder : ℕ → Option AgentId) → IsShown e (record (view f e) { line = λ l. record { phase = (f.line e l).phase; stand = (f.line e l).stand; noticed = (f.line e l).noticed; held_by = holder l } }) m
+  held_shown : (holder : ℕ → Option AgentId) → IsShown e (record (view f e) { line = λ l. record (f.line e l) { held_by = holder l } }) m
   held_shown holder = record {
     is_mailbox = shown.is_mailbox;
     gates = shown.gates;

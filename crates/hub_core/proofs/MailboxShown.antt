@@ -176,9 +176,9 @@ module _ (e : ℕ) (v : View) (m : Mailbox OneRight) (is : IsShown e v m) where
 
   -- a line that stands at a gate goes to another phase there
   pub phase_shown : (l k : ℕ) (g g' : Gate OneRight) (p q : Phase) → StandsAt m l k → GateAt m k g → IsAt g l q → g'.phases ≡ set g.phases l p → g'.enabled ≡ g.enabled → g'.closed ≡ g.closed → g'.collected ≡ g.collected → IsMailbox e (lines_of v.kind) (with_gate m k g')
-      → IsShown e (record v { line = λ i. record { phase = cond (eqb i l) p (v.line i).phase; stand = (v.line i).stand; noticed = (v.line i).noticed; held_by = (v.line i).held_by } }) (with_gate m k g')
+      → IsShown e (record v { line = λ i. record (v.line i) { phase = cond (eqb i l) p (v.line i).phase } }) (with_gate m k g')
   phase_shown l k g g' p q stands at was phases same_enabled same_closed same_given after =
-      gate_shown k g g' v.enabled v.closed (λ i. record { phase = cond (eqb i l) p (v.line i).phase; stand = (v.line i).stand; noticed = (v.line i).noticed; held_by = (v.line i).held_by }) v.clear at (record {
+      gate_shown k g g' v.enabled v.closed (λ i. record (v.line i) { phase = cond (eqb i l) p (v.line i).phase }) v.clear at (record {
         flags = λ last. let old = is.flags k g last at in (same_enabled ∙ old.0, same_closed ∙ old.1);
         other_flags = λ _. (refl, refl);
         given = same_given ∙ is.given k g at;

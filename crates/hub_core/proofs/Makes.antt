@@ -53,10 +53,10 @@ past_one : (agents : List Agent) (a : ℕ) → (a ≡ length agents → ⊥) →
 past_one agents a other from = let beyond : length agents + 1 ≤ a = next_up (length agents) a from other in simp length-append (omega arith)
 
 -- each agent after one was made
-agent_each : (agents : List Agent) (f : Facts) (a : ℕ) → ((b : ℕ) → f.agent b ≡ agent_now (slice_get agents b)) → (before same : Bool) → nat_lt a (length agents) ≡ before → eqb a (length agents) ≡ same → (let y : AgentNow = record { runs = cond same true (f.agent a).runs; ordered = (f.agent a).ordered } in y ≡ agent_now (slice_get (agents ++ first_agent ∷ []) a))
+agent_each : (agents : List Agent) (f : Facts) (a : ℕ) → ((b : ℕ) → f.agent b ≡ agent_now (slice_get agents b)) → (before same : Bool) → nat_lt a (length agents) ≡ before → eqb a (length agents) ≡ same → (let y : AgentNow = record (f.agent a) { runs = cond same true (f.agent a).runs } in y ≡ agent_now (slice_get (agents ++ first_agent ∷ []) a))
 agent_each agents f a h before true is here =
     let at : a ≡ length agents + 0 = eqb-true a (length agents) here ∙ omega arith in
-    ap (λ (x : AgentNow). let y : AgentNow = record { runs = true; ordered = x.ordered } in y) (h a ∙ ap agent_now (slice_get_past agents a (omega arith)))
+    ap (λ (x : AgentNow). let y : AgentNow = record x { runs = true } in y) (h a ∙ ap agent_now (slice_get_past agents a (omega arith)))
     ∙ ap agent_now (sym (slice_get-append_back agents (first_agent ∷ []) a 0 at))
 agent_each agents f a h true false is here = h a ∙ ap agent_now (sym (slice_get-append_front agents (first_agent ∷ []) a (ltb-true a (length agents) is)))
 agent_each agents f a h false false is here =

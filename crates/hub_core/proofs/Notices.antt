@@ -31,14 +31,14 @@ use Rattle.hub_core.proofs.Counts.{counts_still}
 -- ---- every end, with the notice put
 
 told_mine : (f : Facts) (s : Sender) (y : Line) → f.line s.end.0 s.line.0 ≡ line_now (Some y) → (let z : LineNow = record { phase = y.phase; stand = y.epoch; noticed = true; held_by = y.held_by } in told_line f s s.end.0 s.line.0 ≡ z)
-told_mine f s y line = ap (λ b. let z : LineNow = record { phase = (f.line s.end.0 s.line.0).phase; stand = (f.line s.end.0 s.line.0).stand; noticed = cond b true (f.line s.end.0 s.line.0).noticed; held_by = (f.line s.end.0 s.line.0).held_by } in z) (ap (λ b. b && eqb s.line.0 s.line.0) (eqb_same s.end.0) ∙ eqb_same s.line.0)
-    ∙ ap (λ (w : LineNow). let z : LineNow = record { phase = w.phase; stand = w.stand; noticed = true; held_by = w.held_by } in z) line
+told_mine f s y line = ap (λ b. let z : LineNow = record (f.line s.end.0 s.line.0) { noticed = cond b true (f.line s.end.0 s.line.0).noticed } in z) (ap (λ b. b && eqb s.line.0 s.line.0) (eqb_same s.end.0) ∙ eqb_same s.line.0)
+    ∙ ap (λ (w : LineNow). let z : LineNow = record w { noticed = true } in z) line
 
 told_other : (f : Facts) (s : Sender) (l : ℕ) → (l ≡ s.line.0 → ⊥) → told_line f s s.end.0 l ≡ f.line s.end.0 l
-told_other f s l other = ap (λ b. let z : LineNow = record { phase = (f.line s.end.0 l).phase; stand = (f.line s.end.0 l).stand; noticed = cond b true (f.line s.end.0 l).noticed; held_by = (f.line s.end.0 l).held_by } in z) (ap (λ b. b && eqb l s.line.0) (eqb_same s.end.0) ∙ ne_eqb l s.line.0 other)
+told_other f s l other = ap (λ b. let z : LineNow = record (f.line s.end.0 l) { noticed = cond b true (f.line s.end.0 l).noticed } in z) (ap (λ b. b && eqb l s.line.0) (eqb_same s.end.0) ∙ ne_eqb l s.line.0 other)
 
 told_elsewhere : (f : Facts) (s : Sender) (d : ℕ) → (d ≡ s.end.0 → ⊥) → told_line f s d ≡ f.line d
-told_elsewhere f s d other = λ i l. record { phase = (f.line d l).phase; stand = (f.line d l).stand; noticed = cond (ne_eqb d s.end.0 other i && eqb l s.line.0) true (f.line d l).noticed; held_by = (f.line d l).held_by }
+told_elsewhere f s d other = λ i l. record (f.line d l) { noticed = cond (ne_eqb d s.end.0 other i && eqb l s.line.0) true (f.line d l).noticed }
 
 noticed_shown : (agents : List Agent) (ends new : List End) (f : Facts) (s : Sender) (refused : Bool) (n : Acceptance) (x : End) (y : Line) → ShowsFacts agents ends f → slice_get ends s.end.0 ≡ Some x → slice_get x.lines s.line.0 ≡ Some y → f.line s.end.0 s.line.0 ≡ line_now (Some y) → n.epoch ≡ y.epoch → has_queue x y.epoch ≡ true → outcome.Accepted n ≡ notice_answer f s refused → Moves [] InFlight (set ends s.end.0 (put_end x y (named_notice s n))) new → Stepped agents new f (action.Notice s) refused (outcome.Accepted n)
 noticed_shown agents ends new f s refused n x y h at is line epoch queue fits moves =

@@ -48,7 +48,7 @@ right_home lines g l h kept out =
 
 -- the end with a line in this phase, where the step is at this end
 abbrev pub with_line : Facts → ℕ → ℕ → Phase → Bool → View
-with_line f e l p here = record (view f e) { line = λ i. record { phase = cond (here && eqb i l) p (f.line e i).phase; stand = (f.line e i).stand; noticed = (f.line e i).noticed; held_by = (f.line e i).held_by } }
+with_line f e l p here = record (view f e) { line = λ i. record (f.line e i) { phase = cond (here && eqb i l) p (f.line e i).phase } }
 
 module _ (f : Facts) (s : Sender) (m : Mailbox OneRight) (is : ShownAt f s.end.0 m) where
   abbrev here : LineNow

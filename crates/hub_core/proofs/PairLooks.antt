@@ -146,7 +146,7 @@ module _ (f : Facts) (e : ℕ) (m : Mailbox OneRight) (is : ShownAt f e m) where
       let gate = got_there m.gates k within in
       let g : Gate OneRight = gate.0 in
       let told : busy_at (slice_get m.gates k) ≡ busy g = ap busy_at gate.1 in
-      let same : with_gate m k g ≡ m = ap (λ gs. record { gates = gs; queues = m.queues; stands = m.stands; taker = m.taker }) (set_again m.gates k g gate.1) in
+      let same : with_gate m k g ≡ m = ap (λ gs. record m { gates = gs }) (set_again m.gates k g gate.1) in
       let step : MailboxStep HasRight e lines m (at_gate k machine.look (machine.says_inside (busy g))) (with_gate m k g) =
       gate_steps k g g machine.look (machine.says_inside (busy g)) gate.1 tt (is_busy (is.given k g gate.1 ∙ unclear) (shut_there k g gate.1 which) (somebody_there k g gate.1 some))
       in

@@ -127,7 +127,7 @@ pushed_there f s ports body n m is lines_at p = accepted_there f s (named_envelo
 -- the end with a notice, the last of its line, where the step is at this end
 abbrev pub with_notice : Facts → ℕ → Sender → Acceptance → Bool → View
 with_notice f e s n here = record (view f e) {
-  line = λ i. record { phase = (f.line e i).phase; stand = (f.line e i).stand; noticed = cond (here && eqb i s.line.0) true (f.line e i).noticed; held_by = (f.line e i).held_by };
+  line = λ i. record (f.line e i) { noticed = cond (here && eqb i s.line.0) true (f.line e i).noticed };
   accepted = cond here (f.accepted e ++ named_notice s n ∷ []) (f.accepted e);
 }
 

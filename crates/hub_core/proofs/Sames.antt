@@ -81,11 +81,11 @@ line_was_out f s x l out h =
 -- the facts after a turned poster has left: a cast that goes there next is done with the end
 turned_facts : (f : Facts) (s : Sender) (o : Outcome) → (o ≡ outcome.Closed) ⊎ (o ≡ outcome.Moved) → phase_of_line f s ≡ Out → next (next f (action.Enter s) o) (action.Leave s) outcome.Left ≡ done_with s.end.0 f
 turned_facts f s o (inl is) out = rw is (λ i. record f {
-  line = λ x l. record { phase = line_again s Turned (f.line x l).phase x l (eqb x s.end.0 && eqb l s.line.0) (line_was_out f s x l out) i; stand = (f.line x l).stand; noticed = (f.line x l).noticed; held_by = (f.line x l).held_by };
+  line = λ x l. record (f.line x l) { phase = line_again s Turned (f.line x l).phase x l (eqb x s.end.0 && eqb l s.line.0) (line_was_out f s x l out) i };
   roster = record f.roster { cast = cast_after s.end.0 f.roster.cast };
 })
 turned_facts f s o (inr is) out = rw is (λ i. record f {
-  line = λ x l. record { phase = line_again s Turned (f.line x l).phase x l (eqb x s.end.0 && eqb l s.line.0) (line_was_out f s x l out) i; stand = (f.line x l).stand; noticed = (f.line x l).noticed; held_by = (f.line x l).held_by };
+  line = λ x l. record (f.line x l) { phase = line_again s Turned (f.line x l).phase x l (eqb x s.end.0 && eqb l s.line.0) (line_was_out f s x l out) i };
   roster = record f.roster { cast = cast_after s.end.0 f.roster.cast };
 })
 

@@ -90,7 +90,7 @@ grown x n m newest taker closed line clear vs more s = record {
 
 -- the lines of an end, one line in this phase
 abbrev pub phased_line : Facts → Sender → Phase → ℕ → ℕ → LineNow
-phased_line f t p x l = record { phase = on_line x l t p (f.line x l).phase; stand = (f.line x l).stand; noticed = (f.line x l).noticed; held_by = (f.line x l).held_by }
+phased_line f t p x l = record (f.line x l) { phase = on_line x l t p (f.line x l).phase }
 
 -- why a line may come to this phase
 record MayCome (f : Facts) (t : Sender) (p : Phase) : Type 0 where
@@ -99,9 +99,9 @@ record MayCome (f : Facts) (t : Sender) (p : Phase) : Type 0 where
   inside : p ≡ Inside → (f.end t.end.0).taker_stand ≤ (f.line t.end.0 t.line.0).stand
   unclear : p ≡ Inside → f.clear t.end.0 (f.line t.end.0 t.line.0).stand ≡ false
 
-none_phased : (f : Facts) (t : Sender) (p : Phase) (x l : ℕ) → MayCome f t p → f.line x l ≡ no_line → lines_of ((f.end x).kind) ≤ l → (b : Bool) → (eqb x t.end.0 && eqb l t.line.0) ≡ b → (let y : LineNow = record { phase = cond b p (f.line x l).phase; stand = (f.line x l).stand; noticed = (f.line x l).noticed; held_by = (f.line x l).held_by } in y ≡ no_line)
+none_phased : (f : Facts) (t : Sender) (p : Phase) (x l : ℕ) → MayCome f t p → f.line x l ≡ no_line → lines_of ((f.end x).kind) ≤ l → (b : Bool) → (eqb x t.end.0 && eqb l t.line.0) ≡ b → (let y : LineNow = record (f.line x l) { phase = cond b p (f.line x l).phase } in y ≡ no_line)
 none_phased f t p x l may none past true is = elim may.there [
-  | inl out ↦ rw out (λ i. record { phase = Out; stand = (none i).stand; noticed = (none i).noticed; held_by = (none i).held_by })
+  | inl out ↦ rw out (λ i. record (none i) { phase = Out })
   | inr less ↦
       let both = both_of (eqb x t.end.0) (eqb l t.line.0) is in
       let here : x ≡ t.end.0 = search (rules, both.0) in
@@ -382,9 +382,9 @@ put_at f s v x p message h true is = put_lines f s v x p h (eqb-true x s.end.0 i
 
 -- a line on which a notice was put
 abbrev pub told_line : Facts → Sender → ℕ → ℕ → LineNow
-told_line f t x l = record { phase = (f.line x l).phase; stand = (f.line x l).stand; noticed = on_line x l t true (f.line x l).noticed; held_by = (f.line x l).held_by }
+told_line f t x l = record (f.line x l) { noticed = on_line x l t true (f.line x l).noticed }
 
-told_none : (f : Facts) (s : Sender) (x l : ℕ) → s.line.0 < lines_of ((f.end x).kind) → lines_of ((f.end x).kind) ≤ l → f.line x l ≡ no_line → (c : Bool) → eqb l s.line.0 ≡ c → (let y : LineNow = record { phase = (f.line x l).phase; stand = (f.line x l).stand; noticed = cond c true (f.line x l).noticed; held_by = (f.line x l).held_by } in y ≡ no_line)
+told_none : (f : Facts) (s : Sender) (x l : ℕ) → s.line.0 < lines_of ((f.end x).kind) → lines_of ((f.end x).kind) ≤ l → f.line x l ≡ no_line → (c : Bool) → eqb l s.line.0 ≡ c → (let y : LineNow = record (f.line x l) { noticed = cond c true (f.line x l).noticed } in y ≡ no_line)
 told_none f s x l low past none true is = absurd (let same : l ≡ s.line.0 = eqb-true l s.line.0 is in omega arith)
 told_none f s x l low past none false is = none
 
@@ -392,12 +392,12 @@ told_false : (l m : ℕ) (old : Bool) → (c : Bool) → eqb l m ≡ c → cond 
 told_false l m old true is h = absurd (false≢true (sym h))
 told_false l m old false is h = (h, eqb-false l m is)
 
-notice_at : (f : Facts) (s : Sender) (v : Envelope) (x : ℕ) → MayPut f s v → LinesAt f x → (b : Bool) → eqb x s.end.0 ≡ b → SoundLines x (lines_of ((f.end x).kind)) ((f.end x).newest) ((f.end x).taker_stand) ((f.end x).closed) (λ l. record { phase = (f.line x l).phase; stand = (f.line x l).stand; noticed = cond (b && eqb l s.line.0) true (f.line x l).noticed; held_by = (f.line x l).held_by }) (f.clear x) (cond b (f.accepted x ++ v ∷ []) (f.accepted x))
+notice_at : (f : Facts) (s : Sender) (v : Envelope) (x : ℕ) → MayPut f s v → LinesAt f x → (b : Bool) → eqb x s.end.0 ≡ b → SoundLines x (lines_of ((f.end x).kind)) ((f.end x).newest) ((f.end x).taker_stand) ((f.end x).closed) (λ l. record (f.line x l) { noticed = cond (b && eqb l s.line.0) true (f.line x l).noticed }) (f.clear x) (cond b (f.accepted x ++ v ∷ []) (f.accepted x))
 notice_at f s v x p h false is = h
 notice_at f s v x p h true is =
     let here : x ≡ s.end.0 = eqb-true x s.end.0 is in
     let low : s.line.0 < lines_of ((f.end x).kind) = subst (λ y. s.line.0 < lines_of ((f.end y).kind)) (sym here) p.there in
-    put_lines f s v x p h here (λ l. record { phase = (f.line x l).phase; stand = (f.line x l).stand; noticed = cond (eqb l s.line.0) true (f.line x l).noticed; held_by = (f.line x l).held_by }) (λ l. refl) (λ l. refl)
+    put_lines f s v x p h here (λ l. record (f.line x l) { noticed = cond (eqb l s.line.0) true (f.line x l).noticed }) (λ l. refl) (λ l. refl)
     (λ l past. told_none f s x l low past (h.none l past) (eqb l s.line.0) refl)
     (λ l plain. let both = told_false l s.line.0 (f.line x l).noticed (eqb l s.line.0) refl plain in (both.0, λ same. absurd (both.1 (sym same ∙ p.line))))
 
@@ -412,7 +412,7 @@ next_number n m least other = grind (arith, nat_tests)
 
 -- a line at the next queue
 abbrev pub gone_line : Facts → Sender → ℕ → ℕ → LineNow
-gone_line f t x l = record { phase = (f.line x l).phase; stand = cond (eqb x t.end.0 && eqb l t.line.0) ((f.line x l).stand + 1) (f.line x l).stand; noticed = (f.line x l).noticed; held_by = (f.line x l).held_by }
+gone_line f t x l = record (f.line x l) { stand = cond (eqb x t.end.0 && eqb l t.line.0) ((f.line x l).stand + 1) (f.line x l).stand }
 
 -- a line that goes on is out, and isn't at the newest queue
 record GoesOn (f : Facts) (t : Sender) : Type 0 where
@@ -437,7 +437,7 @@ module _ (f : Facts) (t : Sender) (x : ℕ) (g : GoesOn f t) (s : LinesAt f x) w
   gone_stand l true is = let below : (f.line x l).stand < (f.end x).newest = (on_it f t x l g is).2 in omega arith
   gone_stand l false is = s.stand l
 
-  gone_none : (l : ℕ) → f.line x l ≡ no_line → lines_of ((f.end x).kind) ≤ l → (b : Bool) → (eqb x t.end.0 && eqb l t.line.0) ≡ b → (let y : LineNow = record { phase = (f.line x l).phase; stand = cond b ((f.line x l).stand + 1) (f.line x l).stand; noticed = (f.line x l).noticed; held_by = (f.line x l).held_by } in y ≡ no_line)
+  gone_none : (l : ℕ) → f.line x l ≡ no_line → lines_of ((f.end x).kind) ≤ l → (b : Bool) → (eqb x t.end.0 && eqb l t.line.0) ≡ b → (let y : LineNow = record (f.line x l) { stand = cond b ((f.line x l).stand + 1) (f.line x l).stand } in y ≡ no_line)
   gone_none l none past true is = absurd (let low : l < lines_of ((f.end x).kind) = (on_it f t x l g is).0 in omega arith)
   gone_none l none past false is = none
 
@@ -600,9 +600,9 @@ shut f e x s true = record {
 
 -- a line that another agent holds, or none
 abbrev pub held_line_as : Facts → Sender → Option AgentId → ℕ → ℕ → LineNow
-held_line_as f t holder x l = record { phase = (f.line x l).phase; stand = (f.line x l).stand; noticed = (f.line x l).noticed; held_by = on_line x l t holder (f.line x l).held_by }
+held_line_as f t holder x l = record (f.line x l) { held_by = on_line x l t holder (f.line x l).held_by }
 
-held_none : (f : Facts) (t : Sender) (holder : Option AgentId) (x l : ℕ) → (t.line.0 < lines_of ((f.end t.end.0).kind)) ⊎ (holder ≡ None) → f.line x l ≡ no_line → lines_of ((f.end x).kind) ≤ l → (b : Bool) → (eqb x t.end.0 && eqb l t.line.0) ≡ b → (let y : LineNow = record { phase = (f.line x l).phase; stand = (f.line x l).stand; noticed = (f.line x l).noticed; held_by = cond b holder (f.line x l).held_by } in y ≡ no_line)
+held_none : (f : Facts) (t : Sender) (holder : Option AgentId) (x l : ℕ) → (t.line.0 < lines_of ((f.end t.end.0).kind)) ⊎ (holder ≡ None) → f.line x l ≡ no_line → lines_of ((f.end x).kind) ≤ l → (b : Bool) → (eqb x t.end.0 && eqb l t.line.0) ≡ b → (let y : LineNow = record (f.line x l) { held_by = cond b holder (f.line x l).held_by } in y ≡ no_line)
 held_none f t holder x l may none past true is = elim may [
   | inl less ↦
       let both = both_of (eqb x t.end.0) (eqb l t.line.0) is in
@@ -610,7 +610,7 @@ held_none f t holder x l may none past true is = elim may [
       let line : l ≡ t.line.0 = search (rules, both.1) in
       let bound : t.line.0 < lines_of ((f.end x).kind) = subst (λ y. t.line.0 < lines_of ((f.end y).kind)) (sym here) less in
       absurd (omega arith)
-  | inr nobody ↦ λ i. record { phase = (none i).phase; stand = (none i).stand; noticed = (none i).noticed; held_by = nobody i }
+  | inr nobody ↦ λ i. record (none i) { held_by = nobody i }
 ]
 held_none f t holder x l may none past false is = none
 

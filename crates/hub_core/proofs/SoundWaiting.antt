@@ -238,7 +238,7 @@ waiting_swept f e vs x w s h true is =
     }
 
 -- lines of which at most the holders change
-waiting_held : (f : Facts) (x : ℕ) (holder : ℕ → Option AgentId) → WaitingAt f x → SoundWaiting ((f.end x).taker_stand) ((f.end x).closed) (λ l. record { phase = (f.line x l).phase; stand = (f.line x l).stand; noticed = (f.line x l).noticed; held_by = holder l }) (f.accepted x) (f.taken x) (f.discarded x)
+waiting_held : (f : Facts) (x : ℕ) (holder : ℕ → Option AgentId) → WaitingAt f x → SoundWaiting ((f.end x).taker_stand) ((f.end x).closed) (λ l. record (f.line x l) { held_by = holder l }) (f.accepted x) (f.taken x) (f.discarded x)
 waiting_held f x holder h = record { prefix = h.prefix; rising = h.rising; reached = h.reached; behind = h.behind; kept = h.kept; nobody = h.nobody; swept = h.swept }
 
 pub waiting_next : (f : Facts) {a : Action} (refused : Bool) {o : Outcome} → ((x : ℕ) → LinesAt f x) → ((x : ℕ) → WaitingAt f x) → Answers f a refused o → Change a o → (x : ℕ) → WaitingAt (next f a o) x

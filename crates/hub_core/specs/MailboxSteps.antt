@@ -25,21 +25,21 @@ taken_out q v = record { put = q.put; held = without_first v.line.0 q.held; got 
 module _ {R : Type 0} (m : Mailbox R) where
   -- the mailbox with another gate or queue at an epoch
   abbrev pub with_gate : ℕ → Gate R → Mailbox R
-  with_gate k g = record { gates = slice_set m.gates k g; queues = m.queues; stands = m.stands; taker = m.taker }
+  with_gate k g = record m { gates = slice_set m.gates k g }
 
   abbrev pub with_queue : ℕ → Queue → Mailbox R
-  with_queue k q = record { gates = m.gates; queues = slice_set m.queues k q; stands = m.stands; taker = m.taker }
+  with_queue k q = record m { queues = slice_set m.queues k q }
 
   -- the mailbox with a line or the taker at another epoch
   abbrev pub with_stand : ℕ → ℕ → Mailbox R
-  with_stand line k = record { gates = m.gates; queues = m.queues; stands = slice_set m.stands line k; taker = m.taker }
+  with_stand line k = record m { stands = slice_set m.stands line k }
 
   abbrev pub with_taker : ℕ → Mailbox R
-  with_taker k = record { gates = m.gates; queues = m.queues; stands = m.stands; taker = k }
+  with_taker k = record m { taker = k }
 
   -- the mailbox with one queue more, whose gate opens with these rights
   abbrev pub with_new : List R → Mailbox R
-  with_new rights = record { gates = m.gates ++ opened rights ∷ []; queues = m.queues ++ new_queue ∷ []; stands = m.stands; taker = m.taker }
+  with_new rights = record m { gates = m.gates ++ opened rights ∷ []; queues = m.queues ++ new_queue ∷ [] }
 
   -- Where an event of a gate happens: a line's where the line stands, enable and close at the newest gate, a
   -- look at any. No gate is retired without a new queue.
