@@ -1,5 +1,5 @@
 -- Each pair of a history is events of the mailbox of an end, or leaves it.
-use Rattle.std.proofs.Common.{◌≡◌, ℕ, ◌+◌, ◌-◌, ◌<◌, ◌&&◌, Bool, true, false, cond, eqb, List, [], ◌∷◌, ◌++◌, length, refl, sym, ap, subst, inl, inr, arith, Some, None, Option}
+use Rattle.std.proofs.Common.{◌≡◌, ℕ, ◌+◌, ◌-◌, ◌<◌, ◌&&◌, Bool, true, false, cond, eqb, List, [], ◌∷◌, ◌++◌, length, refl, sym, ap, subst, inl, inr, arith, Some, None}
 use Rattle.std.specs.Prelude.{◌⊎◌, not}
 use Rattle.std.proofs.lemmas.Bool.{eqb-true, ne_eqb, or_parts, not-false}
 use Rattle.hub_envelope.specs.declared.ids.EndId.{EndId}
@@ -25,15 +25,13 @@ use Rattle.hub_core.proofs.Fitting.{new_ends, pushed_of, noticed_of, hopped_of, 
 use Rattle.hub_core.proofs.Sounds.{sound_legal}
 use Rattle.hub_core.proofs.MailboxShown.{View, view, ShownAt, IsShown, Leads, of_history, with_pair, at_end_or}
 use Rattle.hub_core.proofs.PairGates.{with_line, entered, turned_moved, turned_closed, left_line, started_there, closed_there}
-use Rattle.hub_core.proofs.PairQueues.{pushed_there, with_notice, noticed_there, taken_there, taken_all, none_there}
+use Rattle.hub_core.proofs.PairQueues.{pushed_there, noticed_there, taken_there, taken_all, none_there}
 use Rattle.hub_core.proofs.PairLooks.{settled_there, busy_there, look_busy_there, SweepsBusy, sweep_busy_of, sweep_busy_there, cleared_there}
 use Rattle.hub_core.proofs.PairSweeps.{swept_there}
 use Rattle.hub_core.proofs.PairMoves.{with_next, hopped_there, with_taker_at, went_on_there, with_queue_new, adopted_there}
 use Rattle.hub_core.specs.declared.kind.Kind.{Kind}
 use Rattle.hub_core.specs.declared.kind.Kind.TheVariants.{Port, Client, Worker, Member}
-use Rattle.hub_envelope.specs.declared.ids.AgentId.{AgentId}
 use Rattle.hub_core.specs.Making.{is_client, is_worker}
-use Rattle.hub_core.specs.Lines.{on_line}
 
 -- ---- the pairs that are events
 
@@ -104,20 +102,6 @@ module _ (f : Facts) (e : ℕ) (m : Mailbox OneRight) (sound : Sound f) (shown :
   made_queue : (x : EndId) (k : Kind) → e < f.ends → x.0 ≡ f.ends → IsShown e (record (view f e) { kind = cond (eqb e x.0) (Some k) (f.end e).kind }) m
   made_queue x k made first = subst (λ b. IsShown e (record (view f e) { kind = cond b (Some k) (f.end e).kind }) m) (sym (unmade e f.ends x.0 first made)) shown
 
-  -- who holds a line isn't shown
-  held_shown : (holder : ℕ → Option AgentId) → IsShown e (record (view f e) { line = λ l. record (f.line e l) { held_by = holder l } }) m
-  held_shown holder = record {
-    is_mailbox = shown.is_mailbox;
-    gates = shown.gates;
-    put = shown.put;
-    got = shown.got;
-    flags = shown.flags;
-    given = shown.given;
-    stands = shown.stands;
-    phases = shown.phases;
-    taker_at = shown.taker_at;
-  }
-
   -- ---- takes that find no envelope
 
   -- a retired queue of which everything was taken
@@ -176,8 +160,8 @@ module _ (f : Facts) (e : ℕ) (m : Mailbox OneRight) (sound : Sound f) (shown :
   changed refused fits made (client_made a x) = (m, refl, made_queue x Client made (ap (λ (n : EndId). n.0) (queue_made_of f is_client a refused x fits).number))
   changed refused fits made (worker_made a x) = (m, refl, made_queue x Worker made (ap (λ (n : EndId). n.0) (queue_made_of f is_worker a refused x fits).number))
   changed refused fits made (member_joined a name x) = (m, refl, made_queue x (Member a) made (ap (λ (n : EndId). n.0) (member_made_of f a refused x fits).number))
-  changed refused fits made (line_got x a l) = (m, refl, held_shown (λ i. on_line e i (record { end = x; line = l }) (Some a) (f.line e i).held_by))
-  changed refused fits made (line_back s) = (m, refl, held_shown (λ i. on_line e i s None (f.line e i).held_by))
+  changed refused fits made (line_got x a l) = (m, refl, shown)
+  changed refused fits made (line_back s) = (m, refl, shown)
   changed refused fits made (handed x b) = (m, refl, shown)
   changed refused fits made (agent_ordered a) = (m, refl, shown)
   changed refused fits made (cast_begun x ports body ends) = (m, refl, shown)
@@ -194,7 +178,8 @@ module _ (f : Facts) (e : ℕ) (m : Mailbox OneRight) (sound : Sound f) (shown :
       (λ y b. record (view f y) { accepted = cond b (f.accepted y ++ named_envelope s n body ports ∷ []) (f.accepted y) }) shown
       (λ there. pushed_there f s ports body n m there (sound.lines s.end.0) (pushed_of f s ports body refused n fits))
   changed refused fits made (notice_put s n) =
-      at_step s.end.0 (λ y. push (named_notice s n) ∷ []) (λ y. with_notice f y s n) shown (λ there. noticed_there f s n m there (noticed_of f s refused n fits))
+      at_step s.end.0 (λ y. push (named_notice s n) ∷ []) (λ y b. record (view f y) { accepted = cond b (f.accepted y ++ named_notice s n ∷ []) (f.accepted y) }) shown
+      (λ there. noticed_there f s n m there (noticed_of f s refused n fits))
   changed refused fits made (left s) =
       at_step s.end.0 (λ y. leaving m ((f.line y s.line.0).stand) s.line.0 ((f.line y s.line.0).phase) ∷ []) (λ y. with_line f y s.line.0 Out) shown (λ there. left_line f s m there sound fits)
   changed refused fits made (hopped s k) =

@@ -6,7 +6,7 @@ use Rattle.std.proofs.lemmas.List.Elements.{filter-append}
 use Rattle.hub_envelope.specs.declared.envelope.Envelope.{Envelope}
 use Rattle.hub_core.specs.declared.line.Phase.{Phase}
 use Rattle.hub_core.specs.History.{Pair, History}
-use Rattle.hub_core.specs.Facts.{LineNow, Facts, facts}
+use Rattle.hub_core.specs.Facts.{Facts, facts}
 use Rattle.hub_core.specs.Made.{lines_of}
 use Rattle.hub_core.specs.Sender.{by}
 use Rattle.hub_core.specs.GateMachine.{Gate, IsAt}
@@ -30,7 +30,8 @@ pub record View : Type 0 where
   pub taker : ℕ
   pub enabled : Bool
   pub closed : Bool
-  pub line : ℕ → LineNow
+  pub phase : ℕ → Phase
+  pub stand : ℕ → ℕ
   pub clear : ℕ → Bool
   pub accepted : List Envelope
   pub removed : List Envelope
@@ -42,7 +43,8 @@ view f e = record {
   taker = (f.end e).taker_stand;
   enabled = (f.end e).enabled;
   closed = (f.end e).closed;
-  line = f.line e;
+  phase = λ l. (f.line e l).phase;
+  stand = λ l. (f.line e l).stand;
   clear = f.clear e;
   accepted = f.accepted e;
   removed = f.taken e ++ f.discarded e;
@@ -56,8 +58,8 @@ pub record IsShown (e : ℕ) (v : View) (m : Mailbox OneRight) : Type 0 where
   pub got : got_from m ≡ v.removed
   pub flags : (k : ℕ) (g : Gate OneRight) → IsNewest m k → GateAt m k g → (g.enabled ≡ v.enabled) × (g.closed ≡ v.closed)
   pub given : (k : ℕ) (g : Gate OneRight) → GateAt m k g → g.collected ≡ v.clear k
-  pub stands : (l k : ℕ) → StandsAt m l k → (v.line l).stand ≡ k
-  pub phases : (l k : ℕ) (g : Gate OneRight) → StandsAt m l k → GateAt m k g → IsAt g l (v.line l).phase
+  pub stands : (l k : ℕ) → StandsAt m l k → v.stand l ≡ k
+  pub phases : (l k : ℕ) (g : Gate OneRight) → StandsAt m l k → GateAt m k g → IsAt g l (v.phase l)
   pub taker_at : m.taker ≡ v.taker
 
 abbrev pub ShownAt : Facts → ℕ → Mailbox OneRight → Type 0
@@ -115,44 +117,43 @@ at_end_or e lines m events w false shown here = (m, refl, shown)
 
 -- ---- where a line stands, and in which phase
 
-pub record Standing (lines : ℕ) (m : Mailbox OneRight) (l : ℕ) (y : LineNow) : Type 0 where
+pub record Standing (lines : ℕ) (m : Mailbox OneRight) (l k : ℕ) (p : Phase) : Type 0 where
   pub gate : Gate OneRight
-  pub stands : StandsAt m l y.stand
-  pub is_gate : GateAt m y.stand gate
-  pub phase : IsAt gate l y.phase
+  pub stands : StandsAt m l k
+  pub is_gate : GateAt m k gate
+  pub phase : IsAt gate l p
   pub sound : IsGateOf lines gate
 
 -- What a gate that is written at epoch k has to show. Its lines are those that stand there, and the others stay.
-pub record Writes (v : View) (m : Mailbox OneRight) (k : ℕ) (g' : Gate OneRight) (enabled closed : Bool) (line : ℕ → LineNow) (clear : ℕ → Bool) : Type 0 where
+pub record Writes (v : View) (m : Mailbox OneRight) (k : ℕ) (g' : Gate OneRight) (enabled closed : Bool) (phase : ℕ → Phase) (clear : ℕ → Bool) : Type 0 where
   pub flags : IsNewest m k → (g'.enabled ≡ enabled) × (g'.closed ≡ closed)
   pub other_flags : (k ≢ v.newest) → (enabled ≡ v.enabled) × (closed ≡ v.closed)
   pub given : g'.collected ≡ clear k
   pub other_given : (i : ℕ) → i ≢ k → clear i ≡ v.clear i
-  pub stand : (l : ℕ) → (line l).stand ≡ (v.line l).stand
-  pub phases : (l : ℕ) → StandsAt m l k → IsAt g' l (line l).phase
-  pub other_phases : (l i : ℕ) → i ≢ k → StandsAt m l i → (line l).phase ≡ (v.line l).phase
+  pub phases : (l : ℕ) → StandsAt m l k → IsAt g' l (phase l)
+  pub other_phases : (l i : ℕ) → i ≢ k → StandsAt m l i → phase l ≡ v.phase l
 
 module _ (e : ℕ) (v : View) (m : Mailbox OneRight) (is : IsShown e v m) where
-  pub standing : (l : ℕ) → l < lines_of v.kind → Standing (lines_of v.kind) m l (v.line l)
+  pub standing : (l : ℕ) → l < lines_of v.kind → Standing (lines_of v.kind) m l (v.stand l) (v.phase l)
   standing l low =
       let box : IsMailbox e (lines_of v.kind) m = is.is_mailbox in
       let many : length m.stands ≡ lines_of v.kind = box.stands in
       let place = got_there m.stands l (omega arith) in
-      let same : (v.line l).stand ≡ place.0 = is.stands l place.0 place.1 in
-      let stands : StandsAt m l (v.line l).stand = subst (StandsAt m l) (sym same) place.1 in
-      let gate = got_there m.gates (v.line l).stand (box.stands_within l (v.line l).stand stands) in
+      let same : v.stand l ≡ place.0 = is.stands l place.0 place.1 in
+      let stands : StandsAt m l (v.stand l) = subst (StandsAt m l) (sym same) place.1 in
+      let gate = got_there m.gates (v.stand l) (box.stands_within l (v.stand l) stands) in
       record {
         gate = gate.0;
         stands = stands;
         is_gate = gate.1;
-        phase = is.phases l (v.line l).stand gate.0 stands gate.1;
-        sound = box.each_gate (v.line l).stand gate.0 gate.1;
+        phase = is.phases l (v.stand l) gate.0 stands gate.1;
+        sound = box.each_gate (v.stand l) gate.0 gate.1;
       }
 
   -- another gate at epoch k
-  pub gate_shown : (k : ℕ) (g g' : Gate OneRight) (enabled closed : Bool) (line : ℕ → LineNow) (clear : ℕ → Bool) → GateAt m k g → Writes v m k g' enabled closed line clear → IsMailbox e (lines_of v.kind) (with_gate m k g')
-      → IsShown e (record v { enabled = enabled; closed = closed; line = line; clear = clear }) (with_gate m k g')
-  gate_shown k g g' enabled closed line clear at writes after =
+  pub gate_shown : (k : ℕ) (g g' : Gate OneRight) (enabled closed : Bool) (phase : ℕ → Phase) (clear : ℕ → Bool) → GateAt m k g → Writes v m k g' enabled closed phase clear → IsMailbox e (lines_of v.kind) (with_gate m k g')
+      → IsShown e (record v { enabled = enabled; closed = closed; phase = phase; clear = clear }) (with_gate m k g')
+  gate_shown k g g' enabled closed phase clear at writes after =
       let count : length (set m.gates k g') ≡ length m.gates = length-set m.gates k g' in
       let many : length m.gates ≡ v.newest + 1 = is.gates in
       record {
@@ -167,8 +168,8 @@ module _ (e : ℕ) (v : View) (m : Mailbox OneRight) (is : IsShown e v m) where
             let same = writes.other_flags (λ here. other (omega arith)) in
             (old.0 ∙ sym same.0, old.1 ∙ sym same.1)) i h there newest;
         given = at_written m.gates k g' (λ j u. u.collected ≡ clear j) writes.given (λ j u other found. is.given j u found ∙ sym (writes.other_given j other));
-        stands = λ l i there. writes.stand l ∙ is.stands l i there;
-        phases = λ l i h there at_h. at_written m.gates k g' (λ j u. StandsAt m l j → IsAt u l (line l).phase)
+        stands = is.stands;
+        phases = λ l i h there at_h. at_written m.gates k g' (λ j u. StandsAt m l j → IsAt u l (phase l))
             (λ here. writes.phases l here)
             (λ j u other found here. is.phases l j u here found ∙ ap Some (sym (writes.other_phases l j other here))) i h at_h there;
         taker_at = is.taker_at;
@@ -176,22 +177,21 @@ module _ (e : ℕ) (v : View) (m : Mailbox OneRight) (is : IsShown e v m) where
 
   -- a line that stands at a gate goes to another phase there
   pub phase_shown : (l k : ℕ) (g g' : Gate OneRight) (p q : Phase) → StandsAt m l k → GateAt m k g → IsAt g l q → g'.phases ≡ set g.phases l p → g'.enabled ≡ g.enabled → g'.closed ≡ g.closed → g'.collected ≡ g.collected → IsMailbox e (lines_of v.kind) (with_gate m k g')
-      → IsShown e (record v { line = λ i. record (v.line i) { phase = cond (eqb i l) p (v.line i).phase } }) (with_gate m k g')
+      → IsShown e (record v { phase = λ i. cond (eqb i l) p (v.phase i) }) (with_gate m k g')
   phase_shown l k g g' p q stands at was phases same_enabled same_closed same_given after =
-      gate_shown k g g' v.enabled v.closed (λ i. record (v.line i) { phase = cond (eqb i l) p (v.line i).phase }) v.clear at (record {
+      gate_shown k g g' v.enabled v.closed (λ i. cond (eqb i l) p (v.phase i)) v.clear at (record {
         flags = λ last. let old = is.flags k g last at in (same_enabled ∙ old.0, same_closed ∙ old.1);
         other_flags = λ _. (refl, refl);
         given = same_given ∙ is.given k g at;
         other_given = λ i _. refl;
-        stand = λ i. refl;
-        phases = λ i there. elim (eqb i l) as (λ b. eqb i l ≡ b → IsAt g' i (cond b p (v.line i).phase)) [
+        phases = λ i there. elim (eqb i l) as (λ b. eqb i l ≡ b → IsAt g' i (cond b p (v.phase i))) [
           | true ↦ λ t.
               let same : i ≡ l = eqb-true i l t in
               let written : slice_get g'.phases l ≡ Some p = ap (λ ps. slice_get ps l) phases ∙ slice_get-set_same g.phases l p (got_within g.phases l q was) in
               subst (λ x. slice_get g'.phases x ≡ Some p) (sym same) written
           | false ↦ λ t. ap (λ ps. slice_get ps i) phases ∙ slice_get-set_other g.phases l i p (eqb-false i l t) ∙ is.phases i k g there at
         ] refl;
-        other_phases = λ i j other there. ap (λ b. cond b p (v.line i).phase) (ne_eqb i l (λ same. other (got_same_at m.stands i l j k same there stands)));
+        other_phases = λ i j other there. ap (λ b. cond b p (v.phase i)) (ne_eqb i l (λ same. other (got_same_at m.stands i l j k same there stands)));
       }) after
 
   -- the newest gate has other flags
@@ -199,12 +199,11 @@ module _ (e : ℕ) (v : View) (m : Mailbox OneRight) (is : IsShown e v m) where
       → IsShown e (record v { enabled = enabled; closed = closed }) (with_gate m k g')
   flags_shown k g g' enabled closed at newest phases now_enabled now_closed same_given after =
       let many : length m.gates ≡ v.newest + 1 = is.gates in
-      gate_shown k g g' enabled closed v.line v.clear at (record {
+      gate_shown k g g' enabled closed v.phase v.clear at (record {
         flags = λ last. (now_enabled, now_closed);
         other_flags = λ other. absurd (other (omega arith));
         given = same_given ∙ is.given k g at;
         other_given = λ i _. refl;
-        stand = λ i. refl;
         phases = λ i there. ap (λ ps. slice_get ps i) phases ∙ is.phases i k g there at;
         other_phases = λ i j _ _. refl;
       }) after
@@ -213,12 +212,11 @@ module _ (e : ℕ) (v : View) (m : Mailbox OneRight) (is : IsShown e v m) where
   pub clear_shown : (k : ℕ) (g g' : Gate OneRight) → GateAt m k g → g'.phases ≡ g.phases → g'.enabled ≡ g.enabled → g'.closed ≡ g.closed → g'.collected ≡ true → IsMailbox e (lines_of v.kind) (with_gate m k g')
       → IsShown e (record v { clear = λ i. cond (eqb i k) true (v.clear i) }) (with_gate m k g')
   clear_shown k g g' at phases same_enabled same_closed now after =
-      gate_shown k g g' v.enabled v.closed v.line (λ i. cond (eqb i k) true (v.clear i)) at (record {
+      gate_shown k g g' v.enabled v.closed v.phase (λ i. cond (eqb i k) true (v.clear i)) at (record {
         flags = λ last. let old = is.flags k g last at in (same_enabled ∙ old.0, same_closed ∙ old.1);
         other_flags = λ _. (refl, refl);
         given = now ∙ sym (ap (λ b. cond b true (v.clear k)) (eq-eqb k k refl));
         other_given = λ i other. ap (λ b. cond b true (v.clear i)) (ne_eqb i k other);
-        stand = λ i. refl;
         phases = λ i there. ap (λ ps. slice_get ps i) phases ∙ is.phases i k g there at;
         other_phases = λ i j _ _. refl;
       }) after

@@ -48,7 +48,7 @@ right_home lines g l h kept out =
 
 -- the end with a line in this phase, where the step is at this end
 abbrev pub with_line : Facts → ℕ → ℕ → Phase → Bool → View
-with_line f e l p here = record (view f e) { line = λ i. record (f.line e i) { phase = cond (here && eqb i l) p (f.line e i).phase } }
+with_line f e l p here = record (view f e) { phase = λ i. cond (here && eqb i l) p (f.line e i).phase }
 
 module _ (f : Facts) (s : Sender) (m : Mailbox OneRight) (is : ShownAt f s.end.0 m) where
   abbrev here : LineNow
@@ -57,20 +57,20 @@ module _ (f : Facts) (s : Sender) (m : Mailbox OneRight) (is : ShownAt f s.end.0
   abbrev lines : ℕ
   lines = lines_of ((f.end s.end.0).kind)
 
-  pub at_line : s.line.0 < lines → Standing lines m s.line.0 here
+  pub at_line : s.line.0 < lines → Standing lines m s.line.0 here.stand here.phase
   at_line low = standing s.end.0 (view f s.end.0) m is s.line.0 low
 
-  moves : (y : Standing lines m s.line.0 here) (g' : Gate OneRight) (event : machine.Event OneRight) (answer : machine.Answer OneRight) (p : Phase) → MailboxStep HasRight s.end.0 lines m (at_gate here.stand event answer) (with_gate m here.stand g') → g'.phases ≡ set y.gate.phases s.line.0 p → g'.enabled ≡ y.gate.enabled → g'.closed ≡ y.gate.closed → g'.collected ≡ y.gate.collected
+  moves : (y : Standing lines m s.line.0 here.stand here.phase) (g' : Gate OneRight) (event : machine.Event OneRight) (answer : machine.Answer OneRight) (p : Phase) → MailboxStep HasRight s.end.0 lines m (at_gate here.stand event answer) (with_gate m here.stand g') → g'.phases ≡ set y.gate.phases s.line.0 p → g'.enabled ≡ y.gate.enabled → g'.closed ≡ y.gate.closed → g'.collected ≡ y.gate.collected
       → Leads s.end.0 lines m (at_gate here.stand event answer ∷ []) (with_line f s.end.0 s.line.0 p true)
   moves y g' event answer p step phases same_enabled same_closed same_given =
       one_step s.end.0 lines m (with_gate m here.stand g') _ (with_line f s.end.0 s.line.0 p true) step
       (phase_shown s.end.0 (view f s.end.0) m is s.line.0 here.stand y.gate g' p here.phase y.stands y.is_gate y.phase phases same_enabled same_closed same_given (step_kept s.end.0 lines m (with_gate m here.stand g') is.is_mailbox step))
 
-  pub out_there : (y : Standing lines m s.line.0 here) → is_out here.phase ≡ true → IsAt y.gate s.line.0 Out
+  pub out_there : (y : Standing lines m s.line.0 here.stand here.phase) → is_out here.phase ≡ true → IsAt y.gate s.line.0 Out
   out_there y out = y.phase ∙ ap Some (is_out_of here.phase out)
 
   -- the line stands at the newest gate where it isn't at a retired one
-  at_newest : (y : Standing lines m s.line.0 here) → is_retired f s ≡ false → IsNewest m here.stand
+  at_newest : (y : Standing lines m s.line.0 here.stand here.phase) → is_retired f s ≡ false → IsNewest m here.stand
   at_newest y fresh =
       let reached : (f.end s.end.0).newest ≤ here.stand = ltb-false here.stand ((f.end s.end.0).newest) fresh in
       let within : here.stand < length m.gates = is.is_mailbox.stands_within s.line.0 here.stand y.stands in
@@ -86,7 +86,7 @@ module _ (f : Facts) (s : Sender) (m : Mailbox OneRight) (is : ShownAt f s.end.0
   pub entered : LinesAt f s.end.0 → outcome.In ≡ enter_answer f s → Leads s.end.0 lines m (at_gate here.stand (machine.enter s.line.0) (machine.lets_in tt) ∷ []) (with_line f s.end.0 s.line.0 Inside true)
   entered lines_at fits =
       let why = let_in_of f s fits in
-      let y : Standing lines m s.line.0 here = at_line (line_there f s lines_at why.0.may) in
+      let y : Standing lines m s.line.0 here.stand here.phase = at_line (line_there f s lines_at why.0.may) in
       let newest : IsNewest m here.stand = at_newest y why.1 in
       let moved : y.gate.moved ≡ false = is.is_mailbox.newest here.stand y.gate y.is_gate newest in
       let closed : y.gate.closed ≡ false = (is.flags here.stand y.gate newest y.is_gate).1 ∙ why.2 in
@@ -98,7 +98,7 @@ module _ (f : Facts) (s : Sender) (m : Mailbox OneRight) (is : ShownAt f s.end.0
   pub turned_moved : LinesAt f s.end.0 → outcome.Moved ≡ enter_answer f s → Leads s.end.0 lines m (at_gate here.stand (machine.enter s.line.0) machine.says_moved ∷ []) (with_line f s.end.0 s.line.0 Turned true)
   turned_moved lines_at fits =
       let why = found_moved_of f s fits in
-      let y : Standing lines m s.line.0 here = at_line (line_there f s lines_at why.0.may) in
+      let y : Standing lines m s.line.0 here.stand here.phase = at_line (line_there f s lines_at why.0.may) in
       let moved : y.gate.moved ≡ true = (is.is_mailbox.retired here.stand y.gate y.is_gate (at_retired why.1)).0 in
       moves y (with_phase y.gate s.line.0 Turned) (machine.enter s.line.0) machine.says_moved Turned
       (gate_steps here.stand y.gate _ (machine.enter s.line.0) machine.says_moved y.is_gate y.stands (finds_moved s.line.0 (out_there y why.0.out) moved)) refl refl refl refl
@@ -106,14 +106,14 @@ module _ (f : Facts) (s : Sender) (m : Mailbox OneRight) (is : ShownAt f s.end.0
   pub turned_closed : LinesAt f s.end.0 → outcome.Closed ≡ enter_answer f s → Leads s.end.0 lines m (at_gate here.stand (machine.enter s.line.0) machine.says_closed ∷ []) (with_line f s.end.0 s.line.0 Turned true)
   turned_closed lines_at fits =
       let why = found_closed_of f s fits in
-      let y : Standing lines m s.line.0 here = at_line (line_there f s lines_at why.0.may) in
+      let y : Standing lines m s.line.0 here.stand here.phase = at_line (line_there f s lines_at why.0.may) in
       let newest : IsNewest m here.stand = at_newest y why.1 in
       let moved : y.gate.moved ≡ false = is.is_mailbox.newest here.stand y.gate y.is_gate newest in
       let closed : y.gate.closed ≡ true = (is.flags here.stand y.gate newest y.is_gate).1 ∙ why.2 in
       moves y (with_phase y.gate s.line.0 Turned) (machine.enter s.line.0) machine.says_closed Turned
       (gate_steps here.stand y.gate _ (machine.enter s.line.0) machine.says_closed y.is_gate y.stands (finds_closed s.line.0 (out_there y why.0.out) moved closed)) refl refl refl refl
 
-  left_from : (p : Phase) → here.phase ≡ p → is_out p ≡ false → Standing lines m s.line.0 here → Leads s.end.0 lines m (leaving m here.stand s.line.0 p ∷ []) (with_line f s.end.0 s.line.0 Out true)
+  left_from : (p : Phase) → here.phase ≡ p → is_out p ≡ false → Standing lines m s.line.0 here.stand here.phase → Leads s.end.0 lines m (leaving m here.stand s.line.0 p ∷ []) (with_line f s.end.0 s.line.0 Out true)
   left_from Out at away y = absurd (true≢false away)
   left_from Inside at away y =
       let told : enabled_of (slice_get m.gates here.stand) ≡ y.gate.enabled = ap enabled_of y.is_gate in

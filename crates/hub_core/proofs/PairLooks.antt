@@ -93,7 +93,7 @@ module _ (f : Facts) (e : ℕ) (m : Mailbox OneRight) (is : ShownAt f e m) where
         let away = any_of (λ l. is_away_at k (f.line e l)) lines some in
         let l : ℕ = away.0 in
         let both = and_parts (not (is_out (f.line e l).phase)) (eqb (f.line e l).stand k) away.2 in
-        let y : Standing lines m l (f.line e l) = standing e (view f e) m is l away.1 in
+        let y : Standing lines m l (f.line e l).stand (f.line e l).phase = standing e (view f e) m is l away.1 in
         let same : (f.line e l).stand ≡ k = eqb-true (f.line e l).stand k both.1 in
         let one : y.gate ≡ g = got_same m.gates k y.gate g (subst (λ j. GateAt m j y.gate) same y.is_gate) at in
         let there : IsAt g l (f.line e l).phase = subst (λ (u : Gate OneRight). IsAt u l (f.line e l).phase) one y.phase in
@@ -106,7 +106,7 @@ module _ (f : Facts) (e : ℕ) (m : Mailbox OneRight) (is : ShownAt f e m) where
         let count : length g.phases ≡ lines = (is.is_mailbox.each_gate k g at).phases in
         let within : l < length g.phases = got_within g.phases l p there in
         let low : l < lines = omega arith in
-        let y : Standing lines m l (f.line e l) = standing e (view f e) m is l low in
+        let y : Standing lines m l (f.line e l).stand (f.line e l).phase = standing e (view f e) m is l low in
         let away : is_away_at k (f.line e l) ≡ false = none_of_any (λ i. is_away_at k (f.line e i)) lines l none low in
         ⊎_elim
         (λ same.

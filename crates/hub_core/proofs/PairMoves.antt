@@ -24,14 +24,14 @@ use Rattle.hub_core.proofs.PairGates.{at_line, out_there, at_retired}
 
 -- the end with a line at the next queue, where the step is at this end
 abbrev pub with_next : Facts → ℕ → ℕ → Bool → View
-with_next f e l here = record (view f e) { line = λ i. record (f.line e i) { stand = cond (here && eqb i l) ((f.line e i).stand + 1) (f.line e i).stand } }
+with_next f e l here = record (view f e) { stand = λ i. cond (here && eqb i l) ((f.line e i).stand + 1) (f.line e i).stand }
 
 pub hopped_there : (f : Facts) (s : Sender) (m : Mailbox OneRight) → ShownAt f s.end.0 m → LinesAt f s.end.0 → may_enter f s ≡ true → is_out (phase_of_line f s) ≡ true → is_retired f s ≡ true → Leads s.end.0 (lines_of ((f.end s.end.0).kind)) m (hop s.line.0 ∷ []) (with_next f s.end.0 s.line.0 true)
 hopped_there f s m is lines_at may out_of retired =
     let e : ℕ = s.end.0 in
     let l : ℕ = s.line.0 in
     let lines : ℕ = lines_of ((f.end e).kind) in
-    let y : Standing lines m l (f.line e l) = at_line f s m is (line_there f s lines_at may) in
+    let y : Standing lines m l (f.line e l).stand (f.line e l).phase = at_line f s m is (line_there f s lines_at may) in
     let k : ℕ = (f.line e l).stand in
     let after : Mailbox OneRight = with_stand m l (k + 1) in
     let out : IsAt y.gate l Out = out_there f s m is y out_of in

@@ -1,5 +1,5 @@
 -- The pairs that are events of a queue: a Push or a Notice that was accepted, and a pop, which finds an envelope or none.
-use Rattle.std.proofs.Common.{◌≡◌, ◌≢◌, ℕ, zero, suc, ◌<◌, ◌&&◌, Bool, true, cond, eqb, List, [], ◌∷◌, ◌++◌, length, refl, sym, ap, subst, ◌∙◌, arith, append-nil, append_assoc, Some, None}
+use Rattle.std.proofs.Common.{◌≡◌, ◌≢◌, ℕ, zero, suc, ◌<◌, Bool, true, cond, eqb, List, [], ◌∷◌, ◌++◌, length, refl, sym, ap, subst, ◌∙◌, arith, append-nil, append_assoc, Some, None}
 use Rattle.std.specs.Prelude.{slice_get, flat_map}
 use Rattle.std.specs.List.{filter, AllByRecursion}
 use Rattle.std.proofs.lemmas.Bool.{ne_eqb, eq-eqb}
@@ -29,7 +29,7 @@ use Rattle.hub_core.proofs.SoundLines.{MayPut, message_may, notice_may, LinesAt,
 use Rattle.hub_core.proofs.SoundWaiting.{inside_of}
 use Rattle.hub_core.proofs.MailboxStepping.{step_kept}
 use Rattle.hub_core.proofs.Joins.{all_pass, filter_both, nothing_there}
-use Rattle.hub_core.proofs.MailboxShown.{View, view, ShownAt, IsShown, HasRight, Leads, one_step, event_grows, Standing, standing, queue_shown}
+use Rattle.hub_core.proofs.MailboxShown.{view, ShownAt, IsShown, HasRight, Leads, one_step, event_grows, Standing, standing, queue_shown}
 
 -- ---- what was put in a queue and taken out of it, by what was put and taken at the end
 
@@ -104,7 +104,7 @@ accepted_there f s v m is p =
     let k : ℕ = (f.line e l).stand in
     let lines : ℕ = lines_of ((f.end e).kind) in
     let low : l < lines = subst (λ i. i < lines) (sym p.line) p.there in
-    let y : Standing lines m l (f.line e l) = standing e (view f e) m is l low in
+    let y : Standing lines m l (f.line e l).stand (f.line e l).phase = standing e (view f e) m is l low in
     let within : k < length m.gates = is.is_mailbox.stands_within l k y.stands in
     let many : length m.queues ≡ length m.gates = is.is_mailbox.queues in
     let there = got_there m.queues k (omega arith) in
@@ -124,33 +124,10 @@ pub pushed_there : (f : Facts) (s : Sender) (ports : List EndId) (body : List �
     → Leads s.end.0 (lines_of ((f.end s.end.0).kind)) m (push (named_envelope s n body ports) ∷ []) (record (view f s.end.0) { accepted = f.accepted s.end.0 ++ named_envelope s n body ports ∷ [] })
 pushed_there f s ports body n m is lines_at p = accepted_there f s (named_envelope s n body ports) m is (message_may f s ports body n lines_at p)
 
--- the end with a notice, the last of its line, where the step is at this end
-abbrev pub with_notice : Facts → ℕ → Sender → Acceptance → Bool → View
-with_notice f e s n here = record (view f e) {
-  line = λ i. record (f.line e i) { noticed = cond (here && eqb i s.line.0) true (f.line e i).noticed };
-  accepted = cond here (f.accepted e ++ named_notice s n ∷ []) (f.accepted e);
-}
-
 -- a mailbox doesn't show which lines put a notice
 pub noticed_there : (f : Facts) (s : Sender) (n : Acceptance) (m : Mailbox OneRight) → ShownAt f s.end.0 m → Noticed f s n
-    → Leads s.end.0 (lines_of ((f.end s.end.0).kind)) m (push (named_notice s n) ∷ []) (with_notice f s.end.0 s n true)
-noticed_there f s n m is p =
-    let done = accepted_there f s (named_notice s n) m is (notice_may f s n p) in
-    let shown : IsShown s.end.0 (record (view f s.end.0) { accepted = f.accepted s.end.0 ++ named_notice s n ∷ [] }) done.0 = done.2 in (
-      done.0,
-      done.1,
-      record {
-        is_mailbox = shown.is_mailbox;
-        gates = shown.gates;
-        put = shown.put;
-        got = shown.got;
-        flags = shown.flags;
-        given = shown.given;
-        stands = shown.stands;
-        phases = shown.phases;
-        taker_at = shown.taker_at;
-      },
-    )
+    → Leads s.end.0 (lines_of ((f.end s.end.0).kind)) m (push (named_notice s n) ∷ []) (record (view f s.end.0) { accepted = f.accepted s.end.0 ++ named_notice s n ∷ [] })
+noticed_there f s n m is p = accepted_there f s (named_notice s n) m is (notice_may f s n p)
 
 -- line by line a queue holds what was accepted there and neither taken nor discarded
 pub held_of : (f : Facts) (e : ℕ) (m : Mailbox OneRight) → ShownAt f e m → (k l : ℕ) (q : Queue) (ws : List Envelope) → QueueAt m k q → in_queue k (by l (f.accepted e)) ≡ in_queue k (by l (f.taken e ++ f.discarded e)) ++ ws → by l q.held ≡ ws
