@@ -27,10 +27,9 @@ use Rattle.hub_core.specs.Unchanged.{changes_nothing}
 use Rattle.hub_core.specs.Shows.{IsMemberNow, ShowsRoster}
 use Rattle.hub_core.specs.Casting.{destinations, destinations_of, is_casting, part_answer}
 use Rattle.hub_core.specs.KeptRoster.{agent_roster, IsFirst, JoinsGroup, MemberLeaves, PartLeaves, SameRoster, cast_left, cast_roster, group_of, is_in, is_seated_in, kept_destinations, numbers_of, numbers_with, origin_at, others_of, parted, seated_without}
-use Rattle.hub_core.proofs.Lists.{eqb_same, slice_get-append_front, slice_get-append_back}
+use Rattle.hub_core.proofs.Lists.{eqb_same, slice_get-append_front, slice_get-append_back, next_up}
 use Rattle.std.proofs.lemmas.Option.{slice_get_past}
 use Rattle.std.proofs.Common.{length-append}
-use Rattle.hub_core.proofs.Makes.{next_up}
 use Rattle.hub_core.proofs.Seats.{group_same, group_flips, insert_last, numbers_more, numbers_below, numbers_same, numbers_less, is_in_with, others_with, all_more, all_without, all_at}
 use Rattle.hub_core.proofs.Fitting.{new_agent, new_ends, queue_made_of, member_made_of}
 use Rattle.hub_core.proofs.Nexts.{next, effect, Change, agent_made, channel_made, let_in, found_moved, found_closed, put, left, started, got, hopped, went_on, cleared, adopted, notice_put, end_closed, end_swept, client_made, worker_made, line_got, line_back, handed, agent_ordered, agent_ended, member_joined, cast_begun, member_parted}

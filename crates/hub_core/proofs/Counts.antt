@@ -20,8 +20,7 @@ use Rattle.hub_core.specs.Shows.{kept_clients, kept_workers, count_with, ShowsFa
 use Rattle.hub_core.specs.Kept.{one_more, one_less, set_agent, change_agent, come, gone, adopting, one_away, change_owner, one_out}
 use Rattle.hub_core.proofs.Lists.{slice_get-set_same, slice_get-set_other, is_there}
 use Rattle.std.proofs.lemmas.Option.{slice_get_within}
-use Rattle.std.proofs.lemmas.Bool.Decides.{nat_tests}
-use Rattle.hub_core.proofs.Totals.{bit, total_same, total_nothing}
+use Rattle.hub_core.proofs.Totals.{bit, total_same, total_nothing, last_not}
 use Rattle.hub_envelope.specs.declared.limits.TheConstants.{MAX_ENDS}
 use Rattle.hub_core.specs.Ending.{is_away_of, has_poster}
 
@@ -40,9 +39,6 @@ counts_at test a x = test x.kind && is_with a x.place
 
 -- ---- sums
 
-last_of : (e n : ℕ) → e < suc n → (e ≡ n → ⊥) → e < n
-last_of e n below other = grind (arith, nat_tests)
-
 -- one term changes
 pub total_change : (w u : ℕ → ℕ) (n e : ℕ) → e < n → ((d : ℕ) → (d ≡ e → ⊥) → u d ≡ w d) → total w n + u e ≡ total u n + w e
 total_change w u zero e below others = absurd (omega arith)
@@ -56,7 +52,7 @@ total_change w u (suc n) e below others = elim (eqb e n) as (λ b. eqb e n ≡ b
   | false ↦ λ is.
       let other : e ≡ n → ⊥ = eqb-false e n is in
       let last : u n ≡ w n = others n (λ at. other (sym at)) in
-      let rest : total w n + u e ≡ total u n + w e = total_change w u n e (last_of e n below other) others in
+      let rest : total w n + u e ≡ total u n + w e = total_change w u n e (last_not e n below other) others in
       omega arith
 ] refl
 

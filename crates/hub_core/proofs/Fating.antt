@@ -1,7 +1,6 @@
 -- What becomes of each accepted envelope of a legal history.
-use Rattle.std.proofs.Common.{◌≡◌, ℕ, zero, suc, ◌+◌, ◌<◌, ◌≤◌, Bool, true, false, cond, eqb, List, [], ◌∷◌, ◌++◌, refl, sym, ap, subst, ◌∙◌, arith, append-nil, append_assoc}
+use Rattle.std.proofs.Common.{◌≡◌, ℕ, zero, suc, ◌+◌, ◌≤◌, Bool, true, false, cond, eqb, List, [], ◌∷◌, ◌++◌, refl, sym, ap, subst, ◌∙◌, arith, append-nil, append_assoc}
 use Rattle.std.specs.Prelude.{◌&&◌}
-use Rattle.std.specs.List.{AllByRecursion}
 use Rattle.std.proofs.lemmas.Bool.{false≢true, false_from_ne_true, and_parts, eqb-true}
 use Rattle.std.proofs.lemmas.List.Elements.{filter-append}
 use Rattle.hub_envelope.specs.declared.ids.EndId.{EndId}
@@ -14,18 +13,18 @@ use Rattle.hub_core.specs.declared.step.Action.TheVariants as action
 use Rattle.hub_core.specs.declared.outcome.Outcome.{Outcome}
 use Rattle.hub_core.specs.declared.outcome.Outcome.TheVariants as outcome
 use Rattle.hub_core.specs.History.{Pair, History}
-use Rattle.hub_core.specs.Facts.{EndNow, LineNow, Facts, facts}
+use Rattle.hub_core.specs.Facts.{Facts, facts}
 use Rattle.hub_core.specs.Fits.{Answers, Fits}
 use Rattle.hub_core.specs.Legal.{Legal}
 use Rattle.hub_core.specs.Accepted.{accepted}
 use Rattle.hub_core.specs.Taken.{taken}
 use Rattle.hub_core.specs.Discarded.{discarded}
-use Rattle.hub_core.specs.Made.{ends, lines_of}
+use Rattle.hub_core.specs.Made.{ends}
 use Rattle.hub_core.specs.Lines.{on_line}
 use Rattle.hub_core.specs.Place.{names, place}
 use Rattle.hub_core.specs.Sender.{by}
 use Rattle.hub_core.specs.Posting.{phase_of_line, is_inside}
-use Rattle.hub_core.specs.Sound.{IsOfEnd, total, naming, flights, Sound}
+use Rattle.hub_core.specs.Sound.{total, naming, flights, Sound}
 use Rattle.hub_core.specs.Laws.{NoticeIsLast}
 use Rattle.hub_core.specs.Fates.{waiting, sweep_of, Fates}
 use Rattle.hub_core.proofs.Nexts.{next, facts_next, by_change, Change, agent_made, channel_made, let_in, found_moved, found_closed, put, notice_put, left, hopped, started, got, went_on, cleared, adopted, end_closed, end_swept, client_made, worker_made, line_got, line_back, handed, agent_ordered, agent_ended, member_joined, cast_begun, member_parted}
@@ -37,6 +36,7 @@ use Rattle.hub_core.proofs.Fitting.{let_in_of, pushed_of, noticed_of, got_of, Sw
 use Rattle.hub_core.proofs.SoundWaiting.{inside_of, nobody_there}
 use Rattle.hub_core.proofs.Sounds.{sound_legal}
 use Rattle.hub_core.proofs.Names.{AreDistinct, distinct, two_names, rest_left}
+use Rattle.hub_core.proofs.Speakers.{nothing_accepted}
 
 -- ---- taken, discarded and waiting
 
@@ -77,16 +77,11 @@ flying h x legal =
     let sound : total (λ e. naming x (accepted h e)) (ends h) ≡ total removed (ends h) + flights (place h x) = (sound_legal h legal).places.flights x in
     omega arith
 
-no_line_no_envelope : (x : ℕ) (line : ℕ → LineNow) (vs : List Envelope) → AllByRecursion (IsOfEnd x 0 line) vs → vs ≡ []
-no_line_no_envelope x line [] h = refl
-no_line_no_envelope x line (v ∷ vs) h = let low : v.line.0 < 0 = h.0.has_line in absurd (omega arith)
-
 -- a number that no end has accepts nothing
 only_at_ends : (h : History) (e : ℕ) → Legal h → ends h ≤ e → accepted h e ≡ []
 only_at_ends h e legal past =
     let sound : Sound (facts h) = sound_legal h legal in
-    let none : lines_of (((facts h).end e).kind) ≡ 0 = ap (λ (y : EndNow). lines_of y.kind) (sound.places.ends e past) in
-    no_line_no_envelope e ((facts h).line e) (accepted h e) (subst (λ n. AllByRecursion (IsOfEnd e n ((facts h).line e)) (accepted h e)) none (sound.lines e).named)
+    nothing_accepted (facts h) e (sound.lines e) (sound.places.ends e past)
 
 -- ---- after a Sweep
 

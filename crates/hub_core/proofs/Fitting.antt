@@ -16,13 +16,11 @@ use Rattle.hub_core.specs.Facts.{Facts}
 use Rattle.hub_core.specs.Making.{agent_answer, channel_answer, queue_answer, has_one}
 use Rattle.hub_core.specs.Posting.{holder, poster, phase_of_line, is_out, is_inside, is_good, is_distinct, may_leave_agent, listing_of, enter_answer, leave_answer, push_answer_of, push_answer, may_enter, hears_notice, is_here, next_name, notice_answer, is_fitting, is_empty}
 use Rattle.hub_core.specs.Taking.{Serves, FitsTake, start_answer}
-use Rattle.std.proofs.lemmas.Bool.{false≢true, eqb-true, eqb-false}
+use Rattle.std.proofs.lemmas.Bool.{false≢true, eqb-true, eqb-false, and_parts, or_parts}
 use Rattle.hub_core.specs.declared.end.Place.{Place}
 use Rattle.hub_core.specs.declared.end.Place.TheVariants.{With, InFlight, Arrived, Swept, Gone}
 use Rattle.hub_core.specs.Looking.{any_below, someone_at, first_failing, lookable, looked, look_answer_of, look_answer, all_from, all_settled, IsAllWaiting, FitsSweep}
 use Rattle.hub_core.specs.Moving.{hop_answer, is_arrived, adopt_answer, close_answer, is_released, hand_answer, may_take_over}
-use Rattle.std.proofs.lemmas.Bool.Decides.{nat_tests}
-use Rattle.hub_core.proofs.Lists.{both_of}
 use Rattle.hub_core.specs.Made.{is_queue, lines_of}
 use Rattle.hub_core.specs.Place.{names}
 use Rattle.hub_envelope.specs.declared.ids.LineId.{LineId}
@@ -32,20 +30,13 @@ use Rattle.hub_core.specs.Casting.{member_answer, cast_answer, is_casting, desti
 use Rattle.hub_core.specs.Roster.{has_end}
 use Rattle.hub_core.specs.Made.{maker_of}
 use Rattle.hub_core.specs.Ending.{see_answer, has_away, ends_at, has_poster, is_away_of}
+use Rattle.hub_core.proofs.Lists.{below_last, next_up}
 
 -- ---- tests
 
 either_left : (b : Bool) → (b || false) ≡ true → b ≡ true
 either_left true h = refl
 either_left false h = absurd (false≢true h)
-
-neither_of : (b c : Bool) → (b || c) ≡ false → (b ≡ false) × (c ≡ false)
-neither_of true c h = cc
-neither_of false true h = cc
-neither_of false false h = (refl, refl)
-
-pub below_last : (i n : ℕ) → i < n + 1 → (i ≡ n → ⊥) → i < n
-below_last i n below other = grind (arith, nat_tests)
 
 -- ---- making
 
@@ -228,8 +219,8 @@ pushed_by : (f : Facts) (s : Sender) (ports : List EndId) (fitting refused : Boo
 pushed_by f s ports fitting refused n None inside plain is h = cc
 pushed_by f s ports fitting refused n (Some a) inside plain is h =
     let r = granted (nat_lt MAX_PORTS (length ports)) (is_good (listing_of f s ports (Some a)) && fitting) refused n (next_name f s a) h in
-    let free = listed_good (is_distinct ports && list_all (may_leave_agent f a s) ports) (names ports s.end.0) (both_of (is_good (listing_of f s ports (Some a))) fitting r.0).0 in
-    let each = both_of (is_distinct ports) (list_all (may_leave_agent f a s) ports) free in
+    let free = listed_good (is_distinct ports && list_all (may_leave_agent f a s) ports) (names ports s.end.0) (and_parts (is_good (listing_of f s ports (Some a))) fitting r.0).0 in
+    let each = and_parts (is_distinct ports) (list_all (may_leave_agent f a s) ports) free in
     record { inside = inside; plain = plain; agent = a; speaks = is; distinct = each.0; leave = each.1; name = r.1 }
 
 pub pushed_of : (f : Facts) (s : Sender) (ports : List EndId) (body : List ℕ) (refused : Bool) (n : Acceptance) → outcome.Accepted n ≡ push_answer f s ports body refused → Pushed f s ports n
@@ -348,9 +339,6 @@ adopted_of f e a refused k h =
 
 -- ---- closing and sweeping
 
-after_first : (k i : ℕ) → k ≤ i → (i ≡ k → ⊥) → k + 1 ≤ i
-after_first k i from other = grind (arith, nat_tests)
-
 -- an end that was closed
 pub record Closes (f : Facts) (e : EndId) : Type 0 where
   pub is_open : (f.end e.0).closed ≡ false
@@ -388,10 +376,10 @@ swept_of f e vs h =
 pub each_of : (test : ℕ → Bool) (k n : ℕ) → all_from test k n ≡ true → (i : ℕ) → k ≤ i → i < k + n → test i ≡ true
 each_of test k zero h i from below = absurd (omega arith)
 each_of test k (suc n) h i from below =
-    let both = both_of (test k) (all_from test (k + 1) n) h in
+    let both = and_parts (test k) (all_from test (k + 1) n) h in
     elim (eqb i k) as (λ b. eqb i k ≡ b → test i ≡ true) [
       | true ↦ λ is. ap test (eqb-true i k is) ∙ both.0
-      | false ↦ λ is. each_of test (k + 1) n both.1 i (after_first k i from (eqb-false i k is)) (omega arith)
+      | false ↦ λ is. each_of test (k + 1) n both.1 i (next_up k i from (eqb-false i k is)) (omega arith)
     ] refl
 
 -- ---- looking
@@ -416,7 +404,7 @@ first_failing_of clear k (suc n) j is = elim (clear k) as (λ b. clear k ≡ b �
         unclear = r.unclear;
         before = λ i low less. elim (eqb i k) as (λ b. eqb i k ≡ b → clear i ≡ true) [
           | true ↦ λ same. let first : i ≡ k = eqb-true i k same in ap clear first ∙ here
-          | false ↦ λ other. r.before i (after_first k i low (eqb-false i k other)) less
+          | false ↦ λ other. r.before i (next_up k i low (eqb-false i k other)) less
         ] refl;
       }
   | false ↦ λ here found.
@@ -495,7 +483,7 @@ any_of test (suc n) h = elim (test n) as (λ b. test n ≡ b → (any_below test
 pub none_of_any : (test : ℕ → Bool) (n l : ℕ) → any_below test n ≡ false → l < n → test l ≡ false
 none_of_any test zero l h less = absurd (omega arith)
 none_of_any test (suc n) l h less =
-    let both = neither_of (any_below test n) (test n) h in
+    let both = or_parts (any_below test n) (test n) h in
     elim (eqb l n) as (λ b. eqb l n ≡ b → test l ≡ false) [
       | true ↦ λ is. ap test (eqb-true l n is) ∙ both.1
       | false ↦ λ is. none_of_any test n l both.0 (below_last l n (omega arith) (eqb-false l n is))
@@ -543,7 +531,7 @@ handed_when false false may h = cc
 
 taken_over : (f : Facts) (b : AgentId) (q : Option AgentId) → may_take_over f b q ≡ true → (a : AgentId) × (q ≡ Some a) × (b.0 < f.agents)
 taken_over f b None h = absurd (false≢true h)
-taken_over f b (Some a) h = (a, refl, ltb-true b.0 f.agents (both_of (nat_lt b.0 f.agents) (not (eqb a.0 b.0)) h).0)
+taken_over f b (Some a) h = (a, refl, ltb-true b.0 f.agents (and_parts (nat_lt b.0 f.agents) (not (eqb a.0 b.0)) h).0)
 
 -- an end that was handed on
 pub record Hands (f : Facts) (e : EndId) (b : AgentId) : Type 0 where

@@ -3,6 +3,7 @@ use Rattle.std.proofs.Common.{◌≡◌, ◌⊎◌, ℕ, zero, suc, ◌≤◌, �
 use Rattle.std.specs.Prelude.{slice_get, sum_by, not, is_some}
 use Rattle.std.proofs.lemmas.List.{length-map, map-set}
 use Rattle.std.proofs.lemmas.List.Sums.{sum_by-cons}
+use Rattle.std.proofs.lemmas.Bool.{false_from_ne_true}
 use Rattle.hub_core.specs.declared.line.Phase.{Phase}
 use Rattle.hub_core.specs.declared.line.Phase.TheVariants.{Out, Inside, Turned}
 use Rattle.hub_core.specs.GateMachine.{Gate, IsAt, opened, weight, busy, Steps, finds_moved, finds_closed, goes_in, goes_out, turns_back, enables, retires, closes, gave, is_open, is_busy, gives, Reached, opens, goes_on}
@@ -26,10 +27,6 @@ weight_le (q ∷ ps) (suc l) p e =
 or_right : (a : Bool) → (a || true) ≡ true
 or_right true = refl
 or_right false = refl
-
-is_false : (b : Bool) → (b ≡ true → ⊥) → b ≡ false
-is_false true h = absurd (h refl)
-is_false false h = refl
 
 -- a line whose right stays where it is
 home_stays : (c : Bool) (ps : List Phase) (l : ℕ) (p w : Phase) → slice_get ps l ≡ Some p → leaves_right p ≡ leaves_right w → map (is_home c) (set ps l w) ≡ map (is_home c) ps
@@ -113,7 +110,7 @@ module _ {R : Type 0} where
       nobody = λ given. absurd (true≢false (sym (h.shut given) ∙ (λ i. m i || c i)));
     }
     after g' (goes_out l r at own) =
-        let not_given : g.collected ≡ false = is_false g.collected (λ c. h.nobody c l at) in record {
+        let not_given : g.collected ≡ false = false_from_ne_true g.collected (λ c. h.nobody c l at) in record {
           phases = length-set g.phases l Out ∙ h.phases;
           homes = home_written is_some g.collected g.homes g.phases l (Some r) Out h.homes (sym (ap not not_given));
           turned = λ k now. h.turned k (still l Out Turned k (λ e. cc) now);

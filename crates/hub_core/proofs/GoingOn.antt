@@ -2,8 +2,7 @@
 use Rattle.std.proofs.Common.{◌≡◌, ℕ, suc, ◌+◌, ◌<◌, ◌≤◌, Bool, true, false, cond, eqb, List, [], ◌∷◌, ◌++◌, length, drop, get_or, set, Some, refl, sym, ap, subst, ◌∙◌, arith, append-nil, ◌-◌}
 use Rattle.std.specs.Prelude.{nat_le, nat_lt}
 use Rattle.std.specs.List.{slice_get}
-use Rattle.std.proofs.lemmas.Bool.{ne_eqb, leb-true, leb-false, ltb-true, ltb-false, eqb-true, eqb-false}
-use Rattle.std.proofs.lemmas.Bool.Decides.{nat_tests}
+use Rattle.std.proofs.lemmas.Bool.{ne_eqb, leb-true, leb-false, ltb-true, ltb-false, eqb-true, eqb-false, le-ltb}
 use Rattle.std.proofs.lemmas.List.{length-set}
 use Rattle.std.proofs.lemmas.Option.{slice_get_within}
 use Rattle.hub_envelope.specs.declared.ids.EndId.{EndId}
@@ -20,7 +19,7 @@ use Rattle.hub_core.specs.Taking.{IsDrained, IsLeft, Serves, FitsTake}
 use Rattle.hub_core.specs.Sound.{Sound}
 use Rattle.hub_core.specs.Shows.{ShowsEnd, ShowsFacts, KeepsQueues}
 use Rattle.hub_core.specs.Kept.{kept_settled, advanced_end, left_outcome, left_end}
-use Rattle.hub_core.proofs.Lists.{eqb_same, set_again, each_set, AllByRecursion-weaker}
+use Rattle.hub_core.proofs.Lists.{eqb_same, set_again, each_set, AllByRecursion-weaker, below_last}
 use Rattle.hub_core.proofs.Waits.{filters, all_taken}
 use Rattle.hub_core.proofs.Frames.{ShownAt, Stepped, changed, unchanged}
 use Rattle.hub_core.proofs.Presence.{settled_kept}
@@ -70,15 +69,6 @@ left_of f e x none h empty low =
 
 -- ---- the taker goes on
 
-next_up : (n m : ℕ) → n ≤ m → (m ≡ n → ⊥) → n + 1 ≤ m
-next_up n m least other = grind (arith, nat_tests)
-
-not_below : (n m : ℕ) → m ≤ n → nat_lt n m ≡ false
-not_below n m least = grind (arith, nat_tests)
-
-last_one : (k n : ℕ) → k < n + 1 → (k ≡ n → ⊥) → k < n
-last_one k n below other = grind (arith, nat_tests)
-
 reached_next : (taker looked : ℕ) → (b : Bool) → nat_lt looked (taker + 1) ≡ b → taker + 1 ≤ cond b (taker + 1) looked
 reached_next taker looked true is = omega arith
 reached_next taker looked false is = ltb-false looked (taker + 1) is
@@ -86,7 +76,7 @@ reached_next taker looked false is = ltb-false looked (taker + 1) is
 clear_next : (taker looked k : ℕ) → taker ≤ looked → taker + 1 ≤ k → (b : Bool) → nat_lt looked (taker + 1) ≡ b → nat_lt k looked ≡ nat_lt k (cond b (taker + 1) looked)
 clear_next taker looked k reached from true is =
     let low : looked < taker + 1 = ltb-true looked (taker + 1) is in
-    not_below k looked (omega arith) ∙ sym (not_below k (taker + 1) from)
+    le-ltb k looked (omega arith) ∙ sym (le-ltb k (taker + 1) from)
 clear_next taker looked k reached from false is = refl
 
 get_or-drop : (queues : List (List Envelope)) (i : ℕ) → get_or (drop 1 queues) i [] ≡ get_or queues (suc i) []
@@ -111,7 +101,7 @@ advanced_queues line clear vs ts x opened low empty h =
         | true ↦ λ is.
             let same : x.taker + 0 ≡ k = omega (arith, eqb-true k x.taker is) in
             subst (λ j. in_queue j vs ≡ in_queue j ts) same (h.each 0 ∙ ap (λ q. in_queue (x.taker + 0) ts ++ q) empty ∙ append-nil (in_queue (x.taker + 0) ts))
-        | false ↦ λ is. h.behind k (last_one k x.taker less (eqb-false k x.taker is))
+        | false ↦ λ is. h.behind k (below_last k x.taker less (eqb-false k x.taker is))
       ] refl;
       each = λ i.
           let shift : x.taker + suc i ≡ x.taker + 1 + i = omega arith in

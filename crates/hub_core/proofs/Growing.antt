@@ -13,7 +13,7 @@ use Rattle.hub_core.proofs.TakenOut.{some_held}
 -- what a list of queues has, joined
 module _ (f : Queue → List Envelope) where
   -- queues that have nothing
-  nothing_joined : (qs : List Queue) → ((j : ℕ) (u : Queue) → slice_get qs j ≡ Some u → f u ≡ []) → flat_map f qs ≡ []
+  pub nothing_joined : (qs : List Queue) → ((j : ℕ) (u : Queue) → slice_get qs j ≡ Some u → f u ≡ []) → flat_map f qs ≡ []
   nothing_joined [] none = refl
   nothing_joined (q ∷ qs) none = ap (λ us. us ++ flat_map f qs) (none zero q refl) ∙ nothing_joined qs (λ j u at. none (suc j) u at)
 

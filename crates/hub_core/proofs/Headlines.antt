@@ -4,7 +4,7 @@ use Rattle.std.specs.Prelude.{◌&&◌, not, ◌||◌, is_some}
 use Rattle.std.specs.Bool.{MatchBool}
 use Rattle.std.specs.List.{filter, AllByRecursion}
 use Rattle.std.proofs.lemmas.Bool.Decides.{nat_tests}
-use Rattle.std.proofs.lemmas.Bool.{false≢true, eqb-true}
+use Rattle.std.proofs.lemmas.Bool.{false≢true, eqb-true, and_parts, not-true}
 use Rattle.std.proofs.lemmas.List.Elements.{filter-append}
 use Rattle.std.proofs.lemmas.List.{map-append, get_or_append_left, ext_get_or}
 use Rattle.std.proofs.Math.Seq.{get_or-append_seam}
@@ -29,7 +29,7 @@ use Rattle.hub_core.specs.Numbers.{up_to, numbers}
 use Rattle.hub_core.specs.Sound.{Sound}
 use Rattle.hub_core.specs.Headline.{take_of, enter_of, is_line, leaves, posts, IsTurned, IsDrainedAt, Headline, IsBusyAt}
 use Rattle.hub_core.specs.Laws.{KeepsTheLine, TurnedPutsNothing, SameIsJoined}
-use Rattle.hub_core.proofs.Lists.{both_of, eqb_same}
+use Rattle.hub_core.proofs.Lists.{eqb_same}
 use Rattle.hub_core.proofs.Nexts.{next, facts_next, effect, Change, agent_made, channel_made, let_in, found_moved, found_closed, put, left, started, got, hopped, went_on, cleared, adopted, notice_put, end_closed, end_swept, client_made, worker_made, line_got, line_back, handed, agent_ordered, agent_ended, member_joined, cast_begun, member_parted}
 use Rattle.hub_core.proofs.Legals.{legal_apart, legal_joined, legal_at}
 use Rattle.hub_core.proofs.Fitting.{let_in_of, found_moved_of, found_closed_of, pushed_of, empty_of, any_of, busy_of, noticed_of}
@@ -90,7 +90,7 @@ on_line_turned false p q never h = h
 -- the phase of a line that both numbers name
 phase_there : (f : Facts) (s t : Sender) → is_line s t ≡ true → phase_of_line f s ≡ phase_of_line f t
 phase_there f s t is =
-    let both = both_of (eqb s.end.0 t.end.0) (eqb s.line.0 t.line.0) is in
+    let both = and_parts (eqb s.end.0 t.end.0) (eqb s.line.0 t.line.0) is in
     let end : s.end.0 ≡ t.end.0 = eqb-true s.end.0 t.end.0 both.0 in
     let line : s.line.0 ≡ t.line.0 = eqb-true s.line.0 t.line.0 both.1 in
     ap (λ e. (f.line e s.line.0).phase) end ∙ ap (λ l. (f.line t.end.0 l).phase) line
@@ -221,15 +221,11 @@ unsettled true s h = cc
 unsettled false true h = (refl, refl)
 unsettled false false h = cc
 
-not_false : (b : Bool) → not b ≡ true → b ≡ false
-not_false true h = cc
-not_false false h = refl
-
 pub waits_of : (f : Facts) (x k : ℕ) → someone_at f x k ≡ true → Waits f x k
 waits_of f x k h =
     let found = any_of (λ l. is_away_at k (f.line x l)) (lines_of ((f.end x).kind)) h in
-    let both = both_of (not (is_out (f.line x found.0).phase)) (eqb (f.line x found.0).stand k) found.2 in
-    record { line = found.0; low = found.1; away = not_false (is_out (f.line x found.0).phase) both.0; there = eqb-true (f.line x found.0).stand k both.1 }
+    let both = and_parts (not (is_out (f.line x found.0).phase)) (eqb (f.line x found.0).stand k) found.2 in
+    record { line = found.0; low = found.1; away = not-true (is_out (f.line x found.0).phase) both.0; there = eqb-true (f.line x found.0).stand k both.1 }
 
 busy_at : (h before after : History) (e : EndId) (refused : Bool) → Legal h → h ≡ before ++ take_of e refused outcome.Busy ∷ after → IsBusyAt before e.0
 busy_at h before after e refused l is =

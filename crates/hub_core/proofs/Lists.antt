@@ -1,7 +1,5 @@
 -- Lists of ends, agents, lines and envelopes: what a write leaves at each number.
-use Rattle.std.proofs.Common.{◌≡◌, ℕ, ◌<◌, ◌+◌, Bool, true, false, eqb, List, [], ◌∷◌, ◌++◌, length, get_or, set, Option, Some, zero, suc, ◌≤◌, None, refl, sym, ap, subst, ◌∙◌, inl, inr, arith, rules}
-use Rattle.std.specs.Prelude.{◌&&◌}
-use Rattle.std.proofs.lemmas.Bool.{false≢true}
+use Rattle.std.proofs.Common.{◌≡◌, ℕ, ◌<◌, ◌+◌, true, false, eqb, List, [], ◌∷◌, ◌++◌, length, get_or, set, Option, Some, zero, suc, ◌≤◌, None, refl, sym, ap, subst, ◌∙◌, inl, inr, arith, rules}
 use Rattle.std.proofs.lemmas.Bool.Decides.{nat_tests}
 use Rattle.std.specs.List.{slice_get, AllByRecursion}
 use Rattle.std.proofs.lemmas.Option.{slice_get_cases}
@@ -45,10 +43,6 @@ slice_get-append_back (x ∷ xs) ys (suc i) k h = slice_get-append_back xs ys i 
 pub eqb_same : (n : ℕ) → eqb n n ≡ true
 eqb_same n = search (rules, nat_tests)
 
-pub both_of : (a b : Bool) → (a && b) ≡ true → (a ≡ true) × (b ≡ true)
-both_of true b h = (refl, h)
-both_of false b h = absurd (false≢true h)
-
 -- what is said of each number, after one was written
 pub each_set : {A : Type 0} (P : ℕ → Option A → Type 0) (xs : List A) (i : ℕ) (x : A) → i < length xs → P i (Some x) → ((j : ℕ) → (j ≡ i → ⊥) → P j (slice_get xs j)) → (j : ℕ) → P j (slice_get (set xs i x) j)
 each_set P xs i x there here others j = elim (eqb j i) as (λ b. eqb j i ≡ b → P j (slice_get (set xs i x) j)) [
@@ -75,3 +69,11 @@ is_there xs i within none = elim (slice_get_cases xs i).1 [
   | inl p ↦ absurd (search (rules, sym p.2 ∙ none))
   | inr p ↦ absurd (let past : length xs ≤ i = p.0 in omega arith)
 ]
+
+-- ---- numbers beside one that they are not
+
+pub next_up : (n m : ℕ) → n ≤ m → (m ≡ n → ⊥) → n + 1 ≤ m
+next_up n m from other = grind (arith, nat_tests)
+
+pub below_last : (i n : ℕ) → i < n + 1 → (i ≡ n → ⊥) → i < n
+below_last i n below other = grind (arith, nat_tests)

@@ -2,7 +2,7 @@
 use Rattle.std.proofs.Common.{◌≡◌, ℕ, zero, suc, ◌+◌, ◌-◌, ◌<◌, ◌≤◌, Bool, true, false, cond, eqb, List, ◌++◌, set, Option, Some, None, refl, sym, ap, subst, ◌∙◌, arith}
 use Rattle.std.specs.Prelude.{◌&&◌, ◌||◌, nat_lt}
 use Rattle.std.specs.List.{slice_get}
-use Rattle.std.proofs.lemmas.Bool.{false≢true, ne_eqb, eqb-true, ltb-true, ltb-false}
+use Rattle.std.proofs.lemmas.Bool.{false≢true, ne_eqb, eqb-true, ltb-true, ltb-false, le-ltb, lt-ltb}
 use Rattle.std.proofs.lemmas.Bool.Decides.{nat_tests}
 use Rattle.std.proofs.lemmas.List.{length-set}
 use Rattle.std.proofs.lemmas.Option.{slice_get_within}
@@ -26,18 +26,12 @@ use Rattle.hub_core.proofs.Counts.{counts_still}
 
 -- ---- the queue that is looked at
 
-not_below : (n m : ℕ) → m ≤ n → nat_lt n m ≡ false
-not_below n m least = grind (arith, nat_tests)
-
-below : (n m : ℕ) → n < m → nat_lt n m ≡ true
-below n m less = grind (arith, nat_tests)
-
 next_up : (n m : ℕ) → n < m → n + 1 ≤ m
 next_up n m less = omega arith
 
 -- where the queues from k on are clear exactly below a number, that is the first that isn't
 first_below : (clear : ℕ → Bool) (k n last : ℕ) → k ≤ last → ((i : ℕ) → k ≤ i → clear i ≡ nat_lt i last) → first_failing clear k n ≡ cond (nat_lt last (k + n)) (Some last) None
-first_below clear k zero last from h = ap (λ b. cond b (Some last) None) (sym (not_below last (k + 0) (omega arith)))
+first_below clear k zero last from h = ap (λ b. cond b (Some last) None) (sym (le-ltb last (k + 0) (omega arith)))
 first_below clear k (suc n) last from h = ap (λ b. cond b (first_failing clear (k + 1) n) (Some k)) (h k (omega arith)) ∙ elim (nat_lt k last) as (λ b. nat_lt k last ≡ b → cond b (first_failing clear (k + 1) n) (Some k) ≡ cond (nat_lt last (k + suc n)) (Some last) None) [
   | true ↦ λ is.
       let sum : k + 1 + n ≡ k + suc n = omega arith in
@@ -45,7 +39,7 @@ first_below clear k (suc n) last from h = ap (λ b. cond b (first_failing clear 
   | false ↦ λ is.
       let most : last ≤ k = ltb-false k last is in
       let same : k ≡ last = omega arith in
-      ap Some same ∙ ap (λ b. cond b (Some last) None) (sym (below last (k + suc n) (omega arith)))
+      ap Some same ∙ ap (λ b. cond b (Some last) None) (sym (lt-ltb last (k + suc n) (omega arith)))
 ] refl
 
 last_or : (n m : ℕ) → nat_lt n (m + 1) ≡ (nat_lt n m || eqb n m)
@@ -87,7 +81,7 @@ look_none f e none = ap (λ (y : EndNow). cond (y.closed || nat_lt y.taker_stand
 -- ---- a queue that became clear
 
 clear_more : (i last : ℕ) (b c : Bool) → b ≡ nat_lt i last → eqb i last ≡ c → cond c true b ≡ nat_lt i (last + 1)
-clear_more i last b true is same = let here : i ≡ last = eqb-true i last same in sym (below i (last + 1) (omega arith))
+clear_more i last b true is same = let here : i ≡ last = eqb-true i last same in sym (lt-ltb i (last + 1) (omega arith))
 clear_more i last b false is other = is ∙ sym (last_or i last ∙ ap (λ c. nat_lt i last || c) other ∙ sym (or_none (nat_lt i last)))
 
 cleared_queues : (line : ℕ → LineNow) (clear : ℕ → Bool) (vs ts : List Envelope) (x : End) → KeepsQueues line clear vs ts x → KeepsQueues line (λ i. cond (eqb i x.looked) true (clear i)) vs ts (record x { looked = x.looked + 1 })

@@ -4,7 +4,7 @@ use Rattle.std.specs.Prelude.{◌&&◌, nat_lt, nat_le, ◌||◌, is_some, optio
 use Rattle.std.specs.List.{slice_get}
 use Rattle.std.proofs.lemmas.Option.{slice_get_past}
 use Rattle.std.proofs.lemmas.Bool.Decides.{nat_tests}
-use Rattle.std.proofs.lemmas.Bool.{eqb-true, eqb-false, ltb-true, ltb-false, false≢true}
+use Rattle.std.proofs.lemmas.Bool.{eqb-true, eqb-false, ltb-true, ltb-false, false≢true, false_from_ne_true}
 use Rattle.hub_envelope.specs.declared.ids.AgentId.{AgentId}
 use Rattle.hub_envelope.specs.declared.ids.EndId.{EndId}
 use Rattle.hub_envelope.specs.declared.envelope.Envelope.{Envelope}
@@ -20,7 +20,7 @@ use Rattle.hub_core.specs.Making.{agent_answer, channel_answer, queue_answer, is
 use Rattle.hub_core.specs.Sound.{no_end, no_line, total, Sound}
 use Rattle.hub_core.specs.Shows.{agent_now, end_now, line_now, ShowsPut, ShowsEnd, ShowsFacts, kept_clients, count_with, kept_workers, count_away, kept_away}
 use Rattle.hub_core.specs.Kept.{queue_made, kept_running, kept_agent_answer, agents_made, kept_channel_answer, ends_made, first_line, kept_queue_answer, new_end, count_of, queue_counted, come, first_agent}
-use Rattle.hub_core.proofs.Lists.{slice_get-append_front, slice_get-append_back, eqb_same}
+use Rattle.hub_core.proofs.Lists.{slice_get-append_front, slice_get-append_back, eqb_same, next_up}
 use Rattle.hub_core.proofs.Frames.{Stepped, unchanged}
 use Rattle.hub_core.proofs.Holders.{runs_kept}
 use Rattle.hub_core.proofs.Sounds.{sound_next}
@@ -43,9 +43,6 @@ use Rattle.hub_core.specs.Kept.{set_agent, one_more}
 use Rattle.hub_core.specs.KeptCasting.{kept_member_answer, member_made}
 use Rattle.hub_core.proofs.Lists.{set_again}
 use Rattle.hub_core.proofs.Calms.{calm_places}
-
-pub next_up : (n a : ℕ) → n ≤ a → (a ≡ n → ⊥) → n + 1 ≤ a
-next_up n a from other = grind (arith, nat_tests)
 
 -- ---- Agent
 
@@ -137,10 +134,6 @@ record Nothing (f : Facts) (d : ℕ) : Type 0 where
   accepted : f.accepted d ≡ []
   removed : f.taken d ++ f.discarded d ≡ []
 
-never_clear : (b : Bool) → (b ≡ true → ⊥) → b ≡ false
-never_clear true h = absurd (h refl)
-never_clear false h = refl
-
 nothing_at : (agents : List Agent) (ends : List End) (f : Facts) (d : ℕ) → ShowsFacts agents ends f → length ends ≤ d → Nothing f d
 nothing_at agents ends f d h past =
     let count : f.ends ≡ length ends = h.ends in
@@ -150,7 +143,7 @@ nothing_at agents ends f d h past =
       now = none;
       lines = λ l. (h.sound.lines d).none l (subst (λ p. lines_of p ≤ l) (sym (ap (λ (y : EndNow). y.kind) none)) (omega arith));
       accepted = accepted;
-      unclear = λ k. never_clear (f.clear d k) (λ is. elim ((h.sound.lines d).clear_within k is) [
+      unclear = λ k. false_from_ne_true (f.clear d k) (λ is. elim ((h.sound.lines d).clear_within k is) [
         | inl less ↦ absurd (let first : (f.end d).newest ≡ 0 = ap (λ (y : EndNow). y.newest) none in let low : k < (f.end d).newest = less in omega arith)
         | inr both ↦ absurd (search (rules, false≢true, sym (ap (λ (y : EndNow). y.closed) none) ∙ both.1))
       ]);

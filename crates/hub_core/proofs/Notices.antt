@@ -2,7 +2,7 @@
 use Rattle.std.proofs.Common.{◌≡◌, ℕ, Bool, true, false, cond, eqb, List, [], set, Option, Some, None, Result, refl, sym, ap, subst, ◌∙◌}
 use Rattle.std.specs.Prelude.{not, ◌&&◌}
 use Rattle.std.specs.List.{slice_get}
-use Rattle.std.proofs.lemmas.Bool.{ne_eqb, false≢true}
+use Rattle.std.proofs.lemmas.Bool.{ne_eqb, false≢true, and_parts}
 use Rattle.hub_envelope.specs.declared.envelope.Envelope.{Envelope}
 use Rattle.hub_core.specs.declared.agent.Agent.{Agent}
 use Rattle.hub_core.specs.declared.line.Line.{Line}
@@ -20,7 +20,7 @@ use Rattle.hub_core.specs.Sound.{no_line}
 use Rattle.hub_core.specs.Shows.{line_now, ShowsPut, ShowsFacts}
 use Rattle.hub_core.specs.Kept.{has_queue, posting_line, put_end, changed_ends, accept_ends, kept_noticing_line, kept_noticing_at, kept_noticing, notice_outcome, notice_ends, kept_hears}
 use Rattle.hub_core.proofs.Placing.{Moves, moves_to}
-use Rattle.hub_core.proofs.Lists.{eqb_same, both_of}
+use Rattle.hub_core.proofs.Lists.{eqb_same}
 use Rattle.hub_core.proofs.Frames.{ShownAt, Stepped, changed, unchanged}
 use Rattle.hub_core.proofs.Holders.{hears_kept}
 use Rattle.hub_core.proofs.Puts.{each_shown, put_count, name_kept, queue_kept}
@@ -78,7 +78,7 @@ notice_line agents ends f s refused x hears heard_is h at shown (Some y) is line
     elim (is_inside y.phase && not y.has_noticed) as (λ b. (is_inside y.phase && not y.has_noticed) ≡ b → NoticeShown agents ends f s refused (kept_noticing_line hears refused (cond (b && has_queue x y.epoch) (Some y) None))) [
       | true ↦ λ posting.
           let mine : is_posting f s ≡ true = posting_as f s (line_now (Some y)) line ∙ posting in
-          let inside : is_inside (phase_of_line f s) ≡ true = (both_of (is_inside (phase_of_line f s)) (not (f.line s.end.0 s.line.0).noticed) mine).0 in
+          let inside : is_inside (phase_of_line f s) ≡ true = (and_parts (is_inside (phase_of_line f s)) (not (f.line s.end.0 s.line.0).noticed) mine).0 in
           let queue : has_queue x y.epoch ≡ true = queue_kept f s x y h.sound shown line inside in
           subst (λ c. NoticeShown agents ends f s refused (kept_noticing_line hears refused (cond c (Some y) None))) (sym queue) (notice_held agents ends f s refused x y h at is shown queue mine hears heard_is)
       | false ↦ λ outside. unchanged agents ends ends f (action.Notice s) refused outcome.NotNow outcome.NotNow h refl refl refl (not_posting f s refused (posting_as f s (line_now (Some y)) line ∙ outside))

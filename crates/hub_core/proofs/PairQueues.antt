@@ -2,7 +2,7 @@
 use Rattle.std.proofs.Common.{◌≡◌, ◌≢◌, ℕ, zero, suc, ◌<◌, Bool, true, cond, eqb, List, [], ◌∷◌, ◌++◌, length, refl, sym, ap, subst, ◌∙◌, arith, append-nil, append_assoc, Some, None}
 use Rattle.std.specs.Prelude.{slice_get, flat_map}
 use Rattle.std.specs.List.{filter, AllByRecursion}
-use Rattle.std.proofs.lemmas.Bool.{ne_eqb, eq-eqb}
+use Rattle.std.proofs.lemmas.Bool.{ne_eqb}
 use Rattle.std.proofs.lemmas.List.{append_cancel_left}
 use Rattle.std.proofs.lemmas.List.Elements.{filter-append, recursion_from_All}
 use Rattle.hub_envelope.specs.declared.envelope.Envelope.{Envelope}
@@ -22,20 +22,17 @@ use Rattle.hub_core.specs.MailboxPairs.{OneRight}
 use Rattle.hub_core.specs.Taking.{IsNext}
 use Rattle.hub_core.proofs.Lists.{eqb_same, AllByRecursion-weaker}
 use Rattle.hub_core.proofs.Items.{none_got, some_is, got_there}
-use Rattle.hub_core.proofs.Waits.{all_kept, filters, queue_more}
+use Rattle.hub_core.proofs.Waits.{all_kept, filters, queue_more, all_of_queue}
 use Rattle.hub_core.proofs.TakenOut.{all_front}
 use Rattle.hub_core.proofs.Fitting.{Pushed, Noticed}
 use Rattle.hub_core.proofs.SoundLines.{MayPut, message_may, notice_may, LinesAt, by_more}
 use Rattle.hub_core.proofs.SoundWaiting.{inside_of}
 use Rattle.hub_core.proofs.MailboxStepping.{step_kept}
-use Rattle.hub_core.proofs.Joins.{all_pass, filter_both, nothing_there}
+use Rattle.hub_core.proofs.Joins.{filter_both, nothing_there}
 use Rattle.hub_core.proofs.MailboxShown.{view, ShownAt, IsShown, HasRight, Leads, one_step, event_grows, Standing, standing, queue_shown}
+use Rattle.hub_core.proofs.Growing.{nothing_joined}
 
 -- ---- what was put in a queue and taken out of it, by what was put and taken at the end
-
--- the envelopes of one queue, and of another one
-all_in : (k : ℕ) (vs : List Envelope) → AllByRecursion (λ (v : Envelope). v.epoch ≡ k) vs → in_queue k vs ≡ vs
-all_in k vs h = all_pass (λ v. eqb v.epoch k) vs (AllByRecursion-weaker (λ (v : Envelope). v.epoch ≡ k) (λ v. eqb v.epoch k ≡ true) (λ v is. eq-eqb v.epoch k is) vs h)
 
 none_in : (j k : ℕ) (vs : List Envelope) → j ≢ k → AllByRecursion (λ (v : Envelope). v.epoch ≡ j) vs → in_queue k vs ≡ []
 none_in j k [] other h = refl
@@ -43,14 +40,10 @@ none_in j k (v ∷ vs) other h = ap (λ b. cond b (v ∷ in_queue k vs) (in_queu
 
 -- what is joined of one queue where the others have nothing
 module _ (f : Queue → List Envelope) where
-  nothing_joined : (qs : List Queue) → ((j : ℕ) (u : Queue) → slice_get qs j ≡ Some u → f u ≡ []) → flat_map f qs ≡ []
-  nothing_joined [] none = refl
-  nothing_joined (q ∷ qs) none = ap (λ us. us ++ flat_map f qs) (none zero q refl) ∙ nothing_joined qs (λ j u at. none (suc j) u at)
-
   only_one : (qs : List Queue) (k : ℕ) (q : Queue) → slice_get qs k ≡ Some q → ((j : ℕ) (u : Queue) → j ≢ k → slice_get qs j ≡ Some u → f u ≡ []) → flat_map f qs ≡ f q
   only_one [] k q at none = none_got q at
   only_one (p ∷ qs) zero q at none =
-      ap (λ us. f p ++ us) (nothing_joined qs (λ j u there. none (suc j) u (λ same. absurd (omega arith)) there)) ∙ append-nil (f p) ∙ ap f (some_is p q at)
+      ap (λ us. f p ++ us) (nothing_joined f qs (λ j u there. none (suc j) u (λ same. absurd (omega arith)) there)) ∙ append-nil (f p) ∙ ap f (some_is p q at)
   only_one (p ∷ qs) (suc k) q at none =
       ap (λ us. us ++ flat_map f qs) (none zero p (λ same. absurd (omega arith)) refl) ∙ only_one qs k q at (λ j u other there. none (suc j) u (λ same. other (omega arith)) there)
 
@@ -63,7 +56,7 @@ in_joined : (f : Queue → List Envelope) (qs : List Queue) (k : ℕ) (q : Queue
 in_joined f qs k q at each =
     joined_filter (λ v. eqb v.epoch k) f qs
     ∙ only_one (λ u. in_queue k (f u)) qs k q at (λ j u other there. none_in j k (f u) other (each j u there))
-    ∙ all_in k (f q) (each k q at)
+    ∙ all_of_queue k (f q) (each k q at)
 
 module _ (e n : ℕ) (m : Mailbox OneRight) (is : IsMailbox e n m) where
   -- the envelopes of a queue bear its epoch

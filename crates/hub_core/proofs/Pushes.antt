@@ -2,6 +2,7 @@
 use Rattle.std.proofs.Common.{◌≡◌, ℕ, Bool, true, false, cond, List, length, set, Option, Some, None, Result, Ok, Err, refl, sym, ap, subst, ◌∙◌}
 use Rattle.std.specs.Prelude.{not, ◌&&◌, nat_lt}
 use Rattle.std.specs.List.{slice_get}
+use Rattle.std.proofs.lemmas.Bool.{and_parts}
 use Rattle.hub_envelope.specs.declared.ids.AgentId.{AgentId}
 use Rattle.hub_envelope.specs.declared.ids.EndId.{EndId}
 use Rattle.hub_envelope.specs.declared.envelope.Envelope.{Envelope}
@@ -21,7 +22,6 @@ use Rattle.hub_core.specs.Posting.{phase_of_line, is_inside, poster, is_good, li
 use Rattle.hub_core.specs.Sound.{no_line}
 use Rattle.hub_core.specs.Shows.{line_now, ShowsPut, ShowsFacts}
 use Rattle.hub_core.specs.Kept.{kept_listing_to, has_queue, posting_line, kept_posting_by, kept_posting_line, kept_posting_at, kept_posting, push_outcome, put_end, changed_ends, moved_ends, accept_ends, push_ends, kept_poster_by, source_of, kept_poster_of, kept_poster_on}
-use Rattle.hub_core.proofs.Lists.{both_of}
 use Rattle.hub_core.proofs.Frames.{ShownAt, Stepped, changed, unchanged}
 use Rattle.hub_core.proofs.Holders.{poster_kept}
 use Rattle.hub_core.proofs.Fitting.{pushed_of}
@@ -108,7 +108,7 @@ push_line agents ends f c s ports body refused x h cast at shown (Some y) is lin
     elim (is_inside y.phase && not y.has_noticed) as (λ b. (is_inside y.phase && not y.has_noticed) ≡ b → PushShown agents ends f s ports body refused (kept_posting_line agents ends c s ports body refused x (cond (b && has_queue x y.epoch) (Some y) None))) [
       | true ↦ λ posting.
           let mine : is_posting f s ≡ true = posting_as f s (line_now (Some y)) line ∙ posting in
-          let inside : is_inside (phase_of_line f s) ≡ true = (both_of (is_inside (phase_of_line f s)) (not (f.line s.end.0 s.line.0).noticed) mine).0 in
+          let inside : is_inside (phase_of_line f s) ≡ true = (and_parts (is_inside (phase_of_line f s)) (not (f.line s.end.0 s.line.0).noticed) mine).0 in
           let queue : has_queue x y.epoch ≡ true = queue_kept f s x y h.sound shown line inside in
           subst (λ d. PushShown agents ends f s ports body refused (kept_posting_line agents ends c s ports body refused x (cond d (Some y) None))) (sym queue)
           (push_held agents ends f s ports body (is_fitting c (Some x.kind) ports body) refused x y h at is shown queue (kept_poster_by agents ends c s.end.0 x.kind y)

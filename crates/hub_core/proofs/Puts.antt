@@ -5,7 +5,7 @@ use Rattle.std.specs.List.{slice_get, filter}
 use Rattle.std.proofs.lemmas.Option.{slice_get_within}
 use Rattle.std.proofs.lemmas.List.{length-set}
 use Rattle.std.proofs.lemmas.List.Elements.{filter-append}
-use Rattle.std.proofs.lemmas.Bool.{ne_eqb, eqb-true, leb-true, eqb-false, ltb-true, le-leb, lt-ltb}
+use Rattle.std.proofs.lemmas.Bool.{ne_eqb, eqb-true, leb-true, eqb-false, ltb-true, le-leb, lt-ltb, and_parts}
 use Rattle.hub_envelope.specs.declared.ids.AgentId.{AgentId}
 use Rattle.hub_envelope.specs.declared.ids.EndId.{EndId}
 use Rattle.hub_envelope.specs.declared.envelope.Envelope.{Envelope}
@@ -22,7 +22,7 @@ use Rattle.hub_core.specs.Posting.{phase_of_line, is_inside, next_name}
 use Rattle.hub_core.specs.Sound.{Sound}
 use Rattle.hub_core.specs.Shows.{line_now, ShowsPut, ShowsEnd, ShowsFacts}
 use Rattle.hub_core.specs.Kept.{has_queue, put_end}
-use Rattle.hub_core.proofs.Lists.{eqb_same, both_of, each_set, get_or-set_same, get_or-set_other, is_there}
+use Rattle.hub_core.proofs.Lists.{eqb_same, each_set, get_or-set_same, get_or-set_other, is_there}
 use Rattle.hub_core.proofs.Waits.{queue_more, queue_other}
 use Rattle.hub_core.proofs.Frames.{ShownAt}
 use Rattle.hub_core.proofs.Placing.{Moves, moved_shown}
@@ -58,7 +58,7 @@ put_shown : (now : EndNow) (line told : ℕ → LineNow) (clear : ℕ → Bool) 
     → ShowsEnd now line clear vs ts (Some x) → ShowsEnd now told clear (vs ++ v ∷ []) ts (Some (put_end x y v))
 put_shown now line told clear vs ts x y v is epoch queue mine others phases stands h =
     let within : v.line.0 < length x.lines = slice_get_within x.lines v.line.0 y is in
-    let tests = both_of (nat_le x.taker y.epoch) (nat_lt (y.epoch - x.taker) (length x.queues)) queue in
+    let tests = and_parts (nat_le x.taker y.epoch) (nat_lt (y.epoch - x.taker) (length x.queues)) queue in
     let reached : x.taker ≤ y.epoch = leb-true x.taker y.epoch tests.0 in
     let inside : y.epoch - x.taker < length x.queues = ltb-true (y.epoch - x.taker) (length x.queues) tests.1 in
     let next : Line = record y { put = y.put + 1; has_noticed = v.notice; held_by = y.held_by } in

@@ -1,7 +1,7 @@
 -- Histories that can't be told apart.
 use Rattle.std.proofs.Common.{◌≡◌, ℕ, Bool, true, false, cond, eqb, [], ◌∷◌, ◌++◌, refl, sym, ap, subst, ◌∙◌, inl, inr, rules, append_assoc, None}
 use Rattle.std.specs.Prelude.{◌&&◌, ◌⊎◌, not, Option, Some, None, drop}
-use Rattle.std.proofs.lemmas.Bool.{false≢true}
+use Rattle.std.proofs.lemmas.Bool.{false≢true, and_parts}
 use Rattle.hub_core.specs.declared.line.Phase.{Phase}
 use Rattle.hub_core.specs.declared.line.Phase.TheVariants.{Out, Inside, Turned}
 use Rattle.hub_core.specs.declared.sender.Sender.{Sender}
@@ -17,7 +17,6 @@ use Rattle.hub_core.specs.Posting.{is_out, phase_of_line, may_enter}
 use Rattle.hub_core.specs.Roster.{CastNow, cast_to, cast_after, goes_next, roster}
 use Rattle.hub_core.specs.Unchanged.{changes_nothing}
 use Rattle.hub_core.specs.Headline.{done_with}
-use Rattle.hub_core.proofs.Lists.{both_of}
 use Rattle.hub_core.proofs.Nexts.{next, facts_next}
 
 legal_same : (h k more : History) → facts h ≡ facts k → LegalAfter h more → LegalAfter k more
@@ -73,7 +72,7 @@ line_again s p q x l false h = refl
 
 line_was_out : (f : Facts) (s : Sender) (x l : ℕ) → phase_of_line f s ≡ Out → (eqb x s.end.0 && eqb l s.line.0) ≡ true → (f.line x l).phase ≡ Out
 line_was_out f s x l out h =
-    let both = both_of (eqb x s.end.0) (eqb l s.line.0) h in
+    let both = and_parts (eqb x s.end.0) (eqb l s.line.0) h in
     let here : x ≡ s.end.0 = search (rules, both.0) in
     let line : l ≡ s.line.0 = search (rules, both.1) in
     ap (λ y. (f.line y l).phase) here ∙ ap (λ k. (f.line s.end.0 k).phase) line ∙ out

@@ -1,5 +1,5 @@
 -- The seats of the members of each group.
-use Rattle.std.proofs.Common.{◌≡◌, ℕ, List, [], ◌∷◌, Bool, true, false, cond, eqb, ◌&&◌, Some, refl, sym, ap, ◌∙◌, arith, rules}
+use Rattle.std.proofs.Common.{◌≡◌, ℕ, List, [], ◌∷◌, true, false, cond, eqb, ◌&&◌, Some, refl, sym, ap, ◌∙◌, arith, rules}
 use Rattle.std.specs.Prelude.{bytes_eq, ◌==◌, IsSome}
 use Rattle.std.proofs.Common.{subst}
 use Rattle.std.proofs.lemmas.Bool.Decides.{nat_tests}
@@ -14,7 +14,7 @@ use Rattle.std.specs.Ordering.{is_eq, nat_cmp, ordering_then}
 use Rattle.std.specs.declared.cmp.Ordering.{Ordering}
 use Rattle.std.specs.declared.cmp.Ordering.TheVariants.{Less, Equal, Greater}
 use Rattle.std.proofs.lemmas.Map.Text.{is_eq-slice_cmp}
-use Rattle.std.proofs.lemmas.Bool.{false≢true}
+use Rattle.std.proofs.lemmas.Bool.{and_parts}
 use Rattle.std.proofs.lemmas.Slice.Eq.{bytes_eq-Decides}
 use Rattle.hub_core.specs.declared.group.Group.{Group}
 use Rattle.hub_core.specs.Roster.{is_same_group}
@@ -34,17 +34,12 @@ is_same x y =
     both_equal (slice_cmp nat_cmp x.origin y.origin) (slice_cmp nat_cmp x.name y.name)
     ∙ (λ i. is_eq-slice_cmp x.origin y.origin i && is_eq-slice_cmp x.name y.name i)
 
-both_of : (a b : Bool) → (a && b) ≡ true → (a ≡ true) × (b ≡ true)
-both_of true true h = (refl, refl)
-both_of true false h = absurd (false≢true h)
-both_of false b h = absurd (false≢true h)
-
 equal : (xs ys : List ℕ) → bytes_eq xs ys ≡ true → xs ≡ ys
 equal xs ys h = search (rules, bytes_eq-Decides xs ys, h)
 
 pub same_group : (x y : Group) → is_same_group x y ≡ true → x ≡ y
 same_group x y h =
-    let both = both_of (bytes_eq x.origin y.origin) (bytes_eq x.name y.name) h in
+    let both = and_parts (bytes_eq x.origin y.origin) (bytes_eq x.name y.name) h in
     λ i. record { origin = equal x.origin y.origin both.0 i; name = equal x.name y.name both.1 i }
 
 -- the seats after one set is written

@@ -2,7 +2,7 @@
 use Rattle.std.proofs.Common.{◌≡◌, ℕ, suc, ◌<◌, ◌≤◌, Bool, true, false, cond, eqb, List, [], ◌∷◌, ◌++◌, length, map, Option, Some, None, refl, sym, ap, subst, ◌∙◌, inl, inr, arith, rules, append-nil, length-append, ◌+◌, nat_le, leb-true, leb-false}
 use Rattle.std.specs.Prelude.{◌&&◌, ◌⊎◌, is_some, option_and_then, ◌||◌, not, nat_lt}
 use Rattle.std.specs.List.{filter, AllByRecursion}
-use Rattle.std.proofs.lemmas.Bool.{false≢true, ltb-false, ltb-true, eqb-true, lt-ltb, eqb-false}
+use Rattle.std.proofs.lemmas.Bool.{false≢true, ltb-false, ltb-true, eqb-true, lt-ltb, eqb-false, and_parts, false_from_ne_true, not-true}
 use Rattle.std.proofs.lemmas.List.Elements.{filter-append}
 use Rattle.std.proofs.lemmas.List.{length-map, map-append}
 use Rattle.hub_envelope.specs.declared.ids.AgentId.{AgentId}
@@ -22,11 +22,10 @@ use Rattle.hub_core.specs.Sender.{by, count_in_queue, Rises}
 use Rattle.hub_core.specs.Posting.{holder, poster, is_distinct, is_out, phase_of_line, may_enter, hears_notice, is_here, is_inside, running, poster_of, speaker}
 use Rattle.hub_core.specs.Numbers.{up_to, numbers}
 use Rattle.hub_core.specs.Sound.{no_line, IsOfEnd, SoundLines, no_end}
-use Rattle.hub_core.proofs.Lists.{both_of, AllByRecursion-append, AllByRecursion-weaker, eqb_same}
+use Rattle.hub_core.proofs.Lists.{AllByRecursion-append, AllByRecursion-weaker, eqb_same, next_up}
 use Rattle.hub_core.proofs.Nexts.{next, Change, agent_made, channel_made, let_in, found_moved, found_closed, put, left, started, got, hopped, went_on, cleared, adopted, notice_put, end_closed, end_swept, client_made, worker_made, line_got, line_back, handed, agent_ordered, agent_ended, member_joined, cast_begun, member_parted}
 use Rattle.hub_core.proofs.Fitting.{Entered, let_in_of, found_moved_of, found_closed_of, is_retired, Pushed, pushed_of, hopped_of, went_on_of, Clears, cleared_of, adopted_of, looked_where, none_of_any, Noticed, noticed_of, new_ends, queue_made_of, member_made_of, line_got_of}
 use Rattle.hub_core.specs.Made.{lines_of, peer_of, is_queue}
-use Rattle.std.proofs.lemmas.Bool.Decides.{nat_tests}
 use Rattle.hub_core.specs.Looking.{someone_at, is_away_at, is_settled}
 use Rattle.hub_core.specs.Taking.{IsLeft}
 use Rattle.hub_core.specs.declared.kind.Kind.{Kind}
@@ -103,7 +102,7 @@ none_phased : (f : Facts) (t : Sender) (p : Phase) (x l : ℕ) → MayCome f t p
 none_phased f t p x l may none past true is = elim may.there [
   | inl out ↦ rw out (λ i. record (none i) { phase = Out })
   | inr less ↦
-      let both = both_of (eqb x t.end.0) (eqb l t.line.0) is in
+      let both = and_parts (eqb x t.end.0) (eqb l t.line.0) is in
       let here : x ≡ t.end.0 = search (rules, both.0) in
       let line : l ≡ t.line.0 = search (rules, both.1) in
       let bound : t.line.0 < lines_of ((f.end x).kind) = subst (λ y. t.line.0 < lines_of ((f.end y).kind)) (sym here) less in
@@ -113,7 +112,7 @@ none_phased f t p x l may none past false is = none
 
 turned_phased : (f : Facts) (t : Sender) (p : Phase) (x l : ℕ) → MayCome f t p → LinesAt f x → (b : Bool) → (eqb x t.end.0 && eqb l t.line.0) ≡ b → cond b p (f.line x l).phase ≡ Turned → ((f.line x l).stand < (f.end x).newest) ⊎ ((f.end x).closed ≡ true)
 turned_phased f t p x l may s true is h =
-    let both = both_of (eqb x t.end.0) (eqb l t.line.0) is in
+    let both = and_parts (eqb x t.end.0) (eqb l t.line.0) is in
     let here : x ≡ t.end.0 = search (rules, both.0) in
     let line : l ≡ t.line.0 = search (rules, both.1) in
     subst (λ y. ((f.line y l).stand < (f.end y).newest) ⊎ ((f.end y).closed ≡ true)) (sym here)
@@ -122,7 +121,7 @@ turned_phased f t p x l may s false is h = s.turned l h
 
 inside_phased : (f : Facts) (t : Sender) (p : Phase) (x l : ℕ) → MayCome f t p → LinesAt f x → (b : Bool) → (eqb x t.end.0 && eqb l t.line.0) ≡ b → cond b p (f.line x l).phase ≡ Inside → (f.end x).taker_stand ≤ (f.line x l).stand
 inside_phased f t p x l may s true is h =
-    let both = both_of (eqb x t.end.0) (eqb l t.line.0) is in
+    let both = and_parts (eqb x t.end.0) (eqb l t.line.0) is in
     let here : x ≡ t.end.0 = search (rules, both.0) in
     let line : l ≡ t.line.0 = search (rules, both.1) in
     subst (λ y. (f.end y).taker_stand ≤ (f.line y l).stand) (sym here) (subst (λ k. (f.end t.end.0).taker_stand ≤ (f.line t.end.0 k).stand) (sym line) (may.inside h))
@@ -130,7 +129,7 @@ inside_phased f t p x l may s false is h = s.inside l h
 
 unclear_phased : (f : Facts) (t : Sender) (p : Phase) (x l : ℕ) → MayCome f t p → LinesAt f x → (b : Bool) → (eqb x t.end.0 && eqb l t.line.0) ≡ b → cond b p (f.line x l).phase ≡ Inside → f.clear x (f.line x l).stand ≡ false
 unclear_phased f t p x l may s true is h =
-    let both = both_of (eqb x t.end.0) (eqb l t.line.0) is in
+    let both = and_parts (eqb x t.end.0) (eqb l t.line.0) is in
     let here : x ≡ t.end.0 = search (rules, both.0) in
     let line : l ≡ t.line.0 = search (rules, both.1) in
     subst (λ y. f.clear y (f.line y l).stand ≡ false) (sym here) (subst (λ k. f.clear t.end.0 (f.line t.end.0 k).stand ≡ false) (sym line) (may.unclear h))
@@ -174,11 +173,11 @@ some_line f s h (Some (Member a)) is speaks = elim (eqb s.line.0 0) as (λ b. eq
 ] refl speaks
 
 heard_line : (f : Facts) (l : ℕ) (p : Option Kind) → (eqb l 0 && is_here (option_and_then (λ q. (f.end q).place) (peer_of p))) ≡ true → l < lines_of p
-heard_line f l None h = absurd (false≢true ((both_of (eqb l 0) false h).1))
-heard_line f l (Some (Port q)) h = let zeroth : l ≡ 0 = eqb-true l 0 (both_of (eqb l 0) (is_here (f.end q.0).place) h).0 in omega arith
-heard_line f l (Some Client) h = absurd (false≢true ((both_of (eqb l 0) false h).1))
-heard_line f l (Some Worker) h = absurd (false≢true ((both_of (eqb l 0) false h).1))
-heard_line f l (Some (Member a)) h = absurd (false≢true ((both_of (eqb l 0) false h).1))
+heard_line f l None h = absurd (false≢true ((and_parts (eqb l 0) false h).1))
+heard_line f l (Some (Port q)) h = let zeroth : l ≡ 0 = eqb-true l 0 (and_parts (eqb l 0) (is_here (f.end q.0).place) h).0 in omega arith
+heard_line f l (Some Client) h = absurd (false≢true ((and_parts (eqb l 0) false h).1))
+heard_line f l (Some Worker) h = absurd (false≢true ((and_parts (eqb l 0) false h).1))
+heard_line f l (Some (Member a)) h = absurd (false≢true ((and_parts (eqb l 0) false h).1))
 
 -- a line that may be entered is one of its end
 pub line_there : (f : Facts) (s : Sender) → LinesAt f s.end.0 → may_enter f s ≡ true → s.line.0 < lines_of ((f.end s.end.0).kind)
@@ -187,13 +186,9 @@ line_there f s lines h = elim (is_some (poster f s)) as (λ b. is_some (poster f
   | false ↦ λ _ hears. heard_line f s.line.0 (f.end s.end.0).kind hears
 ] refl h
 
-not_true : (b : Bool) → (b ≡ true → ⊥) → b ≡ false
-not_true true h = absurd (h refl)
-not_true false h = refl
-
 -- an open queue that isn't retired isn't clear
 not_clear : (f : Facts) (s : Sender) → is_retired f s ≡ false → (f.end s.end.0).closed ≡ false → LinesAt f s.end.0 → f.clear s.end.0 (f.line s.end.0 s.line.0).stand ≡ false
-not_clear f s retired opened h = not_true (f.clear s.end.0 (f.line s.end.0 s.line.0).stand) (λ is. elim (h.clear_within (f.line s.end.0 s.line.0).stand is) [
+not_clear f s retired opened h = false_from_ne_true (f.clear s.end.0 (f.line s.end.0 s.line.0).stand) (λ is. elim (h.clear_within (f.line s.end.0 s.line.0).stand is) [
   | inl less ↦ absurd (search (rules, false≢true, sym retired ∙ lt-ltb (f.line s.end.0 s.line.0).stand (f.end s.end.0).newest less))
   | inr both ↦ absurd (search (rules, false≢true, sym opened ∙ both.1))
 ])
@@ -282,7 +277,7 @@ numbers_more line epoch vs v b is =
 
 numbered_put : (v : Envelope) (line epoch : ℕ) (vs : List Envelope) → Numbered (numbers line epoch vs) → v.number ≡ count_in_queue v.line.0 v.epoch vs → (b : Bool) → (eqb v.line.0 line && eqb v.epoch epoch) ≡ b → Numbered (numbers line epoch (vs ++ v ∷ []))
 numbered_put v line epoch vs old named true is =
-    let mine : (eqb v.line.0 line ≡ true) × (eqb v.epoch epoch ≡ true) = both_of (eqb v.line.0 line) (eqb v.epoch epoch) is in
+    let mine : (eqb v.line.0 line ≡ true) × (eqb v.epoch epoch ≡ true) = and_parts (eqb v.line.0 line) (eqb v.epoch epoch) is in
     let same_line : v.line.0 ≡ line = search (rules, mine.0) in
     let same_epoch : v.epoch ≡ epoch = search (rules, mine.1) in
     let count : v.number ≡ length (numbers line epoch vs) = named ∙ ap (λ l. count_in_queue l v.epoch vs) same_line ∙ ap (λ k. count_in_queue line k vs) same_epoch ∙ sym (length-map (filter (λ (u : Envelope). eqb u.line.0 line && eqb u.epoch epoch) vs) (λ (u : Envelope). u.number)) in
@@ -403,13 +398,6 @@ notice_at f s v x p h true is =
 
 -- ---- going on
 
-not_of : (b : Bool) → not b ≡ true → b ≡ false
-not_of true h = absurd (false≢true h)
-not_of false h = refl
-
-next_number : (n m : ℕ) → n ≤ m → (m ≡ n → ⊥) → n + 1 ≤ m
-next_number n m least other = grind (arith, nat_tests)
-
 -- a line at the next queue
 abbrev pub gone_line : Facts → Sender → ℕ → ℕ → LineNow
 gone_line f t x l = record (f.line x l) { stand = cond (eqb x t.end.0 && eqb l t.line.0) ((f.line x l).stand + 1) (f.line x l).stand }
@@ -423,7 +411,7 @@ record GoesOn (f : Facts) (t : Sender) : Type 0 where
 -- what is known of the line, said of the numbers that are found equal to its own
 on_it : (f : Facts) (t : Sender) (x l : ℕ) → GoesOn f t → (eqb x t.end.0 && eqb l t.line.0) ≡ true → (l < lines_of ((f.end x).kind)) × (is_out (f.line x l).phase ≡ true) × ((f.line x l).stand < (f.end x).newest)
 on_it f t x l g is =
-    let both = both_of (eqb x t.end.0) (eqb l t.line.0) is in
+    let both = and_parts (eqb x t.end.0) (eqb l t.line.0) is in
     let here : x ≡ t.end.0 = search (rules, both.0) in
     let line : l ≡ t.line.0 = search (rules, both.1) in
     subst (λ y. (l < lines_of ((f.end y).kind)) × (is_out (f.line y l).phase ≡ true) × ((f.line y l).stand < (f.end y).newest)) (sym here)
@@ -491,7 +479,7 @@ nobody_inside f x k l s none inside at = elim (nat_lt l (lines_of ((f.end x).kin
 pub inside_unsettled : (f : Facts) (x k l : ℕ) → LinesAt f x → is_settled f x k ≡ true → (f.line x l).phase ≡ Inside → (f.line x l).stand ≡ k → ⊥
 inside_unsettled f x k l s settled inside at = elim (f.clear x k) as (λ b. f.clear x k ≡ b → (b || not (someone_at f x k)) ≡ true → ⊥) [
   | true ↦ λ clear _. false≢true (sym (s.inside_unclear l inside) ∙ (ap (f.clear x) at ∙ clear))
-  | false ↦ λ _ none. nobody_inside f x k l s (not_of (someone_at f x k) none) inside at
+  | false ↦ λ _ none. nobody_inside f x k l s (not-true (someone_at f x k) none) inside at
 ] refl settled
 
 went : (f : Facts) (e : EndId) (x : ℕ) → LinesAt f x → IsLeft f e → is_settled f e.0 (f.end e.0).taker_stand ≡ true → (b : Bool) → eqb x e.0 ≡ b → SoundLines x (lines_of ((f.end x).kind)) ((f.end x).newest) (cond b ((f.end x).taker_stand + 1) (f.end x).taker_stand) ((f.end x).closed) (f.line x) (f.clear x) (f.accepted x)
@@ -511,7 +499,7 @@ went f e x s empty settled true is =
       turned = s.turned;
       inside = λ l h.
           let reached : (f.end x).taker_stand ≤ (f.line x l).stand = s.inside l h in
-          next_number (f.end x).taker_stand (f.line x l).stand reached (λ at. inside_unsettled f x (f.end x).taker_stand l s done h at);
+          next_up (f.end x).taker_stand (f.line x l).stand reached (λ at. inside_unsettled f x (f.end x).taker_stand l s done h at);
       inside_unclear = s.inside_unclear;
       messages = s.messages;
       last = s.last;
@@ -605,7 +593,7 @@ held_line_as f t holder x l = record (f.line x l) { held_by = on_line x l t hold
 held_none : (f : Facts) (t : Sender) (holder : Option AgentId) (x l : ℕ) → (t.line.0 < lines_of ((f.end t.end.0).kind)) ⊎ (holder ≡ None) → f.line x l ≡ no_line → lines_of ((f.end x).kind) ≤ l → (b : Bool) → (eqb x t.end.0 && eqb l t.line.0) ≡ b → (let y : LineNow = record (f.line x l) { held_by = cond b holder (f.line x l).held_by } in y ≡ no_line)
 held_none f t holder x l may none past true is = elim may [
   | inl less ↦
-      let both = both_of (eqb x t.end.0) (eqb l t.line.0) is in
+      let both = and_parts (eqb x t.end.0) (eqb l t.line.0) is in
       let here : x ≡ t.end.0 = search (rules, both.0) in
       let line : l ≡ t.line.0 = search (rules, both.1) in
       let bound : t.line.0 < lines_of ((f.end x).kind) = subst (λ y. t.line.0 < lines_of ((f.end y).kind)) (sym here) less in

@@ -1,7 +1,7 @@
 -- Places stay sound.
 use Rattle.std.proofs.Common.{◌≡◌, ℕ, suc, ◌+◌, ◌<◌, ◌≤◌, Bool, true, false, cond, eqb, List, [], ◌∷◌, ◌++◌, Option, Some, None, refl, sym, ap, subst, ◌∙◌, arith, rules, inl, inr}
 use Rattle.std.specs.Prelude.{◌⊎◌, ◌&&◌, ◌||◌, is_some, nat_le}
-use Rattle.std.proofs.lemmas.Bool.{false≢true, ne_eqb, eqb-true, leb-true, leb-false}
+use Rattle.std.proofs.lemmas.Bool.{false≢true, ne_eqb, eqb-true, leb-true, leb-false, and_parts}
 use Rattle.hub_envelope.specs.declared.ids.AgentId.{AgentId}
 use Rattle.hub_envelope.specs.declared.ids.EndId.{EndId}
 use Rattle.hub_envelope.specs.declared.envelope.Envelope.{Envelope}
@@ -23,7 +23,7 @@ use Rattle.hub_core.specs.Accepted.{named_envelope, named_notice}
 use Rattle.hub_core.specs.Posting.{is_out, may_enter, is_here, own_poster_out, phase_of_line}
 use Rattle.hub_core.specs.Taking.{IsNext}
 use Rattle.hub_core.specs.Sound.{no_end, total, naming, flights, SoundPlaces, Sound, is_gone}
-use Rattle.hub_core.proofs.Lists.{both_of, eqb_same}
+use Rattle.hub_core.proofs.Lists.{eqb_same}
 use Rattle.hub_core.proofs.Totals.{total_more, bit, count_more, count_between}
 use Rattle.hub_core.proofs.Nexts.{next, Change, agent_made, channel_made, let_in, found_moved, found_closed, put, left, started, got, hopped, went_on, cleared, adopted, notice_put, end_closed, end_swept, client_made, worker_made, line_got, line_back, handed, agent_ended, agent_ordered, member_joined, cast_begun, member_parted}
 use Rattle.hub_core.proofs.Fitting.{new_agent, new_ends, let_in_of, found_moved_of, found_closed_of, pushed_of, started_of, got_of, went_on_of, adopted_of, noticed_of, closed_of, SweptWith, swept_of, handed_of, queue_made_of, member_made_of}
@@ -39,7 +39,7 @@ use Rattle.hub_envelope.specs.declared.limits.TheConstants.{MAX_ENDS}
 -- after an Enter
 away_entered : (f : Facts) (s t : Sender) (p : Phase) → SoundPlaces f → may_enter f t ≡ true → (b : Bool) → (eqb s.end.0 t.end.0 && eqb s.line.0 t.line.0) ≡ b → is_out (cond b p ((f.line s.end.0 s.line.0).phase)) ≡ false → may_enter f s ≡ true
 away_entered f s t p h may true is away =
-    let both = both_of (eqb s.end.0 t.end.0) (eqb s.line.0 t.line.0) is in
+    let both = and_parts (eqb s.end.0 t.end.0) (eqb s.line.0 t.line.0) is in
     subst (λ u. may_enter f u ≡ true) (sym (same_sender s t (eqb-true s.end.0 t.end.0 both.0) (eqb-true s.line.0 t.line.0 both.1))) may
 away_entered f s t p h may false is away = h.away s away
 

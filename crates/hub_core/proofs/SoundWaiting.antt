@@ -1,6 +1,6 @@
 -- What waits stays sound.
 use Rattle.std.proofs.Common.{◌≡◌, ℕ, ◌≤◌, Bool, true, false, cond, eqb, List, [], ◌∷◌, ◌++◌, refl, sym, ap, subst, ◌∙◌, arith, rules, append-nil, append_assoc, ◌+◌, inl, inr, ◌-◌, ◌<◌, Option}
-use Rattle.std.proofs.lemmas.Bool.{ne_eqb, eqb-true, eqb-false, false≢true}
+use Rattle.std.proofs.lemmas.Bool.{ne_eqb, eqb-true, eqb-false, false≢true, and_parts}
 use Rattle.std.proofs.lemmas.List.Elements.{filter-append}
 use Rattle.hub_envelope.specs.declared.ids.EndId.{EndId}
 use Rattle.hub_envelope.specs.declared.envelope.Envelope.{Envelope}
@@ -17,15 +17,16 @@ use Rattle.hub_core.specs.Posting.{phase_of_line, is_inside}
 use Rattle.hub_core.specs.Taking.{IsNext, IsLeft}
 use Rattle.hub_core.specs.Sound.{SoundWaiting}
 use Rattle.hub_core.proofs.Nexts.{next, Change, agent_made, channel_made, let_in, found_moved, found_closed, put, left, started, got, hopped, went_on, cleared, adopted, notice_put, end_closed, end_swept, client_made, worker_made, line_got, line_back, handed, agent_ordered, agent_ended, member_joined, cast_begun, member_parted}
-use Rattle.hub_core.proofs.Fitting.{pushed_of, got_of, let_in_of, went_on_of, below_last, noticed_of, SweptWith, swept_of, each_of}
+use Rattle.hub_core.proofs.Fitting.{pushed_of, got_of, let_in_of, went_on_of, noticed_of, SweptWith, swept_of, each_of}
 use Rattle.hub_core.proofs.SoundLines.{LinesAt, by_more, phased_line, gone_line, rises_more, MayPut, message_may, notice_may, told_line, inside_unsettled}
 use Rattle.std.specs.Prelude.{◌&&◌}
 use Rattle.std.specs.List.{AllByRecursion}
-use Rattle.hub_core.proofs.Lists.{both_of, AllByRecursion-append, AllByRecursion-weaker, eqb_same}
+use Rattle.hub_core.proofs.Lists.{AllByRecursion-append, AllByRecursion-weaker, eqb_same, below_last}
 use Rattle.hub_core.specs.Looking.{is_settled, all_settled, IsAllWaiting}
 use Rattle.hub_core.proofs.Waits.{from_queue}
 use Rattle.std.proofs.lemmas.List.{append_cancel_left}
 use Rattle.hub_envelope.specs.declared.ids.AgentId.{AgentId}
+use Rattle.hub_core.proofs.Joins.{nothing_there}
 
 abbrev pub WaitingAt : Facts → ℕ → Type 0
 WaitingAt f x = SoundWaiting ((f.end x).taker_stand) ((f.end x).closed) (f.line x) (f.accepted x) (f.taken x) (f.discarded x)
@@ -69,7 +70,7 @@ waiting_phased f t p x may h = record {
   behind = h.behind;
   kept = h.kept;
   nobody = λ l is. elim (eqb x t.end.0 && eqb l t.line.0) as (λ b. (eqb x t.end.0 && eqb l t.line.0) ≡ b → cond b p (f.line x l).phase ≡ Inside → f.discarded x ≡ []) [
-    | true ↦ λ on inside. let here : x ≡ t.end.0 = eqb-true x t.end.0 (both_of (eqb x t.end.0) (eqb l t.line.0) on).0 in ap f.discarded here ∙ may inside
+    | true ↦ λ on inside. let here : x ≡ t.end.0 = eqb-true x t.end.0 (and_parts (eqb x t.end.0) (eqb l t.line.0) on).0 in ap f.discarded here ∙ may inside
     | false ↦ λ on inside. h.nobody l inside
   ] refl is;
   swept = h.swept;
@@ -170,10 +171,6 @@ all_by_lines P (v ∷ vs) h =
       ] (h l)),
     )
 
-none_by_lines : (vs : List Envelope) → ((l : ℕ) → by l vs ≡ []) → vs ≡ []
-none_by_lines [] h = refl
-none_by_lines (v ∷ vs) h = absurd (search (rules, sym (ap (λ b. cond b (v ∷ by v.line.0 vs) (by v.line.0 vs)) (eqb_same v.line.0)) ∙ h v.line.0))
-
 pub rises_joined : (t : ℕ) (us vs : List Envelope) → Rises us → Rises vs → AllByRecursion (λ (u : Envelope). u.epoch ≤ t) us → AllByRecursion (λ (u : Envelope). t ≤ u.epoch) vs → Rises (us ++ vs)
 rises_joined t [] vs r q low high = q
 rises_joined t (u ∷ us) vs r q low high =
@@ -198,7 +195,7 @@ module _ (f : Facts) (x : ℕ) (vs : List Envelope) (h : WaitingAt f x) (all : I
   from_taker none = all_by_lines (λ (u : Envelope). (f.end x).taker_stand ≤ u.epoch) vs (λ l. from_queue (f.end x).taker_stand (by l vs) (λ k less. none_behind none l k less))
 
   nothing_left : ((l : ℕ) → by l (f.taken x ++ f.discarded x) ≡ by l (f.accepted x)) → vs ≡ []
-  nothing_left done = none_by_lines vs (λ l. append_cancel_left (by l (f.taken x ++ f.discarded x)) (by l vs) [] (split_line l ∙ sym (done l) ∙ sym (append-nil (by l (f.taken x ++ f.discarded x)))))
+  nothing_left done = nothing_there vs (λ l. append_cancel_left (by l (f.taken x ++ f.discarded x)) (by l vs) [] (split_line l ∙ sym (done l) ∙ sym (append-nil (by l (f.taken x ++ f.discarded x)))))
 
   swept_rises : Rises (f.taken x ++ (f.discarded x ++ vs))
   swept_rises = elim h.swept [

@@ -2,7 +2,7 @@
 use Rattle.std.proofs.Common.{◌≡◌, ℕ, ◌+◌, ◌<◌, ◌≤◌, Bool, true, false, cond, eqb, List, [], ◌∷◌, ◌++◌, Option, Some, None, refl, sym, ap, subst, ◌∙◌, arith, rules, length, append_assoc, append-nil, inl, inr}
 use Rattle.std.specs.Prelude.{◌⊎◌, ◌&&◌, ◌||◌, not, is_some, option_and_then, nat_le, drop}
 use Rattle.std.specs.List.{AllByRecursion, list_all, filter}
-use Rattle.std.proofs.lemmas.Bool.{false≢true, ne_eqb, eqb-true, leb-true, leb-false}
+use Rattle.std.proofs.lemmas.Bool.{false≢true, ne_eqb, eqb-true, leb-true, leb-false, and_parts, or_right}
 use Rattle.hub_envelope.specs.declared.ids.AgentId.{AgentId}
 use Rattle.hub_envelope.specs.declared.ids.EndId.{EndId}
 use Rattle.hub_envelope.specs.declared.envelope.Envelope.{Envelope}
@@ -21,7 +21,7 @@ use Rattle.hub_core.specs.Sender.{by, Prefix}
 use Rattle.hub_core.specs.Posting.{running_at, holder, poster, phase_of_line, is_out, is_with, own_poster_out, is_at, may_enter, hears_notice, is_here, may_leave_agent, own_line_plain, running, poster_of, speaker_in}
 use Rattle.hub_core.specs.Taking.{IsNext}
 use Rattle.hub_core.specs.Sound.{no_end, IsOfEnd, total, naming, flights, SoundPlaces, Sound}
-use Rattle.hub_core.proofs.Lists.{both_of, eqb_same}
+use Rattle.hub_core.proofs.Lists.{eqb_same}
 use Rattle.hub_core.proofs.Totals.{total_less, total_more, count, bit, count_more, count_lines, count_append}
 use Rattle.hub_core.proofs.Nexts.{next, Change, agent_made, channel_made, let_in, found_moved, found_closed, put, left, started, got, hopped, went_on, cleared, adopted, notice_put, end_closed, end_swept, client_made, worker_made, line_got, line_back, handed, agent_ordered, agent_ended, member_joined, cast_begun, member_parted}
 use Rattle.hub_core.proofs.Fitting.{new_ends, pushed_of, got_of, adopted_of, closed_of, SweptWith, swept_of, queue_made_of, handed_of, line_got_of, back_of, none_away, see_of, member_made_of, cast_of, left_of}
@@ -196,12 +196,12 @@ travels f a s x [] all named = absurd (false≢true named)
 travels f a s x (p ∷ ps) all named = elim (eqb p.0 x) as (λ b. eqb p.0 x ≡ b → (b || names ps x) ≡ true → ((f.end x).place ≡ Some (With a)) × (own_poster_out f (peer_of (f.end x).kind) ≡ true)) [
   | true ↦ λ t _.
       let same : p.0 ≡ x = search (rules, t) in
-      let tests = both_of (may_leave_agent f a s p) (list_all (may_leave_agent f a s) ps) all in
-      let first = both_of (is_with a (f.end p.0).place && own_poster_out f (peer_of (f.end p.0).kind) && own_line_plain f (peer_of (f.end p.0).kind)) (not (is_at p.0 (peer_of (f.end s.end.0).kind))) tests.0 in
-      let second = both_of (is_with a (f.end p.0).place && own_poster_out f (peer_of (f.end p.0).kind)) (own_line_plain f (peer_of (f.end p.0).kind)) first.0 in
-      let third = both_of (is_with a (f.end p.0).place) (own_poster_out f (peer_of (f.end p.0).kind)) second.0 in
+      let tests = and_parts (may_leave_agent f a s p) (list_all (may_leave_agent f a s) ps) all in
+      let first = and_parts (is_with a (f.end p.0).place && own_poster_out f (peer_of (f.end p.0).kind) && own_line_plain f (peer_of (f.end p.0).kind)) (not (is_at p.0 (peer_of (f.end s.end.0).kind))) tests.0 in
+      let second = and_parts (is_with a (f.end p.0).place && own_poster_out f (peer_of (f.end p.0).kind)) (own_line_plain f (peer_of (f.end p.0).kind)) first.0 in
+      let third = and_parts (is_with a (f.end p.0).place) (own_poster_out f (peer_of (f.end p.0).kind)) second.0 in
       subst (λ y. ((f.end y).place ≡ Some (With a)) × (own_poster_out f (peer_of (f.end y).kind) ≡ true)) same (with_agent a (f.end p.0).place third.0, third.1)
-  | false ↦ λ t later. travels f a s x ps (both_of (may_leave_agent f a s p) (list_all (may_leave_agent f a s) ps) all).1 later
+  | false ↦ λ t later. travels f a s x ps (and_parts (may_leave_agent f a s p) (list_all (may_leave_agent f a s) ps) all).1 later
 ] refl named
 
 -- ---- flights
@@ -372,7 +372,7 @@ same_sender s t end line = λ i. record { end = record { 0 = end i }; line = rec
 -- a line that another one isn't stays held
 still_held : (f : Facts) (s t : Sender) (holder : Option AgentId) (a : AgentId) → (f.line s.end.0 s.line.0).held_by ≡ Some a → (s ≡ t → ⊥) → on_line s.end.0 s.line.0 t holder (f.line s.end.0 s.line.0).held_by ≡ Some a
 still_held f s t holder a held other = elim (eqb s.end.0 t.end.0 && eqb s.line.0 t.line.0) as (λ b. (eqb s.end.0 t.end.0 && eqb s.line.0 t.line.0) ≡ b → cond b holder (f.line s.end.0 s.line.0).held_by ≡ Some a) [
-  | true ↦ λ is. let both = both_of (eqb s.end.0 t.end.0) (eqb s.line.0 t.line.0) is in absurd (other (same_sender s t (eqb-true s.end.0 t.end.0 both.0) (eqb-true s.line.0 t.line.0 both.1)))
+  | true ↦ λ is. let both = and_parts (eqb s.end.0 t.end.0) (eqb s.line.0 t.line.0) is in absurd (other (same_sender s t (eqb-true s.end.0 t.end.0 both.0) (eqb-true s.line.0 t.line.0 both.1)))
   | false ↦ λ is. held
 ] refl
 
@@ -637,8 +637,8 @@ pub record Hears (f : Facts) (s : Sender) : Type 0 where
   pub here : is_here (f.end peer).place ≡ true
 
 heard_by : (f : Facts) (s : Sender) (p : Option ℕ) → peer_of (f.end s.end.0).kind ≡ p → (eqb s.line.0 0 && is_here (option_and_then (λ q. (f.end q).place) p)) ≡ true → Hears f s
-heard_by f s None is h = absurd (false≢true (both_of (eqb s.line.0 0) false h).1)
-heard_by f s (Some q) is h = let both = both_of (eqb s.line.0 0) (is_here (f.end q).place) h in record { line = eqb-true s.line.0 0 both.0; peer = q; entangled = is; here = both.1 }
+heard_by f s None is h = absurd (false≢true (and_parts (eqb s.line.0 0) false h).1)
+heard_by f s (Some q) is h = let both = and_parts (eqb s.line.0 0) (is_here (f.end q).place) h in record { line = eqb-true s.line.0 0 both.0; peer = q; entangled = is; here = both.1 }
 
 pub heard_of : (f : Facts) (s : Sender) → hears_notice f s ≡ true → Hears f s
 heard_of f s h = heard_by f s (peer_of (f.end s.end.0).kind) refl h
@@ -652,12 +652,8 @@ hears_of f s h = elim (is_some (poster f s)) as (λ b. is_some (poster f s) ≡ 
   | false ↦ λ _ hears. inl (heard_of f s hears)
 ] refl h
 
-pub or_true : (b c : Bool) → c ≡ true → (b || c) ≡ true
-or_true true c is = refl
-or_true false c is = is
-
 pub may_as : (g : Facts) (s : Sender) (q : ℕ) → s.line.0 ≡ 0 → peer_of (g.end s.end.0).kind ≡ Some q → is_here (g.end q).place ≡ true → may_enter g s ≡ true
-may_as g s q line peer here = or_true (is_some (poster g s)) (hears_notice g s) (rw (line, peer, here) refl)
+may_as g s q line peer here = or_right (is_some (poster g s)) (hears_notice g s) (rw (line, peer, here) refl)
 
 still_here : (b : Bool) (p q : Option Place) → (b ≡ true → is_here p ≡ true) → is_here q ≡ true → is_here (cond b p q) ≡ true
 still_here true p q new old = new refl

@@ -2,7 +2,7 @@
 use Rattle.std.proofs.Common.{◌≡◌, ℕ, zero, suc, ◌+◌, ◌-◌, ◌<◌, ◌≤◌, Bool, true, false, cond, eqb, List, [], ◌∷◌, ◌++◌, length, get_or, set, Option, Some, None, refl, sym, ap, subst, ◌∙◌, arith, rules, append-nil, append_assoc}
 use Rattle.std.specs.Prelude.{◌&&◌, ◌||◌, not, nat_le, nat_lt, option_map}
 use Rattle.std.specs.List.{slice_get, list_any, AllByRecursion}
-use Rattle.std.proofs.lemmas.Bool.{false≢true, ne_eqb, eqb-true, leb-true, le-leb, ltb-true, ltb-false, eqb-false}
+use Rattle.std.proofs.lemmas.Bool.{false≢true, ne_eqb, eqb-true, leb-true, le-leb, ltb-true, ltb-false, eqb-false, and_parts, false_from_ne_true, le-ltb}
 use Rattle.std.proofs.lemmas.List.{length-set, append_cancel_left}
 use Rattle.std.proofs.lemmas.List.Elements.{filter-append}
 use Rattle.std.proofs.lemmas.Option.{slice_get_within}
@@ -23,14 +23,13 @@ use Rattle.hub_core.specs.Looking.{any_below, is_away_at, someone_at, is_settled
 use Rattle.hub_core.specs.Sound.{Sound}
 use Rattle.hub_core.specs.Shows.{ShowsEnd, ShowsFacts}
 use Rattle.hub_core.specs.Kept.{is_anyone_from, joined, sweep_outcome, swept_end, sweep_outcome_at, sweep_ends, moved_ends, ports_of, swept_ports}
-use Rattle.hub_core.proofs.Lists.{eqb_same, set_again, each_set, is_there, both_of, AllByRecursion-weaker, AllByRecursion-append}
-use Rattle.hub_core.proofs.Waits.{filters, of_queue, all_kept, rises_back}
+use Rattle.hub_core.proofs.Lists.{eqb_same, set_again, each_set, is_there, AllByRecursion-weaker, AllByRecursion-append, below_last}
+use Rattle.hub_core.proofs.Waits.{filters, of_queue, all_kept, rises_back, all_of_queue}
 use Rattle.hub_core.proofs.Frames.{ShownAt, Stepped, changed, unchanged}
 use Rattle.hub_core.proofs.Placing.{moves_of, moved_end, moved_shown}
 use Rattle.hub_core.proofs.Speakers.{placed_made, swept_flies}
 use Rattle.hub_core.proofs.SoundWaiting.{nobody_there, rises_joined}
 use Rattle.hub_core.proofs.Fitting.{swept_of, any_of, none_of_any, each_of}
-use Rattle.std.proofs.lemmas.Bool.Decides.{nat_tests}
 use Rattle.hub_core.specs.declared.line.Phase.TheVariants.{Inside}
 use Rattle.hub_core.proofs.Presence.{lines_kept}
 use Rattle.hub_core.proofs.SweepOrders.{rises_one}
@@ -49,16 +48,6 @@ or_third : (a b c : Bool) → (a || (b || c)) ≡ ((a || b) || c)
 or_third true b c = refl
 or_third false b c = refl
 
-not_true : (b : Bool) → (b ≡ true → ⊥) → b ≡ false
-not_true true h = absurd (h refl)
-not_true false h = refl
-
-high : (k m : ℕ) → m ≤ k → nat_lt k m ≡ false
-high k m least = grind (arith, nat_tests)
-
-last_one : (i n : ℕ) → i < n + 1 → (i ≡ n → ⊥) → i < n
-last_one i n below other = grind (arith, nat_tests)
-
 none_below : (test : ℕ → Bool) (n : ℕ) → ((l : ℕ) → l < n → test l ≡ false) → any_below test n ≡ false
 none_below test zero h = refl
 none_below test (suc n) h = rw (none_below test n (λ l less. h l (omega (arith, less)))) (h n (omega arith))
@@ -67,7 +56,7 @@ some_below : (test : ℕ → Bool) (n l : ℕ) → l < n → test l ≡ true →
 some_below test zero l less is = absurd (omega (arith, less))
 some_below test (suc n) l less is = elim (eqb l n) as (λ b. eqb l n ≡ b → (any_below test n || test n) ≡ true) [
   | true ↦ λ same. ap (λ b. any_below test n || b) (ap test (sym (eqb-true l n same)) ∙ is) ∙ or_true (any_below test n)
-  | false ↦ λ other. ap (λ b. b || test n) (some_below test n l (last_one l n (omega (arith, less)) (eqb-false l n other)) is)
+  | false ↦ λ other. ap (λ b. b || test n) (some_below test n l (below_last l n (omega (arith, less)) (eqb-false l n other)) is)
 ] refl
 
 rises_by : (l : ℕ) (vs : List Envelope) → Rises vs → Rises (by l vs)
@@ -91,9 +80,6 @@ no_test : (away : Bool) (k m stand : ℕ) → m ≤ k → (away && nat_le m stan
 no_test false k m stand from none = refl
 no_test true k m stand from none = ne_eqb stand k (λ same. false≢true (sym none ∙ le-leb m stand (omega arith)))
 
-not_below : (k m : ℕ) → nat_lt k m ≡ false → m ≤ k
-not_below k m h = ltb-false k m h
-
 module _ (f : Facts) (e : ℕ) (x : End) (s : Sound f) (h : ShownAt f e (Some x)) where
   nobody_from : is_anyone_from x.looked x.lines ≡ false → all_settled f e ≡ true
   nobody_from none =
@@ -103,7 +89,7 @@ module _ (f : Facts) (e : ℕ) (x : End) (s : Sound f) (h : ShownAt f e (Some x)
       elim (nat_lt k x.looked) as (λ b. nat_lt k x.looked ≡ b → is_settled f e k ≡ true) [
         | true ↦ λ is. ap (λ b. b || not (someone_at f e k)) (h.queues.clear_below k (omega arith) ∙ is)
         | false ↦ λ is.
-            let at : x.looked ≤ k = not_below k x.looked is in
+            let at : x.looked ≤ k = ltb-false k x.looked is in
             let nobody : someone_at f e k ≡ false = none_below (λ l. is_away_at k (f.line e l)) (lines_of (f.end e).kind) (λ l low. no_test (not (is_out (f.line e l).phase)) k x.looked (f.line e l).stand at (none_of_any (λ i. away_from x.looked (f.line e i)) (lines_of (f.end e).kind) l lines low)) in
             ap (λ b. f.clear e k || not b) nobody ∙ or_true (f.clear e k)
       ] refl)
@@ -111,15 +97,15 @@ module _ (f : Facts) (e : ℕ) (x : End) (s : Sound f) (h : ShownAt f e (Some x)
   somebody_from : is_anyone_from x.looked x.lines ≡ true → all_settled f e ≡ false
   somebody_from some =
       let found = any_of (λ l. away_from x.looked (f.line e l)) (lines_of (f.end e).kind) (sym (lines_kept f e x (away_from x.looked) h) ∙ some) in
-      let both = both_of (not (is_out (f.line e found.0).phase)) (nat_le x.looked (f.line e found.0).stand) found.2 in
+      let both = and_parts (not (is_out (f.line e found.0).phase)) (nat_le x.looked (f.line e found.0).stand) found.2 in
       let k : ℕ = (f.line e found.0).stand in
       let from : x.looked ≤ k = leb-true x.looked k both.1 in
       let taker : (f.end e).taker_stand ≡ x.taker = ap (λ (y : EndNow). y.taker_stand) h.same in
       let reached : x.taker ≤ x.looked = h.queues.reached in
       let within : k ≤ (f.end e).newest = (s.lines e).stand found.0 in
-      let unclear : f.clear e k ≡ false = h.queues.clear_below k (omega arith) ∙ high k x.looked from in
+      let unclear : f.clear e k ≡ false = h.queues.clear_below k (omega arith) ∙ le-ltb k x.looked from in
       let there : someone_at f e k ≡ true = some_below (λ l. is_away_at k (f.line e l)) (lines_of (f.end e).kind) found.0 found.1 (rw (both.0) (eqb_same k)) in
-      not_true (all_settled f e) (λ all. false≢true (sym (ap (λ b. b || not (someone_at f e k)) unclear ∙ ap not there) ∙ each_of (is_settled f e) (f.end e).taker_stand ((f.end e).newest - (f.end e).taker_stand + 1) all k (omega arith) (omega arith)))
+      false_from_ne_true (all_settled f e) (λ all. false≢true (sym (ap (λ b. b || not (someone_at f e k)) unclear ∙ ap not there) ∙ each_of (is_settled f e) (f.end e).taker_stand ((f.end e).newest - (f.end e).taker_stand + 1) all k (omega arith) (omega arith)))
 
 -- ---- what is kept is all that waits
 
@@ -149,10 +135,6 @@ joined_rises t (q ∷ qs) h =
     rises_joined t q (joined qs) (same_rises (t + 0) q (h 0)) (joined_rises (t + 1) qs (rest_from t q qs h))
     (AllByRecursion-weaker (λ (v : Envelope). v.epoch ≡ t + 0) (λ v. v.epoch ≤ t) (λ v is. omega arith) q (h 0))
     (AllByRecursion-weaker (λ (v : Envelope). t + 1 ≤ v.epoch) (λ v. t ≤ v.epoch) (λ v more. omega arith) (joined qs) (joined_least (t + 1) qs (rest_from t q qs h)))
-
-all_of_queue : (k : ℕ) (vs : List Envelope) → AllByRecursion (λ (v : Envelope). v.epoch ≡ k) vs → in_queue k vs ≡ vs
-all_of_queue k [] h = refl
-all_of_queue k (v ∷ vs) h = ap (λ b. cond b (v ∷ in_queue k vs) (in_queue k vs)) (ap (λ n. eqb n k) h.0 ∙ eqb_same k) ∙ ap (λ us. v ∷ us) (all_of_queue k vs h.1)
 
 none_of_queue : (k : ℕ) (vs : List Envelope) → AllByRecursion (λ (v : Envelope). v.epoch ≡ k → ⊥) vs → in_queue k vs ≡ []
 none_of_queue k [] h = refl

@@ -22,7 +22,7 @@ total_less w u (suc n) h =
     let last : w n ≤ u n = h n in
     omega arith
 
-last_not : (e n : ℕ) → e < suc n → (e ≡ n → ⊥) → e < n
+pub last_not : (e n : ℕ) → e < suc n → (e ≡ n → ⊥) → e < n
 last_not e n below other = grind (arith, nat_tests)
 
 -- one term grows

@@ -48,6 +48,10 @@ of_queue k (v ∷ vs) = elim (eqb v.epoch k) as (λ b. eqb v.epoch k ≡ b → A
   | false ↦ λ _. of_queue k vs
 ] refl
 
+pub all_of_queue : (k : ℕ) (vs : List Envelope) → AllByRecursion (λ (v : Envelope). v.epoch ≡ k) vs → in_queue k vs ≡ vs
+all_of_queue k [] h = refl
+all_of_queue k (v ∷ vs) h = ap (λ b. cond b (v ∷ in_queue k vs) (in_queue k vs)) (ap (λ n. eqb n k) h.0 ∙ eqb_same k) ∙ ap (λ us. v ∷ us) (all_of_queue k vs h.1)
+
 pub queue_more : (k : ℕ) (vs : List Envelope) (v : Envelope) → v.epoch ≡ k → in_queue k (vs ++ v ∷ []) ≡ in_queue k vs ++ v ∷ []
 queue_more k vs v is = filter-append _ vs (v ∷ []) ∙ ap (λ b. in_queue k vs ++ cond b (v ∷ []) []) (ap (λ n. eqb n k) is ∙ eqb_same k)
 
