@@ -43,11 +43,6 @@ away_entered f s t p h may true is away =
     subst (λ u. may_enter f u ≡ true) (sym (same_sender s t (eqb-true s.end.0 t.end.0 both.0) (eqb-true s.line.0 t.line.0 both.1))) may
 away_entered f s t p h may false is away = h.away s away
 
--- after a Leave
-away_left : (f : Facts) (s : Sender) (b : Bool) → SoundPlaces f → is_out (cond b Out ((f.line s.end.0 s.line.0).phase)) ≡ false → may_enter f s ≡ true
-away_left f s true h away = absurd (false≢true (sym away))
-away_left f s false h away = h.away s away
-
 -- ---- flights
 
 no_flights : (p : Option Place) (a : AgentId) → p ≡ Some (With a) → flights p ≡ 0
@@ -204,9 +199,9 @@ channel_places f b refused e e' h fits =
 
 -- ---- every pair that changes something
 
--- a pair that changes lines alone
-lines_alone : (f : Facts) (line : ℕ → ℕ → LineNow) → SoundPlaces f → ((s : Sender) → is_out ((line s.end.0 s.line.0).phase) ≡ false → may_enter (record f { line = line }) s ≡ true) → SoundPlaces (record f { line = line })
-lines_alone f line h away = record {
+-- a pair that changes lines, what is clear, and the roster alone
+ends_alone : (f : Facts) (line : ℕ → ℕ → LineNow) (clear : ℕ → ℕ → Bool) (roster : RosterNow) → SoundPlaces f → ((s : Sender) → is_out ((line s.end.0 s.line.0).phase) ≡ false → may_enter (record f { line = line; clear = clear; roster = roster }) s ≡ true) → SoundPlaces (record f { line = line; clear = clear; roster = roster })
+ends_alone f line clear roster h away = record {
   few = h.few;
   ends = h.ends;
   agents = h.agents;
@@ -334,21 +329,6 @@ started_places f refused e h fits =
       gone = h.places.gone;
       flights = h.places.flights;
     }
-
--- a pair that changes which queues are clear alone
-clear_alone : (f : Facts) (clear : ℕ → ℕ → Bool) → SoundPlaces f → SoundPlaces (record f { clear = clear })
-clear_alone f clear h = record {
-  few = h.few;
-  ends = h.ends;
-  agents = h.agents;
-  peers = h.peers;
-  with_made = h.with_made;
-  arrived_made = h.arrived_made;
-  away = h.away;
-  flying = h.flying;
-  gone = h.gone;
-  flights = h.flights;
-}
 
 went_none : (f : Facts) (e x : ℕ) (b : Bool) → eqb x e ≡ b → e < f.ends → f.ends ≤ x → f.end x ≡ no_end → (let y : EndNow = record (f.end x) { taker_stand = cond b ((f.end x).taker_stand + 1) (f.end x).taker_stand } in y ≡ no_end)
 went_none f e x true is less past none = let same : x ≡ e = eqb-true x e is in absurd (omega arith)
@@ -591,21 +571,6 @@ ended_places f refused a es h fits = record {
   flights = h.places.flights;
 }
 
--- another roster
-with_roster : (f : Facts) (roster : RosterNow) → SoundPlaces f → ((s : Sender) → is_out (phase_of_line f s) ≡ false → may_enter (record f { roster = roster }) s ≡ true) → SoundPlaces (record f { roster = roster })
-with_roster f roster h away = record {
-  few = h.few;
-  ends = h.ends;
-  agents = h.agents;
-  peers = h.peers;
-  with_made = h.with_made;
-  arrived_made = h.arrived_made;
-  away = away;
-  flying = h.flying;
-  gone = h.gone;
-  flights = h.flights;
-}
-
 -- a line that is away after another one was left was away
 was_away : (b : Bool) (p : Phase) → is_out (cond b Out p) ≡ false → is_out p ≡ false
 was_away true p h = absurd (false≢true (sym h))
@@ -619,22 +584,20 @@ pub places_next : (f : Facts) {a : Action} (refused : Bool) {o : Outcome} → So
 places_next f refused h fits (agent_made origin n) = agent_places f origin refused n h fits
 places_next f refused h fits (channel_made b e e') = channel_places f b refused e e' h fits
 places_next f refused h fits (let_in s) =
-    lines_alone f (next f (action.Enter s) outcome.In).line h.places (λ t away. away_entered f t s Inside h.places (let_in_of f s fits).0.may (eqb t.end.0 s.end.0 && eqb t.line.0 s.line.0) refl away)
+    ends_alone f (next f (action.Enter s) outcome.In).line f.clear f.roster h.places (λ t away. away_entered f t s Inside h.places (let_in_of f s fits).0.may (eqb t.end.0 s.end.0 && eqb t.line.0 s.line.0) refl away)
 places_next f refused h fits (found_moved s) =
-    lines_alone f (next f (action.Enter s) outcome.Moved).line h.places (λ t away. away_entered f t s Turned h.places (found_moved_of f s fits).0.may (eqb t.end.0 s.end.0 && eqb t.line.0 s.line.0) refl away)
+    ends_alone f (next f (action.Enter s) outcome.Moved).line f.clear f.roster h.places (λ t away. away_entered f t s Turned h.places (found_moved_of f s fits).0.may (eqb t.end.0 s.end.0 && eqb t.line.0 s.line.0) refl away)
 places_next f refused h fits (found_closed s) =
-    lines_alone f (next f (action.Enter s) outcome.Closed).line h.places (λ t away. away_entered f t s Turned h.places (found_closed_of f s fits).0.may (eqb t.end.0 s.end.0 && eqb t.line.0 s.line.0) refl away)
+    ends_alone f (next f (action.Enter s) outcome.Closed).line f.clear f.roster h.places (λ t away. away_entered f t s Turned h.places (found_closed_of f s fits).0.may (eqb t.end.0 s.end.0 && eqb t.line.0 s.line.0) refl away)
 places_next f refused h fits (put s ports body n) = put_places f refused s ports body n h fits
 places_next f refused h fits (notice_put s n) = notice_places f refused s n h fits
 places_next f refused h fits (left s) =
-    with_roster (record f { line = (next f (action.Leave s) outcome.Left).line }) (next f (action.Leave s) outcome.Left).roster
-    (lines_alone f (next f (action.Leave s) outcome.Left).line h.places (λ t away. away_left f t (eqb t.end.0 s.end.0 && eqb t.line.0 s.line.0) h.places away))
-    (λ t away. let before : is_out (phase_of_line f t) ≡ false = was_away (eqb t.end.0 s.end.0 && eqb t.line.0 s.line.0) (phase_of_line f t) away in may_next f refused h fits (left s) t before away (h.places.away t before))
-places_next f refused h fits (hopped s k) = lines_alone f (next f (action.Hop s) (outcome.Hopped k)).line h.places h.places.away
+    ends_alone f (next f (action.Leave s) outcome.Left).line f.clear (next f (action.Leave s) outcome.Left).roster h.places (λ t away. let before : is_out (phase_of_line f t) ≡ false = was_away (eqb t.end.0 s.end.0 && eqb t.line.0 s.line.0) (phase_of_line f t) away in may_next f refused h fits (left s) t before away (h.places.away t before))
+places_next f refused h fits (hopped s k) = ends_alone f (next f (action.Hop s) (outcome.Hopped k)).line f.clear f.roster h.places h.places.away
 places_next f refused h fits (started e) = started_places f refused e h fits
 places_next f refused h fits (got e v) = got_places f refused e v h fits
 places_next f refused h fits (went_on e) = went_places f refused e h fits
-places_next f refused h fits (cleared e k) = clear_alone f (next f (action.Look e) (outcome.Clear (Some k))).clear h.places
+places_next f refused h fits (cleared e k) = ends_alone f f.line (next f (action.Look e) (outcome.Clear (Some k))).clear f.roster h.places h.places.away
 places_next f refused h fits (adopted e a k) = adopted_places f refused e a k h fits
 places_next f refused h fits (end_closed e) = closed_places f refused e h fits
 places_next f refused h fits (end_swept e vs) = swept_places f refused e vs h fits
@@ -646,15 +609,15 @@ places_next f refused h fits (worker_made b e) =
     queue_places f b Worker e h refl made.runs made.few made.number (λ s away. may_next f refused h fits (worker_made b e) s away away (h.places.away s away))
 places_next f refused h fits (member_joined b name e) =
     let made = member_made_of f b refused e fits in
-    with_roster (one_made f b (Member b) e) (next f (action.Member b name) (outcome.End e)).roster
+    ends_alone (one_made f b (Member b) e) f.line f.clear (next f (action.Member b name) (outcome.End e)).roster
     (queue_places f b (Member b) e h refl made.runs made.few made.number (λ s away. may_made f s b name e (may_next f refused h fits (member_joined b name e) s away away (h.places.away s away))))
     (λ s away. may_next f refused h fits (member_joined b name e) s away away (h.places.away s away))
 places_next f refused h fits (cast_begun e ports body ends) =
-    with_roster f (next f (action.Cast e ports body) (outcome.Destinations ends)).roster h.places (λ s away. may_next f refused h fits (cast_begun e ports body ends) s away away (h.places.away s away))
+    ends_alone f f.line f.clear (next f (action.Cast e ports body) (outcome.Destinations ends)).roster h.places (λ s away. may_next f refused h fits (cast_begun e ports body ends) s away away (h.places.away s away))
 places_next f refused h fits (member_parted e) =
-    with_roster f (next f (action.Part e) outcome.Done).roster h.places (λ s away. may_next f refused h fits (member_parted e) s away away (h.places.away s away))
-places_next f refused h fits (line_got e a l) = lines_alone f (next f (action.Line e a) (outcome.Line l)).line h.places (λ s away. may_next f refused h fits (line_got e a l) s away away (h.places.away s away))
-places_next f refused h fits (line_back t) = lines_alone f (next f (action.Back t) outcome.Done).line h.places (λ s away. may_next f refused h fits (line_back t) s away away (h.places.away s away))
+    ends_alone f f.line f.clear (next f (action.Part e) outcome.Done).roster h.places (λ s away. may_next f refused h fits (member_parted e) s away away (h.places.away s away))
+places_next f refused h fits (line_got e a l) = ends_alone f (next f (action.Line e a) (outcome.Line l)).line f.clear f.roster h.places (λ s away. may_next f refused h fits (line_got e a l) s away away (h.places.away s away))
+places_next f refused h fits (line_back t) = ends_alone f (next f (action.Back t) outcome.Done).line f.clear f.roster h.places (λ s away. may_next f refused h fits (line_back t) s away away (h.places.away s away))
 places_next f refused h fits (handed e b) = handed_places f refused e b h fits
 places_next f refused h fits (agent_ordered a) = ordered_places f a h
 places_next f refused h fits (agent_ended a es) = ended_places f refused a es h fits
