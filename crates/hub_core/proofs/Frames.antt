@@ -29,22 +29,6 @@ pub record Stepped (agents : List Agent) (ends : List End) (f : Facts) (a : Acti
   pub fits : Answers f a refused o
   pub shows : ShowsFacts agents ends (next f a o)
 
--- a step that makes no agent and no end
-pub changed : (agents : List Agent) (ends after : List End) (f : Facts) (a : Action) (refused : Bool) (o : Outcome) → ShowsFacts agents ends f → Answers f a refused o → (next f a o).agents ≡ f.agents → (next f a o).agent ≡ f.agent → (next f a o).ends ≡ f.ends → length after ≡ length ends → Counted agents (next f a o) → ((x : ℕ) → ShownAt (next f a o) x (slice_get after x)) → Stepped agents after f a refused o
-changed agents ends after f a refused o h fits same_agents same_agent same_ends count counted each = record {
-  fits = fits;
-  shows = record {
-    agents = same_agents ∙ h.agents;
-    agent = λ x. ap (λ g. g x) same_agent ∙ h.agent x;
-    ends = same_ends ∙ h.ends ∙ sym count;
-    end = each;
-    clients = counted.clients;
-    workers = counted.workers;
-    away = counted.away;
-    sound = sound_next f a refused o h.sound fits;
-  };
-}
-
 -- a step that counts the queues of agents anew
 pub recounted : (agents new : List Agent) (ends after : List End) (f : Facts) (a : Action) (refused : Bool) (o : Outcome) → ShowsFacts agents ends f → Answers f a refused o → (next f a o).agents ≡ f.agents → (next f a o).agent ≡ f.agent → length new ≡ length agents → ((x : ℕ) → agent_now (slice_get new x) ≡ agent_now (slice_get agents x)) → (next f a o).ends ≡ length after → Counted new (next f a o) → ((x : ℕ) → ShownAt (next f a o) x (slice_get after x)) → Stepped new after f a refused o
 recounted agents new ends after f a refused o h fits same_agents same_agent same_count same_now count counted each = record {
@@ -60,6 +44,11 @@ recounted agents new ends after f a refused o h fits same_agents same_agent same
     sound = sound_next f a refused o h.sound fits;
   };
 }
+
+-- a step that makes no agent and no end
+pub changed : (agents : List Agent) (ends after : List End) (f : Facts) (a : Action) (refused : Bool) (o : Outcome) → ShowsFacts agents ends f → Answers f a refused o → (next f a o).agents ≡ f.agents → (next f a o).agent ≡ f.agent → (next f a o).ends ≡ f.ends → length after ≡ length ends → Counted agents (next f a o) → ((x : ℕ) → ShownAt (next f a o) x (slice_get after x)) → Stepped agents after f a refused o
+changed agents ends after f a refused o h fits same_agents same_agent same_ends count counted each =
+    recounted agents agents ends after f a refused o h fits same_agents same_agent refl (λ x. refl) (same_ends ∙ h.ends ∙ sym count) counted each
 
 -- a step that changes nothing
 pub unchanged : (agents : List Agent) (ends after : List End) (f : Facts) (a : Action) (refused : Bool) (o p : Outcome) → ShowsFacts agents ends f → next f a p ≡ f → o ≡ p → after ≡ ends → Answers f a refused p → Stepped agents after f a refused o
