@@ -1,6 +1,5 @@
 -- The mailbox of an end after a legal history shows the history there, and holds what a core keeps.
 use Rattle.std.proofs.Common.{◌≡◌, ℕ, zero, suc, ◌+◌, ◌<◌, ◌≤◌, Bool, true, false, cond, eqb, List, [], ◌∷◌, ◌++◌, length, map, replicate, Option, Some, None, refl, sym, ap, subst, ◌∙◌, ⊎_elim, arith, append_assoc, append-nil}
-use Rattle.std.specs.List.{fold}
 use Rattle.std.specs.Prelude.{slice_get, slice_index_or}
 use Rattle.std.proofs.lemmas.Bool.{false≢true, false_from_ne_true, eqb-true, eqb-false}
 use Rattle.std.proofs.lemmas.Grind.{flat_map-append}
@@ -32,8 +31,9 @@ use Rattle.hub_core.specs.GateMachine.{IsAt, opened}
 use Rattle.hub_core.specs.QueueMachine.{new_queue}
 use Rattle.hub_core.specs.Mailbox.{Mailbox, new_mailbox, IsMailbox}
 use Rattle.hub_core.specs.MailboxSteps.{MailboxEvent, push, pop, put_in}
-use Rattle.hub_core.specs.MailboxPairs.{OneRight, events_of, leaving, finds_busy_at, sweeping, Runs}
-use Rattle.hub_core.specs.MailboxOf.{after_event, first_mailbox, made_as, after_pair, mailbox_from, mailbox, GoesOn, EachShows, KeepsMailboxes}
+use Rattle.hub_core.specs.MailboxPairs.{OneRight, events_of, leaving, finds_busy_at, sweeping, Happen}
+use Rattle.hub_core.specs.MailboxAfter.{after_events}
+use Rattle.hub_core.specs.MailboxOf.{first_mailbox, made_as, after_pair, mailbox_from, mailbox, GoesOn, EachShows, KeepsMailboxes}
 use Rattle.hub_core.proofs.Items.{got_within, got_of-map}
 use Rattle.hub_core.proofs.Nexts.{next, facts_next, accepted_one}
 use Rattle.hub_core.proofs.Legals.{by_pairs}
@@ -43,9 +43,9 @@ use Rattle.hub_core.proofs.Fitting.{new_ends, queue_made_of, member_made_of}
 use Rattle.hub_core.proofs.Speakers.{nothing_accepted, nothing_removed}
 use Rattle.hub_core.proofs.MailboxStepping.{chain_laws}
 use Rattle.hub_core.proofs.MailboxMoves.{only, opened_out}
-use Rattle.hub_core.proofs.MailboxShown.{View, view, ShownAt, IsShown, to_history}
+use Rattle.hub_core.proofs.MailboxShown.{Runs, View, view, ShownAt, IsShown, to_history}
 use Rattle.hub_core.proofs.MailboxPairs.{goes}
-use Rattle.hub_core.proofs.MailboxRuns.{puts, runs_one, runs_joined, runs_kept, Ordered, runs_ordered}
+use Rattle.hub_core.proofs.MailboxRuns.{puts, runs_one, runs_happen, runs_joined, runs_kept, Ordered, runs_ordered}
 use Rattle.hub_core.proofs.PairQueues.{got_there_in}
 
 -- ---- what the events of a pair put in
@@ -188,22 +188,20 @@ module _ (f : Facts) (e : ℕ) (m : Mailbox OneRight) (sound : Sound f) (refused
   kind_made : (k : Kind) → kind_after e None o a ≡ Some k → f.ends ≤ e → ((next f a o).end e).kind ≡ Some k
   kind_made k is past = ap (λ q. kind_after e q o a) (ap (λ (x : EndNow). x.kind) (unmade f e sound past)) ∙ is
 
-  same_after : e < f.ends → after_pair f e m o a ≡ fold after_event m events_here
+  same_after : e < f.ends → after_pair f e m o a ≡ after_events m events_here
   same_after within = elim (makes_or f e refused o a fits) [
     | makes k is past same ↦ absurd (omega arith)
-    | leaves is old ↦ ap (λ q. made_as q (fold after_event m events_here)) is
+    | leaves is old ↦ ap (λ q. made_as q (after_events m events_here)) is
   ]
 
   new_after : f.ends ≤ e → e < (next f a o).ends → after_pair f e m o a ≡ first_mailbox ((next f a o).end e).kind
   new_after past within = elim (makes_or f e refused o a fits) [
-    | makes k is _ same ↦ ap (λ q. made_as q (fold after_event m events_here)) is ∙ ap first_mailbox (sym (kind_made k is past))
+    | makes k is _ same ↦ ap (λ q. made_as q (after_events m events_here)) is ∙ ap first_mailbox (sym (kind_made k is past))
     | leaves is old ↦ absurd (let low = old within in omega arith)
   ]
 
-  pub runs_here : e < f.ends → ShownAt f e m → Runs e lines m events_here (after_pair f e m o a)
-  runs_here within shown =
-      let done = goes f e m sound shown a refused o fits within in
-      subst (Runs e lines m events_here) (runs_one e lines events_here m done.0 done.1 ∙ sym (same_after within)) done.1
+  happen_here : e < f.ends → ShownAt f e m → Happen e lines m events_here
+  happen_here within shown = let done = goes f e m sound shown a refused o fits within in runs_happen e lines events_here m done.0 done.1
 
   goes_on_from : e < f.ends → Kept f e m → Kept (next f a o) e (after_pair f e m o a)
   goes_on_from within k =
@@ -227,7 +225,7 @@ module _ (f : Facts) (e : ℕ) (m : Mailbox OneRight) (sound : Sound f) (refused
     | makes k is past same ↦
         let kind : ((next f a o).end e).kind ≡ Some k = kind_made k is past in
         let known : view (next f a o) e ≡ record (view f e) { kind = Some k } = same ∙ ap (λ q. record (view f e) { kind = q }) kind in
-        subst (Kept (next f a o) e) (sym (ap (λ q. made_as q (fold after_event m events_here)) is)) (record {
+        subst (Kept (next f a o) e) (sym (ap (λ q. made_as q (after_events m events_here)) is)) (record {
           shown = subst (λ v. IsShown e v (first_mailbox (Some k))) (sym known) (new_shown f e sound past (Some k));
           events = [];
           runs = ap first_mailbox (sym kind);
@@ -267,8 +265,8 @@ pub goes_on : (h : History) (p : Pair) → Legal h → Fits h p → (e : ℕ) �
 goes_on h p legal fits e =
     let f : Facts = facts h in
     let sound : Sound f = sound_legal h legal in record {
-      runs = λ within. subst (Runs e (lines_of ((f.end e).kind)) (mailbox h e) (events_of f e (mailbox h e) p.1 p.0.action)) (sym (mailbox_one h p e))
-          (runs_here f e (mailbox h e) sound p.0.memory_refused p.1 p.0.action fits within (kept_legal h legal e within).shown);
+      happen = λ within. happen_here f e (mailbox h e) sound p.0.memory_refused p.1 p.0.action fits within (kept_legal h legal e within).shown;
+      after = λ within. mailbox_one h p e ∙ same_after f e (mailbox h e) sound p.0.memory_refused p.1 p.0.action fits within;
       made = λ past within. mailbox_one h p e ∙ new_after f e (mailbox h e) sound p.0.memory_refused p.1 p.0.action fits past (subst (λ (g : Facts). e < g.ends) (facts_next h p) within)
           ∙ ap (λ (g : Facts). first_mailbox ((g.end e).kind)) (sym (facts_next h p));
     }

@@ -24,6 +24,8 @@ use Rattle.hub_core.proofs.Nexts.{next, Change, agent_made, channel_made, let_in
 use Rattle.hub_core.proofs.Fitting.{new_ends, pushed_of, noticed_of, hopped_of, got_of, empty_of, busy_of, went_on_of, cleared_of, FindsBusy, look_busy_of, adopted_of, swept_of, queue_made_of, member_made_of}
 use Rattle.hub_core.proofs.Sounds.{sound_legal}
 use Rattle.hub_core.proofs.MailboxShown.{View, view, ShownAt, IsShown, Leads, of_history, with_pair, at_end_or}
+use Rattle.hub_core.specs.MailboxShows.{ShowsMailbox}
+use Rattle.hub_core.proofs.MailboxRuns.{runs_one, runs_happen}
 use Rattle.hub_core.proofs.PairGates.{with_line, entered, turned_moved, turned_closed, left_line, started_there, closed_there}
 use Rattle.hub_core.proofs.PairQueues.{pushed_there, noticed_there, taken_there, taken_all, none_there}
 use Rattle.hub_core.proofs.PairLooks.{settled_there, busy_there, look_busy_there, SweepsBusy, sweep_busy_of, sweep_busy_there, cleared_there}
@@ -226,5 +228,8 @@ module _ (f : Facts) (e : ℕ) (m : Mailbox OneRight) (sound : Sound f) (shown :
 
 pub pairs_are_events : PairsAreEvents
 pairs_are_events h p e m legal fits made shows =
-    let done = goes (facts h) e m (sound_legal h legal) (of_history h e m shows) p.0.action p.0.memory_refused p.1 fits made in
-    (done.0, done.1, with_pair h p e done.0 done.2)
+    let f : Facts = facts h in
+    let events : List (MailboxEvent OneRight) = events_of f e m p.1 p.0.action in
+    let lines : ℕ = lines_of ((f.end e).kind) in
+    let done = goes f e m (sound_legal h legal) (of_history h e m shows) p.0.action p.0.memory_refused p.1 fits made in
+    (runs_happen e lines events m done.0 done.1, subst (ShowsMailbox (h ++ p ∷ []) e []) (runs_one e lines events m done.0 done.1) (with_pair h p e done.0 done.2))

@@ -1,7 +1,6 @@
 -- Events of a mailbox, one after another: what they lead to is one, and they keep its queues in order.
 use Rattle.std.proofs.Common.{◌≡◌, ℕ, ◌+◌, ◌-◌, ◌≤◌, true, cond, eqb, List, [], ◌∷◌, ◌++◌, length, set, refl, sym, ap, subst, ◌∙◌, arith, append_assoc, append-nil, length-set, length-append}
 use Rattle.std.specs.Prelude.{flat_map, slice_get}
-use Rattle.std.specs.List.{fold}
 use Rattle.std.proofs.lemmas.Option.{get_or_from_slice_get}
 use Rattle.std.proofs.lemmas.List.{append_cancel_left}
 use Rattle.std.proofs.lemmas.List.Elements.{filter-append}
@@ -12,14 +11,14 @@ use Rattle.hub_core.specs.GateMachine.{Gate, opened, Steps, finds_moved, finds_c
 use Rattle.hub_core.specs.QueueMachine.{Queue, new_queue, pushed}
 use Rattle.hub_core.specs.Mailbox.{Mailbox, QueueAt, got_from, IsMailbox}
 use Rattle.hub_core.specs.MailboxSteps.{MailboxEvent, put_in, got_in, MailboxStep, gate_steps, pushes, takes, sweeps, finds_none, hops, advances, adds, HoldsFirst, without_first, taken_out, with_gate, with_queue, with_stand, with_new}
-use Rattle.hub_core.specs.MailboxPairs.{OneRight, Runs}
-use Rattle.hub_core.specs.MailboxOf.{gate_after, with_gate_after, with_queue_after, after_event}
+use Rattle.hub_core.specs.MailboxPairs.{OneRight, Happen}
+use Rattle.hub_core.specs.MailboxAfter.{gate_after, with_gate_after, with_queue_after, after_event, after_events}
 use Rattle.hub_core.proofs.Lists.{eqb_same, slice_get-set_same}
 use Rattle.hub_core.proofs.Items.{got_within, at_written, at_pushed}
 use Rattle.hub_core.proofs.Waits.{queue_more, queue_other}
 use Rattle.hub_core.proofs.TakenOut.{some_held}
 use Rattle.hub_core.proofs.MailboxStepping.{step_kept, step_grows}
-use Rattle.hub_core.proofs.MailboxShown.{HasRight}
+use Rattle.hub_core.proofs.MailboxShown.{HasRight, Runs}
 use Rattle.hub_core.proofs.PairQueues.{got_there_in}
 
 -- ---- what an event leads to is one
@@ -61,9 +60,15 @@ abbrev gots : List (MailboxEvent OneRight) → List Envelope
 gots events = flat_map got_in events
 
 module _ (e lines : ℕ) where
-  pub runs_one : (events : List (MailboxEvent OneRight)) (m after : Mailbox OneRight) → Runs e lines m events after → after ≡ fold after_event m events
+  pub runs_one : (events : List (MailboxEvent OneRight)) (m after : Mailbox OneRight) → Runs e lines m events after → after ≡ after_events m events
   runs_one [] m after is = is
-  runs_one (event ∷ events) m after r = runs_one events r.0 after r.2 ∙ ap (λ b. fold after_event b events) (step_one m r.0 r.1)
+  runs_one (event ∷ events) m after r = runs_one events r.0 after r.2 ∙ ap (λ b. after_events b events) (step_one m r.0 r.1)
+
+  pub runs_happen : (events : List (MailboxEvent OneRight)) (m after : Mailbox OneRight) → Runs e lines m events after → Happen e lines m events
+  runs_happen [] m after is = tt
+  runs_happen (event ∷ events) m after r =
+      let same : r.0 ≡ after_event m event = step_one m r.0 r.1 in
+      (subst (MailboxStep HasRight e lines m event) same r.1, subst (λ b. Happen e lines b events) same (runs_happen events r.0 after r.2))
 
   pub runs_joined : (events more : List (MailboxEvent OneRight)) (m between after : Mailbox OneRight) → Runs e lines m events between → Runs e lines between more after → Runs e lines m (events ++ more) after
   runs_joined [] more m between after is rest = subst (λ b. Runs e lines b more after) is rest

@@ -16,7 +16,7 @@ use Rattle.hub_core.specs.Mailbox.{Mailbox, GateAt, StandsAt, IsNewest, put_by, 
 use Rattle.hub_core.specs.MailboxSteps.{MailboxEvent, MailboxStep, put_in, got_in, with_gate, with_queue}
 use Rattle.hub_core.specs.MailboxShows.{ShowsMailbox}
 use Rattle.hub_core.specs.ChainLaws.{Grows}
-use Rattle.hub_core.specs.MailboxPairs.{OneRight, has_right, Runs}
+use Rattle.hub_core.specs.MailboxPairs.{OneRight, has_right}
 use Rattle.hub_core.proofs.Lists.{slice_get-set_same, slice_get-set_other}
 use Rattle.hub_core.proofs.Items.{got_within, got_there, got_same_at, at_written}
 use Rattle.hub_core.proofs.Nexts.{next, facts_next}
@@ -99,6 +99,11 @@ with_pair h p e m s = to_history (h ++ p ∷ []) e m (subst (λ f. ShownAt f e m
 -- what the right of a line is
 abbrev pub HasRight : ℕ → ℕ → OneRight → Type 0
 HasRight k line right = IsTrue (has_right k line right)
+
+-- from the one mailbox the events, one after another, lead to the other
+abbrev pub Runs : (e lines : ℕ) → Mailbox OneRight → List (MailboxEvent OneRight) → Mailbox OneRight → Type 0
+Runs e lines m [] after = after ≡ m
+Runs e lines m (event ∷ events) after = (between : Mailbox OneRight) × MailboxStep HasRight e lines m event between × Runs e lines between events after
 
 -- the events lead to a mailbox that shows this of the end
 abbrev pub Leads : (e lines : ℕ) → Mailbox OneRight → List (MailboxEvent OneRight) → View → Type 0

@@ -14,14 +14,14 @@ use Rattle.hub_core.specs.Sound.{IsOfEnd, Sound}
 use Rattle.hub_core.specs.QueueMachine.{Queue, pop_of, popped}
 use Rattle.hub_core.specs.Mailbox.{Mailbox, QueueAt}
 use Rattle.hub_core.specs.MailboxSteps.{MailboxEvent, pop, MailboxStep, sweeps, finds_none, taken_out, with_queue, IsSettled, HoldsNothing, MaySweep}
-use Rattle.hub_core.specs.MailboxPairs.{OneRight, Runs, sweeping}
+use Rattle.hub_core.specs.MailboxPairs.{OneRight, sweeping}
 use Rattle.hub_core.proofs.Lists.{AllByRecursion-weaker, slice_get-set_same, slice_get-set_other}
 use Rattle.hub_core.proofs.Items.{got_within, got_there}
 use Rattle.hub_core.proofs.Waits.{filters}
 use Rattle.hub_core.proofs.Fitting.{SweptWith, each_of}
 use Rattle.hub_core.proofs.MailboxStepping.{step_kept}
 use Rattle.hub_core.proofs.Joins.{queues_from, joined_from, prefixes_pass, nothing_there, nothing_more}
-use Rattle.hub_core.proofs.MailboxShown.{view, ShownAt, IsShown, HasRight, Leads, event_grows, queue_shown}
+use Rattle.hub_core.proofs.MailboxShown.{Runs, view, ShownAt, IsShown, HasRight, Leads, event_grows, queue_shown}
 use Rattle.hub_core.proofs.TakenOut.{first_of, left_same}
 use Rattle.hub_core.proofs.PairQueues.{held_of}
 use Rattle.hub_core.proofs.PairLooks.{settled_there}

@@ -40,6 +40,7 @@ pub mod GateMachine
 pub mod GateMachineLaws
 pub mod Mailbox
 pub mod MailboxSteps
+pub mod MailboxAfter
 pub mod ChainLaws
 pub mod MailboxShows
 pub mod MailboxPairs

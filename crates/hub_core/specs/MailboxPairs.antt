@@ -1,5 +1,5 @@
 -- What each pair of a history is to the mailbox of one end: events there, or nothing.
-use Rattle.std.specs.Prelude.{◌≡◌, ℕ, ◌<◌, ◌==◌, if◌then◌else◌, Bool, true, false, IsTrue, [], ◌∷◌, ◌++◌, Option, Some, None, slice_get, List, map, zero, suc, ◌+◌, ◌-◌}
+use Rattle.std.specs.Prelude.{ℕ, ◌<◌, ◌==◌, if◌then◌else◌, Bool, true, false, IsTrue, [], ◌∷◌, ◌++◌, Option, Some, None, slice_get, List, map, zero, suc, ◌+◌, ◌-◌}
 use Rattle.hub_envelope.specs.declared.envelope.Envelope.{Envelope}
 use Rattle.hub_envelope.specs.declared.ids.EndId.{EndId}
 use Rattle.hub_core.specs.declared.line.Phase.{Phase}
@@ -17,6 +17,7 @@ use Rattle.hub_core.specs.Legal.{Legal}
 use Rattle.hub_core.specs.GateMachine.{Gate, enter, leave, turn_back, enable, lets_in, says_moved, says_closed, lets_out, says_done, busy, look, says_inside, gives_rights, close}
 use Rattle.hub_core.specs.Mailbox.{Mailbox}
 use Rattle.hub_core.specs.MailboxSteps.{MailboxEvent, at_gate, push, pop, MailboxStep, hop, advance, add}
+use Rattle.hub_core.specs.MailboxAfter.{after_event, after_events}
 use Rattle.hub_core.specs.MailboxShows.{ShowsMailbox}
 use Rattle.hub_core.specs.Looking.{looked, is_settled, first_failing}
 use Rattle.hub_core.specs.Sender.{in_queue}
@@ -95,13 +96,13 @@ events_of f e m outcome.Busy (action.Sweep x) = at_end e x (finds_busy_at m (uns
 events_of f e m (outcome.Discarded vs) (action.Sweep x) = at_end e x (sweeping vs ((f.end e).taker_stand) ((f.end e).newest - (f.end e).taker_stand + 1))
 events_of f e m _ _ = []
 
--- from the one mailbox the events, one after another, lead to the other
-abbrev pub Runs : (end lines : ℕ) → Mailbox OneRight → List (MailboxEvent OneRight) → Mailbox OneRight → Type 0
-Runs end lines m [] after = after ≡ m
-Runs end lines m (event ∷ events) after = (between : Mailbox OneRight) × MailboxStep (λ k line right. IsTrue (has_right k line right)) end lines m event between × Runs end lines between events after
+-- the events happen one after another, from the mailbox on
+abbrev pub Happen : (end lines : ℕ) → Mailbox OneRight → List (MailboxEvent OneRight) → Type 0
+Happen end lines m [] = Unit {0}
+Happen end lines m (event ∷ events) = MailboxStep (λ k line right. IsTrue (has_right k line right)) end lines m event (after_event m event) × Happen end lines (after_event m event) events
 
--- A pair that fits is what its events make of each mailbox that shows the history at an end: the mailbox after them shows
--- the history with the pair. Where there is no event, that is the mailbox as it was.
+-- A pair that fits is its events at each mailbox that shows the history at an end: they happen there, and the mailbox
+-- after them shows the history with the pair. Where there is no event, that is the mailbox as it was.
 abbrev pub PairsAreEvents : Type 0
 PairsAreEvents = (h : History) (p : Pair) (e : ℕ) (m : Mailbox OneRight) → Legal h → Fits h p → e < ends h → ShowsMailbox h e [] m
-    → (after : Mailbox OneRight) × Runs e (lines_of (kind h e)) m (events_of (facts h) e m p.1 p.0.action) after × ShowsMailbox (h ++ p ∷ []) e [] after
+    → (let events = events_of (facts h) e m p.1 p.0.action in Happen e (lines_of (kind h e)) m events × ShowsMailbox (h ++ p ∷ []) e [] (after_events m events))
