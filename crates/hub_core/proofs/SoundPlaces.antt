@@ -16,7 +16,7 @@ use Rattle.hub_core.specs.declared.step.Action.TheVariants as action
 use Rattle.hub_core.specs.declared.outcome.Acceptance.{Acceptance}
 use Rattle.hub_core.specs.declared.outcome.Outcome.{Outcome}
 use Rattle.hub_core.specs.declared.outcome.Outcome.TheVariants as outcome
-use Rattle.hub_core.specs.Facts.{EndNow, Facts, LineNow}
+use Rattle.hub_core.specs.Facts.{AgentNow, EndNow, Facts, LineNow}
 use Rattle.hub_core.specs.Fits.{Answers}
 use Rattle.hub_core.specs.Place.{names, arrived, is_named}
 use Rattle.hub_core.specs.Accepted.{named_envelope, named_notice}
@@ -219,23 +219,24 @@ moved_flying : (b : Bool) (q p : Option Place) (k : Option Kind) → (q ≡ Some
 moved_flying true q p k never old is = absurd (never is)
 moved_flying false q p k never old is = old is
 
-agent_places : (f : Facts) (origin : Option (List ℕ)) (refused : Bool) (n : AgentId) → Sound f → Answers f (action.Agent origin) refused (outcome.Agent n) → SoundPlaces (next f (action.Agent origin) (outcome.Agent n))
-agent_places f origin refused n h fits =
-    let number : n.0 ≡ f.agents = new_agent f refused n fits in
-    record {
-      few = h.places.few;
-      ends = h.places.ends;
-      agents = λ a past.
-          let other : eqb a n.0 ≡ false = ne_eqb a n.0 (λ same. omega arith) in
-          ap (λ b. cond b true (f.agent a).runs) other ∙ h.places.agents a (omega arith);
-      peers = h.places.peers;
-      with_made = λ x a is. let less : a.0 < f.agents = h.places.with_made x a is in omega arith;
-      arrived_made = λ x a is. let less : a.0 < f.agents = h.places.arrived_made x a is in omega arith;
-      away = λ s away. may_next f refused h fits (agent_made origin n) s away away (h.places.away s away);
-      flying = h.places.flying;
-      gone = h.places.gone;
-      flights = h.places.flights;
-    }
+-- a pair that changes agents and the roster alone
+agents_alone : (f : Facts) (n : ℕ) (agent : ℕ → AgentNow) (roster : RosterNow) → SoundPlaces f → f.agents ≤ n → ((a : ℕ) → n ≤ a → (agent a).runs ≡ false) → ((s : Sender) → is_out (phase_of_line f s) ≡ false → may_enter (record f { agents = n; agent = agent; roster = roster }) s ≡ true) → SoundPlaces (record f { agents = n; agent = agent; roster = roster })
+agents_alone f n agent roster h more stop away = record {
+  few = h.few;
+  ends = h.ends;
+  agents = stop;
+  peers = h.peers;
+  with_made = λ x a is. let less : a.0 < f.agents = h.with_made x a is in omega arith;
+  arrived_made = λ x a is. let less : a.0 < f.agents = h.arrived_made x a is in omega arith;
+  away = away;
+  flying = h.flying;
+  gone = h.gone;
+  flights = h.flights;
+}
+
+-- a number that no end has stands for nothing when an end changes
+none_else : (f : Facts) (e x : ℕ) (y : Bool → EndNow) → e < f.ends → f.ends ≤ x → y false ≡ no_end → y (eqb x e) ≡ no_end
+none_else f e x y less past none = ap y (ne_eqb x e (λ same. omega arith)) ∙ none
 
 moved_none : (f : Facts) (x : ℕ) (b : Bool) (p : Option Place) → f.end x ≡ no_end → (b ≡ true → ⊥) → (let y : EndNow = record (f.end x) { place = cond b p (f.end x).place } in y ≡ no_end)
 moved_none f x true p none never = absurd (never refl)
@@ -310,16 +311,12 @@ got_places f refused e v h fits =
       flights = λ x. got_flights f e v x there.0 h served.serves served.is_open made there.1 (names v.ports x) refl;
     }
 
-started_none : (f : Facts) (e x : ℕ) (b : Bool) → eqb x e ≡ b → e < f.ends → f.ends ≤ x → f.end x ≡ no_end → (let y : EndNow = record (f.end x) { enabled = cond b true (f.end x).enabled } in y ≡ no_end)
-started_none f e x true is less past none = let same : x ≡ e = eqb-true x e is in absurd (omega arith)
-started_none f e x false is less past none = none
-
 started_places : (f : Facts) (refused : Bool) (e : EndId) → Sound f → Answers f (action.Start e) refused outcome.Started → SoundPlaces (next f (action.Start e) outcome.Started)
 started_places f refused e h fits =
     let made = holder_made f e.0 h.places (started_of f e fits).1 in
     record {
       few = h.places.few;
-      ends = λ x past. started_none f e.0 x (eqb x e.0) refl made past (h.places.ends x past);
+      ends = λ x past. none_else f e.0 x (λ b. record (f.end x) { enabled = cond b true (f.end x).enabled }) made past (h.places.ends x past);
       agents = h.places.agents;
       peers = h.places.peers;
       with_made = h.places.with_made;
@@ -329,17 +326,13 @@ started_places f refused e h fits =
       gone = h.places.gone;
       flights = h.places.flights;
     }
-
-went_none : (f : Facts) (e x : ℕ) (b : Bool) → eqb x e ≡ b → e < f.ends → f.ends ≤ x → f.end x ≡ no_end → (let y : EndNow = record (f.end x) { taker_stand = cond b ((f.end x).taker_stand + 1) (f.end x).taker_stand } in y ≡ no_end)
-went_none f e x true is less past none = let same : x ≡ e = eqb-true x e is in absurd (omega arith)
-went_none f e x false is less past none = none
 
 went_places : (f : Facts) (refused : Bool) (e : EndId) → Sound f → Answers f (action.Take e) refused outcome.Again → SoundPlaces (next f (action.Take e) outcome.Again)
 went_places f refused e h fits =
     let made = holder_made f e.0 h.places (went_on_of f e fits).held in
     record {
       few = h.places.few;
-      ends = λ x past. went_none f e.0 x (eqb x e.0) refl made past (h.places.ends x past);
+      ends = λ x past. none_else f e.0 x (λ b. record (f.end x) { taker_stand = cond b ((f.end x).taker_stand + 1) (f.end x).taker_stand }) made past (h.places.ends x past);
       agents = h.places.agents;
       peers = h.places.peers;
       with_made = h.places.with_made;
@@ -349,10 +342,6 @@ went_places f refused e h fits =
       gone = h.places.gone;
       flights = h.places.flights;
     }
-
-adopted_none : (f : Facts) (e x : ℕ) (a : AgentId) (b : Bool) → eqb x e ≡ b → e < f.ends → f.ends ≤ x → f.end x ≡ no_end → (let y : EndNow = record (f.end x) { place = cond b (Some (With a)) (f.end x).place; enabled = cond b false (f.end x).enabled; newest = cond b ((f.end x).newest + 1) (f.end x).newest } in y ≡ no_end)
-adopted_none f e x a true is less past none = let same : x ≡ e = eqb-true x e is in absurd (omega arith)
-adopted_none f e x a false is less past none = none
 
 adopted_flights : (p : Option Place) (a : AgentId) (b : Bool) → (b ≡ true → p ≡ Some (Arrived a)) → flights (cond b (Some (With a)) p) ≡ flights p
 adopted_flights p a true arrived = sym (ap flights (arrived refl))
@@ -364,7 +353,7 @@ adopted_places f refused e a k h fits =
     let made : e.0 < f.ends = placed_made f e.0 (Arrived a) h.places adopts.arrived in
     record {
       few = h.places.few;
-      ends = λ x past. adopted_none f e.0 x a (eqb x e.0) refl made past (h.places.ends x past);
+      ends = λ x past. none_else f e.0 x (λ b. record (f.end x) { place = cond b (Some (With a)) (f.end x).place; enabled = cond b false (f.end x).enabled; newest = cond b ((f.end x).newest + 1) (f.end x).newest }) made past (h.places.ends x past);
       agents = h.places.agents;
       peers = h.places.peers;
       with_made = λ x b is. with_channel f a x (eqb x e.0) b h.places adopts.runs is;
@@ -393,10 +382,6 @@ notice_places f refused s n h fits =
       gone = h.places.gone;
       flights = λ x. put_flights f s (named_notice s n) x h.places (entangled_made f s.end.0 k.peer h.places k.entangled) false refl (λ is. absurd (false≢true is));
     }
-
-closed_none : (f : Facts) (e x : ℕ) (b : Bool) → eqb x e ≡ b → e < f.ends → f.ends ≤ x → f.end x ≡ no_end → (let y : EndNow = record (f.end x) { closed = cond b true (f.end x).closed; place = cond b (Some Gone) (f.end x).place } in y ≡ no_end)
-closed_none f e x true is less past none = let same : x ≡ e = eqb-true x e is in absurd (omega arith)
-closed_none f e x false is less past none = none
 
 -- an end that is gone is at no agent
 gone_nowhere : (b : Bool) (p q : Option Place) (r : Place) → cond b q p ≡ Some r → (q ≡ Some r → ⊥) → p ≡ Some r
@@ -428,7 +413,7 @@ closed_places f refused e h fits =
     let made = here_made f e.0 h.places closes.here in
     record {
       few = h.places.few;
-      ends = λ x past. closed_none f e.0 x (eqb x e.0) refl made past (h.places.ends x past);
+      ends = λ x past. none_else f e.0 x (λ b. record (f.end x) { closed = cond b true (f.end x).closed; place = cond b (Some Gone) (f.end x).place }) made past (h.places.ends x past);
       agents = h.places.agents;
       peers = h.places.peers;
       with_made = λ x a is. h.places.with_made x a (gone_nowhere (eqb x e.0) (f.end x).place (Some Gone) (With a) is (λ same. search (rules, same)));
@@ -511,10 +496,6 @@ queue_places f b k e h alone runs few first away = record {
       omega arith;
 }
 
-handed_none : (f : Facts) (e x : ℕ) (a : AgentId) (b : Bool) → eqb x e ≡ b → e < f.ends → f.ends ≤ x → f.end x ≡ no_end → (let y : EndNow = record (f.end x) { place = cond b (Some (Arrived a)) (f.end x).place } in y ≡ no_end)
-handed_none f e x a true is less past none = let same : x ≡ e = eqb-true x e is in absurd (omega arith)
-handed_none f e x a false is less past none = none
-
 handed_known : (b : Bool) (a c : AgentId) (n : ℕ) (p : Option Place) → a.0 < n → (p ≡ Some (Arrived c) → c.0 < n) → cond b (Some (Arrived a)) p ≡ Some (Arrived c) → c.0 < n
 handed_known true a c n p known old is = let same : a ≡ c = cc in subst (λ (d : AgentId). d.0 < n) same known
 handed_known false a c n p known old is = old is
@@ -526,7 +507,7 @@ handed_places f refused e b h fits =
     let there = runs_there f (f.end e.0).place (ap is_some hands.holds) in
     record {
       few = h.places.few;
-      ends = λ x past. handed_none f e.0 x b (eqb x e.0) refl made past (h.places.ends x past);
+      ends = λ x past. none_else f e.0 x (λ c. record (f.end x) { place = cond c (Some (Arrived b)) (f.end x).place }) made past (h.places.ends x past);
       agents = h.places.agents;
       peers = h.places.peers;
       with_made = λ x a is. h.places.with_made x a (gone_nowhere (eqb x e.0) (f.end x).place (Some (Arrived b)) (With a) is (λ same. search (rules, same)));
@@ -537,39 +518,9 @@ handed_places f refused e b h fits =
       flights = λ x. h.places.flights x ∙ ap (λ n. total (λ d. naming x (f.taken d ++ f.discarded d)) f.ends + n) (sym (same_flights (eqb x e.0) (Some (Arrived b)) (f.end x).place refl (λ is. ap (λ y. flights (f.end y).place) (eqb-true x e.0 is) ∙ ap flights there.1)));
     }
 
--- a pair that changes who was ordered alone
-ordered_places : (f : Facts) (a : AgentId) → Sound f → SoundPlaces (next f (action.Order a) outcome.Ordered)
-ordered_places f a h = record {
-  few = h.places.few;
-  ends = h.places.ends;
-  agents = h.places.agents;
-  peers = h.places.peers;
-  with_made = h.places.with_made;
-  arrived_made = h.places.arrived_made;
-  away = h.places.away;
-  flying = h.places.flying;
-  gone = h.places.gone;
-  flights = h.places.flights;
-}
-
 rests : (b r : Bool) → r ≡ false → cond b false r ≡ false
 rests true r h = refl
 rests false r h = h
-
--- a pair after which an agent runs no more
-ended_places : (f : Facts) (refused : Bool) (a : AgentId) (es : List EndId) → Sound f → Answers f (action.See a) refused (outcome.Ending es) → SoundPlaces (next f (action.See a) (outcome.Ending es))
-ended_places f refused a es h fits = record {
-  few = h.places.few;
-  ends = h.places.ends;
-  agents = λ b past. rests (eqb b a.0) (f.agent b).runs (h.places.agents b past);
-  peers = h.places.peers;
-  with_made = h.places.with_made;
-  arrived_made = h.places.arrived_made;
-  away = λ s away. may_next f refused h fits (agent_ended a es) s away away (h.places.away s away);
-  flying = h.places.flying;
-  gone = h.places.gone;
-  flights = h.places.flights;
-}
 
 -- a line that is away after another one was left was away
 was_away : (b : Bool) (p : Phase) → is_out (cond b Out p) ≡ false → is_out p ≡ false
@@ -581,7 +532,12 @@ may_made : (f : Facts) (s : Sender) (b : AgentId) (name : List ℕ) (e : EndId) 
 may_made f s b name e h = h
 
 pub places_next : (f : Facts) {a : Action} (refused : Bool) {o : Outcome} → Sound f → Answers f a refused o → Change a o → SoundPlaces (next f a o)
-places_next f refused h fits (agent_made origin n) = agent_places f origin refused n h fits
+places_next f refused h fits (agent_made origin n) =
+    let number : n.0 ≡ f.agents = new_agent f refused n fits in
+    let after : Facts = next f (action.Agent origin) (outcome.Agent n) in
+    agents_alone f after.agents after.agent after.roster h.places (omega arith)
+    (λ a past. ap (λ b. cond b true (f.agent a).runs) (ne_eqb a n.0 (λ same. omega arith)) ∙ h.places.agents a (omega arith))
+    (λ s away. may_next f refused h fits (agent_made origin n) s away away (h.places.away s away))
 places_next f refused h fits (channel_made b e e') = channel_places f b refused e e' h fits
 places_next f refused h fits (let_in s) =
     ends_alone f (next f (action.Enter s) outcome.In).line f.clear f.roster h.places (λ t away. away_entered f t s Inside h.places (let_in_of f s fits).0.may (eqb t.end.0 s.end.0 && eqb t.line.0 s.line.0) refl away)
@@ -619,5 +575,7 @@ places_next f refused h fits (member_parted e) =
 places_next f refused h fits (line_got e a l) = ends_alone f (next f (action.Line e a) (outcome.Line l)).line f.clear f.roster h.places (λ s away. may_next f refused h fits (line_got e a l) s away away (h.places.away s away))
 places_next f refused h fits (line_back t) = ends_alone f (next f (action.Back t) outcome.Done).line f.clear f.roster h.places (λ s away. may_next f refused h fits (line_back t) s away away (h.places.away s away))
 places_next f refused h fits (handed e b) = handed_places f refused e b h fits
-places_next f refused h fits (agent_ordered a) = ordered_places f a h
-places_next f refused h fits (agent_ended a es) = ended_places f refused a es h fits
+places_next f refused h fits (agent_ordered a) = agents_alone f f.agents (next f (action.Order a) outcome.Ordered).agent f.roster h.places (omega arith) h.places.agents h.places.away
+places_next f refused h fits (agent_ended a es) =
+    agents_alone f f.agents (next f (action.See a) (outcome.Ending es)).agent f.roster h.places (omega arith) (λ b past. rests (eqb b a.0) (f.agent b).runs (h.places.agents b past))
+    (λ s away. may_next f refused h fits (agent_ended a es) s away away (h.places.away s away))
