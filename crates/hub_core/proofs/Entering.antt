@@ -24,7 +24,7 @@ use Rattle.hub_core.specs.Shows.{end_now, line_now, ShowsPut, ShowsEnd, ShowsFac
 use Rattle.hub_core.specs.Kept.{gate_answer, phase_of, enter_outcome, enter_end, enter_outcome_at, enter_ends_at, leave_outcome, leave_end, leave_outcome_at, changed_ends, may_come, kept_may_enter, change_owner, kept_owner, with_agent, one_out, one_away, kept_place}
 use Rattle.hub_core.specs.KeptEnding.{enter_agents, leave_agents, kept_owner_of, kept_owner_at, kept_owner_on}
 use Rattle.hub_core.proofs.Lists.{eqb_same, set_again, each_set, is_there}
-use Rattle.hub_core.proofs.Frames.{ShownAt, Stepped, unchanged, recounted}
+use Rattle.hub_core.proofs.Frames.{line_changed, ShownAt, Stepped, unchanged, recounted}
 use Rattle.hub_core.proofs.Holders.{may_kept, place_kept}
 use Rattle.hub_core.proofs.SoundLines.{phased_line, line_there, LinesAt}
 use Rattle.hub_core.specs.Made.{lines_of, peer_of, is_queue}
@@ -55,19 +55,9 @@ phased_inside old k bound p l false is may kept at = kept at
 
 -- the end at which the line is
 phased_end : (now : EndNow) (old : ℕ → LineNow) (clear : ℕ → Bool) (vs ts : List Envelope) (x : End) (y : Line) (k : ℕ) (p : Phase) → slice_get x.lines k ≡ Some y → (p ≡ Inside → (old k).stand < x.taker + length x.queues) → ShowsEnd now old clear vs ts (Some x) → ShowsEnd now (λ l. record (old l) { phase = cond (eqb l k) p (old l).phase }) clear vs ts (Some (with_phase x y k p))
-phased_end now old clear vs ts x y k p is may h =
-    let within : k < length x.lines = slice_get_within x.lines k y is in
-    record {
-      same = h.same;
-      count = length-set x.lines k (record y { phase = p }) ∙ h.count;
-      lines = each_set (λ l o. (let z : LineNow = record (old l) { phase = cond (eqb l k) p (old l).phase } in z ≡ line_now o)) x.lines k (record y { phase = p }) within
-          (ap (λ b. let z : LineNow = record (old k) { phase = cond b p (old k).phase } in z) (eqb_same k) ∙ ap (λ (z : LineNow). let w : LineNow = record z { phase = p } in w) (h.lines k ∙ ap line_now is))
-          (λ l other. ap (λ b. let z : LineNow = record (old l) { phase = cond b p (old l).phase } in z) (ne_eqb l k other) ∙ h.lines l);
-      put = each_set (ShowsPut vs) x.lines k (record y { phase = p }) within
-          (subst (ShowsPut vs k) is (h.put k))
-          (λ l other. h.put l);
-      queues = record { reached = h.queues.reached; clear_below = h.queues.clear_below; count = h.queues.count; inside = λ l at. phased_inside old k (x.taker + length x.queues) p l (eqb l k) refl may (h.queues.inside l) at; behind = h.queues.behind; each = h.queues.each };
-    }
+phased_end now old clear vs ts x y k p is may h = line_changed now old (λ b l. record (old l) { phase = cond b p (old l).phase }) clear vs ts x y (record y { phase = p }) k is
+    (ap (λ (z : LineNow). let w : LineNow = record z { phase = p } in w) (h.lines k ∙ ap line_now is)) (λ l. refl) (subst (ShowsPut vs k) is (h.put k))
+    (λ l at. phased_inside old k (x.taker + length x.queues) p l (eqb l k) refl may (h.queues.inside l) at) h
 
 -- every end, with this line in this phase
 pub phased_shown : (agents : List Agent) (ends : List End) (f : Facts) (s : Sender) (p : Phase) (x : End) (y : Line) → ShowsFacts agents ends f → slice_get ends s.end.0 ≡ Some x → slice_get x.lines s.line.0 ≡ Some y → (p ≡ Inside → (f.line s.end.0 s.line.0).stand < x.taker + length x.queues) → (d : ℕ) → ShowsEnd (f.end d) (phased_line f s p d) (f.clear d) (f.accepted d) (f.taken d ++ f.discarded d) (slice_get (set ends s.end.0 (with_phase x y s.line.0 p)) d)

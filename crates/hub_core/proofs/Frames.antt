@@ -1,14 +1,20 @@
 -- What a step leaves alone: an end of which no fact changes is shown as before.
-use Rattle.std.proofs.Common.{◌≡◌, ℕ, Bool, List, [], length, Option, refl, sym, ap, subst, ◌∙◌, ◌++◌}
+use Rattle.std.proofs.Common.{◌≡◌, ℕ, ◌+◌, ◌<◌, Bool, true, false, eqb, List, [], length, set, length-set, Option, Some, refl, sym, ap, subst, ◌∙◌, ◌++◌}
+use Rattle.std.proofs.lemmas.Bool.{ne_eqb}
+use Rattle.std.proofs.lemmas.Option.{slice_get_within}
+use Rattle.hub_envelope.specs.declared.envelope.Envelope.{Envelope}
+use Rattle.hub_core.specs.declared.line.Line.{Line}
+use Rattle.hub_core.specs.declared.line.Phase.TheVariants.{Inside}
+use Rattle.hub_core.proofs.Lists.{eqb_same, each_set}
 use Rattle.std.specs.List.{slice_get}
 use Rattle.hub_core.specs.declared.agent.Agent.{Agent}
 use Rattle.hub_core.specs.declared.end.End.{End}
 use Rattle.hub_core.specs.declared.step.Action.{Action}
 use Rattle.hub_core.specs.declared.outcome.Outcome.{Outcome}
 use Rattle.hub_core.specs.CoreState.{CoreState}
-use Rattle.hub_core.specs.Facts.{Facts, facts}
+use Rattle.hub_core.specs.Facts.{EndNow, LineNow, Facts, facts}
 use Rattle.hub_core.specs.Fits.{Answers}
-use Rattle.hub_core.specs.Shows.{ShowsEnd, ShowsFacts, agent_now}
+use Rattle.hub_core.specs.Shows.{ShowsEnd, ShowsPut, ShowsFacts, agent_now, line_now}
 use Rattle.hub_core.proofs.Nexts.{next}
 use Rattle.hub_core.proofs.Counts.{Counted}
 use Rattle.hub_core.proofs.Sounds.{sound_first, sound_next}
@@ -23,6 +29,19 @@ with_agents c agents = record c { agents = agents }
 -- what is shown of an end
 abbrev pub ShownAt : Facts → ℕ → Option End → Type 0
 ShownAt f x kept = ShowsEnd (f.end x) (f.line x) (f.clear x) (f.accepted x) (f.taken x ++ f.discarded x) kept
+
+-- An end of which one line changes: `new` says what a line is, where it is the one that changes and where it isn't.
+pub line_changed : (now : EndNow) (old : ℕ → LineNow) (new : Bool → ℕ → LineNow) (clear : ℕ → Bool) (vs ts : List Envelope) (x : End) (y z : Line) (k : ℕ) → slice_get x.lines k ≡ Some y → new true k ≡ line_now (Some z) → ((l : ℕ) → new false l ≡ old l) → ShowsPut vs k (Some z)
+    → ((l : ℕ) → (new (eqb l k) l).phase ≡ Inside → (new (eqb l k) l).stand < x.taker + length x.queues) → ShowsEnd now old clear vs ts (Some x) → ShowsEnd now (λ l. new (eqb l k) l) clear vs ts (Some (record x { lines = set x.lines k z }))
+line_changed now old new clear vs ts x y z k is mine others put inside h =
+    let within : k < length x.lines = slice_get_within x.lines k y is in
+    record {
+      same = h.same;
+      count = length-set x.lines k z ∙ h.count;
+      lines = each_set (λ l o. new (eqb l k) l ≡ line_now o) x.lines k z within (ap (λ b. new b k) (eqb_same k) ∙ mine) (λ l other. ap (λ b. new b l) (ne_eqb l k other) ∙ others l ∙ h.lines l);
+      put = each_set (ShowsPut vs) x.lines k z within put (λ l other. h.put l);
+      queues = record { reached = h.queues.reached; clear_below = h.queues.clear_below; count = h.queues.count; inside = inside; behind = h.queues.behind; each = h.queues.each };
+    }
 
 -- a step's answer, and the facts with it
 pub record Stepped (agents : List Agent) (ends : List End) (f : Facts) (a : Action) (refused : Bool) (o : Outcome) : Type 0 where

@@ -29,7 +29,7 @@ use Rattle.hub_core.specs.Kept.{kept_running, line_within, first_free, hold_outc
 use Rattle.hub_core.proofs.Lists.{set_again, each_set, eqb_same, is_there}
 use Rattle.hub_core.proofs.Fitting.{line_got_of, first_failing_of, back_of}
 use Rattle.hub_core.proofs.SoundLines.{held_line_as, queue_lines}
-use Rattle.hub_core.proofs.Frames.{ShownAt, Stepped, changed, unchanged}
+use Rattle.hub_core.proofs.Frames.{line_changed, ShownAt, Stepped, changed, unchanged}
 use Rattle.hub_core.proofs.Counts.{counts_still}
 use Rattle.hub_core.proofs.Holders.{runs_kept}
 use Rattle.hub_core.proofs.Nexts.{next}
@@ -42,19 +42,8 @@ abbrev with_holder : End → Line → ℕ → Option AgentId → End
 with_holder x y l holder = record x { lines = set x.lines l (record y { held_by = holder }) }
 
 held_end_shown : (now : EndNow) (old : ℕ → LineNow) (clear : ℕ → Bool) (vs ts : List Envelope) (x : End) (y : Line) (k : ℕ) (holder : Option AgentId) → slice_get x.lines k ≡ Some y → ShowsEnd now old clear vs ts (Some x) → ShowsEnd now (λ l. record (old l) { held_by = cond (eqb l k) holder (old l).held_by }) clear vs ts (Some (with_holder x y k holder))
-held_end_shown now old clear vs ts x y k holder is h =
-    let within : k < length x.lines = slice_get_within x.lines k y is in
-    record {
-      same = h.same;
-      count = length-set x.lines k (record y { held_by = holder }) ∙ h.count;
-      lines = each_set (λ l o. (let z : LineNow = record (old l) { held_by = cond (eqb l k) holder (old l).held_by } in z ≡ line_now o)) x.lines k (record y { held_by = holder }) within
-          (ap (λ b. let z : LineNow = record (old k) { held_by = cond b holder (old k).held_by } in z) (eqb_same k) ∙ ap (λ (z : LineNow). let w : LineNow = record z { held_by = holder } in w) (h.lines k ∙ ap line_now is))
-          (λ l other. ap (λ b. let z : LineNow = record (old l) { held_by = cond b holder (old l).held_by } in z) (ne_eqb l k other) ∙ h.lines l);
-      put = each_set (ShowsPut vs) x.lines k (record y { held_by = holder }) within
-          (subst (ShowsPut vs k) is (h.put k))
-          (λ l other. h.put l);
-      queues = record { reached = h.queues.reached; clear_below = h.queues.clear_below; count = h.queues.count; inside = h.queues.inside; behind = h.queues.behind; each = h.queues.each };
-    }
+held_end_shown now old clear vs ts x y k holder is h = line_changed now old (λ b l. record (old l) { held_by = cond b holder (old l).held_by }) clear vs ts x y (record y { held_by = holder }) k is
+    (ap (λ (z : LineNow). let w : LineNow = record z { held_by = holder } in w) (h.lines k ∙ ap line_now is)) (λ l. refl) (subst (ShowsPut vs k) is (h.put k)) h.queues.inside h
 
 -- every end, with this holder of the line
 held_shown : (agents : List Agent) (ends : List End) (f : Facts) (s : Sender) (holder : Option AgentId) (x : End) (y : Line) → ShowsFacts agents ends f → slice_get ends s.end.0 ≡ Some x → slice_get x.lines s.line.0 ≡ Some y → (d : ℕ) → ShowsEnd (f.end d) (held_line_as f s holder d) (f.clear d) (f.accepted d) (f.taken d ++ f.discarded d) (slice_get (set ends s.end.0 (with_holder x y s.line.0 holder)) d)

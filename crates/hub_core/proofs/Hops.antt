@@ -18,10 +18,10 @@ use Rattle.hub_core.specs.Sender.{count_in_queue}
 use Rattle.hub_core.specs.Posting.{is_out, may_enter}
 use Rattle.hub_core.specs.Moving.{hop_answer}
 use Rattle.hub_core.specs.Sound.{IsOfEnd}
-use Rattle.hub_core.specs.Shows.{end_now, line_now, ShowsPut, ShowsEnd, ShowsFacts}
+use Rattle.hub_core.specs.Shows.{end_now, line_now, ShowsEnd, ShowsFacts}
 use Rattle.hub_core.specs.Kept.{hopped_end, may_hop, hop_outcome, hop_end, hop_outcome_at, hop_ends_at, kept_may_enter}
 use Rattle.hub_core.proofs.Lists.{eqb_same, set_again, each_set}
-use Rattle.hub_core.proofs.Frames.{ShownAt, Stepped, changed, unchanged}
+use Rattle.hub_core.proofs.Frames.{line_changed, ShownAt, Stepped, changed, unchanged}
 use Rattle.hub_core.proofs.Holders.{may_kept}
 use Rattle.hub_core.proofs.SoundLines.{gone_line}
 use Rattle.hub_core.proofs.Entering.{unmade_line, line_is_kept}
@@ -53,20 +53,10 @@ gone_inside old k bound l false is out kept at = kept at
 
 gone_end : (e n : ℕ) (now : EndNow) (old : ℕ → LineNow) (clear : ℕ → Bool) (vs ts : List Envelope) (x : End) (y : Line) (k : ℕ) → slice_get x.lines k ≡ Some y → AllByRecursion (IsOfEnd e n old) vs → ((old k).phase ≡ Inside → ⊥) → ShowsEnd now old clear vs ts (Some x) → ShowsEnd now (λ l. record (old l) { stand = cond (eqb l k) ((old l).stand + 1) (old l).stand }) clear vs ts (Some (hopped_end x k y))
 gone_end e n now old clear vs ts x y k is named out h =
-    let within : k < length x.lines = slice_get_within x.lines k y is in
     let mine : old k ≡ line_now (Some y) = h.lines k ∙ ap line_now is in
-    let next : Line = record y { epoch = y.epoch + 1; put = 0 } in
-    record {
-      same = h.same;
-      count = length-set x.lines k next ∙ h.count;
-      lines = each_set (λ l o. (let z : LineNow = record (old l) { stand = cond (eqb l k) ((old l).stand + 1) (old l).stand } in z ≡ line_now o)) x.lines k next within
-          (ap (λ b. let z : LineNow = record (old k) { stand = cond b ((old k).stand + 1) (old k).stand } in z) (eqb_same k) ∙ ap (λ (z : LineNow). let w : LineNow = record z { stand = z.stand + 1 } in w) mine)
-          (λ l other. ap (λ b. let z : LineNow = record (old l) { stand = cond b ((old l).stand + 1) (old l).stand } in z) (ne_eqb l k other) ∙ h.lines l);
-      put = each_set (ShowsPut vs) x.lines k next within
-          (nothing_next e n old k y.epoch (ap (λ (z : LineNow). z.stand) mine) vs named)
-          (λ l other. h.put l);
-      queues = record { reached = h.queues.reached; clear_below = h.queues.clear_below; count = h.queues.count; inside = λ l at. gone_inside old k (x.taker + length x.queues) l (eqb l k) refl out (h.queues.inside l) at; behind = h.queues.behind; each = h.queues.each };
-    }
+    line_changed now old (λ b l. record (old l) { stand = cond b ((old l).stand + 1) (old l).stand }) clear vs ts x y (record y { epoch = y.epoch + 1; put = 0 }) k is
+    (ap (λ (z : LineNow). let w : LineNow = record z { stand = z.stand + 1 } in w) mine) (λ l. refl) (nothing_next e n old k y.epoch (ap (λ (z : LineNow). z.stand) mine) vs named)
+    (λ l at. gone_inside old k (x.taker + length x.queues) l (eqb l k) refl out (h.queues.inside l) at) h
 
 -- every end, with this line one further
 gone_shown : (agents : List Agent) (ends : List End) (f : Facts) (s : Sender) (x : End) (y : Line) → ShowsFacts agents ends f → slice_get ends s.end.0 ≡ Some x → slice_get x.lines s.line.0 ≡ Some y → is_out (f.line s.end.0 s.line.0).phase ≡ true → (d : ℕ) → ShowsEnd (f.end d) (gone_line f s d) (f.clear d) (f.accepted d) (f.taken d ++ f.discarded d) (slice_get (set ends s.end.0 (hopped_end x s.line.0 y)) d)
