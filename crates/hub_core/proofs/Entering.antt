@@ -2,11 +2,10 @@
 use Rattle.std.proofs.Common.{◌≡◌, ℕ, ◌<◌, Bool, true, false, cond, eqb, List, length, set, Option, Some, None, refl, sym, ap, subst, ◌∙◌, arith, ◌++◌, ◌+◌, ◌≤◌, inl, rules, inr}
 use Rattle.std.specs.Prelude.{is_some, not, ◌&&◌, nat_lt, option_and_then, ◌||◌}
 use Rattle.std.specs.List.{slice_get}
-use Rattle.std.proofs.lemmas.Bool.{ne_eqb, eqb-true, false≢true}
+use Rattle.std.proofs.lemmas.Bool.{eqb-true, false≢true}
 use Rattle.std.proofs.lemmas.List.{length-set}
 use Rattle.std.proofs.lemmas.Option.{slice_get_within}
 use Rattle.hub_envelope.specs.declared.ids.AgentId.{AgentId}
-use Rattle.hub_envelope.specs.declared.envelope.Envelope.{Envelope}
 use Rattle.hub_core.specs.declared.agent.Agent.{Agent}
 use Rattle.hub_core.specs.declared.line.Line.{Line}
 use Rattle.hub_core.specs.declared.line.Phase.{Phase}
@@ -23,7 +22,7 @@ use Rattle.hub_core.specs.Sound.{no_end, no_line, Sound}
 use Rattle.hub_core.specs.Shows.{end_now, line_now, ShowsPut, ShowsEnd, ShowsFacts, count_away}
 use Rattle.hub_core.specs.Kept.{gate_answer, phase_of, enter_outcome, enter_end, enter_outcome_at, enter_ends_at, leave_outcome, leave_end, leave_outcome_at, changed_ends, may_come, kept_may_enter, change_owner, kept_owner, with_agent, one_out, one_away, kept_place}
 use Rattle.hub_core.specs.KeptEnding.{enter_agents, leave_agents, kept_owner_of, kept_owner_at, kept_owner_on}
-use Rattle.hub_core.proofs.Lists.{eqb_same, set_again, each_set, is_there}
+use Rattle.hub_core.proofs.Lists.{set_again, is_there}
 use Rattle.hub_core.proofs.Frames.{line_changed, ShownAt, Stepped, unchanged, recounted}
 use Rattle.hub_core.proofs.Holders.{may_kept, place_kept}
 use Rattle.hub_core.proofs.SoundLines.{phased_line, line_there, LinesAt}
@@ -53,19 +52,12 @@ phased_inside : (old : ℕ → LineNow) (k bound : ℕ) (p : Phase) (l : ℕ) �
 phased_inside old k bound p l true is may kept at = subst (λ i. (old i).stand < bound) (sym (eqb-true l k is)) (may at)
 phased_inside old k bound p l false is may kept at = kept at
 
--- the end at which the line is
-phased_end : (now : EndNow) (old : ℕ → LineNow) (clear : ℕ → Bool) (vs ts : List Envelope) (x : End) (y : Line) (k : ℕ) (p : Phase) → slice_get x.lines k ≡ Some y → (p ≡ Inside → (old k).stand < x.taker + length x.queues) → ShowsEnd now old clear vs ts (Some x) → ShowsEnd now (λ l. record (old l) { phase = cond (eqb l k) p (old l).phase }) clear vs ts (Some (with_phase x y k p))
-phased_end now old clear vs ts x y k p is may h = line_changed now old (λ b l. record (old l) { phase = cond b p (old l).phase }) clear vs ts x y (record y { phase = p }) k is
-    (ap (λ (z : LineNow). let w : LineNow = record z { phase = p } in w) (h.lines k ∙ ap line_now is)) (λ l. refl) (subst (ShowsPut vs k) is (h.put k))
-    (λ l at. phased_inside old k (x.taker + length x.queues) p l (eqb l k) refl may (h.queues.inside l) at) h
-
 -- every end, with this line in this phase
 pub phased_shown : (agents : List Agent) (ends : List End) (f : Facts) (s : Sender) (p : Phase) (x : End) (y : Line) → ShowsFacts agents ends f → slice_get ends s.end.0 ≡ Some x → slice_get x.lines s.line.0 ≡ Some y → (p ≡ Inside → (f.line s.end.0 s.line.0).stand < x.taker + length x.queues) → (d : ℕ) → ShowsEnd (f.end d) (phased_line f s p d) (f.clear d) (f.accepted d) (f.taken d ++ f.discarded d) (slice_get (set ends s.end.0 (with_phase x y s.line.0 p)) d)
 phased_shown agents ends f s p x y h at is may =
-    each_set (λ d o. ShowsEnd (f.end d) (phased_line f s p d) (f.clear d) (f.accepted d) (f.taken d ++ f.discarded d) o) ends s.end.0 (with_phase x y s.line.0 p) (slice_get_within ends s.end.0 x at)
-    (subst (λ b. ShowsEnd (f.end s.end.0) (λ l. record (f.line s.end.0 l) { phase = cond (b && eqb l s.line.0) p (f.line s.end.0 l).phase }) (f.clear s.end.0) (f.accepted s.end.0) (f.taken s.end.0 ++ f.discarded s.end.0) (Some (with_phase x y s.line.0 p))) (sym (eqb_same s.end.0))
-    (phased_end (f.end s.end.0) (f.line s.end.0) (f.clear s.end.0) (f.accepted s.end.0) (f.taken s.end.0 ++ f.discarded s.end.0) x y s.line.0 p is may (subst (ShownAt f s.end.0) at (h.end s.end.0))))
-    (λ d other. subst (λ b. ShowsEnd (f.end d) (λ l. record (f.line d l) { phase = cond (b && eqb l s.line.0) p (f.line d l).phase }) (f.clear d) (f.accepted d) (f.taken d ++ f.discarded d) (slice_get ends d)) (sym (ne_eqb d s.end.0 other)) (h.end d))
+    let shown : ShownAt f s.end.0 (Some x) = subst (ShownAt f s.end.0) at (h.end s.end.0) in
+    line_changed agents ends f s (λ b w. record w { phase = cond b p w.phase }) x y (record y { phase = p }) h at is refl (λ w. refl) (subst (ShowsPut (f.accepted s.end.0) s.line.0) is (shown.put s.line.0))
+    (λ l inside. phased_inside (f.line s.end.0) s.line.0 (x.taker + length x.queues) p l (eqb l s.line.0) refl may (shown.queues.inside l) inside)
 
 -- ---- Enter
 

@@ -2,8 +2,9 @@
 use Rattle.std.proofs.Common.{◌≡◌, ℕ, ◌+◌, ◌<◌, Bool, true, false, eqb, List, [], length, set, length-set, Option, Some, refl, sym, ap, subst, ◌∙◌, ◌++◌}
 use Rattle.std.proofs.lemmas.Bool.{ne_eqb}
 use Rattle.std.proofs.lemmas.Option.{slice_get_within}
-use Rattle.hub_envelope.specs.declared.envelope.Envelope.{Envelope}
 use Rattle.hub_core.specs.declared.line.Line.{Line}
+use Rattle.hub_core.specs.declared.sender.Sender.{Sender}
+use Rattle.std.specs.Prelude.{◌&&◌}
 use Rattle.hub_core.specs.declared.line.Phase.TheVariants.{Inside}
 use Rattle.hub_core.proofs.Lists.{eqb_same, each_set}
 use Rattle.std.specs.List.{slice_get}
@@ -12,7 +13,7 @@ use Rattle.hub_core.specs.declared.end.End.{End}
 use Rattle.hub_core.specs.declared.step.Action.{Action}
 use Rattle.hub_core.specs.declared.outcome.Outcome.{Outcome}
 use Rattle.hub_core.specs.CoreState.{CoreState}
-use Rattle.hub_core.specs.Facts.{EndNow, LineNow, Facts, facts}
+use Rattle.hub_core.specs.Facts.{LineNow, Facts, facts}
 use Rattle.hub_core.specs.Fits.{Answers}
 use Rattle.hub_core.specs.Shows.{ShowsEnd, ShowsPut, ShowsFacts, agent_now, line_now}
 use Rattle.hub_core.proofs.Nexts.{next}
@@ -29,19 +30,6 @@ with_agents c agents = record c { agents = agents }
 -- what is shown of an end
 abbrev pub ShownAt : Facts → ℕ → Option End → Type 0
 ShownAt f x kept = ShowsEnd (f.end x) (f.line x) (f.clear x) (f.accepted x) (f.taken x ++ f.discarded x) kept
-
--- An end of which one line changes: `new` says what a line is, where it is the one that changes and where it isn't.
-pub line_changed : (now : EndNow) (old : ℕ → LineNow) (new : Bool → ℕ → LineNow) (clear : ℕ → Bool) (vs ts : List Envelope) (x : End) (y z : Line) (k : ℕ) → slice_get x.lines k ≡ Some y → new true k ≡ line_now (Some z) → ((l : ℕ) → new false l ≡ old l) → ShowsPut vs k (Some z)
-    → ((l : ℕ) → (new (eqb l k) l).phase ≡ Inside → (new (eqb l k) l).stand < x.taker + length x.queues) → ShowsEnd now old clear vs ts (Some x) → ShowsEnd now (λ l. new (eqb l k) l) clear vs ts (Some (record x { lines = set x.lines k z }))
-line_changed now old new clear vs ts x y z k is mine others put inside h =
-    let within : k < length x.lines = slice_get_within x.lines k y is in
-    record {
-      same = h.same;
-      count = length-set x.lines k z ∙ h.count;
-      lines = each_set (λ l o. new (eqb l k) l ≡ line_now o) x.lines k z within (ap (λ b. new b k) (eqb_same k) ∙ mine) (λ l other. ap (λ b. new b l) (ne_eqb l k other) ∙ others l ∙ h.lines l);
-      put = each_set (ShowsPut vs) x.lines k z within put (λ l other. h.put l);
-      queues = record { reached = h.queues.reached; clear_below = h.queues.clear_below; count = h.queues.count; inside = inside; behind = h.queues.behind; each = h.queues.each };
-    }
 
 -- a step's answer, and the facts with it
 pub record Stepped (agents : List Agent) (ends : List End) (f : Facts) (a : Action) (refused : Bool) (o : Outcome) : Type 0 where
@@ -92,3 +80,29 @@ shows_first agents ends none nothing = rw (none, nothing) (record {
 
 pub along : (P : List Agent → List End → Outcome → Type 0) {gs hs : List Agent} {es fs : List End} {o p : Outcome} → hs ≡ gs → fs ≡ es → p ≡ o → P gs es o → P hs fs p
 along P {gs = gs} {hs = hs} {es = es} {fs = fs} {o = o} {p = p} a b c h = subst (λ x. P x fs p) (sym a) (subst (λ x. P gs x p) (sym b) (subst (λ x. P gs es x) (sym c) h))
+
+-- The ends, where one line of one end changes: `new` says what becomes of a line, where it is that one and where it isn't.
+pub line_changed : (agents : List Agent) (ends : List End) (f : Facts) (s : Sender) (new : Bool → LineNow → LineNow) (x : End) (y z : Line) → ShowsFacts agents ends f → slice_get ends s.end.0 ≡ Some x → slice_get x.lines s.line.0 ≡ Some y
+    → new true (line_now (Some y)) ≡ line_now (Some z) → ((w : LineNow) → new false w ≡ w) → ShowsPut (f.accepted s.end.0) s.line.0 (Some z)
+    → ((l : ℕ) → (new (eqb l s.line.0) (f.line s.end.0 l)).phase ≡ Inside → (new (eqb l s.line.0) (f.line s.end.0 l)).stand < x.taker + length x.queues)
+    → (d : ℕ) → ShowsEnd (f.end d) (λ l. new (eqb d s.end.0 && eqb l s.line.0) (f.line d l)) (f.clear d) (f.accepted d) (f.taken d ++ f.discarded d) (slice_get (set ends s.end.0 (record x { lines = set x.lines s.line.0 z })) d)
+line_changed agents ends f s new x y z h at is mine others put inside =
+    let e : ℕ = s.end.0 in
+    let k : ℕ = s.line.0 in
+    let old : ShownAt f e (Some x) = subst (ShownAt f e) at (h.end e) in
+    let within : k < length x.lines = slice_get_within x.lines k y is in
+    let lines : Bool → ℕ → ℕ → LineNow = λ b d l. new (b && eqb l k) (f.line d l) in
+    let after : End = record x { lines = set x.lines k z } in
+    let here : ShowsEnd (f.end e) (lines true e) (f.clear e) (f.accepted e) (f.taken e ++ f.discarded e) (Some after) = record {
+      same = old.same;
+      count = length-set x.lines k z ∙ old.count;
+      lines = each_set (λ l o. new (eqb l k) (f.line e l) ≡ line_now o) x.lines k z within
+          (ap (λ b. new b (f.line e k)) (eqb_same k) ∙ ap (new true) (old.lines k ∙ ap line_now is) ∙ mine)
+          (λ l other. ap (λ b. new b (f.line e l)) (ne_eqb l k other) ∙ others (f.line e l) ∙ old.lines l);
+      put = each_set (ShowsPut (f.accepted e)) x.lines k z within put (λ l other. old.put l);
+      queues = record { reached = old.queues.reached; clear_below = old.queues.clear_below; count = old.queues.count; inside = inside; behind = old.queues.behind; each = old.queues.each };
+    } in
+    each_set (λ d o. ShowsEnd (f.end d) (lines (eqb d e) d) (f.clear d) (f.accepted d) (f.taken d ++ f.discarded d) o) ends e after (slice_get_within ends e x at)
+    (subst (λ b. ShowsEnd (f.end e) (lines b e) (f.clear e) (f.accepted e) (f.taken e ++ f.discarded e) (Some after)) (sym (eqb_same e)) here)
+    (λ d other. subst (λ b. ShowsEnd (f.end d) (lines b d) (f.clear d) (f.accepted d) (f.taken d ++ f.discarded d) (slice_get ends d)) (sym (ne_eqb d e other))
+    (subst (λ (ls : ℕ → LineNow). ShowsEnd (f.end d) ls (f.clear d) (f.accepted d) (f.taken d ++ f.discarded d) (slice_get ends d)) (λ i l. sym (others (f.line d l)) i) (h.end d)))

@@ -1,14 +1,12 @@
 -- Line and Back: what the core answers fits, and it shows the facts with the answered step.
-use Rattle.std.proofs.Common.{◌≡◌, ℕ, suc, ◌+◌, ◌<◌, Bool, true, false, cond, eqb, set, List, [], ◌∷◌, length, Option, Some, None, refl, sym, ap, subst, ◌∙◌, arith, length-set}
+use Rattle.std.proofs.Common.{◌≡◌, ℕ, suc, ◌+◌, ◌<◌, Bool, true, false, cond, set, List, [], ◌∷◌, length, Option, Some, None, refl, sym, ap, subst, ◌∙◌, arith, length-set}
 use Rattle.std.specs.Prelude.{◌&&◌, ◌++◌, not, is_some, nat_lt}
 use Rattle.std.specs.List.{slice_get, position, position_from}
 use Rattle.std.proofs.lemmas.Iterator.Adapters.{position_from-zero}
-use Rattle.std.proofs.lemmas.Bool.{false≢true, ne_eqb, lt-ltb}
-use Rattle.std.proofs.lemmas.Option.{slice_get_within}
+use Rattle.std.proofs.lemmas.Bool.{false≢true, lt-ltb}
 use Rattle.hub_envelope.specs.declared.ids.AgentId.{AgentId}
 use Rattle.hub_envelope.specs.declared.ids.EndId.{EndId}
 use Rattle.hub_envelope.specs.declared.ids.LineId.{LineId}
-use Rattle.hub_envelope.specs.declared.envelope.Envelope.{Envelope}
 use Rattle.hub_envelope.specs.declared.limits.TheConstants.{MAX_LINES}
 use Rattle.hub_core.specs.declared.agent.Agent.{Agent}
 use Rattle.hub_core.specs.declared.line.Line.{Line}
@@ -26,7 +24,7 @@ use Rattle.hub_core.specs.Unchanged.{changes_nothing}
 use Rattle.hub_core.specs.Sound.{no_line}
 use Rattle.hub_core.specs.Shows.{line_now, ShowsPut, ShowsEnd, ShowsFacts}
 use Rattle.hub_core.specs.Kept.{kept_running, line_within, first_free, hold_outcome_of, hold_outcome, held_lines, held_end, line_outcome_at, line_ends_at, may_give_back, back_outcome, back_end, back_outcome_at, changed_ends}
-use Rattle.hub_core.proofs.Lists.{set_again, each_set, eqb_same, is_there}
+use Rattle.hub_core.proofs.Lists.{set_again, is_there}
 use Rattle.hub_core.proofs.Fitting.{line_got_of, first_failing_of, back_of}
 use Rattle.hub_core.proofs.SoundLines.{held_line_as, queue_lines}
 use Rattle.hub_core.proofs.Frames.{line_changed, ShownAt, Stepped, changed, unchanged}
@@ -41,17 +39,11 @@ use Rattle.hub_core.proofs.Calms.{calm_held, free_out}
 abbrev with_holder : End → Line → ℕ → Option AgentId → End
 with_holder x y l holder = record x { lines = set x.lines l (record y { held_by = holder }) }
 
-held_end_shown : (now : EndNow) (old : ℕ → LineNow) (clear : ℕ → Bool) (vs ts : List Envelope) (x : End) (y : Line) (k : ℕ) (holder : Option AgentId) → slice_get x.lines k ≡ Some y → ShowsEnd now old clear vs ts (Some x) → ShowsEnd now (λ l. record (old l) { held_by = cond (eqb l k) holder (old l).held_by }) clear vs ts (Some (with_holder x y k holder))
-held_end_shown now old clear vs ts x y k holder is h = line_changed now old (λ b l. record (old l) { held_by = cond b holder (old l).held_by }) clear vs ts x y (record y { held_by = holder }) k is
-    (ap (λ (z : LineNow). let w : LineNow = record z { held_by = holder } in w) (h.lines k ∙ ap line_now is)) (λ l. refl) (subst (ShowsPut vs k) is (h.put k)) h.queues.inside h
-
 -- every end, with this holder of the line
 held_shown : (agents : List Agent) (ends : List End) (f : Facts) (s : Sender) (holder : Option AgentId) (x : End) (y : Line) → ShowsFacts agents ends f → slice_get ends s.end.0 ≡ Some x → slice_get x.lines s.line.0 ≡ Some y → (d : ℕ) → ShowsEnd (f.end d) (held_line_as f s holder d) (f.clear d) (f.accepted d) (f.taken d ++ f.discarded d) (slice_get (set ends s.end.0 (with_holder x y s.line.0 holder)) d)
 held_shown agents ends f s holder x y h at is =
-    each_set (λ d o. ShowsEnd (f.end d) (held_line_as f s holder d) (f.clear d) (f.accepted d) (f.taken d ++ f.discarded d) o) ends s.end.0 (with_holder x y s.line.0 holder) (slice_get_within ends s.end.0 x at)
-    (subst (λ b. ShowsEnd (f.end s.end.0) (λ l. record (f.line s.end.0 l) { held_by = cond (b && eqb l s.line.0) holder (f.line s.end.0 l).held_by }) (f.clear s.end.0) (f.accepted s.end.0) (f.taken s.end.0 ++ f.discarded s.end.0) (Some (with_holder x y s.line.0 holder))) (sym (eqb_same s.end.0))
-    (held_end_shown (f.end s.end.0) (f.line s.end.0) (f.clear s.end.0) (f.accepted s.end.0) (f.taken s.end.0 ++ f.discarded s.end.0) x y s.line.0 holder is (subst (ShownAt f s.end.0) at (h.end s.end.0))))
-    (λ d other. subst (λ b. ShowsEnd (f.end d) (λ l. record (f.line d l) { held_by = cond (b && eqb l s.line.0) holder (f.line d l).held_by }) (f.clear d) (f.accepted d) (f.taken d ++ f.discarded d) (slice_get ends d)) (sym (ne_eqb d s.end.0 other)) (h.end d))
+    let shown : ShownAt f s.end.0 (Some x) = subst (ShownAt f s.end.0) at (h.end s.end.0) in
+    line_changed agents ends f s (λ b w. record w { held_by = cond b holder w.held_by }) x y (record y { held_by = holder }) h at is refl (λ w. refl) (subst (ShowsPut (f.accepted s.end.0) s.line.0) is (shown.put s.line.0)) shown.queues.inside
 
 -- ---- the first line that no agent holds
 

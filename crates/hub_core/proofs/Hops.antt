@@ -4,7 +4,6 @@ use Rattle.std.specs.Prelude.{◌&&◌, nat_lt}
 use Rattle.std.specs.List.{slice_get, filter, AllByRecursion}
 use Rattle.std.proofs.lemmas.Bool.{ne_eqb, eqb-true, false≢true}
 use Rattle.std.proofs.lemmas.List.{length-set}
-use Rattle.std.proofs.lemmas.Option.{slice_get_within}
 use Rattle.hub_envelope.specs.declared.envelope.Envelope.{Envelope}
 use Rattle.hub_core.specs.declared.agent.Agent.{Agent}
 use Rattle.hub_core.specs.declared.line.Line.{Line}
@@ -20,7 +19,7 @@ use Rattle.hub_core.specs.Moving.{hop_answer}
 use Rattle.hub_core.specs.Sound.{IsOfEnd}
 use Rattle.hub_core.specs.Shows.{end_now, line_now, ShowsEnd, ShowsFacts}
 use Rattle.hub_core.specs.Kept.{hopped_end, may_hop, hop_outcome, hop_end, hop_outcome_at, hop_ends_at, kept_may_enter}
-use Rattle.hub_core.proofs.Lists.{eqb_same, set_again, each_set}
+use Rattle.hub_core.proofs.Lists.{set_again}
 use Rattle.hub_core.proofs.Frames.{line_changed, ShownAt, Stepped, changed, unchanged}
 use Rattle.hub_core.proofs.Holders.{may_kept}
 use Rattle.hub_core.proofs.SoundLines.{gone_line}
@@ -51,20 +50,16 @@ gone_inside : (old : ℕ → LineNow) (k bound l : ℕ) → (b : Bool) → eqb l
 gone_inside old k bound l true is out kept at = absurd (out (ap (λ i. (old i).phase) (sym (eqb-true l k is)) ∙ at))
 gone_inside old k bound l false is out kept at = kept at
 
-gone_end : (e n : ℕ) (now : EndNow) (old : ℕ → LineNow) (clear : ℕ → Bool) (vs ts : List Envelope) (x : End) (y : Line) (k : ℕ) → slice_get x.lines k ≡ Some y → AllByRecursion (IsOfEnd e n old) vs → ((old k).phase ≡ Inside → ⊥) → ShowsEnd now old clear vs ts (Some x) → ShowsEnd now (λ l. record (old l) { stand = cond (eqb l k) ((old l).stand + 1) (old l).stand }) clear vs ts (Some (hopped_end x k y))
-gone_end e n now old clear vs ts x y k is named out h =
-    let mine : old k ≡ line_now (Some y) = h.lines k ∙ ap line_now is in
-    line_changed now old (λ b l. record (old l) { stand = cond b ((old l).stand + 1) (old l).stand }) clear vs ts x y (record y { epoch = y.epoch + 1; put = 0 }) k is
-    (ap (λ (z : LineNow). let w : LineNow = record z { stand = z.stand + 1 } in w) mine) (λ l. refl) (nothing_next e n old k y.epoch (ap (λ (z : LineNow). z.stand) mine) vs named)
-    (λ l at. gone_inside old k (x.taker + length x.queues) l (eqb l k) refl out (h.queues.inside l) at) h
-
 -- every end, with this line one further
 gone_shown : (agents : List Agent) (ends : List End) (f : Facts) (s : Sender) (x : End) (y : Line) → ShowsFacts agents ends f → slice_get ends s.end.0 ≡ Some x → slice_get x.lines s.line.0 ≡ Some y → is_out (f.line s.end.0 s.line.0).phase ≡ true → (d : ℕ) → ShowsEnd (f.end d) (gone_line f s d) (f.clear d) (f.accepted d) (f.taken d ++ f.discarded d) (slice_get (set ends s.end.0 (hopped_end x s.line.0 y)) d)
 gone_shown agents ends f s x y h at is out =
-    each_set (λ d o. ShowsEnd (f.end d) (gone_line f s d) (f.clear d) (f.accepted d) (f.taken d ++ f.discarded d) o) ends s.end.0 (hopped_end x s.line.0 y) (slice_get_within ends s.end.0 x at)
-    (subst (λ b. ShowsEnd (f.end s.end.0) (λ l. record (f.line s.end.0 l) { stand = cond (b && eqb l s.line.0) ((f.line s.end.0 l).stand + 1) (f.line s.end.0 l).stand }) (f.clear s.end.0) (f.accepted s.end.0) (f.taken s.end.0 ++ f.discarded s.end.0) (Some (hopped_end x s.line.0 y))) (sym (eqb_same s.end.0))
-    (gone_end s.end.0 _ (f.end s.end.0) (f.line s.end.0) (f.clear s.end.0) (f.accepted s.end.0) (f.taken s.end.0 ++ f.discarded s.end.0) x y s.line.0 is (h.sound.lines s.end.0).named (λ inside. false≢true (sym (ap is_out inside) ∙ out)) (subst (ShownAt f s.end.0) at (h.end s.end.0))))
-    (λ d other. subst (λ b. ShowsEnd (f.end d) (λ l. record (f.line d l) { stand = cond (b && eqb l s.line.0) ((f.line d l).stand + 1) (f.line d l).stand }) (f.clear d) (f.accepted d) (f.taken d ++ f.discarded d) (slice_get ends d)) (sym (ne_eqb d s.end.0 other)) (h.end d))
+    let e : ℕ = s.end.0 in
+    let k : ℕ = s.line.0 in
+    let shown : ShownAt f e (Some x) = subst (ShownAt f e) at (h.end e) in
+    let stand : (f.line e k).stand ≡ y.epoch = ap (λ (w : LineNow). w.stand) (shown.lines k ∙ ap line_now is) in
+    line_changed agents ends f s (λ b w. record w { stand = cond b (w.stand + 1) w.stand }) x y (record y { epoch = y.epoch + 1; put = 0 }) h at is refl (λ w. refl)
+    (nothing_next e _ (f.line e) k y.epoch stand (f.accepted e) (h.sound.lines e).named)
+    (λ l inside. gone_inside (f.line e) k (x.taker + length x.queues) l (eqb l k) refl (λ here. false≢true (sym (ap is_out here) ∙ out)) (shown.queues.inside l) inside)
 
 -- ---- what is answered
 
