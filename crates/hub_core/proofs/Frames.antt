@@ -1,4 +1,4 @@
--- What a step leaves alone: an end of which no fact changes is shown as before.
+-- What a step leaves alone: an end of which no fact changes is shown as before, and so is each other line where one changes.
 use Rattle.std.proofs.Common.{◌≡◌, ℕ, ◌+◌, ◌<◌, Bool, true, false, eqb, List, [], length, set, length-set, Option, Some, refl, sym, ap, subst, ◌∙◌, ◌++◌}
 use Rattle.std.proofs.lemmas.Bool.{ne_eqb}
 use Rattle.std.proofs.lemmas.Option.{slice_get_within}
@@ -80,6 +80,8 @@ shows_first agents ends none nothing = rw (none, nothing) (record {
 
 pub along : (P : List Agent → List End → Outcome → Type 0) {gs hs : List Agent} {es fs : List End} {o p : Outcome} → hs ≡ gs → fs ≡ es → p ≡ o → P gs es o → P hs fs p
 along P {gs = gs} {hs = hs} {es = es} {fs = fs} {o = o} {p = p} a b c h = subst (λ x. P x fs p) (sym a) (subst (λ x. P gs x p) (sym b) (subst (λ x. P gs es x) (sym c) h))
+
+-- ---- one line
 
 -- The ends, where one line of one end changes: `new` says what becomes of a line, where it is that one and where it isn't.
 pub line_changed : (agents : List Agent) (ends : List End) (f : Facts) (s : Sender) (new : Bool → LineNow → LineNow) (x : End) (y z : Line) → ShowsFacts agents ends f → slice_get ends s.end.0 ≡ Some x → slice_get x.lines s.line.0 ≡ Some y
