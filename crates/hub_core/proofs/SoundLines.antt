@@ -98,41 +98,29 @@ record MayCome (f : Facts) (t : Sender) (p : Phase) : Type 0 where
   inside : p ≡ Inside → (f.end t.end.0).taker_stand ≤ (f.line t.end.0 t.line.0).stand
   unclear : p ≡ Inside → f.clear t.end.0 (f.line t.end.0 t.line.0).stand ≡ false
 
+-- what holds of the line of a step holds of each number that passes the test for it
+on_place : (P : ℕ → ℕ → Type 0) (t : Sender) (x l : ℕ) → (eqb x t.end.0 && eqb l t.line.0) ≡ true → P t.end.0 t.line.0 → P x l
+on_place P t x l is there =
+    let both = and_parts (eqb x t.end.0) (eqb l t.line.0) is in
+    subst (λ y. P y l) (sym (eqb-true x t.end.0 both.0)) (subst (P t.end.0) (sym (eqb-true l t.line.0 both.1)) there)
+
 none_phased : (f : Facts) (t : Sender) (p : Phase) (x l : ℕ) → MayCome f t p → f.line x l ≡ no_line → lines_of ((f.end x).kind) ≤ l → (b : Bool) → (eqb x t.end.0 && eqb l t.line.0) ≡ b → (let y : LineNow = record (f.line x l) { phase = cond b p (f.line x l).phase } in y ≡ no_line)
 none_phased f t p x l may none past true is = elim may.there [
   | inl out ↦ rw out (λ i. record (none i) { phase = Out })
-  | inr less ↦
-      let both = and_parts (eqb x t.end.0) (eqb l t.line.0) is in
-      let here : x ≡ t.end.0 = search (rules, both.0) in
-      let line : l ≡ t.line.0 = search (rules, both.1) in
-      let bound : t.line.0 < lines_of ((f.end x).kind) = subst (λ y. t.line.0 < lines_of ((f.end y).kind)) (sym here) less in
-      absurd (omega arith)
+  | inr less ↦ let bound : l < lines_of ((f.end x).kind) = on_place (λ y k. k < lines_of ((f.end y).kind)) t x l is less in absurd (omega arith)
 ]
 none_phased f t p x l may none past false is = none
 
 turned_phased : (f : Facts) (t : Sender) (p : Phase) (x l : ℕ) → MayCome f t p → LinesAt f x → (b : Bool) → (eqb x t.end.0 && eqb l t.line.0) ≡ b → cond b p (f.line x l).phase ≡ Turned → ((f.line x l).stand < (f.end x).newest) ⊎ ((f.end x).closed ≡ true)
-turned_phased f t p x l may s true is h =
-    let both = and_parts (eqb x t.end.0) (eqb l t.line.0) is in
-    let here : x ≡ t.end.0 = search (rules, both.0) in
-    let line : l ≡ t.line.0 = search (rules, both.1) in
-    subst (λ y. ((f.line y l).stand < (f.end y).newest) ⊎ ((f.end y).closed ≡ true)) (sym here)
-    (subst (λ k. ((f.line t.end.0 k).stand < (f.end t.end.0).newest) ⊎ ((f.end t.end.0).closed ≡ true)) (sym line) (may.turned h))
+turned_phased f t p x l may s true is h = on_place (λ y k. ((f.line y k).stand < (f.end y).newest) ⊎ ((f.end y).closed ≡ true)) t x l is (may.turned h)
 turned_phased f t p x l may s false is h = s.turned l h
 
 inside_phased : (f : Facts) (t : Sender) (p : Phase) (x l : ℕ) → MayCome f t p → LinesAt f x → (b : Bool) → (eqb x t.end.0 && eqb l t.line.0) ≡ b → cond b p (f.line x l).phase ≡ Inside → (f.end x).taker_stand ≤ (f.line x l).stand
-inside_phased f t p x l may s true is h =
-    let both = and_parts (eqb x t.end.0) (eqb l t.line.0) is in
-    let here : x ≡ t.end.0 = search (rules, both.0) in
-    let line : l ≡ t.line.0 = search (rules, both.1) in
-    subst (λ y. (f.end y).taker_stand ≤ (f.line y l).stand) (sym here) (subst (λ k. (f.end t.end.0).taker_stand ≤ (f.line t.end.0 k).stand) (sym line) (may.inside h))
+inside_phased f t p x l may s true is h = on_place (λ y k. (f.end y).taker_stand ≤ (f.line y k).stand) t x l is (may.inside h)
 inside_phased f t p x l may s false is h = s.inside l h
 
 unclear_phased : (f : Facts) (t : Sender) (p : Phase) (x l : ℕ) → MayCome f t p → LinesAt f x → (b : Bool) → (eqb x t.end.0 && eqb l t.line.0) ≡ b → cond b p (f.line x l).phase ≡ Inside → f.clear x (f.line x l).stand ≡ false
-unclear_phased f t p x l may s true is h =
-    let both = and_parts (eqb x t.end.0) (eqb l t.line.0) is in
-    let here : x ≡ t.end.0 = search (rules, both.0) in
-    let line : l ≡ t.line.0 = search (rules, both.1) in
-    subst (λ y. f.clear y (f.line y l).stand ≡ false) (sym here) (subst (λ k. f.clear t.end.0 (f.line t.end.0 k).stand ≡ false) (sym line) (may.unclear h))
+unclear_phased f t p x l may s true is h = on_place (λ y k. f.clear y (f.line y k).stand ≡ false) t x l is (may.unclear h)
 unclear_phased f t p x l may s false is h = s.inside_unclear l h
 
 phased : (f : Facts) (t : Sender) (p : Phase) (x : ℕ) → MayCome f t p → LinesAt f x → SoundLines x (lines_of ((f.end x).kind)) ((f.end x).newest) ((f.end x).taker_stand) ((f.end x).closed) (phased_line f t p x) (f.clear x) (f.accepted x)
@@ -410,12 +398,7 @@ record GoesOn (f : Facts) (t : Sender) : Type 0 where
 
 -- what is known of the line, said of the numbers that are found equal to its own
 on_it : (f : Facts) (t : Sender) (x l : ℕ) → GoesOn f t → (eqb x t.end.0 && eqb l t.line.0) ≡ true → (l < lines_of ((f.end x).kind)) × (is_out (f.line x l).phase ≡ true) × ((f.line x l).stand < (f.end x).newest)
-on_it f t x l g is =
-    let both = and_parts (eqb x t.end.0) (eqb l t.line.0) is in
-    let here : x ≡ t.end.0 = search (rules, both.0) in
-    let line : l ≡ t.line.0 = search (rules, both.1) in
-    subst (λ y. (l < lines_of ((f.end y).kind)) × (is_out (f.line y l).phase ≡ true) × ((f.line y l).stand < (f.end y).newest)) (sym here)
-    (subst (λ k. (k < lines_of ((f.end t.end.0).kind)) × (is_out (f.line t.end.0 k).phase ≡ true) × ((f.line t.end.0 k).stand < (f.end t.end.0).newest)) (sym line) (g.there, g.out, g.below))
+on_it f t x l g is = on_place (λ y k. (k < lines_of ((f.end y).kind)) × (is_out (f.line y k).phase ≡ true) × ((f.line y k).stand < (f.end y).newest)) t x l is (g.there, g.out, g.below)
 
 away_not_out : (p q : Phase) → is_out p ≡ true → p ≡ q → is_out q ≡ false → ⊥
 away_not_out p q out same away = false≢true (sym away ∙ (sym (ap is_out same) ∙ out))
@@ -592,12 +575,7 @@ held_line_as f t holder x l = record (f.line x l) { held_by = on_line x l t hold
 
 held_none : (f : Facts) (t : Sender) (holder : Option AgentId) (x l : ℕ) → (t.line.0 < lines_of ((f.end t.end.0).kind)) ⊎ (holder ≡ None) → f.line x l ≡ no_line → lines_of ((f.end x).kind) ≤ l → (b : Bool) → (eqb x t.end.0 && eqb l t.line.0) ≡ b → (let y : LineNow = record (f.line x l) { held_by = cond b holder (f.line x l).held_by } in y ≡ no_line)
 held_none f t holder x l may none past true is = elim may [
-  | inl less ↦
-      let both = and_parts (eqb x t.end.0) (eqb l t.line.0) is in
-      let here : x ≡ t.end.0 = search (rules, both.0) in
-      let line : l ≡ t.line.0 = search (rules, both.1) in
-      let bound : t.line.0 < lines_of ((f.end x).kind) = subst (λ y. t.line.0 < lines_of ((f.end y).kind)) (sym here) less in
-      absurd (omega arith)
+  | inl less ↦ let bound : l < lines_of ((f.end x).kind) = on_place (λ y k. k < lines_of ((f.end y).kind)) t x l is less in absurd (omega arith)
   | inr nobody ↦ λ i. record (none i) { held_by = nobody i }
 ]
 held_none f t holder x l may none past false is = none
