@@ -1,7 +1,7 @@
 -- Who is away: what steps that move ends and lines make of it.
 use Rattle.std.proofs.Common.{◌≡◌, ℕ, ◌+◌, ◌<◌, Bool, true, false, cond, eqb, Option, Some, None, refl, sym, ap, subst, ◌∙◌, inl, inr, arith, rules}
 use Rattle.std.specs.Prelude.{◌&&◌, ◌⊎◌, not}
-use Rattle.std.proofs.lemmas.Bool.{false≢true, eqb-true, ne_eqb, and_parts}
+use Rattle.std.proofs.lemmas.Bool.{false≢true, eqb-true, ne_eqb}
 use Rattle.hub_envelope.specs.declared.ids.AgentId.{AgentId}
 use Rattle.hub_envelope.specs.declared.ids.EndId.{EndId}
 use Rattle.hub_core.specs.declared.kind.Kind.{Kind}
@@ -22,6 +22,7 @@ use Rattle.hub_core.proofs.Totals.{bit}
 use Rattle.hub_core.proofs.Counts.{IsCalmAt, away_same, away_change}
 use Rattle.hub_core.proofs.Speakers.{no_port, port_of, hears_of, no_member}
 use Rattle.hub_core.specs.declared.line.Phase.{Phase}
+use Rattle.hub_core.proofs.SoundLines.{on_place}
 
 -- a line of a port counts for the agent that has the port, where its poster is away
 port_away : (out b c first : Bool) → (first ≡ true → (out ≡ true) ⊎ (b ≡ c)) → (not out && (first && b)) ≡ (not out && (first && c))
@@ -170,8 +171,7 @@ phase_away a f g s p made low ends kinds places held phases =
 pub calm_held : (a : AgentId) (f g : Facts) (t : Sender) (holder : Option AgentId) → is_out (f.line t.end.0 t.line.0).phase ≡ true → ((d : ℕ) → (g.end d).kind ≡ (f.end d).kind) → ((d : ℕ) → (g.end d).place ≡ (f.end d).place) → ((d l : ℕ) → (g.line d l).phase ≡ (f.line d l).phase) → ((d l : ℕ) → (g.line d l).held_by ≡ on_line d l t holder (f.line d l).held_by) → (d l : ℕ) → is_away_of g a d l ≡ is_away_of f a d l
 calm_held a f g t holder out kinds places phases held d l = elim (eqb d t.end.0 && eqb l t.line.0) as (λ b. (eqb d t.end.0 && eqb l t.line.0) ≡ b → is_away_of g a d l ≡ is_away_of f a d l) [
   | true ↦ λ is.
-      let both = and_parts (eqb d t.end.0) (eqb l t.line.0) is in
-      let here : is_out (f.line d l).phase ≡ true = ap (λ x. is_out (f.line x l).phase) (eqb-true d t.end.0 both.0) ∙ ap (λ i. is_out (f.line t.end.0 i).phase) (eqb-true l t.line.0 both.1) ∙ out in
+      let here : is_out (f.line d l).phase ≡ true = on_place (λ x i. is_out (f.line x i).phase ≡ true) t d l is out in
       ap (λ q. not (is_out q) && has_poster g a d l) (phases d l) ∙ ap (λ b. not b && has_poster g a d l) here ∙ sym (ap (λ b. not b && has_poster f a d l) here)
   | false ↦ λ other.
       ap (λ q. not (is_out q) && has_poster g a d l) (phases d l) ∙ ap (λ b. not (is_out (f.line d l).phase) && b) (has_same a f g d l (kinds d) places (held d l ∙ ap (λ b. cond b holder (f.line d l).held_by) other))

@@ -33,7 +33,7 @@ use Rattle.hub_core.proofs.Lists.{eqb_same}
 use Rattle.hub_core.proofs.Nexts.{next, facts_next, effect, Change, agent_made, channel_made, let_in, found_moved, found_closed, put, left, started, got, hopped, went_on, cleared, adopted, notice_put, end_closed, end_swept, client_made, worker_made, line_got, line_back, handed, agent_ordered, agent_ended, member_joined, cast_begun, member_parted}
 use Rattle.hub_core.proofs.Legals.{legal_apart, legal_joined, legal_at}
 use Rattle.hub_core.proofs.Fitting.{let_in_of, found_moved_of, found_closed_of, pushed_of, empty_of, any_of, busy_of, noticed_of}
-use Rattle.hub_core.proofs.SoundLines.{Numbered}
+use Rattle.hub_core.proofs.SoundLines.{Numbered, on_place}
 use Rattle.hub_core.proofs.Speakers.{speaker_next}
 use Rattle.hub_core.proofs.Sounds.{sound_legal}
 use Rattle.hub_core.proofs.Sames.{turned_leaves, turned_same}
@@ -89,11 +89,7 @@ on_line_turned false p q never h = h
 
 -- the phase of a line that both numbers name
 phase_there : (f : Facts) (s t : Sender) → is_line s t ≡ true → phase_of_line f s ≡ phase_of_line f t
-phase_there f s t is =
-    let both = and_parts (eqb s.end.0 t.end.0) (eqb s.line.0 t.line.0) is in
-    let end : s.end.0 ≡ t.end.0 = eqb-true s.end.0 t.end.0 both.0 in
-    let line : s.line.0 ≡ t.line.0 = eqb-true s.line.0 t.line.0 both.1 in
-    ap (λ e. (f.line e s.line.0).phase) end ∙ ap (λ l. (f.line t.end.0 l).phase) line
+phase_there f s t is = on_place (λ e l. (f.line e l).phase ≡ phase_of_line f t) t s.end.0 s.line.0 is refl
 
 not_out : (f : Facts) (s t : Sender) → phase_of_line f s ≡ Turned → is_out (phase_of_line f t) ≡ true → is_line s t ≡ true → ⊥
 not_out f s t turned out is = absurd (search (rules, false≢true, sym (ap is_out (sym (phase_there f s t is) ∙ turned)) ∙ out))

@@ -1,7 +1,7 @@
 -- Histories that can't be told apart.
-use Rattle.std.proofs.Common.{◌≡◌, ℕ, Bool, true, false, cond, eqb, [], ◌∷◌, ◌++◌, refl, sym, ap, subst, ◌∙◌, inl, inr, rules, append_assoc, None}
+use Rattle.std.proofs.Common.{◌≡◌, ℕ, Bool, true, false, cond, eqb, [], ◌∷◌, ◌++◌, refl, sym, ap, subst, ◌∙◌, inl, inr, append_assoc, None}
 use Rattle.std.specs.Prelude.{◌&&◌, ◌⊎◌, not, Option, Some, None, drop}
-use Rattle.std.proofs.lemmas.Bool.{false≢true, and_parts}
+use Rattle.std.proofs.lemmas.Bool.{false≢true}
 use Rattle.hub_core.specs.declared.line.Phase.{Phase}
 use Rattle.hub_core.specs.declared.line.Phase.TheVariants.{Out, Inside, Turned}
 use Rattle.hub_core.specs.declared.sender.Sender.{Sender}
@@ -18,6 +18,7 @@ use Rattle.hub_core.specs.Roster.{CastNow, cast_to, cast_after, goes_next, roste
 use Rattle.hub_core.specs.Unchanged.{changes_nothing}
 use Rattle.hub_core.specs.Headline.{done_with}
 use Rattle.hub_core.proofs.Nexts.{next, facts_next}
+use Rattle.hub_core.proofs.SoundLines.{on_place}
 
 legal_same : (h k more : History) → facts h ≡ facts k → LegalAfter h more → LegalAfter k more
 legal_same h k [] same l = tt
@@ -71,11 +72,7 @@ line_again s p q x l true h = sym (h refl)
 line_again s p q x l false h = refl
 
 line_was_out : (f : Facts) (s : Sender) (x l : ℕ) → phase_of_line f s ≡ Out → (eqb x s.end.0 && eqb l s.line.0) ≡ true → (f.line x l).phase ≡ Out
-line_was_out f s x l out h =
-    let both = and_parts (eqb x s.end.0) (eqb l s.line.0) h in
-    let here : x ≡ s.end.0 = search (rules, both.0) in
-    let line : l ≡ s.line.0 = search (rules, both.1) in
-    ap (λ y. (f.line y l).phase) here ∙ ap (λ k. (f.line s.end.0 k).phase) line ∙ out
+line_was_out f s x l out h = on_place (λ y k. (f.line y k).phase ≡ Out) s x l h out
 
 -- the facts after a turned poster has left: a cast that goes there next is done with the end
 turned_facts : (f : Facts) (s : Sender) (o : Outcome) → (o ≡ outcome.Closed) ⊎ (o ≡ outcome.Moved) → phase_of_line f s ≡ Out → next (next f (action.Enter s) o) (action.Leave s) outcome.Left ≡ done_with s.end.0 f

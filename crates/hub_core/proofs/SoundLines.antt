@@ -99,7 +99,7 @@ record MayCome (f : Facts) (t : Sender) (p : Phase) : Type 0 where
   unclear : p ≡ Inside → f.clear t.end.0 (f.line t.end.0 t.line.0).stand ≡ false
 
 -- what holds of the line of a step holds of each number that passes the test for it
-on_place : (P : ℕ → ℕ → Type 0) (t : Sender) (x l : ℕ) → (eqb x t.end.0 && eqb l t.line.0) ≡ true → P t.end.0 t.line.0 → P x l
+pub on_place : (P : ℕ → ℕ → Type 0) (t : Sender) (x l : ℕ) → (eqb x t.end.0 && eqb l t.line.0) ≡ true → P t.end.0 t.line.0 → P x l
 on_place P t x l is there =
     let both = and_parts (eqb x t.end.0) (eqb l t.line.0) is in
     subst (λ y. P y l) (sym (eqb-true x t.end.0 both.0)) (subst (P t.end.0) (sym (eqb-true l t.line.0 both.1)) there)
