@@ -52,6 +52,8 @@ pub mod MailboxGates
 pub mod MailboxQueues
 pub mod MailboxMoves
 pub mod MailboxStepping
+pub mod MailboxOfEnd
+pub mod Mailboxes
 pub mod MailboxShown
 pub mod PairGates
 pub mod PairQueues

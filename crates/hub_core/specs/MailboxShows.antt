@@ -1,7 +1,8 @@
--- What it means that a mailbox shows a history at an end, and holds what a core keeps there.
-use Rattle.std.specs.Prelude.{◌≡◌, ℕ, ◌+◌, List, [], ◌++◌, length, slice_index_or}
+-- What it means that a mailbox shows a history at an end, and that the ends of a core are such mailboxes.
+use Rattle.std.specs.Prelude.{◌≡◌, ℕ, ◌+◌, List, [], ◌++◌, length, slice_get, slice_index_or, Some}
 use Rattle.hub_envelope.specs.declared.envelope.Envelope.{Envelope}
 use Rattle.hub_core.specs.declared.end.End.{End}
+use Rattle.hub_core.specs.declared.machine.Core.{Core}
 use Rattle.hub_core.specs.History.{History}
 use Rattle.hub_core.specs.Accepted.{accepted}
 use Rattle.hub_core.specs.Taken.{taken}
@@ -34,3 +35,7 @@ pub record ShowsMailbox {R : Type 0} (h : History) (e : ℕ) (collected : List E
 -- the mailbox holds what the core keeps of the queues from the taker's on
 abbrev pub HoldsKept : {R : Type 0} → End → Mailbox R → Type 0
 HoldsKept x m = (i : ℕ) (q : Queue) → QueueAt m (x.taker + i) q → q.held ≡ slice_index_or x.queues i []
+
+-- each end of the core is kept as a mailbox that shows the history there
+abbrev pub MailboxesShow : Core → History → Type 0
+MailboxesShow core h = (e : ℕ) (x : End) → slice_get core.ends e ≡ Some x → (m : Mailbox (Unit {0})) × HoldsKept x m × ShowsMailbox h e [] m

@@ -12,6 +12,7 @@ ghost use Rattle.hub_core.specs.Shows.{Shows};
 ghost use Rattle.hub_core.specs.GateMachineLaws.{GateMachineLaws};
 ghost use Rattle.hub_core.specs.ChainLaws.{ChainLaws};
 ghost use Rattle.hub_core.specs.MailboxOf.{EachShows, GoesOn, KeepsMailboxes};
+ghost use Rattle.hub_core.specs.MailboxShows.{MailboxesShow};
 ghost use Rattle.hub_core.specs.MailboxPairs.{PairsAreEvents};
 ghost use Rattle.hub_core.specs.Facts.{facts};
 ghost use Rattle.hub_core.specs.Sound.{Sound};
@@ -53,11 +54,13 @@ pub fn chain_laws<R>()
     ensures { ChainLaws R }
 {}
 
-/// The mailbox of an end is what the events of a history's pairs make of it. It shows every legal
-/// history, goes on by exactly the events of a pair that fits, and has the queues that a core keeps
-/// that shows the history. And what such a core took is in order, queue by queue. The function does
-/// nothing; the laws are its contract.
+/// The ends of a core that shows a history are mailboxes that show it: queue by queue a gate and
+/// what it holds. After a legal history these are the mailboxes that the events of its pairs make:
+/// each shows the history, goes on by the events of a pair that fits, and has the queues that the
+/// core keeps. And what such a core took is in order, queue by queue. The function does nothing;
+/// the laws are its contract.
 pub fn mailbox_laws()
+    ensures shown { (core : Core) (h : History) → Shows core h → MailboxesShow core h }
     ensures shows { (h : History) → Legal h → EachShows h }
     ensures goes_on { (h : History) (p : Pair) → Legal h → Fits h p → (e : ℕ) → GoesOn h p e }
     ensures kept { (core : Core) (h : History) → Legal h → Shows core h → KeepsMailboxes core h }

@@ -1,7 +1,11 @@
--- The mailbox of an end after a history, in a core, and in order.
+-- An end of the core as a mailbox, the mailbox of an end after a history, and in order.
+use Rattle.hub_core.proofs.Mailboxes.{mailboxes_show}
 use Rattle.hub_core.proofs.MailboxOf.{each_shows, goes_on, keeps_mailboxes}
 use Rattle.hub_core.proofs.Orders.{shows_in_order}
 use Rattle.hub_core.proofs.laws.mailbox_laws.Goals as goal
+
+pub returns-clause-shown : goal.returns-clause-shown
+returns-clause-shown c = mailboxes_show
 
 pub returns-clause-shows : goal.returns-clause-shows
 returns-clause-shows c = each_shows
