@@ -3,6 +3,7 @@ use Rattle.std.specs.Prelude.{◌≡◌, ◌⊎◌, ℕ, ◌+◌, ◌/◌, ◌%�
 use Rattle.std.specs.Int.{bit_at}
 use Rattle.hub_bell.specs.declared.steps.BoardStep.{BoardStep}
 use Rattle.hub_bell.specs.declared.steps.BoardStep.TheVariants.{Looked, Set, Took, Stored}
+use Rattle.hub_bell.specs.Listening.{taking}
 use Rattle.hub_bell.specs.Ready.{names_word, bits_word}
 use Rattle.hub_bell.specs.Seats.{BoardSeat}
 use Rattle.hub_envelope.specs.declared.ids.EndId.{EndId}
@@ -46,6 +47,10 @@ WasClear end steps =
 -- the listener has made these steps more, and nothing else
 abbrev pub HasStepped : BoardSeat → BoardSeat → List BoardStep → Type 0
 HasStepped old new steps = (new.board ≡ old.board) × (new.at ≡ record old.at { steps = old.at.steps ++ steps })
+
+-- the listener has taken these names out, and then whatever it took
+abbrev pub TakesNames : BoardSeat → BoardSeat → ℕ → Type 0
+TakesNames old new names = (found : ℕ) × (rest : List BoardStep) × (found ≡ 0 → names ≡ 0) × HasStepped old new (taking names_word found names ++ rest)
 
 -- what was marked is marked
 abbrev pub KeepsMarks : List ℕ → List ℕ → Type 0

@@ -10,6 +10,9 @@ ghost use Rattle.std.specs.Prelude.{
   ◌%◌,
   ◌<◌,
   ◌≤◌,
+  ◌^◌,
+  ◌==◌,
+  not,
   [],
   List,
   length,
@@ -35,6 +38,7 @@ ghost use Rattle.hub_marks.specs.Finding.{
   MarksOfNumber,
   MarksOfWord,
   SameEntries,
+  TakesNames,
 };
 ghost use Rattle.hub_marks.specs.Marking.{mark_of, HasBit, SameBut};
 
@@ -83,6 +87,7 @@ impl Ready {
         ensures ok { OnOk result (HasBit self.new.marks key) }
         ensures marks { GrowsMarks self.old.marks self.new.marks }
         ensures listed { SameEntries self.old.listed.items self.new.listed.items }
+        ensures room { OnOk result (end.0 < 65536 → end.0 < length self.new.listed.items) }
     {
         self.marks.reserve(key)?;
         let entries = end.0 as usize + 1;
@@ -98,6 +103,8 @@ impl Ready {
         ensures others { SameBut key self.old.marks self.new.marks }
         ensures listed { (number other : ℕ) → slice_index self.old.listed.items number ≡ other + 1
             → slice_index self.new.listed.items number ≡ other + 1 }
+        ensures leads { end.0 < length self.old.listed.items → key + 1 < 2 ^ 32
+            → slice_index self.old.listed.items end.0 ≡ 0 → LeadsTo self.new.listed.items end key }
     {
         self.marks.set(key);
         let number = end.0 as usize;
@@ -108,6 +115,8 @@ impl Ready {
 
     /// Takes the mark of a key away, and lists it no more under this number.
     pub fn forget(&mut self, end: EndId, key: usize)
+        ensures clear { mark_of self.new.marks key ≡ 0 }
+        ensures gone { slice_index self.new.listed.items end.0 ≢ key + 1 }
         ensures others { SameBut key self.old.marks self.new.marks }
         ensures listed { (number other : ℕ) → other ≢ key
             → slice_index self.old.listed.items number ≡ other + 1
@@ -131,7 +140,8 @@ impl Ready {
 
     /// Whether the number of an end leads to this key.
     pub fn leads_to(&self, end: EndId, key: usize) -> bool
-        ensures { result ≡ true → LeadsTo self.now.listed.items end key }
+        ensures leads { result ≡ true → LeadsTo self.now.listed.items end key }
+        ensures only { LeadsTo self.now.listed.items end key → result ≡ true }
     {
         match self.listed.get(end.0 as usize) {
             Some(entry) => *entry > 0 && *entry as usize - 1 == key,
@@ -141,6 +151,8 @@ impl Ready {
 
     /// Marks the keys of the ends that were rung since the last call. Whether there may be one.
     pub fn gather(&mut self, listener: &mut Listener) -> bool
+        ensures told { (names : ℕ) × TakesNames listener.old listener.new names
+            × (result ≡ not (names == 0)) }
         ensures listed { self.new.listed ≡ self.old.listed }
         ensures keeps { KeepsMarks self.old.marks self.new.marks }
         ensures found { (steps : List BoardStep) × HasStepped listener.old listener.new steps

@@ -52,3 +52,10 @@ returns-clause-found c =
       all-found c.take_names-names.result taken.1.0 c.groups.self.listed.items c.groups.self.marks steps taken.1.2
           (λ group small set. kept.found.2 group small set (λ still. let clear = ap (λ n. bit_at n group) none ∙ bit_at-zero group in omega (arith, clear, still))),
     )
+
+pub returns-clause-told : goal.returns-clause-told
+returns-clause-told c =
+    let names = c.take_names-names.result in
+    let taken = c.take_names-names.ensures in
+    let found = c.groups.invariant.found in
+    (names, (taken.1.0, found.0, taken.1.2, stepped-both _ c.take_names-names.new.self _ (taking names_word taken.1.0 names) found.0 (taken.0, taken.1.1) found.1), search rules)
