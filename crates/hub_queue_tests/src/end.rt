@@ -1,35 +1,33 @@
-//! One end: its taker, and what is left of it once it was closed.
+//! The side of one end that takes.
 //!
-//! A function that itself lets a taker, a poster or a grave go costs some seconds of the check, so
-//! each is handed to `drop`.
-use crate::parts::{Next, bell, is_named, is_next, take};
-use hub_depot::{Depot, DepotError};
-use hub_envelope::{EndId, Envelope};
-use hub_queue::{AdoptError, Grave, Onward, Sweep, Taker, Took};
+//! A function that itself lets a taker or a grave go costs some seconds of the check, so each is
+//! handed to `drop`.
+use crate::parts::take;
+use hub_depot::Depot;
+use hub_envelope::EndId;
+use hub_queue::{AdoptError, Grave, Onward, Sweep, Swept, Taker, Took};
+use hub_test_parts::{bell, is_message};
 use std::alloc::Global;
-use std::mem::replace;
 use std::sync::Wait;
 
-/// What is done with an end at one time.
-#[derive(Clone, Copy)]
-pub(crate) enum Act {
-    /// It is adopted so often and started, and its taker is to take this.
-    Move(u8, &'static [Next]),
-    Close,
-    /// It is closed, and a sweep is to find somebody inside.
-    CloseOnSomebody,
-    /// The yard gives what it keeps.
-    EmptyYard,
-}
-
-/// An end as far as it is at hand.
-#[derive(Drop)]
+/// The taker of the end 0, or what is left of it once it was closed.
 pub(crate) struct End {
     alloc: Global,
     taker: Option<Taker>,
     grave: Option<Grave>,
-    onward: Option<Onward>,
-    pub(crate) discarded: Vec<Envelope>,
+}
+
+// By hand, so that whoever drops one makes one call.
+impl Drop for End {
+    fn drop(self) {
+        let End {
+            alloc: _,
+            taker,
+            grave,
+        } = self;
+        drop(taker);
+        drop(grave);
+    }
 }
 
 // Moves the end on, to a loop at whose bell nobody sleeps. The taker is as it was after an error.
@@ -38,13 +36,13 @@ fn adopt_at<R: Wait>(
     alloc: Global,
     yard: &Depot<Onward>,
     taker: Taker,
-) -> (Taker, Option<AdoptError>) {
+) -> (Taker, Result<(), AdoptError>) {
     let Some(bell) = bell(alloc) else {
-        return (taker, Some(AdoptError::OutOfMemory));
+        return (taker, Err(AdoptError::OutOfMemory));
     };
     match taker.adopt(rt, yard, bell) {
-        Ok(taker) => (taker, None),
-        Err((error, taker)) => (taker, Some(error)),
+        Ok(taker) => (taker, Ok(())),
+        Err((error, taker)) => (taker, Err(error)),
     }
 }
 
@@ -57,14 +55,12 @@ fn sweep<R: Wait>(rt: &R, grave: Grave) -> Sweep {
 }
 
 impl End {
-    /// Nothing is at hand.
+    /// No taker is at hand.
     pub(crate) fn new(alloc: Global) -> End {
         End {
             alloc,
             taker: None,
             grave: None,
-            onward: None,
-            discarded: Vec::new(alloc),
         }
     }
 
@@ -81,54 +77,58 @@ impl End {
         true
     }
 
-    /// Takes once. The envelope, if there was one.
-    pub(crate) fn take<R: Wait>(&mut self, rt: &R) -> Option<Envelope> {
-        let Some(taker) = &mut self.taker else {
-            return None;
-        };
-        match take(rt, taker) {
-            Took::Got(envelope) => Some(envelope),
-            _ => None,
+    pub(crate) fn take<R: Wait>(&mut self, rt: &R) -> Option<Took> {
+        match &mut self.taker {
+            Some(taker) => Some(take(rt, taker)),
+            None => None,
         }
     }
 
-    /// Whether a take comes to this.
-    pub(crate) fn takes<R: Wait>(&mut self, rt: &R, next: Next) -> bool {
-        let Some(taker) = &mut self.taker else {
-            return false;
-        };
-        is_next(&take(rt, taker), next)
+    /// Whether a take gives the envelope of this epoch and number, with this text.
+    pub(crate) fn gets<R: Wait>(&mut self, rt: &R, epoch: u32, number: u64, text: &str) -> bool {
+        match self.take(rt) {
+            Some(Took::Got(envelope)) => is_message(&envelope, epoch, number, text),
+            _ => false,
+        }
     }
 
-    /// Whether a take of each of so many queues comes to its only envelope.
-    pub(crate) fn takes_each<R: Wait>(&mut self, rt: &R, queues: u32, text: &'static str) -> bool {
-        for epoch in 0..queues {
-            if !self.takes(rt, Next::Got(epoch, 0, text)) || !self.takes(rt, Next::Again) {
+    /// Whether a take leaves so many queues, one after another.
+    pub(crate) fn leaves<R: Wait>(&mut self, rt: &R, queues: u32) -> bool {
+        for _ in 0..queues {
+            if !matches!(self.take(rt), Some(Took::Again)) {
                 return false;
             }
         }
         true
     }
 
-    /// Whether so many queues stand from the taker's to the newest, that one not counted.
-    pub(crate) fn is_behind(&self, queues: u32) -> bool {
+    pub(crate) fn finds_none<R: Wait>(&mut self, rt: &R) -> bool {
+        matches!(self.take(rt), Some(Took::Empty))
+    }
+
+    pub(crate) fn finds_busy<R: Wait>(&mut self, rt: &R) -> bool {
+        matches!(self.take(rt), Some(Took::Busy))
+    }
+
+    /// How many queues stand from the taker's to the newest, that one not counted.
+    pub(crate) fn behind(&self) -> Option<u32> {
         match &self.taker {
-            Some(taker) => taker.behind() == queues,
-            None => false,
+            Some(taker) => Some(taker.behind()),
+            None => None,
         }
     }
 
-    /// Moves the end on. What refused it, if anything. `None` where there is no taker.
+    /// Moves the end on.
     pub(crate) fn adopt<R: Wait>(
         &mut self,
         rt: &R,
         yard: &Depot<Onward>,
-    ) -> Option<Option<AdoptError>> {
+    ) -> Option<Result<(), AdoptError>> {
         match self.taker.take() {
             Some(taker) => {
-                let (taker, refusal) = adopt_at(rt, self.alloc, yard, taker);
+                let (taker, adopted) = adopt_at(rt, self.alloc, yard, taker);
                 self.put(taker);
-                Some(refusal)
+                Some(adopted)
             }
             None => None,
         }
@@ -136,7 +136,7 @@ impl End {
 
     /// Whether the end was moved on.
     pub(crate) fn is_adopted<R: Wait>(&mut self, rt: &R, yard: &Depot<Onward>) -> bool {
-        matches!(self.adopt(rt, yard), Some(None))
+        self.adopt(rt, yard) == Some(Ok(()))
     }
 
     pub(crate) fn close(&mut self) -> bool {
@@ -149,115 +149,48 @@ impl End {
         }
     }
 
-    // Keeps what a sweep came to. Whether it discarded what is left, and says of which end it was.
-    fn keep(&mut self, sweep: Sweep) -> bool {
-        match sweep {
-            Sweep::Discarded(swept) => {
-                let is_of_end = swept.end() == EndId(0);
-                drop(replace(&mut self.discarded, swept.into_envelopes()));
-                is_of_end
-            }
+    /// What a sweep has discarded. `None` where somebody is inside, or nothing was closed.
+    pub(crate) fn sweep<R: Wait>(&mut self, rt: &R) -> Option<Swept> {
+        match sweep(rt, self.grave.take()?) {
+            Sweep::Discarded(swept) => Some(swept),
             Sweep::StillInside(grave) | Sweep::NoRoom(grave) => {
                 drop(self.grave.replace(grave));
-                false
+                None
             }
         }
     }
 
-    /// Whether a sweep discards what is left, which is kept, and says of which end it was.
-    pub(crate) fn discards<R: Wait>(&mut self, rt: &R) -> bool {
-        match self.grave.take() {
-            Some(grave) => self.keep(sweep(rt, grave)),
+    /// Whether a sweep discards these envelopes of the end, by epoch and number, each with this
+    /// text.
+    pub(crate) fn discards<R: Wait>(&mut self, rt: &R, text: &str, names: &[(u32, u64)]) -> bool {
+        match self.sweep(rt) {
+            Some(swept) => are_these(&swept, text, names),
             None => false,
         }
     }
+}
 
-    // Whether a sweep finds somebody inside.
-    fn finds_inside<R: Wait>(&mut self, rt: &R) -> bool {
-        match self.grave.take() {
-            Some(grave) => {
-                let sweep = grave.sweep(rt);
-                let is_inside = matches!(&sweep, Sweep::StillInside(_));
-                !self.keep(sweep) && is_inside
-            }
-            None => false,
-        }
+fn are_these(swept: &Swept, text: &str, names: &[(u32, u64)]) -> bool {
+    let envelopes = swept.envelopes();
+    if swept.end() != EndId(0) || envelopes.len() != names.len() {
+        return false;
     }
-
-    /// Whether the envelope at this place among the discarded ones has this epoch, this number and
-    /// this text.
-    pub(crate) fn is_discarded(&self, place: usize, epoch: u32, number: u64, text: &str) -> bool {
-        match self.discarded.get(place) {
-            Some(envelope) => is_named(envelope, epoch, number, text),
-            None => false,
-        }
-    }
-
-    /// Whether the first so many discarded envelopes are those of one queue, with this text.
-    pub(crate) fn is_each_discarded(&self, count: u32, text: &str) -> bool {
-        for number in 0..count {
-            if !self.is_discarded(number as usize, 0, number as u64, text) {
-                return false;
-            }
-        }
-        true
-    }
-
-    /// Whether the last of the discarded envelopes has this epoch.
-    pub(crate) fn is_last_discarded(&self, epoch: u32) -> bool {
-        match self.discarded.last() {
-            Some(envelope) => envelope.epoch == epoch,
-            None => false,
-        }
-    }
-
-    /// Whether what the yard gave was put back.
-    pub(crate) fn put_onward<R: Wait>(&mut self, rt: &R, yard: &Depot<Onward>) -> bool {
-        let Some(onward) = self.onward.take() else {
+    for (envelope, (epoch, number)) in envelopes.iter().zip(names) {
+        if !is_message(envelope, *epoch, *number, text) {
             return false;
-        };
-        match yard.put(rt, onward) {
-            Ok(()) => true,
-            Err(DepotError::Taken(back) | DepotError::OutOfMemory(back)) => {
-                drop(self.onward.replace(back));
-                false
-            }
         }
     }
+    true
+}
 
-    fn empty_yard<R: Wait>(&mut self, rt: &R, yard: &Depot<Onward>) -> bool {
-        drop(replace(&mut self.onward, yard.take_any(rt)));
-        true
-    }
-
-    fn moves<R: Wait>(
-        &mut self,
-        rt: &R,
-        yard: &Depot<Onward>,
-        adoptions: u8,
-        steps: &[Next],
-    ) -> bool {
-        for _ in 0..adoptions {
-            if !self.is_adopted(rt, yard) {
-                return false;
-            }
+/// Whether so many envelopes of the first queue were discarded, numbered from 0 on.
+pub(crate) fn are_numbered(swept: &Swept, text: &str, count: usize) -> bool {
+    let mut next: u64 = 0;
+    for envelope in swept.envelopes() {
+        if !is_message(envelope, 0, next, text) {
+            return false;
         }
-        let is_started = self.start();
-        for step in steps {
-            if !self.takes(rt, *step) {
-                return false;
-            }
-        }
-        is_started
+        next = next.wrapping_add(1);
     }
-
-    /// Whether what is done comes to what it is to come to.
-    pub(crate) fn act<R: Wait>(&mut self, rt: &R, yard: &Depot<Onward>, act: Act) -> bool {
-        match act {
-            Act::Move(adoptions, steps) => self.moves(rt, yard, adoptions, steps),
-            Act::Close => self.close(),
-            Act::CloseOnSomebody => self.close() && self.finds_inside(rt),
-            Act::EmptyYard => self.empty_yard(rt, yard),
-        }
-    }
+    swept.end() == EndId(0) && swept.envelopes().len() == count
 }

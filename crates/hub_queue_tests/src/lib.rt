@@ -8,20 +8,16 @@ mod end;
 #[cfg(test)]
 mod held;
 #[cfg(test)]
-mod held_moves;
-#[cfg(test)]
 mod mailboxes;
 #[cfg(test)]
 mod meetings;
 #[cfg(test)]
 mod memory;
 #[cfg(test)]
-mod moves;
-#[cfg(test)]
 mod moves_under_fire;
 #[cfg(test)]
 mod parts;
 #[cfg(test)]
-mod table;
+mod stage;
 #[cfg(test)]
 mod threads;

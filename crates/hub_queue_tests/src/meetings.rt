@@ -1,10 +1,10 @@
 ghost use Rattle.std.specs.Prelude.{◌≡◌};
 ghost use Rattle.hub_queue.specs.Meetings.{AreTogether};
 
-use crate::parts::{bell, draft};
 use hub_depot::Depot;
-use hub_envelope::EndId;
+use hub_envelope::{AgentId, EndId};
 use hub_queue::{Mailbox, Meeting, Onward, Poster, Steps, Taker, Took, meet};
+use hub_test_parts::{bell, draft};
 use std::alloc::Global;
 use std::marker::Brand;
 use std::process::Abort;
@@ -41,7 +41,7 @@ fn post_one<R: Abort + Wait>(
     ensures { AreTogether poster.new taker.now }
 {
     let _ = taker;
-    let Some(draft) = draft(alloc, "7") else {
+    let Some(draft) = draft(alloc, AgentId(0), "7") else {
         panic!(rt; "no draft");
     };
     if let Err((_, back)) = poster.post(rt, yard, draft) {

@@ -1,9 +1,10 @@
 //! One thread posts while two others hand the taker to and fro, with an adoption at each turn.
 use crate::end::End;
-use crate::parts::{draft, open};
+use crate::parts::open;
 use hub_depot::Depot;
-use hub_envelope::{Draft, Envelope};
-use hub_queue::{NoPause, Onward, Pause, Point, PostError, Posted, Poster};
+use hub_envelope::{AgentId, Draft, Envelope};
+use hub_queue::{NoPause, Onward, Pause, Point, PostError, Posted, Poster, Took};
+use hub_test_parts::draft;
 use std::alloc::Global;
 use std::sync::{Mutex, Wait};
 use std::thread;
@@ -97,7 +98,7 @@ impl Fire {
         pause: &P,
     ) -> Option<()> {
         let text = format!(in self.alloc; "{body}").ok()?;
-        let draft = draft(self.alloc, text.as_str())?;
+        let draft = draft(self.alloc, AgentId(0), text.as_str())?;
         let posted = self.post_until(rt, yard, draft, pause)?;
         self.accepted.push((posted.epoch, posted.number, body)).ok()
     }
@@ -126,8 +127,8 @@ impl Turn {
     // Takes once, and keeps the name of what was taken.
     fn take<R: Wait>(&mut self, rt: &R) -> Option<()> {
         match self.end.take(rt) {
-            Some(envelope) => self.taken.push(name_of(&envelope)?).ok(),
-            None => Some(()),
+            Some(Took::Got(envelope)) => self.taken.push(name_of(&envelope)?).ok(),
+            _ => Some(()),
         }
     }
 

@@ -1,9 +1,9 @@
 ghost use Rattle.std.specs.Prelude.{◌≡◌};
 
-use crate::parts::{bell, draft};
 use hub_depot::Depot;
-use hub_envelope::{EndId, Envelope};
+use hub_envelope::{AgentId, EndId, Envelope};
 use hub_queue::{Mailbox, Onward, Poster, Steps, Taker, Took};
+use hub_test_parts::{bell, draft};
 use std::alloc::{AllocError, Global};
 use std::marker::Brand;
 use std::sync::Wait;
@@ -23,7 +23,7 @@ fn post_one<R: Wait>(
     poster: &mut Poster,
     number: u64,
 ) -> bool {
-    let Some(draft) = draft(alloc, "null") else {
+    let Some(draft) = draft(alloc, AgentId(0), "null") else {
         return false;
     };
     match poster.post(rt, yard, draft) {

@@ -1,0 +1,57 @@
+use crate::making::draft;
+use hub_depot::Depot;
+use hub_envelope::{AgentId, Envelope};
+use hub_queue::{NoPause, Onward, Pause, PostError, Poster};
+use std::alloc::Global;
+use std::sync::Wait;
+
+/// The epoch and the number under which a draft was accepted at the end and line of its poster, or
+/// the refusal.
+pub type Posting = Result<(u32, u64), PostError>;
+
+/// Posts a text over a line. `None` where it was accepted elsewhere, or where another draft came
+/// back.
+pub fn post<R: Wait>(
+    rt: &R,
+    alloc: Global,
+    yard: &Depot<Onward>,
+    poster: &mut Poster,
+    text: &str,
+) -> Option<Posting> {
+    post_with(rt, alloc, yard, poster, text, &NoPause)
+}
+
+/// The same, with a pause at each point of the post.
+pub fn post_with<P: Pause, R: Wait>(
+    rt: &R,
+    alloc: Global,
+    yard: &Depot<Onward>,
+    poster: &mut Poster,
+    text: &str,
+    pause: &P,
+) -> Option<Posting> {
+    let name = poster.name();
+    match poster.post_with(rt, yard, draft(alloc, AgentId(0), text)?, pause) {
+        Ok(posted) => {
+            let is_there = posted.end == name.end && posted.line == name.line;
+            if is_there {
+                Some(Ok((posted.epoch, posted.number)))
+            } else {
+                None
+            }
+        }
+        Err((error, back)) => {
+            let is_same = back.body.text() == text;
+            drop(back);
+            if is_same { Some(Err(error)) } else { None }
+        }
+    }
+}
+
+/// Whether an envelope has this epoch, this number and this text, and is no notice.
+pub fn is_message(envelope: &Envelope, epoch: u32, number: u64, text: &str) -> bool {
+    !envelope.notice
+        && envelope.epoch == epoch
+        && envelope.number == number
+        && envelope.body.text() == text
+}
