@@ -52,7 +52,7 @@ class Rows(support.TestCase):
                 self.assertIsNone(support.first_difference(found.output, b"".join(wanted)))
                 lines += len(wanted)
         self.assertLessEqual(set(reasons), REASONS)
-        self.says(whole[0], "whole rows", 49)
+        self.says(whole[0], "whole rows", 50)
         self.says(whole[2], "rows of bad input", 30)
         self.says(lines, "lines of others", 160_000)
         for reason, count in sorted(reasons.items()):
