@@ -4,8 +4,6 @@
 #![tactic(auto)]
 
 #[cfg(test)]
-mod broadcast;
-#[cfg(test)]
 mod memory;
 #[cfg(test)]
 mod parts;

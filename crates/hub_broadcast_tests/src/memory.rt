@@ -1,36 +1,13 @@
 //! Joins and casts of which each allocation is refused in turn.
-use crate::parts::{NO_PORTS, is_first, take, try_bell, try_body, try_key};
-use hub_broadcast::{CastError, CastOutcome, JoinError, Member, Origin, Roster};
+use crate::parts::{NO_PORTS, is_first, key, take};
+use hub_broadcast::{CastError, CastOutcome, JoinError, Member, Roster};
 use hub_depot::Depot;
-use hub_envelope::{AgentId, Body, EndId};
-use hub_queue::{Bell, Ends, Onward, Took};
+use hub_envelope::{AgentId, EndId};
+use hub_queue::{Ends, Onward, Took};
+use hub_test_parts::{bell, body};
 use std::alloc::Global;
 use std::sync::Wait;
 use std::test::Fail;
-
-const URL: &str = "https://a.test";
-
-// Tries again where an allocation was refused: the next call has the memory.
-fn key(alloc: Global) -> Option<(Origin, String)> {
-    match try_key(alloc, URL, "news") {
-        Some(key) => Some(key),
-        None => try_key(alloc, URL, "news"),
-    }
-}
-
-fn bell(alloc: Global) -> Option<Bell> {
-    match try_bell(alloc) {
-        Some(bell) => Some(bell),
-        None => try_bell(alloc),
-    }
-}
-
-fn body(alloc: Global) -> Option<Body> {
-    match try_body(alloc, "[1]") {
-        Some(body) => Some(body),
-        None => try_body(alloc, "[1]"),
-    }
-}
 
 fn try_join(
     alloc: Global,
@@ -103,7 +80,7 @@ fn casts_to_three<R: Wait>(rt: &R, alloc: Global) -> Option<bool> {
     let mut members = join_four(alloc, &mut roster)?;
     let (source, others) = members.split_first_mut()?;
     Some(
-        match roster.cast(rt, &yard, source, body(alloc)?, NO_PORTS.as_slice()) {
+        match roster.cast(rt, &yard, source, body(alloc, "[1]")?, NO_PORTS.as_slice()) {
             Ok(outcomes) => are_told(rt, others, outcomes.as_slice()),
             Err(error) => error == CastError::OutOfMemory && took_nothing(rt, others),
         },

@@ -2,8 +2,8 @@
 ghost use Rattle.std.specs.Prelude.{◌≡◌};
 
 use hub_broadcast::{Member, Origin, origin_of};
-use hub_envelope::{Body, EndId};
-use hub_queue::{Bell, Listener, Steps, Took};
+use hub_envelope::EndId;
+use hub_queue::{Steps, Took};
 use std::alloc::Global;
 use std::marker::Brand;
 use std::sync::Wait;
@@ -12,22 +12,18 @@ use std::sync::ledger::{Blank, Ledger};
 /// The list of a cast that may be made.
 pub(crate) const NO_PORTS: [EndId; 0] = [];
 
-/// A bell that nobody sleeps at.
-pub(crate) fn try_bell(alloc: Global) -> Option<Bell> {
-    let (_, bell) = Listener::open(alloc).ok()?;
-    Some(bell)
-}
-
-/// The origin of a URL, and a name.
-pub(crate) fn try_key(alloc: Global, url: &str, name: &str) -> Option<(Origin, String)> {
-    let origin = origin_of(alloc, url).ok()?;
-    let name = String::from_str(alloc, name).ok()?;
+fn try_key(alloc: Global) -> Option<(Origin, String)> {
+    let origin = origin_of(alloc, "https://a.test").ok()?;
+    let name = String::from_str(alloc, "news").ok()?;
     Some((origin, name))
 }
 
-/// The body of this text.
-pub(crate) fn try_body(alloc: Global, text: &str) -> Option<Body> {
-    Body::read(alloc, text).ok()
+/// The origin and the name of all members. They are made again where an allocation was refused.
+pub(crate) fn key(alloc: Global) -> Option<(Origin, String)> {
+    match try_key(alloc) {
+        Some(key) => Some(key),
+        None => try_key(alloc),
+    }
 }
 
 fn take_counted<L: Ledger, R: Wait>(rt: &R, member: &mut Member, blank: Blank) -> Took
