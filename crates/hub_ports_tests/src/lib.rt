@@ -8,6 +8,6 @@ mod memory;
 #[cfg(test)]
 mod parts;
 #[cfg(test)]
-mod rows;
+mod ports;
 #[cfg(test)]
-mod table;
+mod rows;

@@ -2,26 +2,14 @@
 //! since the next one has the memory.
 ghost use Rattle.std.specs.Prelude.{◌≡◌};
 
-use hub_envelope::{Body, EndId};
+use hub_envelope::EndId;
 use hub_ports::{Port, channel};
-use hub_queue::{Bell, Ends, Listener, Steps, Took};
+use hub_queue::{Ends, Steps, Took};
+use hub_test_parts::bell;
 use std::alloc::Global;
 use std::marker::Brand;
 use std::sync::Wait;
 use std::sync::ledger::{Blank, Ledger};
-
-fn try_bell(alloc: Global) -> Option<Bell> {
-    let (_, bell) = Listener::open(alloc).ok()?;
-    Some(bell)
-}
-
-/// A bell that nobody sleeps at.
-pub(crate) fn bell(alloc: Global) -> Option<Bell> {
-    match try_bell(alloc) {
-        Some(bell) => Some(bell),
-        None => try_bell(alloc),
-    }
-}
 
 fn try_entangled(alloc: Global, ends: &mut Ends) -> Option<(Port, Port)> {
     channel(alloc, ends, bell(alloc)?).ok()
@@ -32,14 +20,6 @@ pub(crate) fn entangled(alloc: Global, ends: &mut Ends) -> Option<(Port, Port)> 
     match try_entangled(alloc, ends) {
         Some(ports) => Some(ports),
         None => try_entangled(alloc, ends),
-    }
-}
-
-/// The body that a text stands for.
-pub(crate) fn body(alloc: Global, text: &str) -> Option<Body> {
-    match Body::read(alloc, text) {
-        Ok(body) => Some(body),
-        Err(_) => Body::read(alloc, text).ok(),
     }
 }
 

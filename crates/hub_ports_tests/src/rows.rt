@@ -1,73 +1,68 @@
-//! The rows of ports, as calls: each step with the answer that the row gives.
-use crate::parts::bell;
-use crate::table::{Answer, Step, run};
+//! What step files can't show of ports: what a closing tells, and the end of a hub.
+use crate::ports::{Answer, PortTable};
 use hub_envelope::{EndId, LineId};
-use hub_ports::{ChannelError, Noticed, channel};
-use hub_queue::{Ends, Posted};
-use std::test::Fail;
+use hub_ports::Noticed;
+use hub_queue::Posted;
+use std::alloc::Global;
+use std::sync::Wait;
 
-const NONE: &[u32] = &[];
+// The notice of a port that was closed: the first envelope at this end.
+fn put_at(end: u32) -> Noticed {
+    Noticed::Put(Posted {
+        end: EndId(end),
+        epoch: 0,
+        line: LineId(0),
+        number: 0,
+    })
+}
 
-// The notice of the port that was closed.
-const PUT: Posted = Posted {
-    end: EndId(0),
-    epoch: 0,
-    line: LineId(0),
-    number: 0,
-};
-
-const DOOMED: &[Step] = &[
-    Step::Channel,
-    Step::Post(0, &[1], "\"x\"", Answer::Doomed(1, Noticed::Put(PUT))),
-    Step::Post(0, NONE, "1", Answer::Closed),
-    Step::Start(0),
-    Step::Notice(0, 0, 0),
-];
+// Whether a post whose list holds its target closes it, and the notice is told and comes.
+fn dooms<R: Wait>(rt: &R, alloc: Global) -> bool {
+    let mut table = PortTable::new(alloc);
+    let is_doomed = table.channel()
+        && table.post(rt, 0, &[1], "\"x\"") == Some(Answer::Doomed(1, put_at(0)));
+    let is_closed = table.post(rt, 0, &[], "1") == Some(Answer::Closed)
+        && table.start(0)
+        && table.gets_notice(rt, 0);
+    drop(table);
+    is_doomed && is_closed
+}
 
 #[test]
 fn doomed(rt: HostRuntime) {
-    assert_eq!(rt; run(&rt, rt.alloc(), DOOMED), 5);
+    assert!(rt; dooms(&rt, rt.alloc()));
 }
 
-const NEVER_TAKEN: &[Step] = &[
-    Step::Channel,
-    Step::Channel,
-    Step::Post(0, &[2], "1", Answer::Accepted(0, 0)),
-    Step::End,
-    Step::Post(3, NONE, "1", Answer::Closed),
-    Step::Start(3),
-    Step::Notice(3, 0, 0),
-];
+// Whether a port that is in flight at the end of the hub is closed, with its notice.
+fn ends_with_a_port<R: Wait>(rt: &R, alloc: Global) -> bool {
+    let mut table = PortTable::new(alloc);
+    let is_sent = table.channel()
+        && table.channel()
+        && table.post(rt, 0, &[2], "1") == Some(Answer::Accepted(0, 0));
+    let is_closed = table.end(rt)
+        && table.post(rt, 3, &[], "1") == Some(Answer::Closed)
+        && table.start(3)
+        && table.gets_notice(rt, 3);
+    drop(table);
+    is_sent && is_closed
+}
 
 #[test]
 fn a_port_that_is_never_taken(rt: HostRuntime) {
-    assert_eq!(rt; run(&rt, rt.alloc(), NEVER_TAKEN), 7);
+    assert!(rt; ends_with_a_port(&rt, rt.alloc()));
 }
 
-const A_NOTICE_COMES_LAST: &[Step] = &[
-    Step::Channel,
-    Step::Start(1),
-    Step::Post(0, NONE, "7", Answer::Accepted(0, 0)),
-    Step::Close(0, 0, 1),
-    Step::Got(1, 0, 0, "7"),
-    Step::Notice(1, 0, 1),
-    Step::Empty(1),
-    Step::CloseAs(1, Noticed::PeerClosed),
-];
-
-#[test]
-fn a_notice_comes_last(rt: HostRuntime) {
-    assert_eq!(rt; run(&rt, rt.alloc(), A_NOTICE_COMES_LAST), 8);
+// Whether the closing of a port tells its notice, and that of its peer that nobody is told.
+fn tells<R: Wait>(rt: &R, alloc: Global) -> bool {
+    let mut table = PortTable::new(alloc);
+    let is_made = table.channel();
+    let is_told = table.close(rt, 0) == Some(put_at(1));
+    let is_alone = table.close(rt, 1) == Some(Noticed::PeerClosed);
+    drop(table);
+    is_made && is_told && is_alone
 }
 
 #[test]
-fn no_channel_of_one_number(rt: HostRuntime) -> Result<(), Fail> {
-    let mut ends = Ends { drawn: 65_535 };
-    let bell = bell(rt.alloc()).ok_or("no bell")?;
-    let refused = channel(rt.alloc(), &mut ends, bell).err();
-    assert_eq!(rt;
-        (refused, ends.drawn),
-        (Some(ChannelError::TooManyEnds), 65_535)
-    );
-    Ok(())
+fn a_closing_tells_its_notice(rt: HostRuntime) {
+    assert!(rt; tells(&rt, rt.alloc()));
 }

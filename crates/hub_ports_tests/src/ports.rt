@@ -1,16 +1,17 @@
-//! A table of ports by number, on which the rows act step by step.
+//! Ports by number, and their hub.
 //!
 //! A function that drops a port costs some seconds of the check, so few do.
-use crate::parts::{are_numbered, body, entangled, room, take};
+use crate::parts::{are_numbered, entangled, room, take};
 use hub_envelope::{AgentId, Body};
 use hub_ports::{Hub, Noticed, Port, PortError, Spent};
 use hub_queue::{Ends, Grave, Posted, Took};
+use hub_test_parts::body;
 use std::alloc::Global;
 use std::mem::replace;
 use std::sync::Wait;
 
-/// What a post is to come to.
-#[derive(Clone, Copy, Debug, PartialEq, Eq)]
+/// What a post has come to.
+#[derive(Clone, Copy, PartialEq, Eq)]
 pub(crate) enum Answer {
     /// Under this epoch and number.
     Accepted(u32, u64),
@@ -19,32 +20,9 @@ pub(crate) enum Answer {
     Doomed(u32, Noticed),
 }
 
-/// What is done with the ports of these numbers, and what it is to come to.
-#[derive(Clone, Copy)]
-pub(crate) enum Step {
-    Channel,
-    Start(u32),
-    /// With a list of ports and a body.
-    Post(u32, &'static [u32], &'static str, Answer),
-    /// The message of this epoch and number, with no port and this body.
-    Got(u32, u32, u64, &'static str),
-    /// The notice of this epoch and number.
-    Notice(u32, u32, u64),
-    Empty(u32),
-    /// The notice is accepted under this epoch and number.
-    Close(u32, u32, u64),
-    /// The notice is the peer's first envelope, or there was no memory for it; then a post of the
-    /// peer finds the port closed.
-    CloseEither(u32),
-    /// The notice comes to this.
-    CloseAs(u32, Noticed),
-    /// The hub ends, and the next steps are lent a new one.
-    End,
-}
-
 /// The ports by number, where they are at hand.
 #[derive(Drop)]
-struct Table {
+pub(crate) struct PortTable {
     alloc: Global,
     hub: Hub,
     ends: Ends,
@@ -94,14 +72,6 @@ fn post_again<R: Wait>(
     }
 }
 
-// Whether a notice was accepted under this name.
-fn is_put(noticed: Noticed, epoch: u32, number: u64) -> bool {
-    match noticed {
-        Noticed::Put(posted) => posted.epoch == epoch && posted.number == number,
-        _ => false,
-    }
-}
-
 // What a closing tells, with the rest dropped.
 fn noticed(closed: (Grave, Spent, Noticed)) -> Noticed {
     closed.2
@@ -147,10 +117,10 @@ fn end_hub<R: Wait>(rt: &R, hub: Hub) -> bool {
     }
 }
 
-impl Table {
-    // No port was made.
-    fn new(alloc: Global) -> Table {
-        Table {
+impl PortTable {
+    /// No port was made.
+    pub(crate) fn new(alloc: Global) -> PortTable {
+        PortTable {
             alloc,
             hub: Hub::new(alloc),
             ends: Ends::new(),
@@ -158,7 +128,8 @@ impl Table {
         }
     }
 
-    fn channel(&mut self) -> bool {
+    /// Whether two ports of the next numbers were made.
+    pub(crate) fn channel(&mut self) -> bool {
         match entangled(self.alloc, &mut self.ends) {
             Some((first, second)) => {
                 let has_first = add(&mut self.ports, first);
@@ -169,7 +140,14 @@ impl Table {
         }
     }
 
-    fn post<R: Wait>(&mut self, rt: &R, end: u32, list: &[u32], text: &str) -> Option<Answer> {
+    /// Posts a body with the ports of a list. Those that come back are at hand again.
+    pub(crate) fn post<R: Wait>(
+        &mut self,
+        rt: &R,
+        end: u32,
+        list: &[u32],
+        text: &str,
+    ) -> Option<Answer> {
         let body = body(self.alloc, text)?;
         let transfer = take_all_out(self.alloc, &mut self.ports, list)?;
         let Some(mut port) = take_out(&mut self.ports, end) else {
@@ -199,14 +177,14 @@ impl Table {
         }
     }
 
-    fn close<R: Wait>(&mut self, rt: &R, end: u32) -> Option<Noticed> {
+    pub(crate) fn close<R: Wait>(&mut self, rt: &R, end: u32) -> Option<Noticed> {
         match take_out(&mut self.ports, end) {
             Some(port) => Some(noticed(port.close(rt, &self.hub))),
             None => None,
         }
     }
 
-    fn start(&mut self, end: u32) -> bool {
+    pub(crate) fn start(&mut self, end: u32) -> bool {
         match take_out(&mut self.ports, end) {
             Some(mut port) => {
                 port.start();
@@ -217,87 +195,23 @@ impl Table {
         }
     }
 
-    // Whether a take gives this message.
-    fn is_got<R: Wait>(&mut self, rt: &R, end: u32, epoch: u32, number: u64, text: &str) -> bool {
+    /// Whether a take gives the notice that is the first envelope of the line.
+    pub(crate) fn gets_notice<R: Wait>(&mut self, rt: &R, end: u32) -> bool {
         match self.take(rt, end) {
             Some(Took::Got(envelope)) => {
-                envelope.epoch == epoch
-                    && envelope.number == number
-                    && !envelope.notice
-                    && envelope.body.text() == text
-                    && envelope.ports.as_slice().is_empty()
+                envelope.notice && envelope.epoch == 0 && envelope.number == 0
             }
             _ => false,
         }
     }
 
-    fn is_notice<R: Wait>(&mut self, rt: &R, end: u32, epoch: u32, number: u64) -> bool {
-        match self.take(rt, end) {
-            Some(Took::Got(envelope)) => {
-                envelope.notice && envelope.epoch == epoch && envelope.number == number
-            }
-            _ => false,
-        }
+    pub(crate) fn finds_none<R: Wait>(&mut self, rt: &R, end: u32) -> bool {
+        matches!(self.take(rt, end), Some(Took::Empty))
     }
 
-    // Whether the peer of a port that was closed has its notice, or else nothing, and finds it
-    // closed.
-    fn is_closed<R: Wait>(&mut self, rt: &R, end: u32, noticed: Noticed) -> bool {
-        let peer = end ^ 1;
-        if !self.start(peer) {
-            return false;
-        }
-        let came = match noticed {
-            Noticed::Put(_) => self.is_notice(rt, peer, 0, 0),
-            Noticed::OutOfMemory => true,
-            _ => false,
-        };
-        came && matches!(self.take(rt, peer), Some(Took::Empty))
-            && self.post(rt, peer, &[], "0") == Some(Answer::Closed)
-    }
-
-    fn close_either<R: Wait>(&mut self, rt: &R, end: u32) -> bool {
-        match self.close(rt, end) {
-            Some(noticed) => self.is_closed(rt, end, noticed),
-            None => false,
-        }
-    }
-
-    fn end<R: Wait>(&mut self, rt: &R) -> bool {
+    /// Whether the hub has ended. What is done next is lent a new one.
+    pub(crate) fn end<R: Wait>(&mut self, rt: &R) -> bool {
         let hub = replace(&mut self.hub, Hub::new(self.alloc));
         end_hub(rt, hub)
     }
-
-    // Whether a step came to what it is to come to.
-    fn step<R: Wait>(&mut self, rt: &R, step: Step) -> bool {
-        match step {
-            Step::Channel => self.channel(),
-            Step::Start(end) => self.start(end),
-            Step::Post(end, list, text, answer) => self.post(rt, end, list, text) == Some(answer),
-            Step::Got(end, epoch, number, text) => self.is_got(rt, end, epoch, number, text),
-            Step::Notice(end, epoch, number) => self.is_notice(rt, end, epoch, number),
-            Step::Empty(end) => matches!(self.take(rt, end), Some(Took::Empty)),
-            Step::Close(end, epoch, number) => match self.close(rt, end) {
-                Some(noticed) => is_put(noticed, epoch, number),
-                None => false,
-            },
-            Step::CloseEither(end) => self.close_either(rt, end),
-            Step::CloseAs(end, noticed) => self.close(rt, end) == Some(noticed),
-            Step::End => self.end(rt),
-        }
-    }
-
-    fn walk<R: Wait>(&mut self, rt: &R, steps: &[Step]) -> usize {
-        for (count, step) in steps.iter().enumerate() {
-            if !self.step(rt, *step) {
-                return count;
-            }
-        }
-        steps.len()
-    }
-}
-
-/// How many of these steps came to what they are to come to, up to the first that didn't.
-pub(crate) fn run<R: Wait>(rt: &R, alloc: Global, steps: &[Step]) -> usize {
-    Table::new(alloc).walk(rt, steps)
 }
