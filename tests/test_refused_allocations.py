@@ -230,8 +230,9 @@ class Crates(Refusing):
         return refused
 
     def test_sources(self):
-        """No test of that kind is lost from the sources; ports are played as files (`Player`)."""
-        self.says(sum(map(len, CRATES.values())), "tests in the sources", 24)
+        """No test of that kind is lost from the sources. Posts of ports, and queues that are handed
+        on, are played as files (`Player`)."""
+        self.says(sum(map(len, CRATES.values())), "tests in the sources", 22)
 
 
 def method_of(crate):

@@ -1,85 +1,105 @@
-//! Rows of queues that go from agent to agent.
-use crate::parts::Next;
-use crate::shared::Kind;
-use crate::table::{Step, run};
-use hub_clients::HandError;
-use hub_queue::PostError;
+//! Queues that wait for an agent, where step files can't show them.
+use crate::parts::{client, worker};
+use hub_clients::{Directory, HandError, HandedQueue};
+use hub_depot::Depot;
+use hub_envelope::{AgentId, EndId};
+use hub_queue::{Ends, Onward, PostError, Poster};
+use hub_test_parts::post;
+use std::alloc::Global;
+use std::sync::Wait;
 
-// The queue is fetched by the agent that it was handed to alone, and adopted with what waits in it.
-const A_CLIENT_QUEUE_GOES_ON: &[Step] = &[
-    Step::Open(Kind::Client, Ok(0)),
-    Step::Lend(0, 0),
-    Step::Post(0, 0, "1", Ok((0, 0))),
-    Step::GiveBack(0, 0),
-    Step::Moves(0, 0),
-    Step::Hand(0, 3, Ok(())),
-    Step::FetchNone(0, 2),
-    Step::Fetch(Kind::Client, 0, 3),
-    Step::Adopt(0),
-    Step::Lend(0, 0),
-    Step::Post(0, 0, "2", Ok((1, 0))),
-    Step::GiveBack(0, 0),
-    Step::Take(0, Next::Disabled),
-    Step::StartMessages(0),
-    Step::Take(0, Next::Got(0, 0, 0, "1")),
-    Step::Take(0, Next::Again),
-    Step::Take(0, Next::Got(0, 1, 0, "2")),
-    Step::Moves(0, 1),
-];
+const TO: AgentId = AgentId(1);
 
-#[test]
-fn a_client_queue_goes_on_with_its_lines(rt: HostRuntime) {
-    assert_eq!(rt; run(&rt, rt.alloc(), A_CLIENT_QUEUE_GOES_ON), 18);
+// Whether a client's queue of this number is handed on. What has come back is lost.
+fn hands_client<R: Wait>(
+    rt: &R,
+    alloc: Global,
+    directory: &Directory,
+    drawn: u32,
+) -> Option<Result<(), HandError>> {
+    let queue = client(rt, alloc, directory, &mut Ends { drawn })?;
+    match queue.hand(rt, directory, TO) {
+        Ok(()) => Some(Ok(())),
+        Err((error, back)) => {
+            let is_same = back.end().0 == drawn;
+            drop(back);
+            if is_same { Some(Err(error)) } else { None }
+        }
+    }
 }
 
-const A_WORKER_QUEUE_GOES_ON: &[Step] = &[
-    Step::Open(Kind::Worker, Ok(0)),
-    Step::Take(0, Next::Empty),
-    Step::Hand(0, 255, Ok(())),
-    Step::Fetch(Kind::Worker, 0, 255),
-    Step::Adopt(0),
-    Step::Lend(0, 0),
-    Step::Post(0, 0, "1", Ok((1, 0))),
-    Step::GiveBack(0, 0),
-    Step::Take(0, Next::Again),
-    Step::Take(0, Next::Got(0, 1, 0, "1")),
-    Step::Moves(0, 1),
-    Step::Close(0),
-];
-
-#[test]
-fn a_worker_queue_is_enabled_when_it_was_adopted(rt: HostRuntime) {
-    assert_eq!(rt; run(&rt, rt.alloc(), A_WORKER_QUEUE_GOES_ON), 12);
+// Whether a worker's queue of this number is handed on.
+fn hands_worker<R: Wait>(rt: &R, alloc: Global, directory: &Directory, drawn: u32) -> bool {
+    match worker(rt, alloc, directory, &mut Ends { drawn }) {
+        Some(queue) => queue.hand(rt, directory, TO).is_ok(),
+        None => false,
+    }
 }
 
-const A_QUEUE_COMES_BACK: &[Step] = &[
-    Step::Open(Kind::Worker, Ok(0)),
-    Step::Take(0, Next::Empty),
-    Step::Hand(0, 1, Ok(())),
-    Step::Number(0),
-    Step::Open(Kind::Client, Ok(0)),
-    Step::Hand(0, 1, Err(HandError::Taken)),
-    Step::Fetch(Kind::Worker, 0, 1),
-];
+// Whether a worker's queue of the number 0 waits for the agent.
+fn has_worker<R: Wait>(rt: &R, directory: &Directory) -> bool {
+    match directory.fetch(rt, EndId(0), TO) {
+        Some(handed) => {
+            let is_worker = matches!(&handed.queue, HandedQueue::Worker(_));
+            drop(handed);
+            is_worker
+        }
+        None => false,
+    }
+}
+
+// Whether a client's queue of a number that waits already comes back, and the one that waits stays.
+fn comes_back<R: Wait>(rt: &R, alloc: Global) -> bool {
+    let directory = Directory::new(alloc);
+    let is_handed = hands_worker(rt, alloc, &directory, 0);
+    let refused = hands_client(rt, alloc, &directory, 0);
+    let is_there = has_worker(rt, &directory);
+    drop(directory);
+    is_handed && is_there && matches!(refused, Some(Err(HandError::Taken)))
+}
 
 #[test]
 fn a_queue_comes_back_where_its_name_is_taken(rt: HostRuntime) {
-    assert_eq!(rt; run(&rt, rt.alloc(), A_QUEUE_COMES_BACK), 7);
+    assert!(rt; comes_back(&rt, rt.alloc()));
 }
 
-const THE_DIRECTORY_ENDS: &[Step] = &[
-    Step::Open(Kind::Client, Ok(0)),
-    Step::Hand(0, 1, Ok(())),
-    Step::Open(Kind::Worker, Ok(1)),
-    Step::Hand(1, 1, Ok(())),
-    Step::Lend(0, 0),
-    Step::Lend(1, 0),
-    Step::End,
-    Step::Post(0, 0, "1", Err(PostError::Closed)),
-    Step::Post(1, 0, "1", Err(PostError::Closed)),
-];
+// A line to each of the queues 0 and 1.
+fn lines<R: Wait>(rt: &R, alloc: Global, directory: &Directory) -> Option<Vec<Poster>> {
+    let mut lines = Vec::new(alloc);
+    for end in 0..2 {
+        lines.push(directory.line_to(rt, EndId(end)).ok()?).ok()?;
+    }
+    Some(lines)
+}
+
+// Whether a post over each of these lines finds its queue closed.
+fn are_closed<R: Wait>(rt: &R, alloc: Global, lines: &mut [Poster]) -> bool {
+    let yard = Depot::<Onward>::new(alloc);
+    for line in lines {
+        if !matches!(
+            post(rt, alloc, &yard, line, "1"),
+            Some(Err(PostError::Closed))
+        ) {
+            return false;
+        }
+    }
+    true
+}
+
+// Whether a client's and a worker's queue that wait are closed with the directory.
+fn closes_what_waits<R: Wait>(rt: &R, alloc: Global) -> bool {
+    let directory = Directory::new(alloc);
+    let are_handed = matches!(hands_client(rt, alloc, &directory, 0), Some(Ok(())))
+        && hands_worker(rt, alloc, &directory, 1);
+    let lines = lines(rt, alloc, &directory);
+    directory.end(rt);
+    match lines {
+        Some(mut lines) => are_handed && are_closed(rt, alloc, lines.as_mut_slice()),
+        None => false,
+    }
+}
 
 #[test]
 fn the_end_of_the_directory_closes_what_waits(rt: HostRuntime) {
-    assert_eq!(rt; run(&rt, rt.alloc(), THE_DIRECTORY_ENDS), 9);
+    assert!(rt; closes_what_waits(&rt, rt.alloc()));
 }

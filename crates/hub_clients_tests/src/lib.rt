@@ -11,7 +11,3 @@ mod lines;
 mod memory;
 #[cfg(test)]
 mod parts;
-#[cfg(test)]
-mod shared;
-#[cfg(test)]
-mod table;
