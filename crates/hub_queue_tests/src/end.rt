@@ -110,11 +110,11 @@ impl End {
         matches!(self.take(rt), Some(Took::Busy))
     }
 
-    /// How many queues stand from the taker's to the newest, that one not counted.
-    pub(crate) fn behind(&self) -> Option<u32> {
+    /// Whether so many queues stand from the taker's to the newest, that one not counted.
+    pub(crate) fn is_behind(&self, queues: u32) -> bool {
         match &self.taker {
-            Some(taker) => Some(taker.behind()),
-            None => None,
+            Some(taker) => taker.behind() == queues,
+            None => false,
         }
     }
 
@@ -136,7 +136,7 @@ impl End {
 
     /// Whether the end was moved on.
     pub(crate) fn is_adopted<R: Wait>(&mut self, rt: &R, yard: &Depot<Onward>) -> bool {
-        self.adopt(rt, yard) == Some(Ok(()))
+        matches!(self.adopt(rt, yard), Some(Ok(())))
     }
 
     pub(crate) fn close(&mut self) -> bool {
@@ -160,23 +160,22 @@ impl End {
         }
     }
 
-    /// Whether a sweep discards these envelopes of the end, by epoch and number, each with this
-    /// text.
-    pub(crate) fn discards<R: Wait>(&mut self, rt: &R, text: &str, names: &[(u32, u64)]) -> bool {
+    /// Whether a sweep discards these envelopes of the first queue, by number and text.
+    pub(crate) fn discards<R: Wait>(&mut self, rt: &R, rows: &[(u64, &str)]) -> bool {
         match self.sweep(rt) {
-            Some(swept) => are_these(&swept, text, names),
+            Some(swept) => are_these(&swept, rows),
             None => false,
         }
     }
 }
 
-fn are_these(swept: &Swept, text: &str, names: &[(u32, u64)]) -> bool {
+fn are_these(swept: &Swept, rows: &[(u64, &str)]) -> bool {
     let envelopes = swept.envelopes();
-    if swept.end() != EndId(0) || envelopes.len() != names.len() {
+    if swept.end() != EndId(0) || envelopes.len() != rows.len() {
         return false;
     }
-    for (envelope, (epoch, number)) in envelopes.iter().zip(names) {
-        if !is_message(envelope, *epoch, *number, text) {
+    for (envelope, (number, text)) in envelopes.iter().zip(rows) {
+        if !is_message(envelope, 0, *number, text) {
             return false;
         }
     }

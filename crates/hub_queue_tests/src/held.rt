@@ -87,19 +87,16 @@ fn a_post_before_a_closed_gate_is_refused(rt: HostRuntime) {
     let mut stage = Stage::open(rt.alloc());
     let posting = post_held(&rt, &mut stage, Point::Before, "1", &Closes);
     drop(stage);
-    assert_eq!(rt; posting, Some(Err(PostError::Closed)));
+    assert!(rt; matches!(posting, Some(Err(PostError::Closed))));
 }
 
 #[test]
 fn an_end_is_closed_before_a_hop(rt: HostRuntime) {
     let mut stage = Stage::open(rt.alloc());
-    let adopted = stage.adopt(&rt);
+    let is_adopted = stage.is_adopted(&rt);
     let posting = post_held(&rt, &mut stage, Point::Hopping, "5", &Closes);
     drop(stage);
-    assert_eq!(rt;
-        (adopted, posting),
-        (Some(Ok(())), Some(Err(PostError::Closed)))
-    );
+    assert!(rt; is_adopted && matches!(posting, Some(Err(PostError::Closed))));
 }
 
 // It is closed, and a sweep finds somebody inside.
@@ -115,9 +112,9 @@ impl Meanwhile for ClosesOnSomebody {
 fn a_post_inside_a_closed_gate_is_discarded(rt: HostRuntime) {
     let mut stage = Stage::open(rt.alloc());
     let posting = post_held(&rt, &mut stage, Point::Inside, "7", &ClosesOnSomebody);
-    let is_discarded = stage.end.discards(&rt, "7", &[(0, 0)]);
+    let is_discarded = stage.end.discards(&rt, &[(0, "7")]);
     drop(stage);
-    assert_eq!(rt; (posting, is_discarded), (Some(Ok((0, 0))), true));
+    assert!(rt; is_discarded && matches!(posting, Some(Ok((0, 0)))));
 }
 
 // Whether it was adopted so often, and started.
@@ -146,10 +143,7 @@ fn a_post_before_an_adopted_gate_goes_on(rt: HostRuntime) {
     let is_taken = stage.end.leaves(&rt, 1) && stage.end.gets(&rt, 1, 0, "5");
     let is_last = stage.end.finds_none(&rt);
     drop(stage);
-    assert_eq!(rt;
-        (posting, is_taken, is_last),
-        (Some(Ok((1, 0))), true, true)
-    );
+    assert!(rt; is_taken && is_last && matches!(posting, Some(Ok((1, 0)))));
 }
 
 // It is adopted so often, and its taker waits for the poster.
@@ -173,7 +167,7 @@ fn is_taken_first<R: Wait>(rt: &R, alloc: Global, adoptions: u32) -> bool {
     let is_taken = stage.end.gets(rt, 0, 0, "5") && stage.end.leaves(rt, adoptions);
     let is_last = stage.end.finds_none(rt);
     drop(stage);
-    posting == Some(Ok((0, 0))) && is_taken && is_last
+    is_taken && is_last && matches!(posting, Some(Ok((0, 0))))
 }
 
 #[test]
@@ -201,7 +195,7 @@ fn a_pushed_envelope_is_taken_while_its_poster_is_inside(rt: HostRuntime) {
     let posting = post_held(&rt, &mut stage, Point::Pushed, "5", &MovesAndTakes);
     let is_left = stage.end.leaves(&rt, 1) && stage.end.finds_none(&rt);
     drop(stage);
-    assert_eq!(rt; (posting, is_left), (Some(Ok((0, 0))), true));
+    assert!(rt; is_left && matches!(posting, Some(Ok((0, 0)))));
 }
 
 // The yard gives what it keeps.
@@ -226,7 +220,7 @@ fn waits_for_the_yard<R: Wait>(rt: &R, alloc: Global) -> bool {
     let meanwhile = EmptiesYard {
         kept: Mutex::new(None),
     };
-    let is_adopted = stage.adopt(rt) == Some(Ok(()));
+    let is_adopted = stage.is_adopted(rt);
     let refused = post_held(rt, &mut stage, Point::Hopping, "5", &meanwhile);
     let is_laid = match meanwhile.kept.into_inner() {
         Some(onward) => lay(rt, &stage.yard, onward),
@@ -234,7 +228,10 @@ fn waits_for_the_yard<R: Wait>(rt: &R, alloc: Global) -> bool {
     };
     let posting = stage.post(rt, "7");
     drop(stage);
-    is_adopted && is_laid && refused == Some(Err(PostError::Moving)) && posting == Some(Ok((1, 0)))
+    is_adopted
+        && is_laid
+        && matches!(refused, Some(Err(PostError::Moving)))
+        && matches!(posting, Some(Ok((1, 0))))
 }
 
 #[test]

@@ -6,6 +6,23 @@ use hub_queue::{AdoptError, Ends};
 use std::alloc::Global;
 use std::sync::Wait;
 
+// Whether what was not taken is discarded, in order.
+fn discards_the_rest<R: Wait>(rt: &R, alloc: Global) -> bool {
+    let mut stage = Stage::open(alloc);
+    let are_put = stage.accepts(rt, "1", 0, 0)
+        && stage.accepts(rt, "2", 0, 1)
+        && stage.accepts(rt, "3", 0, 2);
+    let is_taken = stage.end.start() && stage.end.gets(rt, 0, 0, "1");
+    let are_left = stage.end.close() && stage.end.discards(rt, &[(1, "2"), (2, "3")]);
+    drop(stage);
+    are_put && is_taken && are_left
+}
+
+#[test]
+fn what_is_left_is_discarded(rt: HostRuntime) {
+    assert!(rt; discards_the_rest(&rt, rt.alloc()));
+}
+
 // Whether one queue holds so many envelopes until it is swept.
 fn holds<R: Wait>(rt: &R, alloc: Global, count: u32) -> bool {
     let mut stage = Stage::open(alloc);
@@ -33,33 +50,32 @@ fn ends_are_drawn_once(rt: HostRuntime) {
     assert_eq!(rt; ends.draw(), None);
 }
 
-// The row of three adoptions, seen from its taker: how many queues it has before it at each time.
+// Whether a taker is behind by three queues after three adoptions, and by none once it has taken
+// what waits there.
+fn takes_from_three_adoptions<R: Wait>(rt: &R, alloc: Global) -> bool {
+    let mut stage = Stage::open(alloc);
+    let is_adopted = stage.accepts(rt, "10", 0, 0) && stage.adopts_each(rt, 3, "10");
+    let is_behind = stage.end.is_behind(3) && stage.end.start();
+    let is_taken = stage.takes_each(rt, 3, "10") && stage.end.gets(rt, 3, 0, "10");
+    let is_last = stage.end.finds_none(rt) && stage.end.is_behind(0);
+    drop(stage);
+    is_adopted && is_behind && is_taken && is_last
+}
+
 #[test]
 fn three_adoptions(rt: HostRuntime) {
-    let mut stage = Stage::open(rt.alloc());
-    let posting = stage.post(&rt, "10");
-    let is_adopted = stage.adopts_each(&rt, 3, "10");
-    let before = stage.end.behind();
-    let is_taken = stage.end.start() && stage.takes_each(&rt, 3, "10");
-    let is_last = stage.end.gets(&rt, 3, 0, "10") && stage.end.finds_none(&rt);
-    let after = stage.end.behind();
-    drop(stage);
-    assert_eq!(rt;
-        (posting, before, after),
-        (Some(Ok((0, 0))), Some(3), Some(0))
-    );
-    assert!(rt; is_adopted && is_taken && is_last);
+    assert!(rt; takes_from_three_adoptions(&rt, rt.alloc()));
 }
 
 // Whether an adoption is refused since the yard keeps the name of the second line from the adoption
-// of another end. The name of the first line was taken out, and was laid for a moment alone.
+// of another end. The name of the first line was taken out before, and is not left there again.
 fn refuses_a_kept_name<R: Wait>(rt: &R, alloc: Global) -> bool {
     let mut stage = Stage::open(alloc);
     stage.reopen(2);
-    let is_laid = stage.adopt(rt) == Some(Ok(())) && stage.gives_onward(rt);
+    let is_laid = stage.is_adopted(rt) && stage.gives_onward(rt);
     stage.reopen(2);
-    let is_refused = stage.adopt(rt) == Some(Err(AdoptError::Taken));
-    let is_unmoved = stage.end.behind() == Some(0) && !stage.gives_onward(rt);
+    let is_refused = matches!(stage.adopt(rt), Some(Err(AdoptError::Taken)));
+    let is_unmoved = stage.end.is_behind(0) && !stage.gives_onward(rt);
     drop(stage);
     is_laid && is_refused && is_unmoved
 }
@@ -75,12 +91,11 @@ const LEFT: u32 = 40_000;
 // those that were not left are discarded.
 fn moves_as_often_as_it_may<R: Wait>(rt: &R, alloc: Global) -> bool {
     let mut stage = Stage::open(alloc);
-    let is_adopted = stage.post(rt, "10") == Some(Ok((0, 0)))
-        && stage.adopts_each(rt, MAX_MOVES, "10");
-    let is_refused = stage.adopt(rt) == Some(Err(AdoptError::TooManyMoves));
-    let is_behind = stage.end.behind() == Some(MAX_MOVES);
+    let is_adopted = stage.accepts(rt, "10", 0, 0) && stage.adopts_each(rt, MAX_MOVES, "10");
+    let is_refused = matches!(stage.adopt(rt), Some(Err(AdoptError::TooManyMoves)));
+    let is_behind = stage.end.is_behind(MAX_MOVES);
     let is_left = stage.end.start() && stage.takes_each(rt, LEFT, "10");
-    let is_ahead = stage.end.behind() == Some(MAX_MOVES - LEFT);
+    let is_ahead = stage.end.is_behind(MAX_MOVES - LEFT);
     let is_swept = stage.end.close()
         && match stage.end.sweep(rt) {
             Some(swept) => swept.envelopes().len() == (MAX_MOVES - LEFT + 1) as usize,

@@ -1,5 +1,5 @@
-//! Tests in which each allocation may be refused. Each call is made again where there was no memory,
-//! once it was seen that all is as it was.
+//! Tests in which each allocation may be refused. Each call is made again where there was no
+//! memory, once it was seen that all is as it was.
 use crate::end::are_numbered;
 use crate::stage::Stage;
 use hub_queue::AdoptError;
@@ -29,12 +29,12 @@ fn posts_and_sweeps_whichever_allocation_is_refused(rt: HostRuntime) {
 fn adopts<R: Wait>(rt: &R, stage: &mut Stage) -> bool {
     match stage.adopt(rt) {
         Some(Err(AdoptError::OutOfMemory)) => {
-            stage.end.behind() == Some(0)
+            stage.end.is_behind(0)
                 && stage.has_nothing_laid(rt)
-                && stage.post(rt, "[1]") == Some(Ok((0, 0)))
-                && stage.adopt(rt) == Some(Ok(()))
+                && stage.accepts(rt, "[1]", 0, 0)
+                && stage.is_adopted(rt)
         }
-        adopted => adopted == Some(Ok(())),
+        adopted => matches!(adopted, Some(Ok(()))),
     }
 }
 
@@ -42,8 +42,8 @@ fn adopts<R: Wait>(rt: &R, stage: &mut Stage) -> bool {
 fn moves_and_sweeps<R: Wait>(rt: &R, alloc: Global) -> bool {
     let mut stage = Stage::open(alloc);
     let is_moved = adopts(rt, &mut stage)
-        && stage.end.behind() == Some(1)
-        && stage.post(rt, "[1]") == Some(Ok((1, 0)));
+        && stage.end.is_behind(1)
+        && stage.accepts(rt, "[1]", 1, 0);
     let is_swept = stage.end.close()
         && match stage.end.sweep(rt) {
             Some(swept) => match swept.envelopes().last() {

@@ -67,10 +67,18 @@ impl Stage {
         }
     }
 
+    /// Whether a draft with this body is accepted under this epoch and number.
+    pub(crate) fn accepts<R: Wait>(&mut self, rt: &R, text: &str, epoch: u32, number: u64) -> bool {
+        match self.post(rt, text) {
+            Some(Ok(name)) => name == (epoch, number),
+            _ => false,
+        }
+    }
+
     /// Whether so many drafts are accepted by the first queue, numbered from 0 on.
     pub(crate) fn posts_each<R: Wait>(&mut self, rt: &R, count: u32, text: &str) -> bool {
         for number in 0..count {
-            if self.post(rt, text) != Some(Ok((0, number as u64))) {
+            if !self.accepts(rt, text, 0, number as u64) {
                 return false;
             }
         }
@@ -82,11 +90,16 @@ impl Stage {
         self.end.adopt(rt, &self.yard)
     }
 
+    /// Whether the end was moved on.
+    pub(crate) fn is_adopted<R: Wait>(&mut self, rt: &R) -> bool {
+        self.end.is_adopted(rt, &self.yard)
+    }
+
     /// Whether the end is adopted so often, and a draft with this body is accepted by each new
     /// queue.
     pub(crate) fn adopts_each<R: Wait>(&mut self, rt: &R, adoptions: u32, text: &str) -> bool {
         for epoch in 1..=adoptions {
-            if self.adopt(rt) != Some(Ok(())) || self.post(rt, text) != Some(Ok((epoch, 0))) {
+            if !self.is_adopted(rt) || !self.accepts(rt, text, epoch, 0) {
                 return false;
             }
         }
