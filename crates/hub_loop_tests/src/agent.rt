@@ -4,7 +4,7 @@
 //! each is handed to `drop`.
 use crate::ended::{Closing, is_closed};
 use crate::mail::Mail;
-use crate::parts::{Loop, body, room, turn};
+use crate::parts::{Loop, room, turn};
 use crate::scribe::Scribe;
 use crate::shared::Shared;
 use hub_broadcast::CastOutcome;
@@ -12,8 +12,9 @@ use hub_clients::{ClientQueue, HandError, WorkerQueue};
 use hub_envelope::{AgentId, Body, EndId};
 use hub_life::Order;
 use hub_loop::{Ended, EventLoop, Held, LoopError, NoCheckpoint, Turn};
-use hub_ports::{Hub, Port, PortError, send};
+use hub_ports::{Hub, Port, PortError};
 use hub_queue::{Bell, Listener, Posted};
+use hub_test_parts::body;
 use std::alloc::Global;
 use std::sync::Wait;
 
@@ -36,7 +37,6 @@ pub(crate) enum Way {
 }
 
 /// An agent, whose loop is woken by the bell.
-#[derive(Drop)]
 pub(crate) struct Agent {
     alloc: Global,
     pub(crate) number: AgentId,
@@ -48,6 +48,25 @@ pub(crate) struct Agent {
     returned: Option<(Body, Vec<Port>)>,
     // Whether an allocation may be refused. Each call is then made again where one was.
     may_refuse: bool,
+}
+
+// By hand, so that whoever drops one makes one call.
+impl Drop for Agent {
+    fn drop(self) {
+        let Agent {
+            alloc: _,
+            number: _,
+            bell,
+            event_loop,
+            orders,
+            returned,
+            may_refuse: _,
+        } = self;
+        drop(bell);
+        drop(event_loop);
+        drop(orders);
+        drop(returned);
+    }
 }
 
 fn are_ports(ports: &[Port], numbers: &[u32]) -> bool {
@@ -199,16 +218,12 @@ impl Agent {
 
     /// Whether no end of this number is held.
     pub(crate) fn lends_none(&mut self, end: u32) -> bool {
-        let end = EndId(end);
-        self.event_loop.port_mut(end).is_none()
-            && self.event_loop.client_mut(end).is_none()
-            && self.event_loop.member_mut(end).is_none()
-            && self.releases_none(end)
+        self.event_loop.held(EndId(end)).is_none() && self.releases_none(EndId(end))
     }
 
     /// Whether no line to this number is held.
-    pub(crate) fn lends_no_line(&mut self, end: u32) -> bool {
-        self.event_loop.line_mut(EndId(end)).is_none()
+    pub(crate) fn has_no_line(&self, end: u32) -> bool {
+        !self.event_loop.has_line(EndId(end))
     }
 
     /// Whether this line to that number is held.
@@ -232,19 +247,7 @@ impl Agent {
 
     /// Enables the port or the client's queue of this number.
     pub(crate) fn start(&mut self, end: u32) -> bool {
-        match self.event_loop.port_mut(EndId(end)) {
-            Some(port) => {
-                port.start();
-                true
-            }
-            None => match self.event_loop.client_mut(EndId(end)) {
-                Some(queue) => {
-                    queue.start_messages();
-                    true
-                }
-                None => false,
-            },
-        }
+        self.event_loop.start_port(EndId(end)) || self.event_loop.start_client(EndId(end))
     }
 
     fn release_port(&mut self, end: u32) -> Option<Port> {
@@ -296,18 +299,18 @@ impl Agent {
         body: Body,
         transfer: Vec<Port>,
     ) -> Option<Answer> {
-        let number = self.number;
+        let (event_loop, number) = (&mut self.event_loop, self.number);
         let posted = match way {
-            Way::Port(end) => {
-                let port = self.event_loop.port_mut(EndId(end))?;
-                port.post(rt, hub, number, body, transfer)
-            }
-            Way::Line(end) => {
-                let line = self.event_loop.line_mut(EndId(end))?;
-                send(line, rt, hub, number, body, transfer)
-            }
+            Way::Port(end) => event_loop.post(rt, hub, number, EndId(end), body, transfer),
+            Way::Line(end) => event_loop.send(rt, hub, number, EndId(end), body, transfer),
         };
-        Some(self.answer(posted))
+        match posted {
+            Ok(posted) => Some(self.answer(posted)),
+            Err(back) => {
+                drop(back);
+                None
+            }
+        }
     }
 
     // Whether this text and the ports of this list were given back.

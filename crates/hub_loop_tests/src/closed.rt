@@ -4,8 +4,6 @@ use crate::ended::Closing;
 use crate::mail::Mail;
 use crate::table::{Step, walks};
 
-const NONE: &[u32] = &[];
-
 // What waits is left for whoever sweeps. A port's peer gets the notice, and nobody casts at a
 // member that was closed. The line to the closed queue is held still.
 const EACH_KIND_IS_CLOSED: &[(u8, Step)] = &[
@@ -19,11 +17,11 @@ const EACH_KIND_IS_CLOSED: &[(u8, Step)] = &[
     (0, Step::Line(2, 0)),
     (
         1,
-        Step::Post(Way::Port(0), NONE, "1", Answer::Accepted(0, 0)),
+        Step::Post(Way::Port(0), &[], "1", Answer::Accepted(0, 0)),
     ),
     (
         0,
-        Step::Post(Way::Line(2), NONE, "2", Answer::Accepted(0, 0)),
+        Step::Post(Way::Line(2), &[], "2", Answer::Accepted(0, 0)),
     ),
     (
         0,
@@ -35,14 +33,14 @@ const EACH_KIND_IS_CLOSED: &[(u8, Step)] = &[
     ),
     (0, Step::HasNone(1)),
     (0, Step::CloseNone(1)),
-    (1, Step::Post(Way::Port(0), NONE, "3", Answer::Closed)),
+    (1, Step::Post(Way::Port(0), &[], "3", Answer::Closed)),
     (1, Step::Start(0)),
     (1, Step::Deliver(0, Mail::Notice(0, 0))),
     (1, Step::Close(0, &[], Some(Closing::PeerClosed(0)))),
     (0, Step::Close(2, &[Mail::Text(0, 0, 0, "2")], None)),
     (0, Step::HasNone(2)),
     (0, Step::HasLine(2, 0)),
-    (0, Step::Post(Way::Line(2), NONE, "4", Answer::Closed)),
+    (0, Step::Post(Way::Line(2), &[], "4", Answer::Closed)),
     (0, Step::CloseNone(2)),
     (0, Step::Close(3, &[], None)),
     (1, Step::Cast(5, "5", &[(4, 0, 0)])),
@@ -67,11 +65,11 @@ const A_KEPT_DELIVERY_OUTLIVES_ITS_END: &[(u8, Step)] = &[
     (0, Step::Start(3)),
     (
         1,
-        Step::Post(Way::Port(0), NONE, "1", Answer::Accepted(0, 0)),
+        Step::Post(Way::Port(0), &[], "1", Answer::Accepted(0, 0)),
     ),
     (
         1,
-        Step::Post(Way::Port(2), NONE, "2", Answer::Accepted(0, 0)),
+        Step::Post(Way::Port(2), &[], "2", Answer::Accepted(0, 0)),
     ),
     (0, Step::Refuse),
     (0, Step::Close(1, &[], Some(Closing::Put(1, 0, 0, 0)))),
@@ -94,11 +92,11 @@ const HELD_BETWEEN: &[(u8, Step)] = &[
     (0, Step::Start(1)),
     (
         1,
-        Step::Post(Way::Port(0), NONE, "1", Answer::Accepted(0, 0)),
+        Step::Post(Way::Port(0), &[], "1", Answer::Accepted(0, 0)),
     ),
     (
         1,
-        Step::Post(Way::Port(0), NONE, "2", Answer::Accepted(0, 1)),
+        Step::Post(Way::Port(0), &[], "2", Answer::Accepted(0, 1)),
     ),
     (0, Step::Refuse),
     (0, Step::Worker(2)),

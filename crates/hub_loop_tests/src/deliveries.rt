@@ -4,8 +4,6 @@ use crate::ended::Closing;
 use crate::mail::Mail;
 use crate::table::{Step, walks};
 
-const NONE: &[u32] = &[];
-
 const A_PORT_IS_ADOPTED: &[(u8, Step)] = &[
     (0, Step::Open),
     (1, Step::Open),
@@ -23,7 +21,7 @@ const A_PORT_IS_ADOPTED: &[(u8, Step)] = &[
     (0, Step::Moves(3, 1)),
     (
         1,
-        Step::Post(Way::Port(2), NONE, "2", Answer::Accepted(1, 0)),
+        Step::Post(Way::Port(2), &[], "2", Answer::Accepted(1, 0)),
     ),
     (0, Step::Idle(false)),
     (0, Step::Start(3)),
@@ -73,19 +71,19 @@ const SERVED_IN_TURN: &[(u8, Step)] = &[
     (0, Step::Start(3)),
     (
         1,
-        Step::Post(Way::Port(0), NONE, "1", Answer::Accepted(0, 0)),
+        Step::Post(Way::Port(0), &[], "1", Answer::Accepted(0, 0)),
     ),
     (
         1,
-        Step::Post(Way::Port(0), NONE, "2", Answer::Accepted(0, 1)),
+        Step::Post(Way::Port(0), &[], "2", Answer::Accepted(0, 1)),
     ),
     (
         1,
-        Step::Post(Way::Port(2), NONE, "3", Answer::Accepted(0, 0)),
+        Step::Post(Way::Port(2), &[], "3", Answer::Accepted(0, 0)),
     ),
     (
         1,
-        Step::Post(Way::Port(2), NONE, "4", Answer::Accepted(0, 1)),
+        Step::Post(Way::Port(2), &[], "4", Answer::Accepted(0, 1)),
     ),
     (0, Step::Deliver(1, Mail::Text(0, 0, 0, "1"))),
     (0, Step::Deliver(3, Mail::Text(0, 0, 0, "3"))),
@@ -109,21 +107,21 @@ const WAITED_BEFORE: &[(u8, Step)] = &[
     (0, Step::Start(3)),
     (
         1,
-        Step::Post(Way::Port(0), NONE, "1", Answer::Accepted(0, 0)),
+        Step::Post(Way::Port(0), &[], "1", Answer::Accepted(0, 0)),
     ),
     (
         1,
-        Step::Post(Way::Port(2), NONE, "2", Answer::Accepted(0, 0)),
+        Step::Post(Way::Port(2), &[], "2", Answer::Accepted(0, 0)),
     ),
     (0, Step::Deliver(3, Mail::Text(0, 0, 0, "2"))),
     (0, Step::Idle(false)),
     (
         1,
-        Step::Post(Way::Port(2), NONE, "3", Answer::Accepted(0, 1)),
+        Step::Post(Way::Port(2), &[], "3", Answer::Accepted(0, 1)),
     ),
     (
         1,
-        Step::Post(Way::Port(2), NONE, "4", Answer::Accepted(0, 2)),
+        Step::Post(Way::Port(2), &[], "4", Answer::Accepted(0, 2)),
     ),
     (0, Step::Start(1)),
     (0, Step::Deliver(1, Mail::Text(0, 0, 0, "1"))),
@@ -145,7 +143,7 @@ const A_QUEUE_AND_A_MEMBER: &[(u8, Step)] = &[
     (1, Step::Line(0, 0)),
     (
         1,
-        Step::Post(Way::Line(0), NONE, "1", Answer::Accepted(0, 0)),
+        Step::Post(Way::Line(0), &[], "1", Answer::Accepted(0, 0)),
     ),
     (0, Step::Idle(false)),
     (0, Step::Start(0)),
@@ -162,7 +160,7 @@ const A_QUEUE_AND_A_MEMBER: &[(u8, Step)] = &[
         Step::End(&[(0, &[]), (1, &[Mail::Text(0, 0, 1, "3")])], &[]),
     ),
     (1, Step::Cast(2, "4", &[])),
-    (1, Step::Post(Way::Line(0), NONE, "5", Answer::Closed)),
+    (1, Step::Post(Way::Line(0), &[], "5", Answer::Closed)),
 ];
 
 #[test]
@@ -186,11 +184,11 @@ const GIVEN_OUT: &[(u8, Step)] = &[
     (0, Step::Start(1)),
     (
         1,
-        Step::Post(Way::Line(3), NONE, "1", Answer::Accepted(0, 0)),
+        Step::Post(Way::Line(3), &[], "1", Answer::Accepted(0, 0)),
     ),
     (
         1,
-        Step::Post(Way::Port(0), NONE, "2", Answer::Accepted(0, 0)),
+        Step::Post(Way::Port(0), &[], "2", Answer::Accepted(0, 0)),
     ),
     (0, Step::Deliver(1, Mail::Text(0, 0, 0, "2"))),
     (0, Step::Deliver(3, Mail::Text(0, 0, 0, "1"))),
@@ -213,7 +211,7 @@ const LINES_BESIDE_ENDS: &[(u8, Step)] = &[
     (0, Step::Start(0)),
     (
         0,
-        Step::Post(Way::Line(0), NONE, "1", Answer::Accepted(0, 0)),
+        Step::Post(Way::Line(0), &[], "1", Answer::Accepted(0, 0)),
     ),
     (0, Step::Deliver(0, Mail::Text(0, 0, 0, "1"))),
     (1, Step::Channel(0)),
@@ -223,12 +221,12 @@ const LINES_BESIDE_ENDS: &[(u8, Step)] = &[
     (0, Step::HasLine(2, 0)),
     (
         0,
-        Step::Post(Way::Line(2), NONE, "2", Answer::Accepted(0, 0)),
+        Step::Post(Way::Line(2), &[], "2", Answer::Accepted(0, 0)),
     ),
     (0, Step::Idle(false)),
     (
         0,
-        Step::Post(Way::Port(2), NONE, "3", Answer::Accepted(0, 0)),
+        Step::Post(Way::Port(2), &[], "3", Answer::Accepted(0, 0)),
     ),
     (0, Step::HoldAgain(2)),
     (0, Step::HoldAgain(0)),
@@ -236,7 +234,7 @@ const LINES_BESIDE_ENDS: &[(u8, Step)] = &[
     (0, Step::HasLine(0, 0)),
     (
         1,
-        Step::Post(Way::Port(1), NONE, "4", Answer::Accepted(0, 0)),
+        Step::Post(Way::Port(1), &[], "4", Answer::Accepted(0, 0)),
     ),
     (0, Step::Deliver(2, Mail::Text(0, 0, 0, "4"))),
     (
@@ -269,7 +267,7 @@ const REFUSED_ONCE: &[(u8, Step)] = &[
     ),
     (
         1,
-        Step::Post(Way::Port(2), NONE, "2", Answer::Accepted(0, 0)),
+        Step::Post(Way::Port(2), &[], "2", Answer::Accepted(0, 0)),
     ),
     (0, Step::Refuse),
     (0, Step::Moves(5, 1)),
@@ -294,7 +292,7 @@ const RUNG: &[(u8, Step)] = &[
     (0, Step::Idle(false)),
     (
         1,
-        Step::Post(Way::Port(0), NONE, "1", Answer::Accepted(0, 0)),
+        Step::Post(Way::Port(0), &[], "1", Answer::Accepted(0, 0)),
     ),
     (0, Step::Rest),
     (0, Step::Deliver(1, Mail::Text(0, 0, 0, "1"))),
@@ -312,21 +310,21 @@ const RUN_UNTIL_ORDERED: &[(u8, Step)] = &[
     (0, Step::Start(1)),
     (
         1,
-        Step::Post(Way::Port(0), NONE, "1", Answer::Accepted(0, 0)),
+        Step::Post(Way::Port(0), &[], "1", Answer::Accepted(0, 0)),
     ),
     (
         1,
-        Step::Post(Way::Port(0), NONE, "2", Answer::Accepted(0, 1)),
+        Step::Post(Way::Port(0), &[], "2", Answer::Accepted(0, 1)),
     ),
     (
         1,
-        Step::Post(Way::Port(0), NONE, "3", Answer::Accepted(0, 2)),
+        Step::Post(Way::Port(0), &[], "3", Answer::Accepted(0, 2)),
     ),
     (
         0,
         Step::Run(&[
-            (1, Mail::Text(0, 0, 0, "1"), NONE),
-            (1, Mail::Text(0, 0, 1, "2"), NONE),
+            (1, Mail::Text(0, 0, 0, "1"), &[]),
+            (1, Mail::Text(0, 0, 1, "2"), &[]),
         ]),
     ),
     (0, Step::Ending),

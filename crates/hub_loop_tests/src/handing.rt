@@ -1,14 +1,11 @@
 //! A client's queue is handed on while a post over one of its lines is held up.
 use crate::agent::{Answer, Way};
 use crate::mail::Mail;
-use crate::parts::draft;
 use crate::shared::Shared;
 use crate::table::{Step, Table, walks};
-use hub_envelope::AgentId;
 use hub_queue::{Pause, Point, Poster};
+use hub_test_parts::post_with;
 use std::sync::{Mutex, Wait};
-
-const NONE: &[u32] = &[];
 
 // The table, and how many of the steps that are taken meanwhile came to what they are to.
 #[derive(Drop)]
@@ -34,7 +31,7 @@ impl Pause for Meanwhile<'_, '_> {
     }
 }
 
-// Posts a text of agent 1, held up for these steps. Under which epoch and number it was accepted,
+// Posts a text, held up for these steps. Under which epoch and number it was accepted,
 // and how many of the steps came to what they are to.
 fn post_held<R: Wait>(
     rt: &R,
@@ -44,19 +41,15 @@ fn post_held<R: Wait>(
     text: &str,
     steps: &'static [(u8, Step)],
 ) -> Option<(u32, u64, usize)> {
-    let draft = draft(shared.alloc, AgentId(1), text)?;
     let meanwhile = Meanwhile {
         steps,
         stage: Mutex::new(Stage { table, walked: 0 }),
     };
-    let posted = poster
-        .post_with(rt, &shared.hub.yard, draft, &meanwhile)
-        .ok()?;
-    Some((
-        posted.epoch,
-        posted.number,
-        meanwhile.stage.into_inner().walked,
-    ))
+    let yard = &shared.hub.yard;
+    let posting = post_with(rt, shared.alloc, yard, poster, text, &meanwhile);
+    let walked = meanwhile.stage.into_inner().walked;
+    let (epoch, number) = posting?.ok()?;
+    Some((epoch, number, walked))
 }
 
 const BEFORE: &[(u8, Step)] = &[
@@ -72,7 +65,7 @@ const LENT: &[(u8, Step)] = &[(2, Step::Line(0, 1)), (0, Step::Start(0))];
 const MEANWHILE: &[(u8, Step)] = &[
     (
         2,
-        Step::Post(Way::Line(0), NONE, "\"b\"", Answer::Accepted(0, 0)),
+        Step::Post(Way::Line(0), &[], "\"b\"", Answer::Accepted(0, 0)),
     ),
     (0, Step::Hand(0, 3)),
     (0, Step::HasNone(0)),
@@ -81,7 +74,7 @@ const MEANWHILE: &[(u8, Step)] = &[
     (3, Step::Moves(0, 1)),
     (
         2,
-        Step::Post(Way::Line(0), NONE, "\"c\"", Answer::Accepted(1, 0)),
+        Step::Post(Way::Line(0), &[], "\"c\"", Answer::Accepted(1, 0)),
     ),
     (3, Step::Idle(false)),
     (3, Step::Start(0)),
@@ -143,21 +136,21 @@ const BUSY_MEANWHILE: &[(u8, Step)] = &[
     (3, Step::Idle(true)),
     (
         1,
-        Step::Post(Way::Port(1), NONE, "1", Answer::Accepted(0, 0)),
+        Step::Post(Way::Port(1), &[], "1", Answer::Accepted(0, 0)),
     ),
     (3, Step::Deliver(2, Mail::Text(0, 0, 0, "1"))),
     (3, Step::Idle(true)),
     (
         1,
-        Step::Post(Way::Port(1), NONE, "2", Answer::Accepted(0, 1)),
+        Step::Post(Way::Port(1), &[], "2", Answer::Accepted(0, 1)),
     ),
     (
         1,
-        Step::Post(Way::Port(1), NONE, "3", Answer::Accepted(0, 2)),
+        Step::Post(Way::Port(1), &[], "3", Answer::Accepted(0, 2)),
     ),
     (
         1,
-        Step::Post(Way::Port(1), NONE, "4", Answer::Accepted(0, 3)),
+        Step::Post(Way::Port(1), &[], "4", Answer::Accepted(0, 3)),
     ),
     (3, Step::Deliver(2, Mail::Text(0, 0, 1, "2"))),
 ];
@@ -192,7 +185,7 @@ const NOT_THERE: &[(u8, Step)] = &[
     (1, Step::Line(0, 0)),
     (
         1,
-        Step::Post(Way::Line(0), NONE, "1", Answer::Accepted(1, 0)),
+        Step::Post(Way::Line(0), &[], "1", Answer::Accepted(1, 0)),
     ),
     (1, Step::Deliver(0, Mail::Text(0, 1, 0, "1"))),
     (1, Step::Fetch(0, false)),

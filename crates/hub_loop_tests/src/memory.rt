@@ -5,8 +5,6 @@ use crate::ended::Closing;
 use crate::mail::Mail;
 use crate::table::{Step, walks_refused};
 
-const NONE: &[u32] = &[];
-
 const OPENED: &[(u8, Step)] = &[
     (0, Step::Open),
     (0, Step::Idle(false)),
@@ -32,7 +30,7 @@ const HELD: &[(u8, Step)] = &[
     (0, Step::Moves(2, 0)),
     (
         0,
-        Step::Post(Way::Line(3), NONE, "1", Answer::Accepted(0, 0)),
+        Step::Post(Way::Line(3), &[], "1", Answer::Accepted(0, 0)),
     ),
     (0, Step::Deliver(3, Mail::Text(0, 0, 0, "1"))),
     (0, Step::Idle(false)),
@@ -57,7 +55,7 @@ const THREE_PORTS: &[(u8, Step)] = &[
     ),
     (
         1,
-        Step::Post(Way::Port(0), NONE, "2", Answer::Accepted(0, 1)),
+        Step::Post(Way::Port(0), &[], "2", Answer::Accepted(0, 1)),
     ),
     (0, Step::Deliver(1, Mail::Ports(0, 0, 0, "1", &[6, 2, 4]))),
     (0, Step::Moves(6, 1)),
@@ -68,7 +66,7 @@ const THREE_PORTS: &[(u8, Step)] = &[
     (0, Step::Start(4)),
     (
         1,
-        Step::Post(Way::Port(5), NONE, "3", Answer::Accepted(1, 0)),
+        Step::Post(Way::Port(5), &[], "3", Answer::Accepted(1, 0)),
     ),
     (0, Step::Deliver(4, Mail::Text(0, 1, 0, "3"))),
     (0, Step::Idle(false)),
@@ -86,7 +84,7 @@ const FETCHED: &[(u8, Step)] = &[
     (1, Step::Line(0, 0)),
     (
         1,
-        Step::Post(Way::Line(0), NONE, "1", Answer::Accepted(0, 0)),
+        Step::Post(Way::Line(0), &[], "1", Answer::Accepted(0, 0)),
     ),
     (0, Step::Hand(0, 1)),
     (1, Step::Fetch(0, true)),
@@ -94,7 +92,7 @@ const FETCHED: &[(u8, Step)] = &[
     (1, Step::Fetch(0, false)),
     (
         1,
-        Step::Post(Way::Line(0), NONE, "2", Answer::Accepted(1, 0)),
+        Step::Post(Way::Line(0), &[], "2", Answer::Accepted(1, 0)),
     ),
     (1, Step::Start(0)),
     (1, Step::Deliver(0, Mail::Text(0, 0, 0, "1"))),
@@ -115,12 +113,12 @@ const KEPT: &[(u8, Step)] = &[
     (0, Step::Line(0, 0)),
     (
         0,
-        Step::Post(Way::Line(0), NONE, "1", Answer::Accepted(0, 0)),
+        Step::Post(Way::Line(0), &[], "1", Answer::Accepted(0, 0)),
     ),
     (0, Step::Hand(0, 1)),
     (1, Step::TryFetch(0)),
     (1, Step::EndWith(0, &[Mail::Text(0, 0, 0, "1")])),
-    (0, Step::Post(Way::Line(0), NONE, "2", Answer::Closed)),
+    (0, Step::Post(Way::Line(0), &[], "2", Answer::Closed)),
 ];
 
 #[test]
@@ -140,7 +138,7 @@ const ENDED: &[(u8, Step)] = &[
     (0, Step::Start(1)),
     (
         1,
-        Step::Post(Way::Port(3), NONE, "1", Answer::Accepted(0, 0)),
+        Step::Post(Way::Port(3), &[], "1", Answer::Accepted(0, 0)),
     ),
     (
         1,
@@ -172,10 +170,10 @@ const ENDED: &[(u8, Step)] = &[
             ],
         ),
     ),
-    (1, Step::Post(Way::Port(0), NONE, "5", Answer::Closed)),
-    (1, Step::Post(Way::Port(3), NONE, "6", Answer::Closed)),
-    (1, Step::Post(Way::Port(5), NONE, "7", Answer::Closed)),
-    (1, Step::Post(Way::Port(7), NONE, "8", Answer::Closed)),
+    (1, Step::Post(Way::Port(0), &[], "5", Answer::Closed)),
+    (1, Step::Post(Way::Port(3), &[], "6", Answer::Closed)),
+    (1, Step::Post(Way::Port(5), &[], "7", Answer::Closed)),
+    (1, Step::Post(Way::Port(7), &[], "8", Answer::Closed)),
     (1, Step::NoneInFlight),
 ];
 

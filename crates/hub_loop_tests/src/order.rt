@@ -6,8 +6,6 @@ use crate::table::{Step, Table};
 use std::alloc::Global;
 use std::sync::Wait;
 
-const NONE: &[u32] = &[];
-
 const ENDS: usize = 200;
 
 const ROUNDS: usize = 40;
@@ -80,7 +78,7 @@ impl Course {
         let answer = Answer::Accepted(0, *count);
         *count = count.wrapping_add(1);
         let way = Way::Port(number.wrapping_mul(2));
-        does(rt, table, 1, Step::Post(way, NONE, "1", answer))
+        does(rt, table, 1, Step::Post(way, &[], "1", answer))
     }
 
     // Makes a turn, which delivers at the end that comes next, if at one something waits.

@@ -1,10 +1,8 @@
-//! What the tests make their agents and their envelopes of. Most calls are made again where an
-//! allocation was refused, since the next one has the memory.
+//! What the tests make their agents of, and turns.
 ghost use Rattle.std.specs.Prelude.{◌≡◌};
 
 use crate::scribe::Scribe;
 use hub_broadcast::{Origin, origin_of};
-use hub_envelope::{AgentId, Body, Draft, Ports};
 use hub_loop::{EventLoop, LoopError, NoCheckpoint, Turn};
 use hub_ports::{Hub, Port};
 use hub_queue::Steps;
@@ -16,25 +14,7 @@ use std::sync::ledger::{Blank, Ledger};
 /// The loop of the tests.
 pub(crate) type Loop = EventLoop<Scribe, &'static NoCheckpoint>;
 
-/// The body that a text stands for.
-pub(crate) fn body(alloc: Global, text: &str) -> Option<Body> {
-    match Body::read(alloc, text) {
-        Ok(body) => Some(body),
-        Err(_) => Body::read(alloc, text).ok(),
-    }
-}
-
-/// A draft of this agent with this body and no ports.
-pub(crate) fn draft(alloc: Global, agent: AgentId, text: &str) -> Option<Draft> {
-    Some(Draft {
-        agent,
-        body: body(alloc, text)?,
-        ports: Ports::none(alloc),
-        notice: false,
-    })
-}
-
-/// An empty list with room for so many ports.
+/// An empty list with room for so many ports. It is made again where an allocation was refused.
 pub(crate) fn room(alloc: Global, count: usize) -> Option<Vec<Port>> {
     match Vec::with_capacity(alloc, count) {
         Ok(ports) => Some(ports),

@@ -5,8 +5,6 @@ use crate::ended::Closing;
 use crate::mail::Mail;
 use crate::table::{Step, walks};
 
-const NONE: &[u32] = &[];
-
 // The port is closed with its notice, and counts as missing. It is swept when the loop ends.
 const A_PORT_IS_REFUSED: &[(u8, Step)] = &[
     (0, Step::Open),
@@ -35,10 +33,10 @@ const A_PORT_IS_REFUSED: &[(u8, Step)] = &[
     (0, Step::Moves(3, 1)),
     (2, Step::Start(2)),
     (2, Step::Deliver(2, Mail::Notice(0, 0))),
-    (2, Step::Post(Way::Port(2), NONE, "3", Answer::Closed)),
+    (2, Step::Post(Way::Port(2), &[], "3", Answer::Closed)),
     (
         1,
-        Step::Post(Way::Port(2), NONE, "4", Answer::Accepted(1, 0)),
+        Step::Post(Way::Port(2), &[], "4", Answer::Accepted(1, 0)),
     ),
     (
         0,

@@ -4,8 +4,6 @@ use crate::ended::Closing;
 use crate::mail::Mail;
 use crate::table::{Step, walks};
 
-const NONE: &[u32] = &[];
-
 const WORKER_ENDS: &[(u8, Step)] = &[
     (0, Step::Open),
     (1, Step::Open),
@@ -25,7 +23,7 @@ const WORKER_ENDS: &[(u8, Step)] = &[
     (1, Step::Order),
     (
         0,
-        Step::Post(Way::Line(0), NONE, "\"late\"", Answer::Accepted(0, 0)),
+        Step::Post(Way::Line(0), &[], "\"late\"", Answer::Accepted(0, 0)),
     ),
     (1, Step::Ending),
     (
@@ -35,8 +33,8 @@ const WORKER_ENDS: &[(u8, Step)] = &[
             &[Closing::Put(1, 2, 1, 0)],
         ),
     ),
-    (0, Step::Post(Way::Line(0), NONE, "\"no\"", Answer::Closed)),
-    (0, Step::Post(Way::Port(2), NONE, "1", Answer::Closed)),
+    (0, Step::Post(Way::Line(0), &[], "\"no\"", Answer::Closed)),
+    (0, Step::Post(Way::Port(2), &[], "1", Answer::Closed)),
     (0, Step::NoneInFlight),
     (2, Step::Open),
     (2, Step::Worker(4)),
@@ -77,8 +75,8 @@ const PORTS_IN_DISCARDED: &[(u8, Step)] = &[
             ],
         ),
     ),
-    (1, Step::Post(Way::Port(3), NONE, "1", Answer::Closed)),
-    (1, Step::Post(Way::Port(5), NONE, "1", Answer::Closed)),
+    (1, Step::Post(Way::Port(3), &[], "1", Answer::Closed)),
+    (1, Step::Post(Way::Port(5), &[], "1", Answer::Closed)),
     (1, Step::NoneInFlight),
 ];
 
@@ -96,7 +94,7 @@ const THE_FIRST_PORT: &[(u8, Step)] = &[
     (0, Step::Start(3)),
     (
         1,
-        Step::Post(Way::Port(0), NONE, "1", Answer::Accepted(0, 0)),
+        Step::Post(Way::Port(0), &[], "1", Answer::Accepted(0, 0)),
     ),
     (0, Step::Deliver(1, Mail::Text(0, 0, 0, "1"))),
 ];
@@ -110,7 +108,7 @@ const THE_SECOND_PORT: &[(u8, Step)] = &[
     (0, Step::Start(3)),
     (
         1,
-        Step::Post(Way::Port(2), NONE, "1", Answer::Accepted(0, 0)),
+        Step::Post(Way::Port(2), &[], "1", Answer::Accepted(0, 0)),
     ),
     (0, Step::Deliver(3, Mail::Text(0, 0, 0, "1"))),
 ];

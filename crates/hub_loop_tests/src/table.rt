@@ -84,13 +84,26 @@ pub(crate) enum Step {
 }
 
 /// The agents, what they share, and the numbers of ends.
-#[derive(Drop)]
 pub(crate) struct Table<'a> {
     alloc: Global,
     shared: &'a Shared,
     ends: Ends,
     agents: Vec<Agent>,
     may_refuse: bool,
+}
+
+// By hand, so that whoever drops one makes one call.
+impl Drop for Table<'_> {
+    fn drop(self) {
+        let Table {
+            alloc: _,
+            shared: _,
+            ends: _,
+            agents,
+            may_refuse: _,
+        } = self;
+        drop(agents);
+    }
 }
 
 impl<'a> Table<'a> {
@@ -250,7 +263,7 @@ impl<'a> Table<'a> {
         };
         match step {
             Step::HasLine(end, line) => agent.lends_line(end, line),
-            Step::HasNoLine(end) => agent.lends_no_line(end),
+            Step::HasNoLine(end) => agent.has_no_line(end),
             Step::HoldAgain(end) => agent.holds_again(end),
             Step::HasNone(end) => agent.lends_none(end),
             Step::Moves(end, moves) => agent.moves(end) == Some(moves),
