@@ -1,11 +1,11 @@
 -- What the handler of an agent's loop writes down.
-use Rattle.std.specs.Prelude.{ℕ, ◌+◌, ◌%◌, ◌^◌, Bool, true, false, not, List, [], if◌then◌else◌}
+use Rattle.std.specs.Prelude.{◌≡◌, ℕ, ◌+◌, ◌%◌, ◌^◌, Bool, true, false, not, List, [], if◌then◌else◌}
 use Rattle.std.specs.List.{filter}
 use Rattle.hub_envelope.specs.declared.envelope.Envelope.{Envelope}
 use Rattle.hub_envelope.specs.declared.ids.EndId.{EndId}
 use Rattle.hub_envelope.specs.Naming.{posted_of}
 use Rattle.hub_trace.specs.Accepted.{AgentLog, log_with, message_at, notice_at}
-use Rattle.hub_trace.specs.PortList.{has_end}
+use Rattle.hub_trace.specs.PortList.{has_end, is_port_list}
 use Rattle.hub_trace.specs.declared.log_entry.Delivery.{Delivery}
 use Rattle.hub_trace.specs.declared.log_entry.LogEntry.TheVariants.{Got}
 
@@ -31,6 +31,10 @@ not_missing missing ports = filter (λ p. not (has_end missing p.0)) ports
 -- the ports that came with an envelope and that the loop holds; a notice brings none
 abbrev pub found : List EndId → Envelope → List EndId
 found missing e = if e.notice then [] else not_missing missing e.ports
+
+-- What a log can hold of an envelope: the ends of its list are different ones, and a notice lists none.
+abbrev pub IsLoggable : Envelope → Type 0
+IsLoggable e = (is_port_list e.ports ≡ true) × (e.notice ≡ true → e.ports ≡ [])
 
 -- a delivery leaves one entry more in the log, and what was adopted with it
 abbrev pub notes_of : Notes → Envelope → List EndId → Notes

@@ -1,5 +1,5 @@
 ghost use Rattle.std.specs.Prelude.{◌≡◌, ◌≤◌, [], OnOk, OnErr, IfOk};
-ghost use Rattle.hub_logging.specs.Notes.{delivered, found};
+ghost use Rattle.hub_logging.specs.Notes.{IsLoggable, delivered, found};
 ghost use Rattle.hub_trace.specs.Accepted.{log_with, message_at, notice_at};
 ghost use Rattle.hub_trace.specs.PortList.{has_end};
 ghost use Rattle.hub_trace.specs.declared.limits.TheConstants.{MAX_AGENT};
@@ -185,17 +185,19 @@ impl Scribe {
         self.log.put_notice(posted)
     }
 
-    // Logs an envelope that was delivered. An error changes nothing.
+    // Logs an envelope that was delivered. One that no log can hold is refused, since the log would
+    // leave out the adoption of a port. An error changes nothing.
     #[tactic(auto, using(crate::proofs::Notes::closed_more))]
     fn log_delivery(&mut self, envelope: &Envelope) -> Result<(), OutOfMemory>
         ensures ok { OnOk result (self.new ≡ record self.old {
           log = log_with self.old.log (Got (delivered envelope.now));
         }) }
+        ensures loggable { OnOk result (IsLoggable envelope.now) }
         ensures err { OnErr result (self.new ≡ self.old) }
     {
         let posted = Posted::of(envelope);
         let ports = envelope.ports.as_slice();
-        if !is_name(&posted) || !is_port_list(ports) {
+        if !is_name(&posted) || !is_port_list(ports) || (envelope.notice && !ports.is_empty()) {
             return Err(OutOfMemory);
         }
         if envelope.notice {
@@ -238,9 +240,10 @@ impl Scribe {
 
 impl Handler for Scribe {
     ghost use Rattle.std.specs.Prelude.{◌≡◌};
-    ghost use Rattle.hub_logging.specs.Notes.{notes_of};
+    ghost use Rattle.hub_logging.specs.Notes.{IsLoggable, notes_of};
 
-    ghost leaves = { λ before envelope missing after. after ≡ notes_of before envelope missing };
+    ghost leaves = { λ before envelope missing after. (after ≡ notes_of before envelope missing)
+        × IsLoggable envelope };
 
     ghost refuses = { λ before _ _ after. after ≡ before };
 

@@ -2,7 +2,7 @@
 use Rattle.std.proofs.Common.{◌≡◌, List, Option, Result, Ok, Err, IfOk, subst, sym}
 use Rattle.hub_envelope.specs.declared.envelope.Envelope.{Envelope}
 use Rattle.hub_envelope.specs.declared.ids.EndId.{EndId}
-use Rattle.hub_logging.specs.Notes.{Notes, notes_of}
+use Rattle.hub_logging.specs.Notes.{IsLoggable, Notes, notes_of}
 use Rattle.hub_loop.specs.States.{DeliveryState, HoldingState}
 use Rattle.hub_loop.specs.Turning.{IsTurn}
 use Rattle.hub_loop.specs.declared.loop_error.LoopError.{LoopError}
@@ -13,7 +13,7 @@ use Rattle.hub_run.specs.Entries.{TurnLeaves}
 
 -- what a delivery leaves of the notes
 abbrev pub leaves : Notes → Envelope → List EndId → Notes → Type 0
-leaves before envelope missing after = after ≡ notes_of before envelope missing
+leaves before envelope missing after = (after ≡ notes_of before envelope missing) × IsLoggable envelope
 
 -- a delivery that is refused leaves the notes as they were
 abbrev pub refuses : Notes → Envelope → List EndId → Notes → Type 0
@@ -22,7 +22,7 @@ refuses before envelope missing after = after ≡ before
 turned : (old new : HoldingState) (looks : _) (kept keeps : Option DeliveryState) (h left : Notes) (before after : Count) (turn : Turn) → IsTurn {E = LoopError} leaves refuses old new looks kept keeps h left before after (Ok turn) → TurnLeaves turn h left
 turned old new looks kept keeps h left before after Ending t = t.2
 turned old new looks kept keeps h left before after (Idle busy) t = t.2
-turned old new looks kept keeps h left before after Delivered t = (t.0.envelope, t.4.1, t.4.4)
+turned old new looks kept keeps h left before after Delivered t = (t.0.envelope, t.4.1, t.4.4.0)
 
 -- where a turn is no error, the notes that were taken out behind it are those that it left of the notes put in
 pub counted : (old new : HoldingState) (looks : _) (kept keeps : Option DeliveryState) (h left taken now : Notes) (before after : Count) (result : Result Turn LoopError)
