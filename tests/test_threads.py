@@ -71,18 +71,20 @@ class Waiting(support.TestCase):
             [PROGRAM, "run"], stdin=subprocess.PIPE, stdout=subprocess.PIPE,
             stderr=subprocess.PIPE, preexec_fn=heed_signals,
         ) as run:
-            self.addCleanup(run.kill)
-            run.stdin.write(WAITING)
-            run.stdin.close()
-            run.stdin = None
-            tasks, limit = Path(f"/proc/{run.pid}/task"), time.monotonic() + SECONDS
-            while len(list(tasks.iterdir())) < THREADS and time.monotonic() < limit:
-                time.sleep(0.01)
-            self.assertGreaterEqual(len(list(tasks.iterdir())), THREADS)
-            # A run that would end by itself would have ended by now.
-            time.sleep(0.5)
-            self.assertIsNone(run.poll())
-            yield run
+            try:
+                run.stdin.write(WAITING)
+                run.stdin.close()
+                run.stdin = None
+                tasks, limit = Path(f"/proc/{run.pid}/task"), time.monotonic() + SECONDS
+                while len(list(tasks.iterdir())) < THREADS and time.monotonic() < limit:
+                    time.sleep(0.01)
+                self.assertGreaterEqual(len(list(tasks.iterdir())), THREADS)
+                # A run that would end by itself would have ended by now.
+                time.sleep(0.5)
+                self.assertIsNone(run.poll())
+                yield run
+            finally:
+                run.kill()
 
     def end(self, number):
         """Ends a run that waits, and tells what it printed, its status and how long it took."""
@@ -107,8 +109,6 @@ class Waiting(support.TestCase):
             time.sleep(1)
             passed = time.monotonic() - begun
             self.assertLess(processor_seconds(run.pid) - used, MOST_BUSY * passed)
-            run.kill()
-            run.communicate(timeout=SECONDS)
         self.says(THREADS, "threads", 3)
 
 
