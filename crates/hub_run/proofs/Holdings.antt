@@ -1,5 +1,5 @@
 -- What an agent's loop holds, and what is said of it.
-use Rattle.std.proofs.Common.{◌≡◌, ◌∙◌, ◌⊎◌, Bool, true, false, List, [], ◌∷◌, ◌++◌, Option, Some, None, Result, Ok, Err, IfSome, OnOk, inl, inr, ap, sym, subst}
+use Rattle.std.proofs.Common.{◌≡◌, Bool, false, List, [], ◌∷◌, ◌++◌, Result, Ok, Err, OnOk, inr, subst}
 use Rattle.slab.specs.Slab.{Slab}
 use Rattle.hub_envelope.specs.declared.ids.EndId.{EndId}
 use Rattle.hub_loop.specs.declared.closed_end.ClosedEnd.{ClosedEnd}
@@ -18,11 +18,6 @@ ports_more a (e ∷ ends) end (first, rest) one = (first, ports_more a ends end 
 pub on_ok : {X E P : Type 0} (r : Result X E) → P → OnOk r P
 on_ok (Ok x) p = p
 on_ok (Err e) p = tt
-
--- what is said of an action together
-pub acts_of : {X E : Type 0} (A B C : Type 0) (r : Result X E) → OnOk r A → OnOk r B → C → OnOk r (A × (C × B))
-acts_of A B C (Ok x) a b c = (a, (c, b))
-acts_of A B C (Err e) a b c = tt
 
 -- the end that was closed is held no more
 pub closed_held : (end : EndId) (before now : AgentState) (old : Slab Held) (closed : ClosedEnd) → old ≡ before.ends → ClosesEnd old now.ends end closed → ClosesHeld end before now

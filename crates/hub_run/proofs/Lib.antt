@@ -1,8 +1,15 @@
+pub mod Actions
+pub mod Brings
+pub mod Doing
 pub mod Endings
 pub mod Holdings
+pub mod Keeping
+pub mod Listed
 pub mod Logs
 pub mod Messages
 pub mod OneByOne
+pub mod Owns
+pub mod Slots
 pub mod Turns
 pub mod Waiting
 pub mod Walking

@@ -8,18 +8,18 @@ use Rattle.hub_envelope.specs.declared.ids.AgentId.{AgentId}
 use Rattle.hub_script.specs.Contents.{Contents, actions, agents}
 use Rattle.hub_script.specs.declared.action.ActionKind.{ActionKind}
 use Rattle.hub_trace.specs.Accepted.{AgentLog}
-use Rattle.hub_logging.specs.Notes.{Notes}
 use Rattle.hub_trace.specs.declared.log_entry.LogEntry.{LogEntry}
+use Rattle.hub_run.specs.Agents.{AgentState}
 use Rattle.hub_run.specs.Entries.{AreEndings, AreLoggedFor, log_and}
 use Rattle.hub_run.specs.Runs.{ActsFirst, AreEntriesFor, AreLogsFor, AreRunsFor, IsLogFor, IsRunFor, IsStoppedAt}
 use Rattle.hub_run.specs.Threads.{AreInOrder}
 use Rattle.hub_run.proofs.Messages.{entries_put}
 use Rattle.hub_run.proofs.OneByOne.{no_more}
 
-pub run_of : (script : Contents) (number : AgentId) (start after : Notes) (acted : Acted) (log : AgentLog) → start.log ≡ (number, [])
-    → ActsFirst acted (actions_of start.log.0 (actions script)) start after → ((endings : List LogEntry) × AreEndings endings × (log ≡ log_and after.log endings)) → IsRunFor script number log acted
+pub run_of : (script : Contents) (number : AgentId) (start after : AgentState) (acted : Acted) (log : AgentLog) → start.notes.log ≡ (number, [])
+    → ActsFirst acted (actions_of start.notes.log.0 (actions script)) start after → ((endings : List LogEntry) × AreEndings endings × (log ≡ log_and after.notes.log endings)) → IsRunFor script number log acted
 run_of script number start after acted log is_begun acts (endings, ended, said) =
-    let agent_is : start.log.0 ≡ number = ap (λ (l : AgentLog). l.0) is_begun in
+    let agent_is : start.notes.log.0 ≡ number = ap (λ (l : AgentLog). l.0) is_begun in
     let entries = acts.acts.0 in
     let all : log ≡ (number, entries ++ endings) = said ∙ ap (λ (l : AgentLog). log_and l endings) (acts.acts.2 ∙ ap (λ (l : AgentLog). log_and l entries) is_begun) in
     let done : ℕ = acted.done in

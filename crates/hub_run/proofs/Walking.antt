@@ -80,7 +80,7 @@ is_closing end notice.PeerClosed = inl refl
 is_closing end notice.Moving = inl refl
 is_closing end notice.OutOfMemory = inl refl
 
-closed_so : (end : EndId) (port : Option ClosedPort) → IsClosing end (closed_entries end port)
+pub closed_so : (end : EndId) (port : Option ClosedPort) → IsClosing end (closed_entries end port)
 closed_so end None = inl refl
 closed_so end (Some port) = is_closing end port.noticed
 

@@ -13,16 +13,18 @@ use Rattle.hub_loop.specs.Adopting.{HoldsMore}
 use Rattle.hub_loop.specs.Holding.{end_held}
 use Rattle.hub_loop.specs.Looking.{Holds, HoldsNoEnd, HoldsNoPort}
 use Rattle.hub_loop.specs.Starting.{StartsClient, StartsPort}
+use Rattle.hub_loop.specs.States.{DeliveryState}
 use Rattle.hub_ports.specs.Seats.{PortSeat, end_of}
 use Rattle.hub_run.specs.declared.peer.Peer.{Peer}
 use Rattle.hub_script.specs.declared.action.ActionKind.{ActionKind}
 use Rattle.hub_script.specs.declared.action.ActionKind.TheVariants.{Post, Send, Cast, Start, Loaded, Close, Order, Event, Hand}
 
--- its notes, the ends and lines that its loop holds, its seat at the word of its order, what it has of all agents by number, and the
--- life of a worker
+-- its notes, the ends and lines that its loop holds, the delivery that it kept for want of memory, its seat at the word of its order,
+-- what it has of all agents by number, and the life of a worker
 pub record AgentState : Type 0 where
   pub notes : Notes
   pub ends : Slab Held
+  pub kept : Option DeliveryState
   pub order : OrderSeat
   pub peers : List Peer
   pub life : Option Progress
@@ -46,6 +48,10 @@ with_peer change number peers = with_found change number peers (slice_get peers 
 -- Nothing but its notes and what its loop holds has changed.
 abbrev pub KeepsElse : AgentState → AgentState → Type 0
 KeepsElse before now = now ≡ record before { notes = now.notes; ends = now.ends }
+
+-- Nothing has changed but its notes, what its loop holds and a delivery that it kept.
+abbrev pub KeepsButTurns : AgentState → AgentState → Type 0
+KeepsButTurns before now = now ≡ record before { notes = now.notes; ends = now.ends; kept = now.kept }
 
 -- Nothing but its notes has changed.
 abbrev pub KeepsButNotes : AgentState → AgentState → Type 0
@@ -110,4 +116,4 @@ Changes (Order to) before now = now ≡ record before { peers = with_peer ordere
 Changes (Event event) before now = now ≡ record before { life = option_map (λ p. after p event) before.life }
 Changes (Hand to) before now =
     KeepsButEnds before now ⊎ (now ≡ record before { ends = now.ends; peers = with_peer woken to.0 before.peers })
-Changes action before now = KeepsElse before now
+Changes action before now = KeepsButTurns before now

@@ -1,5 +1,5 @@
 -- What the logs of a run owe to its script: how many there are, whose each is, and what is written in it.
-use Rattle.std.specs.Prelude.{◌≡◌, ◌⊎◌, ◌<◌, ℕ, Bool, true, false, List, [], ◌∷◌, ◌++◌, length, replicate, take, Some, slice_get}
+use Rattle.std.specs.Prelude.{◌≡◌, ◌⊎◌, ◌<◌, ℕ, Bool, true, false, List, [], ◌∷◌, ◌++◌, length, replicate, take, None, Some, slice_get}
 use Rattle.hub_envelope.specs.declared.ids.AgentId.{AgentId}
 use Rattle.hub_script.specs.Contents.{Contents, actions, agents}
 use Rattle.hub_script.specs.declared.action.ActionKind.{ActionKind}
@@ -11,6 +11,7 @@ use Rattle.hub_logging.specs.Notes.{Notes}
 use Rattle.hub_trace.specs.declared.log_entry.LogEntry.{LogEntry}
 use Rattle.hub_run.specs.Agents.{AgentState, Changes}
 use Rattle.hub_run.specs.Entries.{AreEndings, AreLoggedFor, IsLoggedFor, Writes}
+use Rattle.hub_run.specs.Owning.{Accounts, LeavesOwn, has}
 use Rattle.hub_run.specs.Posts.{Message, messages_put}
 
 -- nothing, or the one message of a post
@@ -35,12 +36,16 @@ ArePutFor (action ∷ later) messages =
 abbrev pub ActLogs : ActionKind → Notes → Notes → Type 0
 ActLogs action before after = (entries : List LogEntry) × IsLoggedFor action entries × Writes entries before after
 
--- the agent has done the action: it has written what it may, and changed of itself what the action names
+-- The agent has done the action: it has written what it may, and changed of itself what the action names. What its loop holds has
+-- changed as it has written, and by a hand it may hold less.
 abbrev pub Acts : ActionKind → AgentState → AgentState → Type 0
-Acts action before after = ActLogs action before.notes after.notes × Changes action before after
+Acts action before after = ActLogs action before.notes after.notes × Changes action before after × Accounts before after
 
-abbrev pub ActsAll : List ActionKind → Notes → Notes → Type 0
-ActsAll all before after = (entries : List LogEntry) × AreLoggedFor all entries × Writes entries before after
+-- It has written of these actions what it may, one after the other, and used its own ends.
+abbrev pub ActsAll : List ActionKind → AgentState → AgentState → Type 0
+ActsAll all before after =
+    (entries : List LogEntry) × AreLoggedFor all entries × Writes entries before.notes after.notes
+    × (before.kept ≡ None → (after.kept ≡ None) × LeavesOwn (has before) entries (has after))
 
 -- So many of all actions were done, before the next one of which the order to end came; or all were done.
 abbrev pub IsStoppedAt : Bool → ℕ → ℕ → Type 0
@@ -48,7 +53,7 @@ IsStoppedAt true done all = done < all
 IsStoppedAt false done all = done ≡ all
 
 -- of the first actions the agent has written what it may, as many as were done
-pub record ActsFirst (acted : Acted) (all : List ActionKind) (before after : Notes) : Type 0 where
+pub record ActsFirst (acted : Acted) (all : List ActionKind) (before after : AgentState) : Type 0 where
   pub acts : ActsAll (take acted.done all) before after
   pub stopped : IsStoppedAt acted.ordered acted.done (length all)
 

@@ -1,6 +1,6 @@
 //! The actions of an agent, in order. An action whose end isn't held any more is skipped.
 
-ghost use Rattle.std.specs.Prelude.{◌≡◌, List, IfOk, OnOk, option_map};
+ghost use Rattle.std.specs.Prelude.{◌≡◌, List, IfErr, IfOk, OnOk, option_map};
 ghost use Rattle.hub_acting.specs.Doing.{actions_of};
 ghost use Rattle.hub_life.specs.Course.{after as lived};
 ghost use Rattle.hub_script.specs.Contents.{actions};
@@ -18,6 +18,7 @@ ghost use Rattle.hub_run.specs.Agents.{
   woken,
 };
 ghost use Rattle.hub_run.specs.Entries.{IsCloseLogged, Writes};
+ghost use Rattle.hub_run.specs.Owning.{Accounts, HoldsNoMore};
 ghost use Rattle.hub_run.specs.Runs.{Acts, ActsFirst};
 ghost use Rattle.hub_trace.specs.declared.log_entry.LogEntry.{LogEntry};
 
@@ -25,19 +26,45 @@ use crate::agent::Agent;
 use crate::awaited::Awaited;
 use crate::shared::Shared;
 use hub_acting::Acted;
-use hub_clients::HandError;
+use hub_clients::{Directory, HandError};
 use hub_envelope::{AgentId, EndId, OutOfMemory};
 use hub_life::Event;
 use hub_loop::{Checkpoint, ClosedEnd, Held};
 use hub_script::{ActionKind, Script};
 use std::sync::Wait;
 
+// Gives a queue to an agent. Where it wasn't handed it comes back, with an error where that was for
+// want of memory; so does what is no queue.
+fn hand_over<R: Wait>(
+    rt: &R,
+    directory: &Directory,
+    held: Held,
+    to: AgentId,
+) -> Result<(), (Option<OutOfMemory>, Held)>
+    ensures { IfErr result (λ back. back.1 ≡ held) }
+{
+    let (error, held) = match held {
+        Held::Client(queue) => match queue.hand(rt, directory, to) {
+            Ok(()) => return Ok(()),
+            Err((error, queue)) => (error, Held::Client(queue)),
+        },
+        Held::Worker(queue) => match queue.hand(rt, directory, to) {
+            Ok(()) => return Ok(()),
+            Err((error, queue)) => (error, Held::Worker(queue)),
+        },
+        held => return Err((None, held)),
+    };
+    match error {
+        HandError::OutOfMemory => Err((Some(OutOfMemory), held)),
+        HandError::Taken => Err((None, held)),
+    }
+}
+
 impl<'s, C: Checkpoint> Agent<'s, C> {
     /// Does its actions, up to the last or to the order to end, for which it looks before each.
     pub(crate) fn act_all<R: Wait>(&mut self, rt: &R, script: &Script) -> Result<Acted, OutOfMemory>
         ensures { IfOk result (λ acted. ActsFirst acted
-            (actions_of self.old.notes.log.0 (actions script.now)) self.old.notes
-            self.new.notes) }
+            (actions_of self.old.notes.log.0 (actions script.now)) self.old self.new) }
     {
         let number = self.number();
         hub_acting::act_all(
@@ -129,6 +156,7 @@ impl<'s, C: Checkpoint> Agent<'s, C> {
         ensures written { OnOk result ((entries : List LogEntry) × IsCloseLogged end entries
             × Writes entries self.old.notes self.new.notes) }
         ensures held { OnOk result (ClosesHeld end self.old self.new) }
+        ensures own { OnOk result (Accounts self.old self.new) }
         ensures rest { KeepsElse self.old self.new }
     {
         let Shared { hub, roster, .. } = self.shared;
@@ -151,7 +179,8 @@ impl<'s, C: Checkpoint> Agent<'s, C> {
 
     // Hands its own queue to an agent, which it wakes.
     fn hand<R: Wait>(&mut self, rt: &R, to: AgentId) -> Result<(), OutOfMemory>
-        ensures { OnOk result (Changes (Hand to) self.old self.new) }
+        ensures changes { OnOk result (Changes (Hand to) self.old self.new) }
+        ensures held { OnOk result (HoldsNoMore self.old self.new) }
     {
         if self.hand_queue(rt, to)? {
             self.wake(to);
@@ -162,29 +191,20 @@ impl<'s, C: Checkpoint> Agent<'s, C> {
     // Gives its own queue to an agent, and answers whether it was handed. Where it wasn't it holds
     // the queue again.
     fn hand_queue<R: Wait>(&mut self, rt: &R, to: AgentId) -> Result<bool, OutOfMemory>
-        ensures { KeepsButEnds self.old self.new }
+        ensures same { KeepsButEnds self.old self.new }
+        ensures held { OnOk result (HoldsNoMore self.old self.new) }
     {
         let Shared { directory, .. } = self.shared;
         let queue = self.queue();
-        let (error, held) = match self.event_loop.release(queue) {
-            Some(Held::Client(queue)) => match queue.hand(rt, directory, to) {
-                Ok(()) => return Ok(true),
-                Err((error, queue)) => (error, Held::Client(queue)),
-            },
-            Some(Held::Worker(queue)) => match queue.hand(rt, directory, to) {
-                Ok(()) => return Ok(true),
-                Err((error, queue)) => (error, Held::Worker(queue)),
-            },
-            Some(held) => {
-                self.hold(rt, held)?;
-                return Ok(false);
-            }
-            None => return Ok(false),
+        let Some(held) = self.event_loop.release(queue) else {
+            return Ok(false);
         };
-        self.hold(rt, held)?;
-        match error {
-            HandError::OutOfMemory => Err(OutOfMemory),
-            HandError::Taken => Ok(false),
+        match hand_over(rt, directory, held, to) {
+            Ok(()) => Ok(true),
+            Err((refused, held)) => {
+                self.hold(rt, held)?;
+                refused.map_or(Ok(false), Err)
+            }
         }
     }
 

@@ -1,6 +1,6 @@
 ghost use Rattle.std.specs.Prelude.{◌≡◌, ◌≤◌, ◌∷◌, [], ℕ, List, true, IfOk, OnOk};
 ghost use Rattle.hub_acting.specs.Doing.{actions_of};
-ghost use Rattle.hub_run.specs.Agents.{HoldsPort, KeepsButNotes, KeepsElse};
+ghost use Rattle.hub_run.specs.Agents.{HoldsPort, KeepsButNotes, KeepsButTurns, KeepsElse};
 ghost use Rattle.hub_run.specs.Entries.{
   AreAdoptions,
   IsComeLogged,
@@ -9,6 +9,7 @@ ghost use Rattle.hub_run.specs.Entries.{
   TurnLeaves,
   Writes,
 };
+ghost use Rattle.hub_run.specs.Owning.{Accounts, TurnBrings};
 ghost use Rattle.hub_run.specs.Runs.{ActsFirst, IsRunFor};
 ghost use Rattle.hub_script.specs.Contents.{actions};
 ghost use Rattle.hub_trace.specs.declared.limits.TheConstants.{MAX_AGENT};
@@ -80,6 +81,7 @@ impl<'s, C: Checkpoint> Model for Agent<'s, C> {
     ghost view = { λ a. record {
       notes = a.scribe;
       ends = a.event_loop.holding.held;
+      kept = a.event_loop.kept;
       order = a.order;
       peers = a.peers.items;
       life = a.life;
@@ -121,8 +123,7 @@ impl<'s, C: Checkpoint> Agent<'s, C> {
     // Does the actions. Where memory runs out all agents are ordered to end.
     fn act_or_order<R: Wait>(&mut self, rt: &R, script: &Script) -> Result<Acted, OutOfMemory>
         ensures { IfOk result (λ acted. ActsFirst acted
-            (actions_of self.old.notes.log.0 (actions script.now)) self.old.notes
-            self.new.notes) }
+            (actions_of self.old.notes.log.0 (actions script.now)) self.old self.new) }
     {
         match self.act_all(rt, script) {
             Ok(acted) => Ok(acted),
@@ -135,7 +136,8 @@ impl<'s, C: Checkpoint> Agent<'s, C> {
 
     /// Its loop, what keeps its log, and the ends that it has closed and not swept yet.
     pub(crate) fn into_parts(self) -> (AgentLoop<'s, C>, Scribe, Vec<Grave>)
-        ensures { result.1 ≡ self.entry.notes }
+        ensures held { result.0.holding.held ≡ self.entry.ends }
+        ensures notes { result.1 ≡ self.entry.notes }
     {
         let Agent {
             alloc: _,
@@ -216,7 +218,8 @@ impl<'s, C: Checkpoint> Agent<'s, C> {
     fn turn_counted<L: Ledger, R: Wait>(&mut self, rt: &R, blank: Blank) -> Result<Turn, LoopError>
         requires { (blank.name ≡ L.name) × (blank.parts ≡ L.parts) × (L.parts ≡ 2) }
         ensures left { IfOk result (λ turn. TurnLeaves turn self.old.notes self.new.notes) }
-        ensures rest { KeepsElse self.old self.new }
+        ensures brings { IfOk result (λ turn. TurnBrings turn self.old self.new) }
+        ensures rest { KeepsButTurns self.old self.new }
     {
         let mut steps = Steps::<L>::begin(blank);
         let scribe = self.scribe.take();
@@ -230,7 +233,8 @@ impl<'s, C: Checkpoint> Agent<'s, C> {
     fn turn<R: Wait>(&mut self, rt: &R) -> Result<Turn, OutOfMemory>
         ensures written { OnOk result ((entries : List LogEntry) × IsTurnLogged entries
             × Writes entries self.old.notes self.new.notes) }
-        ensures rest { KeepsElse self.old self.new }
+        ensures own { OnOk result (Accounts self.old self.new) }
+        ensures rest { KeepsButTurns self.old self.new }
     {
         let turn = match self.turn_counted::<Brand, R>(rt, Blank::new(2)) {
             Ok(turn) => turn,
@@ -250,6 +254,7 @@ impl<'s, C: Checkpoint> Agent<'s, C> {
         ensures written { IfOk result (λ came. (entries : List LogEntry)
             × IsComeLogged (Awaited.Queue end) came entries
             × Writes entries self.old.notes self.new.notes) }
+        ensures own { OnOk result (Accounts self.old self.new) }
         ensures rest { KeepsElse self.old self.new }
     {
         let Shared { hub, directory, .. } = self.shared;
@@ -268,6 +273,7 @@ impl<'s, C: Checkpoint> Agent<'s, C> {
         ensures written { IfOk result (λ came. (entries : List LogEntry)
             × IsComeLogged awaited came entries
             × Writes entries self.old.notes self.new.notes) }
+        ensures own { OnOk result (Accounts self.old self.new) }
         ensures rest { KeepsElse self.old self.new }
     {
         match awaited {
@@ -289,7 +295,8 @@ impl<'s, C: Checkpoint> Agent<'s, C> {
     ) -> Result<(), OutOfMemory>
         ensures written { OnOk result ((entries : List LogEntry) × IsWaitLogged awaited entries
             × Writes entries self.old.notes self.new.notes) }
-        ensures rest { KeepsElse self.old self.new }
+        ensures own { OnOk result (Accounts self.old self.new) }
+        ensures rest { KeepsButTurns self.old self.new }
     {
         for _ in rt.forever() {
             if self.has_come(rt, awaited)? {

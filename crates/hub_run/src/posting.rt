@@ -1,6 +1,7 @@
 //! The actions that post: at a port, at a queue, from a broadcast member.
 
-ghost use Rattle.std.specs.Prelude.{◌≡◌, ◌⊎◌, ◌∷◌, [], List, true, IfOk, IfSome, OnOk};
+ghost use Rattle.std.specs.Prelude.{◌≡◌, ◌⊎◌, ◌∷◌, [], List, true, IfOk, IfSome, IfNone, OnOk};
+ghost use Rattle.hub_loop.specs.Adopting.{HoldsMore};
 ghost use Rattle.hub_ports.specs.Seats.{ends_of};
 ghost use Rattle.hub_run.specs.Agents.{
   HoldsMember,
@@ -22,6 +23,7 @@ ghost use Rattle.hub_run.specs.Entries.{
   doomed_entries,
   outcome_entries,
 };
+ghost use Rattle.hub_run.specs.Owning.{Accounts, HoldsAlso, HoldsSame, back_of};
 ghost use Rattle.hub_trace.specs.Accepted.{message_at, notice_at};
 ghost use Rattle.hub_trace.specs.declared.log_entry.LogEntry.{LogEntry};
 ghost use Rattle.hub_trace.specs.declared.log_entry.LogEntry.TheVariants.{Closed, Put};
@@ -40,7 +42,8 @@ impl<'s, C: Checkpoint> Agent<'s, C> {
     /// Holds an end or a line. Where there is no memory an end is closed, so that nobody waits for
     /// what is posted there.
     pub(crate) fn hold<R: Wait>(&mut self, rt: &R, held: Held) -> Result<(), OutOfMemory>
-        ensures { KeepsButEnds self.old self.new }
+        ensures same { KeepsButEnds self.old self.new }
+        ensures held { OnOk result (HoldsMore self.old.ends self.new.ends held) }
     {
         match self.event_loop.hold(held) {
             Ok(()) => Ok(()),
@@ -71,7 +74,8 @@ impl<'s, C: Checkpoint> Agent<'s, C> {
     }
 
     fn hold_ports<R: Wait>(&mut self, rt: &R, ports: Vec<Port>) -> Result<(), OutOfMemory>
-        ensures { KeepsButEnds self.old self.new }
+        ensures same { KeepsButEnds self.old self.new }
+        ensures held { OnOk result (HoldsAlso (ends_of ports.items) self.old self.new) }
     {
         let mut held = Ok(());
         for port in ports {
@@ -101,6 +105,9 @@ impl<'s, C: Checkpoint> Agent<'s, C> {
         ensures same { KeepsButEnds self.old self.new }
         ensures ports { IfOk result (λ ports. IfSome ports (λ released.
             ends_of released.items ≡ ends.now)) }
+        ensures released { IfOk result (λ ports. IfSome ports (λ _.
+            HoldsAlso ends.now self.new self.old)) }
+        ensures again { IfOk result (λ ports. IfNone ports (HoldsSame self.old self.new)) }
     {
         let mut ports = Vec::with_capacity(self.alloc, ends.len())?;
         for end in ends {
@@ -196,6 +203,7 @@ impl<'s, C: Checkpoint> Agent<'s, C> {
     ) -> Result<(), OutOfMemory>
         ensures written { OnOk result (Writes (answer_entries transfer.now body.now answer)
             self.old.notes self.new.notes) }
+        ensures held { OnOk result (HoldsAlso (back_of answer) self.old self.new) }
         ensures rest { KeepsElse self.old self.new }
     {
         match answer {
@@ -205,12 +213,10 @@ impl<'s, C: Checkpoint> Agent<'s, C> {
                 self.hold_ports(rt, ports)?;
                 Err(OutOfMemory)
             }
-            Err(
-                PortError::Closed(_body, ports)
-                | PortError::Moving(_body, ports)
-                | PortError::TooManyPorts(_body, ports)
-                | PortError::Taken(_body, ports),
-            ) => self.hold_ports(rt, ports),
+            Err(PortError::Closed(_body, ports)) => self.hold_ports(rt, ports),
+            Err(PortError::Moving(_body, ports)) => self.hold_ports(rt, ports),
+            Err(PortError::TooManyPorts(_body, ports)) => self.hold_ports(rt, ports),
+            Err(PortError::Taken(_body, ports)) => self.hold_ports(rt, ports),
             Err(PortError::Strayed(_strays, _body, ports)) => self.hold_ports(rt, ports),
         }
     }
@@ -228,6 +234,7 @@ impl<'s, C: Checkpoint> Agent<'s, C> {
             × Writes entries self.old.notes self.new.notes) }
         ensures held { OnOk result (IsUnwritten self.old self.new
             ⊎ (HoldsPort self.old port × HoldsPorts self.old transfer.now)) }
+        ensures own { OnOk result (Accounts self.old self.new) }
         ensures rest { KeepsElse self.old self.new }
     {
         if !self.holds_port(port) || !self.holds_ports(transfer.as_slice()) {
@@ -247,7 +254,8 @@ impl<'s, C: Checkpoint> Agent<'s, C> {
 
     // Holds a line to a queue, unless it does. False where the directory lends none.
     fn take_line<R: Wait>(&mut self, rt: &R, queue: EndId) -> Result<bool, OutOfMemory>
-        ensures { KeepsButEnds self.old self.new }
+        ensures same { KeepsButEnds self.old self.new }
+        ensures held { OnOk result (HoldsSame self.old self.new) }
     {
         if self.event_loop.has_line(queue) {
             return Ok(true);
@@ -275,6 +283,7 @@ impl<'s, C: Checkpoint> Agent<'s, C> {
             × Writes entries self.old.notes self.new.notes) }
         ensures held { OnOk result (IsUnwritten self.old self.new
             ⊎ HoldsPorts self.old transfer.now) }
+        ensures own { OnOk result (Accounts self.old self.new) }
         ensures rest { KeepsElse self.old self.new }
     {
         if !self.holds_ports(transfer.as_slice()) || !self.take_line(rt, queue)? {
@@ -303,6 +312,7 @@ impl<'s, C: Checkpoint> Agent<'s, C> {
             × Writes entries self.old.notes self.new.notes) }
         ensures held { OnOk result (IsUnwritten self.old self.new
             ⊎ HoldsMember self.old member) }
+        ensures own { OnOk result (Accounts self.old self.new) }
         ensures rest { KeepsElse self.old self.new }
     {
         let copy = body.clone()?;

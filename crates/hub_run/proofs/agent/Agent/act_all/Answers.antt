@@ -10,5 +10,5 @@ use Rattle.hub_run.proofs.agent.Agent.act_all.Goals as goal
 pub returns : goal.returns
 returns g c =
     let all = actions c.args.script.now in
-    subst (λ (n : AgentId). IfOk c.act_all.result (λ acted. ActsFirst acted (actions_of n all) c.args.self.now.notes c.act_all.new.actor.notes)) c.number-number.ensures
+    subst (λ (n : AgentId). IfOk c.act_all.result (λ acted. ActsFirst acted (actions_of n all) c.args.self.now c.act_all.new.actor)) c.number-number.ensures
     (if_acted_so (looks_by looking) (acts_by acting) looked_so acted_so (actions_of c.number-number.result all) c.args.self.now c.act_all.new.actor c.act_all.result c.act_all.ensures.ok)

@@ -5,5 +5,5 @@ use Rattle.hub_run.proofs.agent.Agent.run.Goals as goal
 
 pub returns : goal.returns
 returns g c =
-    run_of c.args.script.now c.args.number c.new.result c.act_or_order-acted.new.self.notes c.in_ok-acted.field-0 c.in_ok-finished.field-0
+    run_of c.args.script.now c.args.number _ c.act_or_order-acted.new.self c.in_ok-acted.field-0 c.in_ok-finished.field-0
     (ap (λ (n : Notes). n.log) c.new.ensures) c.in_ok-acted.ensures c.in_ok-finished.ensures

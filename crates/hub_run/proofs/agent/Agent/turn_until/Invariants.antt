@@ -1,9 +1,11 @@
-use Rattle.hub_run.specs.Agents.{KeepsElse}
+use Rattle.hub_run.specs.Agents.{KeepsButTurns}
+use Rattle.hub_run.specs.Owning.{Accounts}
 use Rattle.hub_run.proofs.Waiting.{TurnsAll}
 use Rattle.hub_run.proofs.agent.Agent.turn_until.Given as goal
 
 abbrev pub invariant-loop : goal.invariant-loop
 invariant-loop g l = record {
   turns : TurnsAll l.fn.self.notes l.self.notes;
-  rest : KeepsElse l.fn.self l.self;
+  own : Accounts l.fn.self l.self;
+  rest : KeepsButTurns l.fn.self l.self;
 }

@@ -1,0 +1,102 @@
+-- What is taken out of a loop and held again.
+use Rattle.std.specs.Result.{result_and}
+use Rattle.std.proofs.Common.{◌≡◌, ◌∙◌, ◌≤◌, ℕ, ◌+◌, List, [], ◌∷◌, ◌++◌, Option, Some, Result, Ok, Err, IfOk, IfSome, OnOk, ap, sym, subst, arith}
+use Rattle.slab.specs.Slab.{Slab}
+use Rattle.hub_envelope.specs.declared.ids.EndId.{EndId}
+use Rattle.hub_loop.specs.Adopting.{HoldsMore}
+use Rattle.hub_loop.specs.declared.held.Held.{Held}
+use Rattle.hub_loop.specs.declared.held.Held.TheVariants as held
+use Rattle.hub_ports.specs.Seats.{PortSeat, end_of, ends_of}
+use Rattle.hub_queue.specs.Standing.{StandSeat}
+use Rattle.hub_run.specs.Agents.{AgentState}
+use Rattle.hub_run.specs.Owning.{Accounts, HoldsAlso, has, times}
+use Rattle.hub_run.proofs.Actions.{again_accounts}
+use Rattle.hub_run.proofs.Brings.{count_held, held_in}
+use Rattle.hub_run.proofs.Listed.{times_cons, times_one}
+
+-- one end less is held
+pub less_so : (old before mid : Slab Held) (h : Held) → old ≡ before → HoldsMore mid old h → (e : ℕ) → held_in mid e ≤ held_in before e
+less_so old before mid h same less e =
+    let a = count_held e mid old h less in
+    let b = ap (λ s. held_in s e) same in
+    omega (arith, a, b)
+
+-- it was taken out, and is held again
+pub again_so : (old before mid new : Slab Held) (h back : Held) → old ≡ before → HoldsMore mid old h → back ≡ h → HoldsMore mid new back → (e : ℕ) → held_in new e ≤ held_in before e
+again_so old before mid new h back same less is more e =
+    let a = count_held e mid old h less in
+    let b = count_held e mid new h (subst (HoldsMore mid new) is more) in
+    let c = ap (λ s. held_in s e) same in
+    omega (arith, a, b, c)
+
+-- a line is no end
+pub line_so : (old before new : Slab Held) (line : StandSeat) → old ≡ before → HoldsMore old new (held.Line line) → (e : ℕ) → held_in new e ≡ held_in before e
+line_so old before new line same more e =
+    let a = count_held e old new (held.Line line) more in
+    let b = ap (λ s. held_in s e) same in
+    omega (arith, a, b)
+
+times_more : (e : ℕ) (ports : List PortSeat) (port : PortSeat) → times e (ends_of (ports ++ port ∷ [])) ≡ times e (ends_of ports) + times e (end_of port ∷ [])
+times_more e [] port = omega arith
+times_more e (p ∷ ports) port =
+    let rest = times_more e ports port in
+    let all = times_cons e (end_of p) (ends_of (ports ++ port ∷ [])) in
+    let some = times_cons e (end_of p) (ends_of ports) in
+    omega (arith, rest, all, some)
+
+-- one port more was taken out
+pub port_out : (was old before mid : Slab Held) (port : PortSeat) (ports more : List PortSeat) → old ≡ before → HoldsMore mid old (held.Port port) → more ≡ ports ++ port ∷ []
+    → ((e : ℕ) → held_in was e ≡ held_in before e + times e (ends_of ports)) → (e : ℕ) → held_in was e ≡ held_in mid e + times e (ends_of more)
+port_out was old before mid port ports more same less is released e =
+    let a = count_held e mid old (held.Port port) less in
+    let b = ap (λ s. held_in s e) same in
+    let c = ap (λ ps. times e (ends_of ps)) is in
+    let d = times_more e ports port in
+    let f = times_one e (end_of port) in
+    let g = released e in
+    omega (arith, a, b, c, d, f, g)
+
+-- the ports that were taken out are held again
+pub ports_again : (was old before new : Slab Held) (ports : List PortSeat) → old ≡ before → ((e : ℕ) → held_in was e ≡ held_in before e + times e (ends_of ports))
+    → ((e : ℕ) → held_in new e ≡ held_in old e + times e (ends_of ports)) → (e : ℕ) → held_in new e ≡ held_in was e
+ports_again was old before new ports same released holds e =
+    let a = ap (λ s. held_in s e) same in
+    let b = released e in
+    let c = holds e in
+    omega (arith, a, b, c)
+
+-- so is what was taken out last, which is no port
+pub all_again : {X E : Type 0} (r s : Result X E) (both : Result X E) (x : X) (was old before mid again new : Slab Held) (h : Held) (ports : List PortSeat) → both ≡ result_and r s → both ≡ Ok x → old ≡ before
+    → HoldsMore mid old h → OnOk s (HoldsMore mid again h) → OnOk r ((e : ℕ) → held_in new e ≡ held_in again e + times e (ends_of ports))
+    → ((e : ℕ) → held_in was e ≡ held_in before e + times e (ends_of ports)) → (e : ℕ) → held_in new e ≡ held_in was e
+all_again (Ok a) (Ok b) both x was old before mid again new h ports is ok same less more holds released e =
+    let l = count_held e mid old h less in
+    let m = count_held e mid again h more in
+    let n = ap (λ s. held_in s e) same in
+    let o = holds e in
+    let p = released e in
+    omega (arith, l, m, n, o, p)
+all_again (Ok a) (Err b) both x was old before mid again new h ports is ok same less more holds released e = let no = sym is ∙ ok in absurd cc
+all_again (Err a) s both x was old before mid again new h ports is ok same less more holds released e = let no = sym is ∙ ok in absurd cc
+
+-- what comes back with the answer
+pub back_held : {X E : Type 0} (r : Result X E) (ends back : List EndId) (now old : AgentState) → back ≡ ends → OnOk r (HoldsAlso ends old now) → OnOk r (HoldsAlso back old now)
+back_held r ends back now old is holds = subst (λ es. OnOk r (HoldsAlso es old now)) (sym is) holds
+
+-- Nothing was posted, and the ports came back.
+pub unposted : {X E : Type 0} (result : Result X E) (before out posted now : AgentState) (ends : List EndId) (ports back : List PortSeat) → HoldsAlso ends out before → ((e : ℕ) → has posted e ≡ has out e) → ends_of ports ≡ ends → back ≡ ports
+    → OnOk result (HoldsAlso (ends_of back) posted now) → now.notes ≡ before.notes → now.kept ≡ before.kept → OnOk result (Accounts before now)
+unposted (Ok x) before out posted now ends ports back released same are is holds notes kept =
+    again_accounts {E = Unit {0}} (Ok x) before out now ends released
+    (λ e.
+    let a = holds e in
+    let b = same e in
+    let c = ap (λ ps. times e (ends_of ps)) is in
+    let d = ap (times e) are in
+    omega (arith, a, b, c, d))
+    notes kept
+unposted (Err x) before out posted now ends ports back released same are is holds notes kept = tt
+
+-- what is said of the ports that were taken out
+pub of_some : {X E P : Type 0} (result : Result (Option X) E) (x : X) → result ≡ Ok (Some x) → IfOk result (λ ports. IfSome ports (λ y. P)) → P
+of_some {P} result x is all = subst (λ r. IfOk r (λ ports. IfSome ports (λ y. P))) is all
