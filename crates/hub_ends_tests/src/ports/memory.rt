@@ -1,6 +1,6 @@
 //! Tests in which each allocation may be refused, and what stands after it. Each call is made again
 //! where there was no memory, once it was seen that what came back is whole.
-use crate::ports::{Answer, PortTable};
+use crate::ports::table::{Answer, PortTable};
 use hub_ports::Noticed;
 use std::alloc::Global;
 use std::sync::Wait;

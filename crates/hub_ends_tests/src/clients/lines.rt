@@ -1,5 +1,5 @@
 //! Lines that the directory lends, where step files can't show them.
-use crate::parts::{client, lost_line, take, worker};
+use crate::clients::parts::{client, lost_line, take, worker};
 use hub_clients::{ClientQueue, Directory, DirectoryError, WorkerQueue};
 use hub_depot::Depot;
 use hub_envelope::{EndId, MAX_LINES};

@@ -1,5 +1,5 @@
 //! What step files can't show of ports: what a closing tells, and the end of a hub.
-use crate::ports::{Answer, PortTable};
+use crate::ports::table::{Answer, PortTable};
 use hub_envelope::{EndId, LineId};
 use hub_ports::Noticed;
 use hub_queue::Posted;

@@ -1,6 +1,6 @@
 //! A test in which each allocation may be refused. That a queue comes back from a hand that found
 //! no memory is played from step files, by `hub_player`.
-use crate::parts::lost_line;
+use crate::clients::parts::lost_line;
 use hub_clients::{Directory, DirectoryError, QueueError};
 use hub_queue::Ends;
 use hub_test_parts::bell;

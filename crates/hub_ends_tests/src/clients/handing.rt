@@ -1,5 +1,5 @@
 //! Queues that wait for an agent, where step files can't show them.
-use crate::parts::{client, worker};
+use crate::clients::parts::{client, worker};
 use hub_clients::{Directory, HandError, HandedQueue};
 use hub_depot::Depot;
 use hub_envelope::{AgentId, EndId};

@@ -1,7 +1,7 @@
 //! Ports by number, and their hub.
 //!
 //! A function that drops a port costs some seconds of the check, so few do.
-use crate::parts::{are_numbered, entangled, room, take};
+use crate::ports::parts::{are_numbered, entangled, room, take};
 use hub_envelope::{AgentId, Body};
 use hub_ports::{Hub, Noticed, Port, PortError, Spent};
 use hub_queue::{Ends, Grave, Posted, Took};

@@ -1,5 +1,5 @@
 //! Joins and casts of which each allocation is refused in turn.
-use crate::parts::{NO_PORTS, is_first, key, take};
+use crate::broadcast::parts::{NO_PORTS, is_first, key, take};
 use hub_broadcast::{CastError, CastOutcome, JoinError, Member, Roster};
 use hub_depot::Depot;
 use hub_envelope::{AgentId, EndId};

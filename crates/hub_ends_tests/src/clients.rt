@@ -1,0 +1,4 @@
+mod handing;
+mod lines;
+mod memory;
+mod parts;

@@ -1,0 +1,4 @@
+mod memory;
+mod parts;
+mod rows;
+mod table;
