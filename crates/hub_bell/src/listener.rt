@@ -71,8 +71,8 @@ impl Listener {
         Ok(Bell::at(Arc::try_clone(&self.board)?))
     }
 
-    /// Takes out the names of the groups in which bits were set: bit `n` is set where one was set in
-    /// the words from `16 * n` to `16 * n + 15` since the names were last taken out.
+    /// Takes out the names of the groups in which bits were set: bit `n` is set where one was set
+    /// in the words from `16 * n` to `16 * n + 15` since the names were last taken out.
     pub fn take_names(&mut self) -> u64
         ensures { (self.new.board ≡ self.old.board)
             × IsTaken self.old.at self.new.at names_word result }

@@ -10,4 +10,5 @@ mod Posts
 mod Reaches
 mod Scans
 mod Serves
+mod Starts
 mod TakesNothing

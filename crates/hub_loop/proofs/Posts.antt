@@ -1,5 +1,5 @@
 -- What a post from a loop leaves.
-use Rattle.std.proofs.Common.{◌≡◌, ◌∙◌, ℕ, ◌<◌, ◌≤◌, length, List, Option, Result, Ok, Err, IfOk, IfErr, Some, None, get_or-set_other, ap, sym, ⊎_elim, arith}
+use Rattle.std.proofs.Common.{◌≡◌, ◌∙◌, ℕ, length, List, Result, Ok, Err, IfOk, IfErr, Some, None, get_or-set_other, ap, sym, ⊎_elim}
 use Rattle.std.proofs.lemmas.Bool.{cases_lt}
 use Rattle.std.proofs.lemmas.List.{get_or-set_same, get_or_past}
 use Rattle.std.proofs.lemmas.Option.{same_Some, none-some}

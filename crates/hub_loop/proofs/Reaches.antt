@@ -4,11 +4,12 @@ use Rattle.std.proofs.lemmas.Bool.{cases_eq}
 use Rattle.slab.specs.Slab.{Slab, get, with_value}
 use Rattle.hub_envelope.specs.declared.ids.EndId.{EndId}
 use Rattle.hub_marks.specs.declared.ready.Ready.{Ready}
-use Rattle.hub_marks.specs.Finding.{LeadsTo}
+use Rattle.hub_marks.specs.Finding.{GrowsMarks, LeadsTo, SameEntries}
 use Rattle.hub_marks.specs.Marking.{mark_of, HasBit, SameBut}
 use Rattle.hub_loop.specs.declared.held.Held.{Held}
 use Rattle.hub_loop.specs.Holding.{end_held}
 use Rattle.hub_loop.specs.Reaching.{IsReached, AreReached}
+use Rattle.hub_loop.specs.Scanning.{IsListedAt}
 use Rattle.hub_queue.specs.declared.took.Took.{Took}
 use Rattle.hub_queue.specs.Counting.{Count}
 use Rattle.hub_loop.specs.declared.serving.Served.{Served}
@@ -27,6 +28,15 @@ held-moves r q key held moves reached =
 -- all that is held is reached still
 pub all-move : (slots : Slab Held) (r q : Ready) → ((key : ℕ) → Moves r q key) → AreReached slots r → AreReached slots q
 all-move slots r q moves reached key held is = held-moves r q key held (moves key) (reached key held is)
+
+-- there is more room, and what was marked and listed is
+pub grown : (slots : Slab Held) (r q : Ready) → GrowsMarks r.marks q.marks → SameEntries r.listed.items q.listed.items → AreReached slots r → AreReached slots q
+grown slots r q marks listed reached =
+    all-move slots r q (λ key. record {
+      bits = marks.0;
+      marks = λ has clear. sym (marks.1 key) ∙ clear;
+      listed = λ end leads. listed end.0 ∙ leads;
+    }) reached
 
 -- the same where under one key all may have changed
 pub all-but : (old new : Slab Held) (r q : Ready) (key : ℕ) → ((other : ℕ) → other ≢ key → get new other ≡ get old other) → ((other : ℕ) → other ≢ key → Moves r q other) → ((held : Held) → get new key ≡ Some held → IsReached q key held) → AreReached old r → AreReached new q
@@ -115,4 +125,16 @@ asked-marked old new r q key before after came at listed same set reached =
     let bit : HasBit r.marks key = (reached key was.0 was.1).0 in
     let has : HasBit q.marks key = omega (arith, bit, same.bits) in
     is-marked q key held has (set bit))
+    reached
+
+-- an end that was asked has no mark, where its number leads to it
+pub asked-cleared : (old new : Slab Held) (r q : Ready) (key : ℕ) (before after : Count) (came : Served) → IsAskedAt old new key before after came → q.listed ≡ r.listed → SameBut key r.marks q.marks → IsListedAt r.listed.items key (get new key) → AreReached old r → AreReached new q
+asked-cleared old new r q key before after came at listed same leads reached =
+    all-but old new r q key at.1.others
+    (moves-other r q key same (λ end other differs was. subst (λ l. LeadsTo l.items end other) (sym listed) was))
+    (λ held is.
+    let was = was-held (get old key) (get new key) before after at.0 held at.1.at is in
+    let bit : HasBit r.marks key = (reached key was.0 was.1).0 in
+    let has : HasBit q.marks key = omega (arith, bit, same.bits) in
+    (has, λ end number clear. subst (λ l. LeadsTo l.items end key) (sym listed) (leads held end is number)))
     reached

@@ -1,11 +1,12 @@
 -- Ends that are found at the listener are served first, and those at which nothing was posted are passed over.
-use Rattle.std.proofs.Common.{◌≡◌, ◌⊎◌, ℕ, ◌-◌, ◌<◌, ◌≤◌, Bool, ◌||◌, List, [], ◌∷◌, ◌++◌, length, Option, Some, None, inl, inr, refl, sym, ap, ◌∙◌, subst, arith, append_assoc}
+use Rattle.std.proofs.Common.{◌≡◌, ◌⊎◌, ℕ, ◌-◌, ◌<◌, ◌≤◌, Bool, ◌||◌, false, List, [], ◌∷◌, ◌++◌, length, Option, Some, None, inl, inr, refl, sym, ap, ◌∙◌, subst, arith, append-nil, append_assoc}
 use Rattle.std.proofs.lemmas.Bool.{cases_lt}
-use Rattle.slab.specs.Slab.{get}
+use Rattle.slab.specs.Slab.{Slab, get}
 use Rattle.hub_bell.specs.declared.steps.BoardStep.{BoardStep}
 use Rattle.hub_envelope.specs.declared.envelope.Envelope.{Envelope}
 use Rattle.hub_bell.specs.Seats.{BoardSeat, Done}
 use Rattle.hub_envelope.specs.declared.ids.EndId.{EndId}
+use Rattle.hub_marks.specs.declared.ready.Ready.{Ready}
 use Rattle.hub_marks.specs.Finding.{KeepsMarks, HasStepped, HasRead, WasClear, LeadsTo, FindsAll}
 use Rattle.hub_marks.specs.Marking.{mark_of, HasBit}
 use Rattle.hub_queue.specs.Counting.{Count}
@@ -17,11 +18,33 @@ use Rattle.hub_loop.specs.declared.serving.Served.TheVariants.{Given, Nothing}
 use Rattle.hub_loop.specs.Holding.{end_held}
 use Rattle.hub_loop.specs.Reaching.{IsReached, AreReached}
 use Rattle.std.proofs.lemmas.List.{get_or_past}
+use Rattle.hub_loop.proofs.Reaches.{all-move}
 use Rattle.hub_loop.proofs.Serves.{mark-cases, asked-join, order-before, before-join, before-behind, before-whole, these-join, behind-join}
 
 -- ends were found at the listener, and none was asked
 pub found-same : (old new : EndsSeat) → new.ready.listed ≡ old.ready.listed → KeepsMarks old.ready.marks new.ready.marks → new.next ≡ old.next → new.held.capacity ≡ old.held.capacity → IsSameBut [] old new
 found-same old new listed keeps next capacity = record { bits = keeps.0; stay = λ key marked. inr (keeps.1 key marked); listed = listed; next = next; capacity = capacity }
+
+-- more may be marked, and what is listed is the same
+pub gathered : (slots : Slab Held) (r q : Ready) → KeepsMarks r.marks q.marks → q.listed ≡ r.listed → AreReached slots r → AreReached slots q
+gathered slots r q keeps listed reached =
+    all-move slots r q (λ key. record {
+      bits = omega (arith, keeps.0);
+      marks = λ has clear.
+          elim (mark-cases r.marks key) [
+            | inl none ↦ none
+            | inr set ↦ absurd (let still = keeps.1 key set in omega (arith, clear, still))
+          ];
+      listed = λ end leads. subst (λ l. LeadsTo l.items end key) (sym listed) leads;
+    }) reached
+
+-- no steps
+pub no-steps : (a : BoardSeat) → HasStepped a a []
+no-steps a = (refl, ap (λ (steps : List BoardStep). record a.at { steps = steps }) (sym (append-nil a.at.steps)))
+
+-- nothing was asked
+pub asked-nothing : (old new : EndsSeat) (count : Count) → new.held ≡ old.held → IsSameBut [] old new → AskedThese [] old new count count false
+asked-nothing old new count held same = record { asked = (held, refl, refl); same = same }
 
 -- steps behind steps
 pub steps-join : (a b c : BoardSeat) (front back : List BoardStep) → HasStepped a b front → HasStepped b c back → HasStepped a c (front ++ back)
@@ -141,6 +164,19 @@ all-nothing high old mid new before c after ahead busy whole first second =
       these-join first.0 second.0 old mid new before c after ahead busy first.1 second.1,
       (second.0, first.0, refl, subst (λ n. HasOrder old.next (n - old.next) first.0) whole first.2, subst (λ n. HasOrder 0 n second.0) none second.2),
     )
+
+-- a marked end from the next key on gave an envelope
+pub marked-ahead : (high : ℕ) (old new : EndsSeat) (before after : Count) (served : Served) → AreMarkedAsked old.next high old new before after served → ((busy : Bool) → served ≡ Nothing busy → ⊥) → AreMarkedServed old new before after served
+marked-ahead high old new before after (Given key v) came other = (
+  came.0,
+  came.1,
+  λ end is below.
+      elim is [
+        | inl here ↦ came.4 end here.0 here.1
+        | inr past ↦ absurd (omega (arith, past.0, came.2))
+      ],
+)
+marked-ahead high old new before after (Nothing busy) came other = absurd (other busy refl)
 
 -- an end that isn't marked once ends were found is passed over
 passed-end : (end : Option EndId) (held : Held) (old mid : EndsSeat) (key : ℕ) (looks : List BoardStep) → end_held held ≡ end → IsReached old.ready key held → IsSameBut [] old mid → FindsAll mid.ready.listed.items mid.ready.marks looks → mark_of mid.ready.marks key ≡ 0 → IsEndPassedOver end (mark_of old.ready.marks key) looks

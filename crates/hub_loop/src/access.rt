@@ -38,7 +38,7 @@ use crate::checkpoint::Checkpoint;
 use crate::closed_end::ClosedEnd;
 use crate::event_loop::EventLoop;
 use crate::handler::Handler;
-use crate::held::Held;
+use crate::held::{Held, Kind};
 use crate::loop_error::LoopError;
 use hub_broadcast::{Member, SharedRoster};
 use hub_clients::ClientQueue;
@@ -73,7 +73,7 @@ impl<H: Handler + Drop, C: Checkpoint + Drop> EventLoop<H, C> {
             × (self.new.holding.closed ≡ self.old.holding.closed) }
         ensures rest { self.new ≡ record self.old { holding = self.new.holding } }
     {
-        self.holding.start_port(end)
+        self.holding.start_kind(Kind::Port, end)
     }
 
     /// Enables the client's queue of this number, as `ClientQueue::start_messages` and `loaded`.
@@ -84,7 +84,7 @@ impl<H: Handler + Drop, C: Checkpoint + Drop> EventLoop<H, C> {
             × (self.new.holding.closed ≡ self.old.holding.closed) }
         ensures rest { self.new ≡ record self.old { holding = self.new.holding } }
     {
-        self.holding.start_client(end)
+        self.holding.start_kind(Kind::Client, end)
     }
 
     /// Lends the port of this number. `None` where the loop doesn't hold it.
@@ -93,7 +93,8 @@ impl<H: Handler + Drop, C: Checkpoint + Drop> EventLoop<H, C> {
             × (end_of port.now ≡ end)) }
         ensures none { IfNone result (HoldsNoPort self.old.holding.held end) }
     {
-        self.holding.port_mut(end)
+        let key = self.holding.find_end(Kind::Port, end)?;
+        self.holding.lend(key)?.as_port()
     }
 
     /// Lends the client's queue of this number. `None` where the loop doesn't hold it.
@@ -102,7 +103,8 @@ impl<H: Handler + Drop, C: Checkpoint + Drop> EventLoop<H, C> {
             × (queue.now.end ≡ end.0)) }
         ensures none { IfNone result (HoldsNoClient self.old.holding.held end) }
     {
-        self.holding.client_mut(end)
+        let key = self.holding.find_end(Kind::Client, end)?;
+        self.holding.lend(key)?.as_client()
     }
 
     /// Lends the member of this number. `None` where the loop doesn't hold it.
@@ -111,7 +113,8 @@ impl<H: Handler + Drop, C: Checkpoint + Drop> EventLoop<H, C> {
             × (member.now.taker.end ≡ end.0)) }
         ensures none { IfNone result (HoldsNoMember self.old.holding.held end) }
     {
-        self.holding.member_mut(end)
+        let key = self.holding.find_end(Kind::Member, end)?;
+        self.holding.lend(key)?.as_member()
     }
 
     /// Lends a line that posts at the end of this number. `None` where the loop holds none.
@@ -120,7 +123,8 @@ impl<H: Handler + Drop, C: Checkpoint + Drop> EventLoop<H, C> {
             × (line.now.name.end ≡ end)) }
         ensures none { IfNone result (HoldsNoLine self.old.holding.held end) }
     {
-        self.holding.line_mut(end)
+        let key = self.holding.find_line(end)?;
+        self.holding.lend(key)?.as_line()
     }
 
     /// Whether it holds a line that posts at the end of this number.
@@ -153,7 +157,8 @@ impl<H: Handler + Drop, C: Checkpoint + Drop> EventLoop<H, C> {
             × (end_held held.now ≡ Some end)) }
         ensures none { IfNone result (HoldsNoEnd self.now.holding.held end) }
     {
-        self.holding.held(end)
+        let key = self.holding.find_end(Kind::End, end)?;
+        self.holding.held.get(key)
     }
 
     /// The numbers of the ports, queues and members that the loop holds, in the order of their

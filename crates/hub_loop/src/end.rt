@@ -57,8 +57,8 @@ impl<H: Handler + Drop, C: Checkpoint + Drop> EventLoop<H, C> {
         }
     }
 
-    // Takes out what is to be closed: what is held, the queues that were fetched, and the ports that
-    // were found for a kept delivery.
+    // Takes out what is to be closed: what is held, the queues that were fetched, and the ports
+    // that were found for a kept delivery.
     fn take_open(&mut self) -> Result<(), OutOfMemory>
         ensures moved { (passes : OpenState → Bool) →
             passing self.new passes ≡ passing self.old passes }

@@ -1,39 +1,17 @@
 //! How an end or a line is found by its number, lent and shown.
 
-ghost use Rattle.std.specs.Prelude.{◌≡◌, ◌↔◌, ℕ, true, Some, IfOk, IfSome, IfNone};
+ghost use Rattle.std.specs.Prelude.{◌≡◌, ◌↔◌, ℕ, true, IfOk, IfSome, IfNone};
 ghost use Rattle.std.specs.Option.{option_copied_mut};
 ghost use Rattle.slab.specs.Slab.{get};
-ghost use Rattle.hub_loop.specs.Holding.{end_held, ends_held};
-ghost use Rattle.hub_loop.specs.Looking.{
-  Holds,
-  HoldsNoClient,
-  HoldsNoEnd,
-  HoldsNoLine,
-  HoldsNoMember,
-  HoldsNoPort,
-  IsEndOf,
-  IsFound,
-  IsLineTo,
-  IsSlotOf,
-};
-ghost use Rattle.hub_loop.specs.declared.held.Held.TheVariants.{
-  Port as PortHeld,
-  Client as ClientHeld,
-  Member as MemberHeld,
-  Line as LineHeld,
-};
-ghost use Rattle.hub_loop.specs.Starting.{IsStartedAs, IsStartedAt, StartsClient, StartsPort};
+ghost use Rattle.hub_loop.specs.Holding.{ends_held};
+ghost use Rattle.hub_loop.specs.Looking.{IsEndOf, IsFound, IsLineTo, IsSlotOf};
+ghost use Rattle.hub_loop.specs.Starting.{IsStartedAs, IsStartedAt};
 ghost use Rattle.hub_marks.specs.Marking.{mark_of};
-ghost use Rattle.hub_ports.specs.Seats.{end_of};
 
 use crate::held::{Held, Kind};
 use crate::holding::Holding;
 use crate::listed::Listed;
-use hub_broadcast::Member;
-use hub_clients::ClientQueue;
 use hub_envelope::{EndId, OutOfMemory};
-use hub_ports::Port;
-use hub_queue::Poster;
 use std::alloc::Global;
 use std::collections::BTreeSet;
 
@@ -104,8 +82,8 @@ impl Holding {
         self.find_marked(kind, end)
     }
 
-    // The key of a line that posts at the end of this number. A borrower may have left another one
-    // where it is listed, so that all are looked at where it isn't found there.
+    /// The key of a line that posts at the end of this number. A borrower may have left another one
+    /// where it is listed, so that all are looked at where it isn't found there.
     pub(crate) fn find_line(&self, end: EndId) -> Option<usize>
         ensures { IsFound (IsLineTo end) self.now.held result }
     {
@@ -122,8 +100,8 @@ impl Holding {
         None
     }
 
-    // Lends what is held under a key, and marks it: whoever borrows an end may start it.
-    fn lend(&mut self, key: usize) -> Option<&mut Held>
+    /// Lends what is held under a key, and marks it: whoever borrows an end may start it.
+    pub(crate) fn lend(&mut self, key: usize) -> Option<&mut Held>
         ensures { option_copied_mut result ≡ get self.old.held key }
     {
         if !self.held.contains(key) {
@@ -139,17 +117,14 @@ impl Holding {
         ensures next { self.new.next ≡ self.old.next }
         ensures closed { self.new.closed ≡ self.old.closed }
     {
-        if !self.held.contains(key) {
-            return;
-        }
-        self.ready.marks.set(key);
         if let Some(held) = self.held.get_mut(key) {
             held.start();
+            self.ready.marks.set(key);
         }
     }
 
-    // Enables the end of this kind and number. Whether it is held.
-    fn start_kind(&mut self, kind: Kind, end: EndId) -> bool
+    /// Enables the end of this kind and number. Whether it is held.
+    pub(crate) fn start_kind(&mut self, kind: Kind, end: EndId) -> bool
         ensures held { IsStartedAs kind self.old.held self.new.held end result }
         ensures next { self.new.next ≡ self.old.next }
         ensures closed { self.new.closed ≡ self.old.closed }
@@ -161,74 +136,6 @@ impl Holding {
             }
             None => false,
         }
-    }
-
-    /// Enables the port of this number. Whether it is held.
-    pub(crate) fn start_port(&mut self, end: EndId) -> bool
-        ensures held { StartsPort self.old.held self.new.held end result }
-        ensures next { self.new.next ≡ self.old.next }
-        ensures closed { self.new.closed ≡ self.old.closed }
-    {
-        self.start_kind(Kind::Port, end)
-    }
-
-    /// Enables the client's queue of this number. Whether it is held.
-    pub(crate) fn start_client(&mut self, end: EndId) -> bool
-        ensures held { StartsClient self.old.held self.new.held end result }
-        ensures next { self.new.next ≡ self.old.next }
-        ensures closed { self.new.closed ≡ self.old.closed }
-    {
-        self.start_kind(Kind::Client, end)
-    }
-
-    /// Lends the port of this number.
-    pub(crate) fn port_mut(&mut self, end: EndId) -> Option<&mut Port>
-        ensures some { IfSome result (λ port. Holds self.old.held (PortHeld port.now)
-            × (end_of port.now ≡ end)) }
-        ensures none { IfNone result (HoldsNoPort self.old.held end) }
-    {
-        let key = self.find_end(Kind::Port, end)?;
-        self.lend(key)?.as_port()
-    }
-
-    /// Lends the client's queue of this number.
-    pub(crate) fn client_mut(&mut self, end: EndId) -> Option<&mut ClientQueue>
-        ensures some { IfSome result (λ queue. Holds self.old.held (ClientHeld queue.now)
-            × (queue.now.end ≡ end.0)) }
-        ensures none { IfNone result (HoldsNoClient self.old.held end) }
-    {
-        let key = self.find_end(Kind::Client, end)?;
-        self.lend(key)?.as_client()
-    }
-
-    /// Lends the member of this number.
-    pub(crate) fn member_mut(&mut self, end: EndId) -> Option<&mut Member>
-        ensures some { IfSome result (λ member. Holds self.old.held (MemberHeld member.now)
-            × (member.now.taker.end ≡ end.0)) }
-        ensures none { IfNone result (HoldsNoMember self.old.held end) }
-    {
-        let key = self.find_end(Kind::Member, end)?;
-        self.lend(key)?.as_member()
-    }
-
-    /// Lends a line that posts at the end of this number.
-    pub(crate) fn line_mut(&mut self, end: EndId) -> Option<&mut Poster>
-        ensures some { IfSome result (λ line. Holds self.old.held (LineHeld line.now)
-            × (line.now.name.end ≡ end)) }
-        ensures none { IfNone result (HoldsNoLine self.old.held end) }
-    {
-        let key = self.find_line(end)?;
-        self.lend(key)?.as_line()
-    }
-
-    /// Shows the end of this number.
-    pub(crate) fn held(&self, end: EndId) -> Option<&Held>
-        ensures some { IfSome result (λ held. Holds self.now.held held.now
-            × (end_held held.now ≡ Some end)) }
-        ensures none { IfNone result (HoldsNoEnd self.now.held end) }
-    {
-        let key = self.find_end(Kind::End, end)?;
-        self.held.get(key)
     }
 
     /// The numbers of the ends, in the order of their keys.

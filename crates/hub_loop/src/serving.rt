@@ -66,7 +66,10 @@ fn take_at<L: Ledger, R: Wait>(
 ) -> Option<Took>
     ensures { IsTakenAtKey held.old held.new key steps.old steps.new result }
 {
-    held.get_mut(key)?.ask(rt, steps)
+    match held.get_mut(key) {
+        Some(held) => held.ask(rt, steps),
+        None => None,
+    }
 }
 
 // Asks the end under a key, if there is one.

@@ -1,4 +1,4 @@
-use Rattle.std.proofs.Common.{◌≡◌, ◌∙◌, subst, sym, true}
+use Rattle.std.proofs.Common.{◌≡◌, ◌∙◌, subst, sym}
 use Rattle.hub_loop.specs.Looking.{Holds}
 use Rattle.hub_loop.specs.declared.held.Held.TheVariants.{Line}
 use Rattle.hub_queue.specs.Standing.{StandSeat}

@@ -1,6 +1,9 @@
 use Rattle.std.proofs.Common.{subst}
 use Rattle.hub_loop.specs.Starting.{StartsClient}
+use Rattle.hub_loop.proofs.Starts.{starts-client}
 use Rattle.hub_loop.proofs.event_loop.EventLoop.start_client.Goals as goal
 
 pub returns-clause-started : goal.returns-clause-started
-returns-clause-started g c = subst (λ l. StartsClient l.holding.held c.start_client.new.self.held c.args.end c.start_client.result) c.self.view_is c.start_client.ensures.held
+returns-clause-started g c =
+    subst (λ l. StartsClient l.holding.held c.start_kind.new.self.held c.args.end c.start_kind.result) c.self.view_is
+    (starts-client c.self.inside.holding.held c.start_kind.new.self.held c.args.end c.start_kind.result c.start_kind.ensures.held)

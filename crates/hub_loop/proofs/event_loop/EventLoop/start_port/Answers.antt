@@ -1,6 +1,9 @@
 use Rattle.std.proofs.Common.{subst}
 use Rattle.hub_loop.specs.Starting.{StartsPort}
+use Rattle.hub_loop.proofs.Starts.{starts-port}
 use Rattle.hub_loop.proofs.event_loop.EventLoop.start_port.Goals as goal
 
 pub returns-clause-started : goal.returns-clause-started
-returns-clause-started g c = subst (λ l. StartsPort l.holding.held c.start_port.new.self.held c.args.end c.start_port.result) c.self.view_is c.start_port.ensures.held
+returns-clause-started g c =
+    subst (λ l. StartsPort l.holding.held c.start_kind.new.self.held c.args.end c.start_kind.result) c.self.view_is
+    (starts-port c.self.inside.holding.held c.start_kind.new.self.held c.args.end c.start_kind.result c.start_kind.ensures.held)

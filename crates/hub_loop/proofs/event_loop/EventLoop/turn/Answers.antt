@@ -1,10 +1,8 @@
-use Rattle.std.proofs.Common.{◌≡◌, ◌∙◌, ◌≤◌, List, ap, length, sym, subst, refl, None, Some, Ok, Err}
-use Rattle.hub_bell.specs.declared.steps.BoardStep.{BoardStep}
-use Rattle.hub_marks.specs.Finding.{HasStepped}
+use Rattle.std.proofs.Common.{◌≡◌, ◌∙◌, ◌≤◌, ap, length, subst, refl, None, Some, Ok, Err}
 use Rattle.hub_loop.specs.Adopting.{stored}
 use Rattle.hub_loop.specs.Delivering.{IsDelivered}
-use Rattle.hub_loop.specs.Looping.{holding_of, MakesTurn}
-use Rattle.hub_loop.specs.Turning.{IsDue, IsTurn}
+use Rattle.hub_loop.specs.Looping.{holding_of}
+use Rattle.hub_loop.specs.Turning.{IsDue}
 use Rattle.hub_loop.specs.declared.loop_error.LoopError.{LoopError}
 use Rattle.hub_loop.specs.declared.loop_error.LoopError.TheVariants.{OutOfMemory}
 use Rattle.hub_loop.specs.declared.turn.Turn.TheVariants.{Delivered}

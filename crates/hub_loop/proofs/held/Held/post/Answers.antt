@@ -1,4 +1,3 @@
-use Rattle.std.proofs.Common.{ap}
 use Rattle.hub_ports.specs.Seats.{PortSeat}
 use Rattle.hub_loop.specs.declared.held.Held.TheVariants.{Port as PortHeld}
 use Rattle.hub_loop.proofs.held.Held.post.Goals as goal

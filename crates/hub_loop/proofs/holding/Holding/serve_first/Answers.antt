@@ -1,6 +1,6 @@
 use Rattle.std.proofs.Common.{◌++◌, refl, subst}
 use Rattle.hub_loop.specs.Scanning.{ends_of, EndsSeat, AreMarkedServed, AreAllServed}
-use Rattle.hub_loop.proofs.Scans.{found-same, marked-first, all-first, nothing-first, steps-join, inside-marked, inside-all}
+use Rattle.hub_loop.proofs.Scans.{found-same, gathered, marked-first, all-first, nothing-first, steps-join, inside-marked, inside-all}
 use Rattle.hub_loop.proofs.holding.Holding.serve_first.Goals as goal
 
 pub returns-in-Nothing-serve_all-clause-served : goal.returns-in-Nothing-serve_all-clause-served
@@ -64,3 +64,8 @@ returns-in_default-clause-inside g c =
     let old = ends_of c.args.self.now in
     let mid : EndsSeat = record { held = old.held; ready = c.gather.new.self; next = old.next } in
     (inside-marked mid (ends_of c.serve_marked.new.self) c.args.steps.now c.serve_marked.new.steps c.serve_marked.result c.serve_marked.ensures.served).1
+
+pub invariant_of-self : goal.invariant_of-self
+invariant_of-self g c =
+    let old = c.args.self.now in
+    record { room = old.room; reached = gathered old.held old.ready c.gather.new.self c.gather.ensures.keeps c.gather.ensures.listed old.reached }
