@@ -32,9 +32,9 @@ use Rattle.hub_script.specs.declared.action.ActionKind.{ActionKind}
 use Rattle.hub_script.specs.declared.action.ActionKind.TheVariants.{Post, Send, Cast, Start, Loaded, Close, Wait, Receive, Order, Event, Hand, Fetch}
 use Rattle.hub_trace.specs.Accepted.{AgentLog, message_at}
 use Rattle.hub_trace.specs.declared.log_entry.LogEntry.{LogEntry}
-use Rattle.hub_trace.specs.declared.log_entry.LogEntry.TheVariants.{Put, Got, Adopted}
+use Rattle.hub_trace.specs.declared.log_entry.LogEntry.TheVariants.{Put, Got, Adopted, Closed}
 use Rattle.hub_run.specs.Agents.{AgentState, KeepsButNotes, StartsEnd, StartsQueue}
-use Rattle.hub_run.specs.Entries.{AreAdoptedOf, AreAdoptions, AreClosings, AreTurns, AreTurnsLogged, IsCastLogged, IsCloseLogged, IsClosing, IsFetchLogged, IsLoggedFor, IsPostLogged, IsTurnLogged, TurnLeaves, Writes, answer_entries, log_and, ports_in}
+use Rattle.hub_run.specs.Entries.{AreAdoptedOf, AreAdoptions, AreClosings, AreEndings, AreTurns, AreTurnsLogged, IsCastLogged, IsCloseLogged, IsClosing, IsFetchLogged, IsLoggedFor, IsPostLogged, IsTurnLogged, TurnLeaves, Writes, answer_entries, log_and, ports_in}
 use Rattle.hub_run.specs.Owning.{Accounts, HoldsAlso, HoldsNoMore, HoldsSame, LeavesOwn, TurnBrings, back_of, gained, gained_by, has, lost, lost_by, times}
 use Rattle.hub_run.proofs.Brings.{count_held, count_same, held_in}
 use Rattle.hub_run.proofs.Listed.{split_times, times_cons, times_one}
@@ -217,6 +217,18 @@ pub acts_own : (action : ActionKind) (before now : AgentState) (entries : List L
 acts_own action before now entries logged written accounts none =
     let (kept, total) = written_account before now entries written accounts none in
     (kept, kind_leaves (has before) (has now) entries (one_kind action entries logged) total)
+
+endings_gain : (entries : List LogEntry) → AreEndings entries → GainsNone entries
+endings_gain [] none = λ e. refl
+endings_gain (Put d ∷ entries) (notice, rest) = λ e. let h = gained_cons e (Put d) entries in let r = endings_gain entries rest e in omega (arith, h, r)
+endings_gain (Closed end ∷ entries) rest = λ e. let h = gained_cons e (Closed end) entries in let r = endings_gain entries rest e in omega (arith, h, r)
+endings_gain (Got d ∷ entries) never = absurd never
+endings_gain (Adopted end epoch ∷ entries) never = absurd never
+
+-- at the end only what is there is closed
+pub endings_own : (own : ℕ → ℕ) (entries : List LogEntry) → AreEndings entries → ((e : ℕ) → lost e entries ≤ own e) → LeavesOwn own entries (λ e. 0)
+endings_own own entries ended fewer =
+    only_lost own (λ e. 0) entries (endings_gain entries ended) (λ e. let h = fewer e in let g = endings_gain entries ended e in omega (arith, h, g))
 
 -- adoptions
 pub adoptions_gain : (ends : List EndId) (entries : List LogEntry) → AreAdoptions ends entries → (e : ℕ) → (gained e entries ≡ times e ends) × (lost e entries ≡ 0)

@@ -1,7 +1,9 @@
 pub mod Actions
 pub mod Brings
+pub mod Closings
 pub mod Doing
 pub mod Endings
+pub mod Gives
 pub mod Holdings
 pub mod Keeping
 pub mod Listed

@@ -1,5 +1,6 @@
 pub mod Agents
 pub mod Entries
+pub mod Giving
 pub mod Owning
 pub mod Posts
 pub mod Runs

@@ -11,7 +11,8 @@ use Rattle.hub_logging.specs.Notes.{Notes}
 use Rattle.hub_trace.specs.declared.log_entry.LogEntry.{LogEntry}
 use Rattle.hub_run.specs.Agents.{AgentState, Changes}
 use Rattle.hub_run.specs.Entries.{AreEndings, AreLoggedFor, IsLoggedFor, Writes}
-use Rattle.hub_run.specs.Owning.{Accounts, LeavesOwn, has}
+use Rattle.hub_run.specs.Giving.{given}
+use Rattle.hub_run.specs.Owning.{Accounts, LeavesOwn, UsesOwn, has, times}
 use Rattle.hub_run.specs.Posts.{Message, messages_put}
 
 -- nothing, or the one message of a post
@@ -63,11 +64,13 @@ AreEntriesFor all entries =
     (acts : List LogEntry) × (endings : List LogEntry) × (entries ≡ acts ++ endings) × AreLoggedFor all acts × AreEndings endings
 
 -- The log is this agent's. Its entries are, in order, those of the first of the agent's actions, as many as it has done, and no
--- others but those of the end; so are the messages that it says were put. All were done, unless the order to end came.
+-- others but those of the end; so are the messages that it says were put. It closes and sends its own ends alone: those that the script
+-- gives it and those that it has adopted. All were done, unless the order to end came.
 pub record IsRunFor (script : Contents) (agent : AgentId) (log : AgentLog) (acted : Acted) : Type 0 where
   pub whose : log.0 ≡ agent
   pub entries : AreEntriesFor (take acted.done (actions_of agent (actions script))) log.1
   pub put : ArePutFor (take acted.done (actions_of agent (actions script))) (messages_put log.1)
+  pub own : UsesOwn (λ e. times e (given script agent.0)) log.1
   pub stopped : IsStoppedAt acted.ordered acted.done (length (actions_of agent (actions script)))
 
 -- one log for each agent of the script and how far the agent came, in the order of the agents
@@ -78,11 +81,12 @@ pub record AreRunsFor (script : Contents) (logs : List AgentLog) (acted : List A
       → IsRunFor script (record { 0 = number }) log a
 
 -- The log is this agent's. Its entries are, in order, those of the agent's actions, and no others but those of the end; of an
--- action it may have none. So are the messages that it says were put.
+-- action it may have none. So are the messages that it says were put. It closes and sends its own ends alone.
 pub record IsLogFor (script : Contents) (agent : AgentId) (log : AgentLog) : Type 0 where
   pub whose : log.0 ≡ agent
   pub entries : AreEntriesFor (actions_of agent (actions script)) log.1
   pub put : ArePutFor (actions_of agent (actions script)) (messages_put log.1)
+  pub own : UsesOwn (λ e. times e (given script agent.0)) log.1
 
 -- one log for each agent of the script, in the order of the agents
 pub record AreLogsFor (script : Contents) (logs : List AgentLog) : Type 0 where

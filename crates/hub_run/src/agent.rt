@@ -9,6 +9,7 @@ ghost use Rattle.hub_run.specs.Entries.{
   TurnLeaves,
   Writes,
 };
+ghost use Rattle.hub_run.specs.Giving.{IsGiven};
 ghost use Rattle.hub_run.specs.Owning.{Accounts, TurnBrings};
 ghost use Rattle.hub_run.specs.Runs.{ActsFirst, IsRunFor};
 ghost use Rattle.hub_script.specs.Contents.{actions};
@@ -108,7 +109,8 @@ impl<'s, C: Checkpoint> Agent<'s, C> {
         script: &Script,
         number: AgentId,
     ) -> Result<AgentRun, OutOfMemory>
-        requires { number.0 ≤ MAX_AGENT }
+        requires number { number.0 ≤ MAX_AGENT }
+        requires given { IsGiven script.now number.0 self }
         ensures { IfOk result (λ ran. IsRunFor script.now number ran.log ran.acted) }
     {
         self.scribe = Scribe::new(self.alloc, number);

@@ -1,7 +1,8 @@
 //! How an agent ends: its loop is ended, and what was closed there is logged.
 
-ghost use Rattle.std.specs.Prelude.{◌≡◌, ◌∷◌, [], List, IfOk, OnOk};
+ghost use Rattle.std.specs.Prelude.{◌≡◌, ◌≤◌, ◌+◌, ◌∷◌, [], ℕ, List, IfOk, OnOk};
 ghost use Rattle.hub_run.specs.Entries.{AreEndings, Writes, ending_entries, log_and};
+ghost use Rattle.hub_run.specs.Owning.{has, lost, times};
 ghost use Rattle.hub_trace.specs.Accepted.{notice_at};
 ghost use Rattle.hub_trace.specs.declared.log_entry.LogEntry.{LogEntry};
 ghost use Rattle.hub_trace.specs.declared.log_entry.LogEntry.TheVariants.{Closed, Put};
@@ -70,6 +71,17 @@ fn notices_of(
     Ok(notices)
 }
 
+// The ends of the list, each once.
+fn set_of(alloc: Global, ends: &[EndId]) -> Result<BTreeSet<EndId>, OutOfMemory>
+    ensures { IfOk result (λ set. (e : ℕ) → times e set.keys ≤ times e ends.now) }
+{
+    let mut set = BTreeSet::new(alloc);
+    for end in ends {
+        set.insert(*end)?;
+    }
+    Ok(set)
+}
+
 // Logs what was closed when the loop ended: for each end that was swept the notice, where it was
 // put, and the closing, where the loop held the end; then the other notices.
 fn log_ended(
@@ -78,14 +90,18 @@ fn log_ended(
     held: &[EndId],
     ended: &Ended,
 ) -> Result<(), OutOfMemory>
-    ensures { OnOk result ((entries : List LogEntry) × AreEndings entries
+    ensures written { OnOk result ((entries : List LogEntry) × AreEndings entries
         × Writes entries scribe.old scribe.new) }
+    ensures own { OnOk result ((e : ℕ) →
+        lost e scribe.new.log.1 ≤ lost e scribe.old.log.1 + times e held.now) }
 {
-    let held = held.iter().copied().collect::<BTreeSet<EndId>>(alloc)?;
+    let mut left = set_of(alloc, held)?;
     let mut notices = notices_of(alloc, &ended.noticed)?;
     for swept in &ended.swept {
         let end = swept.end();
-        log_closing(scribe, end, notices.remove(&end), held.contains(&end))?;
+        let notice = notices.remove(&end);
+        let was_held = left.remove(&end);
+        log_closing(scribe, end, notice, was_held)?;
     }
     for posted in notices.values() {
         log_notice(scribe, *posted)?;
@@ -126,8 +142,10 @@ fn log_notice(scribe: &mut Scribe, posted: Posted) -> Result<(), OutOfMemory>
 impl<'s, C: Checkpoint> Agent<'s, C> {
     // Ends the loop, and answers the log.
     fn finish<R: Wait>(self, rt: &R) -> Result<Log, OutOfMemory>
-        ensures { IfOk result (λ log. (entries : List LogEntry) × AreEndings entries
+        ensures written { IfOk result (λ log. (entries : List LogEntry) × AreEndings entries
             × (log ≡ log_and self.entry.notes.log entries)) }
+        ensures own { IfOk result (λ log. (e : ℕ) →
+            lost e log.1 ≤ lost e self.entry.notes.log.1 + has self.entry e) }
     {
         let Agent { alloc, shared, .. } = self;
         let (event_loop, mut scribe, graves) = self.into_parts();
@@ -141,8 +159,10 @@ impl<'s, C: Checkpoint> Agent<'s, C> {
 
     // Ends the loop, and answers the log. Where memory runs out all agents are ordered to end.
     pub(crate) fn finish_or_order<R: Wait>(mut self, rt: &R) -> Result<Log, OutOfMemory>
-        ensures { IfOk result (λ log. (entries : List LogEntry) × AreEndings entries
+        ensures written { IfOk result (λ log. (entries : List LogEntry) × AreEndings entries
             × (log ≡ log_and self.entry.notes.log entries)) }
+        ensures own { IfOk result (λ log. (e : ℕ) →
+            lost e log.1 ≤ lost e self.entry.notes.log.1 + has self.entry e) }
     {
         let none = Vec::new(self.alloc);
         let mut peers = replace(&mut self.peers, none);

@@ -1,8 +1,35 @@
 //! How all that a run wants is made, before the first of its threads: the agents with their loops,
 //! and the ends that the script declares. Ends are numbered as the script's actions name them.
 
-ghost use Rattle.std.specs.Prelude.{◌≡◌, ◌≤◌, length, vec_len, IfOk};
+ghost use Rattle.std.specs.Prelude.{
+  ◌≡◌,
+  ◌≤◌,
+  ◌+◌,
+  ◌*◌,
+  ◌∷◌,
+  [],
+  None,
+  Some,
+  length,
+  option_to_list,
+  vec_len,
+  IfOk,
+  OnOk,
+};
+ghost use Rattle.hub_loop.specs.Adopting.{HoldsMore};
+ghost use Rattle.hub_loop.specs.Holding.{end_held};
+ghost use Rattle.hub_run.specs.Agents.{KeepsButEnds};
+ghost use Rattle.hub_run.specs.Giving.{
+  AreGiven,
+  Gives,
+  GivesEnds,
+  HaveNothing,
+  members_given,
+  ports_given,
+  queue_given,
+};
 ghost use Rattle.hub_script.specs.Contents.{agents};
+ghost use Rattle.hub_script.specs.Known.{port_count};
 ghost use Rattle.hub_envelope.specs.declared.limits.TheConstants.{MAX_AGENTS};
 ghost use Rattle.hub_trace.specs.declared.limits.TheConstants.{MAX_AGENT};
 
@@ -133,7 +160,10 @@ impl<'s, C: Checkpoint> Agent<'s, C> {
         shared: &'s Shared,
         checkpoint: &'s C,
         seat: Seat,
-    ) -> Result<Agent<'s, C>, OutOfMemory> {
+    ) -> Result<Agent<'s, C>, OutOfMemory>
+        ensures nothing { IfOk result (λ opened. opened.ends.slots ≡ []) }
+        ensures kept { IfOk result (λ opened. opened.kept ≡ None) }
+    {
         let Seat {
             number,
             mut scribe,
@@ -156,7 +186,10 @@ impl<'s, C: Checkpoint> Agent<'s, C> {
     }
 
     // Holds an end that it is given before the run.
-    fn give(&mut self, held: Held) -> Result<(), OutOfMemory> {
+    fn give(&mut self, held: Held) -> Result<(), OutOfMemory>
+        ensures same { KeepsButEnds self.old self.new }
+        ensures held { OnOk result (HoldsMore self.old.ends self.new.ends held) }
+    {
         match self.event_loop.hold(held) {
             Ok(()) => Ok(()),
             Err(_) => Err(OutOfMemory),
@@ -164,22 +197,33 @@ impl<'s, C: Checkpoint> Agent<'s, C> {
     }
 }
 
-// Gives the agent of that number an end that it holds before the run.
-fn give<C: Checkpoint>(
-    agents: &mut [Agent<'_, C>],
-    number: AgentId,
-    held: Held,
-) -> Result<(), OutOfMemory> {
-    match agents.get_mut(usize::from(number.0)) {
-        Some(agent) => agent.give(held),
-        None => Ok(()),
+// Makes the queue of an agent of that kind, under the next number.
+fn make_queue<R: Wait>(
+    rt: &R,
+    directory: &Directory,
+    ends: &mut Ends,
+    kind: AgentKind,
+    bell: Bell,
+) -> Result<Held, OutOfMemory>
+    ensures end { IfOk result (λ held. end_held held ≡ Some (record { 0 = ends.old.drawn })) }
+    ensures drawn { OnOk result (ends.new.drawn ≡ ends.old.drawn + 1) }
+{
+    match kind {
+        AgentKind::Window => match directory.client(rt, ends, bell) {
+            Ok(queue) => Ok(Held::Client(queue)),
+            Err(_) => Err(OutOfMemory),
+        },
+        AgentKind::Worker => match directory.worker(rt, ends, bell) {
+            Ok(queue) => Ok(Held::Worker(queue)),
+            Err(_) => Err(OutOfMemory),
+        },
     }
 }
 
 impl<'s, C: Checkpoint> Made<'s, C> {
     /// The agents.
     pub(crate) fn into_agents(self) -> Vec<Agent<'s, C>>
-        ensures { vec_len result ≡ vec_len self.entry.agents }
+        ensures { result ≡ self.entry.agents }
     {
         let Made {
             agents,
@@ -189,6 +233,19 @@ impl<'s, C: Checkpoint> Made<'s, C> {
         agents
     }
 
+    // Gives the agent of that number an end that it holds before the run. There is one, since a
+    // script names no other; were there none, an error is better than ends under other numbers.
+    fn give(&mut self, number: AgentId, held: Held) -> Result<(), OutOfMemory>
+        ensures given { OnOk result (GivesEnds number (option_to_list (end_held held))
+            self.old.agents.items self.new.agents.items) }
+        ensures ends { self.new.ends ≡ self.old.ends }
+    {
+        match self.agents.get_mut(usize::from(number.0)) {
+            Some(agent) => agent.give(held),
+            None => Err(OutOfMemory),
+        }
+    }
+
     // The agents, which hold nothing yet.
     fn open(
         alloc: Global,
@@ -196,7 +253,9 @@ impl<'s, C: Checkpoint> Made<'s, C> {
         script: &Script,
         checkpoint: &'s C,
     ) -> Result<Made<'s, C>, OutOfMemory>
-        ensures { IfOk result (λ made. vec_len made.agents ≡ length (agents script.now)) }
+        ensures len { IfOk result (λ made. vec_len made.agents ≡ length (agents script.now)) }
+        ensures nothing { IfOk result (λ made. HaveNothing made.agents.items) }
+        ensures drawn { IfOk result (λ made. made.ends.drawn ≡ 0) }
     {
         let declared = script.agents();
         let Seats { seats, bells } = Seats::new(alloc, declared.len())?;
@@ -219,7 +278,11 @@ impl<'s, C: Checkpoint> Made<'s, C> {
         shared: &Shared,
         script: &Script,
     ) -> Result<(), OutOfMemory>
-        ensures { vec_len self.new.agents ≡ vec_len self.old.agents }
+        requires len { vec_len self.old.agents ≡ length (agents script.now) }
+        requires drawn { self.old.ends.drawn ≡ 0 }
+        ensures given { OnOk result
+            (Gives queue_given self.old.agents.items self.new.agents.items) }
+        ensures drawn { OnOk result (self.new.ends.drawn ≡ length (agents script.now)) }
     {
         for (place, declared) in script.agents().iter().enumerate() {
             let number = AgentId(place as u8);
@@ -236,34 +299,68 @@ impl<'s, C: Checkpoint> Made<'s, C> {
         number: AgentId,
         kind: AgentKind,
     ) -> Result<(), OutOfMemory>
-        ensures { vec_len self.new.agents ≡ vec_len self.old.agents }
+        ensures given { OnOk result (GivesEnds number (record { 0 = self.old.ends.drawn } ∷ [])
+            self.old.agents.items self.new.agents.items) }
+        ensures drawn { OnOk result (self.new.ends.drawn ≡ self.old.ends.drawn + 1) }
     {
         let Some(bell) = self.bells.get(usize::from(number.0)) else {
-            return Ok(());
+            return Err(OutOfMemory);
         };
         let bell = bell.clone()?;
-        let made = match kind {
-            AgentKind::Window => directory.client(rt, &mut self.ends, bell).map(Held::Client),
-            AgentKind::Worker => directory.worker(rt, &mut self.ends, bell).map(Held::Worker),
-        };
-        match made {
-            Ok(queue) => give(&mut self.agents, number, queue),
-            Err(_) => Err(OutOfMemory),
-        }
+        let queue = make_queue(rt, directory, &mut self.ends, kind, bell)?;
+        self.give(number, queue)
     }
 
     // Makes a channel, whose ports go to one agent.
     fn add_channel(&mut self, alloc: Global, declared: &DeclaredChannel) -> Result<(), OutOfMemory>
-        ensures { vec_len self.new.agents ≡ vec_len self.old.agents }
+        ensures given { OnOk result (GivesEnds declared.now.at
+            (record { 0 = self.old.ends.drawn } ∷ record { 0 = self.old.ends.drawn + 1 } ∷ [])
+            self.old.agents.items self.new.agents.items) }
+        ensures drawn { OnOk result (self.new.ends.drawn ≡ self.old.ends.drawn + 2) }
     {
         let Some(bell) = self.bells.get(usize::from(declared.at.0)) else {
-            return Ok(());
+            return Err(OutOfMemory);
         };
         let Ok((port, other)) = channel(alloc, &mut self.ends, bell.clone()?) else {
             return Err(OutOfMemory);
         };
-        give(&mut self.agents, declared.at, Held::Port(port))?;
-        give(&mut self.agents, declared.at, Held::Port(other))
+        self.give(declared.at, Held::Port(port))?;
+        self.give(declared.at, Held::Port(other))
+    }
+
+    // Makes the channels.
+    fn add_channels(&mut self, alloc: Global, script: &Script) -> Result<(), OutOfMemory>
+        requires { self.old.ends.drawn ≡ length (agents script.now) }
+        ensures given { OnOk result (Gives (ports_given script.now)
+            self.old.agents.items self.new.agents.items) }
+        ensures drawn { OnOk result (self.new.ends.drawn
+            ≡ length (agents script.now) + port_count script.now) }
+    {
+        for declared in script.channels() {
+            self.add_channel(alloc, declared)?;
+        }
+        Ok(())
+    }
+
+    // Makes the broadcast members, each of the origin of its agent.
+    fn add_members<R: Wait>(
+        &mut self,
+        alloc: Global,
+        rt: &R,
+        roster: &SharedRoster,
+        script: &Script,
+    ) -> Result<(), OutOfMemory>
+        requires { self.old.ends.drawn ≡ length (agents script.now) + port_count script.now }
+        ensures given { OnOk result (Gives (members_given script.now)
+            self.old.agents.items self.new.agents.items) }
+    {
+        for declared in script.members() {
+            let Some(agent) = script.agents().get(usize::from(declared.at.0)) else {
+                return Err(OutOfMemory);
+            };
+            self.add_member(alloc, rt, roster, &agent.origin, declared)?;
+        }
+        Ok(())
     }
 
     // Makes a broadcast member of an agent of that origin.
@@ -275,10 +372,12 @@ impl<'s, C: Checkpoint> Made<'s, C> {
         origin: &Origin,
         declared: &DeclaredMember,
     ) -> Result<(), OutOfMemory>
-        ensures { vec_len self.new.agents ≡ vec_len self.old.agents }
+        ensures given { OnOk result (GivesEnds declared.now.at
+            (record { 0 = self.old.ends.drawn } ∷ []) self.old.agents.items self.new.agents.items) }
+        ensures drawn { OnOk result (self.new.ends.drawn ≡ self.old.ends.drawn + 1) }
     {
         let Some(bell) = self.bells.get(usize::from(declared.at.0)) else {
-            return Ok(());
+            return Err(OutOfMemory);
         };
         let bell = bell.clone()?;
         let origin = origin.clone()?;
@@ -286,7 +385,7 @@ impl<'s, C: Checkpoint> Made<'s, C> {
         let Ok(member) = roster.join(rt, &mut self.ends, declared.at, origin, name, bell) else {
             return Err(OutOfMemory);
         };
-        give(&mut self.agents, declared.at, Held::Member(member))
+        self.give(declared.at, Held::Member(member))
     }
 
     /// Makes the agents and what the script declares. A script declares fewer ends than there are
@@ -298,18 +397,13 @@ impl<'s, C: Checkpoint> Made<'s, C> {
         script: &Script,
         checkpoint: &'s C,
     ) -> Result<Made<'s, C>, OutOfMemory>
-        ensures { IfOk result (λ made. vec_len made.agents ≡ length (agents script.now)) }
+        ensures len { IfOk result (λ made. vec_len made.agents ≡ length (agents script.now)) }
+        ensures given { IfOk result (λ made. AreGiven script.now made.agents.items) }
     {
         let mut made = Made::open(alloc, shared, script, checkpoint)?;
         made.add_queues(rt, shared, script)?;
-        for declared in script.channels() {
-            made.add_channel(alloc, declared)?;
-        }
-        for declared in script.members() {
-            if let Some(agent) = script.agents().get(usize::from(declared.at.0)) {
-                made.add_member(alloc, rt, &shared.roster, &agent.origin, declared)?;
-            }
-        }
+        made.add_channels(alloc, script)?;
+        made.add_members(alloc, rt, &shared.roster, script)?;
         Ok(made)
     }
 }

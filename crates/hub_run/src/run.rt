@@ -2,6 +2,7 @@
 
 ghost use Rattle.std.specs.Prelude.{◌≡◌, ◌≤◌, [], length, vec_len, IfOk};
 ghost use Rattle.hub_envelope.specs.declared.limits.TheConstants.{MAX_AGENTS};
+ghost use Rattle.hub_run.specs.Giving.{AreGiven, IsGiven};
 ghost use Rattle.hub_run.specs.Runs.{AreRunsFor, IsRunFor};
 ghost use Rattle.hub_run.specs.Threads.{ArePromised};
 ghost use Rattle.hub_script.specs.Contents.{agents};
@@ -66,7 +67,8 @@ fn wait_and_run<C: Checkpoint, R: Wait>(
     part: Part<'_>,
     agent: Agent<'_, C>,
 ) -> Ran
-    requires { part.number.0 ≤ MAX_AGENT }
+    requires number { part.number.0 ≤ MAX_AGENT }
+    requires given { IsGiven part.script.now part.number.0 agent }
     ensures { IfOk result (λ it.
         IsRunFor part.entry.script.now part.entry.number it.log it.acted) }
 {
@@ -87,7 +89,8 @@ fn start_all<'s, E, C: Checkpoint, R: Threads + Wait + Sync>(
     script: &'s Script,
     agents: Vec<Agent<'s, C>>,
 ) -> Result<Vec<Handle<'s>>, OutOfMemory>
-    requires { vec_len agents ≤ MAX_AGENTS }
+    requires few { vec_len agents ≤ MAX_AGENTS }
+    requires given { AreGiven script.now agents.items }
     ensures len { IfOk result (λ handles. vec_len handles ≡ vec_len agents.entry) }
     ensures each { IfOk result (λ handles. ArePromised script.now handles.items) }
 {
@@ -98,7 +101,8 @@ fn start_all<'s, E, C: Checkpoint, R: Threads + Wait + Sync>(
         let handle = scope.spawn_with(
             part,
             move || -> Ran
-                requires { part.number.0 ≤ MAX_AGENT }
+                requires number { part.number.0 ≤ MAX_AGENT }
+                requires given { IsGiven part.script.now part.number.0 agent }
                 ensures { IfOk result (λ it.
                     IsRunFor part.entry.script.now part.entry.number it.log it.acted) }
             { wait_and_run(rt, begun, part, agent) },
@@ -136,7 +140,8 @@ fn run_made<C: Checkpoint, R: Threads + Wait + Sync>(
     script: &Script,
     made: Vec<Agent<'_, C>>,
 ) -> Result<Run, OutOfMemory>
-    requires { vec_len made ≡ length (agents script.now) }
+    requires count { vec_len made ≡ length (agents script.now) }
+    requires given { AreGiven script.now made.items }
     ensures { IfOk result (λ run. AreRunsFor script.now run.logs.items run.acted.items) }
 {
     let count = script.agents().len();
@@ -152,6 +157,7 @@ fn run_made<C: Checkpoint, R: Threads + Wait + Sync>(
         move |scope| -> Result<Run, OutOfMemory>
             requires few { vec_len made ≤ MAX_AGENTS }
             requires count { vec_len made ≡ length (agents script.now) }
+            requires given { AreGiven script.now made.items }
             requires none { (run.logs.items ≡ []) × (run.acted.items ≡ []) }
             ensures { IfOk result (λ joined.
                 AreRunsFor script.entry.now joined.logs.items joined.acted.items) }

@@ -1,8 +1,17 @@
 use Rattle.std.specs.Prelude.{◌≡◌, ◌+◌, get_or, vec_items, vec_len}
-use Rattle.std.proofs.Common.{rules, arith, below_more, ap, ◌∙◌}
+use Rattle.std.proofs.Common.{rules, arith, below_more, ap, subst, sym, ◌∙◌}
+use Rattle.std.specs.Vec.Iter.{into_iter_items}
+use Rattle.hub_run.proofs.Gives.{AreGivenFrom, given_next}
+use Rattle.hub_run.specs.Giving.{IsGiven}
 use Rattle.hub_run.specs.Threads.{Handle}
 use Rattle.hub_run.specs.declared.run.Part.{Part}
 use Rattle.hub_run.proofs.run.start_all.Goals as goal
+
+-- the agent that is next is given what is the next agent's
+pub spawn_with-requires-clause-runs : goal.spawn_with-requires-clause-runs
+spawn_with-requires-clause-runs g c κs within =
+    let (given, rest) = given_next c.args.script.now (vec_len c.loop-agent.handles) c.in-Some.agent (into_iter_items c.loop-agent.agent-iterator) (into_iter_items c.next.new.self) c.in-Some.ensures.steps.0 c.loop-agent.invariant.3 in
+    (search rules, (subst (λ n. IsGiven c.args.script.now n c.in-Some.agent) (sym c.len-in-loop-agent.ensures) given, (search rules, search rules)))
 
 -- the thread that is started is that of the next agent
 pub loop-agent-preserved : goal.loop-agent-preserved
@@ -19,7 +28,8 @@ loop-agent-preserved g c =
       (λ k d below. below_more (λ i. (get_or new i d).promise.number.0 ≡ i) done
           (λ i low. ap (λ (h : Handle). h.promise.number.0) (c.push.ensures.by_index.0 i d low) ∙ was.1 i d low)
           (ap (λ (h : Handle). h.promise.number.0) (c.push.ensures.by_index.1 d (search rules)) ∙ number_is) k (omega arith)),
-      λ k d below. below_more (λ i. (get_or new i d).promise.script.now ≡ c.args.script.now) done
+      (λ k d below. below_more (λ i. (get_or new i d).promise.script.now ≡ c.args.script.now) done
           (λ i low. ap (λ (h : Handle). h.promise.script.now) (c.push.ensures.by_index.0 i d low) ∙ was.2 i d low)
-          (ap (λ (h : Handle). h.promise.script.now) (c.push.ensures.by_index.1 d (search rules)) ∙ script_is) k (omega arith),
+          (ap (λ (h : Handle). h.promise.script.now) (c.push.ensures.by_index.1 d (search rules)) ∙ script_is) k (omega arith)),
+      subst (λ n. AreGivenFrom c.args.script.now n (into_iter_items c.next.new.self)) (sym grown) (given_next c.args.script.now done c.in-Some.agent (into_iter_items c.loop-agent.agent-iterator) (into_iter_items c.next.new.self) step.0 was.3).1,
     )

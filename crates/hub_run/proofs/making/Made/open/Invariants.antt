@@ -1,6 +1,10 @@
 use Rattle.std.proofs.Common.{◌≡◌, ◌+◌, length, vec_len}
 use Rattle.std.specs.Vec.Iter.{into_iter_len}
+use Rattle.hub_run.specs.Giving.{HaveNothing}
 use Rattle.hub_run.proofs.making.Made.open.Given as goal
 
 abbrev pub invariant-loop-seat : goal.invariant-loop-seat
-invariant-loop-seat g l = vec_len l.agents + into_iter_len l.seat-iterator ≡ length l.declared
+invariant-loop-seat g l = record {
+  count : vec_len l.agents + into_iter_len l.seat-iterator ≡ length l.declared;
+  nothing : HaveNothing l.agents.items;
+}
