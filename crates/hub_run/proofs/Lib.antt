@@ -11,6 +11,8 @@ pub mod Logs
 pub mod Messages
 pub mod OneByOne
 pub mod Owns
+pub mod Peers
+pub mod Seating
 pub mod Slots
 pub mod Turns
 pub mod Waiting

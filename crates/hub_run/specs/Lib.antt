@@ -4,4 +4,5 @@ pub mod Giving
 pub mod Owning
 pub mod Posts
 pub mod Runs
+pub mod Seats
 pub mod Threads

@@ -10,6 +10,7 @@ ghost use Rattle.std.specs.Prelude.{
   [],
   None,
   Some,
+  All,
   length,
   option_to_list,
   vec_len,
@@ -28,6 +29,8 @@ ghost use Rattle.hub_run.specs.Giving.{
   ports_given,
   queue_given,
 };
+ghost use Rattle.hub_life.specs.OrderSeat.{OrderSeat};
+ghost use Rattle.hub_run.specs.Seats.{AllGet, AreAllSeated, AreSeated, IsNewSeat};
 ghost use Rattle.hub_script.specs.Contents.{agents};
 ghost use Rattle.hub_script.specs.Known.{port_count};
 ghost use Rattle.hub_envelope.specs.declared.limits.TheConstants.{MAX_AGENTS};
@@ -91,9 +94,15 @@ impl<'s, C: Checkpoint> Drop for Made<'s, C> {
 }
 
 // Gives each agent a seat at the word of one more agent, which the bell wakes.
-fn add_peer(seats: &mut [Seat], orders: Vec<Order>, bell: &Bell) -> Result<(), OutOfMemory> {
-    for (seat, order) in seats.iter_mut().zip(orders) {
-        seat.peers.push(Peer::new(order, bell.clone()?))?;
+fn add_peer(seats: &mut [Seat], mut orders: Vec<Order>, bell: &Bell) -> Result<(), OutOfMemory>
+    ensures { OnOk result ((seat : OrderSeat) → All (λ order. order ≡ seat) orders.items
+        → AllGet seat seats.old seats.new) }
+{
+    for place in 0..seats.len() {
+        let Some(order) = orders.pop() else {
+            return Err(OutOfMemory);
+        };
+        seats[place].peers.push(Peer::new(order, bell.clone()?))?;
     }
     Ok(())
 }
@@ -107,6 +116,9 @@ fn open_seat(
 ) -> Result<(Seat, Bell, Vec<Order>), OutOfMemory>
     requires number { number.0 ≤ MAX_AGENT }
     requires count { count ≤ MAX_AGENTS }
+    ensures seat { IfOk result (λ made. IsNewSeat number.0 made.0) }
+    ensures orders { IfOk result (λ made.
+        All (λ order. order ≡ made.0.for_agent) made.2.items) }
 {
     let mut orders = Order::open(alloc, count + 2)?;
     let (Some(for_loop), Some(for_agent)) = (orders.pop(), orders.pop()) else {
@@ -127,19 +139,20 @@ fn open_seat(
 impl Seats {
     fn new(alloc: Global, count: usize) -> Result<Seats, OutOfMemory>
         requires { count ≤ MAX_AGENTS }
-        ensures { IfOk result (λ made. vec_len made.seats ≡ count) }
+        ensures len { IfOk result (λ made. vec_len made.seats ≡ count) }
+        ensures seated { IfOk result (λ made. AreSeated made.seats.items) }
     {
         let mut seats = Vec::new(alloc);
         let mut bells = Vec::new(alloc);
-        let mut orders = Vec::new(alloc);
+        let mut words = Vec::new(alloc);
         for number in 0..count {
-            let (seat, bell, for_peers) = open_seat(alloc, AgentId(number as u8), count)?;
+            let (seat, bell, orders) = open_seat(alloc, AgentId(number as u8), count)?;
             seats.push(seat)?;
+            words.push((orders, bell.clone()?))?;
             bells.push(bell)?;
-            orders.push(for_peers)?;
         }
-        for (for_peers, bell) in orders.into_iter().zip(&bells) {
-            add_peer(&mut seats, for_peers, bell)?;
+        for (orders, bell) in words {
+            add_peer(&mut seats, orders, &bell)?;
         }
         Ok(Seats { seats, bells })
     }
@@ -163,6 +176,8 @@ impl<'s, C: Checkpoint> Agent<'s, C> {
     ) -> Result<Agent<'s, C>, OutOfMemory>
         ensures nothing { IfOk result (λ opened. opened.ends.slots ≡ []) }
         ensures kept { IfOk result (λ opened. opened.kept ≡ None) }
+        ensures order { IfOk result (λ opened. opened.order ≡ seat.for_agent) }
+        ensures peers { IfOk result (λ opened. opened.peers ≡ seat.peers.items) }
     {
         let Seat {
             number,
@@ -255,6 +270,7 @@ impl<'s, C: Checkpoint> Made<'s, C> {
     ) -> Result<Made<'s, C>, OutOfMemory>
         ensures len { IfOk result (λ made. vec_len made.agents ≡ length (agents script.now)) }
         ensures nothing { IfOk result (λ made. HaveNothing made.agents.items) }
+        ensures seated { IfOk result (λ made. AreAllSeated made.agents.items) }
         ensures drawn { IfOk result (λ made. made.ends.drawn ≡ 0) }
     {
         let declared = script.agents();
@@ -399,6 +415,7 @@ impl<'s, C: Checkpoint> Made<'s, C> {
     ) -> Result<Made<'s, C>, OutOfMemory>
         ensures len { IfOk result (λ made. vec_len made.agents ≡ length (agents script.now)) }
         ensures given { IfOk result (λ made. AreGiven script.now made.agents.items) }
+        ensures seated { IfOk result (λ made. AreAllSeated made.agents.items) }
     {
         let mut made = Made::open(alloc, shared, script, checkpoint)?;
         made.add_queues(rt, shared, script)?;
