@@ -24,6 +24,7 @@ ghost use Rattle.hub_trace.specs.declared.log_entry.LogEntry.{LogEntry};
 
 use crate::agent::Agent;
 use crate::awaited::Awaited;
+use crate::logging::log_closed_end;
 use crate::shared::Shared;
 use hub_acting::Acted;
 use hub_clients::{Directory, HandError};
@@ -166,7 +167,7 @@ impl<'s, C: Checkpoint> Agent<'s, C> {
         };
         let ClosedEnd { grave, port } = closed;
         self.graves.push(grave)?;
-        self.log_closed_end(end, port)
+        log_closed_end(&mut self.scribe, end, port)
     }
 
     fn give_order(&mut self, to: AgentId)

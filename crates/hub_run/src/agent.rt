@@ -18,6 +18,7 @@ ghost use Rattle.hub_trace.specs.declared.log_entry.LogEntry.{LogEntry};
 ghost use Rattle.hub_trace.specs.declared.log_entry.LogEntry.TheVariants.{Adopted};
 
 use crate::awaited::Awaited;
+use crate::logging::log_adoption;
 use crate::peer::{Peer, order_all};
 use crate::run::AgentRun;
 use crate::shared::Shared;
@@ -183,15 +184,7 @@ impl<'s, C: Checkpoint> Agent<'s, C> {
             return Err(OutOfMemory);
         };
         let epoch = moves_of(held);
-        self.log_adoption(end, epoch)
-    }
-
-    fn log_adoption(&mut self, end: EndId, epoch: u32) -> Result<(), OutOfMemory>
-        ensures written { OnOk result
-            (Writes (Adopted end epoch ∷ []) self.old.notes self.new.notes) }
-        ensures rest { KeepsButNotes self.old self.new }
-    {
-        self.scribe.adopt(end, epoch)
+        log_adoption(&mut self.scribe, end, epoch)
     }
 
     // Logs that it has adopted these ends, in order.

@@ -1,13 +1,12 @@
 //! How an agent ends: its loop is ended, and what was closed there is logged.
 
-ghost use Rattle.std.specs.Prelude.{◌≡◌, ◌≤◌, ◌+◌, ◌∷◌, [], ℕ, List, IfOk, OnOk};
+ghost use Rattle.std.specs.Prelude.{◌≡◌, ◌≤◌, ◌+◌, ℕ, List, IfOk, OnOk};
 ghost use Rattle.hub_run.specs.Entries.{AreEndings, Writes, ending_entries, log_and};
 ghost use Rattle.hub_run.specs.Owning.{has, lost, times};
-ghost use Rattle.hub_trace.specs.Accepted.{notice_at};
 ghost use Rattle.hub_trace.specs.declared.log_entry.LogEntry.{LogEntry};
-ghost use Rattle.hub_trace.specs.declared.log_entry.LogEntry.TheVariants.{Closed, Put};
 
 use crate::agent::{Agent, AgentLoop};
+use crate::logging::{log_close, log_notice};
 use crate::peer::order_all;
 use crate::shared::Shared;
 use hub_envelope::{EndId, OutOfMemory};
@@ -125,18 +124,6 @@ fn log_closing(
         log_close(scribe, end)?;
     }
     Ok(())
-}
-
-fn log_close(scribe: &mut Scribe, end: EndId) -> Result<(), OutOfMemory>
-    ensures { OnOk result (Writes (Closed end ∷ []) scribe.old scribe.new) }
-{
-    scribe.close(end)
-}
-
-fn log_notice(scribe: &mut Scribe, posted: Posted) -> Result<(), OutOfMemory>
-    ensures { OnOk result (Writes (Put (notice_at posted) ∷ []) scribe.old scribe.new) }
-{
-    scribe.put_notice(posted)
 }
 
 impl<'s, C: Checkpoint> Agent<'s, C> {

@@ -1,6 +1,6 @@
 //! The actions that post: at a port, at a queue, from a broadcast member.
 
-ghost use Rattle.std.specs.Prelude.{◌≡◌, ◌⊎◌, ◌∷◌, [], List, true, IfOk, IfSome, IfNone, OnOk};
+ghost use Rattle.std.specs.Prelude.{◌≡◌, ◌⊎◌, List, true, IfOk, IfSome, IfNone, OnOk};
 ghost use Rattle.hub_loop.specs.Adopting.{HoldsMore};
 ghost use Rattle.hub_ports.specs.Seats.{ends_of};
 ghost use Rattle.hub_run.specs.Agents.{
@@ -9,7 +9,6 @@ ghost use Rattle.hub_run.specs.Agents.{
   HoldsPorts,
   IsUnwritten,
   KeepsButEnds,
-  KeepsButNotes,
   KeepsElse,
 };
 ghost use Rattle.hub_run.specs.Entries.{
@@ -17,24 +16,18 @@ ghost use Rattle.hub_run.specs.Entries.{
   IsPostLogged,
   Writes,
   answer_entries,
-  cast_entries,
-  closed_entries,
-  closing_entries,
-  doomed_entries,
-  outcome_entries,
 };
 ghost use Rattle.hub_run.specs.Owning.{Accounts, HoldsAlso, HoldsSame, back_of};
-ghost use Rattle.hub_trace.specs.Accepted.{message_at, notice_at};
 ghost use Rattle.hub_trace.specs.declared.log_entry.LogEntry.{LogEntry};
-ghost use Rattle.hub_trace.specs.declared.log_entry.LogEntry.TheVariants.{Closed, Put};
 
 use crate::agent::Agent;
+use crate::logging::{log_cast, log_doomed, log_put};
 use crate::shared::Shared;
-use hub_broadcast::{CastError, CastOutcome};
+use hub_broadcast::CastError;
 use hub_clients::DirectoryError;
 use hub_envelope::{Body, EndId, OutOfMemory, Ports};
-use hub_loop::{Checkpoint, ClosedPort, Held, LoopError};
-use hub_ports::{Closing, Noticed, Port, PortError};
+use hub_loop::{Checkpoint, Held, LoopError};
+use hub_ports::{Port, PortError};
 use hub_queue::Posted;
 use std::sync::Wait;
 
@@ -127,72 +120,6 @@ impl<'s, C: Checkpoint> Agent<'s, C> {
         Ok(Some(ports))
     }
 
-    // Logs the notice of a port that was closed, where it was put, and the closing.
-    fn log_closed(&mut self, end: EndId, noticed: Noticed) -> Result<(), OutOfMemory>
-        ensures written { OnOk result
-            (Writes (closing_entries end noticed) self.old.notes self.new.notes) }
-        ensures rest { KeepsButNotes self.old self.new }
-    {
-        match noticed {
-            Noticed::Put(posted) => self.log_notice(posted)?,
-            Noticed::OutOfMemory => return Err(OutOfMemory),
-            Noticed::PeerClosed | Noticed::Moving => {}
-        }
-        self.log_close(end)
-    }
-
-    /// Logs that an end was closed, a port with what became of its notice.
-    pub(crate) fn log_closed_end(
-        &mut self,
-        end: EndId,
-        port: Option<ClosedPort>,
-    ) -> Result<(), OutOfMemory>
-        ensures written { OnOk result
-            (Writes (closed_entries end port) self.old.notes self.new.notes) }
-        ensures rest { KeepsButNotes self.old self.new }
-    {
-        match port {
-            Some(port) => self.log_closed(end, port.noticed),
-            None => self.log_close(end),
-        }
-    }
-
-    fn log_notice(&mut self, posted: Posted) -> Result<(), OutOfMemory>
-        ensures written { OnOk result
-            (Writes (Put (notice_at posted) ∷ []) self.old.notes self.new.notes) }
-        ensures rest { KeepsButNotes self.old self.new }
-    {
-        self.scribe.put_notice(posted)
-    }
-
-    fn log_close(&mut self, end: EndId) -> Result<(), OutOfMemory>
-        ensures written { OnOk result (Writes (Closed end ∷ []) self.old.notes self.new.notes) }
-        ensures rest { KeepsButNotes self.old self.new }
-    {
-        self.scribe.close(end)
-    }
-
-    // Logs a post that was accepted.
-    fn log_put(&mut self, posted: Posted, ports: &[EndId], body: &Body) -> Result<(), OutOfMemory>
-        ensures written { OnOk result (Writes (Put (message_at posted ports.now body.now) ∷ [])
-            self.old.notes self.new.notes) }
-        ensures rest { KeepsButNotes self.old self.new }
-    {
-        self.scribe.put(posted, ports, body)
-    }
-
-    // Logs what became of the ports that a doomed post has closed.
-    fn log_doomed(&mut self, closings: &[Closing]) -> Result<(), OutOfMemory>
-        ensures written { OnOk result
-            (Writes (doomed_entries closings.now) self.old.notes self.new.notes) }
-        ensures rest { KeepsButNotes self.old self.new }
-    {
-        for closing in closings {
-            self.log_closed(closing.end, closing.noticed)?;
-        }
-        Ok(())
-    }
-
     // Logs what a post has come to, and holds again what has come back.
     fn settle<R: Wait>(
         &mut self,
@@ -207,8 +134,8 @@ impl<'s, C: Checkpoint> Agent<'s, C> {
         ensures rest { KeepsElse self.old self.new }
     {
         match answer {
-            Ok(posted) => self.log_put(posted, transfer.as_slice(), body),
-            Err(PortError::Doomed(closings)) => self.log_doomed(closings.as_slice()),
+            Ok(posted) => log_put(&mut self.scribe, posted, transfer.as_slice(), body),
+            Err(PortError::Doomed(closings)) => log_doomed(&mut self.scribe, closings.as_slice()),
             Err(PortError::OutOfMemory(_body, ports)) => {
                 self.hold_ports(rt, ports)?;
                 Err(OutOfMemory)
@@ -321,41 +248,9 @@ impl<'s, C: Checkpoint> Agent<'s, C> {
         };
         let yard = &self.shared.hub.yard;
         match self.shared.roster.cast(rt, yard, source, copy, &[]) {
-            Ok(outcomes) => self.log_cast(&outcomes, body),
+            Ok(outcomes) => log_cast(&mut self.scribe, &outcomes, body),
             Err(CastError::OutOfMemory) => Err(OutOfMemory),
             Err(CastError::InvalidState | CastError::NotTransferable) => Ok(()),
-        }
-    }
-
-    // Logs the posts of a cast that were accepted.
-    fn log_cast(
-        &mut self,
-        outcomes: &[(EndId, CastOutcome)],
-        body: &Body,
-    ) -> Result<(), OutOfMemory>
-        ensures written { OnOk result
-            (Writes (cast_entries body.now outcomes.now) self.old.notes self.new.notes) }
-        ensures rest { KeepsButNotes self.old self.new }
-    {
-        let mut refused = Ok(());
-        for (_, outcome) in outcomes {
-            self.log_outcome(outcome, body)?;
-            if matches!(outcome, CastOutcome::OutOfMemory) {
-                refused = Err(OutOfMemory);
-            }
-        }
-        refused
-    }
-
-    // Logs a post of a cast, where it was accepted.
-    fn log_outcome(&mut self, outcome: &CastOutcome, body: &Body) -> Result<(), OutOfMemory>
-        ensures written { OnOk result
-            (Writes (outcome_entries body.now outcome.now) self.old.notes self.new.notes) }
-        ensures rest { KeepsButNotes self.old self.new }
-    {
-        match outcome {
-            CastOutcome::Accepted(posted) => self.log_put(*posted, &[], body),
-            CastOutcome::Closed | CastOutcome::Moving | CastOutcome::OutOfMemory => Ok(()),
         }
     }
 }
