@@ -8,9 +8,15 @@ use Rattle.hub_loop.specs.declared.held.Held.{Held}
 use Rattle.hub_loop.specs.declared.held.Held.TheVariants as held
 use Rattle.hub_ports.specs.Seats.{PortSeat, end_of, ends_of}
 use Rattle.hub_queue.specs.Standing.{StandSeat}
+use Rattle.hub_envelope.specs.declared.ids.AgentId.{AgentId}
+use Rattle.hub_envelope.specs.declared.posted.Posted.{Posted}
+use Rattle.hub_ports.specs.Sending.{IsSent}
+use Rattle.hub_ports.specs.declared.port_error.PortError.{PortError}
+use Rattle.hub_run.specs.Entries.{Writes, answer_entries}
 use Rattle.hub_run.specs.Agents.{AgentState}
-use Rattle.hub_run.specs.Owning.{Accounts, HoldsAlso, has, times}
-use Rattle.hub_run.proofs.Actions.{again_accounts}
+use Rattle.hub_run.specs.Owning.{Accounts, HoldsAlso, HoldsSame, back_of, has, lost, times}
+use Rattle.hub_run.proofs.Actions.{again_accounts, answer_loses, post_accounts}
+use Rattle.hub_run.proofs.Walking.{answer_logged}
 use Rattle.hub_run.proofs.Brings.{count_held, held_in}
 use Rattle.hub_run.proofs.Listed.{times_cons, times_one}
 
@@ -98,5 +104,17 @@ unposted (Ok x) before out posted now ends ports back released same are is holds
 unposted (Err x) before out posted now ends ports back released same are is holds notes kept = tt
 
 -- what is said of the ports that were taken out
-pub of_some : {X E P : Type 0} (result : Result (Option X) E) (x : X) → result ≡ Ok (Some x) → IfOk result (λ ports. IfSome ports (λ y. P)) → P
+of_some : {X E P : Type 0} (result : Result (Option X) E) (x : X) → result ≡ Ok (Some x) → IfOk result (λ ports. IfSome ports (λ y. P)) → P
 of_some {P} result x is all = subst (λ r. IfOk r (λ ports. IfSome ports (λ y. P))) is all
+
+pub released_also : {X E : Type 0} (result : Result (Option X) E) (x : X) (listed ends : List EndId) (out before : AgentState) → result ≡ Ok (Some x) → listed ≡ ends → IfOk result (λ ports. IfSome ports (λ y. HoldsAlso listed out before)) → HoldsAlso ends out before
+released_also result x listed ends out before is same all = subst (λ es. HoldsAlso es out before) same (of_some result x is all)
+
+-- what an agent has behind a post of ports that it took out, whatever the answer
+pub sent_accounts : {X E : Type 0} (result : Result X E) (old new : StandSeat) (agent : AgentId) (copy : List ℕ) (before out posted now : AgentState) (ends : List EndId) (ports : List PortSeat) (body : List ℕ) (answer : Result Posted PortError)
+    → ends_of ports ≡ ends → IsSent old new agent copy ports answer → HoldsAlso ends out before → HoldsSame out posted
+    → OnOk result (HoldsAlso (back_of answer) posted now) → OnOk result (Writes (answer_entries ends body answer) posted.notes now.notes) → posted.notes ≡ before.notes → now.kept ≡ before.kept → OnOk result (Accounts before now)
+sent_accounts result old new agent copy before out posted now ends ports body answer are sent released same holds written notes kept =
+    post_accounts result before out posted now ends body answer released same (answer_logged old new agent body copy ports ends answer are sent)
+    (subst (λ es. (e : ℕ) → lost e (answer_entries es body answer) + times e (back_of answer) ≤ times e es) are (answer_loses old new agent body copy ports answer sent))
+    holds written notes kept

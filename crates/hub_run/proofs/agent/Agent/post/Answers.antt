@@ -1,13 +1,11 @@
-use Rattle.std.proofs.Common.{◌≡◌, ◌∙◌, ◌≤◌, ◌+◌, ℕ, List, Some, Ok, ap, arith, rules, subst}
-use Rattle.hub_envelope.specs.declared.ids.EndId.{EndId}
+use Rattle.std.proofs.Common.{◌≡◌, ◌∙◌, Some, Ok, ap, arith, rules}
 use Rattle.hub_logging.specs.Notes.{Notes}
 use Rattle.hub_ports.specs.Seats.{ends_of}
 use Rattle.hub_run.specs.Agents.{AgentState}
-use Rattle.hub_run.specs.Entries.{answer_entries}
-use Rattle.hub_run.specs.Owning.{HoldsAlso, HoldsSame, back_of, has, lost, times}
-use Rattle.hub_run.proofs.Actions.{accounts_same, answer_loses, post_accounts, posted_same}
+use Rattle.hub_run.specs.Owning.{HoldsSame, has}
+use Rattle.hub_run.proofs.Actions.{accounts_same, posted_same}
 use Rattle.hub_run.proofs.Brings.{held_in}
-use Rattle.hub_run.proofs.Keeping.{of_some, unposted}
+use Rattle.hub_run.proofs.Keeping.{released_also, sent_accounts, unposted}
 use Rattle.hub_run.proofs.Walking.{answer_logged, post_of}
 use Rattle.hub_run.proofs.agent.Agent.post.Goals as goal
 
@@ -37,11 +35,9 @@ returns-in-Ok-clause-own g c =
     let out = c.release_ports.new.self in
     let are : ends_of ports ≡ ends = search rules in
     let taken : c.release_ports.result ≡ Ok (Some c.in-Some.ports) = search rules in
-    let released : HoldsAlso ends out c.args.self.now = subst (λ (es : List EndId). HoldsAlso es out c.args.self.now) c.as_slice-2.ensures.listed (of_some c.release_ports.result c.in-Some.ports taken c.release_ports.ensures.released) in
-    post_accounts c.settle.result c.args.self.now out (record out { notes = c.self.inside.scribe; ends = c.post.new.self.holding.held; kept = c.post.new.self.kept }) c.settle.new.self ends body answer released
+    let released = released_also c.release_ports.result c.in-Some.ports _ ends out c.args.self.now taken c.as_slice-2.ensures.listed c.release_ports.ensures.released in
+    sent_accounts c.settle.result _ _ _ _ c.args.self.now out (record out { notes = c.self.inside.scribe; ends = c.post.new.self.holding.held; kept = c.post.new.self.kept }) c.settle.new.self ends ports body answer are c.in-Ok.ensures.posted.5 released
     (λ e. posted_same _ _ ports c.self.inside.event_loop.holding.held c.post.new.self.holding.held _ answer c.in-Ok.ensures.posted e ∙ ap (λ (a : AgentState). has a e) c.self.view_is)
-    (answer_logged _ _ _ body _ ports ends answer are c.in-Ok.ensures.posted.5)
-    (subst (λ es. (e : ℕ) → lost e (answer_entries es body answer) + times e (back_of answer) ≤ times e es) are (answer_loses _ _ _ body _ ports answer c.in-Ok.ensures.posted.5))
     c.settle.ensures.held c.settle.ensures.written (ap (λ (a : AgentState). a.notes) c.self.view_is ∙ ap (λ (a : AgentState). a.notes) c.release_ports.ensures.same)
     (ap (λ (a : AgentState). a.kept) c.settle.ensures.rest ∙ ap (λ l. l.kept) c.post.ensures.rest ∙ ap (λ (a : AgentState). a.kept) c.self.view_is ∙ ap (λ (a : AgentState). a.kept) c.release_ports.ensures.same)
 
@@ -52,7 +48,7 @@ returns-in-Err-clause-own g c =
     let out = c.release_ports.new.self in
     let are : ends_of ports ≡ ends = search rules in
     let taken : c.release_ports.result ≡ Ok (Some c.in-Some.ports) = search rules in
-    let released : HoldsAlso ends out c.args.self.now = subst (λ (es : List EndId). HoldsAlso es out c.args.self.now) c.as_slice-2.ensures.listed (of_some c.release_ports.result c.in-Some.ports taken c.release_ports.ensures.released) in
+    let released = released_also c.release_ports.result c.in-Some.ports _ ends out c.args.self.now taken c.as_slice-2.ensures.listed c.release_ports.ensures.released in
     unposted c.hold_ports.result c.args.self.now out (record out { notes = c.self.inside.scribe; ends = c.post.new.self.holding.held; kept = c.post.new.self.kept }) c.hold_ports.new.self ends ports c.in-Err.ports.items released
     (λ e. ap (λ s. held_in s e) c.in-Err.ensures.held ∙ ap (λ (a : AgentState). has a e) c.self.view_is)
     are (ap (λ v. v.items) c.in-Err.ensures.back.1) c.hold_ports.ensures.held
