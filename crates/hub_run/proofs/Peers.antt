@@ -51,6 +51,23 @@ orders_left all front xs a b popped then is some more other new same = λ k d be
     let word : (get_or xs k d).word ≡ a.word = sym (ap (λ (o : OrderSeat). o.word) at_k) ∙ same k (length xs) d below last ∙ ap (λ (o : OrderSeat). o.word) at_last in
     subst (λ (o : OrderSeat). o ≡ new_seat o.word) at_k (new k d there) ∙ ap new_seat word ∙ sym (subst (λ (o : OrderSeat). o ≡ new_seat o.word) at_last (new (length xs) d last))
 
+-- the last two are at one word, and nothing was done at them
+pub both_seats : (all front xs : List OrderSeat) (a b : OrderSeat) (popped then : Option OrderSeat) → all ≡ front ++ option_to_list popped → popped ≡ Some b → front ≡ xs ++ option_to_list then → then ≡ Some a
+    → All (λ (o : OrderSeat). o ≡ new_seat o.word) all → AllPairs (λ (o p : OrderSeat). o.word ≡ p.word) all → (a ≡ new_seat a.word) × (b ≡ a)
+both_seats all front xs a b popped then is some more other new same =
+    let b_new = last_of (λ (o : OrderSeat). o ≡ new_seat o.word) front all popped b is some new in
+    let a_new = last_of (λ (o : OrderSeat). o ≡ new_seat o.word) xs front then a more other (front_of (λ (o : OrderSeat). o ≡ new_seat o.word) front (option_to_list popped) all is new) in
+    let first : front ≡ xs ++ a ∷ [] = more ∙ ap (λ o. xs ++ option_to_list o) other in
+    let whole : all ≡ front ++ b ∷ [] = is ∙ ap (λ o. front ++ option_to_list o) some in
+    let short = ap length first ∙ length-append xs (a ∷ []) in
+    let long = ap length whole ∙ length-append front (b ∷ []) in
+    let before : length xs < length front = omega (arith, short) in
+    let last : length front < length all = omega (arith, long) in
+    let at_a : get_or all (length xs) a ≡ a = ap (λ l. get_or l (length xs) a) whole ∙ get_or-append front (b ∷ []) a (length xs) before ∙ ap (λ l. get_or l (length xs) a) first ∙ get_or-append_seam xs a [] a in
+    let at_b : get_or all (length front) a ≡ b = ap (λ l. get_or l (length front) a) whole ∙ get_or-append_seam front b [] a in
+    let word : b.word ≡ a.word = sym (ap (λ (o : OrderSeat). o.word) at_b) ∙ sym (same (length xs) (length front) a before last) ∙ ap (λ (o : OrderSeat). o.word) at_a in
+    (a_new, b_new ∙ ap new_seat word ∙ sym a_new)
+
 got_same : (opened now new : Seat) → now ≡ record opened { peers = now.peers } → new ≡ record now { peers = new.peers } → new ≡ record opened { peers = new.peers }
 got_same opened now new first then = then ∙ ap (λ (s : Seat). record s { peers = new.peers }) first
 
