@@ -1,5 +1,5 @@
 -- Close: what the core answers fits, and it shows the facts with the answered step.
-use Rattle.std.proofs.Common.{◌≡◌, ℕ, ◌<◌, Bool, true, false, cond, eqb, List, ◌++◌, length, set, Option, Some, None, refl, sym, ap, subst, ◌∙◌, arith}
+use Rattle.std.proofs.Common.{◌≡◌, ℕ, Bool, true, false, cond, eqb, List, ◌++◌, set, Option, Some, None, refl, sym, ap, subst, ◌∙◌}
 use Rattle.std.specs.Prelude.{◌&&◌}
 use Rattle.std.specs.List.{slice_get}
 use Rattle.std.proofs.lemmas.Bool.{false≢true, ne_eqb}
@@ -18,41 +18,19 @@ use Rattle.hub_core.specs.Moving.{may_close, close_answer, is_released}
 use Rattle.hub_core.specs.Sound.{no_end, SoundPlaces}
 use Rattle.hub_core.specs.Shows.{end_now, ShowsEnd, ShowsFacts}
 use Rattle.hub_core.specs.Unchanged.{changes_nothing}
-use Rattle.hub_core.specs.Kept.{kept_may_close_of, kept_may_close, closed_end, close_outcome_at, close_end, changed_ends, close_agents, gone, kept_released}
-use Rattle.hub_core.proofs.Lists.{eqb_same, set_again, each_set, is_there}
+use Rattle.hub_core.specs.Kept.{closed_end, close_outcome_at, close_end, changed_ends, close_agents, gone}
+use Rattle.hub_core.proofs.Lists.{eqb_same, set_again, each_set}
 use Rattle.hub_core.proofs.Frames.{ShownAt, Stepped, unchanged, recounted}
-use Rattle.hub_core.proofs.Travels.{own_end}
-use Rattle.hub_core.specs.Made.{peer_of}
-use Rattle.hub_core.specs.declared.kind.Kind.{Kind}
+use Rattle.hub_core.specs.CoreState.{CoreState}
+use Rattle.hub_core.specs.Seen.{seen}
+use Rattle.hub_core.proofs.Seeing.{Sees, close_seen}
+use Rattle.hub_core.specs.CoreSteps.{close_core}
 use Rattle.hub_core.specs.declared.outcome.Outcome.{Outcome}
 use Rattle.hub_core.proofs.Counts.{Went, gone_length, gone_now, counted_went, counts_of}
 use Rattle.hub_core.proofs.Nexts.{next}
 use Rattle.hub_core.proofs.Speakers.{placed_made}
-use Rattle.hub_core.specs.declared.kind.Kind.TheVariants.{Port, Client, Worker, Member}
 use Rattle.hub_core.proofs.Calms.{calm_gone}
 use Rattle.hub_core.proofs.Fitting.{closed_of}
-
--- ---- whether an end can be closed
-
--- whether the own poster of an end is out, where the end is a port
-pub released_kept : (agents : List Agent) (ends : List End) (f : Facts) (e : ℕ) → ShowsFacts agents ends f → (k : Kind) → (f.end e).kind ≡ Some k → kept_released ends k ≡ is_released f (Some k)
-released_kept agents ends f e h (Port q) is =
-    let back = h.sound.places.peers e q.0 (ap peer_of is) in
-    let made : q.0 < f.ends = back.0 in
-    let count : f.ends ≡ length ends = h.ends in
-    own_end f q.0 e (slice_get ends q.0) (h.end q.0) back.1 (is_there ends q.0 (omega arith))
-released_kept agents ends f e h Client is = refl
-released_kept agents ends f e h Worker is = refl
-released_kept agents ends f e h (Member a) is = refl
-
-may_end : (agents : List Agent) (ends : List End) (f : Facts) (e : ℕ) → ShowsFacts agents ends f → (o : Option End) → ShownAt f e o → kept_may_close_of ends o ≡ may_close f e
-may_end agents ends f e h None at = sym (ap (λ (y : EndNow). is_here y.place && is_released f y.kind) at.same)
-may_end agents ends f e h (Some x) at =
-    ap (λ b. is_here (Some x.place) && b) (released_kept agents ends f e h x.kind (ap (λ (y : EndNow). y.kind) at.same))
-    ∙ ap (λ (y : EndNow). is_here y.place && is_released f y.kind) (sym at.same)
-
-pub may_close_kept : (agents : List Agent) (ends : List End) (f : Facts) (e : ℕ) → ShowsFacts agents ends f → kept_may_close ends e ≡ may_close f e
-may_close_kept agents ends f e h = may_end agents ends f e h (slice_get ends e) (h.end e)
 
 -- ---- a closed end
 
@@ -107,8 +85,8 @@ close_at : (agents : List Agent) (ends : List End) (f : Facts) (e : EndId) (refu
 close_at agents ends f e refused may h is None at shown = unchanged agents ends ends f (action.Close e) refused outcome.NotNow outcome.NotNow h refl refl refl (close_none f e shown.same)
 close_at agents ends f e refused may h is (Some x) at shown = close_by agents ends f e refused x h at x.is_closed may (close_as f e may (end_now (Some x)) shown.same is)
 
-pub close_shown : (agents : List Agent) (ends : List End) (f : Facts) (e : EndId) (refused : Bool) → ShowsFacts agents ends f → Stepped (close_agents agents (slice_get ends e.0) (close_outcome_at (kept_may_close ends e.0) (slice_get ends e.0))) (changed_ends (close_end (kept_may_close ends e.0)) e.0 ends (slice_get ends e.0)) f (action.Close e) refused (close_outcome_at (kept_may_close ends e.0) (slice_get ends e.0))
-close_shown agents ends f e refused h = close_at agents ends f e refused (kept_may_close ends e.0) h (may_close_kept agents ends f e.0 h) (slice_get ends e.0) refl (h.end e.0)
+pub close_shown : (c : CoreState) (f : Facts) (e : EndId) (refused : Bool) → Sees c f → (let o : Outcome = close_outcome_at (may_close (seen c) e.0) (slice_get c.ends e.0) in Stepped (close_core c e o).agents (close_core c e o).ends f (action.Close e) refused o)
+close_shown c f e refused h = close_at c.agents c.ends f e refused (may_close (seen c) e.0) h.shows (close_seen c f e.0 h) (slice_get c.ends e.0) refl (h.shows.end e.0)
 
 -- ---- what changes nothing leaves the ends
 

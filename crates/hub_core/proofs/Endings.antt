@@ -1,5 +1,5 @@
 -- Order and See: what the core answers fits, and it shows the facts with the answered step.
-use Rattle.std.proofs.Common.{◌≡◌, ◌+◌, rules, ℕ, zero, suc, ◌<◌, ◌≤◌, Bool, true, false, cond, eqb, List, [], ◌∷◌, ◌++◌, length, Option, Some, None, refl, sym, ap, subst, ◌∙◌, arith, inl, inr}
+use Rattle.std.proofs.Common.{◌≡◌, ◌+◌, rules, ℕ, zero, suc, ◌<◌, ◌≤◌, Bool, true, false, cond, eqb, List, length, Option, Some, None, refl, sym, ap, subst, ◌∙◌, arith, inl, inr}
 use Rattle.std.specs.Prelude.{◌&&◌, ◌||◌, not, nat_lt, option_map}
 use Rattle.std.specs.List.{slice_get}
 use Rattle.std.proofs.lemmas.Bool.{false≢true, eqb-true, lt-ltb, ne_eqb}
@@ -12,17 +12,18 @@ use Rattle.hub_core.specs.declared.end.End.{End}
 use Rattle.hub_core.specs.declared.step.Action.TheVariants as action
 use Rattle.hub_core.specs.declared.outcome.Outcome.{Outcome}
 use Rattle.hub_core.specs.declared.outcome.Outcome.TheVariants as outcome
-use Rattle.hub_core.specs.Facts.{AgentNow, EndNow, Facts}
+use Rattle.hub_core.specs.Facts.{AgentNow, Facts}
 use Rattle.hub_core.specs.Made.{lines_of}
 use Rattle.hub_core.specs.Looking.{any_below}
-use Rattle.hub_core.specs.Posting.{is_with}
-use Rattle.hub_core.specs.Moving.{is_arrived}
-use Rattle.hub_core.specs.Ending.{is_away_of, has_away, ends_below, ends_at, order_answer, see_answer}
+use Rattle.hub_core.specs.Ending.{is_away_of, has_away, ends_at, order_answer, see_answer}
 use Rattle.hub_core.specs.Unchanged.{changes_nothing}
 use Rattle.hub_core.specs.Sound.{total}
-use Rattle.hub_core.specs.Shows.{agent_now, end_now, kept_clients, kept_workers, kept_away, count_away, ShowsFacts}
+use Rattle.hub_core.specs.Shows.{agent_now, kept_clients, kept_workers, kept_away, count_away, ShowsFacts}
 use Rattle.hub_core.specs.Kept.{set_agent}
-use Rattle.hub_core.specs.KeptEnding.{order_outcome_at, order_agents, is_kept_at, kept_ends_at, see_outcome, see_agents}
+use Rattle.hub_core.specs.KeptEnding.{order_outcome_at, order_agents, see_outcome, see_agents}
+use Rattle.hub_core.specs.CoreState.{CoreState}
+use Rattle.hub_core.specs.Seen.{seen}
+use Rattle.hub_core.proofs.Seeing.{Sees, seen_is}
 use Rattle.hub_core.proofs.Sounds.{sound_next}
 use Rattle.hub_core.proofs.Frames.{Stepped, unchanged}
 use Rattle.hub_core.proofs.Counts.{change_get, change_length, change_each, away_at, none_counted}
@@ -112,20 +113,6 @@ none_away_below f a (suc n) =
     ∙ ap (λ b. not (any_below (λ x. any_below (is_away_of f a x) (lines_of (f.end x).kind)) n) && b) (none_counted (is_away_of f a n) (lines_of (f.end n).kind))
     ∙ neither (any_below (λ x. any_below (is_away_of f a x) (lines_of (f.end x).kind)) n) (any_below (is_away_of f a n) (lines_of (f.end n).kind))
 
-at_kept : (a : AgentId) (o : Option End) → is_kept_at a o ≡ (is_with a (end_now o).place || is_arrived a (end_now o).place)
-at_kept a None = refl
-at_kept a (Some x) = refl
-
-ends_same : (p q : ℕ → Bool) (n : ℕ) → ((k : ℕ) → p k ≡ q k) → ends_below p n ≡ ends_below q n
-ends_same p q zero each = refl
-ends_same p q (suc n) each = ap (λ es. es ++ cond (p n) (record { 0 = n } ∷ []) []) (ends_same p q n each) ∙ ap (λ b. ends_below q n ++ cond b (record { 0 = n } ∷ []) []) (each n)
-
--- the ends that the agent has are those of the facts
-ends_kept : (agents : List Agent) (ends : List End) (f : Facts) (a : AgentId) → ShowsFacts agents ends f → kept_ends_at a ends (length ends) ≡ ends_at f a
-ends_kept agents ends f a h =
-    ends_same (λ k. is_kept_at a (slice_get ends k)) (λ x. is_with a (f.end x).place || is_arrived a (f.end x).place) (length ends) (λ k. at_kept a (slice_get ends k) ∙ ap (λ (y : EndNow). is_with a y.place || is_arrived a y.place) (sym (h.end k).same))
-    ∙ ap (ends_below (λ x. is_with a (f.end x).place || is_arrived a (f.end x).place)) (sym h.ends)
-
 abbrev see_by : Bool → Bool → Bool → List EndId → Outcome
 see_by made still ordered es = cond (not (made && still)) outcome.NotNow (cond ordered (outcome.Ending es) outcome.GoingOn)
 
@@ -135,7 +122,7 @@ see_none f a past = ap (λ b. see_by b (not (has_away f a)) (f.agent a.0).ordere
     past_lt : (n m : ℕ) → m ≤ n → nat_lt n m ≡ false
     past_lt n m less = search (rules, nat_tests, less)
 
-see_step : (agents : List Agent) (ends : List End) (f : Facts) (a : AgentId) (refused : Bool) (x : Agent) → ShowsFacts agents ends f → slice_get agents a.0 ≡ Some x → (still ordered : Bool) → (let o : Outcome = cond (not still) outcome.NotNow (cond ordered (outcome.Ending (kept_ends_at a ends (length ends))) outcome.GoingOn) in o ≡ see_answer f a → Stepped (see_agents a.0 agents o) ends f (action.See a) refused o)
+see_step : (agents : List Agent) (ends : List End) (f : Facts) (a : AgentId) (refused : Bool) (x : Agent) → ShowsFacts agents ends f → slice_get agents a.0 ≡ Some x → (still ordered : Bool) → (let o : Outcome = cond (not still) outcome.NotNow (cond ordered (outcome.Ending (ends_at f a)) outcome.GoingOn) in o ≡ see_answer f a → Stepped (see_agents a.0 agents o) ends f (action.See a) refused o)
 see_step agents ends f a refused x h at false ordered answer = unchanged agents ends ends f (action.See a) refused outcome.NotNow outcome.NotNow h refl refl refl answer
 see_step agents ends f a refused x h at true false answer = unchanged agents ends ends f (action.See a) refused outcome.GoingOn outcome.GoingOn h refl refl refl answer
 see_step agents ends f a refused x h at true true answer =
@@ -150,11 +137,11 @@ see_step agents ends f a refused x h at true true answer =
         clients = λ c. change_each kept_clients change agents a.0 c.0 (λ z. refl) ∙ h.clients c;
         workers = λ c. change_each kept_workers change agents a.0 c.0 (λ z. refl) ∙ h.workers c;
         away = λ c. change_each kept_away change agents a.0 c.0 (λ z. refl) ∙ h.away c;
-        sound = sound_next f (action.See a) refused (outcome.Ending (kept_ends_at a ends (length ends))) h.sound answer;
+        sound = sound_next f (action.See a) refused (outcome.Ending (ends_at f a)) h.sound answer;
       };
     }
 
-see_at : (agents : List Agent) (ends : List End) (f : Facts) (a : AgentId) (refused : Bool) → ShowsFacts agents ends f → (q : Option Agent) → slice_get agents a.0 ≡ q → Stepped (see_agents a.0 agents (see_outcome a ends q)) ends f (action.See a) refused (see_outcome a ends q)
+see_at : (agents : List Agent) (ends : List End) (f : Facts) (a : AgentId) (refused : Bool) → ShowsFacts agents ends f → (q : Option Agent) → slice_get agents a.0 ≡ q → Stepped (see_agents a.0 agents (see_outcome (ends_at f a) q)) ends f (action.See a) refused (see_outcome (ends_at f a) q)
 see_at agents ends f a refused h None at =
     let count : f.agents ≡ length agents = h.agents in
     let past : length agents ≤ a.0 = slice_get_none agents a.0 at in
@@ -167,11 +154,10 @@ see_at agents ends f a refused h (Some x) at =
     let still : eqb x.away 0 ≡ not (has_away f a) = ap (λ n. eqb n 0) kept ∙ none_away_below f a f.ends in
     let ordered : x.is_ordered ≡ (f.agent a.0).ordered = ap (λ (y : AgentNow). y.ordered) (sym (h.agent a.0 ∙ ap agent_now at)) in
     see_step agents ends f a refused x h at (eqb x.away 0) x.is_ordered
-    (ap (λ b. see_by true b x.is_ordered (kept_ends_at a ends (length ends))) still ∙ ap (λ b. see_by true (not (has_away f a)) b (kept_ends_at a ends (length ends))) ordered
-    ∙ ap (see_by true (not (has_away f a)) (f.agent a.0).ordered) (ends_kept agents ends f a h) ∙ ap (λ b. see_by b (not (has_away f a)) (f.agent a.0).ordered (ends_at f a)) (sym made))
+    (ap (λ b. see_by true b x.is_ordered (ends_at f a)) still ∙ ap (λ b. see_by true (not (has_away f a)) b (ends_at f a)) ordered ∙ ap (λ b. see_by b (not (has_away f a)) (f.agent a.0).ordered (ends_at f a)) (sym made))
 
-pub see_shown : (agents : List Agent) (ends : List End) (f : Facts) (a : AgentId) (refused : Bool) → ShowsFacts agents ends f → (let o : Outcome = see_outcome a ends (slice_get agents a.0) in Stepped (see_agents a.0 agents o) ends f (action.See a) refused o)
-see_shown agents ends f a refused h = see_at agents ends f a refused h (slice_get agents a.0) refl
+pub see_shown : (c : CoreState) (f : Facts) (a : AgentId) (refused : Bool) → Sees c f → (let o : Outcome = see_outcome (ends_at (seen c) a) (slice_get c.agents a.0) in Stepped (see_agents a.0 c.agents o) c.ends f (action.See a) refused o)
+see_shown c f a refused h = subst (λ es. let o : Outcome = see_outcome es (slice_get c.agents a.0) in Stepped (see_agents a.0 c.agents o) c.ends f (action.See a) refused o) (sym (ap (λ g. ends_at g a) (seen_is c f h))) (see_at c.agents c.ends f a refused h.shows (slice_get c.agents a.0) refl)
 
 pub see_same : (agents : List Agent) (a : AgentId) (o : Outcome) → changes_nothing o (action.See a) ≡ true → see_agents a.0 agents o ≡ agents
 see_same agents a (outcome.Ending es) h = absurd (false≢true h)

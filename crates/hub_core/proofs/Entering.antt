@@ -4,13 +4,11 @@ use Rattle.std.specs.Prelude.{is_some, not, ◌&&◌, nat_lt, option_and_then, �
 use Rattle.std.specs.List.{slice_get}
 use Rattle.std.proofs.lemmas.Bool.{eqb-true, false≢true}
 use Rattle.std.proofs.lemmas.List.{length-set}
-use Rattle.std.proofs.lemmas.Option.{slice_get_within}
 use Rattle.hub_envelope.specs.declared.ids.AgentId.{AgentId}
 use Rattle.hub_core.specs.declared.agent.Agent.{Agent}
 use Rattle.hub_core.specs.declared.line.Line.{Line}
 use Rattle.hub_core.specs.declared.line.Phase.{Phase}
 use Rattle.hub_core.specs.declared.line.Phase.TheVariants.{Out, Inside, Turned}
-use Rattle.hub_core.specs.Roster.{CastNow}
 use Rattle.hub_core.specs.declared.sender.Sender.{Sender}
 use Rattle.hub_core.specs.declared.end.End.{End}
 use Rattle.hub_core.specs.declared.step.Action.TheVariants as action
@@ -20,11 +18,13 @@ use Rattle.hub_core.specs.Facts.{EndNow, LineNow, Facts}
 use Rattle.hub_core.specs.Posting.{is_out, enter_answer, leave_answer, may_enter, is_here, poster_of, is_with}
 use Rattle.hub_core.specs.Sound.{no_end, no_line, Sound}
 use Rattle.hub_core.specs.Shows.{end_now, line_now, ShowsPut, ShowsEnd, ShowsFacts, count_away}
-use Rattle.hub_core.specs.Kept.{gate_answer, phase_of, enter_outcome, enter_end, enter_outcome_at, enter_ends_at, leave_outcome, leave_end, leave_outcome_at, changed_ends, may_come, kept_may_enter, change_owner, kept_owner, with_agent, one_out, one_away, kept_place}
-use Rattle.hub_core.specs.KeptEnding.{enter_agents, leave_agents, kept_owner_of, kept_owner_at, kept_owner_on}
+use Rattle.hub_core.specs.Kept.{gate_answer, phase_of, enter_outcome, enter_end, enter_outcome_at, enter_ends_at, leave_outcome, leave_end, leave_outcome_at, changed_ends, may_come, change_owner, with_agent, one_out, one_away}
+use Rattle.hub_core.specs.KeptEnding.{owner_by, owner, enter_agents, leave_agents}
+use Rattle.hub_core.specs.CoreSteps.{enter_core, leave_core}
+use Rattle.hub_core.specs.Seen.{seen}
 use Rattle.hub_core.proofs.Lists.{set_again, is_there}
 use Rattle.hub_core.proofs.Frames.{line_changed, ShownAt, Stepped, unchanged, recounted}
-use Rattle.hub_core.proofs.Holders.{may_kept, place_kept}
+use Rattle.hub_core.proofs.Seeing.{Sees, enter_seen, owner_seen}
 use Rattle.hub_core.proofs.SoundLines.{phased_line, line_there, LinesAt}
 use Rattle.hub_core.specs.Made.{lines_of, peer_of, is_queue}
 use Rattle.hub_core.proofs.Fitting.{let_in_of, Entered, found_moved_of, found_closed_of}
@@ -89,20 +89,15 @@ held_owned : (a : AgentId) (q : Option AgentId) → is_holder a q ≡ owns_it q 
 held_owned a None = refl
 held_owned a (Some b) = refl
 
-owner_by_kind : (agents : List Agent) (ends : List End) (f : Facts) (l : ℕ) (ls : List Line) (y : Line) (held : Option AgentId) (a : AgentId) → ShowsFacts agents ends f → (k : Kind) → length ls ≡ lines_of (Some k) → slice_get ls l ≡ Some y → held ≡ y.held_by → (x : ℕ) → (f.line x l).held_by ≡ held → has_poster_of f a x l (Some k) ≡ owns_it (kept_owner ends k y) a
-owner_by_kind agents ends f l ls y held a h (Port q) count is same x line =
-    let within : l < length ls = slice_get_within ls l y is in
-    let first : l ≡ 0 = omega arith in
-    ap (λ n. eqb n 0 && is_with a (f.end q.0).place) first ∙ with_owned a (f.end q.0).place ∙ ap (λ p. owns_it (with_agent p) a) (sym (place_kept agents ends f q.0 h))
-owner_by_kind agents ends f l ls y held a h Client count is same x line = ap (is_holder a) (line ∙ same) ∙ held_owned a y.held_by
-owner_by_kind agents ends f l ls y held a h Worker count is same x line = ap (is_holder a) (line ∙ same) ∙ held_owned a y.held_by
-owner_by_kind agents ends f l ls y held a h (Member b) count is same x line = refl
-
-owner_kept : (agents : List Agent) (ends : List End) (f : Facts) (s : Sender) (x : End) (y : Line) (a : AgentId) → ShowsFacts agents ends f → ShownAt f s.end.0 (Some x) → slice_get x.lines s.line.0 ≡ Some y → has_poster f a s.end.0 s.line.0 ≡ owns_it (kept_owner ends x.kind y) a
-owner_kept agents ends f s x y a h shown is =
-    let kind : (f.end s.end.0).kind ≡ Some x.kind = ap (λ (z : EndNow). z.kind) shown.same in
-    let line : f.line s.end.0 s.line.0 ≡ line_now (Some y) = shown.lines s.line.0 ∙ ap line_now is in
-    ap (has_poster_of f a s.end.0 s.line.0) kind ∙ owner_by_kind agents ends f s.line.0 x.lines y y.held_by a h x.kind (shown.count ∙ ap lines_of kind) is refl s.end.0 (ap (λ (z : LineNow). z.held_by) line)
+owner_has : (f : Facts) (s : Sender) (a : AgentId) (k : Option Kind) → has_poster_of f a s.end.0 s.line.0 k ≡ owns_it (owner_by f s k) a
+owner_has f s a (Some (Port q)) = elim (eqb s.line.0 0) as (λ b. (b && is_with a (f.end q.0).place) ≡ owns_it (cond b (with_agent (f.end q.0).place) None) a) [
+  | true ↦ with_owned a (f.end q.0).place
+  | false ↦ refl
+]
+owner_has f s a (Some Client) = held_owned a (f.line s.end.0 s.line.0).held_by
+owner_has f s a (Some Worker) = held_owned a (f.line s.end.0 s.line.0).held_by
+owner_has f s a (Some (Member b)) = refl
+owner_has f s a None = refl
 
 -- an agent that holds a line that may be entered was made
 held_made : (agents : List Agent) (ends : List End) (f : Facts) (s : Sender) → ShowsFacts agents ends f → is_queue (f.end s.end.0).kind ≡ true → may_enter f s ≡ true → (b : AgentId) → (f.line s.end.0 s.line.0).held_by ≡ Some b → b.0 < length agents
@@ -127,47 +122,50 @@ with_found (Some Swept) b is = absurd (search (rules, is))
 with_found (Some Gone) b is = absurd (search (rules, is))
 with_found None b is = absurd (search (rules, is))
 
-owner_made : (agents : List Agent) (ends : List End) (f : Facts) (s : Sender) (y : Line) → ShowsFacts agents ends f → (k : Kind) → (f.end s.end.0).kind ≡ Some k → (f.line s.end.0 s.line.0).held_by ≡ y.held_by → may_enter f s ≡ true → (b : AgentId) → kept_owner ends k y ≡ Some b → b.0 < length agents
-owner_made agents ends f s y h (Port q) kind line may b is =
+port_owner : (first : Bool) (p : Option Place) (b : AgentId) → cond first (with_agent p) None ≡ Some b → p ≡ Some (With b)
+port_owner true p b is = with_found p b is
+port_owner false p b is = absurd (search (rules, is))
+
+owner_made : (agents : List Agent) (ends : List End) (f : Facts) (s : Sender) → ShowsFacts agents ends f → (k : Option Kind) → (f.end s.end.0).kind ≡ k → may_enter f s ≡ true → (b : AgentId) → owner_by f s k ≡ Some b → b.0 < length agents
+owner_made agents ends f s h (Some (Port q)) kind may b is =
     let count : f.agents ≡ length agents = h.agents in
-    let made : b.0 < f.agents = h.sound.places.with_made q.0 b (sym (place_kept agents ends f q.0 h) ∙ with_found (kept_place ends q.0) b is) in
+    let made : b.0 < f.agents = h.sound.places.with_made q.0 b (port_owner (eqb s.line.0 0) (f.end q.0).place b is) in
     omega arith
-owner_made agents ends f s y h Client kind line may b is = held_made agents ends f s h (ap is_queue kind) may b (line ∙ is)
-owner_made agents ends f s y h Worker kind line may b is = held_made agents ends f s h (ap is_queue kind) may b (line ∙ is)
-owner_made agents ends f s y h (Member a) kind line may b is = absurd (search (rules, is))
+owner_made agents ends f s h (Some Client) kind may b is = held_made agents ends f s h (ap is_queue kind) may b is
+owner_made agents ends f s h (Some Worker) kind may b is = held_made agents ends f s h (ap is_queue kind) may b is
+owner_made agents ends f s h (Some (Member a)) kind may b is = absurd (search (rules, is))
+owner_made agents ends f s h None kind may b is = absurd (search (rules, is))
 
 -- one poster more is away, of the line's owner
-entered_counts : (agents : List Agent) (ends : List End) (f : Facts) (s : Sender) (x : End) (y : Line) (o : Outcome) (p : Phase) → ShowsFacts agents ends f → ShownAt f s.end.0 (Some x) → slice_get x.lines s.line.0 ≡ Some y → Entered f s → is_out p ≡ false → ((d : ℕ) → ((next f (action.Enter s) o).end d) ≡ f.end d) → ((d l : ℕ) → (next f (action.Enter s) o).line d l ≡ phased_line f s p d l) → (next f (action.Enter s) o).ends ≡ f.ends → Counted (change_owner one_away (kept_owner ends x.kind y) agents) (next f (action.Enter s) o)
-entered_counts agents ends f s x y o p h shown is entered away same_ends same_lines count =
+entered_counts : (agents : List Agent) (ends : List End) (f : Facts) (s : Sender) (x : End) (o : Outcome) (p : Phase) → ShowsFacts agents ends f → ShownAt f s.end.0 (Some x) → Entered f s → is_out p ≡ false → ((d : ℕ) → ((next f (action.Enter s) o).end d) ≡ f.end d) → ((d l : ℕ) → (next f (action.Enter s) o).line d l ≡ phased_line f s p d l) → (next f (action.Enter s) o).ends ≡ f.ends → Counted (change_owner one_away (owner f s) agents) (next f (action.Enter s) o)
+entered_counts agents ends f s x o p h shown entered away same_ends same_lines count =
     let g : Facts = next f (action.Enter s) o in
-    let owner : Option AgentId = kept_owner ends x.kind y in
     let kind : (f.end s.end.0).kind ≡ Some x.kind = ap (λ (z : EndNow). z.kind) shown.same in
-    let line : f.line s.end.0 s.line.0 ≡ line_now (Some y) = shown.lines s.line.0 ∙ ap line_now is in
     let low : s.line.0 < lines_of (f.end s.end.0).kind = line_there f s (h.sound.lines s.end.0) entered.may in
     let made : s.end.0 < f.ends = made_of f s.end.0 h.sound.places.ends (λ none. absurd (search (rules, sym (ap (λ (z : EndNow). z.kind) none) ∙ kind))) in
-    counted_entered agents f g owner h.sound.places.few (owner_made agents ends f s y h x.kind kind (ap (λ (z : LineNow). z.held_by) line) entered.may) count (λ d. ap (λ (z : EndNow). z.kind) (same_ends d)) (λ d. ap (λ (z : EndNow). z.place) (same_ends d)) (λ a.
+    counted_entered agents f g (owner f s) h.sound.places.few (owner_made agents ends f s h (f.end s.end.0).kind refl entered.may) count (λ d. ap (λ (z : EndNow). z.kind) (same_ends d)) (λ d. ap (λ (z : EndNow). z.place) (same_ends d)) (λ a.
     let sum : count_away a f + bit (not (is_out p) && has_poster f a s.end.0 s.line.0) ≡ count_away a g + bit (is_away_of f a s.end.0 s.line.0) = phase_away a f g s p made low count (λ d. ap (λ (z : EndNow). z.kind) (same_ends d)) (λ d. ap (λ (z : EndNow). z.place) (same_ends d)) (λ d l. ap (λ (z : LineNow). z.held_by) (same_lines d l)) (λ d l. ap (λ (z : LineNow). z.phase) (same_lines d l)) in
-    let new : bit (not (is_out p) && has_poster f a s.end.0 s.line.0) ≡ bit (owns_it owner a) = ap (λ b. bit (not b && has_poster f a s.end.0 s.line.0)) away ∙ ap bit (owner_kept agents ends f s x y a h shown is) in
+    let new : bit (not (is_out p) && has_poster f a s.end.0 s.line.0) ≡ bit (owns_it (owner f s) a) = ap (λ b. bit (not b && has_poster f a s.end.0 s.line.0)) away ∙ ap bit (owner_has f s a (f.end s.end.0).kind) in
     let old : bit (is_away_of f a s.end.0 s.line.0) ≡ 0 = ap (λ b. bit (not b && has_poster f a s.end.0 s.line.0)) entered.out in
     omega arith) (counts_of agents ends f h)
 
 -- the gate's answer, and the phase that comes with it
-gate_shown : (agents : List Agent) (ends : List End) (f : Facts) (s : Sender) (refused : Bool) (x : End) (y : Line) → ShowsFacts agents ends f → slice_get ends s.end.0 ≡ Some x → slice_get x.lines s.line.0 ≡ Some y → (retired closed : Bool) → cond retired outcome.Moved (cond closed outcome.Closed outcome.In) ≡ enter_answer f s → Stepped (enter_agents (kept_owner ends x.kind y) agents (cond retired outcome.Moved (cond closed outcome.Closed outcome.In))) (set ends s.end.0 (with_phase x y s.line.0 (phase_of (cond retired outcome.Moved (cond closed outcome.Closed outcome.In))))) f (action.Enter s) refused (cond retired outcome.Moved (cond closed outcome.Closed outcome.In))
+gate_shown : (agents : List Agent) (ends : List End) (f : Facts) (s : Sender) (refused : Bool) (x : End) (y : Line) → ShowsFacts agents ends f → slice_get ends s.end.0 ≡ Some x → slice_get x.lines s.line.0 ≡ Some y → (retired closed : Bool) → cond retired outcome.Moved (cond closed outcome.Closed outcome.In) ≡ enter_answer f s → Stepped (enter_agents (owner f s) agents (cond retired outcome.Moved (cond closed outcome.Closed outcome.In))) (set ends s.end.0 (with_phase x y s.line.0 (phase_of (cond retired outcome.Moved (cond closed outcome.Closed outcome.In))))) f (action.Enter s) refused (cond retired outcome.Moved (cond closed outcome.Closed outcome.In))
 gate_shown agents ends f s refused x y h at is true closed answer =
-    recounted agents (change_owner one_away (kept_owner ends x.kind y) agents) ends _ f (action.Enter s) refused outcome.Moved h answer refl refl (owner_length one_away (kept_owner ends x.kind y) agents) (owner_now_away (kept_owner ends x.kind y) agents) (h.ends ∙ sym (length-set ends s.end.0 (with_phase x y s.line.0 Turned)))
-    (entered_counts agents ends f s x y outcome.Moved Turned h (subst (ShownAt f s.end.0) at (h.end s.end.0)) is (found_moved_of f s answer).0 refl (λ d. refl) (λ d l. refl) refl) (phased_shown agents ends f s Turned x y h at is (λ no. cc))
+    recounted agents (change_owner one_away (owner f s) agents) ends _ f (action.Enter s) refused outcome.Moved h answer refl refl (owner_length one_away (owner f s) agents) (owner_now_away (owner f s) agents) (h.ends ∙ sym (length-set ends s.end.0 (with_phase x y s.line.0 Turned)))
+    (entered_counts agents ends f s x outcome.Moved Turned h (subst (ShownAt f s.end.0) at (h.end s.end.0)) (found_moved_of f s answer).0 refl (λ d. refl) (λ d l. refl) refl) (phased_shown agents ends f s Turned x y h at is (λ no. cc))
 gate_shown agents ends f s refused x y h at is false true answer =
-    recounted agents (change_owner one_away (kept_owner ends x.kind y) agents) ends _ f (action.Enter s) refused outcome.Closed h answer refl refl (owner_length one_away (kept_owner ends x.kind y) agents) (owner_now_away (kept_owner ends x.kind y) agents) (h.ends ∙ sym (length-set ends s.end.0 (with_phase x y s.line.0 Turned)))
-    (entered_counts agents ends f s x y outcome.Closed Turned h (subst (ShownAt f s.end.0) at (h.end s.end.0)) is (found_closed_of f s answer).0 refl (λ d. refl) (λ d l. refl) refl) (phased_shown agents ends f s Turned x y h at is (λ no. cc))
+    recounted agents (change_owner one_away (owner f s) agents) ends _ f (action.Enter s) refused outcome.Closed h answer refl refl (owner_length one_away (owner f s) agents) (owner_now_away (owner f s) agents) (h.ends ∙ sym (length-set ends s.end.0 (with_phase x y s.line.0 Turned)))
+    (entered_counts agents ends f s x outcome.Closed Turned h (subst (ShownAt f s.end.0) at (h.end s.end.0)) (found_closed_of f s answer).0 refl (λ d. refl) (λ d l. refl) refl) (phased_shown agents ends f s Turned x y h at is (λ no. cc))
 gate_shown agents ends f s refused x y h at is false false answer =
-    recounted agents (change_owner one_away (kept_owner ends x.kind y) agents) ends _ f (action.Enter s) refused outcome.In h answer refl refl (owner_length one_away (kept_owner ends x.kind y) agents) (owner_now_away (kept_owner ends x.kind y) agents) (h.ends ∙ sym (length-set ends s.end.0 (with_phase x y s.line.0 Inside)))
-    (entered_counts agents ends f s x y outcome.In Inside h (subst (ShownAt f s.end.0) at (h.end s.end.0)) is (let_in_of f s answer).0 refl (λ d. refl) (λ d l. refl) refl) (phased_shown agents ends f s Inside x y h at is (λ _. stand_kept f s.end.0 s.line.0 x h.sound (subst (ShownAt f s.end.0) at (h.end s.end.0)) (let_in_of f s answer).2))
+    recounted agents (change_owner one_away (owner f s) agents) ends _ f (action.Enter s) refused outcome.In h answer refl refl (owner_length one_away (owner f s) agents) (owner_now_away (owner f s) agents) (h.ends ∙ sym (length-set ends s.end.0 (with_phase x y s.line.0 Inside)))
+    (entered_counts agents ends f s x outcome.In Inside h (subst (ShownAt f s.end.0) at (h.end s.end.0)) (let_in_of f s answer).0 refl (λ d. refl) (λ d l. refl) refl) (phased_shown agents ends f s Inside x y h at is (λ _. stand_kept f s.end.0 s.line.0 x h.sound (subst (ShownAt f s.end.0) at (h.end s.end.0)) (let_in_of f s answer).2))
 
-enter_line : (agents : List Agent) (ends : List End) (f : Facts) (s : Sender) (refused : Bool) (x : End) → ShowsFacts agents ends f → slice_get ends s.end.0 ≡ Some x → may_enter f s ≡ true → (o : Option Line) → slice_get x.lines s.line.0 ≡ o → f.line s.end.0 s.line.0 ≡ line_now o → f.end s.end.0 ≡ end_now (Some x) → (o ≡ None → ⊥) → Stepped (enter_agents (kept_owner_on ends x.kind o) agents (enter_outcome x o)) (set ends s.end.0 (enter_end x s.line.0 o)) f (action.Enter s) refused (enter_outcome x o)
+enter_line : (agents : List Agent) (ends : List End) (f : Facts) (s : Sender) (refused : Bool) (x : End) → ShowsFacts agents ends f → slice_get ends s.end.0 ≡ Some x → may_enter f s ≡ true → (o : Option Line) → slice_get x.lines s.line.0 ≡ o → f.line s.end.0 s.line.0 ≡ line_now o → f.end s.end.0 ≡ end_now (Some x) → (o ≡ None → ⊥) → Stepped (enter_agents (owner f s) agents (enter_outcome x o)) (set ends s.end.0 (enter_end x s.line.0 o)) f (action.Enter s) refused (enter_outcome x o)
 enter_line agents ends f s refused x h at may None is line end there = absurd (there refl)
 enter_line agents ends f s refused x h at may (Some y) is line end there =
     let answer = enter_as f s (end_now (Some x)) (line_now (Some y)) end line may in
-    elim (may_come y) as (λ b. enter_answer f s ≡ cond (not b) outcome.NotNow (gate_answer x y) → Stepped (enter_agents (kept_owner ends x.kind y) agents (cond b (gate_answer x y) outcome.NotNow)) (set ends s.end.0 (cond b (with_phase x y s.line.0 (phase_of (gate_answer x y))) x)) f (action.Enter s) refused (cond b (gate_answer x y) outcome.NotNow)) [
+    elim (may_come y) as (λ b. enter_answer f s ≡ cond (not b) outcome.NotNow (gate_answer x y) → Stepped (enter_agents (owner f s) agents (cond b (gate_answer x y) outcome.NotNow)) (set ends s.end.0 (cond b (with_phase x y s.line.0 (phase_of (gate_answer x y))) x)) f (action.Enter s) refused (cond b (gate_answer x y) outcome.NotNow)) [
       | true ↦ λ opens. gate_shown agents ends f s refused x y h at is (nat_lt y.epoch x.newest) x.is_closed (sym opens)
       | false ↦ λ shut. unchanged agents ends _ f (action.Enter s) refused outcome.NotNow outcome.NotNow h refl refl (set_again ends s.end.0 x at) (sym shut)
     ] answer
@@ -186,14 +184,17 @@ nobody false = refl
 pub unmade_line : (f : Facts) (s : Sender) → f.end s.end.0 ≡ no_end → may_enter f s ≡ false
 unmade_line f s none = ap (λ (y : EndNow). is_some (poster_of f s y.kind) || (eqb s.line.0 0 && is_here (option_and_then (λ q. (f.end q).place) (peer_of y.kind)))) none ∙ nobody (eqb s.line.0 0)
 
-enter_end_shown : (agents : List Agent) (ends : List End) (f : Facts) (s : Sender) (refused : Bool) → ShowsFacts agents ends f → (o : Option End) → slice_get ends s.end.0 ≡ o → ShownAt f s.end.0 o → (may : Bool) → may ≡ may_enter f s → Stepped (enter_agents (kept_owner_at ends s.line.0 o) agents (enter_outcome_at may s.line.0 o)) (enter_ends_at may s ends o) f (action.Enter s) refused (enter_outcome_at may s.line.0 o)
+enter_end_shown : (agents : List Agent) (ends : List End) (f : Facts) (s : Sender) (refused : Bool) → ShowsFacts agents ends f → (o : Option End) → slice_get ends s.end.0 ≡ o → ShownAt f s.end.0 o → (may : Bool) → may ≡ may_enter f s → Stepped (enter_agents (owner f s) agents (enter_outcome_at may s.line.0 o)) (enter_ends_at may s ends o) f (action.Enter s) refused (enter_outcome_at may s.line.0 o)
 enter_end_shown agents ends f s refused h None at shown may is = unchanged agents ends ends f (action.Enter s) refused outcome.NotNow outcome.NotNow h refl refl refl (enter_refused f s (unmade_line f s shown.same))
 enter_end_shown agents ends f s refused h (Some x) at shown false is = unchanged agents ends ends f (action.Enter s) refused outcome.NotNow outcome.NotNow h refl refl refl (enter_refused f s (sym is))
 enter_end_shown agents ends f s refused h (Some x) at shown true is =
     enter_line agents ends f s refused x h at (sym is) (slice_get x.lines s.line.0) refl (shown.lines s.line.0) shown.same (line_is_kept f s x (h.sound.lines s.end.0) shown (sym is))
 
-pub enter_shown : (agents : List Agent) (ends : List End) (f : Facts) (c : Option CastNow) (s : Sender) (refused : Bool) → ShowsFacts agents ends f → f.roster.cast ≡ c → (let o : Outcome = enter_outcome_at (kept_may_enter agents ends c s) s.line.0 (slice_get ends s.end.0) in Stepped (enter_agents (kept_owner_of ends s) agents o) (enter_ends_at (kept_may_enter agents ends c s) s ends (slice_get ends s.end.0)) f (action.Enter s) refused o)
-enter_shown agents ends f c s refused h cast = enter_end_shown agents ends f s refused h (slice_get ends s.end.0) refl (h.end s.end.0) (kept_may_enter agents ends c s) (may_kept agents ends f c s h cast)
+pub enter_shown : (c : CoreState) (f : Facts) (s : Sender) (refused : Bool) → Sees c f → (let o : Outcome = enter_outcome_at (may_enter (seen c) s) s.line.0 (slice_get c.ends s.end.0) in Stepped (enter_core c s o).agents (enter_core c s o).ends f (action.Enter s) refused o)
+enter_shown c f s refused h =
+    let o : Outcome = enter_outcome_at (may_enter (seen c) s) s.line.0 (slice_get c.ends s.end.0) in
+    subst (λ q. Stepped (enter_agents q c.agents o) (enter_core c s o).ends f (action.Enter s) refused o) (sym (owner_seen c f s h))
+    (enter_end_shown c.agents c.ends f s refused h.shows (slice_get c.ends s.end.0) refl (h.shows.end s.end.0) (may_enter (seen c) s) (enter_seen c f s h))
 
 gate_counts : (agents : List Agent) (owner : Option AgentId) (retired closed : Bool) → change_owner one_away owner agents ≡ enter_agents owner agents (cond retired outcome.Moved (cond closed outcome.Closed outcome.In))
 gate_counts agents owner true closed = refl
@@ -213,9 +214,9 @@ end_counts agents owner false l (Some x) comes = absurd (comes refl)
 end_counts agents owner true l (Some x) comes = line_counts agents owner x (slice_get x.lines l) comes
 
 -- whoever comes inside, or is being turned back, is counted
-pub enter_counts : (c : CoreState) (s : Sender) (owner : Option AgentId) (o : Outcome) → o ≡ enter_outcome_at (kept_may_enter c.agents c.ends c.roster.cast s) s.line.0 (slice_get c.ends s.end.0) → (o ≡ outcome.NotNow → ⊥) → change_owner one_away owner c.agents ≡ enter_agents owner c.agents o
+pub enter_counts : (c : CoreState) (s : Sender) (owner : Option AgentId) (o : Outcome) → o ≡ enter_outcome_at (may_enter (seen c) s) s.line.0 (slice_get c.ends s.end.0) → (o ≡ outcome.NotNow → ⊥) → change_owner one_away owner c.agents ≡ enter_agents owner c.agents o
 enter_counts c s owner o says =
-    subst (λ p. (p ≡ outcome.NotNow → ⊥) → change_owner one_away owner c.agents ≡ enter_agents owner c.agents p) (sym says) (end_counts c.agents owner (kept_may_enter c.agents c.ends c.roster.cast s) s.line.0 (slice_get c.ends s.end.0))
+    subst (λ p. (p ≡ outcome.NotNow → ⊥) → change_owner one_away owner c.agents ≡ enter_agents owner c.agents p) (sym says) (end_counts c.agents owner (may_enter (seen c) s) s.line.0 (slice_get c.ends s.end.0))
 
 pub enter_agents_same : (owner : Option AgentId) (agents : List Agent) (s : Sender) (o : Outcome) → changes_nothing o (action.Enter s) ≡ true → enter_agents owner agents o ≡ agents
 enter_agents_same owner agents s outcome.In h = absurd (false≢true h)
@@ -229,32 +230,34 @@ leave_as : (f : Facts) (s : Sender) (y : LineNow) → f.line s.end.0 s.line.0 �
 leave_as f s y line = ap (λ (z : LineNow). cond (is_out z.phase) outcome.NotNow outcome.Left) (sym line)
 
 -- one poster less is away, of the line's owner
-left_counts : (agents : List Agent) (ends : List End) (f : Facts) (s : Sender) (x : End) (y : Line) → ShowsFacts agents ends f → ShownAt f s.end.0 (Some x) → slice_get x.lines s.line.0 ≡ Some y → is_out (f.line s.end.0 s.line.0).phase ≡ false → Counted (change_owner one_out (kept_owner ends x.kind y) agents) (next f (action.Leave s) outcome.Left)
-left_counts agents ends f s x y h shown is away =
+left_counts : (agents : List Agent) (ends : List End) (f : Facts) (s : Sender) (x : End) → ShowsFacts agents ends f → ShownAt f s.end.0 (Some x) → is_out (f.line s.end.0 s.line.0).phase ≡ false → Counted (change_owner one_out (owner f s) agents) (next f (action.Leave s) outcome.Left)
+left_counts agents ends f s x h shown away =
     let g : Facts = next f (action.Leave s) outcome.Left in
-    let owner : Option AgentId = kept_owner ends x.kind y in
     let kind : (f.end s.end.0).kind ≡ Some x.kind = ap (λ (z : EndNow). z.kind) shown.same in
     let low : s.line.0 < lines_of (f.end s.end.0).kind = line_there f s (h.sound.lines s.end.0) (h.sound.places.away s away) in
     let made : s.end.0 < f.ends = made_of f s.end.0 h.sound.places.ends (λ none. absurd (search (rules, sym (ap (λ (z : EndNow). z.kind) none) ∙ kind))) in
-    counted_left agents f g owner refl (λ d. refl) (λ d. refl) (λ a.
+    counted_left agents f g (owner f s) refl (λ d. refl) (λ d. refl) (λ a.
     let sum : count_away a f + bit (not (is_out Out) && has_poster f a s.end.0 s.line.0) ≡ count_away a g + bit (is_away_of f a s.end.0 s.line.0) = phase_away a f g s Out made low refl (λ d. refl) (λ d. refl) (λ d l. refl) (λ d l. refl) in
-    let old : bit (is_away_of f a s.end.0 s.line.0) ≡ bit (owns_it owner a) = ap (λ b. bit (not b && has_poster f a s.end.0 s.line.0)) away ∙ ap bit (owner_kept agents ends f s x y a h shown is) in
+    let old : bit (is_away_of f a s.end.0 s.line.0) ≡ bit (owns_it (owner f s) a) = ap (λ b. bit (not b && has_poster f a s.end.0 s.line.0)) away ∙ ap bit (owner_has f s a (f.end s.end.0).kind) in
     omega arith) (counts_of agents ends f h)
 
-leave_line : (agents : List Agent) (ends : List End) (f : Facts) (s : Sender) (refused : Bool) (x : End) → ShowsFacts agents ends f → slice_get ends s.end.0 ≡ Some x → (o : Option Line) → slice_get x.lines s.line.0 ≡ o → f.line s.end.0 s.line.0 ≡ line_now o → Stepped (leave_agents (kept_owner_on ends x.kind o) agents (leave_outcome o)) (set ends s.end.0 (leave_end x s.line.0 o)) f (action.Leave s) refused (leave_outcome o)
+leave_line : (agents : List Agent) (ends : List End) (f : Facts) (s : Sender) (refused : Bool) (x : End) → ShowsFacts agents ends f → slice_get ends s.end.0 ≡ Some x → (o : Option Line) → slice_get x.lines s.line.0 ≡ o → f.line s.end.0 s.line.0 ≡ line_now o → Stepped (leave_agents (owner f s) agents (leave_outcome o)) (set ends s.end.0 (leave_end x s.line.0 o)) f (action.Leave s) refused (leave_outcome o)
 leave_line agents ends f s refused x h at None is line = unchanged agents ends _ f (action.Leave s) refused outcome.NotNow outcome.NotNow h refl refl (set_again ends s.end.0 x at) (leave_as f s no_line line)
 leave_line agents ends f s refused x h at (Some y) is line =
-    elim (is_out y.phase) as (λ b. is_out y.phase ≡ b → cond b outcome.NotNow outcome.Left ≡ leave_answer f s → Stepped (leave_agents (kept_owner ends x.kind y) agents (cond b outcome.NotNow outcome.Left)) (set ends s.end.0 (cond b x (with_phase x y s.line.0 Out))) f (action.Leave s) refused (cond b outcome.NotNow outcome.Left)) [
+    elim (is_out y.phase) as (λ b. is_out y.phase ≡ b → cond b outcome.NotNow outcome.Left ≡ leave_answer f s → Stepped (leave_agents (owner f s) agents (cond b outcome.NotNow outcome.Left)) (set ends s.end.0 (cond b x (with_phase x y s.line.0 Out))) f (action.Leave s) refused (cond b outcome.NotNow outcome.Left)) [
       | true ↦ λ out answer. unchanged agents ends _ f (action.Leave s) refused outcome.NotNow outcome.NotNow h refl refl (set_again ends s.end.0 x at) answer
-      | false ↦ λ away answer. recounted agents (change_owner one_out (kept_owner ends x.kind y) agents) ends _ f (action.Leave s) refused outcome.Left h answer refl refl (owner_length one_out (kept_owner ends x.kind y) agents) (owner_now_out (kept_owner ends x.kind y) agents) (h.ends ∙ sym (length-set ends s.end.0 (with_phase x y s.line.0 Out))) (left_counts agents ends f s x y h (subst (ShownAt f s.end.0) at (h.end s.end.0)) is (ap (λ (z : LineNow). is_out z.phase) line ∙ away)) (phased_shown agents ends f s Out x y h at is (λ no. cc))
+      | false ↦ λ away answer. recounted agents (change_owner one_out (owner f s) agents) ends _ f (action.Leave s) refused outcome.Left h answer refl refl (owner_length one_out (owner f s) agents) (owner_now_out (owner f s) agents) (h.ends ∙ sym (length-set ends s.end.0 (with_phase x y s.line.0 Out))) (left_counts agents ends f s x h (subst (ShownAt f s.end.0) at (h.end s.end.0)) (ap (λ (z : LineNow). is_out z.phase) line ∙ away)) (phased_shown agents ends f s Out x y h at is (λ no. cc))
     ] refl (leave_as f s (line_now (Some y)) line)
 
-leave_end_shown : (agents : List Agent) (ends : List End) (f : Facts) (s : Sender) (refused : Bool) → ShowsFacts agents ends f → (o : Option End) → slice_get ends s.end.0 ≡ o → ShownAt f s.end.0 o → Stepped (leave_agents (kept_owner_at ends s.line.0 o) agents (leave_outcome_at s.line.0 o)) (changed_ends (λ x. leave_end x s.line.0 (slice_get x.lines s.line.0)) s.end.0 ends o) f (action.Leave s) refused (leave_outcome_at s.line.0 o)
+leave_end_shown : (agents : List Agent) (ends : List End) (f : Facts) (s : Sender) (refused : Bool) → ShowsFacts agents ends f → (o : Option End) → slice_get ends s.end.0 ≡ o → ShownAt f s.end.0 o → Stepped (leave_agents (owner f s) agents (leave_outcome_at s.line.0 o)) (changed_ends (λ x. leave_end x s.line.0 (slice_get x.lines s.line.0)) s.end.0 ends o) f (action.Leave s) refused (leave_outcome_at s.line.0 o)
 leave_end_shown agents ends f s refused h None at shown = unchanged agents ends ends f (action.Leave s) refused outcome.NotNow outcome.NotNow h refl refl refl (leave_as f s no_line (shown.lines s.line.0))
 leave_end_shown agents ends f s refused h (Some x) at shown = leave_line agents ends f s refused x h at (slice_get x.lines s.line.0) refl (shown.lines s.line.0)
 
-pub leave_shown : (agents : List Agent) (ends : List End) (f : Facts) (s : Sender) (refused : Bool) → ShowsFacts agents ends f → (let o : Outcome = leave_outcome_at s.line.0 (slice_get ends s.end.0) in Stepped (leave_agents (kept_owner_of ends s) agents o) (changed_ends (λ x. leave_end x s.line.0 (slice_get x.lines s.line.0)) s.end.0 ends (slice_get ends s.end.0)) f (action.Leave s) refused o)
-leave_shown agents ends f s refused h = leave_end_shown agents ends f s refused h (slice_get ends s.end.0) refl (h.end s.end.0)
+pub leave_shown : (c : CoreState) (f : Facts) (s : Sender) (refused : Bool) → Sees c f → (let o : Outcome = leave_outcome_at s.line.0 (slice_get c.ends s.end.0) in Stepped (leave_core c s o).agents (leave_core c s o).ends f (action.Leave s) refused o)
+leave_shown c f s refused h =
+    let o : Outcome = leave_outcome_at s.line.0 (slice_get c.ends s.end.0) in
+    subst (λ q. Stepped (leave_agents q c.agents o) (leave_core c s o).ends f (action.Leave s) refused o) (sym (owner_seen c f s h))
+    (leave_end_shown c.agents c.ends f s refused h.shows (slice_get c.ends s.end.0) refl (h.shows.end s.end.0))
 
 pub leave_agents_same : (owner : Option AgentId) (agents : List Agent) (s : Sender) (o : Outcome) → changes_nothing o (action.Leave s) ≡ true → leave_agents owner agents o ≡ agents
 leave_agents_same owner agents s outcome.Left h = absurd (false≢true h)

@@ -1,6 +1,6 @@
 -- Hand: what the core answers fits, and it shows the facts with the answered step.
-use Rattle.std.proofs.Common.{◌≡◌, ℕ, Bool, true, false, cond, eqb, set, List, length, Option, Some, None, refl, sym, ap, subst, ◌∙◌, length-set}
-use Rattle.std.specs.Prelude.{◌&&◌, ◌++◌, not, nat_lt}
+use Rattle.std.proofs.Common.{◌≡◌, ℕ, Bool, true, false, cond, eqb, set, List, Option, Some, None, refl, sym, ap, subst, ◌∙◌, length-set}
+use Rattle.std.specs.Prelude.{◌&&◌, ◌++◌}
 use Rattle.std.specs.List.{slice_get}
 use Rattle.std.proofs.lemmas.Bool.{false≢true, ne_eqb}
 use Rattle.std.proofs.lemmas.Option.{slice_get_within}
@@ -20,13 +20,15 @@ use Rattle.hub_core.specs.Moving.{may_take_over, hand_answer, is_released}
 use Rattle.hub_core.specs.Unchanged.{changes_nothing}
 use Rattle.hub_core.specs.Sound.{no_end, SoundPlaces}
 use Rattle.hub_core.specs.Shows.{end_now, ShowsEnd, ShowsFacts}
-use Rattle.hub_core.specs.Kept.{kept_holder, kept_may_take_over, hand_outcome, handed_end, hand_outcome_at, changed_ends, hand_agents, gone}
+use Rattle.hub_core.specs.Kept.{hand_outcome, handed_end, hand_outcome_at, changed_ends, hand_agents, gone}
 use Rattle.hub_core.proofs.Lists.{set_again, each_set, eqb_same}
 use Rattle.hub_core.proofs.Nexts.{next}
 use Rattle.hub_core.proofs.Speakers.{placed_made}
 use Rattle.hub_core.proofs.Frames.{ShownAt, Stepped, unchanged, recounted}
 use Rattle.hub_core.proofs.Counts.{Went, counted_went, counts_of, gone_length, gone_now}
-use Rattle.hub_core.proofs.Holders.{holder_kept}
+use Rattle.hub_core.specs.CoreState.{CoreState}
+use Rattle.hub_core.proofs.Seeing.{Sees, take_over_seen}
+use Rattle.hub_core.specs.CoreSteps.{core_may_take_over, hand_core}
 use Rattle.hub_core.proofs.Fitting.{handed_of}
 use Rattle.hub_core.specs.declared.kind.Kind.{Kind}
 use Rattle.hub_core.proofs.Calms.{calm_gone}
@@ -80,10 +82,6 @@ moved_shown agents ends f e b refused x h at answer =
 
 -- ---- what is answered
 
-take_over_kept : (agents : List Agent) (ends : List End) (f : Facts) (b : AgentId) (q : Option AgentId) → ShowsFacts agents ends f → kept_may_take_over (length agents) b q ≡ may_take_over f b q
-take_over_kept agents ends f b None h = refl
-take_over_kept agents ends f b (Some a) h = ap (λ n. nat_lt b.0 n && not (eqb a.0 b.0)) (sym h.agents)
-
 abbrev hand_by : Bool → Bool → Outcome
 hand_by closed may = cond closed outcome.Closed (cond may outcome.Handed outcome.NotNow)
 
@@ -101,9 +99,8 @@ hand_at : (agents : List Agent) (ends : List End) (f : Facts) (e : EndId) (b : A
 hand_at agents ends f e b refused may h is None at shown = unchanged agents ends ends f (action.Hand e b) refused outcome.NotNow outcome.NotNow h refl refl refl (hand_as f e b may no_end shown.same is)
 hand_at agents ends f e b refused may h is (Some x) at shown = hand_step agents ends f e b refused x h at x.is_closed (is_queue (Some x.kind) && may) (hand_as f e b may (end_now (Some x)) shown.same is)
 
-pub hand_shown : (agents : List Agent) (ends : List End) (f : Facts) (e : EndId) (b : AgentId) (refused : Bool) → ShowsFacts agents ends f → (let may : Bool = kept_may_take_over (length agents) b (kept_holder agents ends e.0) in let o : Outcome = hand_outcome_at may (slice_get ends e.0) in Stepped (hand_agents agents (slice_get ends e.0) o) (changed_ends (λ x. handed_end b x (hand_outcome may x)) e.0 ends (slice_get ends e.0)) f (action.Hand e b) refused o)
-hand_shown agents ends f e b refused h =
-    hand_at agents ends f e b refused (kept_may_take_over (length agents) b (kept_holder agents ends e.0)) h (take_over_kept agents ends f b (kept_holder agents ends e.0) h ∙ ap (may_take_over f b) (holder_kept agents ends f e.0 h)) (slice_get ends e.0) refl (h.end e.0)
+pub hand_shown : (c : CoreState) (f : Facts) (e : EndId) (b : AgentId) (refused : Bool) → Sees c f → (let o : Outcome = hand_outcome_at (core_may_take_over c e b) (slice_get c.ends e.0) in Stepped (hand_core c e b o).agents (hand_core c e b o).ends f (action.Hand e b) refused o)
+hand_shown c f e b refused h = hand_at c.agents c.ends f e b refused (core_may_take_over c e b) h.shows (take_over_seen c f e b h) (slice_get c.ends e.0) refl (h.shows.end e.0)
 
 -- ---- what changes nothing leaves the ends and the agents
 

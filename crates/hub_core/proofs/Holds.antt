@@ -23,13 +23,16 @@ use Rattle.hub_core.specs.Holding.{free_line, line_found, line_answer, back_answ
 use Rattle.hub_core.specs.Unchanged.{changes_nothing}
 use Rattle.hub_core.specs.Sound.{no_line}
 use Rattle.hub_core.specs.Shows.{line_now, ShowsPut, ShowsEnd, ShowsFacts}
-use Rattle.hub_core.specs.Kept.{kept_running, line_within, first_free, hold_outcome_of, hold_outcome, held_lines, held_end, line_outcome_at, line_ends_at, may_give_back, back_outcome, back_end, back_outcome_at, changed_ends}
+use Rattle.hub_core.specs.Kept.{line_within, first_free, hold_outcome_of, hold_outcome, held_lines, held_end, line_outcome_at, line_ends_at, may_give_back, back_outcome, back_end, back_outcome_at, changed_ends}
 use Rattle.hub_core.proofs.Lists.{set_again, is_there}
 use Rattle.hub_core.proofs.Fitting.{line_got_of, first_failing_of, back_of}
 use Rattle.hub_core.proofs.SoundLines.{held_line_as, queue_lines}
 use Rattle.hub_core.proofs.Frames.{line_changed, ShownAt, Stepped, changed, unchanged}
 use Rattle.hub_core.proofs.Counts.{counts_still}
-use Rattle.hub_core.proofs.Holders.{runs_kept}
+use Rattle.hub_core.specs.CoreState.{CoreState}
+use Rattle.hub_core.specs.Seen.{seen}
+use Rattle.hub_core.proofs.Seeing.{Sees, seen_is}
+use Rattle.hub_core.specs.CoreSteps.{line_core}
 use Rattle.hub_core.proofs.Nexts.{next}
 use Rattle.hub_core.proofs.Calms.{calm_held, free_out}
 
@@ -123,8 +126,8 @@ line_at agents ends f e a refused h false is o at shown = unchanged agents ends 
 line_at agents ends f e a refused h true is None at shown = unchanged agents ends ends f (action.Line e a) refused outcome.NoSuchEnd outcome.NoSuchEnd h refl refl refl (line_no_queue f e a (sym is) (ap (λ (y : EndNow). is_queue y.kind) shown.same))
 line_at agents ends f e a refused h true is (Some x) at shown = line_end agents ends f e a refused x h at shown (sym is) (is_queue (Some x.kind)) refl
 
-pub line_shown : (agents : List Agent) (ends : List End) (f : Facts) (e : EndId) (a : AgentId) (refused : Bool) → ShowsFacts agents ends f → Stepped agents (line_ends_at (kept_running agents a.0) a e.0 ends (slice_get ends e.0)) f (action.Line e a) refused (line_outcome_at (kept_running agents a.0) (slice_get ends e.0))
-line_shown agents ends f e a refused h = line_at agents ends f e a refused h (kept_running agents a.0) (runs_kept agents ends f a.0 h) (slice_get ends e.0) refl (h.end e.0)
+pub line_shown : (c : CoreState) (f : Facts) (e : EndId) (a : AgentId) (refused : Bool) → Sees c f → Stepped c.agents (line_core c e a).ends f (action.Line e a) refused (line_outcome_at ((seen c).agent a.0).runs (slice_get c.ends e.0))
+line_shown c f e a refused h = line_at c.agents c.ends f e a refused h.shows ((seen c).agent a.0).runs (ap (λ g. (g.agent a.0).runs) (seen_is c f h)) (slice_get c.ends e.0) refl (h.shows.end e.0)
 
 -- ---- Back
 

@@ -7,7 +7,6 @@ use Rattle.std.proofs.lemmas.List.{length-set}
 use Rattle.hub_envelope.specs.declared.envelope.Envelope.{Envelope}
 use Rattle.hub_core.specs.declared.agent.Agent.{Agent}
 use Rattle.hub_core.specs.declared.line.Line.{Line}
-use Rattle.hub_core.specs.Roster.{CastNow}
 use Rattle.hub_core.specs.declared.sender.Sender.{Sender}
 use Rattle.hub_core.specs.declared.end.End.{End}
 use Rattle.hub_core.specs.declared.step.Action.TheVariants as action
@@ -18,10 +17,13 @@ use Rattle.hub_core.specs.Posting.{is_out, may_enter}
 use Rattle.hub_core.specs.Moving.{hop_answer}
 use Rattle.hub_core.specs.Sound.{IsOfEnd}
 use Rattle.hub_core.specs.Shows.{end_now, line_now, ShowsEnd, ShowsFacts}
-use Rattle.hub_core.specs.Kept.{hopped_end, may_hop, hop_outcome, hop_end, hop_outcome_at, hop_ends_at, kept_may_enter}
+use Rattle.hub_core.specs.Kept.{hopped_end, may_hop, hop_outcome, hop_end, hop_outcome_at, hop_ends_at}
 use Rattle.hub_core.proofs.Lists.{set_again}
 use Rattle.hub_core.proofs.Frames.{line_changed, ShownAt, Stepped, changed, unchanged}
-use Rattle.hub_core.proofs.Holders.{may_kept}
+use Rattle.hub_core.specs.CoreState.{CoreState}
+use Rattle.hub_core.specs.CoreSteps.{hop_core}
+use Rattle.hub_core.specs.Seen.{seen}
+use Rattle.hub_core.proofs.Seeing.{Sees, enter_seen}
 use Rattle.hub_core.proofs.SoundLines.{gone_line}
 use Rattle.hub_core.proofs.Entering.{unmade_line, line_is_kept}
 use Rattle.hub_core.specs.Unchanged.{changes_nothing}
@@ -84,8 +86,8 @@ hop_end_shown agents ends f s refused h (Some x) at shown false is = unchanged a
 hop_end_shown agents ends f s refused h (Some x) at shown true is =
     hop_line agents ends f s refused x h at shown (sym is) (slice_get x.lines s.line.0) refl (shown.lines s.line.0)
 
-pub hop_shown : (agents : List Agent) (ends : List End) (f : Facts) (c : Option CastNow) (s : Sender) (refused : Bool) → ShowsFacts agents ends f → f.roster.cast ≡ c → Stepped agents (hop_ends_at (kept_may_enter agents ends c s) s ends (slice_get ends s.end.0)) f (action.Hop s) refused (hop_outcome_at (kept_may_enter agents ends c s) s.line.0 (slice_get ends s.end.0))
-hop_shown agents ends f c s refused h cast = hop_end_shown agents ends f s refused h (slice_get ends s.end.0) refl (h.end s.end.0) (kept_may_enter agents ends c s) (may_kept agents ends f c s h cast)
+pub hop_shown : (c : CoreState) (f : Facts) (s : Sender) (refused : Bool) → Sees c f → Stepped c.agents (hop_core c s).ends f (action.Hop s) refused (hop_outcome_at (may_enter (seen c) s) s.line.0 (slice_get c.ends s.end.0))
+hop_shown c f s refused h = hop_end_shown c.agents c.ends f s refused h.shows (slice_get c.ends s.end.0) refl (h.shows.end s.end.0) (may_enter (seen c) s) (enter_seen c f s h)
 
 -- ---- what changes nothing leaves the ends
 

@@ -17,7 +17,7 @@ pub mod Sames
 pub mod Counts
 pub mod Calms
 pub mod Frames
-pub mod Holders
+pub mod Seeing
 pub mod Entering
 pub mod Placing
 pub mod Presence
@@ -28,7 +28,6 @@ pub mod Adopts
 pub mod Closes
 pub mod Sweeps
 pub mod Takes
-pub mod Travels
 pub mod Puts
 pub mod Pushes
 pub mod Notices
@@ -66,4 +65,3 @@ pub mod MailboxRuns
 pub mod MailboxOf
 pub mod Names
 pub mod Fating
-pub mod Asks

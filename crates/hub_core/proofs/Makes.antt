@@ -19,10 +19,13 @@ use Rattle.hub_core.specs.Facts.{AgentNow, EndNow, LineNow, Facts}
 use Rattle.hub_core.specs.Making.{agent_answer, channel_answer, queue_answer, is_client, is_worker, has_one}
 use Rattle.hub_core.specs.Sound.{no_end, no_line, total, Sound}
 use Rattle.hub_core.specs.Shows.{agent_now, end_now, line_now, ShowsPut, ShowsEnd, ShowsFacts, kept_clients, count_with, kept_workers, count_away, kept_away}
-use Rattle.hub_core.specs.Kept.{queue_made, kept_running, kept_agent_answer, agents_made, kept_channel_answer, ends_made, first_line, kept_queue_answer, new_end, count_of, queue_counted, come, first_agent}
+use Rattle.hub_core.specs.Kept.{queue_made, kept_agent_answer, agents_made, kept_channel_answer, ends_made, first_line, kept_queue_answer, new_end, count_of, queue_counted, come, first_agent}
 use Rattle.hub_core.proofs.Lists.{slice_get-append_front, slice_get-append_back, eqb_same, next_up}
 use Rattle.hub_core.proofs.Frames.{Stepped, unchanged}
-use Rattle.hub_core.proofs.Holders.{runs_kept}
+use Rattle.hub_core.specs.CoreState.{CoreState}
+use Rattle.hub_core.specs.CoreSteps.{queue_core}
+use Rattle.hub_core.specs.Seen.{seen}
+use Rattle.hub_core.proofs.Seeing.{Sees, seen_is}
 use Rattle.hub_core.proofs.Sounds.{sound_next}
 use Rattle.hub_core.proofs.Speakers.{nothing_accepted, nothing_removed, running_made, entangled_made}
 use Rattle.hub_core.specs.Made.{lines_of, peer_of}
@@ -258,8 +261,8 @@ channel_by agents ends f a refused h true true runs is = rw is (unchanged agents
 channel_by agents ends f a true h true false runs is = rw is (unchanged agents ends ends f (action.Channel a) true outcome.NoMemory outcome.NoMemory h refl refl refl (rw (runs, h.ends, is) refl))
 channel_by agents ends f a false h true false runs is = rw is (ports_made agents ends f a h (rw (runs, h.ends, is) refl))
 
-pub channel_shown : (agents : List Agent) (ends : List End) (f : Facts) (a : AgentId) (refused : Bool) → ShowsFacts agents ends f → (let o : Outcome = kept_channel_answer (kept_running agents a.0) (length ends) refused in Stepped agents (ends_made a ends o) f (action.Channel a) refused o)
-channel_shown agents ends f a refused h = channel_by agents ends f a refused h (kept_running agents a.0) (nat_lt MAX_ENDS (length ends + 2)) (sym (runs_kept agents ends f a.0 h)) refl
+pub channel_shown : (c : CoreState) (f : Facts) (a : AgentId) (refused : Bool) → Sees c f → (let o : Outcome = kept_channel_answer ((seen c).agent a.0).runs (length c.ends) refused in Stepped c.agents (ends_made a c.ends o) f (action.Channel a) refused o)
+channel_shown c f a refused h = channel_by c.agents c.ends f a refused h.shows ((seen c).agent a.0).runs (nat_lt MAX_ENDS (length c.ends + 2)) (sym (ap (λ g. (g.agent a.0).runs) (seen_is c f h))) refl
 
 -- ---- Client and Worker
 
@@ -367,13 +370,14 @@ queue_step agents ends f {b = b} refused makes h true false true is answer = unc
 queue_step agents ends f {b = b} {k = k} {test = test} {a = a} refused makes h true false false is answer =
     subst (λ r. outcome.End (record { 0 = length ends }) ≡ queue_answer test f a r → Stepped (come k a agents) (ends ++ new_end a k ∷ []) f b r (outcome.End (record { 0 = length ends }))) (sym is) (queue_shows agents ends f makes h) answer
 
-pub queue_shown : (agents : List Agent) (ends : List End) (f : Facts) {b : Action} {k : Kind} {test : Option Kind → Bool} {a : AgentId} (refused : Bool) → Makes b k test a → ShowsFacts agents ends f → (let o : Outcome = kept_queue_answer (kept_running agents a.0) (count_of k (slice_get agents a.0)) (length ends) refused in Stepped (queue_counted a k agents o) (queue_made a k ends o) f b refused o)
-queue_shown agents ends f {b = b} {k = k} {test = test} {a = a} refused makes h =
-    let may : Bool = kept_running agents a.0 && eqb (count_of k (slice_get agents a.0)) 0 in
-    let full : Bool = nat_le MAX_ENDS (length ends) in
-    let same : may ≡ ((f.agent a.0).runs && not (has_one test a f)) = ap (λ r. r && eqb (count_of k (slice_get agents a.0)) 0) (runs_kept agents ends f a.0 h) ∙ ap (λ c. (f.agent a.0).runs && c) (ap (λ n. eqb n 0) (count_kept agents ends f makes h) ∙ none_of_kind test a f) in
-    let answer : made_by may full refused (length ends) ≡ queue_answer test f a refused = ap (λ c. made_by c full refused (length ends)) same ∙ ap (λ n. made_by ((f.agent a.0).runs && not (has_one test a f)) (nat_le MAX_ENDS n) refused n) (sym h.ends) in
-    queue_step agents ends f refused makes h may full refused refl answer
+pub queue_shown : (c : CoreState) (f : Facts) {b : Action} {k : Kind} {test : Option Kind → Bool} {a : AgentId} (refused : Bool) → Makes b k test a → Sees c f → (let o : Outcome = kept_queue_answer ((seen c).agent a.0).runs (count_of k (slice_get c.agents a.0)) (length c.ends) refused in Stepped (queue_core a k c o).agents (queue_core a k c o).ends f b refused o)
+queue_shown c f {b = b} {k = k} {test = test} {a = a} refused makes h =
+    let held : ℕ = count_of k (slice_get c.agents a.0) in
+    let may : Bool = ((seen c).agent a.0).runs && eqb held 0 in
+    let full : Bool = nat_le MAX_ENDS (length c.ends) in
+    let same : may ≡ ((f.agent a.0).runs && not (has_one test a f)) = ap (λ g. (g.agent a.0).runs && eqb held 0) (seen_is c f h) ∙ ap (λ d. (f.agent a.0).runs && d) (ap (λ n. eqb n 0) (count_kept c.agents c.ends f makes h.shows) ∙ none_of_kind test a f) in
+    let answer : made_by may full refused (length c.ends) ≡ queue_answer test f a refused = ap (λ d. made_by d full refused (length c.ends)) same ∙ ap (λ n. made_by ((f.agent a.0).runs && not (has_one test a f)) (nat_le MAX_ENDS n) refused n) (sym h.shows.ends) in
+    queue_step c.agents c.ends f refused makes h.shows may full refused refl answer
 
 -- ---- Member
 

@@ -1,6 +1,6 @@
 -- Notice: what the core answers fits, and it shows the facts with the answered step.
 use Rattle.std.proofs.Common.{◌≡◌, ℕ, Bool, true, false, cond, eqb, List, [], set, Option, Some, None, Result, refl, sym, ap, subst, ◌∙◌}
-use Rattle.std.specs.Prelude.{not, ◌&&◌}
+use Rattle.std.specs.Prelude.{not, ◌&&◌, option_map}
 use Rattle.std.specs.List.{slice_get}
 use Rattle.std.proofs.lemmas.Bool.{ne_eqb, false≢true, and_parts}
 use Rattle.hub_envelope.specs.declared.envelope.Envelope.{Envelope}
@@ -18,11 +18,13 @@ use Rattle.hub_core.specs.Accepted.{named_notice}
 use Rattle.hub_core.specs.Posting.{phase_of_line, is_inside, next_name, is_posting, hears_notice, notice_answer}
 use Rattle.hub_core.specs.Sound.{no_line}
 use Rattle.hub_core.specs.Shows.{line_now, ShowsPut, ShowsFacts}
-use Rattle.hub_core.specs.Kept.{has_queue, posting_line, put_end, changed_ends, accept_ends, kept_noticing_line, kept_noticing_at, kept_noticing, notice_outcome, notice_ends, kept_hears}
+use Rattle.hub_core.specs.Kept.{has_queue, posting_line, put_end, changed_ends, accept_ends, posting_at, kept_noticing_line, kept_noticing, notice_outcome, notice_ends}
 use Rattle.hub_core.proofs.Placing.{Moves, moves_to}
 use Rattle.hub_core.proofs.Lists.{eqb_same}
 use Rattle.hub_core.proofs.Frames.{ShownAt, Stepped, changed, unchanged}
-use Rattle.hub_core.proofs.Holders.{hears_kept}
+use Rattle.hub_core.specs.CoreState.{CoreState}
+use Rattle.hub_core.specs.Seen.{seen}
+use Rattle.hub_core.proofs.Seeing.{Sees, seen_is}
 use Rattle.hub_core.proofs.Puts.{each_shown, put_count, name_kept, queue_kept}
 use Rattle.hub_core.proofs.Pushes.{posting_as}
 use Rattle.hub_core.proofs.SoundLines.{told_line}
@@ -58,10 +60,10 @@ heard : (f : Facts) (s : Sender) (refused : Bool) → is_posting f s ≡ true �
 heard f s refused posting h = rw (posting, h) refl
 
 -- a notice with this answer of the tests is shown
-abbrev NoticeShown : List Agent → List End → Facts → Sender → Bool → Result Line Outcome → Type 0
+abbrev pub NoticeShown : List Agent → List End → Facts → Sender → Bool → Result Line Outcome → Type 0
 NoticeShown agents ends f s refused r = Stepped agents (notice_ends s ends r) f (action.Notice s) refused (notice_outcome r)
 
-notice_held : (agents : List Agent) (ends : List End) (f : Facts) (s : Sender) (refused : Bool) (x : End) (y : Line) → ShowsFacts agents ends f → slice_get ends s.end.0 ≡ Some x → slice_get x.lines s.line.0 ≡ Some y → ShownAt f s.end.0 (Some x) → has_queue x y.epoch ≡ true → is_posting f s ≡ true → (hears : Bool) → hears ≡ hears_notice f s → NoticeShown agents ends f s refused (kept_noticing_line hears refused (Some y))
+notice_held : (agents : List Agent) (ends : List End) (f : Facts) (s : Sender) (refused : Bool) (x : End) (y : Line) → ShowsFacts agents ends f → slice_get ends s.end.0 ≡ Some x → slice_get x.lines s.line.0 ≡ Some y → ShownAt f s.end.0 (Some x) → has_queue x y.epoch ≡ true → is_posting f s ≡ true → (hears : Bool) → hears ≡ hears_notice f s → NoticeShown agents ends f s refused (kept_noticing_line hears refused (Some (x.kind, y)))
 notice_held agents ends f s refused x y h at is shown queue posting false hears = unchanged agents ends ends f (action.Notice s) refused outcome.NotNow outcome.NotNow h refl refl refl (not_heard f s refused posting (sym hears))
 notice_held agents ends f s true x y h at is shown queue posting true hears = unchanged agents ends ends f (action.Notice s) true outcome.NoMemory outcome.NoMemory h refl refl refl (heard f s true posting (sym hears))
 notice_held agents ends f s false x y h at is shown queue posting true hears =
@@ -72,21 +74,21 @@ notice_held agents ends f s false x y h at is shown queue posting true hears =
     noticed_shown agents ends (accept_ends ends y v) f s false n x y h at is line refl queue (ap outcome.Accepted same ∙ heard f s false posting (sym hears))
     (moves_to [] InFlight (set ends s.end.0 (put_end x y v)) (accept_ends ends y v) (ap (changed_ends (λ z. put_end z y v) s.end.0 ends) at))
 
-notice_line : (agents : List Agent) (ends : List End) (f : Facts) (s : Sender) (refused : Bool) (x : End) (hears : Bool) → hears ≡ hears_notice f s → ShowsFacts agents ends f → slice_get ends s.end.0 ≡ Some x → ShownAt f s.end.0 (Some x) → (q : Option Line) → slice_get x.lines s.line.0 ≡ q → f.line s.end.0 s.line.0 ≡ line_now q → NoticeShown agents ends f s refused (kept_noticing_line hears refused (posting_line x q))
+notice_line : (agents : List Agent) (ends : List End) (f : Facts) (s : Sender) (refused : Bool) (x : End) (hears : Bool) → hears ≡ hears_notice f s → ShowsFacts agents ends f → slice_get ends s.end.0 ≡ Some x → ShownAt f s.end.0 (Some x) → (q : Option Line) → slice_get x.lines s.line.0 ≡ q → f.line s.end.0 s.line.0 ≡ line_now q → NoticeShown agents ends f s refused (kept_noticing_line hears refused (option_map (λ z. (x.kind, z)) (posting_line x q)))
 notice_line agents ends f s refused x hears heard_is h at shown None is line = unchanged agents ends ends f (action.Notice s) refused outcome.NotNow outcome.NotNow h refl refl refl (not_posting f s refused (posting_as f s no_line line))
 notice_line agents ends f s refused x hears heard_is h at shown (Some y) is line =
-    elim (is_inside y.phase && not y.has_noticed) as (λ b. (is_inside y.phase && not y.has_noticed) ≡ b → NoticeShown agents ends f s refused (kept_noticing_line hears refused (cond (b && has_queue x y.epoch) (Some y) None))) [
+    elim (is_inside y.phase && not y.has_noticed) as (λ b. (is_inside y.phase && not y.has_noticed) ≡ b → NoticeShown agents ends f s refused (kept_noticing_line hears refused (option_map (λ z. (x.kind, z)) (cond (b && has_queue x y.epoch) (Some y) None)))) [
       | true ↦ λ posting.
           let mine : is_posting f s ≡ true = posting_as f s (line_now (Some y)) line ∙ posting in
           let inside : is_inside (phase_of_line f s) ≡ true = (and_parts (is_inside (phase_of_line f s)) (not (f.line s.end.0 s.line.0).noticed) mine).0 in
           let queue : has_queue x y.epoch ≡ true = queue_kept f s x y h.sound shown line inside in
-          subst (λ c. NoticeShown agents ends f s refused (kept_noticing_line hears refused (cond c (Some y) None))) (sym queue) (notice_held agents ends f s refused x y h at is shown queue mine hears heard_is)
+          subst (λ c. NoticeShown agents ends f s refused (kept_noticing_line hears refused (option_map (λ z. (x.kind, z)) (cond c (Some y) None)))) (sym queue) (notice_held agents ends f s refused x y h at is shown queue mine hears heard_is)
       | false ↦ λ outside. unchanged agents ends ends f (action.Notice s) refused outcome.NotNow outcome.NotNow h refl refl refl (not_posting f s refused (posting_as f s (line_now (Some y)) line ∙ outside))
     ] refl
 
-notice_at : (agents : List Agent) (ends : List End) (f : Facts) (s : Sender) (refused : Bool) (hears : Bool) → hears ≡ hears_notice f s → ShowsFacts agents ends f → (q : Option End) → slice_get ends s.end.0 ≡ q → ShownAt f s.end.0 q → NoticeShown agents ends f s refused (kept_noticing_at hears s.line.0 refused q)
+notice_at : (agents : List Agent) (ends : List End) (f : Facts) (s : Sender) (refused : Bool) (hears : Bool) → hears ≡ hears_notice f s → ShowsFacts agents ends f → (q : Option End) → slice_get ends s.end.0 ≡ q → ShownAt f s.end.0 q → NoticeShown agents ends f s refused (kept_noticing_line hears refused (posting_at s q))
 notice_at agents ends f s refused hears heard_is h None at shown = unchanged agents ends ends f (action.Notice s) refused outcome.NotNow outcome.NotNow h refl refl refl (not_posting f s refused (posting_as f s no_line (shown.lines s.line.0)))
 notice_at agents ends f s refused hears heard_is h (Some x) at shown = notice_line agents ends f s refused x hears heard_is h at shown (slice_get x.lines s.line.0) refl (shown.lines s.line.0)
 
-pub notice_shown : (agents : List Agent) (ends : List End) (f : Facts) (s : Sender) (refused : Bool) → ShowsFacts agents ends f → (let r = kept_noticing ends s refused in Stepped agents (notice_ends s ends r) f (action.Notice s) refused (notice_outcome r))
-notice_shown agents ends f s refused h = notice_at agents ends f s refused (kept_hears ends s) (hears_kept agents ends f s h) h (slice_get ends s.end.0) refl (h.end s.end.0)
+pub notice_shown : (c : CoreState) (f : Facts) (s : Sender) (refused : Bool) → Sees c f → NoticeShown c.agents c.ends f s refused (kept_noticing c s refused)
+notice_shown c f s refused h = notice_at c.agents c.ends f s refused (hears_notice (seen c) s) (ap (λ g. hears_notice g s) (seen_is c f h)) h.shows (slice_get c.ends s.end.0) refl (h.shows.end s.end.0)

@@ -1,6 +1,6 @@
 -- Push: what the core answers fits, and it shows the facts with the answered step.
 use Rattle.std.proofs.Common.{◌≡◌, ℕ, Bool, true, false, cond, List, length, set, Option, Some, None, Result, Ok, Err, refl, sym, ap, subst, ◌∙◌}
-use Rattle.std.specs.Prelude.{not, ◌&&◌, nat_lt}
+use Rattle.std.specs.Prelude.{not, ◌&&◌, nat_lt, option_map}
 use Rattle.std.specs.List.{slice_get}
 use Rattle.std.proofs.lemmas.Bool.{and_parts}
 use Rattle.hub_envelope.specs.declared.ids.AgentId.{AgentId}
@@ -18,19 +18,18 @@ use Rattle.hub_core.specs.declared.outcome.Outcome.{Outcome}
 use Rattle.hub_core.specs.declared.outcome.Outcome.TheVariants as outcome
 use Rattle.hub_core.specs.Facts.{EndNow, LineNow, Facts}
 use Rattle.hub_core.specs.Accepted.{named_envelope}
-use Rattle.hub_core.specs.Posting.{phase_of_line, is_inside, poster, is_good, listing_of, push_answer_of, push_answer, next_name, is_posting, is_fitting}
+use Rattle.hub_core.specs.Posting.{phase_of_line, is_inside, poster, poster_of, is_good, listing_of, push_answer_of, push_answer, next_name, is_posting, is_fitting}
 use Rattle.hub_core.specs.Sound.{no_line}
 use Rattle.hub_core.specs.Shows.{line_now, ShowsPut, ShowsFacts}
-use Rattle.hub_core.specs.Kept.{kept_listing_to, has_queue, posting_line, kept_posting_by, kept_posting_line, kept_posting_at, kept_posting, push_outcome, put_end, changed_ends, moved_ends, accept_ends, push_ends, kept_poster_by, source_of, kept_poster_of, kept_poster_on}
+use Rattle.hub_core.specs.Kept.{has_queue, posting_line, posting_at, kept_posting_by, kept_posting_line, kept_posting, push_outcome, put_end, changed_ends, moved_ends, accept_ends, push_ends}
 use Rattle.hub_core.proofs.Frames.{ShownAt, Stepped, changed, unchanged}
-use Rattle.hub_core.proofs.Holders.{poster_kept}
+use Rattle.hub_core.specs.CoreState.{CoreState}
+use Rattle.hub_core.proofs.Seeing.{Sees, posting_seen}
 use Rattle.hub_core.proofs.Fitting.{pushed_of}
 use Rattle.hub_core.proofs.Speakers.{placed_made, travels}
 use Rattle.hub_core.proofs.Puts.{each_shown, put_count, name_kept, queue_kept}
 use Rattle.hub_core.proofs.Placing.{Moves, moves_to}
-use Rattle.hub_core.proofs.Travels.{listed_kept}
 use Rattle.hub_core.specs.Made.{peer_of}
-use Rattle.hub_core.specs.Roster.{CastNow}
 use Rattle.hub_core.proofs.Counts.{counted_ports, counts_of}
 use Rattle.hub_core.proofs.Nexts.{next}
 use Rattle.hub_core.specs.Place.{names}
@@ -65,13 +64,8 @@ not_good f s ports fit refused a few h = rw (few, h) refl
 good : (f : Facts) (s : Sender) (ports : List EndId) (fit refused : Bool) (a : AgentId) → nat_lt MAX_PORTS (length ports) ≡ false → (is_good (listing_of f s ports (Some a)) && fit) ≡ true → cond refused outcome.NoMemory (outcome.Accepted (next_name f s a)) ≡ push_answer_of f s ports fit refused (Some a)
 good f s ports fit refused a few h = rw (few, h) refl
 
--- the poster of a line of an end
-poster_here : (agents : List Agent) (ends : List End) (f : Facts) (c : Option CastNow) (s : Sender) (x : End) (y : Line) → ShowsFacts agents ends f → f.roster.cast ≡ c → ShownAt f s.end.0 (Some x) → slice_get ends s.end.0 ≡ Some x → slice_get x.lines s.line.0 ≡ Some y → poster f s ≡ kept_poster_by agents ends c s.end.0 x.kind y
-poster_here agents ends f c s x y h cast shown at is =
-    sym (poster_kept agents ends f c s h cast) ∙ ap (kept_poster_of agents ends c s) at ∙ ap (kept_poster_on agents ends c s.end.0 x) is
-
 -- a push with this answer of the tests is shown
-abbrev PushShown : List Agent → List End → Facts → Sender → List EndId → List ℕ → Bool → Result (Line × AgentId) Outcome → Type 0
+abbrev pub PushShown : List Agent → List End → Facts → Sender → List EndId → List ℕ → Bool → Result (Line × AgentId) Outcome → Type 0
 PushShown agents ends f s ports body refused r = Stepped agents (push_ends s ports body ends r) f (action.Push s ports body) refused (push_outcome r)
 
 push_good : (agents : List Agent) (ends : List End) (f : Facts) (s : Sender) (ports : List EndId) (body : List ℕ) (refused : Bool) (x : End) (y : Line) (a : AgentId) → ShowsFacts agents ends f → slice_get ends s.end.0 ≡ Some x → slice_get x.lines s.line.0 ≡ Some y → ShownAt f s.end.0 (Some x) → has_queue x y.epoch ≡ true → cond refused outcome.NoMemory (outcome.Accepted (next_name f s a)) ≡ push_answer f s ports body refused → PushShown agents ends f s ports body refused (cond refused (Err outcome.NoMemory) (Ok (y, a)))
@@ -85,16 +79,15 @@ push_good agents ends f s ports body false x y a h at is shown queue answer =
     (moves_to ports InFlight (set ends s.end.0 (put_end x y v)) (accept_ends ends y v) (ap (λ q. moved_ends ports InFlight (changed_ends (λ z. put_end z y v) s.end.0 ends q)) at))
 
 push_few : (agents : List Agent) (ends : List End) (f : Facts) (s : Sender) (ports : List EndId) (body : List ℕ) (fit refused : Bool) (x : End) (y : Line) (a : AgentId) → ShowsFacts agents ends f → slice_get ends s.end.0 ≡ Some x → slice_get x.lines s.line.0 ≡ Some y → ShownAt f s.end.0 (Some x) → has_queue x y.epoch ≡ true → push_answer_of f s ports fit refused (Some a) ≡ push_answer f s ports body refused → (many : Bool) → nat_lt MAX_PORTS (length ports) ≡ many
-    → PushShown agents ends f s ports body refused (cond many (Err outcome.TooManyPorts) (cond (is_good (kept_listing_to ends s.end a (source_of x.kind) ports) && fit) (cond refused (Err outcome.NoMemory) (Ok (y, a))) (Err outcome.NotNow)))
+    → PushShown agents ends f s ports body refused (cond many (Err outcome.TooManyPorts) (cond (is_good (listing_of f s ports (Some a)) && fit) (cond refused (Err outcome.NoMemory) (Ok (y, a))) (Err outcome.NotNow)))
 push_few agents ends f s ports body fit refused x y a h at is shown queue falls true many = unchanged agents ends ends f (action.Push s ports body) refused outcome.TooManyPorts outcome.TooManyPorts h refl refl refl (too_many f s ports fit refused a many ∙ falls)
 push_few agents ends f s ports body fit refused x y a h at is shown queue falls false few =
-    let same : (is_good (kept_listing_to ends s.end a (source_of x.kind) ports) && fit) ≡ (is_good (listing_of f s ports (Some a)) && fit) = ap (λ l. is_good l && fit) (listed_kept agents ends f a s x.kind h (ap (λ (z : EndNow). z.kind) shown.same) ports) in
-    elim (is_good (kept_listing_to ends s.end a (source_of x.kind) ports) && fit) as (λ b. (is_good (kept_listing_to ends s.end a (source_of x.kind) ports) && fit) ≡ b → PushShown agents ends f s ports body refused (cond b (cond refused (Err outcome.NoMemory) (Ok (y, a))) (Err outcome.NotNow))) [
-      | true ↦ λ found. push_good agents ends f s ports body refused x y a h at is shown queue (good f s ports fit refused a few (sym same ∙ found) ∙ falls)
-      | false ↦ λ bad. unchanged agents ends ends f (action.Push s ports body) refused outcome.NotNow outcome.NotNow h refl refl refl (not_good f s ports fit refused a few (sym same ∙ bad) ∙ falls)
+    elim (is_good (listing_of f s ports (Some a)) && fit) as (λ b. (is_good (listing_of f s ports (Some a)) && fit) ≡ b → PushShown agents ends f s ports body refused (cond b (cond refused (Err outcome.NoMemory) (Ok (y, a))) (Err outcome.NotNow))) [
+      | true ↦ λ found. push_good agents ends f s ports body refused x y a h at is shown queue (good f s ports fit refused a few found ∙ falls)
+      | false ↦ λ bad. unchanged agents ends ends f (action.Push s ports body) refused outcome.NotNow outcome.NotNow h refl refl refl (not_good f s ports fit refused a few bad ∙ falls)
     ] refl
 
-push_held : (agents : List Agent) (ends : List End) (f : Facts) (s : Sender) (ports : List EndId) (body : List ℕ) (fit refused : Bool) (x : End) (y : Line) → ShowsFacts agents ends f → slice_get ends s.end.0 ≡ Some x → slice_get x.lines s.line.0 ≡ Some y → ShownAt f s.end.0 (Some x) → has_queue x y.epoch ≡ true → (q : Option AgentId) → push_answer_of f s ports fit refused q ≡ push_answer f s ports body refused → PushShown agents ends f s ports body refused (kept_posting_by ends (source_of x.kind) s.end ports fit refused y q)
+push_held : (agents : List Agent) (ends : List End) (f : Facts) (s : Sender) (ports : List EndId) (body : List ℕ) (fit refused : Bool) (x : End) (y : Line) → ShowsFacts agents ends f → slice_get ends s.end.0 ≡ Some x → slice_get x.lines s.line.0 ≡ Some y → ShownAt f s.end.0 (Some x) → has_queue x y.epoch ≡ true → (q : Option AgentId) → push_answer_of f s ports fit refused q ≡ push_answer f s ports body refused → PushShown agents ends f s ports body refused (kept_posting_by f s ports fit refused y q)
 push_held agents ends f s ports body fit refused x y h at is shown queue None falls = unchanged agents ends ends f (action.Push s ports body) refused outcome.NotNow outcome.NotNow h refl refl refl falls
 push_held agents ends f s ports body fit refused x y h at is shown queue (Some a) falls = push_few agents ends f s ports body fit refused x y a h at is shown queue falls (nat_lt MAX_PORTS (length ports)) refl
 
@@ -102,23 +95,25 @@ push_held agents ends f s ports body fit refused x y h at is shown queue (Some a
 pub posting_as : (f : Facts) (s : Sender) (y : LineNow) → f.line s.end.0 s.line.0 ≡ y → is_posting f s ≡ (is_inside y.phase && not y.noticed)
 posting_as f s y line = ap (λ (z : LineNow). is_inside z.phase && not z.noticed) line
 
-push_line : (agents : List Agent) (ends : List End) (f : Facts) (c : Option CastNow) (s : Sender) (ports : List EndId) (body : List ℕ) (refused : Bool) (x : End) → ShowsFacts agents ends f → f.roster.cast ≡ c → slice_get ends s.end.0 ≡ Some x → ShownAt f s.end.0 (Some x) → (q : Option Line) → slice_get x.lines s.line.0 ≡ q → f.line s.end.0 s.line.0 ≡ line_now q → PushShown agents ends f s ports body refused (kept_posting_line agents ends c s ports body refused x (posting_line x q))
-push_line agents ends f c s ports body refused x h cast at shown None is line = unchanged agents ends ends f (action.Push s ports body) refused outcome.NotNow outcome.NotNow h refl refl refl (not_posting f s ports body refused (posting_as f s no_line line))
-push_line agents ends f c s ports body refused x h cast at shown (Some y) is line =
-    elim (is_inside y.phase && not y.has_noticed) as (λ b. (is_inside y.phase && not y.has_noticed) ≡ b → PushShown agents ends f s ports body refused (kept_posting_line agents ends c s ports body refused x (cond (b && has_queue x y.epoch) (Some y) None))) [
+push_line : (agents : List Agent) (ends : List End) (f : Facts) (s : Sender) (ports : List EndId) (body : List ℕ) (refused : Bool) (x : End) → ShowsFacts agents ends f → slice_get ends s.end.0 ≡ Some x → ShownAt f s.end.0 (Some x) → (q : Option Line) → slice_get x.lines s.line.0 ≡ q → f.line s.end.0 s.line.0 ≡ line_now q → PushShown agents ends f s ports body refused (kept_posting_line f s ports body refused (option_map (λ z. (x.kind, z)) (posting_line x q)))
+push_line agents ends f s ports body refused x h at shown None is line = unchanged agents ends ends f (action.Push s ports body) refused outcome.NotNow outcome.NotNow h refl refl refl (not_posting f s ports body refused (posting_as f s no_line line))
+push_line agents ends f s ports body refused x h at shown (Some y) is line =
+    let found : Bool → Result (Line × AgentId) Outcome = λ b. kept_posting_line f s ports body refused (option_map (λ z. (x.kind, z)) (cond b (Some y) None)) in
+    elim (is_inside y.phase && not y.has_noticed) as (λ b. (is_inside y.phase && not y.has_noticed) ≡ b → PushShown agents ends f s ports body refused (found (b && has_queue x y.epoch))) [
       | true ↦ λ posting.
           let mine : is_posting f s ≡ true = posting_as f s (line_now (Some y)) line ∙ posting in
           let inside : is_inside (phase_of_line f s) ≡ true = (and_parts (is_inside (phase_of_line f s)) (not (f.line s.end.0 s.line.0).noticed) mine).0 in
           let queue : has_queue x y.epoch ≡ true = queue_kept f s x y h.sound shown line inside in
-          subst (λ d. PushShown agents ends f s ports body refused (kept_posting_line agents ends c s ports body refused x (cond d (Some y) None))) (sym queue)
-          (push_held agents ends f s ports body (is_fitting c (Some x.kind) ports body) refused x y h at is shown queue (kept_poster_by agents ends c s.end.0 x.kind y)
-          (posts f s ports body (is_fitting c (Some x.kind) ports body) refused (kept_poster_by agents ends c s.end.0 x.kind y) mine (poster_here agents ends f c s x y h cast shown at is) (ap (λ d. is_fitting d (f.end s.end.0).kind ports body) cast ∙ ap (λ (z : EndNow). is_fitting c z.kind ports body) shown.same)))
+          let fit : Bool = is_fitting f.roster.cast (Some x.kind) ports body in
+          subst (λ d. PushShown agents ends f s ports body refused (found d)) (sym queue)
+          (push_held agents ends f s ports body fit refused x y h at is shown queue (poster_of f s (Some x.kind))
+          (posts f s ports body fit refused (poster_of f s (Some x.kind)) mine (ap (λ (z : EndNow). poster_of f s z.kind) shown.same) (ap (λ (z : EndNow). is_fitting f.roster.cast z.kind ports body) shown.same)))
       | false ↦ λ outside. unchanged agents ends ends f (action.Push s ports body) refused outcome.NotNow outcome.NotNow h refl refl refl (not_posting f s ports body refused (posting_as f s (line_now (Some y)) line ∙ outside))
     ] refl
 
-push_at : (agents : List Agent) (ends : List End) (f : Facts) (c : Option CastNow) (s : Sender) (ports : List EndId) (body : List ℕ) (refused : Bool) → ShowsFacts agents ends f → f.roster.cast ≡ c → (q : Option End) → slice_get ends s.end.0 ≡ q → ShownAt f s.end.0 q → PushShown agents ends f s ports body refused (kept_posting_at agents ends c s ports body refused q)
-push_at agents ends f c s ports body refused h cast None at shown = unchanged agents ends ends f (action.Push s ports body) refused outcome.NotNow outcome.NotNow h refl refl refl (not_posting f s ports body refused (posting_as f s no_line (shown.lines s.line.0)))
-push_at agents ends f c s ports body refused h cast (Some x) at shown = push_line agents ends f c s ports body refused x h cast at shown (slice_get x.lines s.line.0) refl (shown.lines s.line.0)
+push_at : (agents : List Agent) (ends : List End) (f : Facts) (s : Sender) (ports : List EndId) (body : List ℕ) (refused : Bool) → ShowsFacts agents ends f → (q : Option End) → slice_get ends s.end.0 ≡ q → ShownAt f s.end.0 q → PushShown agents ends f s ports body refused (kept_posting_line f s ports body refused (posting_at s q))
+push_at agents ends f s ports body refused h None at shown = unchanged agents ends ends f (action.Push s ports body) refused outcome.NotNow outcome.NotNow h refl refl refl (not_posting f s ports body refused (posting_as f s no_line (shown.lines s.line.0)))
+push_at agents ends f s ports body refused h (Some x) at shown = push_line agents ends f s ports body refused x h at shown (slice_get x.lines s.line.0) refl (shown.lines s.line.0)
 
-pub push_shown : (agents : List Agent) (ends : List End) (f : Facts) (c : Option CastNow) (s : Sender) (ports : List EndId) (body : List ℕ) (refused : Bool) → ShowsFacts agents ends f → f.roster.cast ≡ c → (let r = kept_posting agents ends c s ports body refused in Stepped agents (push_ends s ports body ends r) f (action.Push s ports body) refused (push_outcome r))
-push_shown agents ends f c s ports body refused h cast = push_at agents ends f c s ports body refused h cast (slice_get ends s.end.0) refl (h.end s.end.0)
+pub push_shown : (c : CoreState) (f : Facts) (s : Sender) (ports : List EndId) (body : List ℕ) (refused : Bool) → Sees c f → PushShown c.agents c.ends f s ports body refused (kept_posting c s ports body refused)
+push_shown c f s ports body refused h = subst (PushShown c.agents c.ends f s ports body refused) (sym (posting_seen c f s ports body refused (posting_at s (slice_get c.ends s.end.0)) h)) (push_at c.agents c.ends f s ports body refused h.shows (slice_get c.ends s.end.0) refl (h.shows.end s.end.0))

@@ -23,11 +23,14 @@ use Rattle.hub_core.specs.Posting.{running_at, holder, is_with}
 use Rattle.hub_core.specs.Taking.{IsNext, Serves, FitsTake, start_answer}
 use Rattle.hub_core.specs.Sound.{no_end, IsOfEnd, Sound}
 use Rattle.hub_core.specs.Shows.{end_now, ShowsEnd, ShowsFacts}
-use Rattle.hub_core.specs.Kept.{kept_holder, start_outcome, start_ends, with_taker_queue, moved_ends, TakeServes, TakeHeld, TakeLeaves}
+use Rattle.hub_core.specs.Kept.{start_outcome, start_ends, with_taker_queue, moved_ends, TakeServes, TakeHeld, TakeLeaves}
 use Rattle.hub_core.proofs.Lists.{eqb_same, each_set, get_or-set_same, get_or-set_other, is_there}
 use Rattle.hub_core.proofs.Waits.{all_kept, all_back, of_queue, queue_more, queue_other, next_in_line}
 use Rattle.hub_core.proofs.Frames.{ShownAt, Stepped, changed, unchanged}
-use Rattle.hub_core.proofs.Holders.{holder_kept}
+use Rattle.hub_core.specs.CoreState.{CoreState}
+use Rattle.hub_core.specs.Seen.{seen}
+use Rattle.hub_core.proofs.Seeing.{Sees, seen_is}
+use Rattle.hub_core.specs.CoreSteps.{start_core}
 use Rattle.hub_core.proofs.Placing.{Moves, moves_to, moved_shown}
 use Rattle.hub_core.proofs.Speakers.{runs_there, placed_made, taken_flies}
 use Rattle.hub_core.proofs.GoingOn.{taker_queue_at, nothing_shown}
@@ -66,8 +69,8 @@ start_at agents ends f e refused h None at shown P is =
     unchanged agents ends ends f (action.Start e) refused outcome.NotNow outcome.NotNow h refl refl refl (start_as f e no_end None shown.same (sym none))
 start_at agents ends f e refused h (Some x) at shown P is = start_end agents ends f e refused x h at x.is_closed P (start_as f e (end_now (Some x)) P shown.same is)
 
-pub start_shown : (agents : List Agent) (ends : List End) (f : Facts) (e : EndId) (refused : Bool) → ShowsFacts agents ends f → Stepped agents (start_ends (kept_holder agents ends e.0) e.0 ends (slice_get ends e.0)) f (action.Start e) refused (start_outcome (kept_holder agents ends e.0) (slice_get ends e.0))
-start_shown agents ends f e refused h = start_at agents ends f e refused h (slice_get ends e.0) refl (h.end e.0) (kept_holder agents ends e.0) (holder_kept agents ends f e.0 h)
+pub start_shown : (c : CoreState) (f : Facts) (e : EndId) (refused : Bool) → Sees c f → Stepped c.agents (start_core c e).ends f (action.Start e) refused (start_outcome (holder (seen c) e.0) (slice_get c.ends e.0))
+start_shown c f e refused h = start_at c.agents c.ends f e refused h.shows (slice_get c.ends e.0) refl (h.shows.end e.0) (holder (seen c) e.0) (ap (λ g. holder g e.0) (seen_is c f h))
 
 -- ---- Take
 
@@ -208,5 +211,5 @@ take_at agents ends new f e refused o P is h (Some x) at shown t = elim x.is_clo
   | false ↦ λ opened held. take_held agents ends new f e refused x o h at opened P is x.is_enabled (ap (λ (y : EndNow). y.enabled) shown.same) refl held
 ] (ap (λ (y : EndNow). y.closed) shown.same) t
 
-pub take_shown : (agents : List Agent) (ends new : List End) (f : Facts) (e : EndId) (refused : Bool) (o : Outcome) → ShowsFacts agents ends f → TakeLeaves (kept_holder agents ends e.0) e.0 ends (slice_get ends e.0) o new → Stepped agents new f (action.Take e) refused o
-take_shown agents ends new f e refused o h t = take_at agents ends new f e refused o (kept_holder agents ends e.0) (sym (holder_kept agents ends f e.0 h)) h (slice_get ends e.0) refl (h.end e.0) t
+pub take_shown : (c : CoreState) (new : List End) (f : Facts) (e : EndId) (refused : Bool) (o : Outcome) → Sees c f → TakeLeaves (holder (seen c) e.0) e.0 c.ends (slice_get c.ends e.0) o new → Stepped c.agents new f (action.Take e) refused o
+take_shown c new f e refused o h t = take_at c.agents c.ends new f e refused o (holder (seen c) e.0) (sym (ap (λ g. holder g e.0) (seen_is c f h))) h.shows (slice_get c.ends e.0) refl (h.shows.end e.0) t

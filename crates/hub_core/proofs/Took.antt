@@ -13,11 +13,14 @@ use Rattle.hub_core.specs.declared.sender.Sender.{Sender}
 use Rattle.hub_core.specs.declared.step.Action.TheVariants as action
 use Rattle.hub_core.specs.declared.outcome.Outcome.TheVariants as outcome
 use Rattle.hub_core.specs.CoreSteps.{leave_core}
-use Rattle.hub_core.specs.Kept.{kept_running, kept_holder, kept_maker, kept_agent_answer, agents_made, leave_outcome_at}
-use Rattle.hub_core.specs.KeptCasting.{kept_member_answer, kept_cast_answer, is_kept_open, part_outcome, member_made}
-use Rattle.hub_core.specs.KeptEnding.{kept_owner_of, leave_agents}
+use Rattle.hub_core.specs.Kept.{kept_agent_answer, agents_made, leave_outcome_at}
+use Rattle.hub_core.specs.KeptCasting.{kept_member_answer, kept_cast_answer, part_outcome, member_made}
+use Rattle.hub_core.specs.KeptEnding.{owner, leave_agents}
 use Rattle.hub_core.specs.KeptRoster.{origin_at, group_of, is_seated_in, kept_destinations, agent_roster, MemberLeaves, PartLeaves, cast_roster}
-use Rattle.hub_core.specs.Posting.{is_empty}
+use Rattle.hub_core.specs.Made.{maker_of}
+use Rattle.hub_core.specs.Posting.{holder, is_empty}
+use Rattle.hub_core.specs.Seen.{seen}
+use Rattle.hub_core.proofs.Seeing.{Sees}
 use Rattle.hub_core.specs.CoreState.{CoreState}
 use Rattle.hub_core.specs.declared.step.Step.{Step}
 use Rattle.hub_core.specs.declared.step.Action.{Action}
@@ -65,10 +68,10 @@ pub both_same : (c : CoreState) {agents : List Agent} {ends : List End} → agen
 both_same c same_agents same_ends = λ i. record c { agents = same_agents i; ends = same_ends i }
 
 -- a step that leaves the roster, by what it was answered and what it left
-pub took : (a : Action) (refused : Bool) (old new after : CoreState) (o p : Outcome) → o ≡ p → new ≡ after → after.roster ≡ old.roster → leaves_roster a ≡ true → ((f : Facts) → ShowsFacts old.agents old.ends f → f.roster.cast ≡ old.roster.cast → Stepped after.agents after.ends f a refused p) → (changes_nothing p a ≡ true → after ≡ old) → Took a refused old new o
+pub took : (a : Action) (refused : Bool) (old new after : CoreState) (o p : Outcome) → o ≡ p → new ≡ after → after.roster ≡ old.roster → leaves_roster a ≡ true → ((f : Facts) → Sees old f → Stepped after.agents after.ends f a refused p) → (changes_nothing p a ≡ true → after ≡ old) → Took a refused old new o
 took a refused old new after o p says leaves roster stays k same = record {
   shown = λ f s w.
-      let at : Stepped new.agents new.ends f a refused o = subst (λ q. Stepped new.agents new.ends f a refused q) (sym says) (subst (λ (c : CoreState). Stepped c.agents c.ends f a refused p) (sym leaves) (k f s w.cast)) in
+      let at : Stepped new.agents new.ends f a refused o = subst (λ q. Stepped new.agents new.ends f a refused q) (sym says) (subst (λ (c : CoreState). Stepped c.agents c.ends f a refused p) (sym leaves) (k f (record { shows = s; cast = w.cast }))) in
       (at, subst (λ r. ShowsRoster r (next f a o)) (sym (ap (λ (c : CoreState). c.roster) leaves ∙ roster)) (roster_stays old.roster f a refused o s.sound at.fits stays w));
   same = λ nothing. same_content old new (leaves ∙ same (subst (λ q. changes_nothing q a ≡ true) says nothing));
 }
@@ -91,10 +94,10 @@ member_same : (a : AgentId) (name : List ℕ) (c : CoreState) (r : Roster) (o : 
 member_same a name c r (outcome.End e) leaves h = absurd (false≢true h)
 member_same a name c r o leaves h = ap (λ q. let d : CoreState = record c { roster = q } in d) leaves
 
-pub member_took : (a : AgentId) (name : List ℕ) (refused : Bool) (old new : CoreState) (o : Outcome) → o ≡ kept_member_answer (kept_running old.agents a.0 && not (is_some old.roster.cast)) (is_some (origin_at (slice_get old.roster.members.origins a.0))) (length old.ends) refused → MemberLeaves a.0 name old.roster o new.roster → new ≡ record old { ends = member_made a old.ends o; roster = new.roster } → Took (action.Member a name) refused old new o
+pub member_took : (a : AgentId) (name : List ℕ) (refused : Bool) (old new : CoreState) (o : Outcome) → o ≡ kept_member_answer (((seen old).agent a.0).runs && not (is_some old.roster.cast)) (is_some (origin_at (slice_get old.roster.members.origins a.0))) (length old.ends) refused → MemberLeaves a.0 name old.roster o new.roster → new ≡ record old { ends = member_made a old.ends o; roster = new.roster } → Took (action.Member a name) refused old new o
 member_took a name refused old new o says leaves same = record {
   shown = λ f s w.
-      let at = along (λ gs es q. Stepped gs es f (action.Member a name) refused q) (ap (λ (c : CoreState). c.agents) same) (ap (λ (c : CoreState). c.ends) same ∙ ap (member_made a old.ends) says) says (member_told old.agents old.ends old.roster f a name refused s w) in
+      let at = along (λ gs es q. Stepped gs es f (action.Member a name) refused q) (ap (λ (c : CoreState). c.agents) same) (ap (λ (c : CoreState). c.ends) same ∙ ap (member_made a old.ends) says) says (member_told old f a name refused (record { shows = s; cast = w.cast }) w) in
       (at, roster_member old.roster new.roster f a name refused o s.sound w at.fits leaves);
   same = λ nothing. same_content old new (same ∙ member_same a name old new.roster o leaves nothing);
 }
@@ -102,14 +105,14 @@ member_took a name refused old new o says leaves same = record {
 pub leave_took : (t : Sender) (refused : Bool) (old new : CoreState) (o : Outcome) → o ≡ leave_outcome_at t.line.0 (slice_get old.ends t.end.0) → new ≡ leave_core old t o → Took (action.Leave t) refused old new o
 leave_took t refused old new o says same = record {
   shown = λ f s w. (
-    along (λ gs es q. Stepped gs es f (action.Leave t) refused q) (ap (λ (c : CoreState). c.agents) same ∙ ap (leave_agents (kept_owner_of old.ends t) old.agents) says) (ap (λ (c : CoreState). c.ends) same) says
-        (leave_shown old.agents old.ends f t refused s),
+    along (λ gs es q. Stepped gs es f (action.Leave t) refused q) (ap (λ (c : CoreState). c.agents) same ∙ ap (leave_agents (owner (seen old) t) old.agents) says) (ap (λ (c : CoreState). c.ends) same) says
+        (leave_shown old f t refused (record { shows = s; cast = w.cast })),
     subst (λ r. ShowsRoster r (next f (action.Leave t) o)) (sym (ap (λ (c : CoreState). c.roster) same)) (roster_leave old.roster f t o w),
   );
   same = λ nothing.
       let plain = subst (λ q. changes_nothing q (action.Leave t) ≡ true) says nothing in
       same_content old new (same ∙ (λ i. record {
-        agents = leave_agents_same (kept_owner_of old.ends t) old.agents t o nothing i;
+        agents = leave_agents_same (owner (seen old) t) old.agents t o nothing i;
         ends = leave_same old.ends t (slice_get old.ends t.end.0) refl plain i;
         roster = record old.roster { cast = left_same t o old.roster.cast nothing i };
       }));
@@ -119,10 +122,10 @@ cast_same : (e : EndId) (ports : List EndId) (body : List ℕ) (r : Roster) (o :
 cast_same e ports body r (outcome.Destinations ends) h = absurd (false≢true h)
 cast_same e ports body r o h = refl
 
-pub cast_took : (e : EndId) (ports : List EndId) (body : List ℕ) (refused : Bool) (old new : CoreState) (o : Outcome) → (let m : Members = old.roster.members in o ≡ kept_cast_answer (is_some (kept_maker (slice_get old.ends e.0)) && not (is_some old.roster.cast)) (is_seated_in m e.0 (group_of m e.0) && is_kept_open (slice_get old.ends e.0)) (kept_holder old.agents old.ends e.0) (is_empty ports) (kept_destinations m e.0)) → new ≡ record old { roster = cast_roster e body old.roster o } → Took (action.Cast e ports body) refused old new o
+pub cast_took : (e : EndId) (ports : List EndId) (body : List ℕ) (refused : Bool) (old new : CoreState) (o : Outcome) → (let m : Members = old.roster.members in let g : Facts = seen old in o ≡ kept_cast_answer (is_some (maker_of (g.end e.0).kind) && not (is_some old.roster.cast)) (is_seated_in m e.0 (group_of m e.0) && not (g.end e.0).closed) (holder g e.0) (is_empty ports) (kept_destinations m e.0)) → new ≡ record old { roster = cast_roster e body old.roster o } → Took (action.Cast e ports body) refused old new o
 cast_took e ports body refused old new o says same = record {
   shown = λ f s w. (
-    along (λ gs es q. Stepped gs es f (action.Cast e ports body) refused q) (ap (λ (c : CoreState). c.agents) same) (ap (λ (c : CoreState). c.ends) same) says (cast_told old.agents old.ends old.roster f e ports body refused s w),
+    along (λ gs es q. Stepped gs es f (action.Cast e ports body) refused q) (ap (λ (c : CoreState). c.agents) same) (ap (λ (c : CoreState). c.ends) same) says (cast_told old f e ports body refused (record { shows = s; cast = w.cast }) w),
     subst (λ r. ShowsRoster r (next f (action.Cast e ports body) o)) (sym (ap (λ (c : CoreState). c.roster) same)) (roster_cast old.roster f e ports body o w),
   );
   same = λ nothing. same_content old new (same ∙ ap (λ r. let d : CoreState = record old { roster = r } in d) (cast_same e ports body old.roster o nothing));

@@ -11,9 +11,7 @@ use Rattle.hub_envelope.specs.declared.ids.AgentId.{AgentId}
 use Rattle.hub_core.specs.declared.agent.Agent.{Agent}
 use Rattle.hub_core.specs.declared.kind.Kind.{Kind}
 use Rattle.hub_core.specs.declared.kind.Kind.TheVariants.{Port, Client, Worker, Member}
-use Rattle.hub_core.specs.Made.{lines_of, is_queue, maker_of}
-use Rattle.hub_core.specs.Roster.{CastNow}
-use Rattle.hub_core.specs.KeptRoster.{source_for}
+use Rattle.hub_core.specs.Made.{lines_of, is_queue}
 use Rattle.hub_core.specs.Moving.{is_arrived}
 use Rattle.hub_core.specs.declared.sender.Sender.{Sender}
 use Rattle.hub_envelope.specs.declared.envelope.Envelope.{Envelope}
@@ -24,10 +22,10 @@ use Rattle.hub_core.specs.declared.end.End.{End}
 use Rattle.hub_core.specs.declared.end.Place.{Place}
 use Rattle.hub_core.specs.declared.outcome.Outcome.{Outcome}
 use Rattle.hub_core.specs.declared.outcome.Outcome.TheVariants as outcome
-use Rattle.hub_core.specs.Place.{names}
-use Rattle.hub_core.specs.Posting.{is_out, is_inside, is_here, is_with, running_at, is_fitting, is_good}
-use Rattle.hub_core.specs.declared.listing.Listing.{Listing}
-use Rattle.hub_core.specs.declared.listing.Listing.TheVariants.{Good, HoldsTarget, Bad}
+use Rattle.hub_core.specs.CoreState.{CoreState}
+use Rattle.hub_core.specs.Facts.{Facts}
+use Rattle.hub_core.specs.Posting.{is_out, is_inside, hears_notice, is_fitting, is_good, listing_of, poster_of}
+use Rattle.hub_core.specs.Seen.{seen}
 
 -- what the gate of an end answers a line
 abbrev pub gate_answer : End → Line → Outcome
@@ -168,6 +166,10 @@ abbrev pub posting_line : End → Option Line → Option Line
 posting_line x None = None
 posting_line x (Some y) = if is_inside y.phase && not y.has_noticed && has_queue x y.epoch then Some y else None
 
+abbrev pub posting_at : Sender → Option End → Option (Kind × Line)
+posting_at s None = None
+posting_at s (Some x) = option_map (λ y. (x.kind, y)) (posting_line x (slice_get x.lines s.line.0))
+
 -- the end with an envelope put by a line
 abbrev pub put_end : End → Line → Envelope → End
 put_end x y v = record x {
@@ -198,64 +200,6 @@ end_moved p ends e = change_end (λ x. record x { place = p }) e.0 ends
 abbrev pub moved_ends : List EndId → Place → List End → List End
 moved_ends ports p ends = fold (end_moved p) ends ports
 
-abbrev pub is_running_agent : Option Agent → Bool
-is_running_agent None = false
-is_running_agent (Some x) = x.is_running
-
-abbrev pub kept_running : List Agent → ℕ → Bool
-kept_running agents a = is_running_agent (slice_get agents a)
-
--- the running agent that has the end
-abbrev pub kept_holder : List Agent → List End → ℕ → Option AgentId
-kept_holder agents ends e = running_at (kept_running agents) (option_map (λ x. x.place) (slice_get ends e))
-
--- the agent, where it runs
-abbrev pub kept_runs : List Agent → Option AgentId → Option AgentId
-kept_runs agents None = None
-kept_runs agents (Some a) = if kept_running agents a.0 then Some a else None
-
--- the agent that made a broadcast channel
-abbrev pub kept_maker : Option End → Option AgentId
-kept_maker None = None
-kept_maker (Some x) = maker_of (Some x.kind)
-
-abbrev pub kept_maker_at : List End → Option EndId → Option AgentId
-kept_maker_at ends None = None
-kept_maker_at ends (Some e) = kept_maker (slice_get ends e.0)
-
--- the agent whose cast goes to the end next
-abbrev pub kept_speaker : List End → Option CastNow → ℕ → Option AgentId
-kept_speaker ends c x = kept_maker_at ends (source_for c x)
-
--- the agent that posts on a line of an end of this kind
-abbrev pub kept_poster_by : List Agent → List End → Option CastNow → ℕ → Kind → Line → Option AgentId
-kept_poster_by agents ends c x (Port q) y = kept_holder agents ends q.0
-kept_poster_by agents ends c x Client y = kept_runs agents y.held_by
-kept_poster_by agents ends c x Worker y = kept_runs agents y.held_by
-kept_poster_by agents ends c x (Member a) y = kept_speaker ends c x
-
-abbrev pub kept_poster_on : List Agent → List End → Option CastNow → ℕ → End → Option Line → Option AgentId
-kept_poster_on agents ends c e x None = None
-kept_poster_on agents ends c e x (Some y) = kept_poster_by agents ends c e x.kind y
-
-abbrev pub kept_poster_of : List Agent → List End → Option CastNow → Sender → Option End → Option AgentId
-kept_poster_of agents ends c s None = None
-kept_poster_of agents ends c s (Some x) = kept_poster_on agents ends c s.end.0 x (slice_get x.lines s.line.0)
-
--- the agent that posts on the line
-abbrev pub kept_poster : List Agent → List End → Option CastNow → Sender → Option AgentId
-kept_poster agents ends c s = kept_poster_of agents ends c s (slice_get ends s.end.0)
-
-abbrev pub kept_place : List End → ℕ → Option Place
-kept_place ends e = option_map (λ x. x.place) (slice_get ends e)
-
--- whether the place of the port that posts at an end of this kind lets its poster put a notice
-abbrev pub kept_hears_by : List End → Kind → Bool
-kept_hears_by ends (Port q) = is_here (kept_place ends q.0)
-kept_hears_by ends Client = false
-kept_hears_by ends Worker = false
-kept_hears_by ends (Member a) = false
-
 -- the agent, running or ending, that has an end of this place
 abbrev pub with_agent : Option Place → Option AgentId
 with_agent (Some (With a)) = Some a
@@ -264,29 +208,6 @@ with_agent (Some (Arrived a)) = None
 with_agent (Some Swept) = None
 with_agent (Some Gone) = None
 with_agent None = None
-
-abbrev pub kept_hears_of : List End → ℕ → Option End → Bool
-kept_hears_of ends l None = false
-kept_hears_of ends l (Some x) = l == 0 && kept_hears_by ends x.kind
-
--- the port that posts at an end of this kind
-abbrev pub source_of : Kind → Option EndId
-source_of (Port q) = Some q
-source_of Client = None
-source_of Worker = None
-source_of (Member a) = None
-
--- the line that a port posts on
-abbrev pub kept_line_of_port : Option End → Option Sender
-kept_line_of_port None = None
-kept_line_of_port (Some x) = option_map (λ q. record { end = q; line = record { 0 = 0 } }) (source_of x.kind)
-
--- whether the place of the port that posts on the line lets its poster put a notice
-abbrev pub kept_hears : List End → Sender → Bool
-kept_hears ends s = kept_hears_of ends s.line.0 (slice_get ends s.end.0)
-
-abbrev pub kept_may_enter : List Agent → List End → Option CastNow → Sender → Bool
-kept_may_enter agents ends c s = is_some (kept_poster agents ends c s) || kept_hears ends s
 
 abbrev pub enter_outcome_at : Bool → ℕ → Option End → Outcome
 enter_outcome_at may l None = outcome.NotNow
@@ -310,80 +231,25 @@ abbrev pub leave_outcome_at : ℕ → Option End → Outcome
 leave_outcome_at l None = outcome.NotNow
 leave_outcome_at l (Some x) = leave_outcome (slice_get x.lines l)
 
--- line 0 of an end
-abbrev pub kept_own_line : Option End → Option Line
-kept_own_line None = None
-kept_own_line (Some x) = slice_get x.lines 0
-
-abbrev pub line_is_out : Option Line → Bool
-line_is_out None = false
-line_is_out (Some y) = is_out y.phase
-
--- whether the poster on line 0 of an end is out
-abbrev pub kept_own_out : Option End → Bool
-kept_own_out x = line_is_out (kept_own_line x)
-
-abbrev pub line_is_plain : Option Line → Bool
-line_is_plain None = false
-line_is_plain (Some y) = not y.has_noticed
-
--- whether no notice was put on line 0 of an end
-abbrev pub kept_own_plain : Option End → Bool
-kept_own_plain x = line_is_plain (kept_own_line x)
-
--- whether the poster of an end of this kind is out, with no notice of it
-abbrev pub kept_own_free : List End → Kind → Bool
-kept_own_free ends (Port q) = kept_own_out (slice_get ends q.0) && kept_own_plain (slice_get ends q.0)
-kept_own_free ends Client = false
-kept_own_free ends Worker = false
-kept_own_free ends (Member a) = false
-
-abbrev pub is_source : EndId → Option EndId → Bool
-is_source p None = false
-is_source p (Some q) = p.0 == q.0
-
-abbrev pub kept_end_may_leave : List End → AgentId → Option EndId → EndId → Option End → Bool
-kept_end_may_leave ends a source p None = false
-kept_end_may_leave ends a source p (Some x) =
-    is_with a (Some x.place) && kept_own_free ends x.kind && not (is_source p source)
-
--- whether a port may leave an agent that posts with another port, the source, or with none
-abbrev pub kept_may_leave : List End → AgentId → Option EndId → EndId → Bool
-kept_may_leave ends a source p = kept_end_may_leave ends a source p (slice_get ends p.0)
-
--- distinct ports that may leave an agent
-abbrev pub kept_all_leave : List End → AgentId → Option EndId → List EndId → Bool
-kept_all_leave ends a source [] = true
-kept_all_leave ends a source (p ∷ ps) =
-    if names ps p.0 || not (kept_may_leave ends a source p) then false else kept_all_leave ends a source ps
-
--- what a list of ports is to a message to the target from an agent that posts with another port, the source, or with none
-abbrev pub kept_listing_to : List End → EndId → AgentId → Option EndId → List EndId → Listing
-kept_listing_to ends target a source ports =
-    if not (kept_all_leave ends a source ports) then Bad else (if names ports target.0 then HoldsTarget else Good)
-
 -- the end of the sender has the queue at which the line stands
 abbrev pub HasQueue : List End → Sender → Line → Type 0
 HasQueue ends s y = IfSome (slice_get ends s.end.0) (λ x. has_queue x y.epoch ≡ true)
 
 -- a line that may push, and the agent that posts, or why it may not
-abbrev pub kept_posting_by : List End → Option EndId → EndId → List EndId → Bool → Bool → Line → Option AgentId → Result (Line × AgentId) Outcome
-kept_posting_by ends source target ports fitting refused y None = Err outcome.NotNow
-kept_posting_by ends source target ports fitting refused y (Some a) =
+abbrev pub kept_posting_by : Facts → Sender → List EndId → Bool → Bool → Line → Option AgentId → Result (Line × AgentId) Outcome
+kept_posting_by f s ports fitting refused y None = Err outcome.NotNow
+kept_posting_by f s ports fitting refused y (Some a) =
     if nat_lt MAX_PORTS (length ports) then Err outcome.TooManyPorts
-    else (if is_good (kept_listing_to ends target a source ports) && fitting then (if refused then Err outcome.NoMemory else Ok (y, a)) else Err outcome.NotNow)
+    else (if is_good (listing_of f s ports (Some a)) && fitting then (if refused then Err outcome.NoMemory else Ok (y, a)) else Err outcome.NotNow)
 
-abbrev pub kept_posting_line : List Agent → List End → Option CastNow → Sender → List EndId → List ℕ → Bool → End → Option Line → Result (Line × AgentId) Outcome
-kept_posting_line agents ends c s ports body refused x None = Err outcome.NotNow
-kept_posting_line agents ends c s ports body refused x (Some y) =
-    kept_posting_by ends (source_of x.kind) s.end ports (is_fitting c (Some x.kind) ports body) refused y (kept_poster_by agents ends c s.end.0 x.kind y)
+abbrev pub kept_posting_line : Facts → Sender → List EndId → List ℕ → Bool → Option (Kind × Line) → Result (Line × AgentId) Outcome
+kept_posting_line f s ports body refused None = Err outcome.NotNow
+kept_posting_line f s ports body refused (Some p) =
+    kept_posting_by f s ports (is_fitting f.roster.cast (Some p.0) ports body) refused p.1 (poster_of f s (Some p.0))
 
-abbrev pub kept_posting_at : List Agent → List End → Option CastNow → Sender → List EndId → List ℕ → Bool → Option End → Result (Line × AgentId) Outcome
-kept_posting_at agents ends c s ports body refused None = Err outcome.NotNow
-kept_posting_at agents ends c s ports body refused (Some x) = kept_posting_line agents ends c s ports body refused x (posting_line x (slice_get x.lines s.line.0))
-
-abbrev pub kept_posting : List Agent → List End → Option CastNow → Sender → List EndId → List ℕ → Bool → Result (Line × AgentId) Outcome
-kept_posting agents ends c s ports body refused = kept_posting_at agents ends c s ports body refused (slice_get ends s.end.0)
+-- the line on which the message may be pushed, and the agent that posts; or why it may not
+abbrev pub kept_posting : CoreState → Sender → List EndId → List ℕ → Bool → Result (Line × AgentId) Outcome
+kept_posting c s ports body refused = kept_posting_line (seen c) s ports body refused (posting_at s (slice_get c.ends s.end.0))
 
 abbrev pub push_outcome : Result (Line × AgentId) Outcome → Outcome
 push_outcome (Ok p) = outcome.Accepted (record { agent = p.1; epoch = p.0.epoch; number = p.0.put })
@@ -404,17 +270,13 @@ push_ends s ports body ends (Ok p) =
 push_ends s ports body ends (Err o) = ends
 
 -- a line on which a notice may be put, or why it may not
-abbrev pub kept_noticing_line : Bool → Bool → Option Line → Result Line Outcome
+abbrev pub kept_noticing_line : Bool → Bool → Option (Kind × Line) → Result Line Outcome
 kept_noticing_line hears refused None = Err outcome.NotNow
-kept_noticing_line hears refused (Some y) =
-    if hears then (if refused then Err outcome.NoMemory else Ok y) else Err outcome.NotNow
+kept_noticing_line hears refused (Some p) =
+    if hears then (if refused then Err outcome.NoMemory else Ok p.1) else Err outcome.NotNow
 
-abbrev pub kept_noticing_at : Bool → ℕ → Bool → Option End → Result Line Outcome
-kept_noticing_at hears l refused None = Err outcome.NotNow
-kept_noticing_at hears l refused (Some x) = kept_noticing_line hears refused (posting_line x (slice_get x.lines l))
-
-abbrev pub kept_noticing : List End → Sender → Bool → Result Line Outcome
-kept_noticing ends s refused = kept_noticing_at (kept_hears ends s) s.line.0 refused (slice_get ends s.end.0)
+abbrev pub kept_noticing : CoreState → Sender → Bool → Result Line Outcome
+kept_noticing c s refused = kept_noticing_line (hears_notice (seen c) s) refused (posting_at s (slice_get c.ends s.end.0))
 
 abbrev pub notice_outcome : Result Line Outcome → Outcome
 notice_outcome (Ok y) = outcome.Accepted (record { agent = record { 0 = 0 }; epoch = y.epoch; number = y.put })
@@ -425,21 +287,6 @@ abbrev pub notice_ends : Sender → List End → Result Line Outcome → List En
 notice_ends s ends (Ok y) =
     accept_ends ends y (named_notice s (record { agent = record { 0 = 0 }; epoch = y.epoch; number = y.put }))
 notice_ends s ends (Err o) = ends
-
--- whether an end of this kind is no port whose own poster is inside or being turned back
-abbrev pub kept_released : List End → Kind → Bool
-kept_released ends (Port q) = kept_own_out (slice_get ends q.0)
-kept_released ends Client = true
-kept_released ends Worker = true
-kept_released ends (Member a) = true
-
--- whether an open end can be closed
-abbrev pub kept_may_close_of : List End → Option End → Bool
-kept_may_close_of ends None = false
-kept_may_close_of ends (Some x) = is_here (Some x.place) && kept_released ends x.kind
-
-abbrev pub kept_may_close : List End → ℕ → Bool
-kept_may_close ends e = kept_may_close_of ends (slice_get ends e)
 
 abbrev pub closed_end : End → End
 closed_end x = record x { is_closed = true; place = Gone }
@@ -561,30 +408,6 @@ abbrev pub ends_made : AgentId → List End → Outcome → List End
 ends_made a old (outcome.Ends e f) = old ++ new_end a (Port f) ∷ new_end a (Port e) ∷ []
 ends_made a old _ = old
 
-abbrev pub kept_comes : Option Line → Bool
-kept_comes None = false
-kept_comes (Some y) = may_come y
-
-abbrev pub kept_comes_at : ℕ → Option End → Bool
-kept_comes_at l None = false
-kept_comes_at l (Some x) = kept_comes (slice_get x.lines l)
-
--- whether a message may be posted on the line
-abbrev pub kept_may_post : List Agent → List End → Option CastNow → Sender → Bool
-kept_may_post agents ends c s = is_some (kept_poster agents ends c s) && kept_comes_at s.line.0 (slice_get ends s.end.0)
-
-abbrev pub kept_listing_by : List End → Sender → List EndId → End → Option AgentId → Listing
-kept_listing_by ends s ports x None = Bad
-kept_listing_by ends s ports x (Some a) = kept_listing_to ends s.end a (source_of x.kind) ports
-
-abbrev pub kept_listing_at : List End → Sender → List EndId → Option AgentId → Option End → Listing
-kept_listing_at ends s ports poster None = Bad
-kept_listing_at ends s ports poster (Some x) = kept_listing_by ends s ports x poster
-
--- what a list of ports is to a message on the line
-abbrev pub kept_listing : List Agent → List End → Option CastNow → Sender → List EndId → Listing
-kept_listing agents ends c s ports = kept_listing_at ends s ports (kept_poster agents ends c s) (slice_get ends s.end.0)
-
 -- ---- posters that are away
 
 abbrev pub set_agent : ℕ → List Agent → Option Agent → List Agent
@@ -600,13 +423,6 @@ one_away x = if nat_lt x.away 4294967295 then record x { away = x.away + 1 } els
 
 abbrev pub one_out : Agent → Agent
 one_out x = record x { away = x.away - 1 }
-
--- the agent, running or ending, whose poster a line of an end of this kind has
-abbrev pub kept_owner : List End → Kind → Line → Option AgentId
-kept_owner ends (Port q) y = with_agent (kept_place ends q.0)
-kept_owner ends Client y = y.held_by
-kept_owner ends Worker y = y.held_by
-kept_owner ends (Member a) y = None
 
 abbrev pub change_owner : (Agent → Agent) → Option AgentId → List Agent → List Agent
 change_owner change None agents = agents
@@ -711,11 +527,6 @@ abbrev pub back_outcome_at : ℕ → Option End → Outcome
 back_outcome_at l None = outcome.NotNow
 back_outcome_at l (Some x) = back_outcome (slice_get x.lines l)
 
--- whether an agent may take over what this agent has: it is another one of so many
-abbrev pub kept_may_take_over : ℕ → AgentId → Option AgentId → Bool
-kept_may_take_over n b None = false
-kept_may_take_over n b (Some a) = nat_lt b.0 n && not (a.0 == b.0)
-
 abbrev pub hand_outcome : Bool → End → Outcome
 hand_outcome may x =
     if x.is_closed then outcome.Closed
@@ -743,6 +554,6 @@ close_agents agents x _ = agents
 abbrev pub adopting : Bool → Kind → Agent → Agent
 adopting released kind x = if released then one_more kind x else one_away (one_more kind x)
 
-abbrev pub adopt_agents : List End → AgentId → List Agent → Option End → Outcome → List Agent
-adopt_agents ends a agents (Some x) (outcome.Adopted k) = change_agent (adopting (kept_released ends x.kind) x.kind) a.0 agents
-adopt_agents ends a agents x _ = agents
+abbrev pub adopt_agents : Bool → AgentId → List Agent → Option End → Outcome → List Agent
+adopt_agents released a agents (Some x) (outcome.Adopted k) = change_agent (adopting released x.kind) a.0 agents
+adopt_agents released a agents x _ = agents

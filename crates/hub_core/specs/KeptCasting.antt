@@ -1,5 +1,5 @@
 -- For private clauses: what the steps of broadcast channels do to what is kept of ends.
-use Rattle.std.specs.Prelude.{ℕ, if◌then◌else◌, Bool, List, [], ◌∷◌, ◌++◌, Option, Some, None, is_some, false, not, nat_le}
+use Rattle.std.specs.Prelude.{ℕ, if◌then◌else◌, Bool, List, [], ◌∷◌, ◌++◌, Option, is_some, not, nat_le}
 use Rattle.hub_envelope.specs.declared.limits.TheConstants.{MAX_ENDS}
 use Rattle.hub_envelope.specs.declared.ids.EndId.{EndId}
 use Rattle.hub_envelope.specs.declared.ids.AgentId.{AgentId}
@@ -25,10 +25,6 @@ kept_cast_answer may seated holder none others =
     else (if not (is_some holder) then outcome.NotNow
     else (if not none then outcome.NotTransferable
     else outcome.Destinations others)))
-
-abbrev pub is_kept_open : Option End → Bool
-is_kept_open None = false
-is_kept_open (Some x) = not x.is_closed
 
 abbrev pub part_outcome : Bool → Outcome
 part_outcome may = if may then outcome.Done else outcome.NotNow

@@ -26,6 +26,7 @@ pub mod Fits
 pub mod Legal
 pub mod Sound
 pub mod Shows
+pub mod Seen
 pub mod Kept
 pub mod KeptCasting
 pub mod KeptEnding

@@ -1,12 +1,13 @@
 //! Broadcast channels: Member, Cast and Part.
 
 ghost use Rattle.std.specs.Prelude.{◌≡◌, ◌&&◌, length, not, is_some, slice_get, IfOk, OnErr};
-ghost use Rattle.hub_core.specs.Kept.{kept_running, kept_holder, kept_maker};
-ghost use Rattle.hub_core.specs.KeptCasting.{kept_member_answer, is_kept_open, kept_cast_answer};
-ghost use Rattle.hub_core.specs.KeptCasting.{member_made, part_outcome};
+ghost use Rattle.hub_core.specs.KeptCasting.{kept_member_answer, kept_cast_answer, member_made};
+ghost use Rattle.hub_core.specs.KeptCasting.{part_outcome};
+ghost use Rattle.hub_core.specs.Made.{maker_of};
+ghost use Rattle.hub_core.specs.Seen.{seen};
 ghost use Rattle.hub_core.specs.KeptRoster.{origin_at, group_of, is_seated_in, kept_destinations};
 ghost use Rattle.hub_core.specs.KeptRoster.{MemberLeaves, cast_roster, PartLeaves};
-ghost use Rattle.hub_core.specs.Posting.{is_empty};
+ghost use Rattle.hub_core.specs.Posting.{holder, is_empty};
 ghost use Rattle.hub_core.specs.Unchanged.{SameContent};
 
 use crate::end::End;
@@ -27,7 +28,7 @@ impl Core {
         ensures outcome { let origin = origin_at
             (slice_get self.old.roster.members.origins agent.0) in
             let casting = is_some self.old.roster.cast in
-            let may = kept_running self.old.agents agent.0 && not casting in
+            let may = ((seen self.old).agent agent.0).runs && not casting in
             let count = length self.old.ends in
             IfOk result (λ o. o ≡ kept_member_answer may (is_some origin) count memory_refused) }
         ensures roster { IfOk result (λ o. MemberLeaves agent.0 name self.old.roster o
@@ -65,16 +66,14 @@ impl Core {
         ports: Items<EndId>,
         body: Body,
     ) -> Result<Outcome, OutOfMemory>
-        ensures outcome { let ends = self.old.ends in
+        ensures outcome { let f = seen self.old in
             let members = self.old.roster.members in
-            let found = slice_get ends end.0 in
             let casting = is_some self.old.roster.cast in
-            let may = is_some (kept_maker found) && not casting in
+            let may = is_some (maker_of (f.end end.0).kind) && not casting in
             let seated = is_seated_in members end.0 (group_of members end.0) in
-            let holder = kept_holder self.old.agents ends end.0 in
             let others = kept_destinations members end.0 in
-            IfOk result (λ o. o ≡ kept_cast_answer may (seated && is_kept_open found) holder
-            (is_empty ports) others) }
+            IfOk result (λ o. o ≡ kept_cast_answer may (seated && not (f.end end.0).closed)
+            (holder f end.0) (is_empty ports) others) }
         ensures new { IfOk result (λ o. self.new ≡ record self.old {
           roster = cast_roster end body self.old.roster o;
         }) }
@@ -83,7 +82,7 @@ impl Core {
         if self.maker_of(end).is_none() || self.roster.is_casting() {
             return Ok(Outcome::NotNow);
         }
-        if !self.roster.members.has(end.0) || !self.is_open(end) {
+        if !self.roster.members.has(end.0) || self.is_closed(end) {
             return Ok(Outcome::InvalidState);
         }
         if self.running_holder(end).is_none() {
@@ -100,16 +99,16 @@ impl Core {
 
     /// The agent that made a broadcast channel.
     pub(crate) fn maker_of(&self, end: EndId) -> Option<AgentId>
-        ensures { result ≡ kept_maker (slice_get self.now.ends end.0) }
+        ensures { result ≡ maker_of ((seen self.now).end end.0).kind }
     {
         self.ends.get(end.0 as usize)?.kind.maker()
     }
 
-    fn is_open(&self, end: EndId) -> bool
-        ensures { result ≡ is_kept_open (slice_get self.now.ends end.0) }
+    fn is_closed(&self, end: EndId) -> bool
+        ensures { result ≡ ((seen self.now).end end.0).closed }
     {
         match self.ends.get(end.0 as usize) {
-            Some(end) => !end.is_closed,
+            Some(end) => end.is_closed,
             None => false,
         }
     }

@@ -45,6 +45,13 @@ impl Place {
         matches!(self, Place::With(holder) | Place::Arrived(holder) if holder == agent)
     }
 
+    /// Whether an agent has an end of this place.
+    pub(crate) fn is_with(self, agent: AgentId) -> bool
+        ensures { result ≡ is_with agent (Some self) }
+    {
+        matches!(self, Place::With(holder) if holder == agent)
+    }
+
     /// Whether an end of this place can be closed.
     pub(crate) fn is_here(self) -> bool
         ensures { result ≡ is_here (Some self) }

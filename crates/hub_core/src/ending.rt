@@ -2,15 +2,15 @@
 
 ghost use Rattle.std.specs.Prelude.{◌≡◌, ◌++◌, ◌∷◌, [], length, slice_get, if◌then◌else◌, IfOk};
 ghost use Rattle.std.specs.Prelude.{OnOk, OnErr};
-ghost use Rattle.hub_core.specs.Kept.{kept_owner, kept_place, with_agent, change_owner, one_away};
-ghost use Rattle.hub_core.specs.Kept.{one_out};
-ghost use Rattle.hub_core.specs.KeptEnding.{kept_owner_of, order_outcome_at, order_agents};
-ghost use Rattle.hub_core.specs.KeptEnding.{see_outcome, see_agents, kept_ends_at};
+ghost use Rattle.hub_core.specs.Ending.{ends_at};
+ghost use Rattle.hub_core.specs.Kept.{with_agent, change_owner, one_away, one_out};
+ghost use Rattle.hub_core.specs.KeptEnding.{owner_by, owner, order_outcome_at, order_agents};
+ghost use Rattle.hub_core.specs.KeptEnding.{see_outcome, see_agents};
+ghost use Rattle.hub_core.specs.Seen.{seen};
 
 use crate::agent::Agent;
 use crate::end::Place;
 use crate::kind::Kind;
-use crate::line::Line;
 use crate::machine::Core;
 use crate::outcome::Outcome;
 use crate::sender::Sender;
@@ -33,7 +33,7 @@ impl Core {
     /// An agent looks whether it was ordered to end.
     pub(crate) fn see(&mut self, agent: AgentId) -> Result<Outcome, OutOfMemory>
         ensures outcome { let found = slice_get self.old.agents agent.0 in
-            IfOk result (λ o. o ≡ see_outcome agent self.old.ends found) }
+            IfOk result (λ o. o ≡ see_outcome (ends_at (seen self.old) agent) found) }
         ensures new { IfOk result (λ o. self.new ≡ record self.old {
           agents = see_agents agent.0 self.old.agents o;
         }) }
@@ -62,8 +62,7 @@ impl Core {
 
     /// The ends that an agent has, and those that have arrived at it.
     fn ends_at(&self, agent: AgentId) -> Result<Items<EndId>, OutOfMemory>
-        ensures { let ends = self.now.ends in
-            IfOk result (λ found. found ≡ kept_ends_at agent ends (length ends)) }
+        ensures { IfOk result (λ found. found ≡ ends_at (seen self.now) agent) }
     {
         let mut ends = Vec::new(self.alloc);
         for (number, end) in self.ends.iter().enumerate() {
@@ -74,27 +73,26 @@ impl Core {
 
     /// The agent, running or ending, whose poster a line has.
     pub(crate) fn owner_of(&self, sender: Sender) -> Option<AgentId>
-        ensures { result ≡ kept_owner_of self.now.ends sender }
+        ensures { result ≡ owner (seen self.now) sender }
     {
-        let end = self.ends.get(sender.end.0 as usize)?;
-        let line = end.lines.get(sender.line)?;
-        self.owner_by(end.kind, line)
+        let kind = self.kind_at(sender.end)?;
+        self.owner_by(sender, kind)
     }
 
     /// The agent, running or ending, whose poster a line of an end of this kind has.
-    fn owner_by(&self, kind: Kind, line: Line) -> Option<AgentId>
-        ensures { result ≡ kept_owner self.now.ends kind line }
+    fn owner_by(&self, sender: Sender, kind: Kind) -> Option<AgentId>
+        ensures { result ≡ owner_by (seen self.now) sender (Some kind) }
     {
         match kind {
-            Kind::Port(peer) => self.agent_with(peer),
-            Kind::Client | Kind::Worker => line.held_by,
-            Kind::Member(_) => None,
+            Kind::Port(peer) if sender.line.0 == 0 => self.agent_with(peer),
+            Kind::Client | Kind::Worker => self.line_at(sender.end, sender.line).held_by,
+            Kind::Port(_) | Kind::Member(_) => None,
         }
     }
 
     /// The agent, running or ending, that has an end.
     fn agent_with(&self, end: EndId) -> Option<AgentId>
-        ensures { result ≡ with_agent (kept_place self.now.ends end.0) }
+        ensures { result ≡ with_agent ((seen self.now).end end.0).place }
     {
         match self.ends.get(end.0 as usize)?.place {
             Place::With(agent) => Some(agent),

@@ -2,9 +2,10 @@
 //! agent has.
 
 ghost use Rattle.std.specs.Prelude.{◌≡◌, option_map, slice_get, IfOk};
-ghost use Rattle.hub_core.specs.Kept.{count_of, one_more, set_agent, gone, kept_running};
+ghost use Rattle.hub_core.specs.Kept.{count_of, one_more, set_agent, gone};
 ghost use Rattle.hub_core.specs.Kept.{line_outcome_at, back_outcome_at};
 ghost use Rattle.hub_core.specs.CoreSteps.{line_core, back_core};
+ghost use Rattle.hub_core.specs.Seen.{seen};
 
 use crate::agent::Agent;
 use crate::end::Place;
@@ -16,7 +17,7 @@ use hub_envelope::{AgentId, EndId, OutOfMemory};
 
 impl Core {
     pub(crate) fn hold(&mut self, end: EndId, agent: AgentId) -> Outcome
-        ensures outcome { let runs = kept_running self.old.agents agent.0 in
+        ensures outcome { let runs = ((seen self.old).agent agent.0).runs in
             result ≡ line_outcome_at runs (slice_get self.old.ends end.0) }
         ensures new { self.new ≡ line_core self.old end agent }
     {

@@ -1,6 +1,5 @@
-ghost use Rattle.std.specs.Prelude.{◌≡◌, Some};
-ghost use Rattle.hub_core.specs.Kept.{source_of};
-ghost use Rattle.hub_core.specs.Made.{is_queue, lines_of, maker_of};
+ghost use Rattle.std.specs.Prelude.{◌≡◌, option_map, Some};
+ghost use Rattle.hub_core.specs.Made.{is_queue, lines_of, maker_of, peer_of};
 
 use hub_envelope::{AgentId, EndId, MAX_LINES};
 
@@ -21,7 +20,7 @@ pub enum Kind {
 impl Kind {
     /// The port that posts at an end of this kind, where one does.
     pub(crate) fn source(self) -> Option<EndId>
-        ensures { result ≡ source_of self }
+        ensures { option_map (λ q. q.0) result ≡ peer_of (Some self) }
     {
         match self {
             Kind::Port(peer) => Some(peer),

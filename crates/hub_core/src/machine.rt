@@ -12,17 +12,15 @@
 //! may be adopted or closed while the poster is inside, whose Push may still be accepted. So a
 //! Look, a Sweep, and a Take at a retired queue with nothing left are `Busy` while it is there.
 
-ghost use Rattle.std.specs.Prelude.{◌≡◌, [], true, slice_get, IfOk, OnErr};
-ghost use Rattle.hub_core.specs.Kept.{kept_running, kept_runs, kept_holder, kept_line_of_port};
-ghost use Rattle.hub_core.specs.Kept.{kept_poster_by, kept_poster, kept_place, kept_hears};
-ghost use Rattle.hub_core.specs.Kept.{kept_speaker};
-ghost use Rattle.hub_core.specs.CoreSteps.{core_may_enter};
-ghost use Rattle.hub_core.specs.Posting.{is_here};
+ghost use Rattle.std.specs.Prelude.{◌≡◌, [], true, option_map, Some, IfOk, OnErr};
+ghost use Rattle.hub_core.specs.Posting.{holder, running, speaker, poster, poster_of, is_here};
+ghost use Rattle.hub_core.specs.Posting.{hears_notice, may_enter};
 ghost use Rattle.hub_core.specs.History.{History};
 ghost use Rattle.hub_core.specs.Laws.{InOrder};
-ghost use Rattle.hub_core.specs.Made.{line_of_port};
+ghost use Rattle.hub_core.specs.Made.{line_of_port, peer_of};
 ghost use Rattle.hub_core.specs.Memory.{takes_memory};
-ghost use Rattle.hub_core.specs.Shows.{Shows, FitsAndShows, StillShows};
+ghost use Rattle.hub_core.specs.Seen.{seen};
+ghost use Rattle.hub_core.specs.Shows.{Shows, FitsAndShows, StillShows, line_now};
 ghost use Rattle.hub_core.specs.Unchanged.{changes_nothing, SameContent};
 
 use crate::agent::Agent;
@@ -144,7 +142,8 @@ impl Core {
     }
 
     fn line_held_by(&self, port: EndId) -> Option<Sender>
-        ensures { result ≡ kept_line_of_port (slice_get self.now.ends port.0) }
+        ensures { let peer = peer_of ((seen self.now).end port.0).kind in result
+            ≡ option_map (λ q. record { end = record { 0 = q }; line = record { 0 = 0 } }) peer }
     {
         let end = self.ends.get(port.0 as usize)?.kind.source()?;
         let line = LineId(0);
@@ -152,7 +151,7 @@ impl Core {
     }
 
     pub(crate) fn is_running(&self, agent: AgentId) -> bool
-        ensures { result ≡ kept_running self.now.agents agent.0 }
+        ensures { result ≡ ((seen self.now).agent agent.0).runs }
     {
         match self.agents.get(agent.0 as usize) {
             Some(agent) => agent.is_running,
@@ -162,7 +161,7 @@ impl Core {
 
     /// The running agent that has the end, where one has it.
     pub(crate) fn running_holder(&self, end: EndId) -> Option<AgentId>
-        ensures { result ≡ kept_holder self.now.agents self.now.ends end.0 }
+        ensures { result ≡ holder (seen self.now) end.0 }
     {
         match self.ends.get(end.0 as usize)?.place {
             Place::With(agent) if self.is_running(agent) => Some(agent),
@@ -172,14 +171,14 @@ impl Core {
 
     /// The agent, where it runs.
     fn running(&self, agent: Option<AgentId>) -> Option<AgentId>
-        ensures { result ≡ kept_runs self.now.agents agent }
+        ensures { result ≡ running (seen self.now) agent }
     {
         agent.filter(|agent| self.is_running(*agent))
     }
 
     /// The agent whose cast goes to the end next, running or ending.
     fn speaker(&self, end: EndId) -> Option<AgentId>
-        ensures { result ≡ kept_speaker self.now.ends self.now.roster.cast end.0 }
+        ensures { result ≡ speaker (seen self.now) end.0 }
     {
         let source = self.roster.source_for(end)?;
         self.maker_of(source)
@@ -187,31 +186,45 @@ impl Core {
 
     /// The agent that posts on a line of an end of this kind, where one does: for a port's line the
     /// running one that has the port at the other side.
-    pub(crate) fn poster_by(&self, end: EndId, kind: Kind, line: Line) -> Option<AgentId>
-        ensures { let ends = self.now.ends in
-            let cast = self.now.roster.cast in
-            result ≡ kept_poster_by self.now.agents ends cast end.0 kind line }
+    pub(crate) fn poster_by(
+        &self,
+        sender: Sender,
+        kind: Kind,
+        held_by: Option<AgentId>,
+    ) -> Option<AgentId>
+        requires { held_by ≡ ((seen self.now).line sender.end.0 sender.line.0).held_by }
+        ensures { result ≡ poster_of (seen self.now) sender (Some kind) }
     {
         match kind {
-            Kind::Port(peer) => self.running_holder(peer),
-            Kind::Client | Kind::Worker => self.running(line.held_by),
-            Kind::Member(_) => self.speaker(end),
+            Kind::Port(peer) if sender.line.0 == 0 => self.running_holder(peer),
+            Kind::Client | Kind::Worker => self.running(held_by),
+            Kind::Member(_) if sender.line.0 == 0 => self.speaker(sender.end),
+            Kind::Port(_) | Kind::Member(_) => None,
         }
     }
 
     /// The agent that posts on a line, where one does.
     pub(crate) fn poster_of(&self, sender: Sender) -> Option<AgentId>
-        ensures { let cast = self.now.roster.cast in
-            result ≡ kept_poster self.now.agents self.now.ends cast sender }
+        ensures { result ≡ poster (seen self.now) sender }
     {
-        let end = self.ends.get(sender.end.0 as usize)?;
-        let line = end.lines.get(sender.line)?;
-        self.poster_by(sender.end, end.kind, line)
+        let kind = self.kind_at(sender.end)?;
+        let line = self.line_at(sender.end, sender.line);
+        self.poster_by(sender, kind, line.held_by)
+    }
+
+    /// What is kept of a line. Where there is none it is one that has put nothing.
+    pub(crate) fn line_at(&self, end: EndId, line: LineId) -> Line
+        ensures { line_now (Some result) ≡ (seen self.now).line end.0 line.0 }
+    {
+        match self.ends.get(end.0 as usize) {
+            Some(end) => end.lines.get(line).unwrap_or(Line::FIRST),
+            None => Line::FIRST,
+        }
     }
 
     /// Whether an end has a place where it can be closed.
     pub(crate) fn is_here(&self, end: EndId) -> bool
-        ensures { result ≡ is_here (kept_place self.now.ends end.0) }
+        ensures { result ≡ is_here ((seen self.now).end end.0).place }
     {
         match self.ends.get(end.0 as usize) {
             Some(end) => end.place.is_here(),
@@ -221,7 +234,7 @@ impl Core {
 
     /// Whether the place of the port that posts on a line lets its poster put a notice.
     pub(crate) fn hears_notice(&self, sender: Sender) -> bool
-        ensures { result ≡ kept_hears self.now.ends sender }
+        ensures { result ≡ hears_notice (seen self.now) sender }
     {
         let Some(end) = self.ends.get(sender.end.0 as usize) else {
             return false;
@@ -234,7 +247,7 @@ impl Core {
 
     /// Whether a poster may enter: to post, or to put a notice alone.
     pub(crate) fn may_enter(&self, sender: Sender) -> bool
-        ensures { result ≡ core_may_enter self.now sender }
+        ensures { result ≡ may_enter (seen self.now) sender }
     {
         self.poster_of(sender).is_some() || self.hears_notice(sender)
     }

@@ -2,9 +2,10 @@
 
 ghost use Rattle.std.specs.Prelude.{◌≡◌, length, slice_get, IfOk, OnErr};
 ghost use Rattle.hub_core.specs.KeptRoster.{agent_roster};
-ghost use Rattle.hub_core.specs.Kept.{kept_running, kept_agent_answer, agents_made};
+ghost use Rattle.hub_core.specs.Kept.{kept_agent_answer, agents_made};
 ghost use Rattle.hub_core.specs.Kept.{kept_channel_answer, ends_made, count_of, kept_queue_answer};
 ghost use Rattle.hub_core.specs.CoreSteps.{queue_core};
+ghost use Rattle.hub_core.specs.Seen.{seen};
 
 use crate::agent::Agent;
 use crate::end::End;
@@ -45,7 +46,7 @@ impl Core {
         agent: AgentId,
         memory_refused: bool,
     ) -> Result<Outcome, OutOfMemory>
-        ensures outcome { let runs = kept_running self.old.agents agent.0 in
+        ensures outcome { let runs = ((seen self.old).agent agent.0).runs in
             let count = length self.old.ends in
             IfOk result (λ o. o ≡ kept_channel_answer runs count memory_refused) }
         ensures new { IfOk result (λ o. self.new ≡ record self.old {
@@ -81,11 +82,10 @@ impl Core {
         agent: AgentId,
         memory_refused: bool,
     ) -> Result<Outcome, OutOfMemory>
-        ensures outcome { let agents = self.old.agents in
-            let held = count_of kind (slice_get agents agent.0) in
+        ensures outcome { let runs = ((seen self.old).agent agent.0).runs in
+            let held = count_of kind (slice_get self.old.agents agent.0) in
             let count = length self.old.ends in
-            IfOk result (λ o. o
-            ≡ kept_queue_answer (kept_running agents agent.0) held count memory_refused) }
+            IfOk result (λ o. o ≡ kept_queue_answer runs held count memory_refused) }
         ensures new { IfOk result (λ o. self.new ≡ queue_core agent kind self.old o) }
         ensures err { OnErr result (self.new ≡ self.old) }
     {

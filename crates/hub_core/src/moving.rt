@@ -1,13 +1,13 @@
 //! Steps that move an end or close it: Adopt, Close and Hand.
 
-ghost use Rattle.std.specs.Prelude.{◌≡◌, length, slice_get, IfOk, OnErr};
-ghost use Rattle.hub_core.specs.Kept.{kept_running, kept_own_line, kept_released};
-ghost use Rattle.hub_core.specs.Kept.{kept_may_take_over, adopt_outcome_at, kept_may_close};
-ghost use Rattle.hub_core.specs.Kept.{close_outcome_at, hand_outcome_at};
+ghost use Rattle.std.specs.Prelude.{◌≡◌, slice_get, Some, IfOk, OnErr};
+ghost use Rattle.hub_core.specs.Kept.{adopt_outcome_at, close_outcome_at, hand_outcome_at};
+ghost use Rattle.hub_core.specs.Moving.{is_released, may_close, may_take_over};
+ghost use Rattle.hub_core.specs.Seen.{seen};
 ghost use Rattle.hub_core.specs.CoreSteps.{adopt_core, close_core, core_may_take_over, hand_core};
 
 use crate::kind::Kind;
-use crate::line::{Line, Phase};
+use crate::line::Phase;
 use crate::machine::Core;
 use crate::outcome::Outcome;
 use hub_envelope::{AgentId, EndId, LineId, OutOfMemory};
@@ -19,7 +19,7 @@ impl Core {
         agent: AgentId,
         memory_refused: bool,
     ) -> Result<Outcome, OutOfMemory>
-        ensures outcome { let runs = kept_running self.old.agents agent.0 in
+        ensures outcome { let runs = ((seen self.old).agent agent.0).runs in
             let found = slice_get self.old.ends end.0 in
             IfOk result (λ o. o ≡ adopt_outcome_at runs agent memory_refused found) }
         ensures new { IfOk result (λ o. self.new
@@ -44,8 +44,8 @@ impl Core {
     }
 
     pub(crate) fn close(&mut self, end: EndId) -> Outcome
-        ensures outcome { let ends = self.old.ends in
-            result ≡ close_outcome_at (kept_may_close ends end.0) (slice_get ends end.0) }
+        ensures outcome { let found = slice_get self.old.ends end.0 in
+            result ≡ close_outcome_at (may_close (seen self.old) end.0) found }
         ensures new { self.new ≡ close_core self.old end result }
     {
         let may = self.can_close(end);
@@ -62,7 +62,7 @@ impl Core {
     }
 
     pub(crate) fn can_close(&self, end: EndId) -> bool
-        ensures { result ≡ kept_may_close self.now.ends end.0 }
+        ensures { result ≡ may_close (seen self.now) end.0 }
     {
         let Some(found) = self.ends.get(end.0 as usize) else {
             return false;
@@ -72,22 +72,12 @@ impl Core {
 
     /// Whether an end of this kind is no port whose own poster is inside or being turned back.
     fn is_released(&self, kind: Kind) -> bool
-        ensures { result ≡ kept_released self.now.ends kind }
+        ensures { result ≡ is_released (seen self.now) (Some kind) }
     {
         let Kind::Port(peer) = kind else {
             return true;
         };
-        match self.own_line(peer) {
-            Some(line) => line.phase == Phase::Out,
-            None => false,
-        }
-    }
-
-    /// Line 0 of the port with which a port is entangled.
-    pub(crate) fn own_line(&self, peer: EndId) -> Option<Line>
-        ensures { result ≡ kept_own_line (slice_get self.now.ends peer.0) }
-    {
-        self.ends.get(peer.0 as usize)?.lines.get(LineId(0))
+        self.line_at(peer, LineId(0)).phase == Phase::Out
     }
 
     pub(crate) fn hand(&mut self, end: EndId, agent: AgentId) -> Outcome
@@ -110,7 +100,7 @@ impl Core {
 
     /// Whether an agent may take over what another one has.
     fn may_take_over(&self, agent: AgentId, holder: Option<AgentId>) -> bool
-        ensures { result ≡ kept_may_take_over (length self.now.agents) agent holder }
+        ensures { result ≡ may_take_over (seen self.now) agent holder }
     {
         match holder {
             Some(holder) => (agent.0 as usize) < self.agents.len() && holder != agent,

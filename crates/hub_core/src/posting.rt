@@ -1,14 +1,19 @@
 //! A post, in three steps and what goes with them: Enter, Push, Leave, Notice and Hop.
 
-ghost use Rattle.std.specs.Prelude.{◌≡◌, ◌<◌, ◌≤◌, length, slice_get, Some, IfOk, OnOk, OnErr};
-ghost use Rattle.hub_core.specs.Posting.{is_fitting, is_good};
+ghost use Rattle.std.specs.Prelude.{◌≡◌, ◌<◌, ◌≤◌, ◌&&◌, length, option_map, slice_get, Some};
+ghost use Rattle.std.specs.Prelude.{IfSome, IfOk, OnOk, OnErr};
+ghost use Rattle.std.specs.List.{list_all};
+ghost use Rattle.hub_core.specs.Made.{peer_of};
+ghost use Rattle.hub_core.specs.Posting.{is_distinct, is_fitting, is_good, listing_of, may_enter};
+ghost use Rattle.hub_core.specs.Posting.{is_at, may_leave_agent, own_line_plain, own_poster_out};
+ghost use Rattle.hub_core.specs.Seen.{seen};
+ghost use Rattle.hub_core.specs.Shows.{line_now};
 ghost use Rattle.hub_core.specs.Kept.{enter_outcome_at, enter_ends_at, leave_outcome_at};
-ghost use Rattle.hub_core.specs.Kept.{hop_outcome_at, kept_noticing, notice_outcome};
-ghost use Rattle.hub_core.specs.Kept.{kept_all_leave, kept_listing_to, kept_may_leave};
-ghost use Rattle.hub_core.specs.Kept.{kept_own_free, push_outcome, HasQueue};
+ghost use Rattle.hub_core.specs.Kept.{hop_outcome_at, kept_noticing, kept_posting, notice_outcome};
+ghost use Rattle.hub_core.specs.Kept.{posting_at, push_outcome, HasQueue};
 ghost use Rattle.hub_core.specs.Kept.{put_ends, accept_ends, moved_ends, end_moved};
-ghost use Rattle.hub_core.specs.CoreSteps.{core_may_enter, enter_core, leave_core, hop_core};
-ghost use Rattle.hub_core.specs.CoreSteps.{core_posting, push_core, notice_core};
+ghost use Rattle.hub_core.specs.CoreSteps.{enter_core, leave_core, hop_core, push_core};
+ghost use Rattle.hub_core.specs.CoreSteps.{notice_core};
 
 use crate::end::Place;
 use crate::kind::Kind;
@@ -17,11 +22,11 @@ use crate::listing::Listing;
 use crate::machine::Core;
 use crate::outcome::{Acceptance, Outcome};
 use crate::sender::Sender;
-use hub_envelope::{AgentId, Body, EndId, Envelope, Items, MAX_PORTS, OutOfMemory, Ports};
+use hub_envelope::{AgentId, Body, EndId, Envelope, Items, LineId, MAX_PORTS, OutOfMemory, Ports};
 
 impl Core {
     pub(crate) fn enter(&mut self, sender: Sender) -> Outcome
-        ensures outcome { let may = core_may_enter self.old sender in
+        ensures outcome { let may = may_enter (seen self.old) sender in
             result ≡ enter_outcome_at may sender.line.0 (slice_get self.old.ends sender.end.0) }
         ensures new { self.new ≡ enter_core self.old sender result }
     {
@@ -35,9 +40,9 @@ impl Core {
 
     /// The poster passes the gate or is turned back there; what is counted of its agent stays.
     fn pass_gate(&mut self, sender: Sender) -> Outcome
-        ensures outcome { let may = core_may_enter self.old sender in
+        ensures outcome { let may = may_enter (seen self.old) sender in
             result ≡ enter_outcome_at may sender.line.0 (slice_get self.old.ends sender.end.0) }
-        ensures new { let may = core_may_enter self.old sender in let ends = self.old.ends in
+        ensures new { let may = may_enter (seen self.old) sender in let ends = self.old.ends in
             self.new ≡ record self.old {
               ends = enter_ends_at may sender ends (slice_get ends sender.end.0);
             } }
@@ -69,7 +74,7 @@ impl Core {
     }
 
     pub(crate) fn hop(&mut self, sender: Sender) -> Outcome
-        ensures outcome { let may = core_may_enter self.old sender in
+        ensures outcome { let may = may_enter (seen self.old) sender in
             result ≡ hop_outcome_at may sender.line.0 (slice_get self.old.ends sender.end.0) }
         ensures new { self.new ≡ hop_core self.old sender }
     {
@@ -89,9 +94,9 @@ impl Core {
         body: Body,
         memory_refused: bool,
     ) -> Result<Outcome, OutOfMemory>
-        ensures outcome { let posting = core_posting self.old sender ports body memory_refused in
+        ensures outcome { let posting = kept_posting self.old sender ports body memory_refused in
             IfOk result (λ o. o ≡ push_outcome posting) }
-        ensures new { let posting = core_posting self.old sender ports body memory_refused in
+        ensures new { let posting = kept_posting self.old sender ports body memory_refused in
             OnOk result (self.new ≡ push_core self.old sender ports body posting) }
         ensures err { OnErr result (self.new ≡ self.old) }
     {
@@ -129,33 +134,41 @@ impl Core {
         body: &Body,
         memory_refused: bool,
     ) -> Result<(Line, AgentId), Outcome>
-        ensures answer { result ≡ core_posting self.now sender ports.now body.now memory_refused }
+        ensures answer { result ≡ kept_posting self.now sender ports.now body.now memory_refused }
         ensures few { OnOk result (length ports.now ≤ MAX_PORTS) }
         ensures there { IfOk result (λ p. (sender.end.0 < length self.now.ends)
             × HasQueue self.now.ends sender p.0) }
     {
-        let Some(end) = self.ends.get(sender.end.0 as usize) else {
+        let Some((kind, line)) = self.posting_line(sender) else {
             return Err(Outcome::NotNow);
         };
-        let Some(line) = end.posting_line(sender.line) else {
-            return Err(Outcome::NotNow);
-        };
-        let Some(agent) = self.poster_by(sender.end, end.kind, line) else {
+        let Some(agent) = self.poster_by(sender, kind, line.held_by) else {
             return Err(Outcome::NotNow);
         };
         if ports.len() > MAX_PORTS {
             return Err(Outcome::TooManyPorts);
         }
-        let source = end.kind.source();
-        if !self.is_good_list(sender.end, agent, source, ports)
-            || !self.is_fitting(end.kind, ports, body)
-        {
+        if !self.is_good_list(sender, kind, agent, ports) || !self.is_fitting(kind, ports, body) {
             return Err(Outcome::NotNow);
         }
         if memory_refused {
             return Err(Outcome::NoMemory);
         }
         Ok((line, agent))
+    }
+
+    /// The line, where its poster is inside and no notice was put, and what its end is.
+    fn posting_line(&self, sender: Sender) -> Option<(Kind, Line)>
+        ensures answer { result ≡ posting_at sender (slice_get self.now.ends sender.end.0) }
+        ensures there { IfSome result (λ p. (sender.end.0 < length self.now.ends)
+            × HasQueue self.now.ends sender p.1) }
+        ensures kind { IfSome result (λ p. ((seen self.now).end sender.end.0).kind ≡ Some p.0) }
+        ensures line { IfSome result (λ p. (seen self.now).line sender.end.0 sender.line.0
+            ≡ line_now (Some p.1)) }
+    {
+        let end = self.ends.get(sender.end.0 as usize)?;
+        let line = end.posting_line(sender.line)?;
+        Some((end.kind, line))
     }
 
     /// Whether a message may go to an end of this kind: to a broadcast channel only the body of the
@@ -175,9 +188,9 @@ impl Core {
         sender: Sender,
         memory_refused: bool,
     ) -> Result<Outcome, OutOfMemory>
-        ensures outcome { let noticing = kept_noticing self.old.ends sender memory_refused in
+        ensures outcome { let noticing = kept_noticing self.old sender memory_refused in
             IfOk result (λ o. o ≡ notice_outcome noticing) }
-        ensures new { let noticing = kept_noticing self.old.ends sender memory_refused in
+        ensures new { let noticing = kept_noticing self.old sender memory_refused in
             OnOk result (self.new ≡ notice_core self.old sender noticing) }
         ensures err { OnErr result (self.new ≡ self.old) }
     {
@@ -207,14 +220,11 @@ impl Core {
 
     /// The line, where its poster may put a notice now; or what the step is answered.
     fn noticing(&self, sender: Sender, memory_refused: bool) -> Result<Line, Outcome>
-        ensures answer { result ≡ kept_noticing self.now.ends sender memory_refused }
+        ensures answer { result ≡ kept_noticing self.now sender memory_refused }
         ensures there { IfOk result (λ line. (sender.end.0 < length self.now.ends)
             × HasQueue self.now.ends sender line) }
     {
-        let Some(end) = self.ends.get(sender.end.0 as usize) else {
-            return Err(Outcome::NotNow);
-        };
-        let Some(line) = end.posting_line(sender.line) else {
+        let Some((_, line)) = self.posting_line(sender) else {
             return Err(Outcome::NotNow);
         };
         if !self.hears_notice(sender) {
@@ -265,34 +275,29 @@ impl Core {
     /// Whether a message to an end may have these ports.
     // It is inlined, so that a post without ports makes no call.
     #[inline(always)]
-    fn is_good_list(
-        &self,
-        target: EndId,
-        agent: AgentId,
-        source: Option<EndId>,
-        ports: &[EndId],
-    ) -> bool
-        ensures { result
-            ≡ is_good (kept_listing_to self.now.ends target agent source ports.now) }
+    fn is_good_list(&self, sender: Sender, kind: Kind, agent: AgentId, ports: &[EndId]) -> bool
+        requires { ((seen self.now).end sender.end.0).kind ≡ Some kind }
+        ensures { let list = listing_of (seen self.now) sender ports.now (Some agent) in
+            result ≡ is_good list }
     {
-        ports.is_empty() || self.listing_to(target, agent, source, ports).is_good()
+        ports.is_empty() || self.listing_to(sender, kind, agent, ports).is_good()
     }
 
-    /// What a list of ports is to a message to an end from an agent that posts with the source, or
-    /// with no port.
+    /// What a list of ports is to a message of an agent on a line of an end of this kind.
     pub(crate) fn listing_to(
         &self,
-        target: EndId,
+        sender: Sender,
+        kind: Kind,
         agent: AgentId,
-        source: Option<EndId>,
         ports: &[EndId],
     ) -> Listing
-        ensures { result ≡ kept_listing_to self.now.ends target agent source ports.now }
+        requires { ((seen self.now).end sender.end.0).kind ≡ Some kind }
+        ensures { result ≡ listing_of (seen self.now) sender ports.now (Some agent) }
     {
-        if !self.may_all_leave(agent, source, ports) {
+        if !self.may_all_leave(sender, kind.source(), agent, ports) {
             return Listing::Bad;
         }
-        if ports.contains(&target) {
+        if ports.contains(&sender.end) {
             Listing::HoldsTarget
         } else {
             Listing::Good
@@ -300,38 +305,49 @@ impl Core {
     }
 
     /// Whether these are distinct ports that may leave an agent.
-    fn may_all_leave(&self, agent: AgentId, source: Option<EndId>, ports: &[EndId]) -> bool
-        ensures { result ≡ kept_all_leave self.now.ends agent source ports.now }
+    fn may_all_leave(
+        &self,
+        sender: Sender,
+        source: Option<EndId>,
+        agent: AgentId,
+        ports: &[EndId],
+    ) -> bool
+        requires { option_map (λ q. q.0) source
+            ≡ peer_of ((seen self.now).end sender.end.0).kind }
+        ensures { result ≡ (is_distinct ports.now
+            && list_all (may_leave_agent (seen self.now) agent sender) ports.now) }
     {
         for (i, port) in ports.iter().enumerate() {
-            if ports[i + 1..].contains(port) || !self.may_leave(agent, source, *port) {
+            if ports[i + 1..].contains(port) || !self.may_leave(sender, source, agent, *port) {
                 return false;
             }
         }
         true
     }
 
-    /// Whether a port may leave an agent that posts with another one, the source, or with none.
-    fn may_leave(&self, agent: AgentId, source: Option<EndId>, port: EndId) -> bool
-        ensures { result ≡ kept_may_leave self.now.ends agent source port }
+    /// Whether a port may leave an agent that posts on a line with another one, the source, or
+    /// with none.
+    fn may_leave(&self, sender: Sender, source: Option<EndId>, agent: AgentId, port: EndId) -> bool
+        requires { option_map (λ q. q.0) source
+            ≡ peer_of ((seen self.now).end sender.end.0).kind }
+        ensures { result ≡ may_leave_agent (seen self.now) agent sender port }
     {
         let Some(end) = self.ends.get(port.0 as usize) else {
             return false;
         };
-        end.place == Place::With(agent) && self.is_free(end.kind) && source != Some(port)
+        end.place.is_with(agent) && self.is_free(end.kind) && !is_port(port, source)
     }
 
     /// Whether an end of this kind is a port whose own poster is out, with no notice of it.
     fn is_free(&self, kind: Kind) -> bool
-        ensures { result ≡ kept_own_free self.now.ends kind }
+        ensures { let peer = peer_of (Some kind) in
+            result ≡ (own_poster_out (seen self.now) peer && own_line_plain (seen self.now) peer) }
     {
         let Kind::Port(peer) = kind else {
             return false;
         };
-        match self.own_line(peer) {
-            Some(line) => line.phase == Phase::Out && !line.has_noticed,
-            None => false,
-        }
+        let line = self.line_at(peer, LineId(0));
+        line.phase == Phase::Out && !line.has_noticed
     }
 
     /// Gives each listed port a new place.
@@ -352,5 +368,15 @@ impl Core {
         if let Some(end) = self.ends.get_mut(port.0 as usize) {
             end.place = place;
         }
+    }
+}
+
+/// Whether the port is this one, where there is one.
+fn is_port(port: EndId, other: Option<EndId>) -> bool
+    ensures { result ≡ is_at port.0 (option_map (λ q. q.0) other) }
+{
+    match other {
+        Some(other) => port == other,
+        None => false,
     }
 }

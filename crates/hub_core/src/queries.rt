@@ -1,12 +1,12 @@
 //! What a core may be asked: it answers and changes nothing.
 
-ghost use Rattle.std.specs.Prelude.{◌≡◌, length, option_map, slice_get};
+ghost use Rattle.std.specs.Prelude.{◌≡◌};
 ghost use Rattle.hub_core.specs.Facts.{facts};
 ghost use Rattle.hub_core.specs.History.{History};
-ghost use Rattle.hub_core.specs.Kept.{kept_may_post, kept_listing};
 ghost use Rattle.hub_core.specs.Made.{kind};
 ghost use Rattle.hub_core.specs.Moving.{may_close};
 ghost use Rattle.hub_core.specs.Posting.{may_post, listing};
+ghost use Rattle.hub_core.specs.Seen.{seen};
 ghost use Rattle.hub_core.specs.Shows.{Shows};
 
 use crate::kind::Kind;
@@ -26,15 +26,9 @@ impl Core {
     }
 
     fn can_post(&self, sender: Sender) -> bool
-        ensures { let cast = self.now.roster.cast in
-            result ≡ kept_may_post self.now.agents self.now.ends cast sender }
+        ensures { result ≡ may_post (seen self.now) sender }
     {
-        let Some(end) = self.ends.get(sender.end.0 as usize) else {
-            return false;
-        };
-        let Some(line) = end.lines.get(sender.line) else {
-            return false;
-        };
+        let line = self.line_at(sender.end, sender.line);
         self.poster_of(sender).is_some() && line.phase == Phase::Out && !line.has_noticed
     }
 
@@ -47,17 +41,15 @@ impl Core {
     }
 
     fn kind_of_list(&self, sender: Sender, ports: &[EndId]) -> Listing
-        ensures { let ends = self.now.ends in
-            let cast = self.now.roster.cast in
-            result ≡ kept_listing self.now.agents ends cast sender ports.now }
+        ensures { result ≡ listing (seen self.now) sender ports.now }
     {
-        let Some(end) = self.ends.get(sender.end.0 as usize) else {
+        let Some(kind) = self.kind_at(sender.end) else {
             return Listing::Bad;
         };
         let Some(agent) = self.poster_of(sender) else {
             return Listing::Bad;
         };
-        self.listing_to(sender.end, agent, end.kind.source(), ports)
+        self.listing_to(sender, kind, agent, ports)
     }
 
     /// What an end is, where there is one.
@@ -68,7 +60,7 @@ impl Core {
     }
 
     pub(crate) fn kind_at(&self, end: EndId) -> Option<Kind>
-        ensures { result ≡ option_map (λ x. x.kind) (slice_get self.now.ends end.0) }
+        ensures { result ≡ ((seen self.now).end end.0).kind }
     {
         Some(self.ends.get(end.0 as usize)?.kind)
     }

@@ -1,7 +1,9 @@
 //! Steps of whoever takes: Start and Take.
 
 ghost use Rattle.std.specs.Prelude.{◌≡◌, slice_get};
-ghost use Rattle.hub_core.specs.Kept.{kept_holder, start_outcome, TakeLeaves};
+ghost use Rattle.hub_core.specs.Kept.{start_outcome, TakeLeaves};
+ghost use Rattle.hub_core.specs.Posting.{holder};
+ghost use Rattle.hub_core.specs.Seen.{seen};
 ghost use Rattle.hub_core.specs.CoreSteps.{start_core};
 
 use crate::end::Place;
@@ -12,8 +14,7 @@ use hub_envelope::EndId;
 impl Core {
     pub(crate) fn start(&mut self, end: EndId) -> Outcome
         ensures outcome { let ends = self.old.ends in
-            let holder = kept_holder self.old.agents ends end.0 in
-            result ≡ start_outcome holder (slice_get ends end.0) }
+            result ≡ start_outcome (holder (seen self.old) end.0) (slice_get ends end.0) }
         ensures new { self.new ≡ start_core self.old end }
     {
         let at = end.0 as usize;
@@ -32,8 +33,8 @@ impl Core {
 
     pub(crate) fn take(&mut self, end: EndId) -> Outcome
         ensures ends { let ends = self.old.ends in
-            let holder = kept_holder self.old.agents ends end.0 in
-            TakeLeaves holder end.0 ends (slice_get ends end.0) result self.new.ends }
+            let by = holder (seen self.old) end.0 in
+            TakeLeaves by end.0 ends (slice_get ends end.0) result self.new.ends }
         ensures rest { self.new ≡ record self.old { ends = self.new.ends } }
     {
         let at = end.0 as usize;

@@ -1,6 +1,6 @@
 -- A cast that passes each test goes to the members of its group.
 use Rattle.std.proofs.Common.{◌≡◌, sym, ◌∙◌, ap, eqb, length}
-use Rattle.std.specs.Prelude.{is_some}
+use Rattle.std.specs.Prelude.{is_some, not}
 use Rattle.hub_core.specs.declared.outcome.Outcome.TheVariants as outcome
 use Rattle.hub_core.proofs.Broadcasts.{cast_goes, none_listed}
 use Rattle.hub_core.proofs.machine.Core.cast.Goals as goal
@@ -9,5 +9,5 @@ pub returns-clause-outcome : goal.returns-clause-outcome
 returns-clause-outcome c =
     let same : c.self.inside.roster ≡ c.args.self.now.roster = ap (λ s. s.roster) c.self.view_is in
     ap (λ ends. outcome.Destinations ends) c.of-2.ensures
-    ∙ cast_goes _ _ _ _ _ _ _ _ (sym (ap is_some c.maker_of.ensures) ∙ c.if-is_none.ensures) (sym (rw same at c.is_casting.ensures) ∙ c.if-is_casting.false) (sym (rw same at c.has.ensures) ∙ c.if-not-has.false) (sym c.is_open.ensures ∙ c.if-not-is_open.false) (sym (ap is_some c.running_holder.ensures) ∙ c.if-is_none-2.ensures)
+    ∙ cast_goes _ _ _ _ _ _ _ _ (sym (ap is_some c.maker_of.ensures) ∙ c.if-is_none.ensures) (sym (rw same at c.is_casting.ensures) ∙ c.if-is_casting.false) (sym (rw same at c.has.ensures) ∙ c.if-not-has.false) (ap not (sym c.is_closed.ensures ∙ c.if-is_closed.false)) (sym (ap is_some c.running_holder.ensures) ∙ c.if-is_none-2.ensures)
     (none_listed c.args.ports (ap (λ ps. eqb (length ps) 0) (sym c.as_slice.ensures) ∙ sym c.is_empty.ensures ∙ c.if-not-is_empty.false)) (rw same at c.in_ok-ends.ensures)

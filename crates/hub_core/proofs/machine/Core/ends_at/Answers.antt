@@ -3,7 +3,11 @@ use Rattle.std.proofs.Common.{◌≡◌, ℕ, suc, ◌+◌, cond, List, [], ◌�
 use Rattle.std.specs.List.{slice_get}
 use Rattle.std.proofs.lemmas.Option.{slice_get_read}
 use Rattle.hub_core.specs.declared.end.End.{End}
-use Rattle.hub_core.specs.KeptEnding.{is_kept_at, kept_ends_at}
+use Rattle.std.specs.Prelude.{Bool, ◌||◌, Option}
+use Rattle.hub_core.specs.Ending.{ends_below}
+use Rattle.hub_core.specs.Moving.{is_arrived}
+use Rattle.hub_core.specs.Posting.{is_with}
+use Rattle.hub_core.specs.Shows.{end_now}
 use Rattle.hub_core.proofs.machine.Core.ends_at.Goals as goal
 
 pub loop-number-preserved : goal.loop-number-preserved
@@ -13,8 +17,9 @@ loop-number-preserved c =
     let next_one : n + 1 ≡ suc n = omega arith in
     let same : c.deref-end-items.result.now ≡ ends = c.deref-end-items.ensures.value ∙ ap (λ s. s.ends) c.self.view_is in
     let at : slice_get ends n ≡ Some c.end-item.result = ap (λ xs. slice_get xs n) (sym same) ∙ slice_get_read c.deref-end-items.result.now (length c.deref-end-items.result.now) n c.end-item.result refl c.loop-number-test.true c.end-item.is in
-    let found : is_kept_at c.args.agent (slice_get ends n) ≡ c.is_at.result = ap (is_kept_at c.args.agent) at ∙ sym c.is_at.ensures in
+    let is_at : Option End → Bool = λ o. is_with c.args.agent (end_now o).place || is_arrived c.args.agent (end_now o).place in
+    let found : is_at (slice_get ends n) ≡ c.is_at.result = ap is_at at ∙ sym c.is_at.ensures in
     c.in_ok-add_where.ensures
     ∙ ap (λ es. es ++ cond c.is_at.result (record { 0 = n } ∷ []) []) c.loop-number.invariant
-    ∙ ap (λ b. kept_ends_at c.args.agent ends n ++ cond b (record { 0 = n } ∷ []) []) (sym found)
-    ∙ ap (kept_ends_at c.args.agent ends) (sym next_one)
+    ∙ ap (λ b. ends_below (λ x. is_at (slice_get ends x)) n ++ cond b (record { 0 = n } ∷ []) []) (sym found)
+    ∙ ap (ends_below (λ x. is_at (slice_get ends x))) (sym next_one)

@@ -1,8 +1,10 @@
 -- The line that is kept is the one of the history.
-use Rattle.std.proofs.Common.{◌∙◌}
-use Rattle.hub_core.specs.Facts.{facts}
-use Rattle.hub_core.proofs.Holders.{line_kept}
+use Rattle.std.proofs.Common.{◌∙◌, ap, sym}
+use Rattle.std.specs.Prelude.{option_map}
+use Rattle.hub_core.specs.declared.sender.Sender.{Sender}
+use Rattle.hub_core.specs.Facts.{EndNow}
+use Rattle.hub_core.specs.Made.{peer_of}
 use Rattle.hub_core.proofs.machine.Core.sender_of.Goals as goal
 
 pub returns : goal.returns
-returns c = λ h s. c.line_held_by.ensures ∙ line_kept c.args.self.now.agents c.args.self.now.ends (facts h) c.args.port.0 s.0
+returns c = λ h s. c.line_held_by.ensures ∙ ap (λ (x : EndNow). option_map (λ q. let t : Sender = record { end = record { 0 = q }; line = record { 0 = 0 } } in t) (peer_of x.kind)) (sym (s.0.end c.args.port.0).same)

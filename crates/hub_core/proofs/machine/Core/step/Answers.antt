@@ -1,8 +1,7 @@
 -- Each arm of a step: what the family did to the core is what the facts say.
 use Rattle.std.proofs.Common.{refl, ap, ◌∙◌}
 use Rattle.hub_core.specs.CoreSteps.{queue_core, line_core, back_core, enter_core, hop_core, push_core, notice_core, start_core, look_core, sweep_core, adopt_core, close_core, hand_core}
-use Rattle.hub_core.specs.CoreSteps.{core_posting}
-use Rattle.hub_core.specs.Kept.{ends_made, kept_noticing}
+use Rattle.hub_core.specs.Kept.{ends_made, kept_noticing, kept_posting}
 use Rattle.hub_core.specs.KeptEnding.{order_agents, see_agents}
 use Rattle.hub_core.specs.declared.kind.Kind.TheVariants.{Client, Worker}
 use Rattle.hub_core.specs.declared.step.Action.TheVariants as action
@@ -44,98 +43,98 @@ returns-in-Leave c = told c.args.step (action.Leave c.in-Leave.sender) _ _ (ok c
 
 pub returns-in-Channel : goal.returns-in-Channel
 returns-in-Channel c = told c.args.step (action.Channel c.in-Channel.agent) _ _ _ c.in-Channel.is (ok_both c.make_channel.result _ _ _ c.make_channel.ensures.outcome c.make_channel.ensures.new (λ o is leaves. took _ _ _ _ _ _ _ is (leaves ∙ ap (λ p. with_ends c.args.self.now (ends_made c.in-Channel.agent c.args.self.now.ends p)) is) refl refl
-    (λ f s cast. channel_shown _ _ f c.in-Channel.agent _ s)
+    (λ f s. channel_shown c.args.self.now f c.in-Channel.agent _ s)
     (λ h. ap (with_ends c.args.self.now) (channel_same _ _ _ h))))
     (same_err (action.Channel c.in-Channel.agent) c.make_channel.result _ _ refl c.make_channel.ensures.err)
 
 pub returns-in-Client : goal.returns-in-Client
 returns-in-Client c = told c.args.step (action.Client c.in-Client.agent) _ _ _ c.in-Client.is (ok_both c.make_queue.result _ _ _ c.make_queue.ensures.outcome c.make_queue.ensures.new (λ o is leaves. took _ _ _ _ _ _ _ is (leaves ∙ ap (queue_core c.in-Client.agent Client c.args.self.now) is) refl refl
-    (λ f s cast. queue_shown _ _ f _ (makes_client c.in-Client.agent) s)
+    (λ f s. queue_shown c.args.self.now f _ (makes_client c.in-Client.agent) s)
     (λ h. client_same _ _ _ h)))
     (same_err (action.Client c.in-Client.agent) c.make_queue.result _ _ refl c.make_queue.ensures.err)
 
 pub returns-in-Worker : goal.returns-in-Worker
 returns-in-Worker c = told c.args.step (action.Worker c.in-Worker.agent) _ _ _ c.in-Worker.is (ok_both c.make_queue-in-Worker.result _ _ _ c.make_queue-in-Worker.ensures.outcome c.make_queue-in-Worker.ensures.new (λ o is leaves. took _ _ _ _ _ _ _ is (leaves ∙ ap (queue_core c.in-Worker.agent Worker c.args.self.now) is) refl refl
-    (λ f s cast. queue_shown _ _ f _ (makes_worker c.in-Worker.agent) s)
+    (λ f s. queue_shown c.args.self.now f _ (makes_worker c.in-Worker.agent) s)
     (λ h. worker_same _ _ _ h)))
     (same_err (action.Worker c.in-Worker.agent) c.make_queue-in-Worker.result _ _ refl c.make_queue-in-Worker.ensures.err)
 
 pub returns-in-Line : goal.returns-in-Line
 returns-in-Line c = told c.args.step (action.Line c.in-Line.end c.in-Line.agent) _ _ (ok c.hold.result) c.in-Line.is (took _ _ _ _ (line_core c.args.self.now c.in-Line.end c.in-Line.agent) _ _ c.hold.ensures.outcome c.hold.ensures.new refl refl
-    (λ f s cast. line_shown _ _ f c.in-Line.end c.in-Line.agent _ s)
+    (λ f s. line_shown c.args.self.now f c.in-Line.end c.in-Line.agent _ s)
     (λ h. ap (with_ends c.args.self.now) (line_same _ _ c.in-Line.agent _ _ refl h))) tt
 
 pub returns-in-Back : goal.returns-in-Back
 returns-in-Back c = told c.args.step (action.Back c.in-Back.sender) _ _ (ok c.give_back.result) c.in-Back.is (took _ _ _ _ (back_core c.args.self.now c.in-Back.sender) _ _ c.give_back.ensures.outcome c.give_back.ensures.new refl refl
-    (λ f s cast. back_shown _ _ f c.in-Back.sender _ s)
+    (λ f s. back_shown _ _ f c.in-Back.sender _ s.shows)
     (λ h. ap (with_ends c.args.self.now) (back_same _ _ _ refl h))) tt
 
 pub returns-in-Hop : goal.returns-in-Hop
 returns-in-Hop c = told c.args.step (action.Hop c.in-Hop.sender) _ _ (ok c.hop.result) c.in-Hop.is (took _ _ _ _ (hop_core c.args.self.now c.in-Hop.sender) _ _ c.hop.ensures.outcome c.hop.ensures.new refl refl
-    (λ f s cast. hop_shown _ _ f _ c.in-Hop.sender _ s cast)
+    (λ f s. hop_shown c.args.self.now f c.in-Hop.sender _ s)
     (λ h. ap (with_ends c.args.self.now) (hop_same _ _ _ _ refl h))) tt
 
 pub returns-in-Start : goal.returns-in-Start
 returns-in-Start c = told c.args.step (action.Start c.in-Start.end) _ _ (ok c.start.result) c.in-Start.is (took _ _ _ _ (start_core c.args.self.now c.in-Start.end) _ _ c.start.ensures.outcome c.start.ensures.new refl refl
-    (λ f s cast. start_shown _ _ f c.in-Start.end _ s)
+    (λ f s. start_shown c.args.self.now f c.in-Start.end _ s)
     (λ h. ap (with_ends c.args.self.now) (start_same _ _ _ _ h))) tt
 
 pub returns-in-Look : goal.returns-in-Look
 returns-in-Look c = told c.args.step (action.Look c.in-Look.end) _ _ (ok c.look.result) c.in-Look.is (took _ _ _ _ (look_core c.args.self.now c.in-Look.end) _ _ c.look.ensures.outcome c.look.ensures.new refl refl
-    (λ f s cast. look_shown _ _ f c.in-Look.end _ s)
+    (λ f s. look_shown _ _ f c.in-Look.end _ s.shows)
     (λ h. ap (with_ends c.args.self.now) (look_same _ _ _ refl h))) tt
 
 pub returns-in-Order : goal.returns-in-Order
 returns-in-Order c = told c.args.step (action.Order c.in-Order.agent) _ _ (ok c.order.result) c.in-Order.is (took _ _ _ _ (with_agents c.args.self.now (order_agents c.in-Order.agent.0 c.args.self.now.agents)) _ _ c.order.ensures.outcome c.order.ensures.new refl refl
-    (λ f s cast. order_shown _ _ f c.in-Order.agent _ s)
+    (λ f s. order_shown _ _ f c.in-Order.agent _ s.shows)
     (λ h. ap (with_agents c.args.self.now) (order_same _ c.in-Order.agent h))) tt
 
 pub returns-in-Enter : goal.returns-in-Enter
 returns-in-Enter c = told c.args.step (action.Enter c.in-Enter.sender) _ _ (ok c.enter.result) c.in-Enter.is (took _ _ _ _ _ _ _ c.enter.ensures.outcome (c.enter.ensures.new ∙ ap (enter_core c.args.self.now c.in-Enter.sender) c.enter.ensures.outcome) refl refl
-    (λ f s cast. enter_shown _ _ f _ c.in-Enter.sender _ s cast)
+    (λ f s. enter_shown c.args.self.now f c.in-Enter.sender _ s)
     (λ h. both_same _ (enter_agents_same _ _ c.in-Enter.sender _ h) (enter_same _ _ _ _ refl h))) tt
 
 pub returns-in-Close : goal.returns-in-Close
 returns-in-Close c = told c.args.step (action.Close c.in-Close.end) _ _ (ok c.close.result) c.in-Close.is (took _ _ _ _ _ _ _ c.close.ensures.outcome (c.close.ensures.new ∙ ap (close_core c.args.self.now c.in-Close.end) c.close.ensures.outcome) refl refl
-    (λ f s cast. close_shown _ _ f c.in-Close.end _ s)
+    (λ f s. close_shown c.args.self.now f c.in-Close.end _ s)
     (λ h. both_same _ (close_agents_same _ c.in-Close.end _ _ h) (close_same _ _ _ _ refl h))) tt
 
 pub returns-in-Hand : goal.returns-in-Hand
 returns-in-Hand c = told c.args.step (action.Hand c.in-Hand.end c.in-Hand.agent) _ _ (ok c.hand.result) c.in-Hand.is (took _ _ _ _ _ _ _ c.hand.ensures.outcome (c.hand.ensures.new ∙ ap (hand_core c.args.self.now c.in-Hand.end c.in-Hand.agent) c.hand.ensures.outcome) refl refl
-    (λ f s cast. hand_shown _ _ f c.in-Hand.end c.in-Hand.agent _ s)
+    (λ f s. hand_shown c.args.self.now f c.in-Hand.end c.in-Hand.agent _ s)
     (λ h. both_same _ (hand_agents_same _ c.in-Hand.end c.in-Hand.agent _ _ h) (hand_same _ _ c.in-Hand.agent _ _ refl h))) tt
 
 pub returns-in-Adopt : goal.returns-in-Adopt
 returns-in-Adopt c = told c.args.step (action.Adopt c.in-Adopt.end c.in-Adopt.agent) _ _ _ c.in-Adopt.is (ok_both c.adopt.result _ _ _ c.adopt.ensures.outcome c.adopt.ensures.new (λ o is leaves. took _ _ _ _ _ _ _ is (leaves ∙ ap (adopt_core c.args.self.now c.in-Adopt.end c.in-Adopt.agent c.args.step.memory_refused) is) refl refl
-    (λ f s cast. adopt_shown _ _ f c.in-Adopt.end c.in-Adopt.agent _ s)
+    (λ f s. adopt_shown c.args.self.now f c.in-Adopt.end c.in-Adopt.agent _ s)
     (λ h. both_same _ (adopt_agents_same _ _ c.in-Adopt.end c.in-Adopt.agent _ _ h) (adopt_same _ _ c.in-Adopt.agent _ _ _ refl h))))
     (same_err (action.Adopt c.in-Adopt.end c.in-Adopt.agent) c.adopt.result _ _ refl c.adopt.ensures.err)
 
 pub returns-in-Push : goal.returns-in-Push
-returns-in-Push c = told c.args.step (action.Push c.in-Push.sender c.in-Push.ports c.in-Push.body) _ _ _ c.in-Push.is (ok_both c.push.result _ _ _ c.push.ensures.outcome c.push.ensures.new (λ o is leaves. took _ _ _ _ (push_core c.args.self.now c.in-Push.sender c.in-Push.ports c.in-Push.body (core_posting c.args.self.now c.in-Push.sender c.in-Push.ports c.in-Push.body c.args.step.memory_refused)) _ _ is leaves refl refl
-    (λ f s cast. push_shown _ _ f _ c.in-Push.sender c.in-Push.ports c.in-Push.body _ s cast)
+returns-in-Push c = told c.args.step (action.Push c.in-Push.sender c.in-Push.ports c.in-Push.body) _ _ _ c.in-Push.is (ok_both c.push.result _ _ _ c.push.ensures.outcome c.push.ensures.new (λ o is leaves. took _ _ _ _ (push_core c.args.self.now c.in-Push.sender c.in-Push.ports c.in-Push.body (kept_posting c.args.self.now c.in-Push.sender c.in-Push.ports c.in-Push.body c.args.step.memory_refused)) _ _ is leaves refl refl
+    (λ f s. push_shown c.args.self.now f c.in-Push.sender c.in-Push.ports c.in-Push.body _ s)
     (λ h. ap (with_ends c.args.self.now) (push_same _ c.in-Push.sender c.in-Push.ports c.in-Push.body _ h))))
     (same_err (action.Push c.in-Push.sender c.in-Push.ports c.in-Push.body) c.push.result _ _ refl c.push.ensures.err)
 
 pub returns-in-Notice : goal.returns-in-Notice
-returns-in-Notice c = told c.args.step (action.Notice c.in-Notice.sender) _ _ _ c.in-Notice.is (ok_both c.notice.result _ _ _ c.notice.ensures.outcome c.notice.ensures.new (λ o is leaves. took _ _ _ _ (notice_core c.args.self.now c.in-Notice.sender (kept_noticing c.args.self.now.ends c.in-Notice.sender c.args.step.memory_refused)) _ _ is leaves refl refl
-    (λ f s cast. notice_shown _ _ f c.in-Notice.sender _ s)
+returns-in-Notice c = told c.args.step (action.Notice c.in-Notice.sender) _ _ _ c.in-Notice.is (ok_both c.notice.result _ _ _ c.notice.ensures.outcome c.notice.ensures.new (λ o is leaves. took _ _ _ _ (notice_core c.args.self.now c.in-Notice.sender (kept_noticing c.args.self.now c.in-Notice.sender c.args.step.memory_refused)) _ _ is leaves refl refl
+    (λ f s. notice_shown c.args.self.now f c.in-Notice.sender _ s)
     (λ h. ap (with_ends c.args.self.now) (notice_same _ c.in-Notice.sender _ h))))
     (same_err (action.Notice c.in-Notice.sender) c.notice.result _ _ refl c.notice.ensures.err)
 
 pub returns-in-Sweep : goal.returns-in-Sweep
 returns-in-Sweep c = told c.args.step (action.Sweep c.in-Sweep.end) _ _ _ c.in-Sweep.is (ok_both c.sweep.result _ _ _ c.sweep.ensures.outcome c.sweep.ensures.new (λ o is leaves. took _ _ _ _ (sweep_core c.args.self.now c.in-Sweep.end) _ _ is leaves refl refl
-    (λ f s cast. sweep_shown _ _ f c.in-Sweep.end _ s)
+    (λ f s. sweep_shown _ _ f c.in-Sweep.end _ s.shows)
     (λ h. ap (with_ends c.args.self.now) (sweep_same _ c.in-Sweep.end _ refl h))))
     (same_err (action.Sweep c.in-Sweep.end) c.sweep.result _ _ refl c.sweep.ensures.err)
 
 pub returns-in-See : goal.returns-in-See
 returns-in-See c = told c.args.step (action.See c.in-See.agent) _ _ _ c.in-See.is (ok_both c.see.result _ _ _ c.see.ensures.outcome c.see.ensures.new (λ o is leaves. took _ _ _ _ _ _ _ is (leaves ∙ ap (λ p. with_agents c.args.self.now (see_agents c.in-See.agent.0 c.args.self.now.agents p)) is) refl refl
-    (λ f s cast. see_shown _ _ f c.in-See.agent _ s)
+    (λ f s. see_shown c.args.self.now f c.in-See.agent _ s)
     (λ h. ap (with_agents c.args.self.now) (see_same _ c.in-See.agent _ h))))
     (same_err (action.See c.in-See.agent) c.see.result _ _ refl c.see.ensures.err)
 
 pub returns-in-Take : goal.returns-in-Take
 returns-in-Take c = told c.args.step (action.Take c.in-Take.end) _ _ (ok c.take.result) c.in-Take.is (took _ _ _ _ (with_ends c.args.self.now c.take.new.self.ends) _ _ refl c.take.ensures.rest refl refl
-    (λ f s cast. take_shown _ _ _ f c.in-Take.end _ _ s c.take.ensures.ends)
+    (λ f s. take_shown c.args.self.now _ f c.in-Take.end _ _ s c.take.ensures.ends)
     (λ h. ap (with_ends c.args.self.now) (take_same _ _ c.in-Take.end _ _ _ refl c.take.ensures.ends h))) tt

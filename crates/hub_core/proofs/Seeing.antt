@@ -1,0 +1,142 @@
+-- What the core keeps, seen as facts, answers as the facts do that it shows.
+use Rattle.std.proofs.Common.{◌≡◌, Bool, false, cond, List, [], Option, Some, None, refl, sym, ap, ◌∙◌, ℕ}
+use Rattle.std.specs.Prelude.{is_some, not, ◌||◌, ◌&&◌, ◌==◌}
+use Rattle.std.specs.List.{list_all}
+use Rattle.hub_envelope.specs.declared.ids.AgentId.{AgentId}
+use Rattle.hub_envelope.specs.declared.ids.EndId.{EndId}
+use Rattle.hub_core.specs.declared.kind.Kind.{Kind}
+use Rattle.hub_core.specs.declared.kind.Kind.TheVariants.{Port, Client, Worker, Member}
+use Rattle.hub_core.specs.declared.line.Line.{Line}
+use Rattle.hub_core.specs.declared.listing.Listing.TheVariants.{Good, HoldsTarget, Bad}
+use Rattle.hub_core.specs.declared.sender.Sender.{Sender}
+use Rattle.hub_core.specs.CoreState.{CoreState}
+use Rattle.hub_core.specs.CoreSteps.{core_may_take_over}
+use Rattle.hub_core.specs.Facts.{Facts}
+use Rattle.hub_core.specs.Kept.{kept_posting_by, kept_posting_line}
+use Rattle.hub_core.specs.KeptEnding.{owner_by, owner}
+use Rattle.hub_core.specs.Made.{peer_of}
+use Rattle.hub_core.specs.Moving.{is_released, may_close, may_take_over}
+use Rattle.hub_core.specs.Place.{names}
+use Rattle.hub_core.specs.Posting.{holder, running, speaker_in, poster_of, poster, hears_notice, may_enter, is_here, is_with, is_at, own_poster_out, own_line_plain, may_leave_agent, is_distinct, is_fitting, listing_of, listing, is_out, phase_of_line, may_post}
+use Rattle.hub_core.specs.Roster.{CastNow, no_roster}
+use Rattle.hub_core.specs.Seen.{seen}
+use Rattle.hub_core.specs.Shows.{ShowsFacts}
+
+-- the facts that a core keeps
+abbrev pub kept_part : Facts → Facts
+kept_part f = record {
+  agents = f.agents;
+  ends = f.ends;
+  agent = f.agent;
+  end = f.end;
+  line = f.line;
+  clear = λ x k. false;
+  accepted = λ x. [];
+  taken = λ x. [];
+  discarded = λ x. [];
+  roster = record no_roster { cast = f.roster.cast };
+}
+
+-- the core shows these facts, and its cast is theirs
+pub record Sees (c : CoreState) (f : Facts) : Type 0 where
+  pub shows : ShowsFacts c.agents c.ends f
+  pub cast : f.roster.cast ≡ c.roster.cast
+
+pub seen_is : (c : CoreState) (f : Facts) → Sees c f → seen c ≡ kept_part f
+seen_is c f h = λ i. record {
+  agents = sym h.shows.agents i;
+  ends = sym h.shows.ends i;
+  agent = λ a. sym (h.shows.agent a) i;
+  end = λ x. sym (h.shows.end x).same i;
+  line = λ x l. sym ((h.shows.end x).lines l) i;
+  clear = λ x k. false;
+  accepted = λ x. [];
+  taken = λ x. [];
+  discarded = λ x. [];
+  roster = record no_roster { cast = sym h.cast i };
+}
+
+-- ---- what doesn't read the other facts
+
+running_kept : (f : Facts) (q : Option AgentId) → running (kept_part f) q ≡ running f q
+running_kept f None = refl
+running_kept f (Some a) = refl
+
+speaker_kept : (f : Facts) (x : ℕ) (c : Option CastNow) → speaker_in (kept_part f) x c ≡ speaker_in f x c
+speaker_kept f x None = refl
+speaker_kept f x (Some c) = refl
+
+poster_kept : (f : Facts) (s : Sender) (k : Option Kind) → poster_of (kept_part f) s k ≡ poster_of f s k
+poster_kept f s (Some (Port q)) = refl
+poster_kept f s (Some Client) = running_kept f (f.line s.end.0 s.line.0).held_by
+poster_kept f s (Some Worker) = running_kept f (f.line s.end.0 s.line.0).held_by
+poster_kept f s (Some (Member a)) = ap (λ p. cond (s.line.0 == 0) p None) (speaker_kept f s.end.0 f.roster.cast)
+poster_kept f s None = refl
+
+owner_kept : (f : Facts) (s : Sender) (k : Option Kind) → owner_by (kept_part f) s k ≡ owner_by f s k
+owner_kept f s (Some (Port q)) = refl
+owner_kept f s (Some Client) = refl
+owner_kept f s (Some Worker) = refl
+owner_kept f s (Some (Member a)) = refl
+owner_kept f s None = refl
+
+released_kept : (f : Facts) (k : Option Kind) → is_released (kept_part f) k ≡ is_released f k
+released_kept f (Some (Port q)) = refl
+released_kept f (Some Client) = refl
+released_kept f (Some Worker) = refl
+released_kept f (Some (Member a)) = refl
+released_kept f None = refl
+
+take_over_kept : (f : Facts) (b : AgentId) (q : Option AgentId) → may_take_over (kept_part f) b q ≡ may_take_over f b q
+take_over_kept f b None = refl
+take_over_kept f b (Some a) = refl
+
+own_kept : (f : Facts) (q : Option ℕ) → (own_poster_out (kept_part f) q ≡ own_poster_out f q) × (own_line_plain (kept_part f) q ≡ own_line_plain f q)
+own_kept f None = (refl, refl)
+own_kept f (Some q) = (refl, refl)
+
+leave_kept : (f : Facts) (a : AgentId) (s : Sender) (p : EndId) → may_leave_agent (kept_part f) a s p ≡ may_leave_agent f a s p
+leave_kept f a s p = λ i. is_with a (f.end p.0).place && (own_kept f (peer_of (f.end p.0).kind)).0 i && (own_kept f (peer_of (f.end p.0).kind)).1 i && not (is_at p.0 (peer_of (f.end s.end.0).kind))
+
+listing_kept : (f : Facts) (s : Sender) (ports : List EndId) (q : Option AgentId) → listing_of (kept_part f) s ports q ≡ listing_of f s ports q
+listing_kept f s ports None = refl
+listing_kept f s ports (Some a) = ap (λ test. cond (not (is_distinct ports && list_all test ports)) Bad (cond (names ports s.end.0) HoldsTarget Good)) (λ i p. leave_kept f a s p i)
+
+posting_by_kept : (f : Facts) (s : Sender) (ports : List EndId) (fit refused : Bool) (y : Line) (q : Option AgentId) → kept_posting_by (kept_part f) s ports fit refused y q ≡ kept_posting_by f s ports fit refused y q
+posting_by_kept f s ports fit refused y None = refl
+posting_by_kept f s ports fit refused y (Some a) = rw (listing_kept f s ports (Some a)) refl
+
+posting_kept : (f : Facts) (s : Sender) (ports : List EndId) (body : List ℕ) (refused : Bool) (q : Option (Kind × Line)) → kept_posting_line (kept_part f) s ports body refused q ≡ kept_posting_line f s ports body refused q
+posting_kept f s ports body refused None = refl
+posting_kept f s ports body refused (Some p) =
+    ap (kept_posting_by (kept_part f) s ports (is_fitting f.roster.cast (Some p.0) ports body) refused p.1) (poster_kept f s (Some p.0))
+    ∙ posting_by_kept f s ports (is_fitting f.roster.cast (Some p.0) ports body) refused p.1 (poster_of f s (Some p.0))
+
+-- ---- what the core is asked
+
+pub poster_seen : (c : CoreState) (f : Facts) (s : Sender) → Sees c f → poster (seen c) s ≡ poster f s
+poster_seen c f s h = ap (λ g. poster g s) (seen_is c f h) ∙ poster_kept f s (f.end s.end.0).kind
+
+pub enter_seen : (c : CoreState) (f : Facts) (s : Sender) → Sees c f → may_enter (seen c) s ≡ may_enter f s
+enter_seen c f s h = ap (λ g. may_enter g s) (seen_is c f h) ∙ ap (λ p. is_some p || hears_notice f s) (poster_kept f s (f.end s.end.0).kind)
+
+pub owner_seen : (c : CoreState) (f : Facts) (s : Sender) → Sees c f → owner (seen c) s ≡ owner f s
+owner_seen c f s h = ap (λ g. owner g s) (seen_is c f h) ∙ owner_kept f s (f.end s.end.0).kind
+
+pub released_seen : (c : CoreState) (f : Facts) (e : ℕ) → Sees c f → is_released (seen c) ((seen c).end e).kind ≡ is_released f (f.end e).kind
+released_seen c f e h = ap (λ g. is_released g (g.end e).kind) (seen_is c f h) ∙ released_kept f (f.end e).kind
+
+pub close_seen : (c : CoreState) (f : Facts) (e : ℕ) → Sees c f → may_close (seen c) e ≡ may_close f e
+close_seen c f e h = ap (λ g. may_close g e) (seen_is c f h) ∙ ap (λ b. is_here (f.end e).place && b) (released_kept f (f.end e).kind)
+
+pub take_over_seen : (c : CoreState) (f : Facts) (e : EndId) (b : AgentId) → Sees c f → core_may_take_over c e b ≡ may_take_over f b (holder f e.0)
+take_over_seen c f e b h = ap (λ g. may_take_over g b (holder g e.0)) (seen_is c f h) ∙ take_over_kept f b (holder f e.0)
+
+pub posting_seen : (c : CoreState) (f : Facts) (s : Sender) (ports : List EndId) (body : List ℕ) (refused : Bool) (q : Option (Kind × Line)) → Sees c f → kept_posting_line (seen c) s ports body refused q ≡ kept_posting_line f s ports body refused q
+posting_seen c f s ports body refused q h = ap (λ g. kept_posting_line g s ports body refused q) (seen_is c f h) ∙ posting_kept f s ports body refused q
+
+pub listing_seen : (c : CoreState) (f : Facts) (s : Sender) (ports : List EndId) → Sees c f → listing (seen c) s ports ≡ listing f s ports
+listing_seen c f s ports h = ap (λ g. listing g s ports) (seen_is c f h) ∙ ap (listing_of (kept_part f) s ports) (poster_kept f s (f.end s.end.0).kind) ∙ listing_kept f s ports (poster f s)
+
+pub post_seen : (c : CoreState) (f : Facts) (s : Sender) → Sees c f → may_post (seen c) s ≡ may_post f s
+post_seen c f s h = ap (λ g. may_post g s) (seen_is c f h) ∙ ap (λ p. is_some p && is_out (phase_of_line f s) && not (f.line s.end.0 s.line.0).noticed) (poster_kept f s (f.end s.end.0).kind)
