@@ -23,10 +23,9 @@ use Rattle.hub_core.specs.Facts.{Facts, facts}
 use Rattle.hub_core.specs.Fits.{Answers}
 use Rattle.hub_core.specs.Roster.{CastNow, RosterNow, is_same_group, is_of_group, has_end, group_named, cast_to, cast_after}
 use Rattle.hub_core.specs.Sound.{Sound, SoundPlaces}
-use Rattle.hub_core.specs.Unchanged.{changes_nothing}
 use Rattle.hub_core.specs.Shows.{IsMemberNow, ShowsRoster}
 use Rattle.hub_core.specs.Casting.{destinations, destinations_of, is_casting, part_answer}
-use Rattle.hub_core.specs.KeptRoster.{agent_roster, IsFirst, JoinsGroup, MemberLeaves, PartLeaves, SameRoster, cast_left, cast_roster, group_of, is_in, is_seated_in, kept_destinations, numbers_of, numbers_with, origin_at, others_of, parted, seated_without}
+use Rattle.hub_core.specs.KeptRoster.{agent_roster, IsFirst, JoinsGroup, MemberLeaves, PartLeaves, SameRoster, cast_roster, group_of, is_in, is_seated_in, kept_destinations, numbers_of, numbers_with, origin_at, others_of, parted, seated_without}
 use Rattle.hub_core.proofs.Lists.{eqb_same, slice_get-append_front, slice_get-append_back, next_up}
 use Rattle.std.proofs.lemmas.Option.{slice_get_past}
 use Rattle.std.proofs.Common.{length-append}
@@ -60,13 +59,6 @@ same_members n r s same = record {
   };
   cast = ap (λ (t : Roster). t.cast) same;
 }
-
--- a Leave that changes nothing leaves the cast
-pub left_same : (t : Sender) (o : Outcome) (c : Option CastNow) → changes_nothing o (action.Leave t) ≡ true → cast_left t.end.0 o c ≡ c
-left_same t outcome.Left c h = absurd (false≢true h)
-left_same t (outcome.Clear None) c h = refl
-left_same t (outcome.Clear (Some k)) c h = refl
-left_same t o c h = refl
 
 -- ---- steps that leave the roster
 
@@ -161,8 +153,8 @@ stays_by f refused h fits (end_closed e) leaves = still f (next f (action.Close 
 stays_by f refused h fits (end_swept e vs) leaves = still f (next f (action.Sweep e) (outcome.Discarded vs)) refl refl (λ x. refl)
 
 stays : (f : Facts) (a : Action) (refused : Bool) (o : Outcome) → Sound f → Answers f a refused o → leaves_roster a ≡ true → Stays f (next f a o)
-stays f a refused o h fits leaves = elim (effect f o a) [
-  | inl same ↦ still f (next f a o) (ap (λ (g : Facts). g.roster) same) (ap (λ (g : Facts). g.agents) same) (λ x. ap (λ (g : Facts). (g.end x).kind) same)
+stays f a refused o h fits leaves = elim (effect o a) [
+  | inl quiet ↦ still f (next f a o) (ap (λ (g : Facts). g.roster) (quiet.0 f)) (ap (λ (g : Facts). g.agents) (quiet.0 f)) (λ x. ap (λ (g : Facts). (g.end x).kind) (quiet.0 f))
   | inr change ↦ stays_by f refused h fits change leaves
 ]
 
@@ -231,11 +223,8 @@ recast r c f g h agents kinds roster cast = record {
   cast = cast;
 }
 
-pub roster_leave : (r : Roster) (f : Facts) (t : Sender) (o : Outcome) → ShowsRoster r f → ShowsRoster (record r { cast = cast_left t.end.0 o r.cast }) (next f (action.Leave t) o)
-roster_leave r f t outcome.Left h = recast r (cast_after t.end.0 r.cast) f (next f (action.Leave t) outcome.Left) h refl (λ x. refl) refl (ap (cast_after t.end.0) h.cast)
-roster_leave r f t (outcome.Clear None) h = h
-roster_leave r f t (outcome.Clear (Some k)) h = h
-roster_leave r f t o h = h
+pub roster_leave : (r : Roster) (f : Facts) (t : Sender) → ShowsRoster r f → ShowsRoster (record r { cast = cast_after t.end.0 r.cast }) (next f (action.Leave t) outcome.Left)
+roster_leave r f t h = recast r (cast_after t.end.0 r.cast) f (next f (action.Leave t) outcome.Left) h refl (λ x. refl) refl (ap (cast_after t.end.0) h.cast)
 
 pub roster_cast : (r : Roster) (f : Facts) (e : EndId) (ports : List EndId) (body : List ℕ) (o : Outcome) → ShowsRoster r f → ShowsRoster (cast_roster e body r o) (next f (action.Cast e ports body) o)
 roster_cast r f e ports body (outcome.Destinations ends) h = recast r (cast_to e body ends) f (next f (action.Cast e ports body) (outcome.Destinations ends)) h refl (λ x. refl) refl refl

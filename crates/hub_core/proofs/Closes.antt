@@ -1,6 +1,8 @@
 -- Close: what the core answers fits, and it shows the facts with the answered step.
-use Rattle.std.proofs.Common.{◌≡◌, ℕ, Bool, true, false, cond, eqb, List, ◌++◌, set, Option, Some, None, refl, sym, ap, subst, ◌∙◌}
-use Rattle.std.specs.Prelude.{◌&&◌}
+use Rattle.hub_core.proofs.Changing.{found_end, ShownAfter}
+use Rattle.hub_core.proofs.Nexts.{Change, end_closed}
+use Rattle.hub_core.proofs.Seeing.{Sees}
+use Rattle.std.proofs.Common.{◌≡◌, ℕ, Bool, true, cond, eqb, List, ◌++◌, set, Some, refl, sym, ap, subst, ◌∙◌}
 use Rattle.std.specs.List.{slice_get}
 use Rattle.std.proofs.lemmas.Bool.{false≢true, ne_eqb}
 use Rattle.std.proofs.lemmas.List.{length-set}
@@ -14,17 +16,13 @@ use Rattle.hub_core.specs.declared.step.Action.TheVariants as action
 use Rattle.hub_core.specs.declared.outcome.Outcome.TheVariants as outcome
 use Rattle.hub_core.specs.Facts.{EndNow, LineNow, Facts}
 use Rattle.hub_core.specs.Posting.{is_here, is_with}
-use Rattle.hub_core.specs.Moving.{may_close, close_answer, is_released}
-use Rattle.hub_core.specs.Sound.{no_end, SoundPlaces}
+use Rattle.hub_core.specs.Moving.{close_answer, is_released}
+use Rattle.hub_core.specs.Sound.{SoundPlaces}
 use Rattle.hub_core.specs.Shows.{end_now, ShowsEnd, ShowsFacts}
-use Rattle.hub_core.specs.Unchanged.{changes_nothing}
-use Rattle.hub_core.specs.Kept.{closed_end, close_outcome_at, close_end, changed_ends, close_agents, gone}
-use Rattle.hub_core.proofs.Lists.{eqb_same, set_again, each_set}
-use Rattle.hub_core.proofs.Frames.{ShownAt, Stepped, unchanged, recounted}
+use Rattle.hub_core.specs.Kept.{closed_end, changed_ends, gone, went}
+use Rattle.hub_core.proofs.Lists.{eqb_same, each_set}
+use Rattle.hub_core.proofs.Frames.{ShownAt, Stepped, recounted}
 use Rattle.hub_core.specs.CoreState.{CoreState}
-use Rattle.hub_core.specs.Seen.{seen}
-use Rattle.hub_core.proofs.Seeing.{Sees, close_seen}
-use Rattle.hub_core.specs.CoreSteps.{close_core}
 use Rattle.hub_core.specs.declared.outcome.Outcome.{Outcome}
 use Rattle.hub_core.proofs.Counts.{Went, gone_length, gone_now, counted_went, counts_of}
 use Rattle.hub_core.proofs.Nexts.{next}
@@ -69,37 +67,7 @@ shut_shown agents ends f e refused x h at answer =
 
 -- ---- what is answered
 
-close_by : (agents : List Agent) (ends : List End) (f : Facts) (e : EndId) (refused : Bool) (x : End) → ShowsFacts agents ends f → slice_get ends e.0 ≡ Some x → (closed may : Bool) → cond closed outcome.Closed (cond may outcome.Done outcome.NotNow) ≡ close_answer f e → Stepped (close_agents agents (Some x) (cond closed outcome.Closed (cond may outcome.Done outcome.NotNow))) (set ends e.0 (cond closed x (cond may (closed_end x) x))) f (action.Close e) refused (cond closed outcome.Closed (cond may outcome.Done outcome.NotNow))
-close_by agents ends f e refused x h at true may answer = unchanged agents ends _ f (action.Close e) refused outcome.Closed outcome.Closed h refl refl (set_again ends e.0 x at) answer
-close_by agents ends f e refused x h at false false answer = unchanged agents ends _ f (action.Close e) refused outcome.NotNow outcome.NotNow h refl refl (set_again ends e.0 x at) answer
-close_by agents ends f e refused x h at false true answer = shut_shown agents ends f e refused x h at answer
-
-close_as : (f : Facts) (e : EndId) (may : Bool) (x : EndNow) → f.end e.0 ≡ x → may ≡ may_close f e.0 → cond x.closed outcome.Closed (cond may outcome.Done outcome.NotNow) ≡ close_answer f e
-close_as f e may x end is = ap (λ b. cond x.closed outcome.Closed (cond b outcome.Done outcome.NotNow)) is ∙ ap (λ (y : EndNow). cond y.closed outcome.Closed (cond (may_close f e.0) outcome.Done outcome.NotNow)) (sym end)
-
--- a number that no end has can't be closed
-close_none : (f : Facts) (e : EndId) → f.end e.0 ≡ no_end → outcome.NotNow ≡ close_answer f e
-close_none f e none = ap (λ (y : EndNow). cond y.closed outcome.Closed (cond (is_here y.place && is_released f y.kind) outcome.Done outcome.NotNow)) (sym none)
-
-close_at : (agents : List Agent) (ends : List End) (f : Facts) (e : EndId) (refused may : Bool) → ShowsFacts agents ends f → may ≡ may_close f e.0 → (o : Option End) → slice_get ends e.0 ≡ o → ShownAt f e.0 o → Stepped (close_agents agents o (close_outcome_at may o)) (changed_ends (close_end may) e.0 ends o) f (action.Close e) refused (close_outcome_at may o)
-close_at agents ends f e refused may h is None at shown = unchanged agents ends ends f (action.Close e) refused outcome.NotNow outcome.NotNow h refl refl refl (close_none f e shown.same)
-close_at agents ends f e refused may h is (Some x) at shown = close_by agents ends f e refused x h at x.is_closed may (close_as f e may (end_now (Some x)) shown.same is)
-
-pub close_shown : (c : CoreState) (f : Facts) (e : EndId) (refused : Bool) → Sees c f → (let o : Outcome = close_outcome_at (may_close (seen c) e.0) (slice_get c.ends e.0) in Stepped (close_core c e o).agents (close_core c e o).ends f (action.Close e) refused o)
-close_shown c f e refused h = close_at c.agents c.ends f e refused (may_close (seen c) e.0) h.shows (close_seen c f e.0 h) (slice_get c.ends e.0) refl (h.shows.end e.0)
-
--- ---- what changes nothing leaves the ends
-
-close_end_same : (e : EndId) (x : End) (closed may : Bool) → changes_nothing (cond closed outcome.Closed (cond may outcome.Done outcome.NotNow)) (action.Close e) ≡ true → cond closed x (cond may (closed_end x) x) ≡ x
-close_end_same e x true may h = refl
-close_end_same e x false true h = absurd (false≢true h)
-close_end_same e x false false h = refl
-
-pub close_same : (ends : List End) (e : EndId) (may : Bool) (q : Option End) → slice_get ends e.0 ≡ q → changes_nothing (close_outcome_at may q) (action.Close e) ≡ true → changed_ends (close_end may) e.0 ends q ≡ ends
-close_same ends e may None at h = refl
-close_same ends e may (Some x) at h = ap (set ends e.0) (close_end_same e x x.is_closed may h) ∙ set_again ends e.0 x at
-
-pub close_agents_same : (agents : List Agent) (e : EndId) (q : Option End) (o : Outcome) → changes_nothing o (action.Close e) ≡ true → close_agents agents q o ≡ agents
-close_agents_same agents e None o h = refl
-close_agents_same agents e (Some x) outcome.Done h = absurd (false≢true h)
-close_agents_same agents e (Some x) o h = refl
+pub close_changes : (c : CoreState) (f : Facts) (e : EndId) (refused : Bool) {o : Outcome} → Sees c f → o ≡ close_answer f e → Change (action.Close e) o → ShownAfter c f (action.Close e) refused o
+close_changes c f e refused h answer (end_closed d) =
+    let found = found_end c.agents c.ends f e.0 h.shows (λ none. false≢true (sym (ap (λ (z : EndNow). is_here z.place) none) ∙ (closed_of f e answer).here)) in
+    (subst (λ q. Stepped (went q c.agents) (changed_ends closed_end e.0 c.ends q) f (action.Close e) refused outcome.Done) (sym found.1) (shut_shown c.agents c.ends f e refused found.0 h.shows found.1 answer), refl)

@@ -1,4 +1,8 @@
 -- Order and See: what the core answers fits, and it shows the facts with the answered step.
+use Rattle.hub_core.proofs.Lists.{is_there}
+use Rattle.hub_core.proofs.Changing.{ShownAfter}
+use Rattle.hub_core.proofs.Nexts.{Change, agent_ordered}
+use Rattle.hub_core.proofs.Seeing.{Sees, seen_is}
 use Rattle.std.proofs.Common.{◌≡◌, ◌+◌, rules, ℕ, zero, suc, ◌<◌, ◌≤◌, Bool, true, false, cond, eqb, List, length, Option, Some, None, refl, sym, ap, subst, ◌∙◌, arith, inl, inr}
 use Rattle.std.specs.Prelude.{◌&&◌, ◌||◌, not, nat_lt, option_map}
 use Rattle.std.specs.List.{slice_get}
@@ -19,11 +23,9 @@ use Rattle.hub_core.specs.Ending.{is_away_of, has_away, ends_at, order_answer, s
 use Rattle.hub_core.specs.Unchanged.{changes_nothing}
 use Rattle.hub_core.specs.Sound.{total}
 use Rattle.hub_core.specs.Shows.{agent_now, kept_clients, kept_workers, kept_away, count_away, ShowsFacts}
-use Rattle.hub_core.specs.Kept.{set_agent}
-use Rattle.hub_core.specs.KeptEnding.{order_outcome_at, order_agents, see_outcome, see_agents}
+use Rattle.hub_core.specs.KeptEnding.{see_outcome, see_agents}
 use Rattle.hub_core.specs.CoreState.{CoreState}
 use Rattle.hub_core.specs.Seen.{seen}
-use Rattle.hub_core.proofs.Seeing.{Sees, seen_is}
 use Rattle.hub_core.proofs.Sounds.{sound_next}
 use Rattle.hub_core.proofs.Frames.{Stepped, unchanged}
 use Rattle.hub_core.proofs.Counts.{change_get, change_length, change_each, away_at, none_counted}
@@ -53,46 +55,37 @@ ended_each agents f a c h x at false is = h c
 
 -- ---- Order
 
-order_none : (f : Facts) (a : AgentId) → f.agents ≤ a.0 → outcome.NotNow ≡ order_answer f a
-order_none f a past = ap (λ b. cond b outcome.Ordered outcome.NotNow) (sym (past_lt a.0 f.agents past))
-  where
-    past_lt : (n m : ℕ) → m ≤ n → nat_lt n m ≡ false
-    past_lt n m less = search (rules, nat_tests, less)
-
-order_by : (agents : List Agent) (ends : List End) (f : Facts) (a : AgentId) (refused : Bool) → ShowsFacts agents ends f → (o : Option Agent) → slice_get agents a.0 ≡ o → Stepped (order_agents a.0 agents) ends f (action.Order a) refused (order_outcome_at o)
-order_by agents ends f a refused h None at =
-    let count : f.agents ≡ length agents = h.agents in
-    let past : length agents ≤ a.0 = slice_get_none agents a.0 at in
-    subst (λ gs. Stepped gs ends f (action.Order a) refused outcome.NotNow) (sym (ap (λ o. set_agent a.0 agents (option_map (λ (z : Agent). let w : Agent = record z { is_ordered = true } in w) o)) at))
-    (unchanged agents ends ends f (action.Order a) refused outcome.NotNow outcome.NotNow h refl refl refl (order_none f a (omega arith)))
-order_by agents ends f a refused h (Some x) at =
-    let count : f.agents ≡ length agents = h.agents in
-    let within : a.0 < length agents = slice_get_within agents a.0 x at in
+pub order_changes : (c : CoreState) (f : Facts) (a : AgentId) (refused : Bool) {o : Outcome} → Sees c f → o ≡ order_answer f a → Change (action.Order a) o → ShownAfter c f (action.Order a) refused o
+order_changes c f a refused h answer (agent_ordered b) =
+    let known : a.0 < f.agents = ordered_known (nat_lt a.0 f.agents) refl answer in
+    let count : f.agents ≡ length c.agents = h.shows.agents in
     let change : Agent → Agent = λ z. record z { is_ordered = true } in
-    let answer : outcome.Ordered ≡ order_answer f a = ap (λ b. cond b outcome.Ordered outcome.NotNow) (sym (lt-ltb a.0 f.agents (omega arith))) in
-    record {
-      fits = answer;
-      shows = record {
-        agents = h.agents ∙ sym (change_length change agents a.0);
-        agent = λ c. ordered_each agents f a.0 c h.agent x at (eqb c a.0) refl ∙ ap agent_now (sym (change_get change agents a.0 c));
-        ends = h.ends;
-        end = h.end;
-        clients = λ c. change_each kept_clients change agents a.0 c.0 (λ z. refl) ∙ h.clients c;
-        workers = λ c. change_each kept_workers change agents a.0 c.0 (λ z. refl) ∙ h.workers c;
-        away = λ c. change_each kept_away change agents a.0 c.0 (λ z. refl) ∙ h.away c;
-        sound = sound_next f (action.Order a) refused outcome.Ordered h.sound answer;
-      };
-    }
+    let found = found_agent c.agents a.0 (omega arith) in (
+      record {
+        fits = answer;
+        shows = record {
+          agents = h.shows.agents ∙ sym (change_length change c.agents a.0);
+          agent = λ d. ordered_each c.agents f a.0 d h.shows.agent found.0 found.1 (eqb d a.0) refl ∙ ap agent_now (sym (change_get change c.agents a.0 d));
+          ends = h.shows.ends;
+          end = h.shows.end;
+          clients = λ d. change_each kept_clients change c.agents a.0 d.0 (λ z. refl) ∙ h.shows.clients d;
+          workers = λ d. change_each kept_workers change c.agents a.0 d.0 (λ z. refl) ∙ h.shows.workers d;
+          away = λ d. change_each kept_away change c.agents a.0 d.0 (λ z. refl) ∙ h.shows.away d;
+          sound = sound_next f (action.Order a) refused outcome.Ordered h.shows.sound answer;
+        };
+      },
+      refl,
+    )
+  where
+    ordered_known : (b : Bool) → nat_lt a.0 f.agents ≡ b → outcome.Ordered ≡ cond b outcome.Ordered outcome.NotNow → a.0 < f.agents
+    ordered_known true less _ = search (rules, nat_tests, less)
+    ordered_known false less ordered = cc
 
-pub order_shown : (agents : List Agent) (ends : List End) (f : Facts) (a : AgentId) (refused : Bool) → ShowsFacts agents ends f → Stepped (order_agents a.0 agents) ends f (action.Order a) refused (order_outcome_at (slice_get agents a.0))
-order_shown agents ends f a refused h = order_by agents ends f a refused h (slice_get agents a.0) refl
-
-order_nothing : (agents : List Agent) (a : AgentId) (o : Option Agent) → slice_get agents a.0 ≡ o → changes_nothing (order_outcome_at o) (action.Order a) ≡ true → order_agents a.0 agents ≡ agents
-order_nothing agents a None at h = ap (λ o. set_agent a.0 agents (option_map (λ (z : Agent). let w : Agent = record z { is_ordered = true } in w) o)) at
-order_nothing agents a (Some x) at h = absurd (false≢true h)
-
-pub order_same : (agents : List Agent) (a : AgentId) → changes_nothing (order_outcome_at (slice_get agents a.0)) (action.Order a) ≡ true → order_agents a.0 agents ≡ agents
-order_same agents a h = order_nothing agents a (slice_get agents a.0) refl h
+    found_agent : (agents : List Agent) (n : ℕ) → n < length agents → (x : Agent) × (slice_get agents n ≡ Some x)
+    found_agent agents n less = elim (slice_get agents n) as (λ q. slice_get agents n ≡ q → (x : Agent) × (slice_get agents n ≡ Some x)) [
+      | Some x ↦ λ at. (x, at)
+      | None ↦ λ none. absurd (is_there agents n less none)
+    ] refl
 
 -- ---- See
 

@@ -124,8 +124,8 @@ stays_turned f refused s fits turned stays (end_closed e) = turned
 stays_turned f refused s fits turned stays (end_swept e vs) = turned
 
 turned_next : (f : Facts) (a : Action) (refused : Bool) (o : Outcome) (s : Sender) → Answers f a refused o → phase_of_line f s ≡ Turned → leaves s o a ≡ false → phase_of_line (next f a o) s ≡ Turned
-turned_next f a refused o s fits turned stays = elim (effect f o a) [
-  | inl same ↦ ap (λ (g : Facts). phase_of_line g s) same ∙ turned
+turned_next f a refused o s fits turned stays = elim (effect o a) [
+  | inl quiet ↦ ap (λ (g : Facts). phase_of_line g s) (quiet.0 f) ∙ turned
   | inr change ↦ stays_turned f refused s fits turned stays change
 ]
 
@@ -252,8 +252,8 @@ headline h l =
 -- ---- the laws beside it
 
 kept_next : (f : Facts) (a : Action) (refused : Bool) (o : Outcome) (s : Sender) → Sound f → Answers f a refused o → is_out (phase_of_line f s) ≡ false → is_out (phase_of_line (next f a o) s) ≡ false → is_some (poster f s) ≡ true → poster (next f a o) s ≡ poster f s
-kept_next f a refused o s h fits away after speaks = elim (effect f o a) [
-  | inl same ↦ ap (λ (g : Facts). poster g s) same
+kept_next f a refused o s h fits away after speaks = elim (effect o a) [
+  | inl quiet ↦ ap (λ (g : Facts). poster g s) (quiet.0 f)
   | inr change ↦ speaker_next f refused h fits change s away after speaks
 ]
 

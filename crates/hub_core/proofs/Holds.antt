@@ -1,6 +1,10 @@
 -- Line and Back: what the core answers fits, and it shows the facts with the answered step.
-use Rattle.std.proofs.Common.{◌≡◌, ℕ, suc, ◌+◌, ◌<◌, Bool, true, false, cond, set, List, [], ◌∷◌, length, Option, Some, None, refl, sym, ap, subst, ◌∙◌, arith, length-set}
-use Rattle.std.specs.Prelude.{◌&&◌, ◌++◌, not, is_some, nat_lt}
+use Rattle.std.proofs.lemmas.Bool.Decides.{nat_tests}
+use Rattle.hub_core.proofs.Changing.{found_line, line_set, ShownAfter}
+use Rattle.hub_core.proofs.Nexts.{Change, line_back}
+use Rattle.hub_core.proofs.Seeing.{Sees, seen_is}
+use Rattle.std.proofs.Common.{◌≡◌, ℕ, suc, ◌+◌, ◌<◌, Bool, true, false, cond, set, List, [], ◌∷◌, length, Option, Some, None, refl, sym, ap, subst, ◌∙◌, arith, length-set, rules, ◌≤◌}
+use Rattle.std.specs.Prelude.{◌++◌, not, is_some, nat_lt}
 use Rattle.std.specs.List.{slice_get, position, position_from}
 use Rattle.std.proofs.lemmas.Iterator.Adapters.{position_from-zero}
 use Rattle.std.proofs.lemmas.Bool.{false≢true, lt-ltb}
@@ -16,22 +20,19 @@ use Rattle.hub_core.specs.declared.step.Action.TheVariants as action
 use Rattle.hub_core.specs.declared.outcome.Outcome.{Outcome}
 use Rattle.hub_core.specs.declared.outcome.Outcome.TheVariants as outcome
 use Rattle.hub_core.specs.Facts.{EndNow, LineNow, Facts}
-use Rattle.hub_core.specs.Made.{is_queue}
+use Rattle.hub_core.specs.Made.{is_queue, lines_of}
 use Rattle.hub_core.specs.Looking.{first_failing}
-use Rattle.hub_core.specs.Posting.{is_out}
 use Rattle.hub_core.specs.Holding.{free_line, line_found, line_answer, back_answer}
 use Rattle.hub_core.specs.Unchanged.{changes_nothing}
-use Rattle.hub_core.specs.Sound.{no_line}
 use Rattle.hub_core.specs.Shows.{line_now, ShowsPut, ShowsEnd, ShowsFacts}
-use Rattle.hub_core.specs.Kept.{line_within, first_free, hold_outcome_of, hold_outcome, held_lines, held_end, line_outcome_at, line_ends_at, may_give_back, back_outcome, back_end, back_outcome_at, changed_ends}
+use Rattle.hub_core.specs.Kept.{line_within, first_free, hold_outcome_of, hold_outcome, held_lines, held_end, line_outcome_at, line_ends_at}
 use Rattle.hub_core.proofs.Lists.{set_again, is_there}
 use Rattle.hub_core.proofs.Fitting.{line_got_of, first_failing_of, back_of}
-use Rattle.hub_core.proofs.SoundLines.{held_line_as, queue_lines}
+use Rattle.hub_core.proofs.SoundLines.{held_line_as, queue_lines, LinesAt}
 use Rattle.hub_core.proofs.Frames.{line_changed, ShownAt, Stepped, changed, unchanged}
 use Rattle.hub_core.proofs.Counts.{counts_still}
 use Rattle.hub_core.specs.CoreState.{CoreState}
 use Rattle.hub_core.specs.Seen.{seen}
-use Rattle.hub_core.proofs.Seeing.{Sees, seen_is}
 use Rattle.hub_core.specs.CoreSteps.{line_core}
 use Rattle.hub_core.proofs.Nexts.{next}
 use Rattle.hub_core.proofs.Calms.{calm_held, free_out}
@@ -131,23 +132,26 @@ line_shown c f e a refused h = line_at c.agents c.ends f e a refused h.shows ((s
 
 -- ---- Back
 
-back_as : (f : Facts) (s : Sender) (y : LineNow) → f.line s.end.0 s.line.0 ≡ y → cond (is_some y.held_by && is_out y.phase) outcome.Done outcome.NotNow ≡ back_answer f s
-back_as f s y line = ap (λ (z : LineNow). cond (is_some z.held_by && is_out z.phase) outcome.Done outcome.NotNow) (sym line)
+-- a line that an agent holds is there
+held_there : (f : Facts) (s : Sender) → LinesAt f s.end.0 → is_some (f.line s.end.0 s.line.0).held_by ≡ true → s.line.0 < lines_of (f.end s.end.0).kind
+held_there f s lines held = elim (nat_lt s.line.0 (lines_of (f.end s.end.0).kind)) as (λ b. nat_lt s.line.0 (lines_of (f.end s.end.0).kind) ≡ b → s.line.0 < lines_of (f.end s.end.0).kind) [
+  | true ↦ λ low. search (rules, nat_tests, low)
+  | false ↦ λ high.
+      let past : lines_of (f.end s.end.0).kind ≤ s.line.0 = search (rules, nat_tests, high) in
+      absurd (false≢true (sym (ap (λ (z : LineNow). is_some z.held_by) (lines.none s.line.0 past)) ∙ held))
+] refl
 
-back_line : (agents : List Agent) (ends : List End) (f : Facts) (s : Sender) (refused : Bool) (x : End) → ShowsFacts agents ends f → slice_get ends s.end.0 ≡ Some x → (o : Option Line) → slice_get x.lines s.line.0 ≡ o → f.line s.end.0 s.line.0 ≡ line_now o → Stepped agents (set ends s.end.0 (back_end x s.line.0 o)) f (action.Back s) refused (back_outcome o)
-back_line agents ends f s refused x h at None is line = unchanged agents ends _ f (action.Back s) refused outcome.NotNow outcome.NotNow h refl refl (set_again ends s.end.0 x at) (back_as f s no_line line)
-back_line agents ends f s refused x h at (Some y) is line =
-    elim (may_give_back y) as (λ b. cond b outcome.Done outcome.NotNow ≡ back_answer f s → Stepped agents (set ends s.end.0 (cond b (with_holder x y s.line.0 None) x)) f (action.Back s) refused (cond b outcome.Done outcome.NotNow)) [
-      | true ↦ λ answer. changed agents ends _ f (action.Back s) refused outcome.Done h answer refl refl refl (length-set ends s.end.0 (with_holder x y s.line.0 None)) (counts_still agents ends f (next f (action.Back s) outcome.Done) h refl (λ d. refl) (λ d. refl) (λ b. calm_held b f (next f (action.Back s) outcome.Done) s None (back_of f s answer).1 (λ d. refl) (λ d. refl) (λ d i. refl) (λ d i. refl))) (held_shown agents ends f s None x y h at is)
-      | false ↦ λ answer. unchanged agents ends _ f (action.Back s) refused outcome.NotNow outcome.NotNow h refl refl (set_again ends s.end.0 x at) answer
-    ] (back_as f s (line_now (Some y)) line)
-
-back_at : (agents : List Agent) (ends : List End) (f : Facts) (s : Sender) (refused : Bool) → ShowsFacts agents ends f → (o : Option End) → slice_get ends s.end.0 ≡ o → ShownAt f s.end.0 o → Stepped agents (changed_ends (λ x. back_end x s.line.0 (slice_get x.lines s.line.0)) s.end.0 ends o) f (action.Back s) refused (back_outcome_at s.line.0 o)
-back_at agents ends f s refused h None at shown = unchanged agents ends ends f (action.Back s) refused outcome.NotNow outcome.NotNow h refl refl refl (back_as f s no_line (shown.lines s.line.0))
-back_at agents ends f s refused h (Some x) at shown = back_line agents ends f s refused x h at (slice_get x.lines s.line.0) refl (shown.lines s.line.0)
-
-pub back_shown : (agents : List Agent) (ends : List End) (f : Facts) (s : Sender) (refused : Bool) → ShowsFacts agents ends f → Stepped agents (changed_ends (λ x. back_end x s.line.0 (slice_get x.lines s.line.0)) s.end.0 ends (slice_get ends s.end.0)) f (action.Back s) refused (back_outcome_at s.line.0 (slice_get ends s.end.0))
-back_shown agents ends f s refused h = back_at agents ends f s refused h (slice_get ends s.end.0) refl (h.end s.end.0)
+pub back_changes : (c : CoreState) (f : Facts) (s : Sender) (refused : Bool) {o : Outcome} → Sees c f → o ≡ back_answer f s → Change (action.Back s) o → ShownAfter c f (action.Back s) refused o
+back_changes c f s refused h answer (line_back t) =
+    let g : Facts = next f (action.Back s) outcome.Done in
+    let back = back_of f s answer in
+    let w = found_line c.agents c.ends f s h.shows (held_there f s (h.shows.sound.lines s.end.0) back.0) in (
+      subst (λ es. Stepped c.agents es f (action.Back s) refused outcome.Done) (sym (line_set c.ends s (λ y. record y { held_by = None }) w))
+          (changed c.agents c.ends _ f (action.Back s) refused outcome.Done h.shows answer refl refl refl (length-set c.ends s.end.0 (with_holder w.x w.y s.line.0 None))
+          (counts_still c.agents c.ends f g h.shows refl (λ d. refl) (λ d. refl) (λ b. calm_held b f g s None back.1 (λ d. refl) (λ d. refl) (λ d i. refl) (λ d i. refl)))
+          (held_shown c.agents c.ends f s None w.x w.y h.shows w.at w.is)),
+      refl,
+    )
 
 -- ---- what changes nothing leaves the ends
 
@@ -159,14 +163,3 @@ pub line_same : (ends : List End) (e : EndId) (a : AgentId) (runs : Bool) (q : O
 line_same ends e a false q at h = refl
 line_same ends e a true None at h = refl
 line_same ends e a true (Some x) at h = ap (set ends e.0) (held_same e a x (hold_outcome x) h) ∙ set_again ends e.0 x at
-
-back_line_same : (ends : List End) (s : Sender) (x : End) → slice_get ends s.end.0 ≡ Some x → (q : Option Line) → changes_nothing (back_outcome q) (action.Back s) ≡ true → set ends s.end.0 (back_end x s.line.0 q) ≡ ends
-back_line_same ends s x at None h = set_again ends s.end.0 x at
-back_line_same ends s x at (Some y) h = elim (may_give_back y) as (λ b. changes_nothing (cond b outcome.Done outcome.NotNow) (action.Back s) ≡ true → set ends s.end.0 (cond b (with_holder x y s.line.0 None) x) ≡ ends) [
-  | true ↦ λ no. absurd (false≢true no)
-  | false ↦ λ _. set_again ends s.end.0 x at
-] h
-
-pub back_same : (ends : List End) (s : Sender) (q : Option End) → slice_get ends s.end.0 ≡ q → changes_nothing (back_outcome_at s.line.0 q) (action.Back s) ≡ true → changed_ends (λ x. back_end x s.line.0 (slice_get x.lines s.line.0)) s.end.0 ends q ≡ ends
-back_same ends s None at h = refl
-back_same ends s (Some x) at h = back_line_same ends s x at (slice_get x.lines s.line.0) h

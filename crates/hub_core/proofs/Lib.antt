@@ -18,6 +18,7 @@ pub mod Counts
 pub mod Calms
 pub mod Frames
 pub mod Seeing
+pub mod Changing
 pub mod Entering
 pub mod Placing
 pub mod Presence

@@ -28,6 +28,10 @@ use Rattle.hub_core.specs.Lines.{phase_after, adoptions_after, hops_after, passe
 use Rattle.hub_core.specs.Clear.{clear_after}
 use Rattle.hub_core.specs.Discarded.{discarded_by}
 use Rattle.hub_core.specs.Roster.{roster_after, no_roster}
+use Rattle.hub_core.specs.CoreState.{CoreState}
+use Rattle.hub_core.specs.CoreSteps.{core_after}
+use Rattle.hub_core.specs.Unchanged.{changes_nothing}
+use Rattle.std.proofs.lemmas.Bool.{false≢true}
 
 -- the list with what an answered step puts at its end
 abbrev pub accepted_after : ℕ → List Envelope → Outcome → Action → List Envelope
@@ -156,39 +160,68 @@ pub data Change : Action → Outcome → Type 0 where
   cast_begun : (e : EndId) (ports : List EndId) (body : List ℕ) (ends : List EndId) → Change (action.Cast e ports body) (outcome.Destinations ends)
   member_parted : (e : EndId) → Change (action.Part e) outcome.Done
 
--- every other pair leaves the facts as they are
-pub effect : (f : Facts) (o : Outcome) (a : Action) → (next f a o ≡ f) ⊎ Change a o
-effect f (outcome.Agent n) (action.Agent origin) = inr (agent_made origin n)
-effect f (outcome.Ends e e') (action.Channel a) = inr (channel_made a e e')
-effect f (outcome.End e) (action.Client a) = inr (client_made a e)
-effect f (outcome.End e) (action.Worker a) = inr (worker_made a e)
-effect f (outcome.End e) (action.Member a name) = inr (member_joined a name e)
-effect f (outcome.Line l) (action.Line e a) = inr (line_got e a l)
-effect f outcome.Done (action.Back s) = inr (line_back s)
-effect f outcome.In (action.Enter s) = inr (let_in s)
-effect f outcome.Moved (action.Enter s) = inr (found_moved s)
-effect f outcome.Closed (action.Enter s) = inr (found_closed s)
-effect f (outcome.Accepted n) (action.Push s ports body) = inr (put s ports body n)
-effect f (outcome.Accepted n) (action.Notice s) = inr (notice_put s n)
-effect f outcome.Left (action.Leave s) = inr (left s)
-effect f (outcome.Hopped k) (action.Hop s) = inr (hopped s k)
-effect f outcome.Started (action.Start e) = inr (started e)
-effect f (outcome.Got v) (action.Take e) = inr (got e v)
-effect f outcome.Again (action.Take e) = inr (went_on e)
-effect f (outcome.Clear (Some k)) (action.Look e) = inr (cleared e k)
-effect f (outcome.Adopted k) (action.Adopt e a) = inr (adopted e a k)
-effect f outcome.Done (action.Close e) = inr (end_closed e)
-effect f (outcome.Discarded vs) (action.Sweep e) = inr (end_swept e vs)
-effect f outcome.Handed (action.Hand e b) = inr (handed e b)
-effect f outcome.Ordered (action.Order a) = inr (agent_ordered a)
-effect f (outcome.Ending es) (action.See a) = inr (agent_ended a es)
-effect f (outcome.Destinations ends) (action.Cast e ports body) = inr (cast_begun e ports body ends)
-effect f outcome.Done (action.Part e) = inr (member_parted e)
-effect f o a = inl refl
+-- the facts, and what the core keeps, stay as they are
+abbrev pub Quiet : Outcome → Action → Type 0
+Quiet o a = ((f : Facts) → next f a o ≡ f) × ((c : CoreState) → core_after c o a ≡ c)
+
+-- every other pair is quiet
+pub effect : (o : Outcome) (a : Action) → Quiet o a ⊎ Change a o
+effect (outcome.Agent n) (action.Agent origin) = inr (agent_made origin n)
+effect (outcome.Ends e e') (action.Channel a) = inr (channel_made a e e')
+effect (outcome.End e) (action.Client a) = inr (client_made a e)
+effect (outcome.End e) (action.Worker a) = inr (worker_made a e)
+effect (outcome.End e) (action.Member a name) = inr (member_joined a name e)
+effect (outcome.Line l) (action.Line e a) = inr (line_got e a l)
+effect outcome.Done (action.Back s) = inr (line_back s)
+effect outcome.In (action.Enter s) = inr (let_in s)
+effect outcome.Moved (action.Enter s) = inr (found_moved s)
+effect outcome.Closed (action.Enter s) = inr (found_closed s)
+effect (outcome.Accepted n) (action.Push s ports body) = inr (put s ports body n)
+effect (outcome.Accepted n) (action.Notice s) = inr (notice_put s n)
+effect outcome.Left (action.Leave s) = inr (left s)
+effect (outcome.Hopped k) (action.Hop s) = inr (hopped s k)
+effect outcome.Started (action.Start e) = inr (started e)
+effect (outcome.Got v) (action.Take e) = inr (got e v)
+effect outcome.Again (action.Take e) = inr (went_on e)
+effect (outcome.Clear (Some k)) (action.Look e) = inr (cleared e k)
+effect (outcome.Adopted k) (action.Adopt e a) = inr (adopted e a k)
+effect outcome.Done (action.Close e) = inr (end_closed e)
+effect (outcome.Discarded vs) (action.Sweep e) = inr (end_swept e vs)
+effect outcome.Handed (action.Hand e b) = inr (handed e b)
+effect outcome.Ordered (action.Order a) = inr (agent_ordered a)
+effect (outcome.Ending es) (action.See a) = inr (agent_ended a es)
+effect (outcome.Destinations ends) (action.Cast e ports body) = inr (cast_begun e ports body ends)
+effect outcome.Done (action.Part e) = inr (member_parted e)
+effect o a = inl (λ f. refl, λ c. refl)
 
 -- what holds of the facts and is kept by each pair that changes something is kept by every pair
 pub by_change : (P : Facts → Type 0) (f : Facts) (a : Action) (o : Outcome) → P f → (Change a o → P (next f a o)) → P (next f a o)
-by_change P f a o h changed = elim (effect f o a) [
-  | inl same ↦ subst P (sym same) h
+by_change P f a o h changed = elim (effect o a) [
+  | inl quiet ↦ subst P (sym (quiet.0 f)) h
   | inr change ↦ changed change
 ]
+
+-- a pair whose answer says so is quiet
+pub nothing_changes : (o : Outcome) (a : Action) → changes_nothing o a ≡ true → Quiet o a
+nothing_changes outcome.NotNow a h = (λ f. refl, λ c. refl)
+nothing_changes outcome.NoMemory a h = (λ f. refl, λ c. refl)
+nothing_changes outcome.TooManyAgents a h = (λ f. refl, λ c. refl)
+nothing_changes outcome.TooManyEnds a h = (λ f. refl, λ c. refl)
+nothing_changes outcome.TooManyPorts a h = (λ f. refl, λ c. refl)
+nothing_changes outcome.Disabled a h = (λ f. refl, λ c. refl)
+nothing_changes outcome.Empty a h = (λ f. refl, λ c. refl)
+nothing_changes outcome.Busy a h = (λ f. refl, λ c. refl)
+nothing_changes outcome.TooManyMoves a h = (λ f. refl, λ c. refl)
+nothing_changes outcome.NoSuchEnd a h = (λ f. refl, λ c. refl)
+nothing_changes outcome.NoLine a h = (λ f. refl, λ c. refl)
+nothing_changes outcome.NoOrigin a h = (λ f. refl, λ c. refl)
+nothing_changes outcome.InvalidState a h = (λ f. refl, λ c. refl)
+nothing_changes outcome.NotTransferable a h = (λ f. refl, λ c. refl)
+nothing_changes outcome.GoingOn a h = (λ f. refl, λ c. refl)
+nothing_changes (outcome.Clear None) a h = (λ f. refl, λ c. refl)
+nothing_changes outcome.Closed (action.Start e) h = (λ f. refl, λ c. refl)
+nothing_changes outcome.Closed (action.Take e) h = (λ f. refl, λ c. refl)
+nothing_changes outcome.Closed (action.Adopt e a) h = (λ f. refl, λ c. refl)
+nothing_changes outcome.Closed (action.Close e) h = (λ f. refl, λ c. refl)
+nothing_changes outcome.Closed (action.Hand e b) h = (λ f. refl, λ c. refl)
+nothing_changes _ _ h = absurd (false≢true h)

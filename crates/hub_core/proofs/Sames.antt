@@ -17,7 +17,7 @@ use Rattle.hub_core.specs.Posting.{is_out, phase_of_line, may_enter}
 use Rattle.hub_core.specs.Roster.{CastNow, cast_to, cast_after, goes_next, roster}
 use Rattle.hub_core.specs.Unchanged.{changes_nothing}
 use Rattle.hub_core.specs.Headline.{done_with}
-use Rattle.hub_core.proofs.Nexts.{next, facts_next}
+use Rattle.hub_core.proofs.Nexts.{next, nothing_changes, facts_next}
 use Rattle.hub_core.proofs.SoundLines.{on_place}
 
 legal_same : (h k more : History) → facts h ≡ facts k → LegalAfter h more → LegalAfter k more
@@ -32,28 +32,7 @@ pub same_facts : (h k : History) → facts h ≡ facts k → Same h k
 same_facts h k same more = (legal_same h k more same, legal_same k h more (sym same))
 
 pub nothing_next : (f : Facts) (o : Outcome) (a : Action) → changes_nothing o a ≡ true → next f a o ≡ f
-nothing_next f outcome.NotNow a h = refl
-nothing_next f outcome.NoMemory a h = refl
-nothing_next f outcome.TooManyAgents a h = refl
-nothing_next f outcome.TooManyEnds a h = refl
-nothing_next f outcome.TooManyPorts a h = refl
-nothing_next f outcome.Disabled a h = refl
-nothing_next f outcome.Empty a h = refl
-nothing_next f outcome.Busy a h = refl
-nothing_next f outcome.TooManyMoves a h = refl
-nothing_next f outcome.NoSuchEnd a h = refl
-nothing_next f outcome.NoLine a h = refl
-nothing_next f outcome.NoOrigin a h = refl
-nothing_next f outcome.InvalidState a h = refl
-nothing_next f outcome.NotTransferable a h = refl
-nothing_next f outcome.GoingOn a h = refl
-nothing_next f (outcome.Clear None) a h = refl
-nothing_next f outcome.Closed (action.Start e) h = refl
-nothing_next f outcome.Closed (action.Take e) h = refl
-nothing_next f outcome.Closed (action.Adopt e a) h = refl
-nothing_next f outcome.Closed (action.Close e) h = refl
-nothing_next f outcome.Closed (action.Hand e b) h = refl
-nothing_next f _ _ h = absurd (false≢true h)
+nothing_next f o a h = (nothing_changes o a h).0 f
 
 -- a pair that changes nothing leaves the same
 pub nothing_same : (h : History) (p : Pair) → changes_nothing p.1 p.0.action ≡ true → Same (h ++ p ∷ []) h

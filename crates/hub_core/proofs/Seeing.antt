@@ -1,6 +1,7 @@
 -- What the core keeps, seen as facts, answers as the facts do that it shows.
+use Rattle.hub_core.specs.declared.outcome.Outcome.TheVariants as outcome
 use Rattle.std.proofs.Common.{◌≡◌, Bool, false, cond, List, [], Option, Some, None, refl, sym, ap, ◌∙◌, ℕ}
-use Rattle.std.specs.Prelude.{is_some, not, ◌||◌, ◌&&◌, ◌==◌}
+use Rattle.std.specs.Prelude.{is_some, nat_lt, ◌+◌, not, ◌||◌, ◌&&◌, ◌==◌}
 use Rattle.std.specs.List.{list_all}
 use Rattle.hub_envelope.specs.declared.ids.AgentId.{AgentId}
 use Rattle.hub_envelope.specs.declared.ids.EndId.{EndId}
@@ -10,14 +11,13 @@ use Rattle.hub_core.specs.declared.line.Line.{Line}
 use Rattle.hub_core.specs.declared.listing.Listing.TheVariants.{Good, HoldsTarget, Bad}
 use Rattle.hub_core.specs.declared.sender.Sender.{Sender}
 use Rattle.hub_core.specs.CoreState.{CoreState}
-use Rattle.hub_core.specs.CoreSteps.{core_may_take_over}
 use Rattle.hub_core.specs.Facts.{Facts}
 use Rattle.hub_core.specs.Kept.{kept_posting_by, kept_posting_line}
 use Rattle.hub_core.specs.KeptEnding.{owner_by, owner}
-use Rattle.hub_core.specs.Made.{peer_of}
-use Rattle.hub_core.specs.Moving.{is_released, may_close, may_take_over}
+use Rattle.hub_core.specs.Made.{is_queue, peer_of}
+use Rattle.hub_core.specs.Moving.{close_answer, hand_answer, hop_answer, is_released, may_close, may_take_over}
 use Rattle.hub_core.specs.Place.{names}
-use Rattle.hub_core.specs.Posting.{holder, running, speaker_in, poster_of, poster, hears_notice, may_enter, is_here, is_with, is_at, own_poster_out, own_line_plain, may_leave_agent, is_distinct, is_fitting, listing_of, listing, is_out, phase_of_line, may_post}
+use Rattle.hub_core.specs.Posting.{enter_answer, holder, running, speaker_in, poster_of, poster, hears_notice, may_enter, is_here, is_with, is_at, own_poster_out, own_line_plain, may_leave_agent, is_distinct, is_fitting, listing_of, listing, is_out, phase_of_line, may_post}
 use Rattle.hub_core.specs.Roster.{CastNow, no_roster}
 use Rattle.hub_core.specs.Seen.{seen}
 use Rattle.hub_core.specs.Shows.{ShowsFacts}
@@ -117,8 +117,18 @@ posting_kept f s ports body refused (Some p) =
 pub poster_seen : (c : CoreState) (f : Facts) (s : Sender) → Sees c f → poster (seen c) s ≡ poster f s
 poster_seen c f s h = ap (λ g. poster g s) (seen_is c f h) ∙ poster_kept f s (f.end s.end.0).kind
 
-pub enter_seen : (c : CoreState) (f : Facts) (s : Sender) → Sees c f → may_enter (seen c) s ≡ may_enter f s
-enter_seen c f s h = ap (λ g. may_enter g s) (seen_is c f h) ∙ ap (λ p. is_some p || hears_notice f s) (poster_kept f s (f.end s.end.0).kind)
+may_enter_kept : (f : Facts) (s : Sender) → may_enter (kept_part f) s ≡ may_enter f s
+may_enter_kept f s = ap (λ p. is_some p || hears_notice f s) (poster_kept f s (f.end s.end.0).kind)
+
+pub enter_seen : (c : CoreState) (f : Facts) (s : Sender) → Sees c f → enter_answer (seen c) s ≡ enter_answer f s
+enter_seen c f s h =
+    ap (λ g. enter_answer g s) (seen_is c f h)
+    ∙ ap (λ b. cond (not (b && is_out (phase_of_line f s) && not (f.line s.end.0 s.line.0).noticed)) outcome.NotNow (cond (nat_lt (f.line s.end.0 s.line.0).stand (f.end s.end.0).newest) outcome.Moved (cond (f.end s.end.0).closed outcome.Closed outcome.In))) (may_enter_kept f s)
+
+pub hop_seen : (c : CoreState) (f : Facts) (s : Sender) → Sees c f → hop_answer (seen c) s ≡ hop_answer f s
+hop_seen c f s h =
+    ap (λ g. hop_answer g s) (seen_is c f h)
+    ∙ ap (λ b. cond (b && (is_out (phase_of_line f s) && nat_lt (f.line s.end.0 s.line.0).stand (f.end s.end.0).newest)) (outcome.Hopped ((f.line s.end.0 s.line.0).stand + 1)) outcome.NotNow) (may_enter_kept f s)
 
 pub owner_seen : (c : CoreState) (f : Facts) (s : Sender) → Sees c f → owner (seen c) s ≡ owner f s
 owner_seen c f s h = ap (λ g. owner g s) (seen_is c f h) ∙ owner_kept f s (f.end s.end.0).kind
@@ -126,11 +136,14 @@ owner_seen c f s h = ap (λ g. owner g s) (seen_is c f h) ∙ owner_kept f s (f.
 pub released_seen : (c : CoreState) (f : Facts) (e : ℕ) → Sees c f → is_released (seen c) ((seen c).end e).kind ≡ is_released f (f.end e).kind
 released_seen c f e h = ap (λ g. is_released g (g.end e).kind) (seen_is c f h) ∙ released_kept f (f.end e).kind
 
-pub close_seen : (c : CoreState) (f : Facts) (e : ℕ) → Sees c f → may_close (seen c) e ≡ may_close f e
-close_seen c f e h = ap (λ g. may_close g e) (seen_is c f h) ∙ ap (λ b. is_here (f.end e).place && b) (released_kept f (f.end e).kind)
+pub may_close_seen : (c : CoreState) (f : Facts) (e : ℕ) → Sees c f → may_close (seen c) e ≡ may_close f e
+may_close_seen c f e h = ap (λ g. may_close g e) (seen_is c f h) ∙ ap (λ b. is_here (f.end e).place && b) (released_kept f (f.end e).kind)
 
-pub take_over_seen : (c : CoreState) (f : Facts) (e : EndId) (b : AgentId) → Sees c f → core_may_take_over c e b ≡ may_take_over f b (holder f e.0)
-take_over_seen c f e b h = ap (λ g. may_take_over g b (holder g e.0)) (seen_is c f h) ∙ take_over_kept f b (holder f e.0)
+pub close_seen : (c : CoreState) (f : Facts) (e : EndId) → Sees c f → close_answer (seen c) e ≡ close_answer f e
+close_seen c f e h = ap (λ g. close_answer g e) (seen_is c f h) ∙ ap (λ b. cond (f.end e.0).closed outcome.Closed (cond (is_here (f.end e.0).place && b) outcome.Done outcome.NotNow)) (released_kept f (f.end e.0).kind)
+
+pub hand_seen : (c : CoreState) (f : Facts) (e : EndId) (b : AgentId) → Sees c f → hand_answer (seen c) e b ≡ hand_answer f e b
+hand_seen c f e b h = ap (λ g. hand_answer g e b) (seen_is c f h) ∙ ap (λ d. cond (f.end e.0).closed outcome.Closed (cond (is_queue (f.end e.0).kind && d) outcome.Handed outcome.NotNow)) (take_over_kept f b (holder f e.0))
 
 pub posting_seen : (c : CoreState) (f : Facts) (s : Sender) (ports : List EndId) (body : List ℕ) (refused : Bool) (q : Option (Kind × Line)) → Sees c f → kept_posting_line (seen c) s ports body refused q ≡ kept_posting_line f s ports body refused q
 posting_seen c f s ports body refused q h = ap (λ g. kept_posting_line g s ports body refused q) (seen_is c f h) ∙ posting_kept f s ports body refused q

@@ -1,9 +1,13 @@
 -- Start and Take: what the core answers fits, and it shows the facts with the answered step.
+use Rattle.hub_core.proofs.Fitting.{started_of}
+use Rattle.hub_core.proofs.Changing.{found_end, ShownAfter}
+use Rattle.hub_core.proofs.Nexts.{Change, started}
+use Rattle.hub_core.proofs.Seeing.{Sees, seen_is}
 use Rattle.std.proofs.Common.{◌≡◌, ℕ, zero, suc, ◌+◌, ◌<◌, Bool, true, false, cond, eqb, List, [], ◌∷◌, ◌++◌, length, get_or, set, Option, Some, None, refl, sym, ap, subst, ◌∙◌, arith, rules, append_assoc}
 use Rattle.std.specs.Prelude.{is_some}
 use Rattle.std.specs.Bool.{MatchBool}
 use Rattle.std.specs.List.{slice_get, AllByRecursion}
-use Rattle.std.proofs.lemmas.Bool.{ne_eqb}
+use Rattle.std.proofs.lemmas.Bool.{ne_eqb, false≢true}
 use Rattle.std.proofs.lemmas.List.{length-set}
 use Rattle.std.proofs.lemmas.Option.{slice_get_within}
 use Rattle.hub_envelope.specs.declared.ids.AgentId.{AgentId}
@@ -21,16 +25,14 @@ use Rattle.hub_core.specs.Place.{arrived, names}
 use Rattle.hub_core.specs.Sender.{in_queue}
 use Rattle.hub_core.specs.Posting.{running_at, holder, is_with}
 use Rattle.hub_core.specs.Taking.{IsNext, Serves, FitsTake, start_answer}
-use Rattle.hub_core.specs.Sound.{no_end, IsOfEnd, Sound}
-use Rattle.hub_core.specs.Shows.{end_now, ShowsEnd, ShowsFacts}
-use Rattle.hub_core.specs.Kept.{start_outcome, start_ends, with_taker_queue, moved_ends, TakeServes, TakeHeld, TakeLeaves}
+use Rattle.hub_core.specs.Sound.{IsOfEnd, Sound}
+use Rattle.hub_core.specs.Shows.{ShowsEnd, ShowsFacts}
+use Rattle.hub_core.specs.Kept.{with_taker_queue, moved_ends, TakeServes, TakeHeld, TakeLeaves, changed_ends}
 use Rattle.hub_core.proofs.Lists.{eqb_same, each_set, get_or-set_same, get_or-set_other, is_there}
 use Rattle.hub_core.proofs.Waits.{all_kept, all_back, of_queue, queue_more, queue_other, next_in_line}
 use Rattle.hub_core.proofs.Frames.{ShownAt, Stepped, changed, unchanged}
 use Rattle.hub_core.specs.CoreState.{CoreState}
 use Rattle.hub_core.specs.Seen.{seen}
-use Rattle.hub_core.proofs.Seeing.{Sees, seen_is}
-use Rattle.hub_core.specs.CoreSteps.{start_core}
 use Rattle.hub_core.proofs.Placing.{Moves, moves_to, moved_shown}
 use Rattle.hub_core.proofs.Speakers.{runs_there, placed_made, taken_flies}
 use Rattle.hub_core.proofs.GoingOn.{taker_queue_at, nothing_shown}
@@ -40,9 +42,6 @@ use Rattle.hub_core.proofs.Nexts.{next}
 use Rattle.hub_core.proofs.Calms.{calm_landed}
 
 -- ---- Start
-
-start_as : (f : Facts) (e : EndId) (x : EndNow) (P : Option AgentId) → f.end e.0 ≡ x → P ≡ holder f e.0 → cond x.closed outcome.Closed (cond (is_some P) outcome.Started outcome.NotNow) ≡ start_answer f e
-start_as f e x P end is = ap (λ (y : EndNow). cond y.closed outcome.Closed (cond (is_some P) outcome.Started outcome.NotNow)) (sym end) ∙ ap (λ Q. cond (f.end e.0).closed outcome.Closed (cond (is_some Q) outcome.Started outcome.NotNow)) is
 
 -- the end, enabled
 enabled_end : (now : EndNow) (line : ℕ → LineNow) (clear : ℕ → Bool) (vs ts : List Envelope) (x : End) → ShowsEnd now line clear vs ts (Some x) → ShowsEnd (record now { enabled = true }) line clear vs ts (Some (record x { is_enabled = true }))
@@ -54,23 +53,17 @@ enabled_end now line clear vs ts x h = record {
   queues = record { reached = h.queues.reached; clear_below = h.queues.clear_below; count = h.queues.count; inside = h.queues.inside; behind = h.queues.behind; each = h.queues.each };
 }
 
-start_end : (agents : List Agent) (ends : List End) (f : Facts) (e : EndId) (refused : Bool) (x : End) → ShowsFacts agents ends f → slice_get ends e.0 ≡ Some x → (closed : Bool) (P : Option AgentId) → cond closed outcome.Closed (cond (is_some P) outcome.Started outcome.NotNow) ≡ start_answer f e → Stepped agents (cond closed ends (cond (is_some P) (set ends e.0 (record x { is_enabled = true })) ends)) f (action.Start e) refused (cond closed outcome.Closed (cond (is_some P) outcome.Started outcome.NotNow))
-start_end agents ends f e refused x h at true P answer = unchanged agents ends ends f (action.Start e) refused outcome.Closed outcome.Closed h refl refl refl answer
-start_end agents ends f e refused x h at false None answer = unchanged agents ends ends f (action.Start e) refused outcome.NotNow outcome.NotNow h refl refl refl answer
-start_end agents ends f e refused x h at false (Some a) answer =
+started_shown : (agents : List Agent) (ends : List End) (f : Facts) (e : EndId) (refused : Bool) (x : End) → ShowsFacts agents ends f → slice_get ends e.0 ≡ Some x → outcome.Started ≡ start_answer f e → Stepped agents (set ends e.0 (record x { is_enabled = true })) f (action.Start e) refused outcome.Started
+started_shown agents ends f e refused x h at answer =
     changed agents ends _ f (action.Start e) refused outcome.Started h answer refl refl refl (length-set ends e.0 (record x { is_enabled = true })) (counts_still agents ends f _ h refl (λ d. refl) (λ d. refl) (λ a d l. refl))
     (each_set (λ d o. ShowsEnd (record (f.end d) { enabled = cond (eqb d e.0) true (f.end d).enabled }) (f.line d) (f.clear d) (f.accepted d) (f.taken d ++ f.discarded d) o) ends e.0 (record x { is_enabled = true }) (slice_get_within ends e.0 x at)
     (subst (λ b. ShowsEnd (record (f.end e.0) { enabled = cond b true (f.end e.0).enabled }) (f.line e.0) (f.clear e.0) (f.accepted e.0) (f.taken e.0 ++ f.discarded e.0) (Some (record x { is_enabled = true }))) (sym (eqb_same e.0)) (enabled_end (f.end e.0) (f.line e.0) (f.clear e.0) (f.accepted e.0) (f.taken e.0 ++ f.discarded e.0) x (subst (ShownAt f e.0) at (h.end e.0))))
     (λ d other. subst (λ b. ShowsEnd (record (f.end d) { enabled = cond b true (f.end d).enabled }) (f.line d) (f.clear d) (f.accepted d) (f.taken d ++ f.discarded d) (slice_get ends d)) (sym (ne_eqb d e.0 other)) (h.end d)))
 
-start_at : (agents : List Agent) (ends : List End) (f : Facts) (e : EndId) (refused : Bool) → ShowsFacts agents ends f → (o : Option End) → slice_get ends e.0 ≡ o → ShownAt f e.0 o → (P : Option AgentId) → P ≡ holder f e.0 → Stepped agents (start_ends P e.0 ends o) f (action.Start e) refused (start_outcome P o)
-start_at agents ends f e refused h None at shown P is =
-    let none : holder f e.0 ≡ None = ap (λ (y : EndNow). running_at (λ a. (f.agent a).runs) y.place) shown.same in
-    unchanged agents ends ends f (action.Start e) refused outcome.NotNow outcome.NotNow h refl refl refl (start_as f e no_end None shown.same (sym none))
-start_at agents ends f e refused h (Some x) at shown P is = start_end agents ends f e refused x h at x.is_closed P (start_as f e (end_now (Some x)) P shown.same is)
-
-pub start_shown : (c : CoreState) (f : Facts) (e : EndId) (refused : Bool) → Sees c f → Stepped c.agents (start_core c e).ends f (action.Start e) refused (start_outcome (holder (seen c) e.0) (slice_get c.ends e.0))
-start_shown c f e refused h = start_at c.agents c.ends f e refused h.shows (slice_get c.ends e.0) refl (h.shows.end e.0) (holder (seen c) e.0) (ap (λ g. holder g e.0) (seen_is c f h))
+pub start_changes : (c : CoreState) (f : Facts) (e : EndId) (refused : Bool) {o : Outcome} → Sees c f → o ≡ start_answer f e → Change (action.Start e) o → ShownAfter c f (action.Start e) refused o
+start_changes c f e refused h answer (started d) =
+    let found = found_end c.agents c.ends f e.0 h.shows (λ none. false≢true (sym (ap (λ (z : EndNow). is_some (running_at (λ a. (f.agent a).runs) z.place)) none) ∙ (started_of f e answer).1)) in
+    (subst (λ q. Stepped c.agents (changed_ends (λ x. record x { is_enabled = true }) e.0 c.ends q) f (action.Start e) refused outcome.Started) (sym found.1) (started_shown c.agents c.ends f e refused found.0 h.shows found.1 answer), refl)
 
 -- ---- Take
 

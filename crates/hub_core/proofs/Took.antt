@@ -1,5 +1,5 @@
 -- A step of the core from one value to another, and the clauses of `Core::step` that follow.
-use Rattle.std.proofs.Common.{◌≡◌, ℕ, Bool, true, List, [], ◌∷◌, ◌++◌, length, Option, Result, Ok, Err, refl, sym, ap, subst, ◌∙◌}
+use Rattle.std.proofs.Common.{◌≡◌, ℕ, Bool, true, List, [], ◌∷◌, ◌++◌, length, Option, Result, Ok, Err, refl, sym, ap, subst, ◌∙◌, inl, inr, Some, None}
 use Rattle.std.specs.Prelude.{IfOk, OnErr, is_some, not, ◌&&◌}
 use Rattle.std.specs.List.{slice_get}
 use Rattle.std.proofs.lemmas.Bool.{false≢true}
@@ -12,15 +12,14 @@ use Rattle.hub_core.specs.declared.roster.Roster.{Roster}
 use Rattle.hub_core.specs.declared.sender.Sender.{Sender}
 use Rattle.hub_core.specs.declared.step.Action.TheVariants as action
 use Rattle.hub_core.specs.declared.outcome.Outcome.TheVariants as outcome
-use Rattle.hub_core.specs.CoreSteps.{leave_core}
-use Rattle.hub_core.specs.Kept.{kept_agent_answer, agents_made, leave_outcome_at}
+use Rattle.hub_core.specs.CoreSteps.{core_after}
+use Rattle.hub_core.specs.Kept.{kept_agent_answer, agents_made}
 use Rattle.hub_core.specs.KeptCasting.{kept_member_answer, kept_cast_answer, part_outcome, member_made}
-use Rattle.hub_core.specs.KeptEnding.{owner, leave_agents}
 use Rattle.hub_core.specs.KeptRoster.{origin_at, group_of, is_seated_in, kept_destinations, agent_roster, MemberLeaves, PartLeaves, cast_roster}
 use Rattle.hub_core.specs.Made.{maker_of}
-use Rattle.hub_core.specs.Posting.{holder, is_empty}
+use Rattle.hub_core.specs.Posting.{holder, is_empty, leave_answer}
 use Rattle.hub_core.specs.Seen.{seen}
-use Rattle.hub_core.proofs.Seeing.{Sees}
+use Rattle.hub_core.proofs.Seeing.{Sees, seen_is}
 use Rattle.hub_core.specs.CoreState.{CoreState}
 use Rattle.hub_core.specs.declared.step.Step.{Step}
 use Rattle.hub_core.specs.declared.step.Action.{Action}
@@ -33,13 +32,13 @@ use Rattle.hub_core.specs.Memory.{takes_memory}
 use Rattle.hub_core.specs.Shows.{Shows, ShowsFacts, ShowsRoster, FitsAndShows, StillShows}
 use Rattle.hub_core.specs.Unchanged.{changes_nothing, SameContent}
 use Rattle.hub_core.proofs.Broadcasts.{member_told, cast_told, part_told}
-use Rattle.hub_core.proofs.Casts.{same_members, left_same, leaves_roster, roster_stays, roster_agent, roster_member, roster_leave, roster_cast, roster_part}
-use Rattle.hub_core.proofs.Entering.{leave_shown, leave_agents_same}
+use Rattle.hub_core.proofs.Casts.{same_members, leaves_roster, roster_stays, roster_agent, roster_member, roster_leave, roster_cast, roster_part}
+use Rattle.hub_core.proofs.Entering.{leave_changes}
+use Rattle.hub_core.proofs.Changing.{ShownAfter}
 use Rattle.hub_core.proofs.Frames.{Stepped, along}
 use Rattle.hub_core.proofs.Makes.{agent_shown}
-use Rattle.hub_core.proofs.Nexts.{next, facts_next}
+use Rattle.hub_core.proofs.Nexts.{next, facts_next, Change, effect, nothing_changes}
 use Rattle.hub_core.proofs.Orders.{shows_in_order}
-use Rattle.hub_core.proofs.Stepping.{leave_same}
 use Rattle.hub_core.proofs.Stills.{same_shown}
 
 -- After all that the old core shows the step got an answer that fits, and the new core shows what is so then; where
@@ -76,6 +75,22 @@ took a refused old new after o p says leaves roster stays k same = record {
   same = λ nothing. same_content old new (leaves ∙ same (subst (λ q. changes_nothing q a ≡ true) says nothing));
 }
 
+-- a step that leaves the roster
+pub took_by : (a : Action) (refused : Bool) (old new : CoreState) (o : Outcome) → new ≡ core_after old o a → leaves_roster a ≡ true → ((f : Facts) → Sees old f → Answers f a refused o) → ((f : Facts) → Sees old f → Answers f a refused o → Change a o → ShownAfter old f a refused o) → Took a refused old new o
+took_by a refused old new o leaves stays fits changes = record {
+  shown = λ f s w.
+      let h : Sees old f = record { shows = s; cast = w.cast } in
+      let fit : Answers f a refused o = fits f h in
+      let after : ShownAfter old f a refused o = elim (effect o a) [
+        | inl quiet ↦ subst (λ (c : CoreState). Stepped c.agents c.ends f a refused o × (c.roster ≡ old.roster)) (sym (quiet.1 old)) (record { fits = fit; shows = subst (ShowsFacts old.agents old.ends) (sym (quiet.0 f)) s }, refl)
+        | inr change ↦ changes f h fit change
+      ] in (
+        subst (λ (c : CoreState). Stepped c.agents c.ends f a refused o) (sym leaves) after.0,
+        subst (λ r. ShowsRoster r (next f a o)) (sym (ap (λ (c : CoreState). c.roster) leaves ∙ after.1)) (roster_stays old.roster f a refused o s.sound fit stays w),
+      );
+  same = λ nothing. same_content old new (leaves ∙ (nothing_changes o a nothing).1 old);
+}
+
 -- ---- steps that change the roster
 
 agent_same : (origin : Option (List ℕ)) (c : CoreState) (o : Outcome) → changes_nothing o (action.Agent origin) ≡ true → (let d : CoreState = record c { agents = agents_made c.agents o; roster = agent_roster origin c.roster o } in d) ≡ c
@@ -102,21 +117,20 @@ member_took a name refused old new o says leaves same = record {
   same = λ nothing. same_content old new (same ∙ member_same a name old new.roster o leaves nothing);
 }
 
-pub leave_took : (t : Sender) (refused : Bool) (old new : CoreState) (o : Outcome) → o ≡ leave_outcome_at t.line.0 (slice_get old.ends t.end.0) → new ≡ leave_core old t o → Took (action.Leave t) refused old new o
+pub leave_took : (t : Sender) (refused : Bool) (old new : CoreState) (o : Outcome) → o ≡ leave_answer (seen old) t → new ≡ core_after old o (action.Leave t) → Took (action.Leave t) refused old new o
 leave_took t refused old new o says same = record {
-  shown = λ f s w. (
-    along (λ gs es q. Stepped gs es f (action.Leave t) refused q) (ap (λ (c : CoreState). c.agents) same ∙ ap (leave_agents (owner (seen old) t) old.agents) says) (ap (λ (c : CoreState). c.ends) same) says
-        (leave_shown old f t refused (record { shows = s; cast = w.cast })),
-    subst (λ r. ShowsRoster r (next f (action.Leave t) o)) (sym (ap (λ (c : CoreState). c.roster) same)) (roster_leave old.roster f t o w),
-  );
-  same = λ nothing.
-      let plain = subst (λ q. changes_nothing q (action.Leave t) ≡ true) says nothing in
-      same_content old new (same ∙ (λ i. record {
-        agents = leave_agents_same (owner (seen old) t) old.agents t o nothing i;
-        ends = leave_same old.ends t (slice_get old.ends t.end.0) refl plain i;
-        roster = record old.roster { cast = left_same t o old.roster.cast nothing i };
-      }));
+  shown = λ f s w.
+      let h : Sees old f = record { shows = s; cast = w.cast } in
+      let after = left_shown old f t refused o h w (says ∙ ap (λ g. leave_answer g t) (seen_is old f h)) in
+      (subst (λ (c : CoreState). Stepped c.agents c.ends f (action.Leave t) refused o) (sym same) after.0, subst (λ (c : CoreState). ShowsRoster c.roster (next f (action.Leave t) o)) (sym same) after.1);
+  same = λ nothing. same_content old new (same ∙ (nothing_changes o (action.Leave t) nothing).1 old);
 }
+  where
+    left_shown : (c : CoreState) (f : Facts) (s : Sender) (refused : Bool) (o : Outcome) → Sees c f → ShowsRoster c.roster f → o ≡ leave_answer f s → (let d : CoreState = core_after c o (action.Leave s) in Stepped d.agents d.ends f (action.Leave s) refused o × ShowsRoster d.roster (next f (action.Leave s) o))
+    left_shown c f s refused outcome.Left h w answer = (leave_changes c f s refused h answer, roster_leave c.roster f s w)
+    left_shown c f s refused (outcome.Clear None) h w answer = (record { fits = answer; shows = h.shows }, w)
+    left_shown c f s refused (outcome.Clear (Some k)) h w answer = (record { fits = answer; shows = h.shows }, w)
+    left_shown c f s refused o h w answer = (record { fits = answer; shows = h.shows }, w)
 
 cast_same : (e : EndId) (ports : List EndId) (body : List ℕ) (r : Roster) (o : Outcome) → changes_nothing o (action.Cast e ports body) ≡ true → cast_roster e body r o ≡ r
 cast_same e ports body r (outcome.Destinations ends) h = absurd (false≢true h)

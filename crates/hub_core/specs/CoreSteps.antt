@@ -1,5 +1,5 @@
 -- For private clauses: the core after a step, where the step got this answer.
-use Rattle.std.specs.Prelude.{ℕ, Bool, List, slice_get, Result}
+use Rattle.std.specs.Prelude.{ℕ, true, List, slice_get, None, Result}
 use Rattle.hub_envelope.specs.declared.ids.AgentId.{AgentId}
 use Rattle.hub_envelope.specs.declared.ids.EndId.{EndId}
 use Rattle.hub_core.specs.declared.kind.Kind.{Kind}
@@ -7,14 +7,18 @@ use Rattle.hub_core.specs.declared.line.Line.{Line}
 use Rattle.hub_core.specs.declared.outcome.Outcome.{Outcome}
 use Rattle.hub_core.specs.declared.sender.Sender.{Sender}
 use Rattle.hub_core.specs.CoreState.{CoreState}
-use Rattle.hub_core.specs.Kept.{enter_ends_at, hop_ends_at, push_ends, notice_ends, sweep_ends, start_ends, line_ends_at, queue_made}
-use Rattle.hub_core.specs.Kept.{change_end, leave_end, look_end, back_end, adopt_end, close_end, handed_end, hand_outcome}
-use Rattle.hub_core.specs.Kept.{adopt_agents, close_agents, hand_agents, queue_counted}
-use Rattle.hub_core.specs.KeptEnding.{owner, enter_agents, leave_agents}
-use Rattle.hub_core.specs.KeptRoster.{cast_left}
-use Rattle.hub_core.specs.Moving.{is_released, may_close, may_take_over}
-use Rattle.hub_core.specs.Posting.{holder, may_enter}
 use Rattle.hub_core.specs.Seen.{seen}
+use Rattle.hub_core.specs.declared.end.Place.TheVariants.{Arrived}
+use Rattle.hub_core.specs.declared.line.Phase.TheVariants.{Out}
+use Rattle.hub_core.specs.declared.step.Action.{Action}
+use Rattle.hub_core.specs.declared.step.Action.TheVariants as action
+use Rattle.hub_core.specs.declared.outcome.Outcome.TheVariants as outcome
+use Rattle.hub_core.specs.Kept.{change_end, change_line, in_phase, gate_passed, at_next, adopted_end, closed_end, went, adopted_agents}
+use Rattle.hub_core.specs.Kept.{change_agent, change_owner, one_away, one_out, queue_counted, queue_made}
+use Rattle.hub_core.specs.Kept.{line_ends_at, push_ends, notice_ends, look_end, sweep_ends}
+use Rattle.hub_core.specs.KeptEnding.{owner}
+use Rattle.hub_core.specs.Moving.{is_released}
+use Rattle.hub_core.specs.Roster.{cast_after}
 
 abbrev pub queue_core : AgentId → Kind → CoreState → Outcome → CoreState
 queue_core a kind c o = record c { agents = queue_counted a kind c.agents o; ends = queue_made a kind c.ends o }
@@ -22,33 +26,11 @@ queue_core a kind c o = record c { agents = queue_counted a kind c.agents o; end
 abbrev pub line_core : CoreState → EndId → AgentId → CoreState
 line_core c e a = record c { ends = line_ends_at ((seen c).agent a.0).runs a e.0 c.ends (slice_get c.ends e.0) }
 
-abbrev pub back_core : CoreState → Sender → CoreState
-back_core c s = record c { ends = change_end (λ x. back_end x s.line.0 (slice_get x.lines s.line.0)) s.end.0 c.ends }
-
-abbrev pub enter_core : CoreState → Sender → Outcome → CoreState
-enter_core c s o = record c {
-  agents = enter_agents (owner (seen c) s) c.agents o;
-  ends = enter_ends_at (may_enter (seen c) s) s c.ends (slice_get c.ends s.end.0);
-}
-
-abbrev pub leave_core : CoreState → Sender → Outcome → CoreState
-leave_core c s o = record c {
-  agents = leave_agents (owner (seen c) s) c.agents o;
-  ends = change_end (λ x. leave_end x s.line.0 (slice_get x.lines s.line.0)) s.end.0 c.ends;
-  roster = record c.roster { cast = cast_left s.end.0 o c.roster.cast };
-}
-
-abbrev pub hop_core : CoreState → Sender → CoreState
-hop_core c s = record c { ends = hop_ends_at (may_enter (seen c) s) s c.ends (slice_get c.ends s.end.0) }
-
 abbrev pub push_core : CoreState → Sender → List EndId → List ℕ → Result (Line × AgentId) Outcome → CoreState
 push_core c s ports body posting = record c { ends = push_ends s ports body c.ends posting }
 
 abbrev pub notice_core : CoreState → Sender → Result Line Outcome → CoreState
 notice_core c s noticing = record c { ends = notice_ends s c.ends noticing }
-
-abbrev pub start_core : CoreState → EndId → CoreState
-start_core c e = record c { ends = start_ends (holder (seen c) e.0) e.0 c.ends (slice_get c.ends e.0) }
 
 abbrev pub look_core : CoreState → EndId → CoreState
 look_core c e = record c { ends = change_end look_end e.0 c.ends }
@@ -56,24 +38,34 @@ look_core c e = record c { ends = change_end look_end e.0 c.ends }
 abbrev pub sweep_core : CoreState → EndId → CoreState
 sweep_core c e = record c { ends = sweep_ends e.0 c.ends (slice_get c.ends e.0) }
 
-abbrev pub adopt_core : CoreState → EndId → AgentId → Bool → Outcome → CoreState
-adopt_core c e a refused o = record c {
-  agents = adopt_agents (is_released (seen c) ((seen c).end e.0).kind) a c.agents (slice_get c.ends e.0) o;
-  ends = change_end (adopt_end ((seen c).agent a.0).runs a refused) e.0 c.ends;
+-- The core after a poster passed the gate, or was turned back there: it is one of its agent's that are away.
+abbrev pub entered_core : CoreState → Sender → Outcome → CoreState
+entered_core c s o = record c {
+  agents = change_owner one_away (owner (seen c) s) c.agents;
+  ends = gate_passed s c.ends o;
 }
 
-abbrev pub close_core : CoreState → EndId → Outcome → CoreState
-close_core c e o = record c {
-  agents = close_agents c.agents (slice_get c.ends e.0) o;
-  ends = change_end (close_end (may_close (seen c) e.0)) e.0 c.ends;
+-- the core after an answered step
+abbrev pub core_after : CoreState → Outcome → Action → CoreState
+core_after c outcome.Done (action.Back s) = record c { ends = change_line (λ y. record y { held_by = None }) s c.ends }
+core_after c outcome.In (action.Enter s) = entered_core c s outcome.In
+core_after c outcome.Moved (action.Enter s) = entered_core c s outcome.Moved
+core_after c outcome.Closed (action.Enter s) = entered_core c s outcome.Closed
+core_after c outcome.Left (action.Leave s) = record c {
+  agents = change_owner one_out (owner (seen c) s) c.agents;
+  ends = change_line (in_phase Out) s c.ends;
+  roster = record c.roster { cast = cast_after s.end.0 c.roster.cast };
 }
-
--- whether another agent may take over what the holder of the end has
-abbrev pub core_may_take_over : CoreState → EndId → AgentId → Bool
-core_may_take_over c e b = may_take_over (seen c) b (holder (seen c) e.0)
-
-abbrev pub hand_core : CoreState → EndId → AgentId → Outcome → CoreState
-hand_core c e b o = record c {
-  agents = hand_agents c.agents (slice_get c.ends e.0) o;
-  ends = change_end (λ x. handed_end b x (hand_outcome (core_may_take_over c e b) x)) e.0 c.ends;
+core_after c (outcome.Hopped k) (action.Hop s) = record c { ends = change_line at_next s c.ends }
+core_after c outcome.Started (action.Start e) = record c { ends = change_end (λ x. record x { is_enabled = true }) e.0 c.ends }
+core_after c (outcome.Adopted k) (action.Adopt e a) = record c {
+  agents = adopted_agents (is_released (seen c) ((seen c).end e.0).kind) a (slice_get c.ends e.0) c.agents;
+  ends = change_end (adopted_end a) e.0 c.ends;
 }
+core_after c outcome.Done (action.Close e) = record c { agents = went (slice_get c.ends e.0) c.agents; ends = change_end closed_end e.0 c.ends }
+core_after c outcome.Handed (action.Hand e b) = record c {
+  agents = went (slice_get c.ends e.0) c.agents;
+  ends = change_end (λ x. record x { place = Arrived b }) e.0 c.ends;
+}
+core_after c outcome.Ordered (action.Order a) = record c { agents = change_agent (λ x. record x { is_ordered = true }) a.0 c.agents }
+core_after c _ _ = c

@@ -2,7 +2,7 @@
 use Rattle.std.specs.Prelude.{ℕ, ◌+◌, ◌==◌, if◌then◌else◌, nat_lt, Bool, List, [], ◌∷◌, ◌++◌, length, slice_set, slice_get, slice_index_or, drop, Option, Some, None, option_map, is_some, false, true, ◌≡◌, ◌&&◌, ◌||◌, not, Result, Ok, Err, IfSome, nat_le, ◌-◌, replicate}
 use Rattle.std.specs.List.{fold, list_any, flat_map, position}
 use Rattle.std.specs.Bool.{MatchBool}
-use Rattle.hub_envelope.specs.declared.limits.TheConstants.{MAX_AGENTS, MAX_ENDS, MAX_LINES, MAX_MOVES, MAX_PORTS}
+use Rattle.hub_envelope.specs.declared.limits.TheConstants.{MAX_AGENTS, MAX_ENDS, MAX_LINES, MAX_PORTS}
 use Rattle.hub_envelope.specs.declared.ids.LineId.{LineId}
 use Rattle.hub_core.specs.declared.end.Place.TheVariants.{With, InFlight, Arrived, Swept, Gone}
 use Rattle.hub_core.specs.Accepted.{named_envelope, named_notice}
@@ -12,7 +12,6 @@ use Rattle.hub_core.specs.declared.agent.Agent.{Agent}
 use Rattle.hub_core.specs.declared.kind.Kind.{Kind}
 use Rattle.hub_core.specs.declared.kind.Kind.TheVariants.{Port, Client, Worker, Member}
 use Rattle.hub_core.specs.Made.{lines_of, is_queue}
-use Rattle.hub_core.specs.Moving.{is_arrived}
 use Rattle.hub_core.specs.declared.sender.Sender.{Sender}
 use Rattle.hub_envelope.specs.declared.envelope.Envelope.{Envelope}
 use Rattle.hub_core.specs.declared.line.Line.{Line}
@@ -26,26 +25,6 @@ use Rattle.hub_core.specs.CoreState.{CoreState}
 use Rattle.hub_core.specs.Facts.{Facts}
 use Rattle.hub_core.specs.Posting.{is_out, is_inside, hears_notice, is_fitting, is_good, listing_of, poster_of}
 use Rattle.hub_core.specs.Seen.{seen}
-
--- what the gate of an end answers a line
-abbrev pub gate_answer : End → Line → Outcome
-gate_answer x y = if nat_lt y.epoch x.newest then outcome.Moved else (if x.is_closed then outcome.Closed else outcome.In)
-
--- the end with a line at the next queue, where it has put nothing
-abbrev pub hopped_end : End → ℕ → Line → End
-hopped_end x l y = record x { lines = slice_set x.lines l (record y { epoch = y.epoch + 1; put = 0 }) }
-
--- whether a line may go on: it is out, at a retired queue
-abbrev pub may_hop : End → Line → Bool
-may_hop x y = is_out y.phase && nat_lt y.epoch x.newest
-
-abbrev pub hop_outcome : End → Option Line → Outcome
-hop_outcome x None = outcome.NotNow
-hop_outcome x (Some y) = if may_hop x y then outcome.Hopped (y.epoch + 1) else outcome.NotNow
-
-abbrev pub hop_end : End → ℕ → Option Line → End
-hop_end x l None = x
-hop_end x l (Some y) = if may_hop x y then hopped_end x l y else x
 
 -- whether the poster of some line is inside or being turned back at a queue
 abbrev pub is_anyone_at : ℕ → List Line → Bool
@@ -108,55 +87,6 @@ adopted_end a x = record x {
   queues = x.queues ++ [] ∷ [];
 }
 
-abbrev pub adopt_answer_by : Bool → ℕ → Bool → Outcome
-adopt_answer_by arrived newest refused =
-    if not arrived then outcome.NotNow
-    else (if nat_le MAX_MOVES newest then outcome.TooManyMoves
-    else (if refused then outcome.NoMemory
-    else outcome.Adopted (newest + 1)))
-
--- what the adoption of an end is answered
-abbrev pub adopt_outcome : Bool → AgentId → Bool → End → Outcome
-adopt_outcome runs a refused x =
-    if x.is_closed then outcome.Closed else adopt_answer_by (is_arrived a (Some x.place) && runs) x.newest refused
-
--- the end after its adoption got this answer
-abbrev pub adopted_by : AgentId → End → Outcome → End
-adopted_by a x (outcome.Adopted k) = adopted_end a x
-adopted_by a x _ = x
-
-abbrev pub adopt_end : Bool → AgentId → Bool → End → End
-adopt_end runs a refused x = adopted_by a x (adopt_outcome runs a refused x)
-
-abbrev pub adopt_outcome_at : Bool → AgentId → Bool → Option End → Outcome
-adopt_outcome_at runs a refused None = outcome.NotNow
-adopt_outcome_at runs a refused (Some x) = adopt_outcome runs a refused x
-
--- the phase of a line whose Enter got this answer
-abbrev pub phase_of : Outcome → Phase
-phase_of outcome.In = Inside
-phase_of _ = Turned
-
--- whether the poster of a line may come: it is out, and no notice was put
-abbrev pub may_come : Line → Bool
-may_come y = is_out y.phase && not y.has_noticed
-
-abbrev pub enter_outcome : End → Option Line → Outcome
-enter_outcome x None = outcome.NotNow
-enter_outcome x (Some y) = if may_come y then gate_answer x y else outcome.NotNow
-
-abbrev pub enter_end : End → ℕ → Option Line → End
-enter_end x l None = x
-enter_end x l (Some y) = if may_come y then record x { lines = slice_set x.lines l (record y { phase = phase_of (gate_answer x y) }) } else x
-
-abbrev pub leave_outcome : Option Line → Outcome
-leave_outcome None = outcome.NotNow
-leave_outcome (Some y) = if is_out y.phase then outcome.NotNow else outcome.Left
-
-abbrev pub leave_end : End → ℕ → Option Line → End
-leave_end x l None = x
-leave_end x l (Some y) = if is_out y.phase then x else record x { lines = slice_set x.lines l (record y { phase = Out }) }
-
 -- whether the queue is one of those that are kept
 abbrev pub has_queue : End → ℕ → Bool
 has_queue x epoch = nat_le x.taker epoch && nat_lt (epoch - x.taker) (length x.queues)
@@ -193,6 +123,28 @@ changed_ends change e ends (Some x) = slice_set ends e (change x)
 abbrev pub change_end : (End → End) → ℕ → List End → List End
 change_end change e ends = changed_ends change e ends (slice_get ends e)
 
+abbrev pub changed_lines : (Line → Line) → ℕ → List Line → Option Line → List Line
+changed_lines change l lines None = lines
+changed_lines change l lines (Some y) = slice_set lines l (change y)
+
+-- the ends with one line of one of them changed, where it is there
+abbrev pub change_line : (Line → Line) → Sender → List End → List End
+change_line change s ends = change_end (λ x. record x { lines = changed_lines change s.line.0 x.lines (slice_get x.lines s.line.0) }) s.end.0 ends
+
+abbrev pub in_phase : Phase → Line → Line
+in_phase p y = record y { phase = p }
+
+-- the ends after an Enter got this answer
+abbrev pub gate_passed : Sender → List End → Outcome → List End
+gate_passed s ends outcome.In = change_line (in_phase Inside) s ends
+gate_passed s ends outcome.Moved = change_line (in_phase Turned) s ends
+gate_passed s ends outcome.Closed = change_line (in_phase Turned) s ends
+gate_passed s ends _ = ends
+
+-- a line at the next queue, where it has put nothing
+abbrev pub at_next : Line → Line
+at_next y = record y { epoch = y.epoch + 1; put = 0 }
+
 -- the ends with one of them, and with those that the list names, at another place
 abbrev pub end_moved : Place → List End → EndId → List End
 end_moved p ends e = change_end (λ x. record x { place = p }) e.0 ends
@@ -208,28 +160,6 @@ with_agent (Some (Arrived a)) = None
 with_agent (Some Swept) = None
 with_agent (Some Gone) = None
 with_agent None = None
-
-abbrev pub enter_outcome_at : Bool → ℕ → Option End → Outcome
-enter_outcome_at may l None = outcome.NotNow
-enter_outcome_at may l (Some x) = if may then enter_outcome x (slice_get x.lines l) else outcome.NotNow
-
-abbrev pub enter_ends_at : Bool → Sender → List End → Option End → List End
-enter_ends_at may s ends None = ends
-enter_ends_at may s ends (Some x) =
-    if may then slice_set ends s.end.0 (enter_end x s.line.0 (slice_get x.lines s.line.0)) else ends
-
-abbrev pub hop_outcome_at : Bool → ℕ → Option End → Outcome
-hop_outcome_at may l None = outcome.NotNow
-hop_outcome_at may l (Some x) = if may then hop_outcome x (slice_get x.lines l) else outcome.NotNow
-
-abbrev pub hop_ends_at : Bool → Sender → List End → Option End → List End
-hop_ends_at may s ends None = ends
-hop_ends_at may s ends (Some x) =
-    if may then slice_set ends s.end.0 (hop_end x s.line.0 (slice_get x.lines s.line.0)) else ends
-
-abbrev pub leave_outcome_at : ℕ → Option End → Outcome
-leave_outcome_at l None = outcome.NotNow
-leave_outcome_at l (Some x) = leave_outcome (slice_get x.lines l)
 
 -- the end of the sender has the queue at which the line stands
 abbrev pub HasQueue : List End → Sender → Line → Type 0
@@ -291,16 +221,6 @@ notice_ends s ends (Err o) = ends
 abbrev pub closed_end : End → End
 closed_end x = record x { is_closed = true; place = Gone }
 
-abbrev pub close_outcome : Bool → End → Outcome
-close_outcome may x = if x.is_closed then outcome.Closed else (if may then outcome.Done else outcome.NotNow)
-
-abbrev pub close_end : Bool → End → End
-close_end may x = if x.is_closed then x else (if may then closed_end x else x)
-
-abbrev pub close_outcome_at : Bool → Option End → Outcome
-close_outcome_at may None = outcome.NotNow
-close_outcome_at may (Some x) = close_outcome may x
-
 -- some queues, one after another
 abbrev pub joined : List (List Envelope) → List Envelope
 joined queues = flat_map (λ q. q) queues
@@ -335,16 +255,6 @@ swept_ports _ = []
 abbrev pub sweep_ends : ℕ → List End → Option End → List End
 sweep_ends e ends None = ends
 sweep_ends e ends (Some x) = moved_ends (swept_ports (sweep_outcome x)) Swept (slice_set ends e (swept_end x (sweep_outcome x)))
-
-abbrev pub start_outcome : Option AgentId → Option End → Outcome
-start_outcome holder None = outcome.NotNow
-start_outcome holder (Some x) =
-    if x.is_closed then outcome.Closed else (if is_some holder then outcome.Started else outcome.NotNow)
-
-abbrev pub start_ends : Option AgentId → ℕ → List End → Option End → List End
-start_ends holder e old None = old
-start_ends holder e old (Some x) =
-    if x.is_closed then old else (if is_some holder then slice_set old e (record x { is_enabled = true }) else old)
 
 -- what a take at an open, enabled end of an agent gives and leaves
 abbrev pub TakeServes : AgentId → ℕ → List End → End → Outcome → List End → Type 0
@@ -454,6 +364,11 @@ gone kind (Arrived a) agents = agents
 gone kind Swept agents = agents
 gone kind Gone agents = agents
 
+-- the agents after this end went from its place
+abbrev pub went : Option End → List Agent → List Agent
+went None agents = agents
+went (Some x) agents = gone x.kind x.place agents
+
 -- how many queues of this kind the agent has
 abbrev pub count_of : Kind → Option Agent → ℕ
 count_of kind None = 0
@@ -511,49 +426,11 @@ line_ends_at false a e ends x = ends
 line_ends_at true a e ends None = ends
 line_ends_at true a e ends (Some x) = slice_set ends e (held_end a x (hold_outcome x))
 
--- whether a line may be given back: an agent holds it, and its poster is out
-abbrev pub may_give_back : Line → Bool
-may_give_back y = is_some y.held_by && is_out y.phase
-
-abbrev pub back_outcome : Option Line → Outcome
-back_outcome None = outcome.NotNow
-back_outcome (Some y) = if may_give_back y then outcome.Done else outcome.NotNow
-
-abbrev pub back_end : End → ℕ → Option Line → End
-back_end x l None = x
-back_end x l (Some y) = if may_give_back y then record x { lines = slice_set x.lines l (record y { held_by = None }) } else x
-
-abbrev pub back_outcome_at : ℕ → Option End → Outcome
-back_outcome_at l None = outcome.NotNow
-back_outcome_at l (Some x) = back_outcome (slice_get x.lines l)
-
-abbrev pub hand_outcome : Bool → End → Outcome
-hand_outcome may x =
-    if x.is_closed then outcome.Closed
-    else (if is_queue (Some x.kind) && may then outcome.Handed
-    else outcome.NotNow)
-
-abbrev pub handed_end : AgentId → End → Outcome → End
-handed_end b x outcome.Handed = record x { place = Arrived b }
-handed_end b x _ = x
-
-abbrev pub hand_outcome_at : Bool → Option End → Outcome
-hand_outcome_at may None = outcome.NotNow
-hand_outcome_at may (Some x) = hand_outcome may x
-
--- the agents after an end got this answer to a Hand, to a Close, and to an Adopt
-abbrev pub hand_agents : List Agent → Option End → Outcome → List Agent
-hand_agents agents (Some x) outcome.Handed = gone x.kind x.place agents
-hand_agents agents x _ = agents
-
-abbrev pub close_agents : List Agent → Option End → Outcome → List Agent
-close_agents agents (Some x) outcome.Done = gone x.kind x.place agents
-close_agents agents x _ = agents
-
 -- an agent that an end of this kind came to; of a port with its own poster away that poster is the agent's now
 abbrev pub adopting : Bool → Kind → Agent → Agent
 adopting released kind x = if released then one_more kind x else one_away (one_more kind x)
 
-abbrev pub adopt_agents : Bool → AgentId → List Agent → Option End → Outcome → List Agent
-adopt_agents released a agents (Some x) (outcome.Adopted k) = change_agent (adopting released x.kind) a.0 agents
-adopt_agents released a agents x _ = agents
+-- the agents after this end came to one of them
+abbrev pub adopted_agents : Bool → AgentId → Option End → List Agent → List Agent
+adopted_agents released a None agents = agents
+adopted_agents released a (Some x) agents = change_agent (adopting released x.kind) a.0 agents

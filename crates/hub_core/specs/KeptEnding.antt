@@ -1,5 +1,5 @@
 -- For private clauses: what the core keeps of posters that are away, and of agents that end.
-use Rattle.std.specs.Prelude.{ℕ, ◌==◌, if◌then◌else◌, List, Option, Some, None, false, true, not}
+use Rattle.std.specs.Prelude.{ℕ, ◌==◌, if◌then◌else◌, List, Option, Some, None, false, not}
 use Rattle.hub_envelope.specs.declared.ids.EndId.{EndId}
 use Rattle.hub_envelope.specs.declared.ids.AgentId.{AgentId}
 use Rattle.hub_core.specs.declared.agent.Agent.{Agent}
@@ -9,7 +9,7 @@ use Rattle.hub_core.specs.declared.sender.Sender.{Sender}
 use Rattle.hub_core.specs.Facts.{Facts}
 use Rattle.hub_core.specs.declared.outcome.Outcome.{Outcome}
 use Rattle.hub_core.specs.declared.outcome.Outcome.TheVariants as outcome
-use Rattle.hub_core.specs.Kept.{change_agent, with_agent, one_away, one_out, change_owner}
+use Rattle.hub_core.specs.Kept.{change_agent, with_agent}
 
 abbrev pub owner_by : Facts → Sender → Option Kind → Option AgentId
 owner_by f s (Some (Port q)) = if s.line.0 == 0 then with_agent (f.end q.0).place else None
@@ -21,24 +21,6 @@ owner_by f s None = None
 -- the agent, running or ending, whose poster the line has
 abbrev pub owner : Facts → Sender → Option AgentId
 owner f s = owner_by f s (f.end s.end.0).kind
-
--- the agents after an Enter, and after a Leave, got this answer
-abbrev pub enter_agents : Option AgentId → List Agent → Outcome → List Agent
-enter_agents owner agents outcome.In = change_owner one_away owner agents
-enter_agents owner agents outcome.Moved = change_owner one_away owner agents
-enter_agents owner agents outcome.Closed = change_owner one_away owner agents
-enter_agents owner agents _ = agents
-
-abbrev pub leave_agents : Option AgentId → List Agent → Outcome → List Agent
-leave_agents owner agents outcome.Left = change_owner one_out owner agents
-leave_agents owner agents _ = agents
-
-abbrev pub order_outcome_at : Option Agent → Outcome
-order_outcome_at None = outcome.NotNow
-order_outcome_at (Some x) = outcome.Ordered
-
-abbrev pub order_agents : ℕ → List Agent → List Agent
-order_agents a agents = change_agent (λ x. record x { is_ordered = true }) a agents
 
 abbrev pub see_outcome : List EndId → Option Agent → Outcome
 see_outcome ends None = outcome.NotNow

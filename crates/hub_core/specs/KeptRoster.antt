@@ -12,7 +12,7 @@ use Rattle.hub_core.specs.declared.group.Group.{Group}
 use Rattle.hub_core.specs.declared.members.Members.{Members}
 use Rattle.hub_core.specs.declared.roster.Roster.{Roster}
 use Rattle.hub_envelope.specs.declared.ids.EndId.{EndId}
-use Rattle.hub_core.specs.Roster.{CastNow, RosterNow, is_same_group, is_of_group, is_first, group_named, cast_to, cast_after}
+use Rattle.hub_core.specs.Roster.{CastNow, RosterNow, is_same_group, is_of_group, is_first, group_named, cast_to}
 use Rattle.hub_core.specs.declared.outcome.Outcome.{Outcome}
 use Rattle.hub_core.specs.declared.outcome.Outcome.TheVariants as outcome
 
@@ -134,8 +134,3 @@ PartLeaves x old _ new = new ≡ old
 abbrev pub agent_roster : Option (List ℕ) → Roster → Outcome → Roster
 agent_roster origin r (outcome.Agent a) = record r { members = record r.members { origins = r.members.origins ++ origin ∷ [] } }
 agent_roster origin r _ = r
-
--- the cast after a Leave of a line of this end got its answer
-abbrev pub cast_left : ℕ → Outcome → Option CastNow → Option CastNow
-cast_left x outcome.Left c = cast_after x c
-cast_left x _ c = c

@@ -6,14 +6,10 @@ ghost use Rattle.hub_envelope.specs.declared.envelope.Envelope.{Envelope as Enve
 ghost use Rattle.hub_envelope.specs.declared.limits.TheConstants.{MAX_MOVES};
 ghost use Rattle.hub_core.specs.Moving.{is_arrived};
 ghost use Rattle.hub_core.specs.Posting.{is_here, is_with};
-ghost use Rattle.hub_core.specs.Kept.{new_end, hold_outcome, held_end, back_outcome, back_end};
-ghost use Rattle.hub_core.specs.Kept.{hand_outcome, handed_end, close_outcome, close_end};
-ghost use Rattle.hub_core.specs.Kept.{hop_outcome, hop_end, kept_looked, kept_settled};
+ghost use Rattle.hub_core.specs.Kept.{new_end, hold_outcome, held_end, kept_looked, kept_settled};
 ghost use Rattle.hub_core.specs.Kept.{left_outcome, left_end, look_outcome, look_end, advanced_end};
-ghost use Rattle.hub_core.specs.Kept.{adopted_end, adopt_outcome, adopt_end, enter_outcome};
-ghost use Rattle.hub_core.specs.Kept.{enter_end, leave_outcome, leave_end, has_queue, posting_line};
-ghost use Rattle.hub_core.specs.Kept.{put_end, sweep_outcome, swept_end, taker_queue};
-ghost use Rattle.hub_core.specs.Kept.{with_taker_queue};
+ghost use Rattle.hub_core.specs.Kept.{adopted_end, has_queue, posting_line, put_end, sweep_outcome};
+ghost use Rattle.hub_core.specs.Kept.{swept_end, taker_queue, with_taker_queue};
 
 use crate::kind::Kind;
 use crate::line::{Line, Lines, Phase};
@@ -97,68 +93,6 @@ impl End {
         })
     }
 
-    /// A poster that is out passes the gate of its line's queue, or is turned back there.
-    pub(crate) fn enter(&mut self, line: LineId) -> Outcome
-        ensures outcome { result ≡ enter_outcome self.old (slice_get self.old.lines line.0) }
-        ensures after { self.new ≡ enter_end self.old line.0 (slice_get self.old.lines line.0) }
-    {
-        let Some(found) = self.lines.get(line) else {
-            return Outcome::NotNow;
-        };
-        if found.phase != Phase::Out || found.has_noticed {
-            return Outcome::NotNow;
-        }
-        let (phase, outcome) = if found.epoch < self.newest {
-            (Phase::Turned, Outcome::Moved)
-        } else if self.is_closed {
-            (Phase::Turned, Outcome::Closed)
-        } else {
-            (Phase::Inside, Outcome::In)
-        };
-        self.lines.set(line, Line { phase, ..found });
-        outcome
-    }
-
-    /// A poster that is inside or being turned back is out.
-    pub(crate) fn leave(&mut self, line: LineId) -> Outcome
-        ensures outcome { result ≡ leave_outcome (slice_get self.old.lines line.0) }
-        ensures after { self.new ≡ leave_end self.old line.0 (slice_get self.old.lines line.0) }
-    {
-        let Some(found) = self.lines.get(line) else {
-            return Outcome::NotNow;
-        };
-        if found.phase == Phase::Out {
-            return Outcome::NotNow;
-        }
-        let phase = Phase::Out;
-        self.lines.set(line, Line { phase, ..found });
-        Outcome::Left
-    }
-
-    /// A line that is out goes on from a retired queue to the next one.
-    pub(crate) fn hop(&mut self, line: LineId) -> Outcome
-        ensures outcome { result ≡ hop_outcome self.old (slice_get self.old.lines line.0) }
-        ensures after { self.new ≡ hop_end self.old line.0 (slice_get self.old.lines line.0) }
-    {
-        let Some(found) = self.lines.get(line) else {
-            return Outcome::NotNow;
-        };
-        if found.phase != Phase::Out || found.epoch >= self.newest {
-            return Outcome::NotNow;
-        }
-        let epoch = found.epoch + 1;
-        let put = 0;
-        self.lines.set(
-            line,
-            Line {
-                epoch,
-                put,
-                ..found
-            },
-        );
-        Outcome::Hopped(epoch)
-    }
-
     /// The queue that a look looks at: the first that isn't clear among the retired ones from the
     /// taker's on, and the newest where the end is closed.
     pub(crate) fn looked(&self) -> Option<u32>
@@ -223,38 +157,8 @@ impl End {
         self.queues.drop_first();
     }
 
-    /// The agent at which the end has arrived adopts it.
-    pub(crate) fn adopt(
-        &mut self,
-        alloc: Global,
-        agent: AgentId,
-        is_running: bool,
-        memory_refused: bool,
-    ) -> Result<Outcome, OutOfMemory>
-        ensures outcome { IfOk result (λ o. o
-            ≡ adopt_outcome is_running agent memory_refused self.old) }
-        ensures after { OnOk result (self.new
-            ≡ adopt_end is_running agent memory_refused self.old) }
-        ensures err { OnErr result (self.new ≡ self.old) }
-    {
-        if self.is_closed {
-            return Ok(Outcome::Closed);
-        }
-        if self.place != Place::Arrived(agent) || !is_running {
-            return Ok(Outcome::NotNow);
-        }
-        if self.newest >= MAX_MOVES {
-            return Ok(Outcome::TooManyMoves);
-        }
-        if memory_refused {
-            return Ok(Outcome::NoMemory);
-        }
-        self.renew(alloc, agent)?;
-        Ok(Outcome::Adopted(self.newest))
-    }
-
     /// The agent has the end, with a new, disabled queue.
-    fn renew(&mut self, alloc: Global, agent: AgentId) -> Result<(), OutOfMemory>
+    pub(crate) fn renew(&mut self, alloc: Global, agent: AgentId) -> Result<(), OutOfMemory>
         requires { self.old.newest < MAX_MOVES }
         ensures ok { OnOk result (self.new ≡ adopted_end agent self.old) }
         ensures err { OnErr result (self.new ≡ self.old) }
@@ -310,22 +214,6 @@ impl End {
         Ok(())
     }
 
-    /// The end is closed, where it can be.
-    pub(crate) fn close(&mut self, may: bool) -> Outcome
-        ensures outcome { result ≡ close_outcome may self.old }
-        ensures after { self.new ≡ close_end may self.old }
-    {
-        if self.is_closed {
-            return Outcome::Closed;
-        }
-        if !may {
-            return Outcome::NotNow;
-        }
-        self.is_closed = true;
-        self.place = Place::Gone;
-        Outcome::Done
-    }
-
     /// What waits at a closed end is discarded, where every queue is settled.
     pub(crate) fn sweep(&mut self, alloc: Global) -> Result<Outcome, OutOfMemory>
         ensures outcome { IfOk result (λ o. o ≡ sweep_outcome self.old) }
@@ -365,36 +253,5 @@ impl End {
         };
         self.lines.hold(line, Some(agent));
         Outcome::Line(line)
-    }
-
-    /// A line that an agent holds and whose poster is out is held by none.
-    pub(crate) fn give_back(&mut self, line: LineId) -> Outcome
-        ensures outcome { result ≡ back_outcome (slice_get self.old.lines line.0) }
-        ensures after { self.new ≡ back_end self.old line.0 (slice_get self.old.lines line.0) }
-    {
-        let Some(found) = self.lines.get(line) else {
-            return Outcome::NotNow;
-        };
-        if found.held_by.is_none() || found.phase != Phase::Out {
-            return Outcome::NotNow;
-        }
-        let held_by = None;
-        self.lines.set(line, Line { held_by, ..found });
-        Outcome::Done
-    }
-
-    /// An open queue of a client or worker goes to another agent, where it may.
-    pub(crate) fn hand(&mut self, agent: AgentId, may: bool) -> Outcome
-        ensures outcome { result ≡ hand_outcome may self.old }
-        ensures after { self.new ≡ handed_end agent self.old (hand_outcome may self.old) }
-    {
-        if self.is_closed {
-            return Outcome::Closed;
-        }
-        if !self.kind.is_queue() || !may {
-            return Outcome::NotNow;
-        }
-        self.place = Place::Arrived(agent);
-        Outcome::Handed
     }
 }

@@ -2,9 +2,11 @@
 
 ghost use Rattle.std.specs.Prelude.{◌≡◌, ◌++◌, ◌∷◌, [], length, slice_get, if◌then◌else◌, IfOk};
 ghost use Rattle.std.specs.Prelude.{OnOk, OnErr};
-ghost use Rattle.hub_core.specs.Ending.{ends_at};
+ghost use Rattle.hub_core.specs.Ending.{ends_at, order_answer};
+ghost use Rattle.hub_core.specs.CoreSteps.{core_after};
+ghost use Rattle.hub_core.specs.declared.step.Action.TheVariants as action;
 ghost use Rattle.hub_core.specs.Kept.{with_agent, change_owner, one_away, one_out};
-ghost use Rattle.hub_core.specs.KeptEnding.{owner_by, owner, order_outcome_at, order_agents};
+ghost use Rattle.hub_core.specs.KeptEnding.{owner_by, owner};
 ghost use Rattle.hub_core.specs.KeptEnding.{see_outcome, see_agents};
 ghost use Rattle.hub_core.specs.Seen.{seen};
 
@@ -18,10 +20,8 @@ use hub_envelope::{AgentId, EndId, Items, OutOfMemory};
 
 impl Core {
     pub(crate) fn order(&mut self, agent: AgentId) -> Outcome
-        ensures outcome { result ≡ order_outcome_at (slice_get self.old.agents agent.0) }
-        ensures new { self.new ≡ record self.old {
-          agents = order_agents agent.0 self.old.agents;
-        } }
+        ensures outcome { result ≡ order_answer (seen self.old) agent }
+        ensures new { self.new ≡ core_after self.old result (action.Order agent) }
     {
         let Some(found) = self.agents.get_mut(agent.0 as usize) else {
             return Outcome::NotNow;

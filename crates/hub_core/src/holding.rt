@@ -3,13 +3,16 @@
 
 ghost use Rattle.std.specs.Prelude.{◌≡◌, option_map, slice_get, IfOk};
 ghost use Rattle.hub_core.specs.Kept.{count_of, one_more, set_agent, gone};
-ghost use Rattle.hub_core.specs.Kept.{line_outcome_at, back_outcome_at};
-ghost use Rattle.hub_core.specs.CoreSteps.{line_core, back_core};
+ghost use Rattle.hub_core.specs.Kept.{line_outcome_at};
+ghost use Rattle.hub_core.specs.CoreSteps.{core_after, line_core};
+ghost use Rattle.hub_core.specs.Holding.{back_answer};
+ghost use Rattle.hub_core.specs.declared.step.Action.TheVariants as action;
 ghost use Rattle.hub_core.specs.Seen.{seen};
 
 use crate::agent::Agent;
 use crate::end::Place;
 use crate::kind::Kind;
+use crate::line::{Line, Phase};
 use crate::machine::Core;
 use crate::outcome::Outcome;
 use crate::sender::Sender;
@@ -30,15 +33,23 @@ impl Core {
         found.hold(agent)
     }
 
+    /// A line that an agent holds and whose poster is out is held by none.
     pub(crate) fn give_back(&mut self, sender: Sender) -> Outcome
-        ensures outcome { let found = slice_get self.old.ends sender.end.0 in
-            result ≡ back_outcome_at sender.line.0 found }
-        ensures new { self.new ≡ back_core self.old sender }
+        ensures outcome { result ≡ back_answer (seen self.old) sender }
+        ensures new { self.new ≡ core_after self.old result (action.Back sender) }
     {
         let Some(end) = self.ends.get_mut(sender.end.0 as usize) else {
             return Outcome::NotNow;
         };
-        end.give_back(sender.line)
+        let Some(found) = end.lines.get(sender.line) else {
+            return Outcome::NotNow;
+        };
+        if found.held_by.is_none() || found.phase != Phase::Out {
+            return Outcome::NotNow;
+        }
+        let held_by = None;
+        end.lines.set(sender.line, Line { held_by, ..found });
+        Outcome::Done
     }
 
     /// How many queues of a kind an agent has.

@@ -1,16 +1,20 @@
 //! Steps that move an end or close it: Adopt, Close and Hand.
 
-ghost use Rattle.std.specs.Prelude.{◌≡◌, slice_get, Some, IfOk, OnErr};
-ghost use Rattle.hub_core.specs.Kept.{adopt_outcome_at, close_outcome_at, hand_outcome_at};
-ghost use Rattle.hub_core.specs.Moving.{is_released, may_close, may_take_over};
+ghost use Rattle.std.specs.Prelude.{◌≡◌, option_map, slice_get, Some, IfOk, OnErr};
+ghost use Rattle.hub_core.specs.Kept.{adopting};
+ghost use Rattle.hub_core.specs.Moving.{adopt_answer, close_answer, hand_answer, is_released};
+ghost use Rattle.hub_core.specs.Moving.{may_close, may_take_over};
 ghost use Rattle.hub_core.specs.Seen.{seen};
-ghost use Rattle.hub_core.specs.CoreSteps.{adopt_core, close_core, core_may_take_over, hand_core};
+ghost use Rattle.hub_core.specs.CoreSteps.{core_after};
+ghost use Rattle.hub_core.specs.declared.step.Action.TheVariants as action;
 
+use crate::agent::Agent;
+use crate::end::Place;
 use crate::kind::Kind;
 use crate::line::Phase;
 use crate::machine::Core;
 use crate::outcome::Outcome;
-use hub_envelope::{AgentId, EndId, LineId, OutOfMemory};
+use hub_envelope::{AgentId, EndId, LineId, MAX_MOVES, OutOfMemory};
 
 impl Core {
     pub(crate) fn adopt(
@@ -19,46 +23,71 @@ impl Core {
         agent: AgentId,
         memory_refused: bool,
     ) -> Result<Outcome, OutOfMemory>
-        ensures outcome { let runs = ((seen self.old).agent agent.0).runs in
-            let found = slice_get self.old.ends end.0 in
-            IfOk result (λ o. o ≡ adopt_outcome_at runs agent memory_refused found) }
+        ensures outcome { IfOk result (λ o. o
+            ≡ adopt_answer (seen self.old) end agent memory_refused) }
         ensures new { IfOk result (λ o. self.new
-            ≡ adopt_core self.old end agent memory_refused o) }
+            ≡ core_after self.old o (action.Adopt end agent)) }
         ensures err { OnErr result (self.new ≡ self.old) }
     {
-        let Some(kind) = self.kind_at(end) else {
+        let at = end.0 as usize;
+        let is_running = self.is_running(agent);
+        let Some(found) = self.ends.get(at) else {
             return Ok(Outcome::NotNow);
         };
-        let is_running = self.is_running(agent);
-        let counted = self.with_one_more(kind, agent)?;
-        let counted = match counted {
-            Some(counted) if !self.is_released(kind) => Some(counted.with_one_away()),
-            counted => counted,
-        };
-        let found = &mut self.ends[end.0 as usize];
-        let outcome = found.adopt(self.alloc, agent, is_running, memory_refused)?;
-        if matches!(outcome, Outcome::Adopted(_)) {
-            self.set_agent(agent, counted);
+        if found.is_closed {
+            return Ok(Outcome::Closed);
         }
-        Ok(outcome)
+        if found.place != Place::Arrived(agent) || !is_running {
+            return Ok(Outcome::NotNow);
+        }
+        if found.newest >= MAX_MOVES {
+            return Ok(Outcome::TooManyMoves);
+        }
+        if memory_refused {
+            return Ok(Outcome::NoMemory);
+        }
+        let kind = found.kind;
+        let adopting = self.adopting(kind, agent)?;
+        let found = &mut self.ends[at];
+        found.renew(self.alloc, agent)?;
+        let newest = found.newest;
+        self.set_agent(agent, adopting);
+        Ok(Outcome::Adopted(newest))
+    }
+
+    /// The agent, after an end of this kind came to it: of a port with its own poster away that
+    /// poster is the agent's.
+    fn adopting(&self, kind: Kind, agent: AgentId) -> Result<Option<Agent>, OutOfMemory>
+        ensures { let released = is_released (seen self.now) (Some kind) in
+            IfOk result (λ found. found
+            ≡ option_map (adopting released kind) (slice_get self.now.agents agent.0)) }
+    {
+        match self.with_one_more(kind, agent)? {
+            Some(counted) if !self.is_released(kind) => Ok(Some(counted.with_one_away())),
+            counted => Ok(counted),
+        }
     }
 
     pub(crate) fn close(&mut self, end: EndId) -> Outcome
-        ensures outcome { let found = slice_get self.old.ends end.0 in
-            result ≡ close_outcome_at (may_close (seen self.old) end.0) found }
-        ensures new { self.new ≡ close_core self.old end result }
+        ensures outcome { result ≡ close_answer (seen self.old) end }
+        ensures new { self.new ≡ core_after self.old result (action.Close end) }
     {
         let may = self.can_close(end);
         let Some(found) = self.ends.get_mut(end.0 as usize) else {
             return Outcome::NotNow;
         };
+        if found.is_closed {
+            return Outcome::Closed;
+        }
+        if !may {
+            return Outcome::NotNow;
+        }
         let kind = found.kind;
         let place = found.place;
-        let outcome = found.close(may);
-        if matches!(outcome, Outcome::Done) {
-            self.went_from(kind, place);
-        }
-        outcome
+        found.is_closed = true;
+        found.place = Place::Gone;
+        self.went_from(kind, place);
+        Outcome::Done
     }
 
     pub(crate) fn can_close(&self, end: EndId) -> bool
@@ -81,21 +110,24 @@ impl Core {
     }
 
     pub(crate) fn hand(&mut self, end: EndId, agent: AgentId) -> Outcome
-        ensures outcome { let may = core_may_take_over self.old end agent in
-            result ≡ hand_outcome_at may (slice_get self.old.ends end.0) }
-        ensures new { self.new ≡ hand_core self.old end agent result }
+        ensures outcome { result ≡ hand_answer (seen self.old) end agent }
+        ensures new { self.new ≡ core_after self.old result (action.Hand end agent) }
     {
         let may = self.may_take_over(agent, self.running_holder(end));
         let Some(found) = self.ends.get_mut(end.0 as usize) else {
             return Outcome::NotNow;
         };
+        if found.is_closed {
+            return Outcome::Closed;
+        }
+        if !found.kind.is_queue() || !may {
+            return Outcome::NotNow;
+        }
         let kind = found.kind;
         let place = found.place;
-        let outcome = found.hand(agent, may);
-        if matches!(outcome, Outcome::Handed) {
-            self.went_from(kind, place);
-        }
-        outcome
+        found.place = Place::Arrived(agent);
+        self.went_from(kind, place);
+        Outcome::Handed
     }
 
     /// Whether an agent may take over what another one has.

@@ -4,16 +4,17 @@ ghost use Rattle.std.specs.Prelude.{◌≡◌, ◌<◌, ◌≤◌, ◌&&◌, len
 ghost use Rattle.std.specs.Prelude.{IfSome, IfOk, OnOk, OnErr};
 ghost use Rattle.std.specs.List.{list_all};
 ghost use Rattle.hub_core.specs.Made.{peer_of};
-ghost use Rattle.hub_core.specs.Posting.{is_distinct, is_fitting, is_good, listing_of, may_enter};
+ghost use Rattle.hub_core.specs.Posting.{enter_answer, is_distinct, is_fitting, is_good, leave_answer};
+ghost use Rattle.hub_core.specs.Posting.{listing_of};
 ghost use Rattle.hub_core.specs.Posting.{is_at, may_leave_agent, own_line_plain, own_poster_out};
 ghost use Rattle.hub_core.specs.Seen.{seen};
 ghost use Rattle.hub_core.specs.Shows.{line_now};
-ghost use Rattle.hub_core.specs.Kept.{enter_outcome_at, enter_ends_at, leave_outcome_at};
-ghost use Rattle.hub_core.specs.Kept.{hop_outcome_at, kept_noticing, kept_posting, notice_outcome};
+ghost use Rattle.hub_core.specs.Kept.{gate_passed, kept_noticing, kept_posting, notice_outcome};
 ghost use Rattle.hub_core.specs.Kept.{posting_at, push_outcome, HasQueue};
 ghost use Rattle.hub_core.specs.Kept.{put_ends, accept_ends, moved_ends, end_moved};
-ghost use Rattle.hub_core.specs.CoreSteps.{enter_core, leave_core, hop_core, push_core};
-ghost use Rattle.hub_core.specs.CoreSteps.{notice_core};
+ghost use Rattle.hub_core.specs.CoreSteps.{core_after, push_core, notice_core};
+ghost use Rattle.hub_core.specs.Moving.{hop_answer};
+ghost use Rattle.hub_core.specs.declared.step.Action.TheVariants as action;
 
 use crate::end::Place;
 use crate::kind::Kind;
@@ -26,26 +27,24 @@ use hub_envelope::{AgentId, Body, EndId, Envelope, Items, LineId, MAX_PORTS, Out
 
 impl Core {
     pub(crate) fn enter(&mut self, sender: Sender) -> Outcome
-        ensures outcome { let may = may_enter (seen self.old) sender in
-            result ≡ enter_outcome_at may sender.line.0 (slice_get self.old.ends sender.end.0) }
-        ensures new { self.new ≡ enter_core self.old sender result }
+        ensures outcome { result ≡ enter_answer (seen self.old) sender }
+        ensures new { self.new ≡ core_after self.old result (action.Enter sender) }
     {
         let owner = self.owner_of(sender);
         let outcome = self.pass_gate(sender);
-        if !matches!(outcome, Outcome::NotNow) {
+        if matches!(outcome, Outcome::In | Outcome::Moved | Outcome::Closed) {
             self.count_away(owner);
         }
         outcome
     }
 
-    /// The poster passes the gate or is turned back there; what is counted of its agent stays.
+    /// The poster passes the gate of its line's queue or is turned back there; what is counted of
+    /// its agent stays.
     fn pass_gate(&mut self, sender: Sender) -> Outcome
-        ensures outcome { let may = may_enter (seen self.old) sender in
-            result ≡ enter_outcome_at may sender.line.0 (slice_get self.old.ends sender.end.0) }
-        ensures new { let may = may_enter (seen self.old) sender in let ends = self.old.ends in
-            self.new ≡ record self.old {
-              ends = enter_ends_at may sender ends (slice_get ends sender.end.0);
-            } }
+        ensures outcome { result ≡ enter_answer (seen self.old) sender }
+        ensures new { self.new ≡ record self.old {
+          ends = gate_passed sender self.old.ends result;
+        } }
     {
         if !self.may_enter(sender) {
             return Outcome::NotNow;
@@ -53,30 +52,46 @@ impl Core {
         let Some(end) = self.ends.get_mut(sender.end.0 as usize) else {
             return Outcome::NotNow;
         };
-        end.enter(sender.line)
+        let found = end.lines.get(sender.line).unwrap_or(Line::FIRST);
+        if found.phase != Phase::Out || found.has_noticed {
+            return Outcome::NotNow;
+        }
+        let (phase, outcome) = if found.epoch < end.newest {
+            (Phase::Turned, Outcome::Moved)
+        } else if end.is_closed {
+            (Phase::Turned, Outcome::Closed)
+        } else {
+            (Phase::Inside, Outcome::In)
+        };
+        end.lines.set(sender.line, Line { phase, ..found });
+        outcome
     }
 
     pub(crate) fn leave(&mut self, sender: Sender) -> Outcome
-        ensures outcome { let ends = self.old.ends in
-            result ≡ leave_outcome_at sender.line.0 (slice_get ends sender.end.0) }
-        ensures new { self.new ≡ leave_core self.old sender result }
+        ensures outcome { result ≡ leave_answer (seen self.old) sender }
+        ensures new { self.new ≡ core_after self.old result (action.Leave sender) }
     {
         let owner = self.owner_of(sender);
         let Some(end) = self.ends.get_mut(sender.end.0 as usize) else {
             return Outcome::NotNow;
         };
-        let outcome = end.leave(sender.line);
-        if matches!(outcome, Outcome::Left) {
-            self.count_out(owner);
-            self.roster.leave(sender.end);
+        let Some(found) = end.lines.get(sender.line) else {
+            return Outcome::NotNow;
+        };
+        if found.phase == Phase::Out {
+            return Outcome::NotNow;
         }
-        outcome
+        let phase = Phase::Out;
+        end.lines.set(sender.line, Line { phase, ..found });
+        self.count_out(owner);
+        self.roster.leave(sender.end);
+        Outcome::Left
     }
 
+    /// A line that is out goes on from a retired queue to the next one.
     pub(crate) fn hop(&mut self, sender: Sender) -> Outcome
-        ensures outcome { let may = may_enter (seen self.old) sender in
-            result ≡ hop_outcome_at may sender.line.0 (slice_get self.old.ends sender.end.0) }
-        ensures new { self.new ≡ hop_core self.old sender }
+        ensures outcome { result ≡ hop_answer (seen self.old) sender }
+        ensures new { self.new ≡ core_after self.old result (action.Hop sender) }
     {
         if !self.may_enter(sender) {
             return Outcome::NotNow;
@@ -84,7 +99,21 @@ impl Core {
         let Some(end) = self.ends.get_mut(sender.end.0 as usize) else {
             return Outcome::NotNow;
         };
-        end.hop(sender.line)
+        let found = end.lines.get(sender.line).unwrap_or(Line::FIRST);
+        if found.phase != Phase::Out || found.epoch >= end.newest {
+            return Outcome::NotNow;
+        }
+        let epoch = found.epoch + 1;
+        let put = 0;
+        end.lines.set(
+            sender.line,
+            Line {
+                epoch,
+                put,
+                ..found
+            },
+        );
+        Outcome::Hopped(epoch)
     }
 
     pub(crate) fn push(

@@ -1,10 +1,12 @@
 //! Steps of whoever takes: Start and Take.
 
 ghost use Rattle.std.specs.Prelude.{◌≡◌, slice_get};
-ghost use Rattle.hub_core.specs.Kept.{start_outcome, TakeLeaves};
+ghost use Rattle.hub_core.specs.Kept.{TakeLeaves};
 ghost use Rattle.hub_core.specs.Posting.{holder};
 ghost use Rattle.hub_core.specs.Seen.{seen};
-ghost use Rattle.hub_core.specs.CoreSteps.{start_core};
+ghost use Rattle.hub_core.specs.CoreSteps.{core_after};
+ghost use Rattle.hub_core.specs.Taking.{start_answer};
+ghost use Rattle.hub_core.specs.declared.step.Action.TheVariants as action;
 
 use crate::end::Place;
 use crate::machine::Core;
@@ -13,9 +15,8 @@ use hub_envelope::EndId;
 
 impl Core {
     pub(crate) fn start(&mut self, end: EndId) -> Outcome
-        ensures outcome { let ends = self.old.ends in
-            result ≡ start_outcome (holder (seen self.old) end.0) (slice_get ends end.0) }
-        ensures new { self.new ≡ start_core self.old end }
+        ensures outcome { result ≡ start_answer (seen self.old) end }
+        ensures new { self.new ≡ core_after self.old result (action.Start end) }
     {
         let at = end.0 as usize;
         let Some(found) = self.ends.get(at) else {

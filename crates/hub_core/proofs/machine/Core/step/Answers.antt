@@ -1,26 +1,31 @@
 -- Each arm of a step: what the family did to the core is what the facts say.
 use Rattle.std.proofs.Common.{refl, ap, ◌∙◌}
-use Rattle.hub_core.specs.CoreSteps.{queue_core, line_core, back_core, enter_core, hop_core, push_core, notice_core, start_core, look_core, sweep_core, adopt_core, close_core, hand_core}
+use Rattle.hub_core.specs.CoreSteps.{queue_core, line_core, push_core, notice_core, look_core, sweep_core}
 use Rattle.hub_core.specs.Kept.{ends_made, kept_noticing, kept_posting}
-use Rattle.hub_core.specs.KeptEnding.{order_agents, see_agents}
+use Rattle.hub_core.specs.KeptEnding.{see_agents}
 use Rattle.hub_core.specs.declared.kind.Kind.TheVariants.{Client, Worker}
 use Rattle.hub_core.specs.declared.step.Action.TheVariants as action
-use Rattle.hub_core.proofs.Stepping.{ok_both, ok_all, channel_same, client_same, worker_same, start_same, push_same, notice_same, enter_same, take_same}
-use Rattle.hub_core.proofs.Took.{ok, took, same_err, same_err_with, told, agent_took, member_took, leave_took, cast_took, part_took, both_same}
+use Rattle.hub_core.proofs.Stepping.{ok_both, ok_all, channel_same, client_same, worker_same, push_same, notice_same, take_same}
+use Rattle.hub_core.proofs.Took.{ok, took, took_by, same_err, same_err_with, told, agent_took, member_took, leave_took, cast_took, part_took}
 use Rattle.hub_core.proofs.Frames.{with_ends, with_agents}
 use Rattle.hub_core.proofs.Makes.{makes_client, makes_worker, channel_shown, queue_shown}
-use Rattle.hub_core.proofs.Holds.{line_shown, line_same, back_shown, back_same}
-use Rattle.hub_core.proofs.Hands.{hand_shown, hand_same, hand_agents_same}
-use Rattle.hub_core.proofs.Entering.{enter_shown, enter_agents_same}
-use Rattle.hub_core.proofs.Endings.{order_shown, order_same, see_shown, see_same}
+use Rattle.hub_core.proofs.Holds.{line_shown, line_same, back_changes}
+use Rattle.hub_core.proofs.Hands.{hand_changes}
+use Rattle.hub_core.proofs.Entering.{enter_changes}
+use Rattle.hub_core.proofs.Endings.{order_changes, see_shown, see_same}
 use Rattle.hub_core.proofs.Pushes.{push_shown}
-use Rattle.hub_core.proofs.Takes.{start_shown, take_shown}
-use Rattle.hub_core.proofs.Hops.{hop_shown, hop_same}
+use Rattle.hub_core.proofs.Takes.{start_changes, take_shown}
+use Rattle.hub_core.proofs.Hops.{hop_changes}
 use Rattle.hub_core.proofs.Looks.{look_shown, look_same}
-use Rattle.hub_core.proofs.Adopts.{adopt_shown, adopt_same, adopt_agents_same}
+use Rattle.hub_core.proofs.Adopts.{adopt_changes}
 use Rattle.hub_core.proofs.Notices.{notice_shown}
-use Rattle.hub_core.proofs.Closes.{close_shown, close_same, close_agents_same}
+use Rattle.hub_core.proofs.Closes.{close_changes}
 use Rattle.hub_core.proofs.Sweeps.{sweep_shown, sweep_same}
+use Rattle.hub_core.proofs.Seeing.{seen_is, enter_seen, hop_seen, close_seen, hand_seen}
+use Rattle.hub_core.specs.Ending.{order_answer}
+use Rattle.hub_core.specs.Holding.{back_answer}
+use Rattle.hub_core.specs.Moving.{adopt_answer}
+use Rattle.hub_core.specs.Taking.{start_answer}
 use Rattle.hub_core.proofs.machine.Core.step.Goals as goal
 
 pub returns-in-Agent : goal.returns-in-Agent
@@ -65,19 +70,13 @@ returns-in-Line c = told c.args.step (action.Line c.in-Line.end c.in-Line.agent)
     (λ h. ap (with_ends c.args.self.now) (line_same _ _ c.in-Line.agent _ _ refl h))) tt
 
 pub returns-in-Back : goal.returns-in-Back
-returns-in-Back c = told c.args.step (action.Back c.in-Back.sender) _ _ (ok c.give_back.result) c.in-Back.is (took _ _ _ _ (back_core c.args.self.now c.in-Back.sender) _ _ c.give_back.ensures.outcome c.give_back.ensures.new refl refl
-    (λ f s. back_shown _ _ f c.in-Back.sender _ s.shows)
-    (λ h. ap (with_ends c.args.self.now) (back_same _ _ _ refl h))) tt
+returns-in-Back c = told c.args.step (action.Back c.in-Back.sender) _ _ (ok c.give_back.result) c.in-Back.is (took_by _ _ c.args.self.now _ _ c.give_back.ensures.new refl (λ f s. c.give_back.ensures.outcome ∙ ap (λ g. back_answer g c.in-Back.sender) (seen_is c.args.self.now f s)) (λ f s fit change. back_changes c.args.self.now f c.in-Back.sender _ s fit change)) tt
 
 pub returns-in-Hop : goal.returns-in-Hop
-returns-in-Hop c = told c.args.step (action.Hop c.in-Hop.sender) _ _ (ok c.hop.result) c.in-Hop.is (took _ _ _ _ (hop_core c.args.self.now c.in-Hop.sender) _ _ c.hop.ensures.outcome c.hop.ensures.new refl refl
-    (λ f s. hop_shown c.args.self.now f c.in-Hop.sender _ s)
-    (λ h. ap (with_ends c.args.self.now) (hop_same _ _ _ _ refl h))) tt
+returns-in-Hop c = told c.args.step (action.Hop c.in-Hop.sender) _ _ (ok c.hop.result) c.in-Hop.is (took_by _ _ c.args.self.now _ _ c.hop.ensures.new refl (λ f s. c.hop.ensures.outcome ∙ hop_seen c.args.self.now f c.in-Hop.sender s) (λ f s fit change. hop_changes c.args.self.now f c.in-Hop.sender _ s fit change)) tt
 
 pub returns-in-Start : goal.returns-in-Start
-returns-in-Start c = told c.args.step (action.Start c.in-Start.end) _ _ (ok c.start.result) c.in-Start.is (took _ _ _ _ (start_core c.args.self.now c.in-Start.end) _ _ c.start.ensures.outcome c.start.ensures.new refl refl
-    (λ f s. start_shown c.args.self.now f c.in-Start.end _ s)
-    (λ h. ap (with_ends c.args.self.now) (start_same _ _ _ _ h))) tt
+returns-in-Start c = told c.args.step (action.Start c.in-Start.end) _ _ (ok c.start.result) c.in-Start.is (took_by _ _ c.args.self.now _ _ c.start.ensures.new refl (λ f s. c.start.ensures.outcome ∙ ap (λ g. start_answer g c.in-Start.end) (seen_is c.args.self.now f s)) (λ f s fit change. start_changes c.args.self.now f c.in-Start.end _ s fit change)) tt
 
 pub returns-in-Look : goal.returns-in-Look
 returns-in-Look c = told c.args.step (action.Look c.in-Look.end) _ _ (ok c.look.result) c.in-Look.is (took _ _ _ _ (look_core c.args.self.now c.in-Look.end) _ _ c.look.ensures.outcome c.look.ensures.new refl refl
@@ -85,29 +84,19 @@ returns-in-Look c = told c.args.step (action.Look c.in-Look.end) _ _ (ok c.look.
     (λ h. ap (with_ends c.args.self.now) (look_same _ _ _ refl h))) tt
 
 pub returns-in-Order : goal.returns-in-Order
-returns-in-Order c = told c.args.step (action.Order c.in-Order.agent) _ _ (ok c.order.result) c.in-Order.is (took _ _ _ _ (with_agents c.args.self.now (order_agents c.in-Order.agent.0 c.args.self.now.agents)) _ _ c.order.ensures.outcome c.order.ensures.new refl refl
-    (λ f s. order_shown _ _ f c.in-Order.agent _ s.shows)
-    (λ h. ap (with_agents c.args.self.now) (order_same _ c.in-Order.agent h))) tt
+returns-in-Order c = told c.args.step (action.Order c.in-Order.agent) _ _ (ok c.order.result) c.in-Order.is (took_by _ _ c.args.self.now _ _ c.order.ensures.new refl (λ f s. c.order.ensures.outcome ∙ ap (λ g. order_answer g c.in-Order.agent) (seen_is c.args.self.now f s)) (λ f s fit change. order_changes c.args.self.now f c.in-Order.agent _ s fit change)) tt
 
 pub returns-in-Enter : goal.returns-in-Enter
-returns-in-Enter c = told c.args.step (action.Enter c.in-Enter.sender) _ _ (ok c.enter.result) c.in-Enter.is (took _ _ _ _ _ _ _ c.enter.ensures.outcome (c.enter.ensures.new ∙ ap (enter_core c.args.self.now c.in-Enter.sender) c.enter.ensures.outcome) refl refl
-    (λ f s. enter_shown c.args.self.now f c.in-Enter.sender _ s)
-    (λ h. both_same _ (enter_agents_same _ _ c.in-Enter.sender _ h) (enter_same _ _ _ _ refl h))) tt
+returns-in-Enter c = told c.args.step (action.Enter c.in-Enter.sender) _ _ (ok c.enter.result) c.in-Enter.is (took_by _ _ c.args.self.now _ _ c.enter.ensures.new refl (λ f s. c.enter.ensures.outcome ∙ enter_seen c.args.self.now f c.in-Enter.sender s) (λ f s fit change. enter_changes c.args.self.now f c.in-Enter.sender _ s fit change)) tt
 
 pub returns-in-Close : goal.returns-in-Close
-returns-in-Close c = told c.args.step (action.Close c.in-Close.end) _ _ (ok c.close.result) c.in-Close.is (took _ _ _ _ _ _ _ c.close.ensures.outcome (c.close.ensures.new ∙ ap (close_core c.args.self.now c.in-Close.end) c.close.ensures.outcome) refl refl
-    (λ f s. close_shown c.args.self.now f c.in-Close.end _ s)
-    (λ h. both_same _ (close_agents_same _ c.in-Close.end _ _ h) (close_same _ _ _ _ refl h))) tt
+returns-in-Close c = told c.args.step (action.Close c.in-Close.end) _ _ (ok c.close.result) c.in-Close.is (took_by _ _ c.args.self.now _ _ c.close.ensures.new refl (λ f s. c.close.ensures.outcome ∙ close_seen c.args.self.now f c.in-Close.end s) (λ f s fit change. close_changes c.args.self.now f c.in-Close.end _ s fit change)) tt
 
 pub returns-in-Hand : goal.returns-in-Hand
-returns-in-Hand c = told c.args.step (action.Hand c.in-Hand.end c.in-Hand.agent) _ _ (ok c.hand.result) c.in-Hand.is (took _ _ _ _ _ _ _ c.hand.ensures.outcome (c.hand.ensures.new ∙ ap (hand_core c.args.self.now c.in-Hand.end c.in-Hand.agent) c.hand.ensures.outcome) refl refl
-    (λ f s. hand_shown c.args.self.now f c.in-Hand.end c.in-Hand.agent _ s)
-    (λ h. both_same _ (hand_agents_same _ c.in-Hand.end c.in-Hand.agent _ _ h) (hand_same _ _ c.in-Hand.agent _ _ refl h))) tt
+returns-in-Hand c = told c.args.step (action.Hand c.in-Hand.end c.in-Hand.agent) _ _ (ok c.hand.result) c.in-Hand.is (took_by _ _ c.args.self.now _ _ c.hand.ensures.new refl (λ f s. c.hand.ensures.outcome ∙ hand_seen c.args.self.now f c.in-Hand.end c.in-Hand.agent s) (λ f s fit change. hand_changes c.args.self.now f c.in-Hand.end c.in-Hand.agent _ s fit change)) tt
 
 pub returns-in-Adopt : goal.returns-in-Adopt
-returns-in-Adopt c = told c.args.step (action.Adopt c.in-Adopt.end c.in-Adopt.agent) _ _ _ c.in-Adopt.is (ok_both c.adopt.result _ _ _ c.adopt.ensures.outcome c.adopt.ensures.new (λ o is leaves. took _ _ _ _ _ _ _ is (leaves ∙ ap (adopt_core c.args.self.now c.in-Adopt.end c.in-Adopt.agent c.args.step.memory_refused) is) refl refl
-    (λ f s. adopt_shown c.args.self.now f c.in-Adopt.end c.in-Adopt.agent _ s)
-    (λ h. both_same _ (adopt_agents_same _ _ c.in-Adopt.end c.in-Adopt.agent _ _ h) (adopt_same _ _ c.in-Adopt.agent _ _ _ refl h))))
+returns-in-Adopt c = told c.args.step (action.Adopt c.in-Adopt.end c.in-Adopt.agent) _ _ _ c.in-Adopt.is (ok_both c.adopt.result _ _ _ c.adopt.ensures.outcome c.adopt.ensures.new (λ o is leaves. took_by _ _ c.args.self.now _ _ leaves refl (λ f s. is ∙ ap (λ g. adopt_answer g c.in-Adopt.end c.in-Adopt.agent c.args.step.memory_refused) (seen_is c.args.self.now f s)) (λ f s fit change. adopt_changes c.args.self.now f c.in-Adopt.end c.in-Adopt.agent _ s fit change)))
     (same_err (action.Adopt c.in-Adopt.end c.in-Adopt.agent) c.adopt.result _ _ refl c.adopt.ensures.err)
 
 pub returns-in-Push : goal.returns-in-Push
