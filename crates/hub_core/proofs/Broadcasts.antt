@@ -1,4 +1,6 @@
 -- What the steps of broadcast channels are answered, and the agents and ends that they leave, are what the facts say.
+use Rattle.hub_core.proofs.Nexts.{Change, cast_begun}
+use Rattle.hub_core.proofs.Changing.{ShownWith}
 use Rattle.std.proofs.Common.{◌≡◌, ℕ, Bool, true, false, eqb, List, [], ◌∷◌, Option, Some, None, refl, sym, ap, ◌∙◌, length, rules}
 use Rattle.std.proofs.lemmas.Bool.Decides.{nat_tests}
 use Rattle.std.specs.Prelude.{◌&&◌, not, is_some}
@@ -24,7 +26,7 @@ use Rattle.hub_core.specs.declared.members.Members.{Members}
 use Rattle.hub_core.specs.Seen.{seen}
 use Rattle.hub_core.specs.KeptCasting.{kept_cast_answer, kept_member_answer, member_made, part_outcome}
 use Rattle.hub_core.specs.KeptRoster.{group_of, is_seated_in, kept_destinations, origin_at}
-use Rattle.hub_core.proofs.Casts.{destinations_kept, seated_kept}
+use Rattle.hub_core.proofs.Casts.{destinations_kept, seated_kept, roster_cast}
 use Rattle.hub_core.proofs.Frames.{Stepped}
 use Rattle.hub_core.proofs.Seeing.{Sees, seen_is}
 use Rattle.hub_core.proofs.Makes.{member_shown}
@@ -36,10 +38,10 @@ use Rattle.hub_core.proofs.Nexts.{next}
 casting_kept : (r : Roster) (f : Facts) → ShowsRoster r f → is_some r.cast ≡ is_casting f
 casting_kept r f h = ap is_some (sym h.cast)
 
-pub member_told : (c : CoreState) (f : Facts) (a : AgentId) (name : List ℕ) (refused : Bool) → Sees c f → ShowsRoster c.roster f → (let o : Outcome = kept_member_answer (((seen c).agent a.0).runs && not (is_some c.roster.cast)) (is_some (origin_at (slice_get c.roster.members.origins a.0))) (length c.ends) refused in Stepped c.agents (member_made a c.ends o) f (action.Member a name) refused o)
-member_told c f a name refused h w =
+pub member_told : (c : CoreState) (f : Facts) (a : AgentId) (name : List ℕ) (refused : Bool) → Sees c f → (let o : Outcome = kept_member_answer (((seen c).agent a.0).runs && not (is_some c.roster.cast)) (is_some (origin_at (slice_get c.roster.members.origins a.0))) (length c.ends) refused in Stepped c.agents (member_made a c.ends o) f (action.Member a name) refused o)
+member_told c f a name refused h =
     member_shown c.agents c.ends f a name (((seen c).agent a.0).runs && not (is_some c.roster.cast)) (is_some (origin_at (slice_get c.roster.members.origins a.0))) refused h.shows
-    (ap (λ g. (g.agent a.0).runs && not (is_some g.roster.cast)) (seen_is c f h)) (ap is_some (sym (w.origins a.0)))
+    (ap (λ g. (g.agent a.0).runs && not (is_some g.roster.cast)) (seen_is c f h)) (ap is_some (sym (h.roster.origins a.0)))
 
 -- ---- another roster
 
@@ -56,12 +58,6 @@ reshown agents ends f roster h sound = record {
   sound = sound;
 }
 
-cast_leaves : (agents : List Agent) (ends : List End) (f : Facts) (e : EndId) (ports : List EndId) (body : List ℕ) (refused : Bool) (o : Outcome) → ShowsFacts agents ends f → o ≡ cast_answer f e ports → Stepped agents ends f (action.Cast e ports body) refused o
-cast_leaves agents ends f e ports body refused (outcome.Destinations ds) h answer = record { fits = answer; shows = reshown agents ends f (next f (action.Cast e ports body) (outcome.Destinations ds)).roster h (sound_next f (action.Cast e ports body) refused (outcome.Destinations ds) h.sound answer) }
-cast_leaves agents ends f e ports body refused (outcome.Clear None) h answer = record { fits = answer; shows = h }
-cast_leaves agents ends f e ports body refused (outcome.Clear (Some k)) h answer = record { fits = answer; shows = h }
-cast_leaves agents ends f e ports body refused o h answer = record { fits = answer; shows = h }
-
 part_leaves : (agents : List Agent) (ends : List End) (f : Facts) (e : EndId) (refused : Bool) (o : Outcome) → ShowsFacts agents ends f → o ≡ part_answer f e → Stepped agents ends f (action.Part e) refused o
 part_leaves agents ends f e refused outcome.Done h answer = record { fits = answer; shows = reshown agents ends f (next f (action.Part e) outcome.Done).roster h (sound_next f (action.Part e) refused outcome.Done h.sound answer) }
 part_leaves agents ends f e refused (outcome.Clear None) h answer = record { fits = answer; shows = h }
@@ -75,14 +71,19 @@ cast_tests false seated none p ds es same casting = refl
 cast_tests true seated none p ds es same true = refl
 cast_tests true seated none p ds es same false = ap (kept_cast_answer true seated p none) (same refl)
 
-pub cast_told : (c : CoreState) (f : Facts) (e : EndId) (ports : List EndId) (body : List ℕ) (refused : Bool) → Sees c f → ShowsRoster c.roster f → (let m : Members = c.roster.members in let g : Facts = seen c in let o : Outcome = kept_cast_answer (is_some (maker_of (g.end e.0).kind) && not (is_some c.roster.cast)) (is_seated_in m e.0 (group_of m e.0) && not (g.end e.0).closed) (holder g e.0) (is_empty ports) (kept_destinations m e.0) in Stepped c.agents c.ends f (action.Cast e ports body) refused o)
-cast_told c f e ports body refused h w =
+pub cast_fits : (c : CoreState) (f : Facts) (e : EndId) (ports : List EndId) → Sees c f → (let m : Members = c.roster.members in let g : Facts = seen c in kept_cast_answer (is_some (maker_of (g.end e.0).kind) && not (is_some c.roster.cast)) (is_seated_in m e.0 (group_of m e.0) && not (g.end e.0).closed) (holder g e.0) (is_empty ports) (kept_destinations m e.0) ≡ cast_answer f e ports)
+cast_fits c f e ports h =
     let answer : Bool → List EndId → Facts → Outcome = λ seated others g. kept_cast_answer (is_some (maker_of (g.end e.0).kind) && not (is_some g.roster.cast)) (seated && not (g.end e.0).closed) (holder g e.0) (is_empty ports) others in
-    cast_leaves c.agents c.ends f e ports body refused _ h.shows
-    (ap (answer (is_seated_in c.roster.members e.0 (group_of c.roster.members e.0)) (kept_destinations c.roster.members e.0)) (seen_is c f h)
-    ∙ ap (λ b. answer b (kept_destinations c.roster.members e.0) f) (seated_kept c.roster f e.0 w)
+    ap (answer (is_seated_in c.roster.members e.0 (group_of c.roster.members e.0)) (kept_destinations c.roster.members e.0)) (seen_is c f h)
+    ∙ ap (λ b. answer b (kept_destinations c.roster.members e.0) f) (seated_kept c.roster f e.0 h.roster)
     ∙ cast_tests (is_some (maker_of (f.end e.0).kind)) (has_end e.0 f.roster.members && not (f.end e.0).closed) (is_empty ports) (holder f e.0) (kept_destinations c.roster.members e.0) (destinations f e.0)
-    (λ made. let by = made_by (f.end e.0).kind made in destinations_kept c.roster f e.0 by.0 w by.1) (is_casting f))
+    (λ made. let by = made_by (f.end e.0).kind made in destinations_kept c.roster f e.0 by.0 h.roster by.1) (is_casting f)
+
+pub cast_changes : (c : CoreState) (f : Facts) (e : EndId) (ports : List EndId) (body : List ℕ) (refused : Bool) {o : Outcome} → Sees c f → o ≡ cast_answer f e ports → Change (action.Cast e ports body) o → ShownWith c f (action.Cast e ports body) refused o
+cast_changes c f e ports body refused h answer (cast_begun d ps b ends) = (
+  record { fits = answer; shows = reshown c.agents c.ends f (next f (action.Cast e ports body) (outcome.Destinations ends)).roster h.shows (sound_next f (action.Cast e ports body) refused (outcome.Destinations ends) h.shows.sound answer) },
+  roster_cast c.roster f e ports body ends h.roster,
+)
 
 -- ---- Part
 

@@ -25,7 +25,7 @@ use Rattle.hub_core.specs.Roster.{CastNow, RosterNow, is_same_group, is_of_group
 use Rattle.hub_core.specs.Sound.{Sound, SoundPlaces}
 use Rattle.hub_core.specs.Shows.{IsMemberNow, ShowsRoster}
 use Rattle.hub_core.specs.Casting.{destinations, destinations_of, is_casting, part_answer}
-use Rattle.hub_core.specs.KeptRoster.{agent_roster, IsFirst, JoinsGroup, MemberLeaves, PartLeaves, SameRoster, cast_roster, group_of, is_in, is_seated_in, kept_destinations, numbers_of, numbers_with, origin_at, others_of, parted, seated_without}
+use Rattle.hub_core.specs.KeptRoster.{IsFirst, JoinsGroup, MemberLeaves, PartLeaves, SameRoster, group_of, is_in, is_seated_in, kept_destinations, numbers_of, numbers_with, origin_at, others_of, parted, seated_without}
 use Rattle.hub_core.proofs.Lists.{eqb_same, slice_get-append_front, slice_get-append_back, next_up}
 use Rattle.std.proofs.lemmas.Option.{slice_get_past}
 use Rattle.std.proofs.Common.{length-append}
@@ -33,7 +33,7 @@ use Rattle.hub_core.proofs.Seats.{group_same, group_flips, insert_last, numbers_
 use Rattle.hub_core.proofs.Fitting.{new_agent, new_ends, queue_made_of, member_made_of}
 use Rattle.hub_core.proofs.Nexts.{next, effect, Change, agent_made, channel_made, let_in, found_moved, found_closed, put, left, started, got, hopped, went_on, cleared, adopted, notice_put, end_closed, end_swept, client_made, worker_made, line_got, line_back, handed, agent_ordered, agent_ended, member_joined, cast_begun, member_parted}
 use Rattle.hub_core.proofs.Speakers.{kind_made, old_end, old_one}
-use Rattle.hub_core.specs.Making.{is_client, is_worker}
+use Rattle.hub_core.specs.Making.{is_client, is_worker, agent_answer}
 
 -- ---- the first roster
 
@@ -193,8 +193,8 @@ origin_more xs o a false false is here =
     let from : length xs ≤ a = ltb-false a (length xs) is in
     ap origin_at (slice_get_past xs a from ∙ sym (slice_get_past (xs ++ o ∷ []) a (past_origins xs o a from (eqb-false a (length xs) here))))
 
-pub roster_agent : (r : Roster) (f : Facts) (origin : Option (List ℕ)) (refused : Bool) (o : Outcome) → ShowsRoster r f → Answers f (action.Agent origin) refused o → ShowsRoster (agent_roster origin r o) (next f (action.Agent origin) o)
-roster_agent r f origin refused (outcome.Agent n) h fits =
+pub roster_agent : (r : Roster) (f : Facts) (origin : Option (List ℕ)) (refused : Bool) (n : AgentId) → ShowsRoster r f → outcome.Agent n ≡ agent_answer f refused → ShowsRoster (record r { members = record r.members { origins = r.members.origins ++ origin ∷ [] } }) (next f (action.Agent origin) (outcome.Agent n))
+roster_agent r f origin refused n h fits =
     let number : n.0 ≡ f.agents = new_agent f refused n fits in
     record {
       agents = length-append r.members.origins (origin ∷ []) ∙ ap (λ m. m + 1) h.agents;
@@ -206,9 +206,6 @@ roster_agent r f origin refused (outcome.Agent n) h fits =
       each = members_still f (next f (action.Agent origin) (outcome.Agent n)) (λ x k is. is) (λ x a is. refl) f.roster.members h.each;
       cast = h.cast;
     }
-roster_agent r f origin refused (outcome.Clear None) h fits = h
-roster_agent r f origin refused (outcome.Clear (Some k)) h fits = h
-roster_agent r f origin refused o h fits = h
 
 -- ---- another cast
 
@@ -226,11 +223,8 @@ recast r c f g h agents kinds roster cast = record {
 pub roster_leave : (r : Roster) (f : Facts) (t : Sender) → ShowsRoster r f → ShowsRoster (record r { cast = cast_after t.end.0 r.cast }) (next f (action.Leave t) outcome.Left)
 roster_leave r f t h = recast r (cast_after t.end.0 r.cast) f (next f (action.Leave t) outcome.Left) h refl (λ x. refl) refl (ap (cast_after t.end.0) h.cast)
 
-pub roster_cast : (r : Roster) (f : Facts) (e : EndId) (ports : List EndId) (body : List ℕ) (o : Outcome) → ShowsRoster r f → ShowsRoster (cast_roster e body r o) (next f (action.Cast e ports body) o)
-roster_cast r f e ports body (outcome.Destinations ends) h = recast r (cast_to e body ends) f (next f (action.Cast e ports body) (outcome.Destinations ends)) h refl (λ x. refl) refl refl
-roster_cast r f e ports body (outcome.Clear None) h = h
-roster_cast r f e ports body (outcome.Clear (Some k)) h = h
-roster_cast r f e ports body o h = h
+pub roster_cast : (r : Roster) (f : Facts) (e : EndId) (ports : List EndId) (body : List ℕ) (ends : List EndId) → ShowsRoster r f → ShowsRoster (record r { cast = cast_to e body ends }) (next f (action.Cast e ports body) (outcome.Destinations ends))
+roster_cast r f e ports body ends h = recast r (cast_to e body ends) f (next f (action.Cast e ports body) (outcome.Destinations ends)) h refl (λ x. refl) refl refl
 
 -- ---- a member more
 

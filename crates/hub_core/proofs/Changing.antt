@@ -1,4 +1,5 @@
 -- What a step changes of what is kept, where it changes something.
+use Rattle.hub_core.proofs.Nexts.{next}
 use Rattle.std.proofs.Common.{◌≡◌, ℕ, ◌<◌, Bool, List, length, set, Some, None, refl, ap, subst, ◌∙◌, arith}
 use Rattle.std.specs.List.{slice_get}
 use Rattle.hub_core.specs.declared.agent.Agent.{Agent}
@@ -12,7 +13,7 @@ use Rattle.hub_core.specs.CoreSteps.{core_after}
 use Rattle.hub_core.specs.Facts.{EndNow, Facts}
 use Rattle.hub_core.specs.Kept.{changed_ends, changed_lines, change_line}
 use Rattle.hub_core.specs.Made.{lines_of}
-use Rattle.hub_core.specs.Shows.{ShowsFacts}
+use Rattle.hub_core.specs.Shows.{ShowsFacts, ShowsRoster}
 use Rattle.hub_core.specs.Sound.{no_end}
 use Rattle.hub_core.proofs.Frames.{ShownAt, Stepped}
 use Rattle.hub_core.proofs.Lists.{is_there}
@@ -55,3 +56,7 @@ line_set ends s change w =
 -- what the core keeps after a step, and that the roster stays
 abbrev pub ShownAfter : CoreState → Facts → Action → Bool → Outcome → Type 0
 ShownAfter c f a refused o = Stepped (core_after c o a).agents (core_after c o a).ends f a refused o × ((core_after c o a).roster ≡ c.roster)
+
+-- the same of a step that changes the roster
+abbrev pub ShownWith : CoreState → Facts → Action → Bool → Outcome → Type 0
+ShownWith c f a refused o = Stepped (core_after c o a).agents (core_after c o a).ends f a refused o × ShowsRoster (core_after c o a).roster (next f a o)

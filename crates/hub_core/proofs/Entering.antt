@@ -1,6 +1,7 @@
 -- Enter and Leave: what the core answers fits, and it shows the facts with the answered step.
-use Rattle.hub_core.proofs.Changing.{found_line, line_set, ShownAfter}
-use Rattle.hub_core.proofs.Nexts.{Change, let_in, found_moved, found_closed}
+use Rattle.hub_core.proofs.Casts.{roster_leave}
+use Rattle.hub_core.proofs.Changing.{found_line, line_set, ShownAfter, ShownWith}
+use Rattle.hub_core.proofs.Nexts.{Change, let_in, found_moved, found_closed, left}
 use Rattle.hub_core.proofs.Seeing.{Sees, owner_seen}
 use Rattle.std.proofs.Common.{◌≡◌, ℕ, ◌<◌, Bool, true, false, cond, eqb, List, length, set, Option, Some, None, refl, sym, ap, subst, ◌∙◌, arith, ◌++◌, ◌+◌, ◌≤◌, inl, rules, inr}
 use Rattle.std.specs.Prelude.{not, ◌&&◌}
@@ -174,11 +175,14 @@ left_counts agents ends f s x h shown away =
     let old : bit (is_away_of f a s.end.0 s.line.0) ≡ bit (owns_it (owner f s) a) = ap (λ b. bit (not b && has_poster f a s.end.0 s.line.0)) away ∙ ap bit (owner_has f s a (f.end s.end.0).kind) in
     omega arith) (counts_of agents ends f h)
 
-pub leave_changes : (c : CoreState) (f : Facts) (s : Sender) (refused : Bool) → Sees c f → outcome.Left ≡ leave_answer f s → Stepped (change_owner one_out (owner (seen c) s) c.agents) (change_line (in_phase Out) s c.ends) f (action.Leave s) refused outcome.Left
-leave_changes c f s refused h answer =
+left_shown : (c : CoreState) (f : Facts) (s : Sender) (refused : Bool) → Sees c f → outcome.Left ≡ leave_answer f s → Stepped (change_owner one_out (owner (seen c) s) c.agents) (change_line (in_phase Out) s c.ends) f (action.Leave s) refused outcome.Left
+left_shown c f s refused h answer =
     let away = left_of f s answer in
     let w = found_line c.agents c.ends f s h.shows (line_there f s (h.shows.sound.lines s.end.0) (h.shows.sound.places.away s away)) in
     subst (λ q. Stepped (change_owner one_out q c.agents) (change_line (in_phase Out) s c.ends) f (action.Leave s) refused outcome.Left) (sym (owner_seen c f s h))
     (subst (λ es. Stepped (change_owner one_out (owner f s) c.agents) es f (action.Leave s) refused outcome.Left) (sym (line_set c.ends s (in_phase Out) w))
     (recounted c.agents (change_owner one_out (owner f s) c.agents) c.ends _ f (action.Leave s) refused outcome.Left h.shows answer refl refl (owner_length one_out (owner f s) c.agents) (owner_now_out (owner f s) c.agents)
     (h.shows.ends ∙ sym (length-set c.ends s.end.0 (with_phase w.x w.y s.line.0 Out))) (left_counts c.agents c.ends f s w.x h.shows (subst (ShownAt f s.end.0) w.at (h.shows.end s.end.0)) away) (phased_shown c.agents c.ends f s Out w.x w.y h.shows w.at w.is (λ no. cc))))
+
+pub leave_changes : (c : CoreState) (f : Facts) (s : Sender) (refused : Bool) {o : Outcome} → Sees c f → o ≡ leave_answer f s → Change (action.Leave s) o → ShownWith c f (action.Leave s) refused o
+leave_changes c f s refused h answer (left t) = (left_shown c f s refused h answer, roster_leave c.roster f s h.roster)

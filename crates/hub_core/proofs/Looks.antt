@@ -1,8 +1,13 @@
 -- Look: what the core answers fits, and it shows the facts with the answered step.
+use Rattle.hub_core.specs.declared.line.Line.{Line}
+use Rattle.hub_core.specs.CoreState.{CoreState}
+use Rattle.hub_core.proofs.Seeing.{Sees}
+use Rattle.hub_core.proofs.Nexts.{Change, cleared}
+use Rattle.hub_core.proofs.Changing.{found_end, ShownAfter}
 use Rattle.std.proofs.Common.{◌≡◌, ℕ, zero, suc, ◌+◌, ◌-◌, ◌<◌, ◌≤◌, Bool, true, false, cond, eqb, List, ◌++◌, set, Option, Some, None, refl, sym, ap, subst, ◌∙◌, arith}
 use Rattle.std.specs.Prelude.{◌&&◌, ◌||◌, nat_lt}
 use Rattle.std.specs.List.{slice_get}
-use Rattle.std.proofs.lemmas.Bool.{false≢true, ne_eqb, eqb-true, ltb-true, ltb-false, le-ltb, lt-ltb}
+use Rattle.std.proofs.lemmas.Bool.{ne_eqb, eqb-true, ltb-true, ltb-false, le-ltb, lt-ltb}
 use Rattle.std.proofs.lemmas.Bool.Decides.{nat_tests}
 use Rattle.std.proofs.lemmas.List.{length-set}
 use Rattle.std.proofs.lemmas.Option.{slice_get_within}
@@ -17,10 +22,9 @@ use Rattle.hub_core.specs.Facts.{EndNow, LineNow, Facts}
 use Rattle.hub_core.specs.Looking.{first_failing, lookable, looked, look_answer_of, look_answer}
 use Rattle.hub_core.specs.Sound.{no_end}
 use Rattle.hub_core.specs.Shows.{ShowsEnd, ShowsFacts, KeepsQueues}
-use Rattle.hub_core.specs.Unchanged.{changes_nothing}
-use Rattle.hub_core.specs.Kept.{is_anyone_at, kept_looked, look_answer_at, may_look, look_outcome, looked_end, look_outcome_at, look_end, changed_ends}
-use Rattle.hub_core.proofs.Lists.{eqb_same, set_again, each_set}
-use Rattle.hub_core.proofs.Frames.{ShownAt, Stepped, changed, unchanged}
+use Rattle.hub_core.specs.Kept.{is_anyone_at, kept_looked, look_answer_at, may_look, look_outcome, look_outcome_at, changed_ends}
+use Rattle.hub_core.proofs.Lists.{eqb_same, each_set}
+use Rattle.hub_core.proofs.Frames.{ShownAt, Stepped, changed}
 use Rattle.hub_core.proofs.Presence.{someone_kept}
 use Rattle.hub_core.proofs.Counts.{counts_still}
 
@@ -105,34 +109,27 @@ cleared_shown agents ends f e refused x h at answer =
     (subst (λ b. ShowsEnd (f.end e.0) (f.line e.0) (λ i. cond (b && eqb i x.looked) true (f.clear e.0 i)) (f.accepted e.0) (f.taken e.0 ++ f.discarded e.0) (Some y)) (sym (eqb_same e.0)) (cleared_end (f.end e.0) (f.line e.0) (f.clear e.0) (f.accepted e.0) (f.taken e.0 ++ f.discarded e.0) x (subst (ShownAt f e.0) at (h.end e.0))))
     (λ d other. subst (λ b. ShowsEnd (f.end d) (f.line d) (λ i. cond (b && eqb i x.looked) true (f.clear d i)) (f.accepted d) (f.taken d ++ f.discarded d) (slice_get ends d)) (sym (ne_eqb d e.0 other)) (h.end d)))
 
--- by what the core finds to look at
-look_at : (agents : List Agent) (ends : List End) (f : Facts) (e : EndId) (refused : Bool) (x : End) → ShowsFacts agents ends f → slice_get ends e.0 ≡ Some x → (may first someone : Bool) → is_anyone_at x.looked x.lines ≡ someone
-    → cond may (look_answer_at x.lines (cond first (Some x.looked) None)) outcome.NotNow ≡ look_answer f e
-    → Stepped agents (set ends e.0 (looked_end x (cond may (look_answer_at x.lines (cond first (Some x.looked) None)) outcome.NotNow))) f (action.Look e) refused (cond may (look_answer_at x.lines (cond first (Some x.looked) None)) outcome.NotNow)
-look_at agents ends f e refused x h at false first someone who answer = unchanged agents ends _ f (action.Look e) refused outcome.NotNow outcome.NotNow h refl refl (set_again ends e.0 x at) answer
-look_at agents ends f e refused x h at true false someone who answer = unchanged agents ends _ f (action.Look e) refused (outcome.Clear None) (outcome.Clear None) h refl refl (set_again ends e.0 x at) answer
-look_at agents ends f e refused x h at true true true who answer =
-    let busy : cond (is_anyone_at x.looked x.lines) outcome.Busy (outcome.Clear (Some x.looked)) ≡ outcome.Busy = ap (λ b. cond b outcome.Busy (outcome.Clear (Some x.looked))) who in
-    subst (λ o. Stepped agents (set ends e.0 (looked_end x o)) f (action.Look e) refused o) (sym busy) (unchanged agents ends _ f (action.Look e) refused outcome.Busy outcome.Busy h refl refl (set_again ends e.0 x at) (sym busy ∙ answer))
-look_at agents ends f e refused x h at true true false who answer =
-    let found : cond (is_anyone_at x.looked x.lines) outcome.Busy (outcome.Clear (Some x.looked)) ≡ outcome.Clear (Some x.looked) = ap (λ b. cond b outcome.Busy (outcome.Clear (Some x.looked))) who in
-    subst (λ o. Stepped agents (set ends e.0 (looked_end x o)) f (action.Look e) refused o) (sym found) (cleared_shown agents ends f e refused x h at (sym found ∙ answer))
+-- ---- Look
 
-look_end_shown : (agents : List Agent) (ends : List End) (f : Facts) (e : EndId) (refused : Bool) → ShowsFacts agents ends f → (o : Option End) → slice_get ends e.0 ≡ o → ShownAt f e.0 o → Stepped agents (changed_ends look_end e.0 ends o) f (action.Look e) refused (look_outcome_at o)
-look_end_shown agents ends f e refused h None at shown = unchanged agents ends ends f (action.Look e) refused outcome.NotNow outcome.NotNow h refl refl refl (look_none f e shown.same)
-look_end_shown agents ends f e refused h (Some x) at shown =
-    look_at agents ends f e refused x h at (may_look x) (nat_lt x.looked x.newest || (x.is_closed && eqb x.looked x.newest)) (is_anyone_at x.looked x.lines) refl (look_as f e x shown (h.sound.lines e.0).taker_stand)
+pub look_fits : (f : Facts) (e : EndId) (o : Option End) → ShownAt f e.0 o → (f.end e.0).taker_stand ≤ (f.end e.0).newest → look_outcome_at o ≡ look_answer f e
+look_fits f e None shown within = look_none f e shown.same
+look_fits f e (Some x) shown within = look_as f e x shown within
 
-pub look_shown : (agents : List Agent) (ends : List End) (f : Facts) (e : EndId) (refused : Bool) → ShowsFacts agents ends f → Stepped agents (changed_ends look_end e.0 ends (slice_get ends e.0)) f (action.Look e) refused (look_outcome_at (slice_get ends e.0))
-look_shown agents ends f e refused h = look_end_shown agents ends f e refused h (slice_get ends e.0) refl (h.end e.0)
+look_found : (lines : List Line) (n k : ℕ) (may first : Bool) → outcome.Clear (Some k) ≡ cond may (look_answer_at lines (cond first (Some n) None)) outcome.NotNow → k ≡ n
+look_found lines n k false first h = cc
+look_found lines n k true false h = cc
+look_found lines n k true true h = elim (is_anyone_at n lines) as (λ b. outcome.Clear (Some k) ≡ cond b outcome.Busy (outcome.Clear (Some n)) → k ≡ n) [
+  | true ↦ λ is. cc
+  | false ↦ λ is. cc
+] h
 
--- ---- what changes nothing leaves the ends
-
-looked_same : (e : EndId) (x : End) (o : Outcome) → changes_nothing o (action.Look e) ≡ true → looked_end x o ≡ x
-looked_same e x (outcome.Clear (Some k)) h = absurd (false≢true h)
-looked_same e x (outcome.Clear None) h = refl
-looked_same e x o h = refl
-
-pub look_same : (ends : List End) (e : EndId) (q : Option End) → slice_get ends e.0 ≡ q → changes_nothing (look_outcome_at q) (action.Look e) ≡ true → changed_ends look_end e.0 ends q ≡ ends
-look_same ends e None at h = refl
-look_same ends e (Some x) at h = ap (set ends e.0) (looked_same e x (look_outcome x) h) ∙ set_again ends e.0 x at
+pub look_changes : (c : CoreState) (f : Facts) (e : EndId) (refused : Bool) {o : Outcome} → Sees c f → o ≡ look_outcome_at (slice_get c.ends e.0) → o ≡ look_answer f e → Change (action.Look e) o → ShownAfter c f (action.Look e) refused o
+look_changes c f e refused h says answer (cleared d k) =
+    let found = found_end c.agents c.ends f e.0 h.shows (λ none. let is : outcome.Clear (Some k) ≡ outcome.NotNow = answer ∙ sym (look_none f e none) in cc) in
+    let x : End = found.0 in
+    let number : k ≡ x.looked = look_found x.lines x.looked k (may_look x) (nat_lt x.looked x.newest || (x.is_closed && eqb x.looked x.newest)) (says ∙ ap look_outcome_at found.1) in (
+      subst (λ n. Stepped c.agents (changed_ends (λ y. record y { looked = y.looked + 1 }) e.0 c.ends (slice_get c.ends e.0)) f (action.Look e) refused (outcome.Clear (Some n))) (sym number)
+          (subst (λ q. Stepped c.agents (changed_ends (λ y. record y { looked = y.looked + 1 }) e.0 c.ends q) f (action.Look e) refused (outcome.Clear (Some x.looked))) (sym found.1)
+          (cleared_shown c.agents c.ends f e refused x h.shows found.1 (ap (λ n. outcome.Clear (Some n)) (sym number) ∙ answer))),
+      refl,
+    )

@@ -1,4 +1,7 @@
 -- Agent and Channel: what the core answers fits, and it shows the facts with the answered step.
+use Rattle.hub_core.proofs.Casts.{roster_agent}
+use Rattle.hub_core.proofs.Nexts.{Change, agent_made, channel_made}
+use Rattle.hub_core.proofs.Changing.{ShownAfter, ShownWith}
 use Rattle.std.proofs.Common.{◌≡◌, ℕ, ◌+◌, ◌≤◌, Bool, true, false, cond, eqb, List, [], ◌∷◌, ◌++◌, length, get_or, Some, zero, suc, refl, sym, ap, subst, ◌∙◌, arith, length-append, inl, inr, rules, ◌<◌, Option, not, replicate, None, ne_eqb}
 use Rattle.std.specs.Prelude.{◌&&◌, nat_lt, nat_le, ◌||◌, is_some, option_map}
 use Rattle.std.specs.List.{slice_get}
@@ -8,7 +11,7 @@ use Rattle.std.proofs.lemmas.Bool.{eqb-true, eqb-false, ltb-true, ltb-false, fal
 use Rattle.hub_envelope.specs.declared.ids.AgentId.{AgentId}
 use Rattle.hub_envelope.specs.declared.ids.EndId.{EndId}
 use Rattle.hub_envelope.specs.declared.envelope.Envelope.{Envelope}
-use Rattle.hub_envelope.specs.declared.limits.TheConstants.{MAX_AGENTS, MAX_ENDS}
+use Rattle.hub_envelope.specs.declared.limits.TheConstants.{MAX_ENDS}
 use Rattle.hub_core.specs.declared.agent.Agent.{Agent}
 use Rattle.hub_core.specs.declared.end.End.{End}
 use Rattle.hub_core.specs.declared.end.Place.TheVariants.{With}
@@ -19,7 +22,7 @@ use Rattle.hub_core.specs.Facts.{AgentNow, EndNow, LineNow, Facts}
 use Rattle.hub_core.specs.Making.{agent_answer, channel_answer, queue_answer, is_client, is_worker, has_one}
 use Rattle.hub_core.specs.Sound.{no_end, no_line, total, Sound}
 use Rattle.hub_core.specs.Shows.{agent_now, end_now, line_now, ShowsPut, ShowsEnd, ShowsFacts, kept_clients, count_with, kept_workers, count_away, kept_away}
-use Rattle.hub_core.specs.Kept.{queue_made, kept_agent_answer, agents_made, kept_channel_answer, ends_made, first_line, kept_queue_answer, new_end, count_of, queue_counted, come, first_agent}
+use Rattle.hub_core.specs.Kept.{queue_made, first_line, kept_queue_answer, new_end, count_of, queue_counted, come, first_agent}
 use Rattle.hub_core.proofs.Lists.{slice_get-append_front, slice_get-append_back, eqb_same, next_up}
 use Rattle.hub_core.proofs.Frames.{Stepped, unchanged}
 use Rattle.hub_core.specs.CoreState.{CoreState}
@@ -40,7 +43,7 @@ use Rattle.hub_core.specs.Fits.{Answers}
 use Rattle.hub_core.proofs.Totals.{total_same}
 use Rattle.std.proofs.lemmas.List.{length-replicate}
 use Rattle.hub_core.specs.Posting.{is_with, is_out}
-use Rattle.hub_core.proofs.Fitting.{queue_made_of, member_made_of}
+use Rattle.hub_core.proofs.Fitting.{queue_made_of, member_made_of, new_agent, new_ends}
 use Rattle.hub_core.specs.Casting.{member_answer, is_casting}
 use Rattle.hub_core.specs.Kept.{set_agent, one_more}
 use Rattle.hub_core.specs.KeptCasting.{kept_member_answer, member_made}
@@ -72,28 +75,28 @@ none_kept kept [] (suc a) none first = refl
 none_kept kept (x ∷ agents) zero none first = refl
 none_kept kept (x ∷ agents) (suc a) none first = none_kept kept agents a none first
 
-agent_by : (agents : List Agent) (ends : List End) (f : Facts) (origin : Option (List ℕ)) (refused : Bool) → ShowsFacts agents ends f → (full : Bool) → nat_le MAX_AGENTS (length agents) ≡ full → kept_agent_answer (length agents) refused ≡ agent_answer f refused → Stepped (agents_made agents (kept_agent_answer (length agents) refused)) ends f (action.Agent origin) refused (kept_agent_answer (length agents) refused)
-agent_by agents ends f origin true h full is fits = unchanged agents ends ends f (action.Agent origin) true outcome.NoMemory outcome.NoMemory h refl refl refl fits
-agent_by agents ends f origin false h true is fits = rw is (unchanged agents ends ends f (action.Agent origin) false outcome.TooManyAgents outcome.TooManyAgents h refl refl refl (sym (ap (λ b. cond b outcome.TooManyAgents (outcome.Agent (record { 0 = length agents }))) is) ∙ fits))
-agent_by agents ends f origin false h false is fits =
-    let n : AgentId = record { 0 = length agents } in
-    let answer : outcome.Agent n ≡ agent_answer f false = sym (ap (λ b. cond b outcome.TooManyAgents (outcome.Agent n)) is) ∙ fits in
-    rw is (record {
-      fits = answer;
-      shows = record {
-        agents = ap (λ m. m + 1) h.agents ∙ sym (length-append agents (first_agent ∷ []));
-        agent = λ a. agent_each agents f a h.agent (nat_lt a (length agents)) (eqb a (length agents)) refl refl;
-        ends = h.ends;
-        end = h.end;
-        clients = λ a. none_kept kept_clients agents a.0 refl refl ∙ h.clients a;
-        workers = λ a. none_kept kept_workers agents a.0 refl refl ∙ h.workers a;
-        away = λ a. none_kept kept_away agents a.0 refl refl ∙ h.away a;
-        sound = sound_next f (action.Agent origin) false (outcome.Agent n) h.sound answer;
-      };
-    })
+agent_shown : (agents : List Agent) (ends : List End) (f : Facts) (origin : Option (List ℕ)) (refused : Bool) → ShowsFacts agents ends f → (let n : AgentId = record { 0 = length agents } in outcome.Agent n ≡ agent_answer f refused → Stepped (agents ++ first_agent ∷ []) ends f (action.Agent origin) refused (outcome.Agent n))
+agent_shown agents ends f origin refused h answer = record {
+  fits = answer;
+  shows = record {
+    agents = ap (λ m. m + 1) h.agents ∙ sym (length-append agents (first_agent ∷ []));
+    agent = λ a. agent_each agents f a h.agent (nat_lt a (length agents)) (eqb a (length agents)) refl refl;
+    ends = h.ends;
+    end = h.end;
+    clients = λ a. none_kept kept_clients agents a.0 refl refl ∙ h.clients a;
+    workers = λ a. none_kept kept_workers agents a.0 refl refl ∙ h.workers a;
+    away = λ a. none_kept kept_away agents a.0 refl refl ∙ h.away a;
+    sound = sound_next f (action.Agent origin) refused (outcome.Agent (record { 0 = length agents })) h.sound answer;
+  };
+}
 
-pub agent_shown : (agents : List Agent) (ends : List End) (f : Facts) (origin : Option (List ℕ)) (refused : Bool) → ShowsFacts agents ends f → (let o : Outcome = kept_agent_answer (length agents) refused in Stepped (agents_made agents o) ends f (action.Agent origin) refused o)
-agent_shown agents ends f origin refused h = agent_by agents ends f origin refused h (nat_le MAX_AGENTS (length agents)) refl (ap (λ n. kept_agent_answer n refused) (sym h.agents))
+pub agent_changes : (c : CoreState) (f : Facts) (origin : Option (List ℕ)) (refused : Bool) {o : Outcome} → Sees c f → o ≡ agent_answer f refused → Change (action.Agent origin) o → ShownWith c f (action.Agent origin) refused o
+agent_changes c f origin refused h answer (agent_made p a) =
+    let n : AgentId = record { 0 = length c.agents } in
+    let same : a ≡ n = ap (λ m. let i : AgentId = record { 0 = m } in i) (new_agent f refused a answer ∙ h.shows.agents) in (
+      subst (λ i. Stepped (c.agents ++ first_agent ∷ []) c.ends f (action.Agent origin) refused (outcome.Agent i)) (sym same) (agent_shown c.agents c.ends f origin refused h.shows (ap outcome.Agent (sym same) ∙ answer)),
+      roster_agent c.roster f origin refused a h.roster answer,
+    )
 
 -- ---- Channel
 
@@ -237,8 +240,8 @@ ports_away agents ends f a b h =
         let second : eqb q.0 (f.ends + 1) ≡ false = ne_eqb q.0 (f.ends + 1) (λ same. omega arith) in
         inr (ap (is_with b) (ap (λ c. cond (c || eqb q.0 (f.ends + 1)) (Some (With a)) (f.end q.0).place) first ∙ ap (λ c. cond c (Some (With a)) (f.end q.0).place) second)))
 
-ports_made : (agents : List Agent) (ends : List End) (f : Facts) (a : AgentId) → ShowsFacts agents ends f → outcome.Ends (record { 0 = length ends }) (record { 0 = length ends + 1 }) ≡ channel_answer f a false → Stepped agents (ends ++ two_ports a (length ends)) f (action.Channel a) false (outcome.Ends (record { 0 = length ends }) (record { 0 = length ends + 1 }))
-ports_made agents ends f a h answer = record {
+ports_made : (agents : List Agent) (ends : List End) (f : Facts) (a : AgentId) (refused : Bool) → ShowsFacts agents ends f → outcome.Ends (record { 0 = length ends }) (record { 0 = length ends + 1 }) ≡ channel_answer f a refused → Stepped agents (ends ++ two_ports a (length ends)) f (action.Channel a) refused (outcome.Ends (record { 0 = length ends }) (record { 0 = length ends + 1 }))
+ports_made agents ends f a refused h answer = record {
   fits = answer;
   shows = record {
     agents = h.agents;
@@ -248,21 +251,24 @@ ports_made agents ends f a h answer = record {
     clients = λ b. h.clients b ∙ sym (counted is_client (λ q. refl) b);
     workers = λ b. h.workers b ∙ sym (counted is_worker (λ q. refl) b);
     away = λ b. h.away b ∙ sym (ap (λ n. count_away b (next f (action.Channel a) (outcome.Ends (record { 0 = n }) (record { 0 = n + 1 })))) (sym h.ends) ∙ ports_away agents ends f a b h);
-    sound = sound_next f (action.Channel a) false (outcome.Ends (record { 0 = length ends }) (record { 0 = length ends + 1 })) h.sound answer;
+    sound = sound_next f (action.Channel a) refused (outcome.Ends (record { 0 = length ends }) (record { 0 = length ends + 1 })) h.sound answer;
   };
 }
   where
     counted : (test : Option Kind → Bool) → ((q : EndId) → test (Some (Port q)) ≡ false) → (b : AgentId) → count_with test b (next f (action.Channel a) (outcome.Ends (record { 0 = length ends }) (record { 0 = length ends + 1 }))) ≡ count_with test b f
     counted test never b = ap (λ n. count_with test b (next f (action.Channel a) (outcome.Ends (record { 0 = n }) (record { 0 = n + 1 })))) (sym h.ends) ∙ ports_counted test never f a b
 
-channel_by : (agents : List Agent) (ends : List End) (f : Facts) (a : AgentId) (refused : Bool) → ShowsFacts agents ends f → (running full : Bool) → (f.agent a.0).runs ≡ running → nat_lt MAX_ENDS (length ends + 2) ≡ full → Stepped agents (ends_made a ends (kept_channel_answer running (length ends) refused)) f (action.Channel a) refused (kept_channel_answer running (length ends) refused)
-channel_by agents ends f a refused h false full runs is = unchanged agents ends ends f (action.Channel a) refused outcome.NotNow outcome.NotNow h refl refl refl (rw runs refl)
-channel_by agents ends f a refused h true true runs is = rw is (unchanged agents ends ends f (action.Channel a) refused outcome.TooManyEnds outcome.TooManyEnds h refl refl refl (rw (runs, h.ends, is) refl))
-channel_by agents ends f a true h true false runs is = rw is (unchanged agents ends ends f (action.Channel a) true outcome.NoMemory outcome.NoMemory h refl refl refl (rw (runs, h.ends, is) refl))
-channel_by agents ends f a false h true false runs is = rw is (ports_made agents ends f a h (rw (runs, h.ends, is) refl))
-
-pub channel_shown : (c : CoreState) (f : Facts) (a : AgentId) (refused : Bool) → Sees c f → (let o : Outcome = kept_channel_answer ((seen c).agent a.0).runs (length c.ends) refused in Stepped c.agents (ends_made a c.ends o) f (action.Channel a) refused o)
-channel_shown c f a refused h = channel_by c.agents c.ends f a refused h.shows ((seen c).agent a.0).runs (nat_lt MAX_ENDS (length c.ends + 2)) (sym (ap (λ g. (g.agent a.0).runs) (seen_is c f h))) refl
+pub channel_changes : (c : CoreState) (f : Facts) (a : AgentId) (refused : Bool) {o : Outcome} → Sees c f → o ≡ channel_answer f a refused → Change (action.Channel a) o → ShownAfter c f (action.Channel a) refused o
+channel_changes c f a refused h answer (channel_made b e p) =
+    let n : ℕ = length c.ends in
+    let made = new_ends f a refused e p answer in
+    let first : e ≡ record { 0 = n } = made.1 ∙ ap (λ m. let i : EndId = record { 0 = m } in i) h.shows.ends in
+    let second : p ≡ record { 0 = n + 1 } = made.2 ∙ ap (λ m. let i : EndId = record { 0 = m + 1 } in i) h.shows.ends in (
+      subst (λ (i : EndId). Stepped c.agents (c.ends ++ new_end a (Port p) ∷ new_end a (Port i) ∷ []) f (action.Channel a) refused (outcome.Ends i p)) (sym first)
+          (subst (λ (i : EndId). Stepped c.agents (c.ends ++ new_end a (Port i) ∷ new_end a (Port (record { 0 = n })) ∷ []) f (action.Channel a) refused (outcome.Ends (record { 0 = n }) i)) (sym second)
+          (ports_made c.agents c.ends f a refused h.shows (ap (λ i. outcome.Ends i (record { 0 = n + 1 })) (sym first) ∙ ap (outcome.Ends e) (sym second) ∙ answer))),
+      refl,
+    )
 
 -- ---- Client and Worker
 

@@ -20,7 +20,7 @@ use Rattle.hub_core.specs.Place.{names}
 use Rattle.hub_core.specs.Posting.{enter_answer, holder, running, speaker_in, poster_of, poster, hears_notice, may_enter, is_here, is_with, is_at, own_poster_out, own_line_plain, may_leave_agent, is_distinct, is_fitting, listing_of, listing, is_out, phase_of_line, may_post}
 use Rattle.hub_core.specs.Roster.{CastNow, no_roster}
 use Rattle.hub_core.specs.Seen.{seen}
-use Rattle.hub_core.specs.Shows.{ShowsFacts}
+use Rattle.hub_core.specs.Shows.{ShowsFacts, ShowsRoster}
 
 -- the facts that a core keeps
 abbrev pub kept_part : Facts → Facts
@@ -37,10 +37,10 @@ kept_part f = record {
   roster = record no_roster { cast = f.roster.cast };
 }
 
--- the core shows these facts, and its cast is theirs
+-- the core shows these facts
 pub record Sees (c : CoreState) (f : Facts) : Type 0 where
   pub shows : ShowsFacts c.agents c.ends f
-  pub cast : f.roster.cast ≡ c.roster.cast
+  pub roster : ShowsRoster c.roster f
 
 pub seen_is : (c : CoreState) (f : Facts) → Sees c f → seen c ≡ kept_part f
 seen_is c f h = λ i. record {
@@ -53,7 +53,7 @@ seen_is c f h = λ i. record {
   accepted = λ x. [];
   taken = λ x. [];
   discarded = λ x. [];
-  roster = record no_roster { cast = sym h.cast i };
+  roster = record no_roster { cast = sym h.roster.cast i };
 }
 
 -- ---- what doesn't read the other facts

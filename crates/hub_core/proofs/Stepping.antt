@@ -16,7 +16,7 @@ use Rattle.hub_core.specs.declared.step.Action.TheVariants as action
 use Rattle.hub_core.specs.declared.outcome.Outcome.{Outcome}
 use Rattle.hub_core.specs.declared.outcome.Outcome.TheVariants as outcome
 use Rattle.hub_core.specs.Unchanged.{changes_nothing}
-use Rattle.hub_core.specs.Kept.{TakeServes, TakeHeld, TakeLeaves, advanced_end, kept_settled, ends_made, push_outcome, push_ends, notice_outcome, notice_ends}
+use Rattle.hub_core.specs.Kept.{TakeServes, TakeHeld, TakeLeaves, advanced_end, kept_settled, push_outcome, push_ends, notice_outcome, notice_ends}
 use Rattle.hub_core.proofs.Lists.{set_again}
 
 -- two facts of what was answered Ok give a third
@@ -29,10 +29,6 @@ ok_all (Ok o) P Q p q = (p, q)
 ok_all (Err e) P Q p q = tt
 
 -- ---- what changes nothing leaves the ends
-
-pub channel_same : (a : AgentId) (ends : List End) (o : Outcome) → changes_nothing o (action.Channel a) ≡ true → ends_made a ends o ≡ ends
-channel_same a ends (outcome.Ends e p) h = absurd (false≢true h)
-channel_same a ends o h = refl
 
 pub client_same : (a : AgentId) (c : CoreState) (o : Outcome) → changes_nothing o (action.Client a) ≡ true → queue_core a Client c o ≡ c
 client_same a c (outcome.End e) h = absurd (false≢true h)

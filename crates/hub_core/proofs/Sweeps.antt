@@ -1,4 +1,7 @@
 -- Sweep: what the core answers fits, and it shows the facts with the answered step.
+use Rattle.hub_core.specs.CoreState.{CoreState}
+use Rattle.hub_core.proofs.Seeing.{Sees}
+use Rattle.hub_core.proofs.Changing.{found_end, ShownAfter}
 use Rattle.std.proofs.Common.{◌≡◌, ℕ, zero, suc, ◌+◌, ◌-◌, ◌<◌, ◌≤◌, Bool, true, false, cond, eqb, List, [], ◌∷◌, ◌++◌, length, get_or, set, Option, Some, None, refl, sym, ap, subst, ◌∙◌, arith, rules, append-nil, append_assoc}
 use Rattle.std.specs.Prelude.{◌&&◌, ◌||◌, not, nat_le, nat_lt, option_map}
 use Rattle.std.specs.List.{slice_get, list_any, AllByRecursion}
@@ -22,10 +25,10 @@ use Rattle.hub_core.specs.Posting.{is_out}
 use Rattle.hub_core.specs.Looking.{any_below, is_away_at, someone_at, is_settled, all_from, all_settled, IsAllWaiting, FitsSweep}
 use Rattle.hub_core.specs.Sound.{Sound}
 use Rattle.hub_core.specs.Shows.{ShowsEnd, ShowsFacts}
-use Rattle.hub_core.specs.Kept.{is_anyone_from, joined, sweep_outcome, swept_end, sweep_outcome_at, sweep_ends, moved_ends, ports_of, swept_ports}
-use Rattle.hub_core.proofs.Lists.{eqb_same, set_again, each_set, is_there, AllByRecursion-weaker, AllByRecursion-append, below_last}
+use Rattle.hub_core.specs.Kept.{is_anyone_from, joined, sweep_outcome_at, moved_ends, ports_of, changed_ends}
+use Rattle.hub_core.proofs.Lists.{eqb_same, each_set, is_there, AllByRecursion-weaker, AllByRecursion-append, below_last}
 use Rattle.hub_core.proofs.Waits.{filters, of_queue, all_kept, rises_back, all_of_queue}
-use Rattle.hub_core.proofs.Frames.{ShownAt, Stepped, changed, unchanged}
+use Rattle.hub_core.proofs.Frames.{ShownAt, Stepped, changed}
 use Rattle.hub_core.proofs.Placing.{moves_of, moved_end, moved_shown}
 use Rattle.hub_core.proofs.Speakers.{placed_made, swept_flies}
 use Rattle.hub_core.proofs.SoundWaiting.{nobody_there, rises_joined}
@@ -33,9 +36,8 @@ use Rattle.hub_core.proofs.Fitting.{swept_of, any_of, none_of_any, each_of}
 use Rattle.hub_core.specs.declared.line.Phase.TheVariants.{Inside}
 use Rattle.hub_core.proofs.Presence.{lines_kept}
 use Rattle.hub_core.proofs.SweepOrders.{rises_one}
-use Rattle.hub_core.specs.Unchanged.{changes_nothing}
 use Rattle.hub_core.proofs.Counts.{counted_ports, counts_of}
-use Rattle.hub_core.proofs.Nexts.{next}
+use Rattle.hub_core.proofs.Nexts.{next, Change, end_swept}
 use Rattle.hub_core.proofs.Calms.{calm_landed}
 
 -- ---- tests
@@ -255,29 +257,29 @@ fits_busy f e closed busy = rw (closed, busy) refl
 fits_swept : (f : Facts) (e : EndId) (vs : List Envelope) → (f.end e.0).closed ≡ true → all_settled f e.0 ≡ true → IsAllWaiting f e.0 vs → FitsSweep f e (outcome.Discarded vs)
 fits_swept f e vs closed settled all = rw (closed, settled) all
 
-sweep_by : (agents : List Agent) (ends : List End) (f : Facts) (e : EndId) (refused : Bool) (x : End) → ShowsFacts agents ends f → slice_get ends e.0 ≡ Some x → ShownAt f e.0 (Some x) → (closed anyone : Bool) → x.is_closed ≡ closed → is_anyone_from x.looked x.lines ≡ anyone
-    → (let p : Outcome = cond (not closed) outcome.NotNow (cond anyone outcome.Busy (outcome.Discarded (joined x.queues))) in Stepped agents (moved_ends (swept_ports p) Swept (set ends e.0 (swept_end x p))) f (action.Sweep e) refused p)
-sweep_by agents ends f e refused x h at shown false anyone opened who =
-    unchanged agents ends _ f (action.Sweep e) refused outcome.NotNow outcome.NotNow h refl refl (set_again ends e.0 x at) (fits_open f e (ap (λ (y : EndNow). y.closed) shown.same ∙ opened))
-sweep_by agents ends f e refused x h at shown true true closed who =
-    unchanged agents ends _ f (action.Sweep e) refused outcome.Busy outcome.Busy h refl refl (set_again ends e.0 x at) (fits_busy f e (ap (λ (y : EndNow). y.closed) shown.same ∙ closed) (somebody_from f e.0 x h.sound shown who))
-sweep_by agents ends f e refused x h at shown true false closed who =
-    let settled : all_settled f e.0 ≡ true = nobody_from f e.0 x h.sound shown who in
-    swept_shown agents ends f e refused x h at closed settled (fits_swept f e (joined x.queues) (ap (λ (y : EndNow). y.closed) shown.same ∙ closed) settled (all_waiting f e.0 x h.sound shown))
+sweep_by : (f : Facts) (e : EndId) (x : End) → Sound f → ShownAt f e.0 (Some x) → (closed anyone : Bool) → x.is_closed ≡ closed → is_anyone_from x.looked x.lines ≡ anyone → FitsSweep f e (cond (not closed) outcome.NotNow (cond anyone outcome.Busy (outcome.Discarded (joined x.queues))))
+sweep_by f e x s shown false anyone opened who = fits_open f e (ap (λ (y : EndNow). y.closed) shown.same ∙ opened)
+sweep_by f e x s shown true true closed who = fits_busy f e (ap (λ (y : EndNow). y.closed) shown.same ∙ closed) (somebody_from f e.0 x s shown who)
+sweep_by f e x s shown true false closed who = fits_swept f e (joined x.queues) (ap (λ (y : EndNow). y.closed) shown.same ∙ closed) (nobody_from f e.0 x s shown who) (all_waiting f e.0 x s shown)
 
-sweep_at : (agents : List Agent) (ends : List End) (f : Facts) (e : EndId) (refused : Bool) → ShowsFacts agents ends f → (q : Option End) → slice_get ends e.0 ≡ q → ShownAt f e.0 q → Stepped agents (sweep_ends e.0 ends q) f (action.Sweep e) refused (sweep_outcome_at q)
-sweep_at agents ends f e refused h None at shown = unchanged agents ends ends f (action.Sweep e) refused outcome.NotNow outcome.NotNow h refl refl refl (fits_open f e (ap (λ (y : EndNow). y.closed) shown.same))
-sweep_at agents ends f e refused h (Some x) at shown = sweep_by agents ends f e refused x h at shown x.is_closed (is_anyone_from x.looked x.lines) refl refl
+pub sweep_fits : (f : Facts) (e : EndId) (o : Option End) → Sound f → ShownAt f e.0 o → FitsSweep f e (sweep_outcome_at o)
+sweep_fits f e None s shown = fits_open f e (ap (λ (y : EndNow). y.closed) shown.same)
+sweep_fits f e (Some x) s shown = sweep_by f e x s shown x.is_closed (is_anyone_from x.looked x.lines) refl refl
 
-pub sweep_shown : (agents : List Agent) (ends : List End) (f : Facts) (e : EndId) (refused : Bool) → ShowsFacts agents ends f → Stepped agents (sweep_ends e.0 ends (slice_get ends e.0)) f (action.Sweep e) refused (sweep_outcome_at (slice_get ends e.0))
-sweep_shown agents ends f e refused h = sweep_at agents ends f e refused h (slice_get ends e.0) refl (h.end e.0)
+swept_when : (closed anyone : Bool) (vs us : List Envelope) → outcome.Discarded vs ≡ cond (not closed) outcome.NotNow (cond anyone outcome.Busy (outcome.Discarded us)) → vs ≡ us
+swept_when false anyone vs us h = cc
+swept_when true true vs us h = cc
+swept_when true false vs us h = cc
 
--- ---- what changes nothing leaves the ends
-
-swept_same : (ends : List End) (e : EndId) (x : End) (o : Outcome) → slice_get ends e.0 ≡ Some x → changes_nothing o (action.Sweep e) ≡ true → moved_ends (swept_ports o) Swept (set ends e.0 (swept_end x o)) ≡ ends
-swept_same ends e x (outcome.Discarded vs) at h = absurd (false≢true h)
-swept_same ends e x o at h = set_again ends e.0 x at
-
-pub sweep_same : (ends : List End) (e : EndId) (q : Option End) → slice_get ends e.0 ≡ q → changes_nothing (sweep_outcome_at q) (action.Sweep e) ≡ true → sweep_ends e.0 ends q ≡ ends
-sweep_same ends e None at h = refl
-sweep_same ends e (Some x) at h = swept_same ends e x (sweep_outcome x) at h
+pub sweep_changes : (c : CoreState) (f : Facts) (e : EndId) (refused : Bool) {o : Outcome} → Sees c f → o ≡ sweep_outcome_at (slice_get c.ends e.0) → FitsSweep f e o → Change (action.Sweep e) o → ShownAfter c f (action.Sweep e) refused o
+sweep_changes c f e refused h says fits (end_swept d vs) =
+    let swept = swept_of f e vs fits in
+    let found = found_end c.agents c.ends f e.0 h.shows (λ none. false≢true (sym (ap (λ (z : EndNow). z.closed) none) ∙ swept.is_closed)) in
+    let x : End = found.0 in
+    let shown : ShownAt f e.0 (Some x) = subst (ShownAt f e.0) found.1 (h.shows.end e.0) in
+    let all : vs ≡ joined x.queues = swept_when x.is_closed (is_anyone_from x.looked x.lines) vs (joined x.queues) (says ∙ ap sweep_outcome_at found.1) in (
+      subst (λ us. Stepped c.agents (moved_ends (ports_of us) Swept (changed_ends (λ y. record y { queues = [] }) e.0 c.ends (slice_get c.ends e.0))) f (action.Sweep e) refused (outcome.Discarded us)) (sym all)
+          (subst (λ q. Stepped c.agents (moved_ends (ports_of (joined x.queues)) Swept (changed_ends (λ y. record y { queues = [] }) e.0 c.ends q)) f (action.Sweep e) refused (outcome.Discarded (joined x.queues))) (sym found.1)
+          (swept_shown c.agents c.ends f e refused x h.shows found.1 (sym (ap (λ (z : EndNow). z.closed) shown.same) ∙ swept.is_closed) swept.settled (subst (λ us. FitsSweep f e (outcome.Discarded us)) all fits))),
+      refl,
+    )

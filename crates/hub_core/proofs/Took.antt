@@ -1,5 +1,5 @@
 -- A step of the core from one value to another, and the clauses of `Core::step` that follow.
-use Rattle.std.proofs.Common.{◌≡◌, ℕ, Bool, true, List, [], ◌∷◌, ◌++◌, length, Option, Result, Ok, Err, refl, sym, ap, subst, ◌∙◌, inl, inr, Some, None}
+use Rattle.std.proofs.Common.{◌≡◌, ℕ, Bool, true, List, [], ◌∷◌, ◌++◌, length, Result, Ok, Err, sym, ap, subst, ◌∙◌, inl, inr}
 use Rattle.std.specs.Prelude.{IfOk, OnErr, is_some, not, ◌&&◌}
 use Rattle.std.specs.List.{slice_get}
 use Rattle.std.proofs.lemmas.Bool.{false≢true}
@@ -9,17 +9,13 @@ use Rattle.hub_core.specs.declared.agent.Agent.{Agent}
 use Rattle.hub_core.specs.declared.end.End.{End}
 use Rattle.hub_core.specs.declared.members.Members.{Members}
 use Rattle.hub_core.specs.declared.roster.Roster.{Roster}
-use Rattle.hub_core.specs.declared.sender.Sender.{Sender}
 use Rattle.hub_core.specs.declared.step.Action.TheVariants as action
 use Rattle.hub_core.specs.declared.outcome.Outcome.TheVariants as outcome
 use Rattle.hub_core.specs.CoreSteps.{core_after}
-use Rattle.hub_core.specs.Kept.{kept_agent_answer, agents_made}
-use Rattle.hub_core.specs.KeptCasting.{kept_member_answer, kept_cast_answer, part_outcome, member_made}
-use Rattle.hub_core.specs.KeptRoster.{origin_at, group_of, is_seated_in, kept_destinations, agent_roster, MemberLeaves, PartLeaves, cast_roster}
-use Rattle.hub_core.specs.Made.{maker_of}
-use Rattle.hub_core.specs.Posting.{holder, is_empty, leave_answer}
+use Rattle.hub_core.specs.KeptCasting.{kept_member_answer, part_outcome, member_made}
+use Rattle.hub_core.specs.KeptRoster.{origin_at, group_of, is_seated_in, MemberLeaves, PartLeaves}
 use Rattle.hub_core.specs.Seen.{seen}
-use Rattle.hub_core.proofs.Seeing.{Sees, seen_is}
+use Rattle.hub_core.proofs.Seeing.{Sees}
 use Rattle.hub_core.specs.CoreState.{CoreState}
 use Rattle.hub_core.specs.declared.step.Step.{Step}
 use Rattle.hub_core.specs.declared.step.Action.{Action}
@@ -31,12 +27,10 @@ use Rattle.hub_core.specs.Laws.{InOrder}
 use Rattle.hub_core.specs.Memory.{takes_memory}
 use Rattle.hub_core.specs.Shows.{Shows, ShowsFacts, ShowsRoster, FitsAndShows, StillShows}
 use Rattle.hub_core.specs.Unchanged.{changes_nothing, SameContent}
-use Rattle.hub_core.proofs.Broadcasts.{member_told, cast_told, part_told}
-use Rattle.hub_core.proofs.Casts.{same_members, leaves_roster, roster_stays, roster_agent, roster_member, roster_leave, roster_cast, roster_part}
-use Rattle.hub_core.proofs.Entering.{leave_changes}
-use Rattle.hub_core.proofs.Changing.{ShownAfter}
+use Rattle.hub_core.proofs.Broadcasts.{member_told, part_told}
+use Rattle.hub_core.proofs.Casts.{same_members, leaves_roster, roster_stays, roster_member, roster_part}
+use Rattle.hub_core.proofs.Changing.{ShownAfter, ShownWith}
 use Rattle.hub_core.proofs.Frames.{Stepped, along}
-use Rattle.hub_core.proofs.Makes.{agent_shown}
 use Rattle.hub_core.proofs.Nexts.{next, facts_next, Change, effect, nothing_changes}
 use Rattle.hub_core.proofs.Orders.{shows_in_order}
 use Rattle.hub_core.proofs.Stills.{same_shown}
@@ -70,40 +64,31 @@ both_same c same_agents same_ends = λ i. record c { agents = same_agents i; end
 pub took : (a : Action) (refused : Bool) (old new after : CoreState) (o p : Outcome) → o ≡ p → new ≡ after → after.roster ≡ old.roster → leaves_roster a ≡ true → ((f : Facts) → Sees old f → Stepped after.agents after.ends f a refused p) → (changes_nothing p a ≡ true → after ≡ old) → Took a refused old new o
 took a refused old new after o p says leaves roster stays k same = record {
   shown = λ f s w.
-      let at : Stepped new.agents new.ends f a refused o = subst (λ q. Stepped new.agents new.ends f a refused q) (sym says) (subst (λ (c : CoreState). Stepped c.agents c.ends f a refused p) (sym leaves) (k f (record { shows = s; cast = w.cast }))) in
+      let at : Stepped new.agents new.ends f a refused o = subst (λ q. Stepped new.agents new.ends f a refused q) (sym says) (subst (λ (c : CoreState). Stepped c.agents c.ends f a refused p) (sym leaves) (k f (record { shows = s; roster = w }))) in
       (at, subst (λ r. ShowsRoster r (next f a o)) (sym (ap (λ (c : CoreState). c.roster) leaves ∙ roster)) (roster_stays old.roster f a refused o s.sound at.fits stays w));
   same = λ nothing. same_content old new (leaves ∙ same (subst (λ q. changes_nothing q a ≡ true) says nothing));
 }
 
--- a step that leaves the roster
-pub took_by : (a : Action) (refused : Bool) (old new : CoreState) (o : Outcome) → new ≡ core_after old o a → leaves_roster a ≡ true → ((f : Facts) → Sees old f → Answers f a refused o) → ((f : Facts) → Sees old f → Answers f a refused o → Change a o → ShownAfter old f a refused o) → Took a refused old new o
-took_by a refused old new o leaves stays fits changes = record {
+-- a step by what it was answered, and what it changed
+pub took_where : (a : Action) (refused : Bool) (old new : CoreState) (o : Outcome) → new ≡ core_after old o a → ((f : Facts) → Sees old f → Answers f a refused o) → ((f : Facts) → Sees old f → Answers f a refused o → Change a o → ShownWith old f a refused o) → Took a refused old new o
+took_where a refused old new o leaves fits changes = record {
   shown = λ f s w.
-      let h : Sees old f = record { shows = s; cast = w.cast } in
+      let h : Sees old f = record { shows = s; roster = w } in
       let fit : Answers f a refused o = fits f h in
-      let after : ShownAfter old f a refused o = elim (effect o a) [
-        | inl quiet ↦ subst (λ (c : CoreState). Stepped c.agents c.ends f a refused o × (c.roster ≡ old.roster)) (sym (quiet.1 old)) (record { fits = fit; shows = subst (ShowsFacts old.agents old.ends) (sym (quiet.0 f)) s }, refl)
+      subst (λ (c : CoreState). Stepped c.agents c.ends f a refused o × ShowsRoster c.roster (next f a o)) (sym leaves) (elim (effect o a) [
+        | inl quiet ↦ subst (λ (c : CoreState). Stepped c.agents c.ends f a refused o × ShowsRoster c.roster (next f a o)) (sym (quiet.1 old)) (record { fits = fit; shows = subst (ShowsFacts old.agents old.ends) (sym (quiet.0 f)) s }, subst (ShowsRoster old.roster) (sym (quiet.0 f)) w)
         | inr change ↦ changes f h fit change
-      ] in (
-        subst (λ (c : CoreState). Stepped c.agents c.ends f a refused o) (sym leaves) after.0,
-        subst (λ r. ShowsRoster r (next f a o)) (sym (ap (λ (c : CoreState). c.roster) leaves ∙ after.1)) (roster_stays old.roster f a refused o s.sound fit stays w),
-      );
+      ]);
   same = λ nothing. same_content old new (leaves ∙ (nothing_changes o a nothing).1 old);
 }
 
+-- a step that leaves the roster
+pub took_by : (a : Action) (refused : Bool) (old new : CoreState) (o : Outcome) → new ≡ core_after old o a → leaves_roster a ≡ true → ((f : Facts) → Sees old f → Answers f a refused o) → ((f : Facts) → Sees old f → Answers f a refused o → Change a o → ShownAfter old f a refused o) → Took a refused old new o
+took_by a refused old new o leaves stays fits changes = took_where a refused old new o leaves fits (λ f h fit change.
+    let after = changes f h fit change in
+    (after.0, subst (λ r. ShowsRoster r (next f a o)) (sym after.1) (roster_stays old.roster f a refused o h.shows.sound fit stays h.roster)))
+
 -- ---- steps that change the roster
-
-agent_same : (origin : Option (List ℕ)) (c : CoreState) (o : Outcome) → changes_nothing o (action.Agent origin) ≡ true → (let d : CoreState = record c { agents = agents_made c.agents o; roster = agent_roster origin c.roster o } in d) ≡ c
-agent_same origin c (outcome.Agent a) h = absurd (false≢true h)
-agent_same origin c o h = refl
-
-pub agent_took : (origin : Option (List ℕ)) (refused : Bool) (old new : CoreState) (o : Outcome) → o ≡ kept_agent_answer (length old.agents) refused → new ≡ record old { agents = agents_made old.agents o; roster = agent_roster origin old.roster o } → Took (action.Agent origin) refused old new o
-agent_took origin refused old new o says same = record {
-  shown = λ f s w.
-      let at = along (λ gs es q. Stepped gs es f (action.Agent origin) refused q) (ap (λ (c : CoreState). c.agents) same ∙ ap (agents_made old.agents) says) (ap (λ (c : CoreState). c.ends) same) says (agent_shown old.agents old.ends f origin refused s) in
-      (at, subst (λ r. ShowsRoster r (next f (action.Agent origin) o)) (sym (ap (λ (c : CoreState). c.roster) same)) (roster_agent old.roster f origin refused o w at.fits));
-  same = λ nothing. same_content old new (same ∙ agent_same origin old o nothing);
-}
 
 member_same : (a : AgentId) (name : List ℕ) (c : CoreState) (r : Roster) (o : Outcome) → MemberLeaves a.0 name c.roster o r → changes_nothing o (action.Member a name) ≡ true → (let d : CoreState = record c { ends = member_made a c.ends o; roster = r } in d) ≡ c
 member_same a name c r (outcome.End e) leaves h = absurd (false≢true h)
@@ -112,37 +97,9 @@ member_same a name c r o leaves h = ap (λ q. let d : CoreState = record c { ros
 pub member_took : (a : AgentId) (name : List ℕ) (refused : Bool) (old new : CoreState) (o : Outcome) → o ≡ kept_member_answer (((seen old).agent a.0).runs && not (is_some old.roster.cast)) (is_some (origin_at (slice_get old.roster.members.origins a.0))) (length old.ends) refused → MemberLeaves a.0 name old.roster o new.roster → new ≡ record old { ends = member_made a old.ends o; roster = new.roster } → Took (action.Member a name) refused old new o
 member_took a name refused old new o says leaves same = record {
   shown = λ f s w.
-      let at = along (λ gs es q. Stepped gs es f (action.Member a name) refused q) (ap (λ (c : CoreState). c.agents) same) (ap (λ (c : CoreState). c.ends) same ∙ ap (member_made a old.ends) says) says (member_told old f a name refused (record { shows = s; cast = w.cast }) w) in
+      let at = along (λ gs es q. Stepped gs es f (action.Member a name) refused q) (ap (λ (c : CoreState). c.agents) same) (ap (λ (c : CoreState). c.ends) same ∙ ap (member_made a old.ends) says) says (member_told old f a name refused (record { shows = s; roster = w })) in
       (at, roster_member old.roster new.roster f a name refused o s.sound w at.fits leaves);
   same = λ nothing. same_content old new (same ∙ member_same a name old new.roster o leaves nothing);
-}
-
-pub leave_took : (t : Sender) (refused : Bool) (old new : CoreState) (o : Outcome) → o ≡ leave_answer (seen old) t → new ≡ core_after old o (action.Leave t) → Took (action.Leave t) refused old new o
-leave_took t refused old new o says same = record {
-  shown = λ f s w.
-      let h : Sees old f = record { shows = s; cast = w.cast } in
-      let after = left_shown old f t refused o h w (says ∙ ap (λ g. leave_answer g t) (seen_is old f h)) in
-      (subst (λ (c : CoreState). Stepped c.agents c.ends f (action.Leave t) refused o) (sym same) after.0, subst (λ (c : CoreState). ShowsRoster c.roster (next f (action.Leave t) o)) (sym same) after.1);
-  same = λ nothing. same_content old new (same ∙ (nothing_changes o (action.Leave t) nothing).1 old);
-}
-  where
-    left_shown : (c : CoreState) (f : Facts) (s : Sender) (refused : Bool) (o : Outcome) → Sees c f → ShowsRoster c.roster f → o ≡ leave_answer f s → (let d : CoreState = core_after c o (action.Leave s) in Stepped d.agents d.ends f (action.Leave s) refused o × ShowsRoster d.roster (next f (action.Leave s) o))
-    left_shown c f s refused outcome.Left h w answer = (leave_changes c f s refused h answer, roster_leave c.roster f s w)
-    left_shown c f s refused (outcome.Clear None) h w answer = (record { fits = answer; shows = h.shows }, w)
-    left_shown c f s refused (outcome.Clear (Some k)) h w answer = (record { fits = answer; shows = h.shows }, w)
-    left_shown c f s refused o h w answer = (record { fits = answer; shows = h.shows }, w)
-
-cast_same : (e : EndId) (ports : List EndId) (body : List ℕ) (r : Roster) (o : Outcome) → changes_nothing o (action.Cast e ports body) ≡ true → cast_roster e body r o ≡ r
-cast_same e ports body r (outcome.Destinations ends) h = absurd (false≢true h)
-cast_same e ports body r o h = refl
-
-pub cast_took : (e : EndId) (ports : List EndId) (body : List ℕ) (refused : Bool) (old new : CoreState) (o : Outcome) → (let m : Members = old.roster.members in let g : Facts = seen old in o ≡ kept_cast_answer (is_some (maker_of (g.end e.0).kind) && not (is_some old.roster.cast)) (is_seated_in m e.0 (group_of m e.0) && not (g.end e.0).closed) (holder g e.0) (is_empty ports) (kept_destinations m e.0)) → new ≡ record old { roster = cast_roster e body old.roster o } → Took (action.Cast e ports body) refused old new o
-cast_took e ports body refused old new o says same = record {
-  shown = λ f s w. (
-    along (λ gs es q. Stepped gs es f (action.Cast e ports body) refused q) (ap (λ (c : CoreState). c.agents) same) (ap (λ (c : CoreState). c.ends) same) says (cast_told old f e ports body refused (record { shows = s; cast = w.cast }) w),
-    subst (λ r. ShowsRoster r (next f (action.Cast e ports body) o)) (sym (ap (λ (c : CoreState). c.roster) same)) (roster_cast old.roster f e ports body o w),
-  );
-  same = λ nothing. same_content old new (same ∙ ap (λ r. let d : CoreState = record old { roster = r } in d) (cast_same e ports body old.roster o nothing));
 }
 
 part_same : (e : EndId) (r s : Roster) (o : Outcome) → PartLeaves e.0 r o s → changes_nothing o (action.Part e) ≡ true → s ≡ r

@@ -1,5 +1,5 @@
 -- For private clauses: the core after a step, where the step got this answer.
-use Rattle.std.specs.Prelude.{ℕ, true, List, slice_get, None, Result}
+use Rattle.std.specs.Prelude.{ℕ, ◌+◌, true, false, List, [], ◌∷◌, ◌++◌, slice_get, None, Some, Result}
 use Rattle.hub_envelope.specs.declared.ids.AgentId.{AgentId}
 use Rattle.hub_envelope.specs.declared.ids.EndId.{EndId}
 use Rattle.hub_core.specs.declared.kind.Kind.{Kind}
@@ -8,35 +8,27 @@ use Rattle.hub_core.specs.declared.outcome.Outcome.{Outcome}
 use Rattle.hub_core.specs.declared.sender.Sender.{Sender}
 use Rattle.hub_core.specs.CoreState.{CoreState}
 use Rattle.hub_core.specs.Seen.{seen}
-use Rattle.hub_core.specs.declared.end.Place.TheVariants.{Arrived}
+use Rattle.hub_core.specs.declared.end.Place.TheVariants.{Arrived, Swept}
 use Rattle.hub_core.specs.declared.line.Phase.TheVariants.{Out}
 use Rattle.hub_core.specs.declared.step.Action.{Action}
 use Rattle.hub_core.specs.declared.step.Action.TheVariants as action
 use Rattle.hub_core.specs.declared.outcome.Outcome.TheVariants as outcome
-use Rattle.hub_core.specs.Kept.{change_end, change_line, in_phase, gate_passed, at_next, adopted_end, closed_end, went, adopted_agents}
-use Rattle.hub_core.specs.Kept.{change_agent, change_owner, one_away, one_out, queue_counted, queue_made}
-use Rattle.hub_core.specs.Kept.{line_ends_at, push_ends, notice_ends, look_end, sweep_ends}
+use Rattle.hub_core.specs.Kept.{change_end, change_line, in_phase, held_by, gate_passed, at_next, adopted_end, closed_end, went, adopted_agents}
+use Rattle.hub_core.specs.Kept.{change_agent, change_owner, one_away, one_out, queue_counted, queue_made, first_agent, new_end}
+use Rattle.hub_core.specs.Kept.{push_ends, notice_ends, moved_ends, ports_of}
+use Rattle.hub_core.specs.declared.kind.Kind.TheVariants.{Port}
 use Rattle.hub_core.specs.KeptEnding.{owner}
 use Rattle.hub_core.specs.Moving.{is_released}
-use Rattle.hub_core.specs.Roster.{cast_after}
+use Rattle.hub_core.specs.Roster.{cast_to, cast_after}
 
 abbrev pub queue_core : AgentId → Kind → CoreState → Outcome → CoreState
 queue_core a kind c o = record c { agents = queue_counted a kind c.agents o; ends = queue_made a kind c.ends o }
-
-abbrev pub line_core : CoreState → EndId → AgentId → CoreState
-line_core c e a = record c { ends = line_ends_at ((seen c).agent a.0).runs a e.0 c.ends (slice_get c.ends e.0) }
 
 abbrev pub push_core : CoreState → Sender → List EndId → List ℕ → Result (Line × AgentId) Outcome → CoreState
 push_core c s ports body posting = record c { ends = push_ends s ports body c.ends posting }
 
 abbrev pub notice_core : CoreState → Sender → Result Line Outcome → CoreState
 notice_core c s noticing = record c { ends = notice_ends s c.ends noticing }
-
-abbrev pub look_core : CoreState → EndId → CoreState
-look_core c e = record c { ends = change_end look_end e.0 c.ends }
-
-abbrev pub sweep_core : CoreState → EndId → CoreState
-sweep_core c e = record c { ends = sweep_ends e.0 c.ends (slice_get c.ends e.0) }
 
 -- The core after a poster passed the gate, or was turned back there: it is one of its agent's that are away.
 abbrev pub entered_core : CoreState → Sender → Outcome → CoreState
@@ -47,7 +39,13 @@ entered_core c s o = record c {
 
 -- the core after an answered step
 abbrev pub core_after : CoreState → Outcome → Action → CoreState
-core_after c outcome.Done (action.Back s) = record c { ends = change_line (λ y. record y { held_by = None }) s c.ends }
+core_after c (outcome.Agent a) (action.Agent origin) = record c {
+  agents = c.agents ++ first_agent ∷ [];
+  roster = record c.roster { members = record c.roster.members { origins = c.roster.members.origins ++ origin ∷ [] } };
+}
+core_after c (outcome.Ends e p) (action.Channel a) = record c { ends = c.ends ++ new_end a (Port p) ∷ new_end a (Port e) ∷ [] }
+core_after c (outcome.Line l) (action.Line e a) = record c { ends = change_line (held_by (Some a)) (record { end = e; line = l }) c.ends }
+core_after c outcome.Done (action.Back s) = record c { ends = change_line (held_by None) s c.ends }
 core_after c outcome.In (action.Enter s) = entered_core c s outcome.In
 core_after c outcome.Moved (action.Enter s) = entered_core c s outcome.Moved
 core_after c outcome.Closed (action.Enter s) = entered_core c s outcome.Closed
@@ -58,14 +56,18 @@ core_after c outcome.Left (action.Leave s) = record c {
 }
 core_after c (outcome.Hopped k) (action.Hop s) = record c { ends = change_line at_next s c.ends }
 core_after c outcome.Started (action.Start e) = record c { ends = change_end (λ x. record x { is_enabled = true }) e.0 c.ends }
+core_after c (outcome.Clear (Some k)) (action.Look e) = record c { ends = change_end (λ x. record x { looked = x.looked + 1 }) e.0 c.ends }
 core_after c (outcome.Adopted k) (action.Adopt e a) = record c {
   agents = adopted_agents (is_released (seen c) ((seen c).end e.0).kind) a (slice_get c.ends e.0) c.agents;
   ends = change_end (adopted_end a) e.0 c.ends;
 }
 core_after c outcome.Done (action.Close e) = record c { agents = went (slice_get c.ends e.0) c.agents; ends = change_end closed_end e.0 c.ends }
+core_after c (outcome.Discarded vs) (action.Sweep e) = record c { ends = moved_ends (ports_of vs) Swept (change_end (λ x. record x { queues = [] }) e.0 c.ends) }
 core_after c outcome.Handed (action.Hand e b) = record c {
   agents = went (slice_get c.ends e.0) c.agents;
   ends = change_end (λ x. record x { place = Arrived b }) e.0 c.ends;
 }
 core_after c outcome.Ordered (action.Order a) = record c { agents = change_agent (λ x. record x { is_ordered = true }) a.0 c.agents }
+core_after c (outcome.Ending es) (action.See a) = record c { agents = change_agent (λ x. record x { is_running = false }) a.0 c.agents }
+core_after c (outcome.Destinations ends) (action.Cast e ports body) = record c { roster = record c.roster { cast = cast_to e body ends } }
 core_after c _ _ = c

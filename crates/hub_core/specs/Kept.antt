@@ -1,8 +1,9 @@
 -- For private clauses: what the parts of the core do to what it keeps.
+use Rattle.hub_core.specs.Shows.{kept_lines}
 use Rattle.std.specs.Prelude.{ℕ, ◌+◌, ◌==◌, if◌then◌else◌, nat_lt, Bool, List, [], ◌∷◌, ◌++◌, length, slice_set, slice_get, slice_index_or, drop, Option, Some, None, option_map, is_some, false, true, ◌≡◌, ◌&&◌, ◌||◌, not, Result, Ok, Err, IfSome, nat_le, ◌-◌, replicate}
 use Rattle.std.specs.List.{fold, list_any, flat_map, position}
 use Rattle.std.specs.Bool.{MatchBool}
-use Rattle.hub_envelope.specs.declared.limits.TheConstants.{MAX_AGENTS, MAX_ENDS, MAX_LINES, MAX_PORTS}
+use Rattle.hub_envelope.specs.declared.limits.TheConstants.{MAX_ENDS, MAX_LINES, MAX_PORTS}
 use Rattle.hub_envelope.specs.declared.ids.LineId.{LineId}
 use Rattle.hub_core.specs.declared.end.Place.TheVariants.{With, InFlight, Arrived, Swept, Gone}
 use Rattle.hub_core.specs.Accepted.{named_envelope, named_notice}
@@ -48,14 +49,6 @@ may_look x = x.is_closed || nat_lt x.taker x.newest
 
 abbrev pub look_outcome : End → Outcome
 look_outcome x = if may_look x then look_answer_at x.lines (kept_looked x) else outcome.NotNow
-
--- the end after a look got this answer
-abbrev pub looked_end : End → Outcome → End
-looked_end x (outcome.Clear (Some k)) = record x { looked = x.looked + 1 }
-looked_end x _ = x
-
-abbrev pub look_end : End → End
-look_end x = looked_end x (look_outcome x)
 
 abbrev pub look_outcome_at : Option End → Outcome
 look_outcome_at None = outcome.NotNow
@@ -133,6 +126,9 @@ change_line change s ends = change_end (λ x. record x { lines = changed_lines c
 
 abbrev pub in_phase : Phase → Line → Line
 in_phase p y = record y { phase = p }
+
+abbrev pub held_by : Option AgentId → Line → Line
+held_by holder y = record y { held_by = holder }
 
 -- the ends after an Enter got this answer
 abbrev pub gate_passed : Sender → List End → Outcome → List End
@@ -235,10 +231,6 @@ sweep_outcome x =
     else (if is_anyone_from x.looked x.lines then outcome.Busy
     else outcome.Discarded (joined x.queues))
 
-abbrev pub swept_end : End → Outcome → End
-swept_end x (outcome.Discarded vs) = record x { queues = [] }
-swept_end x _ = x
-
 abbrev pub sweep_outcome_at : Option End → Outcome
 sweep_outcome_at None = outcome.NotNow
 sweep_outcome_at (Some x) = sweep_outcome x
@@ -246,15 +238,6 @@ sweep_outcome_at (Some x) = sweep_outcome x
 -- the ports that the envelopes name
 abbrev pub ports_of : List Envelope → List EndId
 ports_of vs = flat_map (λ v. v.ports) vs
-
-abbrev pub swept_ports : Outcome → List EndId
-swept_ports (outcome.Discarded vs) = ports_of vs
-swept_ports _ = []
-
--- the ends after a sweep of one: its queues are empty, and the ports of what was discarded are swept
-abbrev pub sweep_ends : ℕ → List End → Option End → List End
-sweep_ends e ends None = ends
-sweep_ends e ends (Some x) = moved_ends (swept_ports (sweep_outcome x)) Swept (slice_set ends e (swept_end x (sweep_outcome x)))
 
 -- what a take at an open, enabled end of an agent gives and leaves
 abbrev pub TakeServes : AgentId → ℕ → List End → End → Outcome → List End → Type 0
@@ -275,19 +258,9 @@ TakeLeaves holder e old None o new = (o ≡ outcome.NotNow) × (new ≡ old)
 TakeLeaves holder e old (Some x) o new =
     MatchBool x.is_closed ((o ≡ outcome.Closed) × (new ≡ old)) (TakeHeld holder e old x o new)
 
-abbrev pub kept_agent_answer : ℕ → Bool → Outcome
-kept_agent_answer n refused =
-    if refused then outcome.NoMemory
-    else (if nat_le MAX_AGENTS n then outcome.TooManyAgents
-    else outcome.Agent (record { 0 = n }))
-
 -- an agent that has no end
 abbrev pub first_agent : Agent
 first_agent = record { is_running = true; is_ordered = false; away = 0; clients = 0; workers = 0 }
-
-abbrev pub agents_made : List Agent → Outcome → List Agent
-agents_made old (outcome.Agent a) = old ++ first_agent ∷ []
-agents_made old _ = old
 
 -- a line that has put nothing
 abbrev pub first_line : Line
@@ -306,17 +279,6 @@ new_end a kind = record {
   lines = replicate (lines_of (Some kind)) first_line;
   queues = [] ∷ [];
 }
-
-abbrev pub kept_channel_answer : Bool → ℕ → Bool → Outcome
-kept_channel_answer runs n refused =
-    if not runs then outcome.NotNow
-    else (if nat_lt MAX_ENDS (n + 2) then outcome.TooManyEnds
-    else (if refused then outcome.NoMemory
-    else outcome.Ends (record { 0 = n }) (record { 0 = n + 1 })))
-
-abbrev pub ends_made : AgentId → List End → Outcome → List End
-ends_made a old (outcome.Ends e f) = old ++ new_end a (Port f) ∷ new_end a (Port e) ∷ []
-ends_made a old _ = old
 
 -- ---- posters that are away
 
@@ -404,27 +366,12 @@ abbrev pub hold_outcome_of : Option LineId → Outcome
 hold_outcome_of None = outcome.NoLine
 hold_outcome_of (Some l) = outcome.Line l
 
-abbrev pub hold_outcome : End → Outcome
-hold_outcome x = if is_queue (Some x.kind) then hold_outcome_of (first_free x.lines) else outcome.NoSuchEnd
-
--- the lines with one of them held by this agent, or by none
-abbrev pub held_lines : Option AgentId → ℕ → List Line → Option Line → List Line
-held_lines holder l lines None = lines
-held_lines holder l lines (Some y) = slice_set lines l (record y { held_by = holder })
-
-abbrev pub held_end : AgentId → End → Outcome → End
-held_end a x (outcome.Line l) = record x { lines = held_lines (Some a) l.0 x.lines (slice_get x.lines l.0) }
-held_end a x _ = x
-
-abbrev pub line_outcome_at : Bool → Option End → Outcome
-line_outcome_at false x = outcome.NotNow
-line_outcome_at true None = outcome.NoSuchEnd
-line_outcome_at true (Some x) = hold_outcome x
-
-abbrev pub line_ends_at : Bool → AgentId → ℕ → List End → Option End → List End
-line_ends_at false a e ends x = ends
-line_ends_at true a e ends None = ends
-line_ends_at true a e ends (Some x) = slice_set ends e (held_end a x (hold_outcome x))
+-- what a Line is answered
+abbrev pub line_outcome : Facts → EndId → AgentId → Option End → Outcome
+line_outcome f e a x =
+    if not (f.agent a.0).runs then outcome.NotNow
+    else (if not (is_queue (f.end e.0).kind) then outcome.NoSuchEnd
+    else hold_outcome_of (first_free (kept_lines x)))
 
 -- an agent that an end of this kind came to; of a port with its own poster away that poster is the agent's now
 abbrev pub adopting : Bool → Kind → Agent → Agent

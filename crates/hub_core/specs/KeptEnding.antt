@@ -1,5 +1,5 @@
 -- For private clauses: what the core keeps of posters that are away, and of agents that end.
-use Rattle.std.specs.Prelude.{ℕ, ◌==◌, if◌then◌else◌, List, Option, Some, None, false, not}
+use Rattle.std.specs.Prelude.{◌==◌, if◌then◌else◌, List, Option, Some, None, not}
 use Rattle.hub_envelope.specs.declared.ids.EndId.{EndId}
 use Rattle.hub_envelope.specs.declared.ids.AgentId.{AgentId}
 use Rattle.hub_core.specs.declared.agent.Agent.{Agent}
@@ -9,7 +9,7 @@ use Rattle.hub_core.specs.declared.sender.Sender.{Sender}
 use Rattle.hub_core.specs.Facts.{Facts}
 use Rattle.hub_core.specs.declared.outcome.Outcome.{Outcome}
 use Rattle.hub_core.specs.declared.outcome.Outcome.TheVariants as outcome
-use Rattle.hub_core.specs.Kept.{change_agent, with_agent}
+use Rattle.hub_core.specs.Kept.{with_agent}
 
 abbrev pub owner_by : Facts → Sender → Option Kind → Option AgentId
 owner_by f s (Some (Port q)) = if s.line.0 == 0 then with_agent (f.end q.0).place else None
@@ -27,7 +27,3 @@ see_outcome ends None = outcome.NotNow
 see_outcome ends (Some x) =
     if not (x.away == 0) then outcome.NotNow
     else (if x.is_ordered then outcome.Ending ends else outcome.GoingOn)
-
-abbrev pub see_agents : ℕ → List Agent → Outcome → List Agent
-see_agents a agents (outcome.Ending es) = change_agent (λ x. record x { is_running = false }) a agents
-see_agents a agents _ = agents

@@ -1,5 +1,5 @@
 -- What the core keeps of the roster.
-use Rattle.std.specs.Prelude.{◌≡◌, ℕ, ◌==◌, ◌<◌, Bool, true, false, List, [], ◌∷◌, ◌++◌, Option, Some, None, if◌then◌else◌}
+use Rattle.std.specs.Prelude.{◌≡◌, ℕ, ◌==◌, ◌<◌, Bool, true, false, List, [], ◌∷◌, Option, Some, None, if◌then◌else◌}
 use Rattle.std.specs.Ordering.{nat_cmp, ordering_then}
 use Rattle.std.specs.Cmp.Lexicographic.{slice_cmp}
 use Rattle.std.specs.declared.cmp.Ordering.{Ordering}
@@ -12,7 +12,7 @@ use Rattle.hub_core.specs.declared.group.Group.{Group}
 use Rattle.hub_core.specs.declared.members.Members.{Members}
 use Rattle.hub_core.specs.declared.roster.Roster.{Roster}
 use Rattle.hub_envelope.specs.declared.ids.EndId.{EndId}
-use Rattle.hub_core.specs.Roster.{CastNow, RosterNow, is_same_group, is_of_group, is_first, group_named, cast_to}
+use Rattle.hub_core.specs.Roster.{CastNow, RosterNow, is_same_group, is_of_group, is_first, group_named}
 use Rattle.hub_core.specs.declared.outcome.Outcome.{Outcome}
 use Rattle.hub_core.specs.declared.outcome.Outcome.TheVariants as outcome
 
@@ -120,17 +120,7 @@ MemberLeaves a name old (outcome.End e) new =
     JoinsGroup e.0 (group_named (origin_at (slice_get old.members.origins a)) name) old.members new.members × (new.cast ≡ old.cast)
 MemberLeaves a name old _ new = new ≡ old
 
--- the roster after a cast, or no change
-abbrev pub cast_roster : EndId → List ℕ → Roster → Outcome → Roster
-cast_roster e body r (outcome.Destinations ends) = record r { cast = cast_to e body ends }
-cast_roster e body r _ = r
-
 -- the roster after a member parted, or no change
 abbrev pub PartLeaves : ℕ → Roster → Outcome → Roster → Type 0
 PartLeaves x old outcome.Done new = Parts x old.members new.members × (new.cast ≡ old.cast)
 PartLeaves x old _ new = new ≡ old
-
--- the roster after an agent of this origin was made, or no change
-abbrev pub agent_roster : Option (List ℕ) → Roster → Outcome → Roster
-agent_roster origin r (outcome.Agent a) = record r { members = record r.members { origins = r.members.origins ++ origin ∷ [] } }
-agent_roster origin r _ = r

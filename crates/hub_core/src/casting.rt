@@ -6,7 +6,9 @@ ghost use Rattle.hub_core.specs.KeptCasting.{part_outcome};
 ghost use Rattle.hub_core.specs.Made.{maker_of};
 ghost use Rattle.hub_core.specs.Seen.{seen};
 ghost use Rattle.hub_core.specs.KeptRoster.{origin_at, group_of, is_seated_in, kept_destinations};
-ghost use Rattle.hub_core.specs.KeptRoster.{MemberLeaves, cast_roster, PartLeaves};
+ghost use Rattle.hub_core.specs.KeptRoster.{MemberLeaves, PartLeaves};
+ghost use Rattle.hub_core.specs.CoreSteps.{core_after};
+ghost use Rattle.hub_core.specs.declared.step.Action.TheVariants as action;
 ghost use Rattle.hub_core.specs.Posting.{holder, is_empty};
 ghost use Rattle.hub_core.specs.Unchanged.{SameContent};
 
@@ -74,9 +76,8 @@ impl Core {
             let others = kept_destinations members end.0 in
             IfOk result (λ o. o ≡ kept_cast_answer may (seated && not (f.end end.0).closed)
             (holder f end.0) (is_empty ports) others) }
-        ensures new { IfOk result (λ o. self.new ≡ record self.old {
-          roster = cast_roster end body self.old.roster o;
-        }) }
+        ensures new { IfOk result (λ o. self.new
+            ≡ core_after self.old o (action.Cast end ports body)) }
         ensures err { OnErr result (self.new ≡ self.old) }
     {
         if self.maker_of(end).is_none() || self.roster.is_casting() {

@@ -6,10 +6,10 @@ ghost use Rattle.hub_envelope.specs.declared.envelope.Envelope.{Envelope as Enve
 ghost use Rattle.hub_envelope.specs.declared.limits.TheConstants.{MAX_MOVES};
 ghost use Rattle.hub_core.specs.Moving.{is_arrived};
 ghost use Rattle.hub_core.specs.Posting.{is_here, is_with};
-ghost use Rattle.hub_core.specs.Kept.{new_end, hold_outcome, held_end, kept_looked, kept_settled};
-ghost use Rattle.hub_core.specs.Kept.{left_outcome, left_end, look_outcome, look_end, advanced_end};
+ghost use Rattle.hub_core.specs.Kept.{new_end, kept_looked, kept_settled};
+ghost use Rattle.hub_core.specs.Kept.{left_outcome, left_end, advanced_end};
 ghost use Rattle.hub_core.specs.Kept.{adopted_end, has_queue, posting_line, put_end, sweep_outcome};
-ghost use Rattle.hub_core.specs.Kept.{swept_end, taker_queue, with_taker_queue};
+ghost use Rattle.hub_core.specs.Kept.{taker_queue, with_taker_queue};
 
 use crate::kind::Kind;
 use crate::line::{Line, Lines, Phase};
@@ -106,24 +106,6 @@ impl End {
         }
     }
 
-    /// The queue that is looked at becomes clear where nobody is inside or being turned back there.
-    pub(crate) fn look(&mut self) -> Outcome
-        ensures outcome { result ≡ look_outcome self.old }
-        ensures after { self.new ≡ look_end self.old }
-    {
-        if !self.is_closed && self.taker >= self.newest {
-            return Outcome::NotNow;
-        }
-        let Some(epoch) = self.looked() else {
-            return Outcome::Clear(None);
-        };
-        if self.lines.is_anyone_at(epoch) {
-            return Outcome::Busy;
-        }
-        self.looked += 1;
-        Outcome::Clear(Some(epoch))
-    }
-
     /// Whether nobody is inside or being turned back at a queue, or it is clear.
     fn is_settled(&self, epoch: u32) -> bool
         ensures { result ≡ kept_settled self.now epoch }
@@ -214,22 +196,6 @@ impl End {
         Ok(())
     }
 
-    /// What waits at a closed end is discarded, where every queue is settled.
-    pub(crate) fn sweep(&mut self, alloc: Global) -> Result<Outcome, OutOfMemory>
-        ensures outcome { IfOk result (λ o. o ≡ sweep_outcome self.old) }
-        ensures after { OnOk result (self.new ≡ swept_end self.old (sweep_outcome self.old)) }
-        ensures err { OnErr result (self.new ≡ self.old) }
-    {
-        if !self.is_closed {
-            return Ok(Outcome::NotNow);
-        }
-        if self.lines.is_anyone_from(self.looked) {
-            return Ok(Outcome::Busy);
-        }
-        let envelopes = self.queues.empty(alloc)?;
-        Ok(Outcome::Discarded(envelopes))
-    }
-
     /// Takes the first envelope of the taker's queue.
     pub(crate) fn take(&mut self) -> Option<Envelope>
         ensures { MatchOption result
@@ -238,20 +204,5 @@ impl End {
             × (self.new ≡ with_taker_queue self.old rest)) }
     {
         self.queues.take_first()
-    }
-
-    /// The agent holds the first line of a client's or worker's queue that no agent holds.
-    pub(crate) fn hold(&mut self, agent: AgentId) -> Outcome
-        ensures outcome { result ≡ hold_outcome self.old }
-        ensures after { self.new ≡ held_end agent self.old (hold_outcome self.old) }
-    {
-        if !self.kind.is_queue() {
-            return Outcome::NoSuchEnd;
-        }
-        let Some(line) = self.lines.first_free() else {
-            return Outcome::NoLine;
-        };
-        self.lines.hold(line, Some(agent));
-        Outcome::Line(line)
     }
 }

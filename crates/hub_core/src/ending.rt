@@ -7,7 +7,7 @@ ghost use Rattle.hub_core.specs.CoreSteps.{core_after};
 ghost use Rattle.hub_core.specs.declared.step.Action.TheVariants as action;
 ghost use Rattle.hub_core.specs.Kept.{with_agent, change_owner, one_away, one_out};
 ghost use Rattle.hub_core.specs.KeptEnding.{owner_by, owner};
-ghost use Rattle.hub_core.specs.KeptEnding.{see_outcome, see_agents};
+ghost use Rattle.hub_core.specs.KeptEnding.{see_outcome};
 ghost use Rattle.hub_core.specs.Seen.{seen};
 
 use crate::agent::Agent;
@@ -34,9 +34,7 @@ impl Core {
     pub(crate) fn see(&mut self, agent: AgentId) -> Result<Outcome, OutOfMemory>
         ensures outcome { let found = slice_get self.old.agents agent.0 in
             IfOk result (λ o. o ≡ see_outcome (ends_at (seen self.old) agent) found) }
-        ensures new { IfOk result (λ o. self.new ≡ record self.old {
-          agents = see_agents agent.0 self.old.agents o;
-        }) }
+        ensures new { IfOk result (λ o. self.new ≡ core_after self.old o (action.See agent)) }
         ensures err { OnErr result (self.new ≡ self.old) }
     {
         let Some(found) = self.agents.get(agent.0 as usize).copied() else {

@@ -3,8 +3,8 @@
 
 ghost use Rattle.std.specs.Prelude.{◌≡◌, option_map, slice_get, IfOk};
 ghost use Rattle.hub_core.specs.Kept.{count_of, one_more, set_agent, gone};
-ghost use Rattle.hub_core.specs.Kept.{line_outcome_at};
-ghost use Rattle.hub_core.specs.CoreSteps.{core_after, line_core};
+ghost use Rattle.hub_core.specs.Kept.{line_outcome};
+ghost use Rattle.hub_core.specs.CoreSteps.{core_after};
 ghost use Rattle.hub_core.specs.Holding.{back_answer};
 ghost use Rattle.hub_core.specs.declared.step.Action.TheVariants as action;
 ghost use Rattle.hub_core.specs.Seen.{seen};
@@ -19,10 +19,11 @@ use crate::sender::Sender;
 use hub_envelope::{AgentId, EndId, OutOfMemory};
 
 impl Core {
+    /// The agent holds the first line of a client's or worker's queue that no agent holds.
     pub(crate) fn hold(&mut self, end: EndId, agent: AgentId) -> Outcome
-        ensures outcome { let runs = ((seen self.old).agent agent.0).runs in
-            result ≡ line_outcome_at runs (slice_get self.old.ends end.0) }
-        ensures new { self.new ≡ line_core self.old end agent }
+        ensures outcome { let found = slice_get self.old.ends end.0 in
+            result ≡ line_outcome (seen self.old) end agent found }
+        ensures new { self.new ≡ core_after self.old result (action.Line end agent) }
     {
         if !self.is_running(agent) {
             return Outcome::NotNow;
@@ -30,7 +31,14 @@ impl Core {
         let Some(found) = self.ends.get_mut(end.0 as usize) else {
             return Outcome::NoSuchEnd;
         };
-        found.hold(agent)
+        if !found.kind.is_queue() {
+            return Outcome::NoSuchEnd;
+        }
+        let Some(line) = found.lines.first_free() else {
+            return Outcome::NoLine;
+        };
+        found.lines.hold(line, Some(agent));
+        Outcome::Line(line)
     }
 
     /// A line that an agent holds and whose poster is out is held by none.

@@ -2,7 +2,7 @@
 
 ghost use Rattle.std.specs.Prelude.{◌≡◌, replicate, not, is_some, IfOk, None, slice_get, slice_set};
 ghost use Rattle.std.specs.List.{position};
-ghost use Rattle.hub_core.specs.Kept.{first_line, first_free, held_lines, is_anyone_at};
+ghost use Rattle.hub_core.specs.Kept.{first_line, first_free, changed_lines, held_by, is_anyone_at};
 ghost use Rattle.hub_core.specs.Kept.{is_anyone_from};
 
 use hub_envelope::{AgentId, LineId, MAX_LINES};
@@ -108,7 +108,8 @@ impl Lines {
 
     /// Changes who holds a line.
     pub(crate) fn hold(&mut self, line: LineId, holder: Option<AgentId>)
-        ensures { self.new ≡ held_lines holder line.0 self.old (slice_get self.old line.0) }
+        ensures { let held = slice_get self.old line.0 in
+            self.new ≡ changed_lines (held_by holder) line.0 self.old held }
     {
         if let Some(kept) = self.lines.get_mut(line.0 as usize) {
             kept.held_by = holder;

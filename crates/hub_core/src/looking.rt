@@ -1,8 +1,9 @@
 //! Steps that look who is inside: Look and Sweep.
 
-ghost use Rattle.std.specs.Prelude.{◌≡◌, slice_get, IfOk, OnOk, OnErr};
+ghost use Rattle.std.specs.Prelude.{◌≡◌, slice_get, IfOk, OnErr};
 ghost use Rattle.hub_core.specs.Kept.{look_outcome_at, sweep_outcome_at, moved_ends, ports_of};
-ghost use Rattle.hub_core.specs.CoreSteps.{look_core, sweep_core};
+ghost use Rattle.hub_core.specs.CoreSteps.{core_after};
+ghost use Rattle.hub_core.specs.declared.step.Action.TheVariants as action;
 
 use crate::end::Place;
 use crate::machine::Core;
@@ -10,32 +11,47 @@ use crate::outcome::Outcome;
 use hub_envelope::{EndId, Envelope, OutOfMemory};
 
 impl Core {
+    /// The queue that is looked at becomes clear where nobody is inside or being turned back there.
     pub(crate) fn look(&mut self, end: EndId) -> Outcome
         ensures outcome { result ≡ look_outcome_at (slice_get self.old.ends end.0) }
-        ensures new { self.new ≡ look_core self.old end }
+        ensures new { self.new ≡ core_after self.old result (action.Look end) }
     {
         let Some(found) = self.ends.get_mut(end.0 as usize) else {
             return Outcome::NotNow;
         };
-        found.look()
+        if !found.is_closed && found.taker >= found.newest {
+            return Outcome::NotNow;
+        }
+        let Some(epoch) = found.looked() else {
+            return Outcome::Clear(None);
+        };
+        if found.lines.is_anyone_at(epoch) {
+            return Outcome::Busy;
+        }
+        found.looked += 1;
+        Outcome::Clear(Some(epoch))
     }
 
     /// Discards what waits at a closed end, where every queue is settled.
     pub(crate) fn sweep(&mut self, end: EndId) -> Result<Outcome, OutOfMemory>
         ensures outcome { IfOk result (λ o. o
             ≡ sweep_outcome_at (slice_get self.old.ends end.0)) }
-        ensures new { OnOk result (self.new ≡ sweep_core self.old end) }
+        ensures new { IfOk result (λ o. self.new ≡ core_after self.old o (action.Sweep end)) }
         ensures err { OnErr result (self.new ≡ self.old) }
     {
         let alloc = self.alloc;
         let Some(found) = self.ends.get_mut(end.0 as usize) else {
             return Ok(Outcome::NotNow);
         };
-        let outcome = found.sweep(alloc)?;
-        if let Outcome::Discarded(envelopes) = &outcome {
-            self.place_swept(envelopes.as_slice());
+        if !found.is_closed {
+            return Ok(Outcome::NotNow);
         }
-        Ok(outcome)
+        if found.lines.is_anyone_from(found.looked) {
+            return Ok(Outcome::Busy);
+        }
+        let envelopes = found.queues.empty(alloc)?;
+        self.place_swept(envelopes.as_slice());
+        Ok(Outcome::Discarded(envelopes))
     }
 
     /// Gives each port that the envelopes name its place.

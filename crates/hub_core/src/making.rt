@@ -1,10 +1,10 @@
 //! Steps that make agents and ends: Agent, Channel, Client and Worker.
 
 ghost use Rattle.std.specs.Prelude.{◌≡◌, length, slice_get, IfOk, OnErr};
-ghost use Rattle.hub_core.specs.KeptRoster.{agent_roster};
-ghost use Rattle.hub_core.specs.Kept.{kept_agent_answer, agents_made};
-ghost use Rattle.hub_core.specs.Kept.{kept_channel_answer, ends_made, count_of, kept_queue_answer};
-ghost use Rattle.hub_core.specs.CoreSteps.{queue_core};
+ghost use Rattle.hub_core.specs.Kept.{count_of, kept_queue_answer};
+ghost use Rattle.hub_core.specs.CoreSteps.{core_after, queue_core};
+ghost use Rattle.hub_core.specs.Making.{agent_answer, channel_answer};
+ghost use Rattle.hub_core.specs.declared.step.Action.TheVariants as action;
 ghost use Rattle.hub_core.specs.Seen.{seen};
 
 use crate::agent::Agent;
@@ -20,12 +20,8 @@ impl Core {
         origin: Option<Text>,
         memory_refused: bool,
     ) -> Result<Outcome, OutOfMemory>
-        ensures outcome { IfOk result (λ o. o
-            ≡ kept_agent_answer (length self.old.agents) memory_refused) }
-        ensures new { IfOk result (λ o. self.new ≡ record self.old {
-          agents = agents_made self.old.agents o;
-          roster = agent_roster origin self.old.roster o;
-        }) }
+        ensures outcome { IfOk result (λ o. o ≡ agent_answer (seen self.old) memory_refused) }
+        ensures new { IfOk result (λ o. self.new ≡ core_after self.old o (action.Agent origin)) }
         ensures err { OnErr result (self.new ≡ self.old) }
     {
         if memory_refused {
@@ -46,12 +42,9 @@ impl Core {
         agent: AgentId,
         memory_refused: bool,
     ) -> Result<Outcome, OutOfMemory>
-        ensures outcome { let runs = ((seen self.old).agent agent.0).runs in
-            let count = length self.old.ends in
-            IfOk result (λ o. o ≡ kept_channel_answer runs count memory_refused) }
-        ensures new { IfOk result (λ o. self.new ≡ record self.old {
-          ends = ends_made agent self.old.ends o;
-        }) }
+        ensures outcome { IfOk result (λ o. o
+            ≡ channel_answer (seen self.old) agent memory_refused) }
+        ensures new { IfOk result (λ o. self.new ≡ core_after self.old o (action.Channel agent)) }
         ensures err { OnErr result (self.new ≡ self.old) }
     {
         if !self.is_running(agent) {

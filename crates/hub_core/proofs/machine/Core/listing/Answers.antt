@@ -5,4 +5,4 @@ use Rattle.hub_core.proofs.Seeing.{listing_seen}
 use Rattle.hub_core.proofs.machine.Core.listing.Goals as goal
 
 pub returns : goal.returns
-returns c = λ h s. c.kind_of_list.ensures ∙ listing_seen c.args.self.now (facts h) c.args.sender c.args.ports.now (record { shows = s.0; cast = s.1.cast })
+returns c = λ h s. c.kind_of_list.ensures ∙ listing_seen c.args.self.now (facts h) c.args.sender c.args.ports.now (record { shows = s.0; roster = s.1 })

@@ -5,4 +5,4 @@ use Rattle.hub_core.proofs.Seeing.{may_close_seen}
 use Rattle.hub_core.proofs.machine.Core.may_close.Goals as goal
 
 pub returns : goal.returns
-returns c = λ h s. c.can_close.ensures ∙ may_close_seen c.args.self.now (facts h) c.args.end.0 (record { shows = s.0; cast = s.1.cast })
+returns c = λ h s. c.can_close.ensures ∙ may_close_seen c.args.self.now (facts h) c.args.end.0 (record { shows = s.0; roster = s.1 })

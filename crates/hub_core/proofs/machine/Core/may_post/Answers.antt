@@ -5,4 +5,4 @@ use Rattle.hub_core.proofs.Seeing.{post_seen}
 use Rattle.hub_core.proofs.machine.Core.may_post.Goals as goal
 
 pub returns : goal.returns
-returns c = λ h s. c.can_post.ensures ∙ post_seen c.args.self.now (facts h) c.args.sender (record { shows = s.0; cast = s.1.cast })
+returns c = λ h s. c.can_post.ensures ∙ post_seen c.args.self.now (facts h) c.args.sender (record { shows = s.0; roster = s.1 })

@@ -1,26 +1,29 @@
 -- Each arm of a step: what the family did to the core is what the facts say.
-use Rattle.std.proofs.Common.{refl, ap, ◌∙◌}
-use Rattle.hub_core.specs.CoreSteps.{queue_core, line_core, push_core, notice_core, look_core, sweep_core}
-use Rattle.hub_core.specs.Kept.{ends_made, kept_noticing, kept_posting}
-use Rattle.hub_core.specs.KeptEnding.{see_agents}
+use Rattle.hub_core.proofs.Broadcasts.{cast_fits, cast_changes}
+use Rattle.hub_core.specs.Looking.{FitsSweep}
+use Rattle.hub_core.specs.Posting.{leave_answer}
+use Rattle.hub_core.specs.Making.{agent_answer, channel_answer}
+use Rattle.std.proofs.Common.{refl, ap, ◌∙◌, subst, sym}
+use Rattle.hub_core.specs.CoreSteps.{queue_core, push_core, notice_core}
+use Rattle.hub_core.specs.Kept.{kept_noticing, kept_posting}
 use Rattle.hub_core.specs.declared.kind.Kind.TheVariants.{Client, Worker}
 use Rattle.hub_core.specs.declared.step.Action.TheVariants as action
-use Rattle.hub_core.proofs.Stepping.{ok_both, ok_all, channel_same, client_same, worker_same, push_same, notice_same, take_same}
-use Rattle.hub_core.proofs.Took.{ok, took, took_by, same_err, same_err_with, told, agent_took, member_took, leave_took, cast_took, part_took}
-use Rattle.hub_core.proofs.Frames.{with_ends, with_agents}
-use Rattle.hub_core.proofs.Makes.{makes_client, makes_worker, channel_shown, queue_shown}
-use Rattle.hub_core.proofs.Holds.{line_shown, line_same, back_changes}
+use Rattle.hub_core.proofs.Stepping.{ok_both, ok_all, client_same, worker_same, push_same, notice_same, take_same}
+use Rattle.hub_core.proofs.Took.{ok, took, took_where, took_by, same_err, same_err_with, told, member_took, part_took}
+use Rattle.hub_core.proofs.Frames.{with_ends}
+use Rattle.hub_core.proofs.Makes.{makes_client, makes_worker, agent_changes, channel_changes, queue_shown}
+use Rattle.hub_core.proofs.Holds.{line_fits, line_changes, back_changes}
 use Rattle.hub_core.proofs.Hands.{hand_changes}
-use Rattle.hub_core.proofs.Entering.{enter_changes}
-use Rattle.hub_core.proofs.Endings.{order_changes, see_shown, see_same}
+use Rattle.hub_core.proofs.Entering.{enter_changes, leave_changes}
+use Rattle.hub_core.proofs.Endings.{order_changes, see_fits, see_changes}
 use Rattle.hub_core.proofs.Pushes.{push_shown}
 use Rattle.hub_core.proofs.Takes.{start_changes, take_shown}
 use Rattle.hub_core.proofs.Hops.{hop_changes}
-use Rattle.hub_core.proofs.Looks.{look_shown, look_same}
+use Rattle.hub_core.proofs.Looks.{look_fits, look_changes}
 use Rattle.hub_core.proofs.Adopts.{adopt_changes}
 use Rattle.hub_core.proofs.Notices.{notice_shown}
 use Rattle.hub_core.proofs.Closes.{close_changes}
-use Rattle.hub_core.proofs.Sweeps.{sweep_shown, sweep_same}
+use Rattle.hub_core.proofs.Sweeps.{sweep_fits, sweep_changes}
 use Rattle.hub_core.proofs.Seeing.{seen_is, enter_seen, hop_seen, close_seen, hand_seen}
 use Rattle.hub_core.specs.Ending.{order_answer}
 use Rattle.hub_core.specs.Holding.{back_answer}
@@ -29,27 +32,25 @@ use Rattle.hub_core.specs.Taking.{start_answer}
 use Rattle.hub_core.proofs.machine.Core.step.Goals as goal
 
 pub returns-in-Agent : goal.returns-in-Agent
-returns-in-Agent c = told c.args.step (action.Agent c.in-Agent.origin) _ _ _ c.in-Agent.is (ok_both c.make_agent.result _ _ _ c.make_agent.ensures.outcome c.make_agent.ensures.new (λ o is leaves.
-    agent_took c.in-Agent.origin c.args.step.memory_refused _ _ o is leaves)) (same_err (action.Agent c.in-Agent.origin) c.make_agent.result _ _ refl c.make_agent.ensures.err)
+returns-in-Agent c = told c.args.step (action.Agent c.in-Agent.origin) _ _ _ c.in-Agent.is (ok_both c.make_agent.result _ _ _ c.make_agent.ensures.outcome c.make_agent.ensures.new (λ o is leaves. took_where _ _ c.args.self.now _ _ leaves (λ f s. is ∙ ap (λ g. agent_answer g c.args.step.memory_refused) (seen_is c.args.self.now f s)) (λ f s fit change. agent_changes c.args.self.now f c.in-Agent.origin _ s fit change)))
+    (same_err (action.Agent c.in-Agent.origin) c.make_agent.result _ _ refl c.make_agent.ensures.err)
 
 pub returns-in-Member : goal.returns-in-Member
 returns-in-Member c = told c.args.step (action.Member c.in-Member.agent c.in-Member.name) _ _ _ c.in-Member.is (ok_both c.make_member.result _ _ _ c.make_member.ensures.outcome (ok_all c.make_member.result _ _ c.make_member.ensures.roster c.make_member.ensures.new) (λ o is made.
     member_took c.in-Member.agent c.in-Member.name c.args.step.memory_refused _ _ o is made.0 made.1)) (same_err_with (action.Member c.in-Member.agent c.in-Member.name) c.make_member.result _ _ refl c.make_member.ensures.err)
 
 pub returns-in-Cast : goal.returns-in-Cast
-returns-in-Cast c = told c.args.step (action.Cast c.in-Cast.end c.in-Cast.ports c.in-Cast.body) _ _ _ c.in-Cast.is (ok_both c.cast.result _ _ _ c.cast.ensures.outcome c.cast.ensures.new (λ o is leaves.
-    cast_took c.in-Cast.end c.in-Cast.ports c.in-Cast.body c.args.step.memory_refused _ _ o is leaves)) (same_err (action.Cast c.in-Cast.end c.in-Cast.ports c.in-Cast.body) c.cast.result _ _ refl c.cast.ensures.err)
+returns-in-Cast c = told c.args.step (action.Cast c.in-Cast.end c.in-Cast.ports c.in-Cast.body) _ _ _ c.in-Cast.is (ok_both c.cast.result _ _ _ c.cast.ensures.outcome c.cast.ensures.new (λ o is leaves. took_where _ _ c.args.self.now _ _ leaves (λ f s. is ∙ cast_fits c.args.self.now f c.in-Cast.end c.in-Cast.ports s) (λ f s fit change. cast_changes c.args.self.now f c.in-Cast.end c.in-Cast.ports c.in-Cast.body _ s fit change)))
+    (same_err (action.Cast c.in-Cast.end c.in-Cast.ports c.in-Cast.body) c.cast.result _ _ refl c.cast.ensures.err)
 
 pub returns-in-Part : goal.returns-in-Part
 returns-in-Part c = told c.args.step (action.Part c.in-Part.end) _ _ (ok c.part.result) c.in-Part.is (part_took c.in-Part.end c.args.step.memory_refused _ _ _ c.part.ensures.outcome c.part.ensures.roster c.part.ensures.rest) tt
 
 pub returns-in-Leave : goal.returns-in-Leave
-returns-in-Leave c = told c.args.step (action.Leave c.in-Leave.sender) _ _ (ok c.leave.result) c.in-Leave.is (leave_took c.in-Leave.sender c.args.step.memory_refused _ _ _ c.leave.ensures.outcome c.leave.ensures.new) tt
+returns-in-Leave c = told c.args.step (action.Leave c.in-Leave.sender) _ _ (ok c.leave.result) c.in-Leave.is (took_where _ _ c.args.self.now _ _ c.leave.ensures.new (λ f s. c.leave.ensures.outcome ∙ ap (λ g. leave_answer g c.in-Leave.sender) (seen_is c.args.self.now f s)) (λ f s fit change. leave_changes c.args.self.now f c.in-Leave.sender _ s fit change)) tt
 
 pub returns-in-Channel : goal.returns-in-Channel
-returns-in-Channel c = told c.args.step (action.Channel c.in-Channel.agent) _ _ _ c.in-Channel.is (ok_both c.make_channel.result _ _ _ c.make_channel.ensures.outcome c.make_channel.ensures.new (λ o is leaves. took _ _ _ _ _ _ _ is (leaves ∙ ap (λ p. with_ends c.args.self.now (ends_made c.in-Channel.agent c.args.self.now.ends p)) is) refl refl
-    (λ f s. channel_shown c.args.self.now f c.in-Channel.agent _ s)
-    (λ h. ap (with_ends c.args.self.now) (channel_same _ _ _ h))))
+returns-in-Channel c = told c.args.step (action.Channel c.in-Channel.agent) _ _ _ c.in-Channel.is (ok_both c.make_channel.result _ _ _ c.make_channel.ensures.outcome c.make_channel.ensures.new (λ o is leaves. took_by _ _ c.args.self.now _ _ leaves refl (λ f s. is ∙ ap (λ g. channel_answer g c.in-Channel.agent c.args.step.memory_refused) (seen_is c.args.self.now f s)) (λ f s fit change. channel_changes c.args.self.now f c.in-Channel.agent _ s fit change)))
     (same_err (action.Channel c.in-Channel.agent) c.make_channel.result _ _ refl c.make_channel.ensures.err)
 
 pub returns-in-Client : goal.returns-in-Client
@@ -65,9 +66,7 @@ returns-in-Worker c = told c.args.step (action.Worker c.in-Worker.agent) _ _ _ c
     (same_err (action.Worker c.in-Worker.agent) c.make_queue-in-Worker.result _ _ refl c.make_queue-in-Worker.ensures.err)
 
 pub returns-in-Line : goal.returns-in-Line
-returns-in-Line c = told c.args.step (action.Line c.in-Line.end c.in-Line.agent) _ _ (ok c.hold.result) c.in-Line.is (took _ _ _ _ (line_core c.args.self.now c.in-Line.end c.in-Line.agent) _ _ c.hold.ensures.outcome c.hold.ensures.new refl refl
-    (λ f s. line_shown c.args.self.now f c.in-Line.end c.in-Line.agent _ s)
-    (λ h. ap (with_ends c.args.self.now) (line_same _ _ c.in-Line.agent _ _ refl h))) tt
+returns-in-Line c = told c.args.step (action.Line c.in-Line.end c.in-Line.agent) _ _ (ok c.hold.result) c.in-Line.is (took_by _ _ c.args.self.now _ _ c.hold.ensures.new refl (λ f s. c.hold.ensures.outcome ∙ line_fits c.args.self.now f c.in-Line.end c.in-Line.agent s) (λ f s fit change. line_changes c.args.self.now f c.in-Line.end c.in-Line.agent _ s fit change)) tt
 
 pub returns-in-Back : goal.returns-in-Back
 returns-in-Back c = told c.args.step (action.Back c.in-Back.sender) _ _ (ok c.give_back.result) c.in-Back.is (took_by _ _ c.args.self.now _ _ c.give_back.ensures.new refl (λ f s. c.give_back.ensures.outcome ∙ ap (λ g. back_answer g c.in-Back.sender) (seen_is c.args.self.now f s)) (λ f s fit change. back_changes c.args.self.now f c.in-Back.sender _ s fit change)) tt
@@ -79,9 +78,7 @@ pub returns-in-Start : goal.returns-in-Start
 returns-in-Start c = told c.args.step (action.Start c.in-Start.end) _ _ (ok c.start.result) c.in-Start.is (took_by _ _ c.args.self.now _ _ c.start.ensures.new refl (λ f s. c.start.ensures.outcome ∙ ap (λ g. start_answer g c.in-Start.end) (seen_is c.args.self.now f s)) (λ f s fit change. start_changes c.args.self.now f c.in-Start.end _ s fit change)) tt
 
 pub returns-in-Look : goal.returns-in-Look
-returns-in-Look c = told c.args.step (action.Look c.in-Look.end) _ _ (ok c.look.result) c.in-Look.is (took _ _ _ _ (look_core c.args.self.now c.in-Look.end) _ _ c.look.ensures.outcome c.look.ensures.new refl refl
-    (λ f s. look_shown _ _ f c.in-Look.end _ s.shows)
-    (λ h. ap (with_ends c.args.self.now) (look_same _ _ _ refl h))) tt
+returns-in-Look c = told c.args.step (action.Look c.in-Look.end) _ _ (ok c.look.result) c.in-Look.is (took_by _ _ c.args.self.now _ _ c.look.ensures.new refl (λ f s. c.look.ensures.outcome ∙ look_fits f c.in-Look.end _ (s.shows.end c.in-Look.end.0) (s.shows.sound.lines c.in-Look.end.0).taker_stand) (λ f s fit change. look_changes c.args.self.now f c.in-Look.end _ s c.look.ensures.outcome fit change)) tt
 
 pub returns-in-Order : goal.returns-in-Order
 returns-in-Order c = told c.args.step (action.Order c.in-Order.agent) _ _ (ok c.order.result) c.in-Order.is (took_by _ _ c.args.self.now _ _ c.order.ensures.new refl (λ f s. c.order.ensures.outcome ∙ ap (λ g. order_answer g c.in-Order.agent) (seen_is c.args.self.now f s)) (λ f s fit change. order_changes c.args.self.now f c.in-Order.agent _ s fit change)) tt
@@ -112,15 +109,11 @@ returns-in-Notice c = told c.args.step (action.Notice c.in-Notice.sender) _ _ _ 
     (same_err (action.Notice c.in-Notice.sender) c.notice.result _ _ refl c.notice.ensures.err)
 
 pub returns-in-Sweep : goal.returns-in-Sweep
-returns-in-Sweep c = told c.args.step (action.Sweep c.in-Sweep.end) _ _ _ c.in-Sweep.is (ok_both c.sweep.result _ _ _ c.sweep.ensures.outcome c.sweep.ensures.new (λ o is leaves. took _ _ _ _ (sweep_core c.args.self.now c.in-Sweep.end) _ _ is leaves refl refl
-    (λ f s. sweep_shown _ _ f c.in-Sweep.end _ s.shows)
-    (λ h. ap (with_ends c.args.self.now) (sweep_same _ c.in-Sweep.end _ refl h))))
+returns-in-Sweep c = told c.args.step (action.Sweep c.in-Sweep.end) _ _ _ c.in-Sweep.is (ok_both c.sweep.result _ _ _ c.sweep.ensures.outcome c.sweep.ensures.new (λ o is leaves. took_by _ _ c.args.self.now _ _ leaves refl (λ f s. subst (FitsSweep f c.in-Sweep.end) (sym is) (sweep_fits f c.in-Sweep.end _ s.shows.sound (s.shows.end c.in-Sweep.end.0))) (λ f s fit change. sweep_changes c.args.self.now f c.in-Sweep.end _ s is fit change)))
     (same_err (action.Sweep c.in-Sweep.end) c.sweep.result _ _ refl c.sweep.ensures.err)
 
 pub returns-in-See : goal.returns-in-See
-returns-in-See c = told c.args.step (action.See c.in-See.agent) _ _ _ c.in-See.is (ok_both c.see.result _ _ _ c.see.ensures.outcome c.see.ensures.new (λ o is leaves. took _ _ _ _ _ _ _ is (leaves ∙ ap (λ p. with_agents c.args.self.now (see_agents c.in-See.agent.0 c.args.self.now.agents p)) is) refl refl
-    (λ f s. see_shown c.args.self.now f c.in-See.agent _ s)
-    (λ h. ap (with_agents c.args.self.now) (see_same _ c.in-See.agent _ h))))
+returns-in-See c = told c.args.step (action.See c.in-See.agent) _ _ _ c.in-See.is (ok_both c.see.result _ _ _ c.see.ensures.outcome c.see.ensures.new (λ o is leaves. took_by _ _ c.args.self.now _ _ leaves refl (λ f s. is ∙ see_fits c.args.self.now f c.in-See.agent s) (λ f s fit change. see_changes c.args.self.now f c.in-See.agent _ s fit change)))
     (same_err (action.See c.in-See.agent) c.see.result _ _ refl c.see.ensures.err)
 
 pub returns-in-Take : goal.returns-in-Take
