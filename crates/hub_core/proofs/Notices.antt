@@ -1,5 +1,8 @@
 -- Notice: what the core answers fits, and it shows the facts with the answered step.
-use Rattle.std.proofs.Common.{◌≡◌, ℕ, Bool, true, false, cond, eqb, List, [], set, Option, Some, None, Result, refl, sym, ap, subst, ◌∙◌}
+use Rattle.hub_core.proofs.Fitting.{noticed_of}
+use Rattle.hub_core.proofs.Nexts.{Change, notice_put}
+use Rattle.hub_core.proofs.Changing.{ShownAfter}
+use Rattle.std.proofs.Common.{◌≡◌, ℕ, Bool, true, false, cond, eqb, List, [], set, Option, Some, None, refl, ap, subst, ◌∙◌}
 use Rattle.std.specs.Prelude.{not, ◌&&◌, option_map}
 use Rattle.std.specs.List.{slice_get}
 use Rattle.std.proofs.lemmas.Bool.{ne_eqb, false≢true, and_parts}
@@ -16,17 +19,16 @@ use Rattle.hub_core.specs.declared.outcome.Outcome.TheVariants as outcome
 use Rattle.hub_core.specs.Facts.{LineNow, Facts}
 use Rattle.hub_core.specs.Accepted.{named_notice}
 use Rattle.hub_core.specs.Posting.{phase_of_line, is_inside, next_name, is_posting, hears_notice, notice_answer}
-use Rattle.hub_core.specs.Sound.{no_line}
+use Rattle.hub_core.specs.Sound.{no_line, Sound}
 use Rattle.hub_core.specs.Shows.{line_now, ShowsPut, ShowsFacts}
-use Rattle.hub_core.specs.Kept.{has_queue, posting_line, put_end, changed_ends, accept_ends, posting_at, kept_noticing_line, kept_noticing, notice_outcome, notice_ends}
-use Rattle.hub_core.proofs.Placing.{Moves, moves_to}
+use Rattle.hub_core.specs.Kept.{has_queue, posting_line, posting_at, kept_noticing_line, kept_noticing, notice_outcome, put_end}
+use Rattle.hub_core.proofs.Placing.{Moves}
 use Rattle.hub_core.proofs.Lists.{eqb_same}
-use Rattle.hub_core.proofs.Frames.{ShownAt, Stepped, changed, unchanged}
+use Rattle.hub_core.proofs.Frames.{ShownAt, Stepped, changed}
 use Rattle.hub_core.specs.CoreState.{CoreState}
-use Rattle.hub_core.specs.Seen.{seen}
 use Rattle.hub_core.proofs.Seeing.{Sees, seen_is}
 use Rattle.hub_core.proofs.Puts.{each_shown, put_count, name_kept, queue_kept}
-use Rattle.hub_core.proofs.Pushes.{posting_as}
+use Rattle.hub_core.proofs.Pushes.{posting_as, inside_line, accepted_moves}
 use Rattle.hub_core.proofs.SoundLines.{told_line}
 use Rattle.hub_core.proofs.Counts.{counts_still}
 
@@ -59,36 +61,36 @@ not_heard f s refused posting h = rw (posting, h) refl
 heard : (f : Facts) (s : Sender) (refused : Bool) → is_posting f s ≡ true → hears_notice f s ≡ true → cond refused outcome.NoMemory (outcome.Accepted (next_name f s (record { 0 = 0 }))) ≡ notice_answer f s refused
 heard f s refused posting h = rw (posting, h) refl
 
--- a notice with this answer of the tests is shown
-abbrev pub NoticeShown : List Agent → List End → Facts → Sender → Bool → Result Line Outcome → Type 0
-NoticeShown agents ends f s refused r = Stepped agents (notice_ends s ends r) f (action.Notice s) refused (notice_outcome r)
+notice_by : (f : Facts) (s : Sender) (refused : Bool) (x : End) (y : Line) → Sound f → ShownAt f s.end.0 (Some x) → slice_get x.lines s.line.0 ≡ Some y → is_posting f s ≡ true → (hears : Bool) → hears_notice f s ≡ hears → notice_outcome (kept_noticing_line hears refused (Some (x.kind, y))) ≡ notice_answer f s refused
+notice_by f s refused x y h shown is posting false hears = not_heard f s refused posting hears
+notice_by f s true x y h shown is posting true hears = heard f s true posting hears
+notice_by f s false x y h shown is posting true hears =
+    ap outcome.Accepted (name_kept f s (record { 0 = 0 }) y (shown.lines s.line.0 ∙ ap line_now is) (subst (ShowsPut (f.accepted s.end.0) s.line.0) is (shown.put s.line.0))) ∙ heard f s false posting hears
 
-notice_held : (agents : List Agent) (ends : List End) (f : Facts) (s : Sender) (refused : Bool) (x : End) (y : Line) → ShowsFacts agents ends f → slice_get ends s.end.0 ≡ Some x → slice_get x.lines s.line.0 ≡ Some y → ShownAt f s.end.0 (Some x) → has_queue x y.epoch ≡ true → is_posting f s ≡ true → (hears : Bool) → hears ≡ hears_notice f s → NoticeShown agents ends f s refused (kept_noticing_line hears refused (Some (x.kind, y)))
-notice_held agents ends f s refused x y h at is shown queue posting false hears = unchanged agents ends ends f (action.Notice s) refused outcome.NotNow outcome.NotNow h refl refl refl (not_heard f s refused posting (sym hears))
-notice_held agents ends f s true x y h at is shown queue posting true hears = unchanged agents ends ends f (action.Notice s) true outcome.NoMemory outcome.NoMemory h refl refl refl (heard f s true posting (sym hears))
-notice_held agents ends f s false x y h at is shown queue posting true hears =
-    let n : Acceptance = record { agent = record { 0 = 0 }; epoch = y.epoch; number = y.put } in
-    let v : Envelope = named_notice s n in
+notice_line : (f : Facts) (s : Sender) (refused : Bool) (x : End) → Sound f → ShownAt f s.end.0 (Some x) → (q : Option Line) → slice_get x.lines s.line.0 ≡ q → notice_outcome (kept_noticing_line (hears_notice f s) refused (option_map (λ z. (x.kind, z)) (posting_line x q))) ≡ notice_answer f s refused
+notice_line f s refused x h shown None is = not_posting f s refused (posting_as f s no_line (shown.lines s.line.0 ∙ ap line_now is))
+notice_line f s refused x h shown (Some y) is =
     let line : f.line s.end.0 s.line.0 ≡ line_now (Some y) = shown.lines s.line.0 ∙ ap line_now is in
-    let same : n ≡ next_name f s (record { 0 = 0 }) = name_kept f s (record { 0 = 0 }) y line (subst (ShowsPut (f.accepted s.end.0) s.line.0) is (shown.put s.line.0)) in
-    noticed_shown agents ends (accept_ends ends y v) f s false n x y h at is line refl queue (ap outcome.Accepted same ∙ heard f s false posting (sym hears))
-    (moves_to [] InFlight (set ends s.end.0 (put_end x y v)) (accept_ends ends y v) (ap (changed_ends (λ z. put_end z y v) s.end.0 ends) at))
-
-notice_line : (agents : List Agent) (ends : List End) (f : Facts) (s : Sender) (refused : Bool) (x : End) (hears : Bool) → hears ≡ hears_notice f s → ShowsFacts agents ends f → slice_get ends s.end.0 ≡ Some x → ShownAt f s.end.0 (Some x) → (q : Option Line) → slice_get x.lines s.line.0 ≡ q → f.line s.end.0 s.line.0 ≡ line_now q → NoticeShown agents ends f s refused (kept_noticing_line hears refused (option_map (λ z. (x.kind, z)) (posting_line x q)))
-notice_line agents ends f s refused x hears heard_is h at shown None is line = unchanged agents ends ends f (action.Notice s) refused outcome.NotNow outcome.NotNow h refl refl refl (not_posting f s refused (posting_as f s no_line line))
-notice_line agents ends f s refused x hears heard_is h at shown (Some y) is line =
-    elim (is_inside y.phase && not y.has_noticed) as (λ b. (is_inside y.phase && not y.has_noticed) ≡ b → NoticeShown agents ends f s refused (kept_noticing_line hears refused (option_map (λ z. (x.kind, z)) (cond (b && has_queue x y.epoch) (Some y) None)))) [
+    let found : Bool → Outcome = λ b. notice_outcome (kept_noticing_line (hears_notice f s) refused (option_map (λ z. (x.kind, z)) (cond b (Some y) None))) in
+    elim (is_inside y.phase && not y.has_noticed) as (λ b. (is_inside y.phase && not y.has_noticed) ≡ b → found (b && has_queue x y.epoch) ≡ notice_answer f s refused) [
       | true ↦ λ posting.
           let mine : is_posting f s ≡ true = posting_as f s (line_now (Some y)) line ∙ posting in
           let inside : is_inside (phase_of_line f s) ≡ true = (and_parts (is_inside (phase_of_line f s)) (not (f.line s.end.0 s.line.0).noticed) mine).0 in
-          let queue : has_queue x y.epoch ≡ true = queue_kept f s x y h.sound shown line inside in
-          subst (λ c. NoticeShown agents ends f s refused (kept_noticing_line hears refused (option_map (λ z. (x.kind, z)) (cond c (Some y) None)))) (sym queue) (notice_held agents ends f s refused x y h at is shown queue mine hears heard_is)
-      | false ↦ λ outside. unchanged agents ends ends f (action.Notice s) refused outcome.NotNow outcome.NotNow h refl refl refl (not_posting f s refused (posting_as f s (line_now (Some y)) line ∙ outside))
+          ap found (queue_kept f s x y h shown line inside) ∙ notice_by f s refused x y h shown is mine (hears_notice f s) refl
+      | false ↦ λ outside. not_posting f s refused (posting_as f s (line_now (Some y)) line ∙ outside)
     ] refl
 
-notice_at : (agents : List Agent) (ends : List End) (f : Facts) (s : Sender) (refused : Bool) (hears : Bool) → hears ≡ hears_notice f s → ShowsFacts agents ends f → (q : Option End) → slice_get ends s.end.0 ≡ q → ShownAt f s.end.0 q → NoticeShown agents ends f s refused (kept_noticing_line hears refused (posting_at s q))
-notice_at agents ends f s refused hears heard_is h None at shown = unchanged agents ends ends f (action.Notice s) refused outcome.NotNow outcome.NotNow h refl refl refl (not_posting f s refused (posting_as f s no_line (shown.lines s.line.0)))
-notice_at agents ends f s refused hears heard_is h (Some x) at shown = notice_line agents ends f s refused x hears heard_is h at shown (slice_get x.lines s.line.0) refl (shown.lines s.line.0)
+notice_at : (f : Facts) (s : Sender) (refused : Bool) → Sound f → (q : Option End) → ShownAt f s.end.0 q → notice_outcome (kept_noticing_line (hears_notice f s) refused (posting_at s q)) ≡ notice_answer f s refused
+notice_at f s refused h None shown = not_posting f s refused (posting_as f s no_line (shown.lines s.line.0))
+notice_at f s refused h (Some x) shown = notice_line f s refused x h shown (slice_get x.lines s.line.0) refl
 
-pub notice_shown : (c : CoreState) (f : Facts) (s : Sender) (refused : Bool) → Sees c f → NoticeShown c.agents c.ends f s refused (kept_noticing c s refused)
-notice_shown c f s refused h = notice_at c.agents c.ends f s refused (hears_notice (seen c) s) (ap (λ g. hears_notice g s) (seen_is c f h)) h.shows (slice_get c.ends s.end.0) refl (h.shows.end s.end.0)
+pub notice_fits : (c : CoreState) (f : Facts) (s : Sender) (refused : Bool) → Sees c f → notice_outcome (kept_noticing c s refused) ≡ notice_answer f s refused
+notice_fits c f s refused h = ap (λ g. notice_outcome (kept_noticing_line (hears_notice g s) refused (posting_at s (slice_get c.ends s.end.0)))) (seen_is c f h) ∙ notice_at f s refused h.shows.sound (slice_get c.ends s.end.0) (h.shows.end s.end.0)
+
+pub notice_changes : (c : CoreState) (f : Facts) (s : Sender) (refused : Bool) {o : Outcome} → Sees c f → o ≡ notice_answer f s refused → Change (action.Notice s) o → ShownAfter c f (action.Notice s) refused o
+notice_changes c f s refused h answer (notice_put t n) =
+    let p = noticed_of f s refused n answer in
+    let found = inside_line c f s h p.inside in
+    let w = found.0 in
+    let epoch : n.epoch ≡ w.y.epoch = ap (λ (m : Acceptance). m.epoch) p.name ∙ ap (λ (z : LineNow). z.stand) found.1 in
+    (noticed_shown c.agents c.ends _ f s refused n w.x w.y h.shows w.at w.is found.1 epoch found.2 answer (accepted_moves c.ends s w (named_notice s n) refl refl), refl)

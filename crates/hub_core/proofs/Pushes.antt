@@ -1,5 +1,8 @@
 -- Push: what the core answers fits, and it shows the facts with the answered step.
-use Rattle.std.proofs.Common.{◌≡◌, ℕ, Bool, true, false, cond, List, length, set, Option, Some, None, Result, Ok, Err, refl, sym, ap, subst, ◌∙◌}
+use Rattle.hub_core.proofs.SoundWaiting.{inside_of}
+use Rattle.hub_core.proofs.SoundLines.{line_there}
+use Rattle.hub_core.proofs.Changing.{FoundLine, found_line, ShownAfter}
+use Rattle.std.proofs.Common.{◌≡◌, ℕ, Bool, true, false, cond, List, length, set, Option, Some, None, Ok, Err, refl, sym, ap, subst, ◌∙◌}
 use Rattle.std.specs.Prelude.{not, ◌&&◌, nat_lt, option_map}
 use Rattle.std.specs.List.{slice_get}
 use Rattle.std.proofs.lemmas.Bool.{and_parts}
@@ -18,11 +21,11 @@ use Rattle.hub_core.specs.declared.outcome.Outcome.{Outcome}
 use Rattle.hub_core.specs.declared.outcome.Outcome.TheVariants as outcome
 use Rattle.hub_core.specs.Facts.{EndNow, LineNow, Facts}
 use Rattle.hub_core.specs.Accepted.{named_envelope}
-use Rattle.hub_core.specs.Posting.{phase_of_line, is_inside, poster, poster_of, is_good, listing_of, push_answer_of, push_answer, next_name, is_posting, is_fitting}
-use Rattle.hub_core.specs.Sound.{no_line}
+use Rattle.hub_core.specs.Posting.{phase_of_line, is_inside, poster, poster_of, is_good, listing_of, push_answer_of, push_answer, next_name, is_posting, is_fitting, is_out}
+use Rattle.hub_core.specs.Sound.{no_line, Sound}
 use Rattle.hub_core.specs.Shows.{line_now, ShowsPut, ShowsFacts}
-use Rattle.hub_core.specs.Kept.{has_queue, posting_line, posting_at, kept_posting_by, kept_posting_line, kept_posting, push_outcome, put_end, changed_ends, moved_ends, accept_ends, push_ends}
-use Rattle.hub_core.proofs.Frames.{ShownAt, Stepped, changed, unchanged}
+use Rattle.hub_core.specs.Kept.{has_queue, posting_line, posting_at, kept_posting_by, kept_posting_line, kept_posting, push_outcome, put_end, put_found, change_end, changed_ends, moved_ends, accept_ends}
+use Rattle.hub_core.proofs.Frames.{ShownAt, Stepped, changed}
 use Rattle.hub_core.specs.CoreState.{CoreState}
 use Rattle.hub_core.proofs.Seeing.{Sees, posting_seen}
 use Rattle.hub_core.proofs.Fitting.{pushed_of}
@@ -31,7 +34,7 @@ use Rattle.hub_core.proofs.Puts.{each_shown, put_count, name_kept, queue_kept}
 use Rattle.hub_core.proofs.Placing.{Moves, moves_to}
 use Rattle.hub_core.specs.Made.{peer_of}
 use Rattle.hub_core.proofs.Counts.{counted_ports, counts_of}
-use Rattle.hub_core.proofs.Nexts.{next}
+use Rattle.hub_core.proofs.Nexts.{next, Change, put}
 use Rattle.hub_core.specs.Place.{names}
 use Rattle.hub_core.proofs.SoundPlaces.{some_own}
 use Rattle.hub_core.proofs.Calms.{calm_sent}
@@ -64,56 +67,65 @@ not_good f s ports fit refused a few h = rw (few, h) refl
 good : (f : Facts) (s : Sender) (ports : List EndId) (fit refused : Bool) (a : AgentId) → nat_lt MAX_PORTS (length ports) ≡ false → (is_good (listing_of f s ports (Some a)) && fit) ≡ true → cond refused outcome.NoMemory (outcome.Accepted (next_name f s a)) ≡ push_answer_of f s ports fit refused (Some a)
 good f s ports fit refused a few h = rw (few, h) refl
 
--- a push with this answer of the tests is shown
-abbrev pub PushShown : List Agent → List End → Facts → Sender → List EndId → List ℕ → Bool → Result (Line × AgentId) Outcome → Type 0
-PushShown agents ends f s ports body refused r = Stepped agents (push_ends s ports body ends r) f (action.Push s ports body) refused (push_outcome r)
+push_tests : (many good refused : Bool) (y : Line) (a : AgentId) (m : Acceptance) → (let n : Acceptance = record { agent = a; epoch = y.epoch; number = y.put } in n ≡ m) → push_outcome (cond many (Err outcome.TooManyPorts) (cond good (cond refused (Err outcome.NoMemory) (Ok (y, a))) (Err outcome.NotNow))) ≡ cond many outcome.TooManyPorts (cond (not good) outcome.NotNow (cond refused outcome.NoMemory (outcome.Accepted m)))
+push_tests true good refused y a m name = refl
+push_tests false false refused y a m name = refl
+push_tests false true true y a m name = refl
+push_tests false true false y a m name = ap outcome.Accepted name
 
-push_good : (agents : List Agent) (ends : List End) (f : Facts) (s : Sender) (ports : List EndId) (body : List ℕ) (refused : Bool) (x : End) (y : Line) (a : AgentId) → ShowsFacts agents ends f → slice_get ends s.end.0 ≡ Some x → slice_get x.lines s.line.0 ≡ Some y → ShownAt f s.end.0 (Some x) → has_queue x y.epoch ≡ true → cond refused outcome.NoMemory (outcome.Accepted (next_name f s a)) ≡ push_answer f s ports body refused → PushShown agents ends f s ports body refused (cond refused (Err outcome.NoMemory) (Ok (y, a)))
-push_good agents ends f s ports body true x y a h at is shown queue answer = unchanged agents ends ends f (action.Push s ports body) true outcome.NoMemory outcome.NoMemory h refl refl refl answer
-push_good agents ends f s ports body false x y a h at is shown queue answer =
-    let n : Acceptance = record { agent = a; epoch = y.epoch; number = y.put } in
-    let v : Envelope = named_envelope s n body ports in
-    let line : f.line s.end.0 s.line.0 ≡ line_now (Some y) = shown.lines s.line.0 ∙ ap line_now is in
-    let same : n ≡ next_name f s a = name_kept f s a y line (subst (ShowsPut (f.accepted s.end.0) s.line.0) is (shown.put s.line.0)) in
-    pushed_shown agents ends (accept_ends ends y v) f s ports body false n x y h at is line refl queue (ap outcome.Accepted same ∙ answer)
-    (moves_to ports InFlight (set ends s.end.0 (put_end x y v)) (accept_ends ends y v) (ap (λ q. moved_ends ports InFlight (changed_ends (λ z. put_end z y v) s.end.0 ends q)) at))
-
-push_few : (agents : List Agent) (ends : List End) (f : Facts) (s : Sender) (ports : List EndId) (body : List ℕ) (fit refused : Bool) (x : End) (y : Line) (a : AgentId) → ShowsFacts agents ends f → slice_get ends s.end.0 ≡ Some x → slice_get x.lines s.line.0 ≡ Some y → ShownAt f s.end.0 (Some x) → has_queue x y.epoch ≡ true → push_answer_of f s ports fit refused (Some a) ≡ push_answer f s ports body refused → (many : Bool) → nat_lt MAX_PORTS (length ports) ≡ many
-    → PushShown agents ends f s ports body refused (cond many (Err outcome.TooManyPorts) (cond (is_good (listing_of f s ports (Some a)) && fit) (cond refused (Err outcome.NoMemory) (Ok (y, a))) (Err outcome.NotNow)))
-push_few agents ends f s ports body fit refused x y a h at is shown queue falls true many = unchanged agents ends ends f (action.Push s ports body) refused outcome.TooManyPorts outcome.TooManyPorts h refl refl refl (too_many f s ports fit refused a many ∙ falls)
-push_few agents ends f s ports body fit refused x y a h at is shown queue falls false few =
-    elim (is_good (listing_of f s ports (Some a)) && fit) as (λ b. (is_good (listing_of f s ports (Some a)) && fit) ≡ b → PushShown agents ends f s ports body refused (cond b (cond refused (Err outcome.NoMemory) (Ok (y, a))) (Err outcome.NotNow))) [
-      | true ↦ λ found. push_good agents ends f s ports body refused x y a h at is shown queue (good f s ports fit refused a few found ∙ falls)
-      | false ↦ λ bad. unchanged agents ends ends f (action.Push s ports body) refused outcome.NotNow outcome.NotNow h refl refl refl (not_good f s ports fit refused a few bad ∙ falls)
-    ] refl
-
-push_held : (agents : List Agent) (ends : List End) (f : Facts) (s : Sender) (ports : List EndId) (body : List ℕ) (fit refused : Bool) (x : End) (y : Line) → ShowsFacts agents ends f → slice_get ends s.end.0 ≡ Some x → slice_get x.lines s.line.0 ≡ Some y → ShownAt f s.end.0 (Some x) → has_queue x y.epoch ≡ true → (q : Option AgentId) → push_answer_of f s ports fit refused q ≡ push_answer f s ports body refused → PushShown agents ends f s ports body refused (kept_posting_by f s ports fit refused y q)
-push_held agents ends f s ports body fit refused x y h at is shown queue None falls = unchanged agents ends ends f (action.Push s ports body) refused outcome.NotNow outcome.NotNow h refl refl refl falls
-push_held agents ends f s ports body fit refused x y h at is shown queue (Some a) falls = push_few agents ends f s ports body fit refused x y a h at is shown queue falls (nat_lt MAX_PORTS (length ports)) refl
+push_held : (f : Facts) (s : Sender) (ports : List EndId) (fit refused : Bool) (y : Line) → ((a : AgentId) → (let n : Acceptance = record { agent = a; epoch = y.epoch; number = y.put } in n ≡ next_name f s a)) → (q : Option AgentId) → push_outcome (kept_posting_by f s ports fit refused y q) ≡ push_answer_of f s ports fit refused q
+push_held f s ports fit refused y name None = refl
+push_held f s ports fit refused y name (Some a) = push_tests (nat_lt MAX_PORTS (length ports)) (is_good (listing_of f s ports (Some a)) && fit) refused y a (next_name f s a) (name a)
 
 -- whether the line posts, by what is kept of it
 pub posting_as : (f : Facts) (s : Sender) (y : LineNow) → f.line s.end.0 s.line.0 ≡ y → is_posting f s ≡ (is_inside y.phase && not y.noticed)
 posting_as f s y line = ap (λ (z : LineNow). is_inside z.phase && not z.noticed) line
 
-push_line : (agents : List Agent) (ends : List End) (f : Facts) (s : Sender) (ports : List EndId) (body : List ℕ) (refused : Bool) (x : End) → ShowsFacts agents ends f → slice_get ends s.end.0 ≡ Some x → ShownAt f s.end.0 (Some x) → (q : Option Line) → slice_get x.lines s.line.0 ≡ q → f.line s.end.0 s.line.0 ≡ line_now q → PushShown agents ends f s ports body refused (kept_posting_line f s ports body refused (option_map (λ z. (x.kind, z)) (posting_line x q)))
-push_line agents ends f s ports body refused x h at shown None is line = unchanged agents ends ends f (action.Push s ports body) refused outcome.NotNow outcome.NotNow h refl refl refl (not_posting f s ports body refused (posting_as f s no_line line))
-push_line agents ends f s ports body refused x h at shown (Some y) is line =
-    let found : Bool → Result (Line × AgentId) Outcome = λ b. kept_posting_line f s ports body refused (option_map (λ z. (x.kind, z)) (cond b (Some y) None)) in
-    elim (is_inside y.phase && not y.has_noticed) as (λ b. (is_inside y.phase && not y.has_noticed) ≡ b → PushShown agents ends f s ports body refused (found (b && has_queue x y.epoch))) [
+push_line : (f : Facts) (s : Sender) (ports : List EndId) (body : List ℕ) (refused : Bool) (x : End) → Sound f → ShownAt f s.end.0 (Some x) → (q : Option Line) → slice_get x.lines s.line.0 ≡ q → push_outcome (kept_posting_line f s ports body refused (option_map (λ z. (x.kind, z)) (posting_line x q))) ≡ push_answer f s ports body refused
+push_line f s ports body refused x h shown None is = not_posting f s ports body refused (posting_as f s no_line (shown.lines s.line.0 ∙ ap line_now is))
+push_line f s ports body refused x h shown (Some y) is =
+    let line : f.line s.end.0 s.line.0 ≡ line_now (Some y) = shown.lines s.line.0 ∙ ap line_now is in
+    let found : Bool → Outcome = λ b. push_outcome (kept_posting_line f s ports body refused (option_map (λ z. (x.kind, z)) (cond b (Some y) None))) in
+    elim (is_inside y.phase && not y.has_noticed) as (λ b. (is_inside y.phase && not y.has_noticed) ≡ b → found (b && has_queue x y.epoch) ≡ push_answer f s ports body refused) [
       | true ↦ λ posting.
           let mine : is_posting f s ≡ true = posting_as f s (line_now (Some y)) line ∙ posting in
           let inside : is_inside (phase_of_line f s) ≡ true = (and_parts (is_inside (phase_of_line f s)) (not (f.line s.end.0 s.line.0).noticed) mine).0 in
-          let queue : has_queue x y.epoch ≡ true = queue_kept f s x y h.sound shown line inside in
           let fit : Bool = is_fitting f.roster.cast (Some x.kind) ports body in
-          subst (λ d. PushShown agents ends f s ports body refused (found d)) (sym queue)
-          (push_held agents ends f s ports body fit refused x y h at is shown queue (poster_of f s (Some x.kind))
-          (posts f s ports body fit refused (poster_of f s (Some x.kind)) mine (ap (λ (z : EndNow). poster_of f s z.kind) shown.same) (ap (λ (z : EndNow). is_fitting f.roster.cast z.kind ports body) shown.same)))
-      | false ↦ λ outside. unchanged agents ends ends f (action.Push s ports body) refused outcome.NotNow outcome.NotNow h refl refl refl (not_posting f s ports body refused (posting_as f s (line_now (Some y)) line ∙ outside))
+          ap found (queue_kept f s x y h shown line inside)
+          ∙ push_held f s ports fit refused y (λ a. name_kept f s a y line (subst (ShowsPut (f.accepted s.end.0) s.line.0) is (shown.put s.line.0))) (poster_of f s (Some x.kind))
+          ∙ posts f s ports body fit refused (poster_of f s (Some x.kind)) mine (ap (λ (z : EndNow). poster_of f s z.kind) shown.same) (ap (λ (z : EndNow). is_fitting f.roster.cast z.kind ports body) shown.same)
+      | false ↦ λ outside. not_posting f s ports body refused (posting_as f s (line_now (Some y)) line ∙ outside)
     ] refl
 
-push_at : (agents : List Agent) (ends : List End) (f : Facts) (s : Sender) (ports : List EndId) (body : List ℕ) (refused : Bool) → ShowsFacts agents ends f → (q : Option End) → slice_get ends s.end.0 ≡ q → ShownAt f s.end.0 q → PushShown agents ends f s ports body refused (kept_posting_line f s ports body refused (posting_at s q))
-push_at agents ends f s ports body refused h None at shown = unchanged agents ends ends f (action.Push s ports body) refused outcome.NotNow outcome.NotNow h refl refl refl (not_posting f s ports body refused (posting_as f s no_line (shown.lines s.line.0)))
-push_at agents ends f s ports body refused h (Some x) at shown = push_line agents ends f s ports body refused x h at shown (slice_get x.lines s.line.0) refl (shown.lines s.line.0)
+push_at : (f : Facts) (s : Sender) (ports : List EndId) (body : List ℕ) (refused : Bool) → Sound f → (q : Option End) → ShownAt f s.end.0 q → push_outcome (kept_posting_line f s ports body refused (posting_at s q)) ≡ push_answer f s ports body refused
+push_at f s ports body refused h None shown = not_posting f s ports body refused (posting_as f s no_line (shown.lines s.line.0))
+push_at f s ports body refused h (Some x) shown = push_line f s ports body refused x h shown (slice_get x.lines s.line.0) refl
 
-pub push_shown : (c : CoreState) (f : Facts) (s : Sender) (ports : List EndId) (body : List ℕ) (refused : Bool) → Sees c f → PushShown c.agents c.ends f s ports body refused (kept_posting c s ports body refused)
-push_shown c f s ports body refused h = subst (PushShown c.agents c.ends f s ports body refused) (sym (posting_seen c f s ports body refused (posting_at s (slice_get c.ends s.end.0)) h)) (push_at c.agents c.ends f s ports body refused h.shows (slice_get c.ends s.end.0) refl (h.shows.end s.end.0))
+pub push_fits : (c : CoreState) (f : Facts) (s : Sender) (ports : List EndId) (body : List ℕ) (refused : Bool) → Sees c f → push_outcome (kept_posting c s ports body refused) ≡ push_answer f s ports body refused
+push_fits c f s ports body refused h = ap push_outcome (posting_seen c f s ports body refused (posting_at s (slice_get c.ends s.end.0)) h) ∙ push_at f s ports body refused h.shows.sound (slice_get c.ends s.end.0) (h.shows.end s.end.0)
+
+-- ---- what is put
+
+-- the line of a poster that is inside, with the queue at which it stands
+pub inside_line : (c : CoreState) (f : Facts) (s : Sender) → Sees c f → is_inside (phase_of_line f s) ≡ true → (w : FoundLine c.ends s) × (f.line s.end.0 s.line.0 ≡ line_now (Some w.y)) × (has_queue w.x w.y.epoch ≡ true)
+inside_line c f s h inside =
+    let away : is_out (phase_of_line f s) ≡ false = ap is_out (inside_of (phase_of_line f s) inside) in
+    let w = found_line c.agents c.ends f s h.shows (line_there f s (h.shows.sound.lines s.end.0) (h.shows.sound.places.away s away)) in
+    let shown : ShownAt f s.end.0 (Some w.x) = subst (ShownAt f s.end.0) w.at (h.shows.end s.end.0) in
+    let line : f.line s.end.0 s.line.0 ≡ line_now (Some w.y) = shown.lines s.line.0 ∙ ap line_now w.is in
+    (w, line, queue_kept f s w.x w.y h.shows.sound shown line inside)
+
+-- the ends with an envelope put on a line that is there, and its ports in flight
+pub accepted_moves : (ends : List End) (s : Sender) (w : FoundLine ends s) (v : Envelope) → v.end ≡ s.end → v.line ≡ s.line → Moves v.ports InFlight (set ends s.end.0 (put_end w.x w.y v)) (accept_ends ends v)
+accepted_moves ends s w v end at_line = moves_to v.ports InFlight (set ends s.end.0 (put_end w.x w.y v)) (accept_ends ends v) (
+    ap (λ (t : Sender). moved_ends v.ports InFlight (change_end (λ z. put_found v z (slice_get z.lines t.line.0)) t.end.0 ends)) (λ i. record { end = end i; line = at_line i })
+    ∙ ap (λ q. moved_ends v.ports InFlight (changed_ends (λ z. put_found v z (slice_get z.lines s.line.0)) s.end.0 ends q)) w.at
+    ∙ ap (λ q. moved_ends v.ports InFlight (set ends s.end.0 (put_found v w.x q))) w.is)
+
+pub push_changes : (c : CoreState) (f : Facts) (s : Sender) (ports : List EndId) (body : List ℕ) (refused : Bool) {o : Outcome} → Sees c f → o ≡ push_answer f s ports body refused → Change (action.Push s ports body) o → ShownAfter c f (action.Push s ports body) refused o
+push_changes c f s ports body refused h answer (put t ps b n) =
+    let p = pushed_of f s ports body refused n answer in
+    let found = inside_line c f s h p.inside in
+    let w = found.0 in
+    let epoch : n.epoch ≡ w.y.epoch = ap (λ (m : Acceptance). m.epoch) p.name ∙ ap (λ (z : LineNow). z.stand) found.1 in
+    (pushed_shown c.agents c.ends _ f s ports body refused n w.x w.y h.shows w.at w.is found.1 epoch found.2 answer (accepted_moves c.ends s w (named_envelope s n body ports) refl refl), refl)

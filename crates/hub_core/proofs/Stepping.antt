@@ -1,5 +1,5 @@
 -- From what the parts of the core did to the clauses of a step.
-use Rattle.std.proofs.Common.{◌≡◌, ℕ, Bool, true, false, cond, set, List, Option, Some, None, Result, Ok, Err, refl, subst, ◌∙◌, ap}
+use Rattle.std.proofs.Common.{◌≡◌, Bool, true, false, cond, set, List, Option, Some, None, Result, Ok, Err, refl, subst, ◌∙◌, ap}
 use Rattle.std.specs.Prelude.{IfOk, nat_le}
 use Rattle.std.specs.Bool.{MatchBool}
 use Rattle.std.specs.List.{slice_get}
@@ -9,14 +9,12 @@ use Rattle.hub_envelope.specs.declared.ids.EndId.{EndId}
 use Rattle.hub_core.specs.declared.kind.Kind.TheVariants.{Client, Worker}
 use Rattle.hub_core.specs.CoreState.{CoreState}
 use Rattle.hub_core.specs.CoreSteps.{queue_core}
-use Rattle.hub_core.specs.declared.line.Line.{Line}
-use Rattle.hub_core.specs.declared.sender.Sender.{Sender}
 use Rattle.hub_core.specs.declared.end.End.{End}
 use Rattle.hub_core.specs.declared.step.Action.TheVariants as action
 use Rattle.hub_core.specs.declared.outcome.Outcome.{Outcome}
 use Rattle.hub_core.specs.declared.outcome.Outcome.TheVariants as outcome
 use Rattle.hub_core.specs.Unchanged.{changes_nothing}
-use Rattle.hub_core.specs.Kept.{TakeServes, TakeHeld, TakeLeaves, advanced_end, kept_settled, push_outcome, push_ends, notice_outcome, notice_ends}
+use Rattle.hub_core.specs.Kept.{TakeServes, TakeHeld, TakeLeaves, advanced_end, kept_settled}
 use Rattle.hub_core.proofs.Lists.{set_again}
 
 -- two facts of what was answered Ok give a third
@@ -37,14 +35,6 @@ client_same a c o h = refl
 pub worker_same : (a : AgentId) (c : CoreState) (o : Outcome) → changes_nothing o (action.Worker a) ≡ true → queue_core a Worker c o ≡ c
 worker_same a c (outcome.End e) h = absurd (false≢true h)
 worker_same a c o h = refl
-
-pub push_same : (ends : List End) (s : Sender) (ports : List EndId) (body : List ℕ) (r : Result (Line × AgentId) Outcome) → changes_nothing (push_outcome r) (action.Push s ports body) ≡ true → push_ends s ports body ends r ≡ ends
-push_same ends s ports body (Ok p) h = absurd (false≢true h)
-push_same ends s ports body (Err o) h = refl
-
-pub notice_same : (ends : List End) (s : Sender) (r : Result Line Outcome) → changes_nothing (notice_outcome r) (action.Notice s) ≡ true → notice_ends s ends r ≡ ends
-notice_same ends s (Ok y) h = absurd (false≢true h)
-notice_same ends s (Err o) h = refl
 
 -- a taker that stays changes nothing
 left_same : (e : EndId) (x : End) (o : Outcome) (last settled : Bool) → o ≡ cond last outcome.Empty (cond settled outcome.Again outcome.Busy) → changes_nothing o (action.Take e) ≡ true → cond last x (cond settled (advanced_end x) x) ≡ x

@@ -1,9 +1,8 @@
 -- For private clauses: the core after a step, where the step got this answer.
-use Rattle.std.specs.Prelude.{ℕ, ◌+◌, true, false, List, [], ◌∷◌, ◌++◌, slice_get, None, Some, Result}
+use Rattle.hub_core.specs.Accepted.{named_envelope, named_notice}
+use Rattle.std.specs.Prelude.{◌+◌, true, false, [], ◌∷◌, ◌++◌, slice_get, None, Some}
 use Rattle.hub_envelope.specs.declared.ids.AgentId.{AgentId}
-use Rattle.hub_envelope.specs.declared.ids.EndId.{EndId}
 use Rattle.hub_core.specs.declared.kind.Kind.{Kind}
-use Rattle.hub_core.specs.declared.line.Line.{Line}
 use Rattle.hub_core.specs.declared.outcome.Outcome.{Outcome}
 use Rattle.hub_core.specs.declared.sender.Sender.{Sender}
 use Rattle.hub_core.specs.CoreState.{CoreState}
@@ -15,7 +14,7 @@ use Rattle.hub_core.specs.declared.step.Action.TheVariants as action
 use Rattle.hub_core.specs.declared.outcome.Outcome.TheVariants as outcome
 use Rattle.hub_core.specs.Kept.{change_end, change_line, in_phase, held_by, gate_passed, at_next, adopted_end, closed_end, went, adopted_agents}
 use Rattle.hub_core.specs.Kept.{change_agent, change_owner, one_away, one_out, queue_counted, queue_made, first_agent, new_end}
-use Rattle.hub_core.specs.Kept.{push_ends, notice_ends, moved_ends, ports_of}
+use Rattle.hub_core.specs.Kept.{accept_ends, moved_ends, ports_of}
 use Rattle.hub_core.specs.declared.kind.Kind.TheVariants.{Port}
 use Rattle.hub_core.specs.KeptEnding.{owner}
 use Rattle.hub_core.specs.Moving.{is_released}
@@ -23,12 +22,6 @@ use Rattle.hub_core.specs.Roster.{cast_to, cast_after}
 
 abbrev pub queue_core : AgentId → Kind → CoreState → Outcome → CoreState
 queue_core a kind c o = record c { agents = queue_counted a kind c.agents o; ends = queue_made a kind c.ends o }
-
-abbrev pub push_core : CoreState → Sender → List EndId → List ℕ → Result (Line × AgentId) Outcome → CoreState
-push_core c s ports body posting = record c { ends = push_ends s ports body c.ends posting }
-
-abbrev pub notice_core : CoreState → Sender → Result Line Outcome → CoreState
-notice_core c s noticing = record c { ends = notice_ends s c.ends noticing }
 
 -- The core after a poster passed the gate, or was turned back there: it is one of its agent's that are away.
 abbrev pub entered_core : CoreState → Sender → Outcome → CoreState
@@ -49,6 +42,8 @@ core_after c outcome.Done (action.Back s) = record c { ends = change_line (held_
 core_after c outcome.In (action.Enter s) = entered_core c s outcome.In
 core_after c outcome.Moved (action.Enter s) = entered_core c s outcome.Moved
 core_after c outcome.Closed (action.Enter s) = entered_core c s outcome.Closed
+core_after c (outcome.Accepted n) (action.Push s ports body) = record c { ends = accept_ends c.ends (named_envelope s n body ports) }
+core_after c (outcome.Accepted n) (action.Notice s) = record c { ends = accept_ends c.ends (named_notice s n) }
 core_after c outcome.Left (action.Leave s) = record c {
   agents = change_owner one_out (owner (seen c) s) c.agents;
   ends = change_line (in_phase Out) s c.ends;

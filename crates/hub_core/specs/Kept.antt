@@ -6,7 +6,6 @@ use Rattle.std.specs.Bool.{MatchBool}
 use Rattle.hub_envelope.specs.declared.limits.TheConstants.{MAX_ENDS, MAX_LINES, MAX_PORTS}
 use Rattle.hub_envelope.specs.declared.ids.LineId.{LineId}
 use Rattle.hub_core.specs.declared.end.Place.TheVariants.{With, InFlight, Arrived, Swept, Gone}
-use Rattle.hub_core.specs.Accepted.{named_envelope, named_notice}
 use Rattle.hub_envelope.specs.declared.ids.EndId.{EndId}
 use Rattle.hub_envelope.specs.declared.ids.AgentId.{AgentId}
 use Rattle.hub_core.specs.declared.agent.Agent.{Agent}
@@ -100,6 +99,11 @@ put_end x y v = record x {
   queues = slice_set x.queues (y.epoch - x.taker) (slice_index_or x.queues (y.epoch - x.taker) [] ++ v ∷ []);
 }
 
+-- the same, by the line that is found
+abbrev pub put_found : Envelope → End → Option Line → End
+put_found v x None = x
+put_found v x (Some y) = put_end x y v
+
 -- what the taker's queue holds
 abbrev pub taker_queue : End → List Envelope
 taker_queue x = slice_index_or x.queues 0 []
@@ -157,9 +161,9 @@ with_agent (Some Swept) = None
 with_agent (Some Gone) = None
 with_agent None = None
 
--- the end of the sender has the queue at which the line stands
+-- the end of the sender has this line, and the queue at which it stands
 abbrev pub HasQueue : List End → Sender → Line → Type 0
-HasQueue ends s y = IfSome (slice_get ends s.end.0) (λ x. has_queue x y.epoch ≡ true)
+HasQueue ends s y = IfSome (slice_get ends s.end.0) (λ x. (has_queue x y.epoch ≡ true) × (slice_get x.lines s.line.0 ≡ Some y))
 
 -- a line that may push, and the agent that posts, or why it may not
 abbrev pub kept_posting_by : Facts → Sender → List EndId → Bool → Bool → Line → Option AgentId → Result (Line × AgentId) Outcome
@@ -182,18 +186,12 @@ push_outcome (Ok p) = outcome.Accepted (record { agent = p.1; epoch = p.0.epoch;
 push_outcome (Err o) = o
 
 -- the ends after an envelope was put, its ports where they were
-abbrev pub put_ends : List End → Line → Envelope → List End
-put_ends ends y v = change_end (λ x. put_end x y v) v.end.0 ends
+abbrev pub put_ends : List End → Envelope → List End
+put_ends ends v = change_end (λ x. put_found v x (slice_get x.lines v.line.0)) v.end.0 ends
 
 -- the ends after an envelope was put on a line: an envelope more at its end, and its ports in flight
-abbrev pub accept_ends : List End → Line → Envelope → List End
-accept_ends ends y v = moved_ends v.ports InFlight (put_ends ends y v)
-
--- the ends after a push: those after it was accepted, or no change
-abbrev pub push_ends : Sender → List EndId → List ℕ → List End → Result (Line × AgentId) Outcome → List End
-push_ends s ports body ends (Ok p) =
-    accept_ends ends p.0 (named_envelope s (record { agent = p.1; epoch = p.0.epoch; number = p.0.put }) body ports)
-push_ends s ports body ends (Err o) = ends
+abbrev pub accept_ends : List End → Envelope → List End
+accept_ends ends v = moved_ends v.ports InFlight (put_ends ends v)
 
 -- a line on which a notice may be put, or why it may not
 abbrev pub kept_noticing_line : Bool → Bool → Option (Kind × Line) → Result Line Outcome
@@ -207,12 +205,6 @@ kept_noticing c s refused = kept_noticing_line (hears_notice (seen c) s) refused
 abbrev pub notice_outcome : Result Line Outcome → Outcome
 notice_outcome (Ok y) = outcome.Accepted (record { agent = record { 0 = 0 }; epoch = y.epoch; number = y.put })
 notice_outcome (Err o) = o
-
--- the ends after a notice: those after it was accepted, or no change
-abbrev pub notice_ends : Sender → List End → Result Line Outcome → List End
-notice_ends s ends (Ok y) =
-    accept_ends ends y (named_notice s (record { agent = record { 0 = 0 }; epoch = y.epoch; number = y.put }))
-notice_ends s ends (Err o) = ends
 
 abbrev pub closed_end : End → End
 closed_end x = record x { is_closed = true; place = Gone }

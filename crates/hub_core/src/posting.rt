@@ -1,7 +1,7 @@
 //! A post, in three steps and what goes with them: Enter, Push, Leave, Notice and Hop.
 
 ghost use Rattle.std.specs.Prelude.{◌≡◌, ◌<◌, ◌≤◌, ◌&&◌, length, option_map, slice_get, Some};
-ghost use Rattle.std.specs.Prelude.{IfSome, IfOk, OnOk, OnErr};
+ghost use Rattle.std.specs.Prelude.{IfSome, IfOk, IfErr, OnOk, OnErr};
 ghost use Rattle.std.specs.List.{list_all};
 ghost use Rattle.hub_core.specs.Made.{peer_of};
 ghost use Rattle.hub_core.specs.Posting.{enter_answer, is_distinct, is_fitting, is_good, leave_answer};
@@ -12,7 +12,7 @@ ghost use Rattle.hub_core.specs.Shows.{line_now};
 ghost use Rattle.hub_core.specs.Kept.{gate_passed, kept_noticing, kept_posting, notice_outcome};
 ghost use Rattle.hub_core.specs.Kept.{posting_at, push_outcome, HasQueue};
 ghost use Rattle.hub_core.specs.Kept.{put_ends, accept_ends, moved_ends, end_moved};
-ghost use Rattle.hub_core.specs.CoreSteps.{core_after, push_core, notice_core};
+ghost use Rattle.hub_core.specs.CoreSteps.{core_after};
 ghost use Rattle.hub_core.specs.Moving.{hop_answer};
 ghost use Rattle.hub_core.specs.declared.step.Action.TheVariants as action;
 
@@ -125,8 +125,8 @@ impl Core {
     ) -> Result<Outcome, OutOfMemory>
         ensures outcome { let posting = kept_posting self.old sender ports body memory_refused in
             IfOk result (λ o. o ≡ push_outcome posting) }
-        ensures new { let posting = kept_posting self.old sender ports body memory_refused in
-            OnOk result (self.new ≡ push_core self.old sender ports body posting) }
+        ensures new { IfOk result (λ o. self.new
+            ≡ core_after self.old o (action.Push sender ports body)) }
         ensures err { OnErr result (self.new ≡ self.old) }
     {
         match self.posting(sender, ports.as_slice(), &body, memory_refused) {
@@ -167,6 +167,8 @@ impl Core {
         ensures few { OnOk result (length ports.now ≤ MAX_PORTS) }
         ensures there { IfOk result (λ p. (sender.end.0 < length self.now.ends)
             × HasQueue self.now.ends sender p.0) }
+        ensures refused { let pushing = action.Push sender ports.now body.now in
+            IfErr result (λ o. core_after self.now o pushing ≡ self.now) }
     {
         let Some((kind, line)) = self.posting_line(sender) else {
             return Err(Outcome::NotNow);
@@ -219,8 +221,7 @@ impl Core {
     ) -> Result<Outcome, OutOfMemory>
         ensures outcome { let noticing = kept_noticing self.old sender memory_refused in
             IfOk result (λ o. o ≡ notice_outcome noticing) }
-        ensures new { let noticing = kept_noticing self.old sender memory_refused in
-            OnOk result (self.new ≡ notice_core self.old sender noticing) }
+        ensures new { IfOk result (λ o. self.new ≡ core_after self.old o (action.Notice sender)) }
         ensures err { OnErr result (self.new ≡ self.old) }
     {
         match self.noticing(sender, memory_refused) {
@@ -252,6 +253,8 @@ impl Core {
         ensures answer { result ≡ kept_noticing self.now sender memory_refused }
         ensures there { IfOk result (λ line. (sender.end.0 < length self.now.ends)
             × HasQueue self.now.ends sender line) }
+        ensures refused { IfErr result (λ o. core_after self.now o (action.Notice sender)
+            ≡ self.now) }
     {
         let Some((_, line)) = self.posting_line(sender) else {
             return Err(Outcome::NotNow);
@@ -271,7 +274,7 @@ impl Core {
         requires queue { HasQueue self.old.ends
             (record { end = envelope.end; line = envelope.line }) line }
         ensures ok { OnOk result (self.new ≡ record self.old {
-          ends = accept_ends self.old.ends line envelope;
+          ends = accept_ends self.old.ends envelope;
         }) }
         ensures err { OnErr result (self.new ≡ self.old) }
     {
@@ -294,7 +297,7 @@ impl Core {
         requires queue { HasQueue self.old.ends
             (record { end = envelope.end; line = envelope.line }) line }
         ensures ok { OnOk result (self.new ≡ record self.old {
-          ends = put_ends self.old.ends line envelope;
+          ends = put_ends self.old.ends envelope;
         }) }
         ensures err { OnErr result (self.new ≡ self.old) }
     {

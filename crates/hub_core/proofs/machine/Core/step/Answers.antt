@@ -4,11 +4,10 @@ use Rattle.hub_core.specs.Looking.{FitsSweep}
 use Rattle.hub_core.specs.Posting.{leave_answer}
 use Rattle.hub_core.specs.Making.{agent_answer, channel_answer}
 use Rattle.std.proofs.Common.{refl, ap, ◌∙◌, subst, sym}
-use Rattle.hub_core.specs.CoreSteps.{queue_core, push_core, notice_core}
-use Rattle.hub_core.specs.Kept.{kept_noticing, kept_posting}
+use Rattle.hub_core.specs.CoreSteps.{queue_core}
 use Rattle.hub_core.specs.declared.kind.Kind.TheVariants.{Client, Worker}
 use Rattle.hub_core.specs.declared.step.Action.TheVariants as action
-use Rattle.hub_core.proofs.Stepping.{ok_both, ok_all, client_same, worker_same, push_same, notice_same, take_same}
+use Rattle.hub_core.proofs.Stepping.{ok_both, ok_all, client_same, worker_same, take_same}
 use Rattle.hub_core.proofs.Took.{ok, took, took_where, took_by, same_err, same_err_with, told, member_took, part_took}
 use Rattle.hub_core.proofs.Frames.{with_ends}
 use Rattle.hub_core.proofs.Makes.{makes_client, makes_worker, agent_changes, channel_changes, queue_shown}
@@ -16,12 +15,12 @@ use Rattle.hub_core.proofs.Holds.{line_fits, line_changes, back_changes}
 use Rattle.hub_core.proofs.Hands.{hand_changes}
 use Rattle.hub_core.proofs.Entering.{enter_changes, leave_changes}
 use Rattle.hub_core.proofs.Endings.{order_changes, see_fits, see_changes}
-use Rattle.hub_core.proofs.Pushes.{push_shown}
+use Rattle.hub_core.proofs.Pushes.{push_fits, push_changes}
 use Rattle.hub_core.proofs.Takes.{start_changes, take_shown}
 use Rattle.hub_core.proofs.Hops.{hop_changes}
 use Rattle.hub_core.proofs.Looks.{look_fits, look_changes}
 use Rattle.hub_core.proofs.Adopts.{adopt_changes}
-use Rattle.hub_core.proofs.Notices.{notice_shown}
+use Rattle.hub_core.proofs.Notices.{notice_fits, notice_changes}
 use Rattle.hub_core.proofs.Closes.{close_changes}
 use Rattle.hub_core.proofs.Sweeps.{sweep_fits, sweep_changes}
 use Rattle.hub_core.proofs.Seeing.{seen_is, enter_seen, hop_seen, close_seen, hand_seen}
@@ -97,15 +96,11 @@ returns-in-Adopt c = told c.args.step (action.Adopt c.in-Adopt.end c.in-Adopt.ag
     (same_err (action.Adopt c.in-Adopt.end c.in-Adopt.agent) c.adopt.result _ _ refl c.adopt.ensures.err)
 
 pub returns-in-Push : goal.returns-in-Push
-returns-in-Push c = told c.args.step (action.Push c.in-Push.sender c.in-Push.ports c.in-Push.body) _ _ _ c.in-Push.is (ok_both c.push.result _ _ _ c.push.ensures.outcome c.push.ensures.new (λ o is leaves. took _ _ _ _ (push_core c.args.self.now c.in-Push.sender c.in-Push.ports c.in-Push.body (kept_posting c.args.self.now c.in-Push.sender c.in-Push.ports c.in-Push.body c.args.step.memory_refused)) _ _ is leaves refl refl
-    (λ f s. push_shown c.args.self.now f c.in-Push.sender c.in-Push.ports c.in-Push.body _ s)
-    (λ h. ap (with_ends c.args.self.now) (push_same _ c.in-Push.sender c.in-Push.ports c.in-Push.body _ h))))
+returns-in-Push c = told c.args.step (action.Push c.in-Push.sender c.in-Push.ports c.in-Push.body) _ _ _ c.in-Push.is (ok_both c.push.result _ _ _ c.push.ensures.outcome c.push.ensures.new (λ o is leaves. took_by _ _ c.args.self.now _ _ leaves refl (λ f s. is ∙ push_fits c.args.self.now f c.in-Push.sender c.in-Push.ports c.in-Push.body _ s) (λ f s fit change. push_changes c.args.self.now f c.in-Push.sender c.in-Push.ports c.in-Push.body _ s fit change)))
     (same_err (action.Push c.in-Push.sender c.in-Push.ports c.in-Push.body) c.push.result _ _ refl c.push.ensures.err)
 
 pub returns-in-Notice : goal.returns-in-Notice
-returns-in-Notice c = told c.args.step (action.Notice c.in-Notice.sender) _ _ _ c.in-Notice.is (ok_both c.notice.result _ _ _ c.notice.ensures.outcome c.notice.ensures.new (λ o is leaves. took _ _ _ _ (notice_core c.args.self.now c.in-Notice.sender (kept_noticing c.args.self.now c.in-Notice.sender c.args.step.memory_refused)) _ _ is leaves refl refl
-    (λ f s. notice_shown c.args.self.now f c.in-Notice.sender _ s)
-    (λ h. ap (with_ends c.args.self.now) (notice_same _ c.in-Notice.sender _ h))))
+returns-in-Notice c = told c.args.step (action.Notice c.in-Notice.sender) _ _ _ c.in-Notice.is (ok_both c.notice.result _ _ _ c.notice.ensures.outcome c.notice.ensures.new (λ o is leaves. took_by _ _ c.args.self.now _ _ leaves refl (λ f s. is ∙ notice_fits c.args.self.now f c.in-Notice.sender _ s) (λ f s fit change. notice_changes c.args.self.now f c.in-Notice.sender _ s fit change)))
     (same_err (action.Notice c.in-Notice.sender) c.notice.result _ _ refl c.notice.ensures.err)
 
 pub returns-in-Sweep : goal.returns-in-Sweep
