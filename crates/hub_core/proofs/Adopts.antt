@@ -2,11 +2,10 @@
 use Rattle.hub_core.proofs.Changing.{found_end, ShownAfter}
 use Rattle.hub_core.proofs.Nexts.{Change, adopted}
 use Rattle.hub_core.proofs.Seeing.{Sees, released_seen}
-use Rattle.std.proofs.Common.{◌≡◌, ℕ, zero, suc, ◌+◌, Bool, false, cond, eqb, List, [], ◌∷◌, ◌++◌, length, length-append, get_or, set, Some, None, refl, sym, ap, subst, ◌∙◌, arith, ◌<◌, rules}
+use Rattle.std.proofs.Common.{◌≡◌, ℕ, zero, suc, ◌+◌, Bool, false, cond, List, [], ◌∷◌, ◌++◌, length, length-append, get_or, set, Some, None, refl, sym, ap, subst, ◌∙◌, arith, ◌<◌, rules}
 use Rattle.std.specs.List.{slice_get}
 use Rattle.std.proofs.lemmas.Bool.{ne_eqb}
 use Rattle.std.proofs.lemmas.List.{length-set}
-use Rattle.std.proofs.lemmas.Option.{slice_get_within}
 use Rattle.hub_envelope.specs.declared.ids.AgentId.{AgentId}
 use Rattle.hub_envelope.specs.declared.ids.EndId.{EndId}
 use Rattle.hub_envelope.specs.declared.envelope.Envelope.{Envelope}
@@ -21,8 +20,8 @@ use Rattle.hub_core.specs.Moving.{adopt_answer, is_released}
 use Rattle.hub_core.specs.Sound.{SoundPlaces}
 use Rattle.hub_core.specs.Shows.{end_now, ShowsEnd, ShowsFacts}
 use Rattle.hub_core.specs.Kept.{adopted_end, changed_ends, change_agent, adopting, adopted_agents}
-use Rattle.hub_core.proofs.Lists.{eqb_same, each_set}
-use Rattle.hub_core.proofs.Frames.{ShownAt, Stepped, recounted}
+use Rattle.hub_core.proofs.Lists.{eqb_same}
+use Rattle.hub_core.proofs.Frames.{ShownAt, Stepped, recounted, end_changed}
 use Rattle.hub_core.specs.Sender.{in_queue}
 use Rattle.hub_core.proofs.Counts.{Came, counted_came, counts_of, change_length, adopted_now}
 use Rattle.hub_core.proofs.Speakers.{running_made, placed_made}
@@ -85,9 +84,7 @@ adopted_shown agents ends f e a refused x k h at answer =
     recounted agents (change_agent (adopting (is_released f (f.end e.0).kind) x.kind) a.0 agents) ends (set ends e.0 (adopted_end a x)) f (action.Adopt e a) refused (outcome.Adopted k) h answer refl refl
     (change_length (adopting (is_released f (f.end e.0).kind) x.kind) agents a.0) (adopted_now (is_released f (f.end e.0).kind) x.kind agents a) (h.ends ∙ sym (length-set ends e.0 (adopted_end a x)))
     (counted_came agents f (next f (action.Adopt e a) (outcome.Adopted k)) e.0 x.kind a (is_released f (f.end e.0).kind) h.sound.places.few (omega arith) (adopted_came f e a refused x k h.sound.places shown.same answer) (counts_of agents ends f h))
-    (each_set (λ d q. ShowsEnd (record (f.end d) { place = cond (eqb d e.0) (Some (With a)) (f.end d).place; enabled = cond (eqb d e.0) false (f.end d).enabled; newest = cond (eqb d e.0) ((f.end d).newest + 1) (f.end d).newest }) (f.line d) (f.clear d) (f.accepted d) (f.taken d ++ f.discarded d) q) ends e.0 (adopted_end a x) (slice_get_within ends e.0 x at)
-    (subst (λ b. ShowsEnd (record (f.end e.0) { place = cond b (Some (With a)) (f.end e.0).place; enabled = cond b false (f.end e.0).enabled; newest = cond b ((f.end e.0).newest + 1) (f.end e.0).newest }) (f.line e.0) (f.clear e.0) (f.accepted e.0) (f.taken e.0 ++ f.discarded e.0) (Some (adopted_end a x))) (sym (eqb_same e.0)) (adopted_one (f.end e.0) (f.line e.0) (f.clear e.0) (f.accepted e.0) (f.taken e.0 ++ f.discarded e.0) x a shown))
-    (λ d other. subst (λ b. ShowsEnd (record (f.end d) { place = cond b (Some (With a)) (f.end d).place; enabled = cond b false (f.end d).enabled; newest = cond b ((f.end d).newest + 1) (f.end d).newest }) (f.line d) (f.clear d) (f.accepted d) (f.taken d ++ f.discarded d) (slice_get ends d)) (sym (ne_eqb d e.0 other)) (h.end d)))
+    (end_changed agents ends f e.0 (λ b w. record w { place = cond b (Some (With a)) w.place; enabled = cond b false w.enabled; newest = cond b (w.newest + 1) w.newest }) x (adopted_end a x) h at (λ w. refl) (adopted_one (f.end e.0) (f.line e.0) (f.clear e.0) (f.accepted e.0) (f.taken e.0 ++ f.discarded e.0) x a shown))
 
 -- ---- what is answered
 

@@ -2,11 +2,10 @@
 use Rattle.hub_core.proofs.Changing.{found_end, ShownAfter}
 use Rattle.hub_core.proofs.Nexts.{Change, end_closed}
 use Rattle.hub_core.proofs.Seeing.{Sees}
-use Rattle.std.proofs.Common.{◌≡◌, ℕ, Bool, true, cond, eqb, List, ◌++◌, set, Some, refl, sym, ap, subst, ◌∙◌}
+use Rattle.std.proofs.Common.{◌≡◌, ℕ, Bool, true, cond, List, ◌++◌, set, Some, refl, sym, ap, subst, ◌∙◌}
 use Rattle.std.specs.List.{slice_get}
 use Rattle.std.proofs.lemmas.Bool.{false≢true, ne_eqb}
 use Rattle.std.proofs.lemmas.List.{length-set}
-use Rattle.std.proofs.lemmas.Option.{slice_get_within}
 use Rattle.hub_envelope.specs.declared.ids.EndId.{EndId}
 use Rattle.hub_envelope.specs.declared.envelope.Envelope.{Envelope}
 use Rattle.hub_core.specs.declared.agent.Agent.{Agent}
@@ -20,8 +19,8 @@ use Rattle.hub_core.specs.Moving.{close_answer, is_released}
 use Rattle.hub_core.specs.Sound.{SoundPlaces}
 use Rattle.hub_core.specs.Shows.{end_now, ShowsEnd, ShowsFacts}
 use Rattle.hub_core.specs.Kept.{closed_end, changed_ends, gone, went}
-use Rattle.hub_core.proofs.Lists.{eqb_same, each_set}
-use Rattle.hub_core.proofs.Frames.{ShownAt, Stepped, recounted}
+use Rattle.hub_core.proofs.Lists.{eqb_same}
+use Rattle.hub_core.proofs.Frames.{ShownAt, Stepped, recounted, end_changed}
 use Rattle.hub_core.specs.CoreState.{CoreState}
 use Rattle.hub_core.specs.declared.outcome.Outcome.{Outcome}
 use Rattle.hub_core.proofs.Counts.{Went, gone_length, gone_now, counted_went, counts_of}
@@ -61,9 +60,7 @@ shut_shown agents ends f e refused x h at answer =
     recounted agents (gone x.kind x.place agents) ends (set ends e.0 (closed_end x)) f (action.Close e) refused outcome.Done h answer refl refl
     (gone_length x.kind x.place agents) (gone_now x.kind x.place agents) (h.ends ∙ sym (length-set ends e.0 (closed_end x)))
     (counted_went agents f (next f (action.Close e) outcome.Done) e.0 x.kind x.place (shut_went f e x h.sound.places (closed_of f e answer).released shown.same) (counts_of agents ends f h))
-    (each_set (λ d q. ShowsEnd (record (f.end d) { closed = cond (eqb d e.0) true (f.end d).closed; place = cond (eqb d e.0) (Some Gone) (f.end d).place }) (f.line d) (f.clear d) (f.accepted d) (f.taken d ++ f.discarded d) q) ends e.0 (closed_end x) (slice_get_within ends e.0 x at)
-    (subst (λ b. ShowsEnd (record (f.end e.0) { closed = cond b true (f.end e.0).closed; place = cond b (Some Gone) (f.end e.0).place }) (f.line e.0) (f.clear e.0) (f.accepted e.0) (f.taken e.0 ++ f.discarded e.0) (Some (closed_end x))) (sym (eqb_same e.0)) (shut_one (f.end e.0) (f.line e.0) (f.clear e.0) (f.accepted e.0) (f.taken e.0 ++ f.discarded e.0) x shown))
-    (λ d other. subst (λ b. ShowsEnd (record (f.end d) { closed = cond b true (f.end d).closed; place = cond b (Some Gone) (f.end d).place }) (f.line d) (f.clear d) (f.accepted d) (f.taken d ++ f.discarded d) (slice_get ends d)) (sym (ne_eqb d e.0 other)) (h.end d)))
+    (end_changed agents ends f e.0 (λ b w. record w { closed = cond b true w.closed; place = cond b (Some Gone) w.place }) x (closed_end x) h at (λ w. refl) (shut_one (f.end e.0) (f.line e.0) (f.clear e.0) (f.accepted e.0) (f.taken e.0 ++ f.discarded e.0) x shown))
 
 -- ---- what is answered
 

@@ -1,4 +1,7 @@
 -- What a step leaves alone: an end of which no fact changes is shown as before, and so is each other line where one changes.
+use Rattle.hub_envelope.specs.declared.envelope.Envelope.{Envelope}
+use Rattle.hub_core.specs.declared.end.Place.{Place}
+use Rattle.hub_core.specs.Made.{lines_of}
 use Rattle.std.proofs.Common.{◌≡◌, ℕ, ◌+◌, ◌<◌, Bool, true, false, eqb, List, [], length, set, length-set, Option, Some, refl, sym, ap, subst, ◌∙◌, ◌++◌}
 use Rattle.std.proofs.lemmas.Bool.{ne_eqb}
 use Rattle.std.proofs.lemmas.Option.{slice_get_within}
@@ -13,19 +16,16 @@ use Rattle.hub_core.specs.declared.end.End.{End}
 use Rattle.hub_core.specs.declared.step.Action.{Action}
 use Rattle.hub_core.specs.declared.outcome.Outcome.{Outcome}
 use Rattle.hub_core.specs.CoreState.{CoreState}
-use Rattle.hub_core.specs.Facts.{LineNow, Facts, facts}
+use Rattle.hub_core.specs.Facts.{LineNow, Facts, facts, EndNow}
 use Rattle.hub_core.specs.Fits.{Answers}
-use Rattle.hub_core.specs.Shows.{ShowsEnd, ShowsPut, ShowsFacts, agent_now, line_now}
+use Rattle.hub_core.specs.Shows.{ShowsEnd, ShowsPut, ShowsFacts, agent_now, line_now, end_now}
 use Rattle.hub_core.proofs.Nexts.{next}
 use Rattle.hub_core.proofs.Counts.{Counted}
 use Rattle.hub_core.proofs.Sounds.{sound_first, sound_next}
 
--- a core with other ends, and one with other agents
+-- a core with other ends
 abbrev pub with_ends : CoreState → List End → CoreState
 with_ends c ends = record c { ends = ends }
-
-abbrev pub with_agents : CoreState → List Agent → CoreState
-with_agents c agents = record c { agents = agents }
 
 -- what is shown of an end
 abbrev pub ShownAt : Facts → ℕ → Option End → Type 0
@@ -108,3 +108,23 @@ line_changed agents ends f s new x y z h at is mine others put inside =
     (subst (λ b. ShowsEnd (f.end e) (lines b e) (f.clear e) (f.accepted e) (f.taken e ++ f.discarded e) (Some after)) (sym (eqb_same e)) here)
     (λ d other. subst (λ b. ShowsEnd (f.end d) (lines b d) (f.clear d) (f.accepted d) (f.taken d ++ f.discarded d) (slice_get ends d)) (sym (ne_eqb d e other))
     (subst (λ (ls : ℕ → LineNow). ShowsEnd (f.end d) ls (f.clear d) (f.accepted d) (f.taken d ++ f.discarded d) (slice_get ends d)) (λ i l. sym (others (f.line d l)) i) (h.end d)))
+
+-- ---- one end
+
+-- The ends, where one of them changes: `new` says what becomes of an end, where it is that one and where it isn't.
+pub end_changed : (agents : List Agent) (ends : List End) (f : Facts) (e : ℕ) (new : Bool → EndNow → EndNow) (x after : End) → ShowsFacts agents ends f → slice_get ends e ≡ Some x → ((w : EndNow) → new false w ≡ w) → ShowsEnd (new true (f.end e)) (f.line e) (f.clear e) (f.accepted e) (f.taken e ++ f.discarded e) (Some after)
+    → (d : ℕ) → ShowsEnd (new (eqb d e) (f.end d)) (f.line d) (f.clear d) (f.accepted d) (f.taken d ++ f.discarded d) (slice_get (set ends e after) d)
+end_changed agents ends f e new x after h at others here =
+    each_set (λ d o. ShowsEnd (new (eqb d e) (f.end d)) (f.line d) (f.clear d) (f.accepted d) (f.taken d ++ f.discarded d) o) ends e after (slice_get_within ends e x at)
+    (subst (λ b. ShowsEnd (new b (f.end e)) (f.line e) (f.clear e) (f.accepted e) (f.taken e ++ f.discarded e) (Some after)) (sym (eqb_same e)) here)
+    (λ d far. subst (λ w. ShowsEnd w (f.line d) (f.clear d) (f.accepted d) (f.taken d ++ f.discarded d) (slice_get ends d)) (sym (ap (λ b. new b (f.end d)) (ne_eqb d e far) ∙ others (f.end d))) (h.end d))
+
+-- an end with another place, enabled or not
+pub end_restated : (now then : EndNow) (line : ℕ → LineNow) (clear : ℕ → Bool) (vs ts : List Envelope) (x : End) (p : Place) (b : Bool) → (let y : End = record x { place = p; is_enabled = b } in then ≡ end_now (Some y) → then.kind ≡ now.kind → ShowsEnd now line clear vs ts (Some x) → ShowsEnd then line clear vs ts (Some y))
+end_restated now then line clear vs ts x p b same kind h = record {
+  same = same;
+  count = h.count ∙ ap lines_of (sym kind);
+  lines = h.lines;
+  put = h.put;
+  queues = record { reached = h.queues.reached; clear_below = h.queues.clear_below; count = h.queues.count; inside = h.queues.inside; behind = h.queues.behind; each = h.queues.each };
+}

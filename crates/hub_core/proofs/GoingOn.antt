@@ -2,9 +2,8 @@
 use Rattle.std.proofs.Common.{◌≡◌, ℕ, suc, ◌+◌, ◌<◌, ◌≤◌, Bool, true, false, cond, eqb, List, [], ◌∷◌, ◌++◌, length, drop, get_or, set, Some, refl, sym, ap, subst, ◌∙◌, arith, append-nil, ◌-◌}
 use Rattle.std.specs.Prelude.{nat_le, nat_lt}
 use Rattle.std.specs.List.{slice_get}
-use Rattle.std.proofs.lemmas.Bool.{ne_eqb, leb-true, leb-false, ltb-true, ltb-false, eqb-true, eqb-false, le-ltb}
+use Rattle.std.proofs.lemmas.Bool.{leb-true, leb-false, ltb-true, ltb-false, eqb-true, eqb-false, le-ltb}
 use Rattle.std.proofs.lemmas.List.{length-set}
-use Rattle.std.proofs.lemmas.Option.{slice_get_within}
 use Rattle.hub_envelope.specs.declared.ids.EndId.{EndId}
 use Rattle.hub_envelope.specs.declared.envelope.Envelope.{Envelope}
 use Rattle.hub_core.specs.declared.agent.Agent.{Agent}
@@ -19,9 +18,9 @@ use Rattle.hub_core.specs.Taking.{IsDrained, IsLeft, Serves, FitsTake}
 use Rattle.hub_core.specs.Sound.{Sound}
 use Rattle.hub_core.specs.Shows.{ShowsEnd, ShowsFacts, KeepsQueues}
 use Rattle.hub_core.specs.Kept.{kept_settled, advanced_end, left_outcome, left_end}
-use Rattle.hub_core.proofs.Lists.{eqb_same, set_again, each_set, AllByRecursion-weaker, below_last}
+use Rattle.hub_core.proofs.Lists.{set_again, AllByRecursion-weaker, below_last}
 use Rattle.hub_core.proofs.Waits.{filters, all_taken}
-use Rattle.hub_core.proofs.Frames.{ShownAt, Stepped, changed, unchanged}
+use Rattle.hub_core.proofs.Frames.{ShownAt, Stepped, changed, unchanged, end_changed}
 use Rattle.hub_core.proofs.Presence.{settled_kept}
 use Rattle.hub_core.proofs.SoundLines.{line_epochs}
 use Rattle.hub_core.proofs.SoundWaiting.{nothing_more, taken_prefix}
@@ -137,9 +136,7 @@ left_shown agents ends new f e refused x o h at shown opened empty fits false tr
     let base : List End = set ends e.0 (advanced_end x) in
     let stepped : Stepped agents base f (action.Take e) refused outcome.Again =
     changed agents ends base f (action.Take e) refused outcome.Again h answer refl refl refl (length-set ends e.0 (advanced_end x)) (counts_still agents ends f _ h refl (λ d. refl) (λ d. refl) (λ a d l. refl))
-    (each_set (λ d q. ShowsEnd (record (f.end d) { taker_stand = cond (eqb d e.0) ((f.end d).taker_stand + 1) (f.end d).taker_stand }) (f.line d) (f.clear d) (f.accepted d) (f.taken d ++ f.discarded d) q) ends e.0 (advanced_end x) (slice_get_within ends e.0 x at)
-    (subst (λ b. ShowsEnd (record (f.end e.0) { taker_stand = cond b ((f.end e.0).taker_stand + 1) (f.end e.0).taker_stand }) (f.line e.0) (f.clear e.0) (f.accepted e.0) (f.taken e.0 ++ f.discarded e.0) (Some (advanced_end x))) (sym (eqb_same e.0)) (advanced_shown (f.end e.0) (f.line e.0) (f.clear e.0) (f.accepted e.0) (f.taken e.0 ++ f.discarded e.0) x still low empty shown))
-    (λ d other. subst (λ b. ShowsEnd (record (f.end d) { taker_stand = cond b ((f.end d).taker_stand + 1) (f.end d).taker_stand }) (f.line d) (f.clear d) (f.accepted d) (f.taken d ++ f.discarded d) (slice_get ends d)) (sym (ne_eqb d e.0 other)) (h.end d)))
+    (end_changed agents ends f e.0 (λ b w. record w { taker_stand = cond b (w.taker_stand + 1) w.taker_stand }) x (advanced_end x) h at (λ w. refl) (advanced_shown (f.end e.0) (f.line e.0) (f.clear e.0) (f.accepted e.0) (f.taken e.0 ++ f.discarded e.0) x still low empty shown))
     in
     subst (λ p. Stepped agents new f (action.Take e) refused p) (sym says) (subst (λ es. Stepped agents es f (action.Take e) refused outcome.Again) (sym leaves) stepped)
 

@@ -2,31 +2,29 @@
 use Rattle.hub_core.proofs.Changing.{found_end, ShownAfter}
 use Rattle.hub_core.proofs.Nexts.{Change, handed}
 use Rattle.hub_core.proofs.Seeing.{Sees}
-use Rattle.std.proofs.Common.{◌≡◌, ℕ, Bool, true, cond, eqb, set, List, Option, Some, None, refl, sym, ap, subst, ◌∙◌, length-set}
+use Rattle.std.proofs.Common.{◌≡◌, Bool, true, cond, set, List, Option, Some, None, refl, sym, ap, subst, ◌∙◌, length-set}
 use Rattle.std.specs.Prelude.{◌++◌}
 use Rattle.std.specs.List.{slice_get}
 use Rattle.std.proofs.lemmas.Bool.{false≢true, ne_eqb}
-use Rattle.std.proofs.lemmas.Option.{slice_get_within}
 use Rattle.hub_envelope.specs.declared.ids.AgentId.{AgentId}
 use Rattle.hub_envelope.specs.declared.ids.EndId.{EndId}
-use Rattle.hub_envelope.specs.declared.envelope.Envelope.{Envelope}
 use Rattle.hub_core.specs.declared.agent.Agent.{Agent}
 use Rattle.hub_core.specs.declared.end.End.{End}
 use Rattle.hub_core.specs.declared.end.Place.TheVariants.{Arrived}
 use Rattle.hub_core.specs.declared.step.Action.TheVariants as action
 use Rattle.hub_core.specs.declared.outcome.Outcome.{Outcome}
 use Rattle.hub_core.specs.declared.outcome.Outcome.TheVariants as outcome
-use Rattle.hub_core.specs.Facts.{EndNow, LineNow, Facts}
+use Rattle.hub_core.specs.Facts.{EndNow, Facts}
 use Rattle.hub_core.specs.Made.{is_queue}
 use Rattle.hub_core.specs.Posting.{is_with}
 use Rattle.hub_core.specs.Moving.{hand_answer, is_released}
 use Rattle.hub_core.specs.Sound.{SoundPlaces}
-use Rattle.hub_core.specs.Shows.{end_now, ShowsEnd, ShowsFacts}
+use Rattle.hub_core.specs.Shows.{end_now, ShowsFacts}
 use Rattle.hub_core.specs.Kept.{changed_ends, gone, went}
-use Rattle.hub_core.proofs.Lists.{each_set, eqb_same}
+use Rattle.hub_core.proofs.Lists.{eqb_same}
 use Rattle.hub_core.proofs.Nexts.{next}
 use Rattle.hub_core.proofs.Speakers.{placed_made}
-use Rattle.hub_core.proofs.Frames.{ShownAt, Stepped, recounted}
+use Rattle.hub_core.proofs.Frames.{ShownAt, Stepped, recounted, end_changed, end_restated}
 use Rattle.hub_core.proofs.Counts.{Went, counted_went, counts_of, gone_length, gone_now}
 use Rattle.hub_core.specs.CoreState.{CoreState}
 use Rattle.hub_core.proofs.Fitting.{handed_of}
@@ -39,15 +37,6 @@ use Rattle.hub_core.specs.declared.kind.Kind.TheVariants.{Port, Client, Worker, 
 -- the end with another place
 abbrev moved_to : AgentId → End → End
 moved_to b x = record x { place = Arrived b }
-
-moved_one : (now : EndNow) (line : ℕ → LineNow) (clear : ℕ → Bool) (vs ts : List Envelope) (x : End) (b : AgentId) → ShowsEnd now line clear vs ts (Some x) → ShowsEnd (record now { place = Some (Arrived b) }) line clear vs ts (Some (moved_to b x))
-moved_one now line clear vs ts x b h = record {
-  same = ap (λ (e : EndNow). let d : EndNow = record e { place = Some (Arrived b) } in d) h.same;
-  count = h.count;
-  lines = h.lines;
-  put = h.put;
-  queues = record { reached = h.queues.reached; clear_below = h.queues.clear_below; count = h.queues.count; inside = h.queues.inside; behind = h.queues.behind; each = h.queues.each };
-}
 
 -- a queue has no poster of its own
 queue_released : (f : Facts) (k : Option Kind) → is_queue k ≡ true → is_released f k ≡ true
@@ -76,9 +65,8 @@ moved_shown agents ends f e b refused x h at answer =
     recounted agents (gone x.kind x.place agents) ends (set ends e.0 (moved_to b x)) f (action.Hand e b) refused outcome.Handed h answer refl refl
     (gone_length x.kind x.place agents) (gone_now x.kind x.place agents) (h.ends ∙ sym (length-set ends e.0 (moved_to b x)))
     (counted_went agents f (next f (action.Hand e b) outcome.Handed) e.0 x.kind x.place (moved_went f e b x h.sound.places (queue_released f (f.end e.0).kind (handed_of f e b answer).queue) shown.same) (counts_of agents ends f h))
-    (each_set (λ d q. ShowsEnd (record (f.end d) { place = cond (eqb d e.0) (Some (Arrived b)) (f.end d).place }) (f.line d) (f.clear d) (f.accepted d) (f.taken d ++ f.discarded d) q) ends e.0 (moved_to b x) (slice_get_within ends e.0 x at)
-    (subst (λ c. ShowsEnd (record (f.end e.0) { place = cond c (Some (Arrived b)) (f.end e.0).place }) (f.line e.0) (f.clear e.0) (f.accepted e.0) (f.taken e.0 ++ f.discarded e.0) (Some (moved_to b x))) (sym (eqb_same e.0)) (moved_one (f.end e.0) (f.line e.0) (f.clear e.0) (f.accepted e.0) (f.taken e.0 ++ f.discarded e.0) x b shown))
-    (λ d other. subst (λ c. ShowsEnd (record (f.end d) { place = cond c (Some (Arrived b)) (f.end d).place }) (f.line d) (f.clear d) (f.accepted d) (f.taken d ++ f.discarded d) (slice_get ends d)) (sym (ne_eqb d e.0 other)) (h.end d)))
+    (end_changed agents ends f e.0 (λ c w. record w { place = cond c (Some (Arrived b)) w.place }) x (moved_to b x) h at (λ w. refl)
+    (end_restated (f.end e.0) (record (f.end e.0) { place = Some (Arrived b) }) (f.line e.0) (f.clear e.0) (f.accepted e.0) (f.taken e.0 ++ f.discarded e.0) x (Arrived b) x.is_enabled (ap (λ (w : EndNow). let v : EndNow = record w { place = Some (Arrived b) } in v) shown.same) refl shown))
 
 -- ---- what is answered
 

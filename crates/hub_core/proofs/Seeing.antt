@@ -114,9 +114,6 @@ posting_kept f s ports body refused (Some p) =
 
 -- ---- what the core is asked
 
-pub poster_seen : (c : CoreState) (f : Facts) (s : Sender) → Sees c f → poster (seen c) s ≡ poster f s
-poster_seen c f s h = ap (λ g. poster g s) (seen_is c f h) ∙ poster_kept f s (f.end s.end.0).kind
-
 may_enter_kept : (f : Facts) (s : Sender) → may_enter (kept_part f) s ≡ may_enter f s
 may_enter_kept f s = ap (λ p. is_some p || hears_notice f s) (poster_kept f s (f.end s.end.0).kind)
 

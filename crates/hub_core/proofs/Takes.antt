@@ -20,7 +20,7 @@ use Rattle.hub_core.specs.declared.end.Place.TheVariants.{With, InFlight, Arrive
 use Rattle.hub_core.specs.declared.step.Action.TheVariants as action
 use Rattle.hub_core.specs.declared.outcome.Outcome.{Outcome}
 use Rattle.hub_core.specs.declared.outcome.Outcome.TheVariants as outcome
-use Rattle.hub_core.specs.Facts.{EndNow, LineNow, Facts}
+use Rattle.hub_core.specs.Facts.{EndNow, Facts}
 use Rattle.hub_core.specs.Place.{arrived, names}
 use Rattle.hub_core.specs.Sender.{in_queue}
 use Rattle.hub_core.specs.Posting.{running_at, holder, is_with}
@@ -30,7 +30,7 @@ use Rattle.hub_core.specs.Shows.{ShowsEnd, ShowsFacts}
 use Rattle.hub_core.specs.Kept.{with_taker_queue, moved_ends, TakeServes, TakeHeld, TakeLeaves, changed_ends}
 use Rattle.hub_core.proofs.Lists.{eqb_same, each_set, get_or-set_same, get_or-set_other, is_there}
 use Rattle.hub_core.proofs.Waits.{all_kept, all_back, of_queue, queue_more, queue_other, next_in_line}
-use Rattle.hub_core.proofs.Frames.{ShownAt, Stepped, changed, unchanged}
+use Rattle.hub_core.proofs.Frames.{ShownAt, Stepped, changed, unchanged, end_changed, end_restated}
 use Rattle.hub_core.specs.CoreState.{CoreState}
 use Rattle.hub_core.specs.Seen.{seen}
 use Rattle.hub_core.proofs.Placing.{Moves, moves_to, moved_shown}
@@ -43,22 +43,13 @@ use Rattle.hub_core.proofs.Calms.{calm_landed}
 
 -- ---- Start
 
--- the end, enabled
-enabled_end : (now : EndNow) (line : ℕ → LineNow) (clear : ℕ → Bool) (vs ts : List Envelope) (x : End) → ShowsEnd now line clear vs ts (Some x) → ShowsEnd (record now { enabled = true }) line clear vs ts (Some (record x { is_enabled = true }))
-enabled_end now line clear vs ts x h = record {
-  same = ap (λ (e : EndNow). let d : EndNow = record e { enabled = true } in d) h.same;
-  count = h.count;
-  lines = h.lines;
-  put = h.put;
-  queues = record { reached = h.queues.reached; clear_below = h.queues.clear_below; count = h.queues.count; inside = h.queues.inside; behind = h.queues.behind; each = h.queues.each };
-}
-
+-- the ends, one of them enabled
 started_shown : (agents : List Agent) (ends : List End) (f : Facts) (e : EndId) (refused : Bool) (x : End) → ShowsFacts agents ends f → slice_get ends e.0 ≡ Some x → outcome.Started ≡ start_answer f e → Stepped agents (set ends e.0 (record x { is_enabled = true })) f (action.Start e) refused outcome.Started
 started_shown agents ends f e refused x h at answer =
+    let shown_at : ShownAt f e.0 (Some x) = subst (ShownAt f e.0) at (h.end e.0) in
     changed agents ends _ f (action.Start e) refused outcome.Started h answer refl refl refl (length-set ends e.0 (record x { is_enabled = true })) (counts_still agents ends f _ h refl (λ d. refl) (λ d. refl) (λ a d l. refl))
-    (each_set (λ d o. ShowsEnd (record (f.end d) { enabled = cond (eqb d e.0) true (f.end d).enabled }) (f.line d) (f.clear d) (f.accepted d) (f.taken d ++ f.discarded d) o) ends e.0 (record x { is_enabled = true }) (slice_get_within ends e.0 x at)
-    (subst (λ b. ShowsEnd (record (f.end e.0) { enabled = cond b true (f.end e.0).enabled }) (f.line e.0) (f.clear e.0) (f.accepted e.0) (f.taken e.0 ++ f.discarded e.0) (Some (record x { is_enabled = true }))) (sym (eqb_same e.0)) (enabled_end (f.end e.0) (f.line e.0) (f.clear e.0) (f.accepted e.0) (f.taken e.0 ++ f.discarded e.0) x (subst (ShownAt f e.0) at (h.end e.0))))
-    (λ d other. subst (λ b. ShowsEnd (record (f.end d) { enabled = cond b true (f.end d).enabled }) (f.line d) (f.clear d) (f.accepted d) (f.taken d ++ f.discarded d) (slice_get ends d)) (sym (ne_eqb d e.0 other)) (h.end d)))
+    (end_changed agents ends f e.0 (λ b w. record w { enabled = cond b true w.enabled }) x (record x { is_enabled = true }) h at (λ w. refl)
+    (end_restated (f.end e.0) (record (f.end e.0) { enabled = true }) (f.line e.0) (f.clear e.0) (f.accepted e.0) (f.taken e.0 ++ f.discarded e.0) x x.place true (ap (λ (w : EndNow). let v : EndNow = record w { enabled = true } in v) (shown_at.same)) refl shown_at))
 
 pub start_changes : (c : CoreState) (f : Facts) (e : EndId) (refused : Bool) {o : Outcome} → Sees c f → o ≡ start_answer f e → Change (action.Start e) o → ShownAfter c f (action.Start e) refused o
 start_changes c f e refused h answer (started d) =
