@@ -9,7 +9,6 @@ use Rattle.hub_envelope.specs.declared.envelope.Envelope.{Envelope}
 use Rattle.hub_core.specs.declared.agent.Agent.{Agent}
 use Rattle.hub_core.specs.declared.end.End.{End}
 use Rattle.hub_core.specs.declared.step.Action.TheVariants as action
-use Rattle.hub_core.specs.declared.outcome.Outcome.{Outcome}
 use Rattle.hub_core.specs.declared.outcome.Outcome.TheVariants as outcome
 use Rattle.hub_core.specs.Facts.{EndNow, LineNow, Facts}
 use Rattle.hub_core.specs.Sender.{by, in_queue}
@@ -17,10 +16,10 @@ use Rattle.hub_core.specs.Looking.{is_settled}
 use Rattle.hub_core.specs.Taking.{IsDrained, IsLeft, Serves, FitsTake}
 use Rattle.hub_core.specs.Sound.{Sound}
 use Rattle.hub_core.specs.Shows.{ShowsEnd, ShowsFacts, KeepsQueues}
-use Rattle.hub_core.specs.Kept.{kept_settled, advanced_end, left_outcome, left_end}
-use Rattle.hub_core.proofs.Lists.{set_again, AllByRecursion-weaker, below_last}
+use Rattle.hub_core.specs.Kept.{kept_settled, advanced_end, left_outcome}
+use Rattle.hub_core.proofs.Lists.{AllByRecursion-weaker, below_last}
 use Rattle.hub_core.proofs.Waits.{filters, all_taken}
-use Rattle.hub_core.proofs.Frames.{ShownAt, Stepped, changed, unchanged, end_changed}
+use Rattle.hub_core.proofs.Frames.{ShownAt, Stepped, changed, end_changed}
 use Rattle.hub_core.proofs.Presence.{settled_kept}
 use Rattle.hub_core.proofs.SoundLines.{line_epochs}
 use Rattle.hub_core.proofs.SoundWaiting.{nothing_more, taken_prefix}
@@ -118,28 +117,26 @@ advanced_shown now line clear vs ts x opened low empty h = record {
 
 -- ---- what is answered
 
-left_shown : (agents : List Agent) (ends new : List End) (f : Facts) (e : EndId) (refused : Bool) (x : End) (o : Outcome) → ShowsFacts agents ends f → slice_get ends e.0 ≡ Some x → ShownAt f e.0 (Some x) → (f.end e.0).closed ≡ false → get_or x.queues 0 [] ≡ [] → ((p : Outcome) → Serves f e p → FitsTake f e p)
-    → (last settled : Bool) → nat_le x.newest x.taker ≡ last → kept_settled x x.taker ≡ settled
-    → o ≡ cond last outcome.Empty (cond settled outcome.Again outcome.Busy) → new ≡ set ends e.0 (cond last x (cond settled (advanced_end x) x)) → Stepped agents new f (action.Take e) refused o
-left_shown agents ends new f e refused x o h at shown opened empty fits true settled is found says leaves =
-    unchanged agents ends new f (action.Take e) refused o outcome.Empty h refl says (leaves ∙ set_again ends e.0 x at) (fits outcome.Empty (drained_of f e x h.sound ((h.sound.waiting e.0).kept opened) shown empty is))
-left_shown agents ends new f e refused x o h at shown opened empty fits false false is found says leaves =
+left_by : (f : Facts) (e : EndId) (x : End) → Sound f → ShownAt f e.0 (Some x) → (f.end e.0).closed ≡ false → get_or x.queues 0 [] ≡ [] → (last settled : Bool) → nat_le x.newest x.taker ≡ last → kept_settled x x.taker ≡ settled → Serves f e (cond last outcome.Empty (cond settled outcome.Again outcome.Busy))
+left_by f e x h shown opened empty true settled is found = drained_of f e x h ((h.waiting e.0).kept opened) shown empty is
+left_by f e x h shown opened empty false settled is found =
     let taker : (f.end e.0).taker_stand ≡ x.taker = ap (λ (y : EndNow). y.taker_stand) shown.same in
-    let unsettled : is_settled f e.0 (f.end e.0).taker_stand ≡ false = ap (is_settled f e.0) taker ∙ sym (settled_kept f e.0 x.taker x shown (omega arith)) ∙ found in
-    unchanged agents ends new f (action.Take e) refused o outcome.Busy h refl says (leaves ∙ set_again ends e.0 x at) (fits outcome.Busy (left_of f e x ((h.sound.waiting e.0).kept opened) shown empty is, unsettled))
-left_shown agents ends new f e refused x o h at shown opened empty fits false true is found says leaves =
-    let taker : (f.end e.0).taker_stand ≡ x.taker = ap (λ (y : EndNow). y.taker_stand) shown.same in
-    let settled : is_settled f e.0 (f.end e.0).taker_stand ≡ true = ap (is_settled f e.0) taker ∙ sym (settled_kept f e.0 x.taker x shown (omega arith)) ∙ found in
-    let low : x.taker < x.newest = leb-false x.newest x.taker is in
-    let still : x.is_closed ≡ false = sym (ap (λ (y : EndNow). y.closed) shown.same) ∙ opened in
-    let answer : FitsTake f e outcome.Again = fits outcome.Again (left_of f e x ((h.sound.waiting e.0).kept opened) shown empty is, settled) in
-    let base : List End = set ends e.0 (advanced_end x) in
-    let stepped : Stepped agents base f (action.Take e) refused outcome.Again =
-    changed agents ends base f (action.Take e) refused outcome.Again h answer refl refl refl (length-set ends e.0 (advanced_end x)) (counts_still agents ends f _ h refl (λ d. refl) (λ d. refl) (λ a d l. refl))
-    (end_changed agents ends f e.0 (λ b w. record w { taker_stand = cond b (w.taker_stand + 1) w.taker_stand }) x (advanced_end x) h at (λ w. refl) (advanced_shown (f.end e.0) (f.line e.0) (f.clear e.0) (f.accepted e.0) (f.taken e.0 ++ f.discarded e.0) x still low empty shown))
-    in
-    subst (λ p. Stepped agents new f (action.Take e) refused p) (sym says) (subst (λ es. Stepped agents es f (action.Take e) refused outcome.Again) (sym leaves) stepped)
+    let same : is_settled f e.0 (f.end e.0).taker_stand ≡ settled = ap (is_settled f e.0) taker ∙ sym (settled_kept f e.0 x.taker x shown (omega arith)) ∙ found in
+    let left = left_of f e x ((h.waiting e.0).kept opened) shown empty is in
+    elim settled as (λ b. is_settled f e.0 (f.end e.0).taker_stand ≡ b → Serves f e (cond b outcome.Again outcome.Busy)) [
+      | true ↦ λ settles. (left, settles)
+      | false ↦ λ busy. (left, busy)
+    ] same
 
-pub nothing_shown : (agents : List Agent) (ends new : List End) (f : Facts) (e : EndId) (refused : Bool) (x : End) (o : Outcome) → ShowsFacts agents ends f → slice_get ends e.0 ≡ Some x → (f.end e.0).closed ≡ false → get_or x.queues 0 [] ≡ [] → ((p : Outcome) → Serves f e p → FitsTake f e p) → o ≡ left_outcome x → new ≡ set ends e.0 (left_end x) → Stepped agents new f (action.Take e) refused o
-nothing_shown agents ends new f e refused x o h at opened empty fits says leaves =
-    left_shown agents ends new f e refused x o h at (subst (ShownAt f e.0) at (h.end e.0)) opened empty fits (nat_le x.newest x.taker) (kept_settled x x.taker) refl refl says leaves
+-- what is served where the taker's queue holds nothing
+pub nothing_serves : (f : Facts) (e : EndId) (x : End) → Sound f → ShownAt f e.0 (Some x) → (f.end e.0).closed ≡ false → get_or x.queues 0 [] ≡ [] → Serves f e (left_outcome x)
+nothing_serves f e x h shown opened empty = left_by f e x h shown opened empty (nat_le x.newest x.taker) (kept_settled x x.taker) refl refl
+
+-- every end, with the taker of one further
+pub went_on_shown : (agents : List Agent) (ends : List End) (f : Facts) (e : EndId) (refused : Bool) (x : End) → ShowsFacts agents ends f → slice_get ends e.0 ≡ Some x → (f.end e.0).closed ≡ false → get_or x.queues 0 [] ≡ [] → (f.end e.0).taker_stand < (f.end e.0).newest → FitsTake f e outcome.Again → Stepped agents (set ends e.0 (advanced_end x)) f (action.Take e) refused outcome.Again
+went_on_shown agents ends f e refused x h at opened empty retired fits =
+    let shown : ShownAt f e.0 (Some x) = subst (ShownAt f e.0) at (h.end e.0) in
+    let low : x.taker < x.newest = subst (λ (y : EndNow). y.taker_stand < y.newest) shown.same retired in
+    let still : x.is_closed ≡ false = sym (ap (λ (y : EndNow). y.closed) shown.same) ∙ opened in
+    changed agents ends (set ends e.0 (advanced_end x)) f (action.Take e) refused outcome.Again h fits refl refl refl (length-set ends e.0 (advanced_end x)) (counts_still agents ends f _ h refl (λ d. refl) (λ d. refl) (λ a d l. refl))
+    (end_changed agents ends f e.0 (λ b w. record w { taker_stand = cond b (w.taker_stand + 1) w.taker_stand }) x (advanced_end x) h at (λ w. refl) (advanced_shown (f.end e.0) (f.line e.0) (f.clear e.0) (f.accepted e.0) (f.taken e.0 ++ f.discarded e.0) x still low empty shown))

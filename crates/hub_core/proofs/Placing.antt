@@ -1,4 +1,5 @@
 -- Ports that get a new place.
+use Rattle.hub_core.proofs.Frames.{end_restated}
 use Rattle.std.proofs.Common.{◌≡◌, ℕ, Bool, true, false, cond, eqb, List, [], ◌∷◌, length, Option, Some, None, refl, sym, ap, subst, ◌∙◌}
 use Rattle.std.specs.Prelude.{option_map, if◌then◌else◌, ◌||◌}
 use Rattle.std.specs.List.{slice_get}
@@ -67,13 +68,8 @@ moves_to ports p ends new same = subst (Moves ports p ends) (sym same) (moves_of
 
 -- an end that is moved where the test says so
 moved_by : (now : EndNow) (line : ℕ → LineNow) (clear : ℕ → Bool) (vs ts : List Envelope) (x : End) (p : Place) (q : Option Place) (b : Bool) → (b ≡ true → q ≡ Some p) → ShowsEnd now line clear vs ts (Some x) → ShowsEnd (record now { place = cond b q now.place }) line clear vs ts (Some (cond b (record x { place = p }) x))
-moved_by now line clear vs ts x p q true is h = record {
-  same = ap (λ (e : EndNow). let d : EndNow = record e { place = q } in d) h.same ∙ ap (λ r. let d : EndNow = record (end_now (Some x)) { place = r } in d) (is refl);
-  count = h.count;
-  lines = h.lines;
-  put = h.put;
-  queues = record { reached = h.queues.reached; clear_below = h.queues.clear_below; count = h.queues.count; inside = h.queues.inside; behind = h.queues.behind; each = h.queues.each };
-}
+moved_by now line clear vs ts x p q true is h =
+    end_restated now (record now { place = q }) line clear vs ts x p x.is_enabled (ap (λ (e : EndNow). let d : EndNow = record e { place = q } in d) h.same ∙ ap (λ r. let d : EndNow = record (end_now (Some x)) { place = r } in d) (is refl)) refl h
 moved_by now line clear vs ts x p q false is h = h
 
 none_by : (now : EndNow) (line : ℕ → LineNow) (clear : ℕ → Bool) (vs ts : List Envelope) (q : Option Place) (b : Bool) → (b ≡ true → ⊥) → ShowsEnd now line clear vs ts None → ShowsEnd (record now { place = cond b q now.place }) line clear vs ts None

@@ -1,9 +1,9 @@
 -- Start and Take: what the core answers fits, and it shows the facts with the answered step.
-use Rattle.hub_core.proofs.Fitting.{started_of}
+use Rattle.hub_core.proofs.Fitting.{started_of, got_of, went_on_of}
 use Rattle.hub_core.proofs.Changing.{found_end, ShownAfter}
-use Rattle.hub_core.proofs.Nexts.{Change, started}
+use Rattle.hub_core.proofs.Nexts.{Change, started, got, went_on}
 use Rattle.hub_core.proofs.Seeing.{Sees, seen_is}
-use Rattle.std.proofs.Common.{◌≡◌, ℕ, zero, suc, ◌+◌, ◌<◌, Bool, true, false, cond, eqb, List, [], ◌∷◌, ◌++◌, length, get_or, set, Option, Some, None, refl, sym, ap, subst, ◌∙◌, arith, rules, append_assoc}
+use Rattle.std.proofs.Common.{◌≡◌, ℕ, zero, suc, ◌+◌, ◌<◌, Bool, true, false, cond, eqb, List, [], ◌∷◌, ◌++◌, length, get_or, set, Option, Some, None, refl, sym, ap, subst, ◌∙◌, arith, rules, append_assoc, drop}
 use Rattle.std.specs.Prelude.{is_some}
 use Rattle.std.specs.Bool.{MatchBool}
 use Rattle.std.specs.List.{slice_get, AllByRecursion}
@@ -15,7 +15,6 @@ use Rattle.hub_envelope.specs.declared.ids.EndId.{EndId}
 use Rattle.hub_envelope.specs.declared.envelope.Envelope.{Envelope}
 use Rattle.hub_core.specs.declared.agent.Agent.{Agent}
 use Rattle.hub_core.specs.declared.end.End.{End}
-use Rattle.hub_core.specs.declared.end.Place.{Place}
 use Rattle.hub_core.specs.declared.end.Place.TheVariants.{With, InFlight, Arrived}
 use Rattle.hub_core.specs.declared.step.Action.TheVariants as action
 use Rattle.hub_core.specs.declared.outcome.Outcome.{Outcome}
@@ -27,15 +26,15 @@ use Rattle.hub_core.specs.Posting.{running_at, holder, is_with}
 use Rattle.hub_core.specs.Taking.{IsNext, Serves, FitsTake, start_answer}
 use Rattle.hub_core.specs.Sound.{IsOfEnd, Sound}
 use Rattle.hub_core.specs.Shows.{ShowsEnd, ShowsFacts}
-use Rattle.hub_core.specs.Kept.{with_taker_queue, moved_ends, TakeServes, TakeHeld, TakeLeaves, changed_ends}
+use Rattle.hub_core.specs.Kept.{advanced_end, with_taker_queue, front_taken, moved_ends, arrived_ends, TakeServes, TakeHeld, TakeAnswers, change_end, changed_ends}
 use Rattle.hub_core.proofs.Lists.{eqb_same, each_set, get_or-set_same, get_or-set_other, is_there}
 use Rattle.hub_core.proofs.Waits.{all_kept, all_back, of_queue, queue_more, queue_other, next_in_line}
-use Rattle.hub_core.proofs.Frames.{ShownAt, Stepped, changed, unchanged, end_changed, end_restated}
+use Rattle.hub_core.proofs.Frames.{ShownAt, Stepped, changed, end_changed, end_restated}
 use Rattle.hub_core.specs.CoreState.{CoreState}
 use Rattle.hub_core.specs.Seen.{seen}
 use Rattle.hub_core.proofs.Placing.{Moves, moves_to, moved_shown}
 use Rattle.hub_core.proofs.Speakers.{runs_there, placed_made, taken_flies}
-use Rattle.hub_core.proofs.GoingOn.{taker_queue_at, nothing_shown}
+use Rattle.hub_core.proofs.GoingOn.{taker_queue_at, nothing_serves, went_on_shown}
 use Rattle.hub_core.proofs.SoundWaiting.{nothing_more, taken_prefix}
 use Rattle.hub_core.proofs.Counts.{counts_of, counted_ports, counts_still}
 use Rattle.hub_core.proofs.Nexts.{next}
@@ -158,42 +157,65 @@ fits_disabled f e opened held disabled = rw (opened, held, disabled) refl
 fits_served : (f : Facts) (e : EndId) (o : Outcome) → (f.end e.0).closed ≡ false → is_some (holder f e.0) ≡ true → (f.end e.0).enabled ≡ true → Serves f e o → FitsTake f e o
 fits_served f e o opened held enabled served = rw (opened, held, enabled) served
 
-running_agent : (f : Facts) (b a : AgentId) → cond (f.agent b.0).runs (Some b) None ≡ Some a → b ≡ a
-running_agent f b a h = elim (f.agent b.0).runs as (λ r. cond r (Some b) None ≡ Some a → b ≡ a) [
-  | true ↦ λ is. cc
-  | false ↦ λ is. absurd (search (rules, is))
-] h
-
--- the agent that a holder is
-agent_of : (f : Facts) (p : Option Place) (b a : AgentId) → p ≡ Some (With b) → running_at (λ c. (f.agent c).runs) p ≡ Some a → b ≡ a
-agent_of f p b a is held = running_agent f b a (subst (λ q. running_at (λ c. (f.agent c).runs) q ≡ Some a) is held)
-
 -- what is served at an open, enabled end fits
-take_served : (agents : List Agent) (ends new : List End) (f : Facts) (e : EndId) (refused : Bool) (x : End) (a : AgentId) → ShowsFacts agents ends f → slice_get ends e.0 ≡ Some x → (f.end e.0).closed ≡ false → holder f e.0 ≡ Some a → (f.end e.0).enabled ≡ true → (o : Outcome) → TakeServes a e.0 ends x o new → Stepped agents new f (action.Take e) refused o
-take_served agents ends new f e refused x a h at opened held enabled (outcome.Got v) served =
-    let shown : ShownAt f e.0 (Some x) = subst (ShownAt f e.0) at (h.end e.0) in
-    let n = next_of f e x v served.0 h.sound ((h.sound.waiting e.0).kept opened) shown served.1 in
-    let there = runs_there f (f.end e.0).place (ap is_some held) in
-    let same : there.0 ≡ a = agent_of f (f.end e.0).place there.0 a there.1 held in
-    got_shown agents ends new f e refused x a v served.0 h at (there.1 ∙ ap (λ b. Some (With b)) same) opened (fits_served f e (outcome.Got v) opened (ap is_some held) enabled n) served.1 n served.2
-take_served agents ends new f e refused x a h at opened held enabled o served =
-    nothing_shown agents ends new f e refused x o h at opened served.0 (λ p serves. fits_served f e p opened (ap is_some held) enabled serves) served.1 served.2
+take_served : (f : Facts) (e : EndId) (x : End) → Sound f → ShownAt f e.0 (Some x) → (f.end e.0).closed ≡ false → (o : Outcome) → TakeServes x o → Serves f e o
+take_served f e x h shown opened (outcome.Got v) front = next_of f e x v (drop 1 (get_or x.queues 0 [])) h ((h.waiting e.0).kept opened) shown front
+take_served f e x h shown opened o served = subst (Serves f e) (sym served.1) (nothing_serves f e x h shown opened served.0)
 
-take_held : (agents : List Agent) (ends new : List End) (f : Facts) (e : EndId) (refused : Bool) (x : End) (o : Outcome) → ShowsFacts agents ends f → slice_get ends e.0 ≡ Some x → (f.end e.0).closed ≡ false → (P : Option AgentId) → holder f e.0 ≡ P → (enabled : Bool) → (f.end e.0).enabled ≡ enabled → x.is_enabled ≡ enabled → TakeHeld P e.0 ends x o new → Stepped agents new f (action.Take e) refused o
-take_held agents ends new f e refused x o h at opened None is enabled says keeps t = unchanged agents ends new f (action.Take e) refused o outcome.NotNow h refl t.0 t.1 (fits_unheld f e opened (ap is_some is))
-take_held agents ends new f e refused x o h at opened (Some a) is true says keeps t =
-    take_served agents ends new f e refused x a h at opened is says o (subst (λ b. MatchBool b (TakeServes a e.0 ends x o new) ((o ≡ outcome.Disabled) × (new ≡ ends))) keeps t)
-take_held agents ends new f e refused x o h at opened (Some a) is false says keeps t =
-    let both : (o ≡ outcome.Disabled) × (new ≡ ends) = subst (λ b. MatchBool b (TakeServes a e.0 ends x o new) ((o ≡ outcome.Disabled) × (new ≡ ends))) keeps t in
-    unchanged agents ends new f (action.Take e) refused o outcome.Disabled h refl both.0 both.1 (fits_disabled f e opened (ap is_some is) says)
+take_held : (f : Facts) (e : EndId) (x : End) (o : Outcome) → Sound f → ShownAt f e.0 (Some x) → (f.end e.0).closed ≡ false → (P : Option AgentId) → holder f e.0 ≡ P → TakeHeld P x o → FitsTake f e o
+take_held f e x o h shown opened None is t = subst (FitsTake f e) (sym t) (fits_unheld f e opened (ap is_some is))
+take_held f e x o h shown opened (Some a) is t = elim x.is_enabled as (λ b. (f.end e.0).enabled ≡ b → MatchBool b (TakeServes x o) (o ≡ outcome.Disabled) → FitsTake f e o) [
+  | true ↦ λ enabled served. fits_served f e o opened (ap is_some is) enabled (take_served f e x h shown opened o served)
+  | false ↦ λ disabled says. subst (FitsTake f e) (sym says) (fits_disabled f e opened (ap is_some is) disabled)
+] (ap (λ (y : EndNow). y.enabled) shown.same) t
 
-take_at : (agents : List Agent) (ends new : List End) (f : Facts) (e : EndId) (refused : Bool) (o : Outcome) (P : Option AgentId) → holder f e.0 ≡ P → ShowsFacts agents ends f → (q : Option End) → slice_get ends e.0 ≡ q → ShownAt f e.0 q → TakeLeaves P e.0 ends q o new → Stepped agents new f (action.Take e) refused o
-take_at agents ends new f e refused o P is h None at shown t =
-    unchanged agents ends new f (action.Take e) refused o outcome.NotNow h refl t.0 t.1 (fits_unheld f e (ap (λ (y : EndNow). y.closed) shown.same) (ap (λ (y : EndNow). is_some (running_at (λ a. (f.agent a).runs) y.place)) shown.same))
-take_at agents ends new f e refused o P is h (Some x) at shown t = elim x.is_closed as (λ b. (f.end e.0).closed ≡ b → MatchBool b ((o ≡ outcome.Closed) × (new ≡ ends)) (TakeHeld P e.0 ends x o new) → Stepped agents new f (action.Take e) refused o) [
-  | true ↦ λ closed both. unchanged agents ends new f (action.Take e) refused o outcome.Closed h refl both.0 both.1 (fits_closed f e closed)
-  | false ↦ λ opened held. take_held agents ends new f e refused x o h at opened P is x.is_enabled (ap (λ (y : EndNow). y.enabled) shown.same) refl held
+take_at : (f : Facts) (e : EndId) (o : Outcome) → Sound f → (q : Option End) → ShownAt f e.0 q → TakeAnswers (holder f e.0) q o → FitsTake f e o
+take_at f e o h None shown t = subst (FitsTake f e) (sym t) (fits_unheld f e (ap (λ (y : EndNow). y.closed) shown.same) (ap (λ (y : EndNow). is_some (running_at (λ a. (f.agent a).runs) y.place)) shown.same))
+take_at f e o h (Some x) shown t = elim x.is_closed as (λ b. (f.end e.0).closed ≡ b → MatchBool b (o ≡ outcome.Closed) (TakeHeld (holder f e.0) x o) → FitsTake f e o) [
+  | true ↦ λ closed says. subst (FitsTake f e) (sym says) (fits_closed f e closed)
+  | false ↦ λ opened held. take_held f e x o h shown opened (holder f e.0) refl held
 ] (ap (λ (y : EndNow). y.closed) shown.same) t
 
-pub take_shown : (c : CoreState) (new : List End) (f : Facts) (e : EndId) (refused : Bool) (o : Outcome) → Sees c f → TakeLeaves (holder (seen c) e.0) e.0 c.ends (slice_get c.ends e.0) o new → Stepped c.agents new f (action.Take e) refused o
-take_shown c new f e refused o h t = take_at c.agents c.ends new f e refused o (holder (seen c) e.0) (sym (ap (λ g. holder g e.0) (seen_is c f h))) h.shows (slice_get c.ends e.0) refl (h.shows.end e.0) t
+-- the same of what the core keeps
+take_seen : (c : CoreState) (f : Facts) (e : EndId) (o : Outcome) → Sees c f → TakeAnswers (holder (seen c) e.0) (slice_get c.ends e.0) o → TakeAnswers (holder f e.0) (slice_get c.ends e.0) o
+take_seen c f e o h t = subst (λ p. TakeAnswers p (slice_get c.ends e.0) o) (ap (λ g. holder g e.0) (seen_is c f h)) t
+
+pub take_fits : (c : CoreState) (f : Facts) (e : EndId) (o : Outcome) → Sees c f → TakeAnswers (holder (seen c) e.0) (slice_get c.ends e.0) o → FitsTake f e o
+take_fits c f e o h t = take_at f e o h.shows.sound (slice_get c.ends e.0) (h.shows.end e.0) (take_seen c f e o h t)
+
+-- what was served at an end that is there
+serves_there : (P : Option AgentId) (q : Option End) (o : Outcome) → (o ≡ outcome.NotNow → ⊥) → (o ≡ outcome.Closed → ⊥) → (o ≡ outcome.Disabled → ⊥) → TakeAnswers P q o → (x : End) × (q ≡ Some x) × TakeServes x o
+serves_there P None o n c d t = absurd (n t)
+serves_there P (Some x) o n c d t = (
+  x,
+  refl,
+  elim x.is_closed as (λ b. MatchBool b (o ≡ outcome.Closed) (TakeHeld P x o) → TakeServes x o) [
+    | true ↦ λ closed. absurd (c closed)
+    | false ↦ λ held. elim P as (λ p. TakeHeld p x o → TakeServes x o) [
+      | None ↦ λ not_now. absurd (n not_now)
+      | Some a ↦ λ enabled. elim x.is_enabled as (λ b. MatchBool b (TakeServes x o) (o ≡ outcome.Disabled) → TakeServes x o) [
+        | true ↦ λ served. served
+        | false ↦ λ disabled. absurd (d disabled)
+      ] enabled
+    ] held
+  ] t,
+)
+
+pub take_changes : (c : CoreState) (f : Facts) (e : EndId) (refused : Bool) {o : Outcome} → Sees c f → TakeAnswers (holder (seen c) e.0) (slice_get c.ends e.0) o → FitsTake f e o → Change (action.Take e) o → ShownAfter c f (action.Take e) refused o
+take_changes c f e refused h says fits (got d v) =
+    let there = serves_there (holder f e.0) (slice_get c.ends e.0) (outcome.Got v) (λ is. cc) (λ is. cc) (λ is. cc) (take_seen c f e (outcome.Got v) h says) in
+    let x : End = there.0 in
+    let served = got_of f e v fits in
+    let has = runs_there f (f.end e.0).place served.held in
+    let held : holder f e.0 ≡ Some has.0 = ap (running_at (λ a. (f.agent a).runs)) has.1 ∙ ap (λ b. cond b (Some has.0) None) has.2 in (
+      subst (λ p. Stepped c.agents (arrived_ends p v.ports (change_end front_taken e.0 c.ends)) f (action.Take e) refused (outcome.Got v)) (sym (ap (λ g. holder g e.0) (seen_is c f h) ∙ held))
+          (got_shown c.agents c.ends _ f e refused x has.0 v (drop 1 (get_or x.queues 0 [])) h.shows there.1 has.1 served.is_open fits there.2 served.serves (ap (λ q. moved_ends v.ports (Arrived has.0) (changed_ends front_taken e.0 c.ends q)) there.1)),
+      refl,
+    )
+take_changes c f e refused h says fits (went_on d) =
+    let there = serves_there (holder f e.0) (slice_get c.ends e.0) outcome.Again (λ is. cc) (λ is. cc) (λ is. cc) (take_seen c f e outcome.Again h says) in
+    let served = went_on_of f e fits in (
+      subst (λ q. Stepped c.agents (changed_ends advanced_end e.0 c.ends q) f (action.Take e) refused outcome.Again) (sym there.1)
+          (went_on_shown c.agents c.ends f e refused there.0 h.shows there.1 served.is_open there.2.0 served.serves.0.retired fits),
+      refl,
+    )

@@ -1,4 +1,5 @@
 -- For private clauses: the core after a step, where the step got this answer.
+use Rattle.hub_core.specs.Posting.{holder}
 use Rattle.hub_core.specs.Accepted.{named_envelope, named_notice}
 use Rattle.std.specs.Prelude.{◌+◌, true, false, [], ◌∷◌, ◌++◌, slice_get, None, Some}
 use Rattle.hub_envelope.specs.declared.ids.AgentId.{AgentId}
@@ -14,7 +15,7 @@ use Rattle.hub_core.specs.declared.step.Action.TheVariants as action
 use Rattle.hub_core.specs.declared.outcome.Outcome.TheVariants as outcome
 use Rattle.hub_core.specs.Kept.{change_end, change_line, in_phase, held_by, gate_passed, at_next, adopted_end, closed_end, went, adopted_agents}
 use Rattle.hub_core.specs.Kept.{change_agent, change_owner, one_away, one_out, queue_counted, queue_made, first_agent, new_end}
-use Rattle.hub_core.specs.Kept.{accept_ends, moved_ends, ports_of}
+use Rattle.hub_core.specs.Kept.{accept_ends, moved_ends, arrived_ends, front_taken, advanced_end, ports_of}
 use Rattle.hub_core.specs.declared.kind.Kind.TheVariants.{Port}
 use Rattle.hub_core.specs.KeptEnding.{owner}
 use Rattle.hub_core.specs.Moving.{is_released}
@@ -51,6 +52,8 @@ core_after c outcome.Left (action.Leave s) = record c {
 }
 core_after c (outcome.Hopped k) (action.Hop s) = record c { ends = change_line at_next s c.ends }
 core_after c outcome.Started (action.Start e) = record c { ends = change_end (λ x. record x { is_enabled = true }) e.0 c.ends }
+core_after c (outcome.Got v) (action.Take e) = record c { ends = arrived_ends (holder (seen c) e.0) v.ports (change_end front_taken e.0 c.ends) }
+core_after c outcome.Again (action.Take e) = record c { ends = change_end advanced_end e.0 c.ends }
 core_after c (outcome.Clear (Some k)) (action.Look e) = record c { ends = change_end (λ x. record x { looked = x.looked + 1 }) e.0 c.ends }
 core_after c (outcome.Adopted k) (action.Adopt e a) = record c {
   agents = adopted_agents (is_released (seen c) ((seen c).end e.0).kind) a (slice_get c.ends e.0) c.agents;

@@ -67,9 +67,6 @@ left_outcome x =
     if nat_le x.newest x.taker then outcome.Empty
     else (if kept_settled x x.taker then outcome.Again else outcome.Busy)
 
-abbrev pub left_end : End → End
-left_end x = if nat_le x.newest x.taker then x else (if kept_settled x x.taker then advanced_end x else x)
-
 -- the end with an agent, and with a new, disabled queue
 abbrev pub adopted_end : AgentId → End → End
 adopted_end a x = record x {
@@ -112,6 +109,9 @@ taker_queue x = slice_index_or x.queues 0 []
 abbrev pub with_taker_queue : End → List Envelope → End
 with_taker_queue x rest = record x { queues = slice_set x.queues 0 rest }
 
+abbrev pub front_taken : End → End
+front_taken x = with_taker_queue x (drop 1 (taker_queue x))
+
 -- the ends with one of them changed, where it is there
 abbrev pub changed_ends : (End → End) → ℕ → List End → Option End → List End
 changed_ends change e ends None = ends
@@ -151,6 +151,11 @@ end_moved p ends e = change_end (λ x. record x { place = p }) e.0 ends
 
 abbrev pub moved_ends : List EndId → Place → List End → List End
 moved_ends ports p ends = fold (end_moved p) ends ports
+
+-- the ends after ports arrived at an agent
+abbrev pub arrived_ends : Option AgentId → List EndId → List End → List End
+arrived_ends None ports ends = ends
+arrived_ends (Some a) ports ends = moved_ends ports (Arrived a) ends
 
 -- the agent, running or ending, that has an end of this place
 abbrev pub with_agent : Option Place → Option AgentId
@@ -231,24 +236,19 @@ sweep_outcome_at (Some x) = sweep_outcome x
 abbrev pub ports_of : List Envelope → List EndId
 ports_of vs = flat_map (λ v. v.ports) vs
 
--- what a take at an open, enabled end of an agent gives and leaves
-abbrev pub TakeServes : AgentId → ℕ → List End → End → Outcome → List End → Type 0
-TakeServes a e old x (outcome.Got v) new =
-    (rest : List Envelope) × (taker_queue x ≡ v ∷ rest)
-    × (new ≡ moved_ends v.ports (Arrived a) (slice_set old e (with_taker_queue x rest)))
-TakeServes a e old x o new = (taker_queue x ≡ []) × (o ≡ left_outcome x) × (new ≡ slice_set old e (left_end x))
+-- what a take at an open, enabled end gives
+abbrev pub TakeServes : End → Outcome → Type 0
+TakeServes x (outcome.Got v) = taker_queue x ≡ v ∷ drop 1 (taker_queue x)
+TakeServes x o = (taker_queue x ≡ []) × (o ≡ left_outcome x)
 
-abbrev pub TakeHeld : Option AgentId → ℕ → List End → End → Outcome → List End → Type 0
-TakeHeld None e old x o new = (o ≡ outcome.NotNow) × (new ≡ old)
-TakeHeld (Some a) e old x o new =
-    MatchBool x.is_enabled (TakeServes a e old x o new)
-    ((o ≡ outcome.Disabled) × (new ≡ old))
+abbrev pub TakeHeld : Option AgentId → End → Outcome → Type 0
+TakeHeld None x o = o ≡ outcome.NotNow
+TakeHeld (Some a) x o = MatchBool x.is_enabled (TakeServes x o) (o ≡ outcome.Disabled)
 
--- what a take gives, and the ends that it leaves
-abbrev pub TakeLeaves : Option AgentId → ℕ → List End → Option End → Outcome → List End → Type 0
-TakeLeaves holder e old None o new = (o ≡ outcome.NotNow) × (new ≡ old)
-TakeLeaves holder e old (Some x) o new =
-    MatchBool x.is_closed ((o ≡ outcome.Closed) × (new ≡ old)) (TakeHeld holder e old x o new)
+-- what a take is answered, by the running agent that has the end
+abbrev pub TakeAnswers : Option AgentId → Option End → Outcome → Type 0
+TakeAnswers holder None o = o ≡ outcome.NotNow
+TakeAnswers holder (Some x) o = MatchBool x.is_closed (o ≡ outcome.Closed) (TakeHeld holder x o)
 
 -- an agent that has no end
 abbrev pub first_agent : Agent

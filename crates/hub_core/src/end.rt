@@ -1,15 +1,15 @@
 //! What the core keeps of an end.
 
 ghost use Rattle.std.specs.Prelude.{◌≡◌, ◌||◌, ◌∷◌, ◌<◌, [], slice_get, IfOk, OnOk, OnErr};
-ghost use Rattle.std.specs.Prelude.{MatchOption, false, true, List, Some};
+ghost use Rattle.std.specs.Prelude.{drop, MatchOption, false, true, List, Some};
 ghost use Rattle.hub_envelope.specs.declared.envelope.Envelope.{Envelope as EnvelopeValue};
 ghost use Rattle.hub_envelope.specs.declared.limits.TheConstants.{MAX_MOVES};
 ghost use Rattle.hub_core.specs.Moving.{is_arrived};
 ghost use Rattle.hub_core.specs.Posting.{is_here, is_with};
 ghost use Rattle.hub_core.specs.Kept.{new_end, kept_looked, kept_settled};
-ghost use Rattle.hub_core.specs.Kept.{left_outcome, left_end, advanced_end};
+ghost use Rattle.hub_core.specs.Kept.{advanced_end, front_taken};
 ghost use Rattle.hub_core.specs.Kept.{adopted_end, has_queue, posting_line, put_end, sweep_outcome};
-ghost use Rattle.hub_core.specs.Kept.{taker_queue, with_taker_queue};
+ghost use Rattle.hub_core.specs.Kept.{taker_queue};
 
 use crate::kind::Kind;
 use crate::line::{Line, Lines, Phase};
@@ -107,30 +107,14 @@ impl End {
     }
 
     /// Whether nobody is inside or being turned back at a queue, or it is clear.
-    fn is_settled(&self, epoch: u32) -> bool
+    pub(crate) fn is_settled(&self, epoch: u32) -> bool
         ensures { result ≡ kept_settled self.now epoch }
     {
         u64::from(epoch) < self.looked || !self.lines.is_anyone_at(epoch)
     }
 
-    /// What a take is answered whose queue holds nothing: the taker stays, or goes on from a
-    /// retired queue that is settled.
-    pub(crate) fn nothing_left(&mut self) -> Outcome
-        ensures outcome { result ≡ left_outcome self.old }
-        ensures after { self.new ≡ left_end self.old }
-    {
-        if self.taker >= self.newest {
-            return Outcome::Empty;
-        }
-        if !self.is_settled(self.taker) {
-            return Outcome::Busy;
-        }
-        self.advance();
-        Outcome::Again
-    }
-
     /// The taker goes on to the next queue.
-    fn advance(&mut self)
+    pub(crate) fn advance(&mut self)
         requires { self.old.taker < self.old.newest }
         ensures { self.new ≡ advanced_end self.old }
     {
@@ -200,8 +184,8 @@ impl End {
     pub(crate) fn take(&mut self) -> Option<Envelope>
         ensures { MatchOption result
             ((taker_queue self.old ≡ []) × (self.new ≡ self.old))
-            (λ v. (rest : List EnvelopeValue) × (taker_queue self.old ≡ v ∷ rest)
-            × (self.new ≡ with_taker_queue self.old rest)) }
+            (λ v. (taker_queue self.old ≡ v ∷ drop 1 (taker_queue self.old))
+            × (self.new ≡ front_taken self.old)) }
     {
         self.queues.take_first()
     }

@@ -1,7 +1,7 @@
 //! Steps of whoever takes: Start and Take.
 
 ghost use Rattle.std.specs.Prelude.{◌≡◌, slice_get};
-ghost use Rattle.hub_core.specs.Kept.{TakeLeaves};
+ghost use Rattle.hub_core.specs.Kept.{TakeAnswers};
 ghost use Rattle.hub_core.specs.Posting.{holder};
 ghost use Rattle.hub_core.specs.Seen.{seen};
 ghost use Rattle.hub_core.specs.CoreSteps.{core_after};
@@ -33,10 +33,9 @@ impl Core {
     }
 
     pub(crate) fn take(&mut self, end: EndId) -> Outcome
-        ensures ends { let ends = self.old.ends in
-            let by = holder (seen self.old) end.0 in
-            TakeLeaves by end.0 ends (slice_get ends end.0) result self.new.ends }
-        ensures rest { self.new ≡ record self.old { ends = self.new.ends } }
+        ensures outcome { let by = holder (seen self.old) end.0 in
+            TakeAnswers by (slice_get self.old.ends end.0) result }
+        ensures new { self.new ≡ core_after self.old result (action.Take end) }
     {
         let at = end.0 as usize;
         let Some(found) = self.ends.get(at) else {
@@ -57,7 +56,12 @@ impl Core {
                 self.place_each(envelope.ports.as_slice(), Place::Arrived(agent));
                 Outcome::Got(envelope)
             }
-            None => served.nothing_left(),
+            None if served.taker >= served.newest => Outcome::Empty,
+            None if !served.is_settled(served.taker) => Outcome::Busy,
+            None => {
+                served.advance();
+                Outcome::Again
+            }
         }
     }
 }

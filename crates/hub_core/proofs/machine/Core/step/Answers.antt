@@ -7,16 +7,15 @@ use Rattle.std.proofs.Common.{refl, ap, ◌∙◌, subst, sym}
 use Rattle.hub_core.specs.CoreSteps.{queue_core}
 use Rattle.hub_core.specs.declared.kind.Kind.TheVariants.{Client, Worker}
 use Rattle.hub_core.specs.declared.step.Action.TheVariants as action
-use Rattle.hub_core.proofs.Stepping.{ok_both, ok_all, client_same, worker_same, take_same}
+use Rattle.hub_core.proofs.Stepping.{ok_both, ok_all, client_same, worker_same}
 use Rattle.hub_core.proofs.Took.{ok, took, took_where, took_by, same_err, same_err_with, told, member_took, part_took}
-use Rattle.hub_core.proofs.Frames.{with_ends}
 use Rattle.hub_core.proofs.Makes.{makes_client, makes_worker, agent_changes, channel_changes, queue_shown}
 use Rattle.hub_core.proofs.Holds.{line_fits, line_changes, back_changes}
 use Rattle.hub_core.proofs.Hands.{hand_changes}
 use Rattle.hub_core.proofs.Entering.{enter_changes, leave_changes}
 use Rattle.hub_core.proofs.Endings.{order_changes, see_fits, see_changes}
 use Rattle.hub_core.proofs.Pushes.{push_fits, push_changes}
-use Rattle.hub_core.proofs.Takes.{start_changes, take_shown}
+use Rattle.hub_core.proofs.Takes.{start_changes, take_fits, take_changes}
 use Rattle.hub_core.proofs.Hops.{hop_changes}
 use Rattle.hub_core.proofs.Looks.{look_fits, look_changes}
 use Rattle.hub_core.proofs.Adopts.{adopt_changes}
@@ -112,6 +111,4 @@ returns-in-See c = told c.args.step (action.See c.in-See.agent) _ _ _ c.in-See.i
     (same_err (action.See c.in-See.agent) c.see.result _ _ refl c.see.ensures.err)
 
 pub returns-in-Take : goal.returns-in-Take
-returns-in-Take c = told c.args.step (action.Take c.in-Take.end) _ _ (ok c.take.result) c.in-Take.is (took _ _ _ _ (with_ends c.args.self.now c.take.new.self.ends) _ _ refl c.take.ensures.rest refl refl
-    (λ f s. take_shown c.args.self.now _ f c.in-Take.end _ _ s c.take.ensures.ends)
-    (λ h. ap (with_ends c.args.self.now) (take_same _ _ c.in-Take.end _ _ _ refl c.take.ensures.ends h))) tt
+returns-in-Take c = told c.args.step (action.Take c.in-Take.end) _ _ (ok c.take.result) c.in-Take.is (took_by _ _ c.args.self.now _ _ c.take.ensures.new refl (λ f s. take_fits c.args.self.now f c.in-Take.end _ s c.take.ensures.outcome) (λ f s fit change. take_changes c.args.self.now f c.in-Take.end _ s c.take.ensures.outcome fit change)) tt
