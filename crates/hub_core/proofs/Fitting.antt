@@ -6,7 +6,7 @@ use Rattle.std.specs.List.{list_all}
 use Rattle.hub_envelope.specs.declared.ids.AgentId.{AgentId}
 use Rattle.hub_envelope.specs.declared.ids.EndId.{EndId}
 use Rattle.hub_envelope.specs.declared.envelope.Envelope.{Envelope}
-use Rattle.hub_envelope.specs.declared.limits.TheConstants.{MAX_ENDS, MAX_LINES, MAX_MOVES, MAX_PORTS}
+use Rattle.hub_envelope.specs.declared.limits.TheConstants.{MAX_ENDS, MAX_LINES, MAX_MOVES, MAX_PORTS, MAX_AGENTS}
 use Rattle.hub_core.specs.declared.listing.Listing.TheVariants.{Good, HoldsTarget, Bad}
 use Rattle.hub_core.specs.declared.sender.Sender.{Sender}
 use Rattle.hub_core.specs.declared.outcome.Acceptance.{Acceptance}
@@ -20,7 +20,7 @@ use Rattle.std.proofs.lemmas.Bool.{false≢true, eqb-true, eqb-false, and_parts,
 use Rattle.hub_core.specs.declared.end.Place.{Place}
 use Rattle.hub_core.specs.declared.end.Place.TheVariants.{With, InFlight, Arrived, Swept, Gone}
 use Rattle.hub_core.specs.Looking.{any_below, someone_at, first_failing, lookable, looked, look_answer_of, look_answer, all_from, all_settled, IsAllWaiting, FitsSweep}
-use Rattle.hub_core.specs.Moving.{hop_answer, is_arrived, adopt_answer, close_answer, is_released, hand_answer, may_take_over}
+use Rattle.hub_core.specs.Moving.{hop_answer, is_arrived, adopt_answer, close_answer, is_released, hand_answer, may_take_over, may_close}
 use Rattle.hub_core.specs.Made.{is_queue, lines_of}
 use Rattle.hub_core.specs.Place.{names}
 use Rattle.hub_envelope.specs.declared.ids.LineId.{LineId}
@@ -29,7 +29,7 @@ use Rattle.hub_core.specs.Holding.{back_answer, line_found, line_answer, free_li
 use Rattle.hub_core.specs.Casting.{member_answer, cast_answer, is_casting, destinations}
 use Rattle.hub_core.specs.Roster.{has_end}
 use Rattle.hub_core.specs.Made.{maker_of}
-use Rattle.hub_core.specs.Ending.{see_answer, has_away, ends_at, has_poster, is_away_of}
+use Rattle.hub_core.specs.Ending.{see_answer, has_away, has_poster, is_away_of}
 use Rattle.hub_core.proofs.Lists.{below_last, next_up}
 
 -- ---- tests
@@ -38,37 +38,42 @@ either_left : (b : Bool) → (b || false) ≡ true → b ≡ true
 either_left true h = refl
 either_left false h = absurd (false≢true h)
 
+-- ---- tests, one after another
+
+-- An answer that a test refuses isn't this one, so the test was passed, or wasn't met.
+pass : {A : Type 0} (t : Bool) {o r rest : A} → o ≡ cond (not t) r rest → (o ≡ r → ⊥) → (t ≡ true) × (o ≡ rest)
+pass true h other = (refl, h)
+pass false h other = absurd (other h)
+
+miss : {A : Type 0} (t : Bool) {o r rest : A} → o ≡ cond t r rest → (o ≡ r → ⊥) → (t ≡ false) × (o ≡ rest)
+miss false h other = (refl, h)
+miss true h other = absurd (other h)
+
+-- an answer that isn't the one that is given where the test fails
+hit : {A : Type 0} (t : Bool) {o r rest : A} → o ≡ cond t r rest → (o ≡ rest → ⊥) → (t ≡ true) × (o ≡ r)
+hit true h other = (refl, h)
+hit false h other = absurd (other h)
+
 -- ---- making
 
-agent_of : (refused full : Bool) (a b : AgentId) → outcome.Agent a ≡ cond refused outcome.NoMemory (cond full outcome.TooManyAgents (outcome.Agent b)) → a ≡ b
-agent_of true full a b h = cc
-agent_of false true a b h = cc
-agent_of false false a b h = cc
-
 pub new_agent : (f : Facts) (refused : Bool) (a : AgentId) → outcome.Agent a ≡ agent_answer f refused → a.0 ≡ f.agents
-new_agent f refused a h = ap (λ (b : AgentId). b.0) (agent_of refused _ a (record { 0 = f.agents }) h)
-
-channel_of : (runs full refused : Bool) (e e' n n' : EndId) → outcome.Ends e e' ≡ cond (not runs) outcome.NotNow (cond full outcome.TooManyEnds (cond refused outcome.NoMemory (outcome.Ends n n'))) → (runs ≡ true) × (e ≡ n) × (e' ≡ n') × (full ≡ false)
-channel_of false full refused e e' n n' h = cc
-channel_of true true refused e e' n n' h = cc
-channel_of true false true e e' n n' h = cc
-channel_of true false false e e' n n' h = (refl, cc, cc, refl)
+new_agent f refused a h =
+    let room = miss (nat_le MAX_AGENTS f.agents) (miss refused h (λ is. cc)).1 (λ is. cc) in
+    let last : outcome.Agent a ≡ outcome.Agent (record { 0 = f.agents }) = room.1 in
+    let same : a ≡ record { 0 = f.agents } = cc in
+    ap (λ (b : AgentId). b.0) same
 
 pub new_ends : (f : Facts) (a : AgentId) (refused : Bool) (e e' : EndId) → outcome.Ends e e' ≡ channel_answer f a refused → ((f.agent a.0).runs ≡ true) × (e ≡ record { 0 = f.ends }) × (e' ≡ record { 0 = f.ends + 1 }) × (f.ends + 2 ≤ MAX_ENDS)
 new_ends f a refused e e' h =
-    let r = channel_of (f.agent a.0).runs (nat_lt MAX_ENDS (f.ends + 2)) refused e e' (record { 0 = f.ends }) (record { 0 = f.ends + 1 }) h in
-    (r.0, r.1, r.2, ltb-false MAX_ENDS (f.ends + 2) r.3)
+    let runs = pass (f.agent a.0).runs h (λ is. cc) in
+    let room = miss (nat_lt MAX_ENDS (f.ends + 2)) runs.1 (λ is. cc) in
+    let last : outcome.Ends e e' ≡ outcome.Ends (record { 0 = f.ends }) (record { 0 = f.ends + 1 }) = (miss refused room.1 (λ is. cc)).1 in
+    (runs.0, cc, cc, ltb-false MAX_ENDS (f.ends + 2) room.0)
 
 not_both : (b c : Bool) → not (b && not c) ≡ false → (b ≡ true) × (c ≡ false)
 not_both true true h = cc
 not_both true false h = (refl, refl)
 not_both false c h = cc
-
-queue_of : (may full refused : Bool) (e n : EndId) → outcome.End e ≡ cond (not may) outcome.NotNow (cond full outcome.TooManyEnds (cond refused outcome.NoMemory (outcome.End n))) → (may ≡ true) × (full ≡ false) × (e ≡ n)
-queue_of false full refused e n h = cc
-queue_of true true refused e n h = cc
-queue_of true false true e n h = cc
-queue_of true false false e n h = (refl, refl, cc)
 
 both_tests : (b c : Bool) → (b && not c) ≡ true → (b ≡ true) × (c ≡ false)
 both_tests true false h = (refl, refl)
@@ -87,18 +92,13 @@ pub record MakesQueue (f : Facts) (test : Option Kind → Bool) (a : AgentId) (e
 
 pub queue_made_of : (f : Facts) (test : Option Kind → Bool) (a : AgentId) (refused : Bool) (e : EndId) → outcome.End e ≡ queue_answer test f a refused → MakesQueue f test a e
 queue_made_of f test a refused e h =
-    let r = queue_of ((f.agent a.0).runs && not (has_one test a f)) (nat_le MAX_ENDS f.ends) refused e (record { 0 = f.ends }) h in
-    let both = both_tests (f.agent a.0).runs (has_one test a f) r.0 in
-    record { runs = both.0; first = both.1; few = under_one f.ends (leb-false MAX_ENDS f.ends r.1); number = r.2 }
+    let may = pass ((f.agent a.0).runs && not (has_one test a f)) h (λ is. cc) in
+    let room = miss (nat_le MAX_ENDS f.ends) may.1 (λ is. cc) in
+    let last : outcome.End e ≡ outcome.End (record { 0 = f.ends }) = (miss refused room.1 (λ is. cc)).1 in
+    let both = both_tests (f.agent a.0).runs (has_one test a f) may.0 in
+    record { runs = both.0; first = both.1; few = under_one f.ends (leb-false MAX_ENDS f.ends room.0); number = cc }
 
 -- ---- broadcast channels
-
-member_of : (may named full refused : Bool) (e n : EndId) → outcome.End e ≡ cond (not may) outcome.NotNow (cond (not named) outcome.NoOrigin (cond full outcome.TooManyEnds (cond refused outcome.NoMemory (outcome.End n)))) → (may ≡ true) × (named ≡ true) × (full ≡ false) × (e ≡ n)
-member_of false named full refused e n h = cc
-member_of true false full refused e n h = cc
-member_of true true true refused e n h = cc
-member_of true true false true e n h = cc
-member_of true true false false e n h = (refl, refl, refl, cc)
 
 -- a broadcast channel that was made
 pub record MakesMember (f : Facts) (a : AgentId) (e : EndId) : Type 0 where
@@ -110,16 +110,12 @@ pub record MakesMember (f : Facts) (a : AgentId) (e : EndId) : Type 0 where
 
 pub member_made_of : (f : Facts) (a : AgentId) (refused : Bool) (e : EndId) → outcome.End e ≡ member_answer f a refused → MakesMember f a e
 member_made_of f a refused e h =
-    let r = member_of ((f.agent a.0).runs && not (is_casting f)) (is_some (f.roster.origin a.0)) (nat_le MAX_ENDS f.ends) refused e (record { 0 = f.ends }) h in
-    let both = both_tests (f.agent a.0).runs (is_casting f) r.0 in
-    record { runs = both.0; over = both.1; named = r.1; few = under_one f.ends (leb-false MAX_ENDS f.ends r.2); number = r.3 }
-
-cast_when : (may seated held none : Bool) (es ds : List EndId) → outcome.Destinations es ≡ cond (not may) outcome.NotNow (cond (not seated) outcome.InvalidState (cond (not held) outcome.NotNow (cond (not none) outcome.NotTransferable (outcome.Destinations ds)))) → (may ≡ true) × (seated ≡ true) × (held ≡ true) × (none ≡ true) × (es ≡ ds)
-cast_when false seated held none es ds h = cc
-cast_when true false held none es ds h = cc
-cast_when true true false none es ds h = cc
-cast_when true true true false es ds h = cc
-cast_when true true true true es ds h = (refl, refl, refl, refl, cc)
+    let may = pass ((f.agent a.0).runs && not (is_casting f)) h (λ is. cc) in
+    let named = pass (is_some (f.roster.origin a.0)) may.1 (λ is. cc) in
+    let room = miss (nat_le MAX_ENDS f.ends) named.1 (λ is. cc) in
+    let last : outcome.End e ≡ outcome.End (record { 0 = f.ends }) = (miss refused room.1 (λ is. cc)).1 in
+    let both = both_tests (f.agent a.0).runs (is_casting f) may.0 in
+    record { runs = both.0; over = both.1; named = named.0; few = under_one f.ends (leb-false MAX_ENDS f.ends room.0); number = cc }
 
 -- a cast that began
 pub record Begins (f : Facts) (e : EndId) (ends : List EndId) : Type 0 where
@@ -128,8 +124,11 @@ pub record Begins (f : Facts) (e : EndId) (ends : List EndId) : Type 0 where
 
 pub cast_of : (f : Facts) (e : EndId) (ports ends : List EndId) → outcome.Destinations ends ≡ cast_answer f e ports → Begins f e ends
 cast_of f e ports ends h =
-    let r = cast_when (is_some (maker_of (f.end e.0).kind) && not (is_casting f)) (has_end e.0 f.roster.members && not (f.end e.0).closed) (is_some (holder f e.0)) (is_empty ports) ends (destinations f e.0) h in
-    record { over = (both_tests (is_some (maker_of (f.end e.0).kind)) (is_casting f) r.0).1; all = r.4 }
+    let may = pass (is_some (maker_of (f.end e.0).kind) && not (is_casting f)) h (λ is. cc) in
+    let seated = pass (has_end e.0 f.roster.members && not (f.end e.0).closed) may.1 (λ is. cc) in
+    let held = pass (is_some (holder f e.0)) seated.1 (λ is. cc) in
+    let last : outcome.Destinations ends ≡ outcome.Destinations (destinations f e.0) = (pass (is_empty ports) held.1 (λ is. cc)).1 in
+    record { over = (both_tests (is_some (maker_of (f.end e.0).kind)) (is_casting f) may.0).1; all = cc }
 
 -- ---- entering and leaving
 
@@ -145,47 +144,33 @@ pub record Entered (f : Facts) (s : Sender) : Type 0 where
   pub out : is_out (phase_of_line f s) ≡ true
   pub plain : (f.line s.end.0 s.line.0).noticed ≡ false
 
-in_of : (retired closed : Bool) → outcome.In ≡ cond retired outcome.Moved (cond closed outcome.Closed outcome.In) → (retired ≡ false) × (closed ≡ false)
-in_of true closed h = cc
-in_of false true h = cc
-in_of false false h = (refl, refl)
-
-moved_of : (retired closed : Bool) → outcome.Moved ≡ cond retired outcome.Moved (cond closed outcome.Closed outcome.In) → retired ≡ true
-moved_of true closed h = refl
-moved_of false true h = cc
-moved_of false false h = cc
-
-shut_of : (retired closed : Bool) → outcome.Closed ≡ cond retired outcome.Moved (cond closed outcome.Closed outcome.In) → (retired ≡ false) × (closed ≡ true)
-shut_of true closed h = cc
-shut_of false true h = (refl, refl)
-shut_of false false h = cc
-
 abbrev pub is_retired : Facts → Sender → Bool
 is_retired f s = nat_lt (f.line s.end.0 s.line.0).stand (f.end s.end.0).newest
 
 pub let_in_of : (f : Facts) (s : Sender) → outcome.In ≡ enter_answer f s → Entered f s × (is_retired f s ≡ false) × ((f.end s.end.0).closed ≡ false)
 let_in_of f s h =
     let r = entered_of (may_enter f s) (is_out (phase_of_line f s)) (f.line s.end.0 s.line.0).noticed outcome.In _ (λ (x : outcome.In ≡ outcome.NotNow). cc) h in
-    let both = in_of (is_retired f s) (f.end s.end.0).closed r.3 in
-    (record { may = r.0; out = r.1; plain = r.2 }, both.0, both.1)
+    let stays = miss (is_retired f s) r.3 (λ is. cc) in
+    (record { may = r.0; out = r.1; plain = r.2 }, stays.0, (miss (f.end s.end.0).closed stays.1 (λ is. cc)).0)
+
+moved_when : (retired closed : Bool) → outcome.Moved ≡ cond retired outcome.Moved (cond closed outcome.Closed outcome.In) → retired ≡ true
+moved_when true closed h = refl
+moved_when false true h = cc
+moved_when false false h = cc
 
 pub found_moved_of : (f : Facts) (s : Sender) → outcome.Moved ≡ enter_answer f s → Entered f s × (is_retired f s ≡ true)
 found_moved_of f s h =
     let r = entered_of (may_enter f s) (is_out (phase_of_line f s)) (f.line s.end.0 s.line.0).noticed outcome.Moved _ (λ (x : outcome.Moved ≡ outcome.NotNow). cc) h in
-    (record { may = r.0; out = r.1; plain = r.2 }, moved_of (is_retired f s) (f.end s.end.0).closed r.3)
+    (record { may = r.0; out = r.1; plain = r.2 }, moved_when (is_retired f s) (f.end s.end.0).closed r.3)
 
 pub found_closed_of : (f : Facts) (s : Sender) → outcome.Closed ≡ enter_answer f s → Entered f s × (is_retired f s ≡ false) × ((f.end s.end.0).closed ≡ true)
 found_closed_of f s h =
     let r = entered_of (may_enter f s) (is_out (phase_of_line f s)) (f.line s.end.0 s.line.0).noticed outcome.Closed _ (λ (x : outcome.Closed ≡ outcome.NotNow). cc) h in
-    let both = shut_of (is_retired f s) (f.end s.end.0).closed r.3 in
-    (record { may = r.0; out = r.1; plain = r.2 }, both.0, both.1)
-
-left_when : (out : Bool) → outcome.Left ≡ cond out outcome.NotNow outcome.Left → out ≡ false
-left_when true h = cc
-left_when false h = refl
+    let stays = miss (is_retired f s) r.3 (λ is. cc) in
+    (record { may = r.0; out = r.1; plain = r.2 }, stays.0, (hit (f.end s.end.0).closed stays.1 (λ is. cc)).0)
 
 pub left_of : (f : Facts) (s : Sender) → outcome.Left ≡ leave_answer f s → is_out (phase_of_line f s) ≡ false
-left_of f s h = left_when (is_out (phase_of_line f s)) h
+left_of f s h = (miss (is_out (phase_of_line f s)) h (λ is. cc)).0
 
 -- ---- pushing
 
@@ -198,12 +183,6 @@ pub record Pushed (f : Facts) (s : Sender) (ports : List EndId) (n : Acceptance)
   pub distinct : is_distinct ports ≡ true
   pub leave : list_all (may_leave_agent f agent s) ports ≡ true
   pub name : n ≡ next_name f s agent
-
-granted : (many good refused : Bool) (n m : Acceptance) → outcome.Accepted n ≡ cond many outcome.TooManyPorts (cond (not good) outcome.NotNow (cond refused outcome.NoMemory (outcome.Accepted m))) → (good ≡ true) × (n ≡ m)
-granted true good refused n m h = cc
-granted false false refused n m h = cc
-granted false true true n m h = cc
-granted false true false n m h = (refl, cc)
 
 passed : (inside noticed : Bool) (n : Acceptance) (o : Outcome) → outcome.Accepted n ≡ cond (not (inside && not noticed)) outcome.NotNow o → (inside ≡ true) × (noticed ≡ false) × (outcome.Accepted n ≡ o)
 passed false noticed n o h = cc
@@ -218,10 +197,11 @@ listed_good false target h = absurd (false≢true h)
 pushed_by : (f : Facts) (s : Sender) (ports : List EndId) (fitting refused : Bool) (n : Acceptance) (q : Option AgentId) → is_inside (phase_of_line f s) ≡ true → (f.line s.end.0 s.line.0).noticed ≡ false → poster f s ≡ q → outcome.Accepted n ≡ push_answer_of f s ports fitting refused q → Pushed f s ports n
 pushed_by f s ports fitting refused n None inside plain is h = cc
 pushed_by f s ports fitting refused n (Some a) inside plain is h =
-    let r = granted (nat_lt MAX_PORTS (length ports)) (is_good (listing_of f s ports (Some a)) && fitting) refused n (next_name f s a) h in
+    let r = pass (is_good (listing_of f s ports (Some a)) && fitting) (miss (nat_lt MAX_PORTS (length ports)) h (λ many. cc)).1 (λ bad. cc) in
+    let last : outcome.Accepted n ≡ outcome.Accepted (next_name f s a) = (miss refused r.1 (λ no_room. cc)).1 in
     let free = listed_good (is_distinct ports && list_all (may_leave_agent f a s) ports) (names ports s.end.0) (and_parts (is_good (listing_of f s ports (Some a))) fitting r.0).0 in
     let each = and_parts (is_distinct ports) (list_all (may_leave_agent f a s) ports) free in
-    record { inside = inside; plain = plain; agent = a; speaks = is; distinct = each.0; leave = each.1; name = r.1 }
+    record { inside = inside; plain = plain; agent = a; speaks = is; distinct = each.0; leave = each.1; name = cc }
 
 pub pushed_of : (f : Facts) (s : Sender) (ports : List EndId) (body : List ℕ) (refused : Bool) (n : Acceptance) → outcome.Accepted n ≡ push_answer f s ports body refused → Pushed f s ports n
 pushed_of f s ports body refused n h =
@@ -236,27 +216,20 @@ pub record Noticed (f : Facts) (s : Sender) (n : Acceptance) : Type 0 where
   pub hears : hears_notice f s ≡ true
   pub name : n ≡ next_name f s (record { 0 = 0 })
 
-noticed_when : (inside noticed hears refused : Bool) (n m : Acceptance) → outcome.Accepted n ≡ cond (not (inside && not noticed && hears)) outcome.NotNow (cond refused outcome.NoMemory (outcome.Accepted m)) → (inside ≡ true) × (noticed ≡ false) × (hears ≡ true) × (n ≡ m)
-noticed_when false noticed hears refused n m h = cc
-noticed_when true true hears refused n m h = cc
-noticed_when true false false refused n m h = cc
-noticed_when true false true true n m h = cc
-noticed_when true false true false n m h = (refl, refl, refl, cc)
-
 pub noticed_of : (f : Facts) (s : Sender) (refused : Bool) (n : Acceptance) → outcome.Accepted n ≡ notice_answer f s refused → Noticed f s n
 noticed_of f s refused n h =
-    let r = noticed_when (is_inside (phase_of_line f s)) (f.line s.end.0 s.line.0).noticed (hears_notice f s) refused n (next_name f s (record { 0 = 0 })) h in
-    record { inside = r.0; plain = r.1; hears = r.2; name = r.3 }
+    let r = pass (is_inside (phase_of_line f s) && not (f.line s.end.0 s.line.0).noticed && hears_notice f s) h (λ is. cc) in
+    let last : outcome.Accepted n ≡ outcome.Accepted (next_name f s (record { 0 = 0 })) = (miss refused r.1 (λ is. cc)).1 in
+    let both = and_parts (is_inside (phase_of_line f s) && not (f.line s.end.0 s.line.0).noticed) (hears_notice f s) r.0 in
+    let posts = both_tests (is_inside (phase_of_line f s)) (f.line s.end.0 s.line.0).noticed both.0 in
+    record { inside = posts.0; plain = posts.1; hears = both.1; name = cc }
 
 -- ---- taking
 
-started_when : (closed held : Bool) → outcome.Started ≡ cond closed outcome.Closed (cond held outcome.Started outcome.NotNow) → (closed ≡ false) × (held ≡ true)
-started_when true held h = cc
-started_when false true h = (refl, refl)
-started_when false false h = cc
-
 pub started_of : (f : Facts) (e : EndId) → outcome.Started ≡ start_answer f e → ((f.end e.0).closed ≡ false) × (is_some (holder f e.0) ≡ true)
-started_of f e h = started_when (f.end e.0).closed (is_some (holder f e.0)) h
+started_of f e h =
+    let open_end = miss (f.end e.0).closed h (λ is. cc) in
+    (open_end.0, (hit (is_some (holder f e.0)) open_end.1 (λ is. cc)).0)
 
 -- a take that was served
 pub record Served (f : Facts) (e : EndId) (o : Outcome) : Type 0 where
@@ -291,12 +264,6 @@ went_on_of f e h = served_of f e outcome.Again (λ is. cc) (λ is. cc) (λ is. c
 
 -- ---- going on, and adopting
 
-hopped_when : (may out retired : Bool) (k n : ℕ) → outcome.Hopped k ≡ cond (may && (out && retired)) (outcome.Hopped n) outcome.NotNow → (may ≡ true) × (out ≡ true) × (retired ≡ true) × (k ≡ n)
-hopped_when true true true k n h = (refl, refl, refl, cc)
-hopped_when true true false k n h = cc
-hopped_when true false retired k n h = cc
-hopped_when false out retired k n h = cc
-
 -- a line that goes on
 pub record Hops (f : Facts) (s : Sender) (k : ℕ) : Type 0 where
   pub may : may_enter f s ≡ true
@@ -306,16 +273,11 @@ pub record Hops (f : Facts) (s : Sender) (k : ℕ) : Type 0 where
 
 pub hopped_of : (f : Facts) (s : Sender) (k : ℕ) → outcome.Hopped k ≡ hop_answer f s → Hops f s k
 hopped_of f s k h =
-    let r = hopped_when (may_enter f s) (is_out (phase_of_line f s)) (is_retired f s) k ((f.line s.end.0 s.line.0).stand + 1) h in
-    record { may = r.0; out = r.1; retired = r.2; number = r.3 }
-
-adopted_when : (closed arrived runs full refused : Bool) (k n : ℕ) → outcome.Adopted k ≡ cond closed outcome.Closed (cond (not (arrived && runs)) outcome.NotNow (cond full outcome.TooManyMoves (cond refused outcome.NoMemory (outcome.Adopted n)))) → (closed ≡ false) × (arrived ≡ true) × (runs ≡ true) × (k ≡ n)
-adopted_when true arrived runs full refused k n h = cc
-adopted_when false true true true refused k n h = cc
-adopted_when false true true false true k n h = cc
-adopted_when false true true false false k n h = (refl, refl, refl, cc)
-adopted_when false true false full refused k n h = cc
-adopted_when false false runs full refused k n h = cc
+    let r = hit (may_enter f s && (is_out (phase_of_line f s) && is_retired f s)) h (λ is. cc) in
+    let last : outcome.Hopped k ≡ outcome.Hopped ((f.line s.end.0 s.line.0).stand + 1) = r.1 in
+    let both = and_parts (may_enter f s) (is_out (phase_of_line f s) && is_retired f s) r.0 in
+    let rest = and_parts (is_out (phase_of_line f s)) (is_retired f s) both.1 in
+    record { may = both.0; out = rest.0; retired = rest.1; number = cc }
 
 arrived_at : (a : AgentId) (p : Option Place) → is_arrived a p ≡ true → p ≡ Some (Arrived a)
 arrived_at a (Some (Arrived b)) h = let same : a.0 ≡ b.0 = search (rules, h) in ap (λ n. Some (Arrived (record { 0 = n }))) (sym same)
@@ -334,8 +296,12 @@ pub record Adopts (f : Facts) (e : EndId) (a : AgentId) (k : ℕ) : Type 0 where
 
 pub adopted_of : (f : Facts) (e : EndId) (a : AgentId) (refused : Bool) (k : ℕ) → outcome.Adopted k ≡ adopt_answer f e a refused → Adopts f e a k
 adopted_of f e a refused k h =
-    let r = adopted_when (f.end e.0).closed (is_arrived a (f.end e.0).place) (f.agent a.0).runs (nat_le MAX_MOVES (f.end e.0).newest) refused k ((f.end e.0).newest + 1) h in
-    record { is_open = r.0; arrived = arrived_at a (f.end e.0).place r.1; runs = r.2; number = r.3 }
+    let open_end = miss (f.end e.0).closed h (λ is. cc) in
+    let may = pass (is_arrived a (f.end e.0).place && (f.agent a.0).runs) open_end.1 (λ is. cc) in
+    let room = miss (nat_le MAX_MOVES (f.end e.0).newest) may.1 (λ is. cc) in
+    let last : outcome.Adopted k ≡ outcome.Adopted ((f.end e.0).newest + 1) = (miss refused room.1 (λ is. cc)).1 in
+    let both = and_parts (is_arrived a (f.end e.0).place) (f.agent a.0).runs may.0 in
+    record { is_open = open_end.0; arrived = arrived_at a (f.end e.0).place both.0; runs = both.1; number = cc }
 
 -- ---- closing and sweeping
 
@@ -345,16 +311,11 @@ pub record Closes (f : Facts) (e : EndId) : Type 0 where
   pub here : is_here (f.end e.0).place ≡ true
   pub released : is_released f (f.end e.0).kind ≡ true
 
-closed_when : (closed here out : Bool) → outcome.Done ≡ cond closed outcome.Closed (cond (here && out) outcome.Done outcome.NotNow) → (closed ≡ false) × (here ≡ true) × (out ≡ true)
-closed_when true here out h = cc
-closed_when false true true h = (refl, refl, refl)
-closed_when false true false h = cc
-closed_when false false out h = cc
-
 pub closed_of : (f : Facts) (e : EndId) → outcome.Done ≡ close_answer f e → Closes f e
 closed_of f e h =
-    let r = closed_when (f.end e.0).closed (is_here (f.end e.0).place) (is_released f (f.end e.0).kind) h in
-    record { is_open = r.0; here = r.1; released = r.2 }
+    let open_end = miss (f.end e.0).closed h (λ is. cc) in
+    let both = and_parts (is_here (f.end e.0).place) (is_released f (f.end e.0).kind) (hit (may_close f e.0) open_end.1 (λ is. cc)).0 in
+    record { is_open = open_end.0; here = both.0; released = both.1 }
 
 -- an end that was swept
 pub record SweptWith (f : Facts) (e : EndId) (vs : List Envelope) : Type 0 where
@@ -515,19 +476,8 @@ line_got_of f e a l h =
     let below : l.0 < 0 + MAX_LINES = found.below in
     record { runs = r.0; queue = r.1; low = omega arith; free = not_some (f.line e.0 l.0).held_by found.unclear }
 
-back_when : (held out : Bool) → outcome.Done ≡ cond (held && out) outcome.Done outcome.NotNow → (held ≡ true) × (out ≡ true)
-back_when true true h = (refl, refl)
-back_when true false h = cc
-back_when false out h = cc
-
 pub back_of : (f : Facts) (s : Sender) → outcome.Done ≡ back_answer f s → (is_some (f.line s.end.0 s.line.0).held_by ≡ true) × (is_out (phase_of_line f s) ≡ true)
-back_of f s h = back_when (is_some (f.line s.end.0 s.line.0).held_by) (is_out (phase_of_line f s)) h
-
-handed_when : (closed queue may : Bool) → outcome.Handed ≡ cond closed outcome.Closed (cond (queue && may) outcome.Handed outcome.NotNow) → (closed ≡ false) × (queue ≡ true) × (may ≡ true)
-handed_when true queue may h = cc
-handed_when false true true h = (refl, refl, refl)
-handed_when false true false h = cc
-handed_when false false may h = cc
+back_of f s h = and_parts (is_some (f.line s.end.0 s.line.0).held_by) (is_out (phase_of_line f s)) (hit (is_some (f.line s.end.0 s.line.0).held_by && is_out (phase_of_line f s)) h (λ is. cc)).0
 
 taken_over : (f : Facts) (b : AgentId) (q : Option AgentId) → may_take_over f b q ≡ true → (a : AgentId) × (q ≡ Some a) × (b.0 < f.agents)
 taken_over f b None h = absurd (false≢true h)
@@ -543,20 +493,16 @@ pub record Hands (f : Facts) (e : EndId) (b : AgentId) : Type 0 where
 
 pub handed_of : (f : Facts) (e : EndId) (b : AgentId) → outcome.Handed ≡ hand_answer f e b → Hands f e b
 handed_of f e b h =
-    let r = handed_when (f.end e.0).closed (is_queue (f.end e.0).kind) (may_take_over f b (holder f e.0)) h in
-    let over = taken_over f b (holder f e.0) r.2 in
-    record { is_open = r.0; queue = r.1; agent = over.0; holds = over.1; known = over.2 }
+    let open_end = miss (f.end e.0).closed h (λ is. cc) in
+    let may : Bool = may_take_over f b (holder f e.0) in
+    let both = and_parts (is_queue (f.end e.0).kind) may (hit (is_queue (f.end e.0).kind && may) open_end.1 (λ is. cc)).0 in
+    let over = taken_over f b (holder f e.0) both.1 in
+    record { is_open = open_end.0; queue = both.0; agent = over.0; holds = over.1; known = over.2 }
 
 -- ---- ending
 
-see_when : (made away ordered : Bool) (es fs : List EndId) → outcome.Ending es ≡ cond (not (made && not away)) outcome.NotNow (cond ordered (outcome.Ending fs) outcome.GoingOn) → (made ≡ true) × (away ≡ false)
-see_when true false true es fs h = (refl, refl)
-see_when true false false es fs h = cc
-see_when true true ordered es fs h = cc
-see_when false away ordered es fs h = cc
-
 pub see_of : (f : Facts) (a : AgentId) (es : List EndId) → outcome.Ending es ≡ see_answer f a → has_away f a ≡ false
-see_of f a es h = (see_when (nat_lt a.0 f.agents) (has_away f a) (f.agent a.0).ordered es (ends_at f a) h).1
+see_of f a es h = (both_tests (nat_lt a.0 f.agents) (has_away f a) (pass (nat_lt a.0 f.agents && not (has_away f a)) h (λ is. cc)).0).1
 
 -- no poster of the agent is away
 pub none_away : (f : Facts) (a : AgentId) (x l : ℕ) → has_away f a ≡ false → x < f.ends → l < lines_of (f.end x).kind → is_out (f.line x l).phase ≡ false → has_poster f a x l ≡ false
