@@ -13,6 +13,7 @@ ghost use Rattle.hub_core.specs.Seen.{seen};
 use crate::agent::Agent;
 use crate::end::Place;
 use crate::kind::Kind;
+use crate::line::Line;
 use crate::machine::Core;
 use crate::outcome::Outcome;
 use crate::sender::Sender;
@@ -73,17 +74,19 @@ impl Core {
     pub(crate) fn owner_of(&self, sender: Sender) -> Option<AgentId>
         ensures { result ≡ owner (seen self.now) sender }
     {
-        let kind = self.kind_at(sender.end)?;
-        self.owner_by(sender, kind)
+        let end = self.ends.get(sender.end.0 as usize)?;
+        let line = end.lines.get(sender.line).unwrap_or(Line::FIRST);
+        self.owner_by(sender, end.kind, line.held_by)
     }
 
     /// The agent, running or ending, whose poster a line of an end of this kind has.
-    fn owner_by(&self, sender: Sender, kind: Kind) -> Option<AgentId>
+    fn owner_by(&self, sender: Sender, kind: Kind, held_by: Option<AgentId>) -> Option<AgentId>
+        requires { held_by ≡ ((seen self.now).line sender.end.0 sender.line.0).held_by }
         ensures { result ≡ owner_by (seen self.now) sender (Some kind) }
     {
         match kind {
             Kind::Port(peer) if sender.line.0 == 0 => self.agent_with(peer),
-            Kind::Client | Kind::Worker => self.line_at(sender.end, sender.line).held_by,
+            Kind::Client | Kind::Worker => held_by,
             Kind::Port(_) | Kind::Member(_) => None,
         }
     }

@@ -1,12 +1,15 @@
 //! The core, its dispatch, and what several families of steps ask of agents, ends and lines.
 //!
 //! A post is the steps Enter, Push and Leave of one line. `Core::enter` (`posting.rt`) asks
-//! `Core::may_enter`; then `End::enter` (`end.rt`) answers `In`, or `Moved` at a retired queue and
+//! `Core::may_enter`; then `Core::pass_gate` answers `In`, or `Moved` at a retired queue and
 //! `Closed` at a closed end, where the poster isn't inside but has to leave as well. `Core::push`
 //! makes its tests in `Core::posting`. `Core::accept` puts the envelope in its queue (`End::put`)
 //! and its ports in flight, which is answered `Accepted`; `TooManyPorts` and `NoMemory` change
-//! nothing. `Core::leave` and `End::leave` answer `Left`. Each of the three is answered `NotNow`,
-//! with nothing changed, where it can't be taken.
+//! nothing. `Core::leave` answers `Left`. Each of the three is answered `NotNow`, with nothing
+//! changed, where it can't be taken.
+//!
+//! What a function answers is said by the definitions that a history is held to, over what the
+//! core keeps seen as facts (`specs/Seen`); what it changes is one table (`specs/CoreSteps`).
 //!
 //! It is three steps and not one because agents on threads of their own act between them: an end
 //! may be adopted or closed while the poster is inside, whose Push may still be accepted. So a
@@ -207,9 +210,9 @@ impl Core {
     pub(crate) fn poster_of(&self, sender: Sender) -> Option<AgentId>
         ensures { result ≡ poster (seen self.now) sender }
     {
-        let kind = self.kind_at(sender.end)?;
-        let line = self.line_at(sender.end, sender.line);
-        self.poster_by(sender, kind, line.held_by)
+        let end = self.ends.get(sender.end.0 as usize)?;
+        let line = end.lines.get(sender.line).unwrap_or(Line::FIRST);
+        self.poster_by(sender, end.kind, line.held_by)
     }
 
     /// What is kept of a line. Where there is none it is one that has put nothing.
