@@ -9,23 +9,18 @@ use Rattle.hub_core.specs.declared.line.Line.{Line}
 use Rattle.hub_core.specs.declared.sender.Sender.{Sender}
 use Rattle.std.specs.Prelude.{◌&&◌}
 use Rattle.hub_core.specs.declared.line.Phase.TheVariants.{Inside}
-use Rattle.hub_core.proofs.Lists.{eqb_same, each_set}
+use Rattle.hub_core.proofs.Lists.{eqb_same, each_set, each_changed}
 use Rattle.std.specs.List.{slice_get}
 use Rattle.hub_core.specs.declared.agent.Agent.{Agent}
 use Rattle.hub_core.specs.declared.end.End.{End}
 use Rattle.hub_core.specs.declared.step.Action.{Action}
 use Rattle.hub_core.specs.declared.outcome.Outcome.{Outcome}
-use Rattle.hub_core.specs.CoreState.{CoreState}
 use Rattle.hub_core.specs.Facts.{LineNow, Facts, facts, EndNow}
 use Rattle.hub_core.specs.Fits.{Answers}
 use Rattle.hub_core.specs.Shows.{ShowsEnd, ShowsPut, ShowsFacts, agent_now, line_now, end_now}
 use Rattle.hub_core.proofs.Nexts.{next}
 use Rattle.hub_core.proofs.Counts.{Counted}
 use Rattle.hub_core.proofs.Sounds.{sound_first, sound_next}
-
--- a core with other ends
-abbrev pub with_ends : CoreState → List End → CoreState
-with_ends c ends = record c { ends = ends }
 
 -- what is shown of an end
 abbrev pub ShownAt : Facts → ℕ → Option End → Type 0
@@ -104,10 +99,8 @@ line_changed agents ends f s new x y z h at is mine others put inside =
       put = each_set (ShowsPut (f.accepted e)) x.lines k z within put (λ l other. old.put l);
       queues = record { reached = old.queues.reached; clear_below = old.queues.clear_below; count = old.queues.count; inside = inside; behind = old.queues.behind; each = old.queues.each };
     } in
-    each_set (λ d o. ShowsEnd (f.end d) (lines (eqb d e) d) (f.clear d) (f.accepted d) (f.taken d ++ f.discarded d) o) ends e after (slice_get_within ends e x at)
-    (subst (λ b. ShowsEnd (f.end e) (lines b e) (f.clear e) (f.accepted e) (f.taken e ++ f.discarded e) (Some after)) (sym (eqb_same e)) here)
-    (λ d other. subst (λ b. ShowsEnd (f.end d) (lines b d) (f.clear d) (f.accepted d) (f.taken d ++ f.discarded d) (slice_get ends d)) (sym (ne_eqb d e other))
-    (subst (λ (ls : ℕ → LineNow). ShowsEnd (f.end d) ls (f.clear d) (f.accepted d) (f.taken d ++ f.discarded d) (slice_get ends d)) (λ i l. sym (others (f.line d l)) i) (h.end d)))
+    each_changed (λ d b o. ShowsEnd (f.end d) (lines b d) (f.clear d) (f.accepted d) (f.taken d ++ f.discarded d) o) ends e after (slice_get_within ends e x at) here
+    (λ d. subst (λ (ls : ℕ → LineNow). ShowsEnd (f.end d) ls (f.clear d) (f.accepted d) (f.taken d ++ f.discarded d) (slice_get ends d)) (λ i l. sym (others (f.line d l)) i) (h.end d))
 
 -- ---- one end
 
@@ -115,9 +108,8 @@ line_changed agents ends f s new x y z h at is mine others put inside =
 pub end_changed : (agents : List Agent) (ends : List End) (f : Facts) (e : ℕ) (new : Bool → EndNow → EndNow) (x after : End) → ShowsFacts agents ends f → slice_get ends e ≡ Some x → ((w : EndNow) → new false w ≡ w) → ShowsEnd (new true (f.end e)) (f.line e) (f.clear e) (f.accepted e) (f.taken e ++ f.discarded e) (Some after)
     → (d : ℕ) → ShowsEnd (new (eqb d e) (f.end d)) (f.line d) (f.clear d) (f.accepted d) (f.taken d ++ f.discarded d) (slice_get (set ends e after) d)
 end_changed agents ends f e new x after h at others here =
-    each_set (λ d o. ShowsEnd (new (eqb d e) (f.end d)) (f.line d) (f.clear d) (f.accepted d) (f.taken d ++ f.discarded d) o) ends e after (slice_get_within ends e x at)
-    (subst (λ b. ShowsEnd (new b (f.end e)) (f.line e) (f.clear e) (f.accepted e) (f.taken e ++ f.discarded e) (Some after)) (sym (eqb_same e)) here)
-    (λ d far. subst (λ w. ShowsEnd w (f.line d) (f.clear d) (f.accepted d) (f.taken d ++ f.discarded d) (slice_get ends d)) (sym (ap (λ b. new b (f.end d)) (ne_eqb d e far) ∙ others (f.end d))) (h.end d))
+    each_changed (λ d b o. ShowsEnd (new b (f.end d)) (f.line d) (f.clear d) (f.accepted d) (f.taken d ++ f.discarded d) o) ends e after (slice_get_within ends e x at) here
+    (λ d. subst (λ w. ShowsEnd w (f.line d) (f.clear d) (f.accepted d) (f.taken d ++ f.discarded d) (slice_get ends d)) (sym (others (f.end d))) (h.end d))
 
 -- an end with another place, enabled or not
 pub end_restated : (now then : EndNow) (line : ℕ → LineNow) (clear : ℕ → Bool) (vs ts : List Envelope) (x : End) (p : Place) (b : Bool) → (let y : End = record x { place = p; is_enabled = b } in then ≡ end_now (Some y) → then.kind ≡ now.kind → ShowsEnd now line clear vs ts (Some x) → ShowsEnd then line clear vs ts (Some y))

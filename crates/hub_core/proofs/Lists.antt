@@ -1,5 +1,6 @@
 -- Lists of ends, agents, lines and envelopes: what a write leaves at each number.
-use Rattle.std.proofs.Common.{◌≡◌, ℕ, ◌<◌, ◌+◌, true, false, eqb, List, [], ◌∷◌, ◌++◌, length, get_or, set, Option, Some, zero, suc, ◌≤◌, None, refl, sym, ap, subst, ◌∙◌, inl, inr, arith, rules}
+use Rattle.std.proofs.lemmas.Bool.{ne_eqb}
+use Rattle.std.proofs.Common.{◌≡◌, ℕ, ◌<◌, ◌+◌, true, false, eqb, List, [], ◌∷◌, ◌++◌, length, get_or, set, Option, Some, zero, suc, ◌≤◌, None, refl, sym, ap, subst, ◌∙◌, inl, inr, arith, rules, Bool}
 use Rattle.std.proofs.lemmas.Bool.Decides.{nat_tests}
 use Rattle.std.specs.List.{slice_get, AllByRecursion}
 use Rattle.std.proofs.lemmas.Option.{slice_get_cases}
@@ -49,6 +50,10 @@ each_set P xs i x there here others j = elim (eqb j i) as (λ b. eqb j i ≡ b �
   | true ↦ λ t. let same : j ≡ i = search (rules, t) in subst (λ k. P k (slice_get (set xs i x) k)) (sym same) (subst (P i) (sym (slice_get-set_same xs i x there)) here)
   | false ↦ λ t. let other : j ≡ i → ⊥ = search (rules, t) in subst (P j) (sym (slice_get-set_other xs i j x other)) (others j other)
 ] refl
+
+-- the same, by whether it is the one that was written
+pub each_changed : {A : Type 0} (P : ℕ → Bool → Option A → Type 0) (xs : List A) (i : ℕ) (x : A) → i < length xs → P i true (Some x) → ((j : ℕ) → P j false (slice_get xs j)) → (j : ℕ) → P j (eqb j i) (slice_get (set xs i x) j)
+each_changed P xs i x there here others = each_set (λ j o. P j (eqb j i) o) xs i x there (subst (λ b. P i b (Some x)) (sym (eqb_same i)) here) (λ j far. subst (λ b. P j b (slice_get xs j)) (sym (ne_eqb j i far)) (others j))
 
 -- what a list of lists holds at each number, after one was written
 pub get_or-set_same : {A : Type 0} (xs : List (List A)) (i : ℕ) (x : List A) → i < length xs → get_or (set xs i x) i [] ≡ x

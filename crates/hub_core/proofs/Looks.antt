@@ -7,7 +7,7 @@ use Rattle.hub_core.proofs.Changing.{found_end, ShownAfter}
 use Rattle.std.proofs.Common.{◌≡◌, ℕ, zero, suc, ◌+◌, ◌-◌, ◌<◌, ◌≤◌, Bool, true, false, cond, eqb, List, ◌++◌, set, Option, Some, None, refl, sym, ap, subst, ◌∙◌, arith}
 use Rattle.std.specs.Prelude.{◌&&◌, ◌||◌, nat_lt}
 use Rattle.std.specs.List.{slice_get}
-use Rattle.std.proofs.lemmas.Bool.{ne_eqb, eqb-true, ltb-true, ltb-false, le-ltb, lt-ltb}
+use Rattle.std.proofs.lemmas.Bool.{eqb-true, ltb-true, ltb-false, le-ltb, lt-ltb}
 use Rattle.std.proofs.lemmas.Bool.Decides.{nat_tests}
 use Rattle.std.proofs.lemmas.List.{length-set}
 use Rattle.std.proofs.lemmas.Option.{slice_get_within}
@@ -23,7 +23,7 @@ use Rattle.hub_core.specs.Looking.{first_failing, lookable, looked, look_answer_
 use Rattle.hub_core.specs.Sound.{no_end}
 use Rattle.hub_core.specs.Shows.{ShowsEnd, ShowsFacts, KeepsQueues}
 use Rattle.hub_core.specs.Kept.{is_anyone_at, kept_looked, look_answer_at, may_look, look_outcome, look_outcome_at, changed_ends}
-use Rattle.hub_core.proofs.Lists.{eqb_same, each_set}
+use Rattle.hub_core.proofs.Lists.{each_changed}
 use Rattle.hub_core.proofs.Frames.{ShownAt, Stepped, changed}
 use Rattle.hub_core.proofs.Presence.{someone_kept}
 use Rattle.hub_core.proofs.Counts.{counts_still}
@@ -105,9 +105,8 @@ cleared_shown : (agents : List Agent) (ends : List End) (f : Facts) (e : EndId) 
 cleared_shown agents ends f e refused x h at answer =
     let y : End = record x { looked = x.looked + 1 } in
     changed agents ends (set ends e.0 y) f (action.Look e) refused (outcome.Clear (Some x.looked)) h answer refl refl refl (length-set ends e.0 y) (counts_still agents ends f _ h refl (λ d. refl) (λ d. refl) (λ a d l. refl))
-    (each_set (λ d q. ShowsEnd (f.end d) (f.line d) (λ i. cond (eqb d e.0 && eqb i x.looked) true (f.clear d i)) (f.accepted d) (f.taken d ++ f.discarded d) q) ends e.0 y (slice_get_within ends e.0 x at)
-    (subst (λ b. ShowsEnd (f.end e.0) (f.line e.0) (λ i. cond (b && eqb i x.looked) true (f.clear e.0 i)) (f.accepted e.0) (f.taken e.0 ++ f.discarded e.0) (Some y)) (sym (eqb_same e.0)) (cleared_end (f.end e.0) (f.line e.0) (f.clear e.0) (f.accepted e.0) (f.taken e.0 ++ f.discarded e.0) x (subst (ShownAt f e.0) at (h.end e.0))))
-    (λ d other. subst (λ b. ShowsEnd (f.end d) (f.line d) (λ i. cond (b && eqb i x.looked) true (f.clear d i)) (f.accepted d) (f.taken d ++ f.discarded d) (slice_get ends d)) (sym (ne_eqb d e.0 other)) (h.end d)))
+    (each_changed (λ d b q. ShowsEnd (f.end d) (f.line d) (λ i. cond (b && eqb i x.looked) true (f.clear d i)) (f.accepted d) (f.taken d ++ f.discarded d) q) ends e.0 y (slice_get_within ends e.0 x at)
+    (cleared_end (f.end e.0) (f.line e.0) (f.clear e.0) (f.accepted e.0) (f.taken e.0 ++ f.discarded e.0) x (subst (ShownAt f e.0) at (h.end e.0))) h.end)
 
 -- ---- Look
 

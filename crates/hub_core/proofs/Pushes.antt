@@ -58,15 +58,6 @@ not_posting f s ports body refused h = rw h refl
 posts : (f : Facts) (s : Sender) (ports : List EndId) (body : List ℕ) (fit refused : Bool) (q : Option AgentId) → is_posting f s ≡ true → poster f s ≡ q → is_fitting f.roster.cast (f.end s.end.0).kind ports body ≡ fit → push_answer_of f s ports fit refused q ≡ push_answer f s ports body refused
 posts f s ports body fit refused q posting is fits = rw (posting, is, fits) refl
 
-too_many : (f : Facts) (s : Sender) (ports : List EndId) (fit refused : Bool) (a : AgentId) → nat_lt MAX_PORTS (length ports) ≡ true → outcome.TooManyPorts ≡ push_answer_of f s ports fit refused (Some a)
-too_many f s ports fit refused a many = rw many refl
-
-not_good : (f : Facts) (s : Sender) (ports : List EndId) (fit refused : Bool) (a : AgentId) → nat_lt MAX_PORTS (length ports) ≡ false → (is_good (listing_of f s ports (Some a)) && fit) ≡ false → outcome.NotNow ≡ push_answer_of f s ports fit refused (Some a)
-not_good f s ports fit refused a few h = rw (few, h) refl
-
-good : (f : Facts) (s : Sender) (ports : List EndId) (fit refused : Bool) (a : AgentId) → nat_lt MAX_PORTS (length ports) ≡ false → (is_good (listing_of f s ports (Some a)) && fit) ≡ true → cond refused outcome.NoMemory (outcome.Accepted (next_name f s a)) ≡ push_answer_of f s ports fit refused (Some a)
-good f s ports fit refused a few h = rw (few, h) refl
-
 push_tests : (many good refused : Bool) (y : Line) (a : AgentId) (m : Acceptance) → (let n : Acceptance = record { agent = a; epoch = y.epoch; number = y.put } in n ≡ m) → push_outcome (cond many (Err outcome.TooManyPorts) (cond good (cond refused (Err outcome.NoMemory) (Ok (y, a))) (Err outcome.NotNow))) ≡ cond many outcome.TooManyPorts (cond (not good) outcome.NotNow (cond refused outcome.NoMemory (outcome.Accepted m)))
 push_tests true good refused y a m name = refl
 push_tests false false refused y a m name = refl

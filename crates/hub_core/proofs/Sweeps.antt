@@ -26,7 +26,7 @@ use Rattle.hub_core.specs.Looking.{any_below, is_away_at, someone_at, is_settled
 use Rattle.hub_core.specs.Sound.{Sound}
 use Rattle.hub_core.specs.Shows.{ShowsEnd, ShowsFacts}
 use Rattle.hub_core.specs.Kept.{is_anyone_from, joined, sweep_outcome_at, moved_ends, ports_of, changed_ends}
-use Rattle.hub_core.proofs.Lists.{eqb_same, each_set, is_there, AllByRecursion-weaker, AllByRecursion-append, below_last}
+use Rattle.hub_core.proofs.Lists.{eqb_same, is_there, AllByRecursion-weaker, AllByRecursion-append, below_last, each_changed}
 use Rattle.hub_core.proofs.Waits.{filters, of_queue, all_kept, rises_back, all_of_queue}
 use Rattle.hub_core.proofs.Frames.{ShownAt, Stepped, changed}
 use Rattle.hub_core.proofs.Placing.{moves_of, moved_end, moved_shown}
@@ -229,9 +229,8 @@ swept_shown agents ends f e refused x h at closed settled fits =
     let moves = moves_of (ports_of vs) Swept base in
     let shown : ShownAt f e.0 (Some x) = subst (ShownAt f e.0) at (h.end e.0) in
     let each : (d : ℕ) → ShowsEnd (f.end d) (f.line d) (f.clear d) (f.accepted d) (f.taken d ++ cond (eqb d e.0) (f.discarded d ++ vs) (f.discarded d)) (slice_get base d) =
-    each_set (λ d o. ShowsEnd (f.end d) (f.line d) (f.clear d) (f.accepted d) (f.taken d ++ cond (eqb d e.0) (f.discarded d ++ vs) (f.discarded d)) o) ends e.0 y (slice_get_within ends e.0 x at)
-    (subst (λ b. ShowsEnd (f.end e.0) (f.line e.0) (f.clear e.0) (f.accepted e.0) (f.taken e.0 ++ cond b (f.discarded e.0 ++ vs) (f.discarded e.0)) (Some y)) (sym (eqb_same e.0)) (swept_one f e.0 x h.sound shown closed (λ l inside. nobody_there f e.0 l (h.sound.lines e.0) settled inside)))
-    (λ d other. subst (λ b. ShowsEnd (f.end d) (f.line d) (f.clear d) (f.accepted d) (f.taken d ++ cond b (f.discarded d ++ vs) (f.discarded d)) (slice_get ends d)) (sym (ne_eqb d e.0 other)) (h.end d))
+    each_changed (λ d b o. ShowsEnd (f.end d) (f.line d) (f.clear d) (f.accepted d) (f.taken d ++ cond b (f.discarded d ++ vs) (f.discarded d)) o) ends e.0 y (slice_get_within ends e.0 x at)
+    (swept_one f e.0 x h.sound shown closed (λ l inside. nobody_there f e.0 l (h.sound.lines e.0) settled inside)) h.end
     in
     let same_count : length base ≡ length ends = length-set ends e.0 y in
     let count : f.ends ≡ length ends = h.ends in

@@ -7,7 +7,7 @@ use Rattle.std.proofs.Common.{◌≡◌, ℕ, zero, suc, ◌+◌, ◌<◌, Bool,
 use Rattle.std.specs.Prelude.{is_some}
 use Rattle.std.specs.Bool.{MatchBool}
 use Rattle.std.specs.List.{slice_get, AllByRecursion}
-use Rattle.std.proofs.lemmas.Bool.{ne_eqb, false≢true}
+use Rattle.std.proofs.lemmas.Bool.{false≢true}
 use Rattle.std.proofs.lemmas.List.{length-set}
 use Rattle.std.proofs.lemmas.Option.{slice_get_within}
 use Rattle.hub_envelope.specs.declared.ids.AgentId.{AgentId}
@@ -27,7 +27,7 @@ use Rattle.hub_core.specs.Taking.{IsNext, Serves, FitsTake, start_answer}
 use Rattle.hub_core.specs.Sound.{IsOfEnd, Sound}
 use Rattle.hub_core.specs.Shows.{ShowsEnd, ShowsFacts}
 use Rattle.hub_core.specs.Kept.{advanced_end, with_taker_queue, front_taken, moved_ends, arrived_ends, TakeServes, TakeHeld, TakeAnswers, change_end, changed_ends}
-use Rattle.hub_core.proofs.Lists.{eqb_same, each_set, get_or-set_same, get_or-set_other, is_there}
+use Rattle.hub_core.proofs.Lists.{get_or-set_same, get_or-set_other, is_there, each_changed}
 use Rattle.hub_core.proofs.Waits.{all_kept, all_back, of_queue, queue_more, queue_other, next_in_line}
 use Rattle.hub_core.proofs.Frames.{ShownAt, Stepped, changed, end_changed, end_restated}
 use Rattle.hub_core.specs.CoreState.{CoreState}
@@ -125,10 +125,8 @@ got_shown agents ends new f e refused x a v rest h at has opened fits front n le
     let shown : ShownAt f e.0 (Some x) = subst (ShownAt f e.0) at (h.end e.0) in
     let none : f.discarded e.0 ≡ [] = (h.sound.waiting e.0).kept opened in
     let each : (d : ℕ) → ShowsEnd (f.end d) (f.line d) (f.clear d) (f.accepted d) (cond (eqb d e.0) (f.taken d ++ v ∷ []) (f.taken d) ++ f.discarded d) (slice_get base d) =
-    each_set (λ d o. ShowsEnd (f.end d) (f.line d) (f.clear d) (f.accepted d) (cond (eqb d e.0) (f.taken d ++ v ∷ []) (f.taken d) ++ f.discarded d) o) ends e.0 (with_taker_queue x rest) (slice_get_within ends e.0 x at)
-    (subst (λ b. ShowsEnd (f.end e.0) (f.line e.0) (f.clear e.0) (f.accepted e.0) (cond b (f.taken e.0 ++ v ∷ []) (f.taken e.0) ++ f.discarded e.0) (Some (with_taker_queue x rest))) (sym (eqb_same e.0))
-    (subst (λ us. ShowsEnd (f.end e.0) (f.line e.0) (f.clear e.0) (f.accepted e.0) us (Some (with_taker_queue x rest))) (sym (nothing_more (f.taken e.0 ++ v ∷ []) (f.discarded e.0) none)) (taken_end f e x v rest h.sound none shown front)))
-    (λ d other. subst (λ b. ShowsEnd (f.end d) (f.line d) (f.clear d) (f.accepted d) (cond b (f.taken d ++ v ∷ []) (f.taken d) ++ f.discarded d) (slice_get ends d)) (sym (ne_eqb d e.0 other)) (h.end d))
+    each_changed (λ d b o. ShowsEnd (f.end d) (f.line d) (f.clear d) (f.accepted d) (cond b (f.taken d ++ v ∷ []) (f.taken d) ++ f.discarded d) o) ends e.0 (with_taker_queue x rest) (slice_get_within ends e.0 x at)
+    (subst (λ us. ShowsEnd (f.end e.0) (f.line e.0) (f.clear e.0) (f.accepted e.0) us (Some (with_taker_queue x rest))) (sym (nothing_more (f.taken e.0 ++ v ∷ []) (f.discarded e.0) none)) (taken_end f e x v rest h.sound none shown front)) h.end
     in
     let made : e.0 < f.ends = placed_made f e.0 (With a) h.sound.places has in
     let same_count : length base ≡ length ends = length-set ends e.0 (with_taker_queue x rest) in

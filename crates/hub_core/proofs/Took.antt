@@ -5,8 +5,6 @@ use Rattle.std.specs.List.{slice_get}
 use Rattle.std.proofs.lemmas.Bool.{false≢true}
 use Rattle.hub_envelope.specs.declared.ids.AgentId.{AgentId}
 use Rattle.hub_envelope.specs.declared.ids.EndId.{EndId}
-use Rattle.hub_core.specs.declared.agent.Agent.{Agent}
-use Rattle.hub_core.specs.declared.end.End.{End}
 use Rattle.hub_core.specs.declared.members.Members.{Members}
 use Rattle.hub_core.specs.declared.roster.Roster.{Roster}
 use Rattle.hub_core.specs.declared.step.Action.TheVariants as action
@@ -56,9 +54,6 @@ same_err a (Err e) old new takes same = (takes, same_content old new same)
 pub same_err_with : {E : Type 0} (a : Action) (r : Result Outcome E) (old new : CoreState) → takes_memory a ≡ true → OnErr r (SameContent old new) → OnErr r ((takes_memory a ≡ true) × SameContent old new)
 same_err_with a (Ok o) old new takes same = tt
 same_err_with a (Err e) old new takes same = (takes, same)
-
-pub both_same : (c : CoreState) {agents : List Agent} {ends : List End} → agents ≡ c.agents → ends ≡ c.ends → (let d : CoreState = record c { agents = agents; ends = ends } in d) ≡ c
-both_same c same_agents same_ends = λ i. record c { agents = same_agents i; ends = same_ends i }
 
 -- a step that leaves the roster, by what it was answered and what it left
 pub took : (a : Action) (refused : Bool) (old new after : CoreState) (o p : Outcome) → o ≡ p → new ≡ after → after.roster ≡ old.roster → leaves_roster a ≡ true → ((f : Facts) → Sees old f → Stepped after.agents after.ends f a refused p) → (changes_nothing p a ≡ true → after ≡ old) → Took a refused old new o
