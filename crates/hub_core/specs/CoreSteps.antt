@@ -31,7 +31,8 @@ entered_core c s o = record c {
   ends = gate_passed s c.ends o;
 }
 
--- the core after an answered step
+-- The core after an answered step. What a Client and a Worker change is `queue_core`, and a Member and a Part change the
+-- roster by a relation of `KeptRoster`: they aren't in this table.
 abbrev pub core_after : CoreState → Outcome → Action → CoreState
 core_after c (outcome.Agent a) (action.Agent origin) = record c {
   agents = c.agents ++ first_agent ∷ [];
