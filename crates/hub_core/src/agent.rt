@@ -5,7 +5,7 @@ use crate::kind::Kind;
 use hub_envelope::OutOfMemory;
 
 /// What the core keeps of an agent.
-#[derive(Clone, Copy, Debug, PartialEq, Eq)]
+#[derive(Clone, Copy)]
 pub(crate) struct Agent {
     /// An agent runs until it has found the order to end.
     pub(crate) is_running: bool,

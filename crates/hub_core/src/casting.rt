@@ -102,13 +102,13 @@ impl Core {
     pub(crate) fn maker_of(&self, end: EndId) -> Option<AgentId>
         ensures { result ≡ maker_of ((seen self.now).end end.0).kind }
     {
-        self.ends.get(end.0 as usize)?.kind.maker()
+        self.end_at(end)?.kind.maker()
     }
 
     fn is_closed(&self, end: EndId) -> bool
         ensures { result ≡ ((seen self.now).end end.0).closed }
     {
-        match self.ends.get(end.0 as usize) {
+        match self.end_at(end) {
             Some(end) => end.is_closed,
             None => false,
         }

@@ -19,7 +19,7 @@ use hub_envelope::{AgentId, Envelope, LineId, MAX_MOVES, MAX_PUT, OutOfMemory};
 use std::alloc::{AllocError, Global};
 
 /// Where an end is (WHATWG HTML, "Transferable objects": a port that travels is with no agent).
-#[derive(Clone, Copy, Debug, PartialEq, Eq)]
+#[derive(Clone, Copy)]
 pub enum Place {
     /// An agent has the end.
     With(AgentId),
@@ -48,6 +48,13 @@ impl Place {
         matches!(self, Place::With(holder) if holder == agent)
     }
 
+    /// Whether an end of this place has arrived at an agent.
+    pub(crate) fn has_arrived_at(self, agent: AgentId) -> bool
+        ensures { result ≡ is_arrived agent (Some self) }
+    {
+        matches!(self, Place::Arrived(by) if by == agent)
+    }
+
     /// Whether an end of this place can be closed.
     pub(crate) fn is_here(self) -> bool
         ensures { result ≡ is_here (Some self) }
@@ -57,7 +64,7 @@ impl Place {
 }
 
 /// What the core keeps of an end.
-#[derive(Debug, Drop)]
+#[derive(Drop)]
 pub struct End {
     pub(crate) kind: Kind,
     pub(crate) place: Place,

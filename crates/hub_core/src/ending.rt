@@ -38,7 +38,7 @@ impl Core {
         ensures new { IfOk result (λ o. self.new ≡ core_after self.old o (action.See agent)) }
         ensures err { OnErr result (self.new ≡ self.old) }
     {
-        let Some(found) = self.agents.get(agent.0 as usize).copied() else {
+        let Some(found) = self.agent_at(agent).copied() else {
             return Ok(Outcome::NotNow);
         };
         if found.away != 0 {
@@ -74,7 +74,7 @@ impl Core {
     pub(crate) fn owner_of(&self, sender: Sender) -> Option<AgentId>
         ensures { result ≡ owner (seen self.now) sender }
     {
-        let end = self.ends.get(sender.end.0 as usize)?;
+        let end = self.end_at(sender.end)?;
         let line = end.lines.get(sender.line).unwrap_or(Line::FIRST);
         self.owner_by(sender, end.kind, line.held_by)
     }
@@ -95,7 +95,7 @@ impl Core {
     fn agent_with(&self, end: EndId) -> Option<AgentId>
         ensures { result ≡ with_agent ((seen self.now).end end.0).place }
     {
-        match self.ends.get(end.0 as usize)?.place {
+        match self.end_at(end)?.place {
             Place::With(agent) => Some(agent),
             _ => None,
         }
@@ -110,11 +110,9 @@ impl Core {
         let Some(agent) = owner else {
             return;
         };
-        let counted = self
-            .agents
-            .get(agent.0 as usize)
-            .map(|found| found.with_one_away());
-        self.set_agent(agent, counted);
+        if let Some(found) = self.agents.get_mut(agent.0 as usize) {
+            *found = found.with_one_away();
+        }
     }
 
     /// A poster of the agent left.
@@ -126,11 +124,9 @@ impl Core {
         let Some(agent) = owner else {
             return;
         };
-        let counted = self
-            .agents
-            .get(agent.0 as usize)
-            .map(|found| found.with_one_out());
-        self.set_agent(agent, counted);
+        if let Some(found) = self.agents.get_mut(agent.0 as usize) {
+            *found = found.with_one_out();
+        }
     }
 }
 

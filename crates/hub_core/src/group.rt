@@ -4,7 +4,7 @@ use hub_envelope::{OutOfMemory, Text};
 
 /// What the broadcast channels that reach one another have in common (WHATWG HTML, "Broadcasting
 /// to other browsing contexts"): the origin of their agents, and their name.
-#[derive(Debug, PartialEq, Eq, PartialOrd, Ord, Drop)]
+#[derive(PartialEq, Eq, PartialOrd, Ord, Drop)]
 pub struct Group {
     pub(crate) origin: Text,
     pub(crate) name: Text,

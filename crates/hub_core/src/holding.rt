@@ -3,7 +3,7 @@
 
 ghost use Rattle.std.specs.Prelude.{◌≡◌, option_map, slice_get, IfOk};
 ghost use Rattle.hub_core.specs.Kept.{count_of, one_more, set_agent, gone};
-ghost use Rattle.hub_core.specs.Kept.{line_outcome};
+ghost use Rattle.hub_core.specs.Kept.{line_outcome, change_line, held_by};
 ghost use Rattle.hub_core.specs.CoreSteps.{core_after};
 ghost use Rattle.hub_core.specs.Holding.{back_answer};
 ghost use Rattle.hub_core.specs.declared.step.Action.TheVariants as action;
@@ -12,7 +12,7 @@ ghost use Rattle.hub_core.specs.Seen.{seen};
 use crate::agent::Agent;
 use crate::end::Place;
 use crate::kind::Kind;
-use crate::line::{Line, Phase};
+use crate::line::Phase;
 use crate::machine::Core;
 use crate::outcome::Outcome;
 use crate::sender::Sender;
@@ -28,7 +28,7 @@ impl Core {
         if !self.is_running(agent) {
             return Outcome::NotNow;
         }
-        let Some(found) = self.ends.get_mut(end.0 as usize) else {
+        let Some(found) = self.end_at(end) else {
             return Outcome::NoSuchEnd;
         };
         if !found.kind.is_queue() {
@@ -37,7 +37,7 @@ impl Core {
         let Some(line) = found.lines.first_free() else {
             return Outcome::NoLine;
         };
-        found.lines.hold(line, Some(agent));
+        self.hold_line(Sender { end, line }, Some(agent));
         Outcome::Line(line)
     }
 
@@ -46,25 +46,30 @@ impl Core {
         ensures outcome { result ≡ back_answer (seen self.old) sender }
         ensures new { self.new ≡ core_after self.old result (action.Back sender) }
     {
-        let Some(end) = self.ends.get_mut(sender.end.0 as usize) else {
-            return Outcome::NotNow;
-        };
-        let Some(found) = end.lines.get(sender.line) else {
-            return Outcome::NotNow;
-        };
+        let found = self.line_at(sender.end, sender.line);
         if found.held_by.is_none() || found.phase != Phase::Out {
             return Outcome::NotNow;
         }
-        let held_by = None;
-        end.lines.set(sender.line, Line { held_by, ..found });
+        self.hold_line(sender, None);
         Outcome::Done
+    }
+
+    /// Changes who holds a line.
+    fn hold_line(&mut self, sender: Sender, holder: Option<AgentId>)
+        ensures { self.new ≡ record self.old {
+          ends = change_line (held_by holder) sender self.old.ends;
+        } }
+    {
+        if let Some(end) = self.ends.get_mut(sender.end.0 as usize) {
+            end.lines.hold(sender.line, holder);
+        }
     }
 
     /// How many queues of a kind an agent has.
     pub(crate) fn count_of(&self, kind: Kind, agent: AgentId) -> u32
         ensures { result ≡ count_of kind (slice_get self.now.agents agent.0) }
     {
-        match self.agents.get(agent.0 as usize) {
+        match self.agent_at(agent) {
             Some(found) => found.count(kind),
             None => 0,
         }
@@ -79,7 +84,7 @@ impl Core {
         ensures { IfOk result (λ found. found
             ≡ option_map (one_more kind) (slice_get self.now.agents agent.0)) }
     {
-        match self.agents.get(agent.0 as usize) {
+        match self.agent_at(agent) {
             Some(found) => Ok(Some(found.with_one_more(kind)?)),
             None => Ok(None),
         }
@@ -104,11 +109,9 @@ impl Core {
         ensures { self.new ≡ record self.old { agents = gone kind place self.old.agents } }
     {
         if let Place::With(agent) = place {
-            let counted = self
-                .agents
-                .get(agent.0 as usize)
-                .map(|found| found.with_one_less(kind));
-            self.set_agent(agent, counted);
+            if let Some(found) = self.agents.get_mut(agent.0 as usize) {
+                *found = found.with_one_less(kind);
+            }
         }
     }
 }

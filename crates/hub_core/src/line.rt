@@ -2,15 +2,15 @@
 
 ghost use Rattle.std.specs.Prelude.{◌≡◌, replicate, not, is_some, IfOk, None, slice_get, slice_set};
 ghost use Rattle.std.specs.List.{position};
-ghost use Rattle.hub_core.specs.Kept.{first_line, first_free, changed_lines, held_by, is_anyone_at};
-ghost use Rattle.hub_core.specs.Kept.{is_anyone_from};
+ghost use Rattle.hub_core.specs.Kept.{first_line, first_free, changed_lines, held_by, in_phase};
+ghost use Rattle.hub_core.specs.Kept.{is_anyone_at, is_anyone_from};
 
 use hub_envelope::{AgentId, LineId, MAX_LINES};
 use std::alloc::{AllocError, Global};
 use std::marker::Model;
 
 /// Where a line's poster is.
-#[derive(Clone, Copy, Debug, PartialEq, Eq)]
+#[derive(Clone, Copy, PartialEq, Eq)]
 pub enum Phase {
     Out,
     Inside,
@@ -19,7 +19,7 @@ pub enum Phase {
 }
 
 /// What the core keeps of a line.
-#[derive(Clone, Copy, Debug, PartialEq, Eq)]
+#[derive(Clone, Copy)]
 pub struct Line {
     pub phase: Phase,
     /// The queue of the end at which the line stands.
@@ -44,7 +44,7 @@ impl Line {
 }
 
 /// The lines of an end, by number.
-#[derive(Debug, Drop)]
+#[derive(Drop)]
 pub struct Lines {
     lines: Vec<Line>,
 }
@@ -113,6 +113,16 @@ impl Lines {
     {
         if let Some(kept) = self.lines.get_mut(line.0 as usize) {
             kept.held_by = holder;
+        }
+    }
+
+    /// Changes where the poster of a line is.
+    pub(crate) fn pass(&mut self, line: LineId, phase: Phase)
+        ensures { let kept = slice_get self.old line.0 in
+            self.new ≡ changed_lines (in_phase phase) line.0 self.old kept }
+    {
+        if let Some(kept) = self.lines.get_mut(line.0 as usize) {
+            kept.phase = phase;
         }
     }
 

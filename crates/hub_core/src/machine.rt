@@ -15,7 +15,7 @@
 //! may be adopted or closed while the poster is inside, whose Push may still be accepted. So a
 //! Look, a Sweep, and a Take at a retired queue with nothing left are `Busy` while it is there.
 
-ghost use Rattle.std.specs.Prelude.{◌≡◌, [], true, option_map, Some, IfOk, OnErr};
+ghost use Rattle.std.specs.Prelude.{◌≡◌, [], true, option_map, slice_get, Some, IfOk, OnErr};
 ghost use Rattle.hub_core.specs.Posting.{holder, running, speaker, poster, poster_of, is_here};
 ghost use Rattle.hub_core.specs.Posting.{hears_notice, may_enter};
 ghost use Rattle.hub_core.specs.History.{History};
@@ -148,15 +148,31 @@ impl Core {
         ensures { let peer = peer_of ((seen self.now).end port.0).kind in result
             ≡ option_map (λ q. record { end = record { 0 = q }; line = record { 0 = 0 } }) peer }
     {
-        let end = self.ends.get(port.0 as usize)?.kind.source()?;
+        let end = self.end_at(port)?.kind.source()?;
         let line = LineId(0);
         Some(Sender { end, line })
+    }
+
+    /// What is kept of an end, where there is one.
+    #[inline]
+    pub(crate) fn end_at(&self, end: EndId) -> Option<&End>
+        ensures { slice_get self.now.ends end.0 ≡ option_map (λ x. x.now) result }
+    {
+        self.ends.get(end.0 as usize)
+    }
+
+    /// What is kept of an agent, where there is one.
+    #[inline]
+    pub(crate) fn agent_at(&self, agent: AgentId) -> Option<&Agent>
+        ensures { slice_get self.now.agents agent.0 ≡ option_map (λ x. x.now) result }
+    {
+        self.agents.get(agent.0 as usize)
     }
 
     pub(crate) fn is_running(&self, agent: AgentId) -> bool
         ensures { result ≡ ((seen self.now).agent agent.0).runs }
     {
-        match self.agents.get(agent.0 as usize) {
+        match self.agent_at(agent) {
             Some(agent) => agent.is_running,
             None => false,
         }
@@ -166,7 +182,7 @@ impl Core {
     pub(crate) fn running_holder(&self, end: EndId) -> Option<AgentId>
         ensures { result ≡ holder (seen self.now) end.0 }
     {
-        match self.ends.get(end.0 as usize)?.place {
+        match self.end_at(end)?.place {
             Place::With(agent) if self.is_running(agent) => Some(agent),
             _ => None,
         }
@@ -210,7 +226,7 @@ impl Core {
     pub(crate) fn poster_of(&self, sender: Sender) -> Option<AgentId>
         ensures { result ≡ poster (seen self.now) sender }
     {
-        let end = self.ends.get(sender.end.0 as usize)?;
+        let end = self.end_at(sender.end)?;
         let line = end.lines.get(sender.line).unwrap_or(Line::FIRST);
         self.poster_by(sender, end.kind, line.held_by)
     }
@@ -219,7 +235,7 @@ impl Core {
     pub(crate) fn line_at(&self, end: EndId, line: LineId) -> Line
         ensures { line_now (Some result) ≡ (seen self.now).line end.0 line.0 }
     {
-        match self.ends.get(end.0 as usize) {
+        match self.end_at(end) {
             Some(end) => end.lines.get(line).unwrap_or(Line::FIRST),
             None => Line::FIRST,
         }
@@ -229,7 +245,7 @@ impl Core {
     pub(crate) fn is_here(&self, end: EndId) -> bool
         ensures { result ≡ is_here ((seen self.now).end end.0).place }
     {
-        match self.ends.get(end.0 as usize) {
+        match self.end_at(end) {
             Some(end) => end.place.is_here(),
             None => false,
         }
@@ -239,7 +255,7 @@ impl Core {
     pub(crate) fn hears_notice(&self, sender: Sender) -> bool
         ensures { result ≡ hears_notice (seen self.now) sender }
     {
-        let Some(end) = self.ends.get(sender.end.0 as usize) else {
+        let Some(end) = self.end_at(sender.end) else {
             return false;
         };
         match end.kind {

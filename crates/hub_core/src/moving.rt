@@ -31,13 +31,13 @@ impl Core {
     {
         let at = end.0 as usize;
         let is_running = self.is_running(agent);
-        let Some(found) = self.ends.get(at) else {
+        let Some(found) = self.end_at(end) else {
             return Ok(Outcome::NotNow);
         };
         if found.is_closed {
             return Ok(Outcome::Closed);
         }
-        if found.place != Place::Arrived(agent) || !is_running {
+        if !found.place.has_arrived_at(agent) || !is_running {
             return Ok(Outcome::NotNow);
         }
         if found.newest >= MAX_MOVES {
@@ -93,7 +93,7 @@ impl Core {
     pub(crate) fn can_close(&self, end: EndId) -> bool
         ensures { result ≡ may_close (seen self.now) end.0 }
     {
-        let Some(found) = self.ends.get(end.0 as usize) else {
+        let Some(found) = self.end_at(end) else {
             return false;
         };
         found.place.is_here() && self.is_released(found.kind)

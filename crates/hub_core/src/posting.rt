@@ -12,6 +12,7 @@ ghost use Rattle.hub_core.specs.Shows.{line_now};
 ghost use Rattle.hub_core.specs.Kept.{gate_passed, kept_noticing, kept_posting, notice_outcome};
 ghost use Rattle.hub_core.specs.Kept.{posting_at, push_outcome, HasQueue};
 ghost use Rattle.hub_core.specs.Kept.{put_ends, accept_ends, moved_ends, end_moved};
+ghost use Rattle.hub_core.specs.Kept.{change_line, in_phase};
 ghost use Rattle.hub_core.specs.CoreSteps.{core_after};
 ghost use Rattle.hub_core.specs.Moving.{hop_answer};
 ghost use Rattle.hub_core.specs.declared.step.Action.TheVariants as action;
@@ -49,22 +50,34 @@ impl Core {
         if !self.may_enter(sender) {
             return Outcome::NotNow;
         }
-        let Some(end) = self.ends.get_mut(sender.end.0 as usize) else {
+        let Some(end) = self.end_at(sender.end) else {
             return Outcome::NotNow;
         };
         let found = end.lines.get(sender.line).unwrap_or(Line::FIRST);
         if found.phase != Phase::Out || found.has_noticed {
             return Outcome::NotNow;
         }
-        let (phase, outcome) = if found.epoch < end.newest {
-            (Phase::Turned, Outcome::Moved)
-        } else if end.is_closed {
-            (Phase::Turned, Outcome::Closed)
-        } else {
-            (Phase::Inside, Outcome::In)
-        };
-        end.lines.set(sender.line, Line { phase, ..found });
-        outcome
+        if found.epoch < end.newest {
+            self.pass(sender, Phase::Turned);
+            return Outcome::Moved;
+        }
+        if end.is_closed {
+            self.pass(sender, Phase::Turned);
+            return Outcome::Closed;
+        }
+        self.pass(sender, Phase::Inside);
+        Outcome::In
+    }
+
+    /// Changes where the poster of a line is.
+    fn pass(&mut self, sender: Sender, phase: Phase)
+        ensures { self.new ≡ record self.old {
+          ends = change_line (in_phase phase) sender self.old.ends;
+        } }
+    {
+        if let Some(end) = self.ends.get_mut(sender.end.0 as usize) {
+            end.lines.pass(sender.line, phase);
+        }
     }
 
     pub(crate) fn leave(&mut self, sender: Sender) -> Outcome
@@ -72,17 +85,10 @@ impl Core {
         ensures new { self.new ≡ core_after self.old result (action.Leave sender) }
     {
         let owner = self.owner_of(sender);
-        let Some(end) = self.ends.get_mut(sender.end.0 as usize) else {
-            return Outcome::NotNow;
-        };
-        let Some(found) = end.lines.get(sender.line) else {
-            return Outcome::NotNow;
-        };
-        if found.phase == Phase::Out {
+        if self.line_at(sender.end, sender.line).phase == Phase::Out {
             return Outcome::NotNow;
         }
-        let phase = Phase::Out;
-        end.lines.set(sender.line, Line { phase, ..found });
+        self.pass(sender, Phase::Out);
         self.count_out(owner);
         self.roster.leave(sender.end);
         Outcome::Left
@@ -197,7 +203,7 @@ impl Core {
         ensures line { IfSome result (λ p. (seen self.now).line sender.end.0 sender.line.0
             ≡ line_now (Some p.1)) }
     {
-        let end = self.ends.get(sender.end.0 as usize)?;
+        let end = self.end_at(sender.end)?;
         let line = end.posting_line(sender.line)?;
         Some((end.kind, line))
     }
@@ -364,7 +370,7 @@ impl Core {
             ≡ peer_of ((seen self.now).end sender.end.0).kind }
         ensures { result ≡ may_leave_agent (seen self.now) agent sender port }
     {
-        let Some(end) = self.ends.get(port.0 as usize) else {
+        let Some(end) = self.end_at(port) else {
             return false;
         };
         end.place.is_with(agent) && self.is_free(end.kind) && !is_port(port, source)

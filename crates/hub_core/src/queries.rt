@@ -62,7 +62,7 @@ impl Core {
     pub(crate) fn kind_at(&self, end: EndId) -> Option<Kind>
         ensures { result ≡ ((seen self.now).end end.0).kind }
     {
-        Some(self.ends.get(end.0 as usize)?.kind)
+        Some(self.end_at(end)?.kind)
     }
 
     /// Whether a Close of the end would be answered Done now.

@@ -9,7 +9,7 @@ use std::collections::VecDeque;
 use std::marker::Model;
 
 /// The waiting envelopes of a queue, in order of acceptance.
-#[derive(Debug, Drop)]
+#[derive(Drop)]
 struct Waiting {
     envelopes: VecDeque<Envelope>,
 }
@@ -55,7 +55,7 @@ impl Waiting {
 }
 
 /// Some queues of an end, in order.
-#[derive(Debug, Drop)]
+#[derive(Drop)]
 pub struct Queues {
     queues: VecDeque<Waiting>,
 }

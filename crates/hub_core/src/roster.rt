@@ -9,7 +9,7 @@ use std::collections::VecDeque;
 use std::marker::Model;
 
 /// The destinations of a cast that are left, in order.
-#[derive(Debug, Drop)]
+#[derive(Drop)]
 pub struct Destinations {
     ends: VecDeque<EndId>,
 }
@@ -58,7 +58,7 @@ impl Destinations {
 }
 
 /// A cast with destinations left.
-#[derive(Debug, Drop)]
+#[derive(Drop)]
 pub struct Cast {
     source: EndId,
     body: Body,

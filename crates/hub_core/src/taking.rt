@@ -19,7 +19,7 @@ impl Core {
         ensures new { self.new ≡ core_after self.old result (action.Start end) }
     {
         let at = end.0 as usize;
-        let Some(found) = self.ends.get(at) else {
+        let Some(found) = self.end_at(end) else {
             return Outcome::NotNow;
         };
         if found.is_closed {
@@ -38,7 +38,7 @@ impl Core {
         ensures new { self.new ≡ core_after self.old result (action.Take end) }
     {
         let at = end.0 as usize;
-        let Some(found) = self.ends.get(at) else {
+        let Some(found) = self.end_at(end) else {
             return Outcome::NotNow;
         };
         if found.is_closed {
