@@ -1,5 +1,5 @@
 -- Hop: what the core answers fits, and it shows the facts with the answered step.
-use Rattle.hub_core.specs.Kept.{at_next}
+use Rattle.hub_core.specs.Kept.{at_queue}
 use Rattle.hub_core.proofs.Changing.{found_line, line_set, with_line, ShownAfter}
 use Rattle.hub_core.proofs.Nexts.{Change, hopped}
 use Rattle.hub_core.proofs.Seeing.{Sees}
@@ -51,7 +51,7 @@ gone_inside old k bound l true is out kept at = absurd (out (ap (λ i. (old i).p
 gone_inside old k bound l false is out kept at = kept at
 
 -- every end, with this line one further
-gone_shown : (agents : List Agent) (ends : List End) (f : Facts) (s : Sender) (x : End) (y : Line) → ShowsFacts agents ends f → slice_get ends s.end.0 ≡ Some x → slice_get x.lines s.line.0 ≡ Some y → is_out (f.line s.end.0 s.line.0).phase ≡ true → (d : ℕ) → ShowsEnd (f.end d) (gone_line f s d) (f.clear d) (f.accepted d) (f.taken d ++ f.discarded d) (slice_get (set ends s.end.0 (with_line x s.line.0 (at_next y))) d)
+gone_shown : (agents : List Agent) (ends : List End) (f : Facts) (s : Sender) (x : End) (y : Line) → ShowsFacts agents ends f → slice_get ends s.end.0 ≡ Some x → slice_get x.lines s.line.0 ≡ Some y → is_out (f.line s.end.0 s.line.0).phase ≡ true → (d : ℕ) → ShowsEnd (f.end d) (gone_line f s d) (f.clear d) (f.accepted d) (f.taken d ++ f.discarded d) (slice_get (set ends s.end.0 (with_line x s.line.0 (at_queue (y.epoch + 1) y))) d)
 gone_shown agents ends f s x y h at is out =
     let e : ℕ = s.end.0 in
     let k : ℕ = s.line.0 in
@@ -66,9 +66,11 @@ gone_shown agents ends f s x y h at is out =
 pub hop_changes : (c : CoreState) (f : Facts) (s : Sender) (refused : Bool) {o : Outcome} → Sees c f → o ≡ hop_answer f s → Change (action.Hop s) o → ShownAfter c f (action.Hop s) refused o
 hop_changes c f s refused h answer (hopped t k) =
     let hops = hopped_of f s k answer in
-    let w = found_line c.agents c.ends f s h.shows (line_there f s (h.shows.sound.lines s.end.0) hops.may) in (
-      subst (λ es. Stepped c.agents es f (action.Hop s) refused (outcome.Hopped k)) (sym (line_set c.ends s at_next w))
-          (changed c.agents c.ends _ f (action.Hop s) refused (outcome.Hopped k) h.shows answer refl refl refl (length-set c.ends s.end.0 (with_line w.x s.line.0 (at_next w.y)))
+    let w = found_line c.agents c.ends f s h.shows (line_there f s (h.shows.sound.lines s.end.0) hops.may) in
+    let shown : ShownAt f s.end.0 (Some w.x) = subst (ShownAt f s.end.0) w.at (h.shows.end s.end.0) in
+    let one_on : k ≡ w.y.epoch + 1 = hops.number ∙ ap (λ (z : LineNow). z.stand + 1) (shown.lines s.line.0 ∙ ap line_now w.is) in (
+      subst (λ es. Stepped c.agents es f (action.Hop s) refused (outcome.Hopped k)) (sym (line_set c.ends s (at_queue k) w ∙ ap (λ m. set c.ends s.end.0 (with_line w.x s.line.0 (at_queue m w.y))) one_on))
+          (changed c.agents c.ends _ f (action.Hop s) refused (outcome.Hopped k) h.shows answer refl refl refl (length-set c.ends s.end.0 (with_line w.x s.line.0 (at_queue (w.y.epoch + 1) w.y)))
           (counts_still c.agents c.ends f _ h.shows refl (λ d. refl) (λ d. refl) (λ a d l. refl)) (gone_shown c.agents c.ends f s w.x w.y h.shows w.at w.is hops.out)),
       refl,
     )

@@ -13,7 +13,7 @@ use Rattle.hub_core.specs.declared.line.Phase.TheVariants.{Out}
 use Rattle.hub_core.specs.declared.step.Action.{Action}
 use Rattle.hub_core.specs.declared.step.Action.TheVariants as action
 use Rattle.hub_core.specs.declared.outcome.Outcome.TheVariants as outcome
-use Rattle.hub_core.specs.Kept.{change_end, change_line, in_phase, held_by, gate_passed, at_next, adopted_end, closed_end, went, adopted_agents}
+use Rattle.hub_core.specs.Kept.{change_end, change_line, in_phase, held_by, gate_passed, at_queue, adopted_end, closed_end, went, adopted_agents}
 use Rattle.hub_core.specs.Kept.{change_agent, change_owner, one_away, one_out, queue_counted, queue_made, first_agent, new_end}
 use Rattle.hub_core.specs.Kept.{accept_ends, moved_ends, arrived_ends, front_taken, advanced_end, ports_of}
 use Rattle.hub_core.specs.declared.kind.Kind.TheVariants.{Port}
@@ -51,7 +51,7 @@ core_after c outcome.Left (action.Leave s) = record c {
   ends = change_line (in_phase Out) s c.ends;
   roster = record c.roster { cast = cast_after s.end.0 c.roster.cast };
 }
-core_after c (outcome.Hopped k) (action.Hop s) = record c { ends = change_line at_next s c.ends }
+core_after c (outcome.Hopped k) (action.Hop s) = record c { ends = change_line (at_queue k) s c.ends }
 core_after c outcome.Started (action.Start e) = record c { ends = change_end (λ x. record x { is_enabled = true }) e.0 c.ends }
 core_after c (outcome.Got v) (action.Take e) = record c { ends = arrived_ends (holder (seen c) e.0) v.ports (change_end front_taken e.0 c.ends) }
 core_after c outcome.Again (action.Take e) = record c { ends = change_end advanced_end e.0 c.ends }

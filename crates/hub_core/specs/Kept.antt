@@ -141,9 +141,9 @@ gate_passed s ends outcome.Moved = change_line (in_phase Turned) s ends
 gate_passed s ends outcome.Closed = change_line (in_phase Turned) s ends
 gate_passed s ends _ = ends
 
--- a line at the next queue, where it has put nothing
-abbrev pub at_next : Line → Line
-at_next y = record y { epoch = y.epoch + 1; put = 0 }
+-- a line at this queue, where it has put nothing
+abbrev pub at_queue : ℕ → Line → Line
+at_queue k y = record y { epoch = k; put = 0 }
 
 -- the ends with one of them, and with those that the list names, at another place
 abbrev pub end_moved : Place → List End → EndId → List End

@@ -44,19 +44,20 @@ impl Core {
         if !self.is_running(agent) || self.roster.is_casting() {
             return Ok(Outcome::NotNow);
         }
-        let number = self.ends.len();
-        let Some(group) = self.roster.members.group_named(agent, name)? else {
+        if !self.roster.members.has_origin(agent) {
             return Ok(Outcome::NoOrigin);
-        };
+        }
+        let number = self.ends.len();
         if number >= MAX_ENDS {
             return Ok(Outcome::TooManyEnds);
         }
         if memory_refused {
             return Ok(Outcome::NoMemory);
         }
-        let end = End::new(self.alloc, agent, Kind::Member(agent))?;
         self.ends.reserve(1)?;
-        self.roster.members.join(self.alloc, number as u32, group)?;
+        let end = End::new(self.alloc, agent, Kind::Member(agent))?;
+        let members = &mut self.roster.members;
+        members.join_named(self.alloc, number as u32, agent, name)?;
         self.ends.push(end).unwrap();
         Ok(Outcome::End(EndId(number as u32)))
     }

@@ -3,7 +3,7 @@
 ghost use Rattle.std.specs.Prelude.{◌≡◌, replicate, not, is_some, IfOk, None, slice_get, slice_set};
 ghost use Rattle.std.specs.List.{position};
 ghost use Rattle.hub_core.specs.Kept.{first_line, first_free, changed_lines, held_by, in_phase};
-ghost use Rattle.hub_core.specs.Kept.{is_anyone_at, is_anyone_from};
+ghost use Rattle.hub_core.specs.Kept.{at_queue, is_anyone_at, is_anyone_from};
 
 use hub_envelope::{AgentId, LineId, MAX_LINES};
 use std::alloc::{AllocError, Global};
@@ -123,6 +123,17 @@ impl Lines {
     {
         if let Some(kept) = self.lines.get_mut(line.0 as usize) {
             kept.phase = phase;
+        }
+    }
+
+    /// A line goes to this queue, where it has put nothing.
+    pub(crate) fn go_to(&mut self, line: LineId, epoch: u32)
+        ensures { let kept = slice_get self.old line.0 in
+            self.new ≡ changed_lines (at_queue epoch) line.0 self.old kept }
+    {
+        if let Some(kept) = self.lines.get_mut(line.0 as usize) {
+            kept.epoch = epoch;
+            kept.put = 0;
         }
     }
 

@@ -1,6 +1,7 @@
 //! Steps that look who is inside: Look and Sweep.
 
-ghost use Rattle.std.specs.Prelude.{◌≡◌, slice_get, IfOk, OnErr};
+ghost use Rattle.std.specs.Prelude.{◌≡◌, [], slice_get, IfOk, IfSome, OnOk, OnErr};
+ghost use Rattle.hub_core.specs.Kept.{change_end, joined};
 ghost use Rattle.hub_core.specs.Kept.{look_outcome_at, sweep_outcome_at, moved_ends, ports_of};
 ghost use Rattle.hub_core.specs.CoreSteps.{core_after};
 ghost use Rattle.hub_core.specs.declared.step.Action.TheVariants as action;
@@ -8,7 +9,7 @@ ghost use Rattle.hub_core.specs.declared.step.Action.TheVariants as action;
 use crate::end::Place;
 use crate::machine::Core;
 use crate::outcome::Outcome;
-use hub_envelope::{EndId, Envelope, OutOfMemory};
+use hub_envelope::{EndId, Envelope, Items, OutOfMemory};
 
 impl Core {
     /// The queue that is looked at becomes clear where nobody is inside or being turned back there.
@@ -39,8 +40,7 @@ impl Core {
         ensures new { IfOk result (λ o. self.new ≡ core_after self.old o (action.Sweep end)) }
         ensures err { OnErr result (self.new ≡ self.old) }
     {
-        let alloc = self.alloc;
-        let Some(found) = self.ends.get_mut(end.0 as usize) else {
+        let Some(found) = self.end_at(end) else {
             return Ok(Outcome::NotNow);
         };
         if !found.is_closed {
@@ -49,9 +49,24 @@ impl Core {
         if found.lines.is_anyone_from(found.looked) {
             return Ok(Outcome::Busy);
         }
-        let envelopes = found.queues.empty(alloc)?;
+        let envelopes = self.empty(end)?;
         self.place_swept(envelopes.as_slice());
         Ok(Outcome::Discarded(envelopes))
+    }
+
+    /// Takes what waits at an end, and leaves no queue there.
+    fn empty(&mut self, end: EndId) -> Result<Items<Envelope>, OutOfMemory>
+        ensures all { IfSome (slice_get self.old.ends end.0)
+            (λ x. IfOk result (λ envelopes. envelopes ≡ joined x.queues)) }
+        ensures new { OnOk result (self.new ≡ record self.old {
+          ends = change_end (λ x. record x { queues = [] }) end.0 self.old.ends;
+        }) }
+        ensures err { OnErr result (self.new ≡ self.old) }
+    {
+        match self.ends.get_mut(end.0 as usize) {
+            Some(found) => Ok(found.queues.empty(self.alloc)?),
+            None => Ok(Items::of(Vec::new(self.alloc))),
+        }
     }
 
     /// Gives each port that the envelopes name its place.

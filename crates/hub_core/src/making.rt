@@ -59,10 +59,10 @@ impl Core {
         }
         let first = EndId(number as u32);
         let second = EndId(number as u32 + 1);
-        let first_end = End::new(self.alloc, agent, Kind::Port(second))?;
-        let second_end = End::new(self.alloc, agent, Kind::Port(first))?;
         // With room for both no end is left alone.
         self.ends.reserve(2)?;
+        let first_end = End::new(self.alloc, agent, Kind::Port(second))?;
+        let second_end = End::new(self.alloc, agent, Kind::Port(first))?;
         self.ends.push(first_end).unwrap();
         self.ends.push(second_end).unwrap();
         Ok(Outcome::Ends(first, second))
@@ -92,8 +92,8 @@ impl Core {
         if memory_refused {
             return Ok(Outcome::NoMemory);
         }
-        let end = End::new(self.alloc, agent, kind)?;
         let counted = self.with_one_more(kind, agent)?;
+        let end = End::new(self.alloc, agent, kind)?;
         // What the agent has is counted once the end has its place.
         self.ends.push(end)?;
         self.set_agent(agent, counted);

@@ -1,10 +1,10 @@
 ghost use Rattle.std.specs.Prelude.{◌≡◌, ◌++◌, ◌∷◌, ◌<◌, ◌==◌, ℕ, [], if◌then◌else◌, map, not};
-ghost use Rattle.std.specs.Prelude.{slice_get, option_map, IfOk, OnOk, OnErr};
+ghost use Rattle.std.specs.Prelude.{slice_get, option_map, is_some, true, IfOk, OnOk, OnErr};
 ghost use Rattle.std.specs.BTreeMap.{get};
 ghost use Rattle.std.specs.Ordering.{nat_cmp};
 ghost use Rattle.hub_core.specs.KeptRoster.{group_cmp, numbers_of, numbers_in, seated_with};
 ghost use Rattle.hub_core.specs.KeptRoster.{group_of, is_seated_in, kept_destinations, origin_at};
-ghost use Rattle.hub_core.specs.KeptRoster.{Joins, SameMembers, Parts};
+ghost use Rattle.hub_core.specs.KeptRoster.{Joins, JoinsGroup, SameMembers, Parts};
 ghost use Rattle.hub_core.specs.Roster.{group_named};
 ghost use Rattle.hub_core.specs.declared.group.Group.{Group as GroupValue};
 
@@ -65,12 +65,16 @@ impl Members {
         Ok(())
     }
 
+    /// Whether an agent has an origin.
+    pub(crate) fn has_origin(&self, agent: AgentId) -> bool
+        ensures { result ≡ is_some (origin_at (slice_get self.now.origins agent.0)) }
+    {
+        let agents = &self.origins;
+        matches!(agents.origins.get(agent.0 as usize), Some(Some(_)))
+    }
+
     /// The group of the agent's channels of a name; `None` where the agent has no origin.
-    pub(crate) fn group_named(
-        &self,
-        agent: AgentId,
-        name: Text,
-    ) -> Result<Option<Group>, OutOfMemory>
+    fn group_named(&self, agent: AgentId, name: Text) -> Result<Option<Group>, OutOfMemory>
         ensures { let origin = origin_at (slice_get self.now.origins agent.0) in
             IfOk result (λ group. group ≡ group_named origin name) }
     {
@@ -84,13 +88,27 @@ impl Members {
         }
     }
 
-    /// The end joins a group, of which it has the greatest number.
-    pub(crate) fn join(
+    /// The end joins the group of its agent's channels of a name.
+    pub(crate) fn join_named(
         &mut self,
         alloc: Global,
         number: u32,
-        group: Group,
+        agent: AgentId,
+        name: Text,
     ) -> Result<(), OutOfMemory>
+        requires { is_some (origin_at (slice_get self.old.origins agent.0)) ≡ true }
+        ensures ok { let origin = origin_at (slice_get self.old.origins agent.0) in
+            OnOk result (JoinsGroup number (group_named origin name) self.old self.new) }
+        ensures err { OnErr result (SameMembers number self.old self.new) }
+    {
+        match self.group_named(agent, name)? {
+            Some(group) => self.join(alloc, number, group),
+            None => Ok(()),
+        }
+    }
+
+    /// The end joins a group, of which it has the greatest number.
+    fn join(&mut self, alloc: Global, number: u32, group: Group) -> Result<(), OutOfMemory>
         ensures ok { OnOk result (Joins number group self.old self.new) }
         ensures err { OnErr result (SameMembers number self.old self.new) }
     {

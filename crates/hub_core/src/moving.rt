@@ -1,7 +1,8 @@
 //! Steps that move an end or close it: Adopt, Close and Hand.
 
-ghost use Rattle.std.specs.Prelude.{◌≡◌, option_map, slice_get, Some, IfOk, OnErr};
-ghost use Rattle.hub_core.specs.Kept.{adopting};
+ghost use Rattle.std.specs.Prelude.{◌≡◌, ◌<◌, option_map, slice_get, Some, IfOk, IfSome, OnOk, OnErr};
+ghost use Rattle.hub_envelope.specs.declared.limits.TheConstants.{MAX_MOVES};
+ghost use Rattle.hub_core.specs.Kept.{adopting, adopted_end, change_end, closed_end};
 ghost use Rattle.hub_core.specs.Moving.{adopt_answer, close_answer, hand_answer, is_released};
 ghost use Rattle.hub_core.specs.Moving.{may_close, may_take_over};
 ghost use Rattle.hub_core.specs.Seen.{seen};
@@ -29,7 +30,6 @@ impl Core {
             ≡ core_after self.old o (action.Adopt end agent)) }
         ensures err { OnErr result (self.new ≡ self.old) }
     {
-        let at = end.0 as usize;
         let is_running = self.is_running(agent);
         let Some(found) = self.end_at(end) else {
             return Ok(Outcome::NotNow);
@@ -46,13 +46,25 @@ impl Core {
         if memory_refused {
             return Ok(Outcome::NoMemory);
         }
-        let kind = found.kind;
-        let adopting = self.adopting(kind, agent)?;
-        let found = &mut self.ends[at];
-        found.renew(self.alloc, agent)?;
-        let newest = found.newest;
+        let newest = found.newest + 1;
+        let adopting = self.adopting(found.kind, agent)?;
+        self.renew(end, agent)?;
         self.set_agent(agent, adopting);
         Ok(Outcome::Adopted(newest))
+    }
+
+    /// The agent has the end, with a new, disabled queue.
+    fn renew(&mut self, end: EndId, agent: AgentId) -> Result<(), OutOfMemory>
+        requires { IfSome (slice_get self.old.ends end.0) (λ x. x.newest < MAX_MOVES) }
+        ensures ok { OnOk result (self.new ≡ record self.old {
+          ends = change_end (adopted_end agent) end.0 self.old.ends;
+        }) }
+        ensures err { OnErr result (self.new ≡ self.old) }
+    {
+        match self.ends.get_mut(end.0 as usize) {
+            Some(found) => found.renew(self.alloc, agent),
+            None => Ok(()),
+        }
     }
 
     /// The agent, after an end of this kind came to it: of a port with its own poster away that
@@ -72,22 +84,30 @@ impl Core {
         ensures outcome { result ≡ close_answer (seen self.old) end }
         ensures new { self.new ≡ core_after self.old result (action.Close end) }
     {
-        let may = self.can_close(end);
-        let Some(found) = self.ends.get_mut(end.0 as usize) else {
+        let Some(found) = self.end_at(end) else {
             return Outcome::NotNow;
         };
         if found.is_closed {
             return Outcome::Closed;
         }
-        if !may {
+        if !self.can_close(end) {
             return Outcome::NotNow;
         }
         let kind = found.kind;
         let place = found.place;
-        found.is_closed = true;
-        found.place = Place::Gone;
         self.went_from(kind, place);
+        self.shut(end);
         Outcome::Done
+    }
+
+    /// An end is closed, and with no agent.
+    fn shut(&mut self, end: EndId)
+        ensures { self.new ≡ record self.old { ends = change_end closed_end end.0 self.old.ends } }
+    {
+        if let Some(found) = self.ends.get_mut(end.0 as usize) {
+            found.is_closed = true;
+            found.place = Place::Gone;
+        }
     }
 
     pub(crate) fn can_close(&self, end: EndId) -> bool
@@ -113,20 +133,19 @@ impl Core {
         ensures outcome { result ≡ hand_answer (seen self.old) end agent }
         ensures new { self.new ≡ core_after self.old result (action.Hand end agent) }
     {
-        let may = self.may_take_over(agent, self.running_holder(end));
-        let Some(found) = self.ends.get_mut(end.0 as usize) else {
+        let Some(found) = self.end_at(end) else {
             return Outcome::NotNow;
         };
         if found.is_closed {
             return Outcome::Closed;
         }
-        if !found.kind.is_queue() || !may {
+        if !found.kind.is_queue() || !self.may_take_over(agent, self.running_holder(end)) {
             return Outcome::NotNow;
         }
         let kind = found.kind;
         let place = found.place;
-        found.place = Place::Arrived(agent);
         self.went_from(kind, place);
+        self.place(end, Place::Arrived(agent));
         Outcome::Handed
     }
 

@@ -12,7 +12,7 @@ ghost use Rattle.hub_core.specs.Shows.{line_now};
 ghost use Rattle.hub_core.specs.Kept.{gate_passed, kept_noticing, kept_posting, notice_outcome};
 ghost use Rattle.hub_core.specs.Kept.{posting_at, push_outcome, HasQueue};
 ghost use Rattle.hub_core.specs.Kept.{put_ends, accept_ends, moved_ends, end_moved};
-ghost use Rattle.hub_core.specs.Kept.{change_line, in_phase};
+ghost use Rattle.hub_core.specs.Kept.{change_line, in_phase, at_queue};
 ghost use Rattle.hub_core.specs.CoreSteps.{core_after};
 ghost use Rattle.hub_core.specs.Moving.{hop_answer};
 ghost use Rattle.hub_core.specs.declared.step.Action.TheVariants as action;
@@ -102,7 +102,7 @@ impl Core {
         if !self.may_enter(sender) {
             return Outcome::NotNow;
         }
-        let Some(end) = self.ends.get_mut(sender.end.0 as usize) else {
+        let Some(end) = self.end_at(sender.end) else {
             return Outcome::NotNow;
         };
         let found = end.lines.get(sender.line).unwrap_or(Line::FIRST);
@@ -110,16 +110,19 @@ impl Core {
             return Outcome::NotNow;
         }
         let epoch = found.epoch + 1;
-        let put = 0;
-        end.lines.set(
-            sender.line,
-            Line {
-                epoch,
-                put,
-                ..found
-            },
-        );
+        self.go_to(sender, epoch);
         Outcome::Hopped(epoch)
+    }
+
+    /// A line stands at this queue now.
+    fn go_to(&mut self, sender: Sender, epoch: u32)
+        ensures { self.new ≡ record self.old {
+          ends = change_line (at_queue epoch) sender self.old.ends;
+        } }
+    {
+        if let Some(end) = self.ends.get_mut(sender.end.0 as usize) {
+            end.lines.go_to(sender.line, epoch);
+        }
     }
 
     pub(crate) fn push(
@@ -230,48 +233,32 @@ impl Core {
         ensures new { IfOk result (λ o. self.new ≡ core_after self.old o (action.Notice sender)) }
         ensures err { OnErr result (self.new ≡ self.old) }
     {
-        match self.noticing(sender, memory_refused) {
-            Ok(line) => {
-                let accepted = Acceptance {
-                    agent: AgentId(0),
-                    epoch: line.epoch,
-                    number: line.put,
-                };
-                let envelope = Envelope {
-                    end: sender.end,
-                    epoch: accepted.epoch,
-                    line: sender.line,
-                    number: accepted.number,
-                    agent: accepted.agent,
-                    body: Body::null(self.alloc)?,
-                    ports: Ports::none(self.alloc),
-                    notice: true,
-                };
-                self.accept(line, envelope)?;
-                Ok(Outcome::Accepted(accepted))
-            }
-            Err(refusal) => Ok(refusal),
-        }
-    }
-
-    /// The line, where its poster may put a notice now; or what the step is answered.
-    fn noticing(&self, sender: Sender, memory_refused: bool) -> Result<Line, Outcome>
-        ensures answer { result ≡ kept_noticing self.now sender memory_refused }
-        ensures there { IfOk result (λ line. (sender.end.0 < length self.now.ends)
-            × HasQueue self.now.ends sender line) }
-        ensures refused { IfErr result (λ o. core_after self.now o (action.Notice sender)
-            ≡ self.now) }
-    {
         let Some((_, line)) = self.posting_line(sender) else {
-            return Err(Outcome::NotNow);
+            return Ok(Outcome::NotNow);
         };
         if !self.hears_notice(sender) {
-            return Err(Outcome::NotNow);
+            return Ok(Outcome::NotNow);
         }
         if memory_refused {
-            return Err(Outcome::NoMemory);
+            return Ok(Outcome::NoMemory);
         }
-        Ok(line)
+        let accepted = Acceptance {
+            agent: AgentId(0),
+            epoch: line.epoch,
+            number: line.put,
+        };
+        let envelope = Envelope {
+            end: sender.end,
+            epoch: accepted.epoch,
+            line: sender.line,
+            number: accepted.number,
+            agent: accepted.agent,
+            body: Body::null(self.alloc)?,
+            ports: Ports::none(self.alloc),
+            notice: true,
+        };
+        self.accept(line, envelope)?;
+        Ok(Outcome::Accepted(accepted))
     }
 
     /// Puts an envelope on a line, and its ports in flight.
@@ -399,8 +386,8 @@ impl Core {
         }
     }
 
-    /// Gives a port a new place.
-    fn place(&mut self, port: EndId, place: Place)
+    /// Gives an end a new place.
+    pub(crate) fn place(&mut self, port: EndId, place: Place)
         ensures { self.new ≡ record self.old { ends = end_moved place self.old.ends port } }
     {
         if let Some(end) = self.ends.get_mut(port.0 as usize) {

@@ -135,15 +135,15 @@ impl Roster {
     pub(crate) fn leave(&mut self, end: EndId)
         ensures { self.new ≡ record self.old { cast = cast_after end.0 self.old.cast } }
     {
-        let Some(mut cast) = self.cast.take() else {
+        let Some(cast) = &mut self.cast else {
             return;
         };
-        if cast.left.is_first(end) {
-            cast.left.drop_first();
-            if cast.left.is_empty() {
-                return;
-            }
+        if !cast.left.is_first(end) {
+            return;
         }
-        self.cast = Some(cast);
+        cast.left.drop_first();
+        if cast.left.is_empty() {
+            self.cast = None;
+        }
     }
 }
