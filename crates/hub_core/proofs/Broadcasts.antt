@@ -1,10 +1,9 @@
 -- What the steps of broadcast channels are answered, and the agents and ends that they leave, are what the facts say.
 use Rattle.hub_core.proofs.Nexts.{Change, cast_begun}
 use Rattle.hub_core.proofs.Changing.{ShownWith}
-use Rattle.std.proofs.Common.{◌≡◌, ℕ, Bool, true, false, eqb, List, [], ◌∷◌, Option, Some, None, refl, sym, ap, ◌∙◌, length, rules}
+use Rattle.std.proofs.Common.{◌≡◌, ℕ, Bool, true, false, eqb, List, [], ◌∷◌, Option, refl, sym, ap, ◌∙◌, length, rules}
 use Rattle.std.proofs.lemmas.Bool.Decides.{nat_tests}
 use Rattle.std.specs.Prelude.{◌&&◌, not, is_some}
-use Rattle.std.specs.List.{slice_get}
 use Rattle.hub_envelope.specs.declared.ids.AgentId.{AgentId}
 use Rattle.hub_envelope.specs.declared.ids.EndId.{EndId}
 use Rattle.hub_core.specs.declared.agent.Agent.{Agent}
@@ -24,24 +23,16 @@ use Rattle.hub_core.specs.Shows.{ShowsFacts, ShowsRoster}
 use Rattle.hub_core.specs.CoreState.{CoreState}
 use Rattle.hub_core.specs.declared.members.Members.{Members}
 use Rattle.hub_core.specs.Seen.{seen}
-use Rattle.hub_core.specs.KeptCasting.{kept_cast_answer, kept_member_answer, member_made, part_outcome}
-use Rattle.hub_core.specs.KeptRoster.{group_of, is_seated_in, kept_destinations, origin_at}
+use Rattle.hub_core.specs.KeptCasting.{kept_cast_answer, part_outcome}
+use Rattle.hub_core.specs.KeptRoster.{group_of, is_seated_in, kept_destinations}
 use Rattle.hub_core.proofs.Casts.{destinations_kept, seated_kept, roster_cast}
 use Rattle.hub_core.proofs.Frames.{Stepped}
 use Rattle.hub_core.proofs.Seeing.{Sees, seen_is}
-use Rattle.hub_core.proofs.Makes.{member_shown}
 use Rattle.hub_core.proofs.Speakers.{made_by}
 use Rattle.hub_core.proofs.Nexts.{next}
 
--- ---- Member
-
 casting_kept : (r : Roster) (f : Facts) → ShowsRoster r f → is_some r.cast ≡ is_casting f
 casting_kept r f h = ap is_some (sym h.cast)
-
-pub member_told : (c : CoreState) (f : Facts) (a : AgentId) (name : List ℕ) (refused : Bool) → Sees c f → (let o : Outcome = kept_member_answer (((seen c).agent a.0).runs && not (is_some c.roster.cast)) (is_some (origin_at (slice_get c.roster.members.origins a.0))) (length c.ends) refused in Stepped c.agents (member_made a c.ends o) f (action.Member a name) refused o)
-member_told c f a name refused h =
-    member_shown c.agents c.ends f a name (((seen c).agent a.0).runs && not (is_some c.roster.cast)) (is_some (origin_at (slice_get c.roster.members.origins a.0))) refused h.shows
-    (ap (λ g. (g.agent a.0).runs && not (is_some g.roster.cast)) (seen_is c f h)) (ap is_some (sym (h.roster.origins a.0)))
 
 -- ---- another roster
 
@@ -57,12 +48,6 @@ reshown agents ends f roster h sound = record {
   away = h.away;
   sound = sound;
 }
-
-part_leaves : (agents : List Agent) (ends : List End) (f : Facts) (e : EndId) (refused : Bool) (o : Outcome) → ShowsFacts agents ends f → o ≡ part_answer f e → Stepped agents ends f (action.Part e) refused o
-part_leaves agents ends f e refused outcome.Done h answer = record { fits = answer; shows = reshown agents ends f (next f (action.Part e) outcome.Done).roster h (sound_next f (action.Part e) refused outcome.Done h.sound answer) }
-part_leaves agents ends f e refused (outcome.Clear None) h answer = record { fits = answer; shows = h }
-part_leaves agents ends f e refused (outcome.Clear (Some k)) h answer = record { fits = answer; shows = h }
-part_leaves agents ends f e refused o h answer = record { fits = answer; shows = h }
 
 -- ---- Cast
 
@@ -87,10 +72,11 @@ cast_changes c f e ports body refused h answer (cast_begun d ps b ends) = (
 
 -- ---- Part
 
-pub part_told : (agents : List Agent) (ends : List End) (r : Roster) (f : Facts) (e : EndId) (refused : Bool) → ShowsFacts agents ends f → ShowsRoster r f → (let o : Outcome = part_outcome (is_seated_in r.members e.0 (group_of r.members e.0) && not (is_some r.cast)) in Stepped agents ends f (action.Part e) refused o)
-part_told agents ends r f e refused h w =
-    part_leaves agents ends f e refused _ h
-    (ap (λ b. part_outcome (b && not (is_some r.cast))) (seated_kept r f e.0 w) ∙ ap (λ b. part_outcome (has_end e.0 f.roster.members && not b)) (casting_kept r f w))
+pub part_answered : (r : Roster) (f : Facts) (e : EndId) → ShowsRoster r f → part_outcome (is_seated_in r.members e.0 (group_of r.members e.0) && not (is_some r.cast)) ≡ part_answer f e
+part_answered r f e w = ap (λ b. part_outcome (b && not (is_some r.cast))) (seated_kept r f e.0 w) ∙ ap (λ b. part_outcome (has_end e.0 f.roster.members && not b)) (casting_kept r f w)
+
+pub part_shown : (agents : List Agent) (ends : List End) (f : Facts) (e : EndId) (refused : Bool) → ShowsFacts agents ends f → outcome.Done ≡ part_answer f e → Stepped agents ends f (action.Part e) refused outcome.Done
+part_shown agents ends f e refused h answer = record { fits = answer; shows = reshown agents ends f (next f (action.Part e) outcome.Done).roster h (sound_next f (action.Part e) refused outcome.Done h.sound answer) }
 
 -- a cast that passes each test goes to the destinations
 pub cast_goes : (m : Option AgentId) (casting seated shut none : Bool) (p : Option AgentId) (ds es : List EndId) → is_some m ≡ true → casting ≡ false → seated ≡ true → shut ≡ true → is_some p ≡ true → none ≡ true → ds ≡ es → outcome.Destinations ds ≡ kept_cast_answer (is_some m && not casting) (seated && shut) p none es

@@ -273,12 +273,9 @@ module _ (r s : Roster) (f : Facts) (a : AgentId) (name : List ℕ) (refused : B
         cast = h.cast ∙ sym cast;
       }
 
-pub roster_member : (r s : Roster) (f : Facts) (a : AgentId) (name : List ℕ) (refused : Bool) (o : Outcome) → Sound f → ShowsRoster r f → Answers f (action.Member a name) refused o → MemberLeaves a.0 name r o s → ShowsRoster s (next f (action.Member a name) o)
-roster_member r s f a name refused (outcome.End e) sound h fits leaves =
+pub roster_member : (r s : Roster) (f : Facts) (a : AgentId) (name : List ℕ) (refused : Bool) (e : EndId) → Sound f → ShowsRoster r f → Answers f (action.Member a name) refused (outcome.End e) → MemberLeaves a.0 name r (outcome.End e) s → ShowsRoster s (next f (action.Member a name) (outcome.End e))
+roster_member r s f a name refused e sound h fits leaves =
     member_joins r s f a name refused e sound h fits (group_named (origin_at (slice_get r.members.origins a.0)) name) (ap (λ q. group_named q name) (h.origins a.0)) leaves.0 leaves.1
-roster_member r s f a name refused (outcome.Clear None) sound h fits leaves = subst (λ t. ShowsRoster t f) (sym leaves) h
-roster_member r s f a name refused (outcome.Clear (Some k)) sound h fits leaves = subst (λ t. ShowsRoster t f) (sym leaves) h
-roster_member r s f a name refused o sound h fits leaves = subst (λ t. ShowsRoster t f) (sym leaves) h
 
 -- ---- who has a seat
 
@@ -305,8 +302,8 @@ destinations_kept r f x a h kind = destinations_by r f x h (group_of r.members x
 
 -- ---- a member less
 
-pub roster_part : (r s : Roster) (f : Facts) (e : EndId) (o : Outcome) → ShowsRoster r f → o ≡ part_answer f e → PartLeaves e.0 r o s → ShowsRoster s (next f (action.Part e) o)
-roster_part r s f e outcome.Done h fits leaves =
+pub roster_part : (r s : Roster) (f : Facts) (e : EndId) → ShowsRoster r f → outcome.Done ≡ part_answer f e → PartLeaves e.0 r outcome.Done s → ShowsRoster s (next f (action.Part e) outcome.Done)
+roster_part r s f e h fits leaves =
     let there : has_end e.0 f.roster.members ≡ true = parts_when (has_end e.0 f.roster.members) (is_casting f) fits in
     let at = all_at (IsMemberNow f) e.0 f.roster.members h.each there in
     let after : Facts = next f (action.Part e) outcome.Done in
@@ -326,6 +323,3 @@ roster_part r s f e outcome.Done h fits leaves =
     parts_when : (there casting : Bool) → outcome.Done ≡ cond (there && not casting) outcome.Done outcome.NotNow → there ≡ true
     parts_when true casting is = refl
     parts_when false casting is = cc
-roster_part r s f e (outcome.Clear None) h fits leaves = subst (λ t. ShowsRoster t f) (sym leaves) h
-roster_part r s f e (outcome.Clear (Some k)) h fits leaves = subst (λ t. ShowsRoster t f) (sym leaves) h
-roster_part r s f e o h fits leaves = subst (λ t. ShowsRoster t f) (sym leaves) h

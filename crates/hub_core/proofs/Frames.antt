@@ -52,12 +52,6 @@ pub changed : (agents : List Agent) (ends after : List End) (f : Facts) (a : Act
 changed agents ends after f a refused o h fits same_agents same_agent same_ends count counted each =
     recounted agents agents ends after f a refused o h fits same_agents same_agent refl (λ x. refl) (same_ends ∙ h.ends ∙ sym count) counted each
 
--- a step that changes nothing
-pub unchanged : (agents : List Agent) (ends after : List End) (f : Facts) (a : Action) (refused : Bool) (o p : Outcome) → ShowsFacts agents ends f → next f a p ≡ f → o ≡ p → after ≡ ends → Answers f a refused p → Stepped agents after f a refused o
-unchanged agents ends after f a refused o p h nothing is same fits =
-    let at : Stepped agents ends f a refused p = record { fits = fits; shows = subst (ShowsFacts agents ends) (sym nothing) h } in
-    subst (λ q. Stepped agents after f a refused q) (sym is) (subst (λ es. Stepped agents es f a refused p) (sym same) at)
-
 -- with no agent and no end the history with no pair is shown
 pub shows_first : (agents : List Agent) (ends : List End) → agents ≡ [] → ends ≡ [] → ShowsFacts agents ends (facts [])
 shows_first agents ends none nothing = rw (none, nothing) (record {
@@ -70,11 +64,6 @@ shows_first agents ends none nothing = rw (none, nothing) (record {
   away = λ a. refl;
   sound = sound_first;
 })
-
--- ---- along equations
-
-pub along : (P : List Agent → List End → Outcome → Type 0) {gs hs : List Agent} {es fs : List End} {o p : Outcome} → hs ≡ gs → fs ≡ es → p ≡ o → P gs es o → P hs fs p
-along P {gs = gs} {hs = hs} {es = es} {fs = fs} {o = o} {p = p} a b c h = subst (λ x. P x fs p) (sym a) (subst (λ x. P gs x p) (sym b) (subst (λ x. P gs es x) (sym c) h))
 
 -- ---- one line
 

@@ -1,6 +1,6 @@
 -- Agent and Channel: what the core answers fits, and it shows the facts with the answered step.
 use Rattle.hub_core.proofs.Casts.{roster_agent}
-use Rattle.hub_core.proofs.Nexts.{Change, agent_made, channel_made}
+use Rattle.hub_core.proofs.Nexts.{Change, agent_made, channel_made, client_made, worker_made}
 use Rattle.hub_core.proofs.Changing.{ShownAfter, ShownWith}
 use Rattle.std.proofs.Common.{◌≡◌, ℕ, ◌+◌, ◌≤◌, Bool, true, false, cond, eqb, List, [], ◌∷◌, ◌++◌, length, get_or, Some, zero, suc, refl, sym, ap, subst, ◌∙◌, arith, length-append, inl, inr, rules, ◌<◌, Option, not, replicate, None, ne_eqb}
 use Rattle.std.specs.Prelude.{◌&&◌, nat_lt, nat_le, ◌||◌, is_some, option_map}
@@ -22,11 +22,10 @@ use Rattle.hub_core.specs.Facts.{AgentNow, EndNow, LineNow, Facts}
 use Rattle.hub_core.specs.Making.{agent_answer, channel_answer, queue_answer, is_client, is_worker, has_one}
 use Rattle.hub_core.specs.Sound.{no_end, no_line, total, Sound}
 use Rattle.hub_core.specs.Shows.{agent_now, end_now, line_now, ShowsPut, ShowsEnd, ShowsFacts, kept_clients, count_with, kept_workers, count_away, kept_away}
-use Rattle.hub_core.specs.Kept.{queue_made, first_line, kept_queue_answer, new_end, count_of, queue_counted, come, first_agent}
+use Rattle.hub_core.specs.Kept.{first_line, kept_queue_answer, new_end, count_of, come, first_agent}
 use Rattle.hub_core.proofs.Lists.{slice_get-append_front, slice_get-append_back, eqb_same, next_up}
-use Rattle.hub_core.proofs.Frames.{Stepped, unchanged}
+use Rattle.hub_core.proofs.Frames.{Stepped}
 use Rattle.hub_core.specs.CoreState.{CoreState}
-use Rattle.hub_core.specs.CoreSteps.{queue_core}
 use Rattle.hub_core.specs.Seen.{seen}
 use Rattle.hub_core.proofs.Seeing.{Sees, seen_is}
 use Rattle.hub_core.proofs.Sounds.{sound_next}
@@ -37,8 +36,6 @@ use Rattle.hub_core.specs.declared.step.Action.{Action}
 use Rattle.hub_core.specs.declared.kind.Kind.TheVariants.{Port, Client, Worker, Member}
 use Rattle.hub_core.proofs.Nexts.{next}
 use Rattle.hub_core.proofs.Counts.{New, counts_at, Counted, counted_new, none_of_kind, counts_of, come_length, come_now, IsCalmAt, away_at, calm_count, none_at}
-use Rattle.hub_core.specs.Unchanged.{changes_nothing}
-use Rattle.hub_core.proofs.Sames.{nothing_next}
 use Rattle.hub_core.specs.Fits.{Answers}
 use Rattle.hub_core.proofs.Totals.{total_same}
 use Rattle.std.proofs.lemmas.List.{length-replicate}
@@ -46,7 +43,8 @@ use Rattle.hub_core.specs.Posting.{is_with, is_out}
 use Rattle.hub_core.proofs.Fitting.{queue_made_of, member_made_of, new_agent, new_ends}
 use Rattle.hub_core.specs.Casting.{member_answer, is_casting}
 use Rattle.hub_core.specs.Kept.{set_agent, one_more}
-use Rattle.hub_core.specs.KeptCasting.{kept_member_answer, member_made}
+use Rattle.hub_core.specs.KeptCasting.{kept_member_answer}
+use Rattle.hub_core.specs.KeptRoster.{origin_at}
 use Rattle.hub_core.proofs.Lists.{set_again}
 use Rattle.hub_core.proofs.Calms.{calm_places}
 
@@ -324,23 +322,20 @@ queue_fits : (f : Facts) {b : Action} {k : Kind} {test : Option Kind → Bool} {
 queue_fits f refused o (makes_client a) is = is
 queue_fits f refused o (makes_worker a) is = is
 
-queue_nothing : (f : Facts) {b : Action} {k : Kind} {test : Option Kind → Bool} {a : AgentId} (o : Outcome) → Makes b k test a → changes_nothing o b ≡ true → next f b o ≡ f
-queue_nothing f {b = b} o makes h = nothing_next f o b h
-
 queue_rest : (f : Facts) {b : Action} {k : Kind} {test : Option Kind → Bool} {a : AgentId} (e : EndId) → Makes b k test a → next f b (outcome.End e) ≡ record f { ends = f.ends + 1; end = λ d. queue_now f a k d (eqb d e.0) }
 queue_rest f e (makes_client a) = refl
 queue_rest f e (makes_worker a) = refl
 
-queue_shows : (agents : List Agent) (ends : List End) (f : Facts) {b : Action} {k : Kind} {test : Option Kind → Bool} {a : AgentId} → Makes b k test a → ShowsFacts agents ends f → outcome.End (record { 0 = length ends }) ≡ queue_answer test f a false → Stepped (come k a agents) (ends ++ new_end a k ∷ []) f b false (outcome.End (record { 0 = length ends }))
-queue_shows agents ends f {b = b} {k = k} {test = test} {a = a} makes h answer =
+queue_shows : (agents : List Agent) (ends : List End) (f : Facts) {b : Action} {k : Kind} {test : Option Kind → Bool} {a : AgentId} (refused : Bool) → Makes b k test a → ShowsFacts agents ends f → outcome.End (record { 0 = length ends }) ≡ queue_answer test f a refused → Stepped (come k a agents) (ends ++ new_end a k ∷ []) f b refused (outcome.End (record { 0 = length ends }))
+queue_shows agents ends f {b = b} {k = k} {test = test} {a = a} refused makes h answer =
     let e : EndId = record { 0 = length ends } in
     let g : Facts = record f { ends = f.ends + 1; end = λ d. queue_now f a k d (eqb d (length ends)) } in
     let count : f.agents ≡ length agents = h.agents in
-    let known : a.0 < f.agents = running_made f a h.sound.places (queue_made_of f test a false e answer).runs in
+    let known : a.0 < f.agents = running_made f a h.sound.places (queue_made_of f test a refused e answer).runs in
     let counted : Counted (come k a agents) (next f b (outcome.End (record { 0 = f.ends }))) = counted_new agents f (next f b (outcome.End (record { 0 = f.ends }))) k a (omega arith) (queue_new agents ends f h makes) (counts_of agents ends f h) in
     let here : Counted (come k a agents) g = subst (Counted (come k a agents)) (ap (λ n. next f b (outcome.End (record { 0 = n }))) h.ends ∙ queue_rest f e makes) counted in
     record {
-      fits = queue_fits f false (outcome.End e) makes answer;
+      fits = queue_fits f refused (outcome.End e) makes answer;
       shows = subst (ShowsFacts (come k a agents) (ends ++ new_end a k ∷ [])) (sym (queue_rest f e makes)) (record {
         agents = h.agents ∙ sym (come_length k a agents);
         agent = λ x. h.agent x ∙ sym (come_now k a agents x);
@@ -349,7 +344,7 @@ queue_shows agents ends f {b = b} {k = k} {test = test} {a = a} makes h answer =
         clients = here.clients;
         workers = here.workers;
         away = here.away;
-        sound = subst Sound (queue_rest f e makes) (sound_next f b false (outcome.End e) h.sound (queue_fits f false (outcome.End e) makes answer));
+        sound = subst Sound (queue_rest f e makes) (sound_next f b refused (outcome.End e) h.sound (queue_fits f refused (outcome.End e) makes answer));
       });
     }
 
@@ -369,21 +364,23 @@ count_kept agents ends f (makes_worker a) h = worker_count (slice_get agents a.0
 abbrev made_by : Bool → Bool → Bool → ℕ → Outcome
 made_by may full refused n = cond (not may) outcome.NotNow (cond full outcome.TooManyEnds (cond refused outcome.NoMemory (outcome.End (record { 0 = n }))))
 
-queue_step : (agents : List Agent) (ends : List End) (f : Facts) {b : Action} {k : Kind} {test : Option Kind → Bool} {a : AgentId} (refused : Bool) → Makes b k test a → ShowsFacts agents ends f → (may full : Bool) → (refused_is : Bool) → refused ≡ refused_is → made_by may full refused_is (length ends) ≡ queue_answer test f a refused → Stepped (queue_counted a k agents (made_by may full refused_is (length ends))) (queue_made a k ends (made_by may full refused_is (length ends))) f b refused (made_by may full refused_is (length ends))
-queue_step agents ends f {b = b} refused makes h false full memory is answer = unchanged agents ends ends f b refused outcome.NotNow outcome.NotNow h (queue_nothing f outcome.NotNow makes refl) refl refl (queue_fits f refused outcome.NotNow makes answer)
-queue_step agents ends f {b = b} refused makes h true true memory is answer = unchanged agents ends ends f b refused outcome.TooManyEnds outcome.TooManyEnds h (queue_nothing f outcome.TooManyEnds makes refl) refl refl (queue_fits f refused outcome.TooManyEnds makes answer)
-queue_step agents ends f {b = b} refused makes h true false true is answer = unchanged agents ends ends f b refused outcome.NoMemory outcome.NoMemory h (queue_nothing f outcome.NoMemory makes refl) refl refl (queue_fits f refused outcome.NoMemory makes answer)
-queue_step agents ends f {b = b} {k = k} {test = test} {a = a} refused makes h true false false is answer =
-    subst (λ r. outcome.End (record { 0 = length ends }) ≡ queue_answer test f a r → Stepped (come k a agents) (ends ++ new_end a k ∷ []) f b r (outcome.End (record { 0 = length ends }))) (sym is) (queue_shows agents ends f makes h) answer
-
-pub queue_shown : (c : CoreState) (f : Facts) {b : Action} {k : Kind} {test : Option Kind → Bool} {a : AgentId} (refused : Bool) → Makes b k test a → Sees c f → (let o : Outcome = kept_queue_answer ((seen c).agent a.0).runs (count_of k (slice_get c.agents a.0)) (length c.ends) refused in Stepped (queue_core a k c o).agents (queue_core a k c o).ends f b refused o)
-queue_shown c f {b = b} {k = k} {test = test} {a = a} refused makes h =
+pub queue_answered : (c : CoreState) (f : Facts) {b : Action} {k : Kind} {test : Option Kind → Bool} {a : AgentId} (refused : Bool) → Makes b k test a → Sees c f → kept_queue_answer ((seen c).agent a.0).runs (count_of k (slice_get c.agents a.0)) (length c.ends) refused ≡ queue_answer test f a refused
+queue_answered c f {k = k} {test = test} {a = a} refused makes h =
     let held : ℕ = count_of k (slice_get c.agents a.0) in
-    let may : Bool = ((seen c).agent a.0).runs && eqb held 0 in
     let full : Bool = nat_le MAX_ENDS (length c.ends) in
-    let same : may ≡ ((f.agent a.0).runs && not (has_one test a f)) = ap (λ g. (g.agent a.0).runs && eqb held 0) (seen_is c f h) ∙ ap (λ d. (f.agent a.0).runs && d) (ap (λ n. eqb n 0) (count_kept c.agents c.ends f makes h.shows) ∙ none_of_kind test a f) in
-    let answer : made_by may full refused (length c.ends) ≡ queue_answer test f a refused = ap (λ d. made_by d full refused (length c.ends)) same ∙ ap (λ n. made_by ((f.agent a.0).runs && not (has_one test a f)) (nat_le MAX_ENDS n) refused n) (sym h.shows.ends) in
-    queue_step c.agents c.ends f refused makes h.shows may full refused refl answer
+    let same : ((seen c).agent a.0).runs && eqb held 0 ≡ ((f.agent a.0).runs && not (has_one test a f)) = ap (λ g. (g.agent a.0).runs && eqb held 0) (seen_is c f h) ∙ ap (λ d. (f.agent a.0).runs && d) (ap (λ n. eqb n 0) (count_kept c.agents c.ends f makes h.shows) ∙ none_of_kind test a f) in
+    ap (λ d. made_by d full refused (length c.ends)) same ∙ ap (λ n. made_by ((f.agent a.0).runs && not (has_one test a f)) (nat_le MAX_ENDS n) refused n) (sym h.shows.ends)
+
+queue_changes : (c : CoreState) (f : Facts) {b : Action} {k : Kind} {test : Option Kind → Bool} {a : AgentId} (refused : Bool) (e : EndId) → Makes b k test a → Sees c f → outcome.End e ≡ queue_answer test f a refused → Stepped (come k a c.agents) (c.ends ++ new_end a k ∷ []) f b refused (outcome.End e)
+queue_changes c f {b = b} {k = k} {test = test} {a = a} refused e makes h answer =
+    let same : e ≡ record { 0 = length c.ends } = (queue_made_of f test a refused e answer).number ∙ ap (λ m. let i : EndId = record { 0 = m } in i) h.shows.ends in
+    subst (λ i. Stepped (come k a c.agents) (c.ends ++ new_end a k ∷ []) f b refused (outcome.End i)) (sym same) (queue_shows c.agents c.ends f refused makes h.shows (ap outcome.End (sym same) ∙ answer))
+
+pub client_changes : (c : CoreState) (f : Facts) (a : AgentId) (refused : Bool) {o : Outcome} → Sees c f → o ≡ queue_answer is_client f a refused → Change (action.Client a) o → ShownAfter c f (action.Client a) refused o
+client_changes c f a refused h answer (client_made b e) = (queue_changes c f refused e (makes_client a) h answer, refl)
+
+pub worker_changes : (c : CoreState) (f : Facts) (a : AgentId) (refused : Bool) {o : Outcome} → Sees c f → o ≡ queue_answer is_worker f a refused → Change (action.Worker a) o → ShownAfter c f (action.Worker a) refused o
+worker_changes c f a refused h answer (worker_made b e) = (queue_changes c f refused e (makes_worker a) h answer, refl)
 
 -- ---- Member
 
@@ -405,11 +402,11 @@ member_new agents ends f a name h = record {
   nobody = λ l. ap (λ (y : LineNow). is_out y.phase) (unmade_lines f h.sound l);
 }
 
-member_shows : (agents : List Agent) (ends : List End) (f : Facts) (a : AgentId) (name : List ℕ) → ShowsFacts agents ends f → outcome.End (record { 0 = length ends }) ≡ member_answer f a false → Stepped agents (ends ++ new_end a (Member a) ∷ []) f (action.Member a name) false (outcome.End (record { 0 = length ends }))
-member_shows agents ends f a name h answer =
+member_shows : (agents : List Agent) (ends : List End) (f : Facts) (a : AgentId) (name : List ℕ) (refused : Bool) → ShowsFacts agents ends f → outcome.End (record { 0 = length ends }) ≡ member_answer f a refused → Stepped agents (ends ++ new_end a (Member a) ∷ []) f (action.Member a name) refused (outcome.End (record { 0 = length ends }))
+member_shows agents ends f a name refused h answer =
     let e : EndId = record { 0 = length ends } in
     let count : f.agents ≡ length agents = h.agents in
-    let known : a.0 < f.agents = running_made f a h.sound.places (member_made_of f a false e answer).runs in
+    let known : a.0 < f.agents = running_made f a h.sound.places (member_made_of f a refused e answer).runs in
     let counted : Counted (come (Member a) a agents) (next f (action.Member a name) (outcome.End (record { 0 = f.ends }))) = counted_new agents f (next f (action.Member a name) (outcome.End (record { 0 = f.ends }))) (Member a) a (omega arith) (member_new agents ends f a name h) (counts_of agents ends f h) in
     let here : Counted agents (next f (action.Member a name) (outcome.End e)) = subst (λ n. Counted agents (next f (action.Member a name) (outcome.End (record { 0 = n })))) h.ends (subst (λ gs. Counted gs (next f (action.Member a name) (outcome.End (record { 0 = f.ends })))) (come_same agents a a) counted) in
     record {
@@ -422,23 +419,22 @@ member_shows agents ends f a name h answer =
         clients = here.clients;
         workers = here.workers;
         away = here.away;
-        sound = sound_next f (action.Member a name) false (outcome.End e) h.sound answer;
+        sound = sound_next f (action.Member a name) refused (outcome.End e) h.sound answer;
       };
     }
 
 abbrev joined_by : Bool → Bool → Bool → Bool → ℕ → Outcome
 joined_by may named full refused n = cond (not may) outcome.NotNow (cond (not named) outcome.NoOrigin (cond full outcome.TooManyEnds (cond refused outcome.NoMemory (outcome.End (record { 0 = n })))))
 
-member_step : (agents : List Agent) (ends : List End) (f : Facts) (a : AgentId) (name : List ℕ) (refused : Bool) → ShowsFacts agents ends f → (may named full : Bool) → (memory : Bool) → refused ≡ memory → joined_by may named full memory (length ends) ≡ member_answer f a refused → Stepped agents (member_made a ends (joined_by may named full memory (length ends))) f (action.Member a name) refused (joined_by may named full memory (length ends))
-member_step agents ends f a name refused h false named full memory is answer = unchanged agents ends ends f (action.Member a name) refused outcome.NotNow outcome.NotNow h refl refl refl answer
-member_step agents ends f a name refused h true false full memory is answer = unchanged agents ends ends f (action.Member a name) refused outcome.NoOrigin outcome.NoOrigin h refl refl refl answer
-member_step agents ends f a name refused h true true true memory is answer = unchanged agents ends ends f (action.Member a name) refused outcome.TooManyEnds outcome.TooManyEnds h refl refl refl answer
-member_step agents ends f a name refused h true true false true is answer = unchanged agents ends ends f (action.Member a name) refused outcome.NoMemory outcome.NoMemory h refl refl refl answer
-member_step agents ends f a name refused h true true false false is answer =
-    subst (λ r. outcome.End (record { 0 = length ends }) ≡ member_answer f a r → Stepped agents (ends ++ new_end a (Member a) ∷ []) f (action.Member a name) r (outcome.End (record { 0 = length ends }))) (sym is) (member_shows agents ends f a name h) answer
+pub member_answered : (c : CoreState) (f : Facts) (a : AgentId) (refused : Bool) → Sees c f → kept_member_answer (((seen c).agent a.0).runs && not (is_some c.roster.cast)) (is_some (origin_at (slice_get c.roster.members.origins a.0))) (length c.ends) refused ≡ member_answer f a refused
+member_answered c f a refused h =
+    let named : Bool = is_some (origin_at (slice_get c.roster.members.origins a.0)) in
+    let may : Bool = (f.agent a.0).runs && not (is_casting f) in
+    ap (λ g. joined_by ((g.agent a.0).runs && not (is_some g.roster.cast)) named (nat_le MAX_ENDS (length c.ends)) refused (length c.ends)) (seen_is c f h)
+    ∙ ap (λ b. joined_by may b (nat_le MAX_ENDS (length c.ends)) refused (length c.ends)) (ap is_some (sym (h.roster.origins a.0)))
+    ∙ ap (λ n. joined_by may (is_some (f.roster.origin a.0)) (nat_le MAX_ENDS n) refused n) (sym h.shows.ends)
 
-pub member_shown : (agents : List Agent) (ends : List End) (f : Facts) (a : AgentId) (name : List ℕ) (may named refused : Bool) → ShowsFacts agents ends f → may ≡ ((f.agent a.0).runs && not (is_casting f)) → named ≡ is_some (f.roster.origin a.0) → (let o : Outcome = kept_member_answer may named (length ends) refused in Stepped agents (member_made a ends o) f (action.Member a name) refused o)
-member_shown agents ends f a name may named refused h mays names =
-    let full : Bool = nat_le MAX_ENDS (length ends) in
-    let answer : joined_by may named full refused (length ends) ≡ member_answer f a refused = ap (λ c. joined_by c named full refused (length ends)) mays ∙ ap (λ c. joined_by ((f.agent a.0).runs && not (is_casting f)) c full refused (length ends)) names ∙ ap (λ n. joined_by ((f.agent a.0).runs && not (is_casting f)) (is_some (f.roster.origin a.0)) (nat_le MAX_ENDS n) refused n) (sym h.ends) in
-    member_step agents ends f a name refused h may named full refused refl answer
+pub member_shown : (c : CoreState) (f : Facts) (a : AgentId) (name : List ℕ) (refused : Bool) (e : EndId) → Sees c f → outcome.End e ≡ member_answer f a refused → Stepped c.agents (c.ends ++ new_end a (Member a) ∷ []) f (action.Member a name) refused (outcome.End e)
+member_shown c f a name refused e h answer =
+    let same : e ≡ record { 0 = length c.ends } = (member_made_of f a refused e answer).number ∙ ap (λ m. let i : EndId = record { 0 = m } in i) h.shows.ends in
+    subst (λ i. Stepped c.agents (c.ends ++ new_end a (Member a) ∷ []) f (action.Member a name) refused (outcome.End i)) (sym same) (member_shows c.agents c.ends f a name refused h.shows (ap outcome.End (sym same) ∙ answer))

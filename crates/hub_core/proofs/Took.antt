@@ -1,12 +1,11 @@
 -- A step of the core from one value to another, and the clauses of `Core::step` that follow.
-use Rattle.std.proofs.Common.{◌≡◌, ℕ, Bool, true, List, [], ◌∷◌, ◌++◌, length, Result, Ok, Err, sym, ap, subst, ◌∙◌, inl, inr}
+use Rattle.std.proofs.Common.{◌≡◌, ℕ, Bool, true, List, [], ◌∷◌, ◌++◌, length, Some, None, Result, Ok, Err, refl, sym, ap, subst, ◌∙◌, inl, inr}
 use Rattle.std.specs.Prelude.{IfOk, OnErr, is_some, not, ◌&&◌}
 use Rattle.std.specs.List.{slice_get}
 use Rattle.std.proofs.lemmas.Bool.{false≢true}
 use Rattle.hub_envelope.specs.declared.ids.AgentId.{AgentId}
 use Rattle.hub_envelope.specs.declared.ids.EndId.{EndId}
 use Rattle.hub_core.specs.declared.members.Members.{Members}
-use Rattle.hub_core.specs.declared.roster.Roster.{Roster}
 use Rattle.hub_core.specs.declared.step.Action.TheVariants as action
 use Rattle.hub_core.specs.declared.outcome.Outcome.TheVariants as outcome
 use Rattle.hub_core.specs.CoreSteps.{core_after}
@@ -25,10 +24,12 @@ use Rattle.hub_core.specs.Laws.{InOrder}
 use Rattle.hub_core.specs.Memory.{takes_memory}
 use Rattle.hub_core.specs.Shows.{Shows, ShowsFacts, ShowsRoster, FitsAndShows, StillShows}
 use Rattle.hub_core.specs.Unchanged.{changes_nothing, SameContent}
-use Rattle.hub_core.proofs.Broadcasts.{member_told, part_told}
+use Rattle.hub_core.proofs.Broadcasts.{part_answered, part_shown}
+use Rattle.hub_core.proofs.Makes.{member_answered, member_shown}
+use Rattle.hub_core.specs.Casting.{member_answer, part_answer}
 use Rattle.hub_core.proofs.Casts.{same_members, leaves_roster, roster_stays, roster_member, roster_part}
 use Rattle.hub_core.proofs.Changing.{ShownAfter, ShownWith}
-use Rattle.hub_core.proofs.Frames.{Stepped, along}
+use Rattle.hub_core.proofs.Frames.{Stepped}
 use Rattle.hub_core.proofs.Nexts.{next, facts_next, Change, effect, nothing_changes}
 use Rattle.hub_core.proofs.Orders.{shows_in_order}
 use Rattle.hub_core.proofs.Stills.{same_shown}
@@ -55,15 +56,6 @@ pub same_err_with : {E : Type 0} (a : Action) (r : Result Outcome E) (old new : 
 same_err_with a (Ok o) old new takes same = tt
 same_err_with a (Err e) old new takes same = (takes, same)
 
--- a step that leaves the roster, by what it was answered and what it left
-pub took : (a : Action) (refused : Bool) (old new after : CoreState) (o p : Outcome) → o ≡ p → new ≡ after → after.roster ≡ old.roster → leaves_roster a ≡ true → ((f : Facts) → Sees old f → Stepped after.agents after.ends f a refused p) → (changes_nothing p a ≡ true → after ≡ old) → Took a refused old new o
-took a refused old new after o p says leaves roster stays k same = record {
-  shown = λ f s w.
-      let at : Stepped new.agents new.ends f a refused o = subst (λ q. Stepped new.agents new.ends f a refused q) (sym says) (subst (λ (c : CoreState). Stepped c.agents c.ends f a refused p) (sym leaves) (k f (record { shows = s; roster = w }))) in
-      (at, subst (λ r. ShowsRoster r (next f a o)) (sym (ap (λ (c : CoreState). c.roster) leaves ∙ roster)) (roster_stays old.roster f a refused o s.sound at.fits stays w));
-  same = λ nothing. same_content old new (leaves ∙ same (subst (λ q. changes_nothing q a ≡ true) says nothing));
-}
-
 -- a step by what it was answered, and what it changed
 pub took_where : (a : Action) (refused : Bool) (old new : CoreState) (o : Outcome) → new ≡ core_after old o a → ((f : Facts) → Sees old f → Answers f a refused o) → ((f : Facts) → Sees old f → Answers f a refused o → Change a o → ShownWith old f a refused o) → Took a refused old new o
 took_where a refused old new o leaves fits changes = record {
@@ -85,29 +77,40 @@ took_by a refused old new o leaves stays fits changes = took_where a refused old
 
 -- ---- steps that change the roster
 
-member_same : (a : AgentId) (name : List ℕ) (c : CoreState) (r : Roster) (o : Outcome) → MemberLeaves a.0 name c.roster o r → changes_nothing o (action.Member a name) ≡ true → (let d : CoreState = record c { ends = member_made a c.ends o; roster = r } in d) ≡ c
-member_same a name c r (outcome.End e) leaves h = absurd (false≢true h)
-member_same a name c r o leaves h = ap (λ q. let d : CoreState = record c { roster = q } in d) leaves
+-- a step that changed nothing
+stayed : (a : Action) (refused : Bool) (old new : CoreState) (o : Outcome) → new ≡ record old { roster = new.roster } → new.roster ≡ old.roster → ((f : Facts) → next f a o ≡ f) → ((f : Facts) → Sees old f → Answers f a refused o) → Took a refused old new o
+stayed a refused old new o leaves roster quiet fits =
+    let same : new ≡ old = leaves ∙ ap (λ r. let c : CoreState = record old { roster = r } in c) roster in
+    record {
+      shown = λ f s w. subst (λ (c : CoreState). Stepped c.agents c.ends f a refused o × ShowsRoster c.roster (next f a o)) (sym same) (
+        record { fits = fits f (record { shows = s; roster = w }); shows = subst (ShowsFacts old.agents old.ends) (sym (quiet f)) s },
+        subst (ShowsRoster old.roster) (sym (quiet f)) w,
+      );
+      same = λ nothing. same_content old new same;
+    }
 
 pub member_took : (a : AgentId) (name : List ℕ) (refused : Bool) (old new : CoreState) (o : Outcome) → o ≡ kept_member_answer (((seen old).agent a.0).runs && not (is_some old.roster.cast)) (is_some (origin_at (slice_get old.roster.members.origins a.0))) (length old.ends) refused → MemberLeaves a.0 name old.roster o new.roster → new ≡ record old { ends = member_made a old.ends o; roster = new.roster } → Took (action.Member a name) refused old new o
-member_took a name refused old new o says leaves same = record {
+member_took a name refused old new (outcome.End e) says leaves same = record {
   shown = λ f s w.
-      let at = along (λ gs es q. Stepped gs es f (action.Member a name) refused q) (ap (λ (c : CoreState). c.agents) same) (ap (λ (c : CoreState). c.ends) same ∙ ap (member_made a old.ends) says) says (member_told old f a name refused (record { shows = s; roster = w })) in
-      (at, roster_member old.roster new.roster f a name refused o s.sound w at.fits leaves);
-  same = λ nothing. same_content old new (same ∙ member_same a name old new.roster o leaves nothing);
+      let h : Sees old f = record { shows = s; roster = w } in
+      let answer : outcome.End e ≡ member_answer f a refused = says ∙ member_answered old f a refused h in
+      (subst (λ (c : CoreState). Stepped c.agents c.ends f (action.Member a name) refused (outcome.End e)) (sym same) (member_shown old f a name refused e h answer), roster_member old.roster new.roster f a name refused e s.sound w answer leaves);
+  same = λ nothing. absurd (false≢true nothing);
 }
-
-part_same : (e : EndId) (r s : Roster) (o : Outcome) → PartLeaves e.0 r o s → changes_nothing o (action.Part e) ≡ true → s ≡ r
-part_same e r s outcome.Done leaves h = absurd (false≢true h)
-part_same e r s o leaves h = leaves
+member_took a name refused old new (outcome.Clear None) says leaves same = stayed (action.Member a name) refused old new (outcome.Clear None) same leaves (λ f. refl) (λ f h. says ∙ member_answered old f a refused h)
+member_took a name refused old new (outcome.Clear (Some k)) says leaves same = stayed (action.Member a name) refused old new (outcome.Clear (Some k)) same leaves (λ f. refl) (λ f h. says ∙ member_answered old f a refused h)
+member_took a name refused old new o says leaves same = stayed (action.Member a name) refused old new o same leaves (λ f. refl) (λ f h. says ∙ member_answered old f a refused h)
 
 pub part_took : (e : EndId) (refused : Bool) (old new : CoreState) (o : Outcome) → (let m : Members = old.roster.members in o ≡ part_outcome (is_seated_in m e.0 (group_of m e.0) && not (is_some old.roster.cast))) → PartLeaves e.0 old.roster o new.roster → new ≡ record old { roster = new.roster } → Took (action.Part e) refused old new o
-part_took e refused old new o says leaves same = record {
+part_took e refused old new outcome.Done says leaves same = record {
   shown = λ f s w.
-      let at = along (λ gs es q. Stepped gs es f (action.Part e) refused q) (ap (λ (c : CoreState). c.agents) same) (ap (λ (c : CoreState). c.ends) same) says (part_told old.agents old.ends old.roster f e refused s w) in
-      (at, roster_part old.roster new.roster f e o w at.fits leaves);
-  same = λ nothing. same_content old new (same ∙ ap (λ r. let d : CoreState = record old { roster = r } in d) (part_same e old.roster new.roster o leaves nothing));
+      let answer : outcome.Done ≡ part_answer f e = says ∙ part_answered old.roster f e w in
+      (subst (λ (c : CoreState). Stepped c.agents c.ends f (action.Part e) refused outcome.Done) (sym same) (part_shown old.agents old.ends f e refused s answer), roster_part old.roster new.roster f e w answer leaves);
+  same = λ nothing. absurd (false≢true nothing);
 }
+part_took e refused old new (outcome.Clear None) says leaves same = stayed (action.Part e) refused old new (outcome.Clear None) same leaves (λ f. refl) (λ f h. says ∙ part_answered old.roster f e h.roster)
+part_took e refused old new (outcome.Clear (Some k)) says leaves same = stayed (action.Part e) refused old new (outcome.Clear (Some k)) same leaves (λ f. refl) (λ f h. says ∙ part_answered old.roster f e h.roster)
+part_took e refused old new o says leaves same = stayed (action.Part e) refused old new o same leaves (λ f. refl) (λ f h. says ∙ part_answered old.roster f e h.roster)
 
 -- ---- the clauses
 

@@ -14,15 +14,17 @@ use Rattle.hub_core.specs.declared.step.Action.{Action}
 use Rattle.hub_core.specs.declared.step.Action.TheVariants as action
 use Rattle.hub_core.specs.declared.outcome.Outcome.TheVariants as outcome
 use Rattle.hub_core.specs.Kept.{change_end, change_line, in_phase, held_by, gate_passed, at_queue, adopted_end, closed_end, went, adopted_agents}
-use Rattle.hub_core.specs.Kept.{change_agent, change_owner, one_away, one_out, queue_counted, queue_made, first_agent, new_end}
+use Rattle.hub_core.specs.Kept.{change_agent, change_owner, one_away, one_out, come, first_agent, new_end}
 use Rattle.hub_core.specs.Kept.{accept_ends, moved_ends, arrived_ends, front_taken, advanced_end, ports_of}
-use Rattle.hub_core.specs.declared.kind.Kind.TheVariants.{Port}
+use Rattle.hub_core.specs.declared.kind.Kind.TheVariants.{Port, Client, Worker}
 use Rattle.hub_core.specs.KeptEnding.{owner}
 use Rattle.hub_core.specs.Moving.{is_released}
 use Rattle.hub_core.specs.Roster.{cast_to, cast_after}
 
+-- the core after an agent made its queue of a kind
 abbrev pub queue_core : AgentId → Kind → CoreState → Outcome → CoreState
-queue_core a kind c o = record c { agents = queue_counted a kind c.agents o; ends = queue_made a kind c.ends o }
+queue_core a kind c (outcome.End e) = record c { agents = come kind a c.agents; ends = c.ends ++ new_end a kind ∷ [] }
+queue_core a kind c _ = c
 
 -- The core after a poster passed the gate, or was turned back there: it is one of its agent's that are away.
 abbrev pub entered_core : CoreState → Sender → Outcome → CoreState
@@ -31,14 +33,16 @@ entered_core c s o = record c {
   ends = gate_passed s c.ends o;
 }
 
--- The core after an answered step. What a Client and a Worker change is `queue_core`, and a Member and a Part change the
--- roster by a relation of `KeptRoster`: they aren't in this table.
+-- The core after an answered step. A Member and a Part change the roster by a relation of `KeptRoster`: they aren't in
+-- this table.
 abbrev pub core_after : CoreState → Outcome → Action → CoreState
 core_after c (outcome.Agent a) (action.Agent origin) = record c {
   agents = c.agents ++ first_agent ∷ [];
   roster = record c.roster { members = record c.roster.members { origins = c.roster.members.origins ++ origin ∷ [] } };
 }
 core_after c (outcome.Ends e p) (action.Channel a) = record c { ends = c.ends ++ new_end a (Port p) ∷ new_end a (Port e) ∷ [] }
+core_after c (outcome.End e) (action.Client a) = queue_core a Client c (outcome.End e)
+core_after c (outcome.End e) (action.Worker a) = queue_core a Worker c (outcome.End e)
 core_after c (outcome.Line l) (action.Line e a) = record c { ends = change_line (held_by (Some a)) (record { end = e; line = l }) c.ends }
 core_after c outcome.Done (action.Back s) = record c { ends = change_line (held_by None) s c.ends }
 core_after c outcome.In (action.Enter s) = entered_core c s outcome.In

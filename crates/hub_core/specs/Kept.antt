@@ -338,14 +338,6 @@ kept_queue_answer runs held n refused =
     else (if refused then outcome.NoMemory
     else outcome.End (record { 0 = n })))
 
-abbrev pub queue_made : AgentId → Kind → List End → Outcome → List End
-queue_made a kind old (outcome.End e) = old ++ new_end a kind ∷ []
-queue_made a kind old _ = old
-
-abbrev pub queue_counted : AgentId → Kind → List Agent → Outcome → List Agent
-queue_counted a kind old (outcome.End e) = come kind a old
-queue_counted a kind old _ = old
-
 abbrev pub line_within : Option ℕ → Option LineId
 line_within None = None
 line_within (Some l) = if nat_lt l MAX_LINES then Some (record { 0 = l }) else None

@@ -1,6 +1,6 @@
 //! What the core keeps of a line.
 
-ghost use Rattle.std.specs.Prelude.{◌≡◌, replicate, not, is_some, IfOk, None, slice_get, slice_set};
+ghost use Rattle.std.specs.Prelude.{◌≡◌, replicate, not, is_some, IfOk, slice_get, slice_set};
 ghost use Rattle.std.specs.List.{position};
 ghost use Rattle.hub_core.specs.Kept.{first_line, first_free, changed_lines, held_by, in_phase};
 ghost use Rattle.hub_core.specs.Kept.{at_queue, is_anyone_at, is_anyone_from};
@@ -139,8 +139,7 @@ impl Lines {
 
     /// Changes a line. A line that isn't there stays away.
     pub(crate) fn set(&mut self, line: LineId, value: Line)
-        ensures new { self.new ≡ slice_set self.old line.0 value }
-        ensures away { slice_get self.old line.0 ≡ None → self.new ≡ self.old }
+        ensures { self.new ≡ slice_set self.old line.0 value }
     {
         if let Some(kept) = self.lines.get_mut(line.0 as usize) {
             *kept = value;

@@ -4,12 +4,10 @@ use Rattle.hub_core.specs.Looking.{FitsSweep}
 use Rattle.hub_core.specs.Posting.{leave_answer}
 use Rattle.hub_core.specs.Making.{agent_answer, channel_answer}
 use Rattle.std.proofs.Common.{refl, ap, ◌∙◌, subst, sym}
-use Rattle.hub_core.specs.CoreSteps.{queue_core}
-use Rattle.hub_core.specs.declared.kind.Kind.TheVariants.{Client, Worker}
 use Rattle.hub_core.specs.declared.step.Action.TheVariants as action
-use Rattle.hub_core.proofs.Stepping.{ok_both, ok_all, client_same, worker_same}
-use Rattle.hub_core.proofs.Took.{ok, took, took_where, took_by, same_err, same_err_with, told, member_took, part_took}
-use Rattle.hub_core.proofs.Makes.{makes_client, makes_worker, agent_changes, channel_changes, queue_shown}
+use Rattle.hub_core.proofs.Stepping.{ok_both, ok_all, client_core, worker_core}
+use Rattle.hub_core.proofs.Took.{ok, took_where, took_by, same_err, same_err_with, told, member_took, part_took}
+use Rattle.hub_core.proofs.Makes.{makes_client, makes_worker, agent_changes, channel_changes, queue_answered, client_changes, worker_changes}
 use Rattle.hub_core.proofs.Holds.{line_fits, line_changes, back_changes}
 use Rattle.hub_core.proofs.Hands.{hand_changes}
 use Rattle.hub_core.proofs.Entering.{enter_changes, leave_changes}
@@ -52,15 +50,11 @@ returns-in-Channel c = told c.args.step (action.Channel c.in-Channel.agent) _ _ 
     (same_err (action.Channel c.in-Channel.agent) c.make_channel.result _ _ refl c.make_channel.ensures.err)
 
 pub returns-in-Client : goal.returns-in-Client
-returns-in-Client c = told c.args.step (action.Client c.in-Client.agent) _ _ _ c.in-Client.is (ok_both c.make_queue.result _ _ _ c.make_queue.ensures.outcome c.make_queue.ensures.new (λ o is leaves. took _ _ _ _ _ _ _ is (leaves ∙ ap (queue_core c.in-Client.agent Client c.args.self.now) is) refl refl
-    (λ f s. queue_shown c.args.self.now f _ (makes_client c.in-Client.agent) s)
-    (λ h. client_same _ _ _ h)))
+returns-in-Client c = told c.args.step (action.Client c.in-Client.agent) _ _ _ c.in-Client.is (ok_both c.make_queue.result _ _ _ c.make_queue.ensures.outcome c.make_queue.ensures.new (λ o is leaves. took_by _ _ c.args.self.now _ _ (leaves ∙ client_core c.in-Client.agent c.args.self.now o) refl (λ f s. is ∙ queue_answered c.args.self.now f _ (makes_client c.in-Client.agent) s) (λ f s fit change. client_changes c.args.self.now f c.in-Client.agent _ s fit change)))
     (same_err (action.Client c.in-Client.agent) c.make_queue.result _ _ refl c.make_queue.ensures.err)
 
 pub returns-in-Worker : goal.returns-in-Worker
-returns-in-Worker c = told c.args.step (action.Worker c.in-Worker.agent) _ _ _ c.in-Worker.is (ok_both c.make_queue-in-Worker.result _ _ _ c.make_queue-in-Worker.ensures.outcome c.make_queue-in-Worker.ensures.new (λ o is leaves. took _ _ _ _ _ _ _ is (leaves ∙ ap (queue_core c.in-Worker.agent Worker c.args.self.now) is) refl refl
-    (λ f s. queue_shown c.args.self.now f _ (makes_worker c.in-Worker.agent) s)
-    (λ h. worker_same _ _ _ h)))
+returns-in-Worker c = told c.args.step (action.Worker c.in-Worker.agent) _ _ _ c.in-Worker.is (ok_both c.make_queue-in-Worker.result _ _ _ c.make_queue-in-Worker.ensures.outcome c.make_queue-in-Worker.ensures.new (λ o is leaves. took_by _ _ c.args.self.now _ _ (leaves ∙ worker_core c.in-Worker.agent c.args.self.now o) refl (λ f s. is ∙ queue_answered c.args.self.now f _ (makes_worker c.in-Worker.agent) s) (λ f s fit change. worker_changes c.args.self.now f c.in-Worker.agent _ s fit change)))
     (same_err (action.Worker c.in-Worker.agent) c.make_queue-in-Worker.result _ _ refl c.make_queue-in-Worker.ensures.err)
 
 pub returns-in-Line : goal.returns-in-Line
