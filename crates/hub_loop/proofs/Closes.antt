@@ -13,7 +13,7 @@ use Rattle.hub_loop.specs.declared.closed_end.ClosedEnd.{ClosedEnd}
 use Rattle.hub_loop.specs.declared.closed_port.ClosedPort.{ClosedPort}
 use Rattle.hub_loop.specs.declared.held.Held.TheVariants.{Port, Client, Worker, Member, Line}
 use Rattle.hub_loop.specs.States.{OpenState, open_held, open_arrived}
-use Rattle.hub_loop.proofs.Ends.{count-push}
+use Rattle.hub_loop.proofs.Counted.{count-push}
 use Rattle.hub_loop.proofs.Notices.{notices-none, notices-one}
 
 -- the grave has the number of the end

@@ -1,8 +1,8 @@
 mod Adopts
 mod Asks
 mod Closes
+mod Counted
 mod Delivers
-mod Ends
 mod Looks
 mod Notices
 mod Pops
@@ -11,4 +11,5 @@ mod Reaches
 mod Scans
 mod Serves
 mod Starts
+mod Sweeps
 mod TakesNothing

@@ -18,7 +18,7 @@ use Rattle.hub_loop.specs.Ending.{is_held, is_open, is_queue, slot_passes, queue
 use Rattle.hub_loop.specs.Noticing.{open_number, port_in, ports_back, is_port_passing, port_numbers, ports_in, ClosesLast, AllClosed, SomeClosed, NamedBehind, AreEnded}
 use Rattle.hub_loop.specs.States.{ClosingState, DeliveryState, OpenState, open_arrived, open_held}
 use Rattle.hub_loop.specs.Telling.{IsTold, AreTold, NoticesMore}
-use Rattle.hub_loop.proofs.Ends.{rises, count-map}
+use Rattle.hub_loop.proofs.Counted.{rises, count-map}
 
 -- one more was put at the end of a list that is as it was
 pub push-same : {X : Type 0} (old same new : List X) (x : X) → same ≡ old → new ≡ same ++ x ∷ [] → new ≡ old ++ x ∷ []
@@ -71,12 +71,6 @@ behind-one closed swept old new g p before between after first more same told =
           ∙ ap (λ e. (swept ++ grave_ends old) ++ e ∷ []) same,
       told,
     )
-
--- the same ends stand in the same order, and the same is told
-pub behind-same : (first c d : ClosingState) → NamedBehind (closing_ends first) (closing_ends c) first.noticed c.noticed → closing_ends d ≡ closing_ends c → d.noticed ≡ c.noticed → NamedBehind (closing_ends first) (closing_ends d) first.noticed d.noticed
-behind-same first c d behind ends told =
-    subst (λ n. NamedBehind (closing_ends first) (closing_ends d) first.noticed n) (sym told)
-    (subst (λ ns. NamedBehind (closing_ends first) ns first.noticed c.noticed) (sym ends) behind)
 
 -- what is told goes on from what had begun
 pub ended-begun : (c : ClosingState) (ends : ℕ → ℕ) (ports : (PortSeat → Bool) → ℕ) (before : List ClosedPort) (o : Option ClosingState) → o ≡ Some c → AreEnded o ends ports (closing_ends c) before c.noticed

@@ -1,5 +1,5 @@
 -- All that a loop has, as one value.
-use Rattle.std.specs.Prelude.{◌≡◌, ℕ, Bool, List, Option, Some, None, Result, map}
+use Rattle.std.specs.Prelude.{◌≡◌, ℕ, Bool, List, Option, Some, None, Result}
 use Rattle.hub_bell.specs.Seats.{BoardSeat}
 use Rattle.hub_bell.specs.declared.steps.BoardStep.{BoardStep}
 use Rattle.hub_clients.specs.declared.handed_queue.HandedQueue.{HandedQueue}
@@ -11,7 +11,6 @@ use Rattle.hub_ports.specs.Seats.{PortSeat}
 use Rattle.hub_queue.specs.Counting.{Count}
 use Rattle.hub_loop.specs.declared.closed_port.ClosedPort.{ClosedPort}
 use Rattle.hub_loop.specs.declared.holding.Holding.{Holding}
-use Rattle.hub_loop.specs.declared.listed.Listed.{Listed}
 use Rattle.hub_loop.specs.declared.turn.Turn.{Turn}
 use Rattle.hub_loop.specs.Adopting.{closed_of}
 use Rattle.hub_loop.specs.Ending.{closing_ends, ends_in, passing_in}
@@ -31,7 +30,7 @@ pub record LoopState (H : Type 0) : Type 0 where
   pub closing : Option ClosingState
 
 abbrev pub holding_of : Holding → HoldingState
-holding_of h = record { bell = h.bell; held = h.held; ready = h.ready; next = h.next; lines = map (λ (l : Listed). (l.end, l.key)) h.lines.keys; closed = closed_of h.closed }
+holding_of h = record { bell = h.bell; held = h.ends.held; ready = h.ends.ready; next = h.ends.next; lines = h.ends.lines.keys; closed = closed_of h.closed }
 
 module _ {H : Type 0} where
   -- how many ends of this number the loop has, in whatever place

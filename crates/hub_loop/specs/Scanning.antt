@@ -9,7 +9,7 @@ use Rattle.hub_marks.specs.Finding.{HasStepped, LeadsTo}
 use Rattle.hub_marks.specs.Marking.{mark_of}
 use Rattle.hub_queue.specs.Counting.{Count}
 use Rattle.hub_loop.specs.declared.held.Held.{Held}
-use Rattle.hub_loop.specs.declared.holding.Holding.{Holding}
+use Rattle.hub_loop.specs.declared.ends.Ends.{Ends}
 use Rattle.hub_marks.specs.declared.ready.Ready.{Ready}
 use Rattle.hub_loop.specs.declared.serving.Served.{Served}
 use Rattle.hub_loop.specs.declared.serving.Served.TheVariants.{Given, Nothing}
@@ -31,7 +31,7 @@ pub record EndsSeat : Type 0 where
   pub ready : Ready
   pub next : ℕ
 
-abbrev pub ends_of : Holding → EndsSeat
+abbrev pub ends_of : Ends → EndsSeat
 ends_of h = record { held = h.held; ready = h.ready; next = h.next }
 
 -- the key of the end that gave an envelope is one of those that there are
@@ -102,7 +102,7 @@ AreAllServed old new before after (Nothing busy) =
     (keys : List ℕ) × AskedThese keys old new before after busy × InOrder old.next old.held.capacity keys
 
 -- The same as the loop promises it.
-abbrev pub IsServed : Holding → Holding → BoardSeat → BoardSeat → Count → Count → Served → Type 0
+abbrev pub IsServed : Ends → Ends → BoardSeat → BoardSeat → Count → Count → Served → Type 0
 IsServed old new heard hears before after served =
     (looks : List BoardStep) × HasStepped heard hears looks
     × AreServed old.next old.held new.held old.ready.marks looks before after served

@@ -17,10 +17,6 @@ started_held (Worker t) = Worker t
 started_held (Member m) = Member m
 started_held (Line s) = Line s
 
--- what is held under this key was started, if anything is
-abbrev pub IsStartedAt : Slab Held → Slab Held → ℕ → Type 0
-IsStartedAt old new key = (held : Held) → get old key ≡ Some held → new ≡ with_value old key (started_held held)
-
 -- The end of this kind and number was started under the very key where it is held. False: none is held, and nothing has changed.
 abbrev pub IsStartedAs : Kind → Slab Held → Slab Held → EndId → Bool → Type 0
 IsStartedAs kind old new end true =

@@ -60,10 +60,7 @@ impl<H: Handler + Drop, C: Checkpoint + Drop> EventLoop<H, C> {
         ensures closed { self.new.holding.closed ≡ self.old.holding.closed }
         ensures rest { self.new ≡ record self.old { holding = self.new.holding } }
     {
-        match self.holding.hold(held) {
-            Ok(()) => Ok(()),
-            Err(back) => Err((LoopError::OutOfMemory, back)),
-        }
+        self.holding.ends.hold(held)
     }
 
     /// Enables the port of this number, as `Port::start`. False where the loop doesn't hold it.
@@ -73,7 +70,7 @@ impl<H: Handler + Drop, C: Checkpoint + Drop> EventLoop<H, C> {
             × (self.new.holding.closed ≡ self.old.holding.closed) }
         ensures rest { self.new ≡ record self.old { holding = self.new.holding } }
     {
-        self.holding.start_kind(Kind::Port, end)
+        self.holding.ends.start_kind(Kind::Port, end)
     }
 
     /// Enables the client's queue of this number, as `ClientQueue::start_messages` and `loaded`.
@@ -84,7 +81,7 @@ impl<H: Handler + Drop, C: Checkpoint + Drop> EventLoop<H, C> {
             × (self.new.holding.closed ≡ self.old.holding.closed) }
         ensures rest { self.new ≡ record self.old { holding = self.new.holding } }
     {
-        self.holding.start_kind(Kind::Client, end)
+        self.holding.ends.start_kind(Kind::Client, end)
     }
 
     /// Lends the port of this number. `None` where the loop doesn't hold it.
@@ -93,8 +90,8 @@ impl<H: Handler + Drop, C: Checkpoint + Drop> EventLoop<H, C> {
             × (end_of port.now ≡ end)) }
         ensures none { IfNone result (HoldsNoPort self.old.holding.held end) }
     {
-        let key = self.holding.find_end(Kind::Port, end)?;
-        self.holding.lend(key)?.as_port()
+        let key = self.holding.ends.find_end(Kind::Port, end)?;
+        self.holding.ends.lend(key)?.as_port()
     }
 
     /// Lends the client's queue of this number. `None` where the loop doesn't hold it.
@@ -103,8 +100,8 @@ impl<H: Handler + Drop, C: Checkpoint + Drop> EventLoop<H, C> {
             × (queue.now.end ≡ end.0)) }
         ensures none { IfNone result (HoldsNoClient self.old.holding.held end) }
     {
-        let key = self.holding.find_end(Kind::Client, end)?;
-        self.holding.lend(key)?.as_client()
+        let key = self.holding.ends.find_end(Kind::Client, end)?;
+        self.holding.ends.lend(key)?.as_client()
     }
 
     /// Lends the member of this number. `None` where the loop doesn't hold it.
@@ -113,8 +110,8 @@ impl<H: Handler + Drop, C: Checkpoint + Drop> EventLoop<H, C> {
             × (member.now.taker.end ≡ end.0)) }
         ensures none { IfNone result (HoldsNoMember self.old.holding.held end) }
     {
-        let key = self.holding.find_end(Kind::Member, end)?;
-        self.holding.lend(key)?.as_member()
+        let key = self.holding.ends.find_end(Kind::Member, end)?;
+        self.holding.ends.lend(key)?.as_member()
     }
 
     /// Lends a line that posts at the end of this number. `None` where the loop holds none.
@@ -123,8 +120,8 @@ impl<H: Handler + Drop, C: Checkpoint + Drop> EventLoop<H, C> {
             × (line.now.name.end ≡ end)) }
         ensures none { IfNone result (HoldsNoLine self.old.holding.held end) }
     {
-        let key = self.holding.find_line(end)?;
-        self.holding.lend(key)?.as_line()
+        let key = self.holding.ends.find_line(end)?;
+        self.holding.ends.lend(key)?.as_line()
     }
 
     /// Whether it holds a line that posts at the end of this number.
@@ -133,7 +130,7 @@ impl<H: Handler + Drop, C: Checkpoint + Drop> EventLoop<H, C> {
             × Holds self.now.holding.held (LineHeld line) × (line.name.end ≡ end) }
         ensures none { result ≡ false → HoldsNoLine self.now.holding.held end }
     {
-        self.holding.find_line(end).is_some()
+        self.holding.ends.find_line(end).is_some()
     }
 
     /// Lends the handler.
@@ -157,8 +154,8 @@ impl<H: Handler + Drop, C: Checkpoint + Drop> EventLoop<H, C> {
             × (end_held held.now ≡ Some end)) }
         ensures none { IfNone result (HoldsNoEnd self.now.holding.held end) }
     {
-        let key = self.holding.find_end(Kind::End, end)?;
-        self.holding.held.get(key)
+        let key = self.holding.ends.find_end(Kind::End, end)?;
+        self.holding.ends.held.get(key)
     }
 
     /// The numbers of the ports, queues and members that the loop holds, in the order of their
@@ -166,7 +163,7 @@ impl<H: Handler + Drop, C: Checkpoint + Drop> EventLoop<H, C> {
     pub fn ends(&self) -> Result<Vec<EndId>, OutOfMemory>
         ensures { IfOk result (λ ends. ends.items ≡ ends_held self.now.holding.held) }
     {
-        self.holding.numbers(self.alloc)
+        self.holding.ends.numbers(self.alloc)
     }
 
     /// Gives the port, queue or member of this number out. `None` where the loop doesn't hold it.
@@ -178,7 +175,7 @@ impl<H: Handler + Drop, C: Checkpoint + Drop> EventLoop<H, C> {
         ensures closed { self.new.holding.closed ≡ self.old.holding.closed }
         ensures rest { self.new ≡ record self.old { holding = self.new.holding } }
     {
-        self.holding.release(end)
+        self.holding.ends.release(end)
     }
 
     /// Closes the port, queue or member of this number, which the loop holds no more: a member
@@ -199,10 +196,7 @@ impl<H: Handler + Drop, C: Checkpoint + Drop> EventLoop<H, C> {
         ensures same { (self.new.holding.next ≡ self.old.holding.next)
             × (self.new.holding.closed ≡ self.old.holding.closed) }
     {
-        let held = self.holding.release(end)?;
-        match held.close(rt, hub, roster) {
-            Ok(closed) => Some(closed),
-            Err(_) => unreachable!(),
-        }
+        let held = self.holding.ends.release(end)?;
+        held.close(rt, hub, roster).ok()
     }
 }

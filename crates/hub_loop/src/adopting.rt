@@ -32,7 +32,6 @@ use crate::closed_port::ClosedPort;
 use crate::delivery::Receiving;
 use crate::held::Held;
 use crate::holding::Holding;
-use crate::listed::Listed;
 use hub_clients::HandedQueue;
 use hub_envelope::{EndId, OutOfMemory};
 use hub_ports::{Arrived, Hub, Port};
@@ -63,22 +62,6 @@ fn adopt_handed<R: Wait>(
 }
 
 impl Holding {
-    // Makes room for one more end that is held, or one more that is closed.
-    fn make_room(&mut self) -> Result<(), OutOfMemory>
-        ensures held { IfOk result (λ _. HasRoomFor self.new.held 1) }
-        ensures graves { OnOk result
-            (vec_len self.new.closed.graves + 1 ≤ vec_capacity self.new.closed.graves) }
-        ensures noticed { OnOk result
-            (vec_len self.new.closed.noticed + 1 ≤ vec_capacity self.new.closed.noticed) }
-        ensures same { SameValues self.old.held self.new.held }
-        ensures closed { SameClosed (closed_of self.old.closed) (closed_of self.new.closed) }
-        ensures next { self.new.next ≡ self.old.next }
-    {
-        self.held.reserve(1)?;
-        self.closed.reserve(1)?;
-        Ok(())
-    }
-
     // Closes a port that was refused for good.
     fn close_unfit<R: Wait>(&mut self, rt: &R, hub: &Hub, arrived: Arrived)
         requires graves { vec_len self.old.closed.graves + 1 ≤ vec_capacity self.old.closed.graves }
@@ -86,8 +69,8 @@ impl Holding {
             ≤ vec_capacity self.old.closed.noticed }
         ensures buried { IsPortBuried arrived (closed_of self.old.closed)
             (closed_of self.new.closed) }
-        ensures held { self.new.held ≡ self.old.held }
-        ensures next { self.new.next ≡ self.old.next }
+        ensures held { self.new.ends.held ≡ self.old.ends.held }
+        ensures next { self.new.ends.next ≡ self.old.ends.next }
     {
         let (grave, port) = ClosedPort::close_arrived(rt, hub, arrived);
         self.closed.bury(grave, port);
@@ -102,18 +85,18 @@ impl Holding {
         queue: HandedQueue,
     ) -> Result<bool, HandedQueue>
         ensures ok { IfOk result (IsQueueAdopted queue
-            (stored self.old.held self.old.closed) (stored self.new.held self.new.closed)) }
+            (stored self.old.ends.held self.old.closed) (stored self.new.ends.held self.new.closed)) }
         ensures back { IfErr result (λ back. back ≡ queue) }
-        ensures err { OnErr result (SameStored (stored self.old.held self.old.closed)
-            (stored self.new.held self.new.closed)) }
-        ensures next { self.new.next ≡ self.old.next }
+        ensures err { OnErr result (SameStored (stored self.old.ends.held self.old.closed)
+            (stored self.new.ends.held self.new.closed)) }
+        ensures next { self.new.ends.next ≡ self.old.ends.next }
     {
         let Ok(bell) = self.prepare(queue.end()) else {
             return Err(queue);
         };
         match adopt_handed(rt, hub, queue, bell) {
             Ok(held) => {
-                self.put(held);
+                self.ends.put(held);
                 Ok(true)
             }
             Err((AdoptError::OutOfMemory, queue)) => { Err(queue) }
@@ -124,26 +107,22 @@ impl Holding {
         }
     }
 
-    // Makes room for an end of this number that is to be adopted, and lists it.
+    // Makes room for an end of this number that is to be adopted, and for what it is closed to.
     fn prepare(&mut self, end: EndId) -> Result<Bell, OutOfMemory>
-        ensures held { OnOk result (HasRoomFor self.new.held 1) }
-        ensures bit { OnOk result (HasBit self.new.ready.marks self.new.held.vacant_key) }
+        ensures held { OnOk result (HasRoomFor self.new.ends.held 1) }
+        ensures bit { OnOk result (HasBit self.new.ends.ready.marks self.new.ends.held.vacant_key) }
         ensures graves { OnOk result
             (vec_len self.new.closed.graves + 1 ≤ vec_capacity self.new.closed.graves) }
         ensures noticed { OnOk result
             (vec_len self.new.closed.noticed + 1 ≤ vec_capacity self.new.closed.noticed) }
-        ensures same { SameValues self.old.held self.new.held }
+        ensures same { SameValues self.old.ends.held self.new.ends.held }
         ensures closed { SameClosed (closed_of self.old.closed) (closed_of self.new.closed) }
-        ensures next { self.new.next ≡ self.old.next }
+        ensures next { self.new.ends.next ≡ self.old.ends.next }
     {
-        self.make_room()?;
-        let bell = self.bell.clone()?;
-        let listed = Listed {
-            end,
-            key: self.held.vacant_key(),
-        };
-        self.list(listed, false)?;
-        Ok(bell)
+        self.ends.held.reserve(1)?;
+        self.closed.reserve(1)?;
+        self.ends.ready.reserve(end, self.ends.held.vacant_key())?;
+        self.bell.clone()
     }
 
     // Adopts the first of the ports that were found and holds it. One that was adopted too often,
@@ -155,9 +134,9 @@ impl Holding {
         receiving: &mut Receiving,
     ) -> Result<bool, OutOfMemory>
         ensures adopted { IsFirstAdopted receiving.old receiving.new
-            (stored self.old.held self.old.closed) (stored self.new.held self.new.closed)
+            (stored self.old.ends.held self.old.closed) (stored self.new.ends.held self.new.closed)
             result }
-        ensures next { self.new.next ≡ self.old.next }
+        ensures next { self.new.ends.next ≡ self.old.ends.next }
     {
         let Some(first) = receiving.found.front() else {
             return Ok(false);
@@ -168,7 +147,7 @@ impl Holding {
         let arrived = receiving.found.pop_front().unwrap();
         match arrived.adopt(rt, hub, bell) {
             Ok(port) => {
-                self.put(Held::Port(port));
+                self.ends.put(Held::Port(port));
                 Ok(true)
             }
             Err((AdoptError::OutOfMemory, arrived)) => {
@@ -191,9 +170,9 @@ impl Holding {
         receiving: &mut Receiving,
     ) -> Result<(), OutOfMemory>
         ensures adopted { AreAllAdopted receiving.old receiving.new
-            (stored self.old.held self.old.closed) (stored self.new.held self.new.closed)
+            (stored self.old.ends.held self.old.closed) (stored self.new.ends.held self.new.closed)
             result }
-        ensures next { self.new.next ≡ self.old.next }
+        ensures next { self.new.ends.next ≡ self.old.ends.next }
     {
         loop {
             match self.adopt_first(rt, hub, receiving) {

@@ -1,8 +1,8 @@
 //! How a loop ends: what it holds is closed and swept, and then each port that is named there.
 
-ghost use Rattle.std.specs.Prelude.{◌≡◌, ℕ, [], count_by, OnOk};
+ghost use Rattle.std.specs.Prelude.{◌≡◌, ◌++◌, ℕ, [], count_by, OnOk};
 ghost use Rattle.std.specs.List.Sorted.{IsNonDecreasing};
-ghost use Rattle.hub_loop.specs.Ending.{is_grave, grave_ends, closing_ends};
+ghost use Rattle.hub_loop.specs.Ending.{is_grave, grave_ends, swept_ends, closing_ends};
 ghost use Rattle.hub_loop.specs.Noticing.{NamedBehind};
 
 use crate::closed_port::ClosedPort;
@@ -82,6 +82,96 @@ fn take_named<R: Wait>(
     Ok(VecDeque::from_vec(found))
 }
 
+// Sweeps these closed ends, in order. After an error the others are still there.
+fn sweep_all<R: Wait>(
+    rt: &R,
+    graves: &mut VecDeque<Grave>,
+    swept: &mut Vec<Swept>,
+) -> Result<(), OutOfMemory>
+    ensures same { swept_ends swept.new.items ++ grave_ends graves.new.items
+        ≡ swept_ends swept.old.items ++ grave_ends graves.old.items }
+    ensures all { OnOk result (graves.new.items ≡ []) }
+{
+    while !graves.is_empty() {
+        swept.reserve(1)?;
+        let grave = graves.pop_front().unwrap();
+        match grave.sweep_out(rt) {
+            Ok(discarded) => swept.push_reserved(discarded),
+            Err(grave) => {
+                graves.push_front_reserved(grave);
+                return Err(OutOfMemory);
+            }
+        }
+    }
+    Ok(())
+}
+
+// Closes these ports, in order: their graves are to be swept behind the others.
+fn close_found<R: Wait>(
+    rt: &R,
+    hub: &Hub,
+    found: &mut VecDeque<Arrived>,
+    graves: &mut VecDeque<Grave>,
+    noticed: &mut Vec<ClosedPort>,
+) -> Result<(), OutOfMemory>
+    ensures { NamedBehind (grave_ends graves.old.items) (grave_ends graves.new.items)
+        noticed.old.items noticed.new.items }
+{
+    while !found.is_empty() {
+        graves.reserve(1)?;
+        noticed.reserve(1)?;
+        let arrived = found.pop_front().unwrap();
+        let (grave, port) = ClosedPort::close_arrived(rt, hub, arrived);
+        graves.push_back_reserved(grave);
+        noticed.push_reserved(port);
+    }
+    Ok(())
+}
+
+// Takes the ports of the next discarded envelope out of flight. Whether there was one.
+fn look_further<R: Wait>(
+    rt: &R,
+    hub: &Hub,
+    swept: &[Swept],
+    next: &mut (usize, usize),
+    found: &mut VecDeque<Arrived>,
+) -> Result<bool, OutOfMemory> {
+    let (place, count) = *next;
+    let Some(swept) = swept.get(place) else {
+        return Ok(false);
+    };
+    let Some(envelope) = swept.envelopes().get(count) else {
+        *next = (place + 1, 0);
+        return Ok(true);
+    };
+    *found = take_named(rt, hub, envelope)?;
+    *next = (place, count + 1);
+    Ok(true)
+}
+
+// Gives the lines back. One that the directory refuses is dropped.
+fn give_back<R: Wait>(rt: &R, directory: &Directory, lines: &mut Vec<Poster>) {
+    while let Some(poster) = lines.pop() {
+        drop(directory.give_back(rt, poster));
+    }
+}
+
+// Takes the ports of a kept delivery out of flight, if that wasn't done.
+fn look_for_kept<R: Wait>(
+    rt: &R,
+    hub: &Hub,
+    kept: &mut Option<Delivery>,
+    found: &mut VecDeque<Arrived>,
+) -> Result<(), OutOfMemory> {
+    if let Some(delivery) = kept {
+        if delivery.arrival.is_none() {
+            *found = take_named(rt, hub, &delivery.envelope)?;
+        }
+    }
+    *kept = None;
+    Ok(())
+}
+
 impl Closing {
     /// These were closed, and nothing was swept yet.
     pub(crate) fn new(alloc: Global, closed: Closed) -> Closing
@@ -123,86 +213,6 @@ impl Closing {
         Ended { swept, noticed }
     }
 
-    // Sweeps the closed ends, in order.
-    fn sweep_all<R: Wait>(&mut self, rt: &R) -> Result<(), OutOfMemory>
-        ensures same { closing_ends self.new ≡ closing_ends self.old }
-        ensures noticed { self.new.noticed ≡ self.old.noticed }
-        ensures all { OnOk result (self.new.graves ≡ []) }
-    {
-        while !self.graves.is_empty() {
-            self.swept.reserve(1)?;
-            let grave = self.graves.pop_front().unwrap();
-            match grave.sweep_out(rt) {
-                Ok(swept) => self.swept.push_reserved(swept),
-                Err(grave) => {
-                    self.graves.push_front_reserved(grave);
-                    return Err(OutOfMemory);
-                }
-            }
-        }
-        Ok(())
-    }
-
-    // Closes the ports that were found, in order.
-    fn close_found<R: Wait>(&mut self, rt: &R, hub: &Hub) -> Result<(), OutOfMemory>
-        ensures { NamedBehind (closing_ends self.old) (closing_ends self.new)
-            self.old.noticed self.new.noticed }
-    {
-        while !self.found.is_empty() {
-            self.graves.reserve(1)?;
-            self.noticed.reserve(1)?;
-            let arrived = self.found.pop_front().unwrap();
-            let (grave, port) = ClosedPort::close_arrived(rt, hub, arrived);
-            self.graves.push_back_reserved(grave);
-            self.noticed.push_reserved(port);
-        }
-        Ok(())
-    }
-
-    // Takes the ports of the next discarded envelope out of flight. Whether there was one.
-    fn look_further<R: Wait>(&mut self, rt: &R, hub: &Hub) -> Result<bool, OutOfMemory>
-        ensures { self.new ≡ self.old }
-    {
-        let (place, count) = self.next;
-        let Some(swept) = self.swept.get(place) else {
-            return Ok(false);
-        };
-        let Some(envelope) = swept.envelopes().get(count) else {
-            self.next = (place + 1, 0);
-            return Ok(true);
-        };
-        self.found = take_named(rt, hub, envelope)?;
-        self.next = (place, count + 1);
-        Ok(true)
-    }
-
-    // Gives the lines back. One that the directory refuses is dropped.
-    fn give_back<R: Wait>(&mut self, rt: &R, directory: &Directory)
-        ensures { self.new ≡ self.old }
-    {
-        while let Some(poster) = self.lines.pop() {
-            drop(directory.give_back(rt, poster));
-        }
-    }
-
-    // Takes the ports of a kept delivery out of flight, if that wasn't done.
-    fn look_for_kept<R: Wait>(
-        &mut self,
-        rt: &R,
-        hub: &Hub,
-        kept: &mut Option<Delivery>,
-    ) -> Result<(), OutOfMemory>
-        ensures { self.new ≡ self.old }
-    {
-        if let Some(delivery) = kept {
-            if delivery.arrival.is_none() {
-                self.found = take_named(rt, hub, &delivery.envelope)?;
-            }
-        }
-        *kept = None;
-        Ok(())
-    }
-
     // Closes and sweeps the ports that were found, and looks for those of the next discarded
     // envelope. Whether there was one.
     fn close_further<R: Wait>(&mut self, rt: &R, hub: &Hub) -> Result<bool, OutOfMemory>
@@ -210,9 +220,21 @@ impl Closing {
             self.old.noticed self.new.noticed }
         ensures all { OnOk result (self.new.graves ≡ []) }
     {
-        self.close_found(rt, hub)?;
-        self.sweep_all(rt)?;
-        self.look_further(rt, hub)
+        close_found(
+            rt,
+            hub,
+            &mut self.found,
+            &mut self.graves,
+            &mut self.noticed,
+        )?;
+        sweep_all(rt, &mut self.graves, &mut self.swept)?;
+        look_further(
+            rt,
+            hub,
+            self.swept.as_slice(),
+            &mut self.next,
+            &mut self.found,
+        )
     }
 
     /// Sweeps what was closed, and gives the lines back. Then each port that is named by a kept
@@ -228,9 +250,9 @@ impl Closing {
             self.old.noticed self.new.noticed }
         ensures all { OnOk result (self.new.graves ≡ []) }
     {
-        self.sweep_all(rt)?;
-        self.give_back(rt, directory);
-        self.look_for_kept(rt, hub, kept)?;
+        sweep_all(rt, &mut self.graves, &mut self.swept)?;
+        give_back(rt, directory, &mut self.lines);
+        look_for_kept(rt, hub, kept, &mut self.found)?;
         for _ in rt.forever() {
             if !self.close_further(rt, hub)? {
                 return Ok(());

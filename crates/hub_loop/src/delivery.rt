@@ -103,9 +103,9 @@ impl Delivery {
         handler: &mut H,
     ) -> Result<(), OutOfMemory>
         ensures delivered { IsDelivered H.leaves H.refuses self.old self.new
-            (stored holding.old.held holding.old.closed)
-            (stored holding.new.held holding.new.closed) handler.old handler.new result }
-        ensures next { holding.new.next ≡ holding.old.next }
+            (stored holding.old.ends.held holding.old.closed)
+            (stored holding.new.ends.held holding.new.closed) handler.old handler.new result }
+        ensures next { holding.new.ends.next ≡ holding.old.ends.next }
     {
         self.look(rt, hub)?;
         let Some(receiving) = &mut self.arrival else {

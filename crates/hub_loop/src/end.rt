@@ -66,7 +66,7 @@ impl<H: Handler + Drop, C: Checkpoint + Drop> EventLoop<H, C> {
             count_by passes self.new.opened ≡ passing self.new passes) }
         ensures rest { SameButOpened self.old self.new }
     {
-        take_held(&mut self.holding.held, &mut self.opened)?;
+        take_held(&mut self.holding.ends.held, &mut self.opened)?;
         take_queues(&mut self.fetched, &mut self.opened)?;
         take_found(&mut self.kept, &mut self.opened)
     }

@@ -35,7 +35,7 @@ ghost use Rattle.hub_loop.specs.Ending.{
 };
 ghost use Rattle.hub_loop.specs.declared.held.Held.TheVariants.{Line as LineHeld};
 ghost use Rattle.hub_loop.specs.Noticing.{ClosesLast, open_number, port_in};
-ghost use Rattle.hub_loop.specs.States.{OpenState, open_arrived, open_held};
+ghost use Rattle.hub_loop.specs.States.{OpenState, open_held};
 ghost use Rattle.hub_loop.specs.Telling.{NoticesMore};
 
 use crate::closed_end::ClosedEnd;
@@ -76,31 +76,16 @@ impl Model for Open {
 }
 
 impl Open {
-    /// An end that was held.
-    fn of_held(held: Held) -> Open
-        ensures { result ≡ open_held held }
-    {
-        Open {
-            end: Opened::Held(held),
-        }
-    }
-
-    /// A port that was received and not yet adopted.
-    fn of_arrived(arrived: Arrived) -> Open
-        ensures { result ≡ open_arrived arrived }
-    {
-        Open {
-            end: Opened::Arrived(arrived),
-        }
-    }
-
     /// A queue that was fetched.
     fn of_queue(queue: HandedQueue) -> Open
         ensures { (passes : OpenState → Bool) → passes result ≡ queue_passes passes queue }
     {
-        match queue {
-            HandedQueue::Client(queue) => Open::of_held(Held::Client(queue)),
-            HandedQueue::Worker(queue) => Open::of_held(Held::Worker(queue)),
+        let held = match queue {
+            HandedQueue::Client(queue) => Held::Client(queue),
+            HandedQueue::Worker(queue) => Held::Worker(queue),
+        };
+        Open {
+            end: Opened::Held(held),
         }
     }
 
@@ -111,13 +96,6 @@ impl Open {
         match &self.end {
             Opened::Held(held) => held.end(),
             Opened::Arrived(arrived) => arrived.end(),
-        }
-    }
-
-    // Takes a member out of the roster.
-    fn leave<R: Wait>(&self, rt: &R, roster: &SharedRoster) {
-        if let Opened::Held(held) = &self.end {
-            held.leave(rt, roster);
         }
     }
 
@@ -244,7 +222,9 @@ impl Closed {
 /// a member of an agent whose queue is closed already.
 pub(crate) fn leave_all<R: Wait>(rt: &R, roster: &SharedRoster, all: &[Open]) {
     for opened in all {
-        opened.leave(rt, roster);
+        if let Opened::Held(held) = &opened.end {
+            held.leave(rt, roster);
+        }
     }
 }
 
@@ -260,7 +240,9 @@ fn take_at(held: &mut Slab<Held>, key: usize, opened: &mut Vec<Open>)
         ≡ count_by (slot_passes passes) held.old.slots + count_by passes opened.old.items }
 {
     match held.try_remove(key) {
-        Some(held) => opened.push_reserved(Open::of_held(held)),
+        Some(held) => opened.push_reserved(Open {
+            end: Opened::Held(held),
+        }),
         None => {}
     }
 }
@@ -328,7 +310,9 @@ fn take_ports(found: &mut VecDeque<Arrived>, opened: &mut Vec<Open>) -> Result<(
     while !found.is_empty() {
         opened.reserve(1)?;
         let arrived = found.pop_front().unwrap();
-        opened.push_reserved(Open::of_arrived(arrived));
+        opened.push_reserved(Open {
+            end: Opened::Arrived(arrived),
+        });
     }
     Ok(())
 }

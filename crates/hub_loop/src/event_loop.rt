@@ -185,7 +185,7 @@ impl<H: Handler + Drop, C: Checkpoint + Drop> EventLoop<H, C> {
         if let Some(delivery) = self.kept.take() {
             return Ok(delivery);
         }
-        match self.holding.serve(rt, &mut self.listener, steps) {
+        match self.holding.ends.serve(rt, &mut self.listener, steps) {
             Served::Nothing(busy) => Err(busy),
             Served::Given(_, envelope) => {
                 self.checkpoint.at(rt, self.agent, self.delivered);
@@ -299,12 +299,8 @@ impl<H: Handler + Drop, C: Checkpoint + Drop> EventLoop<H, C> {
         ensures rest { SameButFetched self.old self.new }
     {
         self.fetched.reserve(1)?;
-        let queue = match take_fetched(&mut self.fetched, end) {
-            Some(queue) => queue,
-            None => match directory.fetch(rt, end, self.agent) {
-                Some(handed) => handed.queue,
-                None => return Ok(false),
-            },
+        let Some(queue) = take_fetched(rt, directory, &mut self.fetched, end, self.agent) else {
+            return Ok(false);
         };
         match self.holding.adopt_queue(rt, hub, queue) {
             Ok(is_held) => Ok(is_held),
@@ -316,8 +312,14 @@ impl<H: Handler + Drop, C: Checkpoint + Drop> EventLoop<H, C> {
     }
 }
 
-// Takes the queue of this number out of those that were fetched.
-fn take_fetched(fetched: &mut Vec<HandedQueue>, end: EndId) -> Option<HandedQueue>
+// Takes the queue of this number out of those that were fetched, or else out of the directory.
+fn take_fetched<R: Wait>(
+    rt: &R,
+    directory: &Directory,
+    fetched: &mut Vec<HandedQueue>,
+    end: EndId,
+    agent: AgentId,
+) -> Option<HandedQueue>
     ensures queue { IfSome result (λ queue. (taker_of queue).end ≡ end.0) }
     ensures len { vec_len fetched.new ≤ vec_len fetched.old }
     ensures capacity { vec_capacity fetched.new ≡ vec_capacity fetched.old }
@@ -327,5 +329,6 @@ fn take_fetched(fetched: &mut Vec<HandedQueue>, end: EndId) -> Option<HandedQueu
             return Some(fetched.swap_remove(place));
         }
     }
-    None
+    let handed = directory.fetch(rt, end, agent)?;
+    Some(handed.queue)
 }

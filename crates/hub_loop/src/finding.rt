@@ -1,52 +1,46 @@
 //! How an end or a line is found by its number, lent and shown.
 
 ghost use Rattle.std.specs.Prelude.{◌≡◌, ◌↔◌, ℕ, true, IfOk, IfSome, IfNone};
-ghost use Rattle.std.specs.Option.{option_copied_mut};
+ghost use Rattle.std.specs.Option.{option_copied, option_copied_mut};
 ghost use Rattle.slab.specs.Slab.{get};
 ghost use Rattle.hub_loop.specs.Holding.{ends_held};
 ghost use Rattle.hub_loop.specs.Looking.{IsEndOf, IsFound, IsLineTo, IsSlotOf};
-ghost use Rattle.hub_loop.specs.Starting.{IsStartedAs, IsStartedAt};
+ghost use Rattle.hub_loop.specs.Starting.{IsStartedAs};
 ghost use Rattle.hub_marks.specs.Marking.{mark_of};
 
+use crate::ends::Ends;
 use crate::held::{Held, Kind};
-use crate::holding::Holding;
-use crate::listed::Listed;
 use hub_envelope::{EndId, OutOfMemory};
 use std::alloc::Global;
 use std::collections::BTreeSet;
 
 // The least key that is listed under this number.
-fn key_of(listed: &BTreeSet<Listed>, end: EndId) -> Option<usize> {
-    let first = Listed { end, key: 0 };
-    let last = Listed {
-        end,
-        key: usize::MAX,
-    };
-    let found = listed.range(first..=last).next()?;
-    Some(found.key)
+fn key_of(lines: &BTreeSet<(EndId, usize)>, end: EndId) -> Option<usize> {
+    let found = lines.range((end, 0)..=(end, usize::MAX)).next()?;
+    Some(found.1)
 }
 
-impl Holding {
-    // Whether the end of this kind and number is held under a key.
-    fn is_at(&self, key: usize, kind: Kind, end: EndId) -> bool
-        ensures { (result ≡ true) ↔ IsSlotOf (IsEndOf kind end) (get self.now.held key) }
-    {
-        match self.held.get(key) {
-            Some(held) => held.is_end(kind, end),
-            None => false,
-        }
+// Whether the end of this kind and number is held there.
+fn is_end(slot: Option<&Held>, kind: Kind, end: EndId) -> bool
+    ensures { (result ≡ true) ↔ IsSlotOf (IsEndOf kind end) (option_copied slot.entry) }
+{
+    match slot {
+        Some(held) => held.is_a(kind) && held.end() == end,
+        None => false,
     }
+}
 
-    // Whether a line that posts at the end of this number is held under a key.
-    fn is_line_at(&self, key: usize, end: EndId) -> bool
-        ensures { (result ≡ true) ↔ IsSlotOf (IsLineTo end) (get self.now.held key) }
-    {
-        match self.held.get(key) {
-            Some(held) => held.is_line_to(end),
-            None => false,
-        }
+// Whether a line that posts at the end of this number is held there.
+fn is_line(slot: Option<&Held>, end: EndId) -> bool
+    ensures { (result ≡ true) ↔ IsSlotOf (IsLineTo end) (option_copied slot.entry) }
+{
+    match slot {
+        Some(Held::Line(poster)) => poster.name().end == end,
+        _ => false,
     }
+}
 
+impl Ends {
     // The marked key under which the end of this kind and number is held.
     fn find_marked(&self, kind: Kind, end: EndId) -> Option<usize>
         ensures some { IfSome result (λ key. IsSlotOf (IsEndOf kind end) (get self.now.held key)) }
@@ -62,7 +56,7 @@ impl Holding {
             if marked >= high {
                 return None;
             }
-            if self.is_at(marked, kind, end) {
+            if is_end(self.held.get(marked), kind, end) {
                 return Some(marked);
             }
             key = marked + 1;
@@ -75,7 +69,7 @@ impl Holding {
         ensures { IsFound (IsEndOf kind end) self.now.held result }
     {
         if let Some(key) = self.ready.key_of(end) {
-            if self.is_at(key, kind, end) {
+            if is_end(self.held.get(key), kind, end) {
                 return Some(key);
             }
         }
@@ -88,12 +82,12 @@ impl Holding {
         ensures { IsFound (IsLineTo end) self.now.held result }
     {
         if let Some(key) = key_of(&self.lines, end) {
-            if self.is_line_at(key, end) {
+            if is_line(self.held.get(key), end) {
                 return Some(key);
             }
         }
         for key in 0..self.held.capacity() {
-            if self.is_line_at(key, end) {
+            if is_line(self.held.get(key), end) {
                 return Some(key);
             }
         }
@@ -111,27 +105,19 @@ impl Holding {
         self.held.get_mut(key)
     }
 
-    // Enables what is held under a key, and marks it: something may wait there.
-    fn start_at(&mut self, key: usize)
-        ensures held { IsStartedAt self.old.held self.new.held key }
-        ensures next { self.new.next ≡ self.old.next }
-        ensures closed { self.new.closed ≡ self.old.closed }
-    {
-        if let Some(held) = self.held.get_mut(key) {
-            held.start();
-            self.ready.marks.set(key);
-        }
-    }
-
-    /// Enables the end of this kind and number. Whether it is held.
+    /// Enables the end of this kind and number, and marks it: something may wait there. Whether it
+    /// is held.
     pub(crate) fn start_kind(&mut self, kind: Kind, end: EndId) -> bool
         ensures held { IsStartedAs kind self.old.held self.new.held end result }
         ensures next { self.new.next ≡ self.old.next }
-        ensures closed { self.new.closed ≡ self.old.closed }
     {
-        match self.find_end(kind, end) {
-            Some(key) => {
-                self.start_at(key);
+        let Some(key) = self.find_end(kind, end) else {
+            return false;
+        };
+        match self.held.get_mut(key) {
+            Some(held) => {
+                held.start();
+                self.ready.marks.set(key);
                 true
             }
             None => false,

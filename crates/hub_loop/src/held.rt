@@ -1,4 +1,4 @@
-ghost use Rattle.std.specs.Prelude.{◌≡◌, ◌≢◌, ◌↔◌, true, IfErr, IfNone, IfOk, IfSome};
+ghost use Rattle.std.specs.Prelude.{◌≡◌, ◌≢◌, IfErr, IfNone, IfOk, IfSome};
 ghost use Rattle.hub_broadcast.specs.Members.{MemberSeat};
 ghost use Rattle.hub_ports.specs.Seats.{PortSeat};
 ghost use Rattle.hub_queue.specs.Standing.{StandSeat};
@@ -6,7 +6,7 @@ ghost use Rattle.hub_queue.specs.Taking.{TakerSeat};
 ghost use Rattle.hub_loop.specs.Asking.{IsHeldAsked, IsHeldTaken};
 ghost use Rattle.hub_loop.specs.Closing.{IsEndClosed};
 ghost use Rattle.hub_loop.specs.Holding.{behind_of, end_held, number_of, seat_of};
-ghost use Rattle.hub_loop.specs.Looking.{is_a, IsEndOf, IsLineTo};
+ghost use Rattle.hub_loop.specs.Looking.{is_a};
 ghost use Rattle.hub_loop.specs.Starting.{started_held};
 ghost use Rattle.hub_loop.specs.declared.held.Held.TheVariants.{
   Port as PortHeld,
@@ -69,13 +69,8 @@ impl Held {
         }
     }
 
-    /// Whether it is a line.
-    pub(crate) fn is_line(&self) -> bool {
-        matches!(self, Held::Line(_))
-    }
-
     /// Whether it is an end of this kind.
-    fn is_a(&self, kind: Kind) -> bool
+    pub(crate) fn is_a(&self, kind: Kind) -> bool
         ensures { result ≡ is_a kind self.now }
     {
         match self {
@@ -84,23 +79,6 @@ impl Held {
             Held::Worker(_) => matches!(kind, Kind::End),
             Held::Member(_) => matches!(kind, Kind::End | Kind::Member),
             Held::Line(_) => false,
-        }
-    }
-
-    /// Whether it is the end of this kind and number.
-    pub(crate) fn is_end(&self, kind: Kind, end: EndId) -> bool
-        ensures { (result ≡ true) ↔ IsEndOf kind end self.now }
-    {
-        self.is_a(kind) && self.end() == end
-    }
-
-    /// Whether it is a line that posts at the end of this number.
-    pub(crate) fn is_line_to(&self, end: EndId) -> bool
-        ensures { (result ≡ true) ↔ IsLineTo end self.now }
-    {
-        match self {
-            Held::Line(poster) => poster.name().end == end,
-            _ => false,
         }
     }
 

@@ -11,10 +11,10 @@ ghost use Rattle.hub_ports.specs.Seats.{PortSeat};
 ghost use Rattle.hub_queue.specs.Standing.{StandSeat};
 
 use crate::checkpoint::Checkpoint;
+use crate::ends::Ends;
 use crate::event_loop::EventLoop;
 use crate::handler::Handler;
 use crate::held::{Held, Kind};
-use crate::holding::Holding;
 use hub_envelope::{AgentId, Body, EndId};
 use hub_ports::{Hub, Port, PortError, send};
 use hub_queue::Posted;
@@ -69,7 +69,7 @@ impl Held {
     }
 }
 
-impl Holding {
+impl Ends {
     // Posts from the port of this number.
     #[inline(always)]
     fn post<R: Wait>(
@@ -87,7 +87,6 @@ impl Holding {
         ensures same { IfErr result (λ _. self.new.held ≡ self.old.held) }
         ensures back { IfErr result (λ back. (back.0 ≡ body) × (back.1 ≡ transfer)) }
         ensures next { self.new.next ≡ self.old.next }
-        ensures closed { self.new.closed ≡ self.old.closed }
     {
         let Some(key) = self.find_end(Kind::Port, end) else {
             return Err((body, transfer));
@@ -115,7 +114,6 @@ impl Holding {
         ensures same { IfErr result (λ _. self.new.held ≡ self.old.held) }
         ensures back { IfErr result (λ back. (back.0 ≡ body) × (back.1 ≡ transfer)) }
         ensures next { self.new.next ≡ self.old.next }
-        ensures closed { self.new.closed ≡ self.old.closed }
     {
         let Some(key) = self.find_line(end) else {
             return Err((body, transfer));
@@ -150,7 +148,7 @@ impl<H: Handler + Drop, C: Checkpoint + Drop> EventLoop<H, C> {
             × (self.new.holding.closed ≡ self.old.holding.closed) }
         ensures rest { self.new ≡ record self.old { holding = self.new.holding } }
     {
-        self.holding.post(rt, hub, agent, end, body, transfer)
+        self.holding.ends.post(rt, hub, agent, end, body, transfer)
     }
 
     /// Posts over a line that the loop holds to the queue of this number, as `hub_ports::send`
@@ -174,6 +172,6 @@ impl<H: Handler + Drop, C: Checkpoint + Drop> EventLoop<H, C> {
             × (self.new.holding.closed ≡ self.old.holding.closed) }
         ensures rest { self.new ≡ record self.old { holding = self.new.holding } }
     {
-        self.holding.send(rt, hub, agent, end, body, transfer)
+        self.holding.ends.send(rt, hub, agent, end, body, transfer)
     }
 }

@@ -23,8 +23,8 @@ ghost use Rattle.hub_loop.specs.Serving.{
   IsAskedAt,
 };
 
+use crate::ends::Ends;
 use crate::held::Held;
-use crate::holding::Holding;
 use hub_envelope::Envelope;
 use hub_marks::Ready;
 use hub_queue::{Listener, Steps, Took};
@@ -101,7 +101,7 @@ fn is_listed(held: &Slab<Held>, ready: &Ready, key: usize) -> bool
 /// How many ends are asked in order before the loop looks which were rung.
 const A_TIME: usize = 64;
 
-impl Holding {
+impl Ends {
     // Asks the end under a key, if there is one. Its mark stays where more may wait there.
     fn ask<L: Ledger, R: Wait>(&mut self, rt: &R, key: usize, steps: &mut Steps<L>) -> Served
         ensures asked { IsAskedAt self.old.held self.new.held key steps.old steps.new result }
@@ -110,7 +110,6 @@ impl Holding {
         ensures capacity { self.new.held.capacity ≡ self.old.held.capacity }
         ensures listed { self.new.ready.listed ≡ self.old.ready.listed }
         ensures next { self.new.next ≡ self.old.next }
-        ensures closed { self.new.closed ≡ self.old.closed }
     {
         let served = ask_at(rt, &mut self.held, key, steps);
         match &served {
@@ -133,7 +132,6 @@ impl Holding {
         requires { high ≤ self.old.held.capacity }
         ensures asked { AreMarkedAsked low high (ends_of self.old) (ends_of self.new)
             steps.old steps.new result }
-        ensures closed { self.new.closed ≡ self.old.closed }
     {
         let mut busy = false;
         let mut key = low;
@@ -158,7 +156,6 @@ impl Holding {
         ensures served { AreMarkedServed (ends_of self.old) (ends_of self.new)
             steps.old steps.new result }
         ensures keys { length self.old.held.slots ≤ self.old.held.capacity }
-        ensures closed { self.new.closed ≡ self.old.closed }
     {
         let next = self.next;
         let high = self.held.capacity();
@@ -183,7 +180,6 @@ impl Holding {
         ensures served { AreMarkedServed (ends_of self.old) (ends_of self.new)
             steps.old steps.new result }
         ensures looks { (looks : List BoardStep) × HasStepped listener.old listener.new looks }
-        ensures closed { self.new.closed ≡ self.old.closed }
     {
         if key % A_TIME != A_TIME - 1 {
             return Served::Nothing(false);
@@ -208,7 +204,6 @@ impl Holding {
         ensures served { AreAskedBetween low high (ends_of self.old) (ends_of self.new)
             steps.old steps.new result }
         ensures looks { (looks : List BoardStep) × HasStepped listener.old listener.new looks }
-        ensures closed { self.new.closed ≡ self.old.closed }
     {
         let mut busy = false;
         for key in low..high {
@@ -235,7 +230,6 @@ impl Holding {
         ensures served { AreAllServed (ends_of self.old) (ends_of self.new)
             steps.old steps.new result }
         ensures looks { (looks : List BoardStep) × HasStepped listener.old listener.new looks }
-        ensures closed { self.new.closed ≡ self.old.closed }
     {
         let next = self.next;
         let high = self.held.capacity();
@@ -262,7 +256,6 @@ impl Holding {
         ensures given { IsServedMarked self.new.ready.marks result }
         ensures inside { IsServedInside self.new.held.capacity result }
         ensures next { self.new.next ≡ self.old.next }
-        ensures closed { self.new.closed ≡ self.old.closed }
     {
         self.ready.gather(listener);
         match self.serve_marked(rt, steps) {
@@ -287,7 +280,6 @@ impl Holding {
         ensures keys { length self.old.held.slots ≤ self.old.held.capacity }
         ensures given { IsServedMarked self.new.ready.marks result }
         ensures next { self.new.next ≡ next_after self.old.next result }
-        ensures closed { self.new.closed ≡ self.old.closed }
     {
         let served = self.serve_first(rt, listener, steps);
         if let Served::Given(key, _) = &served {

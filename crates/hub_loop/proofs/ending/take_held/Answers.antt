@@ -3,7 +3,7 @@ use Rattle.std.proofs.lemmas.Bool.{cases_eq}
 use Rattle.std.specs.Prelude.{count_by}
 use Rattle.slab.specs.Slab.{get}
 use Rattle.hub_loop.specs.Ending.{slot_passes}
-use Rattle.hub_loop.proofs.Ends.{count-none, empty-more, empty-all}
+use Rattle.hub_loop.proofs.Counted.{count-none, empty-more, empty-all}
 use Rattle.hub_loop.proofs.ending.take_held.Goals as goal
 
 pub returns-in_err-reserve-clause-moved : goal.returns-in_err-reserve-clause-moved

@@ -1,7 +1,7 @@
 use Rattle.std.proofs.Common.{◌≡◌, ◌+◌, ◌∙◌, ◌++◌, ◌∷◌, [], sym, subst, Some}
 use Rattle.std.specs.Prelude.{count_by}
 use Rattle.hub_loop.specs.Ending.{queue_passes}
-use Rattle.hub_loop.proofs.Ends.{count-pop, moves-one}
+use Rattle.hub_loop.proofs.Counted.{count-pop, moves-one}
 use Rattle.hub_loop.proofs.ending.take_queues.Goals as goal
 
 pub returns-in_err-reserve-clause-moved : goal.returns-in_err-reserve-clause-moved

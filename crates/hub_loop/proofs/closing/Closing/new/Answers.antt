@@ -3,7 +3,7 @@ use Rattle.std.specs.Prelude.{count_by}
 use Rattle.std.specs.List.Sorted.{IsNonDecreasing}
 use Rattle.std.proofs.lemmas.List.Sorted.{IsNonDecreasingBy-from_sort_by_key}
 use Rattle.hub_loop.specs.Ending.{is_grave, grave_ends}
-use Rattle.hub_loop.proofs.Ends.{count-permuted, rises}
+use Rattle.hub_loop.proofs.Counted.{count-permuted, rises}
 use Rattle.hub_loop.proofs.closing.Closing.new.Goals as goal
 
 pub returns-clause-sorted : goal.returns-clause-sorted

@@ -3,7 +3,7 @@ use Rattle.std.specs.Prelude.{count_by}
 use Rattle.hub_loop.specs.Ending.{is_grave, is_open}
 use Rattle.hub_loop.specs.Noticing.{ClosesLast, port_in}
 use Rattle.hub_loop.specs.Telling.{NoticesMore}
-use Rattle.hub_loop.proofs.Ends.{count-pop}
+use Rattle.hub_loop.proofs.Counted.{count-pop}
 use Rattle.hub_loop.proofs.Notices.{closes-none, closes-one}
 use Rattle.hub_loop.proofs.ending.Closed.close_all.Goals as goal
 

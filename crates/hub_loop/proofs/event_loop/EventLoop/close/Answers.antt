@@ -6,11 +6,11 @@ use Rattle.hub_loop.proofs.event_loop.EventLoop.close.Goals as goal
 pub returns-in_err-held-clause-none : goal.returns-in_err-held-clause-none
 returns-in_err-held-clause-none g c =
     let inside = c.self.inside in
-    if-none c.from_residual.result (sym (subst (λ h. c.args.self.now ≡ record {
+    if-none c.from_residual.result (sym (subst (λ e. c.args.self.now ≡ record {
       order = inside.order;
       listener = inside.listener;
       handler = inside.handler;
-      holding = holding_of h;
+      holding = holding_of (record inside.holding { ends = e });
       kept = inside.kept;
       fetched = inside.fetched.items;
       opened = inside.opened.items;

@@ -1,7 +1,7 @@
 use Rattle.std.proofs.Common.{◌∙◌, sym, ap, subst}
 use Rattle.hub_loop.specs.Ending.{closing_ends, swept_ends}
 use Rattle.hub_loop.specs.Looping.{holds, open_ports, HasEnded}
-use Rattle.hub_loop.proofs.Ends.{all-swept}
+use Rattle.hub_loop.proofs.Counted.{all-swept}
 use Rattle.hub_loop.proofs.Notices.{ended-further}
 use Rattle.hub_loop.proofs.event_loop.EventLoop.close_all.Goals as goal
 

@@ -6,4 +6,4 @@ use Rattle.hub_loop.proofs.event_loop.EventLoop.start_client.Goals as goal
 pub returns-clause-started : goal.returns-clause-started
 returns-clause-started g c =
     subst (λ l. StartsClient l.holding.held c.start_kind.new.self.held c.args.end c.start_kind.result) c.self.view_is
-    (starts-client c.self.inside.holding.held c.start_kind.new.self.held c.args.end c.start_kind.result c.start_kind.ensures.held)
+    (starts-client c.self.inside.holding.ends.held c.start_kind.new.self.held c.args.end c.start_kind.result c.start_kind.ensures.held)

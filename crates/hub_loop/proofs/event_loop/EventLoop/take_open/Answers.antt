@@ -1,7 +1,7 @@
 use Rattle.std.proofs.Common.{ap, arith}
 use Rattle.std.specs.Prelude.{count_by}
 use Rattle.hub_loop.specs.Ending.{arrived_passes, queue_passes}
-use Rattle.hub_loop.proofs.Ends.{on-ok}
+use Rattle.hub_loop.proofs.Counted.{on-ok}
 use Rattle.hub_loop.proofs.event_loop.EventLoop.take_open.Goals as goal
 
 pub returns-clause-all : goal.returns-clause-all

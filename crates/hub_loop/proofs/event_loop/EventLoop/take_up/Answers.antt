@@ -1,7 +1,6 @@
-use Rattle.std.proofs.Common.{◌≡◌, List, None, ap, rules, subst}
+use Rattle.std.proofs.Common.{◌≡◌, List, None, refl, rules, subst}
 use Rattle.hub_bell.specs.declared.steps.BoardStep.{BoardStep}
 use Rattle.hub_marks.specs.Finding.{HasStepped}
-use Rattle.hub_loop.specs.Adopting.{closed_of}
 use Rattle.hub_loop.specs.Looping.{holding_of}
 use Rattle.hub_loop.specs.Turning.{IsDue}
 use Rattle.hub_loop.proofs.Delivers.{due-given, due-nothing}
@@ -12,15 +11,14 @@ pub returns-clause-due : goal.returns-clause-due
 returns-clause-due g c =
     let inside = c.self.inside in
     let old = holding_of inside.holding in
-    let new = holding_of c.serve.new.self in
+    let new = holding_of (record inside.holding { ends = c.serve.new.self }) in
     let none : inside.kept ≡ None = search rules in
     let served = c.serve.ensures.served in
-    let closed = ap closed_of c.serve.ensures.closed in
     subst (λ l. (looks : List BoardStep) × HasStepped l.listener c.serve.new.listener looks × IsDue l.kept l.holding new looks c.args.steps.now c.serve.new.steps c.match-serve.result) c.self.view_is (
       served.0,
       served.1,
       elim c.match-serve.branch [
-        | in-Nothing w ↦ due-nothing inside.kept old new served.0 c.args.steps.now c.serve.new.steps c.serve.result w.in-Nothing.busy c.match-serve.result none w.in-Nothing.is w.result-is served.2 c.serve.ensures.next closed
-        | in-Given w ↦ due-given inside.kept old new served.0 c.args.steps.now c.serve.new.steps c.serve.result w.in-Given.field-0 w.in-Given.envelope w.new.result c.match-serve.result none w.in-Given.is w.result-is w.new.ensures served.2 c.serve.ensures.given c.serve.ensures.next closed
+        | in-Nothing w ↦ due-nothing inside.kept old new served.0 c.args.steps.now c.serve.new.steps c.serve.result w.in-Nothing.busy c.match-serve.result none w.in-Nothing.is w.result-is served.2 c.serve.ensures.next refl
+        | in-Given w ↦ due-given inside.kept old new served.0 c.args.steps.now c.serve.new.steps c.serve.result w.in-Given.field-0 w.in-Given.envelope w.new.result c.match-serve.result none w.in-Given.is w.result-is w.new.ensures served.2 c.serve.ensures.given c.serve.ensures.next refl
       ],
     )

@@ -55,7 +55,7 @@ returns-in-Err-deliver-clause-turn g c =
     let looks = c.take_up.ensures.due.0 in
     let (stepped, due) = taken-up _ old _ c.take_up.new.self looks c.args.steps.now c.take_up.new.steps c.take_up.result (Ok c.in-Ok.delivery) c.self.view_is c.self-2.view_is c.take_up.ensures.due.1 c.in-Ok.is c.take_up.ensures.due.2 in
     let handler : after.handler ≡ old.handler = ap (λ l. l.handler) c.self-2.view_is ∙ ap (λ l. l.handler) c.take_up.ensures.rest ∙ ap (λ l. l.handler) c.self.view_is in
-    let did = subst (λ h. IsDelivered {E = LoopError} g.H.Handler.leaves g.H.Handler.refuses c.in-Ok.delivery c.deliver.new.self (stored after.holding.held after.holding.closed) (stored c.deliver.new.holding.held c.deliver.new.holding.closed) h c.deliver.new.handler (Err OutOfMemory)) handler c.in-Err-deliver.ensures.delivered in
+    let did = subst (λ h. IsDelivered {E = LoopError} g.H.Handler.leaves g.H.Handler.refuses c.in-Ok.delivery c.deliver.new.self (stored after.holding.ends.held after.holding.closed) (stored c.deliver.new.holding.ends.held c.deliver.new.holding.closed) h c.deliver.new.handler (Err OutOfMemory)) handler c.in-Err-deliver.ensures.delivered in
     (looks, stepped, (c.in-Ok.delivery, c.deliver.new.self, holding_of after.holding, due, did, refl, c.deliver.ensures.next))
 
 pub returns-in-Err-deliver-clause-others : goal.returns-in-Err-deliver-clause-others

@@ -7,19 +7,19 @@ use Rattle.hub_loop.proofs.holding.Holding.adopt_all.Goals as goal
 pub loop-error-preserved : goal.loop-error-preserved
 loop-error-preserved g c =
     let kept = c.loop-error.invariant in
-    let first = subst (λ b. IsFirstAdopted {E = AllocError} c.loop-error.receiving c.adopt_first.new.receiving (stored c.loop-error.self.held c.loop-error.self.closed) (stored c.adopt_first.new.self.held c.adopt_first.new.self.closed) (Ok b)) c.in-Ok-true.field-0-test c.in-Ok-true.ensures.adopted in
+    let first = subst (λ b. IsFirstAdopted {E = AllocError} c.loop-error.receiving c.adopt_first.new.receiving (stored c.loop-error.self.ends.held c.loop-error.self.closed) (stored c.adopt_first.new.self.ends.held c.adopt_first.new.self.closed) (Ok b)) c.in-Ok-true.field-0-test c.in-Ok-true.ensures.adopted in
     record {
-      adopted = partly-more c.args.receiving.now c.loop-error.receiving c.adopt_first.new.receiving (stored c.args.self.now.held c.args.self.now.closed) (stored c.loop-error.self.held c.loop-error.self.closed) (stored c.adopt_first.new.self.held c.adopt_first.new.self.closed) first.0 kept.adopted first.1 first.2;
+      adopted = partly-more c.args.receiving.now c.loop-error.receiving c.adopt_first.new.receiving (stored c.args.self.now.ends.held c.args.self.now.closed) (stored c.loop-error.self.ends.held c.loop-error.self.closed) (stored c.adopt_first.new.self.ends.held c.adopt_first.new.self.closed) first.0 kept.adopted first.1 first.2;
       next = c.adopt_first.ensures.next ∙ kept.next;
     }
 
 pub returns-in-Ok-false-clause-adopted : goal.returns-in-Ok-false-clause-adopted
 returns-in-Ok-false-clause-adopted g c =
     let kept = c.loop-error.invariant in
-    let first = subst (λ b. IsFirstAdopted {E = AllocError} c.loop-error.receiving c.adopt_first.new.receiving (stored c.loop-error.self.held c.loop-error.self.closed) (stored c.adopt_first.new.self.held c.adopt_first.new.self.closed) (Ok b)) c.in-Ok-false.field-0-test c.in-Ok-false.ensures.adopted in (
+    let first = subst (λ b. IsFirstAdopted {E = AllocError} c.loop-error.receiving c.adopt_first.new.receiving (stored c.loop-error.self.ends.held c.loop-error.self.closed) (stored c.adopt_first.new.self.ends.held c.adopt_first.new.self.closed) (Ok b)) c.in-Ok-false.field-0-test c.in-Ok-false.ensures.adopted in (
       first.1,
-      all-done c.args.receiving.now c.adopt_first.new.receiving (stored c.args.self.now.held c.args.self.now.closed) (stored c.adopt_first.new.self.held c.adopt_first.new.self.closed)
-          (partly-same c.args.receiving.now c.loop-error.receiving c.adopt_first.new.receiving (stored c.args.self.now.held c.args.self.now.closed) (stored c.loop-error.self.held c.loop-error.self.closed) (stored c.adopt_first.new.self.held c.adopt_first.new.self.closed) kept.adopted (first.1 ∙ sym first.0) first.2 first.3)
+      all-done c.args.receiving.now c.adopt_first.new.receiving (stored c.args.self.now.ends.held c.args.self.now.closed) (stored c.adopt_first.new.self.ends.held c.adopt_first.new.self.closed)
+          (partly-same c.args.receiving.now c.loop-error.receiving c.adopt_first.new.receiving (stored c.args.self.now.ends.held c.args.self.now.closed) (stored c.loop-error.self.ends.held c.loop-error.self.closed) (stored c.adopt_first.new.self.ends.held c.adopt_first.new.self.closed) kept.adopted (first.1 ∙ sym first.0) first.2 first.3)
           first.1,
     )
 
@@ -27,4 +27,4 @@ pub returns-in-Err-clause-adopted : goal.returns-in-Err-clause-adopted
 returns-in-Err-clause-adopted g c =
     let kept = c.loop-error.invariant in
     let first = c.in-Err.ensures.adopted in
-    partly-same c.args.receiving.now c.loop-error.receiving c.adopt_first.new.receiving (stored c.args.self.now.held c.args.self.now.closed) (stored c.loop-error.self.held c.loop-error.self.closed) (stored c.adopt_first.new.self.held c.adopt_first.new.self.closed) kept.adopted first.0 first.1 first.2
+    partly-same c.args.receiving.now c.loop-error.receiving c.adopt_first.new.receiving (stored c.args.self.now.ends.held c.args.self.now.closed) (stored c.loop-error.self.ends.held c.loop-error.self.closed) (stored c.adopt_first.new.self.ends.held c.adopt_first.new.self.closed) kept.adopted first.0 first.1 first.2

@@ -5,8 +5,8 @@ use Rattle.hub_loop.proofs.holding.Holding.adopt_all.Given as goal
 
 abbrev pub invariant-loop-error : goal.invariant-loop-error
 invariant-loop-error g l = record {
-  adopted : (done : List PortSeat) × ArePartlyAdopted l.fn.receiving l.receiving (stored l.fn.self.held l.fn.self.closed) (stored l.self.held l.self.closed) done;
-  next : l.self.next ≡ l.fn.self.next;
+  adopted : (done : List PortSeat) × ArePartlyAdopted l.fn.receiving l.receiving (stored l.fn.self.ends.held l.fn.self.closed) (stored l.self.ends.held l.self.closed) done;
+  next : l.self.ends.next ≡ l.fn.self.ends.next;
 }
 
 abbrev pub decreases-loop-error : goal.decreases-loop-error

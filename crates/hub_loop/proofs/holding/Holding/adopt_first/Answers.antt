@@ -14,7 +14,7 @@ returns-in-Err-TooManyMoves-default g c =
     let mid = c.prepare.new.self in
     let unfit : IsUnfit error = search rules in
     let received : IsReceived p (Err (error, p)) = search rules in
-    let same : SameValues old.held c.close_unfit.new.self.held = search rules in
+    let same : SameValues old.ends.held c.close_unfit.new.self.ends.held = search rules in
     let came : c.in-Err-TooManyMoves-default.arrived ≡ p = search rules in
     let buried = subst (λ q. IsPortBuried q (closed_of mid.closed) (closed_of c.close_unfit.new.self.closed)) came c.close_unfit.ensures.buried in
     record {

@@ -1,0 +1,14 @@
+use Rattle.std.proofs.Common.{◌≤◌, ◌-◌, ℕ, List}
+use Rattle.hub_bell.specs.declared.steps.BoardStep.{BoardStep}
+use Rattle.hub_marks.specs.Finding.{HasStepped}
+use Rattle.hub_loop.specs.Scanning.{AskedThese, ends_of}
+use Rattle.hub_loop.specs.Serving.{HasOrder}
+use Rattle.hub_loop.proofs.ends.Ends.ask_between.Given as goal
+
+abbrev pub invariant-loop-key : goal.invariant-loop-key
+invariant-loop-key g l = record {
+  low : l.fn.low ≤ l.key;
+  high : l.key ≤ l.fn.high;
+  keys : (keys : List ℕ) × AskedThese keys (ends_of l.fn.self) (ends_of l.self) l.fn.steps l.steps l.busy × HasOrder l.fn.low (l.key - l.fn.low) keys;
+  looks : (looks : List BoardStep) × HasStepped l.fn.listener l.listener looks;
+}

@@ -1,0 +1,13 @@
+use Rattle.std.proofs.Common.{◌≡◌, Some, rules}
+use Rattle.slab.specs.Slab.{get}
+use Rattle.hub_loop.proofs.Posts.{sent-end, same-end}
+use Rattle.hub_loop.proofs.ends.Ends.send.Goals as goal
+
+pub invariant_of-self : goal.invariant_of-self
+invariant_of-self g c =
+    let old = c.args.self.now in
+    let was : get old.held c.in-Some.key ≡ Some c.in-Some-get_mut.held.now = search rules in
+    record {
+      room = old.room;
+      reached = same-end old.held old.ready c.in-Some.key c.in-Some-get_mut.held.now c.send.new.self was (sent-end c.args.agent c.args.body c.args.transfer.items c.in-Some-get_mut.held.now c.send.new.self c.send.result c.send.ensures.sent c.send.ensures.same) old.reached;
+    }

@@ -1,0 +1,105 @@
+//! The ends and the lines that a loop holds, each under its key.
+
+ghost use Rattle.std.specs.Prelude.{◌≡◌, Some, [], ◌≤◌, IfOk, OnOk, IfErr, OnErr, IfSome, IfNone};
+ghost use Rattle.slab.specs.Slab.{HasRoomFor, SameValues};
+ghost use Rattle.hub_loop.specs.Adopting.{HoldsMore};
+ghost use Rattle.hub_loop.specs.Holding.{end_held};
+ghost use Rattle.hub_loop.specs.Looking.{HoldsNoEnd};
+ghost use Rattle.hub_loop.specs.Reaching.{AreReached};
+ghost use Rattle.hub_marks.specs.Marking.{HasBit};
+
+use crate::held::{Held, Kind};
+use crate::loop_error::LoopError;
+use hub_envelope::{EndId, OutOfMemory};
+use hub_marks::Ready;
+use slab::Slab;
+use std::alloc::Global;
+use std::collections::BTreeSet;
+
+/// The ends and the lines that a loop holds.
+#[derive(Drop)]
+pub(crate) struct Ends {
+    /// Each under its key.
+    pub(crate) held: Slab<Held>,
+    /// The key with which the next asking begins.
+    pub(crate) next: usize,
+    /// The ends that are worth a look, and the keys of the ends by their numbers.
+    pub(crate) ready: Ready,
+    /// The lines, each by the number of the end at which it posts, with its key.
+    pub(crate) lines: BTreeSet<(EndId, usize)>,
+    ghost room: { next ≤ held.capacity },
+    ghost reached: { AreReached held ready },
+}
+
+impl Ends {
+    /// Nothing is held. It takes no memory.
+    pub(crate) fn new(alloc: Global) -> Ends
+        ensures { result.held.slots ≡ [] }
+    {
+        Ends {
+            held: Slab::new(alloc),
+            next: 0,
+            ready: Ready::new(alloc),
+            lines: BTreeSet::new(alloc),
+        }
+    }
+
+    /// Holds one more, for which there is room. An end is marked, since something may wait there.
+    pub(crate) fn put(&mut self, held: Held)
+        requires room { HasRoomFor self.old.held 1 }
+        requires bit { HasBit self.old.ready.marks self.old.held.vacant_key }
+        ensures held { HoldsMore self.old.held self.new.held held }
+        ensures next { self.new.next ≡ self.old.next }
+    {
+        let end = held.as_end();
+        let key = self.held.insert_reserved(held);
+        if let Some(end) = end {
+            self.ready.place(end, key);
+        }
+    }
+
+    /// Holds one more, under a key where nothing was held. Where there was no memory it comes back.
+    pub(crate) fn hold(&mut self, held: Held) -> Result<(), (LoopError, Held)>
+        ensures ok { OnOk result (HoldsMore self.old.held self.new.held held) }
+        ensures back { IfErr result (λ refused. refused.1 ≡ held) }
+        ensures err { OnErr result (SameValues self.old.held self.new.held) }
+        ensures next { self.new.next ≡ self.old.next }
+    {
+        if self.make_room(&held).is_err() {
+            return Err((LoopError::OutOfMemory, held));
+        }
+        self.put(held);
+        Ok(())
+    }
+
+    // Makes room for one more that is to be held, and for its mark. A line is listed.
+    fn make_room(&mut self, held: &Held) -> Result<(), OutOfMemory>
+        ensures room { IfOk result (λ _. HasRoomFor self.new.held 1) }
+        ensures bit { OnOk result (HasBit self.new.ready.marks self.new.held.vacant_key) }
+        ensures held { SameValues self.old.held self.new.held }
+        ensures next { self.new.next ≡ self.old.next }
+    {
+        self.held.reserve(1)?;
+        let key = self.held.vacant_key();
+        if let Some(end) = held.as_end() {
+            return self.ready.reserve(end, key);
+        }
+        self.ready.marks.reserve(key)?;
+        self.lines.insert((held.end(), key))?;
+        Ok(())
+    }
+
+    /// Gives the end of this number out. `None` where it isn't held.
+    pub(crate) fn release(&mut self, end: EndId) -> Option<Held>
+        ensures given { IfSome result (λ held. (end_held held ≡ Some end)
+            × HoldsMore self.new.held self.old.held held) }
+        ensures none { IfNone result (self.new.held ≡ self.old.held) }
+        ensures unchanged { IfNone result (self.new ≡ self.old) }
+        ensures missing { IfNone result (HoldsNoEnd self.old.held end) }
+        ensures next { self.new.next ≡ self.old.next }
+    {
+        let key = self.find_end(Kind::End, end)?;
+        self.ready.forget(end, key);
+        self.held.try_remove(key)
+    }
+}
