@@ -1,3 +1,7 @@
+ghost use Rattle.std.specs.Prelude.{◌≡◌, Ok, IfSome};
+ghost use Rattle.hub_envelope.specs.Answer.{answer_of};
+ghost use Rattle.hub_test_parts.specs.Parts.{IsDraftOf};
+
 use hub_envelope::{AgentId, Body, Draft, Ports};
 use hub_queue::{Bell, Listener};
 use std::alloc::Global;
@@ -16,7 +20,9 @@ pub fn bell(alloc: Global) -> Option<Bell> {
 }
 
 /// The body that a text stands for.
-pub fn body(alloc: Global, text: &str) -> Option<Body> {
+pub fn body(alloc: Global, text: &str) -> Option<Body>
+    ensures { IfSome result (λ body. answer_of text.now ≡ Ok body) }
+{
     match Body::read(alloc, text) {
         Ok(body) => Some(body),
         Err(_) => Body::read(alloc, text).ok(),
@@ -24,7 +30,9 @@ pub fn body(alloc: Global, text: &str) -> Option<Body> {
 }
 
 /// A draft of this agent with this body and no ports.
-pub fn draft(alloc: Global, agent: AgentId, text: &str) -> Option<Draft> {
+pub fn draft(alloc: Global, agent: AgentId, text: &str) -> Option<Draft>
+    ensures { IfSome result (IsDraftOf agent text.now) }
+{
     Some(Draft {
         agent,
         body: body(alloc, text)?,

@@ -1,3 +1,6 @@
+ghost use Rattle.std.specs.Prelude.{◌≡◌, ◌&&◌, ◌==◌, not, bytes_eq, IfSome};
+ghost use Rattle.hub_test_parts.specs.Parts.{IsTextPosted};
+
 use crate::making::draft;
 use hub_depot::Depot;
 use hub_envelope::{AgentId, Envelope};
@@ -17,7 +20,9 @@ pub fn post<R: Wait>(
     yard: &Depot<Onward>,
     poster: &mut Poster,
     text: &str,
-) -> Option<Posting> {
+) -> Option<Posting>
+    ensures { IfSome result (IsTextPosted poster.old poster.new text.now) }
+{
     post_with(rt, alloc, yard, poster, text, &NoPause)
 }
 
@@ -29,7 +34,9 @@ pub fn post_with<P: Pause, R: Wait>(
     poster: &mut Poster,
     text: &str,
     pause: &P,
-) -> Option<Posting> {
+) -> Option<Posting>
+    ensures { IfSome result (IsTextPosted poster.old poster.new text.now) }
+{
     let name = poster.name();
     match poster.post_with(rt, yard, draft(alloc, AgentId(0), text)?, pause) {
         Ok(posted) => {
@@ -49,7 +56,10 @@ pub fn post_with<P: Pause, R: Wait>(
 }
 
 /// Whether an envelope has this epoch, this number and this text, and is no notice.
-pub fn is_message(envelope: &Envelope, epoch: u32, number: u64, text: &str) -> bool {
+pub fn is_message(envelope: &Envelope, epoch: u32, number: u64, text: &str) -> bool
+    ensures { result ≡ (not envelope.now.notice && (envelope.now.epoch == epoch)
+        && (envelope.now.number == number) && bytes_eq envelope.now.body text.now) }
+{
     !envelope.notice
         && envelope.epoch == epoch
         && envelope.number == number
