@@ -18,16 +18,19 @@ pub(crate) struct Agent {
 impl Agent {
     /// `None` where there is no memory.
     pub(crate) fn open(alloc: Global, origin: Option<Origin>) -> Option<Agent> {
-        let mut orders = Order::open(alloc, 2).ok()?;
         let (listener, _) = Listener::open(alloc).ok()?;
-        Some(Agent {
-            origin,
-            is_ending: false,
-            given: orders.pop()?,
-            looked_at: orders.pop()?,
-            listener,
-            life: None,
-        })
+        let mut orders = Order::open(alloc, 2).ok()?;
+        match (orders.pop(), orders.pop()) {
+            (Some(given), Some(looked_at)) => Some(Agent {
+                origin,
+                is_ending: false,
+                given,
+                looked_at,
+                listener,
+                life: None,
+            }),
+            _ => None,
+        }
     }
 
     /// One more bell that wakes it. `None` where there is no memory.

@@ -5,7 +5,7 @@ use crate::seat::{Kind, Place};
 use crate::stop::Stop;
 use hub_core::Outcome;
 use hub_envelope::EndId;
-use hub_ports::{Arrived, Noticed, Port};
+use hub_ports::{Arrived, Noticed};
 use hub_queue::Grave;
 use hub_steps::Shown;
 use std::sync::Wait;
@@ -28,19 +28,15 @@ impl Player {
         let Some(seat) = self.seat_mut(end) else {
             return Err(Stop::Unexpected);
         };
-        if let Some(port) = seat.port.take() {
-            return self.close_held(rt, port);
+        match (seat.port.take(), seat.arrived.take()) {
+            (Some(port), _) => {
+                let (grave, _, noticed) = port.close(rt, &self.hub);
+                self.bury(grave)?;
+                Ok(closed(noticed))
+            }
+            (None, Some(arrived)) => self.close_arrived(rt, arrived),
+            (None, None) => Err(Stop::Unexpected),
         }
-        match seat.arrived.take() {
-            Some(arrived) => self.close_arrived(rt, arrived),
-            None => Err(Stop::Unexpected),
-        }
-    }
-
-    fn close_held<R: Wait>(&mut self, rt: &R, port: Port) -> Result<Shown, Stop> {
-        let (grave, _, noticed) = port.close(rt, &self.hub);
-        self.bury(grave)?;
-        Ok(closed(noticed))
     }
 
     /// Closes a port that has come and wasn't adopted.

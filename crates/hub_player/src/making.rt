@@ -45,14 +45,6 @@ impl Player {
         }
     }
 
-    /// Finds room for so many ends, before they are made.
-    fn reserve(&mut self, count: usize) -> Result<(), Stop> {
-        match self.seats.reserve(count) {
-            Ok(()) => Ok(()),
-            Err(_) => Err(Stop::OutOfMemory),
-        }
-    }
-
     /// Keeps a new end. Whether its number is the next one.
     fn add(&mut self, end: EndId, seat: Seat) -> bool {
         let is_next = end.0 as usize == self.seats.len();
@@ -63,7 +55,10 @@ impl Player {
         if !self.is_running(agent) {
             return not_now();
         }
-        self.reserve(2)?;
+        // Room for the ends comes before they are made.
+        if self.seats.reserve(2).is_err() {
+            return Err(Stop::OutOfMemory);
+        }
         let bell = self.bell_of(agent)?;
         match channel(self.alloc, &mut self.ends, bell) {
             Ok((first, second)) => self.add_ports(agent, first, second),
@@ -123,23 +118,19 @@ impl Player {
         if !self.is_running(agent) || self.has_queue(kind, agent) {
             return not_now();
         }
-        self.reserve(1)?;
+        if self.seats.reserve(1).is_err() {
+            return Err(Stop::OutOfMemory);
+        }
         let bell = self.bell_of(agent)?;
         match self.open_queue(rt, kind, bell) {
             Ok(queue) => {
-                self.begin_life(kind, agent);
+                if let (Kind::Worker, Some(agent)) = (kind, self.agent_mut(agent)) {
+                    agent.begin_life();
+                }
                 self.added(queue.end(), Seat::of_queue(agent, kind, queue))
             }
             Err(QueueError::TooManyEnds) => answer(Outcome::TooManyEnds),
             Err(QueueError::OutOfMemory) => Err(Stop::OutOfMemory),
-        }
-    }
-
-    fn begin_life(&mut self, kind: Kind, agent: AgentId) {
-        if kind == Kind::Worker {
-            if let Some(agent) = self.agent_mut(agent) {
-                agent.begin_life();
-            }
         }
     }
 
@@ -152,22 +143,18 @@ impl Player {
         if !self.is_running(agent) {
             return not_now();
         }
-        match self.origin_of(agent)? {
-            Some(origin) => self.join(rt, agent, origin, name.as_str()),
-            None => answer(Outcome::NoOrigin),
-        }
-    }
-
-    fn origin_of(&self, agent: AgentId) -> Result<Option<Origin>, Stop> {
-        let Some(agent) = self.agent(agent) else {
-            return Ok(None);
-        };
-        match &agent.origin {
-            Some(origin) => match origin.clone() {
-                Ok(origin) => Ok(Some(origin)),
-                Err(_) => Err(Stop::OutOfMemory),
+        let Some(
+            Agent {
+                origin: Some(origin),
+                ..
             },
-            None => Ok(None),
+        ) = self.agent(agent)
+        else {
+            return answer(Outcome::NoOrigin);
+        };
+        match origin.clone() {
+            Ok(origin) => self.join(rt, agent, origin, name.as_str()),
+            Err(_) => Err(Stop::OutOfMemory),
         }
     }
 
@@ -178,7 +165,9 @@ impl Player {
         origin: Origin,
         name: &str,
     ) -> Result<Shown, Stop> {
-        self.reserve(1)?;
+        if self.seats.reserve(1).is_err() {
+            return Err(Stop::OutOfMemory);
+        }
         let Ok(name) = String::from_str(self.alloc, name) else {
             return Err(Stop::OutOfMemory);
         };

@@ -71,7 +71,11 @@ impl Player {
             return answer(Outcome::Closed);
         }
         if seat.place != Place::Arrived || seat.agent != agent {
-            return self.none_to_fetch(rt, end, agent);
+            // No queue of that number waits for the agent.
+            return match self.directory.fetch(rt, end, agent) {
+                Some(_) => Err(Stop::Unexpected),
+                None => not_now(),
+            };
         }
         let is_port = seat.kind == Kind::Port;
         if !self.is_running(agent) {
@@ -82,14 +86,6 @@ impl Player {
             self.adopt_port(rt, end, bell)
         } else {
             self.adopt_queue(rt, end, agent, bell)
-        }
-    }
-
-    /// No queue of that number waits for the agent.
-    fn none_to_fetch<R: Wait>(&self, rt: &R, end: EndId, agent: AgentId) -> Result<Shown, Stop> {
-        match self.directory.fetch(rt, end, agent) {
-            Some(_) => Err(Stop::Unexpected),
-            None => not_now(),
         }
     }
 

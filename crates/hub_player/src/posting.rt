@@ -46,12 +46,14 @@ impl Player {
         Ok(ports)
     }
 
-    fn put_back(&mut self, ports: Vec<Port>) {
+    /// The ports that have come back are in the agent's hands again.
+    fn put_back(&mut self, ports: Vec<Port>, shown: Result<Shown, Stop>) -> Result<Shown, Stop> {
         for port in ports {
             if let Some(seat) = self.seat_mut(port.end()) {
                 seat.hold_port(port);
             }
         }
+        shown
     }
 
     /// The ports of a list, where it is one that a call takes. `None` where there are none such.
@@ -126,7 +128,7 @@ impl Player {
         self.told(agent, ports.as_slice(), posted)
     }
 
-    /// What a post shows. The ports that have come back are in the agent's hands again.
+    /// What a post shows.
     fn told(
         &mut self,
         agent: AgentId,
@@ -144,23 +146,13 @@ impl Player {
             Err(error) => error,
         };
         match error {
-            PortError::Closed(_, back) => self.refused(back, Shown::Answer(Outcome::Closed)),
-            PortError::Moving(_, back) => self.refused(back, Shown::Moving),
-            PortError::TooManyPorts(_, back) => {
-                self.refused(back, Shown::Answer(Outcome::TooManyPorts))
-            }
+            PortError::Closed(_, back) => self.put_back(back, answer(Outcome::Closed)),
+            PortError::Moving(_, back) => self.put_back(back, Ok(Shown::Moving)),
+            PortError::TooManyPorts(_, back) => self.put_back(back, answer(Outcome::TooManyPorts)),
             PortError::Doomed(closings) => self.doomed(list, &closings),
-            PortError::OutOfMemory(_, back) => {
-                self.put_back(back);
-                Err(Stop::OutOfMemory)
-            }
+            PortError::OutOfMemory(_, back) => self.put_back(back, Err(Stop::OutOfMemory)),
             PortError::Strayed(_, _, _) | PortError::Taken(_, _) => Err(Stop::Unexpected),
         }
-    }
-
-    fn refused(&mut self, back: Vec<Port>, shown: Shown) -> Result<Shown, Stop> {
-        self.put_back(back);
-        Ok(shown)
     }
 
     /// The ports of the list were closed, in order. Nothing is kept of what waited there.
