@@ -1,9 +1,11 @@
 -- An end that was closed is swept.
-use Rattle.std.proofs.Common.{◌≡◌, ◌∙◌, List, [], ◌∷◌, ◌++◌, ap, append_assoc, sym, Option, Some}
+use Rattle.std.proofs.Common.{◌≡◌, ◌∙◌, ℕ, List, [], ◌∷◌, ◌++◌, ap, append_assoc, sym, Option, Some}
 use Rattle.std.specs.Prelude.{option_to_list}
 use Rattle.std.proofs.lemmas.List.{map_push}
 use Rattle.hub_queue.specs.Graves.{GraveSeat, SweptSeat}
 use Rattle.hub_loop.specs.Ending.{grave_ends, swept_ends}
+use Rattle.hub_loop.specs.Noticing.{NamedBehind, port_numbers}
+use Rattle.hub_loop.specs.declared.closed_port.ClosedPort.{ClosedPort}
 
 -- the first grave was taken off
 pub taken-off : (graves left : List GraveSeat) (popped : Option GraveSeat) (g : GraveSeat) → graves ≡ option_to_list popped ++ left → popped ≡ Some g → grave_ends graves ≡ g.end ∷ grave_ends left
@@ -17,3 +19,11 @@ swept-one swept then graves left g s off more same =
     ∙ append_assoc (swept_ends swept) (s.end ∷ []) (grave_ends left)
     ∙ ap (λ e. swept_ends swept ++ e ∷ grave_ends left) same
     ∙ ap (λ ns. swept_ends swept ++ ns) (sym off)
+
+-- the ends that were swept stand before those that are to be
+pub behind-swept : (swept graves then all : List ℕ) (before after : List ClosedPort) → NamedBehind graves then before after → all ≡ swept ++ then → NamedBehind (swept ++ graves) all before after
+behind-swept swept graves then all before after behind same = (
+  behind.0,
+  same ∙ ap (λ ns. swept ++ ns) behind.1 ∙ sym (append_assoc swept graves (port_numbers behind.0)),
+  behind.2,
+)
