@@ -206,6 +206,10 @@ accounts_both a b c first then none =
       λ e. let x = one e in let y = two e in omega (arith, x, y),
     )
 
+pub accounts_then : {X E : Type 0} (result : Result X E) (a b c : AgentState) → Accounts a b → OnOk result (Accounts b c) → OnOk result (Accounts a c)
+accounts_then (Ok x) a b c first then = accounts_both a b c first then
+accounts_then (Err x) a b c first then = tt
+
 -- the same log and the same ends afterwards
 pub accounts_kept : (before mid now : AgentState) → now.notes ≡ mid.notes → now.kept ≡ mid.kept → now.ends ≡ mid.ends → Accounts before mid → Accounts before now
 accounts_kept before mid now notes kept ends first =

@@ -1,6 +1,6 @@
 -- What is taken out of a loop and held again.
 use Rattle.std.specs.Result.{result_and}
-use Rattle.std.proofs.Common.{◌≡◌, ◌∙◌, ◌≤◌, ℕ, ◌+◌, List, [], ◌∷◌, ◌++◌, Option, Some, Result, Ok, Err, IfOk, IfSome, OnOk, ap, sym, subst, arith}
+use Rattle.std.proofs.Common.{◌≡◌, ◌∙◌, ◌≤◌, ℕ, ◌+◌, List, [], ◌∷◌, ◌++◌, Option, Some, Result, Ok, Err, IfOk, IfSome, OnOk, ap, inl, refl, sym, subst, arith}
 use Rattle.slab.specs.Slab.{Slab}
 use Rattle.hub_envelope.specs.declared.ids.EndId.{EndId}
 use Rattle.hub_loop.specs.Adopting.{HoldsMore}
@@ -12,10 +12,12 @@ use Rattle.hub_envelope.specs.declared.ids.AgentId.{AgentId}
 use Rattle.hub_envelope.specs.declared.posted.Posted.{Posted}
 use Rattle.hub_ports.specs.Sending.{IsSent}
 use Rattle.hub_ports.specs.declared.port_error.PortError.{PortError}
-use Rattle.hub_run.specs.Entries.{Writes, answer_entries}
+use Rattle.hub_logging.specs.Notes.{Notes}
+use Rattle.hub_trace.specs.declared.log_entry.LogEntry.{LogEntry}
+use Rattle.hub_run.specs.Entries.{IsPostLogged, Writes, answer_entries, log_and}
 use Rattle.hub_run.specs.Agents.{AgentState}
-use Rattle.hub_run.specs.Owning.{Accounts, HoldsAlso, HoldsSame, back_of, has, lost, times}
-use Rattle.hub_run.proofs.Actions.{again_accounts, answer_loses, post_accounts}
+use Rattle.hub_run.specs.Owning.{Accounts, HoldsAlso, HoldsSame, IsAnswer, back_of, lost, times}
+use Rattle.hub_run.proofs.Actions.{answer_loses, post_accounts}
 use Rattle.hub_run.proofs.Walking.{answer_logged}
 use Rattle.hub_run.proofs.Brings.{count_held, held_in}
 use Rattle.hub_run.proofs.Listed.{times_cons, times_one}
@@ -85,24 +87,6 @@ all_again (Ok a) (Ok b) both x was old before mid again new h ports is ok same l
 all_again (Ok a) (Err b) both x was old before mid again new h ports is ok same less more holds released e = let no = sym is ∙ ok in absurd cc
 all_again (Err a) s both x was old before mid again new h ports is ok same less more holds released e = let no = sym is ∙ ok in absurd cc
 
--- what comes back with the answer
-pub back_held : {X E : Type 0} (r : Result X E) (ends back : List EndId) (now old : AgentState) → back ≡ ends → OnOk r (HoldsAlso ends old now) → OnOk r (HoldsAlso back old now)
-back_held r ends back now old is holds = subst (λ es. OnOk r (HoldsAlso es old now)) (sym is) holds
-
--- Nothing was posted, and the ports came back.
-pub unposted : {X E : Type 0} (result : Result X E) (before out posted now : AgentState) (ends : List EndId) (ports back : List PortSeat) → HoldsAlso ends out before → ((e : ℕ) → has posted e ≡ has out e) → ends_of ports ≡ ends → back ≡ ports
-    → OnOk result (HoldsAlso (ends_of back) posted now) → now.notes ≡ before.notes → now.kept ≡ before.kept → OnOk result (Accounts before now)
-unposted (Ok x) before out posted now ends ports back released same are is holds notes kept =
-    again_accounts {E = Unit {0}} (Ok x) before out now ends released
-    (λ e.
-    let a = holds e in
-    let b = same e in
-    let c = ap (λ ps. times e (ends_of ps)) is in
-    let d = ap (times e) are in
-    omega (arith, a, b, c, d))
-    notes kept
-unposted (Err x) before out posted now ends ports back released same are is holds notes kept = tt
-
 -- what is said of the ports that were taken out
 of_some : {X E P : Type 0} (result : Result (Option X) E) (x : X) → result ≡ Ok (Some x) → IfOk result (λ ports. IfSome ports (λ y. P)) → P
 of_some {P} result x is all = subst (λ r. IfOk r (λ ports. IfSome ports (λ y. P))) is all
@@ -110,11 +94,33 @@ of_some {P} result x is all = subst (λ r. IfOk r (λ ports. IfSome ports (λ y.
 pub released_also : {X E : Type 0} (result : Result (Option X) E) (x : X) (listed ends : List EndId) (out before : AgentState) → result ≡ Ok (Some x) → listed ≡ ends → IfOk result (λ ports. IfSome ports (λ y. HoldsAlso listed out before)) → HoldsAlso ends out before
 released_also result x listed ends out before is same all = subst (λ es. HoldsAlso es out before) same (of_some result x is all)
 
--- what an agent has behind a post of ports that it took out, whatever the answer
-pub sent_accounts : {X E : Type 0} (result : Result X E) (old new : StandSeat) (agent : AgentId) (copy : List ℕ) (before out posted now : AgentState) (ends : List EndId) (ports : List PortSeat) (body : List ℕ) (answer : Result Posted PortError)
-    → ends_of ports ≡ ends → IsSent old new agent copy ports answer → HoldsAlso ends out before → HoldsSame out posted
-    → OnOk result (HoldsAlso (back_of answer) posted now) → OnOk result (Writes (answer_entries ends body answer) posted.notes now.notes) → posted.notes ≡ before.notes → now.kept ≡ before.kept → OnOk result (Accounts before now)
-sent_accounts result old new agent copy before out posted now ends ports body answer are sent released same holds written notes kept =
-    post_accounts result before out posted now ends body answer released same (answer_logged old new agent body copy ports ends answer are sent)
-    (subst (λ es. (e : ℕ) → lost e (answer_entries es body answer) + times e (back_of answer) ≤ times e es) are (answer_loses old new agent body copy ports answer sent))
-    holds written notes kept
+-- A post over what is held is answered as a post of these ports may be.
+pub answered : (old new : StandSeat) (agent : AgentId) (copy : List ℕ) (ports : List PortSeat) (answer : Result Posted PortError) → IsSent old new agent copy ports answer → IsAnswer (ends_of ports) answer
+answered old new agent copy ports answer sent body = (answer_logged old new agent body copy ports (ends_of ports) answer refl sent, answer_loses old new agent body copy ports answer sent)
+
+-- So is a post of which nothing is logged, and with which all of these ports come back.
+pub unlogged : (ends : List EndId) (answer : Result Posted PortError) → ((body : List ℕ) → answer_entries ends body answer ≡ []) → back_of answer ≡ ends → IsAnswer ends answer
+unlogged ends answer nothing back body = (inl (nothing body), λ e. let a = ap (lost e) (nothing body) in let b = ap (times e) back in omega (arith, a, b))
+
+-- what is logged of a post of ports that were taken out
+pub along_logged : {X E : Type 0} (logged : Result X E) (listed ends : List EndId) (ports : List PortSeat) (body : List ℕ) (answer : Result Posted PortError) (was now wrote after : Notes)
+    → ends_of ports ≡ ends → listed ≡ ends → IsAnswer (ends_of ports) answer → OnOk logged (Writes (answer_entries listed body answer) was wrote) → was ≡ now → after ≡ wrote
+    → OnOk logged ((entries : List LogEntry) × IsPostLogged ends body entries × Writes entries now after)
+along_logged (Ok x) listed ends ports body answer was now wrote after are list is written same kept = (
+  answer_entries ends body answer,
+  subst (λ es. IsPostLogged es body (answer_entries es body answer)) are (is body).0,
+  ap (λ (n : Notes). n.log) kept ∙ subst (λ es. Writes (answer_entries es body answer) was wrote) list written ∙ ap (λ (n : Notes). log_and n.log (answer_entries ends body answer)) same,
+)
+along_logged (Err x) listed ends ports body answer was now wrote after are list is written same kept = tt
+
+-- what the agent has behind it, when what came back is held again
+pub along_accounts : {X E : Type 0} (logged : Result X E) (before out posted now : AgentState) (listed ends : List EndId) (ports back : List PortSeat) (body : List ℕ) (answer : Result Posted PortError) (wrote : Notes)
+    → ends_of ports ≡ ends → listed ≡ ends → IsAnswer (ends_of ports) answer → HoldsAlso ends out before → HoldsSame out posted → ends_of back ≡ back_of answer → HoldsAlso (ends_of back) posted now
+    → OnOk logged (Writes (answer_entries listed body answer) posted.notes wrote) → now.notes ≡ wrote → posted.notes ≡ before.notes → now.kept ≡ before.kept → OnOk logged (Accounts before now)
+along_accounts (Ok x) before out posted now listed ends ports back body answer wrote are list is released same came holds written kept notes keeps =
+    post_accounts {E = Unit {0}} (Ok x) before out posted now ends body answer released same (subst (λ es. IsPostLogged es body (answer_entries es body answer)) are (is body).0)
+    (subst (λ es. (e : ℕ) → lost e (answer_entries es body answer) + times e (back_of answer) ≤ times e es) are (is body).1)
+    (subst (λ es. HoldsAlso es posted now) came holds)
+    (ap (λ (n : Notes). n.log) kept ∙ subst (λ es. Writes (answer_entries es body answer) posted.notes wrote) list written)
+    notes keeps
+along_accounts (Err x) before out posted now listed ends ports back body answer wrote are list is released same came holds written kept notes keeps = tt

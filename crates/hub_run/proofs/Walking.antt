@@ -38,6 +38,11 @@ pub adopts_more : (ends all : List EndId) (end : EndId) (before now after : Note
 adopts_more ends all end before now after is (entries, adopted, written) (epoch, more) =
     (entries ++ Adopted end epoch ∷ [], subst (λ (es : List EndId). AreAdoptions es (entries ++ Adopted end epoch ∷ [])) (sym is) (adoptions_more ends end epoch entries adopted), writes_both entries (Adopted end epoch ∷ []) before now after written more)
 
+-- the same since the notes were as before but for what is listed
+pub adopts_since : {X E : Type 0} (result : Result X E) (listed ends : List EndId) (before mid now : Notes) → listed ≡ ends → mid.log ≡ before.log → OnOk result (Adopts listed mid now) → OnOk result (Adopts ends before now)
+adopts_since (Ok x) listed ends before mid now is same (entries, all, written) = (entries, subst (λ (es : List EndId). AreAdoptions es entries) is all, written ∙ ap (λ log. log_and log entries) same)
+adopts_since (Err x) listed ends before mid now is same adopts = tt
+
 pub adopts_none : (before : Notes) → Adopts [] before before
 adopts_none before = ([], refl, writes_same before before refl)
 

@@ -1,9 +1,11 @@
 -- What an agent writes, one entry after the other.
-use Rattle.std.proofs.Common.{◌≡◌, ◌∙◌, List, [], ◌∷◌, ◌++◌, Result, Ok, Err, OnOk, ap, sym}
+use Rattle.std.proofs.Common.{◌≡◌, ◌∙◌, ℕ, List, [], ◌∷◌, ◌++◌, Result, Ok, Err, OnOk, ap, sym}
 use Rattle.std.proofs.lemmas.List.{append-nil, append_assoc}
+use Rattle.hub_envelope.specs.declared.ids.EndId.{EndId}
 use Rattle.hub_logging.specs.Notes.{Notes}
 use Rattle.hub_trace.specs.Accepted.{AgentLog, log_with}
 use Rattle.hub_trace.specs.declared.log_entry.LogEntry.{LogEntry}
+use Rattle.hub_trace.specs.declared.log_entry.LogEntry.TheVariants.{Adopted}
 use Rattle.hub_run.specs.Entries.{Writes, WritesNothing, log_and}
 
 pub log_and_both : (log : AgentLog) (xs ys : List LogEntry) → log_and (log_and log xs) ys ≡ log_and log (xs ++ ys)
@@ -26,6 +28,12 @@ writes_same before after same = writes_none before after (ap (λ (n : Notes). n.
 pub wrote : {X E : Type 0} (result : Result X E) (old new now : Notes) (e : LogEntry) → OnOk result (new ≡ record old { log = log_with old.log e }) → old ≡ now → OnOk result (Writes (e ∷ []) now new)
 wrote (Ok x) old new now e written same = ap (λ (n : Notes). n.log) written ∙ ap (λ (n : Notes). log_with n.log e) same
 wrote (Err x) old new now e written same = tt
+
+-- the same of an adoption, whatever its epoch
+pub wrote_some : {X E : Type 0} (result : Result X E) (end : EndId) (epoch : ℕ) (before after : Notes) → OnOk result (after ≡ record before { log = log_with before.log (Adopted end epoch) })
+    → OnOk result ((epoch : ℕ) × Writes (Adopted end epoch ∷ []) before after)
+wrote_some (Ok x) end epoch before after written = (epoch, ap (λ (n : Notes). n.log) written)
+wrote_some (Err x) end epoch before after written = tt
 
 -- the same of what the notes were before
 pub wrote_since : {X E : Type 0} (result : Result X E) (old now new : Notes) (entries : List LogEntry) → old ≡ now → OnOk result (Writes entries old new) → OnOk result (Writes entries now new)

@@ -12,7 +12,6 @@ ghost use Rattle.hub_run.specs.Agents.{
   KeepsElse,
   LooksFor,
   StartsEnd,
-  StartsQueue,
   ordered,
   with_peer,
   woken,
@@ -25,14 +24,23 @@ ghost use Rattle.hub_trace.specs.declared.log_entry.LogEntry.{LogEntry};
 use crate::agent::Agent;
 use crate::awaited::Awaited;
 use crate::logging::log_closed_end;
+use crate::peer::{Peer, order_all};
 use crate::shared::Shared;
 use hub_acting::Acted;
 use hub_clients::{Directory, HandError};
 use hub_envelope::{AgentId, EndId, OutOfMemory};
-use hub_life::Event;
-use hub_loop::{Checkpoint, ClosedEnd, Held};
-use hub_script::{ActionKind, Script};
+use hub_life::{Event, Life};
+use hub_loop::{Checkpoint, Held};
+use hub_script::{Action, ActionKind, Script};
 use std::sync::Wait;
+
+// The error of a hand that was refused for want of memory.
+fn want_of(error: HandError) -> Option<OutOfMemory> {
+    match error {
+        HandError::OutOfMemory => Some(OutOfMemory),
+        HandError::Taken => None,
+    }
+}
 
 // Gives a queue to an agent. Where it wasn't handed it comes back, with an error where that was for
 // want of memory; so does what is no queue.
@@ -44,41 +52,91 @@ fn hand_over<R: Wait>(
 ) -> Result<(), (Option<OutOfMemory>, Held)>
     ensures { IfErr result (λ back. back.1 ≡ held) }
 {
-    let (error, held) = match held {
+    match held {
         Held::Client(queue) => match queue.hand(rt, directory, to) {
-            Ok(()) => return Ok(()),
-            Err((error, queue)) => (error, Held::Client(queue)),
+            Ok(()) => Ok(()),
+            Err((error, queue)) => Err((want_of(error), Held::Client(queue))),
         },
         Held::Worker(queue) => match queue.hand(rt, directory, to) {
-            Ok(()) => return Ok(()),
-            Err((error, queue)) => (error, Held::Worker(queue)),
+            Ok(()) => Ok(()),
+            Err((error, queue)) => Err((want_of(error), Held::Worker(queue))),
         },
-        held => return Err((None, held)),
-    };
-    match error {
-        HandError::OutOfMemory => Err((Some(OutOfMemory), held)),
-        HandError::Taken => Err((None, held)),
+        held => Err((None, held)),
+    }
+}
+
+// An event of the life of a worker, which refuses what its state doesn't allow.
+fn live(life: &mut Option<Life>, event: Event)
+    ensures { life.new ≡ option_map (λ p. lived p event) life.old }
+{
+    if let Some(life) = life {
+        let _refused = life.event(event);
+    }
+}
+
+// Gives an agent the order to end.
+fn give_order(peers: &mut Vec<Peer>, to: AgentId)
+    ensures { peers.new.items ≡ with_peer ordered to.0 peers.old.items }
+{
+    if let Some(peer) = peers.get_mut(usize::from(to.0)) {
+        peer.order();
+    }
+}
+
+fn wake(peers: &mut Vec<Peer>, agent: AgentId)
+    ensures { peers.new.items ≡ with_peer woken agent.0 peers.old.items }
+{
+    if let Some(peer) = peers.get_mut(usize::from(agent.0)) {
+        peer.wake();
     }
 }
 
 impl<'s, C: Checkpoint> Agent<'s, C> {
-    /// Does its actions, up to the last or to the order to end, for which it looks before each.
-    pub(crate) fn act_all<R: Wait>(&mut self, rt: &R, script: &Script) -> Result<Acted, OutOfMemory>
+    /// Does its actions. Where memory runs out all agents are ordered to end, so that none waits
+    /// for this one.
+    pub(crate) fn act_or_order<R: Wait>(
+        &mut self,
+        rt: &R,
+        script: &Script,
+    ) -> Result<Acted, OutOfMemory>
         ensures { IfOk result (λ acted. ActsFirst acted
             (actions_of self.old.notes.log.0 (actions script.now)) self.old self.new) }
     {
-        let number = self.number();
-        hub_acting::act_all(
-            self,
-            script,
-            number,
-            |agent: &mut Agent<'_, C>| -> bool
-                ensures { LooksFor agent.old result agent.new }
-            { agent.order.seen() },
-            |agent: &mut Agent<'_, C>, action: &ActionKind| -> Result<(), OutOfMemory>
-                ensures { OnOk result (Acts action.now agent.old agent.new) }
-            { agent.act(rt, action) },
-        )
+        match self.act_all(rt, script) {
+            Ok(acted) => Ok(acted),
+            Err(error) => {
+                order_all(&mut self.peers);
+                Err(error)
+            }
+        }
+    }
+
+    // Looks for the order to end at its own seat.
+    fn looks(&mut self) -> bool
+        ensures { LooksFor self.old result self.new }
+    {
+        self.order.seen()
+    }
+
+    // Does its actions, up to the last or to the order to end, for which it looks before each.
+    fn act_all<R: Wait>(&mut self, rt: &R, script: &Script) -> Result<Acted, OutOfMemory>
+        ensures { IfOk result (λ acted. ActsFirst acted
+            (actions_of self.old.notes.log.0 (actions script.now)) self.old self.new) }
+    {
+        let number = self.scribe.agent();
+        let mut done = 0;
+        for Action { at, kind } in script.actions() {
+            if *at == number {
+                if self.looks() {
+                    let ordered = true;
+                    return Ok(Acted { done, ordered });
+                }
+                self.act(rt, kind)?;
+                done += 1;
+            }
+        }
+        let ordered = false;
+        Ok(Acted { done, ordered })
     }
 
     fn act<R: Wait>(&mut self, rt: &R, action: &ActionKind) -> Result<(), OutOfMemory>
@@ -100,8 +158,9 @@ impl<'s, C: Checkpoint> Agent<'s, C> {
                 self.start(*end);
                 Ok(())
             }
+            // The document of a client is parsed, which enables its queue.
             ActionKind::Loaded { queue } => {
-                self.load(*queue);
+                self.event_loop.start_client(*queue);
                 Ok(())
             }
             ActionKind::Close { end } => self.close(rt, *end),
@@ -112,11 +171,11 @@ impl<'s, C: Checkpoint> Agent<'s, C> {
             }
             ActionKind::Receive { port } => self.turn_until(rt, Awaited::Port(*port)),
             ActionKind::Order { to } => {
-                self.give_order(*to);
+                give_order(&mut self.peers, *to);
                 Ok(())
             }
             ActionKind::Event { event } => {
-                self.live(*event);
+                live(&mut self.life, *event);
                 Ok(())
             }
             ActionKind::Hand { to } => self.hand(rt, *to),
@@ -130,24 +189,6 @@ impl<'s, C: Checkpoint> Agent<'s, C> {
     {
         if !self.event_loop.start_port(end) {
             self.event_loop.start_client(end);
-        }
-    }
-
-    // Its document is parsed, which enables its client's queue.
-    fn load(&mut self, queue: EndId)
-        ensures { StartsQueue queue self.old self.new }
-    {
-        self.event_loop.start_client(queue);
-    }
-
-    // An event of the life of a worker, which refuses what its state doesn't allow.
-    fn live(&mut self, event: Event)
-        ensures { self.new ≡ record self.old {
-          life = option_map (λ p. lived p event) self.old.life;
-        } }
-    {
-        if let Some(life) = &mut self.life {
-            let _refused = life.event(event);
         }
     }
 
@@ -165,55 +206,29 @@ impl<'s, C: Checkpoint> Agent<'s, C> {
         let Some(closed) = self.event_loop.close(rt, hub, roster, end) else {
             return Ok(());
         };
-        let ClosedEnd { grave, port } = closed;
-        self.graves.push(grave)?;
-        log_closed_end(&mut self.scribe, end, port)
+        self.graves.push_reserved(closed.grave);
+        log_closed_end(&mut self.scribe, end, closed.port)
     }
 
-    fn give_order(&mut self, to: AgentId)
-        ensures { self.new ≡ record self.old { peers = with_peer ordered to.0 self.old.peers } }
-    {
-        if let Some(peer) = self.peers.get_mut(usize::from(to.0)) {
-            peer.order();
-        }
-    }
-
-    // Hands its own queue to an agent, which it wakes.
+    // Hands its own queue to an agent, which it wakes. Where it wasn't handed it holds the queue
+    // again. The queues of the agents are the first ends, in the order of the agents.
     fn hand<R: Wait>(&mut self, rt: &R, to: AgentId) -> Result<(), OutOfMemory>
         ensures changes { OnOk result (Changes (Hand to) self.old self.new) }
         ensures held { OnOk result (HoldsNoMore self.old self.new) }
     {
-        if self.hand_queue(rt, to)? {
-            self.wake(to);
-        }
-        Ok(())
-    }
-
-    // Gives its own queue to an agent, and answers whether it was handed. Where it wasn't it holds
-    // the queue again.
-    fn hand_queue<R: Wait>(&mut self, rt: &R, to: AgentId) -> Result<bool, OutOfMemory>
-        ensures same { KeepsButEnds self.old self.new }
-        ensures held { OnOk result (HoldsNoMore self.old self.new) }
-    {
-        let Shared { directory, .. } = self.shared;
-        let queue = self.queue();
+        let queue = EndId(u32::from(self.scribe.agent().0));
         let Some(held) = self.event_loop.release(queue) else {
-            return Ok(false);
+            return Ok(());
         };
-        match hand_over(rt, directory, held, to) {
-            Ok(()) => Ok(true),
+        match hand_over(rt, &self.shared.directory, held, to) {
+            Ok(()) => {
+                wake(&mut self.peers, to);
+                Ok(())
+            }
             Err((refused, held)) => {
                 self.hold(rt, held)?;
-                refused.map_or(Ok(false), Err)
+                refused.map_or(Ok(()), Err)
             }
-        }
-    }
-
-    fn wake(&mut self, agent: AgentId)
-        ensures { self.new ≡ record self.old { peers = with_peer woken agent.0 self.old.peers } }
-    {
-        if let Some(peer) = self.peers.get_mut(usize::from(agent.0)) {
-            peer.wake();
         }
     }
 }

@@ -1,34 +1,34 @@
-ghost use Rattle.std.specs.Prelude.{◌≡◌, ◌≤◌, ◌∷◌, [], ℕ, List, true, IfOk, OnOk};
-ghost use Rattle.hub_acting.specs.Doing.{actions_of};
+ghost use Rattle.std.specs.Prelude.{◌≡◌, ◌≤◌, ◌+◌, ℕ, List, true, IfOk, OnOk};
 ghost use Rattle.hub_run.specs.Agents.{HoldsPort, KeepsButNotes, KeepsButTurns, KeepsElse};
 ghost use Rattle.hub_run.specs.Entries.{
   AreAdoptions,
+  AreEndings,
   IsComeLogged,
   IsTurnLogged,
   IsWaitLogged,
   TurnLeaves,
   Writes,
+  log_and,
 };
 ghost use Rattle.hub_run.specs.Giving.{IsGiven};
-ghost use Rattle.hub_run.specs.Owning.{Accounts, TurnBrings};
-ghost use Rattle.hub_run.specs.Runs.{ActsFirst, IsRunFor};
-ghost use Rattle.hub_script.specs.Contents.{actions};
+ghost use Rattle.hub_run.specs.Owning.{Accounts, TurnBrings, has, lost};
+ghost use Rattle.hub_run.specs.Runs.{IsRunFor};
 ghost use Rattle.hub_trace.specs.declared.limits.TheConstants.{MAX_AGENT};
 ghost use Rattle.hub_trace.specs.declared.log_entry.LogEntry.{LogEntry};
-ghost use Rattle.hub_trace.specs.declared.log_entry.LogEntry.TheVariants.{Adopted};
 
 use crate::awaited::Awaited;
-use crate::logging::log_adoption;
+use crate::ending::finish_loop;
+use crate::logging::{epoch_of, log_adopted};
 use crate::peer::{Peer, order_all};
 use crate::run::AgentRun;
 use crate::shared::Shared;
-use hub_acting::Acted;
 use hub_envelope::{AgentId, EndId, OutOfMemory};
 use hub_life::{Life, Order};
 use hub_logging::Scribe;
 use hub_loop::{Checkpoint, EventLoop, Held, LoopError, Turn};
 use hub_queue::{Grave, Steps};
 use hub_script::Script;
+use hub_trace::Log;
 use std::alloc::Global;
 use std::marker::{Brand, Model};
 use std::sync::Wait;
@@ -90,14 +90,19 @@ impl<'s, C: Checkpoint> Model for Agent<'s, C> {
     } };
 }
 
-// How often an end has moved. A member and a line are never adopted.
-fn moves_of(held: &Held) -> u32 {
-    match held {
-        Held::Port(port) => port.moves(),
-        Held::Client(queue) => queue.moves(),
-        Held::Worker(queue) => queue.moves(),
-        Held::Member(_) | Held::Line(_) => 0,
+// Logs that these ends were adopted, in order.
+fn log_all_adopted<C: Checkpoint>(
+    scribe: &mut Scribe,
+    event_loop: &AgentLoop<'_, C>,
+    ends: &[EndId],
+) -> Result<(), OutOfMemory>
+    ensures { OnOk result ((entries : List LogEntry) × AreAdoptions ends.now entries
+        × Writes entries scribe.old scribe.new) }
+{
+    for end in ends {
+        log_adopted(scribe, *end, epoch_of(event_loop.held(*end)))?;
     }
+    Ok(())
 }
 
 impl<'s, C: Checkpoint> Agent<'s, C> {
@@ -116,54 +121,37 @@ impl<'s, C: Checkpoint> Agent<'s, C> {
     {
         self.scribe = Scribe::new(self.alloc, number);
         let acted = self.act_or_order(rt, script);
-        let finished = self.finish_or_order(rt);
+        let finished = self.finish(rt);
         Ok(AgentRun {
             acted: acted?,
             log: finished?,
         })
     }
 
-    // Does the actions. Where memory runs out all agents are ordered to end.
-    fn act_or_order<R: Wait>(&mut self, rt: &R, script: &Script) -> Result<Acted, OutOfMemory>
-        ensures { IfOk result (λ acted. ActsFirst acted
-            (actions_of self.old.notes.log.0 (actions script.now)) self.old self.new) }
-    {
-        match self.act_all(rt, script) {
-            Ok(acted) => Ok(acted),
-            Err(error) => {
-                order_all(&mut self.peers);
-                Err(error)
-            }
-        }
-    }
-
-    /// Its loop, what keeps its log, and the ends that it has closed and not swept yet.
-    pub(crate) fn into_parts(self) -> (AgentLoop<'s, C>, Scribe, Vec<Grave>)
-        ensures held { result.0.holding.held ≡ self.entry.ends }
-        ensures notes { result.1 ≡ self.entry.notes }
+    // Ends the loop, and answers the log. Where memory runs out all agents are ordered to end.
+    fn finish<R: Wait>(self, rt: &R) -> Result<Log, OutOfMemory>
+        ensures written { IfOk result (λ log. (entries : List LogEntry) × AreEndings entries
+            × (log ≡ log_and self.entry.notes.log entries)) }
+        ensures own { IfOk result (λ log. (e : ℕ) →
+            lost e log.1 ≤ lost e self.entry.notes.log.1 + has self.entry e) }
     {
         let Agent {
-            alloc: _,
-            shared: _,
+            alloc,
+            shared,
             event_loop,
             scribe,
             order: _,
-            peers: _,
+            mut peers,
             life: _,
             graves,
         } = self;
-        (event_loop, scribe, graves)
-    }
-
-    pub(crate) fn number(&self) -> AgentId
-        ensures { result ≡ self.now.notes.log.0 }
-    {
-        self.scribe.agent()
-    }
-
-    /// The number of its own queue: those of the agents come first, in the order of the agents.
-    pub(crate) fn queue(&self) -> EndId {
-        EndId(u32::from(self.number().0))
+        match finish_loop(alloc, rt, shared, event_loop, scribe, graves) {
+            Ok(log) => Ok(log),
+            Err(error) => {
+                order_all(&mut peers);
+                Err(error)
+            }
+        }
     }
 
     /// Whether it holds the port.
@@ -171,32 +159,6 @@ impl<'s, C: Checkpoint> Agent<'s, C> {
         ensures { result ≡ true → HoldsPort self.now end }
     {
         matches!(self.event_loop.held(end), Some(Held::Port(_)))
-    }
-
-    // Logs that it has adopted an end. The loop holds what it has adopted, so there is an epoch to
-    // be logged; were there none, an error is better than a log that leaves an adoption out.
-    fn log_adopted(&mut self, end: EndId) -> Result<(), OutOfMemory>
-        ensures written { OnOk result ((epoch : ℕ)
-            × Writes (Adopted end epoch ∷ []) self.old.notes self.new.notes) }
-        ensures rest { KeepsButNotes self.old self.new }
-    {
-        let Some(held) = self.event_loop.held(end) else {
-            return Err(OutOfMemory);
-        };
-        let epoch = moves_of(held);
-        log_adoption(&mut self.scribe, end, epoch)
-    }
-
-    // Logs that it has adopted these ends, in order.
-    fn log_all_adopted(&mut self, ends: &[EndId]) -> Result<(), OutOfMemory>
-        ensures written { OnOk result ((entries : List LogEntry) × AreAdoptions ends.now entries
-            × Writes entries self.old.notes self.new.notes) }
-        ensures rest { KeepsButNotes self.old self.new }
-    {
-        for end in ends {
-            self.log_adopted(*end)?;
-        }
-        Ok(())
     }
 
     // Logs that it has adopted the ports that came with the last delivery.
@@ -207,7 +169,7 @@ impl<'s, C: Checkpoint> Agent<'s, C> {
         ensures rest { KeepsButNotes self.old self.new }
     {
         let adopted = self.scribe.take_adopted();
-        self.log_all_adopted(&adopted)
+        log_all_adopted(&mut self.scribe, &self.event_loop, &adopted)
     }
 
     fn turn_counted<L: Ledger, R: Wait>(&mut self, rt: &R, blank: Blank) -> Result<Turn, LoopError>
@@ -258,7 +220,7 @@ impl<'s, C: Checkpoint> Agent<'s, C> {
             Ok(false) => return Ok(false),
             Err(LoopError::OutOfMemory) => return Err(OutOfMemory),
         }
-        self.log_adopted(end)?;
+        log_adopted(&mut self.scribe, end, epoch_of(self.event_loop.held(end)))?;
         self.event_loop.start_client(end);
         Ok(true)
     }

@@ -1,7 +1,7 @@
 use hub_envelope::EndId;
 
 /// What an agent takes turns for.
-#[derive(Clone, Copy, Debug)]
+#[derive(Clone, Copy)]
 pub(crate) enum Awaited {
     /// That so many messages are delivered after the first so many.
     Messages { after: u64, count: u32 },

@@ -2,12 +2,11 @@
 
 ghost use Rattle.std.specs.Prelude.{◌≡◌, ◌≤◌, ◌+◌, ℕ, List, IfOk, OnOk};
 ghost use Rattle.hub_run.specs.Entries.{AreEndings, Writes, ending_entries, log_and};
-ghost use Rattle.hub_run.specs.Owning.{has, lost, times};
+ghost use Rattle.hub_run.specs.Owning.{held_by, lost, times};
 ghost use Rattle.hub_trace.specs.declared.log_entry.LogEntry.{LogEntry};
 
-use crate::agent::{Agent, AgentLoop};
+use crate::agent::AgentLoop;
 use crate::logging::{log_close, log_notice};
-use crate::peer::order_all;
 use crate::shared::Shared;
 use hub_envelope::{EndId, OutOfMemory};
 use hub_logging::Scribe;
@@ -17,7 +16,6 @@ use hub_queue::{Grave, Posted};
 use hub_trace::Log;
 use std::alloc::Global;
 use std::collections::{BTreeMap, BTreeSet};
-use std::mem::replace;
 use std::sync::Wait;
 
 // Ends the loop. Where memory runs out it goes on once.
@@ -126,39 +124,25 @@ fn log_closing(
     Ok(())
 }
 
-impl<'s, C: Checkpoint> Agent<'s, C> {
-    // Ends the loop, and answers the log.
-    fn finish<R: Wait>(self, rt: &R) -> Result<Log, OutOfMemory>
-        ensures written { IfOk result (λ log. (entries : List LogEntry) × AreEndings entries
-            × (log ≡ log_and self.entry.notes.log entries)) }
-        ensures own { IfOk result (λ log. (e : ℕ) →
-            lost e log.1 ≤ lost e self.entry.notes.log.1 + has self.entry e) }
-    {
-        let Agent { alloc, shared, .. } = self;
-        let (event_loop, mut scribe, graves) = self.into_parts();
-        let held = event_loop.ends();
-        let ended = end_loop(rt, shared, event_loop);
-        let swept = sweep_all(rt, graves);
-        log_ended(alloc, &mut scribe, &held?, &ended?)?;
-        swept?;
-        Ok(scribe.into_log())
-    }
-
-    // Ends the loop, and answers the log. Where memory runs out all agents are ordered to end.
-    pub(crate) fn finish_or_order<R: Wait>(mut self, rt: &R) -> Result<Log, OutOfMemory>
-        ensures written { IfOk result (λ log. (entries : List LogEntry) × AreEndings entries
-            × (log ≡ log_and self.entry.notes.log entries)) }
-        ensures own { IfOk result (λ log. (e : ℕ) →
-            lost e log.1 ≤ lost e self.entry.notes.log.1 + has self.entry e) }
-    {
-        let none = Vec::new(self.alloc);
-        let mut peers = replace(&mut self.peers, none);
-        match self.finish(rt) {
-            Ok(log) => Ok(log),
-            Err(error) => {
-                order_all(&mut peers);
-                Err(error)
-            }
-        }
-    }
+/// Ends the loop of an agent, discards what waits at the ends that it has closed, and answers the
+/// log.
+pub(crate) fn finish_loop<C: Checkpoint, R: Wait>(
+    alloc: Global,
+    rt: &R,
+    shared: &Shared,
+    event_loop: AgentLoop<'_, C>,
+    mut scribe: Scribe,
+    graves: Vec<Grave>,
+) -> Result<Log, OutOfMemory>
+    ensures written { IfOk result (λ log. (entries : List LogEntry) × AreEndings entries
+        × (log ≡ log_and scribe.log entries)) }
+    ensures own { IfOk result (λ log. (e : ℕ) →
+        lost e log.1 ≤ lost e scribe.log.1 + held_by event_loop.entry.holding.held e) }
+{
+    let held = event_loop.ends();
+    let ended = end_loop(rt, shared, event_loop);
+    let swept = sweep_all(rt, graves);
+    log_ended(alloc, &mut scribe, &held?, &ended?)?;
+    swept?;
+    Ok(scribe.into_log())
 }

@@ -10,6 +10,7 @@ mod acting;
 mod agent;
 mod awaited;
 mod ending;
+mod growing;
 mod logging;
 mod making;
 mod peer;

@@ -1,8 +1,9 @@
 //! What an agent writes of posts, and of ends that it has adopted and closed.
 
-ghost use Rattle.std.specs.Prelude.{◌∷◌, [], OnOk};
+ghost use Rattle.std.specs.Prelude.{◌∷◌, [], ℕ, OnOk};
 ghost use Rattle.hub_run.specs.Entries.{
   Writes,
+  answer_entries,
   cast_entries,
   closed_entries,
   closing_entries,
@@ -15,12 +16,12 @@ ghost use Rattle.hub_trace.specs.declared.log_entry.LogEntry.TheVariants.{Adopte
 use hub_broadcast::CastOutcome;
 use hub_envelope::{Body, EndId, OutOfMemory};
 use hub_logging::Scribe;
-use hub_loop::ClosedPort;
-use hub_ports::{Closing, Noticed};
+use hub_loop::{ClosedPort, Held};
+use hub_ports::{Closing, Noticed, PortError};
 use hub_queue::Posted;
 
-/// Logs a post that was accepted.
-pub(crate) fn log_put(
+// Logs a post that was accepted.
+fn log_put(
     scribe: &mut Scribe,
     posted: Posted,
     ports: &[EndId],
@@ -32,10 +33,29 @@ pub(crate) fn log_put(
     scribe.put(posted, ports, body)
 }
 
-/// Logs that an end was adopted.
-pub(crate) fn log_adoption(scribe: &mut Scribe, end: EndId, epoch: u32) -> Result<(), OutOfMemory>
-    ensures { OnOk result (Writes (Adopted end epoch ∷ []) scribe.old scribe.new) }
+/// How often an end has moved. A member and a line are never adopted.
+pub(crate) fn epoch_of(held: Option<&Held>) -> Option<u32> {
+    match held? {
+        Held::Port(port) => Some(port.moves()),
+        Held::Client(queue) => Some(queue.moves()),
+        Held::Worker(queue) => Some(queue.moves()),
+        Held::Member(_) | Held::Line(_) => Some(0),
+    }
+}
+
+/// Logs that an end was adopted. The loop holds what was adopted, so there is an epoch to be
+/// logged; were there none, an error is better than a log that leaves an adoption out.
+pub(crate) fn log_adopted(
+    scribe: &mut Scribe,
+    end: EndId,
+    epoch: Option<u32>,
+) -> Result<(), OutOfMemory>
+    ensures { OnOk result ((epoch : ℕ)
+        × Writes (Adopted end epoch ∷ []) scribe.old scribe.new) }
 {
+    let Some(epoch) = epoch else {
+        return Err(OutOfMemory);
+    };
     scribe.adopt(end, epoch)
 }
 
@@ -79,14 +99,33 @@ pub(crate) fn log_closed_end(
     }
 }
 
-/// Logs what became of the ports that a doomed post has closed.
-pub(crate) fn log_doomed(scribe: &mut Scribe, closings: &[Closing]) -> Result<(), OutOfMemory>
+// Logs what became of the ports that a doomed post has closed.
+fn log_doomed(scribe: &mut Scribe, closings: &[Closing]) -> Result<(), OutOfMemory>
     ensures { OnOk result (Writes (doomed_entries closings.now) scribe.old scribe.new) }
 {
     for closing in closings {
         log_closed(scribe, closing.end, closing.noticed)?;
     }
     Ok(())
+}
+
+/// Logs what a post has come to: an accepted one, or what a doomed one has closed. What was refused
+/// for want of memory is an error.
+pub(crate) fn log_answer(
+    scribe: &mut Scribe,
+    answer: &Result<Posted, PortError>,
+    ports: &[EndId],
+    body: &Body,
+) -> Result<(), OutOfMemory>
+    ensures { OnOk result (Writes (answer_entries ports.now body.now answer.now)
+        scribe.old scribe.new) }
+{
+    match answer {
+        Ok(posted) => log_put(scribe, *posted, ports, body),
+        Err(PortError::Doomed(closings)) => log_doomed(scribe, closings.as_slice()),
+        Err(PortError::OutOfMemory(..)) => Err(OutOfMemory),
+        Err(_) => Ok(()),
+    }
 }
 
 /// Logs the posts of a cast that were accepted.

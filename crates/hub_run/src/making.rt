@@ -37,9 +37,10 @@ ghost use Rattle.hub_envelope.specs.declared.limits.TheConstants.{MAX_AGENTS};
 ghost use Rattle.hub_trace.specs.declared.limits.TheConstants.{MAX_AGENT};
 
 use crate::agent::Agent;
+use crate::growing::push;
 use crate::peer::Peer;
 use crate::shared::Shared;
-use hub_broadcast::{Origin, SharedRoster};
+use hub_broadcast::SharedRoster;
 use hub_clients::Directory;
 use hub_envelope::{AgentId, OutOfMemory};
 use hub_life::{Life, Order};
@@ -47,7 +48,7 @@ use hub_logging::Scribe;
 use hub_loop::{Checkpoint, EventLoop, Held};
 use hub_ports::channel;
 use hub_queue::{Bell, Ends, Listener};
-use hub_script::{AgentKind, DeclaredChannel, DeclaredMember, Script};
+use hub_script::{AgentKind, DeclaredAgent, DeclaredMember, Script};
 use std::alloc::Global;
 use std::sync::Wait;
 
@@ -102,7 +103,8 @@ fn add_peer(seats: &mut [Seat], mut orders: Vec<Order>, bell: &Bell) -> Result<(
         let Some(order) = orders.pop() else {
             return Err(OutOfMemory);
         };
-        seats[place].peers.push(Peer::new(order, bell.clone()?))?;
+        let peer = Peer::new(order, bell.clone()?);
+        push(&mut seats[place].peers, peer)?;
     }
     Ok(())
 }
@@ -147,12 +149,12 @@ impl Seats {
         let mut words = Vec::new(alloc);
         for number in 0..count {
             let (seat, bell, orders) = open_seat(alloc, AgentId(number as u8), count)?;
-            seats.push(seat)?;
-            words.push((orders, bell.clone()?))?;
-            bells.push(bell)?;
+            push(&mut seats, seat)?;
+            push(&mut words, (orders, bell))?;
         }
         for (orders, bell) in words {
             add_peer(&mut seats, orders, &bell)?;
+            push(&mut bells, bell)?;
         }
         Ok(Seats { seats, bells })
     }
@@ -212,17 +214,27 @@ impl<'s, C: Checkpoint> Agent<'s, C> {
     }
 }
 
-// Makes the queue of an agent of that kind, under the next number.
+// What wakes the agent of that number.
+fn bell_of(bells: &[Bell], agent: AgentId) -> Result<Bell, OutOfMemory> {
+    match bells.get(usize::from(agent.0)) {
+        Some(bell) => bell.clone(),
+        None => Err(OutOfMemory),
+    }
+}
+
+// Makes the queue of the agent of that number and kind, under the next number of an end.
 fn make_queue<R: Wait>(
     rt: &R,
     directory: &Directory,
     ends: &mut Ends,
+    bells: &[Bell],
+    agent: AgentId,
     kind: AgentKind,
-    bell: Bell,
 ) -> Result<Held, OutOfMemory>
     ensures end { IfOk result (λ held. end_held held ≡ Some (record { 0 = ends.old.drawn })) }
     ensures drawn { OnOk result (ends.new.drawn ≡ ends.old.drawn + 1) }
 {
+    let bell = bell_of(bells, agent)?;
     match kind {
         AgentKind::Window => match directory.client(rt, ends, bell) {
             Ok(queue) => Ok(Held::Client(queue)),
@@ -232,6 +244,51 @@ fn make_queue<R: Wait>(
             Ok(queue) => Ok(Held::Worker(queue)),
             Err(_) => Err(OutOfMemory),
         },
+    }
+}
+
+// Makes a channel, both of whose ports the agent of that number is to hold.
+fn make_channel(
+    alloc: Global,
+    ends: &mut Ends,
+    bells: &[Bell],
+    agent: AgentId,
+) -> Result<(Held, Held), OutOfMemory>
+    ensures first { IfOk result (λ made.
+        end_held made.0 ≡ Some (record { 0 = ends.old.drawn })) }
+    ensures second { IfOk result (λ made.
+        end_held made.1 ≡ Some (record { 0 = ends.old.drawn + 1 })) }
+    ensures drawn { OnOk result (ends.new.drawn ≡ ends.old.drawn + 2) }
+{
+    let bell = bell_of(bells, agent)?;
+    match channel(alloc, ends, bell) {
+        Ok((port, other)) => Ok((Held::Port(port), Held::Port(other))),
+        Err(_) => Err(OutOfMemory),
+    }
+}
+
+// Makes a broadcast member, of the origin of its agent.
+fn make_member<R: Wait>(
+    alloc: Global,
+    rt: &R,
+    roster: &SharedRoster,
+    ends: &mut Ends,
+    bells: &[Bell],
+    agents: &[DeclaredAgent],
+    declared: &DeclaredMember,
+) -> Result<Held, OutOfMemory>
+    ensures end { IfOk result (λ held. end_held held ≡ Some (record { 0 = ends.old.drawn })) }
+    ensures drawn { OnOk result (ends.new.drawn ≡ ends.old.drawn + 1) }
+{
+    let Some(agent) = agents.get(usize::from(declared.at.0)) else {
+        return Err(OutOfMemory);
+    };
+    let bell = bell_of(bells, declared.at)?;
+    let origin = agent.origin.clone()?;
+    let name = String::from_str(alloc, declared.on.as_str())?;
+    match roster.join(rt, ends, declared.at, origin, name, bell) {
+        Ok(member) => Ok(Held::Member(member)),
+        Err(_) => Err(OutOfMemory),
     }
 }
 
@@ -278,7 +335,8 @@ impl<'s, C: Checkpoint> Made<'s, C> {
         let mut agents = Vec::new(alloc);
         for seat in seats {
             let kind = declared[agents.len()].kind;
-            agents.push(Agent::open(alloc, kind, shared, checkpoint, seat)?)?;
+            let agent = Agent::open(alloc, kind, shared, checkpoint, seat)?;
+            push(&mut agents, agent)?;
         }
         Ok(Made {
             agents,
@@ -302,49 +360,14 @@ impl<'s, C: Checkpoint> Made<'s, C> {
     {
         for (place, declared) in script.agents().iter().enumerate() {
             let number = AgentId(place as u8);
-            self.add_queue(rt, &shared.directory, number, declared.kind)?;
+            let (ends, kind) = (&mut self.ends, declared.kind);
+            let queue = make_queue(rt, &shared.directory, ends, &self.bells, number, kind)?;
+            self.give(number, queue)?;
         }
         Ok(())
     }
 
-    // Gives the agent of that number its queue.
-    fn add_queue<R: Wait>(
-        &mut self,
-        rt: &R,
-        directory: &Directory,
-        number: AgentId,
-        kind: AgentKind,
-    ) -> Result<(), OutOfMemory>
-        ensures given { OnOk result (GivesEnds number (record { 0 = self.old.ends.drawn } ∷ [])
-            self.old.agents.items self.new.agents.items) }
-        ensures drawn { OnOk result (self.new.ends.drawn ≡ self.old.ends.drawn + 1) }
-    {
-        let Some(bell) = self.bells.get(usize::from(number.0)) else {
-            return Err(OutOfMemory);
-        };
-        let bell = bell.clone()?;
-        let queue = make_queue(rt, directory, &mut self.ends, kind, bell)?;
-        self.give(number, queue)
-    }
-
-    // Makes a channel, whose ports go to one agent.
-    fn add_channel(&mut self, alloc: Global, declared: &DeclaredChannel) -> Result<(), OutOfMemory>
-        ensures given { OnOk result (GivesEnds declared.now.at
-            (record { 0 = self.old.ends.drawn } ∷ record { 0 = self.old.ends.drawn + 1 } ∷ [])
-            self.old.agents.items self.new.agents.items) }
-        ensures drawn { OnOk result (self.new.ends.drawn ≡ self.old.ends.drawn + 2) }
-    {
-        let Some(bell) = self.bells.get(usize::from(declared.at.0)) else {
-            return Err(OutOfMemory);
-        };
-        let Ok((port, other)) = channel(alloc, &mut self.ends, bell.clone()?) else {
-            return Err(OutOfMemory);
-        };
-        self.give(declared.at, Held::Port(port))?;
-        self.give(declared.at, Held::Port(other))
-    }
-
-    // Makes the channels.
+    // Makes the channels, both of whose ports go to one agent.
     fn add_channels(&mut self, alloc: Global, script: &Script) -> Result<(), OutOfMemory>
         requires { self.old.ends.drawn ≡ length (agents script.now) }
         ensures given { OnOk result (Gives (ports_given script.now)
@@ -353,12 +376,14 @@ impl<'s, C: Checkpoint> Made<'s, C> {
             ≡ length (agents script.now) + port_count script.now) }
     {
         for declared in script.channels() {
-            self.add_channel(alloc, declared)?;
+            let (port, other) = make_channel(alloc, &mut self.ends, &self.bells, declared.at)?;
+            self.give(declared.at, port)?;
+            self.give(declared.at, other)?;
         }
         Ok(())
     }
 
-    // Makes the broadcast members, each of the origin of its agent.
+    // Makes the broadcast members.
     fn add_members<R: Wait>(
         &mut self,
         alloc: Global,
@@ -370,38 +395,13 @@ impl<'s, C: Checkpoint> Made<'s, C> {
         ensures given { OnOk result (Gives (members_given script.now)
             self.old.agents.items self.new.agents.items) }
     {
+        let agents = script.agents();
         for declared in script.members() {
-            let Some(agent) = script.agents().get(usize::from(declared.at.0)) else {
-                return Err(OutOfMemory);
-            };
-            self.add_member(alloc, rt, roster, &agent.origin, declared)?;
+            let ends = &mut self.ends;
+            let member = make_member(alloc, rt, roster, ends, &self.bells, agents, declared)?;
+            self.give(declared.at, member)?;
         }
         Ok(())
-    }
-
-    // Makes a broadcast member of an agent of that origin.
-    fn add_member<R: Wait>(
-        &mut self,
-        alloc: Global,
-        rt: &R,
-        roster: &SharedRoster,
-        origin: &Origin,
-        declared: &DeclaredMember,
-    ) -> Result<(), OutOfMemory>
-        ensures given { OnOk result (GivesEnds declared.now.at
-            (record { 0 = self.old.ends.drawn } ∷ []) self.old.agents.items self.new.agents.items) }
-        ensures drawn { OnOk result (self.new.ends.drawn ≡ self.old.ends.drawn + 1) }
-    {
-        let Some(bell) = self.bells.get(usize::from(declared.at.0)) else {
-            return Err(OutOfMemory);
-        };
-        let bell = bell.clone()?;
-        let origin = origin.clone()?;
-        let name = String::from_str(alloc, declared.on.as_str())?;
-        let Ok(member) = roster.join(rt, &mut self.ends, declared.at, origin, name, bell) else {
-            return Err(OutOfMemory);
-        };
-        self.give(declared.at, Held::Member(member))
     }
 
     /// Makes the agents and what the script declares. A script declares fewer ends than there are

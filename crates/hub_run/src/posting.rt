@@ -11,25 +11,101 @@ ghost use Rattle.hub_run.specs.Agents.{
   KeepsButEnds,
   KeepsElse,
 };
-ghost use Rattle.hub_run.specs.Entries.{
-  IsCastLogged,
-  IsPostLogged,
-  Writes,
-  answer_entries,
+ghost use Rattle.hub_run.specs.Entries.{IsCastLogged, IsPostLogged, Writes};
+ghost use Rattle.hub_run.specs.Owning.{
+  Accounts,
+  HoldsAlso,
+  HoldsSame,
+  IsAnswer,
+  SameEnds,
+  back_of,
 };
-ghost use Rattle.hub_run.specs.Owning.{Accounts, HoldsAlso, HoldsSame, back_of};
 ghost use Rattle.hub_trace.specs.declared.log_entry.LogEntry.{LogEntry};
 
-use crate::agent::Agent;
-use crate::logging::{log_cast, log_doomed, log_put};
+use crate::agent::{Agent, AgentLoop};
+use crate::growing::push;
+use crate::logging::{log_answer, log_cast};
 use crate::shared::Shared;
 use hub_broadcast::CastError;
 use hub_clients::DirectoryError;
-use hub_envelope::{Body, EndId, OutOfMemory, Ports};
+use hub_envelope::{AgentId, Body, EndId, OutOfMemory, Ports};
 use hub_loop::{Checkpoint, Held, LoopError};
-use hub_ports::{Port, PortError};
-use hub_queue::Posted;
+use hub_ports::{Hub, Port, PortError};
+use hub_queue::{Grave, Posted};
+use std::alloc::Global;
 use std::sync::Wait;
+
+// What a post goes over.
+#[derive(Clone, Copy)]
+enum Way {
+    /// The port of that number.
+    Port(EndId),
+    /// A line to the queue of that number.
+    Line(EndId),
+}
+
+// Posts over a port or a line that the loop holds. Where it holds none the post is answered as at
+// an end that is closed.
+#[inline(always)]
+fn post_over<C: Checkpoint, R: Wait>(
+    event_loop: &mut AgentLoop<'_, C>,
+    rt: &R,
+    hub: &Hub,
+    agent: AgentId,
+    way: Way,
+    body: Body,
+    ports: Vec<Port>,
+) -> Result<Posted, PortError>
+    ensures answer { IsAnswer (ends_of ports.items) result }
+    ensures held { SameEnds event_loop.old.holding.held event_loop.new.holding.held }
+    ensures rest { event_loop.new
+        ≡ record event_loop.old { holding = event_loop.new.holding } }
+{
+    match way {
+        Way::Port(port) => match event_loop.post(rt, hub, agent, port, body, ports) {
+            Ok(answer) => answer,
+            Err((body, ports)) => Err(PortError::Closed(body, ports)),
+        },
+        Way::Line(queue) => match event_loop.send(rt, hub, agent, queue, body, ports) {
+            Ok(answer) => answer,
+            Err((body, ports)) => Err(PortError::Closed(body, ports)),
+        },
+    }
+}
+
+// The ports that come back with the answer to a post.
+fn ports_back(alloc: Global, answer: Result<Posted, PortError>) -> Vec<Port>
+    ensures { ends_of result.items ≡ back_of answer }
+{
+    match answer {
+        Ok(_) => Vec::new(alloc),
+        Err(PortError::Doomed(_)) => Vec::new(alloc),
+        Err(PortError::OutOfMemory(_, ports)) => ports,
+        Err(PortError::Closed(_, ports)) => ports,
+        Err(PortError::Moving(_, ports)) => ports,
+        Err(PortError::TooManyPorts(_, ports)) => ports,
+        Err(PortError::Taken(_, ports)) => ports,
+        Err(PortError::Strayed(_, _, ports)) => ports,
+    }
+}
+
+// Closes what can't be held for want of memory, so that it is swept with what was closed by
+// actions. A line is given back.
+fn bury<R: Wait>(rt: &R, shared: &Shared, graves: &mut Vec<Grave>, held: Held) {
+    let Shared {
+        hub,
+        directory,
+        roster,
+    } = shared;
+    match held.close(rt, hub, roster) {
+        Ok(closed) => {
+            let _full = push(graves, closed.grave);
+        }
+        Err(line) => {
+            let _refused = directory.give_back(rt, line);
+        }
+    }
+}
 
 impl<'s, C: Checkpoint> Agent<'s, C> {
     /// Holds an end or a line. Where there is no memory an end is closed, so that nobody waits for
@@ -41,29 +117,10 @@ impl<'s, C: Checkpoint> Agent<'s, C> {
         match self.event_loop.hold(held) {
             Ok(()) => Ok(()),
             Err((LoopError::OutOfMemory, held)) => {
-                self.bury(rt, held)?;
+                bury(rt, self.shared, &mut self.graves, held);
                 Err(OutOfMemory)
             }
         }
-    }
-
-    // Closes what can't be held, so that it is swept with what was closed by actions. A line is
-    // given back.
-    fn bury<R: Wait>(&mut self, rt: &R, held: Held) -> Result<(), OutOfMemory>
-        ensures { KeepsButEnds self.old self.new }
-    {
-        let Shared {
-            hub,
-            directory,
-            roster,
-        } = self.shared;
-        match held.close(rt, hub, roster) {
-            Ok(closed) => self.graves.push(closed.grave)?,
-            Err(line) => {
-                let _refused = directory.give_back(rt, line);
-            }
-        }
-        Ok(())
     }
 
     fn hold_ports<R: Wait>(&mut self, rt: &R, ports: Vec<Port>) -> Result<(), OutOfMemory>
@@ -120,32 +177,33 @@ impl<'s, C: Checkpoint> Agent<'s, C> {
         Ok(Some(ports))
     }
 
-    // Logs what a post has come to, and holds again what has come back.
-    fn settle<R: Wait>(
+    // Takes the ports that are to be sent along out of the loop and posts, logs what the post has
+    // come to, and holds again what has come back. Where one of the ports isn't held it does
+    // nothing.
+    fn post_along<R: Wait>(
         &mut self,
         rt: &R,
-        answer: Result<Posted, PortError>,
+        way: Way,
         body: &Body,
         transfer: &Ports,
     ) -> Result<(), OutOfMemory>
-        ensures written { OnOk result (Writes (answer_entries transfer.now body.now answer)
-            self.old.notes self.new.notes) }
-        ensures held { OnOk result (HoldsAlso (back_of answer) self.old self.new) }
+        ensures written { OnOk result ((entries : List LogEntry)
+            × IsPostLogged transfer.now body.now entries
+            × Writes entries self.old.notes self.new.notes) }
+        ensures own { OnOk result (Accounts self.old self.new) }
         ensures rest { KeepsElse self.old self.new }
     {
-        match answer {
-            Ok(posted) => log_put(&mut self.scribe, posted, transfer.as_slice(), body),
-            Err(PortError::Doomed(closings)) => log_doomed(&mut self.scribe, closings.as_slice()),
-            Err(PortError::OutOfMemory(_body, ports)) => {
-                self.hold_ports(rt, ports)?;
-                Err(OutOfMemory)
-            }
-            Err(PortError::Closed(_body, ports)) => self.hold_ports(rt, ports),
-            Err(PortError::Moving(_body, ports)) => self.hold_ports(rt, ports),
-            Err(PortError::TooManyPorts(_body, ports)) => self.hold_ports(rt, ports),
-            Err(PortError::Taken(_body, ports)) => self.hold_ports(rt, ports),
-            Err(PortError::Strayed(_strays, _body, ports)) => self.hold_ports(rt, ports),
-        }
+        let copy = body.clone()?;
+        let Some(ports) = self.release_ports(rt, transfer.as_slice())? else {
+            return Ok(());
+        };
+        let agent = self.scribe.agent();
+        let hub = &self.shared.hub;
+        let answer = post_over(&mut self.event_loop, rt, hub, agent, way, copy, ports);
+        let logged = log_answer(&mut self.scribe, &answer, transfer.as_slice(), body);
+        let back = ports_back(self.alloc, answer);
+        self.hold_ports(rt, back)?;
+        logged
     }
 
     /// Posts at a port, unless that port or one to be sent isn't held.
@@ -167,16 +225,7 @@ impl<'s, C: Checkpoint> Agent<'s, C> {
         if !self.holds_port(port) || !self.holds_ports(transfer.as_slice()) {
             return Ok(());
         }
-        let copy = body.clone()?;
-        let Some(ports) = self.release_ports(rt, transfer.as_slice())? else {
-            return Ok(());
-        };
-        let number = self.number();
-        let hub = &self.shared.hub;
-        match self.event_loop.post(rt, hub, number, port, copy, ports) {
-            Ok(answer) => self.settle(rt, answer, body, transfer),
-            Err((_body, ports)) => self.hold_ports(rt, ports),
-        }
+        self.post_along(rt, Way::Port(port), body, transfer)
     }
 
     // Holds a line to a queue, unless it does. False where the directory lends none.
@@ -216,16 +265,7 @@ impl<'s, C: Checkpoint> Agent<'s, C> {
         if !self.holds_ports(transfer.as_slice()) || !self.take_line(rt, queue)? {
             return Ok(());
         }
-        let copy = body.clone()?;
-        let Some(ports) = self.release_ports(rt, transfer.as_slice())? else {
-            return Ok(());
-        };
-        let number = self.number();
-        let hub = &self.shared.hub;
-        match self.event_loop.send(rt, hub, number, queue, copy, ports) {
-            Ok(answer) => self.settle(rt, answer, body, transfer),
-            Err((_body, ports)) => self.hold_ports(rt, ports),
-        }
+        self.post_along(rt, Way::Line(queue), body, transfer)
     }
 
     /// Casts from a member, unless it isn't held.

@@ -9,6 +9,7 @@ ghost use Rattle.hub_script.specs.Contents.{agents};
 ghost use Rattle.hub_trace.specs.declared.limits.TheConstants.{MAX_AGENT};
 
 use crate::agent::Agent;
+use crate::growing::push;
 use crate::making::Made;
 use crate::shared::Shared;
 use hub_acting::Acted;
@@ -59,28 +60,9 @@ impl<'a> Promise<Ran> for Part<'a> {
 /// The handle of an agent's thread.
 type Handle<'a> = PromisedHandle<Ran, Part<'a>>;
 
-// Waits until all threads were made, and runs the agent. Where one couldn't be made it does
-// nothing.
-fn wait_and_run<C: Checkpoint, R: Wait>(
-    rt: &R,
-    begun: &OnceLock<bool>,
-    part: Part<'_>,
-    agent: Agent<'_, C>,
-) -> Ran
-    requires number { part.number.0 ≤ MAX_AGENT }
-    requires given { IsGiven part.script.now part.number.0 agent }
-    ensures { IfOk result (λ it.
-        IsRunFor part.entry.script.now part.entry.number it.log it.acted) }
-{
-    if *begun.wait(rt) {
-        agent.run(rt, part.script, part.number)
-    } else {
-        Err(OutOfMemory)
-    }
-}
-
-// Starts a thread for each agent, in order. It is a function of its own, since between the first
-// thread and the signal that they wait for nothing may be left out.
+// Starts a thread for each agent, in order. Each waits until all threads were made, and does
+// nothing where one couldn't be made. It is a function of its own, since between the first thread
+// and the signal that they wait for nothing may be left out.
 fn start_all<'s, E, C: Checkpoint, R: Threads + Wait + Sync>(
     scope: &'s Scope<'s, E>,
     alloc: Global,
@@ -105,9 +87,15 @@ fn start_all<'s, E, C: Checkpoint, R: Threads + Wait + Sync>(
                 requires given { IsGiven part.script.now part.number.0 agent }
                 ensures { IfOk result (λ it.
                     IsRunFor part.entry.script.now part.entry.number it.log it.acted) }
-            { wait_and_run(rt, begun, part, agent) },
+            {
+                if *begun.wait(rt) {
+                    agent.run(rt, part.script, part.number)
+                } else {
+                    Err(OutOfMemory)
+                }
+            },
         )?;
-        handles.push(handle)?;
+        push(&mut handles, handle)?;
     }
     Ok(handles)
 }
@@ -127,21 +115,20 @@ fn join_all<R: Threads + Wait>(
 {
     for handle in handles {
         let AgentRun { log, acted } = handle.join(rt)?;
-        run.logs.push(log)?;
-        run.acted.push(acted)?;
+        push(&mut run.logs, log)?;
+        push(&mut run.acted, acted)?;
     }
     Ok(run)
 }
 
-// Runs the agents, none of which begins before the threads of all were made.
-fn run_made<C: Checkpoint, R: Threads + Wait + Sync>(
+// Makes the agents, and runs them, none of which begins before the threads of all were made.
+fn run_shared<C: Checkpoint, R: Threads + Wait + Sync>(
     alloc: Global,
     rt: &R,
+    shared: &Shared,
     script: &Script,
-    made: Vec<Agent<'_, C>>,
+    checkpoint: &C,
 ) -> Result<Run, OutOfMemory>
-    requires count { vec_len made ≡ length (agents script.now) }
-    requires given { AreGiven script.now made.items }
     ensures { IfOk result (λ run. AreRunsFor script.now run.logs.items run.acted.items) }
 {
     let count = script.agents().len();
@@ -149,6 +136,7 @@ fn run_made<C: Checkpoint, R: Threads + Wait + Sync>(
         logs: Vec::with_capacity(alloc, count)?,
         acted: Vec::with_capacity(alloc, count)?,
     };
+    let made = Made::of_script(alloc, rt, shared, script, checkpoint)?.into_agents();
     let started = OnceLock::new();
     let begun = &started;
     thread::scope(
@@ -167,20 +155,6 @@ fn run_made<C: Checkpoint, R: Threads + Wait + Sync>(
             join_all(rt, script, handles?, run)
         },
     )
-}
-
-// Makes the agents, and runs them.
-fn run_shared<C: Checkpoint, R: Threads + Wait + Sync>(
-    alloc: Global,
-    rt: &R,
-    shared: &Shared,
-    script: &Script,
-    checkpoint: &C,
-) -> Result<Run, OutOfMemory>
-    ensures { IfOk result (λ run. AreRunsFor script.now run.logs.items run.acted.items) }
-{
-    let made = Made::of_script(alloc, rt, shared, script, checkpoint)?;
-    run_made(alloc, rt, script, made.into_agents())
 }
 
 /// Runs a script: each agent does its actions on a thread of its own, and its loop ends after the

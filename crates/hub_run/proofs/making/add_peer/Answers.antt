@@ -14,7 +14,7 @@ loop-place-preserved c =
     let place = c.loop-place.place in
     let seats = c.loop-place.seats in
     let s = slice_index_or seats place c.index-seats-place.result in
-    let now : Seat = record s { peers = c.push.new.self } in
+    let now : Seat = record s { peers = c.push.new.list } in
     let inside : place < length seats = omega (arith, was.count, c.loop-place-test.true) in
     record {
       count = length-set seats place now ∙ was.count;
@@ -22,10 +22,10 @@ loop-place-preserved c =
       orders = λ seat all. front_of (λ (o : OrderSeat). o ≡ seat) c.pop.new.self.items (option_to_list c.pop.result) c.loop-place.orders.items c.pop.ensures.items (was.orders seat all);
       got = λ seat all.
           let order = last_of (λ (o : OrderSeat). o ≡ seat) c.pop.new.self.items c.loop-place.orders.items c.pop.result c.in-Some.order c.pop.ensures.items c.in-Some.is (was.orders seat all) in
-          let peer : c.new.result.order ≡ c.in-Some.order = search rules in
-          let more : c.push.new.self.items ≡ s.peers.items ++ c.new.result ∷ [] = search rules in
+          let peer : c.new-peer.result.order ≡ c.in-Some.order = search rules in
+          let more : c.push.new.list.items ≡ s.peers.items ++ c.new-peer.result ∷ [] = c.in_ok-push.ensures.items in
           gets_more seat c.args.seats.now seats place now c.index-seats-place.result was.count inside (was.got seat all) was.same
-          (refl, ap orders_of more ∙ map-append (λ (p : Peer). p.order) s.peers.items (c.new.result ∷ []) ∙ ap (λ (o : OrderSeat). orders_of s.peers.items ++ o ∷ []) (peer ∙ order));
+          (refl, ap orders_of more ∙ map-append (λ (p : Peer). p.order) s.peers.items (c.new-peer.result ∷ []) ∙ ap (λ (o : OrderSeat). orders_of s.peers.items ++ o ∷ []) (peer ∙ order));
       same = λ k d above. get_or-set_other seats place k now d (λ is. absurd (omega (arith, above, is))) ∙ was.same k d (omega (arith, above));
     }
 

@@ -1,9 +1,6 @@
-use Rattle.std.proofs.Common.{◌∙◌, [], ◌∷◌, ap, false, true, refl, rules, subst, sym}
-use Rattle.slab.specs.Slab.{Slab}
+use Rattle.std.proofs.Common.{◌∙◌, [], ◌∷◌, ap, false, true, refl, rules, sym}
 use Rattle.hub_loop.specs.Adopting.{IsFetched}
-use Rattle.hub_loop.specs.Starting.{StartsClient}
 use Rattle.hub_loop.specs.Turning.{store_of}
-use Rattle.hub_loop.specs.declared.held.Held.{Held}
 use Rattle.hub_trace.specs.declared.log_entry.LogEntry.TheVariants.{Adopted}
 use Rattle.hub_run.specs.Agents.{AgentState}
 use Rattle.hub_run.specs.Entries.{log_and}
@@ -12,8 +9,8 @@ use Rattle.hub_run.proofs.agent.Agent.fetch.Goals as goal
 
 pub returns-clause-written : goal.returns-clause-written
 returns-clause-written g c =
-    let (epoch, written) = c.in_ok-log_adopted.ensures.written in
-    (Adopted c.args.end epoch ∷ [], (epoch, refl), search rules)
+    let (epoch, written) = c.in_ok-log_adopted.ensures in
+    (Adopted c.args.end epoch ∷ [], (epoch, refl), written ∙ ap (λ (a : AgentState). log_and a.notes.log (Adopted c.args.end epoch ∷ [])) c.self.view_is)
 
 pub returns-in-Ok-false-clause-own : goal.returns-in-Ok-false-clause-own
 returns-in-Ok-false-clause-own g c =
@@ -25,10 +22,8 @@ returns-in-Ok-false-clause-own g c =
 pub returns-clause-own : goal.returns-clause-own
 returns-clause-own g c =
     let came : IsFetched true (store_of c.self.inside.event_loop.holding) (store_of c.fetch.new.self.holding) c.args.end = search rules in
-    let (epoch, written) = c.in_ok-log_adopted.ensures.written in
-    let same = ap (λ (a : AgentState). a.ends) c.self-2.view_is ∙ ap (λ (a : AgentState). a.ends) c.log_adopted.ensures.rest in
-    fetched_accounts c.args.self.now (record c.args.self.now { notes = c.self-2.inside.scribe; ends = c.start_client.new.self.holding.held; kept = c.start_client.new.self.kept }) (store_of c.self.inside.event_loop.holding) (store_of c.fetch.new.self.holding) c.args.end c.start_client.result
-    (sym (ap (λ (a : AgentState). a.ends) c.self.view_is)) came
-    (subst (λ (s : Slab Held). StartsClient s c.start_client.new.self.holding.held c.args.end c.start_client.result) same c.start_client.ensures.started)
-    (epoch, ap (λ (a : AgentState). a.notes.log) c.self-2.view_is ∙ written ∙ ap (λ (a : AgentState). log_and a.notes.log (Adopted c.args.end epoch ∷ [])) c.self.view_is)
-    (ap (λ l. l.kept) c.start_client.ensures.rest ∙ ap (λ (a : AgentState). a.kept) c.self-2.view_is ∙ ap (λ (a : AgentState). a.kept) c.log_adopted.ensures.rest ∙ ap (λ l. l.kept) c.fetch.ensures.rest ∙ ap (λ (a : AgentState). a.kept) c.self.view_is)
+    let (epoch, written) = c.in_ok-log_adopted.ensures in
+    fetched_accounts c.args.self.now (record c.args.self.now { notes = c.log_adopted.new.scribe; ends = c.start_client.new.self.holding.held; kept = c.start_client.new.self.kept }) (store_of c.self.inside.event_loop.holding) (store_of c.fetch.new.self.holding) c.args.end c.start_client.result
+    (sym (ap (λ (a : AgentState). a.ends) c.self.view_is)) came c.start_client.ensures.started
+    (epoch, written ∙ ap (λ (a : AgentState). log_and a.notes.log (Adopted c.args.end epoch ∷ [])) c.self.view_is)
+    (ap (λ l. l.kept) c.start_client.ensures.rest ∙ ap (λ l. l.kept) c.fetch.ensures.rest ∙ ap (λ (a : AgentState). a.kept) c.self.view_is)

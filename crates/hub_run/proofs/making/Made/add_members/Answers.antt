@@ -1,7 +1,7 @@
-use Rattle.std.proofs.Common.{◌≡◌, ◌<◌, ◌≤◌, ◌∙◌, ap, get_or, length, rules}
+use Rattle.std.proofs.Common.{◌≡◌, ◌<◌, ◌≤◌, ◌∙◌, Ok, ap, get_or, length, rules}
 use Rattle.hub_script.specs.Contents.{members}
 use Rattle.hub_run.specs.Giving.{members_from}
-use Rattle.hub_run.proofs.Gives.{gives_all, members_next}
+use Rattle.hub_run.proofs.Gives.{gives_all, gives_numbered, members_next}
 use Rattle.hub_run.proofs.making.Made.add_members.Goals as goal
 
 pub loop-declared-preserved : goal.loop-declared-preserved
@@ -10,8 +10,12 @@ loop-declared-preserved g c =
     let done = c.loop-declared.declared-index in
     let inside : done < length (members c.args.script.now) = search rules in
     let here : c.declared-item.result ≡ get_or (members c.args.script.now) done c.declared-item.result = c.declared-item.is ∙ ap (λ all. get_or all done c.declared-item.result) c.members-declared-items.ensures.members in
+    let drawn = c.loop-declared.self.ends.drawn in
+    let old = c.loop-declared.self.agents.items in
+    let new = c.give.new.self.agents.items in
     record {
-      given = members_next c.args.script.now done c.loop-declared.self.ends.drawn c.declared-item.result c.args.self.now.agents.items c.loop-declared.self.agents.items c.add_member.new.self.agents.items inside here was.drawn was.given c.in_ok-add_member.ensures.given;
+      given = members_next c.args.script.now done drawn c.declared-item.result c.args.self.now.agents.items old new inside here was.drawn was.given
+          (gives_numbered {E = Unit {0}} (Ok (tt {0})) c.declared-item.result.at c.in_ok-member.member (record { 0 = drawn }) old new c.in_ok-member.ensures.end c.in_ok-give.ensures.given);
       drawn = search rules;
     }
 

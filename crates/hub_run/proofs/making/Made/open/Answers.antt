@@ -11,9 +11,9 @@ loop-seat-preserved g c =
     let was = c.loop-seat.invariant in
     record {
       count = search rules;
-      nothing = subst HaveNothing (sym c.in_ok-push.ensures.items) (All-push HasNothing c.loop-seat.agents.items _ was.nothing (has_nothing c.in_ok-open.field-0 c.in_ok-open.ensures.nothing c.in_ok-open.ensures.kept));
-      opened = opened_more c.loop-seat.agents.items _ c.in_ok-open.field-0 c.in-Some.seat (into_iter_items c.loop-seat.seat-iterator) (into_iter_items c.next.new.self) (into_iter_items c.into_iter-seat-iterator.result)
-          c.in_ok-push.ensures.items c.in-Some.ensures.steps.0 c.in_ok-open.ensures.order c.in_ok-open.ensures.peers was.opened;
+      nothing = subst HaveNothing (sym c.in_ok-push.ensures.items) (All-push HasNothing c.loop-seat.agents.items _ was.nothing (has_nothing c.in_ok-agent.agent c.in_ok-agent.ensures.nothing c.in_ok-agent.ensures.kept));
+      opened = opened_more c.loop-seat.agents.items _ c.in_ok-agent.agent c.in-Some.seat (into_iter_items c.loop-seat.seat-iterator) (into_iter_items c.next.new.self) (into_iter_items c.into_iter-seat-iterator.result)
+          c.in_ok-push.ensures.items c.in-Some.ensures.steps.0 c.in_ok-agent.ensures.order c.in_ok-agent.ensures.peers was.opened;
     }
 
 pub returns-clause-seated : goal.returns-clause-seated
