@@ -1,6 +1,5 @@
 -- What an agent has of ends behind each action, by what it writes.
-use Rattle.std.specs.Result.{result_and}
-use Rattle.std.proofs.Common.{◌≡◌, ◌∙◌, ◌≤◌, ◌⊎◌, ℕ, ◌+◌, ◌==◌, length, Bool, true, false, cond, List, [], ◌∷◌, map, Option, Some, None, Result, Ok, Err, OnOk, ap, sym, refl, subst, inl, inr, arith}
+use Rattle.std.proofs.Common.{◌≡◌, ◌∙◌, ◌≤◌, ◌⊎◌, ℕ, ◌+◌, ◌==◌, Bool, true, false, cond, List, [], ◌∷◌, map, Option, Some, None, Result, Ok, Err, OnOk, ap, sym, refl, subst, inl, inr, arith}
 use Rattle.std.specs.List.{flat_map}
 use Rattle.std.proofs.lemmas.List.Sums.{sum_by-cons}
 use Rattle.slab.specs.Slab.{Slab, get, with_value}
@@ -23,7 +22,7 @@ use Rattle.hub_loop.specs.Holding.{end_held}
 use Rattle.hub_loop.specs.Starting.{StartsClient, StartsPort}
 use Rattle.hub_loop.specs.declared.held.Held.{Held}
 use Rattle.hub_loop.specs.declared.held.Held.TheVariants as held
-use Rattle.hub_ports.specs.Seats.{PortSeat, end_of, ends_of}
+use Rattle.hub_ports.specs.Seats.{PortSeat, ends_of}
 use Rattle.hub_ports.specs.Sending.{IsSent}
 use Rattle.hub_ports.specs.declared.port_error.PortError.{PortError}
 use Rattle.hub_ports.specs.declared.port_error.PortError.TheVariants as error
@@ -34,8 +33,9 @@ use Rattle.hub_trace.specs.Accepted.{AgentLog, message_at}
 use Rattle.hub_trace.specs.declared.log_entry.LogEntry.{LogEntry}
 use Rattle.hub_trace.specs.declared.log_entry.LogEntry.TheVariants.{Put, Got, Adopted, Closed}
 use Rattle.hub_run.specs.Agents.{AgentState, KeepsButNotes, StartsEnd, StartsQueue}
-use Rattle.hub_run.specs.Entries.{AreAdoptedOf, AreAdoptions, AreClosings, AreEndings, AreTurns, AreTurnsLogged, IsCastLogged, IsCloseLogged, IsClosing, IsFetchLogged, IsLoggedFor, IsPostLogged, IsTurnLogged, TurnLeaves, Writes, answer_entries, log_and, ports_in}
-use Rattle.hub_run.specs.Owning.{Accounts, HoldsAlso, HoldsNoMore, HoldsSame, LeavesOwn, TurnBrings, back_of, gained, gained_by, has, lost, lost_by, times}
+use Rattle.hub_run.specs.Entries.{AreAdoptedOf, AreAdoptions, AreClosings, AreEndings, AreTurns, AreTurnsLogged, IsCastLogged, IsCloseLogged, IsClosing, IsFetchLogged, IsLoggedFor, IsPostLogged, IsTurnLogged, TurnLeaves, Writes, answer_entries, ports_in}
+use Rattle.hub_run.specs.Owning.{Accounts, HoldsNoMore, LeavesOwn, TurnBrings, gained, gained_by, has, lost, lost_by, times}
+use Rattle.hub_run.specs.Posting.{given_back}
 use Rattle.hub_run.proofs.Brings.{count_held, count_same, held_in}
 use Rattle.hub_run.proofs.Listed.{split_times, times_cons, times_one}
 use Rattle.hub_run.proofs.Owns.{gained_both, lost_both, only_gained, only_lost}
@@ -81,7 +81,7 @@ closings_lose (end ∷ ends) entries (first, rest, is, one, more) = λ e.
     let single = times_one e end in
     omega (arith, all, here, behind, split, single)
 
-post_gains : (ports : List EndId) (body : List ℕ) (entries : List LogEntry) → IsPostLogged ports body entries → GainsNone entries
+pub post_gains : (ports : List EndId) (body : List ℕ) (entries : List LogEntry) → IsPostLogged ports body entries → GainsNone entries
 post_gains ports body entries (inl is) = λ e. ap (gained e) is
 post_gains ports body entries (inr (inl (posted, is))) = λ e. ap (gained e) is
 post_gains ports body entries (inr (inr closed)) = closings_gain ports entries closed
@@ -291,7 +291,7 @@ load_accounts queue before now (keeps, (was, started)) =
 
 -- what a post has lost, with what has come back
 pub answer_loses : (old new : StandSeat) (agent : AgentId) (body posted_body : List ℕ) (ports : List PortSeat) (answer : Result Posted PortError) → IsSent old new agent posted_body ports answer
-    → (e : ℕ) → lost e (answer_entries (ends_of ports) body answer) + times e (back_of answer) ≤ times e (ends_of ports)
+    → (e : ℕ) → lost e (answer_entries (ends_of ports) body answer) + times e (ends_of (given_back answer)) ≤ times e (ends_of ports)
 answer_loses old new agent body posted_body ports (Ok posted) sent e =
     let h = lost_cons e (Put (message_at posted (ends_of ports) body)) [] in omega (arith, h)
 answer_loses old new agent body posted_body ports (Err (error.Doomed closings)) sent e =
@@ -317,26 +317,6 @@ posted_same agent body ports old new end answer (key, port, stand, at, is, sent,
 
 pub sent_same : (agent : AgentId) (body : List ℕ) (ports : List PortSeat) (old new : Slab Held) (end : EndId) (answer : Result Posted PortError) → SendsOverLine agent body ports old new end answer → (e : ℕ) → held_in new e ≡ held_in old e
 sent_same agent body ports old new end answer (key, line, stand, at, is, sent, now) e = ap (λ s. held_in s e) now ∙ held_again e old key (held.Line line) _ at refl
-
--- Ports were taken out of the loop and posted, and what came back is held again.
-pub post_accounts : {X E : Type 0} (result : Result X E) (before out posted now : AgentState) (ends : List EndId) (body : List ℕ) (answer : Result Posted PortError)
-    → HoldsAlso ends out before → HoldsSame out posted → IsPostLogged ends body (answer_entries ends body answer) → ((e : ℕ) → lost e (answer_entries ends body answer) + times e (back_of answer) ≤ times e ends)
-    → OnOk result (HoldsAlso (back_of answer) posted now) → OnOk result (Writes (answer_entries ends body answer) posted.notes now.notes) → posted.notes ≡ before.notes → now.kept ≡ before.kept → OnOk result (Accounts before now)
-post_accounts (Ok x) before out posted now ends body answer released same logged loses holds written notes kept =
-    accounts_by before now (answer_entries ends body answer) (written ∙ ap (λ n. log_and n.log (answer_entries ends body answer)) notes) (λ none. kept ∙ none) (λ e.
-    let a = released e in
-    let b = loses e in
-    let c = holds e in
-    let d = post_gains ends body (answer_entries ends body answer) logged e in
-    let f = same e in
-    omega (arith, a, b, c, d, f))
-post_accounts (Err x) before out posted now ends body answer released same logged loses holds written notes kept = tt
-
--- the same where all that was taken out is held again
-pub again_accounts : {X E : Type 0} (result : Result X E) (before out now : AgentState) (ends : List EndId) → HoldsAlso ends out before → OnOk result (HoldsAlso ends out now) → now.notes ≡ before.notes → now.kept ≡ before.kept → OnOk result (Accounts before now)
-again_accounts (Ok x) before out now ends released holds notes kept =
-    accounts_same before now notes kept (λ e. let a = released e in let b = holds e in omega (arith, a, b))
-again_accounts (Err x) before out now ends released holds notes kept = tt
 
 -- A delivery and the adoptions that were logged.
 pub delivered_accounts : (before told now : AgentState) → TurnLeaves Delivered before.notes told.notes → TurnBrings Delivered before told
@@ -426,23 +406,3 @@ cast_accounts (Ok x) before now body (entries, logged, written) ends kept =
     let l = loses e in
     omega (arith, a, g, l))
 cast_accounts (Err x) before now body written ends kept = tt
-
--- one port more is held, unless one isn't
-pub port_held : {E : Type 0} (r was now : Result (Unit {0}) E) (a b c : AgentState) (port : PortSeat) (before after all : List PortSeat) → now ≡ result_and r was → before ≡ port ∷ after → OnOk r (HoldsMore b.ends c.ends (held.Port port))
-    → OnOk was ((e : ℕ) → has b e + times e (ends_of before) ≡ has a e + times e (ends_of all)) → OnOk now ((e : ℕ) → has c e + times e (ends_of after) ≡ has a e + times e (ends_of all))
-port_held (Ok x) (Ok y) now a b c port before after all is first more holds =
-    subst (λ n. OnOk n ((e : ℕ) → has c e + times e (ends_of after) ≡ has a e + times e (ends_of all))) (sym is) (λ e.
-    let h = count_held e b.ends c.ends (held.Port port) more in
-    let k = holds e in
-    let l = ap (λ ps. times e (ends_of ps)) first ∙ times_cons e (end_of port) (ends_of after) in
-    omega (arith, h, k, l))
-port_held (Ok x) (Err y) now a b c port before after all is first more holds = subst (λ n. OnOk n ((e : ℕ) → has c e + times e (ends_of after) ≡ has a e + times e (ends_of all))) (sym is) tt
-port_held (Err x) was now a b c port before after all is first more holds = subst (λ n. OnOk n ((e : ℕ) → has c e + times e (ends_of after) ≡ has a e + times e (ends_of all))) (sym is) tt
-
-nothing_left : (left : List PortSeat) → length left ≡ 0 → (e : ℕ) → times e (ends_of left) ≡ 0
-nothing_left [] none e = refl
-nothing_left (p ∷ ps) none e = absurd (omega (arith, none))
-
-pub ports_held : {E : Type 0} (r : Result (Unit {0}) E) (a b : AgentState) (left all : List PortSeat) → length left ≡ 0 → OnOk r ((e : ℕ) → has b e + times e (ends_of left) ≡ has a e + times e (ends_of all)) → OnOk r (HoldsAlso (ends_of all) a b)
-ports_held (Ok x) a b left all none holds = λ e. let h = holds e in let l = nothing_left left none e in omega (arith, h, l)
-ports_held (Err x) a b left all none holds = tt

@@ -1,5 +1,5 @@
 -- What an agent's loop holds, and what is said of it.
-use Rattle.std.proofs.Common.{◌≡◌, Bool, false, List, [], ◌∷◌, ◌++◌, Result, Ok, Err, OnOk, inr, subst}
+use Rattle.std.proofs.Common.{◌≡◌, Bool, false, Result, Ok, Err, OnOk, inr, subst}
 use Rattle.slab.specs.Slab.{Slab}
 use Rattle.hub_envelope.specs.declared.ids.EndId.{EndId}
 use Rattle.hub_loop.specs.declared.closed_end.ClosedEnd.{ClosedEnd}
@@ -7,12 +7,7 @@ use Rattle.hub_loop.specs.declared.held.Held.{Held}
 use Rattle.hub_loop.specs.Closing.{ClosesEnd}
 use Rattle.hub_loop.specs.Starting.{StartsClient, StartsPort}
 use Rattle.hub_loop.specs.Looking.{HoldsNoPort}
-use Rattle.hub_run.specs.Agents.{AgentState, ClosesHeld, HoldsPort, HoldsPorts}
-
--- one port more
-pub ports_more : (a : AgentState) (ends : List EndId) (end : EndId) → HoldsPorts a ends → HoldsPort a end → HoldsPorts a (ends ++ end ∷ [])
-ports_more a [] end all one = (one, tt)
-ports_more a (e ∷ ends) end (first, rest) one = (first, ports_more a ends end rest one)
+use Rattle.hub_run.specs.Agents.{AgentState, ClosesHeld}
 
 -- what holds anyway holds where it is no error
 pub on_ok : {X E P : Type 0} (r : Result X E) → P → OnOk r P

@@ -12,6 +12,7 @@ pub mod Messages
 pub mod OneByOne
 pub mod Owns
 pub mod Peers
+pub mod Sending
 pub mod Seating
 pub mod Slots
 pub mod Turns

@@ -1,10 +1,9 @@
 -- What is written of a list of actions, as the actions are done one by one.
-use Rattle.std.proofs.Common.{◌≡◌, ◌∙◌, ℕ, length, take, List, [], ◌∷◌, ◌++◌, Bool, true, false, ap, arith, sym, refl, inl, subst}
-use Rattle.std.proofs.lemmas.List.{take_all}
-use Rattle.hub_envelope.specs.declared.ids.AgentId.{AgentId}
-use Rattle.hub_acting.specs.Doing.{DidAll, HasActed, IsStopped, actions_of}
+use Rattle.std.proofs.Common.{Bor, MutBor, ℕ, length, take, List, [], ◌∷◌, ◌++◌, Bool, true, false, Result, Ok, Err, IfOk, OnOk, sym, refl, inl, subst}
+use Rattle.std.specs.declared.alloc.AllocError.{AllocError}
+use Rattle.hub_acting.specs.Calls.{acts_by, looks_by}
+use Rattle.hub_acting.specs.Doing.{DidAll, HasActed, IsStopped}
 use Rattle.hub_acting.specs.declared.acted.Acted.{Acted}
-use Rattle.hub_script.specs.declared.action.Action.{Action}
 use Rattle.hub_script.specs.declared.action.ActionKind.{ActionKind}
 use Rattle.hub_script.specs.declared.action.ActionKind.TheVariants.{Post, Send, Cast, Start, Loaded, Close, Wait, Receive, Order, Event, Hand, Fetch}
 use Rattle.hub_trace.specs.declared.log_entry.LogEntry.{LogEntry}
@@ -56,29 +55,38 @@ acts_before action later before now after act (rest, all, behind, own) =
 acts_none : (a : AgentState) → ActsAll [] a a
 acts_none a = ([], refl, writes_same a.notes a.notes refl, λ none. (none, leaves_none (has a)))
 
--- what an action that is done leaves of an agent
-abbrev pub does : AgentState → ActionKind → AgentState → Type 0
-does before action after = Acts action before after
+-- An agent whose looks change nothing but its seat at the order, and which does its actions as it may.
+module _ (looks : AgentState → Bool → AgentState → Type 0) (acts : AgentState → ActionKind → AgentState → Type 0)
+    (looked : (p q : AgentState) (seen : Bool) → looks p seen q → LooksFor p seen q) (acting : (p q : AgentState) (action : ActionKind) → acts p action q → Acts action p q) where
+  did_all : (all : List ActionKind) (before now : AgentState) → DidAll looks acts all before now → ActsAll all before now
+  did_all [] before now is = subst (ActsAll [] before) (sym is) (acts_none before)
+  did_all (action ∷ later) before now (seen, done, look, act, did) =
+      subst (λ (a : AgentState). ActsAll (action ∷ later) a now) (looked before seen false look).1
+      (acts_before action later seen done now (acting seen done action act) (did_all later done now did))
 
-did_all : (all : List ActionKind) (before now : AgentState) → DidAll LooksFor does all before now → ActsAll all before now
-did_all [] before now is = subst (ActsAll [] before) (sym is) (acts_none before)
-did_all (action ∷ later) before now (seen, done, look, act, did) =
-    subst (λ (a : AgentState). ActsAll (action ∷ later) a now) look.1 (acts_before action later seen done now act (did_all later done now did))
+  stopped_at : (all some : List ActionKind) (done : ℕ) (ordered : Bool) (before last now : AgentState) → IsStopped looks acts all done ordered last now → ActsAll some before last → IsStoppedAt ordered done (length all) × ActsAll some before now
+  stopped_at all some done true before last now (below, look) did = (below, subst (ActsAll some before) (sym (looked last now true look).1) did)
+  stopped_at all some done false before last now (is, same) did = (is, subst (ActsAll some before) (sym same) did)
 
-stopped_at : (all some : List ActionKind) (done : ℕ) (ordered : Bool) (before last now : AgentState) → IsStopped LooksFor does all done ordered last now → ActsAll some before last → IsStoppedAt ordered done (length all) × ActsAll some before now
-stopped_at all some done true before last now (below, look) did = (below, subst (ActsAll some before) (sym look.1) did)
-stopped_at all some done false before last now (is, same) did = (is, subst (ActsAll some before) (sym same) did)
+  acted_first : (all : List ActionKind) (acted : Acted) (before now : AgentState) → HasActed looks acts all acted before now → ActsFirst acted all before now
+  acted_first all acted before now (last, did, stopped) =
+      let (at, acts) = stopped_at all (take acted.done all) acted.done acted.ordered before last now stopped (did_all (take acted.done all) before last did) in
+      record { acts = acts; stopped = at }
 
-pub acted_first : (all : List ActionKind) (acted : Acted) (before now : AgentState) → HasActed LooksFor does all acted before now → ActsFirst acted all before now
-acted_first all acted before now (last, did, stopped) =
-    let (at, acts) = stopped_at all (take acted.done all) acted.done acted.ordered before last now stopped (did_all (take acted.done all) before last did) in
-    record { acts = acts; stopped = at }
+  pub if_acted_so : {E : Type 0} (all : List ActionKind) (before now : AgentState) (result : Result Acted E) → IfOk result (λ acted. HasActed looks acts all acted before now) → IfOk result (λ acted. ActsFirst acted all before now)
+  if_acted_so all before now (Ok acted) did = acted_first all acted before now did
+  if_acted_so all before now (Err e) did = tt
 
--- all of the script's actions that are the agent's were done
-pub acted_all : (agent : AgentId) (some all : List Action) (n : ℕ) (before now : AgentState) → some ≡ all → n ≡ length (actions_of agent some) → DidAll LooksFor does (actions_of agent some) before now
-    → ActsFirst (record { done = n; ordered = false }) (actions_of agent all) before now
-acted_all agent some all n before now is count did =
-    let mine = actions_of agent all in
-    let len : n ≡ length mine = count ∙ ap (λ xs. length (actions_of agent xs)) is in
-    acted_first mine (record { done = n; ordered = false }) before now
-    (now, subst (λ xs. DidAll LooksFor does xs before now) (ap (actions_of agent) is ∙ sym (take_all n mine (omega (arith, len)))) did, (len, refl))
+-- what closures at an agent leave of it, by their contracts
+abbrev pub looking : MutBor AgentState → Bool → MutBor AgentState → Type 0
+looking a seen b = LooksFor a.now seen b.now
+
+abbrev pub acting : MutBor AgentState → Bor ActionKind → Result (Unit {0}) AllocError → MutBor AgentState → Type 0
+acting a k done b = OnOk done (Acts k.now a.now b.now)
+
+pub looked_so : (p q : AgentState) (seen : Bool) → looks_by looking p seen q → LooksFor p seen q
+looked_so p q seen (a, b, was, is, met) = subst (λ (y : AgentState). LooksFor p seen y) is (subst (λ (x : AgentState). LooksFor x seen b.now) was met)
+
+pub acted_so : (p q : AgentState) (action : ActionKind) → acts_by acting p action q → Acts action p q
+acted_so p q action (a, k, b, was, of, is, met) =
+    subst (λ (x : AgentState). Acts action x q) was (subst (λ (y : AgentState). Acts action a.now y) is (subst (λ (x : ActionKind). Acts x a.now b.now) of met))

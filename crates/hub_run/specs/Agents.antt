@@ -1,5 +1,5 @@
 -- An agent of a run, as its own calls see it, and what an action changes of it beside its log.
-use Rattle.std.specs.Prelude.{◌≡◌, ◌⊎◌, ◌+◌, ℕ, Bool, true, List, [], ◌∷◌, Option, Some, None, option_map, slice_get, slice_set}
+use Rattle.std.specs.Prelude.{◌≡◌, ◌⊎◌, ◌+◌, ℕ, Bool, true, List, Option, Some, None, option_map, slice_get, slice_set}
 use Rattle.slab.specs.Slab.{Slab}
 use Rattle.hub_broadcast.specs.Members.{MemberSeat}
 use Rattle.hub_envelope.specs.declared.ids.EndId.{EndId}
@@ -16,6 +16,8 @@ use Rattle.hub_loop.specs.Starting.{StartsClient, StartsPort}
 use Rattle.hub_loop.specs.States.{DeliveryState}
 use Rattle.hub_ports.specs.Seats.{PortSeat, end_of}
 use Rattle.hub_run.specs.declared.peer.Peer.{Peer}
+use Rattle.hub_run.specs.declared.posting.Way.TheVariants as way
+use Rattle.hub_run.specs.Posting.{PostsOver, SendsTo}
 use Rattle.hub_script.specs.declared.action.ActionKind.{ActionKind}
 use Rattle.hub_script.specs.declared.action.ActionKind.TheVariants.{Post, Send, Cast, Start, Loaded, Close, Order, Event, Hand}
 
@@ -65,11 +67,6 @@ KeepsButEnds before now = now ≡ record before { ends = now.ends }
 abbrev pub HoldsPort : AgentState → EndId → Type 0
 HoldsPort a end = (port : PortSeat) × Holds a.ends (Port port) × (end_of port ≡ end)
 
--- its loop holds each of these ports
-abbrev pub HoldsPorts : AgentState → List EndId → Type 0
-HoldsPorts a [] = Unit {0}
-HoldsPorts a (end ∷ ends) = HoldsPort a end × HoldsPorts a ends
-
 -- its loop holds the member of this number
 abbrev pub HoldsMember : AgentState → EndId → Type 0
 HoldsMember a end = (member : MemberSeat) × Holds a.ends (Member member) × (member.taker.end ≡ end.0)
@@ -100,14 +97,15 @@ abbrev pub LooksFor : AgentState → Bool → AgentState → Type 0
 LooksFor before seen now =
     (seen ≡ knows now.order) × (now ≡ record before { order = record before.order { looks = before.order.looks + 1; found = seen } })
 
--- What an action changes of the agent beside its log, and what it does at the ends that the loop holds. A post, a send or a cast writes
--- nothing unless what it posts from and what it sends along is held. A start or a loaded enables what it names, a close takes out the
--- end that it names. An order goes to the agent that it names, an event to the agent's own life, and a hand wakes the agent that it
--- names where the queue was handed.
+-- What an action changes of the agent beside its log, and what it does at the ends that the loop holds. A post or a send posts over the
+-- port or the line that it names, and its answer is written; a cast writes nothing unless its member is held. A start or a loaded
+-- enables what it names, a close takes out the end that it names. An order goes to the agent that it names, an event to the agent's own
+-- life, and a hand wakes the agent that it names where the queue was handed.
 abbrev pub Changes : ActionKind → AgentState → AgentState → Type 0
 Changes (Post port body transfer) before now =
-    KeepsElse before now × (IsUnwritten before now ⊎ (HoldsPort before port × HoldsPorts before transfer))
-Changes (Send queue body transfer) before now = KeepsElse before now × (IsUnwritten before now ⊎ HoldsPorts before transfer)
+    KeepsElse before now × PostsOver (way.Port port) transfer body before.ends now.ends before.notes now.notes
+Changes (Send queue body transfer) before now =
+    KeepsElse before now × SendsTo queue transfer body before.ends now.ends before.notes now.notes
 Changes (Cast member body) before now = KeepsElse before now × (IsUnwritten before now ⊎ HoldsMember before member)
 Changes (Start end) before now = StartsEnd end before now
 Changes (Loaded queue) before now = StartsQueue queue before now

@@ -1,20 +1,16 @@
 -- Which ends an agent has: how its log says that it came by them and parted from them, and how many its loop holds.
-use Rattle.std.specs.Prelude.{◌≡◌, ◌≤◌, ◌+◌, ◌==◌, ℕ, List, [], ◌∷◌, count_by, take, None, Result, Ok, Err}
+use Rattle.std.specs.Prelude.{◌≡◌, ◌≤◌, ◌+◌, ◌==◌, ℕ, List, [], ◌∷◌, count_by, take, None}
 use Rattle.std.specs.List.{sum_by}
 use Rattle.slab.specs.Slab.{Slab}
 use Rattle.hub_envelope.specs.declared.ids.EndId.{EndId}
-use Rattle.hub_envelope.specs.declared.posted.Posted.{Posted}
 use Rattle.hub_loop.specs.Ending.{is_held}
 use Rattle.hub_loop.specs.declared.held.Held.{Held}
 use Rattle.hub_loop.specs.declared.turn.Turn.{Turn}
 use Rattle.hub_loop.specs.declared.turn.Turn.TheVariants.{Delivered, Idle, Ending}
-use Rattle.hub_ports.specs.Seats.{ends_of}
-use Rattle.hub_ports.specs.declared.port_error.PortError.{PortError}
-use Rattle.hub_ports.specs.declared.port_error.PortError.TheVariants as error
 use Rattle.hub_trace.specs.declared.log_entry.LogEntry.{LogEntry}
 use Rattle.hub_trace.specs.declared.log_entry.LogEntry.TheVariants.{Put, Got, Adopted, Closed}
 use Rattle.hub_run.specs.Agents.{AgentState}
-use Rattle.hub_run.specs.Entries.{IsPostLogged, answer_entries, ports_in}
+use Rattle.hub_run.specs.Entries.{ports_in}
 
 -- how often the end of that number stands in the list
 abbrev pub times : ℕ → List EndId → ℕ
@@ -57,18 +53,6 @@ has a e = count_by (is_held e) a.ends.slots
 abbrev pub held_by : Slab Held → ℕ → ℕ
 held_by held e = count_by (is_held e) held.slots
 
--- As many ends of each number are held.
-abbrev pub SameEnds : Slab Held → Slab Held → Type 0
-SameEnds old new = (e : ℕ) → held_by new e ≡ held_by old e
-
--- The loop holds these ends besides.
-abbrev pub HoldsAlso : List EndId → AgentState → AgentState → Type 0
-HoldsAlso ends before now = (e : ℕ) → has now e ≡ has before e + times e ends
-
--- The loop holds as many ends of each number.
-abbrev pub HoldsSame : AgentState → AgentState → Type 0
-HoldsSame before now = (e : ℕ) → has now e ≡ has before e
-
 -- The loop holds no end that it didn't hold.
 abbrev pub HoldsNoMore : AgentState → AgentState → Type 0
 HoldsNoMore before now = (e : ℕ) → has now e ≤ has before e
@@ -79,24 +63,6 @@ abbrev pub Accounts : AgentState → AgentState → Type 0
 Accounts before now =
     before.kept ≡ None → (now.kept ≡ None)
     × ((e : ℕ) → has now e + lost e now.notes.log.1 + gained e before.notes.log.1 ≤ has before e + gained e now.notes.log.1 + lost e before.notes.log.1)
-
--- the ports that come back with the answer to a post
-abbrev pub back_of : Result Posted PortError → List EndId
-back_of (Ok posted) = []
-back_of (Err (error.Doomed closings)) = []
-back_of (Err (error.Closed body ports)) = ends_of ports.items
-back_of (Err (error.Moving body ports)) = ends_of ports.items
-back_of (Err (error.OutOfMemory body ports)) = ends_of ports.items
-back_of (Err (error.TooManyPorts body ports)) = ends_of ports.items
-back_of (Err (error.Strayed missing body ports)) = ends_of ports.items
-back_of (Err (error.Taken body ports)) = ends_of ports.items
-
--- It answers a post of these ports, whatever its body: the log tells of it what it may tell of such a post, and what the log says was
--- lost is, with what comes back, no more than these ports.
-abbrev pub IsAnswer : List EndId → Result Posted PortError → Type 0
-IsAnswer ends answer =
-    (body : List ℕ) → IsPostLogged ends body (answer_entries ends body answer)
-    × ((e : ℕ) → lost e (answer_entries ends body answer) + times e (back_of answer) ≤ times e ends)
 
 -- What a turn leaves of what the loop holds, before the adoptions are logged: a delivery brings no more than the ports that are to be
 -- logged as adopted, and another turn nothing.

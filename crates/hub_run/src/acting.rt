@@ -25,13 +25,14 @@ use crate::agent::Agent;
 use crate::awaited::Awaited;
 use crate::logging::log_closed_end;
 use crate::peer::{Peer, order_all};
+use crate::posting::Way;
 use crate::shared::Shared;
 use hub_acting::Acted;
 use hub_clients::{Directory, HandError};
 use hub_envelope::{AgentId, EndId, OutOfMemory};
 use hub_life::{Event, Life};
 use hub_loop::{Checkpoint, Held};
-use hub_script::{Action, ActionKind, Script};
+use hub_script::{ActionKind, Script};
 use std::sync::Wait;
 
 // The error of a hand that was refused for want of memory.
@@ -111,32 +112,23 @@ impl<'s, C: Checkpoint> Agent<'s, C> {
         }
     }
 
-    // Looks for the order to end at its own seat.
-    fn looks(&mut self) -> bool
-        ensures { LooksFor self.old result self.new }
-    {
-        self.order.seen()
-    }
-
     // Does its actions, up to the last or to the order to end, for which it looks before each.
     fn act_all<R: Wait>(&mut self, rt: &R, script: &Script) -> Result<Acted, OutOfMemory>
         ensures { IfOk result (λ acted. ActsFirst acted
             (actions_of self.old.notes.log.0 (actions script.now)) self.old self.new) }
     {
         let number = self.scribe.agent();
-        let mut done = 0;
-        for Action { at, kind } in script.actions() {
-            if *at == number {
-                if self.looks() {
-                    let ordered = true;
-                    return Ok(Acted { done, ordered });
-                }
-                self.act(rt, kind)?;
-                done += 1;
-            }
-        }
-        let ordered = false;
-        Ok(Acted { done, ordered })
+        hub_acting::act_all(
+            self,
+            script,
+            number,
+            |agent: &mut Agent<'_, C>| -> bool
+                ensures { LooksFor agent.old result agent.new }
+            { agent.order.seen() },
+            |agent: &mut Agent<'_, C>, action: &ActionKind| -> Result<(), OutOfMemory>
+                ensures { OnOk result (Acts action.now agent.old agent.new) }
+            { agent.act(rt, action) },
+        )
     }
 
     fn act<R: Wait>(&mut self, rt: &R, action: &ActionKind) -> Result<(), OutOfMemory>
@@ -147,7 +139,7 @@ impl<'s, C: Checkpoint> Agent<'s, C> {
                 port,
                 body,
                 transfer,
-            } => self.post(rt, *port, body, transfer),
+            } => self.post(rt, Way::Port(*port), body, transfer),
             ActionKind::Send {
                 queue,
                 body,

@@ -1,24 +1,22 @@
 //! The actions that post: at a port, at a queue, from a broadcast member.
 
-ghost use Rattle.std.specs.Prelude.{◌≡◌, ◌⊎◌, List, true, IfOk, IfSome, IfNone, OnOk};
+ghost use Rattle.std.specs.Prelude.{◌≡◌, ◌≢◌, ◌⊎◌, List, false, IfErr, IfOk, IfSome, IfNone, OnOk};
 ghost use Rattle.hub_loop.specs.Adopting.{HoldsMore};
-ghost use Rattle.hub_ports.specs.Seats.{ends_of};
-ghost use Rattle.hub_run.specs.Agents.{
-  HoldsMember,
-  HoldsPort,
-  HoldsPorts,
-  IsUnwritten,
-  KeepsButEnds,
-  KeepsElse,
-};
-ghost use Rattle.hub_run.specs.Entries.{IsCastLogged, IsPostLogged, Writes};
-ghost use Rattle.hub_run.specs.Owning.{
-  Accounts,
-  HoldsAlso,
-  HoldsSame,
-  IsAnswer,
-  SameEnds,
-  back_of,
+ghost use Rattle.hub_loop.specs.Looking.{HoldsNoLine};
+ghost use Rattle.hub_loop.specs.declared.held.Held.TheVariants.{Port as PortHeld};
+ghost use Rattle.hub_ports.specs.Seats.{PortSeat, ends_of};
+ghost use Rattle.hub_run.specs.Agents.{HoldsMember, IsUnwritten, KeepsButEnds, KeepsElse};
+ghost use Rattle.hub_run.specs.Entries.{IsCastLogged, Writes};
+ghost use Rattle.hub_run.specs.Owning.{Accounts};
+ghost use Rattle.hub_run.specs.Posting.{
+  HasLine,
+  HoldsEach,
+  LacksOne,
+  PostsOver,
+  SendsOrReturns,
+  SendsTo,
+  TakesOut,
+  given_back,
 };
 ghost use Rattle.hub_trace.specs.declared.log_entry.LogEntry.{LogEntry};
 
@@ -35,9 +33,9 @@ use hub_queue::{Grave, Posted};
 use std::alloc::Global;
 use std::sync::Wait;
 
-// What a post goes over.
+/// What a post goes over.
 #[derive(Clone, Copy)]
-enum Way {
+pub(crate) enum Way {
     /// The port of that number.
     Port(EndId),
     /// A line to the queue of that number.
@@ -56,8 +54,8 @@ fn post_over<C: Checkpoint, R: Wait>(
     body: Body,
     ports: Vec<Port>,
 ) -> Result<Posted, PortError>
-    ensures answer { IsAnswer (ends_of ports.items) result }
-    ensures held { SameEnds event_loop.old.holding.held event_loop.new.holding.held }
+    ensures sent { SendsOrReturns way agent body ports
+        event_loop.old.holding.held event_loop.new.holding.held result }
     ensures rest { event_loop.new
         ≡ record event_loop.old { holding = event_loop.new.holding } }
 {
@@ -73,9 +71,24 @@ fn post_over<C: Checkpoint, R: Wait>(
     }
 }
 
+// The port that is held, or what else is.
+fn port_in(held: Held) -> Result<Port, Held>
+    ensures ok { IfOk result (λ port. held ≡ PortHeld port) }
+    ensures err { IfErr result (λ back. (back ≡ held)
+        × ((port : PortSeat) → held ≢ PortHeld port)) }
+{
+    match held {
+        Held::Port(port) => Ok(port),
+        Held::Client(queue) => Err(Held::Client(queue)),
+        Held::Worker(queue) => Err(Held::Worker(queue)),
+        Held::Member(member) => Err(Held::Member(member)),
+        Held::Line(line) => Err(Held::Line(line)),
+    }
+}
+
 // The ports that come back with the answer to a post.
 fn ports_back(alloc: Global, answer: Result<Posted, PortError>) -> Vec<Port>
-    ensures { ends_of result.items ≡ back_of answer }
+    ensures { result.items ≡ given_back answer }
 {
     match answer {
         Ok(_) => Vec::new(alloc),
@@ -125,24 +138,13 @@ impl<'s, C: Checkpoint> Agent<'s, C> {
 
     fn hold_ports<R: Wait>(&mut self, rt: &R, ports: Vec<Port>) -> Result<(), OutOfMemory>
         ensures same { KeepsButEnds self.old self.new }
-        ensures held { OnOk result (HoldsAlso (ends_of ports.items) self.old self.new) }
+        ensures held { OnOk result (HoldsEach ports.items self.old.ends self.new.ends) }
     {
         let mut held = Ok(());
         for port in ports {
             held = self.hold(rt, Held::Port(port)).and(held);
         }
         held
-    }
-
-    fn holds_ports(&self, ends: &[EndId]) -> bool
-        ensures { result ≡ true → HoldsPorts self.now ends.now }
-    {
-        for end in ends {
-            if !self.holds_port(*end) {
-                return false;
-            }
-        }
-        true
     }
 
     // Takes the ports out of the loop, in order. `None` where one isn't held; then it holds again
@@ -155,21 +157,22 @@ impl<'s, C: Checkpoint> Agent<'s, C> {
         ensures same { KeepsButEnds self.old self.new }
         ensures ports { IfOk result (λ ports. IfSome ports (λ released.
             ends_of released.items ≡ ends.now)) }
-        ensures released { IfOk result (λ ports. IfSome ports (λ _.
-            HoldsAlso ends.now self.new self.old)) }
-        ensures again { IfOk result (λ ports. IfNone ports (HoldsSame self.old self.new)) }
+        ensures released { IfOk result (λ ports. IfSome ports (λ released.
+            TakesOut released.items self.old.ends self.new.ends)) }
+        ensures again { IfOk result (λ ports. IfNone ports (LacksOne ends.now
+            self.old.ends self.new.ends)) }
     {
         let mut ports = Vec::with_capacity(self.alloc, ends.len())?;
         for end in ends {
-            match self.event_loop.release(*end) {
-                Some(Held::Port(port)) => ports.push_reserved(port),
-                Some(held) => {
+            let Some(held) = self.event_loop.release(*end) else {
+                self.hold_ports(rt, ports)?;
+                return Ok(None);
+            };
+            match port_in(held) {
+                Ok(port) => ports.push_reserved(port),
+                Err(held) => {
                     let again = self.hold(rt, held);
                     self.hold_ports(rt, ports).and(again)?;
-                    return Ok(None);
-                }
-                None => {
-                    self.hold_ports(rt, ports)?;
                     return Ok(None);
                 }
             }
@@ -177,20 +180,18 @@ impl<'s, C: Checkpoint> Agent<'s, C> {
         Ok(Some(ports))
     }
 
-    // Takes the ports that are to be sent along out of the loop and posts, logs what the post has
-    // come to, and holds again what has come back. Where one of the ports isn't held it does
-    // nothing.
-    fn post_along<R: Wait>(
+    /// Posts at a port or over a line with the ports that are to be sent along, which it takes out
+    /// of the loop. Logs what the post has come to, and holds again what has come back. Where what
+    /// it posts over or one of the ports isn't held it does nothing.
+    pub(crate) fn post<R: Wait>(
         &mut self,
         rt: &R,
         way: Way,
         body: &Body,
         transfer: &Ports,
     ) -> Result<(), OutOfMemory>
-        ensures written { OnOk result ((entries : List LogEntry)
-            × IsPostLogged transfer.now body.now entries
-            × Writes entries self.old.notes self.new.notes) }
-        ensures own { OnOk result (Accounts self.old self.new) }
+        ensures posted { OnOk result (PostsOver way transfer.now body.now
+            self.old.ends self.new.ends self.old.notes self.new.notes) }
         ensures rest { KeepsElse self.old self.new }
     {
         let copy = body.clone()?;
@@ -206,32 +207,11 @@ impl<'s, C: Checkpoint> Agent<'s, C> {
         logged
     }
 
-    /// Posts at a port, unless that port or one to be sent isn't held.
-    pub(crate) fn post<R: Wait>(
-        &mut self,
-        rt: &R,
-        port: EndId,
-        body: &Body,
-        transfer: &Ports,
-    ) -> Result<(), OutOfMemory>
-        ensures written { OnOk result ((entries : List LogEntry)
-            × IsPostLogged transfer.now body.now entries
-            × Writes entries self.old.notes self.new.notes) }
-        ensures held { OnOk result (IsUnwritten self.old self.new
-            ⊎ (HoldsPort self.old port × HoldsPorts self.old transfer.now)) }
-        ensures own { OnOk result (Accounts self.old self.new) }
-        ensures rest { KeepsElse self.old self.new }
-    {
-        if !self.holds_port(port) || !self.holds_ports(transfer.as_slice()) {
-            return Ok(());
-        }
-        self.post_along(rt, Way::Port(port), body, transfer)
-    }
-
     // Holds a line to a queue, unless it does. False where the directory lends none.
     fn take_line<R: Wait>(&mut self, rt: &R, queue: EndId) -> Result<bool, OutOfMemory>
         ensures same { KeepsButEnds self.old self.new }
-        ensures held { OnOk result (HoldsSame self.old self.new) }
+        ensures held { OnOk result (HasLine self.old.ends self.new.ends) }
+        ensures none { IfOk result (λ has. has ≡ false → HoldsNoLine self.new.ends queue) }
     {
         if self.event_loop.has_line(queue) {
             return Ok(true);
@@ -245,7 +225,7 @@ impl<'s, C: Checkpoint> Agent<'s, C> {
         }
     }
 
-    /// Posts at a queue, unless a port to be sent isn't held. The line is had at the first post and
+    /// Posts at a queue, unless a port to be sent isn't held. The line is had at the first send and
     /// kept.
     pub(crate) fn send<R: Wait>(
         &mut self,
@@ -254,18 +234,14 @@ impl<'s, C: Checkpoint> Agent<'s, C> {
         body: &Body,
         transfer: &Ports,
     ) -> Result<(), OutOfMemory>
-        ensures written { OnOk result ((entries : List LogEntry)
-            × IsPostLogged transfer.now body.now entries
-            × Writes entries self.old.notes self.new.notes) }
-        ensures held { OnOk result (IsUnwritten self.old self.new
-            ⊎ HoldsPorts self.old transfer.now) }
-        ensures own { OnOk result (Accounts self.old self.new) }
+        ensures sent { OnOk result (SendsTo queue transfer.now body.now
+            self.old.ends self.new.ends self.old.notes self.new.notes) }
         ensures rest { KeepsElse self.old self.new }
     {
-        if !self.holds_ports(transfer.as_slice()) || !self.take_line(rt, queue)? {
+        if !self.take_line(rt, queue)? {
             return Ok(());
         }
-        self.post_along(rt, Way::Line(queue), body, transfer)
+        self.post(rt, Way::Line(queue), body, transfer)
     }
 
     /// Casts from a member, unless it isn't held.

@@ -1,8 +1,10 @@
-use Rattle.hub_run.proofs.Keeping.{answered}
+use Rattle.std.proofs.Common.{inl, subst, sym}
+use Rattle.hub_run.specs.Posting.{SendsOrReturns}
+use Rattle.hub_run.specs.declared.posting.Way.{Way}
 use Rattle.hub_run.proofs.posting.post_over.Goals as goal
 
-pub returns-in-Ok-clause-answer : goal.returns-in-Ok-clause-answer
-returns-in-Ok-clause-answer g c = answered _ _ _ _ c.args.ports.items c.in-Ok.answer c.in-Ok.ensures.posted.5
-
-pub returns-in-Ok-send-clause-answer : goal.returns-in-Ok-send-clause-answer
-returns-in-Ok-send-clause-answer g c = answered _ _ _ _ c.args.ports.items c.in-Ok-send.answer c.in-Ok-send.ensures.sent.5
+pub returns-in-Ok : goal.returns-in-Ok
+returns-in-Ok g c = record {
+  sent = subst (λ (w : Way). SendsOrReturns w c.args.agent c.args.body c.args.ports c.args.event_loop.now.holding.held c.post.new.self.holding.held c.in-Ok.answer) (sym c.in-Port.is) (inl c.in-Ok.ensures.posted);
+  rest = c.post.ensures.rest;
+}

@@ -5,15 +5,16 @@ use Rattle.hub_loop.specs.Starting.{StartsClient}
 use Rattle.hub_run.specs.Agents.{AgentState, ordered, with_peer}
 use Rattle.hub_run.specs.Runs.{Acts}
 use Rattle.hub_run.proofs.Doing.{acts_of, acts_while, hand_acts, lived_acts, loaded_acts, ordered_acts, started_acts}
+use Rattle.hub_run.proofs.Sending.{post_acts, send_acts}
 use Rattle.hub_run.proofs.agent.Agent.act.Goals as goal
 
 pub returns-in-Post : goal.returns-in-Post
 returns-in-Post g c =
-    subst (λ action. OnOk c.post.result (Acts action c.args.self.now c.post.new.self)) (sym c.in-Post.is) (acts_of _ _ _ _ c.post.result c.post.ensures.written c.post.ensures.held c.post.ensures.rest c.post.ensures.own)
+    subst (λ action. OnOk c.post.result (Acts action c.args.self.now c.post.new.self)) (sym c.in-Post.is) (post_acts c.post.result _ _ _ c.args.self.now c.post.new.self c.post.ensures.posted c.post.ensures.rest)
 
 pub returns-in-Send : goal.returns-in-Send
 returns-in-Send g c =
-    subst (λ action. OnOk c.send.result (Acts action c.args.self.now c.send.new.self)) (sym c.in-Send.is) (acts_of _ _ _ _ c.send.result c.send.ensures.written c.send.ensures.held c.send.ensures.rest c.send.ensures.own)
+    subst (λ action. OnOk c.send.result (Acts action c.args.self.now c.send.new.self)) (sym c.in-Send.is) (send_acts c.send.result _ _ _ c.args.self.now c.send.new.self c.send.ensures.sent c.send.ensures.rest)
 
 pub returns-in-Cast : goal.returns-in-Cast
 returns-in-Cast g c =
