@@ -18,7 +18,8 @@ use Rattle.hub_core.specs.declared.outcome.Outcome.TheVariants as outcome
 use Rattle.hub_core.specs.Facts.{EndNow, LineNow, Facts}
 use Rattle.hub_core.specs.Moving.{adopt_answer, is_released}
 use Rattle.hub_core.specs.Sound.{SoundPlaces}
-use Rattle.hub_core.specs.Shows.{end_now, ShowsEnd, ShowsFacts}
+use Rattle.hub_core.specs.Shows.{end_now, ShowsEnd}
+use Rattle.hub_core.proofs.Showing.{SoundlyShows}
 use Rattle.hub_core.specs.Kept.{adopted_end, changed_ends, change_agent, adopting, adopted_agents}
 use Rattle.hub_core.proofs.Lists.{eqb_same}
 use Rattle.hub_core.proofs.Frames.{ShownAt, Stepped, recounted, end_changed}
@@ -76,7 +77,7 @@ adopted_came f e a refused x k h same answer =
       away = λ c. came_away c a f (next f (action.Adopt e a) (outcome.Adopted k)) e.0 h (placed_made f e.0 x.place h (ap (λ (y : EndNow). y.place) same)) refl (λ d. refl) (λ d l. refl) (λ q. refl) (ap (is_with c) adopts.arrived) (f.end e.0).kind refl;
     }
 
-adopted_shown : (agents : List Agent) (ends : List End) (f : Facts) (e : EndId) (a : AgentId) (refused : Bool) (x : End) (k : ℕ) → ShowsFacts agents ends f → slice_get ends e.0 ≡ Some x → outcome.Adopted k ≡ adopt_answer f e a refused → Stepped (change_agent (adopting (is_released f (f.end e.0).kind) x.kind) a.0 agents) (set ends e.0 (adopted_end a x)) f (action.Adopt e a) refused (outcome.Adopted k)
+adopted_shown : (agents : List Agent) (ends : List End) (f : Facts) (e : EndId) (a : AgentId) (refused : Bool) (x : End) (k : ℕ) → SoundlyShows agents ends f → slice_get ends e.0 ≡ Some x → outcome.Adopted k ≡ adopt_answer f e a refused → Stepped (change_agent (adopting (is_released f (f.end e.0).kind) x.kind) a.0 agents) (set ends e.0 (adopted_end a x)) f (action.Adopt e a) refused (outcome.Adopted k)
 adopted_shown agents ends f e a refused x k h at answer =
     let shown : ShownAt f e.0 (Some x) = subst (ShownAt f e.0) at (h.end e.0) in
     let count : f.agents ≡ length agents = h.agents in

@@ -16,10 +16,10 @@ use Rattle.hub_core.specs.Facts.{Facts}
 use Rattle.hub_core.specs.Made.{maker_of}
 use Rattle.hub_core.specs.Posting.{holder, is_empty}
 use Rattle.hub_core.specs.Roster.{RosterNow, has_end}
-use Rattle.hub_core.specs.Sound.{Sound}
-use Rattle.hub_core.proofs.Sounds.{sound_next}
 use Rattle.hub_core.specs.Casting.{cast_answer, destinations, is_casting, part_answer}
-use Rattle.hub_core.specs.Shows.{ShowsFacts, ShowsRoster}
+use Rattle.hub_core.specs.Shows.{ShowsRoster}
+use Rattle.hub_core.specs.Shows.{ShowsFacts}
+use Rattle.hub_core.proofs.Showing.{SoundlyShows}
 use Rattle.hub_core.specs.CoreState.{CoreState}
 use Rattle.hub_core.specs.declared.members.Members.{Members}
 use Rattle.hub_core.specs.Seen.{seen}
@@ -37,8 +37,8 @@ casting_kept r f h = ap is_some (sym h.cast)
 -- ---- another roster
 
 -- agents and ends stay as they are shown
-reshown : (agents : List Agent) (ends : List End) (f : Facts) (roster : RosterNow) → ShowsFacts agents ends f → Sound (record f { roster = roster }) → ShowsFacts agents ends (record f { roster = roster })
-reshown agents ends f roster h sound = record {
+reshown : (agents : List Agent) (ends : List End) (f : Facts) (roster : RosterNow) → SoundlyShows agents ends f → ShowsFacts agents ends (record f { roster = roster })
+reshown agents ends f roster h = record {
   agents = h.agents;
   agent = h.agent;
   ends = h.ends;
@@ -46,7 +46,6 @@ reshown agents ends f roster h sound = record {
   clients = h.clients;
   workers = h.workers;
   away = h.away;
-  sound = sound;
 }
 
 -- ---- Cast
@@ -66,7 +65,7 @@ cast_fits c f e ports h =
 
 pub cast_changes : (c : CoreState) (f : Facts) (e : EndId) (ports : List EndId) (body : List ℕ) (refused : Bool) {o : Outcome} → Sees c f → o ≡ cast_answer f e ports → Change (action.Cast e ports body) o → ShownWith c f (action.Cast e ports body) refused o
 cast_changes c f e ports body refused h answer (cast_begun d ps b ends) = (
-  record { fits = answer; shows = reshown c.agents c.ends f (next f (action.Cast e ports body) (outcome.Destinations ends)).roster h.shows (sound_next f (action.Cast e ports body) refused (outcome.Destinations ends) h.shows.sound answer) },
+  record { fits = answer; shows = reshown c.agents c.ends f (next f (action.Cast e ports body) (outcome.Destinations ends)).roster h.shows },
   roster_cast c.roster f e ports body ends h.roster,
 )
 
@@ -75,8 +74,8 @@ cast_changes c f e ports body refused h answer (cast_begun d ps b ends) = (
 pub part_answered : (r : Roster) (f : Facts) (e : EndId) → ShowsRoster r f → part_outcome (is_seated_in r.members e.0 (group_of r.members e.0) && not (is_some r.cast)) ≡ part_answer f e
 part_answered r f e w = ap (λ b. part_outcome (b && not (is_some r.cast))) (seated_kept r f e.0 w) ∙ ap (λ b. part_outcome (has_end e.0 f.roster.members && not b)) (casting_kept r f w)
 
-pub part_shown : (agents : List Agent) (ends : List End) (f : Facts) (e : EndId) (refused : Bool) → ShowsFacts agents ends f → outcome.Done ≡ part_answer f e → Stepped agents ends f (action.Part e) refused outcome.Done
-part_shown agents ends f e refused h answer = record { fits = answer; shows = reshown agents ends f (next f (action.Part e) outcome.Done).roster h (sound_next f (action.Part e) refused outcome.Done h.sound answer) }
+pub part_shown : (agents : List Agent) (ends : List End) (f : Facts) (e : EndId) (refused : Bool) → SoundlyShows agents ends f → outcome.Done ≡ part_answer f e → Stepped agents ends f (action.Part e) refused outcome.Done
+part_shown agents ends f e refused h answer = record { fits = answer; shows = reshown agents ends f (next f (action.Part e) outcome.Done).roster h }
 
 -- a cast that passes each test goes to the destinations
 pub cast_goes : (m : Option AgentId) (casting seated shut none : Bool) (p : Option AgentId) (ds es : List EndId) → is_some m ≡ true → casting ≡ false → seated ≡ true → shut ≡ true → is_some p ≡ true → none ≡ true → ds ≡ es → outcome.Destinations ds ≡ kept_cast_answer (is_some m && not casting) (seated && shut) p none es

@@ -17,7 +17,8 @@ use Rattle.hub_core.specs.Facts.{EndNow, LineNow, Facts}
 use Rattle.hub_core.specs.Posting.{is_here, is_with}
 use Rattle.hub_core.specs.Moving.{close_answer, is_released}
 use Rattle.hub_core.specs.Sound.{SoundPlaces}
-use Rattle.hub_core.specs.Shows.{end_now, ShowsEnd, ShowsFacts}
+use Rattle.hub_core.specs.Shows.{end_now, ShowsEnd}
+use Rattle.hub_core.proofs.Showing.{SoundlyShows}
 use Rattle.hub_core.specs.Kept.{closed_end, changed_ends, gone, went}
 use Rattle.hub_core.proofs.Lists.{eqb_same}
 use Rattle.hub_core.proofs.Frames.{ShownAt, Stepped, recounted, end_changed}
@@ -54,7 +55,7 @@ shut_went f e x h free same = record {
   calm = λ a y less. calm_gone a f (next f (action.Close e) outcome.Done) e.0 (Some Gone) y h refl (λ l. refl) (λ q. refl) free;
 }
 
-shut_shown : (agents : List Agent) (ends : List End) (f : Facts) (e : EndId) (refused : Bool) (x : End) → ShowsFacts agents ends f → slice_get ends e.0 ≡ Some x → outcome.Done ≡ close_answer f e → Stepped (gone x.kind x.place agents) (set ends e.0 (closed_end x)) f (action.Close e) refused outcome.Done
+shut_shown : (agents : List Agent) (ends : List End) (f : Facts) (e : EndId) (refused : Bool) (x : End) → SoundlyShows agents ends f → slice_get ends e.0 ≡ Some x → outcome.Done ≡ close_answer f e → Stepped (gone x.kind x.place agents) (set ends e.0 (closed_end x)) f (action.Close e) refused outcome.Done
 shut_shown agents ends f e refused x h at answer =
     let shown : ShownAt f e.0 (Some x) = subst (ShownAt f e.0) at (h.end e.0) in
     recounted agents (gone x.kind x.place agents) ends (set ends e.0 (closed_end x)) f (action.Close e) refused outcome.Done h answer refl refl

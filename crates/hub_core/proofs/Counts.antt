@@ -16,7 +16,8 @@ use Rattle.hub_core.specs.Making.{is_client, is_worker, has_one}
 use Rattle.hub_core.specs.Looking.{any_below}
 use Rattle.hub_core.specs.Posting.{is_with, is_out}
 use Rattle.hub_core.specs.Sound.{total}
-use Rattle.hub_core.specs.Shows.{kept_clients, kept_workers, count_with, ShowsFacts, agent_now, count_away, kept_away}
+use Rattle.hub_core.specs.Shows.{kept_clients, kept_workers, count_with, agent_now, count_away, kept_away}
+use Rattle.hub_core.proofs.Showing.{SoundlyShows}
 use Rattle.hub_core.specs.Kept.{one_more, one_less, set_agent, change_agent, come, gone, adopting, one_away, change_owner, one_out}
 use Rattle.hub_core.proofs.Lists.{slice_get-set_same, slice_get-set_other, is_there}
 use Rattle.std.proofs.lemmas.Option.{slice_get_within}
@@ -30,7 +31,7 @@ pub record Counted (agents : List Agent) (f : Facts) : Type 0 where
   pub workers : (a : AgentId) → kept_workers (slice_get agents a.0) ≡ count_with is_worker a f
   pub away : (a : AgentId) → kept_away (slice_get agents a.0) ≡ count_away a f
 
-pub counts_of : (agents : List Agent) (ends : List End) (f : Facts) → ShowsFacts agents ends f → Counted agents f
+pub counts_of : (agents : List Agent) (ends : List End) (f : Facts) → SoundlyShows agents ends f → Counted agents f
 counts_of agents ends f h = record { clients = h.clients; workers = h.workers; away = h.away }
 
 -- whether the agent has the end, and its kind passes the test
@@ -374,7 +375,7 @@ no_worker (Some Worker) h = absurd (false≢true h)
 no_worker (Some (Member a)) h = refl
 no_worker None h = refl
 
-pub counts_still : (agents : List Agent) (ends : List End) (f g : Facts) → ShowsFacts agents ends f → g.ends ≡ f.ends → ((d : ℕ) → (g.end d).kind ≡ (f.end d).kind) → ((d : ℕ) → (g.end d).place ≡ (f.end d).place) → ((a : AgentId) (d l : ℕ) → is_away_of g a d l ≡ is_away_of f a d l) → Counted agents g
+pub counts_still : (agents : List Agent) (ends : List End) (f g : Facts) → SoundlyShows agents ends f → g.ends ≡ f.ends → ((d : ℕ) → (g.end d).kind ≡ (f.end d).kind) → ((d : ℕ) → (g.end d).place ≡ (f.end d).place) → ((a : AgentId) (d l : ℕ) → is_away_of g a d l ≡ is_away_of f a d l) → Counted agents g
 counts_still agents ends f g h same kinds places calm = counted_same agents f g same (λ a d. rw (kinds d, places d) refl) (λ a d. rw (kinds d, places d) refl) (λ a x less. (ap lines_of (kinds x), calm a x)) (counts_of agents ends f h)
 
 pub counted_ports : (agents : List Agent) (f g : Facts) (moved : ℕ → Bool) (place : ℕ → Option Place) → g.ends ≡ f.ends → ((d : ℕ) → (g.end d).kind ≡ (f.end d).kind) → ((d : ℕ) → (g.end d).place ≡ cond (moved d) (place d) (f.end d).place) → ((d : ℕ) → moved d ≡ true → is_some (peer_of (f.end d).kind) ≡ true) → ((a : AgentId) (x : ℕ) → x < f.ends → IsCalmAt a f g x) → Counted agents f → Counted agents g

@@ -20,12 +20,12 @@ use Rattle.hub_core.specs.Facts.{AgentNow, Facts}
 use Rattle.hub_core.specs.Made.{lines_of}
 use Rattle.hub_core.specs.Looking.{any_below}
 use Rattle.hub_core.specs.Ending.{is_away_of, has_away, ends_at, order_answer, see_answer}
-use Rattle.hub_core.specs.Sound.{total, Sound}
-use Rattle.hub_core.specs.Shows.{agent_now, kept_clients, kept_workers, kept_away, count_away, ShowsFacts}
+use Rattle.hub_core.specs.Sound.{total}
+use Rattle.hub_core.specs.Shows.{agent_now, kept_clients, kept_workers, kept_away, count_away}
+use Rattle.hub_core.specs.Shows.{ShowsFacts}
 use Rattle.hub_core.specs.KeptEnding.{see_outcome}
 use Rattle.hub_core.specs.CoreState.{CoreState}
 use Rattle.hub_core.specs.Seen.{seen}
-use Rattle.hub_core.proofs.Sounds.{sound_next}
 use Rattle.hub_core.proofs.Counts.{change_get, change_length, change_each, away_at, none_counted}
 
 -- ---- an agent that was ordered, and one that runs no more
@@ -46,8 +46,8 @@ now_each agents f a c change new h x at mine other = elim (eqb c a) as (λ b. eq
 
 -- the facts with one agent changed, of which nothing is counted anew
 agent_set : (c : CoreState) (f : Facts) (a : ℕ) (change : Agent → Agent) (new : Bool → AgentNow → AgentNow) (x : Agent) → Sees c f → slice_get c.agents a ≡ Some x → new true (agent_now (Some x)) ≡ agent_now (Some (change x)) → ((w : AgentNow) → new false w ≡ w)
-    → ((z : Agent) → (change z).clients ≡ z.clients) → ((z : Agent) → (change z).workers ≡ z.workers) → ((z : Agent) → (change z).away ≡ z.away) → Sound (record f { agent = λ d. new (eqb d a) (f.agent d) }) → ShowsFacts (change_agent change a c.agents) c.ends (record f { agent = λ d. new (eqb d a) (f.agent d) })
-agent_set c f a change new x h at mine other clients workers away sound = record {
+    → ((z : Agent) → (change z).clients ≡ z.clients) → ((z : Agent) → (change z).workers ≡ z.workers) → ((z : Agent) → (change z).away ≡ z.away) → ShowsFacts (change_agent change a c.agents) c.ends (record f { agent = λ d. new (eqb d a) (f.agent d) })
+agent_set c f a change new x h at mine other clients workers away = record {
   agents = h.shows.agents ∙ sym (change_length change c.agents a);
   agent = λ d. now_each c.agents f a d change new h.shows.agent x at mine other;
   ends = h.shows.ends;
@@ -55,7 +55,6 @@ agent_set c f a change new x h at mine other clients workers away sound = record
   clients = λ d. change_each kept_clients change c.agents a d.0 clients ∙ h.shows.clients d;
   workers = λ d. change_each kept_workers change c.agents a d.0 workers ∙ h.shows.workers d;
   away = λ d. change_each kept_away change c.agents a d.0 away ∙ h.shows.away d;
-  sound = sound;
 }
 
 -- ---- Order
@@ -65,7 +64,7 @@ order_changes c f a refused h answer (agent_ordered b) =
     let known : a.0 < f.agents = ordered_known (nat_lt a.0 f.agents) refl answer in
     let count : f.agents ≡ length c.agents = h.shows.agents in
     let found = found_agent c.agents a.0 (omega arith) in
-    (record { fits = answer; shows = agent_set c f a.0 (λ z. record z { is_ordered = true }) (λ b w. record w { ordered = cond b true w.ordered }) found.0 h found.1 refl (λ w. refl) (λ z. refl) (λ z. refl) (λ z. refl) (sound_next f (action.Order a) refused outcome.Ordered h.shows.sound answer) }, refl)
+    (record { fits = answer; shows = agent_set c f a.0 (λ z. record z { is_ordered = true }) (λ b w. record w { ordered = cond b true w.ordered }) found.0 h found.1 refl (λ w. refl) (λ z. refl) (λ z. refl) (λ z. refl) }, refl)
   where
     ordered_known : (b : Bool) → nat_lt a.0 f.agents ≡ b → outcome.Ordered ≡ cond b outcome.Ordered outcome.NotNow → a.0 < f.agents
     ordered_known true less _ = search (rules, nat_tests, less)
@@ -128,4 +127,4 @@ see_changes c f a refused h answer (agent_ended b es) =
       | Some x ↦ λ at. (x, at)
       | None ↦ λ none. let is : outcome.Ending es ≡ outcome.NotNow = answer ∙ sym (see_fits_at c f a h None none) in absurd (search (rules, is))
     ] refl in
-    (record { fits = answer; shows = agent_set c f a.0 (λ z. record z { is_running = false }) (λ b w. record w { runs = cond b false w.runs }) found.0 h found.1 refl (λ w. refl) (λ z. refl) (λ z. refl) (λ z. refl) (sound_next f (action.See a) refused (outcome.Ending es) h.shows.sound answer) }, refl)
+    (record { fits = answer; shows = agent_set c f a.0 (λ z. record z { is_running = false }) (λ b w. record w { runs = cond b false w.runs }) found.0 h found.1 refl (λ w. refl) (λ z. refl) (λ z. refl) (λ z. refl) }, refl)

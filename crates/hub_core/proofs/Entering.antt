@@ -21,7 +21,8 @@ use Rattle.hub_core.specs.CoreState.{CoreState}
 use Rattle.hub_core.specs.Facts.{EndNow, LineNow, Facts}
 use Rattle.hub_core.specs.Posting.{is_out, enter_answer, leave_answer, may_enter, is_with}
 use Rattle.hub_core.specs.Sound.{Sound}
-use Rattle.hub_core.specs.Shows.{ShowsPut, ShowsEnd, ShowsFacts, count_away}
+use Rattle.hub_core.specs.Shows.{ShowsPut, ShowsEnd, count_away}
+use Rattle.hub_core.proofs.Showing.{SoundlyShows}
 use Rattle.hub_core.specs.Kept.{change_owner, with_agent, one_out, one_away, change_line, in_phase}
 use Rattle.hub_core.specs.KeptEnding.{owner_by, owner}
 use Rattle.hub_core.specs.Seen.{seen}
@@ -53,7 +54,7 @@ phased_inside old k bound p l true is may kept at = subst (λ i. (old i).stand <
 phased_inside old k bound p l false is may kept at = kept at
 
 -- every end, with this line in this phase
-pub phased_shown : (agents : List Agent) (ends : List End) (f : Facts) (s : Sender) (p : Phase) (x : End) (y : Line) → ShowsFacts agents ends f → slice_get ends s.end.0 ≡ Some x → slice_get x.lines s.line.0 ≡ Some y → (p ≡ Inside → (f.line s.end.0 s.line.0).stand < x.taker + length x.queues) → (d : ℕ) → ShowsEnd (f.end d) (phased_line f s p d) (f.clear d) (f.accepted d) (f.taken d ++ f.discarded d) (slice_get (set ends s.end.0 (with_phase x y s.line.0 p)) d)
+pub phased_shown : (agents : List Agent) (ends : List End) (f : Facts) (s : Sender) (p : Phase) (x : End) (y : Line) → SoundlyShows agents ends f → slice_get ends s.end.0 ≡ Some x → slice_get x.lines s.line.0 ≡ Some y → (p ≡ Inside → (f.line s.end.0 s.line.0).stand < x.taker + length x.queues) → (d : ℕ) → ShowsEnd (f.end d) (phased_line f s p d) (f.clear d) (f.accepted d) (f.taken d ++ f.discarded d) (slice_get (set ends s.end.0 (with_phase x y s.line.0 p)) d)
 phased_shown agents ends f s p x y h at is may =
     let shown : ShownAt f s.end.0 (Some x) = subst (ShownAt f s.end.0) at (h.end s.end.0) in
     line_changed agents ends f s (λ b w. record w { phase = cond b p w.phase }) x y (record y { phase = p }) h at is refl (λ w. refl) (subst (ShowsPut (f.accepted s.end.0) s.line.0) is (shown.put s.line.0))
@@ -93,7 +94,7 @@ owner_has f s a (Some (Member b)) = refl
 owner_has f s a None = refl
 
 -- an agent that holds a line that may be entered was made
-held_made : (agents : List Agent) (ends : List End) (f : Facts) (s : Sender) → ShowsFacts agents ends f → is_queue (f.end s.end.0).kind ≡ true → may_enter f s ≡ true → (b : AgentId) → (f.line s.end.0 s.line.0).held_by ≡ Some b → b.0 < length agents
+held_made : (agents : List Agent) (ends : List End) (f : Facts) (s : Sender) → SoundlyShows agents ends f → is_queue (f.end s.end.0).kind ≡ true → may_enter f s ≡ true → (b : AgentId) → (f.line s.end.0 s.line.0).held_by ≡ Some b → b.0 < length agents
 held_made agents ends f s h queue may b is = elim (hears_of f s may) [
   | inl k ↦ absurd (no_port (f.end s.end.0).kind k.peer queue k.entangled)
   | inr other ↦ elim other [
@@ -119,7 +120,7 @@ port_owner : (first : Bool) (p : Option Place) (b : AgentId) → cond first (wit
 port_owner true p b is = with_found p b is
 port_owner false p b is = absurd (search (rules, is))
 
-owner_made : (agents : List Agent) (ends : List End) (f : Facts) (s : Sender) → ShowsFacts agents ends f → (k : Option Kind) → (f.end s.end.0).kind ≡ k → may_enter f s ≡ true → (b : AgentId) → owner_by f s k ≡ Some b → b.0 < length agents
+owner_made : (agents : List Agent) (ends : List End) (f : Facts) (s : Sender) → SoundlyShows agents ends f → (k : Option Kind) → (f.end s.end.0).kind ≡ k → may_enter f s ≡ true → (b : AgentId) → owner_by f s k ≡ Some b → b.0 < length agents
 owner_made agents ends f s h (Some (Port q)) kind may b is =
     let count : f.agents ≡ length agents = h.agents in
     let made : b.0 < f.agents = h.sound.places.with_made q.0 b (port_owner (eqb s.line.0 0) (f.end q.0).place b is) in
@@ -130,7 +131,7 @@ owner_made agents ends f s h (Some (Member a)) kind may b is = absurd (search (r
 owner_made agents ends f s h None kind may b is = absurd (search (rules, is))
 
 -- one poster more is away, of the line's owner
-entered_counts : (agents : List Agent) (ends : List End) (f : Facts) (s : Sender) (x : End) (p : Phase) → ShowsFacts agents ends f → ShownAt f s.end.0 (Some x) → Entered f s → is_out p ≡ false → Counted (change_owner one_away (owner f s) agents) (record f { line = phased_line f s p })
+entered_counts : (agents : List Agent) (ends : List End) (f : Facts) (s : Sender) (x : End) (p : Phase) → SoundlyShows agents ends f → ShownAt f s.end.0 (Some x) → Entered f s → is_out p ≡ false → Counted (change_owner one_away (owner f s) agents) (record f { line = phased_line f s p })
 entered_counts agents ends f s x p h shown entered away =
     let g : Facts = record f { line = phased_line f s p } in
     let kind : (f.end s.end.0).kind ≡ Some x.kind = ap (λ (z : EndNow). z.kind) shown.same in
@@ -164,7 +165,7 @@ enter_changes c f s refused h answer (found_closed t) = (came_shown c f s refuse
 -- ---- Leave
 
 -- one poster less is away, of the line's owner
-left_counts : (agents : List Agent) (ends : List End) (f : Facts) (s : Sender) (x : End) → ShowsFacts agents ends f → ShownAt f s.end.0 (Some x) → is_out (f.line s.end.0 s.line.0).phase ≡ false → Counted (change_owner one_out (owner f s) agents) (next f (action.Leave s) outcome.Left)
+left_counts : (agents : List Agent) (ends : List End) (f : Facts) (s : Sender) (x : End) → SoundlyShows agents ends f → ShownAt f s.end.0 (Some x) → is_out (f.line s.end.0 s.line.0).phase ≡ false → Counted (change_owner one_out (owner f s) agents) (next f (action.Leave s) outcome.Left)
 left_counts agents ends f s x h shown away =
     let g : Facts = next f (action.Leave s) outcome.Left in
     let kind : (f.end s.end.0).kind ≡ Some x.kind = ap (λ (z : EndNow). z.kind) shown.same in

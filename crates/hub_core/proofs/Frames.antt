@@ -17,10 +17,11 @@ use Rattle.hub_core.specs.declared.step.Action.{Action}
 use Rattle.hub_core.specs.declared.outcome.Outcome.{Outcome}
 use Rattle.hub_core.specs.Facts.{LineNow, Facts, facts, EndNow}
 use Rattle.hub_core.specs.Fits.{Answers}
-use Rattle.hub_core.specs.Shows.{ShowsEnd, ShowsPut, ShowsFacts, agent_now, line_now, end_now}
+use Rattle.hub_core.specs.Shows.{ShowsEnd, ShowsPut, agent_now, line_now, end_now}
+use Rattle.hub_core.specs.Shows.{ShowsFacts}
+use Rattle.hub_core.proofs.Showing.{SoundlyShows}
 use Rattle.hub_core.proofs.Nexts.{next}
 use Rattle.hub_core.proofs.Counts.{Counted}
-use Rattle.hub_core.proofs.Sounds.{sound_first, sound_next}
 
 -- what is shown of an end
 abbrev pub ShownAt : Facts → ℕ → Option End → Type 0
@@ -32,7 +33,7 @@ pub record Stepped (agents : List Agent) (ends : List End) (f : Facts) (a : Acti
   pub shows : ShowsFacts agents ends (next f a o)
 
 -- a step that counts the queues of agents anew
-pub recounted : (agents new : List Agent) (ends after : List End) (f : Facts) (a : Action) (refused : Bool) (o : Outcome) → ShowsFacts agents ends f → Answers f a refused o → (next f a o).agents ≡ f.agents → (next f a o).agent ≡ f.agent → length new ≡ length agents → ((x : ℕ) → agent_now (slice_get new x) ≡ agent_now (slice_get agents x)) → (next f a o).ends ≡ length after → Counted new (next f a o) → ((x : ℕ) → ShownAt (next f a o) x (slice_get after x)) → Stepped new after f a refused o
+pub recounted : (agents new : List Agent) (ends after : List End) (f : Facts) (a : Action) (refused : Bool) (o : Outcome) → SoundlyShows agents ends f → Answers f a refused o → (next f a o).agents ≡ f.agents → (next f a o).agent ≡ f.agent → length new ≡ length agents → ((x : ℕ) → agent_now (slice_get new x) ≡ agent_now (slice_get agents x)) → (next f a o).ends ≡ length after → Counted new (next f a o) → ((x : ℕ) → ShownAt (next f a o) x (slice_get after x)) → Stepped new after f a refused o
 recounted agents new ends after f a refused o h fits same_agents same_agent same_count same_now count counted each = record {
   fits = fits;
   shows = record {
@@ -43,12 +44,11 @@ recounted agents new ends after f a refused o h fits same_agents same_agent same
     clients = counted.clients;
     workers = counted.workers;
     away = counted.away;
-    sound = sound_next f a refused o h.sound fits;
   };
 }
 
 -- a step that makes no agent and no end
-pub changed : (agents : List Agent) (ends after : List End) (f : Facts) (a : Action) (refused : Bool) (o : Outcome) → ShowsFacts agents ends f → Answers f a refused o → (next f a o).agents ≡ f.agents → (next f a o).agent ≡ f.agent → (next f a o).ends ≡ f.ends → length after ≡ length ends → Counted agents (next f a o) → ((x : ℕ) → ShownAt (next f a o) x (slice_get after x)) → Stepped agents after f a refused o
+pub changed : (agents : List Agent) (ends after : List End) (f : Facts) (a : Action) (refused : Bool) (o : Outcome) → SoundlyShows agents ends f → Answers f a refused o → (next f a o).agents ≡ f.agents → (next f a o).agent ≡ f.agent → (next f a o).ends ≡ f.ends → length after ≡ length ends → Counted agents (next f a o) → ((x : ℕ) → ShownAt (next f a o) x (slice_get after x)) → Stepped agents after f a refused o
 changed agents ends after f a refused o h fits same_agents same_agent same_ends count counted each =
     recounted agents agents ends after f a refused o h fits same_agents same_agent refl (λ x. refl) (same_ends ∙ h.ends ∙ sym count) counted each
 
@@ -62,13 +62,12 @@ shows_first agents ends none nothing = rw (none, nothing) (record {
   clients = λ a. refl;
   workers = λ a. refl;
   away = λ a. refl;
-  sound = sound_first;
 })
 
 -- ---- one line
 
 -- The ends, where one line of one end changes: `new` says what becomes of a line, where it is that one and where it isn't.
-pub line_changed : (agents : List Agent) (ends : List End) (f : Facts) (s : Sender) (new : Bool → LineNow → LineNow) (x : End) (y z : Line) → ShowsFacts agents ends f → slice_get ends s.end.0 ≡ Some x → slice_get x.lines s.line.0 ≡ Some y
+pub line_changed : (agents : List Agent) (ends : List End) (f : Facts) (s : Sender) (new : Bool → LineNow → LineNow) (x : End) (y z : Line) → SoundlyShows agents ends f → slice_get ends s.end.0 ≡ Some x → slice_get x.lines s.line.0 ≡ Some y
     → new true (line_now (Some y)) ≡ line_now (Some z) → ((w : LineNow) → new false w ≡ w) → ShowsPut (f.accepted s.end.0) s.line.0 (Some z)
     → ((l : ℕ) → (new (eqb l s.line.0) (f.line s.end.0 l)).phase ≡ Inside → (new (eqb l s.line.0) (f.line s.end.0 l)).stand < x.taker + length x.queues)
     → (d : ℕ) → ShowsEnd (f.end d) (λ l. new (eqb d s.end.0 && eqb l s.line.0) (f.line d l)) (f.clear d) (f.accepted d) (f.taken d ++ f.discarded d) (slice_get (set ends s.end.0 (record x { lines = set x.lines s.line.0 z })) d)
@@ -94,7 +93,7 @@ line_changed agents ends f s new x y z h at is mine others put inside =
 -- ---- one end
 
 -- The ends, where one of them changes: `new` says what becomes of an end, where it is that one and where it isn't.
-pub end_changed : (agents : List Agent) (ends : List End) (f : Facts) (e : ℕ) (new : Bool → EndNow → EndNow) (x after : End) → ShowsFacts agents ends f → slice_get ends e ≡ Some x → ((w : EndNow) → new false w ≡ w) → ShowsEnd (new true (f.end e)) (f.line e) (f.clear e) (f.accepted e) (f.taken e ++ f.discarded e) (Some after)
+pub end_changed : (agents : List Agent) (ends : List End) (f : Facts) (e : ℕ) (new : Bool → EndNow → EndNow) (x after : End) → SoundlyShows agents ends f → slice_get ends e ≡ Some x → ((w : EndNow) → new false w ≡ w) → ShowsEnd (new true (f.end e)) (f.line e) (f.clear e) (f.accepted e) (f.taken e ++ f.discarded e) (Some after)
     → (d : ℕ) → ShowsEnd (new (eqb d e) (f.end d)) (f.line d) (f.clear d) (f.accepted d) (f.taken d ++ f.discarded d) (slice_get (set ends e after) d)
 end_changed agents ends f e new x after h at others here =
     each_changed (λ d b o. ShowsEnd (new b (f.end d)) (f.line d) (f.clear d) (f.accepted d) (f.taken d ++ f.discarded d) o) ends e after (slice_get_within ends e x at) here

@@ -15,7 +15,8 @@ use Rattle.hub_core.specs.Sender.{by, in_queue}
 use Rattle.hub_core.specs.Looking.{is_settled}
 use Rattle.hub_core.specs.Taking.{IsDrained, IsLeft, Serves, FitsTake}
 use Rattle.hub_core.specs.Sound.{Sound}
-use Rattle.hub_core.specs.Shows.{ShowsEnd, ShowsFacts, KeepsQueues}
+use Rattle.hub_core.specs.Shows.{ShowsEnd, KeepsQueues}
+use Rattle.hub_core.proofs.Showing.{SoundlyShows}
 use Rattle.hub_core.specs.Kept.{kept_settled, advanced_end, left_outcome}
 use Rattle.hub_core.proofs.Lists.{AllByRecursion-weaker, below_last}
 use Rattle.hub_core.proofs.Waits.{filters, all_taken}
@@ -133,7 +134,7 @@ pub nothing_serves : (f : Facts) (e : EndId) (x : End) → Sound f → ShownAt f
 nothing_serves f e x h shown opened empty = left_by f e x h shown opened empty (nat_le x.newest x.taker) (kept_settled x x.taker) refl refl
 
 -- every end, with the taker of one further
-pub went_on_shown : (agents : List Agent) (ends : List End) (f : Facts) (e : EndId) (refused : Bool) (x : End) → ShowsFacts agents ends f → slice_get ends e.0 ≡ Some x → (f.end e.0).closed ≡ false → get_or x.queues 0 [] ≡ [] → (f.end e.0).taker_stand < (f.end e.0).newest → FitsTake f e outcome.Again → Stepped agents (set ends e.0 (advanced_end x)) f (action.Take e) refused outcome.Again
+pub went_on_shown : (agents : List Agent) (ends : List End) (f : Facts) (e : EndId) (refused : Bool) (x : End) → SoundlyShows agents ends f → slice_get ends e.0 ≡ Some x → (f.end e.0).closed ≡ false → get_or x.queues 0 [] ≡ [] → (f.end e.0).taker_stand < (f.end e.0).newest → FitsTake f e outcome.Again → Stepped agents (set ends e.0 (advanced_end x)) f (action.Take e) refused outcome.Again
 went_on_shown agents ends f e refused x h at opened empty retired fits =
     let shown : ShownAt f e.0 (Some x) = subst (ShownAt f e.0) at (h.end e.0) in
     let low : x.taker < x.newest = subst (λ (y : EndNow). y.taker_stand < y.newest) shown.same retired in

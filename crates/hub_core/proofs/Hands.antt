@@ -19,7 +19,8 @@ use Rattle.hub_core.specs.Made.{is_queue}
 use Rattle.hub_core.specs.Posting.{is_with}
 use Rattle.hub_core.specs.Moving.{hand_answer, is_released}
 use Rattle.hub_core.specs.Sound.{SoundPlaces}
-use Rattle.hub_core.specs.Shows.{end_now, ShowsFacts}
+use Rattle.hub_core.specs.Shows.{end_now}
+use Rattle.hub_core.proofs.Showing.{SoundlyShows}
 use Rattle.hub_core.specs.Kept.{changed_ends, gone, went}
 use Rattle.hub_core.proofs.Lists.{eqb_same}
 use Rattle.hub_core.proofs.Nexts.{next}
@@ -59,7 +60,7 @@ moved_went f e b x h free same = record {
   calm = λ a y less. calm_gone a f (next f (action.Hand e b) outcome.Handed) e.0 (Some (Arrived b)) y h refl (λ l. refl) (λ q. refl) free;
 }
 
-moved_shown : (agents : List Agent) (ends : List End) (f : Facts) (e : EndId) (b : AgentId) (refused : Bool) (x : End) → ShowsFacts agents ends f → slice_get ends e.0 ≡ Some x → outcome.Handed ≡ hand_answer f e b → Stepped (gone x.kind x.place agents) (set ends e.0 (moved_to b x)) f (action.Hand e b) refused outcome.Handed
+moved_shown : (agents : List Agent) (ends : List End) (f : Facts) (e : EndId) (b : AgentId) (refused : Bool) (x : End) → SoundlyShows agents ends f → slice_get ends e.0 ≡ Some x → outcome.Handed ≡ hand_answer f e b → Stepped (gone x.kind x.place agents) (set ends e.0 (moved_to b x)) f (action.Hand e b) refused outcome.Handed
 moved_shown agents ends f e b refused x h at answer =
     let shown : ShownAt f e.0 (Some x) = subst (ShownAt f e.0) at (h.end e.0) in
     recounted agents (gone x.kind x.place agents) ends (set ends e.0 (moved_to b x)) f (action.Hand e b) refused outcome.Handed h answer refl refl

@@ -25,7 +25,8 @@ use Rattle.hub_core.specs.Facts.{LineNow, Facts}
 use Rattle.hub_core.specs.Made.{is_queue, lines_of}
 use Rattle.hub_core.specs.Looking.{first_failing}
 use Rattle.hub_core.specs.Holding.{free_line, line_found, line_answer, back_answer}
-use Rattle.hub_core.specs.Shows.{line_now, ShowsPut, ShowsEnd, ShowsFacts, kept_lines}
+use Rattle.hub_core.specs.Shows.{line_now, ShowsPut, ShowsEnd, kept_lines}
+use Rattle.hub_core.proofs.Showing.{SoundlyShows}
 use Rattle.hub_core.specs.Kept.{line_within, first_free, hold_outcome_of, line_outcome, change_line, held_by}
 use Rattle.hub_core.proofs.Fitting.{line_got_of, first_failing_of, back_of}
 use Rattle.hub_core.proofs.SoundLines.{held_line_as, queue_lines, LinesAt}
@@ -43,7 +44,7 @@ abbrev with_holder : End → Line → ℕ → Option AgentId → End
 with_holder x y l holder = record x { lines = set x.lines l (record y { held_by = holder }) }
 
 -- every end, with this holder of the line
-held_shown : (agents : List Agent) (ends : List End) (f : Facts) (s : Sender) (holder : Option AgentId) (x : End) (y : Line) → ShowsFacts agents ends f → slice_get ends s.end.0 ≡ Some x → slice_get x.lines s.line.0 ≡ Some y → (d : ℕ) → ShowsEnd (f.end d) (held_line_as f s holder d) (f.clear d) (f.accepted d) (f.taken d ++ f.discarded d) (slice_get (set ends s.end.0 (with_holder x y s.line.0 holder)) d)
+held_shown : (agents : List Agent) (ends : List End) (f : Facts) (s : Sender) (holder : Option AgentId) (x : End) (y : Line) → SoundlyShows agents ends f → slice_get ends s.end.0 ≡ Some x → slice_get x.lines s.line.0 ≡ Some y → (d : ℕ) → ShowsEnd (f.end d) (held_line_as f s holder d) (f.clear d) (f.accepted d) (f.taken d ++ f.discarded d) (slice_get (set ends s.end.0 (with_holder x y s.line.0 holder)) d)
 held_shown agents ends f s holder x y h at is =
     let shown : ShownAt f s.end.0 (Some x) = subst (ShownAt f s.end.0) at (h.end s.end.0) in
     line_changed agents ends f s (λ b w. record w { held_by = cond b holder w.held_by }) x y (record y { held_by = holder }) h at is refl (λ w. refl) (subst (ShowsPut (f.accepted s.end.0) s.line.0) is (shown.put s.line.0)) shown.queues.inside

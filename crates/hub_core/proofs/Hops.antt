@@ -21,7 +21,8 @@ use Rattle.hub_core.specs.Sender.{count_in_queue}
 use Rattle.hub_core.specs.Posting.{is_out}
 use Rattle.hub_core.specs.Moving.{hop_answer}
 use Rattle.hub_core.specs.Sound.{IsOfEnd}
-use Rattle.hub_core.specs.Shows.{line_now, ShowsEnd, ShowsFacts}
+use Rattle.hub_core.specs.Shows.{line_now, ShowsEnd}
+use Rattle.hub_core.proofs.Showing.{SoundlyShows}
 use Rattle.hub_core.proofs.Frames.{line_changed, ShownAt, Stepped, changed}
 use Rattle.hub_core.specs.CoreState.{CoreState}
 use Rattle.hub_core.proofs.SoundLines.{gone_line, line_there}
@@ -51,7 +52,7 @@ gone_inside old k bound l true is out kept at = absurd (out (ap (λ i. (old i).p
 gone_inside old k bound l false is out kept at = kept at
 
 -- every end, with this line one further
-gone_shown : (agents : List Agent) (ends : List End) (f : Facts) (s : Sender) (x : End) (y : Line) → ShowsFacts agents ends f → slice_get ends s.end.0 ≡ Some x → slice_get x.lines s.line.0 ≡ Some y → is_out (f.line s.end.0 s.line.0).phase ≡ true → (d : ℕ) → ShowsEnd (f.end d) (gone_line f s d) (f.clear d) (f.accepted d) (f.taken d ++ f.discarded d) (slice_get (set ends s.end.0 (with_line x s.line.0 (at_queue (y.epoch + 1) y))) d)
+gone_shown : (agents : List Agent) (ends : List End) (f : Facts) (s : Sender) (x : End) (y : Line) → SoundlyShows agents ends f → slice_get ends s.end.0 ≡ Some x → slice_get x.lines s.line.0 ≡ Some y → is_out (f.line s.end.0 s.line.0).phase ≡ true → (d : ℕ) → ShowsEnd (f.end d) (gone_line f s d) (f.clear d) (f.accepted d) (f.taken d ++ f.discarded d) (slice_get (set ends s.end.0 (with_line x s.line.0 (at_queue (y.epoch + 1) y))) d)
 gone_shown agents ends f s x y h at is out =
     let e : ℕ = s.end.0 in
     let k : ℕ = s.line.0 in

@@ -1,12 +1,14 @@
 pub mod Lists
 pub mod Nexts
 pub mod Legals
+pub mod Showing
 pub mod Totals
 pub mod Fitting
 pub mod SoundLines
 pub mod SoundWaiting
 pub mod Speakers
 pub mod SoundPlaces
+pub mod SoundShown
 pub mod Sounds
 pub mod Waits
 pub mod Headlines
@@ -52,7 +54,6 @@ pub mod MailboxGates
 pub mod MailboxQueues
 pub mod MailboxMoves
 pub mod MailboxStepping
-pub mod MailboxOfEnd
 pub mod Mailboxes
 pub mod MailboxShown
 pub mod PairGates

@@ -21,7 +21,8 @@ use Rattle.hub_core.specs.declared.outcome.Outcome.TheVariants as outcome
 use Rattle.hub_core.specs.Facts.{EndNow, LineNow, Facts}
 use Rattle.hub_core.specs.Looking.{first_failing, lookable, looked, look_answer_of, look_answer}
 use Rattle.hub_core.specs.Sound.{no_end}
-use Rattle.hub_core.specs.Shows.{ShowsEnd, ShowsFacts, KeepsQueues}
+use Rattle.hub_core.specs.Shows.{ShowsEnd, KeepsQueues}
+use Rattle.hub_core.proofs.Showing.{SoundlyShows}
 use Rattle.hub_core.specs.Kept.{is_anyone_at, kept_looked, look_answer_at, may_look, look_outcome, look_outcome_at, changed_ends}
 use Rattle.hub_core.proofs.Lists.{each_changed}
 use Rattle.hub_core.proofs.Frames.{ShownAt, Stepped, changed}
@@ -101,7 +102,7 @@ cleared_queues line clear vs ts x h = record {
 cleared_end : (now : EndNow) (line : ℕ → LineNow) (clear : ℕ → Bool) (vs ts : List Envelope) (x : End) → ShowsEnd now line clear vs ts (Some x) → ShowsEnd now line (λ i. cond (eqb i x.looked) true (clear i)) vs ts (Some (record x { looked = x.looked + 1 }))
 cleared_end now line clear vs ts x h = record { same = h.same; count = h.count; lines = h.lines; put = h.put; queues = cleared_queues line clear vs ts x h.queues }
 
-cleared_shown : (agents : List Agent) (ends : List End) (f : Facts) (e : EndId) (refused : Bool) (x : End) → ShowsFacts agents ends f → slice_get ends e.0 ≡ Some x → outcome.Clear (Some x.looked) ≡ look_answer f e → Stepped agents (set ends e.0 (record x { looked = x.looked + 1 })) f (action.Look e) refused (outcome.Clear (Some x.looked))
+cleared_shown : (agents : List Agent) (ends : List End) (f : Facts) (e : EndId) (refused : Bool) (x : End) → SoundlyShows agents ends f → slice_get ends e.0 ≡ Some x → outcome.Clear (Some x.looked) ≡ look_answer f e → Stepped agents (set ends e.0 (record x { looked = x.looked + 1 })) f (action.Look e) refused (outcome.Clear (Some x.looked))
 cleared_shown agents ends f e refused x h at answer =
     let y : End = record x { looked = x.looked + 1 } in
     changed agents ends (set ends e.0 y) f (action.Look e) refused (outcome.Clear (Some x.looked)) h answer refl refl refl (length-set ends e.0 y) (counts_still agents ends f _ h refl (λ d. refl) (λ d. refl) (λ a d l. refl))

@@ -1,13 +1,10 @@
--- The mailbox of an end after a legal history shows the history there, and holds what a core keeps.
-use Rattle.std.proofs.Common.{◌≡◌, ℕ, zero, suc, ◌+◌, ◌<◌, ◌≤◌, Bool, true, false, cond, eqb, List, [], ◌∷◌, ◌++◌, length, map, replicate, Option, Some, None, refl, sym, ap, subst, ◌∙◌, ⊎_elim, arith, append_assoc, append-nil}
-use Rattle.std.specs.Prelude.{slice_get, slice_index_or}
+-- The mailbox of an end goes on by the events of each pair that fits.
+use Rattle.std.proofs.Common.{◌≡◌, ℕ, zero, suc, ◌+◌, ◌<◌, ◌≤◌, Bool, true, false, cond, eqb, List, [], ◌∷◌, ◌++◌, map, replicate, Option, Some, None, refl, sym, ap, subst, ◌∙◌, ⊎_elim, arith}
 use Rattle.std.proofs.lemmas.Bool.{false≢true, false_from_ne_true, eqb-true, eqb-false}
 use Rattle.std.proofs.lemmas.Grind.{flat_map-append}
-use Rattle.std.proofs.lemmas.List.{length-replicate, append_cancel_left}
+use Rattle.std.proofs.lemmas.List.{length-replicate}
 use Rattle.hub_envelope.specs.declared.envelope.Envelope.{Envelope}
 use Rattle.hub_envelope.specs.declared.ids.EndId.{EndId}
-use Rattle.hub_core.specs.declared.end.End.{End}
-use Rattle.hub_core.specs.declared.machine.Core.{Core}
 use Rattle.hub_core.specs.declared.kind.Kind.{Kind}
 use Rattle.hub_core.specs.declared.kind.Kind.TheVariants.{Port, Client, Worker, Member}
 use Rattle.hub_core.specs.declared.line.Phase.{Phase}
@@ -16,37 +13,28 @@ use Rattle.hub_core.specs.declared.step.Action.{Action}
 use Rattle.hub_core.specs.declared.step.Action.TheVariants as action
 use Rattle.hub_core.specs.declared.outcome.Outcome.{Outcome}
 use Rattle.hub_core.specs.declared.outcome.Outcome.TheVariants as outcome
-use Rattle.hub_core.specs.History.{Pair, History}
-use Rattle.hub_core.specs.Facts.{EndNow, LineNow, Facts, facts}
+use Rattle.hub_core.specs.Facts.{EndNow, LineNow, Facts}
 use Rattle.hub_core.specs.Accepted.{accepted_by}
-use Rattle.hub_core.specs.Made.{ends, ends_after, kind_after, lines_of}
+use Rattle.hub_core.specs.Made.{ends_after, kind_after, lines_of}
 use Rattle.hub_core.specs.Making.{is_client, is_worker}
-use Rattle.hub_core.specs.Sender.{by, in_queue, Prefix}
+use Rattle.hub_core.specs.Sender.{by, in_queue}
 use Rattle.hub_core.specs.Sound.{no_end, no_line, Sound}
-use Rattle.hub_core.specs.Fits.{Answers, Fits}
-use Rattle.hub_core.specs.Legal.{Legal}
-use Rattle.hub_core.specs.Laws.{InOrder}
-use Rattle.hub_core.specs.Shows.{ShowsEnd, Shows}
+use Rattle.hub_core.specs.Fits.{Answers}
 use Rattle.hub_core.specs.GateMachine.{IsAt, opened}
-use Rattle.hub_core.specs.QueueMachine.{new_queue}
 use Rattle.hub_core.specs.Mailbox.{Mailbox, new_mailbox, IsMailbox}
 use Rattle.hub_core.specs.MailboxSteps.{MailboxEvent, push, pop, put_in}
 use Rattle.hub_core.specs.MailboxPairs.{OneRight, events_of, leaving, finds_busy_at, sweeping, Happen}
 use Rattle.hub_core.specs.MailboxAfter.{after_events}
-use Rattle.hub_core.specs.MailboxOf.{first_mailbox, made_as, after_pair, mailbox_from, mailbox, GoesOn, EachShows, KeepsMailboxes}
+use Rattle.hub_core.specs.MailboxOf.{first_mailbox, made_as, after_pair}
 use Rattle.hub_core.proofs.Items.{got_within, got_of-map}
-use Rattle.hub_core.proofs.Nexts.{next, facts_next, accepted_one}
-use Rattle.hub_core.proofs.Legals.{by_pairs}
-use Rattle.hub_core.proofs.Sounds.{sound_first, sound_after, sound_legal}
-use Rattle.hub_core.proofs.Orders.{shows_in_order}
+use Rattle.hub_core.proofs.Nexts.{next, accepted_one}
 use Rattle.hub_core.proofs.Fitting.{new_ends, queue_made_of, member_made_of}
 use Rattle.hub_core.proofs.Speakers.{nothing_accepted, nothing_removed}
 use Rattle.hub_core.proofs.MailboxStepping.{chain_laws}
 use Rattle.hub_core.proofs.MailboxMoves.{only, opened_out}
-use Rattle.hub_core.proofs.MailboxShown.{Runs, View, view, ShownAt, IsShown, to_history}
+use Rattle.hub_core.proofs.MailboxShown.{Runs, View, view, ShownAt, IsShown}
 use Rattle.hub_core.proofs.MailboxPairs.{goes}
-use Rattle.hub_core.proofs.MailboxRuns.{puts, runs_one, runs_happen, runs_joined, runs_kept, Ordered, runs_ordered}
-use Rattle.hub_core.proofs.PairQueues.{got_there_in}
+use Rattle.hub_core.proofs.MailboxRuns.{puts, runs_one, runs_happen, runs_joined, runs_kept}
 
 -- ---- what the events of a pair put in
 
@@ -152,7 +140,7 @@ module _ (f : Facts) (e : ℕ) (sound : Sound f) (past : f.ends ≤ e) where
   none_accepted : f.accepted e ≡ []
   none_accepted = nothing_accepted f e (sound.lines e) unmade
 
-  new_shown : (kind : Option Kind) → IsShown e (record (view f e) { kind = kind }) (first_mailbox kind)
+  pub new_shown : (kind : Option Kind) → IsShown e (record (view f e) { kind = kind }) (first_mailbox kind)
   new_shown kind =
       let rights : List OneRight = replicate (lines_of kind) tt in record {
         is_mailbox = subst (λ n. IsMailbox e n (new_mailbox rights)) (length-replicate (lines_of kind) tt) (chain_laws.opened e rights);
@@ -171,11 +159,11 @@ module _ (f : Facts) (e : ℕ) (sound : Sound f) (past : f.ends ≤ e) where
 -- ---- one pair more
 
 -- the mailbox shows what is known of the end, and came about by events from the one that was made
-record Kept (f : Facts) (e : ℕ) (m : Mailbox OneRight) : Type 0 where
-  shown : ShownAt f e m
-  events : List (MailboxEvent OneRight)
-  runs : Runs e (lines_of ((f.end e).kind)) (first_mailbox ((f.end e).kind)) events m
-  put : puts events ≡ f.accepted e
+pub record Kept (f : Facts) (e : ℕ) (m : Mailbox OneRight) : Type 0 where
+  pub shown : ShownAt f e m
+  pub events : List (MailboxEvent OneRight)
+  pub runs : Runs e (lines_of ((f.end e).kind)) (first_mailbox ((f.end e).kind)) events m
+  pub put : puts events ≡ f.accepted e
 
 module _ (f : Facts) (e : ℕ) (m : Mailbox OneRight) (sound : Sound f) (refused : Bool) (o : Outcome) (a : Action) (fits : Answers f a refused o) where
   abbrev lines : ℕ
@@ -188,26 +176,30 @@ module _ (f : Facts) (e : ℕ) (m : Mailbox OneRight) (sound : Sound f) (refused
   kind_made : (k : Kind) → kind_after e None o a ≡ Some k → f.ends ≤ e → ((next f a o).end e).kind ≡ Some k
   kind_made k is past = ap (λ q. kind_after e q o a) (ap (λ (x : EndNow). x.kind) (unmade f e sound past)) ∙ is
 
-  same_after : e < f.ends → after_pair f e m o a ≡ after_events m events_here
-  same_after within = elim (makes_or f e refused o a fits) [
-    | makes k is past same ↦ absurd (omega arith)
-    | leaves is old ↦ ap (λ q. made_as q (after_events m events_here)) is
-  ]
+  pub same_after : kind_after e None o a ≡ None → after_pair f e m o a ≡ after_events m events_here
+  same_after none = ap (λ q. made_as q (after_events m events_here)) none
 
-  new_after : f.ends ≤ e → e < (next f a o).ends → after_pair f e m o a ≡ first_mailbox ((next f a o).end e).kind
+  pub new_after : f.ends ≤ e → e < (next f a o).ends → after_pair f e m o a ≡ first_mailbox ((next f a o).end e).kind
   new_after past within = elim (makes_or f e refused o a fits) [
     | makes k is _ same ↦ ap (λ q. made_as q (after_events m events_here)) is ∙ ap first_mailbox (sym (kind_made k is past))
     | leaves is old ↦ absurd (let low = old within in omega arith)
   ]
 
-  happen_here : e < f.ends → ShownAt f e m → Happen e lines m events_here
-  happen_here within shown = let done = goes f e m sound shown a refused o fits within in runs_happen e lines events_here m done.0 done.1
+  -- an end that is there isn't made
+  pub old_end : e < f.ends → kind_after e None o a ≡ None
+  old_end within = elim (makes_or f e refused o a fits) [
+    | makes k is past same ↦ absurd (omega arith)
+    | leaves is old ↦ is
+  ]
 
-  goes_on_from : e < f.ends → Kept f e m → Kept (next f a o) e (after_pair f e m o a)
-  goes_on_from within k =
-      let done = goes f e m sound k.shown a refused o fits within in
+  pub happen_here : kind_after e None o a ≡ None → ShownAt f e m → Happen e lines m events_here
+  happen_here none shown = let done = goes f e m sound shown a refused o fits none in runs_happen e lines events_here m done.0 done.1
+
+  goes_on_from : kind_after e None o a ≡ None → Kept f e m → Kept (next f a o) e (after_pair f e m o a)
+  goes_on_from none k =
+      let done = goes f e m sound k.shown a refused o fits none in
       let after : Mailbox OneRight = after_pair f e m o a in
-      let same : done.0 ≡ after = runs_one e lines events_here m done.0 done.1 ∙ sym (same_after within) in
+      let same : done.0 ≡ after = runs_one e lines events_here m done.0 done.1 ∙ sym (same_after none) in
       let shown : ShownAt (next f a o) e after = subst (ShownAt (next f a o) e) same done.2 in
       let runs : Runs e lines m events_here after = subst (Runs e lines m events_here) same done.1 in
       let same_lines : lines ≡ lines_of ((next f a o).end e).kind = sym (runs_kept e lines events_here m after k.shown.is_mailbox runs).stands ∙ shown.is_mailbox.stands in
@@ -219,9 +211,9 @@ module _ (f : Facts) (e : ℕ) (m : Mailbox OneRight) (sound : Sound f) (refused
         put = flat_map-append put_in k.events events_here ∙ ap (λ us. us ++ puts events_here) k.put ∙ ap (λ us. f.accepted e ++ us) (puts_of f e m o a) ∙ accepted_one e (f.accepted e) o a;
       }
 
-  kept_next : (e < f.ends → Kept f e m) → e < (next f a o).ends → Kept (next f a o) e (after_pair f e m o a)
-  kept_next before within = elim (makes_or f e refused o a fits) [
-    | leaves is old ↦ goes_on_from (old within) (before (old within))
+  pub kept_next : Kept f e m → Kept (next f a o) e (after_pair f e m o a)
+  kept_next before = elim (makes_or f e refused o a fits) [
+    | leaves is old ↦ goes_on_from is before
     | makes k is past same ↦
         let kind : ((next f a o).end e).kind ≡ Some k = kind_made k is past in
         let known : view (next f a o) e ≡ record (view f e) { kind = Some k } = same ∙ ap (λ q. record (view f e) { kind = q }) kind in
@@ -232,75 +224,3 @@ module _ (f : Facts) (e : ℕ) (m : Mailbox OneRight) (sound : Sound f) (refused
           put = sym (ap (λ (v : View). v.accepted) same ∙ none_accepted f e sound past);
         })
   ]
-
--- ---- histories
-
-from_one : (e : ℕ) (m : Mailbox OneRight) (past h : History) (p : Pair) → mailbox_from e m past (h ++ p ∷ []) ≡ after_pair (facts (past ++ h)) e (mailbox_from e m past h) p.1 p.0.action
-from_one e m past [] p = ap (λ k. after_pair (facts k) e m p.1 p.0.action) (sym (append-nil past))
-from_one e m past (q ∷ h) p =
-    let between : Mailbox OneRight = after_pair (facts past) e m q.1 q.0.action in
-    from_one e between (past ++ q ∷ []) h p ∙ ap (λ k. after_pair (facts k) e (mailbox_from e between (past ++ q ∷ []) h) p.1 p.0.action) (append_assoc past (q ∷ []) h)
-
-mailbox_one : (h : History) (p : Pair) (e : ℕ) → mailbox (h ++ p ∷ []) e ≡ after_pair (facts h) e (mailbox h e) p.1 p.0.action
-mailbox_one h p e = from_one e (first_mailbox None) [] h p
-
-abbrev AreKept : History → Type 0
-AreKept h = Sound (facts h) × ((e : ℕ) → e < ends h → Kept (facts h) e (mailbox h e))
-
-kept_one : (h : History) (p : Pair) → AreKept h → Fits h p → AreKept (h ++ p ∷ [])
-kept_one h p before fits = (
-  sound_after h p before.0 fits,
-  λ e within. subst (Kept (facts (h ++ p ∷ [])) e) (sym (mailbox_one h p e))
-      (subst (λ f. Kept f e (after_pair (facts h) e (mailbox h e) p.1 p.0.action)) (sym (facts_next h p))
-      (kept_next (facts h) e (mailbox h e) before.0 p.0.memory_refused p.1 p.0.action fits (before.1 e) (subst (λ (f : Facts). e < f.ends) (facts_next h p) within))),
-)
-
-kept_legal : (h : History) → Legal h → (e : ℕ) → e < ends h → Kept (facts h) e (mailbox h e)
-kept_legal h legal = (by_pairs AreKept kept_one [] h (sound_first, (λ e within. absurd (omega arith))) legal).1
-
-pub each_shows : (h : History) → Legal h → EachShows h
-each_shows h legal e within = to_history h e (mailbox h e) (kept_legal h legal e within).shown
-
-pub goes_on : (h : History) (p : Pair) → Legal h → Fits h p → (e : ℕ) → GoesOn h p e
-goes_on h p legal fits e =
-    let f : Facts = facts h in
-    let sound : Sound f = sound_legal h legal in record {
-      happen = λ within. happen_here f e (mailbox h e) sound p.0.memory_refused p.1 p.0.action fits within (kept_legal h legal e within).shown;
-      after = λ within. mailbox_one h p e ∙ same_after f e (mailbox h e) sound p.0.memory_refused p.1 p.0.action fits within;
-      made = λ past within. mailbox_one h p e ∙ new_after f e (mailbox h e) sound p.0.memory_refused p.1 p.0.action fits past (subst (λ (g : Facts). e < g.ends) (facts_next h p) within)
-          ∙ ap (λ (g : Facts). first_mailbox ((g.end e).kind)) (sym (facts_next h p));
-    }
-
--- ---- what a core keeps
-
-module _ (core : Core) (h : History) (legal : Legal h) (shows : Shows core h) (e : ℕ) (x : End) (is : slice_get core.ends e ≡ Some x) where
-  abbrev f : Facts
-  f = facts h
-
-  abbrev m : Mailbox OneRight
-  m = mailbox h e
-
-  kept : Kept f e m
-  kept = kept_legal h legal e (let count : f.ends ≡ length core.ends = shows.0.ends in let low = got_within core.ends e x is in omega arith)
-
-  in_order : Ordered e (lines_of ((f.end e).kind)) (f.accepted e) m
-  in_order =
-      let kind : Option Kind = (f.end e).kind in
-      let rights : List OneRight = replicate (lines_of kind) tt in
-      let order : InOrder h = shows_in_order core h shows in
-      subst (λ vs. Ordered e (lines_of kind) vs m) kept.put
-      (runs_ordered e (lines_of kind) kept.events (first_mailbox kind) m []
-      (subst (λ n. IsMailbox e n (new_mailbox rights)) (length-replicate (lines_of kind) tt) (chain_laws.opened e rights)) kept.runs
-      (record { each = only new_queue (λ k q. in_queue k [] ≡ q.got ++ q.held) refl; past = λ _ _. refl })
-      (λ k. subst (λ us. Prefix (in_queue k us) (in_queue k (puts kept.events))) (sym kept.shown.got) (subst (λ vs. Prefix (in_queue k (f.taken e ++ f.discarded e)) (in_queue k vs)) (sym kept.put) (order.each e k))))
-
-pub keeps_mailboxes : (core : Core) (h : History) → Legal h → Shows core h → KeepsMailboxes core h
-keeps_mailboxes core h legal shows e x is i q there =
-    let f : Facts = facts h in
-    let m : Mailbox OneRight = mailbox h e in
-    let k : ℕ = x.taker + i in
-    let kept : Kept f e m = kept core h legal shows e x is in
-    let at = subst (ShowsEnd (f.end e) (f.line e) (f.clear e) (f.accepted e) (f.taken e ++ f.discarded e)) is (shows.0.end e) in
-    append_cancel_left q.got q.held (slice_index_or x.queues i [])
-    (sym ((in_order core h legal shows e x is).each k q there) ∙ at.queues.each i
-    ∙ ap (λ us. us ++ slice_index_or x.queues i []) (ap (in_queue k) (sym kept.shown.got) ∙ got_there_in e (lines_of ((f.end e).kind)) m kept.shown.is_mailbox k q there))

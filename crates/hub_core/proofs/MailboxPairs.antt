@@ -1,16 +1,16 @@
 -- Each pair of a history is events of the mailbox of an end, or leaves it.
-use Rattle.std.proofs.Common.{◌≡◌, ℕ, ◌+◌, ◌-◌, ◌<◌, ◌&&◌, Bool, true, false, cond, eqb, List, [], ◌∷◌, ◌++◌, length, refl, sym, ap, subst, inl, inr, arith, Some, None}
+use Rattle.std.proofs.Common.{◌≡◌, ℕ, ◌+◌, ◌-◌, ◌<◌, ◌&&◌, Bool, true, false, cond, eqb, List, [], ◌∷◌, ◌++◌, length, refl, sym, ap, subst, inl, inr, arith, Option, Some, None}
 use Rattle.std.specs.Prelude.{◌⊎◌, not}
-use Rattle.std.proofs.lemmas.Bool.{eqb-true, ne_eqb, or_parts, not-false}
+use Rattle.std.proofs.lemmas.Bool.{eqb-true, or_parts, not-false}
 use Rattle.hub_envelope.specs.declared.ids.EndId.{EndId}
 use Rattle.hub_core.specs.declared.line.Phase.TheVariants.{Out, Inside, Turned}
 use Rattle.hub_core.specs.declared.step.Action.{Action}
 use Rattle.hub_core.specs.declared.step.Action.TheVariants as action
 use Rattle.hub_core.specs.declared.outcome.Outcome.{Outcome}
 use Rattle.hub_core.specs.declared.outcome.Outcome.TheVariants as outcome
-use Rattle.hub_core.specs.Facts.{Facts, facts}
+use Rattle.hub_core.specs.Facts.{Facts}
 use Rattle.hub_core.specs.Accepted.{named_envelope, named_notice}
-use Rattle.hub_core.specs.Made.{lines_of}
+use Rattle.hub_core.specs.Made.{kind_after, lines_of}
 use Rattle.hub_core.specs.Sender.{in_queue}
 use Rattle.hub_core.specs.Looking.{someone_at, looked, look_answer, FitsSweep}
 use Rattle.hub_core.specs.Taking.{IsDrained, IsLeft, FitsTake}
@@ -19,13 +19,10 @@ use Rattle.hub_core.specs.Sound.{Sound}
 use Rattle.hub_core.specs.GateMachine.{enter, enable, look, close, lets_in, says_moved, says_closed, says_done, gives_rights}
 use Rattle.hub_core.specs.Mailbox.{Mailbox}
 use Rattle.hub_core.specs.MailboxSteps.{MailboxEvent, at_gate, push, pop, hop, advance, add, IsSettled, HoldsNothing}
-use Rattle.hub_core.specs.MailboxPairs.{OneRight, leaving, finds_busy, finds_busy_at, unsettled, rights_of, events_of, sweeping, PairsAreEvents}
+use Rattle.hub_core.specs.MailboxPairs.{OneRight, leaving, finds_busy, finds_busy_at, unsettled, rights_of, events_of, sweeping}
 use Rattle.hub_core.proofs.Nexts.{next, Change, agent_made, channel_made, let_in, found_moved, found_closed, put, left, hopped, started, got, went_on, cleared, adopted, notice_put, end_closed, end_swept, client_made, worker_made, line_got, line_back, handed, agent_ordered, agent_ended, member_joined, cast_begun, member_parted}
-use Rattle.hub_core.proofs.Fitting.{new_ends, pushed_of, noticed_of, hopped_of, got_of, empty_of, busy_of, went_on_of, cleared_of, FindsBusy, look_busy_of, adopted_of, swept_of, queue_made_of, member_made_of}
-use Rattle.hub_core.proofs.Sounds.{sound_legal}
-use Rattle.hub_core.proofs.MailboxShown.{View, view, ShownAt, IsShown, Leads, of_history, with_pair, at_end_or}
-use Rattle.hub_core.specs.MailboxShows.{ShowsMailbox}
-use Rattle.hub_core.proofs.MailboxRuns.{runs_one, runs_happen}
+use Rattle.hub_core.proofs.Fitting.{pushed_of, noticed_of, hopped_of, got_of, empty_of, busy_of, went_on_of, cleared_of, FindsBusy, look_busy_of, adopted_of, swept_of}
+use Rattle.hub_core.proofs.MailboxShown.{View, view, ShownAt, IsShown, Leads, at_end_or}
 use Rattle.hub_core.proofs.PairGates.{with_line, entered, turned_moved, turned_closed, left_line, started_there, closed_there}
 use Rattle.hub_core.proofs.PairQueues.{pushed_there, noticed_there, taken_there, taken_all, none_there}
 use Rattle.hub_core.proofs.PairLooks.{settled_there, busy_there, look_busy_there, SweepsBusy, sweep_busy_of, sweep_busy_there, cleared_there}
@@ -33,7 +30,6 @@ use Rattle.hub_core.proofs.PairSweeps.{swept_there}
 use Rattle.hub_core.proofs.PairMoves.{with_next, hopped_there, with_taker_at, went_on_there, with_queue_new, adopted_there}
 use Rattle.hub_core.specs.declared.kind.Kind.{Kind}
 use Rattle.hub_core.specs.declared.kind.Kind.TheVariants.{Port, Client, Worker, Member}
-use Rattle.hub_core.specs.Making.{is_client, is_worker}
 
 -- ---- the pairs that are events
 
@@ -78,9 +74,10 @@ kind_of f e m outcome.Done (action.Close x) = inr (changes _ _ (end_closed x))
 kind_of f e m (outcome.Discarded vs) (action.Sweep x) = inr (changes _ _ (end_swept x vs))
 kind_of f e m o a = inl (refl, refl)
 
--- an end that was there before
-unmade : (e n x : ℕ) → x ≡ n → e < n → eqb e x ≡ false
-unmade e n x is below = ne_eqb e x (λ same. absurd (omega arith))
+-- an end that the pair doesn't make
+not_made : (b : Bool) (k : Kind) (q : Option Kind) → cond b (Some k) q ≡ None → (b ≡ false) × (q ≡ None)
+not_made true k q is = cc
+not_made false k q is = (refl, is)
 
 module _ (f : Facts) (e : ℕ) (m : Mailbox OneRight) (sound : Sound f) (shown : ShownAt f e m) where
   abbrev lines : ℕ → ℕ
@@ -95,14 +92,16 @@ module _ (f : Facts) (e : ℕ) (m : Mailbox OneRight) (sound : Sound f) (shown :
   none_discarded : (x : ℕ) → (f.end x).closed ≡ false → f.discarded x ≡ []
   none_discarded x opened = (sound.waiting x).kept opened
 
-  made_channel : (x y : EndId) → e < f.ends → x.0 ≡ f.ends → y.0 ≡ f.ends + 1
+  made_channel : (x y : EndId) → cond (eqb e x.0) (Some (Port y)) (cond (eqb e y.0) (Some (Port x)) None) ≡ None
       → IsShown e (record (view f e) { kind = cond (eqb e x.0) (Some (Port y)) (cond (eqb e y.0) (Some (Port x)) (f.end e).kind) }) m
-  made_channel x y made first second =
-      subst (λ b. IsShown e (record (view f e) { kind = cond b (Some (Port y)) (cond (eqb e y.0) (Some (Port x)) (f.end e).kind) }) m) (sym (unmade e f.ends x.0 first made))
-      (subst (λ b. IsShown e (record (view f e) { kind = cond b (Some (Port x)) (f.end e).kind }) m) (sym (unmade e (f.ends + 1) y.0 second (omega arith))) shown)
+  made_channel x y none =
+      let first = not_made (eqb e x.0) (Port y) (cond (eqb e y.0) (Some (Port x)) None) none in
+      let second = not_made (eqb e y.0) (Port x) None first.1 in
+      subst (λ b. IsShown e (record (view f e) { kind = cond b (Some (Port y)) (cond (eqb e y.0) (Some (Port x)) (f.end e).kind) }) m) (sym first.0)
+      (subst (λ b. IsShown e (record (view f e) { kind = cond b (Some (Port x)) (f.end e).kind }) m) (sym second.0) shown)
 
-  made_queue : (x : EndId) (k : Kind) → e < f.ends → x.0 ≡ f.ends → IsShown e (record (view f e) { kind = cond (eqb e x.0) (Some k) (f.end e).kind }) m
-  made_queue x k made first = subst (λ b. IsShown e (record (view f e) { kind = cond b (Some k) (f.end e).kind }) m) (sym (unmade e f.ends x.0 first made)) shown
+  made_queue : (x : EndId) (k : Kind) → cond (eqb e x.0) (Some k) None ≡ None → IsShown e (record (view f e) { kind = cond (eqb e x.0) (Some k) (f.end e).kind }) m
+  made_queue x k none = subst (λ b. IsShown e (record (view f e) { kind = cond b (Some k) (f.end e).kind }) m) (sym (not_made (eqb e x.0) k None none).0) shown
 
   -- ---- takes that find no envelope
 
@@ -154,14 +153,12 @@ module _ (f : Facts) (e : ℕ) (m : Mailbox OneRight) (sound : Sound f) (shown :
 
   -- ---- all pairs
 
-  changed : {a : Action} (refused : Bool) {o : Outcome} → Answers f a refused o → e < f.ends → Change a o → Leads e (lines e) m (events_of f e m o a) (view (next f a o) e)
+  changed : {a : Action} (refused : Bool) {o : Outcome} → Answers f a refused o → kind_after e None o a ≡ None → Change a o → Leads e (lines e) m (events_of f e m o a) (view (next f a o) e)
   changed refused fits made (agent_made origin n) = (m, refl, shown)
-  changed refused fits made (channel_made a x y) =
-      let new = new_ends f a refused x y fits in
-      (m, refl, made_channel x y made (ap (λ (n : EndId). n.0) new.1) (ap (λ (n : EndId). n.0) new.2))
-  changed refused fits made (client_made a x) = (m, refl, made_queue x Client made (ap (λ (n : EndId). n.0) (queue_made_of f is_client a refused x fits).number))
-  changed refused fits made (worker_made a x) = (m, refl, made_queue x Worker made (ap (λ (n : EndId). n.0) (queue_made_of f is_worker a refused x fits).number))
-  changed refused fits made (member_joined a name x) = (m, refl, made_queue x (Member a) made (ap (λ (n : EndId). n.0) (member_made_of f a refused x fits).number))
+  changed refused fits made (channel_made a x y) = (m, refl, made_channel x y made)
+  changed refused fits made (client_made a x) = (m, refl, made_queue x Client made)
+  changed refused fits made (worker_made a x) = (m, refl, made_queue x Worker made)
+  changed refused fits made (member_joined a name x) = (m, refl, made_queue x (Member a) made)
   changed refused fits made (line_got x a l) = (m, refl, shown)
   changed refused fits made (line_back s) = (m, refl, shown)
   changed refused fits made (handed x b) = (m, refl, shown)
@@ -207,7 +204,7 @@ module _ (f : Facts) (e : ℕ) (m : Mailbox OneRight) (sound : Sound f) (shown :
       at_step x.0 (λ y. sweeping vs ((f.end y).taker_stand) ((f.end y).newest - (f.end y).taker_stand + 1)) (λ y b. record (view f y) { removed = f.taken y ++ cond b (f.discarded y ++ vs) (f.discarded y) }) shown
       (λ there. swept_there f x m vs there sound (swept_of f x vs fits))
 
-  happened : {a : Action} (refused : Bool) {o : Outcome} → Answers f a refused o → e < f.ends → Happens a o → Leads e (lines e) m (events_of f e m o a) (view (next f a o) e)
+  happened : {a : Action} (refused : Bool) {o : Outcome} → Answers f a refused o → kind_after e None o a ≡ None → Happens a o → Leads e (lines e) m (events_of f e m o a) (view (next f a o) e)
   happened refused fits made (changes a o change) = changed refused fits made change
   happened refused fits made (drained x) =
       at_step x.0 (λ y. pop ((f.end y).taker_stand) None ∷ []) (λ y _. view f y) shown (λ there. empty_at x fits there)
@@ -218,18 +215,11 @@ module _ (f : Facts) (e : ℕ) (m : Mailbox OneRight) (sound : Sound f) (shown :
   happened refused fits made (swept_busy x) =
       at_step x.0 (λ y. finds_busy_at m (unsettled f y)) (λ y _. view f y) shown (λ there. swept_busy_at x fits there)
 
-  pub goes : (a : Action) (refused : Bool) (o : Outcome) → Answers f a refused o → e < f.ends → Leads e (lines e) m (events_of f e m o a) (view (next f a o) e)
+  -- a pair that doesn't make the end
+  pub goes : (a : Action) (refused : Bool) (o : Outcome) → Answers f a refused o → kind_after e None o a ≡ None → Leads e (lines e) m (events_of f e m o a) (view (next f a o) e)
   goes a refused o fits made = elim (kind_of f e m o a) [
     | inl none ↦
         let still : ShownAt (next f a o) e m = subst (λ g. ShownAt g e m) (sym none.1) shown in
         subst (λ events. Leads e (lines e) m events (view (next f a o) e)) (sym none.0) (m, refl, still)
     | inr happens ↦ happened refused fits made happens
   ]
-
-pub pairs_are_events : PairsAreEvents
-pairs_are_events h p e m legal fits made shows =
-    let f : Facts = facts h in
-    let events : List (MailboxEvent OneRight) = events_of f e m p.1 p.0.action in
-    let lines : ℕ = lines_of ((f.end e).kind) in
-    let done = goes f e m (sound_legal h legal) (of_history h e m shows) p.0.action p.0.memory_refused p.1 fits made in
-    (runs_happen e lines events m done.0 done.1, subst (ShowsMailbox (h ++ p ∷ []) e []) (runs_one e lines events m done.0 done.1) (with_pair h p e done.0 done.2))

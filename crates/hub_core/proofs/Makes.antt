@@ -21,14 +21,15 @@ use Rattle.hub_core.specs.declared.outcome.Outcome.TheVariants as outcome
 use Rattle.hub_core.specs.Facts.{AgentNow, EndNow, LineNow, Facts}
 use Rattle.hub_core.specs.Making.{agent_answer, channel_answer, queue_answer, is_client, is_worker, has_one}
 use Rattle.hub_core.specs.Sound.{no_end, no_line, total, Sound}
-use Rattle.hub_core.specs.Shows.{agent_now, end_now, line_now, ShowsPut, ShowsEnd, ShowsFacts, kept_clients, count_with, kept_workers, count_away, kept_away}
+use Rattle.hub_core.specs.Shows.{agent_now, end_now, line_now, ShowsPut, ShowsEnd, kept_clients, count_with, kept_workers, count_away, kept_away}
+use Rattle.hub_core.specs.Shows.{ShowsFacts}
+use Rattle.hub_core.proofs.Showing.{SoundlyShows}
 use Rattle.hub_core.specs.Kept.{first_line, kept_queue_answer, new_end, count_of, come, first_agent}
 use Rattle.hub_core.proofs.Lists.{slice_get-append_front, slice_get-append_back, eqb_same, next_up}
 use Rattle.hub_core.proofs.Frames.{Stepped}
 use Rattle.hub_core.specs.CoreState.{CoreState}
 use Rattle.hub_core.specs.Seen.{seen}
 use Rattle.hub_core.proofs.Seeing.{Sees, seen_is}
-use Rattle.hub_core.proofs.Sounds.{sound_next}
 use Rattle.hub_core.proofs.Speakers.{nothing_accepted, nothing_removed, running_made, entangled_made}
 use Rattle.hub_core.specs.Made.{lines_of, peer_of}
 use Rattle.hub_core.specs.declared.kind.Kind.{Kind}
@@ -73,7 +74,7 @@ none_kept kept [] (suc a) none first = refl
 none_kept kept (x ∷ agents) zero none first = refl
 none_kept kept (x ∷ agents) (suc a) none first = none_kept kept agents a none first
 
-agent_shown : (agents : List Agent) (ends : List End) (f : Facts) (origin : Option (List ℕ)) (refused : Bool) → ShowsFacts agents ends f → (let n : AgentId = record { 0 = length agents } in outcome.Agent n ≡ agent_answer f refused → Stepped (agents ++ first_agent ∷ []) ends f (action.Agent origin) refused (outcome.Agent n))
+agent_shown : (agents : List Agent) (ends : List End) (f : Facts) (origin : Option (List ℕ)) (refused : Bool) → SoundlyShows agents ends f → (let n : AgentId = record { 0 = length agents } in outcome.Agent n ≡ agent_answer f refused → Stepped (agents ++ first_agent ∷ []) ends f (action.Agent origin) refused (outcome.Agent n))
 agent_shown agents ends f origin refused h answer = record {
   fits = answer;
   shows = record {
@@ -84,7 +85,6 @@ agent_shown agents ends f origin refused h answer = record {
     clients = λ a. none_kept kept_clients agents a.0 refl refl ∙ h.clients a;
     workers = λ a. none_kept kept_workers agents a.0 refl refl ∙ h.workers a;
     away = λ a. none_kept kept_away agents a.0 refl refl ∙ h.away a;
-    sound = sound_next f (action.Agent origin) refused (outcome.Agent (record { 0 = length agents })) h.sound answer;
   };
 }
 
@@ -138,7 +138,7 @@ record Nothing (f : Facts) (d : ℕ) : Type 0 where
   accepted : f.accepted d ≡ []
   removed : f.taken d ++ f.discarded d ≡ []
 
-nothing_at : (agents : List Agent) (ends : List End) (f : Facts) (d : ℕ) → ShowsFacts agents ends f → length ends ≤ d → Nothing f d
+nothing_at : (agents : List Agent) (ends : List End) (f : Facts) (d : ℕ) → SoundlyShows agents ends f → length ends ≤ d → Nothing f d
 nothing_at agents ends f d h past =
     let count : f.ends ≡ length ends = h.ends in
     let none : f.end d ≡ no_end = h.sound.places.ends d (omega arith) in
@@ -171,7 +171,7 @@ made_now f a n d first second = record (f.end d) {
 abbrev two_ports : AgentId → ℕ → List End
 two_ports a n = new_end a (Port (record { 0 = n + 1 })) ∷ new_end a (Port (record { 0 = n })) ∷ []
 
-port_at : (agents : List Agent) (ends : List End) (f : Facts) (a : AgentId) → ShowsFacts agents ends f → (d : ℕ) → (before first second : Bool) → nat_lt d (length ends) ≡ before → eqb d (length ends) ≡ first → eqb d (length ends + 1) ≡ second → ShowsEnd (made_now f a (length ends) d first second) (f.line d) (f.clear d) (f.accepted d) (f.taken d ++ f.discarded d) (slice_get (ends ++ two_ports a (length ends)) d)
+port_at : (agents : List Agent) (ends : List End) (f : Facts) (a : AgentId) → SoundlyShows agents ends f → (d : ℕ) → (before first second : Bool) → nat_lt d (length ends) ≡ before → eqb d (length ends) ≡ first → eqb d (length ends + 1) ≡ second → ShowsEnd (made_now f a (length ends) d first second) (f.line d) (f.clear d) (f.accepted d) (f.taken d ++ f.discarded d) (slice_get (ends ++ two_ports a (length ends)) d)
 port_at agents ends f a h d before true second is here there =
     let n = length ends in
     let k : Kind = Port (record { 0 = n + 1 }) in
@@ -214,7 +214,7 @@ ports_counted test never f a b =
     ap (total u) range ∙ omega arith
 
 -- nobody is away at new ports
-ports_away : (agents : List Agent) (ends : List End) (f : Facts) (a b : AgentId) → ShowsFacts agents ends f → count_away b (next f (action.Channel a) (outcome.Ends (record { 0 = f.ends }) (record { 0 = f.ends + 1 }))) ≡ count_away b f
+ports_away : (agents : List Agent) (ends : List End) (f : Facts) (a b : AgentId) → SoundlyShows agents ends f → count_away b (next f (action.Channel a) (outcome.Ends (record { 0 = f.ends }) (record { 0 = f.ends + 1 }))) ≡ count_away b f
 ports_away agents ends f a b h =
     let g : Facts = next f (action.Channel a) (outcome.Ends (record { 0 = f.ends }) (record { 0 = f.ends + 1 })) in
     let rest : total (away_at b g) f.ends ≡ total (away_at b f) f.ends = total_same (away_at b f) (away_at b g) f.ends (λ x less. calm_count b f g x (calm x less)) in
@@ -238,7 +238,7 @@ ports_away agents ends f a b h =
         let second : eqb q.0 (f.ends + 1) ≡ false = ne_eqb q.0 (f.ends + 1) (λ same. omega arith) in
         inr (ap (is_with b) (ap (λ c. cond (c || eqb q.0 (f.ends + 1)) (Some (With a)) (f.end q.0).place) first ∙ ap (λ c. cond c (Some (With a)) (f.end q.0).place) second)))
 
-ports_made : (agents : List Agent) (ends : List End) (f : Facts) (a : AgentId) (refused : Bool) → ShowsFacts agents ends f → outcome.Ends (record { 0 = length ends }) (record { 0 = length ends + 1 }) ≡ channel_answer f a refused → Stepped agents (ends ++ two_ports a (length ends)) f (action.Channel a) refused (outcome.Ends (record { 0 = length ends }) (record { 0 = length ends + 1 }))
+ports_made : (agents : List Agent) (ends : List End) (f : Facts) (a : AgentId) (refused : Bool) → SoundlyShows agents ends f → outcome.Ends (record { 0 = length ends }) (record { 0 = length ends + 1 }) ≡ channel_answer f a refused → Stepped agents (ends ++ two_ports a (length ends)) f (action.Channel a) refused (outcome.Ends (record { 0 = length ends }) (record { 0 = length ends + 1 }))
 ports_made agents ends f a refused h answer = record {
   fits = answer;
   shows = record {
@@ -249,7 +249,6 @@ ports_made agents ends f a refused h answer = record {
     clients = λ b. h.clients b ∙ sym (counted is_client (λ q. refl) b);
     workers = λ b. h.workers b ∙ sym (counted is_worker (λ q. refl) b);
     away = λ b. h.away b ∙ sym (ap (λ n. count_away b (next f (action.Channel a) (outcome.Ends (record { 0 = n }) (record { 0 = n + 1 })))) (sym h.ends) ∙ ports_away agents ends f a b h);
-    sound = sound_next f (action.Channel a) refused (outcome.Ends (record { 0 = length ends }) (record { 0 = length ends + 1 })) h.sound answer;
   };
 }
   where
@@ -277,7 +276,7 @@ queue_now f a k d fresh = record (f.end d) { kind = cond fresh (Some k) (f.end d
 past_end : (ends : List End) (p : End) (d : ℕ) → length ends ≤ d → (d ≡ length ends → ⊥) → length (ends ++ p ∷ []) ≤ d
 past_end ends p d from other = let one : length ends + 1 ≤ d = next_up (length ends) d from other in simp length-append (omega arith)
 
-queue_at : (agents : List Agent) (ends : List End) (f : Facts) (a : AgentId) (k : Kind) → ShowsFacts agents ends f → (d : ℕ) → (before fresh : Bool) → nat_lt d (length ends) ≡ before → eqb d (length ends) ≡ fresh → ShowsEnd (queue_now f a k d fresh) (f.line d) (f.clear d) (f.accepted d) (f.taken d ++ f.discarded d) (slice_get (ends ++ new_end a k ∷ []) d)
+queue_at : (agents : List Agent) (ends : List End) (f : Facts) (a : AgentId) (k : Kind) → SoundlyShows agents ends f → (d : ℕ) → (before fresh : Bool) → nat_lt d (length ends) ≡ before → eqb d (length ends) ≡ fresh → ShowsEnd (queue_now f a k d fresh) (f.line d) (f.clear d) (f.accepted d) (f.taken d ++ f.discarded d) (slice_get (ends ++ new_end a k ∷ []) d)
 queue_at agents ends f a k h d before true is here =
     let n = length ends in
     let at : d ≡ n + 0 = eqb-true d n here ∙ omega arith in
@@ -298,7 +297,7 @@ pub data Makes : Action → Kind → (Option Kind → Bool) → AgentId → Type
 unmade_lines : (f : Facts) → Sound f → (l : ℕ) → f.line f.ends l ≡ no_line
 unmade_lines f h l = (h.lines f.ends).none l (subst (λ p. lines_of p ≤ l) (sym (ap (λ (y : EndNow). y.kind) (h.places.ends f.ends (omega arith)))) (omega arith))
 
-queue_new : (agents : List Agent) (ends : List End) (f : Facts) {b : Action} {k : Kind} {test : Option Kind → Bool} {a : AgentId} → ShowsFacts agents ends f → Makes b k test a → New f (next f b (outcome.End (record { 0 = f.ends }))) k a
+queue_new : (agents : List Agent) (ends : List End) (f : Facts) {b : Action} {k : Kind} {test : Option Kind → Bool} {a : AgentId} → SoundlyShows agents ends f → Makes b k test a → New f (next f b (outcome.End (record { 0 = f.ends }))) k a
 queue_new agents ends f h (makes_client a) = record {
   ends = refl;
   is = ap (λ c. cond c (Some Client) (f.end f.ends).kind) (eqb_same f.ends);
@@ -326,7 +325,7 @@ queue_rest : (f : Facts) {b : Action} {k : Kind} {test : Option Kind → Bool} {
 queue_rest f e (makes_client a) = refl
 queue_rest f e (makes_worker a) = refl
 
-queue_shows : (agents : List Agent) (ends : List End) (f : Facts) {b : Action} {k : Kind} {test : Option Kind → Bool} {a : AgentId} (refused : Bool) → Makes b k test a → ShowsFacts agents ends f → outcome.End (record { 0 = length ends }) ≡ queue_answer test f a refused → Stepped (come k a agents) (ends ++ new_end a k ∷ []) f b refused (outcome.End (record { 0 = length ends }))
+queue_shows : (agents : List Agent) (ends : List End) (f : Facts) {b : Action} {k : Kind} {test : Option Kind → Bool} {a : AgentId} (refused : Bool) → Makes b k test a → SoundlyShows agents ends f → outcome.End (record { 0 = length ends }) ≡ queue_answer test f a refused → Stepped (come k a agents) (ends ++ new_end a k ∷ []) f b refused (outcome.End (record { 0 = length ends }))
 queue_shows agents ends f {b = b} {k = k} {test = test} {a = a} refused makes h answer =
     let e : EndId = record { 0 = length ends } in
     let g : Facts = record f { ends = f.ends + 1; end = λ d. queue_now f a k d (eqb d (length ends)) } in
@@ -344,12 +343,11 @@ queue_shows agents ends f {b = b} {k = k} {test = test} {a = a} refused makes h 
         clients = here.clients;
         workers = here.workers;
         away = here.away;
-        sound = subst Sound (queue_rest f e makes) (sound_next f b refused (outcome.End e) h.sound (queue_fits f refused (outcome.End e) makes answer));
       });
     }
 
 -- what an agent keeps of its queues of this kind
-count_kept : (agents : List Agent) (ends : List End) (f : Facts) {b : Action} {k : Kind} {test : Option Kind → Bool} {a : AgentId} → Makes b k test a → ShowsFacts agents ends f → count_of k (slice_get agents a.0) ≡ count_with test a f
+count_kept : (agents : List Agent) (ends : List End) (f : Facts) {b : Action} {k : Kind} {test : Option Kind → Bool} {a : AgentId} → Makes b k test a → SoundlyShows agents ends f → count_of k (slice_get agents a.0) ≡ count_with test a f
 count_kept agents ends f (makes_client a) h = client_count (slice_get agents a.0) ∙ h.clients a
   where
     client_count : (o : Option Agent) → count_of Client o ≡ kept_clients o
@@ -391,7 +389,7 @@ come_same agents k a = elim (slice_get agents a.0) as (λ q. slice_get agents a.
   | None ↦ λ _. refl
 ] refl
 
-member_new : (agents : List Agent) (ends : List End) (f : Facts) (a : AgentId) (name : List ℕ) → ShowsFacts agents ends f → New f (next f (action.Member a name) (outcome.End (record { 0 = f.ends }))) (Member a) a
+member_new : (agents : List Agent) (ends : List End) (f : Facts) (a : AgentId) (name : List ℕ) → SoundlyShows agents ends f → New f (next f (action.Member a name) (outcome.End (record { 0 = f.ends }))) (Member a) a
 member_new agents ends f a name h = record {
   ends = refl;
   is = ap (λ c. cond c (Some (Member a)) (f.end f.ends).kind) (eqb_same f.ends);
@@ -402,7 +400,7 @@ member_new agents ends f a name h = record {
   nobody = λ l. ap (λ (y : LineNow). is_out y.phase) (unmade_lines f h.sound l);
 }
 
-member_shows : (agents : List Agent) (ends : List End) (f : Facts) (a : AgentId) (name : List ℕ) (refused : Bool) → ShowsFacts agents ends f → outcome.End (record { 0 = length ends }) ≡ member_answer f a refused → Stepped agents (ends ++ new_end a (Member a) ∷ []) f (action.Member a name) refused (outcome.End (record { 0 = length ends }))
+member_shows : (agents : List Agent) (ends : List End) (f : Facts) (a : AgentId) (name : List ℕ) (refused : Bool) → SoundlyShows agents ends f → outcome.End (record { 0 = length ends }) ≡ member_answer f a refused → Stepped agents (ends ++ new_end a (Member a) ∷ []) f (action.Member a name) refused (outcome.End (record { 0 = length ends }))
 member_shows agents ends f a name refused h answer =
     let e : EndId = record { 0 = length ends } in
     let count : f.agents ≡ length agents = h.agents in
@@ -419,7 +417,6 @@ member_shows agents ends f a name refused h answer =
         clients = here.clients;
         workers = here.workers;
         away = here.away;
-        sound = sound_next f (action.Member a name) refused (outcome.End e) h.sound answer;
       };
     }
 

@@ -20,7 +20,8 @@ use Rattle.hub_core.specs.Facts.{LineNow, Facts}
 use Rattle.hub_core.specs.Accepted.{named_notice}
 use Rattle.hub_core.specs.Posting.{phase_of_line, is_inside, next_name, is_posting, hears_notice, notice_answer}
 use Rattle.hub_core.specs.Sound.{no_line, Sound}
-use Rattle.hub_core.specs.Shows.{line_now, ShowsPut, ShowsFacts}
+use Rattle.hub_core.specs.Shows.{line_now, ShowsPut}
+use Rattle.hub_core.proofs.Showing.{SoundlyShows}
 use Rattle.hub_core.specs.Kept.{has_queue, posting_line, posting_at, kept_noticing_line, kept_noticing, notice_outcome, put_end}
 use Rattle.hub_core.proofs.Placing.{Moves}
 use Rattle.hub_core.proofs.Lists.{eqb_same}
@@ -44,7 +45,7 @@ told_other f s l other = ap (λ b. let z : LineNow = record (f.line s.end.0 l) {
 told_elsewhere : (f : Facts) (s : Sender) (d : ℕ) → (d ≡ s.end.0 → ⊥) → told_line f s d ≡ f.line d
 told_elsewhere f s d other = λ i l. record (f.line d l) { noticed = cond (ne_eqb d s.end.0 other i && eqb l s.line.0) true (f.line d l).noticed }
 
-noticed_shown : (agents : List Agent) (ends new : List End) (f : Facts) (s : Sender) (refused : Bool) (n : Acceptance) (x : End) (y : Line) → ShowsFacts agents ends f → slice_get ends s.end.0 ≡ Some x → slice_get x.lines s.line.0 ≡ Some y → f.line s.end.0 s.line.0 ≡ line_now (Some y) → n.epoch ≡ y.epoch → has_queue x y.epoch ≡ true → outcome.Accepted n ≡ notice_answer f s refused → Moves [] InFlight (set ends s.end.0 (put_end x y (named_notice s n))) new → Stepped agents new f (action.Notice s) refused (outcome.Accepted n)
+noticed_shown : (agents : List Agent) (ends new : List End) (f : Facts) (s : Sender) (refused : Bool) (n : Acceptance) (x : End) (y : Line) → SoundlyShows agents ends f → slice_get ends s.end.0 ≡ Some x → slice_get x.lines s.line.0 ≡ Some y → f.line s.end.0 s.line.0 ≡ line_now (Some y) → n.epoch ≡ y.epoch → has_queue x y.epoch ≡ true → outcome.Accepted n ≡ notice_answer f s refused → Moves [] InFlight (set ends s.end.0 (put_end x y (named_notice s n))) new → Stepped agents new f (action.Notice s) refused (outcome.Accepted n)
 noticed_shown agents ends new f s refused n x y h at is line epoch queue fits moves =
     let v : Envelope = named_notice s n in
     changed agents ends new f (action.Notice s) refused (outcome.Accepted n) h fits refl refl refl (put_count ends new s.end.0 (put_end x y v) [] moves) (counts_still agents ends f _ h refl (λ d. refl) (λ d. refl) (λ a d l. refl))

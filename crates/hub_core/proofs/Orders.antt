@@ -58,7 +58,7 @@ end_in_order f e k None s h =
 end_in_order f e k (Some x) s h = queue_in_order (f.line e) (f.clear e) (f.accepted e) (f.taken e ++ f.discarded e) x k h.queues (nat_lt k x.taker) refl
 
 pub shows_in_order : (core : Core) (h : History) → Shows core h → InOrder h
-shows_in_order core h s = record { each = λ e k. end_in_order (facts h) e k (slice_get core.ends e) s.0.sound (s.0.end e) }
+shows_in_order core h s = record { each = λ e k. end_in_order (facts h) e k (slice_get core.ends e) (sound_legal h s.2) (s.0.end e) }
 
 -- ---- one answer
 

@@ -63,12 +63,17 @@ module _ (e n : ℕ) (m : Mailbox OneRight) (is : IsMailbox e n m) where
   of_epoch : (k : ℕ) (q : Queue) → QueueAt m k q → AllByRecursion (λ (v : Envelope). v.epoch ≡ k) (q.got ++ q.held)
   of_epoch k q at = AllByRecursion-weaker (IsNamed e k n) (λ v. v.epoch ≡ k) (λ v named. named.epoch) (q.got ++ q.held) (recursion_from_All (IsNamed e k n) (q.got ++ q.held) (is.each_queue k q at).named)
 
+  pub put_epochs : (line k : ℕ) (q : Queue) → QueueAt m k q → AllByRecursion (λ (v : Envelope). v.epoch ≡ k) (q.put line)
+  put_epochs line k q at = subst (AllByRecursion (λ (v : Envelope). v.epoch ≡ k)) ((is.each_queue k q at).put line) (all_kept (λ (v : Envelope). v.epoch ≡ k) _ (q.got ++ q.held) (of_epoch k q at))
+
+  pub got_epochs : (k : ℕ) (q : Queue) → QueueAt m k q → AllByRecursion (λ (v : Envelope). v.epoch ≡ k) q.got
+  got_epochs k q at = all_front (λ (v : Envelope). v.epoch ≡ k) q.got q.held (of_epoch k q at)
+
   pub put_there : (line k : ℕ) (q : Queue) → QueueAt m k q → in_queue k (put_by m line) ≡ q.put line
-  put_there line k q at = in_joined (λ u. u.put line) m.queues k q at (λ j u there.
-      subst (AllByRecursion (λ (v : Envelope). v.epoch ≡ j)) ((is.each_queue j u there).put line) (all_kept (λ (v : Envelope). v.epoch ≡ j) _ (u.got ++ u.held) (of_epoch j u there)))
+  put_there line k q at = in_joined (λ u. u.put line) m.queues k q at (put_epochs line)
 
   pub got_there_in : (k : ℕ) (q : Queue) → QueueAt m k q → in_queue k (got_from m) ≡ q.got
-  got_there_in k q at = in_joined (λ u. u.got) m.queues k q at (λ j u there. all_front (λ (v : Envelope). v.epoch ≡ j) u.got u.held (of_epoch j u there))
+  got_there_in k q at = in_joined (λ u. u.got) m.queues k q at got_epochs
 
   -- line by line a queue holds what was put there and not taken out
   pub held_there : (k l : ℕ) (q : Queue) (ws : List Envelope) → QueueAt m k q → in_queue k (put_by m l) ≡ in_queue k (by l (got_from m)) ++ ws → by l q.held ≡ ws

@@ -1,7 +1,7 @@
 -- A Sweep as pops at each queue from the taker's to the newest, until none is found.
 use Rattle.std.proofs.Common.{◌≡◌, ℕ, zero, suc, ◌+◌, ◌-◌, ◌<◌, ◌≤◌, Bool, true, ltb, List, [], ◌∷◌, ◌++◌, length, map, refl, sym, ap, subst, ◌∙◌, ⊎_elim, arith, append-nil, append_assoc, Some, None}
-use Rattle.std.specs.List.{filter}
-use Rattle.std.proofs.lemmas.Bool.{cases_eq}
+use Rattle.std.specs.List.{filter, AllByRecursion}
+use Rattle.std.proofs.lemmas.Bool.{cases_eq, lt-ltb}
 use Rattle.std.proofs.lemmas.List.{append_cancel_left}
 use Rattle.std.proofs.lemmas.List.Elements.{filter-append}
 use Rattle.hub_envelope.specs.declared.envelope.Envelope.{Envelope}
@@ -10,22 +10,29 @@ use Rattle.hub_core.specs.Facts.{Facts}
 use Rattle.hub_core.specs.Made.{lines_of}
 use Rattle.hub_core.specs.Sender.{by, in_queue}
 use Rattle.hub_core.specs.Looking.{is_settled, IsAllWaiting}
-use Rattle.hub_core.specs.Sound.{Sound}
+use Rattle.hub_core.specs.Sound.{IsOfEnd, Sound}
 use Rattle.hub_core.specs.QueueMachine.{Queue, pop_of, popped}
 use Rattle.hub_core.specs.Mailbox.{Mailbox, QueueAt}
 use Rattle.hub_core.specs.MailboxSteps.{MailboxEvent, pop, MailboxStep, sweeps, finds_none, taken_out, with_queue, IsSettled, HoldsNothing, MaySweep}
 use Rattle.hub_core.specs.MailboxPairs.{OneRight, sweeping}
-use Rattle.hub_core.proofs.Lists.{slice_get-set_same, slice_get-set_other}
+use Rattle.hub_core.proofs.Lists.{slice_get-set_same, slice_get-set_other, AllByRecursion-weaker}
 use Rattle.hub_core.proofs.Items.{got_within, got_there}
 use Rattle.hub_core.proofs.Waits.{filters}
 use Rattle.hub_core.proofs.Fitting.{SweptWith, each_of}
 use Rattle.hub_core.proofs.MailboxStepping.{step_kept}
 use Rattle.hub_core.proofs.Joins.{queues_from, joined_from, prefixes_pass, nothing_there, nothing_more}
-use Rattle.hub_core.proofs.MailboxOfEnd.{accepted_below}
 use Rattle.hub_core.proofs.MailboxShown.{Runs, view, ShownAt, IsShown, HasRight, Leads, event_grows, queue_shown}
 use Rattle.hub_core.proofs.TakenOut.{first_of, left_same}
 use Rattle.hub_core.proofs.PairQueues.{held_of}
 use Rattle.hub_core.proofs.PairLooks.{settled_there}
+
+-- what was accepted at an end is of queues up to the newest
+accepted_below : (f : Facts) (e : ℕ) → Sound f → AllByRecursion (λ (v : Envelope). ltb v.epoch ((f.end e).newest + 1) ≡ true) (f.accepted e)
+accepted_below f e sound =
+    AllByRecursion-weaker (IsOfEnd e (lines_of ((f.end e).kind)) (f.line e)) (λ v. ltb v.epoch ((f.end e).newest + 1) ≡ true) (λ v is.
+    let low : v.epoch ≤ (f.line e v.line.0).stand = is.epoch in
+    let stand : (f.line e v.line.0).stand ≤ (f.end e).newest = (sound.lines e).stand v.line.0 in
+    lt-ltb v.epoch ((f.end e).newest + 1) (omega arith)) (f.accepted e) (sound.lines e).named
 
 module _ (f : Facts) (e : ℕ) (vs : List Envelope) where
   abbrev lines : ℕ

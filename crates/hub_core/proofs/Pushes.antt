@@ -23,7 +23,8 @@ use Rattle.hub_core.specs.Facts.{EndNow, LineNow, Facts}
 use Rattle.hub_core.specs.Accepted.{named_envelope}
 use Rattle.hub_core.specs.Posting.{phase_of_line, is_inside, poster, poster_of, is_good, listing_of, push_answer_of, push_answer, next_name, is_posting, is_fitting, is_out}
 use Rattle.hub_core.specs.Sound.{no_line, Sound}
-use Rattle.hub_core.specs.Shows.{line_now, ShowsPut, ShowsFacts}
+use Rattle.hub_core.specs.Shows.{line_now, ShowsPut}
+use Rattle.hub_core.proofs.Showing.{SoundlyShows}
 use Rattle.hub_core.specs.Kept.{has_queue, posting_line, posting_at, kept_posting_by, kept_posting_line, kept_posting, push_outcome, put_end, put_found, change_end, changed_ends, moved_ends, accept_ends}
 use Rattle.hub_core.proofs.Frames.{ShownAt, Stepped, changed}
 use Rattle.hub_core.specs.CoreState.{CoreState}
@@ -40,7 +41,7 @@ use Rattle.hub_core.proofs.SoundPlaces.{some_own}
 use Rattle.hub_core.proofs.Calms.{calm_sent}
 
 -- every end, with the message put and its ports in flight
-pushed_shown : (agents : List Agent) (ends new : List End) (f : Facts) (s : Sender) (ports : List EndId) (body : List ℕ) (refused : Bool) (n : Acceptance) (x : End) (y : Line) → ShowsFacts agents ends f → slice_get ends s.end.0 ≡ Some x → slice_get x.lines s.line.0 ≡ Some y → f.line s.end.0 s.line.0 ≡ line_now (Some y) → n.epoch ≡ y.epoch → has_queue x y.epoch ≡ true → outcome.Accepted n ≡ push_answer f s ports body refused → Moves ports InFlight (set ends s.end.0 (put_end x y (named_envelope s n body ports))) new → Stepped agents new f (action.Push s ports body) refused (outcome.Accepted n)
+pushed_shown : (agents : List Agent) (ends new : List End) (f : Facts) (s : Sender) (ports : List EndId) (body : List ℕ) (refused : Bool) (n : Acceptance) (x : End) (y : Line) → SoundlyShows agents ends f → slice_get ends s.end.0 ≡ Some x → slice_get x.lines s.line.0 ≡ Some y → f.line s.end.0 s.line.0 ≡ line_now (Some y) → n.epoch ≡ y.epoch → has_queue x y.epoch ≡ true → outcome.Accepted n ≡ push_answer f s ports body refused → Moves ports InFlight (set ends s.end.0 (put_end x y (named_envelope s n body ports))) new → Stepped agents new f (action.Push s ports body) refused (outcome.Accepted n)
 pushed_shown agents ends new f s ports body refused n x y h at is line epoch queue fits moves =
     let v : Envelope = named_envelope s n body ports in
     let p = pushed_of f s ports body refused n fits in

@@ -20,7 +20,8 @@ use Rattle.hub_core.specs.Sender.{in_queue, count_in_queue}
 use Rattle.hub_core.specs.Place.{names}
 use Rattle.hub_core.specs.Posting.{phase_of_line, is_inside, next_name}
 use Rattle.hub_core.specs.Sound.{Sound}
-use Rattle.hub_core.specs.Shows.{line_now, ShowsPut, ShowsEnd, ShowsFacts}
+use Rattle.hub_core.specs.Shows.{line_now, ShowsPut, ShowsEnd}
+use Rattle.hub_core.proofs.Showing.{SoundlyShows}
 use Rattle.hub_core.specs.Kept.{has_queue, put_end}
 use Rattle.hub_core.proofs.Lists.{eqb_same, each_set, get_or-set_same, get_or-set_other, is_there}
 use Rattle.hub_core.proofs.Waits.{queue_more, queue_other}
@@ -81,7 +82,7 @@ put_shown now line told clear vs ts x y v is epoch queue mine others phases stan
     }
 
 -- every end, with the envelope put and its ports in flight
-pub each_shown : (agents : List Agent) (ends new : List End) (f : Facts) (v : Envelope) (x : End) (y : Line) (told : ℕ → ℕ → LineNow) → ShowsFacts agents ends f → slice_get ends v.end.0 ≡ Some x → slice_get x.lines v.line.0 ≡ Some y → v.epoch ≡ y.epoch → has_queue x y.epoch ≡ true
+pub each_shown : (agents : List Agent) (ends new : List End) (f : Facts) (v : Envelope) (x : End) (y : Line) (told : ℕ → ℕ → LineNow) → SoundlyShows agents ends f → slice_get ends v.end.0 ≡ Some x → slice_get x.lines v.line.0 ≡ Some y → v.epoch ≡ y.epoch → has_queue x y.epoch ≡ true
     → (let z : LineNow = record { phase = y.phase; stand = y.epoch; noticed = v.notice; held_by = y.held_by } in told v.end.0 v.line.0 ≡ z) → ((l : ℕ) → (l ≡ v.line.0 → ⊥) → told v.end.0 l ≡ f.line v.end.0 l) → ((l : ℕ) → (told v.end.0 l).phase ≡ (f.line v.end.0 l).phase) → ((l : ℕ) → (told v.end.0 l).stand ≡ (f.line v.end.0 l).stand) → ((d : ℕ) → (d ≡ v.end.0 → ⊥) → told d ≡ f.line d)
     → ((d : ℕ) → names v.ports d ≡ true → d < f.ends) → Moves v.ports InFlight (set ends v.end.0 (put_end x y v)) new
     → (d : ℕ) → ShowsEnd (record (f.end d) { place = cond (names v.ports d) (Some InFlight) (f.end d).place }) (told d) (f.clear d) (cond (eqb d v.end.0) (f.accepted d ++ v ∷ []) (f.accepted d)) (f.taken d ++ f.discarded d) (slice_get new d)

@@ -20,7 +20,8 @@ use Rattle.hub_core.specs.Place.{names}
 use Rattle.hub_core.specs.Posting.{enter_answer, holder, running, speaker_in, poster_of, poster, hears_notice, may_enter, is_here, is_with, is_at, own_poster_out, own_line_plain, may_leave_agent, is_distinct, is_fitting, listing_of, listing, is_out, phase_of_line, may_post}
 use Rattle.hub_core.specs.Roster.{CastNow, no_roster}
 use Rattle.hub_core.specs.Seen.{seen}
-use Rattle.hub_core.specs.Shows.{ShowsFacts, ShowsRoster}
+use Rattle.hub_core.specs.Shows.{ShowsRoster}
+use Rattle.hub_core.proofs.Showing.{SoundlyShows}
 
 -- the facts that a core keeps
 abbrev pub kept_part : Facts → Facts
@@ -39,7 +40,7 @@ kept_part f = record {
 
 -- the core shows these facts
 pub record Sees (c : CoreState) (f : Facts) : Type 0 where
-  pub shows : ShowsFacts c.agents c.ends f
+  pub shows : SoundlyShows c.agents c.ends f
   pub roster : ShowsRoster c.roster f
 
 pub seen_is : (c : CoreState) (f : Facts) → Sees c f → seen c ≡ kept_part f

@@ -6,6 +6,7 @@ use Rattle.hub_core.specs.declared.kind.Kind.TheVariants.{Member}
 use Rattle.hub_core.specs.Facts.{facts}
 use Rattle.hub_core.specs.KeptRoster.{origin_at}
 use Rattle.hub_core.specs.Shows.{ShowsFacts, StillShows}
+use Rattle.hub_core.proofs.Sounds.{sound_legal}
 use Rattle.hub_core.specs.Unchanged.{SameContent}
 use Rattle.hub_core.proofs.Speakers.{kind_made}
 
@@ -17,10 +18,11 @@ same_shown old new same = λ h shows. (
     agents = ap length same.2.members.origins ∙ shows.1.agents;
     origins = λ a. shows.1.origins a ∙ ap (λ os. origin_at (slice_get os a)) (sym same.2.members.origins);
     groups = λ x a is.
-        let made : x < length old.ends = subst (λ n. x < n) shows.0.ends (kind_made (facts h) x (Member a) shows.0.sound.places is) in
+        let made : x < length old.ends = subst (λ n. x < n) shows.0.ends (kind_made (facts h) x (Member a) (sound_legal h shows.2).places is) in
         shows.1.groups x a is ∙ sym (same.2.members.groups x made);
     seated = λ k. same.2.members.seated k ∙ shows.1.seated k;
     each = shows.1.each;
     cast = shows.1.cast ∙ sym same.2.cast;
   },
+  shows.2,
 )

@@ -24,7 +24,8 @@ use Rattle.hub_core.specs.Made.{lines_of}
 use Rattle.hub_core.specs.Posting.{is_out}
 use Rattle.hub_core.specs.Looking.{any_below, is_away_at, someone_at, is_settled, all_from, all_settled, IsAllWaiting, FitsSweep}
 use Rattle.hub_core.specs.Sound.{Sound}
-use Rattle.hub_core.specs.Shows.{ShowsEnd, ShowsFacts}
+use Rattle.hub_core.specs.Shows.{ShowsEnd}
+use Rattle.hub_core.proofs.Showing.{SoundlyShows}
 use Rattle.hub_core.specs.Kept.{is_anyone_from, joined, sweep_outcome_at, moved_ends, ports_of, changed_ends}
 use Rattle.hub_core.proofs.Lists.{eqb_same, is_there, AllByRecursion-weaker, AllByRecursion-append, below_last, each_changed}
 use Rattle.hub_core.proofs.Waits.{filters, of_queue, all_kept, rises_back, all_of_queue}
@@ -221,7 +222,7 @@ named_ports d [] = refl
 named_ports d (v ∷ vs) = either_any (λ p. eqb p.0 d) v.ports (ports_of vs) ∙ ap (λ b. names v.ports d || b) (named_ports d vs)
 
 -- every end, with what waited discarded and its ports swept
-swept_shown : (agents : List Agent) (ends : List End) (f : Facts) (e : EndId) (refused : Bool) (x : End) → ShowsFacts agents ends f → slice_get ends e.0 ≡ Some x → x.is_closed ≡ true → all_settled f e.0 ≡ true → FitsSweep f e (outcome.Discarded (joined x.queues)) → Stepped agents (moved_ends (ports_of (joined x.queues)) Swept (set ends e.0 (record x { queues = [] }))) f (action.Sweep e) refused (outcome.Discarded (joined x.queues))
+swept_shown : (agents : List Agent) (ends : List End) (f : Facts) (e : EndId) (refused : Bool) (x : End) → SoundlyShows agents ends f → slice_get ends e.0 ≡ Some x → x.is_closed ≡ true → all_settled f e.0 ≡ true → FitsSweep f e (outcome.Discarded (joined x.queues)) → Stepped agents (moved_ends (ports_of (joined x.queues)) Swept (set ends e.0 (record x { queues = [] }))) f (action.Sweep e) refused (outcome.Discarded (joined x.queues))
 swept_shown agents ends f e refused x h at closed settled fits =
     let vs : List Envelope = joined x.queues in
     let y : End = record x { queues = [] } in

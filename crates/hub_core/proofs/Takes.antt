@@ -25,7 +25,8 @@ use Rattle.hub_core.specs.Sender.{in_queue}
 use Rattle.hub_core.specs.Posting.{running_at, holder, is_with}
 use Rattle.hub_core.specs.Taking.{IsNext, Serves, FitsTake, start_answer}
 use Rattle.hub_core.specs.Sound.{IsOfEnd, Sound}
-use Rattle.hub_core.specs.Shows.{ShowsEnd, ShowsFacts}
+use Rattle.hub_core.specs.Shows.{ShowsEnd}
+use Rattle.hub_core.proofs.Showing.{SoundlyShows}
 use Rattle.hub_core.specs.Kept.{advanced_end, with_taker_queue, front_taken, moved_ends, arrived_ends, TakeServes, TakeHeld, TakeAnswers, change_end, changed_ends}
 use Rattle.hub_core.proofs.Lists.{get_or-set_same, get_or-set_other, is_there, each_changed}
 use Rattle.hub_core.proofs.Waits.{all_kept, all_back, of_queue, queue_more, queue_other, next_in_line}
@@ -43,7 +44,7 @@ use Rattle.hub_core.proofs.Calms.{calm_landed}
 -- ---- Start
 
 -- the ends, one of them enabled
-started_shown : (agents : List Agent) (ends : List End) (f : Facts) (e : EndId) (refused : Bool) (x : End) → ShowsFacts agents ends f → slice_get ends e.0 ≡ Some x → outcome.Started ≡ start_answer f e → Stepped agents (set ends e.0 (record x { is_enabled = true })) f (action.Start e) refused outcome.Started
+started_shown : (agents : List Agent) (ends : List End) (f : Facts) (e : EndId) (refused : Bool) (x : End) → SoundlyShows agents ends f → slice_get ends e.0 ≡ Some x → outcome.Started ≡ start_answer f e → Stepped agents (set ends e.0 (record x { is_enabled = true })) f (action.Start e) refused outcome.Started
 started_shown agents ends f e refused x h at answer =
     let shown_at : ShownAt f e.0 (Some x) = subst (ShownAt f e.0) at (h.end e.0) in
     changed agents ends _ f (action.Start e) refused outcome.Started h answer refl refl refl (length-set ends e.0 (record x { is_enabled = true })) (counts_still agents ends f _ h refl (λ d. refl) (λ d. refl) (λ a d l. refl))
@@ -118,7 +119,7 @@ taken_end f e x v rest s none h front =
     }
 
 -- every end, with the envelope taken and its ports arrived
-got_shown : (agents : List Agent) (ends new : List End) (f : Facts) (e : EndId) (refused : Bool) (x : End) (a : AgentId) (v : Envelope) (rest : List Envelope) → ShowsFacts agents ends f → slice_get ends e.0 ≡ Some x → (f.end e.0).place ≡ Some (With a) → (f.end e.0).closed ≡ false → FitsTake f e (outcome.Got v) → get_or x.queues 0 [] ≡ v ∷ rest → IsNext f e v → new ≡ moved_ends v.ports (Arrived a) (set ends e.0 (with_taker_queue x rest)) → Stepped agents new f (action.Take e) refused (outcome.Got v)
+got_shown : (agents : List Agent) (ends new : List End) (f : Facts) (e : EndId) (refused : Bool) (x : End) (a : AgentId) (v : Envelope) (rest : List Envelope) → SoundlyShows agents ends f → slice_get ends e.0 ≡ Some x → (f.end e.0).place ≡ Some (With a) → (f.end e.0).closed ≡ false → FitsTake f e (outcome.Got v) → get_or x.queues 0 [] ≡ v ∷ rest → IsNext f e v → new ≡ moved_ends v.ports (Arrived a) (set ends e.0 (with_taker_queue x rest)) → Stepped agents new f (action.Take e) refused (outcome.Got v)
 got_shown agents ends new f e refused x a v rest h at has opened fits front n leaves =
     let base : List End = set ends e.0 (with_taker_queue x rest) in
     let moves : Moves v.ports (Arrived a) base new = moves_to v.ports (Arrived a) base new leaves in

@@ -18,11 +18,14 @@ use Rattle.hub_core.specs.declared.step.Step.{Step}
 use Rattle.hub_core.specs.declared.step.Action.{Action}
 use Rattle.hub_core.specs.declared.outcome.Outcome.{Outcome}
 use Rattle.hub_core.specs.Facts.{Facts, facts}
-use Rattle.hub_core.specs.Fits.{Answers}
+use Rattle.hub_core.specs.Fits.{Answers, Fits}
 use Rattle.hub_core.specs.History.{History}
 use Rattle.hub_core.specs.Laws.{InOrder}
 use Rattle.hub_core.specs.Memory.{takes_memory}
 use Rattle.hub_core.specs.Shows.{Shows, ShowsFacts, ShowsRoster, FitsAndShows, StillShows}
+use Rattle.hub_core.proofs.Showing.{SoundlyShows, soundly, plainly}
+use Rattle.hub_core.proofs.Sounds.{sound_legal}
+use Rattle.hub_core.proofs.Legals.{legal_one}
 use Rattle.hub_core.specs.Unchanged.{changes_nothing, SameContent}
 use Rattle.hub_core.proofs.Broadcasts.{part_answered, part_shown}
 use Rattle.hub_core.proofs.Makes.{member_answered, member_shown}
@@ -37,7 +40,7 @@ use Rattle.hub_core.proofs.Stills.{same_shown}
 -- After all that the old core shows the step got an answer that fits, and the new core shows what is so then; where
 -- the answer says that nothing changed all is as before.
 pub record Took (a : Action) (refused : Bool) (old new : CoreState) (o : Outcome) : Type 0 where
-  pub shown : (f : Facts) → ShowsFacts old.agents old.ends f → ShowsRoster old.roster f → Stepped new.agents new.ends f a refused o × ShowsRoster new.roster (next f a o)
+  pub shown : (f : Facts) → SoundlyShows old.agents old.ends f → ShowsRoster old.roster f → Stepped new.agents new.ends f a refused o × ShowsRoster new.roster (next f a o)
   pub same : changes_nothing o a ≡ true → SameContent old new
 
 pub same_content : (old new : CoreState) → new ≡ old → SameContent old new
@@ -63,7 +66,7 @@ took_where a refused old new o leaves fits changes = record {
       let h : Sees old f = record { shows = s; roster = w } in
       let fit : Answers f a refused o = fits f h in
       subst (λ (c : CoreState). Stepped c.agents c.ends f a refused o × ShowsRoster c.roster (next f a o)) (sym leaves) (elim (effect o a) [
-        | inl quiet ↦ subst (λ (c : CoreState). Stepped c.agents c.ends f a refused o × ShowsRoster c.roster (next f a o)) (sym (quiet.1 old)) (record { fits = fit; shows = subst (ShowsFacts old.agents old.ends) (sym (quiet.0 f)) s }, subst (ShowsRoster old.roster) (sym (quiet.0 f)) w)
+        | inl quiet ↦ subst (λ (c : CoreState). Stepped c.agents c.ends f a refused o × ShowsRoster c.roster (next f a o)) (sym (quiet.1 old)) (record { fits = fit; shows = subst (ShowsFacts old.agents old.ends) (sym (quiet.0 f)) (plainly s) }, subst (ShowsRoster old.roster) (sym (quiet.0 f)) w)
         | inr change ↦ changes f h fit change
       ]);
   same = λ nothing. same_content old new (leaves ∙ (nothing_changes o a nothing).1 old);
@@ -83,7 +86,7 @@ stayed a refused old new o leaves roster quiet fits =
     let same : new ≡ old = leaves ∙ ap (λ r. let c : CoreState = record old { roster = r } in c) roster in
     record {
       shown = λ f s w. subst (λ (c : CoreState). Stepped c.agents c.ends f a refused o × ShowsRoster c.roster (next f a o)) (sym same) (
-        record { fits = fits f (record { shows = s; roster = w }); shows = subst (ShowsFacts old.agents old.ends) (sym (quiet f)) s },
+        record { fits = fits f (record { shows = s; roster = w }); shows = subst (ShowsFacts old.agents old.ends) (sym (quiet f)) (plainly s) },
         subst (ShowsRoster old.roster) (sym (quiet f)) w,
       );
       same = λ nothing. same_content old new same;
@@ -120,11 +123,10 @@ ok o = Ok o
 
 fits_of : (step : Step) (a : Action) (old new : CoreState) (o : Outcome) → step.action ≡ a → Took a step.memory_refused old new o → FitsAndShows old new step o
 fits_of step a old new o is t = λ h s.
-    let at = t.shown (facts h) s.0 s.1 in
-    let longer : facts (h ++ (step, o) ∷ []) ≡ next (facts h) a o = facts_next h (step, o) ∙ ap (λ b. next (facts h) b o) is in (
-      subst (λ b. Answers (facts h) b step.memory_refused o) (sym is) at.0.fits,
-      (subst (ShowsFacts new.agents new.ends) (sym longer) at.0.shows, subst (ShowsRoster new.roster) (sym longer) at.1),
-    )
+    let at = t.shown (facts h) (soundly (sound_legal h s.2) s.0) s.1 in
+    let longer : facts (h ++ (step, o) ∷ []) ≡ next (facts h) a o = facts_next h (step, o) ∙ ap (λ b. next (facts h) b o) is in
+    let fits : Fits h (step, o) = subst (λ b. Answers (facts h) b step.memory_refused o) (sym is) at.0.fits in
+    (fits, (subst (ShowsFacts new.agents new.ends) (sym longer) at.0.shows, subst (ShowsRoster new.roster) (sym longer) at.1, legal_one h (step, o) s.2 fits))
 
 same_of : (step : Step) (a : Action) (old new : CoreState) (o : Outcome) → step.action ≡ a → Took a step.memory_refused old new o → changes_nothing o step.action ≡ true → SameContent old new
 same_of step a old new o is t nothing = t.same (subst (λ b. changes_nothing o b ≡ true) is nothing)

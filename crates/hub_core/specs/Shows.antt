@@ -19,7 +19,8 @@ use Rattle.hub_core.specs.History.{History}
 use Rattle.hub_core.specs.Facts.{AgentNow, EndNow, LineNow, Facts, facts}
 use Rattle.hub_core.specs.Fits.{Fits}
 use Rattle.hub_core.specs.Sender.{in_queue, count_in_queue}
-use Rattle.hub_core.specs.Sound.{no_end, no_line, total, Sound}
+use Rattle.hub_core.specs.Legal.{Legal}
+use Rattle.hub_core.specs.Sound.{no_end, no_line, total}
 use Rattle.hub_core.specs.Making.{is_client, is_worker}
 use Rattle.hub_core.specs.Ending.{is_away_of}
 use Rattle.hub_core.specs.Posting.{is_with}
@@ -98,8 +99,8 @@ count_away a f = total (λ x. total (λ l. if is_away_of f a x l then 1 else 0) 
 abbrev pub count_with : (Option Kind → Bool) → AgentId → Facts → ℕ
 count_with test a f = total (λ x. if test (f.end x).kind && is_with a (f.end x).place then 1 else 0) f.ends
 
--- agents and ends are those of the facts, which are sound; of each agent it is kept how many queues it has, and how many
--- of its posters are away
+-- agents and ends are those of the facts; of each agent it is kept how many queues it has, and how many of its posters
+-- are away
 pub record ShowsFacts (kept_agents : List Agent) (kept_ends : List End) (f : Facts) : Type 0 where
   pub agents : f.agents ≡ length kept_agents
   pub agent : (a : ℕ) → f.agent a ≡ agent_now (slice_get kept_agents a)
@@ -108,7 +109,6 @@ pub record ShowsFacts (kept_agents : List Agent) (kept_ends : List End) (f : Fac
   pub clients : (a : AgentId) → kept_clients (slice_get kept_agents a.0) ≡ count_with is_client a f
   pub workers : (a : AgentId) → kept_workers (slice_get kept_agents a.0) ≡ count_with is_worker a f
   pub away : (a : AgentId) → kept_away (slice_get kept_agents a.0) ≡ count_away a f
-  pub sound : Sound f
 
 -- a member of the roster is a broadcast channel, with an origin and a name
 pub record IsMemberNow (f : Facts) (y : EndId) : Type 0 where
@@ -127,9 +127,9 @@ pub record ShowsRoster (kept : Roster) (f : Facts) : Type 0 where
   pub each : AllByRecursion (IsMemberNow f) f.roster.members
   pub cast : f.roster.cast ≡ kept.cast
 
--- the core's agents, ends and roster are those of the history
+-- the core's agents, ends and roster are those of the history, which is legal
 abbrev pub Shows : Core → History → Type 0
-Shows core h = ShowsFacts core.agents core.ends (facts h) × ShowsRoster core.roster (facts h)
+Shows core h = ShowsFacts core.agents core.ends (facts h) × ShowsRoster core.roster (facts h) × Legal h
 
 -- After every history that the old core shows the outcome of the step fits, and the new core shows the longer history.
 abbrev pub FitsAndShows : Core → Core → Step → Outcome → Type 0

@@ -1,5 +1,5 @@
 -- Each pair of a history is events of the mailbox.
-use Rattle.hub_core.proofs.MailboxPairs.{pairs_are_events}
+use Rattle.hub_core.proofs.Mailboxes.{pairs_are_events}
 use Rattle.hub_core.proofs.laws.pair_laws.Goals as goal
 
 pub returns : goal.returns

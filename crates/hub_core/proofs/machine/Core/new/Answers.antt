@@ -4,4 +4,4 @@ use Rattle.hub_core.proofs.Casts.{roster_first}
 use Rattle.hub_core.proofs.machine.Core.new.Goals as goal
 
 pub returns : goal.returns
-returns c = (shows_first _ _ c.new-agents.ensures.items c.new-ends.ensures.items, roster_first _ c.new-roster.ensures)
+returns c = (shows_first _ _ c.new-agents.ensures.items c.new-ends.ensures.items, roster_first _ c.new-roster.ensures, tt)
