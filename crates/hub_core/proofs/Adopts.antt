@@ -2,35 +2,18 @@
 use Rattle.hub_core.proofs.Changing.{found_end, ShownAfter}
 use Rattle.hub_core.proofs.Nexts.{Change, adopted}
 use Rattle.hub_core.proofs.Seeing.{Sees, released_seen}
-use Rattle.std.proofs.Common.{◌≡◌, ℕ, zero, suc, ◌+◌, Bool, false, cond, List, [], ◌∷◌, ◌++◌, length, length-append, get_or, set, Some, None, refl, sym, ap, subst, ◌∙◌, arith, ◌<◌, rules}
-use Rattle.std.specs.List.{slice_get}
-use Rattle.std.proofs.lemmas.Bool.{ne_eqb}
-use Rattle.std.proofs.lemmas.List.{length-set}
-use Rattle.hub_envelope.specs.declared.ids.AgentId.{AgentId}
-use Rattle.hub_envelope.specs.declared.ids.EndId.{EndId}
-use Rattle.hub_envelope.specs.declared.envelope.Envelope.{Envelope}
-use Rattle.hub_core.specs.declared.agent.Agent.{Agent}
-use Rattle.hub_core.specs.declared.end.End.{End}
-use Rattle.hub_core.specs.declared.end.Place.TheVariants.{With, Arrived}
+use Rattle.std.proofs.Common.{◌≡◌, ℕ, zero, suc, ◌+◌, Bool, false, cond, List, [], ◌∷◌, ◌++◌, length, length-append, get_or, set, Some, None, refl, sym, ap, subst, ◌∙◌, arith, ◌<◌, rules, ne_eqb, length-set}
+use Rattle.hub_core.proofs.Words.{slice_get, AgentId, EndId, Envelope, Agent, End, With, Arrived, Outcome, EndNow, LineNow, Facts, adopt_answer, is_released, SoundPlaces, end_now, ShowsEnd, adopted_end, changed_ends, change_agent, adopting, adopted_agents, in_queue, is_with, CoreState}
 use Rattle.hub_core.specs.declared.step.Action.TheVariants as action
-use Rattle.hub_core.specs.declared.outcome.Outcome.{Outcome}
 use Rattle.hub_core.specs.declared.outcome.Outcome.TheVariants as outcome
-use Rattle.hub_core.specs.Facts.{EndNow, LineNow, Facts}
-use Rattle.hub_core.specs.Moving.{adopt_answer, is_released}
-use Rattle.hub_core.specs.Sound.{SoundPlaces}
-use Rattle.hub_core.specs.Shows.{end_now, ShowsEnd}
 use Rattle.hub_core.proofs.Showing.{SoundlyShows}
-use Rattle.hub_core.specs.Kept.{adopted_end, changed_ends, change_agent, adopting, adopted_agents}
 use Rattle.hub_core.proofs.Lists.{eqb_same}
 use Rattle.hub_core.proofs.Frames.{ShownAt, Stepped, recounted, end_changed}
-use Rattle.hub_core.specs.Sender.{in_queue}
 use Rattle.hub_core.proofs.Counts.{Came, counted_came, counts_of, change_length, adopted_now}
 use Rattle.hub_core.proofs.Speakers.{running_made, placed_made}
 use Rattle.hub_core.proofs.Fitting.{adopted_of}
 use Rattle.hub_core.proofs.Nexts.{next}
-use Rattle.hub_core.specs.Posting.{is_with}
 use Rattle.hub_core.proofs.Calms.{came_away}
-use Rattle.hub_core.specs.CoreState.{CoreState}
 
 -- ---- an end with a new queue
 

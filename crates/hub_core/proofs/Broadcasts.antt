@@ -1,30 +1,11 @@
 -- What the steps of broadcast channels are answered, and the agents and ends that they leave, are what the facts say.
 use Rattle.hub_core.proofs.Nexts.{Change, cast_begun}
 use Rattle.hub_core.proofs.Changing.{ShownWith}
-use Rattle.std.proofs.Common.{◌≡◌, ℕ, Bool, true, false, eqb, List, [], ◌∷◌, Option, refl, sym, ap, ◌∙◌, length, rules}
-use Rattle.std.proofs.lemmas.Bool.Decides.{nat_tests}
-use Rattle.std.specs.Prelude.{◌&&◌, not, is_some}
-use Rattle.hub_envelope.specs.declared.ids.AgentId.{AgentId}
-use Rattle.hub_envelope.specs.declared.ids.EndId.{EndId}
-use Rattle.hub_core.specs.declared.agent.Agent.{Agent}
-use Rattle.hub_core.specs.declared.end.End.{End}
-use Rattle.hub_core.specs.declared.roster.Roster.{Roster}
+use Rattle.std.proofs.Common.{◌≡◌, ℕ, Bool, true, false, eqb, List, [], ◌∷◌, Option, refl, sym, ap, ◌∙◌, length, rules, ◌&&◌, not}
+use Rattle.hub_core.proofs.Words.{nat_tests, is_some, AgentId, EndId, Agent, End, Roster, Outcome, Facts, maker_of, holder, is_empty, RosterNow, has_end, cast_answer, destinations, is_casting, part_answer, ShowsRoster, ShowsFacts, CoreState, Members, seen, kept_cast_answer, part_outcome, group_of, is_seated_in, kept_destinations}
 use Rattle.hub_core.specs.declared.step.Action.TheVariants as action
-use Rattle.hub_core.specs.declared.outcome.Outcome.{Outcome}
 use Rattle.hub_core.specs.declared.outcome.Outcome.TheVariants as outcome
-use Rattle.hub_core.specs.Facts.{Facts}
-use Rattle.hub_core.specs.Made.{maker_of}
-use Rattle.hub_core.specs.Posting.{holder, is_empty}
-use Rattle.hub_core.specs.Roster.{RosterNow, has_end}
-use Rattle.hub_core.specs.Casting.{cast_answer, destinations, is_casting, part_answer}
-use Rattle.hub_core.specs.Shows.{ShowsRoster}
-use Rattle.hub_core.specs.Shows.{ShowsFacts}
 use Rattle.hub_core.proofs.Showing.{SoundlyShows}
-use Rattle.hub_core.specs.CoreState.{CoreState}
-use Rattle.hub_core.specs.declared.members.Members.{Members}
-use Rattle.hub_core.specs.Seen.{seen}
-use Rattle.hub_core.specs.KeptCasting.{kept_cast_answer, part_outcome}
-use Rattle.hub_core.specs.KeptRoster.{group_of, is_seated_in, kept_destinations}
 use Rattle.hub_core.proofs.Casts.{destinations_kept, seated_kept, roster_cast}
 use Rattle.hub_core.proofs.Frames.{Stepped}
 use Rattle.hub_core.proofs.Seeing.{Sees, seen_is}

@@ -1,27 +1,10 @@
 -- Who is away: what steps that move ends and lines make of it.
-use Rattle.std.proofs.Common.{◌≡◌, ℕ, ◌+◌, ◌<◌, Bool, true, false, cond, eqb, Option, Some, None, refl, sym, ap, subst, ◌∙◌, inl, inr, arith, rules}
-use Rattle.std.specs.Prelude.{◌&&◌, ◌⊎◌, not}
-use Rattle.std.proofs.lemmas.Bool.{false≢true, eqb-true, ne_eqb}
-use Rattle.hub_envelope.specs.declared.ids.AgentId.{AgentId}
-use Rattle.hub_envelope.specs.declared.ids.EndId.{EndId}
-use Rattle.hub_core.specs.declared.kind.Kind.{Kind}
-use Rattle.hub_core.specs.declared.kind.Kind.TheVariants.{Port, Client, Worker, Member}
-use Rattle.hub_core.specs.declared.end.Place.{Place}
-use Rattle.hub_core.specs.declared.end.Place.TheVariants.{With, InFlight}
-use Rattle.hub_core.specs.declared.sender.Sender.{Sender}
-use Rattle.hub_core.specs.Facts.{LineNow, Facts}
-use Rattle.hub_core.specs.Made.{peer_of, is_queue, lines_of}
-use Rattle.hub_core.specs.Lines.{on_line}
-use Rattle.hub_core.specs.Posting.{is_out, is_with, own_poster_out}
-use Rattle.hub_core.specs.Moving.{is_released}
-use Rattle.hub_core.specs.Ending.{is_holder, has_poster_of, has_poster, is_away_of}
-use Rattle.hub_core.specs.Sound.{SoundPlaces}
-use Rattle.hub_core.specs.Shows.{count_away}
+use Rattle.std.proofs.Common.{◌≡◌, ℕ, ◌+◌, ◌<◌, Bool, true, false, cond, eqb, Option, Some, None, refl, sym, ap, subst, ◌∙◌, inl, inr, arith, rules, ◌&&◌, ◌⊎◌, not, ne_eqb}
+use Rattle.hub_core.proofs.Words.{false≢true, eqb-true, AgentId, EndId, Kind, Port, Client, Worker, Member, Place, With, InFlight, Sender, LineNow, Facts, peer_of, is_queue, lines_of, on_line, is_out, is_with, own_poster_out, is_released, is_holder, has_poster_of, has_poster, is_away_of, SoundPlaces, count_away, Phase}
 use Rattle.hub_core.proofs.Lists.{eqb_same}
 use Rattle.hub_core.proofs.Totals.{bit}
 use Rattle.hub_core.proofs.Counts.{IsCalmAt, away_same, away_change}
 use Rattle.hub_core.proofs.Speakers.{no_port, port_of, hears_of, no_member}
-use Rattle.hub_core.specs.declared.line.Phase.{Phase}
 use Rattle.hub_core.proofs.SoundLines.{on_place}
 
 -- a line of a port counts for the agent that has the port, where its poster is away

@@ -1,39 +1,15 @@
 -- Broadcast channels: what their steps are answered, and the roster that they and the other steps leave.
-use Rattle.std.proofs.Common.{◌≡◌, ℕ, ◌+◌, ◌<◌, ◌≤◌, Bool, true, false, cond, eqb, List, [], ◌∷◌, ◌++◌, length, map, Option, Some, None, refl, sym, ap, subst, ◌∙◌, arith, rules, inl, inr}
-use Rattle.std.specs.Prelude.{◌&&◌, ◌==◌, not, nat_lt}
-use Rattle.std.specs.List.{AllByRecursion, filter, slice_get}
-use Rattle.std.specs.BTreeMap.{get}
-use Rattle.std.specs.BTreeSet.{insert_key}
-use Rattle.std.specs.Ordering.{nat_cmp}
-use Rattle.std.proofs.lemmas.Bool.{false≢true, ne_eqb, eqb-true, eqb-false, ltb-true, ltb-false}
-use Rattle.std.proofs.Common.{append-nil}
-use Rattle.std.proofs.lemmas.Bool.Decides.{nat_tests}
-use Rattle.hub_envelope.specs.declared.ids.AgentId.{AgentId}
-use Rattle.hub_envelope.specs.declared.ids.EndId.{EndId}
-use Rattle.hub_core.specs.declared.group.Group.{Group}
-use Rattle.hub_core.specs.declared.kind.Kind.{Kind}
-use Rattle.hub_core.specs.declared.kind.Kind.TheVariants.{Port, Client, Worker, Member}
-use Rattle.hub_core.specs.declared.roster.Roster.{Roster}
-use Rattle.hub_core.specs.declared.sender.Sender.{Sender}
-use Rattle.hub_core.specs.declared.step.Action.{Action}
+use Rattle.std.proofs.Common.{◌≡◌, ℕ, ◌+◌, ◌<◌, ◌≤◌, Bool, true, false, cond, eqb, List, [], ◌∷◌, ◌++◌, length, map, Option, Some, None, refl, sym, ap, subst, ◌∙◌, arith, rules, inl, inr, ◌&&◌, not, nat_lt, ne_eqb, ltb-true, ltb-false, append-nil, length-append}
+use Rattle.hub_core.proofs.Words.{◌==◌, AllByRecursion, filter, slice_get, get, insert_key, nat_cmp, false≢true, eqb-true, eqb-false, nat_tests, AgentId, EndId, Group, Kind, Port, Client, Worker, Member, Roster, Sender, Action, Outcome, Facts, facts, Answers, CastNow, RosterNow, is_same_group, is_of_group, has_end, group_named, cast_to}
+use Rattle.hub_core.proofs.Words.{cast_after, Sound, SoundPlaces, IsMemberNow, ShowsRoster, destinations, destinations_of, is_casting, part_answer, IsFirst, JoinsGroup, MemberLeaves, PartLeaves, SameRoster, group_of, is_in, is_seated_in, kept_destinations, numbers_of, numbers_with, origin_at, others_of, parted, seated_without}
+use Rattle.hub_core.proofs.Words.{slice_get_past, is_client, is_worker, agent_answer}
 use Rattle.hub_core.specs.declared.step.Action.TheVariants as action
-use Rattle.hub_core.specs.declared.outcome.Outcome.{Outcome}
 use Rattle.hub_core.specs.declared.outcome.Outcome.TheVariants as outcome
-use Rattle.hub_core.specs.Facts.{Facts, facts}
-use Rattle.hub_core.specs.Fits.{Answers}
-use Rattle.hub_core.specs.Roster.{CastNow, RosterNow, is_same_group, is_of_group, has_end, group_named, cast_to, cast_after}
-use Rattle.hub_core.specs.Sound.{Sound, SoundPlaces}
-use Rattle.hub_core.specs.Shows.{IsMemberNow, ShowsRoster}
-use Rattle.hub_core.specs.Casting.{destinations, destinations_of, is_casting, part_answer}
-use Rattle.hub_core.specs.KeptRoster.{IsFirst, JoinsGroup, MemberLeaves, PartLeaves, SameRoster, group_of, is_in, is_seated_in, kept_destinations, numbers_of, numbers_with, origin_at, others_of, parted, seated_without}
 use Rattle.hub_core.proofs.Lists.{eqb_same, slice_get-append_front, slice_get-append_back, next_up}
-use Rattle.std.proofs.lemmas.Option.{slice_get_past}
-use Rattle.std.proofs.Common.{length-append}
 use Rattle.hub_core.proofs.Seats.{group_same, group_flips, insert_last, numbers_more, numbers_below, numbers_same, numbers_less, is_in_with, others_with, all_more, all_without, all_at}
 use Rattle.hub_core.proofs.Fitting.{new_agent, new_ends, queue_made_of, member_made_of}
 use Rattle.hub_core.proofs.Nexts.{next, effect, Change, agent_made, channel_made, let_in, found_moved, found_closed, put, left, started, got, hopped, went_on, cleared, adopted, notice_put, end_closed, end_swept, client_made, worker_made, line_got, line_back, handed, agent_ordered, agent_ended, member_joined, cast_begun, member_parted}
 use Rattle.hub_core.proofs.Speakers.{kind_made, old_end, old_one}
-use Rattle.hub_core.specs.Making.{is_client, is_worker, agent_answer}
 
 -- ---- the first roster
 

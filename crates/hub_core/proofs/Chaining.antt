@@ -1,12 +1,6 @@
 -- What was taken out of the queues of a mailbox is a prefix of what was put there.
 use Rattle.std.proofs.Common.{◌≡◌, ◌⊎◌, ℕ, zero, suc, ◌<◌, List, [], ◌∷◌, ◌++◌, Some, None, inl, inr, ⊎_elim, refl, sym, ap, ◌∙◌, arith, append_assoc, append-nil}
-use Rattle.std.specs.Prelude.{slice_get, flat_map}
-use Rattle.std.proofs.lemmas.Bool.{cases_lt}
-use Rattle.std.proofs.lemmas.List.Elements.{filter-append}
-use Rattle.hub_envelope.specs.declared.envelope.Envelope.{Envelope}
-use Rattle.hub_core.specs.Sender.{by, Prefix}
-use Rattle.hub_core.specs.QueueMachine.{Queue, popped}
-use Rattle.hub_core.specs.Mailbox.{Mailbox, QueueAt, IsNewest, put_by, got_from, IsMailbox}
+use Rattle.hub_core.proofs.Words.{slice_get, flat_map, cases_lt, filter-append, Envelope, by, Prefix, Queue, popped, Mailbox, QueueAt, IsNewest, put_by, got_from, IsMailbox}
 use Rattle.hub_core.proofs.Items.{got_within, got_same_at}
 use Rattle.hub_core.proofs.Queueing.{none_held}
 

@@ -1,21 +1,8 @@
 -- What a step changes of what is kept, where it changes something.
 use Rattle.hub_core.proofs.Nexts.{next}
 use Rattle.std.proofs.Common.{◌≡◌, ℕ, ◌<◌, Bool, List, length, set, Some, None, refl, ap, subst, ◌∙◌, arith}
-use Rattle.std.specs.List.{slice_get}
-use Rattle.hub_core.specs.declared.agent.Agent.{Agent}
-use Rattle.hub_core.specs.declared.end.End.{End}
-use Rattle.hub_core.specs.declared.line.Line.{Line}
-use Rattle.hub_core.specs.declared.outcome.Outcome.{Outcome}
-use Rattle.hub_core.specs.declared.sender.Sender.{Sender}
-use Rattle.hub_core.specs.declared.step.Action.{Action}
-use Rattle.hub_core.specs.CoreState.{CoreState}
-use Rattle.hub_core.specs.CoreSteps.{core_after}
-use Rattle.hub_core.specs.Facts.{EndNow, Facts}
-use Rattle.hub_core.specs.Kept.{changed_ends, changed_lines, change_line}
-use Rattle.hub_core.specs.Made.{lines_of}
-use Rattle.hub_core.specs.Shows.{ShowsRoster}
+use Rattle.hub_core.proofs.Words.{slice_get, Agent, End, Line, Outcome, Sender, Action, CoreState, core_after, EndNow, Facts, changed_ends, changed_lines, change_line, lines_of, ShowsRoster, no_end}
 use Rattle.hub_core.proofs.Showing.{SoundlyShows}
-use Rattle.hub_core.specs.Sound.{no_end}
 use Rattle.hub_core.proofs.Frames.{ShownAt, Stepped}
 use Rattle.hub_core.proofs.Lists.{is_there}
 

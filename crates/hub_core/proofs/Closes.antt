@@ -2,28 +2,13 @@
 use Rattle.hub_core.proofs.Changing.{found_end, ShownAfter}
 use Rattle.hub_core.proofs.Nexts.{Change, end_closed}
 use Rattle.hub_core.proofs.Seeing.{Sees}
-use Rattle.std.proofs.Common.{◌≡◌, ℕ, Bool, true, cond, List, ◌++◌, set, Some, refl, sym, ap, subst, ◌∙◌}
-use Rattle.std.specs.List.{slice_get}
-use Rattle.std.proofs.lemmas.Bool.{false≢true, ne_eqb}
-use Rattle.std.proofs.lemmas.List.{length-set}
-use Rattle.hub_envelope.specs.declared.ids.EndId.{EndId}
-use Rattle.hub_envelope.specs.declared.envelope.Envelope.{Envelope}
-use Rattle.hub_core.specs.declared.agent.Agent.{Agent}
-use Rattle.hub_core.specs.declared.end.End.{End}
-use Rattle.hub_core.specs.declared.end.Place.TheVariants.{Gone}
+use Rattle.std.proofs.Common.{◌≡◌, ℕ, Bool, true, cond, List, ◌++◌, set, Some, refl, sym, ap, subst, ◌∙◌, ne_eqb, length-set}
+use Rattle.hub_core.proofs.Words.{slice_get, false≢true, EndId, Envelope, Agent, End, Gone, EndNow, LineNow, Facts, is_here, is_with, close_answer, is_released, SoundPlaces, end_now, ShowsEnd, closed_end, changed_ends, gone, went, CoreState, Outcome}
 use Rattle.hub_core.specs.declared.step.Action.TheVariants as action
 use Rattle.hub_core.specs.declared.outcome.Outcome.TheVariants as outcome
-use Rattle.hub_core.specs.Facts.{EndNow, LineNow, Facts}
-use Rattle.hub_core.specs.Posting.{is_here, is_with}
-use Rattle.hub_core.specs.Moving.{close_answer, is_released}
-use Rattle.hub_core.specs.Sound.{SoundPlaces}
-use Rattle.hub_core.specs.Shows.{end_now, ShowsEnd}
 use Rattle.hub_core.proofs.Showing.{SoundlyShows}
-use Rattle.hub_core.specs.Kept.{closed_end, changed_ends, gone, went}
 use Rattle.hub_core.proofs.Lists.{eqb_same}
 use Rattle.hub_core.proofs.Frames.{ShownAt, Stepped, recounted, end_changed}
-use Rattle.hub_core.specs.CoreState.{CoreState}
-use Rattle.hub_core.specs.declared.outcome.Outcome.{Outcome}
 use Rattle.hub_core.proofs.Counts.{Went, gone_length, gone_now, counted_went, counts_of}
 use Rattle.hub_core.proofs.Nexts.{next}
 use Rattle.hub_core.proofs.Speakers.{placed_made}

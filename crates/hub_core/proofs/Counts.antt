@@ -1,29 +1,10 @@
 -- How many queues of clients and workers an agent has: what the core counts is what the facts say.
-use Rattle.std.proofs.Common.{◌≡◌, ℕ, zero, suc, ◌+◌, ◌-◌, ◌*◌, ◌<◌, ◌≤◌, Bool, true, false, cond, eqb, List, length, Option, Some, None, refl, sym, ap, subst, ◌∙◌, arith, length-set, nat_lt, lt-ltb}
-use Rattle.std.specs.Prelude.{◌&&◌, ◌||◌, not, is_some, option_map}
-use Rattle.std.specs.List.{slice_get}
-use Rattle.std.proofs.lemmas.Bool.{false≢true, eqb-true, eqb-false, ne_eqb}
-use Rattle.hub_envelope.specs.declared.ids.AgentId.{AgentId}
-use Rattle.hub_core.specs.declared.agent.Agent.{Agent}
-use Rattle.hub_core.specs.declared.kind.Kind.{Kind}
-use Rattle.hub_core.specs.declared.kind.Kind.TheVariants.{Port, Client, Worker, Member}
-use Rattle.hub_core.specs.declared.end.End.{End}
-use Rattle.hub_core.specs.declared.end.Place.{Place}
-use Rattle.hub_core.specs.declared.end.Place.TheVariants.{With, InFlight, Arrived, Swept, Gone}
-use Rattle.hub_core.specs.Facts.{EndNow, Facts}
-use Rattle.hub_core.specs.Made.{peer_of, lines_of}
-use Rattle.hub_core.specs.Making.{is_client, is_worker, has_one}
-use Rattle.hub_core.specs.Looking.{any_below}
-use Rattle.hub_core.specs.Posting.{is_with, is_out}
-use Rattle.hub_core.specs.Sound.{total}
-use Rattle.hub_core.specs.Shows.{kept_clients, kept_workers, count_with, agent_now, count_away, kept_away}
+use Rattle.std.proofs.Common.{◌≡◌, ℕ, zero, suc, ◌+◌, ◌-◌, ◌*◌, ◌<◌, ◌≤◌, Bool, true, false, cond, eqb, List, length, Option, Some, None, refl, sym, ap, subst, ◌∙◌, arith, length-set, nat_lt, lt-ltb, ◌&&◌, ◌||◌, not, ne_eqb}
+use Rattle.hub_core.proofs.Words.{is_some, option_map, slice_get, false≢true, eqb-true, eqb-false, AgentId, Agent, Kind, Port, Client, Worker, Member, End, Place, With, InFlight, Arrived, Swept, Gone, EndNow, Facts, peer_of, lines_of, is_client, is_worker, has_one, any_below, is_with, is_out, total, kept_clients, kept_workers}
+use Rattle.hub_core.proofs.Words.{count_with, agent_now, count_away, kept_away, one_more, one_less, set_agent, change_agent, come, gone, adopting, one_away, change_owner, one_out, slice_get_within, MAX_ENDS, is_away_of, has_poster}
 use Rattle.hub_core.proofs.Showing.{SoundlyShows}
-use Rattle.hub_core.specs.Kept.{one_more, one_less, set_agent, change_agent, come, gone, adopting, one_away, change_owner, one_out}
 use Rattle.hub_core.proofs.Lists.{slice_get-set_same, slice_get-set_other, is_there}
-use Rattle.std.proofs.lemmas.Option.{slice_get_within}
 use Rattle.hub_core.proofs.Totals.{bit, total_same, total_nothing, last_not}
-use Rattle.hub_envelope.specs.declared.limits.TheConstants.{MAX_ENDS}
-use Rattle.hub_core.specs.Ending.{is_away_of, has_poster}
 
 -- what the core keeps of these counts
 pub record Counted (agents : List Agent) (f : Facts) : Type 0 where

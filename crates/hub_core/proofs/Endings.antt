@@ -1,31 +1,13 @@
 -- Order and See: what the core answers fits, and it shows the facts with the answered step.
-use Rattle.hub_core.specs.Kept.{change_agent}
+use Rattle.std.proofs.Common.{◌≡◌, ◌+◌, rules, ℕ, zero, suc, ◌<◌, ◌≤◌, Bool, true, false, cond, eqb, List, length, Option, Some, None, refl, sym, ap, ◌∙◌, arith, inl, inr, ◌&&◌, ◌||◌, not, nat_lt, lt-ltb, ne_eqb}
+use Rattle.hub_core.proofs.Words.{change_agent, option_map, slice_get, eqb-true, nat_tests, slice_get_within, slice_get_cases, AgentId, EndId, Agent, Outcome, AgentNow, Facts, lines_of, any_below, is_away_of, has_away, ends_at, order_answer, see_answer, total, agent_now, kept_clients, kept_workers, kept_away, count_away, ShowsFacts}
+use Rattle.hub_core.proofs.Words.{see_outcome, CoreState, seen}
 use Rattle.hub_core.proofs.Lists.{is_there}
 use Rattle.hub_core.proofs.Changing.{ShownAfter}
 use Rattle.hub_core.proofs.Nexts.{Change, agent_ordered, agent_ended}
 use Rattle.hub_core.proofs.Seeing.{Sees, seen_is}
-use Rattle.std.proofs.Common.{◌≡◌, ◌+◌, rules, ℕ, zero, suc, ◌<◌, ◌≤◌, Bool, true, false, cond, eqb, List, length, Option, Some, None, refl, sym, ap, ◌∙◌, arith, inl, inr}
-use Rattle.std.specs.Prelude.{◌&&◌, ◌||◌, not, nat_lt, option_map}
-use Rattle.std.specs.List.{slice_get}
-use Rattle.std.proofs.lemmas.Bool.{eqb-true, lt-ltb, ne_eqb}
-use Rattle.std.proofs.lemmas.Bool.Decides.{nat_tests}
-use Rattle.std.proofs.lemmas.Option.{slice_get_within, slice_get_cases}
-use Rattle.hub_envelope.specs.declared.ids.AgentId.{AgentId}
-use Rattle.hub_envelope.specs.declared.ids.EndId.{EndId}
-use Rattle.hub_core.specs.declared.agent.Agent.{Agent}
 use Rattle.hub_core.specs.declared.step.Action.TheVariants as action
-use Rattle.hub_core.specs.declared.outcome.Outcome.{Outcome}
 use Rattle.hub_core.specs.declared.outcome.Outcome.TheVariants as outcome
-use Rattle.hub_core.specs.Facts.{AgentNow, Facts}
-use Rattle.hub_core.specs.Made.{lines_of}
-use Rattle.hub_core.specs.Looking.{any_below}
-use Rattle.hub_core.specs.Ending.{is_away_of, has_away, ends_at, order_answer, see_answer}
-use Rattle.hub_core.specs.Sound.{total}
-use Rattle.hub_core.specs.Shows.{agent_now, kept_clients, kept_workers, kept_away, count_away}
-use Rattle.hub_core.specs.Shows.{ShowsFacts}
-use Rattle.hub_core.specs.KeptEnding.{see_outcome}
-use Rattle.hub_core.specs.CoreState.{CoreState}
-use Rattle.hub_core.specs.Seen.{seen}
 use Rattle.hub_core.proofs.Counts.{change_get, change_length, change_each, away_at, none_counted}
 
 -- ---- an agent that was ordered, and one that runs no more

@@ -3,42 +3,18 @@ use Rattle.hub_core.proofs.Casts.{roster_leave}
 use Rattle.hub_core.proofs.Changing.{found_line, line_set, ShownAfter, ShownWith}
 use Rattle.hub_core.proofs.Nexts.{Change, let_in, found_moved, found_closed, left}
 use Rattle.hub_core.proofs.Seeing.{Sees, owner_seen}
-use Rattle.std.proofs.Common.{◌≡◌, ℕ, ◌<◌, Bool, true, false, cond, eqb, List, length, set, Option, Some, None, refl, sym, ap, subst, ◌∙◌, arith, ◌++◌, ◌+◌, ◌≤◌, inl, rules, inr}
-use Rattle.std.specs.Prelude.{not, ◌&&◌}
-use Rattle.std.specs.List.{slice_get}
-use Rattle.std.proofs.lemmas.Bool.{eqb-true}
-use Rattle.std.proofs.lemmas.List.{length-set}
-use Rattle.hub_envelope.specs.declared.ids.AgentId.{AgentId}
-use Rattle.hub_core.specs.declared.agent.Agent.{Agent}
-use Rattle.hub_core.specs.declared.line.Line.{Line}
-use Rattle.hub_core.specs.declared.line.Phase.{Phase}
-use Rattle.hub_core.specs.declared.line.Phase.TheVariants.{Out, Inside, Turned}
-use Rattle.hub_core.specs.declared.sender.Sender.{Sender}
-use Rattle.hub_core.specs.declared.end.End.{End}
+use Rattle.std.proofs.Common.{◌≡◌, ℕ, ◌<◌, Bool, true, false, cond, eqb, List, length, set, Option, Some, None, refl, sym, ap, subst, ◌∙◌, arith, ◌++◌, ◌+◌, ◌≤◌, inl, rules, inr, not, ◌&&◌, length-set}
+use Rattle.hub_core.proofs.Words.{slice_get, eqb-true, AgentId, Agent, Line, Phase, Out, Inside, Turned, Sender, End, CoreState, EndNow, LineNow, Facts, is_out, enter_answer, leave_answer, may_enter, is_with, Sound, ShowsPut, ShowsEnd, count_away, change_owner, with_agent, one_out, one_away, change_line, in_phase, owner_by, owner, seen}
+use Rattle.hub_core.proofs.Words.{lines_of, is_queue, is_holder, has_poster, has_poster_of, is_away_of, Place, Kind, Outcome, With, Arrived, InFlight, Swept, Gone, Port, Client, Worker, Member}
 use Rattle.hub_core.specs.declared.step.Action.TheVariants as action
 use Rattle.hub_core.specs.declared.outcome.Outcome.TheVariants as outcome
-use Rattle.hub_core.specs.CoreState.{CoreState}
-use Rattle.hub_core.specs.Facts.{EndNow, LineNow, Facts}
-use Rattle.hub_core.specs.Posting.{is_out, enter_answer, leave_answer, may_enter, is_with}
-use Rattle.hub_core.specs.Sound.{Sound}
-use Rattle.hub_core.specs.Shows.{ShowsPut, ShowsEnd, count_away}
 use Rattle.hub_core.proofs.Showing.{SoundlyShows}
-use Rattle.hub_core.specs.Kept.{change_owner, with_agent, one_out, one_away, change_line, in_phase}
-use Rattle.hub_core.specs.KeptEnding.{owner_by, owner}
-use Rattle.hub_core.specs.Seen.{seen}
 use Rattle.hub_core.proofs.Frames.{line_changed, ShownAt, Stepped, recounted}
 use Rattle.hub_core.proofs.SoundLines.{phased_line, line_there}
-use Rattle.hub_core.specs.Made.{lines_of, is_queue}
 use Rattle.hub_core.proofs.Fitting.{let_in_of, Entered, found_moved_of, found_closed_of, left_of}
 use Rattle.hub_core.proofs.Counts.{Counted, owns_it, owner_length, owner_now_away, counted_left, counted_entered, owner_now_out, counts_of}
-use Rattle.hub_core.specs.Ending.{is_holder, has_poster, has_poster_of, is_away_of}
-use Rattle.hub_core.specs.declared.end.Place.{Place}
-use Rattle.hub_core.specs.declared.kind.Kind.{Kind}
-use Rattle.hub_core.specs.declared.outcome.Outcome.{Outcome}
 use Rattle.hub_core.proofs.Speakers.{hears_of, no_port, made_of, running_made, no_member}
 use Rattle.hub_core.proofs.Nexts.{next}
-use Rattle.hub_core.specs.declared.end.Place.TheVariants.{With, Arrived, InFlight, Swept, Gone}
-use Rattle.hub_core.specs.declared.kind.Kind.TheVariants.{Port, Client, Worker, Member}
 use Rattle.hub_core.proofs.Totals.{bit}
 use Rattle.hub_core.proofs.Calms.{phase_away}
 

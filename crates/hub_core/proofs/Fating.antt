@@ -1,32 +1,9 @@
 -- What becomes of each accepted envelope of a legal history.
-use Rattle.std.proofs.Common.{◌≡◌, ℕ, zero, suc, ◌+◌, ◌≤◌, Bool, true, false, cond, eqb, List, [], ◌∷◌, ◌++◌, refl, sym, ap, subst, ◌∙◌, arith, append-nil, append_assoc}
-use Rattle.std.specs.Prelude.{◌&&◌}
-use Rattle.std.proofs.lemmas.Bool.{false≢true, false_from_ne_true, and_parts, eqb-true}
-use Rattle.std.proofs.lemmas.List.Elements.{filter-append}
-use Rattle.hub_envelope.specs.declared.ids.EndId.{EndId}
-use Rattle.hub_envelope.specs.declared.envelope.Envelope.{Envelope}
-use Rattle.hub_core.specs.declared.line.Phase.{Phase}
-use Rattle.hub_core.specs.declared.line.Phase.TheVariants.{Out, Inside, Turned}
-use Rattle.hub_core.specs.declared.sender.Sender.{Sender}
-use Rattle.hub_core.specs.declared.step.Action.{Action}
+use Rattle.std.proofs.Common.{◌≡◌, ℕ, zero, suc, ◌+◌, ◌≤◌, Bool, true, false, cond, eqb, List, [], ◌∷◌, ◌++◌, refl, sym, ap, subst, ◌∙◌, arith, append-nil, append_assoc, ◌&&◌}
+use Rattle.hub_core.proofs.Words.{false≢true, false_from_ne_true, and_parts, eqb-true, filter-append, EndId, Envelope, Phase, Out, Inside, Turned, Sender, Action, Outcome, Pair, History, Facts, facts, Answers, Fits, Legal, accepted, taken, discarded, ends, on_line, names, place, by, phase_of_line, is_inside, total, naming, flights}
+use Rattle.hub_core.proofs.Words.{Sound, NoticeIsLast, waiting, sweep_of, Fates}
 use Rattle.hub_core.specs.declared.step.Action.TheVariants as action
-use Rattle.hub_core.specs.declared.outcome.Outcome.{Outcome}
 use Rattle.hub_core.specs.declared.outcome.Outcome.TheVariants as outcome
-use Rattle.hub_core.specs.History.{Pair, History}
-use Rattle.hub_core.specs.Facts.{Facts, facts}
-use Rattle.hub_core.specs.Fits.{Answers, Fits}
-use Rattle.hub_core.specs.Legal.{Legal}
-use Rattle.hub_core.specs.Accepted.{accepted}
-use Rattle.hub_core.specs.Taken.{taken}
-use Rattle.hub_core.specs.Discarded.{discarded}
-use Rattle.hub_core.specs.Made.{ends}
-use Rattle.hub_core.specs.Lines.{on_line}
-use Rattle.hub_core.specs.Place.{names, place}
-use Rattle.hub_core.specs.Sender.{by}
-use Rattle.hub_core.specs.Posting.{phase_of_line, is_inside}
-use Rattle.hub_core.specs.Sound.{total, naming, flights, Sound}
-use Rattle.hub_core.specs.Laws.{NoticeIsLast}
-use Rattle.hub_core.specs.Fates.{waiting, sweep_of, Fates}
 use Rattle.hub_core.proofs.Nexts.{next, facts_next, by_change, Change, agent_made, channel_made, let_in, found_moved, found_closed, put, notice_put, left, hopped, started, got, went_on, cleared, adopted, end_closed, end_swept, client_made, worker_made, line_got, line_back, handed, agent_ordered, agent_ended, member_joined, cast_begun, member_parted}
 use Rattle.hub_core.proofs.Legals.{by_pairs, legal_at}
 use Rattle.hub_core.proofs.Lists.{eqb_same}

@@ -1,35 +1,10 @@
 -- What an answer that fits says of the facts.
-use Rattle.std.proofs.Common.{◌≡◌, ◌+◌, Bool, true, false, cond, List, length, Option, Some, None, refl, ap, ℕ, zero, suc, ◌<◌, ◌≤◌, eqb, sym, ◌∙◌, arith, rules, inl, inr, ltb-true, leb-false, ltb-false}
-use Rattle.std.specs.Prelude.{◌&&◌, not, is_some, nat_lt, ◌||◌, ◌⊎◌, nat_le}
-use Rattle.std.specs.Bool.{MatchBool}
-use Rattle.std.specs.List.{list_all}
-use Rattle.hub_envelope.specs.declared.ids.AgentId.{AgentId}
-use Rattle.hub_envelope.specs.declared.ids.EndId.{EndId}
-use Rattle.hub_envelope.specs.declared.envelope.Envelope.{Envelope}
-use Rattle.hub_envelope.specs.declared.limits.TheConstants.{MAX_ENDS, MAX_LINES, MAX_MOVES, MAX_PORTS, MAX_AGENTS}
-use Rattle.hub_core.specs.declared.listing.Listing.TheVariants.{Good, HoldsTarget, Bad}
-use Rattle.hub_core.specs.declared.sender.Sender.{Sender}
-use Rattle.hub_core.specs.declared.outcome.Acceptance.{Acceptance}
-use Rattle.hub_core.specs.declared.outcome.Outcome.{Outcome}
+use Rattle.std.proofs.Common.{◌≡◌, ◌+◌, Bool, true, false, cond, List, length, Option, Some, None, refl, ap, ℕ, zero, suc, ◌<◌, ◌≤◌, eqb, sym, ◌∙◌, arith, rules, inl, inr, ltb-true, leb-false, ltb-false, ◌&&◌, not, nat_lt, ◌||◌, ◌⊎◌, nat_le}
+use Rattle.hub_core.proofs.Words.{is_some, MatchBool, list_all, AgentId, EndId, Envelope, MAX_ENDS, MAX_LINES, MAX_MOVES, MAX_PORTS, MAX_AGENTS, Good, HoldsTarget, Bad, Sender, Acceptance, Outcome, Facts, agent_answer, channel_answer, queue_answer, has_one, holder, poster, phase_of_line, is_out, is_inside, is_good, is_distinct}
+use Rattle.hub_core.proofs.Words.{may_leave_agent, listing_of, enter_answer, leave_answer, push_answer_of, push_answer, may_enter, hears_notice, is_here, next_name, notice_answer, is_fitting, is_empty, Serves, FitsTake, start_answer, false≢true, eqb-true, eqb-false, and_parts, or_parts, Place, With, InFlight, Arrived, Swept, Gone}
+use Rattle.hub_core.proofs.Words.{any_below, someone_at, first_failing, lookable, looked, look_answer_of, look_answer, all_from, all_settled, IsAllWaiting, FitsSweep, hop_answer, is_arrived, adopt_answer, close_answer, is_released, hand_answer, may_take_over, may_close, is_queue, lines_of, names, LineId, Kind, back_answer, line_found}
+use Rattle.hub_core.proofs.Words.{line_answer, free_line, member_answer, cast_answer, is_casting, destinations, has_end, maker_of, see_answer, has_away, has_poster, is_away_of}
 use Rattle.hub_core.specs.declared.outcome.Outcome.TheVariants as outcome
-use Rattle.hub_core.specs.Facts.{Facts}
-use Rattle.hub_core.specs.Making.{agent_answer, channel_answer, queue_answer, has_one}
-use Rattle.hub_core.specs.Posting.{holder, poster, phase_of_line, is_out, is_inside, is_good, is_distinct, may_leave_agent, listing_of, enter_answer, leave_answer, push_answer_of, push_answer, may_enter, hears_notice, is_here, next_name, notice_answer, is_fitting, is_empty}
-use Rattle.hub_core.specs.Taking.{Serves, FitsTake, start_answer}
-use Rattle.std.proofs.lemmas.Bool.{false≢true, eqb-true, eqb-false, and_parts, or_parts}
-use Rattle.hub_core.specs.declared.end.Place.{Place}
-use Rattle.hub_core.specs.declared.end.Place.TheVariants.{With, InFlight, Arrived, Swept, Gone}
-use Rattle.hub_core.specs.Looking.{any_below, someone_at, first_failing, lookable, looked, look_answer_of, look_answer, all_from, all_settled, IsAllWaiting, FitsSweep}
-use Rattle.hub_core.specs.Moving.{hop_answer, is_arrived, adopt_answer, close_answer, is_released, hand_answer, may_take_over, may_close}
-use Rattle.hub_core.specs.Made.{is_queue, lines_of}
-use Rattle.hub_core.specs.Place.{names}
-use Rattle.hub_envelope.specs.declared.ids.LineId.{LineId}
-use Rattle.hub_core.specs.declared.kind.Kind.{Kind}
-use Rattle.hub_core.specs.Holding.{back_answer, line_found, line_answer, free_line}
-use Rattle.hub_core.specs.Casting.{member_answer, cast_answer, is_casting, destinations}
-use Rattle.hub_core.specs.Roster.{has_end}
-use Rattle.hub_core.specs.Made.{maker_of}
-use Rattle.hub_core.specs.Ending.{see_answer, has_away, has_poster, is_away_of}
 use Rattle.hub_core.proofs.Lists.{below_last, next_up}
 
 -- ---- tests

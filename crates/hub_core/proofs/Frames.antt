@@ -1,24 +1,7 @@
 -- What a step leaves alone: an end of which no fact changes is shown as before, and so is each other line where one changes.
-use Rattle.hub_envelope.specs.declared.envelope.Envelope.{Envelope}
-use Rattle.hub_core.specs.declared.end.Place.{Place}
-use Rattle.hub_core.specs.Made.{lines_of}
-use Rattle.std.proofs.Common.{◌≡◌, ℕ, ◌+◌, ◌<◌, Bool, true, false, eqb, List, [], length, set, length-set, Option, Some, refl, sym, ap, subst, ◌∙◌, ◌++◌}
-use Rattle.std.proofs.lemmas.Bool.{ne_eqb}
-use Rattle.std.proofs.lemmas.Option.{slice_get_within}
-use Rattle.hub_core.specs.declared.line.Line.{Line}
-use Rattle.hub_core.specs.declared.sender.Sender.{Sender}
-use Rattle.std.specs.Prelude.{◌&&◌}
-use Rattle.hub_core.specs.declared.line.Phase.TheVariants.{Inside}
+use Rattle.std.proofs.Common.{◌≡◌, ℕ, ◌+◌, ◌<◌, Bool, true, false, eqb, List, [], length, set, length-set, Option, Some, refl, sym, ap, subst, ◌∙◌, ◌++◌, ne_eqb, ◌&&◌}
+use Rattle.hub_core.proofs.Words.{Envelope, Place, lines_of, slice_get_within, Line, Sender, Inside, slice_get, Agent, End, Action, Outcome, LineNow, Facts, facts, EndNow, Answers, ShowsEnd, ShowsPut, agent_now, line_now, end_now, ShowsFacts}
 use Rattle.hub_core.proofs.Lists.{eqb_same, each_set, each_changed}
-use Rattle.std.specs.List.{slice_get}
-use Rattle.hub_core.specs.declared.agent.Agent.{Agent}
-use Rattle.hub_core.specs.declared.end.End.{End}
-use Rattle.hub_core.specs.declared.step.Action.{Action}
-use Rattle.hub_core.specs.declared.outcome.Outcome.{Outcome}
-use Rattle.hub_core.specs.Facts.{LineNow, Facts, facts, EndNow}
-use Rattle.hub_core.specs.Fits.{Answers}
-use Rattle.hub_core.specs.Shows.{ShowsEnd, ShowsPut, agent_now, line_now, end_now}
-use Rattle.hub_core.specs.Shows.{ShowsFacts}
 use Rattle.hub_core.proofs.Showing.{SoundlyShows}
 use Rattle.hub_core.proofs.Nexts.{next}
 use Rattle.hub_core.proofs.Counts.{Counted}

@@ -1,13 +1,7 @@
 -- The laws of the gate machine.
-use Rattle.std.proofs.Common.{◌≡◌, ◌⊎◌, ℕ, zero, suc, ◌≤◌, ◌||◌, ◌&&◌, Bool, true, false, true≢false, List, [], ◌∷◌, length, map, set, refl, sym, ap, ◌∙◌, subst, ⊎_elim, arith, length-set, Option, Some, None}
-use Rattle.std.specs.Prelude.{slice_get, sum_by, not, is_some}
-use Rattle.std.proofs.lemmas.List.{length-map, map-set}
-use Rattle.std.proofs.lemmas.List.Sums.{sum_by-cons}
-use Rattle.std.proofs.lemmas.Bool.{false_from_ne_true}
-use Rattle.hub_core.specs.declared.line.Phase.{Phase}
-use Rattle.hub_core.specs.declared.line.Phase.TheVariants.{Out, Inside, Turned}
-use Rattle.hub_core.specs.GateMachine.{Gate, IsAt, opened, weight, busy, Steps, finds_moved, finds_closed, goes_in, goes_out, turns_back, enables, retires, closes, gave, is_open, is_busy, gives, Reached, opens, goes_on}
-use Rattle.hub_core.specs.GateMachineLaws.{leaves_right, IsGateOf, GateMachineLaws}
+use Rattle.std.proofs.Common.{◌≡◌, ◌⊎◌, ℕ, zero, suc, ◌≤◌, ◌||◌, ◌&&◌, Bool, true, false, true≢false, List, [], ◌∷◌, length, map, set, refl, sym, ap, ◌∙◌, subst, ⊎_elim, arith, length-set, Option, Some, None, not}
+use Rattle.hub_core.proofs.Words.{slice_get, sum_by, is_some, length-map, map-set, sum_by-cons, false_from_ne_true, Phase, Out, Inside, Turned, Gate, IsAt, opened, weight, busy, Steps, finds_moved, finds_closed, goes_in, goes_out, turns_back, enables, retires, closes, gave, is_open, is_busy, gives, Reached, opens, goes_on, leaves_right}
+use Rattle.hub_core.proofs.Words.{IsGateOf, GateMachineLaws}
 use Rattle.hub_core.proofs.Items.{some_is, none_got, got_set, got_of-map}
 
 -- whether the right of a line in this phase is at home

@@ -1,23 +1,9 @@
 -- A Take that finds nothing: what the core answers fits, and it shows the facts with the answered step.
-use Rattle.std.proofs.Common.{◌≡◌, ℕ, suc, ◌+◌, ◌<◌, ◌≤◌, Bool, true, false, cond, eqb, List, [], ◌∷◌, ◌++◌, length, drop, get_or, set, Some, refl, sym, ap, subst, ◌∙◌, arith, append-nil, ◌-◌}
-use Rattle.std.specs.Prelude.{nat_le, nat_lt}
-use Rattle.std.specs.List.{slice_get}
-use Rattle.std.proofs.lemmas.Bool.{leb-true, leb-false, ltb-true, ltb-false, eqb-true, eqb-false, le-ltb}
-use Rattle.std.proofs.lemmas.List.{length-set}
-use Rattle.hub_envelope.specs.declared.ids.EndId.{EndId}
-use Rattle.hub_envelope.specs.declared.envelope.Envelope.{Envelope}
-use Rattle.hub_core.specs.declared.agent.Agent.{Agent}
-use Rattle.hub_core.specs.declared.end.End.{End}
+use Rattle.std.proofs.Common.{◌≡◌, ℕ, suc, ◌+◌, ◌<◌, ◌≤◌, Bool, true, false, cond, eqb, List, [], ◌∷◌, ◌++◌, length, drop, get_or, set, Some, refl, sym, ap, subst, ◌∙◌, arith, append-nil, ◌-◌, nat_le, nat_lt, leb-true, leb-false, ltb-true, ltb-false, length-set}
+use Rattle.hub_core.proofs.Words.{slice_get, eqb-true, eqb-false, le-ltb, EndId, Envelope, Agent, End, EndNow, LineNow, Facts, by, in_queue, is_settled, IsDrained, IsLeft, Serves, FitsTake, Sound, ShowsEnd, KeepsQueues, kept_settled, advanced_end, left_outcome}
 use Rattle.hub_core.specs.declared.step.Action.TheVariants as action
 use Rattle.hub_core.specs.declared.outcome.Outcome.TheVariants as outcome
-use Rattle.hub_core.specs.Facts.{EndNow, LineNow, Facts}
-use Rattle.hub_core.specs.Sender.{by, in_queue}
-use Rattle.hub_core.specs.Looking.{is_settled}
-use Rattle.hub_core.specs.Taking.{IsDrained, IsLeft, Serves, FitsTake}
-use Rattle.hub_core.specs.Sound.{Sound}
-use Rattle.hub_core.specs.Shows.{ShowsEnd, KeepsQueues}
 use Rattle.hub_core.proofs.Showing.{SoundlyShows}
-use Rattle.hub_core.specs.Kept.{kept_settled, advanced_end, left_outcome}
 use Rattle.hub_core.proofs.Lists.{AllByRecursion-weaker, below_last}
 use Rattle.hub_core.proofs.Waits.{filters, all_taken}
 use Rattle.hub_core.proofs.Frames.{ShownAt, Stepped, changed, end_changed}

@@ -1,12 +1,6 @@
 -- What an event adds to what was put into a mailbox, and to what was taken out.
 use Rattle.std.proofs.Common.{◌≡◌, ℕ, zero, suc, ◌<◌, Bool, true, false, cond, eqb, List, [], ◌∷◌, ◌++◌, set, refl, sym, ap, subst, ◌∙◌, ⊎_elim, arith, append_assoc, append-nil, Some}
-use Rattle.std.specs.Prelude.{slice_get, flat_map}
-use Rattle.std.proofs.lemmas.Bool.{eqb-true}
-use Rattle.hub_envelope.specs.declared.envelope.Envelope.{Envelope}
-use Rattle.hub_core.specs.QueueMachine.{Queue, new_queue, pushed}
-use Rattle.hub_core.specs.Mailbox.{Mailbox, QueueAt, StandsAt, put_by, got_from, IsMailbox}
-use Rattle.hub_core.specs.MailboxSteps.{HoldsFirst, taken_out, with_queue}
-use Rattle.hub_core.specs.ChainLaws.{Grows}
+use Rattle.hub_core.proofs.Words.{slice_get, flat_map, eqb-true, Envelope, Queue, new_queue, pushed, Mailbox, QueueAt, StandsAt, put_by, got_from, IsMailbox, HoldsFirst, taken_out, with_queue, Grows}
 use Rattle.hub_core.proofs.Items.{none_got, some_is}
 use Rattle.hub_core.proofs.TakenOut.{some_held}
 

@@ -2,36 +2,18 @@
 use Rattle.hub_core.proofs.Changing.{found_end, ShownAfter}
 use Rattle.hub_core.proofs.Nexts.{Change, handed}
 use Rattle.hub_core.proofs.Seeing.{Sees}
-use Rattle.std.proofs.Common.{◌≡◌, Bool, true, cond, set, List, Option, Some, None, refl, sym, ap, subst, ◌∙◌, length-set}
-use Rattle.std.specs.Prelude.{◌++◌}
-use Rattle.std.specs.List.{slice_get}
-use Rattle.std.proofs.lemmas.Bool.{false≢true, ne_eqb}
-use Rattle.hub_envelope.specs.declared.ids.AgentId.{AgentId}
-use Rattle.hub_envelope.specs.declared.ids.EndId.{EndId}
-use Rattle.hub_core.specs.declared.agent.Agent.{Agent}
-use Rattle.hub_core.specs.declared.end.End.{End}
-use Rattle.hub_core.specs.declared.end.Place.TheVariants.{Arrived}
+use Rattle.std.proofs.Common.{◌≡◌, Bool, true, cond, set, List, Option, Some, None, refl, sym, ap, subst, ◌∙◌, length-set, ◌++◌, ne_eqb}
+use Rattle.hub_core.proofs.Words.{slice_get, false≢true, AgentId, EndId, Agent, End, Arrived, Outcome, EndNow, Facts, is_queue, is_with, hand_answer, is_released, SoundPlaces, end_now, changed_ends, gone, went, CoreState, Kind, Port, Client, Worker, Member}
 use Rattle.hub_core.specs.declared.step.Action.TheVariants as action
-use Rattle.hub_core.specs.declared.outcome.Outcome.{Outcome}
 use Rattle.hub_core.specs.declared.outcome.Outcome.TheVariants as outcome
-use Rattle.hub_core.specs.Facts.{EndNow, Facts}
-use Rattle.hub_core.specs.Made.{is_queue}
-use Rattle.hub_core.specs.Posting.{is_with}
-use Rattle.hub_core.specs.Moving.{hand_answer, is_released}
-use Rattle.hub_core.specs.Sound.{SoundPlaces}
-use Rattle.hub_core.specs.Shows.{end_now}
 use Rattle.hub_core.proofs.Showing.{SoundlyShows}
-use Rattle.hub_core.specs.Kept.{changed_ends, gone, went}
 use Rattle.hub_core.proofs.Lists.{eqb_same}
 use Rattle.hub_core.proofs.Nexts.{next}
 use Rattle.hub_core.proofs.Speakers.{placed_made}
 use Rattle.hub_core.proofs.Frames.{ShownAt, Stepped, recounted, end_changed, end_restated}
 use Rattle.hub_core.proofs.Counts.{Went, counted_went, counts_of, gone_length, gone_now}
-use Rattle.hub_core.specs.CoreState.{CoreState}
 use Rattle.hub_core.proofs.Fitting.{handed_of}
-use Rattle.hub_core.specs.declared.kind.Kind.{Kind}
 use Rattle.hub_core.proofs.Calms.{calm_gone}
-use Rattle.hub_core.specs.declared.kind.Kind.TheVariants.{Port, Client, Worker, Member}
 
 -- ---- an end that was handed on
 

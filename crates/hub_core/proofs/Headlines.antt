@@ -1,34 +1,9 @@
 -- What every legal history keeps: the headline, and the laws beside it.
-use Rattle.std.proofs.Common.{◌≡◌, ℕ, zero, suc, ◌+◌, ◌<◌, Bool, true, false, cond, eqb, ltb, get_or, List, [], ◌∷◌, ◌++◌, length, map, refl, sym, ap, subst, ◌∙◌, inl, inr, arith, rules, length-append}
-use Rattle.std.specs.Prelude.{◌&&◌, not, ◌||◌, is_some}
-use Rattle.std.specs.Bool.{MatchBool}
-use Rattle.std.specs.List.{filter, AllByRecursion}
-use Rattle.std.proofs.lemmas.Bool.Decides.{nat_tests}
-use Rattle.std.proofs.lemmas.Bool.{false≢true, eqb-true, and_parts, not-true}
-use Rattle.std.proofs.lemmas.List.Elements.{filter-append}
-use Rattle.std.proofs.lemmas.List.{map-append, get_or_append_left, ext_get_or}
-use Rattle.std.proofs.Math.Seq.{get_or-append_seam}
-use Rattle.hub_envelope.specs.declared.ids.EndId.{EndId}
-use Rattle.hub_envelope.specs.declared.envelope.Envelope.{Envelope}
-use Rattle.hub_core.specs.declared.line.Phase.{Phase}
-use Rattle.hub_core.specs.declared.line.Phase.TheVariants.{Out, Inside, Turned}
-use Rattle.hub_core.specs.declared.sender.Sender.{Sender}
-use Rattle.hub_core.specs.declared.step.Action.{Action}
+use Rattle.std.proofs.Common.{◌≡◌, ℕ, zero, suc, ◌+◌, ◌<◌, Bool, true, false, cond, eqb, ltb, get_or, List, [], ◌∷◌, ◌++◌, length, map, refl, sym, ap, subst, ◌∙◌, inl, inr, arith, rules, length-append, ◌&&◌, not, ◌||◌}
+use Rattle.hub_core.proofs.Words.{is_some, MatchBool, filter, AllByRecursion, nat_tests, false≢true, eqb-true, and_parts, not-true, filter-append, map-append, get_or_append_left, ext_get_or, get_or-append_seam, EndId, Envelope, Phase, Out, Inside, Turned, Sender, Action, Outcome, Pair, History, Facts, facts, Answers, LegalAfter, Legal}
+use Rattle.hub_core.proofs.Words.{accepted, taken, by, Prefix, is_out, is_inside, poster, phase_of_line, hears_notice, up_to, numbers, Sound, take_of, enter_of, is_line, leaves, posts, IsTurned, IsDrainedAt, Headline, IsBusyAt, KeepsTheLine, TurnedPutsNothing, SameIsJoined, lines_of, discarded, someone_at, is_away_at}
 use Rattle.hub_core.specs.declared.step.Action.TheVariants as action
-use Rattle.hub_core.specs.declared.outcome.Outcome.{Outcome}
 use Rattle.hub_core.specs.declared.outcome.Outcome.TheVariants as outcome
-use Rattle.hub_core.specs.History.{Pair, History}
-use Rattle.hub_core.specs.Facts.{Facts, facts}
-use Rattle.hub_core.specs.Fits.{Answers}
-use Rattle.hub_core.specs.Legal.{LegalAfter, Legal}
-use Rattle.hub_core.specs.Accepted.{accepted}
-use Rattle.hub_core.specs.Taken.{taken}
-use Rattle.hub_core.specs.Sender.{by, Prefix}
-use Rattle.hub_core.specs.Posting.{is_out, is_inside, poster, phase_of_line, hears_notice}
-use Rattle.hub_core.specs.Numbers.{up_to, numbers}
-use Rattle.hub_core.specs.Sound.{Sound}
-use Rattle.hub_core.specs.Headline.{take_of, enter_of, is_line, leaves, posts, IsTurned, IsDrainedAt, Headline, IsBusyAt}
-use Rattle.hub_core.specs.Laws.{KeepsTheLine, TurnedPutsNothing, SameIsJoined}
 use Rattle.hub_core.proofs.Lists.{eqb_same}
 use Rattle.hub_core.proofs.Nexts.{next, facts_next, effect, Change, agent_made, channel_made, let_in, found_moved, found_closed, put, left, started, got, hopped, went_on, cleared, adopted, notice_put, end_closed, end_swept, client_made, worker_made, line_got, line_back, handed, agent_ordered, agent_ended, member_joined, cast_begun, member_parted}
 use Rattle.hub_core.proofs.Legals.{legal_apart, legal_joined, legal_at}
@@ -37,9 +12,6 @@ use Rattle.hub_core.proofs.SoundLines.{Numbered, on_place}
 use Rattle.hub_core.proofs.Speakers.{speaker_next}
 use Rattle.hub_core.proofs.Sounds.{sound_legal}
 use Rattle.hub_core.proofs.Sames.{turned_leaves, turned_same}
-use Rattle.hub_core.specs.Made.{lines_of}
-use Rattle.hub_core.specs.Discarded.{discarded}
-use Rattle.hub_core.specs.Looking.{someone_at, is_away_at}
 use Rattle.hub_core.proofs.SoundWaiting.{taken_prefix}
 
 -- ---- a prefix of numbered envelopes is numbered

@@ -1,39 +1,17 @@
 -- Line and Back: what the core answers fits, and it shows the facts with the answered step.
-use Rattle.hub_core.specs.Posting.{is_out}
-use Rattle.hub_core.specs.Fits.{Answers}
-use Rattle.hub_core.specs.declared.step.Action.{Action}
-use Rattle.std.proofs.lemmas.Bool.Decides.{nat_tests}
+use Rattle.std.proofs.Common.{◌≡◌, ℕ, suc, ◌+◌, ◌<◌, Bool, true, false, cond, set, List, [], ◌∷◌, length, Option, Some, None, refl, sym, ap, subst, ◌∙◌, arith, length-set, rules, ◌≤◌, ◌++◌, not, nat_lt, lt-ltb}
+use Rattle.hub_core.proofs.Words.{is_out, Answers, Action, nat_tests, is_some, slice_get, position, position_from, position_from-zero, false≢true, AgentId, EndId, MAX_LINES, Agent, Line, End, Sender, Outcome, LineNow, Facts, is_queue, lines_of, first_failing, free_line, line_found, line_answer, back_answer, line_now, ShowsPut, ShowsEnd}
+use Rattle.hub_core.proofs.Words.{kept_lines, line_within, first_free, hold_outcome_of, line_outcome, change_line, held_by, CoreState, seen}
 use Rattle.hub_core.proofs.Changing.{found_line, line_set, ShownAfter}
 use Rattle.hub_core.proofs.Nexts.{Change, line_back, line_got}
 use Rattle.hub_core.proofs.Seeing.{Sees, seen_is}
-use Rattle.std.proofs.Common.{◌≡◌, ℕ, suc, ◌+◌, ◌<◌, Bool, true, false, cond, set, List, [], ◌∷◌, length, Option, Some, None, refl, sym, ap, subst, ◌∙◌, arith, length-set, rules, ◌≤◌}
-use Rattle.std.specs.Prelude.{◌++◌, not, is_some, nat_lt}
-use Rattle.std.specs.List.{slice_get, position, position_from}
-use Rattle.std.proofs.lemmas.Iterator.Adapters.{position_from-zero}
-use Rattle.std.proofs.lemmas.Bool.{false≢true, lt-ltb}
-use Rattle.hub_envelope.specs.declared.ids.AgentId.{AgentId}
-use Rattle.hub_envelope.specs.declared.ids.EndId.{EndId}
-use Rattle.hub_envelope.specs.declared.limits.TheConstants.{MAX_LINES}
-use Rattle.hub_core.specs.declared.agent.Agent.{Agent}
-use Rattle.hub_core.specs.declared.line.Line.{Line}
-use Rattle.hub_core.specs.declared.end.End.{End}
-use Rattle.hub_core.specs.declared.sender.Sender.{Sender}
 use Rattle.hub_core.specs.declared.step.Action.TheVariants as action
-use Rattle.hub_core.specs.declared.outcome.Outcome.{Outcome}
 use Rattle.hub_core.specs.declared.outcome.Outcome.TheVariants as outcome
-use Rattle.hub_core.specs.Facts.{LineNow, Facts}
-use Rattle.hub_core.specs.Made.{is_queue, lines_of}
-use Rattle.hub_core.specs.Looking.{first_failing}
-use Rattle.hub_core.specs.Holding.{free_line, line_found, line_answer, back_answer}
-use Rattle.hub_core.specs.Shows.{line_now, ShowsPut, ShowsEnd, kept_lines}
 use Rattle.hub_core.proofs.Showing.{SoundlyShows}
-use Rattle.hub_core.specs.Kept.{line_within, first_free, hold_outcome_of, line_outcome, change_line, held_by}
 use Rattle.hub_core.proofs.Fitting.{line_got_of, first_failing_of, back_of}
 use Rattle.hub_core.proofs.SoundLines.{held_line_as, queue_lines, LinesAt}
 use Rattle.hub_core.proofs.Frames.{line_changed, ShownAt, Stepped, changed}
 use Rattle.hub_core.proofs.Counts.{counts_still, Counted}
-use Rattle.hub_core.specs.CoreState.{CoreState}
-use Rattle.hub_core.specs.Seen.{seen}
 use Rattle.hub_core.proofs.Nexts.{next}
 use Rattle.hub_core.proofs.Calms.{calm_held, free_out}
 

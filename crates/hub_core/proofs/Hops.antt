@@ -1,32 +1,14 @@
 -- Hop: what the core answers fits, and it shows the facts with the answered step.
-use Rattle.hub_core.specs.Kept.{at_queue}
+use Rattle.std.proofs.Common.{◌≡◌, ℕ, ◌+◌, ◌<◌, ◌≤◌, Bool, true, false, cond, eqb, List, [], ◌∷◌, ◌++◌, length, set, Some, refl, sym, ap, subst, ◌∙◌, arith, ◌&&◌, ne_eqb, length-set}
+use Rattle.hub_core.proofs.Words.{at_queue, Outcome, slice_get, filter, AllByRecursion, eqb-true, false≢true, Envelope, Agent, Line, Sender, End, LineNow, Facts, count_in_queue, is_out, hop_answer, IsOfEnd, line_now, ShowsEnd, CoreState, Inside}
 use Rattle.hub_core.proofs.Changing.{found_line, line_set, with_line, ShownAfter}
 use Rattle.hub_core.proofs.Nexts.{Change, hopped}
 use Rattle.hub_core.proofs.Seeing.{Sees}
-use Rattle.hub_core.specs.declared.outcome.Outcome.{Outcome}
-use Rattle.std.proofs.Common.{◌≡◌, ℕ, ◌+◌, ◌<◌, ◌≤◌, Bool, true, false, cond, eqb, List, [], ◌∷◌, ◌++◌, length, set, Some, refl, sym, ap, subst, ◌∙◌, arith}
-use Rattle.std.specs.Prelude.{◌&&◌}
-use Rattle.std.specs.List.{slice_get, filter, AllByRecursion}
-use Rattle.std.proofs.lemmas.Bool.{ne_eqb, eqb-true, false≢true}
-use Rattle.std.proofs.lemmas.List.{length-set}
-use Rattle.hub_envelope.specs.declared.envelope.Envelope.{Envelope}
-use Rattle.hub_core.specs.declared.agent.Agent.{Agent}
-use Rattle.hub_core.specs.declared.line.Line.{Line}
-use Rattle.hub_core.specs.declared.sender.Sender.{Sender}
-use Rattle.hub_core.specs.declared.end.End.{End}
 use Rattle.hub_core.specs.declared.step.Action.TheVariants as action
 use Rattle.hub_core.specs.declared.outcome.Outcome.TheVariants as outcome
-use Rattle.hub_core.specs.Facts.{LineNow, Facts}
-use Rattle.hub_core.specs.Sender.{count_in_queue}
-use Rattle.hub_core.specs.Posting.{is_out}
-use Rattle.hub_core.specs.Moving.{hop_answer}
-use Rattle.hub_core.specs.Sound.{IsOfEnd}
-use Rattle.hub_core.specs.Shows.{line_now, ShowsEnd}
 use Rattle.hub_core.proofs.Showing.{SoundlyShows}
 use Rattle.hub_core.proofs.Frames.{line_changed, ShownAt, Stepped, changed}
-use Rattle.hub_core.specs.CoreState.{CoreState}
 use Rattle.hub_core.proofs.SoundLines.{gone_line, line_there}
-use Rattle.hub_core.specs.declared.line.Phase.TheVariants.{Inside}
 use Rattle.hub_core.proofs.Fitting.{hopped_of}
 use Rattle.hub_core.proofs.Counts.{counts_still}
 

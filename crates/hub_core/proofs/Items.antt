@@ -1,6 +1,6 @@
 -- What is read from a list after a write of one item, or behind a further one.
 use Rattle.std.proofs.Common.{◌≡◌, ◌≢◌, ◌⊎◌, ℕ, zero, suc, ◌<◌, List, [], ◌∷◌, ◌++◌, map, length, set, refl, sym, ap, subst, inl, inr, ⊎_elim, arith, Some, None}
-use Rattle.std.specs.Prelude.{slice_get}
+use Rattle.hub_core.proofs.Words.{slice_get}
 
 module _ {A : Type 0} where
   pub some_is : (a b : A) → Some a ≡ Some b → a ≡ b

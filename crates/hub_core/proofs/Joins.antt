@@ -1,13 +1,6 @@
 -- Lists over the numbers below a bound, and the queues of an end joined to one list.
-use Rattle.std.proofs.Common.{◌≡◌, ℕ, zero, suc, ◌+◌, ◌<◌, ◌≤◌, Bool, true, false, cond, eqb, ltb, List, [], ◌∷◌, ◌++◌, length, map, refl, sym, ap, ◌∙◌, inl, inr, ⊎_elim, arith, rules, append-nil, append_assoc, length-append, Some}
-use Rattle.std.specs.Prelude.{slice_get, flat_map, not, ◌&&◌}
-use Rattle.std.specs.List.{filter, AllByRecursion}
-use Rattle.std.proofs.lemmas.Bool.{eqb-true, cases_order, lt-ltb, le-ltb, ne_eqb, eq-eqb}
-use Rattle.std.proofs.lemmas.List.{map-append, length-map, append_cancel_left}
-use Rattle.std.proofs.lemmas.Grind.{flat_map-append}
-use Rattle.hub_envelope.specs.declared.envelope.Envelope.{Envelope}
-use Rattle.hub_core.specs.Sender.{by, in_queue, Prefix, Rises}
-use Rattle.hub_core.specs.Numbers.{up_to}
+use Rattle.std.proofs.Common.{◌≡◌, ℕ, zero, suc, ◌+◌, ◌<◌, ◌≤◌, Bool, true, false, cond, eqb, ltb, List, [], ◌∷◌, ◌++◌, length, map, refl, sym, ap, ◌∙◌, inl, inr, ⊎_elim, arith, rules, append-nil, append_assoc, length-append, Some, not, ◌&&◌, lt-ltb, ne_eqb}
+use Rattle.hub_core.proofs.Words.{slice_get, flat_map, filter, AllByRecursion, eqb-true, cases_order, le-ltb, eq-eqb, map-append, length-map, append_cancel_left, flat_map-append, Envelope, by, in_queue, Prefix, Rises, up_to}
 use Rattle.hub_core.proofs.Items.{none_got, got_push, got_there}
 use Rattle.hub_core.proofs.Totals.{count, count_lines}
 

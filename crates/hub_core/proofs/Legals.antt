@@ -1,9 +1,6 @@
 -- Legal histories, one pair more.
 use Rattle.std.proofs.Common.{◌≡◌, List, [], ◌∷◌, ◌++◌, length, refl, sym, ap, subst, arith, append_assoc, append-nil}
-use Rattle.std.specs.List.{zip}
-use Rattle.hub_core.specs.History.{Pair, History}
-use Rattle.hub_core.specs.Fits.{Fits}
-use Rattle.hub_core.specs.Legal.{LegalAfter, Legal}
+use Rattle.hub_core.proofs.Words.{zip, Pair, History, Fits, LegalAfter, Legal}
 
 pub legal_after_one : (past h : History) (p : Pair) → LegalAfter past h → Fits (past ++ h) p → LegalAfter past (h ++ p ∷ [])
 legal_after_one past [] p l f = (subst (λ k. Fits k p) (append-nil past) f, tt)

@@ -1,9 +1,6 @@
 -- Lists of ends, agents, lines and envelopes: what a write leaves at each number.
-use Rattle.std.proofs.lemmas.Bool.{ne_eqb}
-use Rattle.std.proofs.Common.{◌≡◌, ℕ, ◌<◌, ◌+◌, true, false, eqb, List, [], ◌∷◌, ◌++◌, length, get_or, set, Option, Some, zero, suc, ◌≤◌, None, refl, sym, ap, subst, ◌∙◌, inl, inr, arith, rules, Bool}
-use Rattle.std.proofs.lemmas.Bool.Decides.{nat_tests}
-use Rattle.std.specs.List.{slice_get, AllByRecursion}
-use Rattle.std.proofs.lemmas.Option.{slice_get_cases}
+use Rattle.std.proofs.Common.{ne_eqb, ◌≡◌, ℕ, ◌<◌, ◌+◌, true, false, eqb, List, [], ◌∷◌, ◌++◌, length, get_or, set, Option, Some, zero, suc, ◌≤◌, None, refl, sym, ap, subst, ◌∙◌, inl, inr, arith, rules, Bool}
+use Rattle.hub_core.proofs.Words.{nat_tests, slice_get, AllByRecursion, slice_get_cases}
 
 pub slice_get-set_same : {A : Type 0} (xs : List A) (i : ℕ) (x : A) → i < length xs → slice_get (set xs i x) i ≡ Some x
 slice_get-set_same [] i x h = absurd (omega arith)

@@ -1,29 +1,13 @@
 -- Look: what the core answers fits, and it shows the facts with the answered step.
-use Rattle.hub_core.specs.declared.line.Line.{Line}
-use Rattle.hub_core.specs.CoreState.{CoreState}
+use Rattle.std.proofs.Common.{◌≡◌, ℕ, zero, suc, ◌+◌, ◌-◌, ◌<◌, ◌≤◌, Bool, true, false, cond, eqb, List, ◌++◌, set, Option, Some, None, refl, sym, ap, subst, ◌∙◌, arith, ◌&&◌, ◌||◌, nat_lt, ltb-true, ltb-false, lt-ltb, length-set}
+use Rattle.hub_core.proofs.Words.{Line, CoreState, slice_get, eqb-true, le-ltb, nat_tests, slice_get_within, EndId, Envelope, Agent, End, Outcome, EndNow, LineNow, Facts, first_failing, lookable, looked, look_answer_of, look_answer, no_end, ShowsEnd, KeepsQueues, is_anyone_at, kept_looked, look_answer_at, may_look, look_outcome}
+use Rattle.hub_core.proofs.Words.{look_outcome_at, changed_ends}
 use Rattle.hub_core.proofs.Seeing.{Sees}
 use Rattle.hub_core.proofs.Nexts.{Change, cleared}
 use Rattle.hub_core.proofs.Changing.{found_end, ShownAfter}
-use Rattle.std.proofs.Common.{◌≡◌, ℕ, zero, suc, ◌+◌, ◌-◌, ◌<◌, ◌≤◌, Bool, true, false, cond, eqb, List, ◌++◌, set, Option, Some, None, refl, sym, ap, subst, ◌∙◌, arith}
-use Rattle.std.specs.Prelude.{◌&&◌, ◌||◌, nat_lt}
-use Rattle.std.specs.List.{slice_get}
-use Rattle.std.proofs.lemmas.Bool.{eqb-true, ltb-true, ltb-false, le-ltb, lt-ltb}
-use Rattle.std.proofs.lemmas.Bool.Decides.{nat_tests}
-use Rattle.std.proofs.lemmas.List.{length-set}
-use Rattle.std.proofs.lemmas.Option.{slice_get_within}
-use Rattle.hub_envelope.specs.declared.ids.EndId.{EndId}
-use Rattle.hub_envelope.specs.declared.envelope.Envelope.{Envelope}
-use Rattle.hub_core.specs.declared.agent.Agent.{Agent}
-use Rattle.hub_core.specs.declared.end.End.{End}
 use Rattle.hub_core.specs.declared.step.Action.TheVariants as action
-use Rattle.hub_core.specs.declared.outcome.Outcome.{Outcome}
 use Rattle.hub_core.specs.declared.outcome.Outcome.TheVariants as outcome
-use Rattle.hub_core.specs.Facts.{EndNow, LineNow, Facts}
-use Rattle.hub_core.specs.Looking.{first_failing, lookable, looked, look_answer_of, look_answer}
-use Rattle.hub_core.specs.Sound.{no_end}
-use Rattle.hub_core.specs.Shows.{ShowsEnd, KeepsQueues}
 use Rattle.hub_core.proofs.Showing.{SoundlyShows}
-use Rattle.hub_core.specs.Kept.{is_anyone_at, kept_looked, look_answer_at, may_look, look_outcome, look_outcome_at, changed_ends}
 use Rattle.hub_core.proofs.Lists.{each_changed}
 use Rattle.hub_core.proofs.Frames.{ShownAt, Stepped, changed}
 use Rattle.hub_core.proofs.Presence.{someone_kept}

@@ -1,14 +1,7 @@
 -- A mailbox after an event of one of its gates.
 use Rattle.std.proofs.Common.{◌≡◌, ◌≢◌, ◌⊎◌, ℕ, ◌+◌, ◌<◌, ◌≤◌, true, false, true≢false, length, set, refl, sym, ap, ◌∙◌, inl, inr, ⊎_elim, arith, length-set, []}
-use Rattle.std.specs.Prelude.{slice_get}
-use Rattle.std.proofs.lemmas.Bool.{cases_lt}
-use Rattle.hub_core.specs.declared.line.Phase.{Phase}
-use Rattle.hub_core.specs.declared.line.Phase.TheVariants.{Out, Inside, Turned}
+use Rattle.hub_core.proofs.Words.{slice_get, cases_lt, Phase, Out, Inside, Turned, Gate, IsAt, Steps, finds_moved, finds_closed, goes_in, goes_out, turns_back, enables, retires, closes, gave, is_open, is_busy, gives, IsGateOf, Mailbox, GateAt, StandsAt, IsNewest, IsMailbox, with_gate, HappensAt}
 use Rattle.hub_core.specs.GateMachine as machine
-use Rattle.hub_core.specs.GateMachine.{Gate, IsAt, Steps, finds_moved, finds_closed, goes_in, goes_out, turns_back, enables, retires, closes, gave, is_open, is_busy, gives}
-use Rattle.hub_core.specs.GateMachineLaws.{IsGateOf}
-use Rattle.hub_core.specs.Mailbox.{Mailbox, GateAt, StandsAt, IsNewest, IsMailbox}
-use Rattle.hub_core.specs.MailboxSteps.{with_gate, HappensAt}
 use Rattle.hub_core.proofs.Lists.{slice_get-set_other}
 use Rattle.hub_core.proofs.Items.{got_set, got_within, got_same_at, at_written}
 use Rattle.hub_core.proofs.Gating.{after}

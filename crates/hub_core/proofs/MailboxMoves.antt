@@ -1,15 +1,7 @@
 -- A mailbox after a line or the taker went on, or a queue was added.
 use Rattle.std.proofs.Common.{◌≡◌, ◌≢◌, ◌⊎◌, ℕ, zero, ◌+◌, ◌<◌, ◌≤◌, true, false, List, [], ◌∷◌, ◌++◌, length, set, refl, sym, ap, subst, ◌∙◌, inl, inr, ⊎_elim, arith, length-set, length-append, Some}
-use Rattle.std.specs.Prelude.{slice_get}
-use Rattle.std.proofs.lemmas.Bool.{cases_lt, cases_eq}
-use Rattle.std.proofs.lemmas.List.{length-map}
-use Rattle.hub_core.specs.declared.line.Phase.TheVariants.{Out, Inside}
+use Rattle.hub_core.proofs.Words.{slice_get, cases_lt, cases_eq, length-map, Out, Inside, Gate, IsAt, opened, Steps, retires, IsGateOf, Queue, new_queue, IsQueue, Mailbox, new_mailbox, GateAt, StandsAt, IsNewest, IsMailbox, with_gate, with_stand, with_taker, with_new, IsSettled, HoldsNothing}
 use Rattle.hub_core.specs.GateMachine as machine
-use Rattle.hub_core.specs.GateMachine.{Gate, IsAt, opened, Steps, retires}
-use Rattle.hub_core.specs.GateMachineLaws.{IsGateOf}
-use Rattle.hub_core.specs.QueueMachine.{Queue, new_queue, IsQueue}
-use Rattle.hub_core.specs.Mailbox.{Mailbox, new_mailbox, GateAt, StandsAt, IsNewest, IsMailbox}
-use Rattle.hub_core.specs.MailboxSteps.{with_gate, with_stand, with_taker, with_new, IsSettled, HoldsNothing}
 use Rattle.hub_core.proofs.Items.{got_within, got_there, got_same_at, got-map, got_of-map, at_written, at_pushed}
 use Rattle.hub_core.proofs.Gating.{at_first, after, nobody_left}
 use Rattle.hub_core.proofs.Queueing.{at_first_queue, none_held}

@@ -1,31 +1,9 @@
 -- The mailbox of an end goes on by the events of each pair that fits.
 use Rattle.std.proofs.Common.{◌≡◌, ℕ, zero, suc, ◌+◌, ◌<◌, ◌≤◌, Bool, true, false, cond, eqb, List, [], ◌∷◌, ◌++◌, map, replicate, Option, Some, None, refl, sym, ap, subst, ◌∙◌, ⊎_elim, arith}
-use Rattle.std.proofs.lemmas.Bool.{false≢true, false_from_ne_true, eqb-true, eqb-false}
-use Rattle.std.proofs.lemmas.Grind.{flat_map-append}
-use Rattle.std.proofs.lemmas.List.{length-replicate}
-use Rattle.hub_envelope.specs.declared.envelope.Envelope.{Envelope}
-use Rattle.hub_envelope.specs.declared.ids.EndId.{EndId}
-use Rattle.hub_core.specs.declared.kind.Kind.{Kind}
-use Rattle.hub_core.specs.declared.kind.Kind.TheVariants.{Port, Client, Worker, Member}
-use Rattle.hub_core.specs.declared.line.Phase.{Phase}
-use Rattle.hub_core.specs.declared.line.Phase.TheVariants.{Out, Inside, Turned}
-use Rattle.hub_core.specs.declared.step.Action.{Action}
+use Rattle.hub_core.proofs.Words.{false≢true, false_from_ne_true, eqb-true, eqb-false, flat_map-append, length-replicate, Envelope, EndId, Kind, Port, Client, Worker, Member, Phase, Out, Inside, Turned, Action, Outcome, EndNow, LineNow, Facts, accepted_by, ends_after, kind_after, lines_of, is_client, is_worker, by, in_queue, no_end}
+use Rattle.hub_core.proofs.Words.{no_line, Sound, Answers, IsAt, opened, Mailbox, new_mailbox, IsMailbox, MailboxEvent, push, pop, put_in, OneRight, events_of, leaving, finds_busy_at, sweeping, Happen, after_events, first_mailbox, made_as, after_pair}
 use Rattle.hub_core.specs.declared.step.Action.TheVariants as action
-use Rattle.hub_core.specs.declared.outcome.Outcome.{Outcome}
 use Rattle.hub_core.specs.declared.outcome.Outcome.TheVariants as outcome
-use Rattle.hub_core.specs.Facts.{EndNow, LineNow, Facts}
-use Rattle.hub_core.specs.Accepted.{accepted_by}
-use Rattle.hub_core.specs.Made.{ends_after, kind_after, lines_of}
-use Rattle.hub_core.specs.Making.{is_client, is_worker}
-use Rattle.hub_core.specs.Sender.{by, in_queue}
-use Rattle.hub_core.specs.Sound.{no_end, no_line, Sound}
-use Rattle.hub_core.specs.Fits.{Answers}
-use Rattle.hub_core.specs.GateMachine.{IsAt, opened}
-use Rattle.hub_core.specs.Mailbox.{Mailbox, new_mailbox, IsMailbox}
-use Rattle.hub_core.specs.MailboxSteps.{MailboxEvent, push, pop, put_in}
-use Rattle.hub_core.specs.MailboxPairs.{OneRight, events_of, leaving, finds_busy_at, sweeping, Happen}
-use Rattle.hub_core.specs.MailboxAfter.{after_events}
-use Rattle.hub_core.specs.MailboxOf.{first_mailbox, made_as, after_pair}
 use Rattle.hub_core.proofs.Items.{got_within, got_of-map}
 use Rattle.hub_core.proofs.Nexts.{next, accepted_one}
 use Rattle.hub_core.proofs.Fitting.{new_ends, queue_made_of, member_made_of}

@@ -1,25 +1,9 @@
 -- Each pair of a history is events of the mailbox of an end, or leaves it.
-use Rattle.std.proofs.Common.{◌≡◌, ℕ, ◌+◌, ◌-◌, ◌<◌, ◌&&◌, Bool, true, false, cond, eqb, List, [], ◌∷◌, ◌++◌, length, refl, sym, ap, subst, inl, inr, arith, Option, Some, None}
-use Rattle.std.specs.Prelude.{◌⊎◌, not}
-use Rattle.std.proofs.lemmas.Bool.{eqb-true, or_parts, not-false}
-use Rattle.hub_envelope.specs.declared.ids.EndId.{EndId}
-use Rattle.hub_core.specs.declared.line.Phase.TheVariants.{Out, Inside, Turned}
-use Rattle.hub_core.specs.declared.step.Action.{Action}
+use Rattle.std.proofs.Common.{◌≡◌, ℕ, ◌+◌, ◌-◌, ◌<◌, ◌&&◌, Bool, true, false, cond, eqb, List, [], ◌∷◌, ◌++◌, length, refl, sym, ap, subst, inl, inr, arith, Option, Some, None, ◌⊎◌, not}
+use Rattle.hub_core.proofs.Words.{eqb-true, or_parts, not-false, EndId, Out, Inside, Turned, Action, Outcome, Facts, named_envelope, named_notice, kind_after, lines_of, in_queue, someone_at, looked, look_answer, FitsSweep, IsDrained, IsLeft, FitsTake, Answers, Sound, enter, enable, look, close, lets_in, says_moved, says_closed}
+use Rattle.hub_core.proofs.Words.{says_done, gives_rights, Mailbox, MailboxEvent, at_gate, push, pop, hop, advance, add, IsSettled, HoldsNothing, OneRight, leaving, finds_busy, finds_busy_at, unsettled, rights_of, events_of, sweeping, Kind, Port, Client, Worker, Member}
 use Rattle.hub_core.specs.declared.step.Action.TheVariants as action
-use Rattle.hub_core.specs.declared.outcome.Outcome.{Outcome}
 use Rattle.hub_core.specs.declared.outcome.Outcome.TheVariants as outcome
-use Rattle.hub_core.specs.Facts.{Facts}
-use Rattle.hub_core.specs.Accepted.{named_envelope, named_notice}
-use Rattle.hub_core.specs.Made.{kind_after, lines_of}
-use Rattle.hub_core.specs.Sender.{in_queue}
-use Rattle.hub_core.specs.Looking.{someone_at, looked, look_answer, FitsSweep}
-use Rattle.hub_core.specs.Taking.{IsDrained, IsLeft, FitsTake}
-use Rattle.hub_core.specs.Fits.{Answers}
-use Rattle.hub_core.specs.Sound.{Sound}
-use Rattle.hub_core.specs.GateMachine.{enter, enable, look, close, lets_in, says_moved, says_closed, says_done, gives_rights}
-use Rattle.hub_core.specs.Mailbox.{Mailbox}
-use Rattle.hub_core.specs.MailboxSteps.{MailboxEvent, at_gate, push, pop, hop, advance, add, IsSettled, HoldsNothing}
-use Rattle.hub_core.specs.MailboxPairs.{OneRight, leaving, finds_busy, finds_busy_at, unsettled, rights_of, events_of, sweeping}
 use Rattle.hub_core.proofs.Nexts.{next, Change, agent_made, channel_made, let_in, found_moved, found_closed, put, left, hopped, started, got, went_on, cleared, adopted, notice_put, end_closed, end_swept, client_made, worker_made, line_got, line_back, handed, agent_ordered, agent_ended, member_joined, cast_begun, member_parted}
 use Rattle.hub_core.proofs.Fitting.{pushed_of, noticed_of, hopped_of, got_of, empty_of, busy_of, went_on_of, cleared_of, FindsBusy, look_busy_of, adopted_of, swept_of}
 use Rattle.hub_core.proofs.MailboxShown.{View, view, ShownAt, IsShown, Leads, at_end_or}
@@ -28,8 +12,6 @@ use Rattle.hub_core.proofs.PairQueues.{pushed_there, noticed_there, taken_there,
 use Rattle.hub_core.proofs.PairLooks.{settled_there, busy_there, look_busy_there, SweepsBusy, sweep_busy_of, sweep_busy_there, cleared_there}
 use Rattle.hub_core.proofs.PairSweeps.{swept_there}
 use Rattle.hub_core.proofs.PairMoves.{with_next, hopped_there, with_taker_at, went_on_there, with_queue_new, adopted_there}
-use Rattle.hub_core.specs.declared.kind.Kind.{Kind}
-use Rattle.hub_core.specs.declared.kind.Kind.TheVariants.{Port, Client, Worker, Member}
 
 -- ---- the pairs that are events
 

@@ -1,13 +1,6 @@
 -- A mailbox after an envelope was put in or taken out.
-use Rattle.std.proofs.Common.{◌≡◌, ◌≢◌, ◌⊎◌, ℕ, ◌<◌, false, true≢false, cond, [], ◌∷◌, ◌++◌, sym, ap, ◌∙◌, inl, inr, ⊎_elim, arith, length-set}
-use Rattle.std.specs.Prelude.{slice_get}
-use Rattle.std.proofs.lemmas.Bool.{cases_lt, ne_eqb}
-use Rattle.hub_envelope.specs.declared.envelope.Envelope.{Envelope}
-use Rattle.hub_core.specs.declared.line.Phase.TheVariants.{Inside}
-use Rattle.hub_core.specs.GateMachine.{Gate, IsAt}
-use Rattle.hub_core.specs.QueueMachine.{Queue, MayPush, pushed, IsQueue}
-use Rattle.hub_core.specs.Mailbox.{Mailbox, GateAt, QueueAt, StandsAt, IsNewest, IsMailbox}
-use Rattle.hub_core.specs.MailboxSteps.{HoldsFirst, taken_out, with_queue, IsSettled, HoldsNothing, MaySweep}
+use Rattle.std.proofs.Common.{◌≡◌, ◌≢◌, ◌⊎◌, ℕ, ◌<◌, false, true≢false, cond, [], ◌∷◌, ◌++◌, sym, ap, ◌∙◌, inl, inr, ⊎_elim, arith, length-set, ne_eqb}
+use Rattle.hub_core.proofs.Words.{slice_get, cases_lt, Envelope, Inside, Gate, IsAt, Queue, MayPush, pushed, IsQueue, Mailbox, GateAt, QueueAt, StandsAt, IsNewest, IsMailbox, HoldsFirst, taken_out, with_queue, IsSettled, HoldsNothing, MaySweep}
 use Rattle.hub_core.proofs.Items.{got_same, got_same_at, at_written, pairs_written}
 use Rattle.hub_core.proofs.Gating.{nobody_left}
 use Rattle.hub_core.proofs.Queueing.{after_push, none_held}

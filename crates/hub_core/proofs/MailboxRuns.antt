@@ -1,18 +1,8 @@
 -- Events of a mailbox, one after another: what they lead to is one, and they keep its queues in order.
 use Rattle.std.proofs.Common.{◌≡◌, ℕ, ◌+◌, ◌-◌, ◌≤◌, true, cond, eqb, List, [], ◌∷◌, ◌++◌, length, set, refl, sym, ap, subst, ◌∙◌, arith, append_assoc, append-nil, length-set, length-append}
-use Rattle.std.specs.Prelude.{flat_map, slice_get}
-use Rattle.std.proofs.lemmas.Option.{get_or_from_slice_get}
-use Rattle.std.proofs.lemmas.List.{append_cancel_left}
-use Rattle.std.proofs.lemmas.List.Elements.{filter-append}
-use Rattle.hub_envelope.specs.declared.envelope.Envelope.{Envelope}
-use Rattle.hub_core.specs.Sender.{in_queue, Prefix}
+use Rattle.hub_core.proofs.Words.{flat_map, slice_get, get_or_from_slice_get, append_cancel_left, filter-append, Envelope, in_queue, Prefix, Gate, opened, Steps, finds_moved, finds_closed, goes_in, goes_out, turns_back, enables, retires, closes, gave, is_open, is_busy, gives, Queue, new_queue, pushed, Mailbox, QueueAt, got_from}
+use Rattle.hub_core.proofs.Words.{IsMailbox, MailboxEvent, put_in, got_in, MailboxStep, gate_steps, pushes, takes, sweeps, finds_none, hops, advances, adds, HoldsFirst, without_first, taken_out, with_gate, with_queue, with_stand, with_new, OneRight, Happen, gate_after, with_gate_after, with_queue_after, after_event, after_events}
 use Rattle.hub_core.specs.GateMachine as machine
-use Rattle.hub_core.specs.GateMachine.{Gate, opened, Steps, finds_moved, finds_closed, goes_in, goes_out, turns_back, enables, retires, closes, gave, is_open, is_busy, gives}
-use Rattle.hub_core.specs.QueueMachine.{Queue, new_queue, pushed}
-use Rattle.hub_core.specs.Mailbox.{Mailbox, QueueAt, got_from, IsMailbox}
-use Rattle.hub_core.specs.MailboxSteps.{MailboxEvent, put_in, got_in, MailboxStep, gate_steps, pushes, takes, sweeps, finds_none, hops, advances, adds, HoldsFirst, without_first, taken_out, with_gate, with_queue, with_stand, with_new}
-use Rattle.hub_core.specs.MailboxPairs.{OneRight, Happen}
-use Rattle.hub_core.specs.MailboxAfter.{gate_after, with_gate_after, with_queue_after, after_event, after_events}
 use Rattle.hub_core.proofs.Lists.{eqb_same, slice_get-set_same}
 use Rattle.hub_core.proofs.Items.{got_within, at_written, at_pushed}
 use Rattle.hub_core.proofs.Waits.{queue_more, queue_other}

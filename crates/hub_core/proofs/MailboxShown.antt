@@ -1,27 +1,11 @@
 -- A mailbox that shows what is known of an end, and what it shows after an event.
-use Rattle.std.proofs.Common.{◌≡◌, ◌≢◌, ℕ, ◌+◌, ◌<◌, Bool, true, false, cond, eqb, List, [], ◌∷◌, ◌++◌, length, set, refl, sym, ap, subst, ◌∙◌, arith, append-nil, length-set, Option, Some}
-use Rattle.std.specs.Prelude.{IsTrue, slice_get}
-use Rattle.std.proofs.lemmas.Bool.{eqb-true, eqb-false, eq-eqb, ne_eqb}
-use Rattle.std.proofs.lemmas.List.Elements.{filter-append}
-use Rattle.hub_envelope.specs.declared.envelope.Envelope.{Envelope}
-use Rattle.hub_core.specs.declared.line.Phase.{Phase}
-use Rattle.hub_core.specs.History.{Pair, History}
-use Rattle.hub_core.specs.Facts.{Facts, facts}
-use Rattle.hub_core.specs.Made.{lines_of}
-use Rattle.hub_core.specs.Sender.{by}
-use Rattle.hub_core.specs.GateMachine.{Gate, IsAt}
-use Rattle.hub_core.specs.GateMachineLaws.{IsGateOf}
-use Rattle.hub_core.specs.QueueMachine.{Queue}
-use Rattle.hub_core.specs.Mailbox.{Mailbox, GateAt, StandsAt, IsNewest, put_by, got_from, IsMailbox}
-use Rattle.hub_core.specs.MailboxSteps.{MailboxEvent, MailboxStep, put_in, got_in, with_gate, with_queue}
-use Rattle.hub_core.specs.MailboxShows.{ShowsMailbox}
-use Rattle.hub_core.specs.ChainLaws.{Grows}
-use Rattle.hub_core.specs.MailboxPairs.{OneRight, has_right}
+use Rattle.std.proofs.Common.{◌≡◌, ◌≢◌, ℕ, ◌+◌, ◌<◌, Bool, true, false, cond, eqb, List, [], ◌∷◌, ◌++◌, length, set, refl, sym, ap, subst, ◌∙◌, arith, append-nil, length-set, Option, Some, ne_eqb}
+use Rattle.hub_core.proofs.Words.{IsTrue, slice_get, eqb-true, eqb-false, eq-eqb, filter-append, Envelope, Phase, Pair, History, Facts, facts, lines_of, by, Gate, IsAt, IsGateOf, Queue, Mailbox, GateAt, StandsAt, IsNewest, put_by, got_from, IsMailbox, MailboxEvent, MailboxStep, put_in, got_in, with_gate, with_queue, ShowsMailbox, Grows}
+use Rattle.hub_core.proofs.Words.{OneRight, has_right, Kind}
 use Rattle.hub_core.proofs.Lists.{slice_get-set_same, slice_get-set_other}
 use Rattle.hub_core.proofs.Items.{got_within, got_there, got_same_at, at_written}
 use Rattle.hub_core.proofs.Nexts.{next, facts_next}
 use Rattle.hub_core.proofs.MailboxStepping.{chain_laws}
-use Rattle.hub_core.specs.declared.kind.Kind.{Kind}
 
 -- what is known of an end, as far as a mailbox shows it
 pub record View : Type 0 where

@@ -1,8 +1,6 @@
 -- The laws of mailboxes.
 use Rattle.std.proofs.Common.{ℕ, refl}
-use Rattle.hub_core.specs.Mailbox.{Mailbox, IsMailbox}
-use Rattle.hub_core.specs.MailboxSteps.{MailboxEvent, put_in, got_in, MailboxStep, gate_steps, pushes, takes, sweeps, finds_none, hops, advances, adds}
-use Rattle.hub_core.specs.ChainLaws.{Grows, ChainLaws}
+use Rattle.hub_core.proofs.Words.{Mailbox, IsMailbox, MailboxEvent, put_in, got_in, MailboxStep, gate_steps, pushes, takes, sweeps, finds_none, hops, advances, adds, Grows, ChainLaws}
 use Rattle.hub_core.proofs.Chaining.{chain, drained}
 use Rattle.hub_core.proofs.Growing.{push_grows, pop_grows, new_grows, same_grows}
 use Rattle.hub_core.proofs.TakenOut.{pop_takes}

@@ -1,25 +1,7 @@
 -- The mailbox of an end after a legal history shows the history there, and holds what a core keeps.
 use Rattle.std.proofs.Common.{◌≡◌, ℕ, ◌+◌, ◌<◌, List, [], ◌∷◌, ◌++◌, replicate, Option, Some, refl, sym, ap, subst, ◌∙◌}
-use Rattle.std.specs.Prelude.{slice_get, slice_index_or}
-use Rattle.std.proofs.lemmas.List.{length-replicate, append_cancel_left}
-use Rattle.hub_core.specs.declared.end.End.{End}
-use Rattle.hub_core.specs.declared.machine.Core.{Core}
-use Rattle.hub_core.specs.declared.kind.Kind.{Kind}
-use Rattle.hub_core.specs.History.{Pair, History}
-use Rattle.hub_core.specs.Facts.{Facts, facts}
-use Rattle.hub_core.specs.Made.{lines_of}
-use Rattle.hub_core.specs.Sender.{in_queue, Prefix}
-use Rattle.hub_core.specs.Sound.{Sound}
-use Rattle.hub_core.specs.Fits.{Fits}
-use Rattle.hub_core.specs.Legal.{Legal}
-use Rattle.hub_core.specs.Laws.{InOrder}
-use Rattle.hub_core.specs.Shows.{ShowsEnd, Shows}
-use Rattle.hub_core.specs.QueueMachine.{new_queue}
-use Rattle.hub_core.specs.Mailbox.{Mailbox, new_mailbox, IsMailbox}
-use Rattle.hub_core.specs.MailboxSteps.{MailboxEvent}
-use Rattle.hub_core.specs.MailboxPairs.{OneRight, events_of, PairsAreEvents}
-use Rattle.hub_core.specs.MailboxShows.{ShowsMailbox, HoldsKept, MailboxesShow}
-use Rattle.hub_core.specs.MailboxOf.{first_mailbox, mailbox, GoesOn, EachShows, KeepsMailboxes}
+use Rattle.hub_core.proofs.Words.{slice_get, slice_index_or, length-replicate, append_cancel_left, End, Core, Kind, Pair, History, Facts, facts, lines_of, in_queue, Prefix, Sound, Fits, Legal, InOrder, ShowsEnd, Shows, new_queue, Mailbox, new_mailbox, IsMailbox, MailboxEvent, OneRight, events_of, PairsAreEvents, ShowsMailbox, HoldsKept}
+use Rattle.hub_core.proofs.Words.{MailboxesShow, first_mailbox, mailbox, GoesOn, EachShows, KeepsMailboxes}
 use Rattle.hub_core.proofs.Nexts.{facts_next}
 use Rattle.hub_core.proofs.Sounds.{sound_legal, mailbox_one, box_legal}
 use Rattle.hub_core.proofs.Orders.{shows_in_order}

@@ -2,50 +2,21 @@
 use Rattle.hub_core.proofs.Casts.{roster_agent}
 use Rattle.hub_core.proofs.Nexts.{Change, agent_made, channel_made, client_made, worker_made}
 use Rattle.hub_core.proofs.Changing.{ShownAfter, ShownWith}
-use Rattle.std.proofs.Common.{◌≡◌, ℕ, ◌+◌, ◌≤◌, Bool, true, false, cond, eqb, List, [], ◌∷◌, ◌++◌, length, get_or, Some, zero, suc, refl, sym, ap, subst, ◌∙◌, arith, length-append, inl, inr, rules, ◌<◌, Option, not, replicate, None, ne_eqb}
-use Rattle.std.specs.Prelude.{◌&&◌, nat_lt, nat_le, ◌||◌, is_some, option_map}
-use Rattle.std.specs.List.{slice_get}
-use Rattle.std.proofs.lemmas.Option.{slice_get_past}
-use Rattle.std.proofs.lemmas.Bool.Decides.{nat_tests}
-use Rattle.std.proofs.lemmas.Bool.{eqb-true, eqb-false, ltb-true, ltb-false, false≢true, false_from_ne_true}
-use Rattle.hub_envelope.specs.declared.ids.AgentId.{AgentId}
-use Rattle.hub_envelope.specs.declared.ids.EndId.{EndId}
-use Rattle.hub_envelope.specs.declared.envelope.Envelope.{Envelope}
-use Rattle.hub_envelope.specs.declared.limits.TheConstants.{MAX_ENDS}
-use Rattle.hub_core.specs.declared.agent.Agent.{Agent}
-use Rattle.hub_core.specs.declared.end.End.{End}
-use Rattle.hub_core.specs.declared.end.Place.TheVariants.{With}
+use Rattle.std.proofs.Common.{◌≡◌, ℕ, ◌+◌, ◌≤◌, Bool, true, false, cond, eqb, List, [], ◌∷◌, ◌++◌, length, get_or, Some, zero, suc, refl, sym, ap, subst, ◌∙◌, arith, length-append, inl, inr, rules, ◌<◌, Option, not, replicate, None, ne_eqb, ◌&&◌, nat_lt, nat_le, ◌||◌, ltb-true, ltb-false}
+use Rattle.hub_core.proofs.Words.{is_some, option_map, slice_get, slice_get_past, nat_tests, eqb-true, eqb-false, false≢true, false_from_ne_true, AgentId, EndId, Envelope, MAX_ENDS, Agent, End, With, Outcome, AgentNow, EndNow, LineNow, Facts, agent_answer, channel_answer, queue_answer, is_client, is_worker, has_one, no_end, no_line}
+use Rattle.hub_core.proofs.Words.{total, Sound, agent_now, end_now, line_now, ShowsPut, ShowsEnd, kept_clients, count_with, kept_workers, count_away, kept_away, ShowsFacts, first_line, kept_queue_answer, new_end, count_of, come, first_agent, CoreState, seen, lines_of, peer_of, Kind, Action, Port, Client, Worker, Member, Answers}
+use Rattle.hub_core.proofs.Words.{length-replicate, is_with, is_out, member_answer, is_casting, set_agent, one_more, kept_member_answer, origin_at}
 use Rattle.hub_core.specs.declared.step.Action.TheVariants as action
-use Rattle.hub_core.specs.declared.outcome.Outcome.{Outcome}
 use Rattle.hub_core.specs.declared.outcome.Outcome.TheVariants as outcome
-use Rattle.hub_core.specs.Facts.{AgentNow, EndNow, LineNow, Facts}
-use Rattle.hub_core.specs.Making.{agent_answer, channel_answer, queue_answer, is_client, is_worker, has_one}
-use Rattle.hub_core.specs.Sound.{no_end, no_line, total, Sound}
-use Rattle.hub_core.specs.Shows.{agent_now, end_now, line_now, ShowsPut, ShowsEnd, kept_clients, count_with, kept_workers, count_away, kept_away}
-use Rattle.hub_core.specs.Shows.{ShowsFacts}
 use Rattle.hub_core.proofs.Showing.{SoundlyShows}
-use Rattle.hub_core.specs.Kept.{first_line, kept_queue_answer, new_end, count_of, come, first_agent}
 use Rattle.hub_core.proofs.Lists.{slice_get-append_front, slice_get-append_back, eqb_same, next_up}
 use Rattle.hub_core.proofs.Frames.{Stepped}
-use Rattle.hub_core.specs.CoreState.{CoreState}
-use Rattle.hub_core.specs.Seen.{seen}
 use Rattle.hub_core.proofs.Seeing.{Sees, seen_is}
 use Rattle.hub_core.proofs.Speakers.{nothing_accepted, nothing_removed, running_made, entangled_made}
-use Rattle.hub_core.specs.Made.{lines_of, peer_of}
-use Rattle.hub_core.specs.declared.kind.Kind.{Kind}
-use Rattle.hub_core.specs.declared.step.Action.{Action}
-use Rattle.hub_core.specs.declared.kind.Kind.TheVariants.{Port, Client, Worker, Member}
 use Rattle.hub_core.proofs.Nexts.{next}
 use Rattle.hub_core.proofs.Counts.{New, counts_at, Counted, counted_new, none_of_kind, counts_of, come_length, come_now, IsCalmAt, away_at, calm_count, none_at}
-use Rattle.hub_core.specs.Fits.{Answers}
 use Rattle.hub_core.proofs.Totals.{total_same}
-use Rattle.std.proofs.lemmas.List.{length-replicate}
-use Rattle.hub_core.specs.Posting.{is_with, is_out}
 use Rattle.hub_core.proofs.Fitting.{queue_made_of, member_made_of, new_agent, new_ends}
-use Rattle.hub_core.specs.Casting.{member_answer, is_casting}
-use Rattle.hub_core.specs.Kept.{set_agent, one_more}
-use Rattle.hub_core.specs.KeptCasting.{kept_member_answer}
-use Rattle.hub_core.specs.KeptRoster.{origin_at}
 use Rattle.hub_core.proofs.Lists.{set_again}
 use Rattle.hub_core.proofs.Calms.{calm_places}
 

@@ -1,13 +1,6 @@
 -- The names of envelopes: those of a line that is numbered are distinct, and so they tell what is left of it.
-use Rattle.std.proofs.Common.{◌≡◌, ℕ, zero, suc, ◌<◌, Bool, true, false, cond, eqb, List, [], ◌∷◌, ◌++◌, length, map, refl, sym, ap, subst, ◌∙◌, arith}
-use Rattle.std.specs.Prelude.{◌&&◌, not}
-use Rattle.std.specs.List.{filter, list_any, AllByRecursion}
-use Rattle.std.proofs.lemmas.Bool.{false≢true, false_from_ne_true, eqb-true, eq-eqb, ne_eqb, and_from, and_parts, or_left, or_right, or_from}
-use Rattle.std.proofs.lemmas.List.Elements.{filter-append}
-use Rattle.hub_envelope.specs.declared.envelope.Envelope.{Envelope}
-use Rattle.hub_core.specs.Fates.{same_name}
-use Rattle.hub_core.specs.Numbers.{up_to, numbers}
-use Rattle.hub_core.specs.Sender.{by}
+use Rattle.std.proofs.Common.{◌≡◌, ℕ, zero, suc, ◌<◌, Bool, true, false, cond, eqb, List, [], ◌∷◌, ◌++◌, length, map, refl, sym, ap, subst, ◌∙◌, arith, ◌&&◌, not, ne_eqb}
+use Rattle.hub_core.proofs.Words.{filter, list_any, AllByRecursion, false≢true, false_from_ne_true, eqb-true, eq-eqb, and_from, and_parts, or_left, or_right, or_from, filter-append, Envelope, same_name, up_to, numbers, by}
 use Rattle.hub_core.proofs.Lists.{AllByRecursion-append, AllByRecursion-weaker}
 use Rattle.hub_core.proofs.Waits.{all_kept, all_back, all_both, filters}
 use Rattle.hub_core.proofs.Joins.{all_pass, none_fail, of_line}

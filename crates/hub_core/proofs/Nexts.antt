@@ -1,37 +1,9 @@
 -- One more pair, for all notions at once: the facts of the longer history.
-use Rattle.std.proofs.Common.{◌≡◌, ℕ, Bool, true, false, cond, eqb, List, [], ◌∷◌, ◌++◌, refl, sym, ap, subst, ◌∙◌, inl, inr, append-nil}
-use Rattle.std.specs.Prelude.{◌==◌, if◌then◌else◌, Option, None, ◌⊎◌, Some}
-use Rattle.hub_core.specs.declared.end.Place.{Place}
-use Rattle.std.specs.List.{fold, flat_map}
-use Rattle.std.proofs.lemmas.List.Sums.{fold-append}
-use Rattle.std.proofs.lemmas.Grind.{flat_map-append}
-use Rattle.hub_envelope.specs.declared.envelope.Envelope.{Envelope}
-use Rattle.hub_envelope.specs.declared.ids.AgentId.{AgentId}
-use Rattle.hub_envelope.specs.declared.ids.EndId.{EndId}
-use Rattle.hub_envelope.specs.declared.ids.LineId.{LineId}
-use Rattle.hub_core.specs.declared.line.Phase.TheVariants.{Out}
-use Rattle.hub_core.specs.declared.sender.Sender.{Sender}
-use Rattle.hub_core.specs.declared.outcome.Acceptance.{Acceptance}
-use Rattle.hub_core.specs.declared.step.Action.{Action}
+use Rattle.std.proofs.Common.{◌≡◌, ℕ, Bool, true, false, cond, eqb, List, [], ◌∷◌, ◌++◌, refl, sym, ap, subst, ◌∙◌, inl, inr, append-nil, Option, None, ◌⊎◌, Some}
+use Rattle.hub_core.proofs.Words.{◌==◌, if◌then◌else◌, Place, fold, flat_map, fold-append, flat_map-append, Envelope, AgentId, EndId, LineId, Out, Sender, Acceptance, Action, Outcome, Pair, History, Facts, facts, named_envelope, accepted_by, named_notice, taken_by, agents_after, runs_after, ordered_after, ends_after, kind_after}
+use Rattle.hub_core.proofs.Words.{place_after, closed_after, enabled_after, phase_after, adoptions_after, hops_after, passed_after, noticed_after, held_after, clear_after, discarded_by, roster_after, no_roster, CoreState, core_after, changes_nothing, false≢true}
 use Rattle.hub_core.specs.declared.step.Action.TheVariants as action
-use Rattle.hub_core.specs.declared.outcome.Outcome.{Outcome}
 use Rattle.hub_core.specs.declared.outcome.Outcome.TheVariants as outcome
-use Rattle.hub_core.specs.History.{Pair, History}
-use Rattle.hub_core.specs.Facts.{Facts, facts}
-use Rattle.hub_core.specs.Accepted.{named_envelope, accepted_by, named_notice}
-use Rattle.hub_core.specs.Taken.{taken_by}
-use Rattle.hub_core.specs.Made.{agents_after, runs_after, ordered_after, ends_after, kind_after}
-use Rattle.hub_core.specs.Place.{place_after}
-use Rattle.hub_core.specs.Closed.{closed_after}
-use Rattle.hub_core.specs.Enabled.{enabled_after}
-use Rattle.hub_core.specs.Lines.{phase_after, adoptions_after, hops_after, passed_after, noticed_after, held_after}
-use Rattle.hub_core.specs.Clear.{clear_after}
-use Rattle.hub_core.specs.Discarded.{discarded_by}
-use Rattle.hub_core.specs.Roster.{roster_after, no_roster}
-use Rattle.hub_core.specs.CoreState.{CoreState}
-use Rattle.hub_core.specs.CoreSteps.{core_after}
-use Rattle.hub_core.specs.Unchanged.{changes_nothing}
-use Rattle.std.proofs.lemmas.Bool.{false≢true}
 
 -- the list with what an answered step puts at its end
 abbrev pub accepted_after : ℕ → List Envelope → Outcome → Action → List Envelope

@@ -2,31 +2,15 @@
 use Rattle.hub_core.proofs.Fitting.{noticed_of}
 use Rattle.hub_core.proofs.Nexts.{Change, notice_put}
 use Rattle.hub_core.proofs.Changing.{ShownAfter}
-use Rattle.std.proofs.Common.{◌≡◌, ℕ, Bool, true, false, cond, eqb, List, [], set, Option, Some, None, refl, ap, subst, ◌∙◌}
-use Rattle.std.specs.Prelude.{not, ◌&&◌, option_map}
-use Rattle.std.specs.List.{slice_get}
-use Rattle.std.proofs.lemmas.Bool.{ne_eqb, false≢true, and_parts}
-use Rattle.hub_envelope.specs.declared.envelope.Envelope.{Envelope}
-use Rattle.hub_core.specs.declared.agent.Agent.{Agent}
-use Rattle.hub_core.specs.declared.line.Line.{Line}
-use Rattle.hub_core.specs.declared.sender.Sender.{Sender}
-use Rattle.hub_core.specs.declared.end.End.{End}
-use Rattle.hub_core.specs.declared.end.Place.TheVariants.{InFlight}
+use Rattle.std.proofs.Common.{◌≡◌, ℕ, Bool, true, false, cond, eqb, List, [], set, Option, Some, None, refl, ap, subst, ◌∙◌, not, ◌&&◌, ne_eqb}
+use Rattle.hub_core.proofs.Words.{option_map, slice_get, false≢true, and_parts, Envelope, Agent, Line, Sender, End, InFlight, Acceptance, Outcome, LineNow, Facts, named_notice, phase_of_line, is_inside, next_name, is_posting, hears_notice, notice_answer, no_line, Sound, line_now, ShowsPut, has_queue, posting_line, posting_at}
+use Rattle.hub_core.proofs.Words.{kept_noticing_line, kept_noticing, notice_outcome, put_end, CoreState}
 use Rattle.hub_core.specs.declared.step.Action.TheVariants as action
-use Rattle.hub_core.specs.declared.outcome.Acceptance.{Acceptance}
-use Rattle.hub_core.specs.declared.outcome.Outcome.{Outcome}
 use Rattle.hub_core.specs.declared.outcome.Outcome.TheVariants as outcome
-use Rattle.hub_core.specs.Facts.{LineNow, Facts}
-use Rattle.hub_core.specs.Accepted.{named_notice}
-use Rattle.hub_core.specs.Posting.{phase_of_line, is_inside, next_name, is_posting, hears_notice, notice_answer}
-use Rattle.hub_core.specs.Sound.{no_line, Sound}
-use Rattle.hub_core.specs.Shows.{line_now, ShowsPut}
 use Rattle.hub_core.proofs.Showing.{SoundlyShows}
-use Rattle.hub_core.specs.Kept.{has_queue, posting_line, posting_at, kept_noticing_line, kept_noticing, notice_outcome, put_end}
 use Rattle.hub_core.proofs.Placing.{Moves}
 use Rattle.hub_core.proofs.Lists.{eqb_same}
 use Rattle.hub_core.proofs.Frames.{ShownAt, Stepped, changed}
-use Rattle.hub_core.specs.CoreState.{CoreState}
 use Rattle.hub_core.proofs.Seeing.{Sees, seen_is}
 use Rattle.hub_core.proofs.Puts.{each_shown, put_count, name_kept, queue_kept}
 use Rattle.hub_core.proofs.Pushes.{posting_as, inside_line, accepted_moves}

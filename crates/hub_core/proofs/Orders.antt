@@ -1,33 +1,9 @@
 -- In order, queue by queue; and that legal histories in order have one answer to each step.
-use Rattle.std.proofs.Common.{◌≡◌, ℕ, ◌+◌, ◌-◌, ◌<◌, ◌≤◌, Bool, true, false, cond, eqb, get_or, List, [], ◌∷◌, ◌++◌, length, Option, Some, None, refl, sym, ap, subst, ◌∙◌, arith, append_assoc, append-nil, length-append}
-use Rattle.std.specs.Prelude.{is_some, nat_lt}
-use Rattle.std.specs.Bool.{MatchBool}
-use Rattle.std.specs.List.{flat_map, slice_get}
-use Rattle.std.proofs.lemmas.Grind.{flat_map-append}
-use Rattle.std.proofs.lemmas.Bool.{ltb-true, ltb-false, eq-eqb, false≢true}
-use Rattle.std.proofs.lemmas.List.{get_or_append_left}
-use Rattle.std.proofs.lemmas.List.Elements.{filter-append}
-use Rattle.std.proofs.Math.Seq.{get_or-append_seam}
-use Rattle.hub_envelope.specs.declared.ids.EndId.{EndId}
-use Rattle.hub_envelope.specs.declared.envelope.Envelope.{Envelope}
-use Rattle.hub_core.specs.declared.end.End.{End}
-use Rattle.hub_core.specs.declared.machine.Core.{Core}
-use Rattle.hub_core.specs.declared.step.Step.{Step}
-use Rattle.hub_core.specs.declared.step.Action.{Action}
+use Rattle.std.proofs.Common.{◌≡◌, ℕ, ◌+◌, ◌-◌, ◌<◌, ◌≤◌, Bool, true, false, cond, eqb, get_or, List, [], ◌∷◌, ◌++◌, length, Option, Some, None, refl, sym, ap, subst, ◌∙◌, arith, append_assoc, append-nil, length-append, nat_lt, ltb-true, ltb-false}
+use Rattle.hub_core.proofs.Words.{is_some, MatchBool, flat_map, slice_get, flat_map-append, eq-eqb, false≢true, get_or_append_left, filter-append, get_or-append_seam, EndId, Envelope, End, Core, Step, Action, Outcome, Pair, History, Facts, facts, LineNow, Answers, accepted, accepted_by, taken, taken_by, by, in_queue, Prefix, holder}
+use Rattle.hub_core.proofs.Words.{IsNext, IsDrained, Serves, IsLeft, Sound, KeepsQueues, Shows, InOrder, OneAnswer, discarded, LegalAfter}
 use Rattle.hub_core.specs.declared.step.Action.TheVariants as action
-use Rattle.hub_core.specs.declared.outcome.Outcome.{Outcome}
 use Rattle.hub_core.specs.declared.outcome.Outcome.TheVariants as outcome
-use Rattle.hub_core.specs.History.{Pair, History}
-use Rattle.hub_core.specs.Facts.{Facts, facts, LineNow}
-use Rattle.hub_core.specs.Fits.{Answers}
-use Rattle.hub_core.specs.Accepted.{accepted, accepted_by}
-use Rattle.hub_core.specs.Taken.{taken, taken_by}
-use Rattle.hub_core.specs.Sender.{by, in_queue, Prefix}
-use Rattle.hub_core.specs.Posting.{holder}
-use Rattle.hub_core.specs.Taking.{IsNext, IsDrained, Serves, IsLeft}
-use Rattle.hub_core.specs.Sound.{Sound}
-use Rattle.hub_core.specs.Shows.{KeepsQueues, Shows}
-use Rattle.hub_core.specs.Laws.{InOrder, OneAnswer}
 use Rattle.hub_core.proofs.Lists.{eqb_same}
 use Rattle.hub_core.proofs.Waits.{queue_more}
 use Rattle.hub_core.proofs.Totals.{count_lines}
@@ -37,9 +13,7 @@ use Rattle.hub_core.proofs.SoundWaiting.{got_prefix}
 use Rattle.hub_core.proofs.Speakers.{nothing_accepted, nothing_removed}
 use Rattle.hub_core.proofs.Sounds.{sound_legal}
 use Rattle.hub_core.proofs.Legals.{legal_at}
-use Rattle.hub_core.specs.Discarded.{discarded}
 use Rattle.hub_core.proofs.SweepOrders.{sweep_one}
-use Rattle.hub_core.specs.Legal.{LegalAfter}
 
 -- ---- what a core shows is in order
 

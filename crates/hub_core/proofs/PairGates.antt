@@ -1,21 +1,9 @@
 -- The pairs that are events of a line at its gate, a Start, and a Close.
-use Rattle.std.proofs.Common.{◌≡◌, ℕ, ◌+◌, ◌<◌, ◌≤◌, ◌&&◌, Bool, true, false, true≢false, cond, eqb, [], ◌∷◌, length, map, set, refl, sym, ap, subst, ◌∙◌, ⊎_elim, arith, Option, Some, None}
-use Rattle.std.specs.Prelude.{slice_get, not, is_some}
-use Rattle.std.proofs.lemmas.Bool.{false≢true, false_from_ne_true, or_from, ltb-true, ltb-false, cases_lt}
-use Rattle.hub_core.specs.declared.line.Phase.{Phase}
-use Rattle.hub_core.specs.declared.line.Phase.TheVariants.{Out, Inside, Turned}
-use Rattle.hub_core.specs.declared.sender.Sender.{Sender}
+use Rattle.std.proofs.Common.{◌≡◌, ℕ, ◌+◌, ◌<◌, ◌≤◌, ◌&&◌, Bool, true, false, true≢false, cond, eqb, [], ◌∷◌, length, map, set, refl, sym, ap, subst, ◌∙◌, ⊎_elim, arith, Option, Some, None, not, ltb-true, ltb-false}
+use Rattle.hub_core.proofs.Words.{slice_get, is_some, false≢true, false_from_ne_true, or_from, cases_lt, Phase, Out, Inside, Turned, Sender, LineNow, Facts, lines_of, is_out, enter_answer, leave_answer, Sound, Gate, IsAt, with_phase, with_home, with_flags, finds_moved, finds_closed, goes_in, goes_out, turns_back, enables, closes}
+use Rattle.hub_core.proofs.Words.{leaves_right, IsGateOf, Mailbox, IsNewest, at_gate, MailboxStep, gate_steps, with_gate, OneRight, enabled_of, leaving}
 use Rattle.hub_core.specs.declared.outcome.Outcome.TheVariants as outcome
-use Rattle.hub_core.specs.Facts.{LineNow, Facts}
-use Rattle.hub_core.specs.Made.{lines_of}
-use Rattle.hub_core.specs.Posting.{is_out, enter_answer, leave_answer}
-use Rattle.hub_core.specs.Sound.{Sound}
 use Rattle.hub_core.specs.GateMachine as machine
-use Rattle.hub_core.specs.GateMachine.{Gate, IsAt, with_phase, with_home, with_flags, finds_moved, finds_closed, goes_in, goes_out, turns_back, enables, closes}
-use Rattle.hub_core.specs.GateMachineLaws.{leaves_right, IsGateOf}
-use Rattle.hub_core.specs.Mailbox.{Mailbox, IsNewest}
-use Rattle.hub_core.specs.MailboxSteps.{at_gate, MailboxStep, gate_steps, with_gate}
-use Rattle.hub_core.specs.MailboxPairs.{OneRight, enabled_of, leaving}
 use Rattle.hub_core.proofs.Items.{got_there, got-map, got_of-map}
 use Rattle.hub_core.proofs.Fitting.{is_retired, let_in_of, found_moved_of, found_closed_of, left_of}
 use Rattle.hub_core.proofs.SoundLines.{line_there, LinesAt}

@@ -1,25 +1,9 @@
 -- Who is at a gate, and the pairs that are looks: at a queue where somebody is, and at one that becomes clear.
-use Rattle.std.proofs.Common.{◌≡◌, ◌⊎◌, ℕ, zero, suc, ◌+◌, ◌-◌, ◌<◌, ◌≤◌, ◌&&◌, Bool, true, false, true≢false, cond, eqb, List, [], ◌∷◌, length, map, refl, sym, ap, subst, ◌∙◌, inl, inr, ⊎_elim, arith, Some}
-use Rattle.std.specs.Prelude.{slice_get, not, sum_by}
-use Rattle.std.specs.Bool.{MatchBool}
-use Rattle.std.proofs.lemmas.Bool.{false≢true, not-true, not-false, and_parts, or_parts, eqb-true, eq-eqb, cases_eq, cases_lt, or_cases, or_left, or_right}
-use Rattle.std.proofs.lemmas.List.{length-map}
-use Rattle.std.proofs.lemmas.List.Sums.{sum_by-cons}
-use Rattle.hub_envelope.specs.declared.ids.EndId.{EndId}
+use Rattle.std.proofs.Common.{◌≡◌, ◌⊎◌, ℕ, zero, suc, ◌+◌, ◌-◌, ◌<◌, ◌≤◌, ◌&&◌, Bool, true, false, true≢false, cond, eqb, List, [], ◌∷◌, length, map, refl, sym, ap, subst, ◌∙◌, inl, inr, ⊎_elim, arith, Some, not}
+use Rattle.hub_core.proofs.Words.{slice_get, sum_by, MatchBool, false≢true, not-true, not-false, and_parts, or_parts, eqb-true, eq-eqb, cases_eq, cases_lt, or_cases, or_left, or_right, length-map, sum_by-cons, EndId, Phase, Out, Inside, Turned, Facts, lines_of, is_out, is_away_at, someone_at, is_settled, first_failing, all_from}
+use Rattle.hub_core.proofs.Words.{all_settled, FitsSweep, Sound, Gate, weight, busy, is_shut, IsAt, with_none, is_busy, gives, IsGateOf, Mailbox, GateAt, StandsAt, at_gate, MailboxStep, gate_steps, with_gate, IsSettled, OneRight, busy_at, rights_of, finds_busy, unsettled}
 use Rattle.hub_core.specs.declared.outcome.Outcome.TheVariants as outcome
-use Rattle.hub_core.specs.declared.line.Phase.{Phase}
-use Rattle.hub_core.specs.declared.line.Phase.TheVariants.{Out, Inside, Turned}
-use Rattle.hub_core.specs.Facts.{Facts}
-use Rattle.hub_core.specs.Made.{lines_of}
-use Rattle.hub_core.specs.Posting.{is_out}
-use Rattle.hub_core.specs.Looking.{is_away_at, someone_at, is_settled, first_failing, all_from, all_settled, FitsSweep}
-use Rattle.hub_core.specs.Sound.{Sound}
 use Rattle.hub_core.specs.GateMachine as machine
-use Rattle.hub_core.specs.GateMachine.{Gate, weight, busy, is_shut, IsAt, with_none, is_busy, gives}
-use Rattle.hub_core.specs.GateMachineLaws.{IsGateOf}
-use Rattle.hub_core.specs.Mailbox.{Mailbox, GateAt, StandsAt}
-use Rattle.hub_core.specs.MailboxSteps.{at_gate, MailboxStep, gate_steps, with_gate, IsSettled}
-use Rattle.hub_core.specs.MailboxPairs.{OneRight, busy_at, rights_of, finds_busy, unsettled}
 use Rattle.hub_core.proofs.Lists.{set_again}
 use Rattle.hub_core.proofs.Items.{some_is, got_within, got_there, got_same}
 use Rattle.hub_core.proofs.Gating.{weight_le, gate_machine_laws}

@@ -1,19 +1,8 @@
 -- The pairs that move a line or the taker to the next queue, and the one that adds a queue.
-use Rattle.std.proofs.Common.{◌≡◌, ℕ, ◌+◌, ◌<◌, ◌&&◌, Bool, true, false, cond, eqb, List, [], ◌∷◌, length, set, refl, sym, ap, subst, ◌∙◌, ⊎_elim, arith, append-nil, length-set, length-append}
-use Rattle.std.proofs.lemmas.Bool.{false_from_ne_true, eq-eqb, ne_eqb}
-use Rattle.std.proofs.lemmas.List.{length-map}
-use Rattle.hub_core.specs.declared.line.Phase.TheVariants.{Out}
-use Rattle.hub_core.specs.declared.sender.Sender.{Sender}
-use Rattle.hub_core.specs.Facts.{Facts}
-use Rattle.hub_core.specs.Made.{lines_of}
-use Rattle.hub_core.specs.Sound.{Sound}
-use Rattle.hub_core.specs.GateMachine.{Gate, IsAt, opened, with_flags, retires}
-use Rattle.hub_core.specs.Mailbox.{Mailbox, GateAt, StandsAt}
-use Rattle.hub_core.specs.MailboxSteps.{hop, advance, add, MailboxStep, hops, advances, adds, with_gate, with_stand, with_taker, with_new, IsSettled, HoldsNothing}
-use Rattle.hub_core.specs.ChainLaws.{Grows}
-use Rattle.hub_core.specs.MailboxPairs.{OneRight, rights_of}
+use Rattle.std.proofs.Common.{◌≡◌, ℕ, ◌+◌, ◌<◌, ◌&&◌, Bool, true, false, cond, eqb, List, [], ◌∷◌, length, set, refl, sym, ap, subst, ◌∙◌, ⊎_elim, arith, append-nil, length-set, length-append, ne_eqb}
+use Rattle.hub_core.proofs.Words.{false_from_ne_true, eq-eqb, length-map, Out, Sender, Facts, lines_of, Sound, Gate, IsAt, opened, with_flags, retires, Mailbox, GateAt, StandsAt, hop, advance, add, MailboxStep, hops, advances, adds, with_gate, with_stand, with_taker, with_new, IsSettled, HoldsNothing, Grows, OneRight, rights_of, is_out}
+use Rattle.hub_core.proofs.Words.{phase_of_line, may_enter}
 use Rattle.hub_core.proofs.Items.{got_within, got_there, at_written, at_pushed}
-use Rattle.hub_core.specs.Posting.{is_out, phase_of_line, may_enter}
 use Rattle.hub_core.proofs.Fitting.{is_retired}
 use Rattle.hub_core.proofs.SoundLines.{line_there, LinesAt}
 use Rattle.hub_core.proofs.MailboxStepping.{step_kept}

@@ -1,25 +1,7 @@
 -- The pairs that are events of a queue: a Push or a Notice that was accepted, and a pop, which finds an envelope or none.
-use Rattle.std.proofs.Common.{◌≡◌, ◌≢◌, ℕ, zero, suc, ◌<◌, Bool, true, cond, eqb, List, [], ◌∷◌, ◌++◌, length, refl, sym, ap, subst, ◌∙◌, arith, append-nil, append_assoc, Some, None}
-use Rattle.std.specs.Prelude.{slice_get, flat_map}
-use Rattle.std.specs.List.{filter, AllByRecursion}
-use Rattle.std.proofs.lemmas.Bool.{ne_eqb}
-use Rattle.std.proofs.lemmas.List.{append_cancel_left}
-use Rattle.std.proofs.lemmas.List.Elements.{filter-append, recursion_from_All}
-use Rattle.hub_envelope.specs.declared.envelope.Envelope.{Envelope}
-use Rattle.hub_envelope.specs.declared.ids.EndId.{EndId}
-use Rattle.hub_core.specs.declared.line.Phase.TheVariants.{Inside}
-use Rattle.hub_core.specs.declared.sender.Sender.{Sender}
-use Rattle.hub_core.specs.declared.outcome.Acceptance.{Acceptance}
-use Rattle.hub_core.specs.Facts.{Facts}
-use Rattle.hub_core.specs.Accepted.{named_envelope, named_notice}
-use Rattle.hub_core.specs.Made.{lines_of}
-use Rattle.hub_core.specs.Sender.{by, in_queue, count_in_queue}
-use Rattle.hub_core.specs.Posting.{phase_of_line}
-use Rattle.hub_core.specs.QueueMachine.{Queue, IsNamed, MayPush, pushed, pop_of}
-use Rattle.hub_core.specs.Mailbox.{Mailbox, QueueAt, put_by, got_from, IsMailbox}
-use Rattle.hub_core.specs.MailboxSteps.{push, pop, MailboxStep, pushes, takes, finds_none, HoldsFirst, taken_out, with_queue, HoldsNothing}
-use Rattle.hub_core.specs.MailboxPairs.{OneRight}
-use Rattle.hub_core.specs.Taking.{IsNext}
+use Rattle.std.proofs.Common.{◌≡◌, ◌≢◌, ℕ, zero, suc, ◌<◌, Bool, true, cond, eqb, List, [], ◌∷◌, ◌++◌, length, refl, sym, ap, subst, ◌∙◌, arith, append-nil, append_assoc, Some, None, ne_eqb}
+use Rattle.hub_core.proofs.Words.{slice_get, flat_map, filter, AllByRecursion, append_cancel_left, filter-append, recursion_from_All, Envelope, EndId, Inside, Sender, Acceptance, Facts, named_envelope, named_notice, lines_of, by, in_queue, count_in_queue, phase_of_line, Queue, IsNamed, MayPush, pushed, pop_of, Mailbox, QueueAt, put_by}
+use Rattle.hub_core.proofs.Words.{got_from, IsMailbox, push, pop, MailboxStep, pushes, takes, finds_none, HoldsFirst, taken_out, with_queue, HoldsNothing, OneRight, IsNext}
 use Rattle.hub_core.proofs.Lists.{eqb_same, AllByRecursion-weaker}
 use Rattle.hub_core.proofs.Items.{none_got, some_is, got_there}
 use Rattle.hub_core.proofs.Waits.{all_kept, filters, queue_more, all_of_queue}

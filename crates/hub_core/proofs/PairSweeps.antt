@@ -1,20 +1,7 @@
 -- A Sweep as pops at each queue from the taker's to the newest, until none is found.
-use Rattle.std.proofs.Common.{◌≡◌, ℕ, zero, suc, ◌+◌, ◌-◌, ◌<◌, ◌≤◌, Bool, true, ltb, List, [], ◌∷◌, ◌++◌, length, map, refl, sym, ap, subst, ◌∙◌, ⊎_elim, arith, append-nil, append_assoc, Some, None}
-use Rattle.std.specs.List.{filter, AllByRecursion}
-use Rattle.std.proofs.lemmas.Bool.{cases_eq, lt-ltb}
-use Rattle.std.proofs.lemmas.List.{append_cancel_left}
-use Rattle.std.proofs.lemmas.List.Elements.{filter-append}
-use Rattle.hub_envelope.specs.declared.envelope.Envelope.{Envelope}
-use Rattle.hub_envelope.specs.declared.ids.EndId.{EndId}
-use Rattle.hub_core.specs.Facts.{Facts}
-use Rattle.hub_core.specs.Made.{lines_of}
-use Rattle.hub_core.specs.Sender.{by, in_queue}
-use Rattle.hub_core.specs.Looking.{is_settled, IsAllWaiting}
-use Rattle.hub_core.specs.Sound.{IsOfEnd, Sound}
-use Rattle.hub_core.specs.QueueMachine.{Queue, pop_of, popped}
-use Rattle.hub_core.specs.Mailbox.{Mailbox, QueueAt}
-use Rattle.hub_core.specs.MailboxSteps.{MailboxEvent, pop, MailboxStep, sweeps, finds_none, taken_out, with_queue, IsSettled, HoldsNothing, MaySweep}
-use Rattle.hub_core.specs.MailboxPairs.{OneRight, sweeping}
+use Rattle.std.proofs.Common.{◌≡◌, ℕ, zero, suc, ◌+◌, ◌-◌, ◌<◌, ◌≤◌, Bool, true, ltb, List, [], ◌∷◌, ◌++◌, length, map, refl, sym, ap, subst, ◌∙◌, ⊎_elim, arith, append-nil, append_assoc, Some, None, lt-ltb}
+use Rattle.hub_core.proofs.Words.{filter, AllByRecursion, cases_eq, append_cancel_left, filter-append, Envelope, EndId, Facts, lines_of, by, in_queue, is_settled, IsAllWaiting, IsOfEnd, Sound, Queue, pop_of, popped, Mailbox, QueueAt, MailboxEvent, pop, MailboxStep, sweeps, finds_none, taken_out, with_queue, IsSettled, HoldsNothing}
+use Rattle.hub_core.proofs.Words.{MaySweep, OneRight, sweeping}
 use Rattle.hub_core.proofs.Lists.{slice_get-set_same, slice_get-set_other, AllByRecursion-weaker}
 use Rattle.hub_core.proofs.Items.{got_within, got_there}
 use Rattle.hub_core.proofs.Waits.{filters}

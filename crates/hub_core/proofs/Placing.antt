@@ -1,19 +1,7 @@
 -- Ports that get a new place.
 use Rattle.hub_core.proofs.Frames.{end_restated}
-use Rattle.std.proofs.Common.{◌≡◌, ℕ, Bool, true, false, cond, eqb, List, [], ◌∷◌, length, Option, Some, None, refl, sym, ap, subst, ◌∙◌}
-use Rattle.std.specs.Prelude.{option_map, if◌then◌else◌, ◌||◌}
-use Rattle.std.specs.List.{slice_get}
-use Rattle.std.proofs.lemmas.List.{length-set}
-use Rattle.std.proofs.lemmas.Option.{slice_get_within}
-use Rattle.std.proofs.lemmas.Bool.{ne_eqb, eqb-true}
-use Rattle.hub_envelope.specs.declared.ids.EndId.{EndId}
-use Rattle.hub_envelope.specs.declared.envelope.Envelope.{Envelope}
-use Rattle.hub_core.specs.declared.end.End.{End}
-use Rattle.hub_core.specs.declared.end.Place.{Place}
-use Rattle.hub_core.specs.Facts.{EndNow, LineNow}
-use Rattle.hub_core.specs.Place.{names}
-use Rattle.hub_core.specs.Shows.{end_now, ShowsEnd}
-use Rattle.hub_core.specs.Kept.{changed_ends, end_moved, moved_ends}
+use Rattle.std.proofs.Common.{◌≡◌, ℕ, Bool, true, false, cond, eqb, List, [], ◌∷◌, length, Option, Some, None, refl, sym, ap, subst, ◌∙◌, ◌||◌, length-set, ne_eqb}
+use Rattle.hub_core.proofs.Words.{option_map, if◌then◌else◌, slice_get, slice_get_within, eqb-true, EndId, Envelope, End, Place, EndNow, LineNow, names, end_now, ShowsEnd, changed_ends, end_moved, moved_ends}
 use Rattle.hub_core.proofs.Lists.{each_set, eqb_same}
 
 -- an end whose place is another where the list names it

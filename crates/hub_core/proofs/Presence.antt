@@ -1,14 +1,6 @@
 -- Who is at a queue: what the core finds is what the facts say.
-use Rattle.std.proofs.Common.{◌≡◌, ℕ, zero, suc, ◌≤◌, Bool, true, false, List, [], ◌∷◌, length, Some, refl, sym, ap, ◌∙◌}
-use Rattle.std.specs.Prelude.{◌||◌, not}
-use Rattle.std.specs.List.{slice_get, list_any}
-use Rattle.hub_core.specs.declared.line.Line.{Line}
-use Rattle.hub_core.specs.declared.end.End.{End}
-use Rattle.hub_core.specs.Facts.{LineNow, Facts}
-use Rattle.hub_core.specs.Made.{lines_of}
-use Rattle.hub_core.specs.Looking.{any_below, is_away_at, someone_at, is_settled}
-use Rattle.hub_core.specs.Shows.{line_now}
-use Rattle.hub_core.specs.Kept.{is_anyone_at, kept_settled}
+use Rattle.std.proofs.Common.{◌≡◌, ℕ, zero, suc, ◌≤◌, Bool, true, false, List, [], ◌∷◌, length, Some, refl, sym, ap, ◌∙◌, ◌||◌, not}
+use Rattle.hub_core.proofs.Words.{slice_get, list_any, Line, End, LineNow, Facts, lines_of, any_below, is_away_at, someone_at, is_settled, line_now, is_anyone_at, kept_settled}
 use Rattle.hub_core.proofs.Frames.{ShownAt}
 
 or_none : (b : Bool) → (false || b) ≡ (b || false)

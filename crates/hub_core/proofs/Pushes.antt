@@ -2,41 +2,20 @@
 use Rattle.hub_core.proofs.SoundWaiting.{inside_of}
 use Rattle.hub_core.proofs.SoundLines.{line_there}
 use Rattle.hub_core.proofs.Changing.{FoundLine, found_line, ShownAfter}
-use Rattle.std.proofs.Common.{◌≡◌, ℕ, Bool, true, false, cond, List, length, set, Option, Some, None, Ok, Err, refl, sym, ap, subst, ◌∙◌}
-use Rattle.std.specs.Prelude.{not, ◌&&◌, nat_lt, option_map}
-use Rattle.std.specs.List.{slice_get}
-use Rattle.std.proofs.lemmas.Bool.{and_parts}
-use Rattle.hub_envelope.specs.declared.ids.AgentId.{AgentId}
-use Rattle.hub_envelope.specs.declared.ids.EndId.{EndId}
-use Rattle.hub_envelope.specs.declared.envelope.Envelope.{Envelope}
-use Rattle.hub_envelope.specs.declared.limits.TheConstants.{MAX_PORTS}
-use Rattle.hub_core.specs.declared.agent.Agent.{Agent}
-use Rattle.hub_core.specs.declared.line.Line.{Line}
-use Rattle.hub_core.specs.declared.sender.Sender.{Sender}
-use Rattle.hub_core.specs.declared.end.End.{End}
-use Rattle.hub_core.specs.declared.end.Place.TheVariants.{With, InFlight}
+use Rattle.std.proofs.Common.{◌≡◌, ℕ, Bool, true, false, cond, List, length, set, Option, Some, None, Ok, Err, refl, sym, ap, subst, ◌∙◌, not, ◌&&◌, nat_lt}
+use Rattle.hub_core.proofs.Words.{option_map, slice_get, and_parts, AgentId, EndId, Envelope, MAX_PORTS, Agent, Line, Sender, End, With, InFlight, Acceptance, Outcome, EndNow, LineNow, Facts, named_envelope, phase_of_line, is_inside, poster, poster_of, is_good, listing_of, push_answer_of, push_answer, next_name, is_posting, is_fitting}
+use Rattle.hub_core.proofs.Words.{is_out, no_line, Sound, line_now, ShowsPut, has_queue, posting_line, posting_at, kept_posting_by, kept_posting_line, kept_posting, push_outcome, put_end, put_found, change_end, changed_ends, moved_ends, accept_ends, CoreState, peer_of, names}
 use Rattle.hub_core.specs.declared.step.Action.TheVariants as action
-use Rattle.hub_core.specs.declared.outcome.Acceptance.{Acceptance}
-use Rattle.hub_core.specs.declared.outcome.Outcome.{Outcome}
 use Rattle.hub_core.specs.declared.outcome.Outcome.TheVariants as outcome
-use Rattle.hub_core.specs.Facts.{EndNow, LineNow, Facts}
-use Rattle.hub_core.specs.Accepted.{named_envelope}
-use Rattle.hub_core.specs.Posting.{phase_of_line, is_inside, poster, poster_of, is_good, listing_of, push_answer_of, push_answer, next_name, is_posting, is_fitting, is_out}
-use Rattle.hub_core.specs.Sound.{no_line, Sound}
-use Rattle.hub_core.specs.Shows.{line_now, ShowsPut}
 use Rattle.hub_core.proofs.Showing.{SoundlyShows}
-use Rattle.hub_core.specs.Kept.{has_queue, posting_line, posting_at, kept_posting_by, kept_posting_line, kept_posting, push_outcome, put_end, put_found, change_end, changed_ends, moved_ends, accept_ends}
 use Rattle.hub_core.proofs.Frames.{ShownAt, Stepped, changed}
-use Rattle.hub_core.specs.CoreState.{CoreState}
 use Rattle.hub_core.proofs.Seeing.{Sees, posting_seen}
 use Rattle.hub_core.proofs.Fitting.{pushed_of}
 use Rattle.hub_core.proofs.Speakers.{placed_made, travels}
 use Rattle.hub_core.proofs.Puts.{each_shown, put_count, name_kept, queue_kept}
 use Rattle.hub_core.proofs.Placing.{Moves, moves_to}
-use Rattle.hub_core.specs.Made.{peer_of}
 use Rattle.hub_core.proofs.Counts.{counted_ports, counts_of}
 use Rattle.hub_core.proofs.Nexts.{next, Change, put}
-use Rattle.hub_core.specs.Place.{names}
 use Rattle.hub_core.proofs.SoundPlaces.{some_own}
 use Rattle.hub_core.proofs.Calms.{calm_sent}
 

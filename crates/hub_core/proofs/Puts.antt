@@ -1,28 +1,8 @@
 -- An envelope put on a line: what the core keeps then is what the facts say.
-use Rattle.std.proofs.Common.{◌≡◌, ℕ, ◌+◌, ◌-◌, ◌<◌, ◌≤◌, Bool, true, false, cond, eqb, List, [], ◌∷◌, ◌++◌, length, get_or, set, Option, Some, None, refl, sym, ap, subst, ◌∙◌, arith, append_assoc, length-append}
-use Rattle.std.specs.Prelude.{◌&&◌, nat_lt, nat_le}
-use Rattle.std.specs.List.{slice_get, filter}
-use Rattle.std.proofs.lemmas.Option.{slice_get_within}
-use Rattle.std.proofs.lemmas.List.{length-set}
-use Rattle.std.proofs.lemmas.List.Elements.{filter-append}
-use Rattle.std.proofs.lemmas.Bool.{ne_eqb, eqb-true, leb-true, eqb-false, ltb-true, le-leb, lt-ltb, and_parts}
-use Rattle.hub_envelope.specs.declared.ids.AgentId.{AgentId}
-use Rattle.hub_envelope.specs.declared.ids.EndId.{EndId}
-use Rattle.hub_envelope.specs.declared.envelope.Envelope.{Envelope}
-use Rattle.hub_core.specs.declared.agent.Agent.{Agent}
-use Rattle.hub_core.specs.declared.line.Line.{Line}
-use Rattle.hub_core.specs.declared.sender.Sender.{Sender}
-use Rattle.hub_core.specs.declared.end.End.{End}
-use Rattle.hub_core.specs.declared.end.Place.TheVariants.{InFlight}
-use Rattle.hub_core.specs.declared.outcome.Acceptance.{Acceptance}
-use Rattle.hub_core.specs.Facts.{EndNow, LineNow, Facts}
-use Rattle.hub_core.specs.Sender.{in_queue, count_in_queue}
-use Rattle.hub_core.specs.Place.{names}
-use Rattle.hub_core.specs.Posting.{phase_of_line, is_inside, next_name}
-use Rattle.hub_core.specs.Sound.{Sound}
-use Rattle.hub_core.specs.Shows.{line_now, ShowsPut, ShowsEnd}
+use Rattle.std.proofs.Common.{◌≡◌, ℕ, ◌+◌, ◌-◌, ◌<◌, ◌≤◌, Bool, true, false, cond, eqb, List, [], ◌∷◌, ◌++◌, length, get_or, set, Option, Some, None, refl, sym, ap, subst, ◌∙◌, arith, append_assoc, length-append, ◌&&◌, nat_lt, nat_le, length-set, ne_eqb, leb-true, ltb-true, lt-ltb}
+use Rattle.hub_core.proofs.Words.{slice_get, filter, slice_get_within, filter-append, eqb-true, eqb-false, le-leb, and_parts, AgentId, EndId, Envelope, Agent, Line, Sender, End, InFlight, Acceptance, EndNow, LineNow, Facts, in_queue, count_in_queue, names, phase_of_line, is_inside, next_name, Sound, line_now, ShowsPut, ShowsEnd}
+use Rattle.hub_core.proofs.Words.{has_queue, put_end}
 use Rattle.hub_core.proofs.Showing.{SoundlyShows}
-use Rattle.hub_core.specs.Kept.{has_queue, put_end}
 use Rattle.hub_core.proofs.Lists.{eqb_same, each_set, get_or-set_same, get_or-set_other, is_there}
 use Rattle.hub_core.proofs.Waits.{queue_more, queue_other}
 use Rattle.hub_core.proofs.Frames.{ShownAt}

@@ -1,13 +1,6 @@
 -- The laws of the queue machine.
-use Rattle.std.proofs.Common.{◌≡◌, ℕ, suc, ◌≤◌, Bool, true, false, cond, eqb, List, [], ◌∷◌, ◌++◌, length, map, Some, None, refl, sym, ap, subst, ◌∙◌, arith, rules, append_assoc, append-nil, length-append}
-use Rattle.std.specs.Prelude.{All}
-use Rattle.std.proofs.lemmas.Bool.{eqb-true, ne_eqb}
-use Rattle.std.proofs.lemmas.List.{map-append}
-use Rattle.std.proofs.lemmas.List.Elements.{filter-append, All-nil, All-head, All-tail, All-push, All-same}
-use Rattle.hub_envelope.specs.declared.envelope.Envelope.{Envelope}
-use Rattle.hub_core.specs.Sender.{by}
-use Rattle.hub_core.specs.Numbers.{up_to}
-use Rattle.hub_core.specs.QueueMachine.{Queue, new_queue, IsNamed, MayPush, pushed, pop_of, popped, IsQueue, QueueLaws}
+use Rattle.std.proofs.Common.{◌≡◌, ℕ, suc, ◌≤◌, Bool, true, false, cond, eqb, List, [], ◌∷◌, ◌++◌, length, map, Some, None, refl, sym, ap, subst, ◌∙◌, arith, rules, append_assoc, append-nil, length-append, ne_eqb}
+use Rattle.hub_core.proofs.Words.{All, eqb-true, map-append, filter-append, All-nil, All-head, All-tail, All-push, All-same, Envelope, by, up_to, Queue, new_queue, IsNamed, MayPush, pushed, pop_of, popped, IsQueue, QueueLaws}
 
 -- one envelope more of its line, and none of another
 choose : (b : Bool) (ps : List Envelope) (v : Envelope) → ps ++ cond b (v ∷ []) [] ≡ cond b (ps ++ v ∷ []) ps

@@ -1,22 +1,8 @@
 -- Histories that can't be told apart.
-use Rattle.std.proofs.Common.{◌≡◌, ℕ, Bool, true, false, cond, eqb, [], ◌∷◌, ◌++◌, refl, sym, ap, subst, ◌∙◌, inl, inr, append_assoc, None}
-use Rattle.std.specs.Prelude.{◌&&◌, ◌⊎◌, not, Option, Some, None, drop}
-use Rattle.std.proofs.lemmas.Bool.{false≢true}
-use Rattle.hub_core.specs.declared.line.Phase.{Phase}
-use Rattle.hub_core.specs.declared.line.Phase.TheVariants.{Out, Inside, Turned}
-use Rattle.hub_core.specs.declared.sender.Sender.{Sender}
-use Rattle.hub_core.specs.declared.step.Action.{Action}
+use Rattle.std.proofs.Common.{◌≡◌, ℕ, Bool, true, false, cond, eqb, [], ◌∷◌, ◌++◌, refl, sym, ap, subst, ◌∙◌, inl, inr, append_assoc, None, ◌&&◌, ◌⊎◌, not, Option, Some, drop}
+use Rattle.hub_core.proofs.Words.{false≢true, Phase, Out, Inside, Turned, Sender, Action, Outcome, Pair, History, Facts, facts, Answers, Fits, LegalAfter, Same, is_out, phase_of_line, may_enter, CastNow, cast_to, cast_after, goes_next, roster, changes_nothing, done_with}
 use Rattle.hub_core.specs.declared.step.Action.TheVariants as action
-use Rattle.hub_core.specs.declared.outcome.Outcome.{Outcome}
 use Rattle.hub_core.specs.declared.outcome.Outcome.TheVariants as outcome
-use Rattle.hub_core.specs.History.{Pair, History}
-use Rattle.hub_core.specs.Facts.{Facts, facts}
-use Rattle.hub_core.specs.Fits.{Answers, Fits}
-use Rattle.hub_core.specs.Legal.{LegalAfter, Same}
-use Rattle.hub_core.specs.Posting.{is_out, phase_of_line, may_enter}
-use Rattle.hub_core.specs.Roster.{CastNow, cast_to, cast_after, goes_next, roster}
-use Rattle.hub_core.specs.Unchanged.{changes_nothing}
-use Rattle.hub_core.specs.Headline.{done_with}
 use Rattle.hub_core.proofs.Nexts.{next, nothing_changes, facts_next}
 use Rattle.hub_core.proofs.SoundLines.{on_place}
 

@@ -1,25 +1,8 @@
 -- The seats of the members of each group.
-use Rattle.std.proofs.Common.{◌≡◌, ℕ, List, [], ◌∷◌, true, false, cond, eqb, ◌&&◌, Some, refl, sym, ap, ◌∙◌, arith, rules}
-use Rattle.std.specs.Prelude.{bytes_eq, ◌==◌, IsSome}
-use Rattle.std.proofs.Common.{subst}
-use Rattle.std.proofs.lemmas.Bool.Decides.{nat_tests}
+use Rattle.std.proofs.Common.{◌≡◌, ℕ, List, [], ◌∷◌, true, false, cond, eqb, ◌&&◌, Some, refl, sym, ap, ◌∙◌, arith, rules, subst, Result, Ok, Err}
+use Rattle.hub_core.proofs.Words.{bytes_eq, ◌==◌, IsSome, nat_tests, BTreeMap, get, WritesThrough, remove_key, lookup, OnErr, BTreeSet, insert_key, slice_cmp, is_eq, nat_cmp, ordering_then, Ordering, Less, Equal, Greater, is_eq-slice_cmp, and_parts, bytes_eq-Decides, Group, is_same_group, group_cmp, numbers_in, seated_with}
+use Rattle.hub_core.proofs.Words.{seated_without, parted, Parts, group_of, numbers_of, Members}
 use Rattle.std.specs.BTreeMap as tree
-use Rattle.std.specs.BTreeMap.{BTreeMap, get, WritesThrough}
-use Rattle.std.specs.Set.{remove_key}
-use Rattle.std.specs.Map.{lookup}
-use Rattle.std.specs.Prelude.{Result, Ok, Err, OnErr}
-use Rattle.std.specs.BTreeSet.{BTreeSet, insert_key}
-use Rattle.std.specs.Cmp.Lexicographic.{slice_cmp}
-use Rattle.std.specs.Ordering.{is_eq, nat_cmp, ordering_then}
-use Rattle.std.specs.declared.cmp.Ordering.{Ordering}
-use Rattle.std.specs.declared.cmp.Ordering.TheVariants.{Less, Equal, Greater}
-use Rattle.std.proofs.lemmas.Map.Text.{is_eq-slice_cmp}
-use Rattle.std.proofs.lemmas.Bool.{and_parts}
-use Rattle.std.proofs.lemmas.Slice.Eq.{bytes_eq-Decides}
-use Rattle.hub_core.specs.declared.group.Group.{Group}
-use Rattle.hub_core.specs.Roster.{is_same_group}
-use Rattle.hub_core.specs.KeptRoster.{group_cmp, numbers_in, seated_with, seated_without, parted, Parts, group_of, numbers_of}
-use Rattle.hub_core.specs.declared.members.Members.{Members}
 
 is_eq-nat_cmp : (a b : ℕ) → is_eq (nat_cmp a b) ≡ (a == b)
 is_eq-nat_cmp a b = grind (arith, nat_tests)

@@ -1,17 +1,6 @@
 -- The members of the roster, as lists of their numbers.
-use Rattle.std.proofs.Common.{◌≡◌, ℕ, ◌<◌, Bool, true, false, cond, eqb, List, [], ◌∷◌, ◌++◌, map, refl, sym, ap, subst, ◌∙◌}
-use Rattle.std.specs.Prelude.{◌&&◌, ◌||◌, ◌==◌, not, bytes_eq}
-use Rattle.std.specs.List.{AllByRecursion, filter}
-use Rattle.std.specs.BTreeSet.{insert_key}
-use Rattle.std.specs.Ordering.{nat_cmp}
-use Rattle.std.specs.declared.cmp.Ordering.TheVariants.{Greater}
-use Rattle.std.specs.Cmp.{nat_cmp_is}
-use Rattle.std.proofs.lemmas.Bool.{false≢true, eqb-true}
-use Rattle.std.proofs.lemmas.Slice.Eq.{bytes_eq-Decides}
-use Rattle.hub_envelope.specs.declared.ids.EndId.{EndId}
-use Rattle.hub_core.specs.declared.group.Group.{Group}
-use Rattle.hub_core.specs.Roster.{RosterNow, is_same_group, is_of_group, has_end, without}
-use Rattle.hub_core.specs.KeptRoster.{numbers_with, is_in, seated_without}
+use Rattle.std.proofs.Common.{◌≡◌, ℕ, ◌<◌, Bool, true, false, cond, eqb, List, [], ◌∷◌, ◌++◌, map, refl, sym, ap, subst, ◌∙◌, ◌&&◌, ◌||◌, not}
+use Rattle.hub_core.proofs.Words.{◌==◌, bytes_eq, AllByRecursion, filter, insert_key, nat_cmp, Greater, nat_cmp_is, false≢true, eqb-true, bytes_eq-Decides, EndId, Group, RosterNow, is_same_group, is_of_group, has_end, without, numbers_with, is_in, seated_without}
 use Rattle.hub_core.proofs.Seating.{same_group}
 
 -- ---- groups

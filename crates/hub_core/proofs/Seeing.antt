@@ -1,26 +1,8 @@
 -- What the core keeps, seen as facts, answers as the facts do that it shows.
 use Rattle.hub_core.specs.declared.outcome.Outcome.TheVariants as outcome
-use Rattle.std.proofs.Common.{◌≡◌, Bool, false, cond, List, [], Option, Some, None, refl, sym, ap, ◌∙◌, ℕ}
-use Rattle.std.specs.Prelude.{is_some, nat_lt, ◌+◌, not, ◌||◌, ◌&&◌, ◌==◌}
-use Rattle.std.specs.List.{list_all}
-use Rattle.hub_envelope.specs.declared.ids.AgentId.{AgentId}
-use Rattle.hub_envelope.specs.declared.ids.EndId.{EndId}
-use Rattle.hub_core.specs.declared.kind.Kind.{Kind}
-use Rattle.hub_core.specs.declared.kind.Kind.TheVariants.{Port, Client, Worker, Member}
-use Rattle.hub_core.specs.declared.line.Line.{Line}
-use Rattle.hub_core.specs.declared.listing.Listing.TheVariants.{Good, HoldsTarget, Bad}
-use Rattle.hub_core.specs.declared.sender.Sender.{Sender}
-use Rattle.hub_core.specs.CoreState.{CoreState}
-use Rattle.hub_core.specs.Facts.{Facts}
-use Rattle.hub_core.specs.Kept.{kept_posting_by, kept_posting_line}
-use Rattle.hub_core.specs.KeptEnding.{owner_by, owner}
-use Rattle.hub_core.specs.Made.{is_queue, peer_of}
-use Rattle.hub_core.specs.Moving.{close_answer, hand_answer, hop_answer, is_released, may_close, may_take_over}
-use Rattle.hub_core.specs.Place.{names}
-use Rattle.hub_core.specs.Posting.{enter_answer, holder, running, speaker_in, poster_of, poster, hears_notice, may_enter, is_here, is_with, is_at, own_poster_out, own_line_plain, may_leave_agent, is_distinct, is_fitting, listing_of, listing, is_out, phase_of_line, may_post}
-use Rattle.hub_core.specs.Roster.{CastNow, no_roster}
-use Rattle.hub_core.specs.Seen.{seen}
-use Rattle.hub_core.specs.Shows.{ShowsRoster}
+use Rattle.std.proofs.Common.{◌≡◌, Bool, false, cond, List, [], Option, Some, None, refl, sym, ap, ◌∙◌, ℕ, nat_lt, ◌+◌, not, ◌||◌, ◌&&◌}
+use Rattle.hub_core.proofs.Words.{is_some, ◌==◌, list_all, AgentId, EndId, Kind, Port, Client, Worker, Member, Line, Good, HoldsTarget, Bad, Sender, CoreState, Facts, kept_posting_by, kept_posting_line, owner_by, owner, is_queue, peer_of, close_answer, hand_answer, hop_answer, is_released, may_close, may_take_over, names, enter_answer}
+use Rattle.hub_core.proofs.Words.{holder, running, speaker_in, poster_of, poster, hears_notice, may_enter, is_here, is_with, is_at, own_poster_out, own_line_plain, may_leave_agent, is_distinct, is_fitting, listing_of, listing, is_out, phase_of_line, may_post, CastNow, no_roster, seen, ShowsRoster}
 use Rattle.hub_core.proofs.Showing.{SoundlyShows}
 
 -- the facts that a core keeps

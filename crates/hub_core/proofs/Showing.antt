@@ -1,13 +1,6 @@
 -- What a core shows of a legal history: its facts are sound as well.
 use Rattle.std.proofs.Common.{◌≡◌, ℕ, List, length, ◌++◌}
-use Rattle.std.specs.List.{slice_get}
-use Rattle.hub_envelope.specs.declared.ids.AgentId.{AgentId}
-use Rattle.hub_core.specs.declared.agent.Agent.{Agent}
-use Rattle.hub_core.specs.declared.end.End.{End}
-use Rattle.hub_core.specs.Facts.{Facts}
-use Rattle.hub_core.specs.Making.{is_client, is_worker}
-use Rattle.hub_core.specs.Sound.{Sound}
-use Rattle.hub_core.specs.Shows.{agent_now, ShowsEnd, ShowsFacts, kept_clients, kept_workers, kept_away, count_with, count_away}
+use Rattle.hub_core.proofs.Words.{slice_get, AgentId, Agent, End, Facts, is_client, is_worker, Sound, agent_now, ShowsEnd, ShowsFacts, kept_clients, kept_workers, kept_away, count_with, count_away}
 
 -- agents and ends are those of the facts, which are sound
 pub record SoundlyShows (kept_agents : List Agent) (kept_ends : List End) (f : Facts) : Type 0 where

@@ -1,35 +1,10 @@
 -- What a mailbox doesn't show of the lines of an end stays so with each pair that fits.
-use Rattle.std.proofs.Common.{◌≡◌, ℕ, ◌<◌, ◌≤◌, Bool, true, false, cond, eqb, List, [], ◌∷◌, ◌++◌, length, Option, Some, None, refl, sym, ap, subst, ◌∙◌, inl, inr, arith, rules, append-nil, ◌+◌, nat_le, leb-true, leb-false}
-use Rattle.std.specs.Prelude.{◌&&◌, ◌⊎◌, is_some, option_and_then, ◌||◌, not, nat_lt}
-use Rattle.std.specs.List.{AllByRecursion}
-use Rattle.std.proofs.lemmas.Bool.{false≢true, ltb-false, ltb-true, eqb-true, eqb-false, and_parts, not-true}
-use Rattle.std.proofs.lemmas.List.Elements.{filter-append}
-use Rattle.hub_envelope.specs.declared.ids.AgentId.{AgentId}
-use Rattle.hub_envelope.specs.declared.ids.EndId.{EndId}
-use Rattle.hub_envelope.specs.declared.envelope.Envelope.{Envelope}
-use Rattle.hub_core.specs.declared.line.Phase.{Phase}
-use Rattle.hub_core.specs.declared.line.Phase.TheVariants.{Out, Inside, Turned}
-use Rattle.hub_core.specs.declared.sender.Sender.{Sender}
-use Rattle.hub_core.specs.declared.step.Action.{Action}
-use Rattle.hub_core.specs.declared.outcome.Acceptance.{Acceptance}
-use Rattle.hub_core.specs.declared.outcome.Outcome.{Outcome}
-use Rattle.hub_core.specs.Facts.{LineNow, Facts, EndNow}
-use Rattle.hub_core.specs.Fits.{Answers}
-use Rattle.hub_core.specs.Lines.{on_line}
-use Rattle.hub_core.specs.Accepted.{named_envelope, named_notice}
-use Rattle.hub_core.specs.Sender.{by, count_in_queue}
-use Rattle.hub_core.specs.Posting.{holder, poster, is_distinct, phase_of_line, may_enter, hears_notice, is_here, is_inside, running, poster_of, speaker}
-use Rattle.hub_core.specs.Numbers.{up_to}
-use Rattle.hub_core.specs.Sound.{no_line, IsOfEnd, SoundLines, no_end}
+use Rattle.std.proofs.Common.{◌≡◌, ℕ, ◌<◌, ◌≤◌, Bool, true, false, cond, eqb, List, [], ◌∷◌, ◌++◌, length, Option, Some, None, refl, sym, ap, subst, ◌∙◌, inl, inr, arith, rules, append-nil, ◌+◌, nat_le, leb-true, leb-false, ◌&&◌, ◌⊎◌, ◌||◌, not, nat_lt, ltb-false, ltb-true}
+use Rattle.hub_core.proofs.Words.{is_some, option_and_then, AllByRecursion, false≢true, eqb-true, eqb-false, and_parts, not-true, filter-append, AgentId, EndId, Envelope, Phase, Out, Inside, Turned, Sender, Action, Acceptance, Outcome, LineNow, Facts, EndNow, Answers, on_line, named_envelope, named_notice, by, count_in_queue, holder}
+use Rattle.hub_core.proofs.Words.{poster, is_distinct, phase_of_line, may_enter, hears_notice, is_here, is_inside, running, poster_of, speaker, up_to, no_line, IsOfEnd, SoundLines, no_end, lines_of, peer_of, is_queue, someone_at, is_away_at, is_settled, Kind, Port, Client, Worker, Member, MAX_LINES, is_client, is_worker}
 use Rattle.hub_core.proofs.Lists.{AllByRecursion-append, eqb_same}
 use Rattle.hub_core.proofs.Nexts.{next, Change, agent_made, channel_made, let_in, found_moved, found_closed, put, left, started, got, hopped, went_on, cleared, adopted, notice_put, end_closed, end_swept, client_made, worker_made, line_got, line_back, handed, agent_ordered, agent_ended, member_joined, cast_begun, member_parted}
 use Rattle.hub_core.proofs.Fitting.{let_in_of, found_moved_of, found_closed_of, Pushed, pushed_of, hopped_of, none_of_any, Noticed, noticed_of, new_ends, queue_made_of, member_made_of, line_got_of}
-use Rattle.hub_core.specs.Made.{lines_of, peer_of, is_queue}
-use Rattle.hub_core.specs.Looking.{someone_at, is_away_at, is_settled}
-use Rattle.hub_core.specs.declared.kind.Kind.{Kind}
-use Rattle.hub_core.specs.declared.kind.Kind.TheVariants.{Port, Client, Worker, Member}
-use Rattle.hub_envelope.specs.declared.limits.TheConstants.{MAX_LINES}
-use Rattle.hub_core.specs.Making.{is_client, is_worker}
 
 -- what is said of the lines of an end
 abbrev pub LinesAt : Facts → ℕ → Type 0

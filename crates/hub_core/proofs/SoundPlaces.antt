@@ -1,38 +1,14 @@
 -- Places stay sound.
-use Rattle.std.proofs.Common.{◌≡◌, ℕ, suc, ◌+◌, ◌<◌, ◌≤◌, Bool, true, false, cond, eqb, List, [], ◌∷◌, ◌++◌, Option, Some, None, refl, sym, ap, subst, ◌∙◌, arith, rules, inl, inr}
-use Rattle.std.specs.Prelude.{◌⊎◌, ◌&&◌, ◌||◌, is_some, nat_le}
-use Rattle.std.proofs.lemmas.Bool.{false≢true, ne_eqb, eqb-true, leb-true, leb-false, and_parts}
-use Rattle.hub_envelope.specs.declared.ids.AgentId.{AgentId}
-use Rattle.hub_envelope.specs.declared.ids.EndId.{EndId}
-use Rattle.hub_envelope.specs.declared.envelope.Envelope.{Envelope}
-use Rattle.hub_core.specs.declared.end.Place.{Place}
-use Rattle.hub_core.specs.declared.end.Place.TheVariants.{With, InFlight, Arrived, Swept, Gone}
-use Rattle.hub_core.specs.declared.line.Phase.{Phase}
-use Rattle.hub_core.specs.declared.line.Phase.TheVariants.{Out, Inside, Turned}
-use Rattle.hub_core.specs.declared.sender.Sender.{Sender}
-use Rattle.hub_core.specs.Roster.{RosterNow}
-use Rattle.hub_core.specs.declared.step.Action.{Action}
+use Rattle.std.proofs.Common.{◌≡◌, ℕ, suc, ◌+◌, ◌<◌, ◌≤◌, Bool, true, false, cond, eqb, List, [], ◌∷◌, ◌++◌, Option, Some, None, refl, sym, ap, subst, ◌∙◌, arith, rules, inl, inr, ◌⊎◌, ◌&&◌, ◌||◌, nat_le, ne_eqb, leb-true, leb-false}
+use Rattle.hub_core.proofs.Words.{is_some, false≢true, eqb-true, and_parts, AgentId, EndId, Envelope, Place, With, InFlight, Arrived, Swept, Gone, Phase, Out, Inside, Turned, Sender, RosterNow, Action, Acceptance, Outcome, AgentNow, EndNow, Facts, LineNow, Answers, names, arrived, is_named, named_envelope, named_notice, is_out}
+use Rattle.hub_core.proofs.Words.{may_enter, is_here, own_poster_out, phase_of_line, IsNext, no_end, total, naming, flights, SoundPlaces, Sound, is_gone, peer_of, Port, Client, Worker, Member, Kind, is_client, is_worker, MAX_ENDS}
 use Rattle.hub_core.specs.declared.step.Action.TheVariants as action
-use Rattle.hub_core.specs.declared.outcome.Acceptance.{Acceptance}
-use Rattle.hub_core.specs.declared.outcome.Outcome.{Outcome}
 use Rattle.hub_core.specs.declared.outcome.Outcome.TheVariants as outcome
-use Rattle.hub_core.specs.Facts.{AgentNow, EndNow, Facts, LineNow}
-use Rattle.hub_core.specs.Fits.{Answers}
-use Rattle.hub_core.specs.Place.{names, arrived, is_named}
-use Rattle.hub_core.specs.Accepted.{named_envelope, named_notice}
-use Rattle.hub_core.specs.Posting.{is_out, may_enter, is_here, own_poster_out, phase_of_line}
-use Rattle.hub_core.specs.Taking.{IsNext}
-use Rattle.hub_core.specs.Sound.{no_end, total, naming, flights, SoundPlaces, Sound, is_gone}
 use Rattle.hub_core.proofs.Lists.{eqb_same}
 use Rattle.hub_core.proofs.Totals.{total_more, bit, count_more, count_between}
 use Rattle.hub_core.proofs.Nexts.{next, Change, agent_made, channel_made, let_in, found_moved, found_closed, put, left, started, got, hopped, went_on, cleared, adopted, notice_put, end_closed, end_swept, client_made, worker_made, line_got, line_back, handed, agent_ended, agent_ordered, member_joined, cast_begun, member_parted}
 use Rattle.hub_core.proofs.Fitting.{new_agent, new_ends, let_in_of, found_moved_of, found_closed_of, pushed_of, started_of, got_of, went_on_of, adopted_of, noticed_of, closed_of, SweptWith, swept_of, handed_of, queue_made_of, member_made_of}
 use Rattle.hub_core.proofs.Speakers.{made_of, placed_made, entangled_made, nothing_accepted, nothing_removed, runs_there, speaks_of, travels, taken_flies, named_count, unnamed_count, swept_total, closed_made, swept_within, swept_flies, old_end, holder_made, may_next, same_sender, heard_of, queue_is_made, old_one, Speaks, HoldsLine, SomeCasts}
-use Rattle.hub_core.specs.Made.{peer_of}
-use Rattle.hub_core.specs.declared.kind.Kind.TheVariants.{Port, Client, Worker, Member}
-use Rattle.hub_core.specs.declared.kind.Kind.{Kind}
-use Rattle.hub_core.specs.Making.{is_client, is_worker}
-use Rattle.hub_envelope.specs.declared.limits.TheConstants.{MAX_ENDS}
 
 -- ---- who is away after a pair
 

@@ -1,22 +1,7 @@
 -- Where a mailbox shows what is known of an end, its lines and what waits there are sound.
-use Rattle.std.proofs.Common.{◌≡◌, ◌⊎◌, ℕ, suc, ◌+◌, ◌<◌, ◌≤◌, true, false, cond, eqb, List, [], ◌∷◌, ◌++◌, length, map, refl, sym, ap, subst, ◌∙◌, inl, inr, ⊎_elim, arith, append-nil, Some}
-use Rattle.std.specs.Prelude.{slice_get, flat_map}
-use Rattle.std.specs.List.{AllByRecursion}
-use Rattle.std.proofs.lemmas.Bool.{false≢true, false_from_ne_true, or_cases, cases_lt, ne_eqb}
-use Rattle.std.proofs.lemmas.List.{length-map}
-use Rattle.std.proofs.lemmas.List.Elements.{filter-append, recursion_from_All}
-use Rattle.hub_envelope.specs.declared.envelope.Envelope.{Envelope}
-use Rattle.hub_core.specs.declared.line.Phase.TheVariants.{Out, Inside, Turned}
-use Rattle.hub_core.specs.Facts.{LineNow, Facts}
-use Rattle.hub_core.specs.Made.{lines_of}
-use Rattle.hub_core.specs.Numbers.{up_to, numbers}
-use Rattle.hub_core.specs.Posting.{is_distinct}
-use Rattle.hub_core.specs.Sender.{by, in_queue, Rises}
-use Rattle.hub_core.specs.Sound.{IsOfEnd}
-use Rattle.hub_core.specs.GateMachine.{Gate, is_shut}
-use Rattle.hub_core.specs.QueueMachine.{Queue, IsNamed}
-use Rattle.hub_core.specs.Mailbox.{Mailbox, GateAt, QueueAt, IsMailbox}
-use Rattle.hub_core.specs.MailboxPairs.{OneRight}
+use Rattle.std.proofs.Common.{◌≡◌, ◌⊎◌, ℕ, suc, ◌+◌, ◌<◌, ◌≤◌, true, false, cond, eqb, List, [], ◌∷◌, ◌++◌, length, map, refl, sym, ap, subst, ◌∙◌, inl, inr, ⊎_elim, arith, append-nil, Some, ne_eqb}
+use Rattle.hub_core.proofs.Words.{slice_get, flat_map, AllByRecursion, false≢true, false_from_ne_true, or_cases, cases_lt, length-map, filter-append, recursion_from_All, Envelope, Out, Inside, Turned, LineNow, Facts, lines_of, up_to, numbers, is_distinct, by, in_queue, Rises, IsOfEnd, Gate, is_shut, Queue, IsNamed, Mailbox, GateAt}
+use Rattle.hub_core.proofs.Words.{QueueAt, IsMailbox, OneRight}
 use Rattle.hub_core.proofs.Items.{got_there}
 use Rattle.hub_core.proofs.Joins.{filter_both, of_line, none_past}
 use Rattle.hub_core.proofs.Lists.{AllByRecursion-append, AllByRecursion-weaker}

@@ -1,30 +1,12 @@
 -- What a mailbox doesn't show of what waits stays so with each pair that fits.
-use Rattle.std.proofs.Common.{◌≡◌, ℕ, ◌≤◌, Bool, true, false, cond, eqb, List, [], ◌∷◌, ◌++◌, refl, sym, ap, subst, ◌∙◌, arith, rules, append-nil, append_assoc, ◌+◌, inl, inr, ⊎_elim, ◌-◌, ◌<◌}
-use Rattle.std.proofs.lemmas.Bool.{ne_eqb, eqb-true, false≢true, and_parts}
-use Rattle.std.proofs.lemmas.List.Elements.{filter-append}
-use Rattle.hub_envelope.specs.declared.ids.EndId.{EndId}
-use Rattle.hub_envelope.specs.declared.envelope.Envelope.{Envelope}
-use Rattle.hub_core.specs.declared.line.Phase.{Phase}
-use Rattle.hub_core.specs.declared.line.Phase.TheVariants.{Out, Inside, Turned}
-use Rattle.hub_core.specs.declared.sender.Sender.{Sender}
-use Rattle.hub_core.specs.declared.step.Action.{Action}
-use Rattle.hub_core.specs.declared.outcome.Outcome.{Outcome}
-use Rattle.hub_core.specs.Facts.{Facts, LineNow}
-use Rattle.hub_core.specs.Fits.{Answers}
-use Rattle.hub_core.specs.Accepted.{named_envelope, named_notice}
-use Rattle.hub_core.specs.Sender.{by, in_queue, Prefix, Rises}
-use Rattle.hub_core.specs.Posting.{phase_of_line, is_inside}
-use Rattle.hub_core.specs.Taking.{IsNext}
-use Rattle.hub_core.specs.Sound.{SoundWaiting}
+use Rattle.std.proofs.Common.{◌≡◌, ℕ, ◌≤◌, Bool, true, false, cond, eqb, List, [], ◌∷◌, ◌++◌, refl, sym, ap, subst, ◌∙◌, arith, rules, append-nil, append_assoc, ◌+◌, inl, inr, ⊎_elim, ◌-◌, ◌<◌, ne_eqb, ◌&&◌, ◌⊎◌}
+use Rattle.hub_core.proofs.Words.{eqb-true, false≢true, and_parts, filter-append, EndId, Envelope, Phase, Out, Inside, Turned, Sender, Action, Outcome, Facts, LineNow, Answers, named_envelope, named_notice, by, in_queue, Prefix, Rises, phase_of_line, is_inside, IsNext, SoundWaiting, AllByRecursion, is_settled, all_settled, IsAllWaiting}
+use Rattle.hub_core.proofs.Words.{append_cancel_left}
 use Rattle.hub_core.proofs.Nexts.{next, Change, agent_made, channel_made, let_in, found_moved, found_closed, put, left, started, got, hopped, went_on, cleared, adopted, notice_put, end_closed, end_swept, client_made, worker_made, line_got, line_back, handed, agent_ordered, agent_ended, member_joined, cast_begun, member_parted}
 use Rattle.hub_core.proofs.Fitting.{pushed_of, got_of, let_in_of, went_on_of, cleared_of, looked_where, noticed_of, SweptWith, swept_of, each_of}
 use Rattle.hub_core.proofs.SoundLines.{LinesAt, by_more, phased_line, MayPut, message_may, notice_may, inside_unsettled}
-use Rattle.std.specs.Prelude.{◌&&◌, ◌⊎◌}
-use Rattle.std.specs.List.{AllByRecursion}
 use Rattle.hub_core.proofs.Lists.{AllByRecursion-append, AllByRecursion-weaker, eqb_same}
-use Rattle.hub_core.specs.Looking.{is_settled, all_settled, IsAllWaiting}
 use Rattle.hub_core.proofs.Waits.{from_queue}
-use Rattle.std.proofs.lemmas.List.{append_cancel_left}
 use Rattle.hub_core.proofs.Joins.{nothing_there}
 
 abbrev pub WaitingAt : Facts → ℕ → Type 0

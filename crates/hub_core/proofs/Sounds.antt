@@ -1,16 +1,6 @@
 -- After each pair that fits, the mailbox of each end shows what is known there; so the facts of every legal history are sound.
 use Rattle.std.proofs.Common.{◌≡◌, ℕ, List, [], ◌∷◌, ◌++◌, refl, sym, ap, subst, ◌∙◌, arith, Bool, inl, rules, None, append_assoc, append-nil}
-use Rattle.hub_envelope.specs.declared.envelope.Envelope.{Envelope}
-use Rattle.hub_core.specs.declared.step.Action.{Action}
-use Rattle.hub_core.specs.declared.outcome.Outcome.{Outcome}
-use Rattle.hub_core.specs.History.{Pair, History}
-use Rattle.hub_core.specs.Facts.{Facts, facts}
-use Rattle.hub_core.specs.Fits.{Answers, Fits}
-use Rattle.hub_core.specs.Legal.{Legal}
-use Rattle.hub_core.specs.Sound.{SoundPlaces, Sound}
-use Rattle.hub_core.specs.Mailbox.{Mailbox}
-use Rattle.hub_core.specs.MailboxPairs.{OneRight}
-use Rattle.hub_core.specs.MailboxOf.{first_mailbox, after_pair, mailbox_from, mailbox}
+use Rattle.hub_core.proofs.Words.{Envelope, Action, Outcome, Pair, History, Facts, facts, Answers, Fits, Legal, SoundPlaces, Sound, Mailbox, OneRight, first_mailbox, after_pair, mailbox_from, mailbox}
 use Rattle.hub_core.proofs.Nexts.{next, facts_next, by_change}
 use Rattle.hub_core.proofs.Legals.{by_pairs}
 use Rattle.hub_core.proofs.SoundLines.{MarksAt, marks_next}

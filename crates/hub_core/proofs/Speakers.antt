@@ -1,42 +1,16 @@
 -- Who posts on a line, who may enter, and which ports are in flight.
-use Rattle.std.proofs.Common.{◌≡◌, ℕ, ◌+◌, ◌<◌, ◌≤◌, Bool, true, false, cond, eqb, List, [], ◌∷◌, ◌++◌, Option, Some, None, refl, sym, ap, subst, ◌∙◌, arith, rules, length, append_assoc, append-nil, inl, inr}
-use Rattle.std.specs.Prelude.{◌⊎◌, ◌&&◌, ◌||◌, not, is_some, option_and_then, nat_le, drop}
-use Rattle.std.specs.List.{AllByRecursion, list_all, filter}
-use Rattle.std.proofs.lemmas.Bool.{false≢true, ne_eqb, eqb-true, leb-true, leb-false, and_parts, or_right}
-use Rattle.hub_envelope.specs.declared.ids.AgentId.{AgentId}
-use Rattle.hub_envelope.specs.declared.ids.EndId.{EndId}
-use Rattle.hub_envelope.specs.declared.envelope.Envelope.{Envelope}
-use Rattle.hub_core.specs.declared.end.Place.{Place}
-use Rattle.hub_core.specs.declared.end.Place.TheVariants.{With, InFlight, Arrived, Swept, Gone}
-use Rattle.hub_core.specs.declared.sender.Sender.{Sender}
-use Rattle.hub_core.specs.declared.line.Phase.TheVariants.{Out}
-use Rattle.hub_core.specs.declared.step.Action.{Action}
+use Rattle.std.proofs.Common.{◌≡◌, ℕ, ◌+◌, ◌<◌, ◌≤◌, Bool, true, false, cond, eqb, List, [], ◌∷◌, ◌++◌, Option, Some, None, refl, sym, ap, subst, ◌∙◌, arith, rules, length, append_assoc, append-nil, inl, inr, ◌⊎◌, ◌&&◌, ◌||◌, not, nat_le, drop, ne_eqb, leb-true, leb-false}
+use Rattle.hub_core.proofs.Words.{is_some, option_and_then, AllByRecursion, list_all, filter, false≢true, eqb-true, and_parts, or_right, AgentId, EndId, Envelope, Place, With, InFlight, Arrived, Swept, Gone, Sender, Out, Action, Outcome, EndNow, LineNow, Facts, Answers, names, is_named, by, Prefix, running_at, holder, poster}
+use Rattle.hub_core.proofs.Words.{phase_of_line, is_out, is_with, own_poster_out, is_at, may_enter, hears_notice, is_here, may_leave_agent, own_line_plain, running, poster_of, speaker_in, IsNext, no_end, IsOfEnd, total, naming, flights, SoundPlaces, Sound, lines_of, peer_of, is_queue, IsAllWaiting, Kind, on_line, is_released, Port}
+use Rattle.hub_core.proofs.Words.{Client, Worker, Member, is_client, is_worker, CastNow, is_first, cast_to, cast_after, maker_of, has_poster, has_poster_of, is_holder}
 use Rattle.hub_core.specs.declared.step.Action.TheVariants as action
-use Rattle.hub_core.specs.declared.outcome.Outcome.{Outcome}
 use Rattle.hub_core.specs.declared.outcome.Outcome.TheVariants as outcome
-use Rattle.hub_core.specs.Facts.{EndNow, LineNow, Facts}
-use Rattle.hub_core.specs.Fits.{Answers}
-use Rattle.hub_core.specs.Place.{names, is_named}
-use Rattle.hub_core.specs.Sender.{by, Prefix}
-use Rattle.hub_core.specs.Posting.{running_at, holder, poster, phase_of_line, is_out, is_with, own_poster_out, is_at, may_enter, hears_notice, is_here, may_leave_agent, own_line_plain, running, poster_of, speaker_in}
-use Rattle.hub_core.specs.Taking.{IsNext}
-use Rattle.hub_core.specs.Sound.{no_end, IsOfEnd, total, naming, flights, SoundPlaces, Sound}
 use Rattle.hub_core.proofs.Lists.{eqb_same}
 use Rattle.hub_core.proofs.Totals.{total_less, total_more, count, bit, count_more, count_lines, count_append}
 use Rattle.hub_core.proofs.Nexts.{next, Change, agent_made, channel_made, let_in, found_moved, found_closed, put, left, started, got, hopped, went_on, cleared, adopted, notice_put, end_closed, end_swept, client_made, worker_made, line_got, line_back, handed, agent_ordered, agent_ended, member_joined, cast_begun, member_parted}
 use Rattle.hub_core.proofs.Fitting.{new_ends, pushed_of, got_of, adopted_of, closed_of, SweptWith, swept_of, queue_made_of, handed_of, line_got_of, back_of, none_away, see_of, member_made_of, cast_of, left_of}
 use Rattle.hub_core.proofs.SoundLines.{LinesAt, line_there}
 use Rattle.hub_core.proofs.SoundWaiting.{WaitingAt, got_prefix, nothing_more, all_removed}
-use Rattle.hub_core.specs.Made.{lines_of, peer_of, is_queue}
-use Rattle.hub_core.specs.Looking.{IsAllWaiting}
-use Rattle.hub_core.specs.declared.kind.Kind.{Kind}
-use Rattle.hub_core.specs.Lines.{on_line}
-use Rattle.hub_core.specs.Moving.{is_released}
-use Rattle.hub_core.specs.declared.kind.Kind.TheVariants.{Port, Client, Worker, Member}
-use Rattle.hub_core.specs.Making.{is_client, is_worker}
-use Rattle.hub_core.specs.Roster.{CastNow, is_first, cast_to, cast_after}
-use Rattle.hub_core.specs.Made.{maker_of}
-use Rattle.hub_core.specs.Ending.{has_poster, has_poster_of, is_holder}
 
 -- ---- ends that were not made
 

@@ -1,12 +1,7 @@
 -- From what the parts of the core did to the clauses of a step.
-use Rattle.std.proofs.Common.{◌≡◌, Some, None, Result, Ok, Err, refl}
-use Rattle.std.specs.Prelude.{IfOk}
-use Rattle.hub_envelope.specs.declared.ids.AgentId.{AgentId}
-use Rattle.hub_core.specs.declared.kind.Kind.TheVariants.{Client, Worker}
-use Rattle.hub_core.specs.CoreState.{CoreState}
-use Rattle.hub_core.specs.CoreSteps.{core_after, queue_core}
+use Rattle.std.proofs.Common.{◌≡◌, Some, None, Result, Ok, Err, refl, IfOk}
+use Rattle.hub_core.proofs.Words.{AgentId, Client, Worker, CoreState, core_after, queue_core, Outcome}
 use Rattle.hub_core.specs.declared.step.Action.TheVariants as action
-use Rattle.hub_core.specs.declared.outcome.Outcome.{Outcome}
 use Rattle.hub_core.specs.declared.outcome.Outcome.TheVariants as outcome
 
 -- two facts of what was answered Ok give a third

@@ -1,13 +1,7 @@
 -- A core that didn't change still shows what it showed.
 use Rattle.std.proofs.Common.{◌<◌, length, sym, ap, subst, ◌∙◌}
-use Rattle.std.specs.List.{slice_get}
-use Rattle.hub_core.specs.declared.machine.Core.{Core}
-use Rattle.hub_core.specs.declared.kind.Kind.TheVariants.{Member}
-use Rattle.hub_core.specs.Facts.{facts}
-use Rattle.hub_core.specs.KeptRoster.{origin_at}
-use Rattle.hub_core.specs.Shows.{ShowsFacts, StillShows}
+use Rattle.hub_core.proofs.Words.{slice_get, Core, Member, facts, origin_at, ShowsFacts, StillShows, SameContent}
 use Rattle.hub_core.proofs.Sounds.{sound_legal}
-use Rattle.hub_core.specs.Unchanged.{SameContent}
 use Rattle.hub_core.proofs.Speakers.{kind_made}
 
 -- the same agents, ends and roster show the same

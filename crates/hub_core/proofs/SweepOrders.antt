@@ -1,31 +1,9 @@
 -- What a Sweep discards, where what is discarded is in order: there is one list of it.
-use Rattle.std.proofs.Common.{◌≡◌, ℕ, ◌+◌, ◌<◌, ◌≤◌, Bool, true, false, cond, eqb, List, [], ◌∷◌, ◌++◌, length, drop, map, refl, sym, ap, subst, ◌∙◌, arith, rules, append-nil, append_assoc}
-use Rattle.std.specs.Prelude.{nat_lt}
-use Rattle.std.specs.Bool.{MatchBool}
-use Rattle.std.specs.List.{filter, flat_map, AllByRecursion}
-use Rattle.std.proofs.lemmas.Bool.{false≢true, lt-ltb}
-use Rattle.std.proofs.lemmas.Grind.{flat_map-append}
-use Rattle.std.proofs.lemmas.List.Elements.{filter-append}
-use Rattle.hub_envelope.specs.declared.ids.EndId.{EndId}
-use Rattle.hub_envelope.specs.declared.envelope.Envelope.{Envelope}
-use Rattle.hub_core.specs.declared.step.Step.{Step}
-use Rattle.hub_core.specs.declared.step.Action.{Action}
+use Rattle.std.proofs.Common.{◌≡◌, ℕ, ◌+◌, ◌<◌, ◌≤◌, Bool, true, false, cond, eqb, List, [], ◌∷◌, ◌++◌, length, drop, map, refl, sym, ap, subst, ◌∙◌, arith, rules, append-nil, append_assoc, nat_lt, lt-ltb}
+use Rattle.hub_core.proofs.Words.{MatchBool, filter, flat_map, AllByRecursion, false≢true, flat_map-append, filter-append, EndId, Envelope, Step, Action, Outcome, Pair, History, Facts, facts, closed_after, accepted, accepted_by, taken, taken_by, discarded, discarded_by, by, in_queue, Rises, up_to, all_settled, IsAllWaiting, Sweeps}
+use Rattle.hub_core.proofs.Words.{FitsSweep, FitsTake, Fits, Answers, LegalAfter, InOrder}
 use Rattle.hub_core.specs.declared.step.Action.TheVariants as action
-use Rattle.hub_core.specs.declared.outcome.Outcome.{Outcome}
 use Rattle.hub_core.specs.declared.outcome.Outcome.TheVariants as outcome
-use Rattle.hub_core.specs.History.{Pair, History}
-use Rattle.hub_core.specs.Facts.{Facts, facts}
-use Rattle.hub_core.specs.Closed.{closed_after}
-use Rattle.hub_core.specs.Accepted.{accepted, accepted_by}
-use Rattle.hub_core.specs.Taken.{taken, taken_by}
-use Rattle.hub_core.specs.Discarded.{discarded, discarded_by}
-use Rattle.hub_core.specs.Sender.{by, in_queue, Rises}
-use Rattle.hub_core.specs.Numbers.{up_to}
-use Rattle.hub_core.specs.Looking.{all_settled, IsAllWaiting, Sweeps, FitsSweep}
-use Rattle.hub_core.specs.Taking.{FitsTake}
-use Rattle.hub_core.specs.Fits.{Fits, Answers}
-use Rattle.hub_core.specs.Legal.{LegalAfter}
-use Rattle.hub_core.specs.Laws.{InOrder}
 use Rattle.hub_core.proofs.Lists.{eqb_same, AllByRecursion-weaker}
 use Rattle.hub_core.proofs.Totals.{count_lines}
 use Rattle.hub_core.proofs.Nexts.{facts_next}

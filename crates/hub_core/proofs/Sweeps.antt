@@ -1,32 +1,12 @@
 -- Sweep: what the core answers fits, and it shows the facts with the answered step.
-use Rattle.hub_core.specs.CoreState.{CoreState}
+use Rattle.std.proofs.Common.{◌≡◌, ℕ, zero, suc, ◌+◌, ◌-◌, ◌<◌, ◌≤◌, Bool, true, false, cond, eqb, List, [], ◌∷◌, ◌++◌, length, get_or, set, Option, Some, None, refl, sym, ap, subst, ◌∙◌, arith, rules, append-nil, append_assoc, ◌&&◌, ◌||◌, not, nat_le, nat_lt, ne_eqb, leb-true, ltb-true, ltb-false, length-set}
+use Rattle.hub_core.proofs.Words.{CoreState, option_map, slice_get, list_any, AllByRecursion, false≢true, eqb-true, le-leb, eqb-false, and_parts, false_from_ne_true, le-ltb, append_cancel_left, filter-append, slice_get_within, EndId, Envelope, Agent, End, Swept, InFlight, Outcome, EndNow, LineNow, Facts, names, is_named, by, in_queue}
+use Rattle.hub_core.proofs.Words.{Rises, lines_of, is_out, any_below, is_away_at, someone_at, is_settled, all_from, all_settled, IsAllWaiting, FitsSweep, Sound, ShowsEnd, is_anyone_from, joined, sweep_outcome_at, moved_ends, ports_of, changed_ends, Inside}
 use Rattle.hub_core.proofs.Seeing.{Sees}
 use Rattle.hub_core.proofs.Changing.{found_end, ShownAfter}
-use Rattle.std.proofs.Common.{◌≡◌, ℕ, zero, suc, ◌+◌, ◌-◌, ◌<◌, ◌≤◌, Bool, true, false, cond, eqb, List, [], ◌∷◌, ◌++◌, length, get_or, set, Option, Some, None, refl, sym, ap, subst, ◌∙◌, arith, rules, append-nil, append_assoc}
-use Rattle.std.specs.Prelude.{◌&&◌, ◌||◌, not, nat_le, nat_lt, option_map}
-use Rattle.std.specs.List.{slice_get, list_any, AllByRecursion}
-use Rattle.std.proofs.lemmas.Bool.{false≢true, ne_eqb, eqb-true, leb-true, le-leb, ltb-true, ltb-false, eqb-false, and_parts, false_from_ne_true, le-ltb}
-use Rattle.std.proofs.lemmas.List.{length-set, append_cancel_left}
-use Rattle.std.proofs.lemmas.List.Elements.{filter-append}
-use Rattle.std.proofs.lemmas.Option.{slice_get_within}
-use Rattle.hub_envelope.specs.declared.ids.EndId.{EndId}
-use Rattle.hub_envelope.specs.declared.envelope.Envelope.{Envelope}
-use Rattle.hub_core.specs.declared.agent.Agent.{Agent}
-use Rattle.hub_core.specs.declared.end.End.{End}
-use Rattle.hub_core.specs.declared.end.Place.TheVariants.{Swept, InFlight}
 use Rattle.hub_core.specs.declared.step.Action.TheVariants as action
-use Rattle.hub_core.specs.declared.outcome.Outcome.{Outcome}
 use Rattle.hub_core.specs.declared.outcome.Outcome.TheVariants as outcome
-use Rattle.hub_core.specs.Facts.{EndNow, LineNow, Facts}
-use Rattle.hub_core.specs.Place.{names, is_named}
-use Rattle.hub_core.specs.Sender.{by, in_queue, Rises}
-use Rattle.hub_core.specs.Made.{lines_of}
-use Rattle.hub_core.specs.Posting.{is_out}
-use Rattle.hub_core.specs.Looking.{any_below, is_away_at, someone_at, is_settled, all_from, all_settled, IsAllWaiting, FitsSweep}
-use Rattle.hub_core.specs.Sound.{Sound}
-use Rattle.hub_core.specs.Shows.{ShowsEnd}
 use Rattle.hub_core.proofs.Showing.{SoundlyShows}
-use Rattle.hub_core.specs.Kept.{is_anyone_from, joined, sweep_outcome_at, moved_ends, ports_of, changed_ends}
 use Rattle.hub_core.proofs.Lists.{eqb_same, is_there, AllByRecursion-weaker, AllByRecursion-append, below_last, each_changed}
 use Rattle.hub_core.proofs.Waits.{filters, of_queue, all_kept, rises_back, all_of_queue}
 use Rattle.hub_core.proofs.Frames.{ShownAt, Stepped, changed}
@@ -34,7 +14,6 @@ use Rattle.hub_core.proofs.Placing.{moves_of, moved_end, moved_shown}
 use Rattle.hub_core.proofs.Speakers.{placed_made, swept_flies}
 use Rattle.hub_core.proofs.SoundWaiting.{nobody_there, rises_joined}
 use Rattle.hub_core.proofs.Fitting.{swept_of, any_of, none_of_any, each_of}
-use Rattle.hub_core.specs.declared.line.Phase.TheVariants.{Inside}
 use Rattle.hub_core.proofs.Presence.{lines_kept}
 use Rattle.hub_core.proofs.SweepOrders.{rises_one}
 use Rattle.hub_core.proofs.Counts.{counted_ports, counts_of}

@@ -1,12 +1,6 @@
 -- A queue after an envelope was taken out, the first of its line.
 use Rattle.std.proofs.Common.{◌≡◌, ℕ, Bool, true, false, cond, eqb, List, [], ◌∷◌, ◌++◌, Some, refl, sym, ap, subst, ◌∙◌, rules, append_assoc}
-use Rattle.std.specs.List.{AllByRecursion}
-use Rattle.std.proofs.lemmas.Bool.{false≢true, eqb-true}
-use Rattle.std.proofs.lemmas.List.Elements.{filter-append, recursion_from_All, All-from_recursion}
-use Rattle.hub_envelope.specs.declared.envelope.Envelope.{Envelope}
-use Rattle.hub_core.specs.Sender.{by}
-use Rattle.hub_core.specs.QueueMachine.{Queue, pop_of, popped, IsNamed, IsQueue}
-use Rattle.hub_core.specs.MailboxSteps.{HoldsFirst, without_first, taken_out}
+use Rattle.hub_core.proofs.Words.{AllByRecursion, false≢true, eqb-true, filter-append, recursion_from_All, All-from_recursion, Envelope, by, Queue, pop_of, popped, IsNamed, IsQueue, HoldsFirst, without_first, taken_out}
 use Rattle.hub_core.proofs.Lists.{eqb_same, AllByRecursion-append}
 use Rattle.hub_core.proofs.Waits.{all_back, all_kept}
 

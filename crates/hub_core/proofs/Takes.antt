@@ -3,36 +3,15 @@ use Rattle.hub_core.proofs.Fitting.{started_of, got_of, went_on_of}
 use Rattle.hub_core.proofs.Changing.{found_end, ShownAfter}
 use Rattle.hub_core.proofs.Nexts.{Change, started, got, went_on}
 use Rattle.hub_core.proofs.Seeing.{Sees, seen_is}
-use Rattle.std.proofs.Common.{◌≡◌, ℕ, zero, suc, ◌+◌, ◌<◌, Bool, true, false, cond, eqb, List, [], ◌∷◌, ◌++◌, length, get_or, set, Option, Some, None, refl, sym, ap, subst, ◌∙◌, arith, rules, append_assoc, drop}
-use Rattle.std.specs.Prelude.{is_some}
-use Rattle.std.specs.Bool.{MatchBool}
-use Rattle.std.specs.List.{slice_get, AllByRecursion}
-use Rattle.std.proofs.lemmas.Bool.{false≢true}
-use Rattle.std.proofs.lemmas.List.{length-set}
-use Rattle.std.proofs.lemmas.Option.{slice_get_within}
-use Rattle.hub_envelope.specs.declared.ids.AgentId.{AgentId}
-use Rattle.hub_envelope.specs.declared.ids.EndId.{EndId}
-use Rattle.hub_envelope.specs.declared.envelope.Envelope.{Envelope}
-use Rattle.hub_core.specs.declared.agent.Agent.{Agent}
-use Rattle.hub_core.specs.declared.end.End.{End}
-use Rattle.hub_core.specs.declared.end.Place.TheVariants.{With, InFlight, Arrived}
+use Rattle.std.proofs.Common.{◌≡◌, ℕ, zero, suc, ◌+◌, ◌<◌, Bool, true, false, cond, eqb, List, [], ◌∷◌, ◌++◌, length, get_or, set, Option, Some, None, refl, sym, ap, subst, ◌∙◌, arith, rules, append_assoc, drop, length-set}
+use Rattle.hub_core.proofs.Words.{is_some, MatchBool, slice_get, AllByRecursion, false≢true, slice_get_within, AgentId, EndId, Envelope, Agent, End, With, InFlight, Arrived, Outcome, EndNow, Facts, arrived, names, in_queue, running_at, holder, is_with, IsNext, Serves, FitsTake, start_answer, IsOfEnd, Sound, ShowsEnd, advanced_end}
+use Rattle.hub_core.proofs.Words.{with_taker_queue, front_taken, moved_ends, arrived_ends, TakeServes, TakeHeld, TakeAnswers, change_end, changed_ends, CoreState, seen}
 use Rattle.hub_core.specs.declared.step.Action.TheVariants as action
-use Rattle.hub_core.specs.declared.outcome.Outcome.{Outcome}
 use Rattle.hub_core.specs.declared.outcome.Outcome.TheVariants as outcome
-use Rattle.hub_core.specs.Facts.{EndNow, Facts}
-use Rattle.hub_core.specs.Place.{arrived, names}
-use Rattle.hub_core.specs.Sender.{in_queue}
-use Rattle.hub_core.specs.Posting.{running_at, holder, is_with}
-use Rattle.hub_core.specs.Taking.{IsNext, Serves, FitsTake, start_answer}
-use Rattle.hub_core.specs.Sound.{IsOfEnd, Sound}
-use Rattle.hub_core.specs.Shows.{ShowsEnd}
 use Rattle.hub_core.proofs.Showing.{SoundlyShows}
-use Rattle.hub_core.specs.Kept.{advanced_end, with_taker_queue, front_taken, moved_ends, arrived_ends, TakeServes, TakeHeld, TakeAnswers, change_end, changed_ends}
 use Rattle.hub_core.proofs.Lists.{get_or-set_same, get_or-set_other, is_there, each_changed}
 use Rattle.hub_core.proofs.Waits.{all_kept, all_back, of_queue, queue_more, queue_other, next_in_line}
 use Rattle.hub_core.proofs.Frames.{ShownAt, Stepped, changed, end_changed, end_restated}
-use Rattle.hub_core.specs.CoreState.{CoreState}
-use Rattle.hub_core.specs.Seen.{seen}
 use Rattle.hub_core.proofs.Placing.{Moves, moves_to, moved_shown}
 use Rattle.hub_core.proofs.Speakers.{runs_there, placed_made, taken_flies}
 use Rattle.hub_core.proofs.GoingOn.{taker_queue_at, nothing_serves, went_on_shown}

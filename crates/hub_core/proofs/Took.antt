@@ -1,35 +1,15 @@
 -- A step of the core from one value to another, and the clauses of `Core::step` that follow.
-use Rattle.std.proofs.Common.{◌≡◌, ℕ, Bool, true, List, [], ◌∷◌, ◌++◌, length, Some, None, Result, Ok, Err, refl, sym, ap, subst, ◌∙◌, inl, inr}
-use Rattle.std.specs.Prelude.{IfOk, OnErr, is_some, not, ◌&&◌}
-use Rattle.std.specs.List.{slice_get}
-use Rattle.std.proofs.lemmas.Bool.{false≢true}
-use Rattle.hub_envelope.specs.declared.ids.AgentId.{AgentId}
-use Rattle.hub_envelope.specs.declared.ids.EndId.{EndId}
-use Rattle.hub_core.specs.declared.members.Members.{Members}
+use Rattle.std.proofs.Common.{◌≡◌, ℕ, Bool, true, List, [], ◌∷◌, ◌++◌, length, Some, None, Result, Ok, Err, refl, sym, ap, subst, ◌∙◌, inl, inr, IfOk, not, ◌&&◌}
+use Rattle.hub_core.proofs.Words.{OnErr, is_some, slice_get, false≢true, AgentId, EndId, Members, core_after, kept_member_answer, part_outcome, member_made, origin_at, group_of, is_seated_in, MemberLeaves, PartLeaves, seen, CoreState, Step, Action, Outcome, Facts, facts, Answers, Fits, History, InOrder, takes_memory, Shows, ShowsFacts}
+use Rattle.hub_core.proofs.Words.{ShowsRoster, FitsAndShows, StillShows, changes_nothing, SameContent, member_answer, part_answer}
 use Rattle.hub_core.specs.declared.step.Action.TheVariants as action
 use Rattle.hub_core.specs.declared.outcome.Outcome.TheVariants as outcome
-use Rattle.hub_core.specs.CoreSteps.{core_after}
-use Rattle.hub_core.specs.KeptCasting.{kept_member_answer, part_outcome, member_made}
-use Rattle.hub_core.specs.KeptRoster.{origin_at, group_of, is_seated_in, MemberLeaves, PartLeaves}
-use Rattle.hub_core.specs.Seen.{seen}
 use Rattle.hub_core.proofs.Seeing.{Sees}
-use Rattle.hub_core.specs.CoreState.{CoreState}
-use Rattle.hub_core.specs.declared.step.Step.{Step}
-use Rattle.hub_core.specs.declared.step.Action.{Action}
-use Rattle.hub_core.specs.declared.outcome.Outcome.{Outcome}
-use Rattle.hub_core.specs.Facts.{Facts, facts}
-use Rattle.hub_core.specs.Fits.{Answers, Fits}
-use Rattle.hub_core.specs.History.{History}
-use Rattle.hub_core.specs.Laws.{InOrder}
-use Rattle.hub_core.specs.Memory.{takes_memory}
-use Rattle.hub_core.specs.Shows.{Shows, ShowsFacts, ShowsRoster, FitsAndShows, StillShows}
 use Rattle.hub_core.proofs.Showing.{SoundlyShows, soundly, plainly}
 use Rattle.hub_core.proofs.Sounds.{sound_legal}
 use Rattle.hub_core.proofs.Legals.{legal_one}
-use Rattle.hub_core.specs.Unchanged.{changes_nothing, SameContent}
 use Rattle.hub_core.proofs.Broadcasts.{part_answered, part_shown}
 use Rattle.hub_core.proofs.Makes.{member_answered, member_shown}
-use Rattle.hub_core.specs.Casting.{member_answer, part_answer}
 use Rattle.hub_core.proofs.Casts.{same_members, leaves_roster, roster_stays, roster_member, roster_part}
 use Rattle.hub_core.proofs.Changing.{ShownAfter, ShownWith}
 use Rattle.hub_core.proofs.Frames.{Stepped}

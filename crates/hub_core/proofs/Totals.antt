@@ -1,11 +1,6 @@
 -- Sums over numbers, and counts of envelopes line by line.
 use Rattle.std.proofs.Common.{◌≡◌, ℕ, zero, suc, ◌+◌, ◌<◌, ◌≤◌, Bool, true, false, cond, eqb, List, [], ◌∷◌, ◌++◌, length, refl, sym, ap, subst, ◌∙◌, arith, rules, length-append}
-use Rattle.std.specs.List.{filter, AllByRecursion}
-use Rattle.std.proofs.lemmas.List.Elements.{filter-append}
-use Rattle.std.proofs.lemmas.Bool.Decides.{nat_tests}
-use Rattle.hub_envelope.specs.declared.envelope.Envelope.{Envelope}
-use Rattle.hub_core.specs.Sender.{by, Prefix}
-use Rattle.hub_core.specs.Sound.{total}
+use Rattle.hub_core.proofs.Words.{filter, AllByRecursion, filter-append, nat_tests, Envelope, by, Prefix, total}
 use Rattle.hub_core.proofs.Lists.{eqb_same, AllByRecursion-weaker}
 
 pub total_same : (w u : ℕ → ℕ) (n : ℕ) → ((e : ℕ) → e < n → u e ≡ w e) → total u n ≡ total w n

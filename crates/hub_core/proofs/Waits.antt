@@ -1,13 +1,6 @@
 -- What waits at an end, queue by queue and line by line.
-use Rattle.std.proofs.Common.{◌≡◌, ℕ, ◌<◌, ◌≤◌, Bool, true, false, cond, eqb, List, [], ◌∷◌, ◌++◌, refl, sym, ap, subst, ◌∙◌, arith, rules, append-nil, append_assoc}
-use Rattle.std.specs.Prelude.{nat_lt}
-use Rattle.std.specs.List.{filter, AllByRecursion}
-use Rattle.std.proofs.lemmas.Bool.{ne_eqb, eqb-true, eqb-false, ltb-true, ltb-false}
-use Rattle.std.proofs.lemmas.Bool.Decides.{nat_tests}
-use Rattle.std.proofs.lemmas.List.{append_cancel_left}
-use Rattle.std.proofs.lemmas.List.Elements.{filter-append}
-use Rattle.hub_envelope.specs.declared.envelope.Envelope.{Envelope}
-use Rattle.hub_core.specs.Sender.{by, in_queue, Prefix, Rises}
+use Rattle.std.proofs.Common.{◌≡◌, ℕ, ◌<◌, ◌≤◌, Bool, true, false, cond, eqb, List, [], ◌∷◌, ◌++◌, refl, sym, ap, subst, ◌∙◌, arith, rules, append-nil, append_assoc, nat_lt, ne_eqb, ltb-true, ltb-false}
+use Rattle.hub_core.proofs.Words.{filter, AllByRecursion, eqb-true, eqb-false, nat_tests, append_cancel_left, filter-append, Envelope, by, in_queue, Prefix, Rises}
 use Rattle.hub_core.proofs.Lists.{eqb_same}
 
 -- ---- filters

@@ -1,9 +1,5 @@
 use Rattle.std.proofs.Common.{◌∙◌, ap, ℕ}
-use Rattle.std.specs.Ordering.{nat_cmp}
-use Rattle.std.specs.BTreeMap.{BTreeMap}
-use Rattle.std.specs.BTreeSet.{BTreeSet, insert_key}
-use Rattle.hub_core.specs.declared.group.Group.{Group}
-use Rattle.hub_core.specs.KeptRoster.{numbers_in}
+use Rattle.hub_core.proofs.Words.{nat_cmp, BTreeMap, BTreeSet, insert_key, Group, numbers_in}
 use Rattle.hub_core.proofs.Seating.{seats, seats_first, rests, written, was_there, on_err}
 use Rattle.hub_core.proofs.members.seat.Goals as goal
 

@@ -1,5 +1,5 @@
 use Rattle.std.proofs.Common.{◌≡◌, length, take}
-use Rattle.hub_core.specs.Kept.{joined}
+use Rattle.hub_core.proofs.Words.{joined}
 use Rattle.hub_core.proofs.queues.count_in.Given as goal
 
 -- the queues so far are counted

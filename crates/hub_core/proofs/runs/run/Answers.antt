@@ -1,16 +1,10 @@
 -- A step more makes the history one pair longer.
 use Rattle.std.proofs.Common.{◌≡◌, ◌+◌, [], ◌∷◌, ◌++◌, sym, ap, subst, ◌∙◌, length, length-append}
-use Rattle.std.specs.List.{zip}
-use Rattle.hub_core.specs.History.{History}
-use Rattle.hub_core.specs.Legal.{Legal}
-use Rattle.hub_core.specs.Headline.{Headline}
-use Rattle.hub_core.specs.Laws.{InOrder}
-use Rattle.hub_core.specs.Shows.{Shows}
+use Rattle.hub_core.proofs.Words.{zip, History, Legal, Headline, InOrder, Shows, Fates}
 use Rattle.hub_core.proofs.Legals.{zip_one, legal_one}
 use Rattle.hub_core.proofs.Headlines.{headline}
 use Rattle.hub_core.proofs.Orders.{shows_in_order}
 use Rattle.hub_core.proofs.runs.run.Goals as goal
-use Rattle.hub_core.specs.Fates.{Fates}
 use Rattle.hub_core.proofs.Fating.{fates}
 
 pub loop-step-preserved : goal.loop-step-preserved

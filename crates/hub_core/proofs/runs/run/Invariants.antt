@@ -1,11 +1,6 @@
 use Rattle.std.proofs.Common.{◌≡◌, length}
-use Rattle.std.specs.List.{zip}
-use Rattle.hub_core.specs.Legal.{Legal}
-use Rattle.hub_core.specs.Headline.{Headline}
-use Rattle.hub_core.specs.Laws.{InOrder}
-use Rattle.hub_core.specs.Shows.{Shows}
+use Rattle.hub_core.proofs.Words.{zip, Legal, Headline, InOrder, Shows, Fates}
 use Rattle.hub_core.proofs.runs.run.Given as goal
-use Rattle.hub_core.specs.Fates.{Fates}
 
 -- the pairs so far are a legal history, and the core shows it
 abbrev pub invariant-loop-step : goal.invariant-loop-step

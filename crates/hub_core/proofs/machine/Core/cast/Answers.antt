@@ -1,6 +1,6 @@
 -- A cast that passes each test goes to the members of its group.
-use Rattle.std.proofs.Common.{◌≡◌, sym, ◌∙◌, ap, eqb, length}
-use Rattle.std.specs.Prelude.{is_some, not}
+use Rattle.std.proofs.Common.{◌≡◌, sym, ◌∙◌, ap, eqb, length, not}
+use Rattle.hub_core.proofs.Words.{is_some}
 use Rattle.hub_core.specs.declared.outcome.Outcome.TheVariants as outcome
 use Rattle.hub_core.proofs.Broadcasts.{cast_goes, none_listed}
 use Rattle.hub_core.proofs.machine.Core.cast.Goals as goal

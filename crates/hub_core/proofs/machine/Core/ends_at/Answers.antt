@@ -1,13 +1,6 @@
 -- The loop keeps what it has found.
-use Rattle.std.proofs.Common.{◌≡◌, ℕ, suc, ◌+◌, cond, List, [], ◌∷◌, ◌++◌, length, Some, refl, sym, ap, ◌∙◌, arith}
-use Rattle.std.specs.List.{slice_get}
-use Rattle.std.proofs.lemmas.Option.{slice_get_read}
-use Rattle.hub_core.specs.declared.end.End.{End}
-use Rattle.std.specs.Prelude.{Bool, ◌||◌, Option}
-use Rattle.hub_core.specs.Ending.{ends_below}
-use Rattle.hub_core.specs.Moving.{is_arrived}
-use Rattle.hub_core.specs.Posting.{is_with}
-use Rattle.hub_core.specs.Shows.{end_now}
+use Rattle.std.proofs.Common.{◌≡◌, ℕ, suc, ◌+◌, cond, List, [], ◌∷◌, ◌++◌, length, Some, refl, sym, ap, ◌∙◌, arith, Bool, ◌||◌, Option}
+use Rattle.hub_core.proofs.Words.{slice_get, slice_get_read, End, ends_below, is_arrived, is_with, end_now}
 use Rattle.hub_core.proofs.machine.Core.ends_at.Goals as goal
 
 pub loop-number-preserved : goal.loop-number-preserved

@@ -1,10 +1,6 @@
 -- The ends found so far are those of the ends passed.
-use Rattle.std.proofs.Common.{◌≡◌}
-use Rattle.std.specs.Prelude.{◌||◌}
-use Rattle.hub_core.specs.Ending.{ends_below}
-use Rattle.hub_core.specs.Moving.{is_arrived}
-use Rattle.hub_core.specs.Posting.{is_with}
-use Rattle.hub_core.specs.Seen.{seen}
+use Rattle.std.proofs.Common.{◌≡◌, ◌||◌}
+use Rattle.hub_core.proofs.Words.{ends_below, is_arrived, is_with, seen}
 use Rattle.hub_core.proofs.machine.Core.ends_at.Given as goal
 
 abbrev pub invariant-loop-number : goal.invariant-loop-number

@@ -1,6 +1,6 @@
 -- What an end is: the kind that the core keeps is that of the facts.
 use Rattle.std.proofs.Common.{◌∙◌, ap, sym}
-use Rattle.hub_core.specs.Facts.{EndNow}
+use Rattle.hub_core.proofs.Words.{EndNow}
 use Rattle.hub_core.proofs.machine.Core.kind_of.Goals as goal
 
 pub returns : goal.returns

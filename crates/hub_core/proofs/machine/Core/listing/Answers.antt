@@ -2,7 +2,7 @@
 use Rattle.hub_core.proofs.Showing.{soundly}
 use Rattle.hub_core.proofs.Sounds.{sound_legal}
 use Rattle.std.proofs.Common.{◌∙◌}
-use Rattle.hub_core.specs.Facts.{facts}
+use Rattle.hub_core.proofs.Words.{facts}
 use Rattle.hub_core.proofs.Seeing.{listing_seen}
 use Rattle.hub_core.proofs.machine.Core.listing.Goals as goal
 

@@ -1,8 +1,5 @@
-use Rattle.std.proofs.Common.{◌≡◌, drop}
-use Rattle.std.specs.Prelude.{◌&&◌}
-use Rattle.std.specs.List.{list_all}
-use Rattle.hub_core.specs.Posting.{is_distinct, may_leave_agent}
-use Rattle.hub_core.specs.Seen.{seen}
+use Rattle.std.proofs.Common.{◌≡◌, drop, ◌&&◌}
+use Rattle.hub_core.proofs.Words.{list_all, is_distinct, may_leave_agent, seen}
 use Rattle.hub_core.proofs.machine.Core.may_all_leave.Given as goal
 
 -- the answer is that of the ports that are left

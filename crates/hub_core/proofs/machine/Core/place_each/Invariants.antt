@@ -1,5 +1,5 @@
 use Rattle.std.proofs.Common.{◌≡◌, take}
-use Rattle.hub_core.specs.Kept.{moved_ends}
+use Rattle.hub_core.proofs.Words.{moved_ends}
 use Rattle.hub_core.proofs.machine.Core.place_each.Given as goal
 
 -- the ports so far are placed

@@ -1,6 +1,5 @@
 use Rattle.std.proofs.Common.{◌≡◌, take}
-use Rattle.hub_core.specs.declared.end.Place.TheVariants.{Swept}
-use Rattle.hub_core.specs.Kept.{moved_ends, ports_of}
+use Rattle.hub_core.proofs.Words.{Swept, moved_ends, ports_of}
 use Rattle.hub_core.proofs.machine.Core.place_swept.Given as goal
 
 -- the ports of the envelopes so far are placed

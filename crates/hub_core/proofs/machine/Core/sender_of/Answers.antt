@@ -1,9 +1,6 @@
 -- The line that is kept is the one of the history.
 use Rattle.std.proofs.Common.{◌∙◌, ap, sym}
-use Rattle.std.specs.Prelude.{option_map}
-use Rattle.hub_core.specs.declared.sender.Sender.{Sender}
-use Rattle.hub_core.specs.Facts.{EndNow}
-use Rattle.hub_core.specs.Made.{peer_of}
+use Rattle.hub_core.proofs.Words.{option_map, Sender, EndNow, peer_of}
 use Rattle.hub_core.proofs.machine.Core.sender_of.Goals as goal
 
 pub returns : goal.returns

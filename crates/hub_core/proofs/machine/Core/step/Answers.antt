@@ -1,9 +1,7 @@
 -- Each arm of a step: what the family did to the core is what the facts say.
 use Rattle.hub_core.proofs.Broadcasts.{cast_fits, cast_changes}
-use Rattle.hub_core.specs.Looking.{FitsSweep}
-use Rattle.hub_core.specs.Posting.{leave_answer}
-use Rattle.hub_core.specs.Making.{agent_answer, channel_answer}
 use Rattle.std.proofs.Common.{refl, ap, ◌∙◌, subst, sym}
+use Rattle.hub_core.proofs.Words.{FitsSweep, leave_answer, agent_answer, channel_answer, order_answer, back_answer, adopt_answer, start_answer}
 use Rattle.hub_core.specs.declared.step.Action.TheVariants as action
 use Rattle.hub_core.proofs.Stepping.{ok_both, ok_all, client_core, worker_core}
 use Rattle.hub_core.proofs.Took.{ok, took_where, took_by, same_err, same_err_with, told, member_took, part_took}
@@ -21,10 +19,6 @@ use Rattle.hub_core.proofs.Notices.{notice_fits, notice_changes}
 use Rattle.hub_core.proofs.Closes.{close_changes}
 use Rattle.hub_core.proofs.Sweeps.{sweep_fits, sweep_changes}
 use Rattle.hub_core.proofs.Seeing.{seen_is, enter_seen, hop_seen, close_seen, hand_seen}
-use Rattle.hub_core.specs.Ending.{order_answer}
-use Rattle.hub_core.specs.Holding.{back_answer}
-use Rattle.hub_core.specs.Moving.{adopt_answer}
-use Rattle.hub_core.specs.Taking.{start_answer}
 use Rattle.hub_core.proofs.machine.Core.step.Goals as goal
 
 pub returns-in-Agent : goal.returns-in-Agent

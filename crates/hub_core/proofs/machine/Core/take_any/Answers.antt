@@ -1,10 +1,7 @@
 -- What holds of the step that is taken holds of the one that was given, since they are the same.
 use Rattle.std.proofs.Common.{◌≡◌, Bool, Result, IfOk, subst, sym}
-use Rattle.hub_core.specs.declared.machine.Core.{Core}
-use Rattle.hub_core.specs.declared.outcome.Outcome.{Outcome}
-use Rattle.hub_core.specs.declared.step.Action.{Action}
+use Rattle.hub_core.proofs.Words.{Core, Outcome, Action, FitsAndShows}
 use Rattle.hub_core.specs.declared.step.Action.TheVariants as action
-use Rattle.hub_core.specs.Shows.{FitsAndShows}
 use Rattle.hub_core.proofs.machine.Core.take_any.Goals as goal
 
 given : {E : Type 0} (old new : Core) (refused : Bool) (result : Result Outcome E) (a b : Action) → b ≡ a

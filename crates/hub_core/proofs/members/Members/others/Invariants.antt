@@ -1,7 +1,5 @@
 use Rattle.std.proofs.Common.{◌≡◌, ◌++◌, not, map}
-use Rattle.std.specs.Prelude.{◌==◌}
-use Rattle.std.specs.List.{filter}
-use Rattle.hub_core.specs.KeptRoster.{kept_destinations}
+use Rattle.hub_core.proofs.Words.{◌==◌, filter, kept_destinations}
 use Rattle.hub_core.proofs.members.Members.others.Given as goal
 
 -- those that were found, and those that are still to be gone through, are the others

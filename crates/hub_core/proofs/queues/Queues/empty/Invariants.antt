@@ -1,6 +1,5 @@
 use Rattle.std.proofs.Common.{◌≡◌, ◌+◌, ◌≤◌, ◌++◌, length}
-use Rattle.std.specs.Vec.{vec_len, vec_capacity}
-use Rattle.hub_core.specs.Kept.{joined}
+use Rattle.hub_core.proofs.Words.{vec_len, vec_capacity, joined}
 use Rattle.hub_core.proofs.queues.Queues.empty.Given as goal
 
 -- the envelopes that moved, followed by those of this queue and of the others, are all; and there is room for those
