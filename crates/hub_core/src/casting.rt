@@ -1,6 +1,7 @@
 //! Broadcast channels: Member, Cast and Part.
 
-ghost use Rattle.std.specs.Prelude.{◌≡◌, ◌&&◌, length, not, is_some, slice_get, IfOk, OnErr};
+ghost use Rattle.std.specs.Prelude.{◌≡◌, ◌&&◌, length, not, is_some, slice_get, unwrap_or};
+ghost use Rattle.std.specs.Prelude.{ℕ, List, IfOk, IfSome, OnErr};
 ghost use Rattle.hub_core.specs.KeptCasting.{kept_member_answer, kept_cast_answer, member_made};
 ghost use Rattle.hub_core.specs.KeptCasting.{part_outcome};
 ghost use Rattle.hub_core.specs.Made.{maker_of};
@@ -8,7 +9,9 @@ ghost use Rattle.hub_core.specs.Seen.{seen};
 ghost use Rattle.hub_core.specs.KeptRoster.{origin_at, group_of, is_seated_in, kept_destinations};
 ghost use Rattle.hub_core.specs.KeptRoster.{MemberLeaves, PartLeaves};
 ghost use Rattle.hub_core.specs.CoreSteps.{core_after};
+ghost use Rattle.hub_core.specs.declared.outcome.Outcome.TheVariants as outcome;
 ghost use Rattle.hub_core.specs.declared.step.Action.TheVariants as action;
+ghost use Rattle.hub_envelope.specs.declared.ids.EndId.{EndId as EndIdValue};
 ghost use Rattle.hub_core.specs.Posting.{holder, is_empty};
 ghost use Rattle.hub_core.specs.Unchanged.{SameContent};
 
@@ -81,22 +84,41 @@ impl Core {
             ≡ core_after self.old o (action.Cast end ports body)) }
         ensures err { OnErr result (self.new ≡ self.old) }
     {
-        if self.maker_of(end).is_none() || self.roster.is_casting() {
-            return Ok(Outcome::NotNow);
-        }
-        if !self.roster.members.has(end.0) || self.is_closed(end) {
-            return Ok(Outcome::InvalidState);
-        }
-        if self.running_holder(end).is_none() {
-            return Ok(Outcome::NotNow);
-        }
-        if !ports.as_slice().is_empty() {
-            return Ok(Outcome::NotTransferable);
+        if let Some(refusal) = self.cast_refusal(end, ports.as_slice()) {
+            return Ok(refusal);
         }
         let ends = self.roster.members.others(self.alloc, end.0)?;
         let left = Destinations::of(self.alloc, &ends)?;
         self.roster.begin(end, body, left);
         Ok(Outcome::Destinations(Items::of(ends)))
+    }
+
+    /// What a cast is answered that doesn't begin.
+    fn cast_refusal(&self, end: EndId, ports: &[EndId]) -> Option<Outcome>
+        ensures answer { let f = seen self.now in
+            let members = self.now.roster.members in
+            let casting = is_some self.now.roster.cast in
+            let may = is_some (maker_of (f.end end.0).kind) && not casting in
+            let seated = is_seated_in members end.0 (group_of members end.0) in
+            (others : List EndIdValue) → kept_cast_answer may
+            (seated && not (f.end end.0).closed) (holder f end.0) (is_empty ports.now) others
+            ≡ unwrap_or result (outcome.Destinations others) }
+        ensures refused { (body : List ℕ) → IfSome result (λ o.
+            core_after self.now o (action.Cast end ports.now body) ≡ self.now) }
+    {
+        if self.maker_of(end).is_none() || self.roster.is_casting() {
+            return Some(Outcome::NotNow);
+        }
+        if !self.roster.members.has(end.0) || self.is_closed(end) {
+            return Some(Outcome::InvalidState);
+        }
+        if self.running_holder(end).is_none() {
+            return Some(Outcome::NotNow);
+        }
+        if !ports.is_empty() {
+            return Some(Outcome::NotTransferable);
+        }
+        None
     }
 
     /// The agent that made a broadcast channel.

@@ -39,6 +39,15 @@ pub struct Members {
     seated: BTreeMap<Group, BTreeSet<u32>>,
 }
 
+impl Origins {
+    /// The origin of an agent, where it has one.
+    fn of(&self, agent: AgentId) -> Option<&Text>
+        ensures { origin_at (slice_get self.now agent.0) ≡ option_map (λ x. x.now) result }
+    {
+        self.origins.get(agent.0 as usize)?.as_ref()
+    }
+}
+
 impl Members {
     pub(crate) fn new(alloc: Global) -> Members
         ensures origins { result.origins ≡ [] }
@@ -69,8 +78,7 @@ impl Members {
     pub(crate) fn has_origin(&self, agent: AgentId) -> bool
         ensures { result ≡ is_some (origin_at (slice_get self.now.origins agent.0)) }
     {
-        let agents = &self.origins;
-        matches!(agents.origins.get(agent.0 as usize), Some(Some(_)))
+        self.origins.of(agent).is_some()
     }
 
     /// The group of the agent's channels of a name; `None` where the agent has no origin.
@@ -78,14 +86,11 @@ impl Members {
         ensures { let origin = origin_at (slice_get self.now.origins agent.0) in
             IfOk result (λ group. group ≡ group_named origin name) }
     {
-        let agents = &self.origins;
-        match agents.origins.get(agent.0 as usize) {
-            Some(Some(origin)) => {
-                let origin = origin.clone()?;
-                Ok(Some(Group { origin, name }))
-            }
-            _ => Ok(None),
-        }
+        let Some(origin) = self.origins.of(agent) else {
+            return Ok(None);
+        };
+        let origin = origin.clone()?;
+        Ok(Some(Group { origin, name }))
     }
 
     /// The end joins the group of its agent's channels of a name.

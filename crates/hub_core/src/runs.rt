@@ -1,12 +1,12 @@
 //! A run of many steps, from a hub with no agent.
 
-ghost use Rattle.std.specs.Prelude.{◌≡◌, length, IfOk};
+ghost use Rattle.std.specs.Prelude.{◌≡◌, [], length, IfOk, OnOk};
 ghost use Rattle.std.specs.List.{zip};
 ghost use Rattle.hub_core.specs.Legal.{Legal};
 ghost use Rattle.hub_core.specs.Headline.{Headline};
 ghost use Rattle.hub_core.specs.Fates.{Fates};
 ghost use Rattle.hub_core.specs.Laws.{InOrder};
-ghost use Rattle.hub_core.specs.Shows.{FitsAndShows};
+ghost use Rattle.hub_core.specs.Shows.{FitsAndShows, Shows};
 
 use crate::machine::Core;
 use crate::outcome::Outcome;
@@ -27,14 +27,29 @@ pub fn run(alloc: Global, steps: Vec<Step>) -> Result<Vec<Outcome>, OutOfMemory>
 {
     let mut core = Core::new(alloc);
     let mut outcomes = Vec::with_capacity(alloc, steps.len())?;
-    for step in steps {
-        let outcome = core.take_any(step)?;
-        outcomes.push(outcome)?;
-    }
+    core.take_all(steps, &mut outcomes)?;
     Ok(outcomes)
 }
 
 impl Core {
+    /// Takes the steps in order, and stops at the first that is answered `Err`.
+    fn take_all(
+        &mut self,
+        steps: Vec<Step>,
+        outcomes: &mut Vec<Outcome>,
+    ) -> Result<(), OutOfMemory>
+        requires first { outcomes.old.items ≡ [] }
+        requires shows { Shows self.old [] }
+        ensures each { OnOk result (length outcomes.new.items ≡ length steps.items) }
+        ensures shows { OnOk result (Shows self.new (zip steps.items outcomes.new.items)) }
+    {
+        for step in steps {
+            let outcome = self.take_any(step)?;
+            outcomes.push(outcome)?;
+        }
+        Ok(())
+    }
+
     /// Takes a step as `step` does, which is inlined, and clears room at its start for the answers
     /// of all steps that it may take. So posts and takes, which most steps are, have one each.
     #[inline(always)]
