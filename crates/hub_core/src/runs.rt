@@ -33,11 +33,7 @@ pub fn run(alloc: Global, steps: Vec<Step>) -> Result<Vec<Outcome>, OutOfMemory>
 
 impl Core {
     /// Takes the steps in order, and stops at the first that is answered `Err`.
-    fn take_all(
-        &mut self,
-        steps: Vec<Step>,
-        outcomes: &mut Vec<Outcome>,
-    ) -> Result<(), OutOfMemory>
+    fn take_all(&mut self, steps: Vec<Step>, outcomes: &mut Vec<Outcome>) -> Result<(), OutOfMemory>
         requires first { outcomes.old.items ≡ [] }
         requires shows { Shows self.old [] }
         ensures each { OnOk result (length outcomes.new.items ≡ length steps.items) }
