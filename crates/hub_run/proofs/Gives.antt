@@ -15,12 +15,13 @@ use Rattle.hub_script.specs.Contents.{Contents, agents, channels, members}
 use Rattle.hub_script.specs.Known.{port_count}
 use Rattle.hub_script.specs.declared.declaration.DeclaredChannel.{DeclaredChannel}
 use Rattle.hub_script.specs.declared.declaration.DeclaredMember.{DeclaredMember}
-use Rattle.hub_run.specs.Agents.{AgentState, KeepsButEnds}
-use Rattle.hub_run.specs.Giving.{AreGiven, IsGiven, Gives, GivesEnds, HasNothing, HaveNothing, given, member_at, members_from, members_given, port_at, ports_from, ports_given, queue_given, where_at}
-use Rattle.hub_run.specs.Owning.{has, times}
-use Rattle.hub_run.proofs.Brings.{count_held}
-use Rattle.hub_run.proofs.Closings.{one_held}
-use Rattle.hub_run.proofs.Owns.{times_both}
+use Rattle.hub_agent.specs.Agents.{AgentState, KeepsButEnds}
+use Rattle.hub_agent.specs.Given.{IsGiven, given, member_at, members_from, members_given, port_at, ports_from, ports_given, queue_given, where_at}
+use Rattle.hub_run.specs.Giving.{AreGiven, Gives, GivesEnds, HasNothing, HaveNothing}
+use Rattle.hub_agent.specs.Owning.{has, times}
+use Rattle.hub_agent.proofs.Brings.{count_held}
+use Rattle.hub_agent.proofs.Closings.{one_held}
+use Rattle.hub_agent.proofs.Owns.{times_both}
 
 keeps_both : (old mid new : AgentState) → KeepsButEnds old mid → KeepsButEnds mid new → KeepsButEnds old new
 keeps_both old mid new first second = second ∙ ap (λ (a : AgentState). record a { ends = new.ends }) first

@@ -8,7 +8,7 @@ use Rattle.std.specs.Prelude.{option_to_list, AllPairs}
 use Rattle.hub_life.specs.OrderSeat.{OrderSeat, new_seat}
 use Rattle.std.proofs.Math.Seq.{take-suc}
 use Rattle.hub_run.specs.Seats.{AllGet, AreSeated, Gets, IsNewSeat, orders_of}
-use Rattle.hub_run.specs.declared.making.Seat.{Seat}
+use Rattle.hub_agent.specs.declared.opening.Seat.{Seat}
 
 pub front_of : {X : Type 0} (P : X → Type 0) (xs ys all : List X) → all ≡ xs ++ ys → All P all → All P xs
 front_of P xs ys all is holds = λ k d below.

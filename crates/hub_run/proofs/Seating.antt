@@ -5,10 +5,10 @@ use Rattle.hub_life.specs.OrderSeat.{OrderSeat, new_seat}
 use Rattle.hub_envelope.specs.declared.ids.EndId.{EndId}
 use Rattle.hub_run.specs.Giving.{Gives}
 use Rattle.hub_run.specs.Seats.{AreAllSeated, AreSeated, orders_of}
-use Rattle.hub_run.specs.Agents.{AgentState}
-use Rattle.hub_run.specs.declared.peer.Peer.{Peer}
+use Rattle.hub_agent.specs.Agents.{AgentState}
+use Rattle.hub_agent.specs.declared.peer.Peer.{Peer}
 use Rattle.hub_run.proofs.Peers.{map_as, some_of}
-use Rattle.hub_run.specs.declared.making.Seat.{Seat}
+use Rattle.hub_agent.specs.declared.opening.Seat.{Seat}
 
 abbrev pub its_seat : AgentState → OrderSeat × List Peer
 its_seat a = (a.order, a.peers)

@@ -1,9 +1,4 @@
-pub mod Agents
-pub mod Entries
 pub mod Giving
-pub mod Owning
-pub mod Posting
-pub mod Posts
 pub mod Runs
 pub mod Seats
 pub mod Threads

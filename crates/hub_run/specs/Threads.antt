@@ -5,9 +5,9 @@ use Rattle.std.specs.declared.thread.PromisedHandle.{PromisedHandle}
 use Rattle.hub_script.specs.Contents.{Contents}
 use Rattle.hub_trace.specs.Accepted.{AgentLog}
 use Rattle.hub_acting.specs.declared.acted.Acted.{Acted}
-use Rattle.hub_run.specs.declared.run.AgentRun.{AgentRun}
+use Rattle.hub_agent.specs.declared.agent.AgentRun.{AgentRun}
 use Rattle.hub_run.specs.declared.run.Part.{Part}
-use Rattle.hub_run.specs.Runs.{IsRunFor}
+use Rattle.hub_agent.specs.Acting.{IsRunFor}
 
 -- the handle of an agent's thread
 abbrev pub Handle : Type 0

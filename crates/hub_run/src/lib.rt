@@ -6,19 +6,11 @@
 //! none waits for it.
 #![tactic(auto)]
 
-mod acting;
-mod agent;
-mod awaited;
-mod ending;
 mod growing;
-mod logging;
 mod making;
-mod peer;
-mod posting;
 mod run;
-mod shared;
 
-pub use hub_acting::Acted;
+pub use hub_agent::Acted;
 pub use hub_envelope::OutOfMemory;
 pub use hub_loop::{Checkpoint, NoCheckpoint};
 pub use run::{Run, run_agents};

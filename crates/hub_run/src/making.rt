@@ -8,7 +8,6 @@ ghost use Rattle.std.specs.Prelude.{
   ◌*◌,
   ◌∷◌,
   [],
-  None,
   Some,
   All,
   length,
@@ -17,18 +16,9 @@ ghost use Rattle.std.specs.Prelude.{
   IfOk,
   OnOk,
 };
-ghost use Rattle.hub_loop.specs.Adopting.{HoldsMore};
 ghost use Rattle.hub_loop.specs.Holding.{end_held};
-ghost use Rattle.hub_run.specs.Agents.{KeepsButEnds};
-ghost use Rattle.hub_run.specs.Giving.{
-  AreGiven,
-  Gives,
-  GivesEnds,
-  HaveNothing,
-  members_given,
-  ports_given,
-  queue_given,
-};
+ghost use Rattle.hub_agent.specs.Given.{members_given, ports_given, queue_given};
+ghost use Rattle.hub_run.specs.Giving.{AreGiven, Gives, GivesEnds, HaveNothing};
 ghost use Rattle.hub_life.specs.OrderSeat.{OrderSeat};
 ghost use Rattle.hub_run.specs.Seats.{AllGet, AreAllSeated, AreSeated, IsNewSeat};
 ghost use Rattle.hub_script.specs.Contents.{agents};
@@ -36,35 +26,19 @@ ghost use Rattle.hub_script.specs.Known.{port_count};
 ghost use Rattle.hub_envelope.specs.declared.limits.TheConstants.{MAX_AGENTS};
 ghost use Rattle.hub_trace.specs.declared.limits.TheConstants.{MAX_AGENT};
 
-use crate::agent::Agent;
 use crate::growing::push;
-use crate::peer::Peer;
-use crate::shared::Shared;
+use hub_agent::{Agent, Peer, Seat, Shared};
 use hub_broadcast::SharedRoster;
 use hub_clients::Directory;
 use hub_envelope::{AgentId, OutOfMemory};
-use hub_life::{Life, Order};
+use hub_life::Order;
 use hub_logging::Scribe;
-use hub_loop::{Checkpoint, EventLoop, Held};
+use hub_loop::{Checkpoint, Held};
 use hub_ports::channel;
 use hub_queue::{Bell, Ends, Listener};
 use hub_script::{AgentKind, DeclaredAgent, DeclaredMember, Script};
 use std::alloc::Global;
 use std::sync::Wait;
-
-// What an agent and its loop are made of.
-#[derive(Drop)]
-struct Seat {
-    number: AgentId,
-    scribe: Scribe,
-    /// The seat of the loop at the word of its order.
-    for_loop: Order,
-    /// The seat of the agent itself.
-    for_agent: Order,
-    listener: Listener,
-    /// What the agent has of all agents, by number.
-    peers: Vec<Peer>,
-}
 
 // What all agents are made of, and what wakes each.
 #[derive(Drop)]
@@ -103,8 +77,8 @@ fn add_peer(seats: &mut [Seat], mut orders: Vec<Order>, bell: &Bell) -> Result<(
         let Some(order) = orders.pop() else {
             return Err(OutOfMemory);
         };
-        let peer = Peer::new(order, bell.clone()?);
-        push(&mut seats[place].peers, peer)?;
+        let bell = bell.clone()?;
+        push(&mut seats[place].peers, Peer { order, bell })?;
     }
     Ok(())
 }
@@ -157,60 +131,6 @@ impl Seats {
             push(&mut bells, bell)?;
         }
         Ok(Seats { seats, bells })
-    }
-}
-
-fn life_of(kind: AgentKind) -> Option<Life> {
-    match kind {
-        AgentKind::Window => None,
-        AgentKind::Worker => Some(Life::new()),
-    }
-}
-
-impl<'s, C: Checkpoint> Agent<'s, C> {
-    // An agent that holds nothing yet.
-    fn open(
-        alloc: Global,
-        kind: AgentKind,
-        shared: &'s Shared,
-        checkpoint: &'s C,
-        seat: Seat,
-    ) -> Result<Agent<'s, C>, OutOfMemory>
-        ensures nothing { IfOk result (λ opened. opened.ends.slots ≡ []) }
-        ensures kept { IfOk result (λ opened. opened.kept ≡ None) }
-        ensures order { IfOk result (λ opened. opened.order ≡ seat.for_agent) }
-        ensures peers { IfOk result (λ opened. opened.peers ≡ seat.peers.items) }
-    {
-        let Seat {
-            number,
-            mut scribe,
-            for_loop,
-            for_agent,
-            listener,
-            peers,
-        } = seat;
-        let handler = scribe.take();
-        Ok(Agent {
-            alloc,
-            shared,
-            event_loop: EventLoop::open(alloc, number, for_loop, handler, checkpoint, listener)?,
-            scribe,
-            order: for_agent,
-            peers,
-            life: life_of(kind),
-            graves: Vec::new(alloc),
-        })
-    }
-
-    // Holds an end that it is given before the run.
-    fn give(&mut self, held: Held) -> Result<(), OutOfMemory>
-        ensures same { KeepsButEnds self.old self.new }
-        ensures held { OnOk result (HoldsMore self.old.ends self.new.ends held) }
-    {
-        match self.event_loop.hold(held) {
-            Ok(()) => Ok(()),
-            Err(_) => Err(OutOfMemory),
-        }
     }
 }
 

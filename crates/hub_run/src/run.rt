@@ -2,17 +2,17 @@
 
 ghost use Rattle.std.specs.Prelude.{◌≡◌, ◌≤◌, [], length, vec_len, IfOk};
 ghost use Rattle.hub_envelope.specs.declared.limits.TheConstants.{MAX_AGENTS};
-ghost use Rattle.hub_run.specs.Giving.{AreGiven, IsGiven};
-ghost use Rattle.hub_run.specs.Runs.{AreRunsFor, IsRunFor};
+ghost use Rattle.hub_agent.specs.Given.{IsGiven};
+ghost use Rattle.hub_run.specs.Giving.{AreGiven};
+ghost use Rattle.hub_agent.specs.Acting.{IsRunFor};
+ghost use Rattle.hub_run.specs.Runs.{AreRunsFor};
 ghost use Rattle.hub_run.specs.Threads.{ArePromised};
 ghost use Rattle.hub_script.specs.Contents.{agents};
 ghost use Rattle.hub_trace.specs.declared.limits.TheConstants.{MAX_AGENT};
 
-use crate::agent::Agent;
 use crate::growing::push;
 use crate::making::Made;
-use crate::shared::Shared;
-use hub_acting::Acted;
+use hub_agent::{Acted, Agent, AgentRun, Shared};
 use hub_envelope::{AgentId, OutOfMemory};
 use hub_loop::Checkpoint;
 use hub_script::Script;
@@ -21,13 +21,6 @@ use std::alloc::Global;
 use std::sync::{OnceLock, Wait};
 use std::thread;
 use std::thread::{Promise, PromisedHandle, Scope, Threads};
-
-/// What came of an agent.
-#[derive(Drop)]
-pub(crate) struct AgentRun {
-    pub(crate) log: Log,
-    pub(crate) acted: Acted,
-}
 
 /// What came of a script. Both lists are in the order of the agents.
 #[derive(Drop)]
@@ -51,7 +44,7 @@ struct Part<'a> {
 
 impl<'a> Promise<Ran> for Part<'a> {
     ghost use Rattle.std.specs.Prelude.{IfOk};
-    ghost use Rattle.hub_run.specs.Runs.{IsRunFor};
+    ghost use Rattle.hub_agent.specs.Acting.{IsRunFor};
 
     ghost kept_by = { λ part ran. IfOk ran (λ it.
         IsRunFor part.script.now part.number it.log it.acted) };

@@ -1,10 +1,10 @@
-use Rattle.std.proofs.Common.{◌≡◌, ◌∙◌, ◌<◌, length, slice_index_or, get_or-set_other, ap, refl, rules, arith, ◌∷◌, [], ◌++◌}
+use Rattle.std.proofs.Common.{◌≡◌, ◌∙◌, ◌<◌, length, slice_index_or, get_or-set_other, ap, refl, arith, ◌∷◌, [], ◌++◌}
 use Rattle.std.specs.Prelude.{option_to_list}
 use Rattle.std.proofs.lemmas.List.{length-set, map-append}
 use Rattle.hub_life.specs.OrderSeat.{OrderSeat}
 use Rattle.hub_run.specs.Seats.{orders_of}
-use Rattle.hub_run.specs.declared.peer.Peer.{Peer}
-use Rattle.hub_run.specs.declared.making.Seat.{Seat}
+use Rattle.hub_agent.specs.declared.peer.Peer.{Peer}
+use Rattle.hub_agent.specs.declared.opening.Seat.{Seat}
 use Rattle.hub_run.proofs.Peers.{front_of, gets_more, last_of}
 use Rattle.hub_run.proofs.making.add_peer.Goals as goal
 
@@ -22,10 +22,10 @@ loop-place-preserved c =
       orders = λ seat all. front_of (λ (o : OrderSeat). o ≡ seat) c.pop.new.self.items (option_to_list c.pop.result) c.loop-place.orders.items c.pop.ensures.items (was.orders seat all);
       got = λ seat all.
           let order = last_of (λ (o : OrderSeat). o ≡ seat) c.pop.new.self.items c.loop-place.orders.items c.pop.result c.in-Some.order c.pop.ensures.items c.in-Some.is (was.orders seat all) in
-          let peer : c.new-peer.result.order ≡ c.in-Some.order = search rules in
-          let more : c.push.new.list.items ≡ s.peers.items ++ c.new-peer.result ∷ [] = c.in_ok-push.ensures.items in
+          let peer : Peer = record { order = c.in-Some.order; bell = c.in_ok-bell.bell } in
+          let more : c.push.new.list.items ≡ s.peers.items ++ peer ∷ [] = c.in_ok-push.ensures.items in
           gets_more seat c.args.seats.now seats place now c.index-seats-place.result was.count inside (was.got seat all) was.same
-          (refl, ap orders_of more ∙ map-append (λ (p : Peer). p.order) s.peers.items (c.new-peer.result ∷ []) ∙ ap (λ (o : OrderSeat). orders_of s.peers.items ++ o ∷ []) (peer ∙ order));
+          (refl, ap orders_of more ∙ map-append (λ (p : Peer). p.order) s.peers.items (peer ∷ []) ∙ ap (λ (o : OrderSeat). orders_of s.peers.items ++ o ∷ []) order);
       same = λ k d above. get_or-set_other seats place k now d (λ is. absurd (omega (arith, above, is))) ∙ was.same k d (omega (arith, above));
     }
 

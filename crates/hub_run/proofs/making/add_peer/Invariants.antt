@@ -1,6 +1,6 @@
 use Rattle.std.proofs.Common.{◌≡◌, ◌≤◌, All, length, ℕ, ◌<◌, get_or}
 use Rattle.hub_life.specs.OrderSeat.{OrderSeat}
-use Rattle.hub_run.specs.declared.making.Seat.{Seat}
+use Rattle.hub_agent.specs.declared.opening.Seat.{Seat}
 use Rattle.hub_run.specs.Seats.{Gets}
 use Rattle.hub_run.proofs.making.add_peer.Given as goal
 

@@ -4,7 +4,7 @@ use Rattle.std.proofs.Common.{rules, arith, below_more, length, subst, sym}
 use Rattle.hub_acting.specs.declared.acted.Acted.{Acted}
 use Rattle.hub_script.specs.Contents.{Contents, agents}
 use Rattle.hub_trace.specs.Accepted.{AgentLog}
-use Rattle.hub_run.specs.Runs.{IsRunFor}
+use Rattle.hub_agent.specs.Acting.{IsRunFor}
 use Rattle.hub_run.proofs.Logs.{runs_for}
 use Rattle.hub_run.proofs.run.join_all.Goals as goal
 

@@ -1,6 +1,6 @@
 use Rattle.std.specs.Prelude.{◌≡◌, ◌+◌, ◌<◌, ℕ, get_or, vec_items, vec_len}
 use Rattle.std.specs.Vec.Iter.{into_iter_items, into_iter_len}
-use Rattle.hub_run.specs.Runs.{IsRunFor}
+use Rattle.hub_agent.specs.Acting.{IsRunFor}
 use Rattle.hub_run.proofs.run.join_all.Given as goal
 
 abbrev pub invariant-loop-handle : goal.invariant-loop-handle

@@ -2,7 +2,7 @@ use Rattle.std.specs.Prelude.{◌≡◌, ◌+◌, get_or, vec_items, vec_len}
 use Rattle.std.proofs.Common.{rules, arith, below_more, ap, subst, sym, ◌∙◌}
 use Rattle.std.specs.Vec.Iter.{into_iter_items}
 use Rattle.hub_run.proofs.Gives.{AreGivenFrom, given_next}
-use Rattle.hub_run.specs.Giving.{IsGiven}
+use Rattle.hub_agent.specs.Given.{IsGiven}
 use Rattle.hub_run.specs.Threads.{Handle}
 use Rattle.hub_run.specs.declared.run.Part.{Part}
 use Rattle.hub_run.proofs.run.start_all.Goals as goal

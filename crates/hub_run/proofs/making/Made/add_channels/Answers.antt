@@ -1,6 +1,6 @@
 use Rattle.std.proofs.Common.{◌≡◌, ◌<◌, ◌≤◌, ◌∙◌, ◌+◌, Ok, ap, get_or, length, rules}
 use Rattle.hub_script.specs.Contents.{channels}
-use Rattle.hub_run.specs.Giving.{ports_from}
+use Rattle.hub_agent.specs.Given.{ports_from}
 use Rattle.hub_run.proofs.Gives.{gives_all, gives_numbered, gives_two, ports_next}
 use Rattle.hub_run.proofs.making.Made.add_channels.Goals as goal
 

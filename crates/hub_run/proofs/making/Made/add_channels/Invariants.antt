@@ -1,6 +1,7 @@
 use Rattle.std.proofs.Common.{◌≡◌, ◌+◌, ◌*◌, length, take}
 use Rattle.hub_script.specs.Contents.{agents, channels}
-use Rattle.hub_run.specs.Giving.{Gives, ports_from}
+use Rattle.hub_agent.specs.Given.{ports_from}
+use Rattle.hub_run.specs.Giving.{Gives}
 use Rattle.hub_run.proofs.making.Made.add_channels.Given as goal
 
 abbrev pub invariant-loop-declared : goal.invariant-loop-declared

@@ -1,6 +1,6 @@
 use Rattle.std.proofs.Common.{◌≡◌, ◌<◌, ◌≤◌, ◌∙◌, Ok, ap, get_or, length, rules}
 use Rattle.hub_script.specs.Contents.{members}
-use Rattle.hub_run.specs.Giving.{members_from}
+use Rattle.hub_agent.specs.Given.{members_from}
 use Rattle.hub_run.proofs.Gives.{gives_all, gives_numbered, members_next}
 use Rattle.hub_run.proofs.making.Made.add_members.Goals as goal
 

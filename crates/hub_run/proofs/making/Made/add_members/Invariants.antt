@@ -1,7 +1,8 @@
 use Rattle.std.proofs.Common.{◌≡◌, ◌+◌, length, take}
 use Rattle.hub_script.specs.Contents.{agents, members}
 use Rattle.hub_script.specs.Known.{port_count}
-use Rattle.hub_run.specs.Giving.{Gives, members_from}
+use Rattle.hub_agent.specs.Given.{members_from}
+use Rattle.hub_run.specs.Giving.{Gives}
 use Rattle.hub_run.proofs.making.Made.add_members.Given as goal
 
 abbrev pub invariant-loop-declared : goal.invariant-loop-declared

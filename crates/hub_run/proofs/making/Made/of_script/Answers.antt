@@ -1,4 +1,4 @@
-use Rattle.hub_run.specs.Giving.{members_given, ports_given, queue_given}
+use Rattle.hub_agent.specs.Given.{members_given, ports_given, queue_given}
 use Rattle.hub_run.proofs.Seating.{seated_given}
 use Rattle.hub_run.proofs.Gives.{are_given}
 use Rattle.hub_run.proofs.making.Made.of_script.Goals as goal

@@ -3,7 +3,7 @@ use Rattle.std.specs.Vec.Iter.{into_iter_items}
 use Rattle.std.proofs.lemmas.List.{with_items_is}
 use Rattle.hub_run.specs.Seats.{AllGet, IsNewSeat}
 use Rattle.hub_life.specs.OrderSeat.{OrderSeat}
-use Rattle.hub_run.specs.declared.making.Seat.{Seat}
+use Rattle.hub_agent.specs.declared.opening.Seat.{Seat}
 use Rattle.hub_run.proofs.Peers.{HavePeers, Pairs, all_seated, no_peers, pairs_first, placed_more, pairs_more, pairs_rest, peers_more, some_of}
 use Rattle.hub_run.proofs.making.Seats.new.Goals as goal
 

@@ -2,7 +2,7 @@ use Rattle.std.proofs.Common.{All, ◌≡◌, length, vec_len, ℕ, ◌+◌, ◌
 use Rattle.std.specs.Vec.Iter.{into_iter_items}
 use Rattle.hub_life.specs.OrderSeat.{OrderSeat}
 use Rattle.hub_run.specs.Seats.{IsNewSeat}
-use Rattle.hub_run.specs.declared.making.Seat.{Seat}
+use Rattle.hub_agent.specs.declared.opening.Seat.{Seat}
 use Rattle.hub_run.proofs.Peers.{HavePeers, Pairs}
 use Rattle.hub_run.proofs.making.Seats.new.Given as goal
 

@@ -1,0 +1,117 @@
+-- What is written while a list is walked.
+use Rattle.std.proofs.Common.{◌≡◌, ◌∙◌, ℕ, List, [], ◌∷◌, ◌++◌, Option, Some, None, Result, Ok, Err, OnOk, ap, sym, refl, inl, inr, subst}
+use Rattle.std.proofs.lemmas.Grind.{flat_map-append}
+use Rattle.std.proofs.lemmas.List.{append-nil}
+use Rattle.hub_broadcast.specs.declared.cast_outcome.CastOutcome.{CastOutcome}
+use Rattle.hub_broadcast.specs.declared.cast_outcome.CastOutcome.TheVariants.{Accepted, Closed, Moving, OutOfMemory}
+use Rattle.hub_envelope.specs.declared.ids.EndId.{EndId}
+use Rattle.hub_logging.specs.Notes.{Notes}
+use Rattle.hub_envelope.specs.declared.ids.AgentId.{AgentId}
+use Rattle.hub_envelope.specs.declared.posted.Posted.{Posted}
+use Rattle.hub_loop.specs.declared.closed_port.ClosedPort.{ClosedPort}
+use Rattle.hub_ports.specs.Closing.{AreDoomed}
+use Rattle.hub_ports.specs.Seats.{PortSeat, ends_of}
+use Rattle.hub_ports.specs.Sending.{IsSent}
+use Rattle.hub_ports.specs.declared.closings.Closing.{Closing}
+use Rattle.hub_ports.specs.declared.noticed.Noticed.{Noticed}
+use Rattle.hub_ports.specs.declared.noticed.Noticed.TheVariants as notice
+use Rattle.hub_ports.specs.declared.port_error.PortError.{PortError}
+use Rattle.hub_ports.specs.declared.port_error.PortError.TheVariants as error
+use Rattle.hub_queue.specs.Standing.{StandSeat}
+use Rattle.hub_trace.specs.Accepted.{message_at}
+use Rattle.hub_trace.specs.declared.log_entry.LogEntry.{LogEntry}
+use Rattle.hub_trace.specs.declared.log_entry.LogEntry.TheVariants.{Put, Adopted}
+use Rattle.hub_agent.specs.Entries.{AreAdoptions, AreClosings, IsCastLogged, IsCloseLogged, IsClosing, IsPostLogged, Writes, answer_entries, cast_entries, closed_entries, closing_entries, doomed_entries, log_and, outcome_entries}
+use Rattle.hub_agent.proofs.Writing.{writes_both, writes_same}
+
+-- these ends were adopted, and nothing else is written
+abbrev pub Adopts : List EndId → Notes → Notes → Type 0
+Adopts ends before after = (entries : List LogEntry) × AreAdoptions ends entries × Writes entries before after
+
+adoptions_more : (ends : List EndId) (end : EndId) (epoch : ℕ) (entries : List LogEntry) → AreAdoptions ends entries → AreAdoptions (ends ++ end ∷ []) (entries ++ Adopted end epoch ∷ [])
+adoptions_more [] end epoch entries is = (epoch, [], ap (λ (es : List LogEntry). es ++ Adopted end epoch ∷ []) is, refl)
+adoptions_more (e ∷ ends) end epoch entries (at, rest, is, adopted) =
+    (at, rest ++ Adopted end epoch ∷ [], ap (λ (es : List LogEntry). es ++ Adopted end epoch ∷ []) is, adoptions_more ends end epoch rest adopted)
+
+-- one end more
+pub adopts_more : (ends all : List EndId) (end : EndId) (before now after : Notes) → all ≡ ends ++ end ∷ [] → Adopts ends before now → ((epoch : ℕ) × Writes (Adopted end epoch ∷ []) now after) → Adopts all before after
+adopts_more ends all end before now after is (entries, adopted, written) (epoch, more) =
+    (entries ++ Adopted end epoch ∷ [], subst (λ (es : List EndId). AreAdoptions es (entries ++ Adopted end epoch ∷ [])) (sym is) (adoptions_more ends end epoch entries adopted), writes_both entries (Adopted end epoch ∷ []) before now after written more)
+
+-- the same since the notes were as before but for what is listed
+pub adopts_since : {X E : Type 0} (result : Result X E) (listed ends : List EndId) (before mid now : Notes) → listed ≡ ends → mid.log ≡ before.log → OnOk result (Adopts listed mid now) → OnOk result (Adopts ends before now)
+adopts_since (Ok x) listed ends before mid now is same (entries, all, written) = (entries, subst (λ (es : List EndId). AreAdoptions es entries) is all, written ∙ ap (λ log. log_and log entries) same)
+adopts_since (Err x) listed ends before mid now is same adopts = tt
+
+pub adopts_none : (before : Notes) → Adopts [] before before
+adopts_none before = ([], refl, writes_same before before refl)
+
+-- one post more of a cast
+pub cast_more : (body : List ℕ) (outcomes all : List (EndId × CastOutcome)) (o : EndId × CastOutcome) (before now after : Notes) → all ≡ outcomes ++ o ∷ [] → Writes (cast_entries body outcomes) before now → Writes (outcome_entries body o.1) now after → Writes (cast_entries body all) before after
+cast_more body outcomes all o before now after is written more =
+    writes_both (cast_entries body outcomes) (outcome_entries body o.1) before now after written more
+    ∙ ap (λ (es : List LogEntry). log_and before.log es)
+    (ap (λ (es : List LogEntry). cast_entries body outcomes ++ es) (sym (append-nil (outcome_entries body o.1)))
+    ∙ sym (flat_map-append (λ (p : EndId × CastOutcome). outcome_entries body p.1) outcomes (o ∷ []))
+    ∙ ap (cast_entries body) (sym is))
+
+-- the posts of a cast that were accepted
+cast_logged : (body : List ℕ) (outcomes : List (EndId × CastOutcome)) → IsCastLogged body (cast_entries body outcomes)
+cast_logged body [] = ([], refl)
+cast_logged body ((end, Accepted posted) ∷ outcomes) =
+    let (all, is) = cast_logged body outcomes in
+    (posted ∷ all, ap (λ (es : List LogEntry). Put (message_at posted [] body) ∷ es) is)
+cast_logged body ((end, Closed) ∷ outcomes) = cast_logged body outcomes
+cast_logged body ((end, Moving) ∷ outcomes) = cast_logged body outcomes
+cast_logged body ((end, OutOfMemory) ∷ outcomes) = cast_logged body outcomes
+
+pub cast_of : {X E : Type 0} (result : Result X E) (body : List ℕ) (outcomes : List (EndId × CastOutcome)) (old now new : Notes) → old ≡ now → OnOk result (Writes (cast_entries body outcomes) old new) → OnOk result ((entries : List LogEntry) × IsCastLogged body entries × Writes entries now new)
+cast_of (Ok x) body outcomes old now new same written = (cast_entries body outcomes, cast_logged body outcomes, written ∙ ap (λ (n : Notes). log_and n.log (cast_entries body outcomes)) same)
+cast_of (Err e) body outcomes old now new same written = tt
+
+-- one closing more
+pub doomed_more : (closings all : List Closing) (c : Closing) (before now after : Notes) → all ≡ closings ++ c ∷ [] → Writes (doomed_entries closings) before now → Writes (closing_entries c.end c.noticed) now after → Writes (doomed_entries all) before after
+doomed_more closings all c before now after is written more =
+    writes_both (doomed_entries closings) (closing_entries c.end c.noticed) before now after written more
+    ∙ ap (λ (es : List LogEntry). (before.log.0, before.log.1 ++ es))
+    (ap (λ (es : List LogEntry). doomed_entries closings ++ es) (sym (append-nil (closing_entries c.end c.noticed)))
+    ∙ sym (flat_map-append (λ (d : Closing). closing_entries d.end d.noticed) closings (c ∷ []))
+    ∙ ap doomed_entries (sym is))
+
+-- an end that was closed, a port with what became of its notice
+is_closing : (end : EndId) (noticed : Noticed) → IsClosing end (closing_entries end noticed)
+is_closing end (notice.Put posted) = inr (posted, refl)
+is_closing end notice.PeerClosed = inl refl
+is_closing end notice.Moving = inl refl
+is_closing end notice.OutOfMemory = inl refl
+
+pub closed_so : (end : EndId) (port : Option ClosedPort) → IsClosing end (closed_entries end port)
+closed_so end None = inl refl
+closed_so end (Some port) = is_closing end port.noticed
+
+pub close_of : {X E : Type 0} (result : Result X E) (end : EndId) (port : Option ClosedPort) (old now new : Notes) → old ≡ now → OnOk result (Writes (closed_entries end port) old new)
+    → OnOk result ((entries : List LogEntry) × IsCloseLogged end entries × Writes entries now new)
+close_of (Ok x) end port old now new same written = (closed_entries end port, inr (closed_so end port), written ∙ ap (λ (n : Notes). log_and n.log (closed_entries end port)) same)
+close_of (Err e) end port old now new same written = tt
+
+-- the ports that a doomed post has closed are those that it was to transfer
+pub doomed_closings : (ports : List PortSeat) (closings : List Closing) → AreDoomed ports closings → AreClosings (ends_of ports) (doomed_entries closings)
+doomed_closings [] closings none = ap doomed_entries none
+doomed_closings (p ∷ ps) closings (c, rest, is, doomed, more) =
+    (closing_entries c.end c.noticed, doomed_entries rest, ap doomed_entries is, subst (λ (end : EndId). IsClosing end (closing_entries c.end c.noticed)) doomed.0.0 (is_closing c.end c.noticed), doomed_closings ps rest more)
+
+-- what is logged of the answer to a post of these ports
+pub answer_logged : (old new : StandSeat) (agent : AgentId) (body posted_body : List ℕ) (ports : List PortSeat) (ends : List EndId) (answer : Result Posted PortError) → ends_of ports ≡ ends → IsSent old new agent posted_body ports answer → IsPostLogged ends body (answer_entries ends body answer)
+answer_logged old new agent body posted_body ports ends (Ok posted) is sent = inr (inl (posted, refl))
+answer_logged old new agent body posted_body ports ends (Err (error.Doomed closings)) is sent =
+    inr (inr (subst (λ (es : List EndId). AreClosings es (doomed_entries closings)) is (doomed_closings ports closings sent.1)))
+answer_logged old new agent body posted_body ports ends (Err (error.Closed b back)) is sent = inl refl
+answer_logged old new agent body posted_body ports ends (Err (error.Moving b back)) is sent = inl refl
+answer_logged old new agent body posted_body ports ends (Err (error.OutOfMemory b back)) is sent = inl refl
+answer_logged old new agent body posted_body ports ends (Err (error.TooManyPorts b back)) is sent = inl refl
+answer_logged old new agent body posted_body ports ends (Err (error.Strayed missing b back)) is sent = inl refl
+answer_logged old new agent body posted_body ports ends (Err (error.Taken b back)) is sent = inl refl
+
+pub post_of : {X E : Type 0} (result : Result X E) (ends : List EndId) (body : List ℕ) (answer : Result Posted PortError) (old now new : Notes) → old ≡ now → IsPostLogged ends body (answer_entries ends body answer) → OnOk result (Writes (answer_entries ends body answer) old new) → OnOk result ((entries : List LogEntry) × IsPostLogged ends body entries × Writes entries now new)
+post_of (Ok x) ends body answer old now new same logged written = (answer_entries ends body answer, logged, written ∙ ap (λ (n : Notes). log_and n.log (answer_entries ends body answer)) same)
+post_of (Err e) ends body answer old now new same logged written = tt

@@ -1,0 +1,6 @@
+use Rattle.std.proofs.Common.{refl}
+use Rattle.hub_agent.proofs.Writing.{wrote}
+use Rattle.hub_agent.proofs.logging.log_close.Goals as goal
+
+pub returns : goal.returns
+returns c = wrote c.close.result c.args.scribe.now _ _ _ c.close.ensures.ok refl

@@ -1,0 +1,7 @@
+pub mod Acting
+pub mod Agents
+pub mod Entries
+pub mod Given
+pub mod Owning
+pub mod Posting
+pub mod Posts

@@ -1,0 +1,226 @@
+//! The actions of an agent, in order. An action whose end isn't held any more is skipped.
+
+ghost use Rattle.std.specs.Prelude.{◌≡◌, List, IfErr, IfOk, OnOk, option_map};
+ghost use Rattle.hub_acting.specs.Doing.{actions_of};
+ghost use Rattle.hub_life.specs.Course.{after as lived};
+ghost use Rattle.hub_script.specs.Contents.{actions};
+ghost use Rattle.hub_script.specs.declared.action.ActionKind.TheVariants.{Hand};
+ghost use Rattle.hub_agent.specs.Agents.{
+  Changes,
+  ClosesHeld,
+  KeepsButEnds,
+  KeepsElse,
+  LooksFor,
+  StartsEnd,
+  ordered,
+  with_peer,
+  woken,
+};
+ghost use Rattle.hub_agent.specs.Entries.{IsCloseLogged, Writes};
+ghost use Rattle.hub_agent.specs.Owning.{Accounts, HoldsNoMore};
+ghost use Rattle.hub_agent.specs.Acting.{Acts, ActsFirst};
+ghost use Rattle.hub_trace.specs.declared.log_entry.LogEntry.{LogEntry};
+
+use crate::agent::Agent;
+use crate::awaited::Awaited;
+use crate::logging::log_closed_end;
+use crate::peer::{Peer, order_all};
+use crate::posting::Way;
+use crate::shared::Shared;
+use hub_acting::Acted;
+use hub_clients::{Directory, HandError};
+use hub_envelope::{AgentId, EndId, OutOfMemory};
+use hub_life::{Event, Life};
+use hub_loop::{Checkpoint, Held};
+use hub_script::{ActionKind, Script};
+use std::sync::Wait;
+
+// The error of a hand that was refused for want of memory.
+fn want_of(error: HandError) -> Option<OutOfMemory> {
+    match error {
+        HandError::OutOfMemory => Some(OutOfMemory),
+        HandError::Taken => None,
+    }
+}
+
+// Gives a queue to an agent. Where it wasn't handed it comes back, with an error where that was for
+// want of memory; so does what is no queue.
+fn hand_over<R: Wait>(
+    rt: &R,
+    directory: &Directory,
+    held: Held,
+    to: AgentId,
+) -> Result<(), (Option<OutOfMemory>, Held)>
+    ensures { IfErr result (λ back. back.1 ≡ held) }
+{
+    match held {
+        Held::Client(queue) => match queue.hand(rt, directory, to) {
+            Ok(()) => Ok(()),
+            Err((error, queue)) => Err((want_of(error), Held::Client(queue))),
+        },
+        Held::Worker(queue) => match queue.hand(rt, directory, to) {
+            Ok(()) => Ok(()),
+            Err((error, queue)) => Err((want_of(error), Held::Worker(queue))),
+        },
+        held => Err((None, held)),
+    }
+}
+
+// An event of the life of a worker, which refuses what its state doesn't allow.
+fn live(life: &mut Option<Life>, event: Event)
+    ensures { life.new ≡ option_map (λ p. lived p event) life.old }
+{
+    if let Some(life) = life {
+        let _refused = life.event(event);
+    }
+}
+
+// Gives an agent the order to end.
+fn give_order(peers: &mut Vec<Peer>, to: AgentId)
+    ensures { peers.new.items ≡ with_peer ordered to.0 peers.old.items }
+{
+    if let Some(peer) = peers.get_mut(usize::from(to.0)) {
+        peer.order();
+    }
+}
+
+fn wake(peers: &mut Vec<Peer>, agent: AgentId)
+    ensures { peers.new.items ≡ with_peer woken agent.0 peers.old.items }
+{
+    if let Some(peer) = peers.get_mut(usize::from(agent.0)) {
+        peer.wake();
+    }
+}
+
+impl<'s, C: Checkpoint> Agent<'s, C> {
+    /// Does its actions. Where memory runs out all agents are ordered to end, so that none waits
+    /// for this one.
+    pub(crate) fn act_or_order<R: Wait>(
+        &mut self,
+        rt: &R,
+        script: &Script,
+    ) -> Result<Acted, OutOfMemory>
+        ensures { IfOk result (λ acted. ActsFirst acted
+            (actions_of self.old.notes.log.0 (actions script.now)) self.old self.new) }
+    {
+        match self.act_all(rt, script) {
+            Ok(acted) => Ok(acted),
+            Err(error) => {
+                order_all(&mut self.peers);
+                Err(error)
+            }
+        }
+    }
+
+    // Does its actions, up to the last or to the order to end, for which it looks before each.
+    fn act_all<R: Wait>(&mut self, rt: &R, script: &Script) -> Result<Acted, OutOfMemory>
+        ensures { IfOk result (λ acted. ActsFirst acted
+            (actions_of self.old.notes.log.0 (actions script.now)) self.old self.new) }
+    {
+        let number = self.scribe.agent();
+        hub_acting::act_all(
+            self,
+            script,
+            number,
+            |agent: &mut Agent<'_, C>| -> bool
+                ensures { LooksFor agent.old result agent.new }
+            { agent.order.seen() },
+            |agent: &mut Agent<'_, C>, action: &ActionKind| -> Result<(), OutOfMemory>
+                ensures { OnOk result (Acts action.now agent.old agent.new) }
+            { agent.act(rt, action) },
+        )
+    }
+
+    fn act<R: Wait>(&mut self, rt: &R, action: &ActionKind) -> Result<(), OutOfMemory>
+        ensures { OnOk result (Acts action.now self.old self.new) }
+    {
+        match action {
+            ActionKind::Post {
+                port,
+                body,
+                transfer,
+            } => self.post(rt, Way::Port(*port), body, transfer),
+            ActionKind::Send {
+                queue,
+                body,
+                transfer,
+            } => self.send(rt, *queue, body, transfer),
+            ActionKind::Cast { member, body } => self.cast(rt, *member, body),
+            ActionKind::Start { end } => {
+                self.start(*end);
+                Ok(())
+            }
+            // The document of a client is parsed, which enables its queue.
+            ActionKind::Loaded { queue } => {
+                self.event_loop.start_client(*queue);
+                Ok(())
+            }
+            ActionKind::Close { end } => self.close(rt, *end),
+            ActionKind::Wait { messages } => {
+                let after = self.scribe.messages();
+                let count = *messages;
+                self.turn_until(rt, Awaited::Messages { after, count })
+            }
+            ActionKind::Receive { port } => self.turn_until(rt, Awaited::Port(*port)),
+            ActionKind::Order { to } => {
+                give_order(&mut self.peers, *to);
+                Ok(())
+            }
+            ActionKind::Event { event } => {
+                live(&mut self.life, *event);
+                Ok(())
+            }
+            ActionKind::Hand { to } => self.hand(rt, *to),
+            ActionKind::Fetch { queue } => self.turn_until(rt, Awaited::Queue(*queue)),
+        }
+    }
+
+    // Enables a port or a client's queue.
+    fn start(&mut self, end: EndId)
+        ensures { StartsEnd end self.old self.new }
+    {
+        if !self.event_loop.start_port(end) {
+            self.event_loop.start_client(end);
+        }
+    }
+
+    // Closes a port or a member, and logs it. What waits there is discarded once the loop has
+    // ended.
+    fn close<R: Wait>(&mut self, rt: &R, end: EndId) -> Result<(), OutOfMemory>
+        ensures written { OnOk result ((entries : List LogEntry) × IsCloseLogged end entries
+            × Writes entries self.old.notes self.new.notes) }
+        ensures held { OnOk result (ClosesHeld end self.old self.new) }
+        ensures own { OnOk result (Accounts self.old self.new) }
+        ensures rest { KeepsElse self.old self.new }
+    {
+        let Shared { hub, roster, .. } = self.shared;
+        self.graves.reserve(1)?;
+        let Some(closed) = self.event_loop.close(rt, hub, roster, end) else {
+            return Ok(());
+        };
+        self.graves.push_reserved(closed.grave);
+        log_closed_end(&mut self.scribe, end, closed.port)
+    }
+
+    // Hands its own queue to an agent, which it wakes. Where it wasn't handed it holds the queue
+    // again. The queues of the agents are the first ends, in the order of the agents.
+    fn hand<R: Wait>(&mut self, rt: &R, to: AgentId) -> Result<(), OutOfMemory>
+        ensures changes { OnOk result (Changes (Hand to) self.old self.new) }
+        ensures held { OnOk result (HoldsNoMore self.old self.new) }
+    {
+        let queue = EndId(u32::from(self.scribe.agent().0));
+        let Some(held) = self.event_loop.release(queue) else {
+            return Ok(());
+        };
+        match hand_over(rt, &self.shared.directory, held, to) {
+            Ok(()) => {
+                wake(&mut self.peers, to);
+                Ok(())
+            }
+            Err((refused, held)) => {
+                self.hold(rt, held)?;
+                refused.map_or(Ok(()), Err)
+            }
+        }
+    }
+}

@@ -1,0 +1,278 @@
+ghost use Rattle.std.specs.Prelude.{◌≡◌, ◌≤◌, ◌+◌, ℕ, List, true, IfOk, OnOk};
+ghost use Rattle.hub_agent.specs.Agents.{HoldsPort, KeepsButNotes, KeepsButTurns, KeepsElse};
+ghost use Rattle.hub_agent.specs.Entries.{
+  AreAdoptions,
+  AreEndings,
+  IsComeLogged,
+  IsTurnLogged,
+  IsWaitLogged,
+  TurnLeaves,
+  Writes,
+  log_and,
+};
+ghost use Rattle.hub_agent.specs.Given.{IsGiven};
+ghost use Rattle.hub_agent.specs.Owning.{Accounts, TurnBrings, has, lost};
+ghost use Rattle.hub_agent.specs.Acting.{IsRunFor};
+ghost use Rattle.hub_trace.specs.declared.limits.TheConstants.{MAX_AGENT};
+ghost use Rattle.hub_trace.specs.declared.log_entry.LogEntry.{LogEntry};
+
+use crate::awaited::Awaited;
+use crate::ending::finish_loop;
+use crate::logging::{epoch_of, log_adopted};
+use crate::peer::{Peer, order_all};
+use crate::shared::Shared;
+use hub_acting::Acted;
+use hub_envelope::{AgentId, EndId, OutOfMemory};
+use hub_life::{Life, Order};
+use hub_logging::Scribe;
+use hub_loop::{Checkpoint, EventLoop, Held, LoopError, Turn};
+use hub_queue::{Grave, Steps};
+use hub_script::Script;
+use hub_trace::Log;
+use std::alloc::Global;
+use std::marker::{Brand, Model};
+use std::sync::Wait;
+use std::sync::ledger::{Blank, Ledger};
+
+/// What came of an agent.
+#[derive(Drop)]
+pub struct AgentRun {
+    /// The log that it kept.
+    pub log: Log,
+    /// How many of its actions it has done, and whether it was asked to end before the next one.
+    pub acted: Acted,
+}
+
+/// The loop of an agent of a run.
+pub(crate) type AgentLoop<'s, C> = EventLoop<Scribe, &'s C>;
+
+/// An agent of a run.
+pub struct Agent<'s, C: Checkpoint> {
+    pub(crate) alloc: Global,
+    pub(crate) shared: &'s Shared,
+    pub(crate) event_loop: AgentLoop<'s, C>,
+    /// Keeps its log. The loop has it in a turn alone, as its handler.
+    pub(crate) scribe: Scribe,
+    /// A seat of its own at the word of its order: that of the loop looks in turns alone.
+    pub(crate) order: Order,
+    /// All agents, by number.
+    pub(crate) peers: Vec<Peer>,
+    /// The life of a worker.
+    pub(crate) life: Option<Life>,
+    /// The ends that it has closed by an action, and not swept yet.
+    pub(crate) graves: Vec<Grave>,
+}
+
+// By hand, so that whoever drops one makes one call, and its proof has no cases of its fields.
+impl<'s, C: Checkpoint> Drop for Agent<'s, C> {
+    fn drop(self) {
+        let Agent {
+            alloc: _,
+            shared: _,
+            event_loop,
+            scribe,
+            order,
+            peers,
+            life: _,
+            graves,
+        } = self;
+        drop(event_loop);
+        drop(scribe);
+        drop(order);
+        drop(peers);
+        drop(graves);
+    }
+}
+
+impl<'s, C: Checkpoint> Model for Agent<'s, C> {
+    ghost use Rattle.hub_agent.specs.Agents.{AgentState};
+
+    ghost Value = { AgentState };
+
+    ghost view = { λ a. record {
+      notes = a.scribe;
+      ends = a.event_loop.holding.held;
+      kept = a.event_loop.kept;
+      order = a.order;
+      peers = a.peers.items;
+      life = a.life;
+    } };
+}
+
+// Logs that these ends were adopted, in order.
+fn log_all_adopted<C: Checkpoint>(
+    scribe: &mut Scribe,
+    event_loop: &AgentLoop<'_, C>,
+    ends: &[EndId],
+) -> Result<(), OutOfMemory>
+    ensures { OnOk result ((entries : List LogEntry) × AreAdoptions ends.now entries
+        × Writes entries scribe.old scribe.new) }
+{
+    for end in ends {
+        log_adopted(scribe, *end, epoch_of(event_loop.held(*end)))?;
+    }
+    Ok(())
+}
+
+impl<'s, C: Checkpoint> Agent<'s, C> {
+    /// Does the actions of the agent of that number, ends the loop, and answers the log and how
+    /// far it came. Where memory runs out all agents are ordered to end, so that none waits for
+    /// this one.
+    pub fn run<R: Wait>(
+        mut self,
+        rt: &R,
+        script: &Script,
+        number: AgentId,
+    ) -> Result<AgentRun, OutOfMemory>
+        requires number { number.0 ≤ MAX_AGENT }
+        requires given { IsGiven script.now number.0 self }
+        ensures { IfOk result (λ ran. IsRunFor script.now number ran.log ran.acted) }
+    {
+        self.scribe = Scribe::new(self.alloc, number);
+        let acted = self.act_or_order(rt, script);
+        let finished = self.finish(rt);
+        Ok(AgentRun {
+            acted: acted?,
+            log: finished?,
+        })
+    }
+
+    // Ends the loop, and answers the log. Where memory runs out all agents are ordered to end.
+    fn finish<R: Wait>(self, rt: &R) -> Result<Log, OutOfMemory>
+        ensures written { IfOk result (λ log. (entries : List LogEntry) × AreEndings entries
+            × (log ≡ log_and self.entry.notes.log entries)) }
+        ensures own { IfOk result (λ log. (e : ℕ) →
+            lost e log.1 ≤ lost e self.entry.notes.log.1 + has self.entry e) }
+    {
+        let Agent {
+            alloc,
+            shared,
+            event_loop,
+            scribe,
+            order: _,
+            mut peers,
+            life: _,
+            graves,
+        } = self;
+        match finish_loop(alloc, rt, shared, event_loop, scribe, graves) {
+            Ok(log) => Ok(log),
+            Err(error) => {
+                order_all(&mut peers);
+                Err(error)
+            }
+        }
+    }
+
+    /// Whether it holds the port.
+    pub(crate) fn holds_port(&self, end: EndId) -> bool
+        ensures { result ≡ true → HoldsPort self.now end }
+    {
+        matches!(self.event_loop.held(end), Some(Held::Port(_)))
+    }
+
+    // Logs that it has adopted the ports that came with the last delivery.
+    fn log_delivered(&mut self) -> Result<(), OutOfMemory>
+        ensures written { OnOk result ((entries : List LogEntry)
+            × AreAdoptions self.old.notes.adopted entries
+            × Writes entries self.old.notes self.new.notes) }
+        ensures rest { KeepsButNotes self.old self.new }
+    {
+        let adopted = self.scribe.take_adopted();
+        log_all_adopted(&mut self.scribe, &self.event_loop, &adopted)
+    }
+
+    fn turn_counted<L: Ledger, R: Wait>(&mut self, rt: &R, blank: Blank) -> Result<Turn, LoopError>
+        requires { (blank.name ≡ L.name) × (blank.parts ≡ L.parts) × (L.parts ≡ 2) }
+        ensures left { IfOk result (λ turn. TurnLeaves turn self.old.notes self.new.notes) }
+        ensures brings { IfOk result (λ turn. TurnBrings turn self.old self.new) }
+        ensures rest { KeepsButTurns self.old self.new }
+    {
+        let mut steps = Steps::<L>::begin(blank);
+        let scribe = self.scribe.take();
+        let empty = self.event_loop.replace_handler(scribe);
+        let turn = self.event_loop.turn(rt, &self.shared.hub, &mut steps);
+        self.scribe = self.event_loop.replace_handler(empty);
+        turn
+    }
+
+    // Makes a turn, and logs the ports that were adopted in it.
+    fn turn<R: Wait>(&mut self, rt: &R) -> Result<Turn, OutOfMemory>
+        ensures written { OnOk result ((entries : List LogEntry) × IsTurnLogged entries
+            × Writes entries self.old.notes self.new.notes) }
+        ensures own { OnOk result (Accounts self.old self.new) }
+        ensures rest { KeepsButTurns self.old self.new }
+    {
+        let turn = match self.turn_counted::<Brand, R>(rt, Blank::new(2)) {
+            Ok(turn) => turn,
+            Err(LoopError::OutOfMemory) => return Err(OutOfMemory),
+        };
+        match turn {
+            Turn::Delivered => {
+                self.log_delivered()?;
+                Ok(Turn::Delivered)
+            }
+            turn => Ok(turn),
+        }
+    }
+
+    // Takes the queue that was handed to it, logs that and enables the queue. Whether it was there.
+    fn fetch<R: Wait>(&mut self, rt: &R, end: EndId) -> Result<bool, OutOfMemory>
+        ensures written { IfOk result (λ came. (entries : List LogEntry)
+            × IsComeLogged (Awaited.Queue end) came entries
+            × Writes entries self.old.notes self.new.notes) }
+        ensures own { OnOk result (Accounts self.old self.new) }
+        ensures rest { KeepsElse self.old self.new }
+    {
+        let Shared { hub, directory, .. } = self.shared;
+        match self.event_loop.fetch(rt, hub, directory, end) {
+            Ok(true) => {}
+            Ok(false) => return Ok(false),
+            Err(LoopError::OutOfMemory) => return Err(OutOfMemory),
+        }
+        log_adopted(&mut self.scribe, end, epoch_of(self.event_loop.held(end)))?;
+        self.event_loop.start_client(end);
+        Ok(true)
+    }
+
+    // Whether what it waits for has come.
+    fn has_come<R: Wait>(&mut self, rt: &R, awaited: Awaited) -> Result<bool, OutOfMemory>
+        ensures written { IfOk result (λ came. (entries : List LogEntry)
+            × IsComeLogged awaited came entries
+            × Writes entries self.old.notes self.new.notes) }
+        ensures own { OnOk result (Accounts self.old self.new) }
+        ensures rest { KeepsElse self.old self.new }
+    {
+        match awaited {
+            Awaited::Messages { after, count } => {
+                let delivered = self.scribe.messages().wrapping_sub(after);
+                Ok(delivered >= u64::from(count))
+            }
+            Awaited::Port(end) => Ok(self.holds_port(end)),
+            Awaited::Queue(end) => self.fetch(rt, end),
+        }
+    }
+
+    /// Takes turns, and rests after each, until what it waits for has come or the order to end was
+    /// given.
+    pub(crate) fn turn_until<R: Wait>(
+        &mut self,
+        rt: &R,
+        awaited: Awaited,
+    ) -> Result<(), OutOfMemory>
+        ensures written { OnOk result ((entries : List LogEntry) × IsWaitLogged awaited entries
+            × Writes entries self.old.notes self.new.notes) }
+        ensures own { OnOk result (Accounts self.old self.new) }
+        ensures rest { KeepsButTurns self.old self.new }
+    {
+        for _ in rt.forever() {
+            if self.has_come(rt, awaited)? {
+                return Ok(());
+            }
+            match self.turn(rt)? {
+                Turn::Ending => return Ok(()),
+                turn => self.event_loop.rest(rt, turn),
+            }
+        }
+        unreachable!()
+    }
+}

@@ -1,0 +1,157 @@
+//! What an agent writes of posts, and of ends that it has adopted and closed.
+
+ghost use Rattle.std.specs.Prelude.{◌∷◌, [], ℕ, OnOk};
+ghost use Rattle.hub_agent.specs.Entries.{
+  Writes,
+  answer_entries,
+  cast_entries,
+  closed_entries,
+  closing_entries,
+  doomed_entries,
+  outcome_entries,
+};
+ghost use Rattle.hub_trace.specs.Accepted.{message_at, notice_at};
+ghost use Rattle.hub_trace.specs.declared.log_entry.LogEntry.TheVariants.{Adopted, Closed, Put};
+
+use hub_broadcast::CastOutcome;
+use hub_envelope::{Body, EndId, OutOfMemory};
+use hub_logging::Scribe;
+use hub_loop::{ClosedPort, Held};
+use hub_ports::{Closing, Noticed, PortError};
+use hub_queue::Posted;
+
+// Logs a post that was accepted.
+fn log_put(
+    scribe: &mut Scribe,
+    posted: Posted,
+    ports: &[EndId],
+    body: &Body,
+) -> Result<(), OutOfMemory>
+    ensures { OnOk result (Writes (Put (message_at posted ports.now body.now) ∷ [])
+        scribe.old scribe.new) }
+{
+    scribe.put(posted, ports, body)
+}
+
+/// How often an end has moved. A member and a line are never adopted.
+pub(crate) fn epoch_of(held: Option<&Held>) -> Option<u32> {
+    match held? {
+        Held::Port(port) => Some(port.moves()),
+        Held::Client(queue) => Some(queue.moves()),
+        Held::Worker(queue) => Some(queue.moves()),
+        Held::Member(_) | Held::Line(_) => Some(0),
+    }
+}
+
+/// Logs that an end was adopted. The loop holds what was adopted, so there is an epoch to be
+/// logged; were there none, an error is better than a log that leaves an adoption out.
+pub(crate) fn log_adopted(
+    scribe: &mut Scribe,
+    end: EndId,
+    epoch: Option<u32>,
+) -> Result<(), OutOfMemory>
+    ensures { OnOk result ((epoch : ℕ)
+        × Writes (Adopted end epoch ∷ []) scribe.old scribe.new) }
+{
+    let Some(epoch) = epoch else {
+        return Err(OutOfMemory);
+    };
+    scribe.adopt(end, epoch)
+}
+
+/// Logs that an end was closed.
+pub(crate) fn log_close(scribe: &mut Scribe, end: EndId) -> Result<(), OutOfMemory>
+    ensures { OnOk result (Writes (Closed end ∷ []) scribe.old scribe.new) }
+{
+    scribe.close(end)
+}
+
+/// Logs a notice that was put.
+pub(crate) fn log_notice(scribe: &mut Scribe, posted: Posted) -> Result<(), OutOfMemory>
+    ensures { OnOk result (Writes (Put (notice_at posted) ∷ []) scribe.old scribe.new) }
+{
+    scribe.put_notice(posted)
+}
+
+// Logs the notice of a port that was closed, where it was put, and the closing.
+fn log_closed(scribe: &mut Scribe, end: EndId, noticed: Noticed) -> Result<(), OutOfMemory>
+    ensures { OnOk result (Writes (closing_entries end noticed) scribe.old scribe.new) }
+{
+    match noticed {
+        Noticed::Put(posted) => log_notice(scribe, posted)?,
+        Noticed::OutOfMemory => return Err(OutOfMemory),
+        Noticed::PeerClosed | Noticed::Moving => {}
+    }
+    log_close(scribe, end)
+}
+
+/// Logs that an end was closed, a port with what became of its notice.
+pub(crate) fn log_closed_end(
+    scribe: &mut Scribe,
+    end: EndId,
+    port: Option<ClosedPort>,
+) -> Result<(), OutOfMemory>
+    ensures { OnOk result (Writes (closed_entries end port) scribe.old scribe.new) }
+{
+    match port {
+        Some(port) => log_closed(scribe, end, port.noticed),
+        None => log_close(scribe, end),
+    }
+}
+
+// Logs what became of the ports that a doomed post has closed.
+fn log_doomed(scribe: &mut Scribe, closings: &[Closing]) -> Result<(), OutOfMemory>
+    ensures { OnOk result (Writes (doomed_entries closings.now) scribe.old scribe.new) }
+{
+    for closing in closings {
+        log_closed(scribe, closing.end, closing.noticed)?;
+    }
+    Ok(())
+}
+
+/// Logs what a post has come to: an accepted one, or what a doomed one has closed. What was refused
+/// for want of memory is an error.
+pub(crate) fn log_answer(
+    scribe: &mut Scribe,
+    answer: &Result<Posted, PortError>,
+    ports: &[EndId],
+    body: &Body,
+) -> Result<(), OutOfMemory>
+    ensures { OnOk result (Writes (answer_entries ports.now body.now answer.now)
+        scribe.old scribe.new) }
+{
+    match answer {
+        Ok(posted) => log_put(scribe, *posted, ports, body),
+        Err(PortError::Doomed(closings)) => log_doomed(scribe, closings.as_slice()),
+        Err(PortError::OutOfMemory(..)) => Err(OutOfMemory),
+        Err(_) => Ok(()),
+    }
+}
+
+/// Logs the posts of a cast that were accepted.
+pub(crate) fn log_cast(
+    scribe: &mut Scribe,
+    outcomes: &[(EndId, CastOutcome)],
+    body: &Body,
+) -> Result<(), OutOfMemory>
+    ensures { OnOk result (Writes (cast_entries body.now outcomes.now) scribe.old scribe.new) }
+{
+    let mut refused = Ok(());
+    for (_, outcome) in outcomes {
+        log_outcome(scribe, outcome, body)?;
+        if matches!(outcome, CastOutcome::OutOfMemory) {
+            refused = Err(OutOfMemory);
+        }
+    }
+    refused
+}
+
+// Logs a post of a cast, where it was accepted.
+fn log_outcome(scribe: &mut Scribe, outcome: &CastOutcome, body: &Body) -> Result<(), OutOfMemory>
+    ensures { OnOk result (Writes (outcome_entries body.now outcome.now) scribe.old scribe.new) }
+{
+    match outcome {
+        CastOutcome::Accepted(posted) => log_put(scribe, *posted, &[], body),
+        CastOutcome::Closed | CastOutcome::Moving | CastOutcome::OutOfMemory => Ok(()),
+    }
+}

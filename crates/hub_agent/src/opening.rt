@@ -1,0 +1,87 @@
+//! How an agent is made, and given what it holds before the run.
+
+ghost use Rattle.std.specs.Prelude.{◌≡◌, [], None, IfOk, OnOk};
+ghost use Rattle.hub_agent.specs.Agents.{KeepsButEnds};
+ghost use Rattle.hub_loop.specs.Adopting.{HoldsMore};
+
+use crate::agent::Agent;
+use crate::peer::Peer;
+use crate::shared::Shared;
+use hub_envelope::{AgentId, OutOfMemory};
+use hub_life::{Life, Order};
+use hub_logging::Scribe;
+use hub_loop::{Checkpoint, EventLoop, Held};
+use hub_queue::Listener;
+use hub_script::AgentKind;
+use std::alloc::Global;
+
+/// What an agent and its loop are made of.
+#[derive(Drop)]
+pub struct Seat {
+    /// The number of the agent.
+    pub number: AgentId,
+    /// Keeps its log.
+    pub scribe: Scribe,
+    /// The seat of the loop at the word of its order.
+    pub for_loop: Order,
+    /// The seat of the agent itself.
+    pub for_agent: Order,
+    /// Where its loop sleeps.
+    pub listener: Listener,
+    /// What the agent has of all agents, by number.
+    pub peers: Vec<Peer>,
+}
+
+fn life_of(kind: AgentKind) -> Option<Life> {
+    match kind {
+        AgentKind::Window => None,
+        AgentKind::Worker => Some(Life::new()),
+    }
+}
+
+impl<'s, C: Checkpoint> Agent<'s, C> {
+    /// An agent that holds nothing yet.
+    pub fn open(
+        alloc: Global,
+        kind: AgentKind,
+        shared: &'s Shared,
+        checkpoint: &'s C,
+        seat: Seat,
+    ) -> Result<Agent<'s, C>, OutOfMemory>
+        ensures nothing { IfOk result (λ opened. opened.ends.slots ≡ []) }
+        ensures kept { IfOk result (λ opened. opened.kept ≡ None) }
+        ensures order { IfOk result (λ opened. opened.order ≡ seat.for_agent) }
+        ensures peers { IfOk result (λ opened. opened.peers ≡ seat.peers.items) }
+    {
+        let Seat {
+            number,
+            mut scribe,
+            for_loop,
+            for_agent,
+            listener,
+            peers,
+        } = seat;
+        let handler = scribe.take();
+        Ok(Agent {
+            alloc,
+            shared,
+            event_loop: EventLoop::open(alloc, number, for_loop, handler, checkpoint, listener)?,
+            scribe,
+            order: for_agent,
+            peers,
+            life: life_of(kind),
+            graves: Vec::new(alloc),
+        })
+    }
+
+    /// Holds an end that it is given before the run.
+    pub fn give(&mut self, held: Held) -> Result<(), OutOfMemory>
+        ensures same { KeepsButEnds self.old self.new }
+        ensures held { OnOk result (HoldsMore self.old.ends self.new.ends held) }
+    {
+        match self.event_loop.hold(held) {
+            Ok(()) => Ok(()),
+            Err(_) => Err(OutOfMemory),
+        }
+    }
+}

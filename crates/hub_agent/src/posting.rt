@@ -1,0 +1,273 @@
+//! The actions that post: at a port, at a queue, from a broadcast member.
+
+ghost use Rattle.std.specs.Prelude.{◌≡◌, ◌≢◌, ◌⊎◌, List, false, IfErr, IfOk, IfSome, IfNone, OnOk};
+ghost use Rattle.hub_loop.specs.Adopting.{HoldsMore};
+ghost use Rattle.hub_loop.specs.Looking.{HoldsNoLine};
+ghost use Rattle.hub_loop.specs.declared.held.Held.TheVariants.{Port as PortHeld};
+ghost use Rattle.hub_ports.specs.Seats.{PortSeat, ends_of};
+ghost use Rattle.hub_agent.specs.Agents.{HoldsMember, IsUnwritten, KeepsButEnds, KeepsElse};
+ghost use Rattle.hub_agent.specs.Entries.{IsCastLogged, Writes};
+ghost use Rattle.hub_agent.specs.Owning.{Accounts};
+ghost use Rattle.hub_agent.specs.Posting.{
+  HasLine,
+  HoldsEach,
+  LacksOne,
+  PostsOver,
+  SendsOrReturns,
+  SendsTo,
+  TakesOut,
+  given_back,
+};
+ghost use Rattle.hub_trace.specs.declared.log_entry.LogEntry.{LogEntry};
+
+use crate::agent::{Agent, AgentLoop};
+use crate::logging::{log_answer, log_cast};
+use crate::shared::Shared;
+use hub_broadcast::CastError;
+use hub_clients::DirectoryError;
+use hub_envelope::{AgentId, Body, EndId, OutOfMemory, Ports};
+use hub_loop::{Checkpoint, Held, LoopError};
+use hub_ports::{Hub, Port, PortError};
+use hub_queue::{Grave, Posted};
+use std::alloc::Global;
+use std::sync::Wait;
+
+/// What a post goes over.
+#[derive(Clone, Copy)]
+pub(crate) enum Way {
+    /// The port of that number.
+    Port(EndId),
+    /// A line to the queue of that number.
+    Line(EndId),
+}
+
+// Posts over a port or a line that the loop holds. Where it holds none the post is answered as at
+// an end that is closed.
+#[inline(always)]
+fn post_over<C: Checkpoint, R: Wait>(
+    event_loop: &mut AgentLoop<'_, C>,
+    rt: &R,
+    hub: &Hub,
+    agent: AgentId,
+    way: Way,
+    body: Body,
+    ports: Vec<Port>,
+) -> Result<Posted, PortError>
+    ensures sent { SendsOrReturns way agent body ports
+        event_loop.old.holding.held event_loop.new.holding.held result }
+    ensures rest { event_loop.new
+        ≡ record event_loop.old { holding = event_loop.new.holding } }
+{
+    match way {
+        Way::Port(port) => match event_loop.post(rt, hub, agent, port, body, ports) {
+            Ok(answer) => answer,
+            Err((body, ports)) => Err(PortError::Closed(body, ports)),
+        },
+        Way::Line(queue) => match event_loop.send(rt, hub, agent, queue, body, ports) {
+            Ok(answer) => answer,
+            Err((body, ports)) => Err(PortError::Closed(body, ports)),
+        },
+    }
+}
+
+// The port that is held, or what else is.
+fn port_in(held: Held) -> Result<Port, Held>
+    ensures ok { IfOk result (λ port. held ≡ PortHeld port) }
+    ensures err { IfErr result (λ back. (back ≡ held)
+        × ((port : PortSeat) → held ≢ PortHeld port)) }
+{
+    match held {
+        Held::Port(port) => Ok(port),
+        Held::Client(queue) => Err(Held::Client(queue)),
+        Held::Worker(queue) => Err(Held::Worker(queue)),
+        Held::Member(member) => Err(Held::Member(member)),
+        Held::Line(line) => Err(Held::Line(line)),
+    }
+}
+
+// The ports that come back with the answer to a post.
+fn ports_back(alloc: Global, answer: Result<Posted, PortError>) -> Vec<Port>
+    ensures { result.items ≡ given_back answer }
+{
+    match answer {
+        Ok(_) => Vec::new(alloc),
+        Err(PortError::Doomed(_)) => Vec::new(alloc),
+        Err(PortError::OutOfMemory(_, ports)) => ports,
+        Err(PortError::Closed(_, ports)) => ports,
+        Err(PortError::Moving(_, ports)) => ports,
+        Err(PortError::TooManyPorts(_, ports)) => ports,
+        Err(PortError::Taken(_, ports)) => ports,
+        Err(PortError::Strayed(_, _, ports)) => ports,
+    }
+}
+
+// Closes what can't be held for want of memory, so that it is swept with what was closed by
+// actions. A line is given back.
+fn bury<R: Wait>(rt: &R, shared: &Shared, graves: &mut Vec<Grave>, held: Held) {
+    let Shared {
+        hub,
+        directory,
+        roster,
+    } = shared;
+    match held.close(rt, hub, roster) {
+        Ok(closed) => {
+            if graves.reserve(1).is_ok() {
+                graves.push_reserved(closed.grave);
+            }
+        }
+        Err(line) => {
+            let _refused = directory.give_back(rt, line);
+        }
+    }
+}
+
+impl<'s, C: Checkpoint> Agent<'s, C> {
+    /// Holds an end or a line. Where there is no memory an end is closed, so that nobody waits for
+    /// what is posted there.
+    pub(crate) fn hold<R: Wait>(&mut self, rt: &R, held: Held) -> Result<(), OutOfMemory>
+        ensures same { KeepsButEnds self.old self.new }
+        ensures held { OnOk result (HoldsMore self.old.ends self.new.ends held) }
+    {
+        match self.event_loop.hold(held) {
+            Ok(()) => Ok(()),
+            Err((LoopError::OutOfMemory, held)) => {
+                bury(rt, self.shared, &mut self.graves, held);
+                Err(OutOfMemory)
+            }
+        }
+    }
+
+    fn hold_ports<R: Wait>(&mut self, rt: &R, ports: Vec<Port>) -> Result<(), OutOfMemory>
+        ensures same { KeepsButEnds self.old self.new }
+        ensures held { OnOk result (HoldsEach ports.items self.old.ends self.new.ends) }
+    {
+        let mut held = Ok(());
+        for port in ports {
+            held = self.hold(rt, Held::Port(port)).and(held);
+        }
+        held
+    }
+
+    // Takes the ports out of the loop, in order. `None` where one isn't held; then it holds again
+    // those that it took out.
+    fn release_ports<R: Wait>(
+        &mut self,
+        rt: &R,
+        ends: &[EndId],
+    ) -> Result<Option<Vec<Port>>, OutOfMemory>
+        ensures same { KeepsButEnds self.old self.new }
+        ensures ports { IfOk result (λ ports. IfSome ports (λ released.
+            ends_of released.items ≡ ends.now)) }
+        ensures released { IfOk result (λ ports. IfSome ports (λ released.
+            TakesOut released.items self.old.ends self.new.ends)) }
+        ensures again { IfOk result (λ ports. IfNone ports (LacksOne ends.now
+            self.old.ends self.new.ends)) }
+    {
+        let mut ports = Vec::with_capacity(self.alloc, ends.len())?;
+        for end in ends {
+            let Some(held) = self.event_loop.release(*end) else {
+                self.hold_ports(rt, ports)?;
+                return Ok(None);
+            };
+            match port_in(held) {
+                Ok(port) => ports.push_reserved(port),
+                Err(held) => {
+                    let again = self.hold(rt, held);
+                    self.hold_ports(rt, ports).and(again)?;
+                    return Ok(None);
+                }
+            }
+        }
+        Ok(Some(ports))
+    }
+
+    /// Posts at a port or over a line with the ports that are to be sent along, which it takes out
+    /// of the loop. Logs what the post has come to, and holds again what has come back. Where what
+    /// it posts over or one of the ports isn't held it does nothing.
+    pub(crate) fn post<R: Wait>(
+        &mut self,
+        rt: &R,
+        way: Way,
+        body: &Body,
+        transfer: &Ports,
+    ) -> Result<(), OutOfMemory>
+        ensures posted { OnOk result (PostsOver way transfer.now body.now
+            self.old.ends self.new.ends self.old.notes self.new.notes) }
+        ensures rest { KeepsElse self.old self.new }
+    {
+        let copy = body.clone()?;
+        let Some(ports) = self.release_ports(rt, transfer.as_slice())? else {
+            return Ok(());
+        };
+        let agent = self.scribe.agent();
+        let hub = &self.shared.hub;
+        let answer = post_over(&mut self.event_loop, rt, hub, agent, way, copy, ports);
+        let logged = log_answer(&mut self.scribe, &answer, transfer.as_slice(), body);
+        let back = ports_back(self.alloc, answer);
+        self.hold_ports(rt, back)?;
+        logged
+    }
+
+    // Holds a line to a queue, unless it does. False where the directory lends none.
+    fn take_line<R: Wait>(&mut self, rt: &R, queue: EndId) -> Result<bool, OutOfMemory>
+        ensures same { KeepsButEnds self.old self.new }
+        ensures held { OnOk result (HasLine self.old.ends self.new.ends) }
+        ensures none { IfOk result (λ has. has ≡ false → HoldsNoLine self.new.ends queue) }
+    {
+        if self.event_loop.has_line(queue) {
+            return Ok(true);
+        }
+        match self.shared.directory.line_to(rt, queue) {
+            Ok(line) => {
+                self.hold(rt, Held::Line(line))?;
+                Ok(true)
+            }
+            Err(DirectoryError::NoSuchEnd | DirectoryError::NoLine) => Ok(false),
+        }
+    }
+
+    /// Posts at a queue, unless a port to be sent isn't held. The line is had at the first send and
+    /// kept.
+    pub(crate) fn send<R: Wait>(
+        &mut self,
+        rt: &R,
+        queue: EndId,
+        body: &Body,
+        transfer: &Ports,
+    ) -> Result<(), OutOfMemory>
+        ensures sent { OnOk result (SendsTo queue transfer.now body.now
+            self.old.ends self.new.ends self.old.notes self.new.notes) }
+        ensures rest { KeepsElse self.old self.new }
+    {
+        if !self.take_line(rt, queue)? {
+            return Ok(());
+        }
+        self.post(rt, Way::Line(queue), body, transfer)
+    }
+
+    /// Casts from a member, unless it isn't held.
+    pub(crate) fn cast<R: Wait>(
+        &mut self,
+        rt: &R,
+        member: EndId,
+        body: &Body,
+    ) -> Result<(), OutOfMemory>
+        ensures written { OnOk result ((entries : List LogEntry) × IsCastLogged body.now entries
+            × Writes entries self.old.notes self.new.notes) }
+        ensures held { OnOk result (IsUnwritten self.old self.new
+            ⊎ HoldsMember self.old member) }
+        ensures own { OnOk result (Accounts self.old self.new) }
+        ensures rest { KeepsElse self.old self.new }
+    {
+        let copy = body.clone()?;
+        let Some(Held::Member(source)) = self.event_loop.held(member) else {
+            return Ok(());
+        };
+        let yard = &self.shared.hub.yard;
+        match self.shared.roster.cast(rt, yard, source, copy, &[]) {
+            Ok(outcomes) => log_cast(&mut self.scribe, &outcomes, body),
+            Err(CastError::OutOfMemory) => Err(OutOfMemory),
+            Err(CastError::InvalidState | CastError::NotTransferable) => Ok(()),
+        }
+    }
+}

@@ -1,0 +1,46 @@
+use hub_broadcast::SharedRoster;
+use hub_clients::Directory;
+use hub_envelope::OutOfMemory;
+use hub_ports::Hub;
+use std::alloc::Global;
+use std::sync::Wait;
+
+/// What the agents of a run share.
+#[derive(Drop)]
+pub struct Shared {
+    /// The ports in flight and the posters of queues that moved.
+    pub hub: Hub,
+    /// The queues of clients and workers.
+    pub directory: Directory,
+    /// The broadcast members.
+    pub roster: SharedRoster,
+}
+
+impl Shared {
+    /// Nothing is shared yet.
+    pub fn new(alloc: Global) -> Shared {
+        Shared {
+            hub: Hub::new(alloc),
+            directory: Directory::new(alloc),
+            roster: SharedRoster::new(alloc),
+        }
+    }
+
+    /// Closes the queues that nobody has fetched and the ports that nobody has received, and
+    /// discards what waits for them. No log tells of it. Where memory runs out it goes on once.
+    pub fn end<R: Wait>(self, rt: &R) -> Result<(), OutOfMemory> {
+        let Shared {
+            hub,
+            directory,
+            roster: _,
+        } = self;
+        directory.end(rt);
+        let Err((OutOfMemory, hub)) = hub.end(rt) else {
+            return Ok(());
+        };
+        match hub.end(rt) {
+            Ok(()) => Ok(()),
+            Err((error, _)) => Err(error),
+        }
+    }
+}

@@ -1,5 +1,0 @@
-use Rattle.hub_run.proofs.Writing.{wrote_some}
-use Rattle.hub_run.proofs.logging.log_adopted.Goals as goal
-
-pub returns : goal.returns
-returns c = wrote_some c.adopt.result c.args.end c.in-Some.epoch c.args.scribe.now c.adopt.new.self c.adopt.ensures.ok

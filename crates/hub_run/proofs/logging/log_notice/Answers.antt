@@ -1,6 +1,0 @@
-use Rattle.std.proofs.Common.{refl}
-use Rattle.hub_run.proofs.Writing.{wrote}
-use Rattle.hub_run.proofs.logging.log_notice.Goals as goal
-
-pub returns : goal.returns
-returns c = wrote c.put_notice.result c.args.scribe.now _ _ _ c.put_notice.ensures.ok refl
