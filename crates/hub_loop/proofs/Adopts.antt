@@ -1,14 +1,16 @@
 -- The ports of a delivery are adopted one after another.
-use Rattle.std.proofs.Common.{◌≡◌, List, [], ◌∷◌, ◌++◌, refl, sym, ap, ◌∙◌, subst, ⊎_elim, inl, inr, append_assoc, append-nil}
+use Rattle.std.proofs.Common.{◌≡◌, Bool, true, false, List, [], ◌∷◌, ◌++◌, refl, sym, ap, ◌∙◌, subst, ⊎_elim, inl, inr, append_assoc, append-nil}
 use Rattle.slab.specs.Slab.{Slab, SameValues}
+use Rattle.hub_clients.specs.declared.handed_queue.HandedQueue.{HandedQueue}
+use Rattle.hub_clients.specs.Handing.{taker_of}
 use Rattle.hub_envelope.specs.declared.ids.EndId.{EndId}
 use Rattle.hub_ports.specs.Seats.{PortSeat}
 use Rattle.hub_loop.specs.declared.held.Held.{Held}
-use Rattle.hub_loop.specs.Adopting.{Stored, HoldsMore, SameClosed, SameStored, IsPortBuried, IsOneAdopted, AreAdopted, ArePartlyAdopted}
+use Rattle.hub_loop.specs.Adopting.{Stored, HoldsMore, SameClosed, SameStored, IsPortBuried, IsOneAdopted, AreAdopted, ArePartlyAdopted, IsFetched, IsQueueAdopted}
 use Rattle.hub_loop.specs.States.{ClosedState, ReceivingState}
 
 -- what was held before may be told of another slab that holds the same
-holds-after : (old mid new : Slab Held) (h : Held) → SameValues old mid → HoldsMore mid new h → HoldsMore old new h
+pub holds-after : (old mid new : Slab Held) (h : Held) → SameValues old mid → HoldsMore mid new h → HoldsMore old new h
 holds-after old mid new h same more =
     (more.0, sym (same more.0) ∙ more.1, record { changed = more.2.changed; others = λ k other. more.2.others k other ∙ same k })
 
@@ -65,3 +67,11 @@ pub all-done : (old new : ReceivingState) (before after : Stored) → ((done : L
 all-done old new before after partly none =
     let all : old.found ≡ partly.0 = partly.1.0 ∙ ap (λ ps. partly.0 ++ ps) none ∙ append-nil partly.0 in
     subst (λ ps. AreAdopted ps before after old.missing new.missing) (sym all) partly.1.1
+
+-- a queue that was adopted or refused for good was fetched
+pub fetched : (held : Bool) (q : HandedQueue) (old new : Stored) (end : EndId) → (taker_of q).end ≡ end.0 → IsQueueAdopted q old new held → IsFetched held old new end
+fetched true q old new end is did = (q, is, did)
+fetched false q old new end is did = inr (q, is, did)
+
+pub stored-same : (s : Stored) → SameStored s s
+stored-same s = ((λ k. refl), (refl, refl))

@@ -1,5 +1,5 @@
 -- A delivery goes on where it has stopped.
-use Rattle.std.proofs.Common.{◌≡◌, ℕ, Bool, List, sym, ap, ◌∙◌, subst, Option, Some, None}
+use Rattle.std.proofs.Common.{◌≡◌, ℕ, Bool, List, [], refl, sym, ap, ◌∙◌, subst, Option, Some, None}
 use Rattle.std.specs.Prelude.{Result, Ok, Err}
 use Rattle.hub_envelope.specs.declared.envelope.Envelope.{Envelope}
 use Rattle.hub_ports.specs.Seats.{ends_of}
@@ -33,6 +33,11 @@ taken-up inside old after new looks before then had due was is stepped came take
   subst (λ l. IsDue l.kept l.holding after.holding looks before then due) was
       (subst (λ l. IsDue inside.kept inside.holding l.holding looks before then due) (sym is) (subst (IsDue inside.kept inside.holding new.holding looks before then) came taken)),
 )
+
+-- the delivery that was kept goes on
+pub due-kept : (kept : Option DeliveryState) (holding : HoldingState) (count : Count) (d : DeliveryState) → kept ≡ Some d → IsDue kept holding holding [] count count (Ok d)
+due-kept None holding count d is = absurd cc
+due-kept (Some k) holding count d is = (let same : d ≡ k = cc in ap Ok same, refl, refl, refl)
 
 -- no end gave an envelope where no delivery was kept
 pub due-nothing : (kept : Option DeliveryState) (old new : HoldingState) (looks : List BoardStep) (before after : Count) (served : Served) (busy : Bool) (due : Result DeliveryState Bool) → kept ≡ None → served ≡ Nothing busy → due ≡ Err busy → AreServed old.next old.held new.held old.ready.marks looks before after served → new.next ≡ next_after old.next served → new.closed ≡ old.closed → IsDue kept old new looks before after due

@@ -4,6 +4,7 @@ mod Closes
 mod Counted
 mod Delivers
 mod Looks
+mod Marks
 mod Notices
 mod Pops
 mod Posts

@@ -6,6 +6,7 @@ pub mod Ending
 pub mod Holding
 pub mod Looking
 pub mod Looping
+pub mod Marking
 pub mod Noticing
 pub mod Popping
 pub mod Posting

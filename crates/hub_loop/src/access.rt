@@ -26,6 +26,7 @@ ghost use Rattle.hub_loop.specs.Looking.{
   HoldsNoMember,
   HoldsNoPort,
 };
+ghost use Rattle.hub_loop.specs.Marking.{AreMarked};
 ghost use Rattle.hub_loop.specs.Starting.{StartsClient, StartsPort};
 ghost use Rattle.hub_loop.specs.declared.held.Held.TheVariants.{
   Port as PortHeld,
@@ -57,6 +58,8 @@ impl<H: Handler + Drop, C: Checkpoint + Drop> EventLoop<H, C> {
         ensures ok { OnOk result (HoldsMore self.old.holding.held self.new.holding.held held) }
         ensures back { IfErr result (λ refused. refused.1 ≡ held) }
         ensures err { OnErr result (SameValues self.old.holding.held self.new.holding.held) }
+        ensures marked { AreMarked self.old.holding.held self.old.holding.ready
+            self.new.holding.held self.new.holding.ready }
         ensures closed { self.new.holding.closed ≡ self.old.holding.closed }
         ensures rest { self.new ≡ record self.old { holding = self.new.holding } }
     {
@@ -66,6 +69,8 @@ impl<H: Handler + Drop, C: Checkpoint + Drop> EventLoop<H, C> {
     /// Enables the port of this number, as `Port::start`. False where the loop doesn't hold it.
     pub fn start_port(&mut self, end: EndId) -> bool
         ensures started { StartsPort self.old.holding.held self.new.holding.held end result }
+        ensures marked { AreMarked self.old.holding.held self.old.holding.ready
+            self.new.holding.held self.new.holding.ready }
         ensures same { (self.new.holding.next ≡ self.old.holding.next)
             × (self.new.holding.closed ≡ self.old.holding.closed) }
         ensures rest { self.new ≡ record self.old { holding = self.new.holding } }
@@ -77,6 +82,8 @@ impl<H: Handler + Drop, C: Checkpoint + Drop> EventLoop<H, C> {
     /// False where the loop doesn't hold it.
     pub fn start_client(&mut self, end: EndId) -> bool
         ensures started { StartsClient self.old.holding.held self.new.holding.held end result }
+        ensures marked { AreMarked self.old.holding.held self.old.holding.ready
+            self.new.holding.held self.new.holding.ready }
         ensures same { (self.new.holding.next ≡ self.old.holding.next)
             × (self.new.holding.closed ≡ self.old.holding.closed) }
         ensures rest { self.new ≡ record self.old { holding = self.new.holding } }

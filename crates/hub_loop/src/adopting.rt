@@ -26,10 +26,12 @@ ghost use Rattle.hub_loop.specs.Adopting.{
   SameClosed,
   SameStored,
 };
+ghost use Rattle.hub_loop.specs.Marking.{AreMarked};
 ghost use Rattle.hub_marks.specs.Marking.{HasBit};
 
 use crate::closed_port::ClosedPort;
 use crate::delivery::Receiving;
+use crate::ending::Closed;
 use crate::held::Held;
 use crate::holding::Holding;
 use hub_clients::HandedQueue;
@@ -61,21 +63,19 @@ fn adopt_handed<R: Wait>(
     }
 }
 
-impl Holding {
+impl Closed {
     // Closes a port that was refused for good.
     fn close_unfit<R: Wait>(&mut self, rt: &R, hub: &Hub, arrived: Arrived)
-        requires graves { vec_len self.old.closed.graves + 1 ≤ vec_capacity self.old.closed.graves }
-        requires noticed { vec_len self.old.closed.noticed + 1
-            ≤ vec_capacity self.old.closed.noticed }
-        ensures buried { IsPortBuried arrived (closed_of self.old.closed)
-            (closed_of self.new.closed) }
-        ensures held { self.new.ends.held ≡ self.old.ends.held }
-        ensures next { self.new.ends.next ≡ self.old.ends.next }
+        requires graves { vec_len self.old.graves + 1 ≤ vec_capacity self.old.graves }
+        requires noticed { vec_len self.old.noticed + 1 ≤ vec_capacity self.old.noticed }
+        ensures { IsPortBuried arrived (closed_of self.old) (closed_of self.new) }
     {
         let (grave, port) = ClosedPort::close_arrived(rt, hub, arrived);
-        self.closed.bury(grave, port);
+        self.bury(grave, port);
     }
+}
 
+impl Holding {
     /// Adopts a queue that was fetched, and holds it. False where it was refused for good: then it
     /// is closed. Where there was no memory it comes back.
     pub(crate) fn adopt_queue<R: Wait>(
@@ -85,10 +85,13 @@ impl Holding {
         queue: HandedQueue,
     ) -> Result<bool, HandedQueue>
         ensures ok { IfOk result (IsQueueAdopted queue
-            (stored self.old.ends.held self.old.closed) (stored self.new.ends.held self.new.closed)) }
+            (stored self.old.ends.held self.old.closed)
+            (stored self.new.ends.held self.new.closed)) }
         ensures back { IfErr result (λ back. back ≡ queue) }
         ensures err { OnErr result (SameStored (stored self.old.ends.held self.old.closed)
             (stored self.new.ends.held self.new.closed)) }
+        ensures marked { AreMarked self.old.ends.held self.old.ends.ready
+            self.new.ends.held self.new.ends.ready }
         ensures next { self.new.ends.next ≡ self.old.ends.next }
     {
         let Ok(bell) = self.prepare(queue.end()) else {
@@ -116,12 +119,13 @@ impl Holding {
         ensures noticed { OnOk result
             (vec_len self.new.closed.noticed + 1 ≤ vec_capacity self.new.closed.noticed) }
         ensures same { SameValues self.old.ends.held self.new.ends.held }
+        ensures marked { AreMarked self.old.ends.held self.old.ends.ready
+            self.new.ends.held self.new.ends.ready }
         ensures closed { SameClosed (closed_of self.old.closed) (closed_of self.new.closed) }
         ensures next { self.new.ends.next ≡ self.old.ends.next }
     {
-        self.ends.held.reserve(1)?;
+        self.ends.make_room(Some(end))?;
         self.closed.reserve(1)?;
-        self.ends.ready.reserve(end, self.ends.held.vacant_key())?;
         self.bell.clone()
     }
 
@@ -136,6 +140,8 @@ impl Holding {
         ensures adopted { IsFirstAdopted receiving.old receiving.new
             (stored self.old.ends.held self.old.closed) (stored self.new.ends.held self.new.closed)
             result }
+        ensures marked { AreMarked self.old.ends.held self.old.ends.ready
+            self.new.ends.held self.new.ends.ready }
         ensures next { self.new.ends.next ≡ self.old.ends.next }
     {
         let Some(first) = receiving.found.front() else {
@@ -155,7 +161,7 @@ impl Holding {
                 Err(OutOfMemory)
             }
             Err((AdoptError::TooManyMoves | AdoptError::Taken, arrived)) => {
-                self.close_unfit(rt, hub, arrived);
+                self.closed.close_unfit(rt, hub, arrived);
                 receiving.missing.push_reserved(end);
                 Ok(true)
             }
@@ -172,6 +178,8 @@ impl Holding {
         ensures adopted { AreAllAdopted receiving.old receiving.new
             (stored self.old.ends.held self.old.closed) (stored self.new.ends.held self.new.closed)
             result }
+        ensures marked { AreMarked self.old.ends.held self.old.ends.ready
+            self.new.ends.held self.new.ends.ready }
         ensures next { self.new.ends.next ≡ self.old.ends.next }
     {
         loop {

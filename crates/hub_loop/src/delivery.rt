@@ -3,6 +3,7 @@ ghost use Rattle.hub_ports.specs.Seats.{ends_of};
 ghost use Rattle.hub_ports.specs.Splitting.{IsSplit};
 ghost use Rattle.hub_loop.specs.Adopting.{stored};
 ghost use Rattle.hub_loop.specs.Delivering.{IsDelivered, IsLookedFor};
+ghost use Rattle.hub_loop.specs.Marking.{AreMarked};
 ghost use Rattle.hub_loop.specs.States.{ReceivingState};
 
 use crate::handler::Handler;
@@ -105,6 +106,8 @@ impl Delivery {
         ensures delivered { IsDelivered H.leaves H.refuses self.old self.new
             (stored holding.old.ends.held holding.old.closed)
             (stored holding.new.ends.held holding.new.closed) handler.old handler.new result }
+        ensures marked { AreMarked holding.old.ends.held holding.old.ends.ready
+            holding.new.ends.held holding.new.ends.ready }
         ensures next { holding.new.ends.next ≡ holding.old.ends.next }
     {
         self.look(rt, hub)?;

@@ -1,10 +1,11 @@
 //! The ends and the lines that a loop holds, each under its key.
 
-ghost use Rattle.std.specs.Prelude.{◌≡◌, Some, [], ◌≤◌, IfOk, OnOk, IfErr, OnErr, IfSome, IfNone};
+ghost use Rattle.std.specs.Prelude.{◌≡◌, Some, [], ◌≤◌, OnOk, IfErr, OnErr, IfSome, IfNone};
 ghost use Rattle.slab.specs.Slab.{HasRoomFor, SameValues};
 ghost use Rattle.hub_loop.specs.Adopting.{HoldsMore};
 ghost use Rattle.hub_loop.specs.Holding.{end_held};
 ghost use Rattle.hub_loop.specs.Looking.{HoldsNoEnd};
+ghost use Rattle.hub_loop.specs.Marking.{AreMarked};
 ghost use Rattle.hub_loop.specs.Reaching.{AreReached};
 ghost use Rattle.hub_marks.specs.Marking.{HasBit};
 
@@ -31,6 +32,18 @@ pub(crate) struct Ends {
     ghost reached: { AreReached held ready },
 }
 
+// Lists a line that is to be held under this key.
+fn list_line(
+    lines: &mut BTreeSet<(EndId, usize)>,
+    held: &Held,
+    key: usize,
+) -> Result<(), OutOfMemory> {
+    if let Held::Line(poster) = held {
+        lines.insert((poster.name().end, key))?;
+    }
+    Ok(())
+}
+
 impl Ends {
     /// Nothing is held. It takes no memory.
     pub(crate) fn new(alloc: Global) -> Ends
@@ -49,6 +62,7 @@ impl Ends {
         requires room { HasRoomFor self.old.held 1 }
         requires bit { HasBit self.old.ready.marks self.old.held.vacant_key }
         ensures held { HoldsMore self.old.held self.new.held held }
+        ensures marked { AreMarked self.old.held self.old.ready self.new.held self.new.ready }
         ensures next { self.new.next ≡ self.old.next }
     {
         let end = held.as_end();
@@ -63,30 +77,34 @@ impl Ends {
         ensures ok { OnOk result (HoldsMore self.old.held self.new.held held) }
         ensures back { IfErr result (λ refused. refused.1 ≡ held) }
         ensures err { OnErr result (SameValues self.old.held self.new.held) }
+        ensures marked { AreMarked self.old.held self.old.ready self.new.held self.new.ready }
         ensures next { self.new.next ≡ self.old.next }
     {
-        if self.make_room(&held).is_err() {
+        if self.make_room(held.as_end()).is_err() {
+            return Err((LoopError::OutOfMemory, held));
+        }
+        if list_line(&mut self.lines, &held, self.held.vacant_key()).is_err() {
             return Err((LoopError::OutOfMemory, held));
         }
         self.put(held);
         Ok(())
     }
 
-    // Makes room for one more that is to be held, and for its mark. A line is listed.
-    fn make_room(&mut self, held: &Held) -> Result<(), OutOfMemory>
-        ensures room { IfOk result (λ _. HasRoomFor self.new.held 1) }
+    /// Makes room for one more that is to be held, an end of this number or a line, and for its
+    /// mark.
+    pub(crate) fn make_room(&mut self, end: Option<EndId>) -> Result<(), OutOfMemory>
+        ensures room { OnOk result (HasRoomFor self.new.held 1) }
         ensures bit { OnOk result (HasBit self.new.ready.marks self.new.held.vacant_key) }
         ensures held { SameValues self.old.held self.new.held }
+        ensures marked { AreMarked self.old.held self.old.ready self.new.held self.new.ready }
         ensures next { self.new.next ≡ self.old.next }
     {
         self.held.reserve(1)?;
         let key = self.held.vacant_key();
-        if let Some(end) = held.as_end() {
-            return self.ready.reserve(end, key);
+        match end {
+            Some(end) => self.ready.reserve(end, key),
+            None => self.ready.marks.reserve(key),
         }
-        self.ready.marks.reserve(key)?;
-        self.lines.insert((held.end(), key))?;
-        Ok(())
     }
 
     /// Gives the end of this number out. `None` where it isn't held.

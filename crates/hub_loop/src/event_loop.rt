@@ -27,6 +27,7 @@ ghost use Rattle.hub_loop.specs.Looping.{
   SameButTurn,
   TakesUp,
 };
+ghost use Rattle.hub_loop.specs.Marking.{AreMarked, AreNewMarked};
 ghost use Rattle.hub_loop.specs.Popping.{PopsEach};
 ghost use Rattle.hub_loop.specs.Resting.{Rests};
 ghost use Rattle.hub_loop.specs.TakingNothing.{Gave, TookNothingBut};
@@ -215,6 +216,8 @@ impl<H: Handler + Drop, C: Checkpoint + Drop> EventLoop<H, C> {
         ensures turn { MakesTurn H.leaves H.refuses self.old self.new steps.old steps.new result }
         ensures others { TookNothingBut (Gave self.old.kept self.new.holding.next result)
             self.old.holding.held self.new.holding.held }
+        ensures marked { AreNewMarked self.old.holding.held self.new.holding.held
+            self.new.holding.ready }
         ensures pops { PopsEach result self.old.holding.held steps.old steps.new }
         ensures rest { SameButTurn self.old self.new }
     {
@@ -296,6 +299,8 @@ impl<H: Handler + Drop, C: Checkpoint + Drop> EventLoop<H, C> {
             (store_of self.old.holding) (store_of self.new.holding) end) }
         ensures err { OnErr result (SameStored
             (store_of self.old.holding) (store_of self.new.holding)) }
+        ensures marked { AreMarked self.old.holding.held self.old.holding.ready
+            self.new.holding.held self.new.holding.ready }
         ensures rest { SameButFetched self.old self.new }
     {
         self.fetched.reserve(1)?;

@@ -1,16 +1,18 @@
 //! How an end or a line is found by its number, lent and shown.
 
-ghost use Rattle.std.specs.Prelude.{◌≡◌, ◌↔◌, ℕ, true, IfOk, IfSome, IfNone};
+ghost use Rattle.std.specs.Prelude.{◌≡◌, ◌↔◌, ◌<◌, ℕ, true, IfOk, IfSome, IfNone};
 ghost use Rattle.std.specs.Option.{option_copied, option_copied_mut};
 ghost use Rattle.slab.specs.Slab.{get};
 ghost use Rattle.hub_loop.specs.Holding.{ends_held};
 ghost use Rattle.hub_loop.specs.Looking.{IsEndOf, IsFound, IsLineTo, IsSlotOf};
+ghost use Rattle.hub_loop.specs.Marking.{AreMarked};
 ghost use Rattle.hub_loop.specs.Starting.{IsStartedAs};
-ghost use Rattle.hub_marks.specs.Marking.{mark_of};
+ghost use Rattle.hub_marks.specs.Marking.{mark_of, ClearBetween, IsFirstFrom};
 
 use crate::ends::Ends;
 use crate::held::{Held, Kind};
 use hub_envelope::{EndId, OutOfMemory};
+use hub_marks::Marks;
 use std::alloc::Global;
 use std::collections::BTreeSet;
 
@@ -40,6 +42,18 @@ fn is_line(slot: Option<&Held>, end: EndId) -> bool
     }
 }
 
+// The first marked key from the one up to the other.
+pub(crate) fn next_marked(marks: &Marks, low: usize, high: usize) -> Option<usize>
+    ensures some { IfSome result (λ key. (key < high) × IsFirstFrom marks.now low key) }
+    ensures none { IfNone result (ClearBetween marks.now low high) }
+{
+    let key = marks.next_from(low)?;
+    if key >= high {
+        return None;
+    }
+    Some(key)
+}
+
 impl Ends {
     // The marked key under which the end of this kind and number is held.
     fn find_marked(&self, kind: Kind, end: EndId) -> Option<usize>
@@ -49,13 +63,7 @@ impl Ends {
     {
         let high = self.held.capacity();
         let mut key = 0;
-        'marks: while key < high {
-            let Some(marked) = self.ready.marks.next_from(key) else {
-                return None;
-            };
-            if marked >= high {
-                return None;
-            }
+        'marks: while let Some(marked) = next_marked(&self.ready.marks, key, high) {
             if is_end(self.held.get(marked), kind, end) {
                 return Some(marked);
             }
@@ -109,6 +117,7 @@ impl Ends {
     /// is held.
     pub(crate) fn start_kind(&mut self, kind: Kind, end: EndId) -> bool
         ensures held { IsStartedAs kind self.old.held self.new.held end result }
+        ensures marked { AreMarked self.old.held self.old.ready self.new.held self.new.ready }
         ensures next { self.new.next ≡ self.old.next }
     {
         let Some(key) = self.find_end(kind, end) else {

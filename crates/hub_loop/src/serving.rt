@@ -24,6 +24,7 @@ ghost use Rattle.hub_loop.specs.Serving.{
 };
 
 use crate::ends::Ends;
+use crate::finding::next_marked;
 use crate::held::Held;
 use hub_envelope::Envelope;
 use hub_marks::Ready;
@@ -135,13 +136,7 @@ impl Ends {
     {
         let mut busy = false;
         let mut key = low;
-        'marks: while key < high {
-            let Some(marked) = self.ready.marks.next_from(key) else {
-                return Served::Nothing(busy);
-            };
-            if marked >= high {
-                return Served::Nothing(busy);
-            }
+        'marks: while let Some(marked) = next_marked(&self.ready.marks, key, high) {
             match self.ask(rt, marked, steps) {
                 Served::Nothing(here) => busy = here | busy,
                 served => return served,

@@ -1,5 +1,4 @@
 use Rattle.std.proofs.Common.{◌≤◌, ◌<◌, ◌^◌, ◌+◌, [], ◌∷◌, subst, sym, arith}
-use Rattle.hub_marks.specs.Marking.{IsNext}
 use Rattle.hub_loop.specs.Scanning.{ends_of, AreMarkedAsked, IsServedMarked}
 use Rattle.hub_loop.specs.Serving.{IsAskedAt}
 use Rattle.hub_loop.proofs.Serves.{ask-same, behind-join, behind-one, given-at, marked-asked, next-asked, these-more}
@@ -14,7 +13,7 @@ marks-preserved g c =
     let key = c.in-Some.marked in
     let keys = kept.keys.0 in
     let these = kept.keys.1 in
-    let first = subst (IsNext mid.ready.marks c.marks.key) c.in-Some.is c.next_from.ensures in
+    let first = c.in-Some.ensures.some.1 in
     let came = subst (IsAskedAt mid.held new.held key c.marks.steps c.ask.new.steps) c.in-Nothing.is c.ask.ensures.asked in
     record {
       low = omega (arith, kept.low, first.behind);
@@ -35,12 +34,12 @@ returns-in_default-ask g c =
     let key = c.in-Some.marked in
     let keys = kept.keys.0 in
     let these = kept.keys.1 in
-    let first = subst (IsNext mid.ready.marks c.marks.key) c.in-Some.is c.next_from.ensures in
+    let first = c.in-Some.ensures.some.1 in
     let gave = given-at mid.held new.held key c.marks.steps c.ask.new.steps c.ask.result c.ask.ensures.asked c.in_default-ask.not-Nothing in
     let came = subst (IsAskedAt mid.held new.held key c.marks.steps c.ask.new.steps) gave.1 c.ask.ensures.asked in
     let marked = subst (IsServedMarked new.ready.marks) gave.1 c.ask.ensures.given in
     let low : c.args.low ≤ key = omega (arith, kept.low, first.behind) in
-    let less : key < c.args.high = omega (arith, c.if-marked-high.false) in
+    let less : key < c.args.high = c.in-Some.ensures.some.0 in
     let inside : key < mid.held.capacity = omega (arith, less, c.requires, these.same.capacity) in
     let top = c.ranges.high in
     let fits : key + 1 < 2 ^ 64 = omega (arith, less, top) in

@@ -1,5 +1,7 @@
-use Rattle.std.proofs.Common.{◌∙◌, subst, sym, arith, rules}
+use Rattle.std.proofs.Common.{◌≡◌, ◌∙◌, ap, subst, sym, arith, rules}
 use Rattle.hub_marks.specs.Marking.{HasBit}
+use Rattle.hub_loop.specs.Holding.{end_held}
+use Rattle.hub_loop.proofs.Marks.{marked-but, same-marks}
 use Rattle.hub_loop.proofs.Reaches.{all-but, is-marked, moves-other, moves-same, is-line}
 use Rattle.hub_loop.proofs.ends.Ends.put.Goals as goal
 
@@ -31,3 +33,24 @@ invariant_of-self-in_default c =
           (λ held is. is-line old.ready key held c.args.held bit (search rules) (λ end has. c.in_default.not-Some end (c.as_end-end.ensures ∙ has)))
           old.reached;
     }
+
+pub returns-in-Some-clause-marked : goal.returns-in-Some-clause-marked
+returns-in-Some-clause-marked c =
+    let old = c.args.self.now in
+    let key = c.insert_reserved-key.result in
+    let bit : HasBit old.ready.marks key = subst (HasBit old.ready.marks) (sym c.insert_reserved-key.ensures.key) c.requires.bit in
+    marked-but old.held c.insert_reserved-key.new.self old.ready c.place.new.self key
+    c.insert_reserved-key.ensures.updates.others
+    c.place.ensures.others
+    (λ held end is number. c.place.ensures.set bit)
+
+pub returns-in_default-clause-marked : goal.returns-in_default-clause-marked
+returns-in_default-clause-marked c =
+    let old = c.args.self.now in
+    let key = c.insert_reserved-key.result in
+    marked-but old.held c.insert_reserved-key.new.self old.ready old.ready key
+    c.insert_reserved-key.ensures.updates.others
+    (same-marks key old.ready.marks)
+    (λ held end is number.
+    let same : held ≡ c.args.held = search rules in
+    absurd (c.in_default.not-Some end (c.as_end-end.ensures ∙ sym (ap end_held same) ∙ number)))

@@ -1,11 +1,25 @@
-use Rattle.std.proofs.Common.{◌≡◌, List, None, refl, rules, subst}
+use Rattle.std.proofs.Common.{◌≡◌, ◌≤◌, List, [], None, Some, length, refl, rules, subst}
+use Rattle.std.specs.Prelude.{Ok}
 use Rattle.hub_bell.specs.declared.steps.BoardStep.{BoardStep}
 use Rattle.hub_marks.specs.Finding.{HasStepped}
 use Rattle.hub_loop.specs.Looping.{holding_of}
 use Rattle.hub_loop.specs.Turning.{IsDue}
-use Rattle.hub_loop.proofs.Delivers.{due-given, due-nothing}
+use Rattle.hub_loop.proofs.Delivers.{due-given, due-kept, due-nothing}
+use Rattle.hub_loop.proofs.Scans.{no-steps}
 use Rattle.hub_loop.proofs.event_loop.EventLoop.take_up.Goals as goal
 use Rattle.hub_loop.proofs.event_loop.EventLoop.take_up.Goals.{in-Nothing, in-Given}
+
+pub returns-in-Some-clause-due : goal.returns-in-Some-clause-due
+returns-in-Some-clause-due g c =
+    let inside = c.self.inside in
+    let holding = holding_of inside.holding in
+    let some : inside.kept ≡ Some c.in-Some.delivery = search rules in
+    subst (λ l. (looks : List BoardStep) × HasStepped l.listener inside.listener looks × IsDue l.kept l.holding holding looks c.args.steps.now c.args.steps.now (Ok c.in-Some.delivery)) c.self.view_is
+    ([], no-steps inside.listener, due-kept inside.kept holding c.args.steps.now c.in-Some.delivery some)
+
+pub returns-clause-keys : goal.returns-clause-keys
+returns-clause-keys g c =
+    subst (λ l. l.kept ≡ None → length l.holding.held.slots ≤ l.holding.held.capacity) c.self.view_is (λ none. c.serve.ensures.keys)
 
 pub returns-clause-due : goal.returns-clause-due
 returns-clause-due g c =

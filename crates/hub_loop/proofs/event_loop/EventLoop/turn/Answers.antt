@@ -2,11 +2,13 @@ use Rattle.std.proofs.Common.{◌≡◌, ◌∙◌, ◌≤◌, ap, length, subst
 use Rattle.hub_loop.specs.Adopting.{stored}
 use Rattle.hub_loop.specs.Delivering.{IsDelivered}
 use Rattle.hub_loop.specs.Looping.{holding_of}
+use Rattle.hub_loop.specs.Marking.{AreMarked, AreNewMarked}
 use Rattle.hub_loop.specs.Turning.{IsDue}
 use Rattle.hub_loop.specs.declared.loop_error.LoopError.{LoopError}
 use Rattle.hub_loop.specs.declared.loop_error.LoopError.TheVariants.{OutOfMemory}
 use Rattle.hub_loop.specs.declared.turn.Turn.TheVariants.{Delivered}
 use Rattle.hub_loop.proofs.Delivers.{taken-up}
+use Rattle.hub_loop.proofs.Marks.{marked-due, marked-none}
 use Rattle.hub_loop.proofs.Pops.{pops-due}
 use Rattle.hub_loop.proofs.TakesNothing.{all-due, others-turn}
 use Rattle.hub_loop.proofs.event_loop.EventLoop.turn.Goals as goal
@@ -19,6 +21,14 @@ returns-in-Err-clause-others g c key gave =
     let due = subst (IsDue inside.kept (holding_of inside.holding) c.take_up.new.self.holding looks c.args.steps.now c.take_up.new.steps) c.in-Err.is c.take_up.ensures.due.2 in
     all-due old.kept old.holding c.take_up.new.self.holding looks c.args.steps.now c.take_up.new.steps c.in-Err.busy key
     (subst (λ l. IsDue l.kept l.holding c.take_up.new.self.holding looks c.args.steps.now c.take_up.new.steps (Err c.in-Err.busy)) c.self.view_is due)
+
+pub returns-in-Err-clause-marked : goal.returns-in-Err-clause-marked
+returns-in-Err-clause-marked g c =
+    let old = c.args.self.now in
+    let inside = c.self.inside in
+    let new = c.take_up.new.self.holding in
+    subst (λ l. AreNewMarked l.holding.held new.held new.ready) c.self.view_is
+    (marked-none inside.kept (holding_of inside.holding) new c.take_up.ensures.due.0 c.args.steps.now c.take_up.new.steps c.take_up.result c.take_up.ensures.due.2)
 
 pub returns-in-Err-clause-pops : goal.returns-in-Err-clause-pops
 returns-in-Err-clause-pops g c =
@@ -42,6 +52,14 @@ returns-in-Ok-deliver-clause-turn g c =
     let none : after.kept ≡ None = ap (λ l. l.kept) c.self-2.view_is ∙ c.take_up.ensures.kept in
     (looks, stepped, (c.in-Ok.delivery, c.deliver.new.self, holding_of after.holding, due, (did.0, did.1, did.2, did.3, told), none, c.deliver.ensures.next))
 
+pub returns-in-Ok-deliver-clause-marked : goal.returns-in-Ok-deliver-clause-marked
+returns-in-Ok-deliver-clause-marked g c =
+    let inside = c.self.inside in
+    let new = c.deliver.new.holding.ends in
+    subst (λ l. AreNewMarked l.holding.held new.held new.ready) c.self.view_is
+    (marked-due inside.kept (holding_of inside.holding) c.take_up.new.self.holding new.held new.ready c.take_up.ensures.due.0 c.args.steps.now c.take_up.new.steps c.take_up.result c.take_up.ensures.due.2
+    (subst (λ l. AreMarked l.holding.held l.holding.ready new.held new.ready) c.self-2.view_is c.deliver.ensures.marked))
+
 pub returns-in-Ok-deliver-clause-others : goal.returns-in-Ok-deliver-clause-others
 returns-in-Ok-deliver-clause-others g c =
     let old = c.args.self.now in
@@ -57,6 +75,14 @@ returns-in-Err-deliver-clause-turn g c =
     let handler : after.handler ≡ old.handler = ap (λ l. l.handler) c.self-2.view_is ∙ ap (λ l. l.handler) c.take_up.ensures.rest ∙ ap (λ l. l.handler) c.self.view_is in
     let did = subst (λ h. IsDelivered {E = LoopError} g.H.Handler.leaves g.H.Handler.refuses c.in-Ok.delivery c.deliver.new.self (stored after.holding.ends.held after.holding.closed) (stored c.deliver.new.holding.ends.held c.deliver.new.holding.closed) h c.deliver.new.handler (Err OutOfMemory)) handler c.in-Err-deliver.ensures.delivered in
     (looks, stepped, (c.in-Ok.delivery, c.deliver.new.self, holding_of after.holding, due, did, refl, c.deliver.ensures.next))
+
+pub returns-in-Err-deliver-clause-marked : goal.returns-in-Err-deliver-clause-marked
+returns-in-Err-deliver-clause-marked g c =
+    let inside = c.self.inside in
+    let new = c.deliver.new.holding.ends in
+    subst (λ l. AreNewMarked l.holding.held new.held new.ready) c.self.view_is
+    (marked-due inside.kept (holding_of inside.holding) c.take_up.new.self.holding new.held new.ready c.take_up.ensures.due.0 c.args.steps.now c.take_up.new.steps c.take_up.result c.take_up.ensures.due.2
+    (subst (λ l. AreMarked l.holding.held l.holding.ready new.held new.ready) c.self-2.view_is c.deliver.ensures.marked))
 
 pub returns-in-Err-deliver-clause-others : goal.returns-in-Err-deliver-clause-others
 returns-in-Err-deliver-clause-others g c =
