@@ -89,3 +89,9 @@ returns-in-Err-deliver-clause-others g c =
     let old = c.args.self.now in
     let turn = returns-in-Err-deliver-clause-turn g c in
     others-turn {E = LoopError} g.H.Handler.leaves g.H.Handler.refuses old.holding (holding_of c.deliver.new.holding) turn.0 old.kept (Some c.deliver.new.self) old.handler c.deliver.new.handler c.args.steps.now c.take_up.new.steps (Err OutOfMemory) turn.2
+
+pub returns-in-Ok-deliver-clause-pops : goal.returns-in-Ok-deliver-clause-pops
+returns-in-Ok-deliver-clause-pops g c = tt
+
+pub returns-in-Err-deliver-clause-pops : goal.returns-in-Err-deliver-clause-pops
+returns-in-Err-deliver-clause-pops g c = tt

@@ -43,8 +43,8 @@ returns-in-Err-TooManyMoves-default g c =
     let old = c.args.self.now in
     let mid = c.prepare.new.self in
     let unfit : IsUnfit error = search rules in
-    let received : IsReceived p (Err (error, p)) = search rules in
-    let came : c.in-Err-TooManyMoves-default.arrived ≡ p = search rules in
+    let came : c.in-Err-TooManyMoves-default.arrived ≡ p = c.in-Err-TooManyMoves-default.ensures.1 in
+    let received = subst (λ q. IsReceived p (Err (error, q))) came c.in-Err-TooManyMoves-default.ensures in
     let buried = subst (λ q. IsPortBuried q (closed_of mid.closed) (closed_of c.close_unfit.new.self)) came c.close_unfit.ensures in
     record {
       adopted = (p, search rules, inr (error, unfit, received, c.prepare.ensures.same, buried-after p (closed_of old.closed) (closed_of mid.closed) (closed_of c.close_unfit.new.self) c.prepare.ensures.closed buried, search rules));
