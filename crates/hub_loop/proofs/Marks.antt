@@ -1,5 +1,5 @@
 -- Which ends are marked.
-use Rattle.std.proofs.Common.{◌≡◌, ◌≢◌, ◌⊎◌, ℕ, Bool, List, [], ◌∷◌, Option, Some, None, IsSome, get_or-set_other, inl, inr, refl, sym, ap, ◌∙◌, subst}
+use Rattle.std.proofs.Common.{◌≡◌, ◌≢◌, ℕ, Bool, List, [], ◌∷◌, Option, Some, None, IsSome, get_or-set_other, inl, inr, refl, sym, ap, ◌∙◌, subst}
 use Rattle.std.specs.Prelude.{Result, Ok, Err}
 use Rattle.std.proofs.lemmas.Bool.{cases_eq}
 use Rattle.slab.specs.Slab.{Slab, get, SameValues, with_value}
@@ -16,7 +16,7 @@ use Rattle.hub_loop.specs.declared.serving.Served.TheVariants.{Given, Nothing}
 use Rattle.hub_loop.specs.Holding.{end_held}
 use Rattle.hub_loop.specs.Marking.{AreMarked, AreNewMarked}
 use Rattle.hub_loop.specs.Reaching.{AreReached}
-use Rattle.hub_loop.specs.Serving.{AskedAll, HasGiven, IsAskedAt, IsSlotAsked}
+use Rattle.hub_loop.specs.Serving.{AskedAll, IsAskedAt, IsSlotAsked}
 use Rattle.hub_loop.specs.States.{DeliveryState, HoldingState}
 use Rattle.hub_loop.specs.Turning.{IsDue}
 use Rattle.hub_loop.proofs.Reaches.{contained, grown, same-held}

@@ -1,6 +1,6 @@
 use Rattle.std.proofs.Common.{ap, arith, refl, subst}
 use Rattle.std.specs.Prelude.{OnOk}
-use Rattle.slab.specs.Slab.{Slab, get, SameValues}
+use Rattle.slab.specs.Slab.{Slab, get}
 use Rattle.hub_marks.specs.declared.ready.Ready.{Ready}
 use Rattle.hub_marks.specs.Marking.{HasBit}
 use Rattle.hub_loop.specs.declared.held.Held.{Held}

@@ -2,7 +2,7 @@ use Rattle.std.proofs.Common.{refl, rules}
 use Rattle.std.specs.Prelude.{IsSome}
 use Rattle.slab.specs.Slab.{get}
 use Rattle.hub_marks.specs.declared.ready.Ready.{Ready}
-use Rattle.hub_loop.proofs.Marks.{marked-lent, marked-same}
+use Rattle.hub_loop.proofs.Marks.{marked-lent}
 use Rattle.hub_loop.proofs.Reaches.{lent}
 use Rattle.hub_loop.proofs.ends.Ends.start_kind.Goals as goal
 

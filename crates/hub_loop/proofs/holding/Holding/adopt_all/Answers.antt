@@ -2,7 +2,7 @@ use Rattle.std.proofs.Common.{◌∙◌, sym, subst, Ok}
 use Rattle.std.specs.declared.alloc.AllocError.{AllocError}
 use Rattle.hub_loop.specs.Adopting.{stored, IsFirstAdopted}
 use Rattle.hub_loop.proofs.Adopts.{partly-more, partly-same, all-done}
-use Rattle.hub_loop.proofs.Marks.{marked-after, marked-same}
+use Rattle.hub_loop.proofs.Marks.{marked-after}
 use Rattle.hub_loop.proofs.holding.Holding.adopt_all.Goals as goal
 
 pub loop-error-preserved : goal.loop-error-preserved

@@ -1,4 +1,4 @@
-use Rattle.std.proofs.Common.{◌≡◌, rules, inl, inr, refl, subst}
+use Rattle.std.proofs.Common.{◌≡◌, rules, inl, inr, subst}
 use Rattle.hub_loop.specs.Adopting.{closed_of, IsPortBuried, IsUnfit}
 use Rattle.hub_loop.specs.declared.held.Held.TheVariants.{Port}
 use Rattle.hub_ports.specs.Adopting.{IsReceived}
