@@ -2,7 +2,7 @@ use hub_envelope::AgentId;
 use std::sync::Wait;
 
 /// What is called before each delivery, as a test that holds an agent up.
-pub trait Checkpoint: Sync {
+pub trait Checkpoint {
     /// `point` is how many deliveries the loop of this agent has made before, from 0.
     fn at<R: Wait>(&self, rt: &R, agent: AgentId, point: u64);
 }
