@@ -1,1 +1,2 @@
 pub mod OneByOne
+pub mod Tallies

@@ -1,13 +1,11 @@
 -- What was done of a list of actions, as they are done one by one.
-use Rattle.std.proofs.Common.{Bor, MutBor, ◌≡◌, ◌∙◌, ◌==◌, ◌+◌, ◌<◌, ℕ, suc, length, get_or, take, drop, if◌then◌else◌, List, [], ◌∷◌, ◌++◌, Bool, true, false, Result, Ok, Err, OnErr, map, filter, ap, sym, refl, subst, arith}
+use Rattle.std.proofs.Common.{◌≡◌, ◌∙◌, ◌==◌, ◌+◌, ◌<◌, ℕ, suc, length, get_or, take, drop, if◌then◌else◌, List, [], ◌∷◌, ◌++◌, Bool, true, false, Result, Ok, Err, OnErr, map, filter, ap, sym, refl, subst, arith}
 use Rattle.std.proofs.lemmas.List.{append-nil, map-append, take-append-drop, length-append}
 use Rattle.std.proofs.Math.Seq.{drop-cons, take-add}
 use Rattle.std.proofs.lemmas.List.Elements.{filter-append}
 use Rattle.hub_envelope.specs.declared.ids.AgentId.{AgentId}
 use Rattle.hub_script.specs.declared.action.Action.{Action}
 use Rattle.hub_script.specs.declared.action.ActionKind.{ActionKind}
-use Rattle.std.specs.declared.alloc.AllocError.{AllocError}
-use Rattle.hub_acting.specs.Calls.{acts_by, fails_by, looks_by}
 use Rattle.hub_acting.specs.Doing.{DidAll, HasActed, actions_of}
 
 -- the actions of an agent among those of two lists
@@ -76,17 +74,6 @@ of_error (Err e) x = x
 -- an action more was counted
 pub counted : {X : Type 0} (xs : List X) (x : X) (n : ℕ) → n ≡ length xs → n + 1 ≡ length (xs ++ x ∷ [])
 counted xs x n is = ap (λ m. m + 1) is ∙ sym (length-append xs (x ∷ []))
-
--- a look that was answered so
-pub looked_for : {A : Type 0} (post : MutBor A → Bool → MutBor A → Type 0) (p q : MutBor A) (answer seen : Bool) → answer ≡ seen → post p answer q → looks_by post p.now seen q.now
-looked_for post p q answer seen is met = (p, q, refl, refl, subst (λ (b : Bool). post p b q) is met)
-
--- an action that was answered so
-pub acted_for : {A : Type 0} (post : MutBor A → Bor ActionKind → Result (Unit {0}) AllocError → MutBor A → Type 0) (p : MutBor A) (k : Bor ActionKind) (q : MutBor A) → post p k (Ok tt) q → acts_by post p.now k.now q.now
-acted_for post p k q met = (p, k, q, refl, refl, refl, met)
-
-pub failed_for : {A : Type 0} (post : MutBor A → Bor ActionKind → Result (Unit {0}) AllocError → MutBor A → Type 0) (p : MutBor A) (k : Bor ActionKind) (e : AllocError) (q : MutBor A) → post p k (Err e) q → fails_by post p.now k.now q.now
-failed_for post p k e q met = (p, k, q, e, refl, refl, refl, met)
 
 module _ {A : Type 0} (looks : A → Bool → A → Type 0) (acts : A → ActionKind → A → Type 0) where
   pub did_own : (agent : AgentId) (all : List Action) (i : ℕ) (x : Action) (before last seen after now : A) → i < length all → x ≡ get_or all i x → (x.at.0 == agent.0) ≡ true

@@ -1,13 +1,17 @@
 //! How an agent does its actions: those of the script that are its own, in order, up to the last
 //! or to the order to end.
 //!
-//! What an action does and where the order is looked for are closures of the caller, so that this
-//! is proved once for whoever acts.
+//! What an action does and where the order is looked for is the actor's, so that this is proved
+//! once for whoever acts.
 #![tactic(auto)]
 
 mod acted;
 mod acting;
+mod actor;
+mod tally;
 
 pub use acted::Acted;
 pub use acting::act_all;
+pub use actor::Actor;
 pub use hub_envelope::OutOfMemory;
+pub use tally::{Tally, count_actions};

@@ -1,7 +1,5 @@
 -- What is written of a list of actions, as the actions are done one by one.
-use Rattle.std.proofs.Common.{Bor, MutBor, ℕ, length, take, List, [], ◌∷◌, ◌++◌, Bool, true, false, Result, Ok, Err, IfOk, OnOk, sym, refl, inl, subst}
-use Rattle.std.specs.declared.alloc.AllocError.{AllocError}
-use Rattle.hub_acting.specs.Calls.{acts_by, looks_by}
+use Rattle.std.proofs.Common.{◌≡◌, ℕ, length, take, List, [], ◌∷◌, ◌++◌, Bool, true, false, Result, Ok, IfOk, sym, refl, inl, subst}
 use Rattle.hub_acting.specs.Doing.{DidAll, HasActed, IsStopped}
 use Rattle.hub_acting.specs.declared.acted.Acted.{Acted}
 use Rattle.hub_script.specs.declared.action.ActionKind.{ActionKind}
@@ -55,38 +53,27 @@ acts_before action later before now after act (rest, all, behind, own) =
 acts_none : (a : AgentState) → ActsAll [] a a
 acts_none a = ([], refl, writes_same a.notes a.notes refl, λ none. (none, leaves_none (has a)))
 
--- An agent whose looks change nothing but its seat at the order, and which does its actions as it may.
-module _ (looks : AgentState → Bool → AgentState → Type 0) (acts : AgentState → ActionKind → AgentState → Type 0)
-    (looked : (p q : AgentState) (seen : Bool) → looks p seen q → LooksFor p seen q) (acting : (p q : AgentState) (action : ActionKind) → acts p action q → Acts action p q) where
-  did_all : (all : List ActionKind) (before now : AgentState) → DidAll looks acts all before now → ActsAll all before now
-  did_all [] before now is = subst (ActsAll [] before) (sym is) (acts_none before)
-  did_all (action ∷ later) before now (seen, done, look, act, did) =
-      subst (λ (a : AgentState). ActsAll (action ∷ later) a now) (looked before seen false look).1
-      (acts_before action later seen done now (acting seen done action act) (did_all later done now did))
+-- what a look and an action of an agent leave of it
+abbrev pub looks : AgentState → Bool → AgentState → Type 0
+looks before seen after = LooksFor before seen after
 
-  stopped_at : (all some : List ActionKind) (done : ℕ) (ordered : Bool) (before last now : AgentState) → IsStopped looks acts all done ordered last now → ActsAll some before last → IsStoppedAt ordered done (length all) × ActsAll some before now
-  stopped_at all some done true before last now (below, look) did = (below, subst (ActsAll some before) (sym (looked last now true look).1) did)
-  stopped_at all some done false before last now (is, same) did = (is, subst (ActsAll some before) (sym same) did)
+abbrev pub acts : AgentState → ActionKind → AgentState → Type 0
+acts before action after = Acts action before after
 
-  acted_first : (all : List ActionKind) (acted : Acted) (before now : AgentState) → HasActed looks acts all acted before now → ActsFirst acted all before now
-  acted_first all acted before now (last, did, stopped) =
-      let (at, acts) = stopped_at all (take acted.done all) acted.done acted.ordered before last now stopped (did_all (take acted.done all) before last did) in
-      record { acts = acts; stopped = at }
+-- its looks change nothing but its seat at the order
+did_all : (all : List ActionKind) (before now : AgentState) → DidAll looks acts all before now → ActsAll all before now
+did_all [] before now is = subst (ActsAll [] before) (sym is) (acts_none before)
+did_all (action ∷ later) before now (seen, done, look, act, did) =
+    subst (λ (a : AgentState). ActsAll (action ∷ later) a now) look.1 (acts_before action later seen done now act (did_all later done now did))
 
-  pub if_acted_so : {E : Type 0} (all : List ActionKind) (before now : AgentState) (result : Result Acted E) → IfOk result (λ acted. HasActed looks acts all acted before now) → IfOk result (λ acted. ActsFirst acted all before now)
-  if_acted_so all before now (Ok acted) did = acted_first all acted before now did
-  if_acted_so all before now (Err e) did = tt
+stopped_at : (all some : List ActionKind) (done : ℕ) (ordered : Bool) (before last now : AgentState) → IsStopped looks acts all done ordered last now → ActsAll some before last → IsStoppedAt ordered done (length all) × ActsAll some before now
+stopped_at all some done true before last now (below, look) did = (below, subst (ActsAll some before) (sym look.1) did)
+stopped_at all some done false before last now (is, same) did = (is, subst (ActsAll some before) (sym same) did)
 
--- what closures at an agent leave of it, by their contracts
-abbrev pub looking : MutBor AgentState → Bool → MutBor AgentState → Type 0
-looking a seen b = LooksFor a.now seen b.now
+acted_first : (all : List ActionKind) (acted : Acted) (before now : AgentState) → HasActed looks acts all acted before now → ActsFirst acted all before now
+acted_first all acted before now (last, did, stopped) =
+    let (at, acts) = stopped_at all (take acted.done all) acted.done acted.ordered before last now stopped (did_all (take acted.done all) before last did) in
+    record { acts = acts; stopped = at }
 
-abbrev pub acting : MutBor AgentState → Bor ActionKind → Result (Unit {0}) AllocError → MutBor AgentState → Type 0
-acting a k done b = OnOk done (Acts k.now a.now b.now)
-
-pub looked_so : (p q : AgentState) (seen : Bool) → looks_by looking p seen q → LooksFor p seen q
-looked_so p q seen (a, b, was, is, met) = subst (λ (y : AgentState). LooksFor p seen y) is (subst (λ (x : AgentState). LooksFor x seen b.now) was met)
-
-pub acted_so : (p q : AgentState) (action : ActionKind) → acts_by acting p action q → Acts action p q
-acted_so p q action (a, k, b, was, of, is, met) =
-    subst (λ (x : AgentState). Acts action x q) was (subst (λ (y : AgentState). Acts action a.now y) is (subst (λ (x : ActionKind). Acts x a.now b.now) of met))
+pub acted_so : {E : Type 0} (all : List ActionKind) (before now : AgentState) (result : Result Acted E) (acted : Acted) → result ≡ Ok acted → IfOk result (λ acted. HasActed looks acts all acted before now) → ActsFirst acted all before now
+acted_so all before now result acted is did = acted_first all acted before now (subst (λ r. IfOk r (λ acted. HasActed looks acts all acted before now)) is did)

@@ -1,6 +1,6 @@
 //! The actions of an agent, in order. An action whose end isn't held any more is skipped.
 
-ghost use Rattle.std.specs.Prelude.{◌≡◌, List, IfErr, IfOk, OnOk, option_map};
+ghost use Rattle.std.specs.Prelude.{⊤, ◌≡◌, List, IfErr, IfOk, OnOk, option_map};
 ghost use Rattle.hub_acting.specs.Doing.{actions_of};
 ghost use Rattle.hub_life.specs.Course.{after as lived};
 ghost use Rattle.hub_script.specs.Contents.{actions};
@@ -10,7 +10,6 @@ ghost use Rattle.hub_agent.specs.Agents.{
   ClosesHeld,
   KeepsButEnds,
   KeepsElse,
-  LooksFor,
   StartsEnd,
   ordered,
   with_peer,
@@ -18,7 +17,7 @@ ghost use Rattle.hub_agent.specs.Agents.{
 };
 ghost use Rattle.hub_agent.specs.Entries.{IsCloseLogged, Writes};
 ghost use Rattle.hub_agent.specs.Owning.{Accounts, HoldsNoMore};
-ghost use Rattle.hub_agent.specs.Acting.{Acts, ActsFirst};
+ghost use Rattle.hub_agent.specs.Acting.{ActsFirst};
 ghost use Rattle.hub_trace.specs.declared.log_entry.LogEntry.{LogEntry};
 
 use crate::agent::Agent;
@@ -27,7 +26,7 @@ use crate::logging::log_closed_end;
 use crate::peer::{Peer, order_all};
 use crate::posting::Way;
 use crate::shared::Shared;
-use hub_acting::Acted;
+use hub_acting::{Acted, Actor, act_all};
 use hub_clients::{Directory, HandError};
 use hub_envelope::{AgentId, EndId, OutOfMemory};
 use hub_life::{Event, Life};
@@ -103,75 +102,13 @@ impl<'s, C: Checkpoint> Agent<'s, C> {
         ensures { IfOk result (λ acted. ActsFirst acted
             (actions_of self.old.notes.log.0 (actions script.now)) self.old self.new) }
     {
-        match self.act_all(rt, script) {
+        let number = self.scribe.agent();
+        match act_all(self, rt, script, number) {
             Ok(acted) => Ok(acted),
             Err(error) => {
                 order_all(&mut self.peers);
                 Err(error)
             }
-        }
-    }
-
-    // Does its actions, up to the last or to the order to end, for which it looks before each.
-    fn act_all<R: Wait>(&mut self, rt: &R, script: &Script) -> Result<Acted, OutOfMemory>
-        ensures { IfOk result (λ acted. ActsFirst acted
-            (actions_of self.old.notes.log.0 (actions script.now)) self.old self.new) }
-    {
-        let number = self.scribe.agent();
-        hub_acting::act_all(
-            self,
-            script,
-            number,
-            |agent: &mut Agent<'_, C>| -> bool
-                ensures { LooksFor agent.old result agent.new }
-            { agent.order.seen() },
-            |agent: &mut Agent<'_, C>, action: &ActionKind| -> Result<(), OutOfMemory>
-                ensures { OnOk result (Acts action.now agent.old agent.new) }
-            { agent.act(rt, action) },
-        )
-    }
-
-    fn act<R: Wait>(&mut self, rt: &R, action: &ActionKind) -> Result<(), OutOfMemory>
-        ensures { OnOk result (Acts action.now self.old self.new) }
-    {
-        match action {
-            ActionKind::Post {
-                port,
-                body,
-                transfer,
-            } => self.post(rt, Way::Port(*port), body, transfer),
-            ActionKind::Send {
-                queue,
-                body,
-                transfer,
-            } => self.send(rt, *queue, body, transfer),
-            ActionKind::Cast { member, body } => self.cast(rt, *member, body),
-            ActionKind::Start { end } => {
-                self.start(*end);
-                Ok(())
-            }
-            // The document of a client is parsed, which enables its queue.
-            ActionKind::Loaded { queue } => {
-                self.event_loop.start_client(*queue);
-                Ok(())
-            }
-            ActionKind::Close { end } => self.close(rt, *end),
-            ActionKind::Wait { messages } => {
-                let after = self.scribe.messages();
-                let count = *messages;
-                self.turn_until(rt, Awaited::Messages { after, count })
-            }
-            ActionKind::Receive { port } => self.turn_until(rt, Awaited::Port(*port)),
-            ActionKind::Order { to } => {
-                give_order(&mut self.peers, *to);
-                Ok(())
-            }
-            ActionKind::Event { event } => {
-                live(&mut self.life, *event);
-                Ok(())
-            }
-            ActionKind::Hand { to } => self.hand(rt, *to),
-            ActionKind::Fetch { queue } => self.turn_until(rt, Awaited::Queue(*queue)),
         }
     }
 
@@ -221,6 +158,64 @@ impl<'s, C: Checkpoint> Agent<'s, C> {
                 self.hold(rt, held)?;
                 refused.map_or(Ok(()), Err)
             }
+        }
+    }
+}
+
+// It looks for the order at a seat of its own.
+impl<'s, C: Checkpoint> Actor for Agent<'s, C> {
+    ghost use Rattle.hub_agent.specs.Acting.{Acts};
+    ghost use Rattle.hub_agent.specs.Agents.{LooksFor};
+
+    ghost looks = { λ before seen after. LooksFor before seen after };
+
+    ghost acts = { λ before action after. Acts action before after };
+
+    ghost fails = { λ _ _ _. ⊤ };
+
+    fn sees_order(&mut self) -> bool {
+        self.order.seen()
+    }
+
+    fn act<R: Wait>(&mut self, rt: &R, action: &ActionKind) -> Result<(), OutOfMemory> {
+        match action {
+            ActionKind::Post {
+                port,
+                body,
+                transfer,
+            } => self.post(rt, Way::Port(*port), body, transfer),
+            ActionKind::Send {
+                queue,
+                body,
+                transfer,
+            } => self.send(rt, *queue, body, transfer),
+            ActionKind::Cast { member, body } => self.cast(rt, *member, body),
+            ActionKind::Start { end } => {
+                self.start(*end);
+                Ok(())
+            }
+            // The document of a client is parsed, which enables its queue.
+            ActionKind::Loaded { queue } => {
+                self.event_loop.start_client(*queue);
+                Ok(())
+            }
+            ActionKind::Close { end } => self.close(rt, *end),
+            ActionKind::Wait { messages } => {
+                let after = self.scribe.messages();
+                let count = *messages;
+                self.turn_until(rt, Awaited::Messages { after, count })
+            }
+            ActionKind::Receive { port } => self.turn_until(rt, Awaited::Port(*port)),
+            ActionKind::Order { to } => {
+                give_order(&mut self.peers, *to);
+                Ok(())
+            }
+            ActionKind::Event { event } => {
+                live(&mut self.life, *event);
+                Ok(())
+            }
+            ActionKind::Hand { to } => self.hand(rt, *to),
+            ActionKind::Fetch { queue } => self.turn_until(rt, Awaited::Queue(*queue)),
         }
     }
 }

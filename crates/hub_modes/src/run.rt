@@ -33,7 +33,7 @@ use std::thread::Threads;
 ///
 /// The whole input is read before anything is run. Bad input writes `line N: KIND` of the first bad
 /// line alone, and want of memory `out of memory`. It waits for the agents of the script.
-pub fn run_file<C: Checkpoint, R: Read, W: Write, T: Threads + Wait + Sync>(
+pub fn run_file<C: Checkpoint + Sync, R: Read, W: Write, T: Threads + Wait + Sync>(
     alloc: Global,
     rt: &T,
     reader: &mut CountedReader<R>,
@@ -53,7 +53,7 @@ pub fn run_file<C: Checkpoint, R: Read, W: Write, T: Threads + Wait + Sync>(
 }
 
 /// Runs the script that the input spells, or tells its first bad line.
-fn run_input<C: Checkpoint, W: Write, T: Threads + Wait + Sync>(
+fn run_input<C: Checkpoint + Sync, W: Write, T: Threads + Wait + Sync>(
     alloc: Global,
     rt: &T,
     input: &[u8],
@@ -77,7 +77,7 @@ fn run_input<C: Checkpoint, W: Write, T: Threads + Wait + Sync>(
 ///
 /// For want of memory, or where a thread can't be made, it writes `out of memory` alone. It waits
 /// for the agents.
-pub fn run_script<C: Checkpoint, W: Write, T: Threads + Wait + Sync>(
+pub fn run_script<C: Checkpoint + Sync, W: Write, T: Threads + Wait + Sync>(
     alloc: Global,
     rt: &T,
     script: &Script,

@@ -56,7 +56,7 @@ type Handle<'a> = PromisedHandle<Ran, Part<'a>>;
 // Starts a thread for each agent, in order. Each waits until all threads were made, and does
 // nothing where one couldn't be made. It is a function of its own, since between the first thread
 // and the signal that they wait for nothing may be left out.
-fn start_all<'s, E, C: Checkpoint, R: Threads + Wait + Sync>(
+fn start_all<'s, E, C: Checkpoint + Sync, R: Threads + Wait + Sync>(
     scope: &'s Scope<'s, E>,
     alloc: Global,
     rt: &'s R,
@@ -115,7 +115,7 @@ fn join_all<R: Threads + Wait>(
 }
 
 // Makes the agents, and runs them, none of which begins before the threads of all were made.
-fn run_shared<C: Checkpoint, R: Threads + Wait + Sync>(
+fn run_shared<C: Checkpoint + Sync, R: Threads + Wait + Sync>(
     alloc: Global,
     rt: &R,
     shared: &Shared,
@@ -159,7 +159,7 @@ fn run_shared<C: Checkpoint, R: Threads + Wait + Sync>(
 ///
 /// `OutOfMemory` where a growth was refused or a thread couldn't be made. All agents are ordered to
 /// end then; where a thread couldn't be made none has done anything.
-pub fn run_agents<C: Checkpoint, R: Threads + Wait + Sync>(
+pub fn run_agents<C: Checkpoint + Sync, R: Threads + Wait + Sync>(
     alloc: Global,
     rt: &R,
     script: &Script,

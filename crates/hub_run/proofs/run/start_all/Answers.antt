@@ -11,7 +11,7 @@ use Rattle.hub_run.proofs.run.start_all.Goals as goal
 pub spawn_with-requires-clause-runs : goal.spawn_with-requires-clause-runs
 spawn_with-requires-clause-runs g c κs within =
     let (given, rest) = given_next c.args.script.now (vec_len c.loop-agent.handles) c.in-Some.agent (into_iter_items c.loop-agent.agent-iterator) (into_iter_items c.next.new.self) c.in-Some.ensures.steps.0 c.loop-agent.invariant.3 in
-    (search rules, (subst (λ n. IsGiven c.args.script.now n c.in-Some.agent) (sym c.len-in-loop-agent.ensures) given, (search rules, search rules)))
+    (search rules, subst (λ n. IsGiven c.args.script.now n c.in-Some.agent) (sym c.len-in-loop-agent.ensures) given)
 
 -- the thread that is started is that of the next agent
 pub loop-agent-preserved : goal.loop-agent-preserved

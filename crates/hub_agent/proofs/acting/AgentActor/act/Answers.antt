@@ -6,26 +6,26 @@ use Rattle.hub_agent.specs.Agents.{AgentState, ordered, with_peer}
 use Rattle.hub_agent.specs.Acting.{Acts}
 use Rattle.hub_agent.proofs.Doing.{acts_of, acts_while, hand_acts, lived_acts, loaded_acts, ordered_acts, started_acts}
 use Rattle.hub_agent.proofs.Sending.{post_acts, send_acts}
-use Rattle.hub_agent.proofs.agent.Agent.act.Goals as goal
+use Rattle.hub_agent.proofs.acting.AgentActor.act.Goals as goal
 
-pub returns-in-Post : goal.returns-in-Post
-returns-in-Post g c =
+pub returns-in-Post-clause-ok : goal.returns-in-Post-clause-ok
+returns-in-Post-clause-ok g c =
     subst (λ action. OnOk c.post.result (Acts action c.args.self.now c.post.new.self)) (sym c.in-Post.is) (post_acts c.post.result _ _ _ c.args.self.now c.post.new.self c.post.ensures.posted c.post.ensures.rest)
 
-pub returns-in-Send : goal.returns-in-Send
-returns-in-Send g c =
+pub returns-in-Send-clause-ok : goal.returns-in-Send-clause-ok
+returns-in-Send-clause-ok g c =
     subst (λ action. OnOk c.send.result (Acts action c.args.self.now c.send.new.self)) (sym c.in-Send.is) (send_acts c.send.result _ _ _ c.args.self.now c.send.new.self c.send.ensures.sent c.send.ensures.rest)
 
-pub returns-in-Cast : goal.returns-in-Cast
-returns-in-Cast g c =
+pub returns-in-Cast-clause-ok : goal.returns-in-Cast-clause-ok
+returns-in-Cast-clause-ok g c =
     subst (λ action. OnOk c.cast.result (Acts action c.args.self.now c.cast.new.self)) (sym c.in-Cast.is) (acts_of _ _ _ _ c.cast.result c.cast.ensures.written c.cast.ensures.held c.cast.ensures.rest c.cast.ensures.own)
 
-pub returns-in-Start : goal.returns-in-Start
-returns-in-Start g c =
+pub returns-in-Start-clause-ok : goal.returns-in-Start-clause-ok
+returns-in-Start-clause-ok g c =
     subst (λ action. Acts action c.args.self.now c.start.new.self) (sym c.in-Start.is) (started_acts c.in-Start.end c.args.self.now c.start.new.self c.start.ensures)
 
-pub returns-in-Loaded : goal.returns-in-Loaded
-returns-in-Loaded g c =
+pub returns-in-Loaded-clause-ok : goal.returns-in-Loaded-clause-ok
+returns-in-Loaded-clause-ok g c =
     let loop = c.start_client.new.self in
     let now : AgentState = record { notes = c.self.inside.scribe; ends = loop.holding.held; kept = loop.kept; order = c.self.inside.order; peers = c.self.inside.peers.items; life = c.self.inside.life } in
     subst (λ action. Acts action c.args.self.now now) (sym c.in-Loaded.is)
@@ -34,26 +34,26 @@ returns-in-Loaded g c =
       (c.start_client.result, subst (λ (a : AgentState). StartsClient a.ends loop.holding.held c.in-Loaded.queue c.start_client.result) c.self.view_is c.start_client.ensures.started),
     ))
 
-pub returns-in-Close : goal.returns-in-Close
-returns-in-Close g c =
+pub returns-in-Close-clause-ok : goal.returns-in-Close-clause-ok
+returns-in-Close-clause-ok g c =
     subst (λ action. OnOk c.close.result (Acts action c.args.self.now c.close.new.self)) (sym c.in-Close.is) (acts_of _ _ _ _ c.close.result c.close.ensures.written c.close.ensures.held c.close.ensures.rest c.close.ensures.own)
 
-pub returns-in-Wait : goal.returns-in-Wait
-returns-in-Wait g c =
+pub returns-in-Wait-clause-ok : goal.returns-in-Wait-clause-ok
+returns-in-Wait-clause-ok g c =
     subst (λ action. OnOk c.turn_until.result (Acts action c.args.self.now c.turn_until.new.self)) (sym c.in-Wait.is) (acts_while _ _ _ c.turn_until.result c.turn_until.ensures.written c.turn_until.ensures.rest c.turn_until.ensures.own)
 
-pub returns-in-Receive : goal.returns-in-Receive
-returns-in-Receive g c =
+pub returns-in-Receive-clause-ok : goal.returns-in-Receive-clause-ok
+returns-in-Receive-clause-ok g c =
     subst (λ action. OnOk c.turn_until-in-Receive.result (Acts action c.args.self.now c.turn_until-in-Receive.new.self)) (sym c.in-Receive.is)
     (acts_while _ _ _ c.turn_until-in-Receive.result c.turn_until-in-Receive.ensures.written c.turn_until-in-Receive.ensures.rest c.turn_until-in-Receive.ensures.own)
 
-pub returns-in-Fetch : goal.returns-in-Fetch
-returns-in-Fetch g c =
+pub returns-in-Fetch-clause-ok : goal.returns-in-Fetch-clause-ok
+returns-in-Fetch-clause-ok g c =
     subst (λ action. OnOk c.turn_until-in-Fetch.result (Acts action c.args.self.now c.turn_until-in-Fetch.new.self)) (sym c.in-Fetch.is)
     (acts_while _ _ _ c.turn_until-in-Fetch.result c.turn_until-in-Fetch.ensures.written c.turn_until-in-Fetch.ensures.rest c.turn_until-in-Fetch.ensures.own)
 
-pub returns-in-Order : goal.returns-in-Order
-returns-in-Order g c =
+pub returns-in-Order-clause-ok : goal.returns-in-Order-clause-ok
+returns-in-Order-clause-ok g c =
     let self = c.self-in-Order.inside in
     let was = c.self-in-Order.view_is in
     let now : AgentState = record { notes = self.scribe; ends = self.event_loop.holding.held; kept = self.event_loop.kept; order = self.order; peers = c.give_order.new.peers.items; life = self.life } in
@@ -62,8 +62,8 @@ returns-in-Order g c =
     λ i. record { notes = (was i).notes; ends = (was i).ends; kept = (was i).kept; order = (was i).order; peers = (c.give_order.ensures ∙ ap (λ (a : AgentState). with_peer ordered c.in-Order.to.0 a.peers) was) i; life = (was i).life }
     ))
 
-pub returns-in-Event : goal.returns-in-Event
-returns-in-Event g c =
+pub returns-in-Event-clause-ok : goal.returns-in-Event-clause-ok
+returns-in-Event-clause-ok g c =
     let self = c.self-in-Event.inside in
     let was = c.self-in-Event.view_is in
     let now : AgentState = record { notes = self.scribe; ends = self.event_loop.holding.held; kept = self.event_loop.kept; order = self.order; peers = self.peers.items; life = c.live.new.life } in
@@ -72,6 +72,6 @@ returns-in-Event g c =
     λ i. record { notes = (was i).notes; ends = (was i).ends; kept = (was i).kept; order = (was i).order; peers = (was i).peers; life = (c.live.ensures ∙ ap (λ (a : AgentState). option_map (λ p. after p c.in-Event.event) a.life) was) i }
     ))
 
-pub returns-in-Hand : goal.returns-in-Hand
-returns-in-Hand g c =
+pub returns-in-Hand-clause-ok : goal.returns-in-Hand-clause-ok
+returns-in-Hand-clause-ok g c =
     subst (λ action. OnOk c.hand.result (Acts action c.args.self.now c.hand.new.self)) (sym c.in-Hand.is) (hand_acts c.hand.result c.in-Hand.to c.args.self.now c.hand.new.self c.hand.ensures.changes c.hand.ensures.held)
