@@ -152,10 +152,17 @@ brought_none old new looks keeps h left before after Delivered (d, f, middle, (k
       omega (arith, taken, all, split, logged, kept),
 )
 
-brings_as : (old new : HoldingState) (looks : _) (kept keeps : Option DeliveryState) (h left : Notes) (before after : Count) (turn : Turn) (was now : AgentState)
-    → IsTurn {E = LoopError} leaves refuses old new looks kept keeps h left before after (Ok turn) → was.ends ≡ old.held → was.kept ≡ kept → now.ends ≡ new.held → now.kept ≡ keeps → now.notes ≡ left → TurnBrings turn was now
-brings_as old new looks kept keeps h left before after Delivered was now t held_was kept_was held_now kept_now notes = λ none.
-    let (gone, came) = brought_none old new looks keeps h left before after Delivered (subst (λ k. IsTurn {E = LoopError} leaves refuses old new looks k keeps h left before after (Ok Delivered)) (sym kept_was ∙ none) t) in (
+-- no more is held than before
+no_more : (e : ℕ) (old new : HoldingState) (was now : AgentState) → was.ends ≡ old.held → now.ends ≡ new.held → held_in new.held e ≤ held_in old.held e → held_in now.ends e ≤ held_in was.ends e
+no_more e old new was now held_was held_now fewer =
+    let a = ap (λ s. held_in s e) held_was in
+    let b = ap (λ s. held_in s e) held_now in
+    omega (arith, a, b, fewer)
+
+-- What a turn leaves of a loop is what the agent has then.
+brought : (turn : Turn) (old new : HoldingState) (keeps : Option DeliveryState) (left : Notes) (was now : AgentState) → (was.kept ≡ None → (keeps ≡ None) × Brought turn old new left) → was.ends ≡ old.held → now.ends ≡ new.held → now.kept ≡ keeps → now.notes ≡ left → TurnBrings turn was now
+brought Delivered old new keeps left was now gives held_was held_now kept_now notes = λ none.
+    let (gone, came) = gives none in (
       kept_now ∙ gone,
       λ e.
           let a = ap (λ s. held_in s e) held_was in
@@ -164,24 +171,18 @@ brings_as old new looks kept keeps h left before after Delivered was now t held_
           let d = ap (λ (n : Notes). times e n.adopted) notes in
           omega (arith, a, b, c, d),
     )
-brings_as old new looks kept keeps h left before after (Idle busy) was now t held_was kept_was held_now kept_now notes = λ none.
-    let (gone, came) = brought_none old new looks keeps h left before after (Idle busy) (subst (λ k. IsTurn {E = LoopError} leaves refuses old new looks k keeps h left before after (Ok (Idle busy))) (sym kept_was ∙ none) t) in (
-      kept_now ∙ gone,
-      λ e.
-          let a = ap (λ s. held_in s e) held_was in
-          let b = ap (λ s. held_in s e) held_now in
-          let c = came e in
-          omega (arith, a, b, c),
-    )
-brings_as old new looks kept keeps h left before after Ending was now t held_was kept_was held_now kept_now notes = λ none.
-    let (gone, came) = brought_none old new looks keeps h left before after Ending (subst (λ k. IsTurn {E = LoopError} leaves refuses old new looks k keeps h left before after (Ok Ending)) (sym kept_was ∙ none) t) in (
-      kept_now ∙ gone,
-      λ e.
-          let a = ap (λ s. held_in s e) held_was in
-          let b = ap (λ s. held_in s e) held_now in
-          let c = came e in
-          omega (arith, a, b, c),
-    )
+brought (Idle busy) old new keeps left was now gives held_was held_now kept_now notes = λ none.
+    let (gone, came) = gives none in
+    (kept_now ∙ gone, λ e. no_more e old new was now held_was held_now (came e))
+brought Ending old new keeps left was now gives held_was held_now kept_now notes = λ none.
+    let (gone, came) = gives none in
+    (kept_now ∙ gone, λ e. no_more e old new was now held_was held_now (came e))
+
+brings_as : (old new : HoldingState) (looks : _) (kept keeps : Option DeliveryState) (h left : Notes) (before after : Count) (turn : Turn) (was now : AgentState)
+    → IsTurn {E = LoopError} leaves refuses old new looks kept keeps h left before after (Ok turn) → was.ends ≡ old.held → was.kept ≡ kept → now.ends ≡ new.held → now.kept ≡ keeps → now.notes ≡ left → TurnBrings turn was now
+brings_as old new looks kept keeps h left before after turn was now t held_was kept_was held_now kept_now notes =
+    let gives = λ (none : was.kept ≡ None). brought_none old new looks keeps h left before after turn (subst (λ k. IsTurn {E = LoopError} leaves refuses old new looks k keeps h left before after (Ok turn)) (sym kept_was ∙ none) t) in
+    brought turn old new keeps left was now gives held_was held_now kept_now notes
 
 -- what a turn brings, where it is no error
 pub turn_brings : (old new : HoldingState) (looks : _) (kept keeps : Option DeliveryState) (h left : Notes) (before after : Count) (result : Result Turn LoopError) (was now : AgentState)

@@ -80,23 +80,6 @@ takes_more : (ports : List PortSeat) (old out less : Slab Held) (p : PortSeat) �
 takes_more [] old out less p same more = (less, subst (λ (s : Slab Held). HoldsMore less s (held.Port p)) same more, refl)
 takes_more (q ∷ ports) old out less p (mid, one, rest) more = (mid, one, takes_more ports mid out less p rest more)
 
--- How many ends of a number are held, by these ports.
-each_held : (e : ℕ) (ports : List PortSeat) (old new : Slab Held) → HoldsEach ports old new → held_in new e ≡ held_in old e + times e (ends_of ports)
-each_held e [] old new same = let a = ap (λ s. held_in s e) same in omega (arith, a)
-each_held e (p ∷ ports) old new (more, one, rest) =
-    let a = count_held e old more (held.Port p) one in
-    let b = each_held e ports more new rest in
-    let c = times_cons e (end_of p) (ends_of ports) in
-    omega (arith, a, b, c)
-
-out_held : (e : ℕ) (ports : List PortSeat) (old new : Slab Held) → TakesOut ports old new → held_in old e ≡ held_in new e + times e (ends_of ports)
-out_held e [] old new same = let a = ap (λ s. held_in s e) same in omega (arith, a)
-out_held e (p ∷ ports) old new (less, one, rest) =
-    let a = count_held e less old (held.Port p) one in
-    let b = out_held e ports less new rest in
-    let c = times_cons e (end_of p) (ends_of ports) in
-    omega (arith, a, b, c)
-
 passing_ends : (e : ℕ) (slots : List (Option Held)) → count_by (passes (λ h. is_held e (Some h))) slots ≡ count_by (is_held e) slots
 passing_ends e [] = refl
 passing_ends e (None ∷ rest) =
@@ -110,13 +93,39 @@ passing_ends e (Some h ∷ rest) =
     let c = passing_ends e rest in
     omega (arith, a, b, c)
 
+-- so many of these ports have the number
+ports_held : (e : ℕ) (ports : List PortSeat) → among_ports (λ h. is_held e (Some h)) ports ≡ times e (ends_of ports)
+ports_held e [] = refl
+ports_held e (p ∷ ports) =
+    let a = count_cons (λ (q : PortSeat). is_held e (Some (held.Port q))) p ports in
+    let b = ports_held e ports in
+    let c = times_cons e (end_of p) (ends_of ports) in
+    omega (arith, a, b, c)
+
+-- How many ends of a number are held, by these ports.
+each_held : (e : ℕ) (ports : List PortSeat) (old new : Slab Held) → HoldsEach ports old new → held_in new e ≡ held_in old e + times e (ends_of ports)
+each_held e ports old new holds =
+    let a = each_among (λ h. is_held e (Some h)) ports old new holds in
+    let b = passing_ends e old.slots in
+    let c = passing_ends e new.slots in
+    let d = ports_held e ports in
+    omega (arith, a, b, c, d)
+
+out_held : (e : ℕ) (ports : List PortSeat) (old new : Slab Held) → TakesOut ports old new → held_in old e ≡ held_in new e + times e (ends_of ports)
+out_held e ports old new taken =
+    let a = out_among (λ h. is_held e (Some h)) ports old new taken in
+    let b = passing_ends e old.slots in
+    let c = passing_ends e new.slots in
+    let d = ports_held e ports in
+    omega (arith, a, b, c, d)
+
 alike_held : (e : ℕ) (old new : Slab Held) → HoldsAlike old new → held_in new e ≡ held_in old e
 alike_held e old new alike = sym (passing_ends e new.slots) ∙ alike (λ h. is_held e (Some h)) ∙ passing_ends e old.slots
 
 -- a line is no end
-lined_held : (e : ℕ) (old new : Slab Held) → HasLine old new → held_in new e ≡ held_in old e
-lined_held e old new (inl same) = ap (λ s. held_in s e) same
-lined_held e old new (inr (line, more)) = let a = count_held e old new (held.Line line) more in omega (arith, a)
+lined_held : (queue : EndId) (e : ℕ) (old new : Slab Held) → HasLine queue old new → held_in new e ≡ held_in old e
+lined_held queue e old new (inl same) = ap (λ s. held_in s e) same
+lined_held queue e old new (inr (line, to, more)) = let a = count_held e old new (held.Line line) more in omega (arith, a)
 
 -- the ports are held besides, one after another, unless one isn't
 pub one_more : {E : Type 0} (r was now : Result (Unit {0}) E) (first b c : Slab Held) (port : PortSeat) (before after all : List PortSeat) → now ≡ result_and r was → before ≡ port ∷ after → OnOk r (HoldsMore b c (held.Port port))
@@ -186,7 +195,7 @@ post_acts (Err x) port body transfer before now posts keeps = tt
 
 pub send_acts : {X E : Type 0} (r : Result X E) (queue : EndId) (body : List ℕ) (transfer : List EndId) (before now : AgentState) → OnOk r (SendsTo queue transfer body before.ends now.ends before.notes now.notes) → KeepsElse before now → OnOk r (Acts (Send queue body transfer) before now)
 send_acts (Ok x) queue body transfer before now (lined, line, posts) keeps =
-    let (logged, accounts) = post_told (way.Line queue) transfer body lined before now posts (λ e. lined_held e before.ends lined line) (ap (λ (a : AgentState). a.kept) keeps) in
+    let (logged, accounts) = post_told (way.Line queue) transfer body lined before now posts (λ e. lined_held queue e before.ends lined line) (ap (λ (a : AgentState). a.kept) keeps) in
     (logged, (keeps, (lined, line, posts)), accounts)
 send_acts (Err x) queue body transfer before now sends keeps = tt
 
@@ -218,10 +227,10 @@ has_settled (Ok x) w listed transfer agent copy body ports back answer old out l
 has_settled (Err x) w listed transfer agent copy body ports back answer old out lent sent new before was wrote now are list whose same taken is sends came holds first written last = tt
 
 -- No line could be had, so nothing was sent.
-pub no_line : (queue : EndId) (transfer : List EndId) (body : List ℕ) (old new : Slab Held) (before now : Notes) → HasLine old new → HoldsNoLine new queue → now ≡ before → SendsTo queue transfer body old new before now
+pub no_line : (queue : EndId) (transfer : List EndId) (body : List ℕ) (old new : Slab Held) (before now : Notes) → HasLine queue old new → HoldsNoLine new queue → now ≡ before → SendsTo queue transfer body old new before now
 no_line queue transfer body old new before now line none same = (new, line, inr (writes_same before now same, (λ test. refl), ([], new, refl, inr none)))
 
-pub sent_over : {X E : Type 0} (r : Result X E) (queue : EndId) (transfer : List EndId) (body : List ℕ) (old lined new : Slab Held) (before was now : Notes) → HasLine old lined → was ≡ before → OnOk r (PostsOver (way.Line queue) transfer body lined new was now) → OnOk r (SendsTo queue transfer body old new before now)
+pub sent_over : {X E : Type 0} (r : Result X E) (queue : EndId) (transfer : List EndId) (body : List ℕ) (old lined new : Slab Held) (before was now : Notes) → HasLine queue old lined → was ≡ before → OnOk r (PostsOver (way.Line queue) transfer body lined new was now) → OnOk r (SendsTo queue transfer body old new before now)
 sent_over (Ok x) queue transfer body old lined new before was now line same posts = (lined, line, subst (λ (n : Notes). PostsOver (way.Line queue) transfer body lined new n now) same posts)
 sent_over (Err x) queue transfer body old lined new before was now line same posts = tt
 

@@ -50,9 +50,9 @@ passes test (Some h) = test h
 abbrev pub HoldsAlike : Slab Held → Slab Held → Type 0
 HoldsAlike old new = (test : Held → Bool) → count_by (passes test) new.slots ≡ count_by (passes test) old.slots
 
--- A line is held besides, or the same is held.
-abbrev pub HasLine : Slab Held → Slab Held → Type 0
-HasLine old new = (new ≡ old) ⊎ ((line : StandSeat) × HoldsMore old new (held.Line line))
+-- A line to the queue is held besides, or the same is held.
+abbrev pub HasLine : EndId → Slab Held → Slab Held → Type 0
+HasLine queue old new = (new ≡ old) ⊎ ((line : StandSeat) × (line.name.end ≡ queue) × HoldsMore old new (held.Line line))
 
 -- no end of this number is held, or one that is no port
 abbrev pub LacksPort : Slab Held → EndId → Type 0
@@ -101,4 +101,4 @@ PostsOver w transfer body old new before now = HasSent w transfer body old new b
 -- a send to the queue, over a line that the agent may have got before
 abbrev pub SendsTo : EndId → List EndId → List ℕ → Slab Held → Slab Held → Notes → Notes → Type 0
 SendsTo queue transfer body old new before now =
-    (lined : Slab Held) × HasLine old lined × PostsOver (way.Line queue) transfer body lined new before now
+    (lined : Slab Held) × HasLine queue old lined × PostsOver (way.Line queue) transfer body lined new before now

@@ -1,9 +1,9 @@
-//! An agent of a run of a script: its event loop, what each of its actions does, and the log that it
-//! keeps.
+//! An agent of a run of a script: its event loop, what each of its actions does, and the log that
+//! it keeps.
 //!
-//! It does its actions in order, takes turns where it waits, and ends its loop after its last action
-//! or an order. Where memory runs out it gives all agents the order to end, so that none waits for
-//! it.
+//! It does its actions in order, takes turns where it waits, and ends its loop after its last
+//! action or an order. Where memory runs out it gives all agents the order to end, so that none
+//! waits for it.
 #![tactic(auto)]
 
 mod acting;

@@ -211,7 +211,7 @@ impl<'s, C: Checkpoint> Agent<'s, C> {
     // Holds a line to a queue, unless it does. False where the directory lends none.
     fn take_line<R: Wait>(&mut self, rt: &R, queue: EndId) -> Result<bool, OutOfMemory>
         ensures same { KeepsButEnds self.old self.new }
-        ensures held { OnOk result (HasLine self.old.ends self.new.ends) }
+        ensures held { OnOk result (HasLine queue self.old.ends self.new.ends) }
         ensures none { IfOk result (λ has. has ≡ false → HoldsNoLine self.new.ends queue) }
     {
         if self.event_loop.has_line(queue) {
