@@ -1,15 +1,16 @@
 -- Broadcast channels: what their steps are answered, and the roster that they and the other steps leave.
-use Rattle.std.proofs.Common.{◌≡◌, ℕ, ◌+◌, ◌<◌, ◌≤◌, Bool, true, false, cond, eqb, List, [], ◌∷◌, ◌++◌, length, map, Option, Some, None, refl, sym, ap, subst, ◌∙◌, arith, rules, inl, inr, ◌&&◌, not, nat_lt, ne_eqb, ltb-true, ltb-false, append-nil, length-append}
-use Rattle.hub_core.proofs.Words.{◌==◌, AllByRecursion, filter, slice_get, get, insert_key, nat_cmp, false≢true, eqb-true, eqb-false, nat_tests, AgentId, EndId, Group, Kind, Port, Client, Worker, Member, Roster, Sender, Action, Outcome, Facts, facts, Answers, CastNow, RosterNow, is_same_group, is_of_group, has_end, group_named, cast_to}
-use Rattle.hub_core.proofs.Words.{cast_after, Sound, SoundPlaces, IsMemberNow, ShowsRoster, destinations, destinations_of, is_casting, part_answer, IsFirst, JoinsGroup, MemberLeaves, PartLeaves, SameRoster, group_of, is_in, is_seated_in, kept_destinations, numbers_of, numbers_with, origin_at, others_of, parted, seated_without}
-use Rattle.hub_core.proofs.Words.{slice_get_past, is_client, is_worker, agent_answer}
+use Rattle.std.proofs.Common.{Bool, List, None, Option, Some, [], ap, append-nil, arith, cond, eqb, false, length, length-append, ltb-false, ltb-true, map, nat_lt, ne_eqb, not, refl, rules, subst, sym, true, ℕ, ◌&&◌, ◌++◌, ◌+◌, ◌<◌, ◌∙◌, ◌∷◌, ◌≡◌, ◌≤◌}
+use Rattle.hub_core.proofs.Words.{Action, AgentId, AllByRecursion, Answers, CastNow, Client, EndId, Facts, Group, IsFirst, IsMemberNow, JoinsGroup, Kind, Member, MemberLeaves, Outcome, PartLeaves, Port, Roster, RosterNow, SameRoster, Sender}
+use Rattle.hub_core.proofs.Words.{ShowsRoster, Sound, SoundPlaces, Worker, agent_answer, agents_after, cast_after, cast_to, destinations, destinations_of, ends, eqb-false, eqb-true, facts, false≢true, filter, get, group_named, group_of, has_end, insert_key, is_casting}
+use Rattle.hub_core.proofs.Words.{is_in, is_of_group, is_same_group, is_seated_in, kept_destinations, kind_after, leaves, nat_cmp, nat_tests, numbers, numbers_of, numbers_with, origin_at, others_of, part_answer, parted, roster_after, seated_without, slice_get, slice_get_past, ◌==◌}
 use Rattle.hub_core.specs.declared.step.Action.TheVariants as action
 use Rattle.hub_core.specs.declared.outcome.Outcome.TheVariants as outcome
-use Rattle.hub_core.proofs.Lists.{eqb_same, slice_get-append_front, slice_get-append_back, next_up}
-use Rattle.hub_core.proofs.Seats.{group_same, group_flips, insert_last, numbers_more, numbers_below, numbers_same, numbers_less, is_in_with, others_with, all_more, all_without, all_at}
-use Rattle.hub_core.proofs.Fitting.{new_agent, new_ends, queue_made_of, member_made_of}
-use Rattle.hub_core.proofs.Nexts.{next, effect, Change, agent_made, channel_made, let_in, found_moved, found_closed, put, left, started, got, hopped, went_on, cleared, adopted, notice_put, end_closed, end_swept, client_made, worker_made, line_got, line_back, handed, agent_ordered, agent_ended, member_joined, cast_begun, member_parted}
-use Rattle.hub_core.proofs.Speakers.{kind_made, old_end, old_one}
+use Rattle.hub_core.proofs.Away.{kind_next}
+use Rattle.hub_core.proofs.Fitting.{member_made_of, new_agent}
+use Rattle.hub_core.proofs.Lists.{eqb_same, next_up, slice_get-append_back, slice_get-append_front}
+use Rattle.hub_core.proofs.Nexts.{next}
+use Rattle.hub_core.proofs.Seats.{all_at, all_more, all_without, group_flips, group_same, insert_last, is_in_with, numbers_below, numbers_less, numbers_more, numbers_same, others_with}
+use Rattle.hub_core.proofs.Speakers.{kind_made, old_one}
 
 -- ---- the first roster
 
@@ -71,68 +72,37 @@ record Stays (f g : Facts) : Type 0 where
   kept : (x : ℕ) (k : Kind) → (f.end x).kind ≡ Some k → (g.end x).kind ≡ Some k
   old : (x : ℕ) (a : AgentId) → (g.end x).kind ≡ Some (Member a) → (f.end x).kind ≡ Some (Member a)
 
-still : (f g : Facts) → g.roster ≡ f.roster → g.agents ≡ f.agents → ((x : ℕ) → (g.end x).kind ≡ (f.end x).kind) → Stays f g
-still f g roster agents kinds = record { roster = roster; agents = agents; kept = λ x k is. kinds x ∙ is; old = λ x a is. sym (kinds x) ∙ is }
-
 -- an end that isn't the new one
 not_new : (b : Bool) (u : Kind) (p : Option Kind) (a : AgentId) → (Some u ≡ Some (Member a) → ⊥) → cond b (Some u) p ≡ Some (Member a) → p ≡ Some (Member a)
 not_new true u p a other is = absurd (other is)
 not_new false u p a other is = is
 
-stays_by : (f : Facts) {a : Action} (refused : Bool) {o : Outcome} → Sound f → Answers f a refused o → Change a o → leaves_roster a ≡ true → Stays f (next f a o)
-stays_by f refused h fits (agent_made origin n) leaves = absurd (false≢true leaves)
-stays_by f refused h fits (member_joined a name e) leaves = absurd (false≢true leaves)
-stays_by f refused h fits (left s) leaves = absurd (false≢true leaves)
-stays_by f refused h fits (cast_begun e ports body ends) leaves = absurd (false≢true leaves)
-stays_by f refused h fits (member_parted e) leaves = absurd (false≢true leaves)
-stays_by f refused h fits (channel_made c e e') leaves =
-    let made = new_ends f c refused e e' fits in
-    record {
-      roster = refl;
-      agents = refl;
-      kept = λ x k is. let old = old_end f e e' x made.1 made.2 (kind_made f x k h.places is) in rw (old.0, old.1) is;
-      old = λ x a is. not_new (eqb x e'.0) (Port e) (f.end x).kind a (λ no. cc) (not_new (eqb x e.0) (Port e') (cond (eqb x e'.0) (Some (Port e)) (f.end x).kind) a (λ no. cc) is);
-    }
-stays_by f refused h fits (client_made c e) leaves =
-    let made = queue_made_of f is_client c refused e fits in
-    record {
-      roster = refl;
-      agents = refl;
-      kept = λ x k is. rw (old_one f e x made.number (kind_made f x k h.places is)) is;
-      old = λ x a is. not_new (eqb x e.0) Client (f.end x).kind a (λ no. cc) is;
-    }
-stays_by f refused h fits (worker_made c e) leaves =
-    let made = queue_made_of f is_worker c refused e fits in
-    record {
-      roster = refl;
-      agents = refl;
-      kept = λ x k is. rw (old_one f e x made.number (kind_made f x k h.places is)) is;
-      old = λ x a is. not_new (eqb x e.0) Worker (f.end x).kind a (λ no. cc) is;
-    }
-stays_by f refused h fits (line_got e a l) leaves = still f (next f (action.Line e a) (outcome.Line l)) refl refl (λ x. refl)
-stays_by f refused h fits (line_back t) leaves = still f (next f (action.Back t) outcome.Done) refl refl (λ x. refl)
-stays_by f refused h fits (handed e c) leaves = still f (next f (action.Hand e c) outcome.Handed) refl refl (λ x. refl)
-stays_by f refused h fits (agent_ordered a) leaves = still f (next f (action.Order a) outcome.Ordered) refl refl (λ x. refl)
-stays_by f refused h fits (agent_ended a es) leaves = still f (next f (action.See a) (outcome.Ending es)) refl refl (λ x. refl)
-stays_by f refused h fits (let_in t) leaves = still f (next f (action.Enter t) outcome.In) refl refl (λ x. refl)
-stays_by f refused h fits (found_moved t) leaves = still f (next f (action.Enter t) outcome.Moved) refl refl (λ x. refl)
-stays_by f refused h fits (found_closed t) leaves = still f (next f (action.Enter t) outcome.Closed) refl refl (λ x. refl)
-stays_by f refused h fits (put t ports body n) leaves = still f (next f (action.Push t ports body) (outcome.Accepted n)) refl refl (λ x. refl)
-stays_by f refused h fits (notice_put t n) leaves = still f (next f (action.Notice t) (outcome.Accepted n)) refl refl (λ x. refl)
-stays_by f refused h fits (hopped t n) leaves = still f (next f (action.Hop t) (outcome.Hopped n)) refl refl (λ x. refl)
-stays_by f refused h fits (started e) leaves = still f (next f (action.Start e) outcome.Started) refl refl (λ x. refl)
-stays_by f refused h fits (got e v) leaves = still f (next f (action.Take e) (outcome.Got v)) refl refl (λ x. refl)
-stays_by f refused h fits (went_on e) leaves = still f (next f (action.Take e) outcome.Again) refl refl (λ x. refl)
-stays_by f refused h fits (cleared e n) leaves = still f (next f (action.Look e) (outcome.Clear (Some n))) refl refl (λ x. refl)
-stays_by f refused h fits (adopted e a n) leaves = still f (next f (action.Adopt e a) (outcome.Adopted n)) refl refl (λ x. refl)
-stays_by f refused h fits (end_closed e) leaves = still f (next f (action.Close e) outcome.Done) refl refl (λ x. refl)
-stays_by f refused h fits (end_swept e vs) leaves = still f (next f (action.Sweep e) (outcome.Discarded vs)) refl refl (λ x. refl)
+same_roster : (r : RosterNow) (o : Outcome) (a : Action) → leaves_roster a ≡ true → roster_after r o a ≡ r
+same_roster r (outcome.Agent n) (action.Agent origin) leaves = absurd (false≢true leaves)
+same_roster r (outcome.End e) (action.Member a name) leaves = absurd (false≢true leaves)
+same_roster r (outcome.Destinations ends) (action.Cast e ports body) leaves = absurd (false≢true leaves)
+same_roster r outcome.Left (action.Leave s) leaves = absurd (false≢true leaves)
+same_roster r outcome.Done (action.Part e) leaves = absurd (false≢true leaves)
+same_roster r o a leaves = refl
+
+same_agents : (n : ℕ) (o : Outcome) (a : Action) → leaves_roster a ≡ true → agents_after n o a ≡ n
+same_agents n (outcome.Agent b) (action.Agent origin) leaves = absurd (false≢true leaves)
+same_agents n o a leaves = refl
+
+old_member : (x : ℕ) (p : Option Kind) (o : Outcome) (a : Action) → leaves_roster a ≡ true → (b : AgentId) → kind_after x p o a ≡ Some (Member b) → p ≡ Some (Member b)
+old_member x p (outcome.Ends e e') (action.Channel a) leaves b is = not_new (eqb x e'.0) (Port e) p b (λ no. cc) (not_new (eqb x e.0) (Port e') (cond (eqb x e'.0) (Some (Port e)) p) b (λ no. cc) is)
+old_member x p (outcome.End e) (action.Client a) leaves b is = not_new (eqb x e.0) Client p b (λ no. cc) is
+old_member x p (outcome.End e) (action.Worker a) leaves b is = not_new (eqb x e.0) Worker p b (λ no. cc) is
+old_member x p (outcome.End e) (action.Member a name) leaves b is = absurd (false≢true leaves)
+old_member x p o a leaves b is = is
 
 stays : (f : Facts) (a : Action) (refused : Bool) (o : Outcome) → Sound f → Answers f a refused o → leaves_roster a ≡ true → Stays f (next f a o)
-stays f a refused o h fits leaves = elim (effect o a) [
-  | inl quiet ↦ still f (next f a o) (ap (λ (g : Facts). g.roster) (quiet.0 f)) (ap (λ (g : Facts). g.agents) (quiet.0 f)) (λ x. ap (λ (g : Facts). (g.end x).kind) (quiet.0 f))
-  | inr change ↦ stays_by f refused h fits change leaves
-]
+stays f a refused o h fits leaves = record {
+  roster = same_roster f.roster o a leaves;
+  agents = same_agents f.agents o a leaves;
+  kept = λ x k is. kind_next f refused o a fits x (kind_made f x k h.places is) ∙ is;
+  old = λ x b is. old_member x (f.end x).kind o a leaves b is;
+}
 
 -- the members where what is said of them stays
 members_still : (f g : Facts) → ((x : ℕ) (k : Kind) → (f.end x).kind ≡ Some k → (g.end x).kind ≡ Some k) → ((x : ℕ) (a : AgentId) → (f.end x).kind ≡ Some (Member a) → g.roster.group x ≡ f.roster.group x) → (ys : List EndId) → AllByRecursion (IsMemberNow f) ys → AllByRecursion (IsMemberNow g) ys

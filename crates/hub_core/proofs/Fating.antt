@@ -1,19 +1,19 @@
 -- What becomes of each accepted envelope of a legal history.
-use Rattle.std.proofs.Common.{◌≡◌, ℕ, zero, suc, ◌+◌, ◌≤◌, Bool, true, false, cond, eqb, List, [], ◌∷◌, ◌++◌, refl, sym, ap, subst, ◌∙◌, arith, append-nil, append_assoc, ◌&&◌}
-use Rattle.hub_core.proofs.Words.{false≢true, false_from_ne_true, and_parts, eqb-true, filter-append, EndId, Envelope, Phase, Out, Inside, Turned, Sender, Action, Outcome, Pair, History, Facts, facts, Answers, Fits, Legal, accepted, taken, discarded, ends, on_line, names, place, by, phase_of_line, is_inside, total, naming, flights}
-use Rattle.hub_core.proofs.Words.{Sound, NoticeIsLast, waiting, sweep_of, Fates}
+use Rattle.std.proofs.Common.{Bool, List, [], ap, append-nil, append_assoc, arith, cond, eqb, false, refl, subst, suc, sym, true, zero, ℕ, ◌&&◌, ◌++◌, ◌+◌, ◌∙◌, ◌∷◌, ◌≡◌, ◌≤◌}
+use Rattle.hub_core.proofs.Words.{Action, Answers, EndId, Envelope, Facts, Fates, Fits, History, Inside, Legal, NoticeIsLast, Out, Outcome, Pair, Phase, Sender, Sound, Turned, accepted, and_parts, by, discarded}
+use Rattle.hub_core.proofs.Words.{ends, eqb-true, facts, false_from_ne_true, false≢true, filter-append, flights, is_inside, names, naming, on_line, opened, phase_of_line, place, sweep_of, taken, total, waiting}
 use Rattle.hub_core.specs.declared.step.Action.TheVariants as action
 use Rattle.hub_core.specs.declared.outcome.Outcome.TheVariants as outcome
-use Rattle.hub_core.proofs.Nexts.{next, facts_next, by_change, Change, agent_made, channel_made, let_in, found_moved, found_closed, put, notice_put, left, hopped, started, got, went_on, cleared, adopted, end_closed, end_swept, client_made, worker_made, line_got, line_back, handed, agent_ordered, agent_ended, member_joined, cast_begun, member_parted}
+use Rattle.hub_core.proofs.Fitting.{SweptWith, got_of, let_in_of, noticed_of, pushed_of, swept_of}
+use Rattle.hub_core.proofs.Joins.{nothing_more, nothing_there}
 use Rattle.hub_core.proofs.Legals.{by_pairs, legal_at}
 use Rattle.hub_core.proofs.Lists.{eqb_same}
-use Rattle.hub_core.proofs.Totals.{total_same, count_append, count_lines}
-use Rattle.hub_core.proofs.Joins.{nothing_there, nothing_more}
-use Rattle.hub_core.proofs.Fitting.{let_in_of, pushed_of, noticed_of, got_of, SweptWith, swept_of}
+use Rattle.hub_core.proofs.Names.{AreDistinct, distinct, rest_left, two_names}
+use Rattle.hub_core.proofs.Nexts.{facts_next, next}
 use Rattle.hub_core.proofs.SoundWaiting.{inside_of, nobody_there}
 use Rattle.hub_core.proofs.Sounds.{sound_legal}
-use Rattle.hub_core.proofs.Names.{AreDistinct, distinct, two_names, rest_left}
 use Rattle.hub_core.proofs.Speakers.{nothing_accepted}
+use Rattle.hub_core.proofs.Totals.{count_append, count_lines, total_same}
 
 -- ---- taken, discarded and waiting
 
@@ -118,37 +118,21 @@ module _ (f : Facts) (x : ℕ) (whole : List Envelope) (h : QuietAt f x whole) w
   }
 
 -- it stays so with every pair that fits
-quiet_change : (f : Facts) {a : Action} (refused : Bool) {o : Outcome} (x : ℕ) (whole : List Envelope) → QuietAt f x whole → Answers f a refused o → Change a o → QuietAt (next f a o) x whole
-quiet_change f refused x whole h fits (agent_made origin n) = h
-quiet_change f refused x whole h fits (channel_made a e e') = h
-quiet_change f refused x whole h fits (client_made a e) = h
-quiet_change f refused x whole h fits (worker_made a e) = h
-quiet_change f refused x whole h fits (line_got e a l) = h
-quiet_change f refused x whole h fits (line_back s) = h
-quiet_change f refused x whole h fits (handed e b) = h
-quiet_change f refused x whole h fits (agent_ordered a) = h
-quiet_change f refused x whole h fits (member_joined a name e) = h
-quiet_change f refused x whole h fits (cast_begun e ports body ends) = h
-quiet_change f refused x whole h fits (member_parted e) = h
-quiet_change f refused x whole h fits (agent_ended a es) = h
-quiet_change f refused x whole h fits (let_in s) = quiet_phased f x whole h s Inside (λ _. not_open f x whole h s.end.0 (let_in_of f s fits).2)
-quiet_change f refused x whole h fits (found_moved s) = quiet_phased f x whole h s Turned (λ is. cc)
-quiet_change f refused x whole h fits (found_closed s) = quiet_phased f x whole h s Turned (λ is. cc)
-quiet_change f refused x whole h fits (put s ports body n) = quiet_put f x whole h (eqb x s.end.0) _ (not_inside f x whole h s (pushed_of f s ports body refused n fits).inside)
-quiet_change f refused x whole h fits (notice_put s n) = quiet_put f x whole h (eqb x s.end.0) _ (not_inside f x whole h s (noticed_of f s refused n fits).inside)
-quiet_change f refused x whole h fits (left s) = quiet_phased f x whole h s Out (λ is. cc)
-quiet_change f refused x whole h fits (hopped s k) = h
-quiet_change f refused x whole h fits (started e) = h
-quiet_change f refused x whole h fits (got e v) = quiet_got f x whole h (eqb x e.0) _ (not_open f x whole h e.0 (got_of f e v fits).is_open)
-quiet_change f refused x whole h fits (went_on e) = h
-quiet_change f refused x whole h fits (cleared e k) = h
-quiet_change f refused x whole h fits (adopted e a k) = h
-quiet_change f refused x whole h fits (end_closed e) = quiet_closed f x whole h (eqb x e.0)
-quiet_change f refused x whole h fits (end_swept e vs) = quiet_swept f x whole h e vs (eqb x e.0) (swept_of f e vs fits) refl
+quiet_next : (f : Facts) (refused : Bool) (x : ℕ) (whole : List Envelope) → QuietAt f x whole → (o : Outcome) (a : Action) → Answers f a refused o → QuietAt (next f a o) x whole
+quiet_next f refused x whole h outcome.In (action.Enter s) fits = quiet_phased f x whole h s Inside (λ _. not_open f x whole h s.end.0 (let_in_of f s fits).2)
+quiet_next f refused x whole h outcome.Moved (action.Enter s) fits = quiet_phased f x whole h s Turned (λ is. cc)
+quiet_next f refused x whole h outcome.Closed (action.Enter s) fits = quiet_phased f x whole h s Turned (λ is. cc)
+quiet_next f refused x whole h (outcome.Accepted n) (action.Push s ports body) fits = quiet_put f x whole h (eqb x s.end.0) _ (not_inside f x whole h s (pushed_of f s ports body refused n fits).inside)
+quiet_next f refused x whole h (outcome.Accepted n) (action.Notice s) fits = quiet_put f x whole h (eqb x s.end.0) _ (not_inside f x whole h s (noticed_of f s refused n fits).inside)
+quiet_next f refused x whole h outcome.Left (action.Leave s) fits = quiet_phased f x whole h s Out (λ is. cc)
+quiet_next f refused x whole h (outcome.Got v) (action.Take e) fits = quiet_got f x whole h (eqb x e.0) _ (not_open f x whole h e.0 (got_of f e v fits).is_open)
+quiet_next f refused x whole h outcome.Done (action.Close e) fits = quiet_closed f x whole h (eqb x e.0)
+quiet_next f refused x whole h (outcome.Discarded vs) (action.Sweep e) fits = quiet_swept f x whole h e vs (eqb x e.0) (swept_of f e vs fits) refl
+quiet_next f refused x whole h o a fits = h
 
 quiet_more : (h : History) (p : Pair) (x : ℕ) (whole : List Envelope) → QuietAt (facts h) x whole → Fits h p → QuietAt (facts (h ++ p ∷ [])) x whole
 quiet_more h p x whole quiet fits =
-    subst (λ f. QuietAt f x whole) (sym (facts_next h p)) (by_change (λ f. QuietAt f x whole) (facts h) p.0.action p.1 quiet (λ change. quiet_change (facts h) p.0.memory_refused x whole quiet fits change))
+    subst (λ f. QuietAt f x whole) (sym (facts_next h p)) (quiet_next (facts h) p.0.memory_refused x whole quiet p.1 p.0.action fits)
 
 -- and a Sweep that was answered Discarded leaves its end so
 quiet_first : (f : Facts) (e : EndId) (vs : List Envelope) → Sound f → SweptWith f e vs → QuietAt (next f (action.Sweep e) (outcome.Discarded vs)) e.0 (f.accepted e.0)

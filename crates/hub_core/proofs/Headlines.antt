@@ -1,18 +1,19 @@
 -- What every legal history keeps: the headline, and the laws beside it.
-use Rattle.std.proofs.Common.{◌≡◌, ℕ, zero, suc, ◌+◌, ◌<◌, Bool, true, false, cond, eqb, ltb, get_or, List, [], ◌∷◌, ◌++◌, length, map, refl, sym, ap, subst, ◌∙◌, inl, inr, arith, rules, length-append, ◌&&◌, not, ◌||◌}
-use Rattle.hub_core.proofs.Words.{is_some, MatchBool, filter, AllByRecursion, nat_tests, false≢true, eqb-true, and_parts, not-true, filter-append, map-append, get_or_append_left, ext_get_or, get_or-append_seam, EndId, Envelope, Phase, Out, Inside, Turned, Sender, Action, Outcome, Pair, History, Facts, facts, Answers, LegalAfter, Legal}
-use Rattle.hub_core.proofs.Words.{accepted, taken, by, Prefix, is_out, is_inside, poster, phase_of_line, hears_notice, up_to, numbers, Sound, take_of, enter_of, is_line, leaves, posts, IsTurned, IsDrainedAt, Headline, IsBusyAt, KeepsTheLine, TurnedPutsNothing, SameIsJoined, lines_of, discarded, someone_at, is_away_at}
+use Rattle.std.proofs.Common.{Bool, List, [], ap, arith, cond, eqb, false, get_or, inl, inr, length, length-append, ltb, map, not, refl, rules, subst, suc, sym, true, zero, ℕ, ◌&&◌, ◌++◌, ◌+◌, ◌<◌, ◌||◌, ◌∙◌, ◌∷◌, ◌≡◌}
+use Rattle.hub_core.proofs.Words.{Action, AllByRecursion, Answers, EndId, Envelope, Facts, Headline, History, Inside, IsBusyAt, IsDrainedAt, IsTurned, KeepsTheLine, Legal, LegalAfter, MatchBool, Out, Outcome, Pair, Phase, Prefix, SameIsJoined}
+use Rattle.hub_core.proofs.Words.{Sender, Sound, Turned, TurnedPutsNothing, accepted, and_parts, by, discarded, enter_of, eqb-true, ext_get_or, facts, false≢true, filter, filter-append, get_or-append_seam, get_or_append_left, hears_notice, is_away_at, is_inside, is_line}
+use Rattle.hub_core.proofs.Words.{is_out, is_some, leaves, lines_of, map-append, nat_tests, not-true, numbers, phase_of_line, poster, posts, someone_at, take_of, taken, up_to}
 use Rattle.hub_core.specs.declared.step.Action.TheVariants as action
 use Rattle.hub_core.specs.declared.outcome.Outcome.TheVariants as outcome
+use Rattle.hub_core.proofs.Away.{speaker_next}
+use Rattle.hub_core.proofs.Fitting.{any_of, busy_of, empty_of, found_closed_of, found_moved_of, let_in_of, noticed_of, pushed_of}
+use Rattle.hub_core.proofs.Legals.{legal_apart, legal_at, legal_joined}
 use Rattle.hub_core.proofs.Lists.{eqb_same}
-use Rattle.hub_core.proofs.Nexts.{next, facts_next, effect, Change, agent_made, channel_made, let_in, found_moved, found_closed, put, left, started, got, hopped, went_on, cleared, adopted, notice_put, end_closed, end_swept, client_made, worker_made, line_got, line_back, handed, agent_ordered, agent_ended, member_joined, cast_begun, member_parted}
-use Rattle.hub_core.proofs.Legals.{legal_apart, legal_joined, legal_at}
-use Rattle.hub_core.proofs.Fitting.{let_in_of, found_moved_of, found_closed_of, pushed_of, empty_of, any_of, busy_of, noticed_of}
-use Rattle.hub_core.proofs.SoundLines.{Numbered, on_place}
-use Rattle.hub_core.proofs.Speakers.{speaker_next}
-use Rattle.hub_core.proofs.Sounds.{sound_legal}
+use Rattle.hub_core.proofs.Nexts.{facts_next, next}
 use Rattle.hub_core.proofs.Sames.{turned_leaves, turned_same}
+use Rattle.hub_core.proofs.SoundLines.{Numbered, on_place}
 use Rattle.hub_core.proofs.SoundWaiting.{taken_prefix}
+use Rattle.hub_core.proofs.Sounds.{sound_legal}
 
 -- ---- a prefix of numbered envelopes is numbered
 
@@ -67,84 +68,29 @@ not_out : (f : Facts) (s t : Sender) → phase_of_line f s ≡ Turned → is_out
 not_out f s t turned out is = absurd (search (rules, false≢true, sym (ap is_out (sym (phase_there f s t is) ∙ turned)) ∙ out))
 
 -- it stays so until it leaves
-stays_turned : (f : Facts) {a : Action} (refused : Bool) {o : Outcome} (s : Sender) → Answers f a refused o → phase_of_line f s ≡ Turned → leaves s o a ≡ false → Change a o → phase_of_line (next f a o) s ≡ Turned
-stays_turned f refused s fits turned stays (agent_made origin n) = turned
-stays_turned f refused s fits turned stays (channel_made a e e') = turned
-stays_turned f refused s fits turned stays (client_made a e) = turned
-stays_turned f refused s fits turned stays (worker_made a e) = turned
-stays_turned f refused s fits turned stays (line_got e a l) = turned
-stays_turned f refused s fits turned stays (line_back t) = turned
-stays_turned f refused s fits turned stays (handed e b) = turned
-stays_turned f refused s fits turned stays (agent_ordered a) = turned
-stays_turned f refused s fits turned stays (member_joined a name e) = turned
-stays_turned f refused s fits turned stays (cast_begun e ports body ends) = turned
-stays_turned f refused s fits turned stays (member_parted e) = turned
-stays_turned f refused s fits turned stays (agent_ended a es) = turned
-stays_turned f refused s fits turned stays (let_in t) = on_line_turned (is_line s t) Inside (phase_of_line f s) (not_out f s t turned (let_in_of f t fits).0.out) turned
-stays_turned f refused s fits turned stays (found_moved t) = on_line_turned (is_line s t) Turned (phase_of_line f s) (not_out f s t turned (found_moved_of f t fits).0.out) turned
-stays_turned f refused s fits turned stays (found_closed t) = on_line_turned (is_line s t) Turned (phase_of_line f s) (not_out f s t turned (found_closed_of f t fits).0.out) turned
-stays_turned f refused s fits turned stays (put t ports body n) = turned
-stays_turned f refused s fits turned stays (notice_put t n) = turned
-stays_turned f refused s fits turned stays (left t) = on_line_turned (is_line s t) Out (phase_of_line f s) (λ is. false≢true (sym stays ∙ is)) turned
-stays_turned f refused s fits turned stays (hopped t k) = turned
-stays_turned f refused s fits turned stays (started e) = turned
-stays_turned f refused s fits turned stays (got e v) = turned
-stays_turned f refused s fits turned stays (went_on e) = turned
-stays_turned f refused s fits turned stays (cleared e k) = turned
-stays_turned f refused s fits turned stays (adopted e a k) = turned
-stays_turned f refused s fits turned stays (end_closed e) = turned
-stays_turned f refused s fits turned stays (end_swept e vs) = turned
-
-turned_next : (f : Facts) (a : Action) (refused : Bool) (o : Outcome) (s : Sender) → Answers f a refused o → phase_of_line f s ≡ Turned → leaves s o a ≡ false → phase_of_line (next f a o) s ≡ Turned
-turned_next f a refused o s fits turned stays = elim (effect o a) [
-  | inl quiet ↦ ap (λ (g : Facts). phase_of_line g s) (quiet.0 f) ∙ turned
-  | inr change ↦ stays_turned f refused s fits turned stays change
-]
+turned_next : (f : Facts) (refused : Bool) (o : Outcome) (a : Action) (s : Sender) → Answers f a refused o → phase_of_line f s ≡ Turned → leaves s o a ≡ false → phase_of_line (next f a o) s ≡ Turned
+turned_next f refused outcome.In (action.Enter t) s fits turned stays = on_line_turned (is_line s t) Inside (phase_of_line f s) (not_out f s t turned (let_in_of f t fits).0.out) turned
+turned_next f refused outcome.Moved (action.Enter t) s fits turned stays = on_line_turned (is_line s t) Turned (phase_of_line f s) (not_out f s t turned (found_moved_of f t fits).0.out) turned
+turned_next f refused outcome.Closed (action.Enter t) s fits turned stays = on_line_turned (is_line s t) Turned (phase_of_line f s) (not_out f s t turned (found_closed_of f t fits).0.out) turned
+turned_next f refused outcome.Left (action.Leave t) s fits turned stays = on_line_turned (is_line s t) Out (phase_of_line f s) (λ is. false≢true (sym stays ∙ is)) turned
+turned_next f refused o a s fits turned stays = turned
 
 -- and posts nothing meanwhile
 posts_inside : (f : Facts) (s t : Sender) → phase_of_line f s ≡ Turned → is_inside (phase_of_line f t) ≡ true → (b : Bool) → is_line s t ≡ b → b ≡ false
 posts_inside f s t turned inside false is = refl
 posts_inside f s t turned inside true is = absurd (search (rules, false≢true, sym (ap is_inside (sym (phase_there f s t is) ∙ turned)) ∙ inside))
 
-no_posts : (f : Facts) {a : Action} (refused : Bool) {o : Outcome} (s : Sender) → Answers f a refused o → phase_of_line f s ≡ Turned → Change a o → posts s o a ≡ false
-no_posts f refused s fits turned (agent_made origin n) = refl
-no_posts f refused s fits turned (channel_made a e e') = refl
-no_posts f refused s fits turned (client_made a e) = refl
-no_posts f refused s fits turned (worker_made a e) = refl
-no_posts f refused s fits turned (line_got e a l) = refl
-no_posts f refused s fits turned (line_back t) = refl
-no_posts f refused s fits turned (handed e b) = refl
-no_posts f refused s fits turned (agent_ordered a) = refl
-no_posts f refused s fits turned (member_joined a name e) = refl
-no_posts f refused s fits turned (cast_begun e ports body ends) = refl
-no_posts f refused s fits turned (member_parted e) = refl
-no_posts f refused s fits turned (agent_ended a es) = refl
-no_posts f refused s fits turned (let_in t) = refl
-no_posts f refused s fits turned (found_moved t) = refl
-no_posts f refused s fits turned (found_closed t) = refl
-no_posts f refused s fits turned (put t ports body n) = posts_inside f s t turned (pushed_of f t ports body refused n fits).inside (is_line s t) refl
-no_posts f refused s fits turned (notice_put t n) = posts_inside f s t turned (noticed_of f t refused n fits).inside (is_line s t) refl
-no_posts f refused s fits turned (left t) = refl
-no_posts f refused s fits turned (hopped t k) = refl
-no_posts f refused s fits turned (started e) = refl
-no_posts f refused s fits turned (got e v) = refl
-no_posts f refused s fits turned (went_on e) = refl
-no_posts f refused s fits turned (cleared e k) = refl
-no_posts f refused s fits turned (adopted e a k) = refl
-no_posts f refused s fits turned (end_closed e) = refl
-no_posts f refused s fits turned (end_swept e vs) = refl
-
-posts_change : (s : Sender) (o : Outcome) (a : Action) → (Change a o → posts s o a ≡ false) → posts s o a ≡ false
-posts_change s (outcome.Accepted n) (action.Push t ports body) h = h (put t ports body n)
-posts_change s (outcome.Accepted n) (action.Notice t) h = h (notice_put t n)
-posts_change s o a h = refl
+no_posts : (f : Facts) (refused : Bool) (o : Outcome) (a : Action) (s : Sender) → Answers f a refused o → phase_of_line f s ≡ Turned → posts s o a ≡ false
+no_posts f refused (outcome.Accepted n) (action.Push t ports body) s fits turned = posts_inside f s t turned (pushed_of f t ports body refused n fits).inside (is_line s t) refl
+no_posts f refused (outcome.Accepted n) (action.Notice t) s fits turned = posts_inside f s t turned (noticed_of f t refused n fits).inside (is_line s t) refl
+no_posts f refused o a s fits turned = refl
 
 turned_on : (past : History) (s : Sender) (middle after : History) → LegalAfter past (middle ++ after) → phase_of_line (facts past) s ≡ Turned → AllByRecursion (λ (p : Pair). leaves s p.1 p.0.action ≡ false) middle → AllByRecursion (λ (p : Pair). posts s p.1 p.0.action ≡ false) middle
 turned_on past s [] after l turned stays = tt
 turned_on past s (p ∷ middle) after l turned stays = (
-  posts_change s p.1 p.0.action (λ change. no_posts (facts past) p.0.memory_refused s l.0 turned change),
+  no_posts (facts past) p.0.memory_refused p.1 p.0.action s l.0 turned,
   turned_on (past ++ p ∷ []) s middle after l.1
-      (ap (λ (f : Facts). phase_of_line f s) (facts_next past p) ∙ turned_next (facts past) p.0.action p.0.memory_refused p.1 s l.0 turned stays.0) stays.1,
+      (ap (λ (f : Facts). phase_of_line f s) (facts_next past p) ∙ turned_next (facts past) p.0.memory_refused p.1 p.0.action s l.0 turned stays.0) stays.1,
 )
 
 same_line : (s : Sender) → is_line s s ≡ true
@@ -223,17 +169,11 @@ headline h l =
 
 -- ---- the laws beside it
 
-kept_next : (f : Facts) (a : Action) (refused : Bool) (o : Outcome) (s : Sender) → Sound f → Answers f a refused o → is_out (phase_of_line f s) ≡ false → is_out (phase_of_line (next f a o) s) ≡ false → is_some (poster f s) ≡ true → poster (next f a o) s ≡ poster f s
-kept_next f a refused o s h fits away after speaks = elim (effect o a) [
-  | inl quiet ↦ ap (λ (g : Facts). poster g s) (quiet.0 f)
-  | inr change ↦ speaker_next f refused h fits change s away after speaks
-]
-
 pub keeps_the_line : KeepsTheLine
 keeps_the_line = record {
   held = λ h s l away. (sound_legal h l).places.away s away;
   kept = λ h p s a l fits away still posts.
-      ap (λ (f : Facts). poster f s) (facts_next h p) ∙ kept_next (facts h) p.0.action p.0.memory_refused p.1 s (sound_legal h l) fits away (ap (λ (f : Facts). is_out (phase_of_line f s)) (sym (facts_next h p)) ∙ still) (ap is_some posts) ∙ posts;
+      ap (λ (f : Facts). poster f s) (facts_next h p) ∙ speaker_next (facts h) p.0.memory_refused (sound_legal h l) p.1 p.0.action fits s away (ap (λ (f : Facts). is_out (phase_of_line f s)) (sym (facts_next h p)) ∙ still) (ap is_some posts) ∙ posts;
 }
 
 turned_push : (inside noticed : Bool) (rest o : Outcome) → inside ≡ false → o ≡ cond (not (inside && not noticed)) outcome.NotNow rest → o ≡ outcome.NotNow

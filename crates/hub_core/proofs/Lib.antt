@@ -8,6 +8,8 @@ pub mod Fitting
 pub mod SoundLines
 pub mod SoundWaiting
 pub mod Speakers
+pub mod Moves
+pub mod Away
 pub mod SoundPlaces
 pub mod SoundShown
 pub mod Sounds

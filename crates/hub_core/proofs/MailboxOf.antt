@@ -171,11 +171,11 @@ module _ (f : Facts) (e : ℕ) (m : Mailbox OneRight) (sound : Sound f) (refused
   ]
 
   pub happen_here : kind_after e None o a ≡ None → ShownAt f e m → Happen e lines m events_here
-  happen_here none shown = let done = goes f e m sound shown a refused o fits none in runs_happen e lines events_here m done.0 done.1
+  happen_here none shown = let done = goes f e m sound shown refused o a fits none in runs_happen e lines events_here m done.0 done.1
 
   goes_on_from : kind_after e None o a ≡ None → Kept f e m → Kept (next f a o) e (after_pair f e m o a)
   goes_on_from none k =
-      let done = goes f e m sound k.shown a refused o fits none in
+      let done = goes f e m sound k.shown refused o a fits none in
       let after : Mailbox OneRight = after_pair f e m o a in
       let same : done.0 ≡ after = runs_one e lines events_here m done.0 done.1 ∙ sym (same_after none) in
       let shown : ShownAt (next f a o) e after = subst (ShownAt (next f a o) e) same done.2 in

@@ -1,60 +1,18 @@
 -- Each pair of a history is events of the mailbox of an end, or leaves it.
-use Rattle.std.proofs.Common.{◌≡◌, ℕ, ◌+◌, ◌-◌, ◌<◌, ◌&&◌, Bool, true, false, cond, eqb, List, [], ◌∷◌, ◌++◌, length, refl, sym, ap, subst, inl, inr, arith, Option, Some, None, ◌⊎◌, not}
-use Rattle.hub_core.proofs.Words.{eqb-true, or_parts, not-false, EndId, Out, Inside, Turned, Action, Outcome, Facts, named_envelope, named_notice, kind_after, lines_of, in_queue, someone_at, looked, look_answer, FitsSweep, IsDrained, IsLeft, FitsTake, Answers, Sound, enter, enable, look, close, lets_in, says_moved, says_closed}
-use Rattle.hub_core.proofs.Words.{says_done, gives_rights, Mailbox, MailboxEvent, at_gate, push, pop, hop, advance, add, IsSettled, HoldsNothing, OneRight, leaving, finds_busy, finds_busy_at, unsettled, rights_of, events_of, sweeping, Kind, Port, Client, Worker, Member}
+use Rattle.std.proofs.Common.{Bool, List, None, Option, Some, [], ap, arith, cond, eqb, false, inl, length, not, refl, subst, sym, true, ℕ, ◌&&◌, ◌++◌, ◌+◌, ◌-◌, ◌<◌, ◌∷◌, ◌≡◌}
+use Rattle.hub_core.proofs.Words.{Action, Answers, Client, EndId, Facts, FitsSweep, FitsTake, HoldsNothing, Inside, IsDrained, IsLeft, IsSettled, Kind, Mailbox, MailboxEvent, Member, OneRight, Out, Outcome, Port, Sound, Turned}
+use Rattle.hub_core.proofs.Words.{Worker, add, advance, at_gate, close, enable, enter, eqb-true, events_of, finds_busy, finds_busy_at, gives_rights, hop, in_queue, kind_after, leaving, lets_in, lines_of, look, look_answer}
+use Rattle.hub_core.proofs.Words.{looked, named_envelope, named_notice, not-false, opened, or_parts, pop, push, rights_of, says_closed, says_done, says_moved, someone_at, sweeping, unsettled}
 use Rattle.hub_core.specs.declared.step.Action.TheVariants as action
 use Rattle.hub_core.specs.declared.outcome.Outcome.TheVariants as outcome
-use Rattle.hub_core.proofs.Nexts.{next, Change, agent_made, channel_made, let_in, found_moved, found_closed, put, left, hopped, started, got, went_on, cleared, adopted, notice_put, end_closed, end_swept, client_made, worker_made, line_got, line_back, handed, agent_ordered, agent_ended, member_joined, cast_begun, member_parted}
-use Rattle.hub_core.proofs.Fitting.{pushed_of, noticed_of, hopped_of, got_of, empty_of, busy_of, went_on_of, cleared_of, FindsBusy, look_busy_of, adopted_of, swept_of}
-use Rattle.hub_core.proofs.MailboxShown.{View, view, ShownAt, IsShown, Leads, at_end_or}
-use Rattle.hub_core.proofs.PairGates.{with_line, entered, turned_moved, turned_closed, left_line, started_there, closed_there}
-use Rattle.hub_core.proofs.PairQueues.{pushed_there, noticed_there, taken_there, taken_all, none_there}
-use Rattle.hub_core.proofs.PairLooks.{settled_there, busy_there, look_busy_there, SweepsBusy, sweep_busy_of, sweep_busy_there, cleared_there}
+use Rattle.hub_core.proofs.Fitting.{FindsBusy, adopted_of, busy_of, cleared_of, empty_of, got_of, hopped_of, look_busy_of, noticed_of, pushed_of, swept_of, went_on_of}
+use Rattle.hub_core.proofs.MailboxShown.{IsShown, Leads, ShownAt, View, at_end_or, view}
+use Rattle.hub_core.proofs.Nexts.{next}
+use Rattle.hub_core.proofs.PairGates.{closed_there, entered, left_line, started_there, turned_closed, turned_moved, with_line}
+use Rattle.hub_core.proofs.PairLooks.{SweepsBusy, busy_there, cleared_there, look_busy_there, settled_there, sweep_busy_of, sweep_busy_there}
+use Rattle.hub_core.proofs.PairMoves.{adopted_there, hopped_there, went_on_there, with_next, with_queue_new, with_taker_at}
+use Rattle.hub_core.proofs.PairQueues.{none_there, noticed_there, pushed_there, taken_all, taken_there}
 use Rattle.hub_core.proofs.PairSweeps.{swept_there}
-use Rattle.hub_core.proofs.PairMoves.{with_next, hopped_there, with_taker_at, went_on_there, with_queue_new, adopted_there}
-
--- ---- the pairs that are events
-
-data Happens : Action → Outcome → Type 0 where
-  changes : (a : Action) (o : Outcome) → Change a o → Happens a o
-  drained : (x : EndId) → Happens (action.Take x) outcome.Empty
-  found_busy : (x : EndId) → Happens (action.Take x) outcome.Busy
-  looked_busy : (x : EndId) → Happens (action.Look x) outcome.Busy
-  swept_busy : (x : EndId) → Happens (action.Sweep x) outcome.Busy
-
--- every other pair is none, and changes nothing
-kind_of : (f : Facts) (e : ℕ) (m : Mailbox OneRight) (o : Outcome) (a : Action) → ((events_of f e m o a ≡ []) × (next f a o ≡ f)) ⊎ Happens a o
-kind_of f e m (outcome.Agent n) (action.Agent origin) = inr (changes _ _ (agent_made origin n))
-kind_of f e m (outcome.Ends x y) (action.Channel a) = inr (changes _ _ (channel_made a x y))
-kind_of f e m (outcome.End x) (action.Client a) = inr (changes _ _ (client_made a x))
-kind_of f e m (outcome.End x) (action.Worker a) = inr (changes _ _ (worker_made a x))
-kind_of f e m (outcome.End x) (action.Member a name) = inr (changes _ _ (member_joined a name x))
-kind_of f e m (outcome.Line l) (action.Line x a) = inr (changes _ _ (line_got x a l))
-kind_of f e m outcome.Done (action.Back s) = inr (changes _ _ (line_back s))
-kind_of f e m outcome.Handed (action.Hand x b) = inr (changes _ _ (handed x b))
-kind_of f e m outcome.Ordered (action.Order a) = inr (changes _ _ (agent_ordered a))
-kind_of f e m (outcome.Destinations ends) (action.Cast x ports body) = inr (changes _ _ (cast_begun x ports body ends))
-kind_of f e m outcome.Done (action.Part x) = inr (changes _ _ (member_parted x))
-kind_of f e m (outcome.Ending es) (action.See a) = inr (changes _ _ (agent_ended a es))
-kind_of f e m outcome.In (action.Enter s) = inr (changes _ _ (let_in s))
-kind_of f e m outcome.Moved (action.Enter s) = inr (changes _ _ (found_moved s))
-kind_of f e m outcome.Closed (action.Enter s) = inr (changes _ _ (found_closed s))
-kind_of f e m (outcome.Accepted n) (action.Push s ports body) = inr (changes _ _ (put s ports body n))
-kind_of f e m (outcome.Accepted n) (action.Notice s) = inr (changes _ _ (notice_put s n))
-kind_of f e m outcome.Left (action.Leave s) = inr (changes _ _ (left s))
-kind_of f e m (outcome.Hopped k) (action.Hop s) = inr (changes _ _ (hopped s k))
-kind_of f e m outcome.Started (action.Start x) = inr (changes _ _ (started x))
-kind_of f e m (outcome.Got v) (action.Take x) = inr (changes _ _ (got x v))
-kind_of f e m outcome.Empty (action.Take x) = inr (drained x)
-kind_of f e m outcome.Busy (action.Take x) = inr (found_busy x)
-kind_of f e m outcome.Again (action.Take x) = inr (changes _ _ (went_on x))
-kind_of f e m outcome.Busy (action.Look x) = inr (looked_busy x)
-kind_of f e m outcome.Busy (action.Sweep x) = inr (swept_busy x)
-kind_of f e m (outcome.Clear (Some k)) (action.Look x) = inr (changes _ _ (cleared x k))
-kind_of f e m (outcome.Adopted k) (action.Adopt x a) = inr (changes _ _ (adopted x a k))
-kind_of f e m outcome.Done (action.Close x) = inr (changes _ _ (end_closed x))
-kind_of f e m (outcome.Discarded vs) (action.Sweep x) = inr (changes _ _ (end_swept x vs))
-kind_of f e m o a = inl (refl, refl)
 
 -- an end that the pair doesn't make
 not_made : (b : Bool) (k : Kind) (q : Option Kind) → cond b (Some k) q ≡ None → (b ≡ false) × (q ≡ None)
@@ -135,73 +93,55 @@ module _ (f : Facts) (e : ℕ) (m : Mailbox OneRight) (sound : Sound f) (shown :
 
   -- ---- all pairs
 
-  changed : {a : Action} (refused : Bool) {o : Outcome} → Answers f a refused o → kind_after e None o a ≡ None → Change a o → Leads e (lines e) m (events_of f e m o a) (view (next f a o) e)
-  changed refused fits made (agent_made origin n) = (m, refl, shown)
-  changed refused fits made (channel_made a x y) = (m, refl, made_channel x y made)
-  changed refused fits made (client_made a x) = (m, refl, made_queue x Client made)
-  changed refused fits made (worker_made a x) = (m, refl, made_queue x Worker made)
-  changed refused fits made (member_joined a name x) = (m, refl, made_queue x (Member a) made)
-  changed refused fits made (line_got x a l) = (m, refl, shown)
-  changed refused fits made (line_back s) = (m, refl, shown)
-  changed refused fits made (handed x b) = (m, refl, shown)
-  changed refused fits made (agent_ordered a) = (m, refl, shown)
-  changed refused fits made (cast_begun x ports body ends) = (m, refl, shown)
-  changed refused fits made (member_parted x) = (m, refl, shown)
-  changed refused fits made (agent_ended a es) = (m, refl, shown)
-  changed refused fits made (let_in s) =
+  -- a pair that doesn't make the end
+  pub goes : (refused : Bool) (o : Outcome) (a : Action) → Answers f a refused o → kind_after e None o a ≡ None → Leads e (lines e) m (events_of f e m o a) (view (next f a o) e)
+  goes refused (outcome.Ends x y) (action.Channel a) fits made = (m, refl, made_channel x y made)
+  goes refused (outcome.End x) (action.Client a) fits made = (m, refl, made_queue x Client made)
+  goes refused (outcome.End x) (action.Worker a) fits made = (m, refl, made_queue x Worker made)
+  goes refused (outcome.End x) (action.Member a name) fits made = (m, refl, made_queue x (Member a) made)
+  goes refused outcome.In (action.Enter s) fits made =
       at_step s.end.0 (λ y. at_gate ((f.line y s.line.0).stand) (enter s.line.0) (lets_in tt) ∷ []) (λ y. with_line f y s.line.0 Inside) shown (λ there. entered f s m there (sound.lines s.end.0) fits)
-  changed refused fits made (found_moved s) =
+  goes refused outcome.Moved (action.Enter s) fits made =
       at_step s.end.0 (λ y. at_gate ((f.line y s.line.0).stand) (enter s.line.0) says_moved ∷ []) (λ y. with_line f y s.line.0 Turned) shown (λ there. turned_moved f s m there (sound.lines s.end.0) fits)
-  changed refused fits made (found_closed s) =
+  goes refused outcome.Closed (action.Enter s) fits made =
       at_step s.end.0 (λ y. at_gate ((f.line y s.line.0).stand) (enter s.line.0) says_closed ∷ []) (λ y. with_line f y s.line.0 Turned) shown (λ there. turned_closed f s m there (sound.lines s.end.0) fits)
-  changed refused fits made (put s ports body n) =
+  goes refused (outcome.Accepted n) (action.Push s ports body) fits made =
       at_step s.end.0 (λ y. push (named_envelope s n body ports) ∷ [])
       (λ y b. record (view f y) { accepted = cond b (f.accepted y ++ named_envelope s n body ports ∷ []) (f.accepted y) }) shown
       (λ there. pushed_there f s ports body n m there (sound.lines s.end.0) (pushed_of f s ports body refused n fits))
-  changed refused fits made (notice_put s n) =
+  goes refused (outcome.Accepted n) (action.Notice s) fits made =
       at_step s.end.0 (λ y. push (named_notice s n) ∷ []) (λ y b. record (view f y) { accepted = cond b (f.accepted y ++ named_notice s n ∷ []) (f.accepted y) }) shown
       (λ there. noticed_there f s n m there (noticed_of f s refused n fits))
-  changed refused fits made (left s) =
+  goes refused outcome.Left (action.Leave s) fits made =
       at_step s.end.0 (λ y. leaving m ((f.line y s.line.0).stand) s.line.0 ((f.line y s.line.0).phase) ∷ []) (λ y. with_line f y s.line.0 Out) shown (λ there. left_line f s m there sound fits)
-  changed refused fits made (hopped s k) =
+  goes refused (outcome.Hopped k) (action.Hop s) fits made =
       let may = hopped_of f s k fits in
       at_step s.end.0 (λ y. hop s.line.0 ∷ []) (λ y. with_next f y s.line.0) shown (λ there. hopped_there f s m there (sound.lines s.end.0) may.may may.out may.retired)
-  changed refused fits made (started x) =
+  goes refused outcome.Started (action.Start x) fits made =
       at_step x.0 (λ y. at_gate ((f.end y).newest) enable says_done ∷ []) (λ y b. record (view f y) { enabled = cond b true ((f.end y).enabled) }) shown (λ there. started_there f x.0 m there)
-  changed refused fits made (got x v) =
+  goes refused (outcome.Got v) (action.Take x) fits made =
       let served = got_of f x v fits in
       at_step x.0 (λ y. pop ((f.end y).taker_stand) (Some v) ∷ []) (λ y b. record (view f y) { removed = cond b (f.taken y ++ v ∷ []) (f.taken y) ++ f.discarded y }) shown
       (λ there. taken_there f x m v there (none_discarded x.0 served.is_open) served.serves)
-  changed refused fits made (went_on x) =
+  goes refused outcome.Again (action.Take x) fits made =
       at_step x.0 (λ y. pop ((f.end y).taker_stand) None ∷ advance ∷ []) (λ y. with_taker_at f y) shown (λ there. went_on_at x fits there)
-  changed refused fits made (cleared x k) =
+  goes refused (outcome.Clear (Some k)) (action.Look x) fits made =
       at_step x.0 (λ y. at_gate k look (gives_rights (rights_of m)) ∷ []) (λ y b. record (view f y) { clear = λ i. cond (b && eqb i k) true (f.clear y i) }) shown
       (λ there. cleared_there f x.0 m there k sound (cleared_of f x k fits))
-  changed refused fits made (adopted x a k) =
+  goes refused (outcome.Adopted k) (action.Adopt x a) fits made =
       at_step x.0 (λ y. add (rights_of m) ∷ []) (λ y. with_queue_new f y) shown
       (λ there. adopted_there f x.0 m there sound (adopted_of f x a refused k fits).is_open)
-  changed refused fits made (end_closed x) =
+  goes refused outcome.Done (action.Close x) fits made =
       at_step x.0 (λ y. at_gate ((f.end y).newest) close says_done ∷ []) (λ y b. record (view f y) { closed = cond b true ((f.end y).closed) }) shown (λ there. closed_there f x.0 m there)
-  changed refused fits made (end_swept x vs) =
+  goes refused (outcome.Discarded vs) (action.Sweep x) fits made =
       at_step x.0 (λ y. sweeping vs ((f.end y).taker_stand) ((f.end y).newest - (f.end y).taker_stand + 1)) (λ y b. record (view f y) { removed = f.taken y ++ cond b (f.discarded y ++ vs) (f.discarded y) }) shown
       (λ there. swept_there f x m vs there sound (swept_of f x vs fits))
-
-  happened : {a : Action} (refused : Bool) {o : Outcome} → Answers f a refused o → kind_after e None o a ≡ None → Happens a o → Leads e (lines e) m (events_of f e m o a) (view (next f a o) e)
-  happened refused fits made (changes a o change) = changed refused fits made change
-  happened refused fits made (drained x) =
+  goes refused outcome.Empty (action.Take x) fits made =
       at_step x.0 (λ y. pop ((f.end y).taker_stand) None ∷ []) (λ y _. view f y) shown (λ there. empty_at x fits there)
-  happened refused fits made (found_busy x) =
+  goes refused outcome.Busy (action.Take x) fits made =
       at_step x.0 (λ y. finds_busy m ((f.end y).taker_stand) ∷ pop ((f.end y).taker_stand) None ∷ []) (λ y _. view f y) shown (λ there. busy_at_taker x fits there)
-  happened refused fits made (looked_busy x) =
+  goes refused outcome.Busy (action.Look x) fits made =
       at_step x.0 (λ y. finds_busy_at m (looked f y)) (λ y _. view f y) shown (λ there. looked_busy_at x fits there)
-  happened refused fits made (swept_busy x) =
+  goes refused outcome.Busy (action.Sweep x) fits made =
       at_step x.0 (λ y. finds_busy_at m (unsettled f y)) (λ y _. view f y) shown (λ there. swept_busy_at x fits there)
-
-  -- a pair that doesn't make the end
-  pub goes : (a : Action) (refused : Bool) (o : Outcome) → Answers f a refused o → kind_after e None o a ≡ None → Leads e (lines e) m (events_of f e m o a) (view (next f a o) e)
-  goes a refused o fits made = elim (kind_of f e m o a) [
-    | inl none ↦
-        let still : ShownAt (next f a o) e m = subst (λ g. ShownAt g e m) (sym none.1) shown in
-        subst (λ events. Leads e (lines e) m events (view (next f a o) e)) (sym none.0) (m, refl, still)
-    | inr happens ↦ happened refused fits made happens
-  ]
+  goes refused o a fits made = (m, refl, shown)

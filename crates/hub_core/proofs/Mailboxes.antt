@@ -36,7 +36,7 @@ pairs_are_events h p e m legal fits made shows =
     let sound : Sound f = sound_legal h legal in
     let events : List (MailboxEvent OneRight) = events_of f e m p.1 p.0.action in
     let lines : ℕ = lines_of ((f.end e).kind) in
-    let done = goes f e m sound (of_history h e m shows) p.0.action p.0.memory_refused p.1 fits (old_end f e m sound p.0.memory_refused p.1 p.0.action fits made) in
+    let done = goes f e m sound (of_history h e m shows) p.0.memory_refused p.1 p.0.action fits (old_end f e m sound p.0.memory_refused p.1 p.0.action fits made) in
     (runs_happen e lines events m done.0 done.1, subst (ShowsMailbox (h ++ p ∷ []) e []) (runs_one e lines events m done.0 done.1) (with_pair h p e done.0 done.2))
 
 -- ---- what a core keeps

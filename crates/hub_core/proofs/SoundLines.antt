@@ -1,10 +1,13 @@
 -- What a mailbox doesn't show of the lines of an end stays so with each pair that fits.
-use Rattle.std.proofs.Common.{◌≡◌, ℕ, ◌<◌, ◌≤◌, Bool, true, false, cond, eqb, List, [], ◌∷◌, ◌++◌, length, Option, Some, None, refl, sym, ap, subst, ◌∙◌, inl, inr, arith, rules, append-nil, ◌+◌, nat_le, leb-true, leb-false, ◌&&◌, ◌⊎◌, ◌||◌, not, nat_lt, ltb-false, ltb-true}
-use Rattle.hub_core.proofs.Words.{is_some, option_and_then, AllByRecursion, false≢true, eqb-true, eqb-false, and_parts, not-true, filter-append, AgentId, EndId, Envelope, Phase, Out, Inside, Turned, Sender, Action, Acceptance, Outcome, LineNow, Facts, EndNow, Answers, on_line, named_envelope, named_notice, by, count_in_queue, holder}
-use Rattle.hub_core.proofs.Words.{poster, is_distinct, phase_of_line, may_enter, hears_notice, is_here, is_inside, running, poster_of, speaker, up_to, no_line, IsOfEnd, SoundLines, no_end, lines_of, peer_of, is_queue, someone_at, is_away_at, is_settled, Kind, Port, Client, Worker, Member, MAX_LINES, is_client, is_worker}
+use Rattle.std.proofs.Common.{Bool, List, None, Option, Some, [], ap, append-nil, arith, cond, eqb, false, inl, inr, leb-false, leb-true, length, ltb-false, ltb-true, nat_le, nat_lt, not, refl, rules, subst, sym, true, ℕ, ◌&&◌, ◌++◌, ◌+◌, ◌<◌, ◌||◌, ◌∙◌, ◌∷◌, ◌≡◌, ◌≤◌, ◌⊎◌}
+use Rattle.hub_core.proofs.Words.{Acceptance, Action, AgentId, AllByRecursion, Answers, Client, EndId, EndNow, Envelope, Facts, Inside, IsOfEnd, Kind, LineNow, MAX_LINES, Member, Out, Outcome, Phase, Port, Sender, SoundLines}
+use Rattle.hub_core.proofs.Words.{Turned, Worker, and_parts, by, count_in_queue, eqb-false, eqb-true, false≢true, filter-append, hears_notice, holder, is_away_at, is_client, is_distinct, is_here, is_inside, is_queue, is_settled, is_some, is_worker}
+use Rattle.hub_core.proofs.Words.{lines_of, may_enter, named_envelope, named_notice, no_end, no_line, not-true, on_line, option_and_then, peer_of, phase_of_line, poster, poster_of, running, someone_at, speaker, up_to}
+use Rattle.hub_core.specs.declared.step.Action.TheVariants as action
+use Rattle.hub_core.specs.declared.outcome.Outcome.TheVariants as outcome
+use Rattle.hub_core.proofs.Fitting.{Noticed, Pushed, found_closed_of, found_moved_of, hopped_of, let_in_of, line_got_of, member_made_of, new_ends, none_of_any, noticed_of, pushed_of, queue_made_of}
 use Rattle.hub_core.proofs.Lists.{AllByRecursion-append, eqb_same}
-use Rattle.hub_core.proofs.Nexts.{next, Change, agent_made, channel_made, let_in, found_moved, found_closed, put, left, started, got, hopped, went_on, cleared, adopted, notice_put, end_closed, end_swept, client_made, worker_made, line_got, line_back, handed, agent_ordered, agent_ended, member_joined, cast_begun, member_parted}
-use Rattle.hub_core.proofs.Fitting.{let_in_of, found_moved_of, found_closed_of, Pushed, pushed_of, hopped_of, none_of_any, Noticed, noticed_of, new_ends, queue_made_of, member_made_of, line_got_of}
+use Rattle.hub_core.proofs.Nexts.{next}
 
 -- what is said of the lines of an end
 abbrev pub LinesAt : Facts → ℕ → Type 0
@@ -290,40 +293,28 @@ queue_lines None h = absurd (false≢true h)
 
 -- ---- every pair that changes something
 
-pub marks_next : (f : Facts) {a : Action} (refused : Bool) {o : Outcome} → IsUnmade f → ((x : ℕ) → LinesAt f x) → ((x : ℕ) → MarksAt f x) → Answers f a refused o → Change a o → (x : ℕ) → MarksAt (next f a o) x
-marks_next f refused none h m fits (agent_made origin n) x = m x
-marks_next f refused none h m fits (channel_made a e e') x =
+pub marks_next : (f : Facts) (refused : Bool) → IsUnmade f → ((x : ℕ) → LinesAt f x) → ((x : ℕ) → MarksAt f x) → (o : Outcome) (a : Action) → Answers f a refused o → (x : ℕ) → MarksAt (next f a o) x
+marks_next f refused none h m (outcome.Ends e e') (action.Channel a) fits x =
     let made = new_ends f a refused e e' fits in
     grown (lines_of ((f.end x).kind)) _ (f.line x) (f.accepted x) (more_lines (eqb x e.0) (eqb x e'.0) (Port e') (Port e) (f.end x).kind (either_new f e e' x none made.1 made.2)) (m x)
-marks_next f refused none h m fits (client_made a e) x =
+marks_next f refused none h m (outcome.End e) (action.Client a) fits x =
     let made = queue_made_of f is_client a refused e fits in
     grown (lines_of ((f.end x).kind)) _ (f.line x) (f.accepted x) (one_more_line (eqb x e.0) Client (f.end x).kind (one_new f e x none made.number)) (m x)
-marks_next f refused none h m fits (worker_made a e) x =
+marks_next f refused none h m (outcome.End e) (action.Worker a) fits x =
     let made = queue_made_of f is_worker a refused e fits in
     grown (lines_of ((f.end x).kind)) _ (f.line x) (f.accepted x) (one_more_line (eqb x e.0) Worker (f.end x).kind (one_new f e x none made.number)) (m x)
-marks_next f refused none h m fits (member_joined a name e) x =
+marks_next f refused none h m (outcome.End e) (action.Member a name) fits x =
     let made = member_made_of f a refused e fits in
     grown (lines_of ((f.end x).kind)) _ (f.line x) (f.accepted x) (one_more_line (eqb x e.0) (Member a) (f.end x).kind (one_new f e x none made.number)) (m x)
-marks_next f refused none h m fits (line_got e a l) x =
+marks_next f refused none h m (outcome.Line l) (action.Line e a) fits x =
     let gets = line_got_of f e a l fits in
     held f (record { end = e; line = l }) (Some a) x (inl (subst (λ n. l.0 < n) (sym (queue_lines (f.end e.0).kind gets.queue)) gets.low)) (m x)
-marks_next f refused none h m fits (line_back s) x = held f s None x (inr refl) (m x)
-marks_next f refused none h m fits (let_in s) x = phased f s Inside x (inr (line_there f s (h s.end.0) (let_in_of f s fits).0.may)) (m x)
-marks_next f refused none h m fits (found_moved s) x = phased f s Turned x (inr (line_there f s (h s.end.0) (found_moved_of f s fits).0.may)) (m x)
-marks_next f refused none h m fits (found_closed s) x = phased f s Turned x (inr (line_there f s (h s.end.0) (found_closed_of f s fits).0.may)) (m x)
-marks_next f refused none h m fits (put s ports body n) x = put_at f s (named_envelope s n body ports) x (message_may f s ports body n (h s.end.0) (pushed_of f s ports body refused n fits)) refl (m x) (eqb x s.end.0) refl
-marks_next f refused none h m fits (notice_put s n) x = notice_at f s (named_notice s n) x (notice_may f s n (noticed_of f s refused n fits)) (m x) (eqb x s.end.0) refl
-marks_next f refused none h m fits (left s) x = phased f s Out x (inl refl) (m x)
-marks_next f refused none h m fits (hopped s k) x = gone f s x (line_there f s (h s.end.0) (hopped_of f s k fits).may) (m x)
-marks_next f refused none h m fits (started e) x = m x
-marks_next f refused none h m fits (got e v) x = m x
-marks_next f refused none h m fits (went_on e) x = m x
-marks_next f refused none h m fits (cleared e k) x = m x
-marks_next f refused none h m fits (adopted e a k) x = m x
-marks_next f refused none h m fits (end_closed e) x = m x
-marks_next f refused none h m fits (end_swept e vs) x = m x
-marks_next f refused none h m fits (handed e b) x = m x
-marks_next f refused none h m fits (agent_ordered a) x = m x
-marks_next f refused none h m fits (cast_begun e ports body ends) x = m x
-marks_next f refused none h m fits (member_parted e) x = m x
-marks_next f refused none h m fits (agent_ended a es) x = m x
+marks_next f refused none h m outcome.Done (action.Back s) fits x = held f s None x (inr refl) (m x)
+marks_next f refused none h m outcome.In (action.Enter s) fits x = phased f s Inside x (inr (line_there f s (h s.end.0) (let_in_of f s fits).0.may)) (m x)
+marks_next f refused none h m outcome.Moved (action.Enter s) fits x = phased f s Turned x (inr (line_there f s (h s.end.0) (found_moved_of f s fits).0.may)) (m x)
+marks_next f refused none h m outcome.Closed (action.Enter s) fits x = phased f s Turned x (inr (line_there f s (h s.end.0) (found_closed_of f s fits).0.may)) (m x)
+marks_next f refused none h m (outcome.Accepted n) (action.Push s ports body) fits x = put_at f s (named_envelope s n body ports) x (message_may f s ports body n (h s.end.0) (pushed_of f s ports body refused n fits)) refl (m x) (eqb x s.end.0) refl
+marks_next f refused none h m (outcome.Accepted n) (action.Notice s) fits x = notice_at f s (named_notice s n) x (notice_may f s n (noticed_of f s refused n fits)) (m x) (eqb x s.end.0) refl
+marks_next f refused none h m outcome.Left (action.Leave s) fits x = phased f s Out x (inl refl) (m x)
+marks_next f refused none h m (outcome.Hopped k) (action.Hop s) fits x = gone f s x (line_there f s (h s.end.0) (hopped_of f s k fits).may) (m x)
+marks_next f refused none h m o a fits x = m x

@@ -1,13 +1,15 @@
 -- What a mailbox doesn't show of what waits stays so with each pair that fits.
-use Rattle.std.proofs.Common.{◌≡◌, ℕ, ◌≤◌, Bool, true, false, cond, eqb, List, [], ◌∷◌, ◌++◌, refl, sym, ap, subst, ◌∙◌, arith, rules, append-nil, append_assoc, ◌+◌, inl, inr, ⊎_elim, ◌-◌, ◌<◌, ne_eqb, ◌&&◌, ◌⊎◌}
-use Rattle.hub_core.proofs.Words.{eqb-true, false≢true, and_parts, filter-append, EndId, Envelope, Phase, Out, Inside, Turned, Sender, Action, Outcome, Facts, LineNow, Answers, named_envelope, named_notice, by, in_queue, Prefix, Rises, phase_of_line, is_inside, IsNext, SoundWaiting, AllByRecursion, is_settled, all_settled, IsAllWaiting}
-use Rattle.hub_core.proofs.Words.{append_cancel_left}
-use Rattle.hub_core.proofs.Nexts.{next, Change, agent_made, channel_made, let_in, found_moved, found_closed, put, left, started, got, hopped, went_on, cleared, adopted, notice_put, end_closed, end_swept, client_made, worker_made, line_got, line_back, handed, agent_ordered, agent_ended, member_joined, cast_begun, member_parted}
-use Rattle.hub_core.proofs.Fitting.{pushed_of, got_of, let_in_of, went_on_of, cleared_of, looked_where, noticed_of, SweptWith, swept_of, each_of}
-use Rattle.hub_core.proofs.SoundLines.{LinesAt, by_more, phased_line, MayPut, message_may, notice_may, inside_unsettled}
-use Rattle.hub_core.proofs.Lists.{AllByRecursion-append, AllByRecursion-weaker, eqb_same}
-use Rattle.hub_core.proofs.Waits.{from_queue}
+use Rattle.std.proofs.Common.{Bool, List, Some, [], ap, append-nil, append_assoc, arith, cond, eqb, false, inl, inr, ne_eqb, refl, rules, subst, sym, true, ℕ, ⊎_elim, ◌&&◌, ◌++◌, ◌+◌, ◌-◌, ◌<◌, ◌∙◌, ◌∷◌, ◌≡◌, ◌≤◌, ◌⊎◌}
+use Rattle.hub_core.proofs.Words.{Action, AllByRecursion, Answers, EndId, Envelope, Facts, Inside, IsAllWaiting, IsNext, LineNow, Out, Outcome, Phase, Prefix, Rises, Sender, SoundWaiting, Turned, all_settled, and_parts, append_cancel_left}
+use Rattle.hub_core.proofs.Words.{by, eqb-true, false≢true, filter-append, in_queue, is_inside, is_settled, named_envelope, named_notice, opened, phase_of_line}
+use Rattle.hub_core.specs.declared.step.Action.TheVariants as action
+use Rattle.hub_core.specs.declared.outcome.Outcome.TheVariants as outcome
+use Rattle.hub_core.proofs.Fitting.{SweptWith, cleared_of, each_of, got_of, let_in_of, looked_where, noticed_of, pushed_of, swept_of, went_on_of}
 use Rattle.hub_core.proofs.Joins.{nothing_there}
+use Rattle.hub_core.proofs.Lists.{AllByRecursion-append, AllByRecursion-weaker, eqb_same}
+use Rattle.hub_core.proofs.Nexts.{next}
+use Rattle.hub_core.proofs.SoundLines.{LinesAt, MayPut, by_more, inside_unsettled, message_may, notice_may, phased_line}
+use Rattle.hub_core.proofs.Waits.{from_queue}
 
 abbrev pub WaitingAt : Facts → ℕ → Type 0
 WaitingAt f x = SoundWaiting ((f.end x).taker_stand) ((f.end x).closed) (f.line x) (f.accepted x) (f.taken x) (f.discarded x)
@@ -196,35 +198,25 @@ left_swept f e vs x w s h old true is =
       swept = inr (all_removed f x vs h all);
     }
 
-pub leavings_next : (f : Facts) {a : Action} (refused : Bool) {o : Outcome} → ((x : ℕ) → LinesAt f x) → ((x : ℕ) → WaitingAt f x) → ((x : ℕ) → LeavingsAt f x) → Answers f a refused o → Change a o → (x : ℕ) → LeavingsAt (next f a o) x
-leavings_next f refused lines waits h fits (let_in s) x = left_phased f s Inside x (λ _. (h s.end.0).kept (let_in_of f s fits).2) (h x)
-leavings_next f refused lines waits h fits (found_moved s) x = left_phased f s Turned x (λ is. cc) (h x)
-leavings_next f refused lines waits h fits (found_closed s) x = left_phased f s Turned x (λ is. cc) (h x)
-leavings_next f refused lines waits h fits (put s ports body n) x = left_put f s (named_envelope s n body ports) x (message_may f s ports body n (lines s.end.0) (pushed_of f s ports body refused n fits)) (h x) (eqb x s.end.0) refl
-leavings_next f refused lines waits h fits (notice_put s n) x =
+pub leavings_next : (f : Facts) (refused : Bool) → ((x : ℕ) → LinesAt f x) → ((x : ℕ) → WaitingAt f x) → ((x : ℕ) → LeavingsAt f x) → (o : Outcome) (a : Action) → Answers f a refused o → (x : ℕ) → LeavingsAt (next f a o) x
+leavings_next f refused lines waits h outcome.In (action.Enter s) fits x = left_phased f s Inside x (λ _. (h s.end.0).kept (let_in_of f s fits).2) (h x)
+leavings_next f refused lines waits h outcome.Moved (action.Enter s) fits x = left_phased f s Turned x (λ is. cc) (h x)
+leavings_next f refused lines waits h outcome.Closed (action.Enter s) fits x = left_phased f s Turned x (λ is. cc) (h x)
+leavings_next f refused lines waits h (outcome.Accepted n) (action.Push s ports body) fits x = left_put f s (named_envelope s n body ports) x (message_may f s ports body n (lines s.end.0) (pushed_of f s ports body refused n fits)) (h x) (eqb x s.end.0) refl
+leavings_next f refused lines waits h (outcome.Accepted n) (action.Notice s) fits x =
     let still = left_put f s (named_notice s n) x (notice_may f s n (noticed_of f s refused n fits)) (h x) (eqb x s.end.0) refl in
     relined _ _ _ (f.line x) _ _ _ _ _ (h x).nobody still
-leavings_next f refused lines waits h fits (left s) x = left_phased f s Out x (λ is. cc) (h x)
-leavings_next f refused lines waits h fits (hopped s k) x = relined _ _ _ (f.line x) _ _ _ _ _ (h x).nobody (h x)
-leavings_next f refused lines waits h fits (got e v) x = let served = got_of f e v fits in left_got f e v x served.serves served.is_open (h x) (eqb x e.0) refl
-leavings_next f refused lines waits h fits (went_on e) x = left_went f e x (went_on_of f e fits).is_open (h x) (eqb x e.0) refl
-leavings_next f refused lines waits h fits (cleared e k) x =
+leavings_next f refused lines waits h outcome.Left (action.Leave s) fits x = left_phased f s Out x (λ is. cc) (h x)
+leavings_next f refused lines waits h (outcome.Hopped k) (action.Hop s) fits x = relined _ _ _ (f.line x) _ _ _ _ _ (h x).nobody (h x)
+leavings_next f refused lines waits h (outcome.Got v) (action.Take e) fits x = let served = got_of f e v fits in left_got f e v x served.serves served.is_open (h x) (eqb x e.0) refl
+leavings_next f refused lines waits h outcome.Again (action.Take e) fits x = left_went f e x (went_on_of f e fits).is_open (h x) (eqb x e.0) refl
+leavings_next f refused lines waits h (outcome.Clear (Some k)) (action.Look e) fits x =
     let clears = cleared_of f e k fits in
     let low : k ≤ (f.end e.0).newest = ⊎_elim (λ less. omega arith) (λ last. let same : k ≡ (f.end e.0).newest = last.0 in omega arith) (looked_where (f.end e.0).taker_stand (f.end e.0).newest k (f.end e.0).closed (lines e.0).taker_stand clears.looks.below) in
     left_cleared f e k x low (h x) (eqb x e.0) refl
-leavings_next f refused lines waits h fits (adopted e a k) x = left_longer f x (h x) (eqb x e.0)
-leavings_next f refused lines waits h fits (end_closed e) x = left_shut f x (h x) (eqb x e.0)
-leavings_next f refused lines waits h fits (end_swept e vs) x = left_swept f e vs x (swept_of f e vs fits) (lines x) (waits x) (h x) (eqb x e.0) refl
-leavings_next f refused lines waits h fits (line_got e a l) x = relined _ _ _ (f.line x) _ _ _ _ _ (h x).nobody (h x)
-leavings_next f refused lines waits h fits (line_back s) x = relined _ _ _ (f.line x) _ _ _ _ _ (h x).nobody (h x)
-leavings_next f refused lines waits h fits (started e) x = h x
-leavings_next f refused lines waits h fits (agent_made origin n) x = h x
-leavings_next f refused lines waits h fits (channel_made a e e') x = h x
-leavings_next f refused lines waits h fits (client_made a e) x = h x
-leavings_next f refused lines waits h fits (worker_made a e) x = h x
-leavings_next f refused lines waits h fits (handed e b) x = h x
-leavings_next f refused lines waits h fits (agent_ordered a) x = h x
-leavings_next f refused lines waits h fits (member_joined a name e) x = h x
-leavings_next f refused lines waits h fits (cast_begun e ports body ends) x = h x
-leavings_next f refused lines waits h fits (member_parted e) x = h x
-leavings_next f refused lines waits h fits (agent_ended a es) x = h x
+leavings_next f refused lines waits h (outcome.Adopted k) (action.Adopt e a) fits x = left_longer f x (h x) (eqb x e.0)
+leavings_next f refused lines waits h outcome.Done (action.Close e) fits x = left_shut f x (h x) (eqb x e.0)
+leavings_next f refused lines waits h (outcome.Discarded vs) (action.Sweep e) fits x = left_swept f e vs x (swept_of f e vs fits) (lines x) (waits x) (h x) (eqb x e.0) refl
+leavings_next f refused lines waits h (outcome.Line l) (action.Line e a) fits x = relined _ _ _ (f.line x) _ _ _ _ _ (h x).nobody (h x)
+leavings_next f refused lines waits h outcome.Done (action.Back s) fits x = relined _ _ _ (f.line x) _ _ _ _ _ (h x).nobody (h x)
+leavings_next f refused lines waits h o a fits x = h x

@@ -1,13 +1,13 @@
 -- After each pair that fits, the mailbox of each end shows what is known there; so the facts of every legal history are sound.
-use Rattle.std.proofs.Common.{◌≡◌, ℕ, List, [], ◌∷◌, ◌++◌, refl, sym, ap, subst, ◌∙◌, arith, Bool, inl, rules, None, append_assoc, append-nil}
-use Rattle.hub_core.proofs.Words.{Envelope, Action, Outcome, Pair, History, Facts, facts, Answers, Fits, Legal, SoundPlaces, Sound, Mailbox, OneRight, first_mailbox, after_pair, mailbox_from, mailbox}
-use Rattle.hub_core.proofs.Nexts.{next, facts_next, by_change}
+use Rattle.std.proofs.Common.{Bool, List, None, [], ap, append-nil, append_assoc, arith, inl, refl, rules, subst, sym, ℕ, ◌++◌, ◌∙◌, ◌∷◌, ◌≡◌}
+use Rattle.hub_core.proofs.Words.{Action, Answers, Envelope, Facts, Fits, History, Legal, Mailbox, OneRight, Outcome, Pair, Sound, SoundPlaces, after_pair, facts, first_mailbox, mailbox, mailbox_from}
 use Rattle.hub_core.proofs.Legals.{by_pairs}
+use Rattle.hub_core.proofs.MailboxOf.{Kept, kept_next, new_shown}
+use Rattle.hub_core.proofs.Nexts.{facts_next, next}
 use Rattle.hub_core.proofs.SoundLines.{MarksAt, marks_next}
-use Rattle.hub_core.proofs.SoundWaiting.{LeavingsAt, leavings_next}
 use Rattle.hub_core.proofs.SoundPlaces.{places_next}
 use Rattle.hub_core.proofs.SoundShown.{lines_shown, waiting_shown}
-use Rattle.hub_core.proofs.MailboxOf.{Kept, new_shown, kept_next}
+use Rattle.hub_core.proofs.SoundWaiting.{LeavingsAt, leavings_next}
 
 -- ---- the mailbox, one pair later
 
@@ -39,12 +39,12 @@ sound_of f m k = record {
 are_kept_next : (f : Facts) (m : ℕ → Mailbox OneRight) (refused : Bool) (o : Outcome) (a : Action) → AreKept f m → Answers f a refused o → AreKept (next f a o) (λ e. after_pair f e (m e) o a)
 are_kept_next f m refused o a k fits =
     let sound : Sound f = sound_of f m k in
-    let rest = by_change (λ g. ((e : ℕ) → MarksAt g e) × ((e : ℕ) → LeavingsAt g e) × SoundPlaces g) f a o (k.marks, k.leavings, k.places) (λ change. (
-      marks_next f refused sound.places.ends sound.lines k.marks fits change,
-      leavings_next f refused sound.lines sound.waiting k.leavings fits change,
-      places_next f refused sound fits change,
-    )) in
-    record { marks = rest.0; leavings = rest.1; places = rest.2; boxes = λ e. kept_next f e (m e) sound refused o a fits (k.boxes e) }
+    record {
+      marks = marks_next f refused sound.places.ends sound.lines k.marks o a fits;
+      leavings = leavings_next f refused sound.lines sound.waiting k.leavings o a fits;
+      places = places_next f refused sound o a fits;
+      boxes = λ e. kept_next f e (m e) sound refused o a fits (k.boxes e);
+    }
 
 nothing_there : (before after : List Envelope) (v : Envelope) → (let none : List Envelope = [] in none ≡ before ++ v ∷ after) → after ≡ []
 nothing_there [] after v is = absurd (search (rules, is))

@@ -1,16 +1,14 @@
 -- Who posts on a line, who may enter, and which ports are in flight.
-use Rattle.std.proofs.Common.{◌≡◌, ℕ, ◌+◌, ◌<◌, ◌≤◌, Bool, true, false, cond, eqb, List, [], ◌∷◌, ◌++◌, Option, Some, None, refl, sym, ap, subst, ◌∙◌, arith, rules, length, append_assoc, append-nil, inl, inr, ◌⊎◌, ◌&&◌, ◌||◌, not, nat_le, drop, ne_eqb, leb-true, leb-false}
-use Rattle.hub_core.proofs.Words.{is_some, option_and_then, AllByRecursion, list_all, filter, false≢true, eqb-true, and_parts, or_right, AgentId, EndId, Envelope, Place, With, InFlight, Arrived, Swept, Gone, Sender, Out, Action, Outcome, EndNow, LineNow, Facts, Answers, names, is_named, by, Prefix, running_at, holder, poster}
-use Rattle.hub_core.proofs.Words.{phase_of_line, is_out, is_with, own_poster_out, is_at, may_enter, hears_notice, is_here, may_leave_agent, own_line_plain, running, poster_of, speaker_in, IsNext, no_end, IsOfEnd, total, naming, flights, SoundPlaces, Sound, lines_of, peer_of, is_queue, IsAllWaiting, Kind, on_line, is_released, Port}
-use Rattle.hub_core.proofs.Words.{Client, Worker, Member, is_client, is_worker, CastNow, is_first, cast_to, cast_after, maker_of, has_poster, has_poster_of, is_holder}
-use Rattle.hub_core.specs.declared.step.Action.TheVariants as action
-use Rattle.hub_core.specs.declared.outcome.Outcome.TheVariants as outcome
+use Rattle.std.proofs.Common.{Bool, List, None, Option, Some, [], ap, append-nil, append_assoc, arith, cond, eqb, false, inl, inr, leb-false, leb-true, length, nat_le, ne_eqb, not, refl, rules, subst, sym, true, ℕ, ◌&&◌, ◌++◌, ◌+◌, ◌<◌, ◌||◌, ◌∙◌, ◌∷◌, ◌≡◌, ◌≤◌, ◌⊎◌}
+use Rattle.hub_core.proofs.Words.{AgentId, AllByRecursion, Arrived, CastNow, Client, EndId, EndNow, Envelope, Facts, Gone, InFlight, IsAllWaiting, IsNext, IsOfEnd, Kind, LineNow, Member, Out, Place, Port, Prefix, Sender}
+use Rattle.hub_core.proofs.Words.{Sound, SoundPlaces, Swept, With, Worker, and_parts, by, eqb-true, false≢true, filter, flights, has_poster, has_poster_of, hears_notice, holder, is_at, is_first, is_here, is_holder, is_named, is_out}
+use Rattle.hub_core.proofs.Words.{is_queue, is_released, is_some, is_with, lines_of, list_all, maker_of, may_enter, may_leave_agent, names, naming, no_end, on_line, opened, option_and_then, or_right, own_line_plain, own_poster_out, peer_of, phase_of_line, place, poster}
+use Rattle.hub_core.proofs.Words.{poster_of, running, running_at, speaker_in, total}
+use Rattle.hub_core.proofs.Fitting.{SweptWith}
 use Rattle.hub_core.proofs.Lists.{eqb_same}
-use Rattle.hub_core.proofs.Totals.{total_less, total_more, count, bit, count_more, count_lines, count_append}
-use Rattle.hub_core.proofs.Nexts.{next, Change, agent_made, channel_made, let_in, found_moved, found_closed, put, left, started, got, hopped, went_on, cleared, adopted, notice_put, end_closed, end_swept, client_made, worker_made, line_got, line_back, handed, agent_ordered, agent_ended, member_joined, cast_begun, member_parted}
-use Rattle.hub_core.proofs.Fitting.{new_ends, pushed_of, got_of, adopted_of, closed_of, SweptWith, swept_of, queue_made_of, handed_of, line_got_of, back_of, none_away, see_of, member_made_of, cast_of, left_of}
 use Rattle.hub_core.proofs.SoundLines.{LinesAt, line_there}
-use Rattle.hub_core.proofs.SoundWaiting.{WaitingAt, got_prefix, nothing_more, all_removed}
+use Rattle.hub_core.proofs.SoundWaiting.{WaitingAt, all_removed, got_prefix, nothing_more}
+use Rattle.hub_core.proofs.Totals.{bit, count, count_append, count_lines, count_more, total_less, total_more}
 
 -- ---- ends that were not made
 
@@ -85,7 +83,7 @@ runs_held : (f : Facts) (q : Option AgentId) → is_some (running f q) ≡ true 
 runs_held f None h = absurd (false≢true h)
 runs_held f (Some a) h = (a, refl, elim ((f.agent a.0).runs) as (λ b. is_some (cond b (Some a) None) ≡ true → b ≡ true) [ true ↦ λ _. refl | false ↦ λ no. absurd (false≢true no) ] h)
 
-held_by_one : (f : Facts) (s : Sender) → is_queue (f.end s.end.0).kind ≡ true → is_some (running f (f.line s.end.0 s.line.0).held_by) ≡ true → HoldsLine f s
+pub held_by_one : (f : Facts) (s : Sender) → is_queue (f.end s.end.0).kind ≡ true → is_some (running f (f.line s.end.0 s.line.0).held_by) ≡ true → HoldsLine f s
 held_by_one f s queue h = let r = runs_held f (f.line s.end.0 s.line.0).held_by h in record { queue = queue; agent = r.0; held = r.1; runs = r.2 }
 
 -- a kind with a maker
@@ -135,7 +133,7 @@ port_of (Some (Member a)) q h = absurd (search (rules, h))
 port_of None q h = absurd (search (rules, h))
 
 -- the poster, by what it is read off
-poster_as : (g : Facts) (s : Sender) (q : ℕ) (a : AgentId) → s.line.0 ≡ 0 → peer_of (g.end s.end.0).kind ≡ Some q → (g.end q).place ≡ Some (With a) → (g.agent a.0).runs ≡ true → poster g s ≡ Some a
+pub poster_as : (g : Facts) (s : Sender) (q : ℕ) (a : AgentId) → s.line.0 ≡ 0 → peer_of (g.end s.end.0).kind ≡ Some q → (g.end q).place ≡ Some (With a) → (g.agent a.0).runs ≡ true → poster g s ≡ Some a
 poster_as g s q a line peer place runs = let port = port_of (g.end s.end.0).kind q peer in rw (line, port, place, runs) refl
 
 queue_poster : (g : Facts) (s : Sender) (p : Option Kind) → is_queue p ≡ true → poster_of g s p ≡ running g (g.line s.end.0 s.line.0).held_by
@@ -261,22 +259,19 @@ swept_flies f e vs x s w named =
 -- ---- whoever is away keeps the line
 
 -- the own poster of a port that may be closed is out
-released_out : (f : Facts) (p : Option Kind) (x : ℕ) → is_released f p ≡ true → peer_of p ≡ Some x → own_poster_out f (peer_of p) ≡ true
+pub released_out : (f : Facts) (p : Option Kind) (x : ℕ) → is_released f p ≡ true → peer_of p ≡ Some x → own_poster_out f (peer_of p) ≡ true
 released_out f (Some (Port q)) x h is = h
 released_out f (Some Client) x h is = absurd (search (rules, is))
 released_out f (Some Worker) x h is = absurd (search (rules, is))
 released_out f (Some (Member a)) x h is = absurd (search (rules, is))
 released_out f None x h is = absurd (search (rules, is))
 
-own_out : (f : Facts) (s : Sender) (q : ℕ) → s.line.0 ≡ 0 → own_poster_out f (peer_of (f.end q).kind) ≡ true → peer_of (f.end q).kind ≡ Some s.end.0 → is_out (phase_of_line f s) ≡ true
+pub own_out : (f : Facts) (s : Sender) (q : ℕ) → s.line.0 ≡ 0 → own_poster_out f (peer_of (f.end q).kind) ≡ true → peer_of (f.end q).kind ≡ Some s.end.0 → is_out (phase_of_line f s) ≡ true
 own_out f s q line out peer =
     let first : is_out ((f.line s.end.0 0).phase) ≡ true = subst (λ p. own_poster_out f p ≡ true) peer out in
     subst (λ l. is_out ((f.line s.end.0 l).phase) ≡ true) (sym line) first
 
-other_place : (p q : Option Place) (a : AgentId) → p ≡ Some (With a) → p ≡ Some InFlight → ⊥
-other_place p q a with_a flying = absurd (search (rules, sym with_a ∙ flying))
-
-still_runs : (b r : Bool) → r ≡ true → cond b true r ≡ true
+pub still_runs : (b r : Bool) → r ≡ true → cond b true r ≡ true
 still_runs true r h = refl
 still_runs false r h = h
 
@@ -291,11 +286,6 @@ old_end f e e' x first second less =
 
 pub holder_made : (f : Facts) (e : ℕ) → SoundPlaces f → is_some (holder f e) ≡ true → e < f.ends
 holder_made f e s h = let there = runs_there f (f.end e).place h in placed_made f e (With there.0) s there.1
-
--- the ends that a push or a take moves are none that a poster of a line that is away has
-unmoved : (named : Bool) (p q r : Option Place) → (named ≡ true → ⊥) → q ≡ r → cond named p q ≡ r
-unmoved true p q r never h = absurd (never refl)
-unmoved false p q r never h = h
 
 -- an agent that runs was made
 pub running_made : (f : Facts) (a : AgentId) → SoundPlaces f → (f.agent a.0).runs ≡ true → a.0 < f.agents
@@ -313,18 +303,18 @@ pub queue_is_made : (f : Facts) (x : ℕ) → SoundPlaces f → is_queue (f.end 
 queue_is_made f x s is = made_of f x s.ends (λ none. false≢true (sym (ap (λ (e : EndNow). is_queue e.kind) none) ∙ is))
 
 -- an agent that isn't the one that ends runs on
-runs_on : (b r : Bool) → (b ≡ true → ⊥) → r ≡ true → cond b false r ≡ true
+pub runs_on : (b r : Bool) → (b ≡ true → ⊥) → r ≡ true → cond b false r ≡ true
 runs_on true r never h = absurd (never refl)
 runs_on false r never h = h
 
 -- the poster of a port's line is that of the agent that has the port
-port_owned : (f : Facts) (a : AgentId) (s : Sender) (k : Speaks f s) → k.agent.0 ≡ a.0 → has_poster f a s.end.0 s.line.0 ≡ true
+pub port_owned : (f : Facts) (a : AgentId) (s : Sender) (k : Speaks f s) → k.agent.0 ≡ a.0 → has_poster f a s.end.0 s.line.0 ≡ true
 port_owned f a s k same =
     let port = port_of (f.end s.end.0).kind k.peer k.entangled in
     rw (port, k.line, k.has) (ap (eqb a.0) same ∙ eqb_same a.0)
 
 -- the poster of a queue's line is that of the agent that holds it
-line_owned : (f : Facts) (a : AgentId) (s : Sender) (p : Option Kind) → is_queue p ≡ true → (b : AgentId) → (f.line s.end.0 s.line.0).held_by ≡ Some b → b.0 ≡ a.0 → has_poster_of f a s.end.0 s.line.0 p ≡ true
+pub line_owned : (f : Facts) (a : AgentId) (s : Sender) (p : Option Kind) → is_queue p ≡ true → (b : AgentId) → (f.line s.end.0 s.line.0).held_by ≡ Some b → b.0 ≡ a.0 → has_poster_of f a s.end.0 s.line.0 p ≡ true
 line_owned f a s (Some (Port q)) queue b held same = absurd (false≢true queue)
 line_owned f a s (Some Client) queue b held same = ap (is_holder a) held ∙ ap (eqb a.0) same ∙ eqb_same a.0
 line_owned f a s (Some Worker) queue b held same = ap (is_holder a) held ∙ ap (eqb a.0) same ∙ eqb_same a.0
@@ -344,171 +334,11 @@ pub same_sender : (s t : Sender) → s.end.0 ≡ t.end.0 → s.line.0 ≡ t.line
 same_sender s t end line = λ i. record { end = record { 0 = end i }; line = record { 0 = line i } }
 
 -- a line that another one isn't stays held
-still_held : (f : Facts) (s t : Sender) (holder : Option AgentId) (a : AgentId) → (f.line s.end.0 s.line.0).held_by ≡ Some a → (s ≡ t → ⊥) → on_line s.end.0 s.line.0 t holder (f.line s.end.0 s.line.0).held_by ≡ Some a
+pub still_held : (f : Facts) (s t : Sender) (holder : Option AgentId) (a : AgentId) → (f.line s.end.0 s.line.0).held_by ≡ Some a → (s ≡ t → ⊥) → on_line s.end.0 s.line.0 t holder (f.line s.end.0 s.line.0).held_by ≡ Some a
 still_held f s t holder a held other = elim (eqb s.end.0 t.end.0 && eqb s.line.0 t.line.0) as (λ b. (eqb s.end.0 t.end.0 && eqb s.line.0 t.line.0) ≡ b → cond b holder (f.line s.end.0 s.line.0).held_by ≡ Some a) [
   | true ↦ λ is. let both = and_parts (eqb s.end.0 t.end.0) (eqb s.line.0 t.line.0) is in absurd (other (same_sender s t (eqb-true s.end.0 t.end.0 both.0) (eqb-true s.line.0 t.line.0 both.1)))
   | false ↦ λ is. held
 ] refl
-
--- the poster of a port's line that is away is the same after every pair that fits
-port_speaker_next : (f : Facts) {a : Action} (refused : Bool) {o : Outcome} → Sound f → Answers f a refused o → Change a o → (s : Sender) → is_out (phase_of_line f s) ≡ false → Speaks f s → poster (next f a o) s ≡ poster f s
-port_speaker_next f refused h fits (agent_made origin n) s away k =
-    poster_as (next f (action.Agent origin) (outcome.Agent n)) s k.peer k.agent k.line k.entangled k.has (still_runs (eqb k.agent.0 n.0) (f.agent k.agent.0).runs k.runs) ∙ sym (poster_is f s k)
-port_speaker_next f refused h fits (channel_made b e e') s away k =
-    let made = new_ends f b refused e e' fits in
-    let target = old_end f e e' s.end.0 made.1 made.2 (entangled_made f s.end.0 k.peer h.places k.entangled) in
-    let source = old_end f e e' k.peer made.1 made.2 (placed_made f k.peer (With k.agent) h.places k.has) in
-    poster_as (next f (action.Channel b) (outcome.Ends e e')) s k.peer k.agent k.line (rw (target.0, target.1) k.entangled) (rw (source.0, source.1) k.has) k.runs ∙ sym (poster_is f s k)
-port_speaker_next f refused h fits (client_made b e) s away k =
-    let made = queue_made_of f is_client b refused e fits in
-    let target = old_one f e s.end.0 made.number (entangled_made f s.end.0 k.peer h.places k.entangled) in
-    let source = old_one f e k.peer made.number (placed_made f k.peer (With k.agent) h.places k.has) in
-    poster_as (next f (action.Client b) (outcome.End e)) s k.peer k.agent k.line (rw target k.entangled) (rw source k.has) k.runs ∙ sym (poster_is f s k)
-port_speaker_next f refused h fits (worker_made b e) s away k =
-    let made = queue_made_of f is_worker b refused e fits in
-    let target = old_one f e s.end.0 made.number (entangled_made f s.end.0 k.peer h.places k.entangled) in
-    let source = old_one f e k.peer made.number (placed_made f k.peer (With k.agent) h.places k.has) in
-    poster_as (next f (action.Worker b) (outcome.End e)) s k.peer k.agent k.line (rw target k.entangled) (rw source k.has) k.runs ∙ sym (poster_is f s k)
-port_speaker_next f refused h fits (member_joined b name e) s away k =
-    let made = member_made_of f b refused e fits in
-    let target = old_one f e s.end.0 made.number (entangled_made f s.end.0 k.peer h.places k.entangled) in
-    let source = old_one f e k.peer made.number (placed_made f k.peer (With k.agent) h.places k.has) in
-    poster_as (next f (action.Member b name) (outcome.End e)) s k.peer k.agent k.line (rw target k.entangled) (rw source k.has) k.runs ∙ sym (poster_is f s k)
-port_speaker_next f refused h fits (cast_begun e ports body ends) s away k = poster_as (next f (action.Cast e ports body) (outcome.Destinations ends)) s k.peer k.agent k.line k.entangled k.has k.runs ∙ sym (poster_is f s k)
-port_speaker_next f refused h fits (member_parted e) s away k = poster_as (next f (action.Part e) outcome.Done) s k.peer k.agent k.line k.entangled k.has k.runs ∙ sym (poster_is f s k)
-port_speaker_next f refused h fits (line_got e a l) s away k = poster_as (next f (action.Line e a) (outcome.Line l)) s k.peer k.agent k.line k.entangled k.has k.runs ∙ sym (poster_is f s k)
-port_speaker_next f refused h fits (line_back t) s away k = poster_as (next f (action.Back t) outcome.Done) s k.peer k.agent k.line k.entangled k.has k.runs ∙ sym (poster_is f s k)
-port_speaker_next f refused h fits (handed e b) s away k =
-    let hands = handed_of f e b fits in
-    let stays : eqb k.peer e.0 ≡ true → ⊥ = λ same.
-    let back : peer_of (f.end k.peer).kind ≡ Some s.end.0 = (h.places.peers s.end.0 k.peer k.entangled).1 in
-    no_port (f.end k.peer).kind s.end.0 (ap (λ y. is_queue (f.end y).kind) (eqb-true k.peer e.0 same) ∙ hands.queue) back
-    in
-    poster_as (next f (action.Hand e b) outcome.Handed) s k.peer k.agent k.line k.entangled (unmoved (eqb k.peer e.0) _ _ _ stays k.has) k.runs ∙ sym (poster_is f s k)
-port_speaker_next f refused h fits (agent_ordered a) s away k = poster_as (next f (action.Order a) outcome.Ordered) s k.peer k.agent k.line k.entangled k.has k.runs ∙ sym (poster_is f s k)
-port_speaker_next f refused h fits (agent_ended a es) s away k =
-    let none : has_poster f a s.end.0 s.line.0 ≡ false = none_away f a s.end.0 s.line.0 (see_of f a es fits) (entangled_made f s.end.0 k.peer h.places k.entangled) (line_there f s (h.lines s.end.0) (h.places.away s away)) away in
-    let stays : eqb k.agent.0 a.0 ≡ true → ⊥ = λ same. false≢true (sym none ∙ port_owned f a s k (eqb-true k.agent.0 a.0 same)) in
-    poster_as (next f (action.See a) (outcome.Ending es)) s k.peer k.agent k.line k.entangled k.has (runs_on (eqb k.agent.0 a.0) (f.agent k.agent.0).runs stays k.runs) ∙ sym (poster_is f s k)
-port_speaker_next f refused h fits (let_in t) s away k = refl
-port_speaker_next f refused h fits (found_moved t) s away k = refl
-port_speaker_next f refused h fits (found_closed t) s away k = refl
-port_speaker_next f refused h fits (put t ports body n) s away k =
-    let p = pushed_of f t ports body refused n fits in
-    let stays : names ports k.peer ≡ true → ⊥ = λ named.
-    let out = own_out f s k.peer k.line (travels f p.agent t k.peer ports p.leave named).1 (h.places.peers s.end.0 k.peer k.entangled).1 in
-    false≢true (sym away ∙ out)
-    in
-    poster_as (next f (action.Push t ports body) (outcome.Accepted n)) s k.peer k.agent k.line k.entangled (unmoved (names ports k.peer) _ _ _ stays k.has) k.runs ∙ sym (poster_is f s k)
-port_speaker_next f refused h fits (notice_put t n) s away k = refl
-port_speaker_next f refused h fits (left t) s away k = poster_as (next f (action.Leave t) outcome.Left) s k.peer k.agent k.line k.entangled k.has k.runs ∙ sym (poster_is f s k)
-port_speaker_next f refused h fits (hopped t n) s away k = refl
-port_speaker_next f refused h fits (started e) s away k = refl
-port_speaker_next f refused h fits (went_on e) s away k = refl
-port_speaker_next f refused h fits (cleared e n) s away k = refl
-port_speaker_next f refused h fits (adopted e a n) s away k =
-    let adopts = adopted_of f e a refused n fits in
-    let stays : eqb k.peer e.0 ≡ true → ⊥ = λ same.
-    let here : (f.end k.peer).place ≡ Some (Arrived a) = ap (λ y. (f.end y).place) (eqb-true k.peer e.0 same) ∙ adopts.arrived in
-    absurd (search (rules, sym k.has ∙ here))
-    in
-    poster_as (next f (action.Adopt e a) (outcome.Adopted n)) s k.peer k.agent k.line k.entangled (unmoved (eqb k.peer e.0) _ _ _ stays k.has) k.runs ∙ sym (poster_is f s k)
-port_speaker_next f refused h fits (got e v) s away k =
-    let served = got_of f e v fits in
-    let stays : names v.ports k.peer ≡ true → ⊥ = λ named.
-    other_place ((f.end k.peer).place) (Some InFlight) k.agent k.has (taken_flies f e v k.peer h served.serves served.is_open (holder_made f e.0 h.places served.held) named)
-    in
-    poster_as (next f (action.Take e) (outcome.Got v)) s k.peer k.agent k.line k.entangled (unmoved (names v.ports k.peer) _ _ _ stays k.has) k.runs ∙ sym (poster_is f s k)
-port_speaker_next f refused h fits (end_closed e) s away k =
-    let closes = closed_of f e fits in
-    let stays : eqb k.peer e.0 ≡ true → ⊥ = λ same.
-    let back : peer_of (f.end k.peer).kind ≡ Some s.end.0 = (h.places.peers s.end.0 k.peer k.entangled).1 in
-    let free : is_released f (f.end k.peer).kind ≡ true = ap (λ y. is_released f (f.end y).kind) (eqb-true k.peer e.0 same) ∙ closes.released in
-    let own : own_poster_out f (peer_of (f.end k.peer).kind) ≡ true = released_out f (f.end k.peer).kind s.end.0 free back in
-    false≢true (sym away ∙ own_out f s k.peer k.line own (h.places.peers s.end.0 k.peer k.entangled).1)
-    in
-    poster_as (next f (action.Close e) outcome.Done) s k.peer k.agent k.line k.entangled (unmoved (eqb k.peer e.0) _ _ _ stays k.has) k.runs ∙ sym (poster_is f s k)
-port_speaker_next f refused h fits (end_swept e vs) s away k =
-    let stays : is_named vs k.peer ≡ true → ⊥ = λ named. other_place ((f.end k.peer).place) (Some InFlight) k.agent k.has (swept_flies f e vs k.peer h (swept_of f e vs fits) named) in
-    poster_as (next f (action.Sweep e) (outcome.Discarded vs)) s k.peer k.agent k.line k.entangled (unmoved (is_named vs k.peer) _ _ _ stays k.has) k.runs ∙ sym (poster_is f s k)
-
--- an agent that holds a queue's line that is away holds it after every pair that fits
-held_next : (f : Facts) {a : Action} (refused : Bool) {o : Outcome} → Sound f → Answers f a refused o → Change a o → (s : Sender) → is_out (phase_of_line f s) ≡ false → (k : HoldsLine f s) → HoldsLine (next f a o) s
-held_next f refused h fits (agent_made origin n) s away k = record { queue = k.queue; agent = k.agent; held = k.held; runs = still_runs (eqb k.agent.0 n.0) (f.agent k.agent.0).runs k.runs }
-held_next f refused h fits (channel_made b e e') s away k =
-    let made = new_ends f b refused e e' fits in
-    let target = old_end f e e' s.end.0 made.1 made.2 (queue_is_made f s.end.0 h.places k.queue) in
-    record { queue = rw (target.0, target.1) k.queue; agent = k.agent; held = k.held; runs = k.runs }
-held_next f refused h fits (client_made b e) s away k =
-    let made = queue_made_of f is_client b refused e fits in
-    let target = old_one f e s.end.0 made.number (queue_is_made f s.end.0 h.places k.queue) in
-    record { queue = rw target k.queue; agent = k.agent; held = k.held; runs = k.runs }
-held_next f refused h fits (worker_made b e) s away k =
-    let made = queue_made_of f is_worker b refused e fits in
-    let target = old_one f e s.end.0 made.number (queue_is_made f s.end.0 h.places k.queue) in
-    record { queue = rw target k.queue; agent = k.agent; held = k.held; runs = k.runs }
-held_next f refused h fits (member_joined b name e) s away k =
-    let made = member_made_of f b refused e fits in
-    let target = old_one f e s.end.0 made.number (queue_is_made f s.end.0 h.places k.queue) in
-    record { queue = rw target k.queue; agent = k.agent; held = k.held; runs = k.runs }
-held_next f refused h fits (cast_begun e ports body ends) s away k = record { queue = k.queue; agent = k.agent; held = k.held; runs = k.runs }
-held_next f refused h fits (member_parted e) s away k = record { queue = k.queue; agent = k.agent; held = k.held; runs = k.runs }
-held_next f refused h fits (line_got e a l) s away k =
-    let gets = line_got_of f e a l fits in
-    record { queue = k.queue; agent = k.agent; held = still_held f s (record { end = e; line = l }) (Some a) k.agent k.held (λ same. absurd (search (rules, sym k.held ∙ (ap (λ (t : Sender). (f.line t.end.0 t.line.0).held_by) same ∙ gets.free)))); runs = k.runs }
-held_next f refused h fits (line_back t) s away k =
-    let back = back_of f t fits in
-    record { queue = k.queue; agent = k.agent; held = still_held f s t None k.agent k.held (λ same. absurd (false≢true (sym away ∙ (ap (λ (u : Sender). is_out (phase_of_line f u)) same ∙ back.1)))); runs = k.runs }
-held_next f refused h fits (handed e b) s away k = record { queue = k.queue; agent = k.agent; held = k.held; runs = k.runs }
-held_next f refused h fits (agent_ordered a) s away k = record { queue = k.queue; agent = k.agent; held = k.held; runs = k.runs }
-held_next f refused h fits (agent_ended a es) s away k =
-    let none : has_poster f a s.end.0 s.line.0 ≡ false = none_away f a s.end.0 s.line.0 (see_of f a es fits) (queue_is_made f s.end.0 h.places k.queue) (line_there f s (h.lines s.end.0) (h.places.away s away)) away in
-    let stays : eqb k.agent.0 a.0 ≡ true → ⊥ = λ same. false≢true (sym none ∙ line_owned f a s (f.end s.end.0).kind k.queue k.agent k.held (eqb-true k.agent.0 a.0 same)) in
-    record { queue = k.queue; agent = k.agent; held = k.held; runs = runs_on (eqb k.agent.0 a.0) (f.agent k.agent.0).runs stays k.runs }
-held_next f refused h fits (let_in t) s away k = record { queue = k.queue; agent = k.agent; held = k.held; runs = k.runs }
-held_next f refused h fits (found_moved t) s away k = record { queue = k.queue; agent = k.agent; held = k.held; runs = k.runs }
-held_next f refused h fits (found_closed t) s away k = record { queue = k.queue; agent = k.agent; held = k.held; runs = k.runs }
-held_next f refused h fits (put t ports body n) s away k = record { queue = k.queue; agent = k.agent; held = k.held; runs = k.runs }
-held_next f refused h fits (notice_put t n) s away k = record { queue = k.queue; agent = k.agent; held = k.held; runs = k.runs }
-held_next f refused h fits (left t) s away k = record { queue = k.queue; agent = k.agent; held = k.held; runs = k.runs }
-held_next f refused h fits (hopped t k2) s away k = record { queue = k.queue; agent = k.agent; held = k.held; runs = k.runs }
-held_next f refused h fits (started e) s away k = record { queue = k.queue; agent = k.agent; held = k.held; runs = k.runs }
-held_next f refused h fits (got e v) s away k = record { queue = k.queue; agent = k.agent; held = k.held; runs = k.runs }
-held_next f refused h fits (went_on e) s away k = record { queue = k.queue; agent = k.agent; held = k.held; runs = k.runs }
-held_next f refused h fits (cleared e k2) s away k = record { queue = k.queue; agent = k.agent; held = k.held; runs = k.runs }
-held_next f refused h fits (adopted e a n) s away k = record { queue = k.queue; agent = k.agent; held = k.held; runs = k.runs }
-held_next f refused h fits (end_closed e) s away k = record { queue = k.queue; agent = k.agent; held = k.held; runs = k.runs }
-held_next f refused h fits (end_swept e vs) s away k = record { queue = k.queue; agent = k.agent; held = k.held; runs = k.runs }
-
--- the agent that holds it is the same one
-held_same : (f : Facts) {a : Action} (refused : Bool) {o : Outcome} (h : Sound f) (fits : Answers f a refused o) (c : Change a o) (s : Sender) (away : is_out (phase_of_line f s) ≡ false) (k : HoldsLine f s) → (held_next f refused h fits c s away k).agent ≡ k.agent
-unfolding held_next
-held_same f refused h fits (agent_made origin n) s away k = refl
-held_same f refused h fits (channel_made b e e') s away k = refl
-held_same f refused h fits (client_made b e) s away k = refl
-held_same f refused h fits (worker_made b e) s away k = refl
-held_same f refused h fits (member_joined b name e) s away k = refl
-held_same f refused h fits (cast_begun e ports body ends) s away k = refl
-held_same f refused h fits (member_parted e) s away k = refl
-held_same f refused h fits (line_got e a l) s away k = refl
-held_same f refused h fits (line_back t) s away k = refl
-held_same f refused h fits (handed e b) s away k = refl
-held_same f refused h fits (agent_ordered a) s away k = refl
-held_same f refused h fits (agent_ended a es) s away k = refl
-held_same f refused h fits (let_in t) s away k = refl
-held_same f refused h fits (found_moved t) s away k = refl
-held_same f refused h fits (found_closed t) s away k = refl
-held_same f refused h fits (put t ports body n) s away k = refl
-held_same f refused h fits (notice_put t n) s away k = refl
-held_same f refused h fits (left t) s away k = refl
-held_same f refused h fits (hopped t k2) s away k = refl
-held_same f refused h fits (started e) s away k = refl
-held_same f refused h fits (got e v) s away k = refl
-held_same f refused h fits (went_on e) s away k = refl
-held_same f refused h fits (cleared e k2) s away k = refl
-held_same f refused h fits (adopted e a n) s away k = refl
-held_same f refused h fits (end_closed e) s away k = refl
-held_same f refused h fits (end_swept e vs) s away k = refl
 
 -- ---- broadcast channels
 
@@ -516,29 +346,17 @@ held_same f refused h fits (end_swept e vs) s away k = refl
 pub kind_made : (f : Facts) (x : ℕ) (k : Kind) → SoundPlaces f → (f.end x).kind ≡ Some k → x < f.ends
 kind_made f x k s is = made_of f x s.ends (λ none. absurd (search (rules, sym (ap (λ (e : EndNow). e.kind) none) ∙ is)))
 
--- a cast stays where the kinds of ends and the cast do
-casts_still : (f g : Facts) (s : Sender) (b : AgentId) → ((x : ℕ) (k : Kind) → (f.end x).kind ≡ Some k → (g.end x).kind ≡ Some k) → g.roster.cast ≡ f.roster.cast → Casts f s b → Casts g s b
-casts_still f g s b kinds same k = record {
-  line = k.line;
-  maker = k.maker;
-  member = kinds s.end.0 (Member k.maker) k.member;
-  cast = k.cast;
-  is_open = same ∙ k.is_open;
-  first = k.first;
-  source = kinds k.cast.source.0 (Member b) k.source;
-}
-
 -- no cast is open, so no line is spoken on
-none_open : (f : Facts) (s : Sender) (b : AgentId) → Casts f s b → is_some f.roster.cast ≡ false → ⊥
+pub none_open : (f : Facts) (s : Sender) (b : AgentId) → Casts f s b → is_some f.roster.cast ≡ false → ⊥
 none_open f s b k over = false≢true (sym over ∙ ap is_some k.is_open)
 
 -- one end alone is the first
-not_first : (x y : ℕ) (left : List EndId) → is_first y left ≡ true → (x ≡ y → ⊥) → is_first x left ≡ false
+pub not_first : (x y : ℕ) (left : List EndId) → is_first y left ≡ true → (x ≡ y → ⊥) → is_first x left ≡ false
 not_first x y [] first other = refl
 not_first x y (z ∷ zs) first other = ne_eqb x z.0 (λ is. other (is ∙ sym (eqb-true y z.0 first)))
 
 -- what a poster left that isn't this one
-left_other : (f : Facts) (t s : Sender) (b : AgentId) → Sound f → is_out (phase_of_line f t) ≡ false → Casts f s b → is_out (on_line s.end.0 s.line.0 t Out (f.line s.end.0 s.line.0).phase) ≡ false → t.end.0 ≡ s.end.0 → ⊥
+pub left_other : (f : Facts) (t s : Sender) (b : AgentId) → Sound f → is_out (phase_of_line f t) ≡ false → Casts f s b → is_out (on_line s.end.0 s.line.0 t Out (f.line s.end.0 s.line.0).phase) ≡ false → t.end.0 ≡ s.end.0 → ⊥
 left_other f t s b h away k after same =
     let low : t.line.0 < lines_of (f.end t.end.0).kind = line_there f t (h.lines t.end.0) (h.places.away t away) in
     let one : lines_of (f.end t.end.0).kind ≡ 1 = ap (λ x. lines_of (f.end x).kind) same ∙ ap lines_of k.member in
@@ -546,62 +364,7 @@ left_other f t s b h away k after same =
     let here : (eqb s.end.0 t.end.0 && eqb s.line.0 t.line.0) ≡ true = rw (sym same, first) (ap (λ c. c && eqb t.line.0 t.line.0) (eqb_same t.end.0) ∙ eqb_same t.line.0) in
     false≢true (sym after ∙ ap (λ c. is_out (cond c Out (f.line s.end.0 s.line.0).phase)) here)
 
--- the agent whose cast goes to a line that is away speaks there until the poster leaves
-cast_next : (f : Facts) {a : Action} (refused : Bool) {o : Outcome} → Sound f → Answers f a refused o → Change a o → (s : Sender) → is_out (phase_of_line (next f a o) s) ≡ false → (b : AgentId) → Casts f s b → Casts (next f a o) s b
-cast_next f refused h fits (agent_made origin n) s after b k = casts_still f (next f (action.Agent origin) (outcome.Agent n)) s b (λ x u is. is) refl k
-cast_next f refused h fits (channel_made c e e') s after b k =
-    let made = new_ends f c refused e e' fits in
-    casts_still f (next f (action.Channel c) (outcome.Ends e e')) s b (λ x u is. let old = old_end f e e' x made.1 made.2 (kind_made f x u h.places is) in rw (old.0, old.1) is) refl k
-cast_next f refused h fits (client_made c e) s after b k =
-    let made = queue_made_of f is_client c refused e fits in
-    casts_still f (next f (action.Client c) (outcome.End e)) s b (λ x u is. rw (old_one f e x made.number (kind_made f x u h.places is)) is) refl k
-cast_next f refused h fits (worker_made c e) s after b k =
-    let made = queue_made_of f is_worker c refused e fits in
-    casts_still f (next f (action.Worker c) (outcome.End e)) s b (λ x u is. rw (old_one f e x made.number (kind_made f x u h.places is)) is) refl k
-cast_next f refused h fits (member_joined c name e) s after b k =
-    let made = member_made_of f c refused e fits in
-    casts_still f (next f (action.Member c name) (outcome.End e)) s b (λ x u is. rw (old_one f e x made.number (kind_made f x u h.places is)) is) refl k
-cast_next f refused h fits (cast_begun e ports body ends) s after b k = absurd (none_open f s b k (cast_of f e ports ends fits).over)
-cast_next f refused h fits (left t) s after b k = record {
-  line = k.line;
-  maker = k.maker;
-  member = k.member;
-  cast = k.cast;
-  is_open = ap (cast_after t.end.0) k.is_open ∙ ap (λ c. cond c (cast_to k.cast.source k.cast.body (drop 1 k.cast.left)) (Some k.cast)) (not_first t.end.0 s.end.0 k.cast.left k.first (left_other f t s b h (left_of f t fits) k after));
-  first = k.first;
-  source = k.source;
-}
-cast_next f refused h fits (line_got e a l) s after b k = casts_still f (next f (action.Line e a) (outcome.Line l)) s b (λ x u is. is) refl k
-cast_next f refused h fits (line_back t) s after b k = casts_still f (next f (action.Back t) outcome.Done) s b (λ x u is. is) refl k
-cast_next f refused h fits (handed e c) s after b k = casts_still f (next f (action.Hand e c) outcome.Handed) s b (λ x u is. is) refl k
-cast_next f refused h fits (agent_ordered a) s after b k = casts_still f (next f (action.Order a) outcome.Ordered) s b (λ x u is. is) refl k
-cast_next f refused h fits (agent_ended a es) s after b k = casts_still f (next f (action.See a) (outcome.Ending es)) s b (λ x u is. is) refl k
-cast_next f refused h fits (member_parted e) s after b k = casts_still f (next f (action.Part e) outcome.Done) s b (λ x u is. is) refl k
-cast_next f refused h fits (let_in t) s after b k = casts_still f (next f (action.Enter t) outcome.In) s b (λ x u is. is) refl k
-cast_next f refused h fits (found_moved t) s after b k = casts_still f (next f (action.Enter t) outcome.Moved) s b (λ x u is. is) refl k
-cast_next f refused h fits (found_closed t) s after b k = casts_still f (next f (action.Enter t) outcome.Closed) s b (λ x u is. is) refl k
-cast_next f refused h fits (put t ports body n) s after b k = casts_still f (next f (action.Push t ports body) (outcome.Accepted n)) s b (λ x u is. is) refl k
-cast_next f refused h fits (notice_put t n) s after b k = casts_still f (next f (action.Notice t) (outcome.Accepted n)) s b (λ x u is. is) refl k
-cast_next f refused h fits (hopped t n) s after b k = casts_still f (next f (action.Hop t) (outcome.Hopped n)) s b (λ x u is. is) refl k
-cast_next f refused h fits (started e) s after b k = casts_still f (next f (action.Start e) outcome.Started) s b (λ x u is. is) refl k
-cast_next f refused h fits (got e v) s after b k = casts_still f (next f (action.Take e) (outcome.Got v)) s b (λ x u is. is) refl k
-cast_next f refused h fits (went_on e) s after b k = casts_still f (next f (action.Take e) outcome.Again) s b (λ x u is. is) refl k
-cast_next f refused h fits (cleared e n) s after b k = casts_still f (next f (action.Look e) (outcome.Clear (Some n))) s b (λ x u is. is) refl k
-cast_next f refused h fits (adopted e a n) s after b k = casts_still f (next f (action.Adopt e a) (outcome.Adopted n)) s b (λ x u is. is) refl k
-cast_next f refused h fits (end_closed e) s after b k = casts_still f (next f (action.Close e) outcome.Done) s b (λ x u is. is) refl k
-cast_next f refused h fits (end_swept e vs) s after b k = casts_still f (next f (action.Sweep e) (outcome.Discarded vs)) s b (λ x u is. is) refl k
-
--- the poster of a line that is away is the same after every pair that fits
-pub speaker_next : (f : Facts) {a : Action} (refused : Bool) {o : Outcome} → Sound f → Answers f a refused o → Change a o → (s : Sender) → is_out (phase_of_line f s) ≡ false → is_out (phase_of_line (next f a o) s) ≡ false → is_some (poster f s) ≡ true → poster (next f a o) s ≡ poster f s
-speaker_next f {a = a} refused {o = o} h fits c s away after speaks = elim (speaks_of f s speaks) [
-  | inl k ↦ port_speaker_next f refused h fits c s away k
-  | inr other ↦ elim other [
-    | inl k ↦ holds_as (next f a o) s (held_next f refused h fits c s away k) ∙ (ap Some (held_same f refused h fits c s away k) ∙ sym (holds_as f s k))
-    | inr k ↦ casts_as (next f a o) s k.0 (cast_next f refused h fits c s after k.0 k.1) ∙ sym (casts_as f s k.0 k.1)
-  ]
-]
-
--- ---- whoever is away may enter
+-- ---- who may enter
 
 -- what the poster of a port's line that may enter says: the line is line 0, and the port at the other side has a place where it can be closed
 pub record Hears (f : Facts) (s : Sender) : Type 0 where
@@ -629,92 +392,16 @@ hears_of f s h = elim (is_some (poster f s)) as (λ b. is_some (poster f s) ≡ 
 pub may_as : (g : Facts) (s : Sender) (q : ℕ) → s.line.0 ≡ 0 → peer_of (g.end s.end.0).kind ≡ Some q → is_here (g.end q).place ≡ true → may_enter g s ≡ true
 may_as g s q line peer here = or_right (is_some (poster g s)) (hears_notice g s) (rw (line, peer, here) refl)
 
-still_here : (b : Bool) (p q : Option Place) → (b ≡ true → is_here p ≡ true) → is_here q ≡ true → is_here (cond b p q) ≡ true
-still_here true p q new old = new refl
-still_here false p q new old = old
-
-not_here : (p : Option Place) → p ≡ Some InFlight → is_here p ≡ true → ⊥
+pub not_here : (p : Option Place) → p ≡ Some InFlight → is_here p ≡ true → ⊥
 not_here p is h = false≢true (sym (ap is_here is) ∙ h)
 
--- a port's line that is away may be entered after every pair that fits
-port_may_next : (f : Facts) {a : Action} (refused : Bool) {o : Outcome} → Sound f → Answers f a refused o → Change a o → (s : Sender) → is_out (phase_of_line f s) ≡ false → Hears f s → may_enter (next f a o) s ≡ true
-port_may_next f refused h fits (agent_made origin n) s away k = may_as (next f (action.Agent origin) (outcome.Agent n)) s k.peer k.line k.entangled k.here
-port_may_next f refused h fits (channel_made b e e') s away k =
-    let made = new_ends f b refused e e' fits in
-    let target = old_end f e e' s.end.0 made.1 made.2 (entangled_made f s.end.0 k.peer h.places k.entangled) in
-    let source = old_end f e e' k.peer made.1 made.2 (h.places.peers s.end.0 k.peer k.entangled).0 in
-    may_as (next f (action.Channel b) (outcome.Ends e e')) s k.peer k.line (rw (target.0, target.1) k.entangled) (rw (source.0, source.1) k.here)
-port_may_next f refused h fits (client_made b e) s away k =
-    let made = queue_made_of f is_client b refused e fits in
-    let target = old_one f e s.end.0 made.number (entangled_made f s.end.0 k.peer h.places k.entangled) in
-    let source = old_one f e k.peer made.number (h.places.peers s.end.0 k.peer k.entangled).0 in
-    may_as (next f (action.Client b) (outcome.End e)) s k.peer k.line (rw target k.entangled) (rw source k.here)
-port_may_next f refused h fits (worker_made b e) s away k =
-    let made = queue_made_of f is_worker b refused e fits in
-    let target = old_one f e s.end.0 made.number (entangled_made f s.end.0 k.peer h.places k.entangled) in
-    let source = old_one f e k.peer made.number (h.places.peers s.end.0 k.peer k.entangled).0 in
-    may_as (next f (action.Worker b) (outcome.End e)) s k.peer k.line (rw target k.entangled) (rw source k.here)
-port_may_next f refused h fits (member_joined b name e) s away k =
-    let made = member_made_of f b refused e fits in
-    let target = old_one f e s.end.0 made.number (entangled_made f s.end.0 k.peer h.places k.entangled) in
-    let source = old_one f e k.peer made.number (h.places.peers s.end.0 k.peer k.entangled).0 in
-    may_as (next f (action.Member b name) (outcome.End e)) s k.peer k.line (rw target k.entangled) (rw source k.here)
-port_may_next f refused h fits (cast_begun e ports body ends) s away k = may_as (next f (action.Cast e ports body) (outcome.Destinations ends)) s k.peer k.line k.entangled k.here
-port_may_next f refused h fits (member_parted e) s away k = may_as (next f (action.Part e) outcome.Done) s k.peer k.line k.entangled k.here
-port_may_next f refused h fits (line_got e a l) s away k = may_as (next f (action.Line e a) (outcome.Line l)) s k.peer k.line k.entangled k.here
-port_may_next f refused h fits (line_back t) s away k = may_as (next f (action.Back t) outcome.Done) s k.peer k.line k.entangled k.here
-port_may_next f refused h fits (agent_ordered a) s away k = may_as (next f (action.Order a) outcome.Ordered) s k.peer k.line k.entangled k.here
-port_may_next f refused h fits (agent_ended a es) s away k = may_as (next f (action.See a) (outcome.Ending es)) s k.peer k.line k.entangled k.here
-port_may_next f refused h fits (handed e b) s away k = may_as (next f (action.Hand e b) outcome.Handed) s k.peer k.line k.entangled (still_here (eqb k.peer e.0) _ _ (λ _. refl) k.here)
-port_may_next f refused h fits (let_in t) s away k = may_as f s k.peer k.line k.entangled k.here
-port_may_next f refused h fits (found_moved t) s away k = may_as f s k.peer k.line k.entangled k.here
-port_may_next f refused h fits (found_closed t) s away k = may_as f s k.peer k.line k.entangled k.here
-port_may_next f refused h fits (put t ports body n) s away k =
-    let p = pushed_of f t ports body refused n fits in
-    let stays : names ports k.peer ≡ true → ⊥ = λ named.
-    let out = own_out f s k.peer k.line (travels f p.agent t k.peer ports p.leave named).1 (h.places.peers s.end.0 k.peer k.entangled).1 in
-    false≢true (sym away ∙ out)
-    in
-    may_as (next f (action.Push t ports body) (outcome.Accepted n)) s k.peer k.line k.entangled (still_here (names ports k.peer) _ _ (λ named. absurd (stays named)) k.here)
-port_may_next f refused h fits (notice_put t n) s away k = may_as f s k.peer k.line k.entangled k.here
-port_may_next f refused h fits (left t) s away k = may_as (next f (action.Leave t) outcome.Left) s k.peer k.line k.entangled k.here
-port_may_next f refused h fits (hopped t n) s away k = may_as f s k.peer k.line k.entangled k.here
-port_may_next f refused h fits (started e) s away k = may_as f s k.peer k.line k.entangled k.here
-port_may_next f refused h fits (got e v) s away k =
-    let served = got_of f e v fits in
-    may_as (next f (action.Take e) (outcome.Got v)) s k.peer k.line k.entangled (still_here (names v.ports k.peer) _ _ (λ named. absurd (not_here (f.end k.peer).place (taken_flies f e v k.peer h served.serves served.is_open (holder_made f e.0 h.places served.held) named) k.here)) k.here)
-port_may_next f refused h fits (went_on e) s away k = may_as f s k.peer k.line k.entangled k.here
-port_may_next f refused h fits (cleared e n) s away k = may_as f s k.peer k.line k.entangled k.here
-port_may_next f refused h fits (adopted e a n) s away k =
-    may_as (next f (action.Adopt e a) (outcome.Adopted n)) s k.peer k.line k.entangled (still_here (eqb k.peer e.0) _ _ (λ _. refl) k.here)
-port_may_next f refused h fits (end_closed e) s away k =
-    let closes = closed_of f e fits in
-    let stays : eqb k.peer e.0 ≡ true → ⊥ = λ same.
-    let back : peer_of (f.end k.peer).kind ≡ Some s.end.0 = (h.places.peers s.end.0 k.peer k.entangled).1 in
-    let free : is_released f (f.end k.peer).kind ≡ true = ap (λ y. is_released f (f.end y).kind) (eqb-true k.peer e.0 same) ∙ closes.released in
-    let own : own_poster_out f (peer_of (f.end k.peer).kind) ≡ true = released_out f (f.end k.peer).kind s.end.0 free back in
-    false≢true (sym away ∙ own_out f s k.peer k.line own (h.places.peers s.end.0 k.peer k.entangled).1)
-    in
-    may_as (next f (action.Close e) outcome.Done) s k.peer k.line k.entangled (still_here (eqb k.peer e.0) _ _ (λ same. absurd (stays same)) k.here)
-port_may_next f refused h fits (end_swept e vs) s away k =
-    may_as (next f (action.Sweep e) (outcome.Discarded vs)) s k.peer k.line k.entangled (still_here (is_named vs k.peer) _ _ (λ _. refl) k.here)
-
 -- a queue's line that an agent holds may be entered
-held_may : (g : Facts) (s : Sender) → HoldsLine g s → may_enter g s ≡ true
+pub held_may : (g : Facts) (s : Sender) → HoldsLine g s → may_enter g s ≡ true
 held_may g s k = ap (λ q. is_some q || hears_notice g s) (holds_as g s k)
 
 -- a line to which a cast goes next may be entered
-casts_may : (g : Facts) (s : Sender) (b : AgentId) → Casts g s b → may_enter g s ≡ true
+pub casts_may : (g : Facts) (s : Sender) (b : AgentId) → Casts g s b → may_enter g s ≡ true
 casts_may g s b k = ap (λ q. is_some q || hears_notice g s) (casts_as g s b k)
-
-pub may_next : (f : Facts) {a : Action} (refused : Bool) {o : Outcome} → Sound f → Answers f a refused o → Change a o → (s : Sender) → is_out (phase_of_line f s) ≡ false → is_out (phase_of_line (next f a o) s) ≡ false → may_enter f s ≡ true → may_enter (next f a o) s ≡ true
-may_next f {a = a} refused {o = o} h fits c s away after may = elim (hears_of f s may) [
-  | inl k ↦ port_may_next f refused h fits c s away k
-  | inr other ↦ elim other [
-    | inl k ↦ held_may (next f a o) s (held_next f refused h fits c s away k)
-    | inr k ↦ casts_may (next f a o) s k.0 (cast_next f refused h fits c s after k.0 k.1)
-  ]
-]
 
 -- a queue is no broadcast channel
 pub no_member : (p : Option Kind) (a : AgentId) → is_queue p ≡ true → p ≡ Some (Member a) → ⊥
