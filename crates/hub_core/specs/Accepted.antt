@@ -1,13 +1,6 @@
 -- What was accepted for an end: the tasks queued on a port message queue (WHATWG HTML, "Message ports").
-use Rattle.std.specs.Prelude.{ℕ, ◌==◌, if◌then◌else◌, List, [], ◌∷◌, true, false, codes}
-use Rattle.std.specs.List.{flat_map}
-use Rattle.hub_envelope.specs.declared.envelope.Envelope.{Envelope}
-use Rattle.hub_envelope.specs.declared.ids.EndId.{EndId}
-use Rattle.hub_core.specs.declared.sender.Sender.{Sender}
-use Rattle.hub_core.specs.declared.outcome.Acceptance.{Acceptance}
-use Rattle.hub_core.specs.declared.step.Action.{Action}
+use Rattle.hub_core.specs.Words.{Acceptance, Action, EndId, Envelope, List, Outcome, Sender, [], codes, false, flat_map, if◌then◌else◌, true, ℕ, ◌==◌, ◌∷◌}
 use Rattle.hub_core.specs.declared.step.Action.TheVariants as action
-use Rattle.hub_core.specs.declared.outcome.Outcome.{Outcome}
 use Rattle.hub_core.specs.declared.outcome.Outcome.TheVariants as outcome
 use Rattle.hub_core.specs.History.{History}
 

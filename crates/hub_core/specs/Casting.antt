@@ -1,12 +1,6 @@
 -- What the steps of broadcast channels are answered (WHATWG HTML, "Broadcasting to other browsing contexts", the steps of
 -- `new BroadcastChannel(name)`, `postMessage(message)` and `close()`).
-use Rattle.std.specs.Prelude.{ℕ, ◌==◌, ◌&&◌, if◌then◌else◌, nat_le, not, is_some, Bool, List, [], Option, Some, None}
-use Rattle.std.specs.List.{filter}
-use Rattle.hub_envelope.specs.declared.ids.AgentId.{AgentId}
-use Rattle.hub_envelope.specs.declared.ids.EndId.{EndId}
-use Rattle.hub_envelope.specs.declared.limits.TheConstants.{MAX_ENDS}
-use Rattle.hub_core.specs.declared.group.Group.{Group}
-use Rattle.hub_core.specs.declared.outcome.Outcome.{Outcome}
+use Rattle.hub_core.specs.Words.{AgentId, Bool, EndId, Group, List, MAX_ENDS, None, Option, Outcome, Some, [], filter, if◌then◌else◌, is_some, nat_le, not, ℕ, ◌&&◌, ◌==◌}
 use Rattle.hub_core.specs.declared.outcome.Outcome.TheVariants as outcome
 use Rattle.hub_core.specs.Facts.{Facts}
 use Rattle.hub_core.specs.Made.{maker_of}

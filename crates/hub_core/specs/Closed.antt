@@ -1,9 +1,6 @@
 -- Whether an end is closed (WHATWG HTML, "Message ports", `close()`).
-use Rattle.std.specs.Prelude.{ℕ, ◌==◌, if◌then◌else◌, Bool, true, false}
-use Rattle.std.specs.List.{fold}
-use Rattle.hub_core.specs.declared.step.Action.{Action}
+use Rattle.hub_core.specs.Words.{Action, Bool, Outcome, false, fold, if◌then◌else◌, true, ℕ, ◌==◌}
 use Rattle.hub_core.specs.declared.step.Action.TheVariants as action
-use Rattle.hub_core.specs.declared.outcome.Outcome.{Outcome}
 use Rattle.hub_core.specs.declared.outcome.Outcome.TheVariants as outcome
 use Rattle.hub_core.specs.History.{History}
 

@@ -1,11 +1,8 @@
 -- What the core keeps.
-use Rattle.std.specs.Prelude.{List, refl}
-use Rattle.std.specs.Coded.{Coded, code_by, coded×, coded_list}
+use Rattle.hub_core.specs.Words.{Agent, Coded, End, List, code_by, coded_list, coded×, refl}
 use Rattle.hub_core.specs.contracts.agent.Agent as agent
 use Rattle.hub_core.specs.contracts.end.End as end
 use Rattle.hub_core.specs.contracts.roster.Roster as roster
-use Rattle.hub_core.specs.declared.agent.Agent.{Agent}
-use Rattle.hub_core.specs.declared.end.End.{End}
 use Rattle.hub_core.specs.declared.roster.Roster.{Roster}
 
 -- the agents and the ends, by number, and the roster of broadcast channels

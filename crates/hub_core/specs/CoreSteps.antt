@@ -1,22 +1,14 @@
 -- For private clauses: the core after a step, where the step got this answer.
 use Rattle.hub_core.specs.Posting.{holder}
 use Rattle.hub_core.specs.Accepted.{named_envelope, named_notice}
-use Rattle.std.specs.Prelude.{◌+◌, true, false, [], ◌∷◌, ◌++◌, slice_get, None, Some}
-use Rattle.hub_envelope.specs.declared.ids.AgentId.{AgentId}
-use Rattle.hub_core.specs.declared.kind.Kind.{Kind}
-use Rattle.hub_core.specs.declared.outcome.Outcome.{Outcome}
-use Rattle.hub_core.specs.declared.sender.Sender.{Sender}
+use Rattle.hub_core.specs.Words.{Action, AgentId, Arrived, Client, Kind, None, Out, Outcome, Port, Sender, Some, Swept, Worker, [], false, slice_get, true, ◌++◌, ◌+◌, ◌∷◌}
 use Rattle.hub_core.specs.CoreState.{CoreState}
 use Rattle.hub_core.specs.Seen.{seen}
-use Rattle.hub_core.specs.declared.end.Place.TheVariants.{Arrived, Swept}
-use Rattle.hub_core.specs.declared.line.Phase.TheVariants.{Out}
-use Rattle.hub_core.specs.declared.step.Action.{Action}
 use Rattle.hub_core.specs.declared.step.Action.TheVariants as action
 use Rattle.hub_core.specs.declared.outcome.Outcome.TheVariants as outcome
 use Rattle.hub_core.specs.Kept.{change_end, change_line, in_phase, held_by, gate_passed, at_queue, adopted_end, closed_end, went, adopted_agents}
 use Rattle.hub_core.specs.Kept.{change_agent, change_owner, one_away, one_out, come, first_agent, new_end}
 use Rattle.hub_core.specs.Kept.{accept_ends, moved_ends, arrived_ends, front_taken, advanced_end, ports_of}
-use Rattle.hub_core.specs.declared.kind.Kind.TheVariants.{Port, Client, Worker}
 use Rattle.hub_core.specs.KeptEnding.{owner}
 use Rattle.hub_core.specs.Moving.{is_released}
 use Rattle.hub_core.specs.Roster.{cast_to, cast_after}

@@ -1,10 +1,7 @@
 -- Whether an end's queue is enabled (WHATWG HTML, "Message ports": a port message queue is disabled
 -- when it is made, and `start()` enables it).
-use Rattle.std.specs.Prelude.{ℕ, ◌==◌, if◌then◌else◌, Bool, true, false}
-use Rattle.std.specs.List.{fold}
-use Rattle.hub_core.specs.declared.step.Action.{Action}
+use Rattle.hub_core.specs.Words.{Action, Bool, Outcome, false, fold, if◌then◌else◌, true, ℕ, ◌==◌}
 use Rattle.hub_core.specs.declared.step.Action.TheVariants as action
-use Rattle.hub_core.specs.declared.outcome.Outcome.{Outcome}
 use Rattle.hub_core.specs.declared.outcome.Outcome.TheVariants as outcome
 use Rattle.hub_core.specs.History.{History}
 

@@ -1,11 +1,6 @@
 -- What the orders to end, and the look of an agent whether it was ordered, are answered (W3C Service Workers, "Terminate
 -- Service Worker"; WHATWG HTML, "terminate a worker").
-use Rattle.std.specs.Prelude.{ℕ, zero, suc, ◌==◌, ◌&&◌, ◌||◌, ◌++◌, if◌then◌else◌, not, nat_lt, Bool, false, List, [], ◌∷◌, Option, Some, None}
-use Rattle.hub_envelope.specs.declared.ids.AgentId.{AgentId}
-use Rattle.hub_envelope.specs.declared.ids.EndId.{EndId}
-use Rattle.hub_core.specs.declared.kind.Kind.{Kind}
-use Rattle.hub_core.specs.declared.kind.Kind.TheVariants.{Port, Client, Worker, Member}
-use Rattle.hub_core.specs.declared.outcome.Outcome.{Outcome}
+use Rattle.hub_core.specs.Words.{AgentId, Bool, Client, EndId, Kind, List, Member, None, Option, Outcome, Port, Some, Worker, [], false, if◌then◌else◌, nat_lt, not, suc, zero, ℕ, ◌&&◌, ◌++◌, ◌==◌, ◌||◌, ◌∷◌}
 use Rattle.hub_core.specs.declared.outcome.Outcome.TheVariants as outcome
 use Rattle.hub_core.specs.Facts.{Facts}
 use Rattle.hub_core.specs.Made.{lines_of}

@@ -1,10 +1,5 @@
 -- All that an answer may depend on: agent by agent, end by end, line by line.
-use Rattle.std.specs.Prelude.{ℕ, Bool, List, Option}
-use Rattle.hub_envelope.specs.declared.envelope.Envelope.{Envelope}
-use Rattle.hub_envelope.specs.declared.ids.AgentId.{AgentId}
-use Rattle.hub_core.specs.declared.end.Place.{Place}
-use Rattle.hub_core.specs.declared.kind.Kind.{Kind}
-use Rattle.hub_core.specs.declared.line.Phase.{Phase}
+use Rattle.hub_core.specs.Words.{AgentId, Bool, Envelope, Kind, List, Option, Phase, Place, ℕ}
 use Rattle.hub_core.specs.History.{History}
 use Rattle.hub_core.specs.Accepted as accepted
 use Rattle.hub_core.specs.Taken as taken

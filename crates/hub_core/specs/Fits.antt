@@ -1,8 +1,6 @@
 -- What a step may be answered after a history (this project's own). Pairs that no case allows never come.
-use Rattle.std.specs.Prelude.{◌≡◌, Bool}
-use Rattle.hub_core.specs.declared.step.Action.{Action}
+use Rattle.hub_core.specs.Words.{Action, Bool, Outcome, ◌≡◌}
 use Rattle.hub_core.specs.declared.step.Action.TheVariants as action
-use Rattle.hub_core.specs.declared.outcome.Outcome.{Outcome}
 use Rattle.hub_core.specs.History.{Pair, History}
 use Rattle.hub_core.specs.Facts.{Facts, facts}
 use Rattle.hub_core.specs.Making.{agent_answer, channel_answer, queue_answer, is_client, is_worker}

@@ -1,7 +1,5 @@
 -- What holds of each state that the gate machine reaches.
-use Rattle.std.specs.Prelude.{◌≡◌, ℕ, ◌&&◌, Bool, true, false, not, is_some, IsTrue, List, length, map, Some}
-use Rattle.hub_core.specs.declared.line.Phase.{Phase}
-use Rattle.hub_core.specs.declared.line.Phase.TheVariants.{Out, Inside, Turned}
+use Rattle.hub_core.specs.Words.{Bool, Inside, IsTrue, List, Out, Phase, Some, Turned, false, is_some, length, map, not, true, ℕ, ◌&&◌, ◌≡◌}
 use Rattle.hub_core.specs.GateMachine.{Gate, busy, is_shut, IsAt, opened, Event, Answer, Steps, Reached}
 
 -- whether a line in this phase leaves its right at the gate

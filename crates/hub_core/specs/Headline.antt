@@ -1,12 +1,7 @@
 -- What every legal history keeps, in the words of the subject (WHATWG HTML, "Message ports": the tasks of a
 -- port message queue are run in order, each once).
-use Rattle.std.specs.Prelude.{◌≡◌, ℕ, ◌==◌, ◌&&◌, ◌⊎◌, Bool, true, false, [], ◌∷◌, ◌++◌, length, ◌<◌}
-use Rattle.std.specs.List.{AllByRecursion}
-use Rattle.hub_envelope.specs.declared.ids.EndId.{EndId}
-use Rattle.hub_core.specs.declared.sender.Sender.{Sender}
-use Rattle.hub_core.specs.declared.step.Action.{Action}
+use Rattle.hub_core.specs.Words.{Action, AllByRecursion, Bool, EndId, Outcome, Sender, [], false, length, true, ℕ, ◌&&◌, ◌++◌, ◌<◌, ◌==◌, ◌∷◌, ◌≡◌, ◌⊎◌}
 use Rattle.hub_core.specs.declared.step.Action.TheVariants as action
-use Rattle.hub_core.specs.declared.outcome.Outcome.{Outcome}
 use Rattle.hub_core.specs.declared.outcome.Outcome.TheVariants as outcome
 use Rattle.hub_core.specs.History.{Pair, History}
 use Rattle.hub_core.specs.Accepted.{accepted}

@@ -1,7 +1,5 @@
 -- What was asked of a hub, and what it answered (this project's own).
-use Rattle.std.specs.Prelude.{List}
-use Rattle.hub_core.specs.declared.step.Step.{Step}
-use Rattle.hub_core.specs.declared.outcome.Outcome.{Outcome}
+use Rattle.hub_core.specs.Words.{List, Outcome, Step}
 
 -- a step, and its outcome
 abbrev pub Pair : Type 0

@@ -1,11 +1,6 @@
 -- What the steps that hold a line of a client's or a worker's queue, and give it back, are answered (this project's own; in
 -- W3C Service Workers such a queue gets the messages of any client or worker).
-use Rattle.std.specs.Prelude.{◌&&◌, if◌then◌else◌, not, Option, Some, None, is_some, ℕ}
-use Rattle.hub_envelope.specs.declared.ids.AgentId.{AgentId}
-use Rattle.hub_envelope.specs.declared.ids.EndId.{EndId}
-use Rattle.hub_envelope.specs.declared.limits.TheConstants.{MAX_LINES}
-use Rattle.hub_core.specs.declared.sender.Sender.{Sender}
-use Rattle.hub_core.specs.declared.outcome.Outcome.{Outcome}
+use Rattle.hub_core.specs.Words.{AgentId, EndId, MAX_LINES, None, Option, Outcome, Sender, Some, if◌then◌else◌, is_some, not, ℕ, ◌&&◌}
 use Rattle.hub_core.specs.declared.outcome.Outcome.TheVariants as outcome
 use Rattle.hub_core.specs.Facts.{Facts}
 use Rattle.hub_core.specs.Made.{is_queue}

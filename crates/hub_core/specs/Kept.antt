@@ -1,25 +1,9 @@
 -- For private clauses: what the parts of the core do to what it keeps.
 use Rattle.hub_core.specs.Shows.{kept_lines}
-use Rattle.std.specs.Prelude.{ℕ, ◌+◌, ◌==◌, if◌then◌else◌, nat_lt, Bool, List, [], ◌∷◌, ◌++◌, length, slice_set, slice_get, slice_index_or, drop, Option, Some, None, option_map, is_some, false, true, ◌≡◌, ◌&&◌, ◌||◌, not, Result, Ok, Err, IfSome, nat_le, ◌-◌, replicate}
-use Rattle.std.specs.List.{fold, list_any, flat_map, position}
-use Rattle.std.specs.Bool.{MatchBool}
-use Rattle.hub_envelope.specs.declared.limits.TheConstants.{MAX_ENDS, MAX_LINES, MAX_PORTS}
-use Rattle.hub_envelope.specs.declared.ids.LineId.{LineId}
-use Rattle.hub_core.specs.declared.end.Place.TheVariants.{With, InFlight, Arrived, Swept, Gone}
-use Rattle.hub_envelope.specs.declared.ids.EndId.{EndId}
-use Rattle.hub_envelope.specs.declared.ids.AgentId.{AgentId}
-use Rattle.hub_core.specs.declared.agent.Agent.{Agent}
-use Rattle.hub_core.specs.declared.kind.Kind.{Kind}
-use Rattle.hub_core.specs.declared.kind.Kind.TheVariants.{Port, Client, Worker, Member}
+use Rattle.hub_core.specs.Words.{Agent, AgentId, Arrived, Bool, Client, End, EndId, Envelope, Err, Gone, IfSome, InFlight, Inside, Kind, Line, LineId, List, MAX_ENDS, MAX_LINES, MAX_PORTS, MatchBool, Member, None, Ok, Option, Out}
+use Rattle.hub_core.specs.Words.{Outcome, Phase, Place, Port, Result, Sender, Some, Swept, Turned, With, Worker, [], drop, false, flat_map, fold, if◌then◌else◌, is_some, length, list_any, nat_le, nat_lt, not, option_map, position, replicate}
+use Rattle.hub_core.specs.Words.{slice_get, slice_index_or, slice_set, true, ℕ, ◌&&◌, ◌++◌, ◌+◌, ◌-◌, ◌==◌, ◌||◌, ◌∷◌, ◌≡◌}
 use Rattle.hub_core.specs.Made.{lines_of, is_queue}
-use Rattle.hub_core.specs.declared.sender.Sender.{Sender}
-use Rattle.hub_envelope.specs.declared.envelope.Envelope.{Envelope}
-use Rattle.hub_core.specs.declared.line.Line.{Line}
-use Rattle.hub_core.specs.declared.line.Phase.{Phase}
-use Rattle.hub_core.specs.declared.line.Phase.TheVariants.{Out, Inside, Turned}
-use Rattle.hub_core.specs.declared.end.End.{End}
-use Rattle.hub_core.specs.declared.end.Place.{Place}
-use Rattle.hub_core.specs.declared.outcome.Outcome.{Outcome}
 use Rattle.hub_core.specs.declared.outcome.Outcome.TheVariants as outcome
 use Rattle.hub_core.specs.CoreState.{CoreState}
 use Rattle.hub_core.specs.Facts.{Facts}

@@ -1,11 +1,5 @@
 -- For private clauses: what the steps of broadcast channels do to what is kept of ends.
-use Rattle.std.specs.Prelude.{ℕ, if◌then◌else◌, Bool, List, [], ◌∷◌, ◌++◌, Option, is_some, not, nat_le}
-use Rattle.hub_envelope.specs.declared.limits.TheConstants.{MAX_ENDS}
-use Rattle.hub_envelope.specs.declared.ids.EndId.{EndId}
-use Rattle.hub_envelope.specs.declared.ids.AgentId.{AgentId}
-use Rattle.hub_core.specs.declared.kind.Kind.TheVariants.{Member}
-use Rattle.hub_core.specs.declared.end.End.{End}
-use Rattle.hub_core.specs.declared.outcome.Outcome.{Outcome}
+use Rattle.hub_core.specs.Words.{AgentId, Bool, End, EndId, List, MAX_ENDS, Member, Option, Outcome, [], if◌then◌else◌, is_some, nat_le, not, ℕ, ◌++◌, ◌∷◌}
 use Rattle.hub_core.specs.declared.outcome.Outcome.TheVariants as outcome
 use Rattle.hub_core.specs.Kept.{new_end}
 

@@ -1,13 +1,6 @@
 -- For private clauses: what the core keeps of posters that are away, and of agents that end.
-use Rattle.std.specs.Prelude.{◌==◌, if◌then◌else◌, List, Option, Some, None, not}
-use Rattle.hub_envelope.specs.declared.ids.EndId.{EndId}
-use Rattle.hub_envelope.specs.declared.ids.AgentId.{AgentId}
-use Rattle.hub_core.specs.declared.agent.Agent.{Agent}
-use Rattle.hub_core.specs.declared.kind.Kind.{Kind}
-use Rattle.hub_core.specs.declared.kind.Kind.TheVariants.{Port, Client, Worker, Member}
-use Rattle.hub_core.specs.declared.sender.Sender.{Sender}
+use Rattle.hub_core.specs.Words.{Agent, AgentId, Client, EndId, Kind, List, Member, None, Option, Outcome, Port, Sender, Some, Worker, if◌then◌else◌, not, ◌==◌}
 use Rattle.hub_core.specs.Facts.{Facts}
-use Rattle.hub_core.specs.declared.outcome.Outcome.{Outcome}
 use Rattle.hub_core.specs.declared.outcome.Outcome.TheVariants as outcome
 use Rattle.hub_core.specs.Kept.{with_agent}
 

@@ -1,19 +1,9 @@
 -- What the core keeps of the roster.
-use Rattle.std.specs.Prelude.{◌≡◌, ℕ, ◌==◌, ◌<◌, Bool, true, false, List, [], ◌∷◌, Option, Some, None, if◌then◌else◌}
-use Rattle.std.specs.Ordering.{nat_cmp, ordering_then}
-use Rattle.std.specs.Cmp.Lexicographic.{slice_cmp}
-use Rattle.std.specs.declared.cmp.Ordering.{Ordering}
-use Rattle.std.specs.Prelude.{bytes_eq}
-use Rattle.std.specs.BTreeMap.{get}
-use Rattle.std.specs.BTreeSet.{BTreeSet, insert_key}
-use Rattle.std.specs.List.{filter, list_any}
-use Rattle.std.specs.Prelude.{not, map, slice_get}
-use Rattle.hub_core.specs.declared.group.Group.{Group}
+use Rattle.hub_core.specs.Words.{BTreeSet, Bool, EndId, Group, List, None, Option, Ordering, Outcome, Some, [], bytes_eq, false, filter, get, if◌then◌else◌, insert_key, list_any, map, nat_cmp, not, ordering_then, slice_cmp, slice_get, true, ℕ}
+use Rattle.hub_core.specs.Words.{◌<◌, ◌==◌, ◌∷◌, ◌≡◌}
 use Rattle.hub_core.specs.declared.members.Members.{Members}
 use Rattle.hub_core.specs.declared.roster.Roster.{Roster}
-use Rattle.hub_envelope.specs.declared.ids.EndId.{EndId}
 use Rattle.hub_core.specs.Roster.{CastNow, RosterNow, is_same_group, is_of_group, is_first, group_named}
-use Rattle.hub_core.specs.declared.outcome.Outcome.{Outcome}
 use Rattle.hub_core.specs.declared.outcome.Outcome.TheVariants as outcome
 
 -- by origin, then by name

@@ -1,12 +1,6 @@
 -- Laws of what fits and of legal histories, in the words of the subject.
-use Rattle.std.specs.Prelude.{◌≡◌, ℕ, Bool, true, false, ◌↔◌, List, [], ◌∷◌, ◌++◌, Some}
-use Rattle.hub_envelope.specs.declared.ids.EndId.{EndId}
-use Rattle.hub_envelope.specs.declared.ids.AgentId.{AgentId}
-use Rattle.hub_core.specs.declared.line.Phase.TheVariants.{Turned}
-use Rattle.hub_core.specs.declared.sender.Sender.{Sender}
-use Rattle.hub_core.specs.declared.step.Step.{Step}
+use Rattle.hub_core.specs.Words.{AgentId, Bool, EndId, Envelope, List, Outcome, Sender, Some, Step, Turned, [], false, true, ℕ, ◌++◌, ◌↔◌, ◌∷◌, ◌≡◌}
 use Rattle.hub_core.specs.declared.step.Action.TheVariants as action
-use Rattle.hub_core.specs.declared.outcome.Outcome.{Outcome}
 use Rattle.hub_core.specs.declared.outcome.Outcome.TheVariants as outcome
 use Rattle.hub_core.specs.History.{Pair, History}
 use Rattle.hub_core.specs.Facts.{facts}
@@ -18,7 +12,6 @@ use Rattle.hub_core.specs.Fits.{Fits}
 use Rattle.hub_core.specs.Legal.{Legal, Same}
 use Rattle.hub_core.specs.Unchanged.{changes_nothing}
 use Rattle.hub_core.specs.Discarded.{discarded}
-use Rattle.hub_envelope.specs.declared.envelope.Envelope.{Envelope}
 
 -- A pair that changes nothing leaves the same.
 abbrev pub NothingLeavesTheSame : Type 0

@@ -1,3 +1,4 @@
+pub mod Words
 pub mod History
 pub mod Sender
 pub mod Accepted

@@ -1,14 +1,7 @@
 -- Where the posters of an end's lines are, and at which queues its lines and its taker stand (this project's
 -- own; WHATWG HTML, "Message ports", moves the tasks of a transferred port to the new port's queue).
-use Rattle.std.specs.Prelude.{ℕ, ◌+◌, ◌==◌, ◌&&◌, if◌then◌else◌, Bool, true, false, Option, Some, None}
-use Rattle.std.specs.List.{fold}
-use Rattle.hub_envelope.specs.declared.ids.AgentId.{AgentId}
-use Rattle.hub_core.specs.declared.line.Phase.{Phase}
-use Rattle.hub_core.specs.declared.line.Phase.TheVariants.{Out, Inside, Turned}
-use Rattle.hub_core.specs.declared.sender.Sender.{Sender}
-use Rattle.hub_core.specs.declared.step.Action.{Action}
+use Rattle.hub_core.specs.Words.{Action, AgentId, Bool, Inside, None, Option, Out, Outcome, Phase, Sender, Some, Turned, false, fold, if◌then◌else◌, true, ℕ, ◌&&◌, ◌+◌, ◌==◌}
 use Rattle.hub_core.specs.declared.step.Action.TheVariants as action
-use Rattle.hub_core.specs.declared.outcome.Outcome.{Outcome}
 use Rattle.hub_core.specs.declared.outcome.Outcome.TheVariants as outcome
 use Rattle.hub_core.specs.History.{History}
 

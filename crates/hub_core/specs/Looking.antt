@@ -1,13 +1,9 @@
 -- Who is at a queue, and what a Look and a Sweep are answered (this project's own).
-use Rattle.std.specs.Prelude.{ℕ, zero, suc, ◌+◌, ◌-◌, ◌==◌, ◌&&◌, ◌||◌, if◌then◌else◌, not, nat_lt, Bool, false, Option, Some, None, ◌≡◌, true, List, ◌++◌}
-use Rattle.hub_envelope.specs.declared.ids.EndId.{EndId}
-use Rattle.hub_core.specs.declared.outcome.Outcome.{Outcome}
+use Rattle.hub_core.specs.Words.{Bool, EndId, Envelope, List, MatchBool, None, Option, Outcome, Some, false, if◌then◌else◌, nat_lt, not, suc, true, zero, ℕ, ◌&&◌, ◌++◌, ◌+◌, ◌-◌, ◌==◌, ◌||◌, ◌≡◌}
 use Rattle.hub_core.specs.declared.outcome.Outcome.TheVariants as outcome
 use Rattle.hub_core.specs.Made.{lines_of}
 use Rattle.hub_core.specs.Facts.{LineNow, Facts}
 use Rattle.hub_core.specs.Posting.{is_out}
-use Rattle.std.specs.Bool.{MatchBool}
-use Rattle.hub_envelope.specs.declared.envelope.Envelope.{Envelope}
 use Rattle.hub_core.specs.Sender.{by, Rises}
 
 -- whether one of the numbers below a bound passes the test

@@ -1,15 +1,7 @@
 -- Which agents and ends were made (WHATWG HTML, "Message channels"; W3C Service Workers, the queues of the messages to a
 -- client and to a worker).
-use Rattle.std.specs.Prelude.{ℕ, ◌+◌, ◌==◌, if◌then◌else◌, Bool, true, false, Option, Some, None, option_map}
-use Rattle.hub_envelope.specs.declared.limits.TheConstants.{MAX_LINES}
-use Rattle.hub_core.specs.declared.kind.Kind.{Kind}
-use Rattle.hub_core.specs.declared.kind.Kind.TheVariants.{Port, Client, Worker, Member}
-use Rattle.hub_core.specs.declared.sender.Sender.{Sender}
-use Rattle.hub_envelope.specs.declared.ids.AgentId.{AgentId}
-use Rattle.std.specs.List.{fold}
-use Rattle.hub_core.specs.declared.step.Action.{Action}
+use Rattle.hub_core.specs.Words.{Action, AgentId, Bool, Client, Kind, MAX_LINES, Member, None, Option, Outcome, Port, Sender, Some, Worker, false, fold, if◌then◌else◌, option_map, true, ℕ, ◌+◌, ◌==◌}
 use Rattle.hub_core.specs.declared.step.Action.TheVariants as action
-use Rattle.hub_core.specs.declared.outcome.Outcome.{Outcome}
 use Rattle.hub_core.specs.declared.outcome.Outcome.TheVariants as outcome
 use Rattle.hub_core.specs.History.{History}
 

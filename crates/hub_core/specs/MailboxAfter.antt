@@ -1,7 +1,5 @@
 -- What an event makes of a mailbox, as a function.
-use Rattle.std.specs.Prelude.{ℕ, ◌+◌, ◌-◌, true, List, [], length, slice_index_or, Some, None}
-use Rattle.std.specs.List.{fold}
-use Rattle.hub_core.specs.declared.line.Phase.TheVariants.{Out, Inside, Turned}
+use Rattle.hub_core.specs.Words.{Inside, List, None, Out, Some, Turned, [], fold, length, slice_index_or, true, ℕ, ◌+◌, ◌-◌}
 use Rattle.hub_core.specs.GateMachine as machine
 use Rattle.hub_core.specs.GateMachine.{Gate, with_phase, with_home, with_flags, with_none, opened}
 use Rattle.hub_core.specs.QueueMachine.{Queue, new_queue, pushed}

@@ -1,10 +1,6 @@
 -- The mailbox of an end after a history: what the events that its pairs are make of the mailbox as the end was made.
-use Rattle.std.specs.Prelude.{◌≡◌, ℕ, ◌<◌, ◌≤◌, [], ◌∷◌, ◌++◌, replicate, slice_get, Option, Some, None}
-use Rattle.hub_core.specs.declared.kind.Kind.{Kind}
-use Rattle.hub_core.specs.declared.end.End.{End}
+use Rattle.hub_core.specs.Words.{Action, End, Kind, None, Option, Outcome, Some, [], replicate, slice_get, ℕ, ◌++◌, ◌<◌, ◌∷◌, ◌≡◌, ◌≤◌}
 use Rattle.hub_core.specs.declared.machine.Core.{Core}
-use Rattle.hub_core.specs.declared.step.Action.{Action}
-use Rattle.hub_core.specs.declared.outcome.Outcome.{Outcome}
 use Rattle.hub_core.specs.History.{Pair, History}
 use Rattle.hub_core.specs.Facts.{Facts, facts}
 use Rattle.hub_core.specs.Made.{ends, kind, kind_after, lines_of}

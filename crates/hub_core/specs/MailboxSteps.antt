@@ -1,8 +1,5 @@
 -- What may happen at a mailbox, and what it makes of it.
-use Rattle.std.specs.Prelude.{◌≡◌, ◌⊎◌, ℕ, ◌+◌, ◌<◌, ◌≤◌, ◌==◌, if◌then◌else◌, true, false, List, [], ◌∷◌, ◌++◌, length, slice_get, slice_set, Option, Some, None}
-use Rattle.std.specs.Option.{option_to_list}
-use Rattle.hub_envelope.specs.declared.envelope.Envelope.{Envelope}
-use Rattle.hub_core.specs.declared.line.Phase.TheVariants.{Out, Inside}
+use Rattle.hub_core.specs.Words.{Envelope, Inside, List, None, Option, Out, Some, [], false, if◌then◌else◌, length, option_to_list, slice_get, slice_set, true, ℕ, ◌++◌, ◌+◌, ◌<◌, ◌==◌, ◌∷◌, ◌≡◌, ◌≤◌, ◌⊎◌}
 use Rattle.hub_core.specs.Sender.{by}
 use Rattle.hub_core.specs.GateMachine as machine
 use Rattle.hub_core.specs.GateMachine.{Gate, IsAt, opened, busy, Steps}

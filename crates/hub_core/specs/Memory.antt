@@ -1,6 +1,5 @@
 -- Which steps may find that memory is wanting (this project's own).
-use Rattle.std.specs.Prelude.{Bool, true, false}
-use Rattle.hub_core.specs.declared.step.Action.{Action}
+use Rattle.hub_core.specs.Words.{Action, Bool, false, true}
 use Rattle.hub_core.specs.declared.step.Action.TheVariants as action
 
 -- the steps after which more is kept than before: a new agent, new ends, an envelope, a new queue; and a

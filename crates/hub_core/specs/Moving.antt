@@ -1,15 +1,7 @@
 -- What the steps that move lines and ends are answered (WHATWG HTML, "Message ports", the transfer and
 -- transfer-receiving steps; going on to a newer queue is this project's own).
-use Rattle.std.specs.Prelude.{◌+◌, ◌==◌, ◌&&◌, if◌then◌else◌, not, nat_lt, nat_le, Bool, true, false, Option, Some, None, ℕ}
-use Rattle.hub_envelope.specs.declared.ids.AgentId.{AgentId}
-use Rattle.hub_envelope.specs.declared.ids.EndId.{EndId}
-use Rattle.hub_envelope.specs.declared.limits.TheConstants.{MAX_MOVES}
-use Rattle.hub_core.specs.declared.end.Place.{Place}
-use Rattle.hub_core.specs.declared.end.Place.TheVariants.{With, InFlight, Arrived, Swept, Gone}
-use Rattle.hub_core.specs.declared.kind.Kind.{Kind}
-use Rattle.hub_core.specs.declared.kind.Kind.TheVariants.{Port, Client, Worker, Member}
-use Rattle.hub_core.specs.declared.sender.Sender.{Sender}
-use Rattle.hub_core.specs.declared.outcome.Outcome.{Outcome}
+use Rattle.hub_core.specs.Words.{AgentId, Arrived, Bool, Client, EndId, Gone, InFlight, Kind, MAX_MOVES, Member, None, Option, Outcome, Place, Port, Sender, Some, Swept, With, Worker, false, if◌then◌else◌, nat_le, nat_lt, not, true}
+use Rattle.hub_core.specs.Words.{ℕ, ◌&&◌, ◌+◌, ◌==◌}
 use Rattle.hub_core.specs.declared.outcome.Outcome.TheVariants as outcome
 use Rattle.hub_core.specs.Facts.{Facts}
 use Rattle.hub_core.specs.Made.{is_queue}

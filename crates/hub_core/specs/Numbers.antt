@@ -1,7 +1,5 @@
 -- The numbers that envelopes bear (this project's own).
-use Rattle.std.specs.Prelude.{ℕ, zero, suc, ◌==◌, ◌&&◌, List, [], ◌∷◌, ◌++◌, map}
-use Rattle.std.specs.List.{filter}
-use Rattle.hub_envelope.specs.declared.envelope.Envelope.{Envelope}
+use Rattle.hub_core.specs.Words.{Envelope, List, [], filter, map, suc, zero, ℕ, ◌&&◌, ◌++◌, ◌==◌, ◌∷◌}
 
 -- the first n numbers: 0, 1, 2 and so on
 abbrev pub up_to : ℕ → List ℕ

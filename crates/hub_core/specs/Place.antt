@@ -1,15 +1,8 @@
 -- Where an end is (WHATWG HTML, "Transferable objects": the transfer and transfer-receiving steps).
-use Rattle.std.specs.Prelude.{ℕ, ◌==◌, ◌||◌, if◌then◌else◌, List, Option, Some, None, Bool}
-use Rattle.std.specs.List.{fold, list_any}
-use Rattle.hub_envelope.specs.declared.ids.EndId.{EndId}
-use Rattle.hub_core.specs.declared.end.Place.{Place}
-use Rattle.hub_core.specs.declared.end.Place.TheVariants.{With, InFlight, Arrived, Swept, Gone}
-use Rattle.hub_core.specs.declared.step.Action.{Action}
+use Rattle.hub_core.specs.Words.{Action, Arrived, Bool, EndId, Envelope, Gone, InFlight, List, None, Option, Outcome, Place, Some, Swept, With, fold, if◌then◌else◌, list_any, ℕ, ◌==◌, ◌||◌}
 use Rattle.hub_core.specs.declared.step.Action.TheVariants as action
-use Rattle.hub_core.specs.declared.outcome.Outcome.{Outcome}
 use Rattle.hub_core.specs.declared.outcome.Outcome.TheVariants as outcome
 use Rattle.hub_core.specs.History.{History}
-use Rattle.hub_envelope.specs.declared.envelope.Envelope.{Envelope}
 
 -- whether a list of ports names the end
 abbrev pub names : List EndId → ℕ → Bool

@@ -1,27 +1,13 @@
 -- What the steps of a poster are answered (WHATWG HTML, "Message ports", the message port post message steps
 -- with their transfer list; entering and leaving a gate are this project's own).
-use Rattle.std.specs.Prelude.{ℕ, ◌==◌, ◌&&◌, if◌then◌else◌, nat_lt, Bool, true, false, not, is_some, List, [], ◌∷◌, length, Option, Some, None, option_and_then, ◌||◌, bytes_eq}
-use Rattle.std.specs.List.{list_all}
-use Rattle.hub_envelope.specs.declared.ids.AgentId.{AgentId}
-use Rattle.hub_envelope.specs.declared.ids.EndId.{EndId}
-use Rattle.hub_envelope.specs.declared.limits.TheConstants.{MAX_PORTS}
-use Rattle.hub_core.specs.declared.end.Place.{Place}
-use Rattle.hub_core.specs.declared.end.Place.TheVariants.{With, InFlight, Arrived, Swept, Gone}
-use Rattle.hub_core.specs.declared.kind.Kind.{Kind}
-use Rattle.hub_core.specs.declared.kind.Kind.TheVariants.{Port, Client, Worker, Member}
-use Rattle.hub_core.specs.declared.line.Phase.{Phase}
-use Rattle.hub_core.specs.declared.line.Phase.TheVariants.{Out, Inside, Turned}
-use Rattle.hub_core.specs.declared.sender.Sender.{Sender}
-use Rattle.hub_core.specs.declared.outcome.Outcome.{Outcome}
+use Rattle.hub_core.specs.Words.{Acceptance, AgentId, Arrived, Bad, Bool, Client, EndId, Gone, Good, HoldsTarget, InFlight, Inside, Kind, List, Listing, MAX_PORTS, Member, None, Option, Out, Outcome, Phase, Place, Port, Sender, Some}
+use Rattle.hub_core.specs.Words.{Swept, Turned, With, Worker, [], bytes_eq, false, if◌then◌else◌, is_some, length, list_all, nat_lt, not, option_and_then, true, ℕ, ◌&&◌, ◌==◌, ◌||◌, ◌∷◌}
 use Rattle.hub_core.specs.declared.outcome.Outcome.TheVariants as outcome
 use Rattle.hub_core.specs.Facts.{Facts}
 use Rattle.hub_core.specs.Place.{names}
 use Rattle.hub_core.specs.Made.{peer_of, maker_of}
 use Rattle.hub_core.specs.Roster.{CastNow, is_first}
 use Rattle.hub_core.specs.Sender.{count_in_queue}
-use Rattle.hub_core.specs.declared.outcome.Acceptance.{Acceptance}
-use Rattle.hub_core.specs.declared.listing.Listing.{Listing}
-use Rattle.hub_core.specs.declared.listing.Listing.TheVariants.{Good, HoldsTarget, Bad}
 
 abbrev pub is_out : Phase → Bool
 is_out Out = true

@@ -1,12 +1,7 @@
 -- Which agents have an origin, which broadcast channels are members of the roster, and the cast that isn't over (WHATWG
 -- HTML, "Broadcasting to other browsing contexts").
-use Rattle.std.specs.Prelude.{ℕ, ◌==◌, ◌&&◌, if◌then◌else◌, Bool, false, bytes_eq, List, [], ◌∷◌, ◌++◌, Option, Some, None, option_map, drop}
-use Rattle.std.specs.List.{fold, list_any}
-use Rattle.hub_envelope.specs.declared.ids.EndId.{EndId}
-use Rattle.hub_core.specs.declared.group.Group.{Group}
-use Rattle.hub_core.specs.declared.step.Action.{Action}
+use Rattle.hub_core.specs.Words.{Action, Bool, EndId, Group, List, None, Option, Outcome, Some, [], bytes_eq, drop, false, fold, if◌then◌else◌, list_any, option_map, ℕ, ◌&&◌, ◌++◌, ◌==◌, ◌∷◌}
 use Rattle.hub_core.specs.declared.step.Action.TheVariants as action
-use Rattle.hub_core.specs.declared.outcome.Outcome.{Outcome}
 use Rattle.hub_core.specs.declared.outcome.Outcome.TheVariants as outcome
 use Rattle.hub_core.specs.History.{History}
 

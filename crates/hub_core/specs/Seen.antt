@@ -1,5 +1,5 @@
 -- For private clauses: what the core keeps, seen as facts, so that what is asked of a history is asked of the core as well.
-use Rattle.std.specs.Prelude.{false, [], length, slice_get}
+use Rattle.hub_core.specs.Words.{[], false, length, slice_get}
 use Rattle.hub_core.specs.CoreState.{CoreState}
 use Rattle.hub_core.specs.Facts.{Facts}
 use Rattle.hub_core.specs.Roster.{no_roster}

@@ -1,8 +1,6 @@
 -- What one sender posts at an end goes by one line: order is stated line by line (this project's own; in
 -- WHATWG HTML, "Message ports", a port's one sender is the port that it is entangled with).
-use Rattle.std.specs.Prelude.{◌≡◌, ℕ, ◌==◌, ◌&&◌, List, ◌++◌, length, ◌≤◌, [], ◌∷◌}
-use Rattle.std.specs.List.{filter, AllByRecursion}
-use Rattle.hub_envelope.specs.declared.envelope.Envelope.{Envelope}
+use Rattle.hub_core.specs.Words.{AllByRecursion, Envelope, List, [], filter, length, ℕ, ◌&&◌, ◌++◌, ◌==◌, ◌∷◌, ◌≡◌, ◌≤◌}
 
 -- the envelopes of a line, in order
 abbrev pub by : ℕ → List Envelope → List Envelope

@@ -1,20 +1,9 @@
 -- What it means that the core shows a history: what it keeps of each agent, end and line are the facts of the history.
-use Rattle.std.specs.Prelude.{◌≡◌, ℕ, ◌+◌, ◌<◌, false, List, [], ◌∷◌, ◌++◌, length, slice_get, slice_index_or, Option, Some, None, nat_lt, ◌≤◌, Bool, ◌&&◌, if◌then◌else◌}
-use Rattle.hub_envelope.specs.declared.envelope.Envelope.{Envelope}
-use Rattle.hub_envelope.specs.declared.ids.AgentId.{AgentId}
-use Rattle.hub_core.specs.declared.kind.Kind.{Kind}
-use Rattle.hub_core.specs.declared.agent.Agent.{Agent}
-use Rattle.hub_core.specs.declared.line.Line.{Line}
-use Rattle.hub_core.specs.declared.end.End.{End}
+use Rattle.hub_core.specs.Words.{Agent, AgentId, AllByRecursion, Bool, End, EndId, Envelope, Group, Inside, Kind, Line, List, Member, None, Option, Outcome, Some, Step, [], false, if◌then◌else◌, length, nat_lt, slice_get, slice_index_or, ℕ}
+use Rattle.hub_core.specs.Words.{◌&&◌, ◌++◌, ◌+◌, ◌<◌, ◌∷◌, ◌≡◌, ◌≤◌}
 use Rattle.hub_core.specs.declared.machine.Core.{Core}
-use Rattle.hub_core.specs.declared.group.Group.{Group}
 use Rattle.hub_core.specs.declared.roster.Roster.{Roster}
 use Rattle.hub_core.specs.KeptRoster.{origin_at, group_of, numbers_of, numbers_with}
-use Rattle.std.specs.List.{AllByRecursion}
-use Rattle.hub_envelope.specs.declared.ids.EndId.{EndId}
-use Rattle.hub_core.specs.declared.kind.Kind.TheVariants.{Member}
-use Rattle.hub_core.specs.declared.step.Step.{Step}
-use Rattle.hub_core.specs.declared.outcome.Outcome.{Outcome}
 use Rattle.hub_core.specs.History.{History}
 use Rattle.hub_core.specs.Facts.{AgentNow, EndNow, LineNow, Facts, facts}
 use Rattle.hub_core.specs.Fits.{Fits}
@@ -25,7 +14,6 @@ use Rattle.hub_core.specs.Making.{is_client, is_worker}
 use Rattle.hub_core.specs.Ending.{is_away_of}
 use Rattle.hub_core.specs.Posting.{is_with}
 use Rattle.hub_core.specs.Made.{lines_of}
-use Rattle.hub_core.specs.declared.line.Phase.TheVariants.{Inside}
 
 -- an agent, an end and a line now, as the core keeps them, or as there is none
 abbrev pub agent_now : Option Agent → AgentNow

@@ -1,13 +1,6 @@
 -- What holds of the facts of every legal history, each part with the notions that it reads (this project's own).
-use Rattle.std.specs.Prelude.{◌≡◌, ℕ, zero, suc, ◌+◌, ◌<◌, ◌≤◌, Bool, true, false, List, [], ◌∷◌, length, Option, Some, None, ◌⊎◌, ◌++◌, is_some}
-use Rattle.std.specs.List.{AllByRecursion, filter}
-use Rattle.hub_envelope.specs.declared.ids.AgentId.{AgentId}
-use Rattle.hub_envelope.specs.declared.envelope.Envelope.{Envelope}
-use Rattle.hub_envelope.specs.declared.limits.TheConstants.{MAX_ENDS}
-use Rattle.hub_core.specs.declared.end.Place.{Place}
-use Rattle.hub_core.specs.declared.end.Place.TheVariants.{With, InFlight, Arrived, Swept, Gone}
-use Rattle.hub_core.specs.declared.line.Phase.TheVariants.{Out, Inside, Turned}
-use Rattle.hub_core.specs.declared.sender.Sender.{Sender}
+use Rattle.hub_core.specs.Words.{AgentId, AllByRecursion, Arrived, Bool, Envelope, Gone, InFlight, Inside, List, MAX_ENDS, None, Option, Out, Place, Sender, Some, Swept, Turned, With, [], false, filter, is_some, length, suc, true}
+use Rattle.hub_core.specs.Words.{zero, ℕ, ◌++◌, ◌+◌, ◌<◌, ◌∷◌, ◌≡◌, ◌≤◌, ◌⊎◌}
 use Rattle.hub_core.specs.Facts.{EndNow, LineNow, Facts}
 use Rattle.hub_core.specs.Place.{names}
 use Rattle.hub_core.specs.Sender.{by, in_queue, Prefix, Rises}

@@ -1,10 +1,6 @@
 -- What the steps of a taker are answered (WHATWG HTML, "Message ports": `start()`, and an enabled queue as
 -- a task source).
-use Rattle.std.specs.Prelude.{◌≡◌, ℕ, if◌then◌else◌, is_some, [], ◌∷◌, ◌++◌, ◌<◌, true, false}
-use Rattle.std.specs.Bool.{MatchBool}
-use Rattle.hub_envelope.specs.declared.ids.EndId.{EndId}
-use Rattle.hub_envelope.specs.declared.envelope.Envelope.{Envelope}
-use Rattle.hub_core.specs.declared.outcome.Outcome.{Outcome}
+use Rattle.hub_core.specs.Words.{EndId, Envelope, MatchBool, Outcome, [], false, if◌then◌else◌, is_some, true, ℕ, ◌++◌, ◌<◌, ◌∷◌, ◌≡◌}
 use Rattle.hub_core.specs.declared.outcome.Outcome.TheVariants as outcome
 use Rattle.hub_core.specs.Facts.{Facts}
 use Rattle.hub_core.specs.Sender.{by, Prefix, in_queue}
