@@ -70,8 +70,8 @@ module _ (core : Core) (h : History) (shows : Shows core h) (e : ℕ) (x : End) 
       (sym (in_order.each k q there) ∙ at.queues.each i
       ∙ ap (λ us. us ++ slice_index_or x.queues i []) (ap (in_queue k) (sym kept.shown.got) ∙ got_there_in e (lines_of ((f.end e).kind)) m kept.shown.is_mailbox k q there))
 
-pub keeps_mailboxes : (core : Core) (h : History) → Legal h → Shows core h → KeepsMailboxes core h
-keeps_mailboxes core h legal shows e x is = holds_kept core h shows e x is
+pub keeps_mailboxes : (core : Core) (h : History) → Shows core h → KeepsMailboxes core h
+keeps_mailboxes core h shows e x is = holds_kept core h shows e x is
 
 pub mailboxes_show : (core : Core) (h : History) → Shows core h → MailboxesShow core h
 mailboxes_show core h shows = λ e x is. (mailbox h e, holds_kept core h shows e x is, to_history h e (mailbox h e) (box_legal h shows.2 e).shown)

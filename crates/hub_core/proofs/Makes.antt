@@ -1,24 +1,23 @@
 -- Agent and Channel: what the core answers fits, and it shows the facts with the answered step.
-use Rattle.hub_core.proofs.Casts.{roster_agent}
-use Rattle.hub_core.proofs.Nexts.{Change, agent_made, channel_made, client_made, worker_made}
-use Rattle.hub_core.proofs.Changing.{ShownAfter, ShownWith}
-use Rattle.std.proofs.Common.{◌≡◌, ℕ, ◌+◌, ◌≤◌, Bool, true, false, cond, eqb, List, [], ◌∷◌, ◌++◌, length, get_or, Some, zero, suc, refl, sym, ap, subst, ◌∙◌, arith, length-append, inl, inr, rules, ◌<◌, Option, not, replicate, None, ne_eqb, ◌&&◌, nat_lt, nat_le, ◌||◌, ltb-true, ltb-false}
-use Rattle.hub_core.proofs.Words.{is_some, option_map, slice_get, slice_get_past, nat_tests, eqb-true, eqb-false, false≢true, false_from_ne_true, AgentId, EndId, Envelope, MAX_ENDS, Agent, End, With, Outcome, AgentNow, EndNow, LineNow, Facts, agent_answer, channel_answer, queue_answer, is_client, is_worker, has_one, no_end, no_line}
-use Rattle.hub_core.proofs.Words.{total, Sound, agent_now, end_now, line_now, ShowsPut, ShowsEnd, kept_clients, count_with, kept_workers, count_away, kept_away, ShowsFacts, first_line, kept_queue_answer, new_end, count_of, come, first_agent, CoreState, seen, lines_of, peer_of, Kind, Action, Port, Client, Worker, Member, Answers}
-use Rattle.hub_core.proofs.Words.{length-replicate, is_with, is_out, member_answer, is_casting, set_agent, one_more, kept_member_answer, origin_at}
+use Rattle.std.proofs.Common.{Bool, List, None, Option, Some, [], ap, append_assoc, arith, cond, eqb, false, get_or, inl, inr, length, length-append, ltb-false, ltb-true, nat_le, nat_lt, ne_eqb, not, refl, replicate, rules, set, subst, suc, sym, true, zero, ℕ, ◌&&◌, ◌++◌, ◌+◌, ◌-◌, ◌<◌, ◌||◌, ◌∙◌, ◌∷◌, ◌≡◌, ◌≢◌, ◌≤◌, ◌⊎◌}
+use Rattle.hub_core.proofs.Words.{Action, Agent, AgentId, AgentNow, Client, CoreState, End, EndId, EndNow, Envelope, Facts, Kind, LineNow, MAX_ENDS, Member, Outcome, Port, RosterNow, ShowsEnd, ShowsFacts, ShowsPut, Sound}
+use Rattle.hub_core.proofs.Words.{With, Worker, agent_answer, agent_now, channel_answer, come, count_of, count_with, end_now, ends, eqb-false, eqb-true, false_from_ne_true, false≢true, first_agent, first_line, has_one, is_casting, is_client, is_out, is_some, is_with}
+use Rattle.hub_core.proofs.Words.{is_worker, kept_away, kept_clients, kept_member_answer, kept_queue_answer, kept_workers, length-replicate, line_now, lines_of, member_answer, nat_tests, new_end, no_end, no_line, one_more, option_map, origin_at, peer_of, place, queue_answer, roster, seen}
+use Rattle.hub_core.proofs.Words.{set_agent, slice_get, slice_get_past, taken}
 use Rattle.hub_core.specs.declared.step.Action.TheVariants as action
 use Rattle.hub_core.specs.declared.outcome.Outcome.TheVariants as outcome
-use Rattle.hub_core.proofs.Showing.{SoundlyShows}
-use Rattle.hub_core.proofs.Lists.{slice_get-append_front, slice_get-append_back, eqb_same, next_up}
-use Rattle.hub_core.proofs.Frames.{Stepped}
-use Rattle.hub_core.proofs.Seeing.{Sees, seen_is}
-use Rattle.hub_core.proofs.Speakers.{nothing_accepted, nothing_removed, running_made, entangled_made}
-use Rattle.hub_core.proofs.Nexts.{next}
-use Rattle.hub_core.proofs.Counts.{New, counts_at, Counted, counted_new, none_of_kind, counts_of, come_length, come_now, IsCalmAt, away_at, calm_count, none_at}
-use Rattle.hub_core.proofs.Totals.{total_same}
-use Rattle.hub_core.proofs.Fitting.{queue_made_of, member_made_of, new_agent, new_ends}
-use Rattle.hub_core.proofs.Lists.{set_again}
 use Rattle.hub_core.proofs.Calms.{calm_places}
+use Rattle.hub_core.proofs.Casts.{roster_agent}
+use Rattle.hub_core.proofs.Changing.{ShownAfter, ShownWith}
+use Rattle.hub_core.proofs.Counts.{IsCalmAt, New, come_length, come_now, counted_new, none_of_kind}
+use Rattle.hub_core.proofs.Fitting.{member_made_of, new_agent, new_ends, queue_made_of}
+use Rattle.hub_core.proofs.Frames.{Stepped}
+use Rattle.hub_core.proofs.Lists.{eqb_same, next_up, set_again, slice_get-append_back, slice_get-append_front}
+use Rattle.hub_core.proofs.Moves.{one_made}
+use Rattle.hub_core.proofs.Nexts.{Change, agent_made, channel_made, client_made, next, put, worker_made}
+use Rattle.hub_core.proofs.Seeing.{Sees, seen_is}
+use Rattle.hub_core.proofs.Showing.{SoundlyShows, plainly}
+use Rattle.hub_core.proofs.Speakers.{nothing_accepted, nothing_removed, running_made}
 
 -- ---- Agent
 
@@ -67,7 +66,7 @@ agent_changes c f origin refused h answer (agent_made p a) =
       roster_agent c.roster f origin refused a h.roster answer,
     )
 
--- ---- Channel
+-- ---- a new end
 
 -- the lines of a new end, and what they put
 line_first : (n l : ℕ) → line_now (slice_get (replicate n first_line) l) ≡ no_line
@@ -109,213 +108,164 @@ record Nothing (f : Facts) (d : ℕ) : Type 0 where
   accepted : f.accepted d ≡ []
   removed : f.taken d ++ f.discarded d ≡ []
 
-nothing_at : (agents : List Agent) (ends : List End) (f : Facts) (d : ℕ) → SoundlyShows agents ends f → length ends ≤ d → Nothing f d
-nothing_at agents ends f d h past =
-    let count : f.ends ≡ length ends = h.ends in
-    let none : f.end d ≡ no_end = h.sound.places.ends d (omega arith) in
-    let accepted = nothing_accepted f d (h.sound.lines d) none in
+nothing_at : (f : Facts) (d : ℕ) → Sound f → f.ends ≤ d → Nothing f d
+nothing_at f d h past =
+    let none : f.end d ≡ no_end = h.places.ends d past in
+    let accepted = nothing_accepted f d (h.lines d) none in
     record {
       now = none;
-      lines = λ l. (h.sound.lines d).none l (subst (λ p. lines_of p ≤ l) (sym (ap (λ (y : EndNow). y.kind) none)) (omega arith));
+      lines = λ l. (h.lines d).none l (subst (λ p. lines_of p ≤ l) (sym (ap (λ (y : EndNow). y.kind) none)) (omega arith));
       accepted = accepted;
-      unclear = λ k. false_from_ne_true (f.clear d k) (λ is. elim ((h.sound.lines d).clear_within k is) [
+      unclear = λ k. false_from_ne_true (f.clear d k) (λ is. elim ((h.lines d).clear_within k is) [
         | inl less ↦ absurd (let first : (f.end d).newest ≡ 0 = ap (λ (y : EndNow). y.newest) none in let low : k < (f.end d).newest = less in omega arith)
         | inr both ↦ absurd (search (rules, false≢true, sym (ap (λ (y : EndNow). y.closed) none) ∙ both.1))
       ]);
-      removed = nothing_removed f d (h.sound.waiting d) accepted;
+      removed = nothing_removed f d (h.waiting d) accepted;
     }
 
-past_two : (ends : List End) (p q : End) (d : ℕ) → length ends ≤ d → (d ≡ length ends → ⊥) → (d ≡ length ends + 1 → ⊥) → length (ends ++ p ∷ q ∷ []) ≤ d
-past_two ends p q d from first second =
-    let one : length ends + 1 ≤ d = next_up (length ends) d from first in
-    let two : length ends + 1 + 1 ≤ d = next_up (length ends + 1) d one second in
-    simp length-append (omega arith)
-
--- the facts of an end after a channel was made
-abbrev made_now : Facts → AgentId → ℕ → ℕ → Bool → Bool → EndNow
-made_now f a n d first second = record (f.end d) {
-  kind = cond first (Some (Port (record { 0 = n + 1 }))) (cond second (Some (Port (record { 0 = n }))) (f.end d).kind);
-  place = cond (first || second) (Some (With a)) (f.end d).place;
-}
-
--- two ports more
-abbrev two_ports : AgentId → ℕ → List End
-two_ports a n = new_end a (Port (record { 0 = n + 1 })) ∷ new_end a (Port (record { 0 = n })) ∷ []
-
-port_at : (agents : List Agent) (ends : List End) (f : Facts) (a : AgentId) → SoundlyShows agents ends f → (d : ℕ) → (before first second : Bool) → nat_lt d (length ends) ≡ before → eqb d (length ends) ≡ first → eqb d (length ends + 1) ≡ second → ShowsEnd (made_now f a (length ends) d first second) (f.line d) (f.clear d) (f.accepted d) (f.taken d ++ f.discarded d) (slice_get (ends ++ two_ports a (length ends)) d)
-port_at agents ends f a h d before true second is here there =
-    let n = length ends in
-    let k : Kind = Port (record { 0 = n + 1 }) in
-    let at : d ≡ n + 0 = eqb-true d n here ∙ omega arith in
-    let none = nothing_at agents ends f d h (omega arith) in
-    subst (ShowsEnd _ _ _ _ _) (sym (slice_get-append_back ends (two_ports a n) d 0 at))
-    (new_shown _ (f.line d) (f.clear d) (f.accepted d) (f.taken d ++ f.discarded d) a k (ap (λ (y : EndNow). let z : EndNow = record y { kind = Some k; place = Some (With a) } in z) none.now) none.lines none.unclear none.accepted none.removed)
-port_at agents ends f a h d before false true is here there =
-    let n = length ends in
-    let k : Kind = Port (record { 0 = n }) in
-    let at : d ≡ n + 1 = eqb-true d (n + 1) there in
-    let none = nothing_at agents ends f d h (omega arith) in
-    subst (ShowsEnd _ _ _ _ _) (sym (slice_get-append_back ends (two_ports a n) d 1 at))
-    (new_shown _ (f.line d) (f.clear d) (f.accepted d) (f.taken d ++ f.discarded d) a k (ap (λ (y : EndNow). let z : EndNow = record y { kind = Some k; place = Some (With a) } in z) none.now) none.lines none.unclear none.accepted none.removed)
-port_at agents ends f a h d true false false is here there =
-    let n = length ends in
-    subst (ShowsEnd _ _ _ _ _) (sym (slice_get-append_front ends (two_ports a n) d (ltb-true d n is))) (h.end d)
-port_at agents ends f a h d false false false is here there =
-    let n = length ends in
-    let beyond : length (ends ++ two_ports a n) ≤ d = past_two ends (new_end a (Port (record { 0 = n + 1 }))) (new_end a (Port (record { 0 = n }))) d (ltb-false d n is) (eqb-false d n here) (eqb-false d (n + 1) there) in
-    subst (ShowsEnd _ _ _ _ _) (slice_get_past ends d (ltb-false d n is) ∙ sym (slice_get_past (ends ++ two_ports a n) d beyond)) (h.end d)
-
--- new ports are no queues
-ports_counted : (test : Option Kind → Bool) → ((q : EndId) → test (Some (Port q)) ≡ false) → (f : Facts) (a b : AgentId) → count_with test b (next f (action.Channel a) (outcome.Ends (record { 0 = f.ends }) (record { 0 = f.ends + 1 }))) ≡ count_with test b f
-ports_counted test never f a b =
-    let g : Facts = next f (action.Channel a) (outcome.Ends (record { 0 = f.ends }) (record { 0 = f.ends + 1 })) in
-    let u : ℕ → ℕ = λ x. cond (counts_at test b (g.end x)) 1 0 in
-    let w : ℕ → ℕ = λ x. cond (counts_at test b (f.end x)) 1 0 in
-    let rest : total u f.ends ≡ total w f.ends = total_same w u f.ends (λ d less.
-    let one : eqb d f.ends ≡ false = ne_eqb d f.ends (λ is. omega arith) in
-    let two : eqb d (f.ends + 1) ≡ false = ne_eqb d (f.ends + 1) (λ is. omega arith) in
-    rw (one, two) refl)
-    in
-    let first : u f.ends ≡ 0 = ap (λ c. cond (counts_at test b (made_now f a f.ends f.ends c (eqb f.ends (f.ends + 1)))) 1 0) (eqb_same f.ends) ∙ ap (λ c. cond (c && is_with b (Some (With a))) 1 0) (never (record { 0 = f.ends + 1 })) in
-    let other : eqb (f.ends + 1) f.ends ≡ false = ne_eqb (f.ends + 1) f.ends (λ is. omega arith) in
-    let second : u (f.ends + 1) ≡ 0 = ap (λ c. cond (counts_at test b (made_now f a f.ends (f.ends + 1) c (eqb (f.ends + 1) (f.ends + 1)))) 1 0) other ∙ ap (λ c. cond (counts_at test b (made_now f a f.ends (f.ends + 1) false c)) 1 0) (eqb_same (f.ends + 1)) ∙ ap (λ c. cond (c && is_with b (Some (With a))) 1 0) (never (record { 0 = f.ends })) in
-    let next_one : f.ends + 1 ≡ suc f.ends = omega arith in
-    let last : u (suc f.ends) ≡ 0 = ap u (sym next_one) ∙ second in
-    let range : f.ends + 2 ≡ suc (suc f.ends) = omega arith in
-    ap (total u) range ∙ omega arith
-
--- nobody is away at new ports
-ports_away : (agents : List Agent) (ends : List End) (f : Facts) (a b : AgentId) → SoundlyShows agents ends f → count_away b (next f (action.Channel a) (outcome.Ends (record { 0 = f.ends }) (record { 0 = f.ends + 1 }))) ≡ count_away b f
-ports_away agents ends f a b h =
-    let g : Facts = next f (action.Channel a) (outcome.Ends (record { 0 = f.ends }) (record { 0 = f.ends + 1 })) in
-    let rest : total (away_at b g) f.ends ≡ total (away_at b f) f.ends = total_same (away_at b f) (away_at b g) f.ends (λ x less. calm_count b f g x (calm x less)) in
-    let first : away_at b g f.ends ≡ 0 = none_at b g f.ends (λ l. ap (λ (y : LineNow). is_out y.phase) (new_lines f.ends (omega arith) l)) in
-    let second : away_at b g (f.ends + 1) ≡ 0 = none_at b g (f.ends + 1) (λ l. ap (λ (y : LineNow). is_out y.phase) (new_lines (f.ends + 1) (omega arith) l)) in
-    let next_one : f.ends + 1 ≡ suc f.ends = omega arith in
-    let last : away_at b g (suc f.ends) ≡ 0 = ap (away_at b g) (sym next_one) ∙ second in
-    let range : f.ends + 2 ≡ suc (suc f.ends) = omega arith in
-    ap (total (away_at b g)) range ∙ omega arith
-  where
-    new_lines : (x : ℕ) → f.ends ≤ x → (l : ℕ) → f.line x l ≡ no_line
-    new_lines x past l = (h.sound.lines x).none l (subst (λ p. lines_of p ≤ l) (sym (ap (λ (y : EndNow). y.kind) (h.sound.places.ends x past))) (omega arith))
-
-    calm : (x : ℕ) → x < f.ends → IsCalmAt b f (next f (action.Channel a) (outcome.Ends (record { 0 = f.ends }) (record { 0 = f.ends + 1 }))) x
-    calm x less =
-        let one : eqb x f.ends ≡ false = ne_eqb x f.ends (λ is. omega arith) in
-        let two : eqb x (f.ends + 1) ≡ false = ne_eqb x (f.ends + 1) (λ is. omega arith) in
-        calm_places b f (next f (action.Channel a) (outcome.Ends (record { 0 = f.ends }) (record { 0 = f.ends + 1 }))) x (ap (λ c. cond c (Some (Port (record { 0 = f.ends + 1 }))) (cond (eqb x (f.ends + 1)) (Some (Port (record { 0 = f.ends }))) (f.end x).kind)) one ∙ ap (λ c. cond c (Some (Port (record { 0 = f.ends }))) (f.end x).kind) two) (λ l. refl) (λ q is.
-        let there : q.0 < f.ends = entangled_made f q.0 x h.sound.places (h.sound.places.peers x q.0 (ap peer_of is)).1 in
-        let first : eqb q.0 f.ends ≡ false = ne_eqb q.0 f.ends (λ same. omega arith) in
-        let second : eqb q.0 (f.ends + 1) ≡ false = ne_eqb q.0 (f.ends + 1) (λ same. omega arith) in
-        inr (ap (is_with b) (ap (λ c. cond (c || eqb q.0 (f.ends + 1)) (Some (With a)) (f.end q.0).place) first ∙ ap (λ c. cond c (Some (With a)) (f.end q.0).place) second)))
-
-ports_made : (agents : List Agent) (ends : List End) (f : Facts) (a : AgentId) (refused : Bool) → SoundlyShows agents ends f → outcome.Ends (record { 0 = length ends }) (record { 0 = length ends + 1 }) ≡ channel_answer f a refused → Stepped agents (ends ++ two_ports a (length ends)) f (action.Channel a) refused (outcome.Ends (record { 0 = length ends }) (record { 0 = length ends + 1 }))
-ports_made agents ends f a refused h answer = record {
-  fits = answer;
-  shows = record {
-    agents = h.agents;
-    agent = h.agent;
-    ends = ap (λ n. n + 2) h.ends ∙ sym (length-append ends (two_ports a (length ends)));
-    end = λ d. port_at agents ends f a h d (nat_lt d (length ends)) (eqb d (length ends)) (eqb d (length ends + 1)) refl refl refl;
-    clients = λ b. h.clients b ∙ sym (counted is_client (λ q. refl) b);
-    workers = λ b. h.workers b ∙ sym (counted is_worker (λ q. refl) b);
-    away = λ b. h.away b ∙ sym (ap (λ n. count_away b (next f (action.Channel a) (outcome.Ends (record { 0 = n }) (record { 0 = n + 1 })))) (sym h.ends) ∙ ports_away agents ends f a b h);
-  };
-}
-  where
-    counted : (test : Option Kind → Bool) → ((q : EndId) → test (Some (Port q)) ≡ false) → (b : AgentId) → count_with test b (next f (action.Channel a) (outcome.Ends (record { 0 = length ends }) (record { 0 = length ends + 1 }))) ≡ count_with test b f
-    counted test never b = ap (λ n. count_with test b (next f (action.Channel a) (outcome.Ends (record { 0 = n }) (record { 0 = n + 1 })))) (sym h.ends) ∙ ports_counted test never f a b
-
-pub channel_changes : (c : CoreState) (f : Facts) (a : AgentId) (refused : Bool) {o : Outcome} → Sees c f → o ≡ channel_answer f a refused → Change (action.Channel a) o → ShownAfter c f (action.Channel a) refused o
-channel_changes c f a refused h answer (channel_made b e p) =
-    let n : ℕ = length c.ends in
-    let made = new_ends f a refused e p answer in
-    let first : e ≡ record { 0 = n } = made.1 ∙ ap (λ m. let i : EndId = record { 0 = m } in i) h.shows.ends in
-    let second : p ≡ record { 0 = n + 1 } = made.2 ∙ ap (λ m. let i : EndId = record { 0 = m + 1 } in i) h.shows.ends in (
-      subst (λ (i : EndId). Stepped c.agents (c.ends ++ new_end a (Port p) ∷ new_end a (Port i) ∷ []) f (action.Channel a) refused (outcome.Ends i p)) (sym first)
-          (subst (λ (i : EndId). Stepped c.agents (c.ends ++ new_end a (Port i) ∷ new_end a (Port (record { 0 = n })) ∷ []) f (action.Channel a) refused (outcome.Ends (record { 0 = n }) i)) (sym second)
-          (ports_made c.agents c.ends f a refused h.shows (ap (λ i. outcome.Ends i (record { 0 = n + 1 })) (sym first) ∙ ap (outcome.Ends e) (sym second) ∙ answer))),
-      refl,
-    )
-
--- ---- Client and Worker
-
--- the facts of an end after a queue was made
-abbrev queue_now : Facts → AgentId → Kind → ℕ → Bool → EndNow
-queue_now f a k d fresh = record (f.end d) { kind = cond fresh (Some k) (f.end d).kind; place = cond fresh (Some (With a)) (f.end d).place }
+-- the facts of an end after one was made
+abbrev made_end : Facts → AgentId → Kind → ℕ → Bool → EndNow
+made_end f a k d fresh = record (f.end d) { kind = cond fresh (Some k) (f.end d).kind; place = cond fresh (Some (With a)) (f.end d).place }
 
 past_end : (ends : List End) (p : End) (d : ℕ) → length ends ≤ d → (d ≡ length ends → ⊥) → length (ends ++ p ∷ []) ≤ d
 past_end ends p d from other = let one : length ends + 1 ≤ d = next_up (length ends) d from other in simp length-append (omega arith)
 
-queue_at : (agents : List Agent) (ends : List End) (f : Facts) (a : AgentId) (k : Kind) → SoundlyShows agents ends f → (d : ℕ) → (before fresh : Bool) → nat_lt d (length ends) ≡ before → eqb d (length ends) ≡ fresh → ShowsEnd (queue_now f a k d fresh) (f.line d) (f.clear d) (f.accepted d) (f.taken d ++ f.discarded d) (slice_get (ends ++ new_end a k ∷ []) d)
-queue_at agents ends f a k h d before true is here =
-    let n = length ends in
-    let at : d ≡ n + 0 = eqb-true d n here ∙ omega arith in
-    let none = nothing_at agents ends f d h (omega arith) in
-    subst (ShowsEnd _ _ _ _ _) (sym (slice_get-append_back ends (new_end a k ∷ []) d 0 at))
-    (new_shown _ (f.line d) (f.clear d) (f.accepted d) (f.taken d ++ f.discarded d) a k (ap (λ (y : EndNow). let z : EndNow = record y { kind = Some k; place = Some (With a) } in z) none.now) none.lines none.unclear none.accepted none.removed)
-queue_at agents ends f a k h d true false is here =
-    subst (ShowsEnd _ _ _ _ _) (sym (slice_get-append_front ends (new_end a k ∷ []) d (ltb-true d (length ends) is))) (h.end d)
-queue_at agents ends f a k h d false false is here =
-    let beyond : length (ends ++ new_end a k ∷ []) ≤ d = past_end ends (new_end a k) d (ltb-false d (length ends) is) (eqb-false d (length ends) here) in
-    subst (ShowsEnd _ _ _ _ _) (slice_get_past ends d (ltb-false d (length ends) is) ∙ sym (slice_get_past (ends ++ new_end a k ∷ []) d beyond)) (h.end d)
+-- What is kept of agents and ends, the facts that it shows, and what making an end asks of them: nothing is known of an
+-- end that isn't made, and a port is entangled with one that is, or its own line is out.
+module _ (agents : List Agent) (ends : List End) (f : Facts) (a : AgentId) (k : Kind) (h : ShowsFacts agents ends f) (known : a.0 < f.agents)
+    (nothing : (d : ℕ) → f.ends ≤ d → Nothing f d) (ports : (x : ℕ) (q : EndId) → x < f.ends → (f.end x).kind ≡ Some (Port q) → (is_out (f.line x 0).phase ≡ true) ⊎ (q.0 < f.ends)) where
+  abbrev g : Facts
+  g = one_made f a k (record { 0 = f.ends })
+
+  old : (d : ℕ) → d < f.ends → eqb d f.ends ≡ false
+  old d less = ne_eqb d f.ends (λ is. omega arith)
+
+  end_at : (d : ℕ) → (before fresh : Bool) → nat_lt d (length ends) ≡ before → eqb d (length ends) ≡ fresh → ShowsEnd (made_end f a k d fresh) (f.line d) (f.clear d) (f.accepted d) (f.taken d ++ f.discarded d) (slice_get (ends ++ new_end a k ∷ []) d)
+  end_at d before true is here =
+      let n = length ends in
+      let count : f.ends ≡ n = h.ends in
+      let same : d ≡ n = eqb-true d n here in
+      let at : d ≡ n + 0 = omega arith in
+      let none = nothing d (omega arith) in
+      subst (ShowsEnd _ _ _ _ _) (sym (slice_get-append_back ends (new_end a k ∷ []) d 0 at))
+      (new_shown _ (f.line d) (f.clear d) (f.accepted d) (f.taken d ++ f.discarded d) a k (ap (λ (y : EndNow). let z : EndNow = record y { kind = Some k; place = Some (With a) } in z) none.now) none.lines none.unclear none.accepted none.removed)
+  end_at d true false is here =
+      subst (ShowsEnd _ _ _ _ _) (sym (slice_get-append_front ends (new_end a k ∷ []) d (ltb-true d (length ends) is))) (h.end d)
+  end_at d false false is here =
+      let beyond : length (ends ++ new_end a k ∷ []) ≤ d = past_end ends (new_end a k) d (ltb-false d (length ends) is) (eqb-false d (length ends) here) in
+      subst (ShowsEnd _ _ _ _ _) (slice_get_past ends d (ltb-false d (length ends) is) ∙ sym (slice_get_past (ends ++ new_end a k ∷ []) d beyond)) (h.end d)
+
+  calm : (b : AgentId) (x : ℕ) → x < f.ends → IsCalmAt b f g x
+  calm b x less = calm_places b f g x (ap (λ c. cond c (Some k) (f.end x).kind) (old x less)) (λ l. refl) (λ q is. elim (ports x q less is) [
+    | inl out ↦ inl out
+    | inr there ↦ inr (ap (λ c. is_with b (cond c (Some (With a)) (f.end q.0).place)) (old q.0 there))
+  ])
+
+  one_more_end : New f g k a
+  one_more_end = record {
+    ends = refl;
+    is = ap (λ c. cond c (Some k) (f.end f.ends).kind) (eqb_same f.ends);
+    to = ap (λ c. cond c (Some (With a)) (f.end f.ends).place) (eqb_same f.ends);
+    kinds = λ d less. ap (λ c. cond c (Some k) (f.end d).kind) (old d less);
+    places = λ d less. ap (λ c. cond c (Some (With a)) (f.end d).place) (old d less);
+    calm = calm;
+    nobody = λ l. ap (λ (y : LineNow). is_out y.phase) ((nothing f.ends (omega arith)).lines l);
+  }
+
+  -- an end more is kept, and shown
+  one_shown : ShowsFacts (come k a agents) (ends ++ new_end a k ∷ []) g
+  one_shown =
+      let count : f.agents ≡ length agents = h.agents in
+      let counted = counted_new agents f g k a (omega arith) one_more_end (record { clients = h.clients; workers = h.workers; away = h.away }) in
+      record {
+        agents = h.agents ∙ sym (come_length k a agents);
+        agent = λ x. h.agent x ∙ sym (come_now k a agents x);
+        ends = ap (λ n. n + 1) h.ends ∙ sym (length-append ends (new_end a k ∷ []));
+        end = λ d. end_at d (nat_lt d (length ends)) (eqb d f.ends) refl (ap (eqb d) (sym h.ends));
+        clients = counted.clients;
+        workers = counted.workers;
+        away = counted.away;
+      }
+
+-- of facts that are sound all that is so
+sound_ports : (f : Facts) → Sound f → (x : ℕ) (q : EndId) → x < f.ends → (f.end x).kind ≡ Some (Port q) → (is_out (f.line x 0).phase ≡ true) ⊎ (q.0 < f.ends)
+sound_ports f h x q less is = inr (h.places.peers x q.0 (ap peer_of is)).0
+
+made_shown : (agents : List Agent) (ends : List End) (f : Facts) (a : AgentId) (k : Kind) (e : EndId) → SoundlyShows agents ends f → (f.agent a.0).runs ≡ true → e ≡ record { 0 = f.ends } → ShowsFacts (come k a agents) (ends ++ new_end a k ∷ []) (one_made f a k e)
+made_shown agents ends f a k e h runs number = subst (λ i. ShowsFacts (come k a agents) (ends ++ new_end a k ∷ []) (one_made f a k i)) (sym number)
+    (one_shown agents ends f a k (plainly h) (running_made f a h.sound.places runs) (λ d past. nothing_at f d h.sound past) (sound_ports f h.sound))
+
+-- ports and members count for no agent
+uncounted : (agents : List Agent) (k : Kind) (a : AgentId) → ((x : Agent) → one_more k x ≡ x) → come k a agents ≡ agents
+uncounted agents k a same = elim (slice_get agents a.0) as (λ q. slice_get agents a.0 ≡ q → set_agent a.0 agents (option_map (one_more k) q) ≡ agents) [
+  | Some x ↦ λ at. ap (λ y. set agents a.0 y) (same x) ∙ set_again agents a.0 x at
+  | None ↦ λ _. refl
+] refl
+
+-- ---- Channel
+
+-- two ends made, one after the other, are those of a channel
+both_made : (b c : Bool) (p q : EndId) (a : AgentId) (y : EndNow) → (b ≡ true → c ≡ true → ⊥)
+    → (let one : EndNow = record y { kind = cond c (Some (Port p)) (cond b (Some (Port q)) y.kind); place = cond c (Some (With a)) (cond b (Some (With a)) y.place) } in
+    let other : EndNow = record y { kind = cond b (Some (Port q)) (cond c (Some (Port p)) y.kind); place = cond (b || c) (Some (With a)) y.place } in one ≡ other)
+both_made true true p q a y never = absurd (never refl refl)
+both_made true false p q a y never = refl
+both_made false true p q a y never = refl
+both_made false false p q a y never = refl
+
+channel_facts : (f : Facts) (a : AgentId) → (let e : EndId = record { 0 = f.ends } in let p : EndId = record { 0 = f.ends + 1 } in one_made (one_made f a (Port p) e) a (Port e) p ≡ next f (action.Channel a) (outcome.Ends e p))
+channel_facts f a =
+    let e : EndId = record { 0 = f.ends } in
+    let p : EndId = record { 0 = f.ends + 1 } in
+    let two : f.ends + 1 + 1 ≡ f.ends + 2 = omega arith in
+    let each : (x : ℕ) → (one_made (one_made f a (Port p) e) a (Port e) p).end x ≡ (next f (action.Channel a) (outcome.Ends e p)).end x = λ x.
+    both_made (eqb x f.ends) (eqb x (f.ends + 1)) e p a (f.end x) (λ one other. let first : x ≡ f.ends = eqb-true x f.ends one in let second : x ≡ f.ends + 1 = eqb-true x (f.ends + 1) other in omega arith)
+    in
+    λ i. record f { ends = two i; end = λ x. each x i }
+
+-- the facts after the first of the two ports was made
+abbrev one_port : Facts → AgentId → Facts
+one_port f a = one_made f a (Port (record { 0 = f.ends + 1 })) (record { 0 = f.ends })
+
+channel_shown : (agents : List Agent) (ends : List End) (f : Facts) (a : AgentId) → SoundlyShows agents ends f → (f.agent a.0).runs ≡ true → (let e : EndId = record { 0 = f.ends } in let p : EndId = record { 0 = f.ends + 1 } in ShowsFacts agents (ends ++ new_end a (Port p) ∷ new_end a (Port e) ∷ []) (next f (action.Channel a) (outcome.Ends e p)))
+channel_shown agents ends f a h runs =
+    let e : EndId = record { 0 = f.ends } in
+    let p : EndId = record { 0 = f.ends + 1 } in
+    let g : Facts = one_port f a in
+    let known : a.0 < f.agents = running_made f a h.sound.places runs in
+    let first : ShowsFacts agents (ends ++ new_end a (Port p) ∷ []) g = subst (λ kept. ShowsFacts kept (ends ++ new_end a (Port p) ∷ []) g) (uncounted agents (Port p) a (λ x. refl)) (made_shown agents ends f a (Port p) e h runs refl) in
+    let second = one_shown agents (ends ++ new_end a (Port p) ∷ []) g a (Port e) first known (λ d past. still_nothing d (omega arith)) still_ports in
+    subst (ShowsFacts agents (ends ++ new_end a (Port p) ∷ new_end a (Port e) ∷ [])) (channel_facts f a)
+    (subst (λ kept. ShowsFacts kept (ends ++ new_end a (Port p) ∷ new_end a (Port e) ∷ []) (one_made g a (Port e) p)) (uncounted agents (Port e) a (λ x. refl))
+    (subst (λ es. ShowsFacts (come (Port e) a agents) es (one_made g a (Port e) p)) (append_assoc ends (new_end a (Port p) ∷ []) (new_end a (Port e) ∷ [])) second))
+  where
+    still_nothing : (d : ℕ) → f.ends < d → Nothing (one_port f a) d
+    still_nothing d past =
+        let none = nothing_at f d h.sound (omega arith) in
+        let other : eqb d f.ends ≡ false = ne_eqb d f.ends (λ is. omega arith) in
+        record { now = rw other none.now; lines = none.lines; unclear = none.unclear; accepted = none.accepted; removed = none.removed }
+
+    still_ports : (x : ℕ) (q : EndId) → x < f.ends + 1 → ((one_port f a).end x).kind ≡ Some (Port q) → (is_out (f.line x 0).phase ≡ true) ⊎ (q.0 < f.ends + 1)
+    still_ports x q less is = elim (eqb x f.ends) as (λ b. eqb x f.ends ≡ b → cond b (Some (Port (record { 0 = f.ends + 1 }))) (f.end x).kind ≡ Some (Port q) → (is_out (f.line x 0).phase ≡ true) ⊎ (q.0 < f.ends + 1)) [
+      | true ↦ λ same _. let here : x ≡ f.ends = eqb-true x f.ends same in inl (ap (λ (y : LineNow). is_out y.phase) ((nothing_at f x h.sound (omega arith)).lines 0))
+      | false ↦ λ other kind. let there : q.0 < f.ends = (h.sound.places.peers x q.0 (ap peer_of kind)).0 in inr (omega arith)
+    ] refl is
+
+pub channel_changes : (c : CoreState) (f : Facts) (a : AgentId) (refused : Bool) {o : Outcome} → Sees c f → o ≡ channel_answer f a refused → Change (action.Channel a) o → ShownAfter c f (action.Channel a) refused o
+channel_changes c f a refused h answer (channel_made b e p) =
+    let made = new_ends f a refused e p answer in
+    let shows : ShowsFacts c.agents (c.ends ++ new_end a (Port p) ∷ new_end a (Port e) ∷ []) (next f (action.Channel a) (outcome.Ends e p)) =
+    subst (λ (i : EndId). ShowsFacts c.agents (c.ends ++ new_end a (Port p) ∷ new_end a (Port i) ∷ []) (next f (action.Channel a) (outcome.Ends i p))) (sym made.1)
+    (subst (λ (i : EndId). ShowsFacts c.agents (c.ends ++ new_end a (Port i) ∷ new_end a (Port (record { 0 = f.ends })) ∷ []) (next f (action.Channel a) (outcome.Ends (record { 0 = f.ends }) i))) (sym made.2) (channel_shown c.agents c.ends f a h.shows made.0))
+    in
+    (record { fits = answer; shows = shows }, refl)
+
+-- ---- Client and Worker
 
 -- the two steps that make a queue, and the kind that they make
 pub data Makes : Action → Kind → (Option Kind → Bool) → AgentId → Type 0 where
   makes_client : (a : AgentId) → Makes (action.Client a) Client is_client a
   makes_worker : (a : AgentId) → Makes (action.Worker a) Worker is_worker a
-
-unmade_lines : (f : Facts) → Sound f → (l : ℕ) → f.line f.ends l ≡ no_line
-unmade_lines f h l = (h.lines f.ends).none l (subst (λ p. lines_of p ≤ l) (sym (ap (λ (y : EndNow). y.kind) (h.places.ends f.ends (omega arith)))) (omega arith))
-
-queue_new : (agents : List Agent) (ends : List End) (f : Facts) {b : Action} {k : Kind} {test : Option Kind → Bool} {a : AgentId} → SoundlyShows agents ends f → Makes b k test a → New f (next f b (outcome.End (record { 0 = f.ends }))) k a
-queue_new agents ends f h (makes_client a) = record {
-  ends = refl;
-  is = ap (λ c. cond c (Some Client) (f.end f.ends).kind) (eqb_same f.ends);
-  to = ap (λ c. cond c (Some (With a)) (f.end f.ends).place) (eqb_same f.ends);
-  kinds = λ d less. ap (λ c. cond c (Some Client) (f.end d).kind) (ne_eqb d f.ends (λ is. omega arith));
-  places = λ d less. ap (λ c. cond c (Some (With a)) (f.end d).place) (ne_eqb d f.ends (λ is. omega arith));
-  calm = λ b x less. calm_places b f (next f (action.Client a) (outcome.End (record { 0 = f.ends }))) x (ap (λ c. cond c (Some Client) (f.end x).kind) (ne_eqb x f.ends (λ is. omega arith))) (λ l. refl) (λ q is. inr (ap (is_with b) (ap (λ c. cond c (Some (With a)) (f.end q.0).place) (ne_eqb q.0 f.ends (λ same. let less_than : q.0 < f.ends = entangled_made f q.0 x h.sound.places (h.sound.places.peers x q.0 (ap peer_of is)).1 in omega arith)))));
-  nobody = λ l. ap (λ (y : LineNow). is_out y.phase) (unmade_lines f h.sound l);
-}
-queue_new agents ends f h (makes_worker a) = record {
-  ends = refl;
-  is = ap (λ c. cond c (Some Worker) (f.end f.ends).kind) (eqb_same f.ends);
-  to = ap (λ c. cond c (Some (With a)) (f.end f.ends).place) (eqb_same f.ends);
-  kinds = λ d less. ap (λ c. cond c (Some Worker) (f.end d).kind) (ne_eqb d f.ends (λ is. omega arith));
-  places = λ d less. ap (λ c. cond c (Some (With a)) (f.end d).place) (ne_eqb d f.ends (λ is. omega arith));
-  calm = λ b x less. calm_places b f (next f (action.Worker a) (outcome.End (record { 0 = f.ends }))) x (ap (λ c. cond c (Some Worker) (f.end x).kind) (ne_eqb x f.ends (λ is. omega arith))) (λ l. refl) (λ q is. inr (ap (is_with b) (ap (λ c. cond c (Some (With a)) (f.end q.0).place) (ne_eqb q.0 f.ends (λ same. let less_than : q.0 < f.ends = entangled_made f q.0 x h.sound.places (h.sound.places.peers x q.0 (ap peer_of is)).1 in omega arith)))));
-  nobody = λ l. ap (λ (y : LineNow). is_out y.phase) (unmade_lines f h.sound l);
-}
-
-queue_fits : (f : Facts) {b : Action} {k : Kind} {test : Option Kind → Bool} {a : AgentId} (refused : Bool) (o : Outcome) → Makes b k test a → o ≡ queue_answer test f a refused → Answers f b refused o
-queue_fits f refused o (makes_client a) is = is
-queue_fits f refused o (makes_worker a) is = is
-
-queue_rest : (f : Facts) {b : Action} {k : Kind} {test : Option Kind → Bool} {a : AgentId} (e : EndId) → Makes b k test a → next f b (outcome.End e) ≡ record f { ends = f.ends + 1; end = λ d. queue_now f a k d (eqb d e.0) }
-queue_rest f e (makes_client a) = refl
-queue_rest f e (makes_worker a) = refl
-
-queue_shows : (agents : List Agent) (ends : List End) (f : Facts) {b : Action} {k : Kind} {test : Option Kind → Bool} {a : AgentId} (refused : Bool) → Makes b k test a → SoundlyShows agents ends f → outcome.End (record { 0 = length ends }) ≡ queue_answer test f a refused → Stepped (come k a agents) (ends ++ new_end a k ∷ []) f b refused (outcome.End (record { 0 = length ends }))
-queue_shows agents ends f {b = b} {k = k} {test = test} {a = a} refused makes h answer =
-    let e : EndId = record { 0 = length ends } in
-    let g : Facts = record f { ends = f.ends + 1; end = λ d. queue_now f a k d (eqb d (length ends)) } in
-    let count : f.agents ≡ length agents = h.agents in
-    let known : a.0 < f.agents = running_made f a h.sound.places (queue_made_of f test a refused e answer).runs in
-    let counted : Counted (come k a agents) (next f b (outcome.End (record { 0 = f.ends }))) = counted_new agents f (next f b (outcome.End (record { 0 = f.ends }))) k a (omega arith) (queue_new agents ends f h makes) (counts_of agents ends f h) in
-    let here : Counted (come k a agents) g = subst (Counted (come k a agents)) (ap (λ n. next f b (outcome.End (record { 0 = n }))) h.ends ∙ queue_rest f e makes) counted in
-    record {
-      fits = queue_fits f refused (outcome.End e) makes answer;
-      shows = subst (ShowsFacts (come k a agents) (ends ++ new_end a k ∷ [])) (sym (queue_rest f e makes)) (record {
-        agents = h.agents ∙ sym (come_length k a agents);
-        agent = λ x. h.agent x ∙ sym (come_now k a agents x);
-        ends = ap (λ n. n + 1) h.ends ∙ sym (length-append ends (new_end a k ∷ []));
-        end = λ d. queue_at agents ends f a k h d (nat_lt d (length ends)) (eqb d (length ends)) refl refl;
-        clients = here.clients;
-        workers = here.workers;
-        away = here.away;
-      });
-    }
 
 -- what an agent keeps of its queues of this kind
 count_kept : (agents : List Agent) (ends : List End) (f : Facts) {b : Action} {k : Kind} {test : Option Kind → Bool} {a : AgentId} → Makes b k test a → SoundlyShows agents ends f → count_of k (slice_get agents a.0) ≡ count_with test a f
@@ -340,56 +290,13 @@ queue_answered c f {k = k} {test = test} {a = a} refused makes h =
     let same : ((seen c).agent a.0).runs && eqb held 0 ≡ ((f.agent a.0).runs && not (has_one test a f)) = ap (λ g. (g.agent a.0).runs && eqb held 0) (seen_is c f h) ∙ ap (λ d. (f.agent a.0).runs && d) (ap (λ n. eqb n 0) (count_kept c.agents c.ends f makes h.shows) ∙ none_of_kind test a f) in
     ap (λ d. made_by d full refused (length c.ends)) same ∙ ap (λ n. made_by ((f.agent a.0).runs && not (has_one test a f)) (nat_le MAX_ENDS n) refused n) (sym h.shows.ends)
 
-queue_changes : (c : CoreState) (f : Facts) {b : Action} {k : Kind} {test : Option Kind → Bool} {a : AgentId} (refused : Bool) (e : EndId) → Makes b k test a → Sees c f → outcome.End e ≡ queue_answer test f a refused → Stepped (come k a c.agents) (c.ends ++ new_end a k ∷ []) f b refused (outcome.End e)
-queue_changes c f {b = b} {k = k} {test = test} {a = a} refused e makes h answer =
-    let same : e ≡ record { 0 = length c.ends } = (queue_made_of f test a refused e answer).number ∙ ap (λ m. let i : EndId = record { 0 = m } in i) h.shows.ends in
-    subst (λ i. Stepped (come k a c.agents) (c.ends ++ new_end a k ∷ []) f b refused (outcome.End i)) (sym same) (queue_shows c.agents c.ends f refused makes h.shows (ap outcome.End (sym same) ∙ answer))
-
 pub client_changes : (c : CoreState) (f : Facts) (a : AgentId) (refused : Bool) {o : Outcome} → Sees c f → o ≡ queue_answer is_client f a refused → Change (action.Client a) o → ShownAfter c f (action.Client a) refused o
-client_changes c f a refused h answer (client_made b e) = (queue_changes c f refused e (makes_client a) h answer, refl)
+client_changes c f a refused h answer (client_made b e) = let made = queue_made_of f is_client a refused e answer in (record { fits = answer; shows = made_shown c.agents c.ends f a Client e h.shows made.runs made.number }, refl)
 
 pub worker_changes : (c : CoreState) (f : Facts) (a : AgentId) (refused : Bool) {o : Outcome} → Sees c f → o ≡ queue_answer is_worker f a refused → Change (action.Worker a) o → ShownAfter c f (action.Worker a) refused o
-worker_changes c f a refused h answer (worker_made b e) = (queue_changes c f refused e (makes_worker a) h answer, refl)
+worker_changes c f a refused h answer (worker_made b e) = let made = queue_made_of f is_worker a refused e answer in (record { fits = answer; shows = made_shown c.agents c.ends f a Worker e h.shows made.runs made.number }, refl)
 
 -- ---- Member
-
--- a member counts for no agent
-come_same : (agents : List Agent) (k a : AgentId) → come (Member k) a agents ≡ agents
-come_same agents k a = elim (slice_get agents a.0) as (λ q. slice_get agents a.0 ≡ q → set_agent a.0 agents (option_map (one_more (Member k)) q) ≡ agents) [
-  | Some x ↦ λ at. set_again agents a.0 x at
-  | None ↦ λ _. refl
-] refl
-
-member_new : (agents : List Agent) (ends : List End) (f : Facts) (a : AgentId) (name : List ℕ) → SoundlyShows agents ends f → New f (next f (action.Member a name) (outcome.End (record { 0 = f.ends }))) (Member a) a
-member_new agents ends f a name h = record {
-  ends = refl;
-  is = ap (λ c. cond c (Some (Member a)) (f.end f.ends).kind) (eqb_same f.ends);
-  to = ap (λ c. cond c (Some (With a)) (f.end f.ends).place) (eqb_same f.ends);
-  kinds = λ d less. ap (λ c. cond c (Some (Member a)) (f.end d).kind) (ne_eqb d f.ends (λ is. omega arith));
-  places = λ d less. ap (λ c. cond c (Some (With a)) (f.end d).place) (ne_eqb d f.ends (λ is. omega arith));
-  calm = λ b x less. calm_places b f (next f (action.Member a name) (outcome.End (record { 0 = f.ends }))) x (ap (λ c. cond c (Some (Member a)) (f.end x).kind) (ne_eqb x f.ends (λ is. omega arith))) (λ l. refl) (λ q is. inr (ap (is_with b) (ap (λ c. cond c (Some (With a)) (f.end q.0).place) (ne_eqb q.0 f.ends (λ same. let less_than : q.0 < f.ends = entangled_made f q.0 x h.sound.places (h.sound.places.peers x q.0 (ap peer_of is)).1 in omega arith)))));
-  nobody = λ l. ap (λ (y : LineNow). is_out y.phase) (unmade_lines f h.sound l);
-}
-
-member_shows : (agents : List Agent) (ends : List End) (f : Facts) (a : AgentId) (name : List ℕ) (refused : Bool) → SoundlyShows agents ends f → outcome.End (record { 0 = length ends }) ≡ member_answer f a refused → Stepped agents (ends ++ new_end a (Member a) ∷ []) f (action.Member a name) refused (outcome.End (record { 0 = length ends }))
-member_shows agents ends f a name refused h answer =
-    let e : EndId = record { 0 = length ends } in
-    let count : f.agents ≡ length agents = h.agents in
-    let known : a.0 < f.agents = running_made f a h.sound.places (member_made_of f a refused e answer).runs in
-    let counted : Counted (come (Member a) a agents) (next f (action.Member a name) (outcome.End (record { 0 = f.ends }))) = counted_new agents f (next f (action.Member a name) (outcome.End (record { 0 = f.ends }))) (Member a) a (omega arith) (member_new agents ends f a name h) (counts_of agents ends f h) in
-    let here : Counted agents (next f (action.Member a name) (outcome.End e)) = subst (λ n. Counted agents (next f (action.Member a name) (outcome.End (record { 0 = n })))) h.ends (subst (λ gs. Counted gs (next f (action.Member a name) (outcome.End (record { 0 = f.ends })))) (come_same agents a a) counted) in
-    record {
-      fits = answer;
-      shows = record {
-        agents = h.agents;
-        agent = h.agent;
-        ends = ap (λ n. n + 1) h.ends ∙ sym (length-append ends (new_end a (Member a) ∷ []));
-        end = λ d. queue_at agents ends f a (Member a) h d (nat_lt d (length ends)) (eqb d (length ends)) refl refl;
-        clients = here.clients;
-        workers = here.workers;
-        away = here.away;
-      };
-    }
 
 abbrev joined_by : Bool → Bool → Bool → Bool → ℕ → Outcome
 joined_by may named full refused n = cond (not may) outcome.NotNow (cond (not named) outcome.NoOrigin (cond full outcome.TooManyEnds (cond refused outcome.NoMemory (outcome.End (record { 0 = n })))))
@@ -402,7 +309,12 @@ member_answered c f a refused h =
     ∙ ap (λ b. joined_by may b (nat_le MAX_ENDS (length c.ends)) refused (length c.ends)) (ap is_some (sym (h.roster.origins a.0)))
     ∙ ap (λ n. joined_by may (is_some (f.roster.origin a.0)) (nat_le MAX_ENDS n) refused n) (sym h.shows.ends)
 
+-- nothing that is kept of agents and ends asks for the roster
+with_roster : {agents : List Agent} {ends : List End} {f : Facts} (roster : RosterNow) → ShowsFacts agents ends f → ShowsFacts agents ends (record f { roster = roster })
+with_roster roster h = record { agents = h.agents; agent = h.agent; ends = h.ends; end = h.end; clients = h.clients; workers = h.workers; away = h.away }
+
 pub member_shown : (c : CoreState) (f : Facts) (a : AgentId) (name : List ℕ) (refused : Bool) (e : EndId) → Sees c f → outcome.End e ≡ member_answer f a refused → Stepped c.agents (c.ends ++ new_end a (Member a) ∷ []) f (action.Member a name) refused (outcome.End e)
 member_shown c f a name refused e h answer =
-    let same : e ≡ record { 0 = length c.ends } = (member_made_of f a refused e answer).number ∙ ap (λ m. let i : EndId = record { 0 = m } in i) h.shows.ends in
-    subst (λ i. Stepped c.agents (c.ends ++ new_end a (Member a) ∷ []) f (action.Member a name) refused (outcome.End i)) (sym same) (member_shows c.agents c.ends f a name refused h.shows (ap outcome.End (sym same) ∙ answer))
+    let made = member_made_of f a refused e answer in
+    let shows = subst (λ kept. ShowsFacts kept (c.ends ++ new_end a (Member a) ∷ []) (one_made f a (Member a) e)) (uncounted c.agents (Member a) a (λ x. refl)) (made_shown c.agents c.ends f a (Member a) e h.shows made.runs made.number) in
+    record { fits = answer; shows = with_roster (next f (action.Member a name) (outcome.End e)).roster shows }

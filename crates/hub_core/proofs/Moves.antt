@@ -1,7 +1,7 @@
 -- Where a pair that fits moves an end: from which place to which, and whether the end is closed then.
-use Rattle.std.proofs.Common.{Bool, Option, Some, ap, arith, cond, eqb, false, refl, true, ℕ, ◌+◌, ◌<◌, ◌||◌, ◌∙◌, ◌≡◌}
-use Rattle.hub_core.proofs.Words.{Action, AgentId, Answers, Arrived, EndId, Facts, Gone, InFlight, Outcome, Place, Sound, SoundPlaces, Swept, With, arrived, closed_after, eqb-true, is_client, is_here, is_named, is_queue}
-use Rattle.hub_core.proofs.Words.{is_released, is_some, is_worker, names, no_end, own_poster_out, peer_of, place_after}
+use Rattle.std.proofs.Common.{Bool, Option, Some, ap, arith, cond, eqb, false, refl, true, ℕ, ◌+◌, ◌-◌, ◌<◌, ◌||◌, ◌∙◌, ◌≡◌}
+use Rattle.hub_core.proofs.Words.{Action, AgentId, Answers, Arrived, EndId, Facts, Gone, InFlight, Kind, Outcome, Place, Sound, SoundPlaces, Swept, With, arrived, closed_after, closes, ends, eqb-true, is_client, is_here}
+use Rattle.hub_core.proofs.Words.{is_named, is_queue, is_released, is_some, is_worker, names, no_end, own_poster_out, peer_of, place, place_after}
 use Rattle.hub_core.specs.declared.step.Action.TheVariants as action
 use Rattle.hub_core.specs.declared.outcome.Outcome.TheVariants as outcome
 use Rattle.hub_core.proofs.Fitting.{adopted_of, closed_of, got_of, handed_of, member_made_of, new_ends, pushed_of, queue_made_of, swept_of}
@@ -19,6 +19,13 @@ pub data GoesTo (f : Facts) (x : ℕ) (place : Option Place) (closed : Bool) : T
   handed_on : (a b : AgentId) → place ≡ Some (Arrived b) → closed ≡ (f.end x).closed → (f.end x).place ≡ Some (With a) → is_queue (f.end x).kind ≡ true → b.0 < f.agents → GoesTo f x place closed
   dropped : place ≡ Some Swept → closed ≡ (f.end x).closed → (f.end x).place ≡ Some InFlight → GoesTo f x place closed
   shut : place ≡ Some Gone → closed ≡ true → is_here (f.end x).place ≡ true → is_released f (f.end x).kind ≡ true → GoesTo f x place closed
+
+-- an end more, which an agent made
+abbrev pub one_made : Facts → AgentId → Kind → EndId → Facts
+one_made f b k e = record f {
+  ends = f.ends + 1;
+  end = λ x. record (f.end x) { kind = cond (eqb x e.0) (Some k) (f.end x).kind; place = cond (eqb x e.0) (Some (With b)) (f.end x).place };
+}
 
 -- what is said of a new end: it was none before
 pub unmade_end : (f : Facts) (e e' : EndId) (x : ℕ) → SoundPlaces f → e ≡ record { 0 = f.ends } → e' ≡ record { 0 = f.ends + 1 } → (eqb x e.0 || eqb x e'.0) ≡ true → f.end x ≡ no_end

@@ -1,14 +1,14 @@
 -- Places stay sound.
-use Rattle.std.proofs.Common.{Bool, List, None, Option, Some, [], ap, arith, cond, eqb, false, inl, inr, ne_eqb, refl, rules, subst, suc, sym, true, zero, ℕ, ◌&&◌, ◌++◌, ◌+◌, ◌<◌, ◌||◌, ◌∙◌, ◌∷◌, ◌≡◌, ◌≤◌, ◌⊎◌}
+use Rattle.std.proofs.Common.{Bool, List, None, Option, Some, [], ap, arith, cond, eqb, false, inl, inr, ne_eqb, refl, rules, subst, suc, sym, true, zero, ℕ, ◌&&◌, ◌++◌, ◌+◌, ◌-◌, ◌<◌, ◌||◌, ◌∙◌, ◌∷◌, ◌≡◌, ◌≢◌, ◌≤◌, ◌⊎◌}
 use Rattle.hub_core.proofs.Words.{Action, AgentId, Answers, Arrived, Client, EndId, EndNow, Envelope, Facts, Gone, InFlight, Inside, IsNext, Kind, MAX_ENDS, Member, Out, Outcome, Phase, Place, Port, Sender}
-use Rattle.hub_core.proofs.Words.{Sound, SoundPlaces, Swept, Turned, With, Worker, agents_after, and_parts, arrived, ends_after, eqb-true, false≢true, flights, is_client, is_gone, is_here, is_named, is_out, is_some}
-use Rattle.hub_core.proofs.Words.{is_worker, kind_after, may_enter, named_envelope, named_notice, names, naming, no_end, opened, own_poster_out, peer_of, phase_of_line, runs_after, total}
+use Rattle.hub_core.proofs.Words.{Sound, SoundPlaces, Swept, Turned, With, Worker, accepted, agents_after, and_parts, arrived, ends, ends_after, eqb-true, false≢true, flights, gone, is_client, is_gone, is_here, is_named, is_out, is_some}
+use Rattle.hub_core.proofs.Words.{is_worker, kind_after, may_enter, named_envelope, named_notice, names, naming, no_end, opened, own_poster_out, peer_of, phase_of_line, place, runs_after, taken, total}
 use Rattle.hub_core.specs.declared.step.Action.TheVariants as action
 use Rattle.hub_core.specs.declared.outcome.Outcome.TheVariants as outcome
 use Rattle.hub_core.proofs.Away.{kind_next, may_next}
 use Rattle.hub_core.proofs.Fitting.{SweptWith, adopted_of, closed_of, found_closed_of, found_moved_of, got_of, handed_of, let_in_of, member_made_of, new_agent, new_ends, noticed_of, pushed_of, queue_made_of, started_of, swept_of, went_on_of}
 use Rattle.hub_core.proofs.Lists.{eqb_same}
-use Rattle.hub_core.proofs.Moves.{GoesTo, came, dropped, goes_to, handed_on, new, sent, shut, stays, taken_up, unmade_end, unmade_one}
+use Rattle.hub_core.proofs.Moves.{GoesTo, came, dropped, goes_to, handed_on, new, one_made, sent, shut, stays, taken_up, unmade_end, unmade_one}
 use Rattle.hub_core.proofs.Nexts.{next}
 use Rattle.hub_core.proofs.Speakers.{HoldsLine, SomeCasts, Speaks, closed_made, entangled_made, heard_of, holder_made, made_of, named_count, nothing_accepted, nothing_removed, old_end, old_one, placed_made, queue_is_made, running_made, runs_there, same_sender, speaks_of, swept_flies, swept_total, swept_within, taken_flies, travels, unnamed_count}
 use Rattle.hub_core.proofs.Totals.{bit, count_between, count_more, total_more}
@@ -169,13 +169,6 @@ ends_channel f b e e' x h first second past =
     let one : eqb x e.0 ≡ false = ne_eqb x e.0 (λ same. omega arith) in
     let two : eqb x e'.0 ≡ false = ne_eqb x e'.0 (λ same. omega arith) in
     rw (one, two) (h.ends x (omega arith))
-
--- a queue more
-abbrev one_made : Facts → AgentId → Kind → EndId → Facts
-one_made f b k e = record f {
-  ends = f.ends + 1;
-  end = λ x. record (f.end x) { kind = cond (eqb x e.0) (Some k) (f.end x).kind; place = cond (eqb x e.0) (Some (With b)) (f.end x).place };
-}
 
 one_none : (f : Facts) (b : AgentId) (k : Kind) (e : EndId) (x : ℕ) → SoundPlaces f → e ≡ record { 0 = f.ends } → f.ends + 1 ≤ x → (one_made f b k e).end x ≡ no_end
 one_none f b k e x h first past =

@@ -63,7 +63,7 @@ pub fn mailbox_laws()
     ensures shown { (core : Core) (h : History) → Shows core h → MailboxesShow core h }
     ensures shows { (h : History) → Legal h → EachShows h }
     ensures goes_on { (h : History) (p : Pair) → Legal h → Fits h p → (e : ℕ) → GoesOn h p e }
-    ensures kept { (core : Core) (h : History) → Legal h → Shows core h → KeepsMailboxes core h }
+    ensures kept { (core : Core) (h : History) → Shows core h → KeepsMailboxes core h }
     ensures in_order { (core : Core) (h : History) → Shows core h → InOrder h }
 {}
 
