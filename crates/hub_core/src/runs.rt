@@ -26,24 +26,23 @@ pub fn run(alloc: Global, steps: Vec<Step>) -> Result<Vec<Outcome>, OutOfMemory>
     ensures in_order { IfOk result (λ outcomes. InOrder (zip steps.items outcomes.items)) }
 {
     let mut core = Core::new(alloc);
-    let mut outcomes = Vec::with_capacity(alloc, steps.len())?;
-    core.take_all(steps, &mut outcomes)?;
-    Ok(outcomes)
+    core.take_all(alloc, steps)
 }
 
 impl Core {
     /// Takes the steps in order, and stops at the first that is answered `Err`.
-    fn take_all(&mut self, steps: Vec<Step>, outcomes: &mut Vec<Outcome>) -> Result<(), OutOfMemory>
-        requires first { outcomes.old.items ≡ [] }
-        requires shows { Shows self.old [] }
-        ensures each { OnOk result (length outcomes.new.items ≡ length steps.items) }
-        ensures shows { OnOk result (Shows self.new (zip steps.items outcomes.new.items)) }
+    fn take_all(&mut self, alloc: Global, steps: Vec<Step>) -> Result<Vec<Outcome>, OutOfMemory>
+        requires { Shows self.old [] }
+        ensures each { IfOk result (λ outcomes. length outcomes.items ≡ length steps.items) }
+        ensures shows { IfOk result (λ outcomes.
+            Shows self.new (zip steps.items outcomes.items)) }
     {
+        let mut outcomes = Vec::with_capacity(alloc, steps.len())?;
         for step in steps {
             let outcome = self.take_any(step)?;
             outcomes.push(outcome)?;
         }
-        Ok(())
+        Ok(outcomes)
     }
 
     /// Takes a step as `step` does, which is inlined, and clears room at its start for the answers

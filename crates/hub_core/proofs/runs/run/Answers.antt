@@ -1,4 +1,5 @@
 -- What the core shows at last is legal, and in order.
+use Rattle.std.proofs.lemmas.Result.{IfOk-weaker}
 use Rattle.hub_core.proofs.Headlines.{headline}
 use Rattle.hub_core.proofs.Orders.{shows_in_order}
 use Rattle.hub_core.proofs.Fating.{fates}
@@ -6,5 +7,11 @@ use Rattle.hub_core.proofs.runs.run.Goals as goal
 
 pub returns : goal.returns
 returns c =
-    let shows = c.in_ok-take_all.ensures.shows in
-    record { each = c.in_ok-take_all.ensures.each; legal = shows.2; headline = headline _ shows.2; fates = fates _ shows.2; in_order = shows_in_order _ _ shows }
+    let shows = c.take_all.ensures.shows in
+    record {
+      each = c.take_all.ensures.each;
+      legal = IfOk-weaker c.take_all.result _ _ (λ outcomes s. s.2) shows;
+      headline = IfOk-weaker c.take_all.result _ _ (λ outcomes s. headline _ s.2) shows;
+      fates = IfOk-weaker c.take_all.result _ _ (λ outcomes s. fates _ s.2) shows;
+      in_order = IfOk-weaker c.take_all.result _ _ (λ outcomes s. shows_in_order _ _ s) shows;
+    }

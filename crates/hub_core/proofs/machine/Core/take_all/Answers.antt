@@ -17,4 +17,4 @@ loop-step-preserved c =
     }
 
 pub loop-step-init : goal.loop-step-init
-loop-step-init c = record { each = ap length c.requires.first; shows = c.requires.shows }
+loop-step-init c = record { each = ap length c.in_ok-outcomes.ensures.items; shows = c.requires }
