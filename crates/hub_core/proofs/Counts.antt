@@ -1,10 +1,11 @@
 -- How many queues of clients and workers an agent has: what the core counts is what the facts say.
-use Rattle.std.proofs.Common.{◌≡◌, ℕ, zero, suc, ◌+◌, ◌-◌, ◌*◌, ◌<◌, ◌≤◌, Bool, true, false, cond, eqb, List, length, Option, Some, None, refl, sym, ap, subst, ◌∙◌, arith, length-set, nat_lt, lt-ltb, ◌&&◌, ◌||◌, not, ne_eqb}
-use Rattle.hub_core.proofs.Words.{is_some, option_map, slice_get, false≢true, eqb-true, eqb-false, AgentId, Agent, Kind, Port, Client, Worker, Member, End, Place, With, InFlight, Arrived, Swept, Gone, EndNow, Facts, peer_of, lines_of, is_client, is_worker, has_one, any_below, is_with, is_out, total, kept_clients, kept_workers}
-use Rattle.hub_core.proofs.Words.{count_with, agent_now, count_away, kept_away, one_more, one_less, set_agent, change_agent, come, gone, adopting, one_away, change_owner, one_out, slice_get_within, MAX_ENDS, is_away_of, has_poster}
+use Rattle.std.proofs.Common.{Bool, List, None, Option, Some, ap, arith, cond, eqb, false, length, length-set, lt-ltb, nat_lt, ne_eqb, not, refl, subst, suc, sym, true, zero, ℕ, ◌&&◌, ◌*◌, ◌+◌, ◌-◌, ◌<◌, ◌||◌, ◌∙◌, ◌≡◌, ◌≢◌, ◌≤◌}
+use Rattle.hub_core.proofs.Words.{Agent, AgentId, Arrived, Client, End, EndNow, Facts, Gone, InFlight, Kind, MAX_ENDS, Member, Place, Port, Swept, With, Worker, adopting, agent_now, any_below, by, change_agent}
+use Rattle.hub_core.proofs.Words.{change_owner, come, count_away, count_with, eqb-false, eqb-true, false≢true, gone, has_one, has_poster, is_away_of, is_client, is_out, is_some, is_with, is_worker, kept_away, kept_clients, kept_workers, lines_of, no_end, one_away}
+use Rattle.hub_core.proofs.Words.{one_less, one_more, one_out, option_map, owner, peer_of, place, set_agent, slice_get, slice_get_within, total}
+use Rattle.hub_core.proofs.Lists.{is_there, slice_get-set_other, slice_get-set_same}
 use Rattle.hub_core.proofs.Showing.{SoundlyShows}
-use Rattle.hub_core.proofs.Lists.{slice_get-set_same, slice_get-set_other, is_there}
-use Rattle.hub_core.proofs.Totals.{bit, total_same, total_nothing, last_not}
+use Rattle.hub_core.proofs.Totals.{bit, last_not, total_nothing, total_past, total_same}
 
 -- what the core keeps of these counts
 pub record Counted (agents : List Agent) (f : Facts) : Type 0 where
@@ -42,15 +43,41 @@ bit_of : (b : Bool) → cond b 1 0 ≡ bit b
 bit_of true = refl
 bit_of false = refl
 
--- the count of an agent, where one end changes
-count_change : (test : Option Kind → Bool) (a : AgentId) (f g : Facts) (e : ℕ) → e < f.ends → g.ends ≡ f.ends → ((d : ℕ) → (d ≡ e → ⊥) → counts_at test a (g.end d) ≡ counts_at test a (f.end d)) → count_with test a f + bit (counts_at test a (g.end e)) ≡ count_with test a g + bit (counts_at test a (f.end e))
-count_change test a f g e made ends others =
-    let w : ℕ → ℕ = λ x. cond (counts_at test a (f.end x)) 1 0 in
+plus_none : (n : ℕ) → n ≡ n + 0
+plus_none n = omega arith
+
+less_none : (n : ℕ) → n ≡ n - 0
+less_none n = omega arith
+
+none_less : (n : ℕ) → 0 ≡ 0 - n
+none_less n = omega arith
+
+-- One end of a kind goes from one place to another, or is new, and no other one changes in what is counted.
+pub record OneEnd (f g : Facts) (e more : ℕ) (k : Kind) (p q : Option Place) : Type 0 where
+  pub ends : g.ends ≡ f.ends + more
+  pub made : e < g.ends
+  pub none : (d : ℕ) → f.ends ≤ d → f.end d ≡ no_end
+  pub was : (test : Option Kind → Bool) (a : AgentId) → counts_at test a (f.end e) ≡ (test (Some k) && is_with a p)
+  pub is : (g.end e).kind ≡ Some k
+  pub to : (g.end e).place ≡ q
+  pub kinds : (d : ℕ) → (d ≡ e → ⊥) → (g.end d).kind ≡ (f.end d).kind
+  pub places : (d : ℕ) → (d ≡ e → ⊥) → (g.end d).place ≡ (f.end d).place
+
+pub and_false : (b : Bool) → (b && false) ≡ false
+and_false true = refl
+and_false false = refl
+
+-- where one end changes, which may be a new one
+one_end : {f g : Facts} {e more : ℕ} {k : Kind} {p q : Option Place} → OneEnd f g e more k p q → (test : Option Kind → Bool) (a : AgentId) → count_with test a f + bit (test (Some k) && is_with a q) ≡ count_with test a g + bit (test (Some k) && is_with a p)
+one_end {f = f} {g = g} {e = e} {more = more} {k = k} {p = p} {q = q} w test a =
     let u : ℕ → ℕ = λ x. cond (counts_at test a (g.end x)) 1 0 in
-    let sum : total w f.ends + u e ≡ total u f.ends + w e = total_change w u f.ends e made (λ d other. ap (λ b. cond b 1 0) (others d other)) in
-    let old : w e ≡ bit (counts_at test a (f.end e)) = bit_of (counts_at test a (f.end e)) in
-    let new : u e ≡ bit (counts_at test a (g.end e)) = bit_of (counts_at test a (g.end e)) in
-    let range : total u g.ends ≡ total u f.ends = ap (total u) ends in
+    let v : ℕ → ℕ = λ x. cond (counts_at test a (f.end x)) 1 0 in
+    let past : total v (f.ends + more) ≡ total v f.ends = total_past v f.ends more (λ d from. ap (λ (x : EndNow). cond (counts_at test a x) 1 0) (w.none d from) ∙ ap (λ b. cond b 1 0) (and_false (test None))) in
+    let made : e < f.ends + more = subst (λ n. e < n) w.ends w.made in
+    let sum : total v (f.ends + more) + u e ≡ total u (f.ends + more) + v e = total_change v u (f.ends + more) e made (λ d far. ap (λ b. cond b 1 0) (rw (w.kinds d far, w.places d far) refl)) in
+    let range : total u g.ends ≡ total u (f.ends + more) = ap (total u) w.ends in
+    let now : u e ≡ bit (test (Some k) && is_with a q) = ap (λ x. cond (test x && is_with a (g.end e).place) 1 0) w.is ∙ ap (λ x. cond (test (Some k) && is_with a x) 1 0) w.to ∙ bit_of (test (Some k) && is_with a q) in
+    let then : v e ≡ bit (test (Some k) && is_with a p) = ap (λ b. cond b 1 0) (w.was test a) ∙ bit_of (test (Some k) && is_with a p) in
     omega arith
 
 -- the count of an agent, where no end changes in what is counted
@@ -102,17 +129,6 @@ away_change a f g x k made low ends kinds others =
     let old : w k ≡ bit (is_away_of f a x k) = bit_of (is_away_of f a x k) in
     omega arith
 
--- the count of an agent, with one end more
-count_more_by : (test : Option Kind → Bool) (a : AgentId) (f g : Facts) → g.ends ≡ f.ends + 1 → ((d : ℕ) → d < f.ends → counts_at test a (g.end d) ≡ counts_at test a (f.end d)) → count_with test a g ≡ count_with test a f + bit (counts_at test a (g.end f.ends))
-count_more_by test a f g ends each =
-    let w : ℕ → ℕ = λ x. cond (counts_at test a (f.end x)) 1 0 in
-    let u : ℕ → ℕ = λ x. cond (counts_at test a (g.end x)) 1 0 in
-    let next_one : g.ends ≡ suc f.ends = omega (arith, ends) in
-    let range : total u g.ends ≡ total u f.ends + u f.ends = ap (total u) next_one in
-    let rest : total u f.ends ≡ total w f.ends = total_same w u f.ends (λ d less. ap (λ b. cond b 1 0) (each d less)) in
-    let last : u f.ends ≡ bit (counts_at test a (g.end f.ends)) = bit_of (counts_at test a (g.end f.ends)) in
-    omega arith
-
 never_none : (b : Bool) → false ≡ not (b || true)
 never_none true = refl
 never_none false = refl
@@ -158,38 +174,48 @@ change_length change agents b = elim (slice_get agents b) as (λ o. length (set_
   | Some x ↦ length-set agents b (change x)
 ]
 
--- whether an agent runs, and was ordered to end, isn't changed
-still_now : (change : Agent → Agent) → ((x : Agent) → agent_now (Some (change x)) ≡ agent_now (Some x)) → (o : Option Agent) → agent_now (option_map change o) ≡ agent_now o
-still_now change same None = refl
-still_now change same (Some x) = same x
-
-change_now : (change : Agent → Agent) (agents : List Agent) (b a : ℕ) → ((x : Agent) → agent_now (Some (change x)) ≡ agent_now (Some x)) → agent_now (slice_get (change_agent change b agents) a) ≡ agent_now (slice_get agents a)
-change_now change agents b a same = ap agent_now (change_get change agents b a) ∙ elim (eqb a b) as (λ c. agent_now (cond c (option_map change (slice_get agents a)) (slice_get agents a)) ≡ agent_now (slice_get agents a)) [
-  | true ↦ still_now change same (slice_get agents a)
+-- what is kept of each agent, where one is changed
+pub change_each : {A : Type 0} (kept : Option Agent → A) (change : Agent → Agent) (agents : List Agent) (b a : ℕ) → ((x : Agent) → kept (Some (change x)) ≡ kept (Some x)) → kept (slice_get (change_agent change b agents) a) ≡ kept (slice_get agents a)
+change_each kept change agents b a same = ap kept (change_get change agents b a) ∙ elim (eqb a b) as (λ c. kept (cond c (option_map change (slice_get agents a)) (slice_get agents a)) ≡ kept (slice_get agents a)) [
+  | true ↦ each (slice_get agents a)
   | false ↦ refl
 ]
+  where
+    each : (o : Option Agent) → kept (option_map change o) ≡ kept o
+    each None = refl
+    each (Some x) = same x
 
-more_now : (k : Kind) (x : Agent) → agent_now (Some (one_more k x)) ≡ agent_now (Some x)
-more_now (Port q) x = refl
-more_now Client x = refl
-more_now Worker x = refl
-more_now (Member a) x = refl
+-- ---- counts of a kind
 
-less_now : (k : Kind) (x : Agent) → agent_now (Some (one_less k x)) ≡ agent_now (Some x)
-less_now (Port q) x = refl
-less_now Client x = refl
-less_now Worker x = refl
-less_now (Member a) x = refl
+-- what an agent keeps after an end of a kind came or went
+more_is : (k : Kind) (x : Agent) → (let y : Agent = record x { clients = x.clients + bit (is_client (Some k)); workers = x.workers + bit (is_worker (Some k)) } in one_more k x ≡ y)
+more_is (Port q) x = λ i. record x { clients = plus_none x.clients i; workers = plus_none x.workers i }
+more_is Client x = λ i. record x { clients = x.clients + 1; workers = plus_none x.workers i }
+more_is Worker x = λ i. record x { clients = plus_none x.clients i; workers = x.workers + 1 }
+more_is (Member a) x = λ i. record x { clients = plus_none x.clients i; workers = plus_none x.workers i }
+
+less_is : (k : Kind) (x : Agent) → (let y : Agent = record x { clients = x.clients - bit (is_client (Some k)); workers = x.workers - bit (is_worker (Some k)) } in one_less k x ≡ y)
+less_is (Port q) x = λ i. record x { clients = less_none x.clients i; workers = less_none x.workers i }
+less_is Client x = λ i. record x { clients = x.clients - 1; workers = less_none x.workers i }
+less_is Worker x = λ i. record x { clients = less_none x.clients i; workers = x.workers - 1 }
+less_is (Member a) x = λ i. record x { clients = less_none x.clients i; workers = less_none x.workers i }
+
+-- what else is kept of each agent stays
+pub come_each : {A : Type 0} (kept : Option Agent → A) → ((x : Agent) (c w : ℕ) → (let y : Agent = record x { clients = c; workers = w } in kept (Some y) ≡ kept (Some x))) → (k : Kind) (b : AgentId) (agents : List Agent) (a : ℕ) → kept (slice_get (come k b agents) a) ≡ kept (slice_get agents a)
+come_each kept same k b agents a = change_each kept (one_more k) agents b.0 a (λ x. ap (λ y. kept (Some y)) (more_is k x) ∙ same x _ _)
+
+pub gone_each : {A : Type 0} (kept : Option Agent → A) → ((x : Agent) (c w : ℕ) → (let y : Agent = record x { clients = c; workers = w } in kept (Some y) ≡ kept (Some x))) → (k : Kind) (p : Place) (agents : List Agent) (a : ℕ) → kept (slice_get (gone k p agents) a) ≡ kept (slice_get agents a)
+gone_each kept same k (With b) agents a = change_each kept (one_less k) agents b.0 a (λ x. ap (λ y. kept (Some y)) (less_is k x) ∙ same x _ _)
+gone_each kept same k InFlight agents a = refl
+gone_each kept same k (Arrived b) agents a = refl
+gone_each kept same k Swept agents a = refl
+gone_each kept same k Gone agents a = refl
 
 pub come_now : (k : Kind) (b : AgentId) (agents : List Agent) (a : ℕ) → agent_now (slice_get (come k b agents) a) ≡ agent_now (slice_get agents a)
-come_now k b agents a = change_now (one_more k) agents b.0 a (more_now k)
+come_now k b agents a = come_each agent_now (λ x c w. refl) k b agents a
 
 pub gone_now : (k : Kind) (p : Place) (agents : List Agent) (a : ℕ) → agent_now (slice_get (gone k p agents) a) ≡ agent_now (slice_get agents a)
-gone_now k (With b) agents a = change_now (one_less k) agents b.0 a (less_now k)
-gone_now k InFlight agents a = refl
-gone_now k (Arrived b) agents a = refl
-gone_now k Swept agents a = refl
-gone_now k Gone agents a = refl
+gone_now k p agents a = gone_each agent_now (λ x c w. refl) k p agents a
 
 pub come_length : (k : Kind) (b : AgentId) (agents : List Agent) → length (come k b agents) ≡ length agents
 come_length k b agents = change_length (one_more k) agents b.0
@@ -201,81 +227,24 @@ gone_length k (Arrived b) agents = refl
 gone_length k Swept agents = refl
 gone_length k Gone agents = refl
 
--- whether a change of agents leaves who is away
-keeps_away : (change : Agent → Agent) → ((x : Agent) → (change x).away ≡ x.away) → (o : Option Agent) → kept_away (option_map change o) ≡ kept_away o
-keeps_away change same None = refl
-keeps_away change same (Some x) = same x
-
-pub change_away : (change : Agent → Agent) (agents : List Agent) (b a : ℕ) → ((x : Agent) → (change x).away ≡ x.away) → kept_away (slice_get (change_agent change b agents) a) ≡ kept_away (slice_get agents a)
-change_away change agents b a same = ap kept_away (change_get change agents b a) ∙ elim (eqb a b) as (λ c. kept_away (cond c (option_map change (slice_get agents a)) (slice_get agents a)) ≡ kept_away (slice_get agents a)) [
-  | true ↦ keeps_away change same (slice_get agents a)
-  | false ↦ refl
-]
-
-more_away : (k : Kind) (x : Agent) → (one_more k x).away ≡ x.away
-more_away (Port q) x = refl
-more_away Client x = refl
-more_away Worker x = refl
-more_away (Member a) x = refl
-
-less_away : (k : Kind) (x : Agent) → (one_less k x).away ≡ x.away
-less_away (Port q) x = refl
-less_away Client x = refl
-less_away Worker x = refl
-less_away (Member a) x = refl
-
-come_away : (k : Kind) (b : AgentId) (agents : List Agent) (a : ℕ) → kept_away (slice_get (come k b agents) a) ≡ kept_away (slice_get agents a)
-come_away k b agents a = change_away (one_more k) agents b.0 a (more_away k)
-
-gone_away : (k : Kind) (p : Place) (agents : List Agent) (a : ℕ) → kept_away (slice_get (gone k p agents) a) ≡ kept_away (slice_get agents a)
-gone_away k (With b) agents a = change_away (one_less k) agents b.0 a (less_away k)
-gone_away k InFlight agents a = refl
-gone_away k (Arrived b) agents a = refl
-gone_away k Swept agents a = refl
-gone_away k Gone agents a = refl
-
 -- what is counted of an agent, and by which test
 record CountsBy (kept : Option Agent → ℕ) (test : Option Kind → Bool) : Type 0 where
   less : (k : Kind) (o : Option Agent) → kept (option_map (one_less k) o) ≡ kept o - bit (test (Some k))
   more : (k : Kind) (x : Agent) → kept (Some (one_more k x)) ≡ kept (Some x) + bit (test (Some k))
 
 clients_by : CountsBy kept_clients is_client
-clients_by = record {
-  less = λ k o. clients_less k o;
-  more = λ k x. clients_more k x;
-}
+clients_by = record { less = λ k o. clients_less k o; more = λ k x. ap (λ (y : Agent). y.clients) (more_is k x) }
   where
     clients_less : (k : Kind) (o : Option Agent) → kept_clients (option_map (one_less k) o) ≡ kept_clients o - bit (is_client (Some k))
-    clients_less k None = elim k as (λ j. 0 ≡ 0 - bit (is_client (Some j))) [ Port q ↦ refl | Client ↦ refl | Worker ↦ refl | Member a ↦ refl ]
-    clients_less (Port q) (Some x) = omega arith
-    clients_less Client (Some x) = refl
-    clients_less Worker (Some x) = omega arith
-    clients_less (Member a) (Some x) = omega arith
-
-    clients_more : (k : Kind) (x : Agent) → kept_clients (Some (one_more k x)) ≡ x.clients + bit (is_client (Some k))
-    clients_more (Port q) x = omega arith
-    clients_more Client x = refl
-    clients_more Worker x = omega arith
-    clients_more (Member a) x = omega arith
+    clients_less k None = none_less (bit (is_client (Some k)))
+    clients_less k (Some x) = ap (λ (y : Agent). y.clients) (less_is k x)
 
 workers_by : CountsBy kept_workers is_worker
-workers_by = record {
-  less = λ k o. workers_less k o;
-  more = λ k x. workers_more k x;
-}
+workers_by = record { less = λ k o. workers_less k o; more = λ k x. ap (λ (y : Agent). y.workers) (more_is k x) }
   where
     workers_less : (k : Kind) (o : Option Agent) → kept_workers (option_map (one_less k) o) ≡ kept_workers o - bit (is_worker (Some k))
-    workers_less k None = elim k as (λ j. 0 ≡ 0 - bit (is_worker (Some j))) [ Port q ↦ refl | Client ↦ refl | Worker ↦ refl | Member a ↦ refl ]
-    workers_less (Port q) (Some x) = omega arith
-    workers_less Client (Some x) = omega arith
-    workers_less Worker (Some x) = refl
-    workers_less (Member a) (Some x) = omega arith
-
-    workers_more : (k : Kind) (x : Agent) → kept_workers (Some (one_more k x)) ≡ x.workers + bit (is_worker (Some k))
-    workers_more (Port q) x = omega arith
-    workers_more Client x = omega arith
-    workers_more Worker x = refl
-    workers_more (Member a) x = omega arith
+    workers_less k None = none_less (bit (is_worker (Some k)))
+    workers_less k (Some x) = ap (λ (y : Agent). y.workers) (less_is k x)
 
 bit_and : (b c : Bool) (n : ℕ) → cond c (n - bit b) n ≡ n - bit (b && c)
 bit_and true true n = refl
@@ -364,33 +333,20 @@ counted_ports agents f g moved place ends kinds places ports calm h = counted_sa
     (λ a d. rw (kinds d, places d) (moved_port is_client no_client a (moved d) (place d) (f.end d).place (f.end d).kind (ports d)))
     (λ a d. rw (kinds d, places d) (moved_port is_worker no_worker a (moved d) (place d) (f.end d).place (f.end d).kind (ports d))) calm h
 
--- one end went from an agent to a place where no agent has it
-pub record Went (f g : Facts) (e : ℕ) (k : Kind) (p : Place) : Type 0 where
-  pub made : e < f.ends
-  pub ends : g.ends ≡ f.ends
-  pub was : (f.end e).kind ≡ Some k
-  pub from : (f.end e).place ≡ Some p
-  pub is : (g.end e).kind ≡ Some k
-  pub nowhere : (a : AgentId) → is_with a (g.end e).place ≡ false
-  pub kinds : (d : ℕ) → (d ≡ e → ⊥) → (g.end d).kind ≡ (f.end d).kind
-  pub places : (d : ℕ) → (d ≡ e → ⊥) → (g.end d).place ≡ (f.end d).place
-  pub calm : (a : AgentId) (x : ℕ) → x < f.ends → IsCalmAt a f g x
-
-pub counted_went : (agents : List Agent) (f g : Facts) (e : ℕ) (k : Kind) (p : Place) → Went f g e k p → Counted agents f → Counted (gone k p agents) g
-counted_went agents f g e k p w h = record {
+-- one end went from a place to one where no agent has it
+pub counted_went : {f g : Facts} {e : ℕ} {k : Kind} {p : Place} {q : Option Place} (agents : List Agent) → OneEnd f g e 0 k (Some p) q → ((a : AgentId) → is_with a q ≡ false) → ((a : AgentId) (x : ℕ) → x < f.ends → IsCalmAt a f g x) → Counted agents f → Counted (gone k p agents) g
+counted_went {f = f} {g = g} {k = k} {p = p} {q = q} agents w nowhere calm h = record {
   clients = λ a. by_test kept_clients is_client clients_by a (h.clients a);
   workers = λ a. by_test kept_workers is_worker workers_by a (h.workers a);
-  away = λ a. gone_away k p agents a.0 ∙ h.away a ∙ sym (away_same a f g w.ends (w.calm a));
+  away = λ a. gone_each kept_away (λ x c d. refl) k p agents a.0 ∙ h.away a ∙ sym (away_same a f g (w.ends ∙ omega arith) (calm a));
 }
   where
     by_test : (kept : Option Agent → ℕ) (test : Option Kind → Bool) → CountsBy kept test → (a : AgentId) → kept (slice_get agents a.0) ≡ count_with test a f → kept (slice_get (gone k p agents) a.0) ≡ count_with test a g
     by_test kept test by a old =
-        let others : (d : ℕ) → (d ≡ e → ⊥) → counts_at test a (g.end d) ≡ counts_at test a (f.end d) = λ d far. rw (w.kinds d far, w.places d far) refl in
-        let sum : count_with test a f + bit (counts_at test a (g.end e)) ≡ count_with test a g + bit (counts_at test a (f.end e)) = count_change test a f g e w.made w.ends others in
-        let now : bit (counts_at test a (g.end e)) ≡ 0 = ap (λ c. bit (test (g.end e).kind && c)) (w.nowhere a) ∙ never (test (g.end e).kind) in
-        let then : bit (counts_at test a (f.end e)) ≡ bit (test (Some k) && is_with a (Some p)) = ap (λ q. bit (test q && is_with a (f.end e).place)) w.was ∙ ap (λ q. bit (test (Some k) && is_with a q)) w.from in
-        let less : kept (slice_get (gone k p agents) a.0) ≡ kept (slice_get agents a.0) - bit (test (Some k) && is_with a (Some p)) = gone_count kept test by k p agents a in
-        omega arith
+        let sum = one_end w test a in
+        let now : bit (test (Some k) && is_with a q) ≡ 0 = ap (λ c. bit (test (Some k) && c)) (nowhere a) ∙ never (test (Some k)) in
+        let less = gone_count kept test by k p agents a in
+        omega (arith, sum, now, less, old)
 
 -- ---- posters that come and go
 
@@ -448,17 +404,6 @@ away_workers x = elim (nat_lt x.away 4294967295) as (λ b. (cond b (record x { a
 
 away_now : (x : Agent) → agent_now (Some (one_away x)) ≡ agent_now (Some x)
 away_now x = elim (nat_lt x.away 4294967295) as (λ b. agent_now (Some (cond b (record x { away = x.away + 1 }) x)) ≡ agent_now (Some x)) [ true ↦ refl | false ↦ refl ]
-
--- what is kept of each agent, where one is changed
-pub change_each : {A : Type 0} (kept : Option Agent → A) (change : Agent → Agent) (agents : List Agent) (b a : ℕ) → ((x : Agent) → kept (Some (change x)) ≡ kept (Some x)) → kept (slice_get (change_agent change b agents) a) ≡ kept (slice_get agents a)
-change_each kept change agents b a same = ap kept (change_get change agents b a) ∙ elim (eqb a b) as (λ c. kept (cond c (option_map change (slice_get agents a)) (slice_get agents a)) ≡ kept (slice_get agents a)) [
-  | true ↦ each (slice_get agents a)
-  | false ↦ refl
-]
-  where
-    each : (o : Option Agent) → kept (option_map change o) ≡ kept o
-    each None = refl
-    each (Some x) = same x
 
 -- the same of the owner of a poster, where there is one
 owner_each : {A : Type 0} (kept : Option Agent → A) (change : Agent → Agent) (owner : Option AgentId) (agents : List Agent) (a : ℕ) → ((x : Agent) → kept (Some (change x)) ≡ kept (Some x)) → kept (slice_get (change_owner change owner agents) a) ≡ kept (slice_get agents a)
@@ -528,17 +473,6 @@ counted_left agents f g owner ends kinds places less h = record {
       owner_out owner agents a ∙ omega arith;
 }
 
--- one end that no agent had came to an agent, which has its own poster away or not
-pub record Came (f g : Facts) (e : ℕ) (k : Kind) (b : AgentId) (released : Bool) : Type 0 where
-  pub made : e < f.ends
-  pub ends : g.ends ≡ f.ends
-  pub was : (a : AgentId) → is_with a (f.end e).place ≡ false
-  pub is : (g.end e).kind ≡ Some k
-  pub to : (g.end e).place ≡ Some (With b)
-  pub kinds : (d : ℕ) → (d ≡ e → ⊥) → (g.end d).kind ≡ (f.end d).kind
-  pub places : (d : ℕ) → (d ≡ e → ⊥) → (g.end d).place ≡ (f.end d).place
-  pub away : (a : AgentId) → count_away a g ≡ count_away a f + bit (not released && eqb a.0 b.0)
-
 -- the agent that it came to, changed once or twice
 adopted_get : (released : Bool) (k : Kind) (agents : List Agent) (b : AgentId) (a : ℕ) → slice_get (change_agent (adopting released k) b.0 agents) a ≡ slice_get (cond released (come k b agents) (change_agent one_away b.0 (come k b agents))) a
 adopted_get true k agents b a = refl
@@ -559,53 +493,29 @@ pub adopted_now : (released : Bool) (k : Kind) (agents : List Agent) (b : AgentI
 adopted_now released k agents b a = adopted_each agent_now away_now released k agents b a ∙ come_now k b agents a
 
 adopted_away : (released : Bool) (k : Kind) (agents : List Agent) (b a : AgentId) → b.0 < length agents → kept_away (slice_get agents a.0) < 4294967295 → kept_away (slice_get (change_agent (adopting released k) b.0 agents) a.0) ≡ kept_away (slice_get agents a.0) + bit (not released && eqb a.0 b.0)
-adopted_away true k agents b a known less = come_away k b agents a.0 ∙ omega arith
+adopted_away true k agents b a known less = come_each kept_away (λ x c w. refl) k b agents a.0 ∙ omega arith
 adopted_away false k agents b a known less =
-    let same : kept_away (slice_get (come k b agents) a.0) ≡ kept_away (slice_get agents a.0) = come_away k b agents a.0 in
+    let same : kept_away (slice_get (come k b agents) a.0) ≡ kept_away (slice_get agents a.0) = come_each kept_away (λ x c w. refl) k b agents a.0 in
     let many : length (come k b agents) ≡ length agents = come_length k b agents in
     ap kept_away (adopted_get false k agents b a.0)
     ∙ owner_away (Some b) (come k b agents) a (λ c is. let one : b ≡ c = cc in subst (λ (d : AgentId). d.0 < length (come k b agents)) one (omega arith)) (omega arith)
     ∙ ap (λ n. n + bit (eqb a.0 b.0)) same
 
-pub counted_came : (agents : List Agent) (f g : Facts) (e : ℕ) (k : Kind) (b : AgentId) (released : Bool) → f.ends ≤ MAX_ENDS → b.0 < length agents → Came f g e k b released → Counted agents f → Counted (change_agent (adopting released k) b.0 agents) g
-counted_came agents f g e k b released few known w h = record {
+-- one end that no agent had, or a new one, came to an agent, with its own poster away or not
+pub counted_came : {f g : Facts} {e more : ℕ} {k : Kind} {p : Option Place} {b : AgentId} (agents : List Agent) (released : Bool) → OneEnd f g e more k p (Some (With b)) → f.ends ≤ MAX_ENDS → b.0 < length agents → ((a : AgentId) → is_with a p ≡ false) → ((a : AgentId) → count_away a g ≡ count_away a f + bit (not released && eqb a.0 b.0))
+    → Counted agents f → Counted (change_agent (adopting released k) b.0 agents) g
+counted_came {f = f} {g = g} {k = k} {p = p} {b = b} agents released w few known nowhere away h = record {
   clients = λ a. adopted_each kept_clients away_clients released k agents b a.0 ∙ by_test kept_clients is_client clients_by a (h.clients a);
   workers = λ a. adopted_each kept_workers away_workers released k agents b a.0 ∙ by_test kept_workers is_worker workers_by a (h.workers a);
   away = λ a.
       let under : count_away a f < 4294967295 = away_bound a f few in
       let kept : kept_away (slice_get agents a.0) ≡ count_away a f = h.away a in
-      adopted_away released k agents b a known (omega arith) ∙ ap (λ n. n + bit (not released && eqb a.0 b.0)) kept ∙ sym (w.away a);
+      adopted_away released k agents b a known (omega arith) ∙ ap (λ n. n + bit (not released && eqb a.0 b.0)) kept ∙ sym (away a);
 }
   where
     by_test : (kept : Option Agent → ℕ) (test : Option Kind → Bool) → CountsBy kept test → (a : AgentId) → kept (slice_get agents a.0) ≡ count_with test a f → kept (slice_get (come k b agents) a.0) ≡ count_with test a g
     by_test kept test by a old =
-        let others : (d : ℕ) → (d ≡ e → ⊥) → counts_at test a (g.end d) ≡ counts_at test a (f.end d) = λ d far. rw (w.kinds d far, w.places d far) refl in
-        let sum : count_with test a f + bit (counts_at test a (g.end e)) ≡ count_with test a g + bit (counts_at test a (f.end e)) = count_change test a f g e w.made w.ends others in
-        let then : bit (counts_at test a (f.end e)) ≡ 0 = ap (λ c. bit (test (f.end e).kind && c)) (w.was a) ∙ never (test (f.end e).kind) in
-        let now : bit (counts_at test a (g.end e)) ≡ bit (test (Some k) && is_with a (Some (With b))) = ap (λ q. bit (test q && is_with a (g.end e).place)) w.is ∙ ap (λ q. bit (test (Some k) && is_with a q)) w.to in
-        let more : kept (slice_get (come k b agents) a.0) ≡ kept (slice_get agents a.0) + bit (test (Some k) && is_with a (Some (With b))) = come_count kept test by k b agents a known in
-        omega arith
-
--- one end more, which an agent made
-pub record New (f g : Facts) (k : Kind) (b : AgentId) : Type 0 where
-  pub ends : g.ends ≡ f.ends + 1
-  pub is : (g.end f.ends).kind ≡ Some k
-  pub to : (g.end f.ends).place ≡ Some (With b)
-  pub kinds : (d : ℕ) → d < f.ends → (g.end d).kind ≡ (f.end d).kind
-  pub places : (d : ℕ) → d < f.ends → (g.end d).place ≡ (f.end d).place
-  pub calm : (a : AgentId) (x : ℕ) → x < f.ends → IsCalmAt a f g x
-  pub nobody : (l : ℕ) → is_out (g.line f.ends l).phase ≡ true
-
-pub counted_new : (agents : List Agent) (f g : Facts) (k : Kind) (b : AgentId) → b.0 < length agents → New f g k b → Counted agents f → Counted (come k b agents) g
-counted_new agents f g k b known w h = record {
-  clients = λ a. by_test kept_clients is_client clients_by a (h.clients a);
-  workers = λ a. by_test kept_workers is_worker workers_by a (h.workers a);
-  away = λ a. come_away k b agents a.0 ∙ h.away a ∙ sym (away_more a f g w.ends (w.calm a) (none_at a g f.ends w.nobody));
-}
-  where
-    by_test : (kept : Option Agent → ℕ) (test : Option Kind → Bool) → CountsBy kept test → (a : AgentId) → kept (slice_get agents a.0) ≡ count_with test a f → kept (slice_get (come k b agents) a.0) ≡ count_with test a g
-    by_test kept test by a old =
-        let sum : count_with test a g ≡ count_with test a f + bit (counts_at test a (g.end f.ends)) = count_more_by test a f g w.ends (λ d less. rw (w.kinds d less, w.places d less) refl) in
-        let now : bit (counts_at test a (g.end f.ends)) ≡ bit (test (Some k) && is_with a (Some (With b))) = ap (λ q. bit (test q && is_with a (g.end f.ends).place)) w.is ∙ ap (λ q. bit (test (Some k) && is_with a q)) w.to in
-        let more : kept (slice_get (come k b agents) a.0) ≡ kept (slice_get agents a.0) + bit (test (Some k) && is_with a (Some (With b))) = come_count kept test by k b agents a known in
-        omega arith
+        let sum = one_end w test a in
+        let then : bit (test (Some k) && is_with a p) ≡ 0 = ap (λ c. bit (test (Some k) && c)) (nowhere a) ∙ never (test (Some k)) in
+        let more = come_count kept test by k b agents a known in
+        omega (arith, sum, then, more, old)

@@ -1,15 +1,15 @@
 -- Agent and Channel: what the core answers fits, and it shows the facts with the answered step.
 use Rattle.std.proofs.Common.{Bool, List, None, Option, Some, [], ap, append_assoc, arith, cond, eqb, false, get_or, inl, inr, length, length-append, ltb-false, ltb-true, nat_le, nat_lt, ne_eqb, not, refl, replicate, rules, set, subst, suc, sym, true, zero, ℕ, ◌&&◌, ◌++◌, ◌+◌, ◌-◌, ◌<◌, ◌||◌, ◌∙◌, ◌∷◌, ◌≡◌, ◌≢◌, ◌≤◌, ◌⊎◌}
 use Rattle.hub_core.proofs.Words.{Action, Agent, AgentId, AgentNow, Client, CoreState, End, EndId, EndNow, Envelope, Facts, Kind, LineNow, MAX_ENDS, Member, Outcome, Port, RosterNow, ShowsEnd, ShowsFacts, ShowsPut, Sound}
-use Rattle.hub_core.proofs.Words.{With, Worker, agent_answer, agent_now, channel_answer, come, count_of, count_with, end_now, ends, eqb-false, eqb-true, false_from_ne_true, false≢true, first_agent, first_line, has_one, is_casting, is_client, is_out, is_some, is_with}
-use Rattle.hub_core.proofs.Words.{is_worker, kept_away, kept_clients, kept_member_answer, kept_queue_answer, kept_workers, length-replicate, line_now, lines_of, member_answer, nat_tests, new_end, no_end, no_line, one_more, option_map, origin_at, peer_of, place, queue_answer, roster, seen}
-use Rattle.hub_core.proofs.Words.{set_agent, slice_get, slice_get_past, taken}
+use Rattle.hub_core.proofs.Words.{With, Worker, agent_answer, agent_now, channel_answer, come, count_away, count_of, count_with, end_now, ends, eqb-false, eqb-true, false_from_ne_true, false≢true, first_agent, first_line, has_one, is_casting, is_client, is_out, is_some}
+use Rattle.hub_core.proofs.Words.{is_with, is_worker, kept_away, kept_clients, kept_member_answer, kept_queue_answer, kept_workers, length-replicate, line_now, lines_of, member_answer, nat_tests, new_end, no_end, no_line, one_more, option_map, origin_at, peer_of, place, queue_answer, roster}
+use Rattle.hub_core.proofs.Words.{seen, set_agent, slice_get, slice_get_past, taken}
 use Rattle.hub_core.specs.declared.step.Action.TheVariants as action
 use Rattle.hub_core.specs.declared.outcome.Outcome.TheVariants as outcome
 use Rattle.hub_core.proofs.Calms.{calm_places}
 use Rattle.hub_core.proofs.Casts.{roster_agent}
 use Rattle.hub_core.proofs.Changing.{ShownAfter, ShownWith}
-use Rattle.hub_core.proofs.Counts.{IsCalmAt, New, come_length, come_now, counted_new, none_of_kind}
+use Rattle.hub_core.proofs.Counts.{Counted, IsCalmAt, OneEnd, and_false, away_more, come_length, come_now, counted_came, counts_at, none_at, none_of_kind}
 use Rattle.hub_core.proofs.Fitting.{member_made_of, new_agent, new_ends, queue_made_of}
 use Rattle.hub_core.proofs.Frames.{Stepped}
 use Rattle.hub_core.proofs.Lists.{eqb_same, next_up, set_again, slice_get-append_back, slice_get-append_front}
@@ -132,7 +132,7 @@ past_end ends p d from other = let one : length ends + 1 ≤ d = next_up (length
 
 -- What is kept of agents and ends, the facts that it shows, and what making an end asks of them: nothing is known of an
 -- end that isn't made, and a port is entangled with one that is, or its own line is out.
-module _ (agents : List Agent) (ends : List End) (f : Facts) (a : AgentId) (k : Kind) (h : ShowsFacts agents ends f) (known : a.0 < f.agents)
+module _ (agents : List Agent) (ends : List End) (f : Facts) (a : AgentId) (k : Kind) (h : ShowsFacts agents ends f) (few : f.ends ≤ MAX_ENDS) (known : a.0 < f.agents)
     (nothing : (d : ℕ) → f.ends ≤ d → Nothing f d) (ports : (x : ℕ) (q : EndId) → x < f.ends → (f.end x).kind ≡ Some (Port q) → (is_out (f.line x 0).phase ≡ true) ⊎ (q.0 < f.ends)) where
   abbrev g : Facts
   g = one_made f a k (record { 0 = f.ends })
@@ -161,22 +161,26 @@ module _ (agents : List Agent) (ends : List End) (f : Facts) (a : AgentId) (k : 
     | inr there ↦ inr (ap (λ c. is_with b (cond c (Some (With a)) (f.end q.0).place)) (old q.0 there))
   ])
 
-  one_more_end : New f g k a
+  one_more_end : OneEnd f g f.ends 1 k None (Some (With a))
   one_more_end = record {
     ends = refl;
+    made = omega arith;
+    none = λ d past. (nothing d past).now;
+    was = λ test b. ap (counts_at test b) (nothing f.ends (omega arith)).now ∙ and_false (test None) ∙ sym (and_false (test (Some k)));
     is = ap (λ c. cond c (Some k) (f.end f.ends).kind) (eqb_same f.ends);
     to = ap (λ c. cond c (Some (With a)) (f.end f.ends).place) (eqb_same f.ends);
-    kinds = λ d less. ap (λ c. cond c (Some k) (f.end d).kind) (old d less);
-    places = λ d less. ap (λ c. cond c (Some (With a)) (f.end d).place) (old d less);
-    calm = calm;
-    nobody = λ l. ap (λ (y : LineNow). is_out y.phase) ((nothing f.ends (omega arith)).lines l);
+    kinds = λ d far. ap (λ c. cond c (Some k) (f.end d).kind) (ne_eqb d f.ends far);
+    places = λ d far. ap (λ c. cond c (Some (With a)) (f.end d).place) (ne_eqb d f.ends far);
   }
+
+  none_away : (b : AgentId) → count_away b g ≡ count_away b f + 0
+  none_away b = away_more b f g refl (calm b) (none_at b g f.ends (λ l. ap (λ (y : LineNow). is_out y.phase) ((nothing f.ends (omega arith)).lines l))) ∙ omega arith
 
   -- an end more is kept, and shown
   one_shown : ShowsFacts (come k a agents) (ends ++ new_end a k ∷ []) g
   one_shown =
       let count : f.agents ≡ length agents = h.agents in
-      let counted = counted_new agents f g k a (omega arith) one_more_end (record { clients = h.clients; workers = h.workers; away = h.away }) in
+      let counted : Counted (come k a agents) g = counted_came agents true one_more_end few (omega arith) (λ b. refl) none_away (record { clients = h.clients; workers = h.workers; away = h.away }) in
       record {
         agents = h.agents ∙ sym (come_length k a agents);
         agent = λ x. h.agent x ∙ sym (come_now k a agents x);
@@ -193,7 +197,7 @@ sound_ports f h x q less is = inr (h.places.peers x q.0 (ap peer_of is)).0
 
 made_shown : (agents : List Agent) (ends : List End) (f : Facts) (a : AgentId) (k : Kind) (e : EndId) → SoundlyShows agents ends f → (f.agent a.0).runs ≡ true → e ≡ record { 0 = f.ends } → ShowsFacts (come k a agents) (ends ++ new_end a k ∷ []) (one_made f a k e)
 made_shown agents ends f a k e h runs number = subst (λ i. ShowsFacts (come k a agents) (ends ++ new_end a k ∷ []) (one_made f a k i)) (sym number)
-    (one_shown agents ends f a k (plainly h) (running_made f a h.sound.places runs) (λ d past. nothing_at f d h.sound past) (sound_ports f h.sound))
+    (one_shown agents ends f a k (plainly h) h.sound.places.few (running_made f a h.sound.places runs) (λ d past. nothing_at f d h.sound past) (sound_ports f h.sound))
 
 -- ports and members count for no agent
 uncounted : (agents : List Agent) (k : Kind) (a : AgentId) → ((x : Agent) → one_more k x ≡ x) → come k a agents ≡ agents
@@ -227,14 +231,14 @@ channel_facts f a =
 abbrev one_port : Facts → AgentId → Facts
 one_port f a = one_made f a (Port (record { 0 = f.ends + 1 })) (record { 0 = f.ends })
 
-channel_shown : (agents : List Agent) (ends : List End) (f : Facts) (a : AgentId) → SoundlyShows agents ends f → (f.agent a.0).runs ≡ true → (let e : EndId = record { 0 = f.ends } in let p : EndId = record { 0 = f.ends + 1 } in ShowsFacts agents (ends ++ new_end a (Port p) ∷ new_end a (Port e) ∷ []) (next f (action.Channel a) (outcome.Ends e p)))
-channel_shown agents ends f a h runs =
+channel_shown : (agents : List Agent) (ends : List End) (f : Facts) (a : AgentId) → SoundlyShows agents ends f → (f.agent a.0).runs ≡ true → f.ends + 1 ≤ MAX_ENDS → (let e : EndId = record { 0 = f.ends } in let p : EndId = record { 0 = f.ends + 1 } in ShowsFacts agents (ends ++ new_end a (Port p) ∷ new_end a (Port e) ∷ []) (next f (action.Channel a) (outcome.Ends e p)))
+channel_shown agents ends f a h runs few =
     let e : EndId = record { 0 = f.ends } in
     let p : EndId = record { 0 = f.ends + 1 } in
     let g : Facts = one_port f a in
     let known : a.0 < f.agents = running_made f a h.sound.places runs in
     let first : ShowsFacts agents (ends ++ new_end a (Port p) ∷ []) g = subst (λ kept. ShowsFacts kept (ends ++ new_end a (Port p) ∷ []) g) (uncounted agents (Port p) a (λ x. refl)) (made_shown agents ends f a (Port p) e h runs refl) in
-    let second = one_shown agents (ends ++ new_end a (Port p) ∷ []) g a (Port e) first known (λ d past. still_nothing d (omega arith)) still_ports in
+    let second = one_shown agents (ends ++ new_end a (Port p) ∷ []) g a (Port e) first few known (λ d past. still_nothing d (omega arith)) still_ports in
     subst (ShowsFacts agents (ends ++ new_end a (Port p) ∷ new_end a (Port e) ∷ [])) (channel_facts f a)
     (subst (λ kept. ShowsFacts kept (ends ++ new_end a (Port p) ∷ new_end a (Port e) ∷ []) (one_made g a (Port e) p)) (uncounted agents (Port e) a (λ x. refl))
     (subst (λ es. ShowsFacts (come (Port e) a agents) es (one_made g a (Port e) p)) (append_assoc ends (new_end a (Port p) ∷ []) (new_end a (Port e) ∷ [])) second))
@@ -254,9 +258,11 @@ channel_shown agents ends f a h runs =
 pub channel_changes : (c : CoreState) (f : Facts) (a : AgentId) (refused : Bool) {o : Outcome} → Sees c f → o ≡ channel_answer f a refused → Change (action.Channel a) o → ShownAfter c f (action.Channel a) refused o
 channel_changes c f a refused h answer (channel_made b e p) =
     let made = new_ends f a refused e p answer in
+    let room : f.ends + 2 ≤ MAX_ENDS = made.3 in
+    let few : f.ends + 1 ≤ MAX_ENDS = omega arith in
     let shows : ShowsFacts c.agents (c.ends ++ new_end a (Port p) ∷ new_end a (Port e) ∷ []) (next f (action.Channel a) (outcome.Ends e p)) =
     subst (λ (i : EndId). ShowsFacts c.agents (c.ends ++ new_end a (Port p) ∷ new_end a (Port i) ∷ []) (next f (action.Channel a) (outcome.Ends i p))) (sym made.1)
-    (subst (λ (i : EndId). ShowsFacts c.agents (c.ends ++ new_end a (Port i) ∷ new_end a (Port (record { 0 = f.ends })) ∷ []) (next f (action.Channel a) (outcome.Ends (record { 0 = f.ends }) i))) (sym made.2) (channel_shown c.agents c.ends f a h.shows made.0))
+    (subst (λ (i : EndId). ShowsFacts c.agents (c.ends ++ new_end a (Port i) ∷ new_end a (Port (record { 0 = f.ends })) ∷ []) (next f (action.Channel a) (outcome.Ends (record { 0 = f.ends }) i))) (sym made.2) (channel_shown c.agents c.ends f a h.shows made.0 few))
     in
     (record { fits = answer; shows = shows }, refl)
 

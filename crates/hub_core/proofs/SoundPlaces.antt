@@ -1,5 +1,5 @@
 -- Places stay sound.
-use Rattle.std.proofs.Common.{Bool, List, None, Option, Some, [], ap, arith, cond, eqb, false, inl, inr, ne_eqb, refl, rules, subst, suc, sym, true, zero, ℕ, ◌&&◌, ◌++◌, ◌+◌, ◌-◌, ◌<◌, ◌||◌, ◌∙◌, ◌∷◌, ◌≡◌, ◌≢◌, ◌≤◌, ◌⊎◌}
+use Rattle.std.proofs.Common.{Bool, List, None, Option, Some, [], ap, arith, cond, eqb, false, inl, inr, ne_eqb, refl, rules, subst, sym, true, ℕ, ◌&&◌, ◌++◌, ◌+◌, ◌-◌, ◌<◌, ◌||◌, ◌∙◌, ◌∷◌, ◌≡◌, ◌≢◌, ◌≤◌, ◌⊎◌}
 use Rattle.hub_core.proofs.Words.{Action, AgentId, Answers, Arrived, Client, EndId, EndNow, Envelope, Facts, Gone, InFlight, Inside, IsNext, Kind, MAX_ENDS, Member, Out, Outcome, Phase, Place, Port, Sender}
 use Rattle.hub_core.proofs.Words.{Sound, SoundPlaces, Swept, Turned, With, Worker, accepted, agents_after, and_parts, arrived, ends, ends_after, eqb-true, false≢true, flights, gone, is_client, is_gone, is_here, is_named, is_out, is_some}
 use Rattle.hub_core.proofs.Words.{is_worker, kind_after, may_enter, named_envelope, named_notice, names, naming, no_end, opened, own_poster_out, peer_of, phase_of_line, place, runs_after, taken, total}
@@ -11,7 +11,7 @@ use Rattle.hub_core.proofs.Lists.{eqb_same}
 use Rattle.hub_core.proofs.Moves.{GoesTo, came, dropped, goes_to, handed_on, new, one_made, sent, shut, stays, taken_up, unmade_end, unmade_one}
 use Rattle.hub_core.proofs.Nexts.{next}
 use Rattle.hub_core.proofs.Speakers.{HoldsLine, SomeCasts, Speaks, closed_made, entangled_made, heard_of, holder_made, made_of, named_count, nothing_accepted, nothing_removed, old_end, old_one, placed_made, queue_is_made, running_made, runs_there, same_sender, speaks_of, swept_flies, swept_total, swept_within, taken_flies, travels, unnamed_count}
-use Rattle.hub_core.proofs.Totals.{bit, count_between, count_more, total_more}
+use Rattle.hub_core.proofs.Totals.{bit, count_between, count_more, total_more, total_past}
 
 -- ---- who is away after a pair
 
@@ -70,14 +70,6 @@ swept_flights f e vs x h w made false named =
     omega arith
 
 -- ---- sums over more ends
-
-total_past : (w : ℕ → ℕ) (n k : ℕ) → ((i : ℕ) → n ≤ i → w i ≡ 0) → total w (n + k) ≡ total w n
-total_past w n zero none = let same : n + 0 ≡ n = omega arith in ap (total w) same
-total_past w n (suc k) none =
-    let rest : total w (n + k) ≡ total w n = total_past w n k none in
-    let last : w (n + k) ≡ 0 = none (n + k) (omega arith) in
-    let same : n + suc k ≡ suc (n + k) = omega arith in
-    ap (total w) same ∙ omega arith
 
 -- nothing was accepted at ends that are not made yet
 more_flights : (f : Facts) (x k : ℕ) → Sound f → total (λ e. naming x (f.accepted e)) (f.ends + k) ≡ total (λ e. naming x (f.taken e ++ f.discarded e)) (f.ends + k) + flights ((f.end x).place)

@@ -1,7 +1,7 @@
 -- Sums over numbers, and counts of envelopes line by line.
-use Rattle.std.proofs.Common.{◌≡◌, ℕ, zero, suc, ◌+◌, ◌<◌, ◌≤◌, Bool, true, false, cond, eqb, List, [], ◌∷◌, ◌++◌, length, refl, sym, ap, subst, ◌∙◌, arith, rules, length-append}
-use Rattle.hub_core.proofs.Words.{filter, AllByRecursion, filter-append, nat_tests, Envelope, by, Prefix, total}
-use Rattle.hub_core.proofs.Lists.{eqb_same, AllByRecursion-weaker}
+use Rattle.std.proofs.Common.{Bool, List, [], ap, arith, cond, eqb, false, length, length-append, refl, rules, subst, suc, sym, true, zero, ℕ, ◌++◌, ◌+◌, ◌-◌, ◌<◌, ◌∙◌, ◌∷◌, ◌≡◌, ◌≤◌}
+use Rattle.hub_core.proofs.Words.{AllByRecursion, Envelope, Prefix, by, filter, filter-append, nat_tests, taken, total}
+use Rattle.hub_core.proofs.Lists.{AllByRecursion-weaker, eqb_same}
 
 pub total_same : (w u : ℕ → ℕ) (n : ℕ) → ((e : ℕ) → e < n → u e ≡ w e) → total u n ≡ total w n
 total_same w u zero h = refl
@@ -36,6 +36,15 @@ total_more w u (suc n) e k below here others = elim (eqb e n) as (λ b. eqb e n 
       let rest : total u n ≡ total w n + k = total_more w u n e k before here others in
       omega arith
 ] refl
+
+-- the numbers that come behind add nothing
+pub total_past : (w : ℕ → ℕ) (n k : ℕ) → ((i : ℕ) → n ≤ i → w i ≡ 0) → total w (n + k) ≡ total w n
+total_past w n zero none = let same : n + 0 ≡ n = omega arith in ap (total w) same
+total_past w n (suc k) none =
+    let rest : total w (n + k) ≡ total w n = total_past w n k none in
+    let last : w (n + k) ≡ 0 = none (n + k) (omega arith) in
+    let same : n + suc k ≡ suc (n + k) = omega arith in
+    ap (total w) same ∙ omega arith
 
 pub total_nothing : (n : ℕ) → total (λ _. 0) n ≡ 0
 total_nothing zero = refl
