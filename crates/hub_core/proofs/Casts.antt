@@ -46,24 +46,7 @@ leaves_roster (action.Member a name) = false
 leaves_roster (action.Leave s) = false
 leaves_roster (action.Cast e ports body) = false
 leaves_roster (action.Part e) = false
-leaves_roster (action.Channel a) = true
-leaves_roster (action.Client a) = true
-leaves_roster (action.Worker a) = true
-leaves_roster (action.Line e a) = true
-leaves_roster (action.Back s) = true
-leaves_roster (action.Enter s) = true
-leaves_roster (action.Push s ports body) = true
-leaves_roster (action.Notice s) = true
-leaves_roster (action.Hop s) = true
-leaves_roster (action.Start e) = true
-leaves_roster (action.Take e) = true
-leaves_roster (action.Look e) = true
-leaves_roster (action.Adopt e a) = true
-leaves_roster (action.Close e) = true
-leaves_roster (action.Sweep e) = true
-leaves_roster (action.Hand e a) = true
-leaves_roster (action.Order a) = true
-leaves_roster (action.See a) = true
+leaves_roster _ = true
 
 -- what stays of the facts: roster and agents, and which ends are broadcast channels
 record Stays (f g : Facts) : Type 0 where

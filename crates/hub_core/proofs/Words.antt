@@ -11,25 +11,18 @@ pub use Rattle.std.proofs.lemmas.List.Sums.{fold-append, sum_by-cons}
 pub use Rattle.std.proofs.lemmas.Map.Text.{is_eq-slice_cmp}
 pub use Rattle.std.proofs.lemmas.Option.{get_or_from_slice_get, slice_get_cases, slice_get_past, slice_get_read, slice_get_within}
 pub use Rattle.std.proofs.lemmas.Slice.Eq.{bytes_eq-Decides}
-pub use Rattle.std.specs.BTreeMap.{BTreeMap, WritesThrough, get}
-pub use Rattle.std.specs.BTreeSet.{BTreeSet, insert_key}
-pub use Rattle.std.specs.Bool.{MatchBool}
+pub use Rattle.std.specs.BTreeMap.{BTreeMap, WritesThrough}
 pub use Rattle.std.specs.Cmp.{nat_cmp_is}
-pub use Rattle.std.specs.Cmp.Lexicographic.{slice_cmp}
-pub use Rattle.std.specs.List.{AllByRecursion, filter, fold, list_all, list_any, position, position_from, slice_get, zip}
+pub use Rattle.std.specs.List.{position_from, zip}
 pub use Rattle.std.specs.Map.{lookup}
-pub use Rattle.std.specs.Ordering.{is_eq, nat_cmp, ordering_then}
-pub use Rattle.std.specs.Prelude.{All, IsSome, IsTrue, OnErr, bytes_eq, flat_map, if◌then◌else◌, is_some, option_and_then, option_map, slice_index_or, sum_by}
-pub use Rattle.std.specs.Prelude.{◌==◌}
+pub use Rattle.std.specs.Ordering.{is_eq}
+pub use Rattle.std.specs.Prelude.{IsSome, OnErr}
 pub use Rattle.std.specs.Set.{remove_key}
 pub use Rattle.std.specs.Vec.{vec_capacity, vec_len}
-pub use Rattle.std.specs.declared.cmp.Ordering.{Ordering}
 pub use Rattle.std.specs.declared.cmp.Ordering.TheVariants.{Equal, Greater, Less}
-pub use Rattle.hub_envelope.specs.declared.envelope.Envelope.{Envelope}
-pub use Rattle.hub_envelope.specs.declared.ids.AgentId.{AgentId}
-pub use Rattle.hub_envelope.specs.declared.ids.EndId.{EndId}
-pub use Rattle.hub_envelope.specs.declared.ids.LineId.{LineId}
-pub use Rattle.hub_envelope.specs.declared.limits.TheConstants.{MAX_AGENTS, MAX_ENDS, MAX_LINES, MAX_MOVES, MAX_PORTS}
+pub use Rattle.hub_core.specs.Words.{Acceptance, Action, Agent, AgentId, All, AllByRecursion, Arrived, BTreeSet, Bad, Client, End, EndId, Envelope, Gone, Good, Group, HoldsTarget, InFlight, Inside, IsTrue, Kind, Line, LineId, MAX_AGENTS, MAX_ENDS, MAX_LINES}
+pub use Rattle.hub_core.specs.Words.{MAX_MOVES, MAX_PORTS, MatchBool, Member, Ordering, Out, Outcome, Phase, Place, Port, Sender, Step, Swept, Turned, With, Worker, bytes_eq, filter, flat_map, fold, get, if◌then◌else◌, insert_key, is_some, list_all, list_any}
+pub use Rattle.hub_core.specs.Words.{nat_cmp, option_and_then, option_map, ordering_then, position, slice_cmp, slice_get, slice_index_or, sum_by, ◌==◌}
 pub use Rattle.hub_core.specs.Accepted.{accepted, accepted_by, named_envelope, named_notice}
 pub use Rattle.hub_core.specs.Casting.{cast_answer, destinations, destinations_of, is_casting, member_answer, part_answer}
 pub use Rattle.hub_core.specs.ChainLaws.{ChainLaws, Grows}
@@ -97,22 +90,6 @@ pub use Rattle.hub_core.specs.Sound.{IsOfEnd, Sound, SoundLines, SoundPlaces, So
 pub use Rattle.hub_core.specs.Taken.{taken, taken_by}
 pub use Rattle.hub_core.specs.Taking.{FitsTake, IsDrained, IsLeft, IsNext, Serves, start_answer}
 pub use Rattle.hub_core.specs.Unchanged.{SameContent, changes_nothing}
-pub use Rattle.hub_core.specs.declared.agent.Agent.{Agent}
-pub use Rattle.hub_core.specs.declared.end.End.{End}
-pub use Rattle.hub_core.specs.declared.end.Place.{Place}
-pub use Rattle.hub_core.specs.declared.end.Place.TheVariants.{Arrived, Gone, InFlight, Swept, With}
-pub use Rattle.hub_core.specs.declared.group.Group.{Group}
-pub use Rattle.hub_core.specs.declared.kind.Kind.{Kind}
-pub use Rattle.hub_core.specs.declared.kind.Kind.TheVariants.{Client, Member, Port, Worker}
-pub use Rattle.hub_core.specs.declared.line.Line.{Line}
-pub use Rattle.hub_core.specs.declared.line.Phase.{Phase}
-pub use Rattle.hub_core.specs.declared.line.Phase.TheVariants.{Inside, Out, Turned}
-pub use Rattle.hub_core.specs.declared.listing.Listing.TheVariants.{Bad, Good, HoldsTarget}
 pub use Rattle.hub_core.specs.declared.machine.Core.{Core}
 pub use Rattle.hub_core.specs.declared.members.Members.{Members}
-pub use Rattle.hub_core.specs.declared.outcome.Acceptance.{Acceptance}
-pub use Rattle.hub_core.specs.declared.outcome.Outcome.{Outcome}
 pub use Rattle.hub_core.specs.declared.roster.Roster.{Roster}
-pub use Rattle.hub_core.specs.declared.sender.Sender.{Sender}
-pub use Rattle.hub_core.specs.declared.step.Action.{Action}
-pub use Rattle.hub_core.specs.declared.step.Step.{Step}
