@@ -20,9 +20,10 @@ pub use Rattle.std.specs.Prelude.{IsSome, OnErr}
 pub use Rattle.std.specs.Set.{remove_key}
 pub use Rattle.std.specs.Vec.{vec_capacity, vec_len}
 pub use Rattle.std.specs.declared.cmp.Ordering.TheVariants.{Equal, Greater, Less}
+pub use Rattle.std.specs.Prelude.{if◌then◌else◌, ◌==◌}
 pub use Rattle.hub_core.specs.Words.{Acceptance, Action, Agent, AgentId, All, AllByRecursion, Arrived, BTreeSet, Bad, Client, End, EndId, Envelope, Gone, Good, Group, HoldsTarget, InFlight, Inside, IsTrue, Kind, Line, LineId, MAX_AGENTS, MAX_ENDS, MAX_LINES}
-pub use Rattle.hub_core.specs.Words.{MAX_MOVES, MAX_PORTS, MatchBool, Member, Ordering, Out, Outcome, Phase, Place, Port, Sender, Step, Swept, Turned, With, Worker, bytes_eq, filter, flat_map, fold, get, if◌then◌else◌, insert_key, is_some, list_all, list_any}
-pub use Rattle.hub_core.specs.Words.{nat_cmp, option_and_then, option_map, ordering_then, position, slice_cmp, slice_get, slice_index_or, sum_by, ◌==◌}
+pub use Rattle.hub_core.specs.Words.{MAX_MOVES, MAX_PORTS, MatchBool, Member, Ordering, Out, Outcome, Phase, Place, Port, Sender, Step, Swept, Turned, With, Worker, bytes_eq, filter, flat_map, fold, get, insert_key, is_some, list_all, list_any}
+pub use Rattle.hub_core.specs.Words.{nat_cmp, option_and_then, option_map, ordering_then, position, slice_cmp, slice_get, slice_index_or, sum_by}
 pub use Rattle.hub_core.specs.Accepted.{accepted, accepted_by, named_envelope, named_notice}
 pub use Rattle.hub_core.specs.Casting.{cast_answer, destinations, destinations_of, is_casting, member_answer, part_answer}
 pub use Rattle.hub_core.specs.ChainLaws.{ChainLaws, Grows}

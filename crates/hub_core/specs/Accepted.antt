@@ -1,5 +1,6 @@
 -- What was accepted for an end: the tasks queued on a port message queue (WHATWG HTML, "Message ports").
-use Rattle.hub_core.specs.Words.{Acceptance, Action, EndId, Envelope, List, Outcome, Sender, [], codes, false, flat_map, if◌then◌else◌, true, ℕ, ◌==◌, ◌∷◌}
+use Rattle.std.specs.Prelude.{if◌then◌else◌, ◌==◌, ◌∷◌}
+use Rattle.hub_core.specs.Words.{Acceptance, Action, EndId, Envelope, List, Outcome, Sender, [], codes, false, flat_map, true, ℕ}
 use Rattle.hub_core.specs.declared.step.Action.TheVariants as action
 use Rattle.hub_core.specs.declared.outcome.Outcome.TheVariants as outcome
 use Rattle.hub_core.specs.History.{History}

@@ -1,5 +1,6 @@
 -- Whether an end is closed (WHATWG HTML, "Message ports", `close()`).
-use Rattle.hub_core.specs.Words.{Action, Bool, Outcome, false, fold, if◌then◌else◌, true, ℕ, ◌==◌}
+use Rattle.std.specs.Prelude.{if◌then◌else◌, ◌==◌}
+use Rattle.hub_core.specs.Words.{Action, Bool, Outcome, false, fold, true, ℕ}
 use Rattle.hub_core.specs.declared.step.Action.TheVariants as action
 use Rattle.hub_core.specs.declared.outcome.Outcome.TheVariants as outcome
 use Rattle.hub_core.specs.History.{History}

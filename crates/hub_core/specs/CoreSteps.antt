@@ -1,7 +1,8 @@
 -- For private clauses: the core after a step, where the step got this answer.
 use Rattle.hub_core.specs.Posting.{holder}
 use Rattle.hub_core.specs.Accepted.{named_envelope, named_notice}
-use Rattle.hub_core.specs.Words.{Action, AgentId, Arrived, Client, Kind, None, Out, Outcome, Port, Sender, Some, Swept, Worker, [], false, slice_get, true, ◌++◌, ◌+◌, ◌∷◌}
+use Rattle.std.specs.Prelude.{◌++◌, ◌+◌, ◌∷◌}
+use Rattle.hub_core.specs.Words.{Action, AgentId, Arrived, Client, Kind, None, Out, Outcome, Port, Sender, Some, Swept, Worker, [], false, slice_get, true}
 use Rattle.hub_core.specs.CoreState.{CoreState}
 use Rattle.hub_core.specs.Seen.{seen}
 use Rattle.hub_core.specs.declared.step.Action.TheVariants as action

@@ -1,5 +1,6 @@
 -- What was discarded at an end (this project's own).
-use Rattle.hub_core.specs.Words.{Action, Envelope, List, Outcome, [], flat_map, if◌then◌else◌, ℕ, ◌==◌}
+use Rattle.std.specs.Prelude.{if◌then◌else◌, ◌==◌}
+use Rattle.hub_core.specs.Words.{Action, Envelope, List, Outcome, [], flat_map, ℕ}
 use Rattle.hub_core.specs.declared.step.Action.TheVariants as action
 use Rattle.hub_core.specs.declared.outcome.Outcome.TheVariants as outcome
 use Rattle.hub_core.specs.History.{History}

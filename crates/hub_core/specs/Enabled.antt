@@ -1,6 +1,7 @@
 -- Whether an end's queue is enabled (WHATWG HTML, "Message ports": a port message queue is disabled
 -- when it is made, and `start()` enables it).
-use Rattle.hub_core.specs.Words.{Action, Bool, Outcome, false, fold, if◌then◌else◌, true, ℕ, ◌==◌}
+use Rattle.std.specs.Prelude.{if◌then◌else◌, ◌==◌}
+use Rattle.hub_core.specs.Words.{Action, Bool, Outcome, false, fold, true, ℕ}
 use Rattle.hub_core.specs.declared.step.Action.TheVariants as action
 use Rattle.hub_core.specs.declared.outcome.Outcome.TheVariants as outcome
 use Rattle.hub_core.specs.History.{History}

@@ -1,5 +1,6 @@
 -- What becomes of each accepted envelope (this project's own).
-use Rattle.hub_core.specs.Words.{Bool, EndId, Envelope, List, [], false, filter, list_any, not, ℕ, ◌&&◌, ◌++◌, ◌==◌, ◌∷◌, ◌≡◌, ◌≤◌}
+use Rattle.std.specs.Prelude.{◌&&◌, ◌++◌, ◌==◌, ◌∷◌, ◌≡◌, ◌≤◌}
+use Rattle.hub_core.specs.Words.{Bool, EndId, Envelope, List, [], false, filter, list_any, not, ℕ}
 use Rattle.hub_core.specs.declared.step.Action.TheVariants as action
 use Rattle.hub_core.specs.declared.outcome.Outcome.TheVariants as outcome
 use Rattle.hub_core.specs.History.{Pair, History}

@@ -1,8 +1,9 @@
 -- For private clauses: what the parts of the core do to what it keeps.
 use Rattle.hub_core.specs.Shows.{kept_lines}
+use Rattle.std.specs.Prelude.{if◌then◌else◌, ◌&&◌, ◌++◌, ◌+◌, ◌-◌, ◌==◌, ◌||◌, ◌∷◌, ◌≡◌}
 use Rattle.hub_core.specs.Words.{Agent, AgentId, Arrived, Bool, Client, End, EndId, Envelope, Err, Gone, IfSome, InFlight, Inside, Kind, Line, LineId, List, MAX_ENDS, MAX_LINES, MAX_PORTS, MatchBool, Member, None, Ok, Option, Out}
-use Rattle.hub_core.specs.Words.{Outcome, Phase, Place, Port, Result, Sender, Some, Swept, Turned, With, Worker, [], drop, false, flat_map, fold, if◌then◌else◌, is_some, length, list_any, nat_le, nat_lt, not, option_map, position, replicate}
-use Rattle.hub_core.specs.Words.{slice_get, slice_index_or, slice_set, true, ℕ, ◌&&◌, ◌++◌, ◌+◌, ◌-◌, ◌==◌, ◌||◌, ◌∷◌, ◌≡◌}
+use Rattle.hub_core.specs.Words.{Outcome, Phase, Place, Port, Result, Sender, Some, Swept, Turned, With, Worker, [], drop, false, flat_map, fold, is_some, length, list_any, nat_le, nat_lt, not, option_map, position, replicate}
+use Rattle.hub_core.specs.Words.{slice_get, slice_index_or, slice_set, true, ℕ}
 use Rattle.hub_core.specs.Made.{lines_of, is_queue}
 use Rattle.hub_core.specs.declared.outcome.Outcome.TheVariants as outcome
 use Rattle.hub_core.specs.CoreState.{CoreState}

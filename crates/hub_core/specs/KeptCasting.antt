@@ -1,5 +1,6 @@
 -- For private clauses: what the steps of broadcast channels do to what is kept of ends.
-use Rattle.hub_core.specs.Words.{AgentId, Bool, End, EndId, List, MAX_ENDS, Member, Option, Outcome, [], if◌then◌else◌, is_some, nat_le, not, ℕ, ◌++◌, ◌∷◌}
+use Rattle.std.specs.Prelude.{if◌then◌else◌, ◌++◌, ◌∷◌}
+use Rattle.hub_core.specs.Words.{AgentId, Bool, End, EndId, List, MAX_ENDS, Member, Option, Outcome, [], is_some, nat_le, not, ℕ}
 use Rattle.hub_core.specs.declared.outcome.Outcome.TheVariants as outcome
 use Rattle.hub_core.specs.Kept.{new_end}
 

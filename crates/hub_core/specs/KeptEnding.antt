@@ -1,5 +1,6 @@
 -- For private clauses: what the core keeps of posters that are away, and of agents that end.
-use Rattle.hub_core.specs.Words.{Agent, AgentId, Client, EndId, Kind, List, Member, None, Option, Outcome, Port, Sender, Some, Worker, if◌then◌else◌, not, ◌==◌}
+use Rattle.std.specs.Prelude.{if◌then◌else◌, ◌==◌}
+use Rattle.hub_core.specs.Words.{Agent, AgentId, Client, EndId, Kind, List, Member, None, Option, Outcome, Port, Sender, Some, Worker, not}
 use Rattle.hub_core.specs.Facts.{Facts}
 use Rattle.hub_core.specs.declared.outcome.Outcome.TheVariants as outcome
 use Rattle.hub_core.specs.Kept.{with_agent}

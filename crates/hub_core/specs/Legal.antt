@@ -1,5 +1,6 @@
 -- Which histories may come, and which of them can't be told apart from now on (this project's own).
-use Rattle.hub_core.specs.Words.{[], ◌++◌, ◌↔◌, ◌∷◌}
+use Rattle.std.specs.Prelude.{◌++◌, ◌↔◌, ◌∷◌}
+use Rattle.hub_core.specs.Words.{[]}
 use Rattle.hub_core.specs.History.{History}
 use Rattle.hub_core.specs.Fits.{Fits}
 

@@ -1,5 +1,6 @@
 -- Who is at a queue, and what a Look and a Sweep are answered (this project's own).
-use Rattle.hub_core.specs.Words.{Bool, EndId, Envelope, List, MatchBool, None, Option, Outcome, Some, false, if◌then◌else◌, nat_lt, not, suc, true, zero, ℕ, ◌&&◌, ◌++◌, ◌+◌, ◌-◌, ◌==◌, ◌||◌, ◌≡◌}
+use Rattle.std.specs.Prelude.{if◌then◌else◌, ◌&&◌, ◌++◌, ◌+◌, ◌-◌, ◌==◌, ◌||◌, ◌≡◌}
+use Rattle.hub_core.specs.Words.{Bool, EndId, Envelope, List, MatchBool, None, Option, Outcome, Some, false, nat_lt, not, suc, true, zero, ℕ}
 use Rattle.hub_core.specs.declared.outcome.Outcome.TheVariants as outcome
 use Rattle.hub_core.specs.Made.{lines_of}
 use Rattle.hub_core.specs.Facts.{LineNow, Facts}

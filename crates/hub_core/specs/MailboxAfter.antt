@@ -1,5 +1,6 @@
 -- What an event makes of a mailbox, as a function.
-use Rattle.hub_core.specs.Words.{Inside, List, None, Out, Some, Turned, [], fold, length, slice_index_or, true, ℕ, ◌+◌, ◌-◌}
+use Rattle.std.specs.Prelude.{◌+◌, ◌-◌}
+use Rattle.hub_core.specs.Words.{Inside, List, None, Out, Some, Turned, [], fold, length, slice_index_or, true, ℕ}
 use Rattle.hub_core.specs.GateMachine as machine
 use Rattle.hub_core.specs.GateMachine.{Gate, with_phase, with_home, with_flags, with_none, opened}
 use Rattle.hub_core.specs.QueueMachine.{Queue, new_queue, pushed}

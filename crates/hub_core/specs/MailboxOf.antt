@@ -1,5 +1,6 @@
 -- The mailbox of an end after a history: what the events that its pairs are make of the mailbox as the end was made.
-use Rattle.hub_core.specs.Words.{Action, End, Kind, None, Option, Outcome, Some, [], replicate, slice_get, ℕ, ◌++◌, ◌<◌, ◌∷◌, ◌≡◌, ◌≤◌}
+use Rattle.std.specs.Prelude.{◌++◌, ◌<◌, ◌∷◌, ◌≡◌, ◌≤◌}
+use Rattle.hub_core.specs.Words.{Action, End, Kind, None, Option, Outcome, Some, [], replicate, slice_get, ℕ}
 use Rattle.hub_core.specs.declared.machine.Core.{Core}
 use Rattle.hub_core.specs.History.{Pair, History}
 use Rattle.hub_core.specs.Facts.{Facts, facts}

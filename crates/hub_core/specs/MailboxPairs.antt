@@ -1,6 +1,6 @@
 -- What each pair of a history is to the mailbox of one end: events there, or nothing.
-use Rattle.hub_core.specs.Words.{Action, Bool, EndId, Envelope, Inside, IsTrue, List, None, Option, Outcome, Phase, Some, [], false, if◌then◌else◌, map, slice_get, suc, true, zero, ℕ, ◌++◌, ◌+◌, ◌-◌, ◌<◌, ◌==◌}
-use Rattle.hub_core.specs.Words.{◌∷◌}
+use Rattle.std.specs.Prelude.{if◌then◌else◌, ◌++◌, ◌+◌, ◌-◌, ◌<◌, ◌==◌, ◌∷◌}
+use Rattle.hub_core.specs.Words.{Action, Bool, EndId, Envelope, Inside, IsTrue, List, None, Option, Outcome, Phase, Some, [], false, map, slice_get, suc, true, zero, ℕ}
 use Rattle.hub_core.specs.declared.step.Action.TheVariants as action
 use Rattle.hub_core.specs.declared.outcome.Outcome.TheVariants as outcome
 use Rattle.hub_core.specs.History.{Pair, History}

@@ -1,5 +1,6 @@
 -- What it means that a mailbox shows a history at an end, and that the ends of a core are such mailboxes.
-use Rattle.hub_core.specs.Words.{End, Envelope, List, Some, [], length, slice_get, slice_index_or, ℕ, ◌++◌, ◌+◌, ◌≡◌}
+use Rattle.std.specs.Prelude.{◌++◌, ◌+◌, ◌≡◌}
+use Rattle.hub_core.specs.Words.{End, Envelope, List, Some, [], length, slice_get, slice_index_or, ℕ}
 use Rattle.hub_core.specs.declared.machine.Core.{Core}
 use Rattle.hub_core.specs.History.{History}
 use Rattle.hub_core.specs.Accepted.{accepted}

@@ -1,7 +1,8 @@
 -- What the steps that move lines and ends are answered (WHATWG HTML, "Message ports", the transfer and
 -- transfer-receiving steps; going on to a newer queue is this project's own).
-use Rattle.hub_core.specs.Words.{AgentId, Arrived, Bool, Client, EndId, Gone, InFlight, Kind, MAX_MOVES, Member, None, Option, Outcome, Place, Port, Sender, Some, Swept, With, Worker, false, if◌then◌else◌, nat_le, nat_lt, not, true}
-use Rattle.hub_core.specs.Words.{ℕ, ◌&&◌, ◌+◌, ◌==◌}
+use Rattle.std.specs.Prelude.{if◌then◌else◌, ◌&&◌, ◌+◌, ◌==◌}
+use Rattle.hub_core.specs.Words.{AgentId, Arrived, Bool, Client, EndId, Gone, InFlight, Kind, MAX_MOVES, Member, None, Option, Outcome, Place, Port, Sender, Some, Swept, With, Worker, false, nat_le, nat_lt, not, true}
+use Rattle.hub_core.specs.Words.{ℕ}
 use Rattle.hub_core.specs.declared.outcome.Outcome.TheVariants as outcome
 use Rattle.hub_core.specs.Facts.{Facts}
 use Rattle.hub_core.specs.Made.{is_queue}

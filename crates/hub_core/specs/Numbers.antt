@@ -1,5 +1,6 @@
 -- The numbers that envelopes bear (this project's own).
-use Rattle.hub_core.specs.Words.{Envelope, List, [], filter, map, suc, zero, ℕ, ◌&&◌, ◌++◌, ◌==◌, ◌∷◌}
+use Rattle.std.specs.Prelude.{◌&&◌, ◌++◌, ◌==◌, ◌∷◌}
+use Rattle.hub_core.specs.Words.{Envelope, List, [], filter, map, suc, zero, ℕ}
 
 -- the first n numbers: 0, 1, 2 and so on
 abbrev pub up_to : ℕ → List ℕ

@@ -1,5 +1,6 @@
 -- Where an end is (WHATWG HTML, "Transferable objects": the transfer and transfer-receiving steps).
-use Rattle.hub_core.specs.Words.{Action, Arrived, Bool, EndId, Envelope, Gone, InFlight, List, None, Option, Outcome, Place, Some, Swept, With, fold, if◌then◌else◌, list_any, ℕ, ◌==◌, ◌||◌}
+use Rattle.std.specs.Prelude.{if◌then◌else◌, ◌==◌, ◌||◌}
+use Rattle.hub_core.specs.Words.{Action, Arrived, Bool, EndId, Envelope, Gone, InFlight, List, None, Option, Outcome, Place, Some, Swept, With, fold, list_any, ℕ}
 use Rattle.hub_core.specs.declared.step.Action.TheVariants as action
 use Rattle.hub_core.specs.declared.outcome.Outcome.TheVariants as outcome
 use Rattle.hub_core.specs.History.{History}

@@ -1,6 +1,7 @@
 -- What the steps of a taker are answered (WHATWG HTML, "Message ports": `start()`, and an enabled queue as
 -- a task source).
-use Rattle.hub_core.specs.Words.{EndId, Envelope, MatchBool, Outcome, [], false, if◌then◌else◌, is_some, true, ℕ, ◌++◌, ◌<◌, ◌∷◌, ◌≡◌}
+use Rattle.std.specs.Prelude.{if◌then◌else◌, ◌++◌, ◌<◌, ◌∷◌, ◌≡◌}
+use Rattle.hub_core.specs.Words.{EndId, Envelope, MatchBool, Outcome, [], false, is_some, true, ℕ}
 use Rattle.hub_core.specs.declared.outcome.Outcome.TheVariants as outcome
 use Rattle.hub_core.specs.Facts.{Facts}
 use Rattle.hub_core.specs.Sender.{by, Prefix, in_queue}
