@@ -1,6 +1,7 @@
 mod Adopts
 mod Asks
 mod Closes
+mod Closings
 mod Counted
 mod Delivers
 mod Looks

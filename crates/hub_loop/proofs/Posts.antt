@@ -1,8 +1,6 @@
 -- What a post from a loop leaves.
-use Rattle.std.proofs.Common.{◌≡◌, ◌∙◌, ℕ, length, List, Result, Ok, Err, IfOk, IfErr, Some, None, get_or-set_other, ap, sym, ⊎_elim}
-use Rattle.std.proofs.lemmas.Bool.{cases_lt}
-use Rattle.std.proofs.lemmas.List.{get_or-set_same, get_or_past}
-use Rattle.std.proofs.lemmas.Option.{same_Some, none-some}
+use Rattle.std.proofs.Common.{◌≡◌, ◌∙◌, ℕ, List, Result, Ok, Err, IfOk, IfErr, Some, None, get_or-set_other, ap, sym}
+use Rattle.std.proofs.lemmas.Option.{same_Some}
 use Rattle.slab.specs.Slab.{Slab, get, with_value}
 use Rattle.hub_envelope.specs.declared.ids.AgentId.{AgentId}
 use Rattle.hub_envelope.specs.declared.posted.Posted.{Posted}
@@ -13,7 +11,7 @@ use Rattle.hub_loop.specs.declared.held.Held.{Held}
 use Rattle.hub_loop.specs.Holding.{end_held}
 use Rattle.hub_loop.specs.Posting.{IsPostedFrom, IsSentOver}
 use Rattle.hub_loop.specs.Reaching.{AreReached}
-use Rattle.hub_loop.proofs.Reaches.{all-but, moves-same}
+use Rattle.hub_loop.proofs.Reaches.{all-but, moves-same, written}
 
 -- an end keeps its number in a post
 pub posted-end : {E : Type 0} (agent : AgentId) (body : List ℕ) (ports : List PortSeat) (old new : Held) (result : Result (Result Posted PortError) E) → IfOk result (IsPostedFrom agent body ports old new) → IfErr result (λ e. new ≡ old) → end_held new ≡ end_held old
@@ -25,13 +23,6 @@ pub sent-end : {E : Type 0} (agent : AgentId) (body : List ℕ) (ports : List Po
 sent-end agent body ports old new (Ok answer) (line, stand, is, sent, left) same = ap end_held left ∙ sym (ap end_held is)
 sent-end agent body ports old new (Err e) sent same = ap end_held same
 
--- what is written under a key where something is held is there
-written-there : (slots : Slab Held) (key : ℕ) (old new held : Held) → get slots key ≡ Some old → get (with_value slots key new) key ≡ Some held → new ≡ held
-written-there slots key old new held was is = ⊎_elim
-    (λ less. same_Some new held (sym (get_or-set_same slots.slots key (Some new) None less) ∙ is))
-    (λ past. absurd (none-some old (sym (get_or_past slots.slots key None past) ∙ was)))
-    (cases_lt key (length slots.slots))
-
 -- what has the same number under its key is found as before
 pub same-end : (slots : Slab Held) (r : Ready) (key : ℕ) (old new : Held) → get slots key ≡ Some old → end_held new ≡ end_held old → AreReached slots r → AreReached (with_value slots key new) r
 same-end slots r key old new was same reached =
@@ -40,6 +31,6 @@ same-end slots r key old new was same reached =
     (λ other differs. moves-same r other)
     (λ held is.
     let here = reached key old was in
-    let there = written-there slots key old new held was is in
+    let there = same_Some new held (sym (written slots key old new was) ∙ is) in
     (here.0, λ end number clear. here.1 end (sym same ∙ ap end_held there ∙ number) clear))
     reached

@@ -1,6 +1,8 @@
 -- The ends that are held can be found.
 use Rattle.std.proofs.Common.{◌≡◌, ◌≢◌, ◌⊎◌, ℕ, ◌≤◌, length, Option, Some, None, IsSome, get_or-set_other, inl, inr, refl, sym, ap, ◌∙◌, subst, arith}
-use Rattle.std.proofs.lemmas.Bool.{cases_eq}
+use Rattle.std.proofs.lemmas.Bool.{cases_eq, cases_lt}
+use Rattle.std.proofs.lemmas.List.{get_or-set_same, get_or_past}
+use Rattle.std.proofs.lemmas.Option.{none-some}
 use Rattle.slab.specs.Slab.{Slab, get, with_value}
 use Rattle.hub_envelope.specs.declared.ids.EndId.{EndId}
 use Rattle.hub_marks.specs.declared.ready.Ready.{Ready}
@@ -105,6 +107,14 @@ moves-same r key = record { bits = omega arith; marks = λ has clear. clear; lis
 -- a line needs no finding
 pub is-line : (r : Ready) (key : ℕ) (held line : Held) → HasBit r.marks key → held ≡ line → ((end : EndId) → end_held line ≡ Some end → ⊥) → IsReached r key held
 is-line r key held line has same none = (has, λ end is clear. absurd (none end (sym (ap end_held same) ∙ is)))
+
+-- what is written under a key where something is held is there
+pub written : (slots : Slab Held) (key : ℕ) (old new : Held) → get slots key ≡ Some old → get (with_value slots key new) key ≡ Some new
+written slots key old new was =
+    elim (cases_lt key (length slots.slots)) [
+      | inl less ↦ get_or-set_same slots.slots key (Some new) None less
+      | inr past ↦ absurd (none-some old (sym (get_or_past slots.slots key None past) ∙ was))
+    ]
 
 -- nothing is held any more
 pub is-gone : (r : Ready) (key : ℕ) (slot : Option Held) → slot ≡ None → (held : Held) → slot ≡ Some held → IsReached r key held

@@ -1,17 +1,35 @@
 -- The ends are asked in turn.
-use Rattle.std.proofs.Common.{◌≡◌, ◌⊎◌, ℕ, zero, suc, ◌+◌, ◌-◌, ◌^◌, ◌<◌, ◌≤◌, Bool, true, false, ◌||◌, List, [], ◌∷◌, ◌++◌, Option, Some, None, inl, inr, refl, sym, ap, ◌∙◌, subst, arith, append_assoc}
+use Rattle.std.proofs.Common.{◌≡◌, ◌⊎◌, ℕ, zero, suc, ◌+◌, ◌-◌, ◌^◌, ◌<◌, ◌≤◌, Bool, true, false, ◌||◌, List, [], ◌∷◌, ◌++◌, Option, Some, None, inl, inr, refl, sym, ap, ◌∙◌, subst, arith, append_assoc, get_or-set_other}
 use Rattle.std.proofs.lemmas.Bool.{cases_eq, cases_lt}
-use Rattle.slab.specs.Slab.{Slab}
+use Rattle.slab.specs.Slab.{Slab, get, with_value}
 use Rattle.hub_envelope.specs.declared.envelope.Envelope.{Envelope}
 use Rattle.hub_marks.specs.Marking.{mark_of, ClearBetween, SameBut}
 use Rattle.hub_queue.specs.Counting.{Count}
 use Rattle.hub_loop.specs.declared.held.Held.{Held}
 use Rattle.hub_queue.specs.declared.took.Took.{Took}
 use Rattle.hub_queue.specs.declared.took.Took.TheVariants.{Got, Empty, Busy, Again, Disabled, Closed}
-use Rattle.hub_loop.specs.Serving.{served_by, IsAskedAt, AskedAll, HasGiven, HasOrder, IsIn}
+use Rattle.hub_loop.specs.Asking.{IsHeldAsked}
+use Rattle.hub_loop.specs.Serving.{served_by, IsSlotAsked, IsTakenAtKey, IsAskedAt, AskedAll, HasGiven, HasOrder, IsIn}
 use Rattle.hub_loop.specs.Scanning.{EndsSeat, IsSameBut, AskedThese, GivenBehind, AskedBefore, AskedOrUnmarked, IsRange, IsServedMarked}
 use Rattle.hub_loop.specs.declared.serving.Served.{Served}
 use Rattle.hub_loop.specs.declared.serving.Served.TheVariants.{Given, Nothing}
+use Rattle.hub_loop.proofs.Reaches.{written}
+
+-- what is held under a key was asked
+pub taken-there : (slots : Slab Held) (key : ℕ) (old new : Held) (before after : Count) (answer : Option Took) → get slots key ≡ Some old → IsHeldAsked old new before after answer → IsTakenAtKey slots (with_value slots key new) key before after answer
+taken-there slots key old new before after answer was asked = record {
+  at = subst (λ slot. IsSlotAsked slot (get (with_value slots key new) key) before after answer) (sym was) (new, written slots key old new was, asked);
+  others = λ other differs. get_or-set_other slots.slots key other (Some new) None differs;
+  capacity = refl;
+}
+
+-- nothing is held there
+pub taken-nowhere : (slots : Slab Held) (key : ℕ) (count : Count) → get slots key ≡ None → IsTakenAtKey slots slots key count count None
+taken-nowhere slots key count none = record {
+  at = subst (λ slot. IsSlotAsked slot slot count count None) (sym none) (refl, refl, refl);
+  others = λ other differs. refl;
+  capacity = refl;
+}
 
 -- what an answer comes to
 served-cases : (key : ℕ) (answer : Option Took) → ((busy : Bool) × (served_by key answer ≡ Nothing busy)) ⊎ ((v : Envelope) × (served_by key answer ≡ Given key v))

@@ -14,7 +14,7 @@ use Rattle.hub_loop.specs.declared.holding.Holding.{Holding}
 use Rattle.hub_loop.specs.declared.turn.Turn.{Turn}
 use Rattle.hub_loop.specs.Adopting.{closed_of}
 use Rattle.hub_loop.specs.Ending.{closing_ends, ends_in, passing_in}
-use Rattle.hub_loop.specs.Noticing.{AllClosed, AreEnded, SomeClosed, ports_in}
+use Rattle.hub_loop.specs.Noticing.{AreEnded, SomeClosed, ports_in}
 use Rattle.hub_loop.specs.States.{ClosingState, DeliveryState, HoldingState, OpenState}
 use Rattle.hub_loop.specs.Turning.{IsDue, IsTurn}
 
@@ -72,10 +72,6 @@ module _ {H : Type 0} where
 
   abbrev pub SameButFetched : LoopState H → LoopState H → Type 0
   SameButFetched old new = new ≡ record old { holding = new.holding; fetched = new.fetched }
-
-  -- each port that the loop had was closed
-  abbrev pub ClosesAll : LoopState H → LoopState H → Type 0
-  ClosesAll old new = AllClosed (open_ports old) old.holding.closed.noticed new.holding.closed.noticed
 
   -- some of the ports that the loop had were closed, and the others are still there
   abbrev pub ClosesSome : LoopState H → LoopState H → Type 0

@@ -21,7 +21,6 @@ ghost use Rattle.hub_loop.specs.Adopting.{
   AreAllAdopted,
   IsFirstAdopted,
   IsHeldAs,
-  IsPortBuried,
   IsQueueAdopted,
   SameClosed,
   SameStored,
@@ -31,12 +30,11 @@ ghost use Rattle.hub_marks.specs.Marking.{HasBit};
 
 use crate::closed_port::ClosedPort;
 use crate::delivery::Receiving;
-use crate::ending::Closed;
 use crate::held::Held;
 use crate::holding::Holding;
 use hub_clients::HandedQueue;
 use hub_envelope::{EndId, OutOfMemory};
-use hub_ports::{Arrived, Hub, Port};
+use hub_ports::{Hub, Port};
 use hub_queue::{AdoptError, Bell};
 use std::sync::Wait;
 
@@ -60,18 +58,6 @@ fn adopt_handed<R: Wait>(
             Ok(queue) => Ok(Held::Worker(queue)),
             Err((error, queue)) => Err((error, HandedQueue::Worker(queue))),
         },
-    }
-}
-
-impl Closed {
-    // Closes a port that was refused for good.
-    fn close_unfit<R: Wait>(&mut self, rt: &R, hub: &Hub, arrived: Arrived)
-        requires graves { vec_len self.old.graves + 1 ≤ vec_capacity self.old.graves }
-        requires noticed { vec_len self.old.noticed + 1 ≤ vec_capacity self.old.noticed }
-        ensures { IsPortBuried arrived (closed_of self.old) (closed_of self.new) }
-    {
-        let (grave, port) = ClosedPort::close_arrived(rt, hub, arrived);
-        self.bury(grave, port);
     }
 }
 
@@ -161,7 +147,8 @@ impl Holding {
                 Err(OutOfMemory)
             }
             Err((AdoptError::TooManyMoves | AdoptError::Taken, arrived)) => {
-                self.closed.close_unfit(rt, hub, arrived);
+                let (grave, port) = ClosedPort::close_arrived(rt, hub, arrived);
+                self.closed.bury(grave, port);
                 receiving.missing.push_reserved(end);
                 Ok(true)
             }

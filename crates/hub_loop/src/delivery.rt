@@ -1,6 +1,4 @@
 ghost use Rattle.std.specs.Prelude.{◌≡◌, Some, None, IfOk, OnErr};
-ghost use Rattle.hub_ports.specs.Seats.{ends_of};
-ghost use Rattle.hub_ports.specs.Splitting.{IsSplit};
 ghost use Rattle.hub_loop.specs.Adopting.{stored};
 ghost use Rattle.hub_loop.specs.Delivering.{IsDelivered, IsLookedFor};
 ghost use Rattle.hub_loop.specs.Marking.{AreMarked};
@@ -55,29 +53,7 @@ impl Model for Receiving {
     ghost view = { λ r. record { found = r.found.items; missing = r.missing.items } };
 }
 
-// Takes the ports of an envelope out of flight.
-fn look_for<R: Wait>(rt: &R, hub: &Hub, envelope: &Envelope) -> Result<Receiving, OutOfMemory>
-    ensures { IfOk result (λ r.
-        IsSplit envelope.now.ports (ends_of r.found) r.missing) }
-{
-    let Arrival { found, missing } = hub.arrive(rt, envelope)?;
-    Ok(Receiving {
-        found: VecDeque::from_vec(found),
-        missing,
-    })
-}
-
 impl Delivery {
-    /// The delivery of an envelope that was just taken.
-    pub(crate) fn new(envelope: Envelope) -> Delivery
-        ensures { result ≡ record { envelope = envelope; arrival = None } }
-    {
-        Delivery {
-            envelope,
-            arrival: None,
-        }
-    }
-
     // Looks for the ports, where that wasn't done before.
     fn look<R: Wait>(&mut self, rt: &R, hub: &Hub) -> Result<(), OutOfMemory>
         ensures envelope { self.new.envelope ≡ self.old.envelope }
@@ -88,7 +64,11 @@ impl Delivery {
         match &self.arrival {
             Some(_) => Ok(()),
             None => {
-                self.arrival = Some(look_for(rt, hub, &self.envelope)?);
+                let Arrival { found, missing } = hub.arrive(rt, &self.envelope)?;
+                self.arrival = Some(Receiving {
+                    found: VecDeque::from_vec(found),
+                    missing,
+                });
                 Ok(())
             }
         }

@@ -1,12 +1,9 @@
 //! The end of a loop.
 
-ghost use Rattle.std.specs.Prelude.{◌≡◌, OnOk, IfOk, IfErr, OnErr, ℕ, Bool, count_by};
-ghost use Rattle.hub_loop.specs.Ending.{closing_ends, is_grave, swept_ends};
+ghost use Rattle.std.specs.Prelude.{◌≡◌, OnOk, IfOk, IfErr, OnErr, Bool, count_by};
+ghost use Rattle.hub_loop.specs.Ending.{closing_ends, swept_ends};
 ghost use Rattle.hub_loop.specs.Looping.{
-  holds,
   passing,
-  ClosesAll,
-  ClosesSome,
   HasEnded,
   HasPaused,
   SameButOpened,
@@ -48,12 +45,19 @@ impl<H: Handler + Drop, C: Checkpoint + Drop> EventLoop<H, C> {
             HasEnded self (swept_ends ended.swept.items) ended.noticed.items) }
         ensures err { IfErr result (λ failed. HasPaused self failed.1) }
     {
-        match self.close_all(rt, hub, directory, roster) {
-            Ok(ended) => {
+        let mut closing = match self.begin_closing(rt, hub, roster) {
+            Ok(closing) => closing,
+            Err(error) => return Err((LoopError::from(error), self)),
+        };
+        match closing.finish(rt, hub, directory, &mut self.kept) {
+            Ok(()) => {
                 drop(self);
-                Ok(ended)
+                Ok(closing.into_ended())
             }
-            Err(error) => Err((LoopError::from(error), self)),
+            Err(error) => {
+                self.closing = Some(closing);
+                Err((LoopError::from(error), self))
+            }
         }
     }
 
@@ -71,28 +75,8 @@ impl<H: Handler + Drop, C: Checkpoint + Drop> EventLoop<H, C> {
         take_found(&mut self.kept, &mut self.opened)
     }
 
-    // Closes what the loop has, in rising order of the numbers.
-    fn close_held<R: Wait>(
-        &mut self,
-        rt: &R,
-        hub: &Hub,
-        roster: &SharedRoster,
-    ) -> Result<(), OutOfMemory>
-        ensures moved { (e : ℕ) → holds self.new e ≡ holds self.old e }
-        ensures all { OnOk result ((e : ℕ) →
-            count_by (is_grave e) self.new.holding.closed.graves ≡ holds self.new e) }
-        ensures noticed { OnOk result (ClosesAll self.old self.new) }
-        ensures noticed_err { OnErr result (ClosesSome self.old self.new) }
-        ensures closing { self.new.closing ≡ self.old.closing }
-    {
-        self.take_open()?;
-        self.opened.sort_unstable_by_key(|open| open.end().0);
-        self.opened.reverse();
-        leave_all(rt, roster, self.opened.as_slice());
-        self.holding.closed.close_all(rt, hub, &mut self.opened)
-    }
-
-    // Closes what is held, or takes up how far an earlier call has come.
+    // Closes what the loop has, in rising order of the numbers, or takes up how far an earlier call
+    // has come.
     fn begin_closing<R: Wait>(
         &mut self,
         rt: &R,
@@ -103,35 +87,15 @@ impl<H: Handler + Drop, C: Checkpoint + Drop> EventLoop<H, C> {
             HasEnded self.old (closing_ends closing) closing.noticed) }
         ensures err { OnErr result (HasPaused self.old self.new) }
     {
-        match self.closing.take() {
-            Some(closing) => Ok(closing),
-            None => {
-                self.close_held(rt, hub, roster)?;
-                let closed = replace(&mut self.holding.closed, Closed::new(self.alloc));
-                Ok(Closing::new(self.alloc, closed))
-            }
+        if let Some(closing) = self.closing.take() {
+            return Ok(closing);
         }
-    }
-
-    // Closes and sweeps all, and goes on where an earlier call has stopped.
-    fn close_all<R: Wait>(
-        &mut self,
-        rt: &R,
-        hub: &Hub,
-        directory: &Directory,
-        roster: &SharedRoster,
-    ) -> Result<Ended, OutOfMemory>
-        ensures ok { IfOk result (λ ended.
-            HasEnded self.old (swept_ends ended.swept.items) ended.noticed.items) }
-        ensures err { OnErr result (HasPaused self.old self.new) }
-    {
-        let mut closing = self.begin_closing(rt, hub, roster)?;
-        match closing.finish(rt, hub, directory, &mut self.kept) {
-            Ok(()) => Ok(closing.into_ended()),
-            Err(error) => {
-                self.closing = Some(closing);
-                Err(error)
-            }
-        }
+        self.take_open()?;
+        self.opened.sort_unstable_by_key(|open| open.end().0);
+        self.opened.reverse();
+        leave_all(rt, roster, self.opened.as_slice());
+        self.holding.closed.close_all(rt, hub, &mut self.opened)?;
+        let closed = replace(&mut self.holding.closed, Closed::new(self.alloc));
+        Ok(Closing::new(self.alloc, closed))
     }
 }

@@ -17,7 +17,6 @@ ghost use Rattle.std.specs.Prelude.{
   ◌++◌,
   cond,
   count_by,
-  option_to_list,
   IfErr,
   IfOk,
   OnOk,
@@ -163,22 +162,6 @@ impl Closed {
         self.noticed.push_reserved(port);
     }
 
-    // Keeps what an end was closed to.
-    fn keep(&mut self, closed: ClosedEnd)
-        requires graves { vec_len self.old.graves < vec_capacity self.old.graves }
-        requires noticed { vec_len self.old.noticed < vec_capacity self.old.noticed }
-        ensures graves { self.new.graves.items ≡ self.old.graves.items ++ closed.grave ∷ [] }
-        ensures noticed { self.new.noticed.items
-            ≡ self.old.noticed.items ++ option_to_list closed.port }
-        ensures lines { self.new.lines ≡ self.old.lines }
-    {
-        let ClosedEnd { grave, port } = closed;
-        match port {
-            Some(port) => self.bury(grave, port),
-            None => self.graves.push_reserved(grave),
-        }
-    }
-
     /// Closes an end, or keeps a line.
     pub(crate) fn close<R: Wait>(&mut self, rt: &R, hub: &Hub, opened: Open)
         requires graves { vec_len self.old.graves < vec_capacity self.old.graves }
@@ -189,7 +172,10 @@ impl Closed {
         ensures told { NoticesMore (port_in opened) self.old.noticed.items self.new.noticed.items }
     {
         match opened.close(rt, hub) {
-            Ok(closed) => self.keep(closed),
+            Ok(ClosedEnd { grave, port }) => match port {
+                Some(port) => self.bury(grave, port),
+                None => self.graves.push_reserved(grave),
+            },
             Err(poster) => self.lines.push_reserved(poster),
         }
     }

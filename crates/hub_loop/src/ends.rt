@@ -1,6 +1,6 @@
 //! The ends and the lines that a loop holds, each under its key.
 
-ghost use Rattle.std.specs.Prelude.{◌≡◌, Some, [], ◌≤◌, OnOk, IfErr, OnErr, IfSome, IfNone};
+ghost use Rattle.std.specs.Prelude.{◌≡◌, Some, ◌≤◌, OnOk, IfErr, OnErr, IfSome, IfNone};
 ghost use Rattle.slab.specs.Slab.{HasRoomFor, SameValues};
 ghost use Rattle.hub_loop.specs.Adopting.{HoldsMore};
 ghost use Rattle.hub_loop.specs.Holding.{end_held};
@@ -14,7 +14,6 @@ use crate::loop_error::LoopError;
 use hub_envelope::{EndId, OutOfMemory};
 use hub_marks::Ready;
 use slab::Slab;
-use std::alloc::Global;
 use std::collections::BTreeSet;
 
 /// The ends and the lines that a loop holds.
@@ -45,18 +44,6 @@ fn list_line(
 }
 
 impl Ends {
-    /// Nothing is held. It takes no memory.
-    pub(crate) fn new(alloc: Global) -> Ends
-        ensures { result.held.slots ≡ [] }
-    {
-        Ends {
-            held: Slab::new(alloc),
-            next: 0,
-            ready: Ready::new(alloc),
-            lines: BTreeSet::new(alloc),
-        }
-    }
-
     /// Holds one more, for which there is room. An end is marked, since something may wait there.
     pub(crate) fn put(&mut self, held: Held)
         requires room { HasRoomFor self.old.held 1 }

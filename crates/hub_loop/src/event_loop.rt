@@ -190,7 +190,10 @@ impl<H: Handler + Drop, C: Checkpoint + Drop> EventLoop<H, C> {
             Served::Nothing(busy) => Err(busy),
             Served::Given(_, envelope) => {
                 self.checkpoint.at(rt, self.agent, self.delivered);
-                Ok(Delivery::new(envelope))
+                Ok(Delivery {
+                    envelope,
+                    arrival: None,
+                })
             }
         }
     }

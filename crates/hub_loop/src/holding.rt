@@ -4,8 +4,11 @@ ghost use Rattle.std.specs.Prelude.{◌≡◌, []};
 
 use crate::ending::Closed;
 use crate::ends::Ends;
+use hub_marks::Ready;
 use hub_queue::Bell;
+use slab::Slab;
 use std::alloc::Global;
+use std::collections::BTreeSet;
 
 /// What a loop holds, and the ports that it has closed because they could not be adopted.
 pub(crate) struct Holding {
@@ -33,7 +36,12 @@ impl Holding {
     {
         Holding {
             bell,
-            ends: Ends::new(alloc),
+            ends: Ends {
+                held: Slab::new(alloc),
+                next: 0,
+                ready: Ready::new(alloc),
+                lines: BTreeSet::new(alloc),
+            },
             closed: Closed::new(alloc),
         }
     }

@@ -19,7 +19,6 @@ ghost use Rattle.hub_loop.specs.Scanning.{
 ghost use Rattle.hub_loop.specs.Serving.{
   next_after,
   served_by,
-  IsTakenAtKey,
   IsAskedAt,
 };
 
@@ -58,21 +57,6 @@ impl Served {
     }
 }
 
-// Takes at the end under a key. `None` where there is no end.
-fn take_at<L: Ledger, R: Wait>(
-    rt: &R,
-    held: &mut Slab<Held>,
-    key: usize,
-    steps: &mut Steps<L>,
-) -> Option<Took>
-    ensures { IsTakenAtKey held.old held.new key steps.old steps.new result }
-{
-    match held.get_mut(key) {
-        Some(held) => held.ask(rt, steps),
-        None => None,
-    }
-}
-
 // Asks the end under a key, if there is one.
 fn ask_at<L: Ledger, R: Wait>(
     rt: &R,
@@ -82,7 +66,10 @@ fn ask_at<L: Ledger, R: Wait>(
 ) -> Served
     ensures { IsAskedAt held.old held.new key steps.old steps.new result }
 {
-    Served::by(key, take_at(rt, held, key, steps))
+    match held.get_mut(key) {
+        Some(held) => Served::by(key, held.ask(rt, steps)),
+        None => Served::Nothing(false),
+    }
 }
 
 // Whether an end that gave nothing can go without its mark: its number leads to it. One that wasn't

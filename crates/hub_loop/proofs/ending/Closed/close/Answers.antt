@@ -1,14 +1,27 @@
-use Rattle.std.proofs.Common.{refl}
+use Rattle.std.proofs.Common.{◌∙◌, ◌++◌, ap, append-nil, refl, sym}
+use Rattle.std.specs.Prelude.{option_to_list}
 use Rattle.hub_loop.proofs.Closes.{buries, notices-closed, notices-line}
 use Rattle.hub_loop.proofs.ending.Closed.close.Goals as goal
 
-pub returns-in-Ok-clause-buried : goal.returns-in-Ok-clause-buried
-returns-in-Ok-clause-buried g c e =
-    buries c.args.opened c.in-Ok.closed e c.args.self.now.graves.items c.keep.new.self.graves.items c.in-Ok.ensures.ok c.keep.ensures.graves
+pub returns-in-Some-clause-buried : goal.returns-in-Some-clause-buried
+returns-in-Some-clause-buried g c e =
+    buries c.args.opened c.in-Ok.field-0 e c.args.self.now.graves.items c.bury.new.self.graves.items c.in-Ok.ensures.ok c.bury.ensures.graves
 
-pub returns-in-Ok-clause-told : goal.returns-in-Ok-clause-told
-returns-in-Ok-clause-told g c =
-    notices-closed c.args.opened c.in-Ok.closed c.args.self.now.noticed.items c.keep.new.self.noticed.items c.in-Ok.ensures.ok c.keep.ensures.noticed
+pub returns-in-Some-clause-told : goal.returns-in-Some-clause-told
+returns-in-Some-clause-told g c =
+    let before = c.args.self.now.noticed.items in
+    notices-closed c.args.opened c.in-Ok.field-0 before c.bury.new.self.noticed.items c.in-Ok.ensures.ok
+    (c.bury.ensures.noticed ∙ ap (λ port. before ++ option_to_list port) (sym c.in-Some.is))
+
+pub returns-in-None-clause-buried : goal.returns-in-None-clause-buried
+returns-in-None-clause-buried g c e =
+    buries c.args.opened c.in-Ok.field-0 e c.args.self.now.graves.items c.push_reserved.new.self.items c.in-Ok.ensures.ok c.push_reserved.ensures.items
+
+pub returns-in-None-clause-told : goal.returns-in-None-clause-told
+returns-in-None-clause-told g c =
+    let before = c.args.self.now.noticed.items in
+    notices-closed c.args.opened c.in-Ok.field-0 before before c.in-Ok.ensures.ok
+    (sym (append-nil before) ∙ ap (λ port. before ++ option_to_list port) (sym c.in-None.is))
 
 pub returns-in-Err-clause-told : goal.returns-in-Err-clause-told
 returns-in-Err-clause-told g c =

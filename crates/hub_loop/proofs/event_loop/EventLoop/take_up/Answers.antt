@@ -33,6 +33,6 @@ returns-clause-due g c =
       served.1,
       elim c.match-serve.branch [
         | in-Nothing w ↦ due-nothing inside.kept old new served.0 c.args.steps.now c.serve.new.steps c.serve.result w.in-Nothing.busy c.match-serve.result none w.in-Nothing.is w.result-is served.2 c.serve.ensures.next refl
-        | in-Given w ↦ due-given inside.kept old new served.0 c.args.steps.now c.serve.new.steps c.serve.result w.in-Given.field-0 w.in-Given.envelope w.new.result c.match-serve.result none w.in-Given.is w.result-is w.new.ensures served.2 c.serve.ensures.given c.serve.ensures.next refl
+        | in-Given w ↦ due-given inside.kept old new served.0 c.args.steps.now c.serve.new.steps c.serve.result w.in-Given.field-0 w.in-Given.envelope (record { envelope = w.in-Given.envelope; arrival = None }) c.match-serve.result none w.in-Given.is w.result-is refl served.2 c.serve.ensures.given c.serve.ensures.next refl
       ],
     )

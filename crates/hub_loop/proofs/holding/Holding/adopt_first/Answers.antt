@@ -45,9 +45,10 @@ returns-in-Err-TooManyMoves-default g c =
     let unfit : IsUnfit error = search rules in
     let came : c.in-Err-TooManyMoves-default.arrived ≡ p = c.in-Err-TooManyMoves-default.ensures.1 in
     let received = subst (λ q. IsReceived p (Err (error, q))) came c.in-Err-TooManyMoves-default.ensures in
-    let buried = subst (λ q. IsPortBuried q (closed_of mid.closed) (closed_of c.close_unfit.new.self)) came c.close_unfit.ensures in
+    let closed = c.close_arrived-grave in
+    let buried = subst (λ q. IsPortBuried q (closed_of mid.closed) (closed_of c.bury.new.self)) came (closed.result.0, closed.result.1, closed.ensures.grave, closed.ensures.told, c.bury.ensures.graves, c.bury.ensures.noticed) in
     record {
-      adopted = (p, search rules, inr (error, unfit, received, c.prepare.ensures.same, buried-after p (closed_of old.closed) (closed_of mid.closed) (closed_of c.close_unfit.new.self) c.prepare.ensures.closed buried, search rules));
+      adopted = (p, search rules, inr (error, unfit, received, c.prepare.ensures.same, buried-after p (closed_of old.closed) (closed_of mid.closed) (closed_of c.bury.new.self) c.prepare.ensures.closed buried, search rules));
       marked = c.prepare.ensures.marked;
       next = c.prepare.ensures.next;
     }
