@@ -1,14 +1,14 @@
 -- Whoever is away at a line keeps it, and may enter there, after every pair that fits.
-use Rattle.std.proofs.Common.{Bool, None, Option, Some, ap, cond, drop, eqb, false, inl, inr, refl, rules, sym, true, ℕ, ◌<◌, ◌∙◌, ◌≡◌, ◌⊎◌}
+use Rattle.std.proofs.Common.{Bool, None, Option, Some, ap, cond, drop, eqb, false, inl, inr, refl, rules, sym, true, ℕ, ◌<◌, ◌∙◌, ◌≡◌, ◌⊎◌, ◌||◌}
 use Rattle.hub_core.proofs.Words.{Action, AgentId, Answers, Arrived, EndNow, Facts, Member, Outcome, Place, Sender, Sound, With, cast_after, cast_to, ends, eqb-true, false≢true, has_poster, held_after, is_client, is_here}
-use Rattle.hub_core.proofs.Words.{is_out, is_queue, is_some, is_worker, kind_after, lines_of, may_enter, peer_of, phase_of_line, poster, roster_after, runs_after}
+use Rattle.hub_core.proofs.Words.{is_out, is_queue, is_some, is_worker, kind_after, lines_of, may_enter, peer_of, phase_of_line, poster, roster_after, runs_after, hears_notice}
 use Rattle.hub_core.specs.declared.step.Action.TheVariants as action
 use Rattle.hub_core.specs.declared.outcome.Outcome.TheVariants as outcome
 use Rattle.hub_core.proofs.Fitting.{back_of, cast_of, left_of, line_got_of, member_made_of, new_ends, none_away, queue_made_of, see_of}
 use Rattle.hub_core.proofs.Moves.{GoesTo, came, dropped, goes_to, handed_on, new, sent, shut, stays, taken_up}
 use Rattle.hub_core.proofs.Nexts.{next}
 use Rattle.hub_core.proofs.SoundLines.{line_there}
-use Rattle.hub_core.proofs.Speakers.{Casts, Hears, HoldsLine, Speaks, casts_as, casts_may, entangled_made, hears_of, held_may, holds_as, kind_made, left_other, line_owned, may_as, no_port, none_open, not_first, not_here, old_end, old_one, own_out, port_owned, poster_as, poster_is, queue_is_made, released_out, runs_on, speaks_of, still_held, still_runs}
+use Rattle.hub_core.proofs.Speakers.{Casts, Hears, HoldsLine, Speaks, casts_as, entangled_made, hears_of, holds_as, kind_made, left_other, line_owned, may_as, no_port, not_first, not_here, old_end, old_one, own_out, port_owned, poster_as, queue_is_made, released_out, runs_on, speaks_of, still_held, still_runs}
 
 -- an end keeps its kind
 pub kind_next : (f : Facts) (refused : Bool) (o : Outcome) (a : Action) → Answers f a refused o → (x : ℕ) → x < f.ends → kind_after x (f.end x).kind o a ≡ (f.end x).kind
@@ -60,7 +60,7 @@ module _ (f : Facts) (refused : Bool) (h : Sound f) (o : Outcome) (a : Action) (
         | inr up ↦ absurd (search (rules, sym k.has ∙ up.1))
       ] in
       let runs = runs_next f refused o a fits s (entangled_made f s.end.0 k.peer h.places k.entangled) low away k.agent (λ c same. port_owned f c s k same) k.runs in
-      poster_as (next f a o) s k.peer k.agent k.line (still_entangled k.peer k.entangled) has runs ∙ sym (poster_is f s k)
+      poster_as (next f a o) s k.peer k.agent k.line (still_entangled k.peer k.entangled) has runs ∙ sym (poster_as f s k.peer k.agent k.line k.entangled k.has k.runs)
 
   -- and such a line may be entered
   port_may_next : Hears f s → may_enter (next f a o) s ≡ true
@@ -99,7 +99,7 @@ held_next f refused h o a fits s away k =
 
 -- a cast stays until the poster of the first line leaves
 cast_stays : (f : Facts) (refused : Bool) → Sound f → (o : Outcome) (a : Action) → Answers f a refused o → (s : Sender) → is_out (phase_of_line (next f a o) s) ≡ false → (b : AgentId) (k : Casts f s b) → (roster_after f.roster o a).cast ≡ Some k.cast
-cast_stays f refused h (outcome.Destinations ends) (action.Cast e ports body) fits s after b k = absurd (none_open f s b k (cast_of f e ports ends fits).over)
+cast_stays f refused h (outcome.Destinations ends) (action.Cast e ports body) fits s after b k = absurd (false≢true (sym (cast_of f e ports ends fits).over ∙ ap is_some k.is_open))
 cast_stays f refused h outcome.Left (action.Leave t) fits s after b k =
     ap (cast_after t.end.0) k.is_open ∙ ap (λ c. cond c (cast_to k.cast.source k.cast.body (drop 1 k.cast.left)) (Some k.cast)) (not_first t.end.0 s.end.0 k.cast.left k.first (left_other f t s b h (left_of f t fits) k after))
 cast_stays f refused h (outcome.Agent n) (action.Agent origin) fits s after b k = k.is_open
@@ -132,6 +132,6 @@ speaker_next f refused h o a fits s away after speaks = elim (speaks_of f s spea
 pub may_next : (f : Facts) (refused : Bool) → Sound f → (o : Outcome) (a : Action) → Answers f a refused o → (s : Sender) → is_out (phase_of_line f s) ≡ false → is_out (phase_of_line (next f a o) s) ≡ false → may_enter f s ≡ true → may_enter (next f a o) s ≡ true
 may_next f refused h o a fits s away after may = elim (hears_of f s may) [
   | inl k ↦ port_may_next f refused h o a fits s away k
-  | inr (inl k) ↦ held_may (next f a o) s (held_next f refused h o a fits s away k).0
-  | inr (inr (b, k)) ↦ casts_may (next f a o) s b (cast_next f refused h o a fits s after b k)
+  | inr (inl k) ↦ ap (λ q. is_some q || hears_notice (next f a o) s) (holds_as (next f a o) s (held_next f refused h o a fits s away k).0)
+  | inr (inr (b, k)) ↦ ap (λ q. is_some q || hears_notice (next f a o) s) (casts_as (next f a o) s b (cast_next f refused h o a fits s after b k))
 ]

@@ -1,7 +1,7 @@
 -- Who is away: what steps that move ends and lines make of it.
 use Rattle.std.proofs.Common.{◌≡◌, ℕ, ◌+◌, ◌<◌, Bool, true, false, cond, eqb, Option, Some, None, refl, sym, ap, subst, ◌∙◌, inl, inr, arith, rules, ◌&&◌, ◌⊎◌, not, ne_eqb}
-use Rattle.hub_core.proofs.Words.{false≢true, eqb-true, AgentId, EndId, Kind, Port, Client, Worker, Member, Place, With, InFlight, Sender, LineNow, Facts, peer_of, is_queue, lines_of, on_line, is_out, is_with, own_poster_out, is_released, is_holder, has_poster_of, has_poster, is_away_of, SoundPlaces, count_away, Phase}
-use Rattle.hub_core.proofs.Lists.{eqb_same}
+use Rattle.hub_core.proofs.Words.{false≢true, eqb-true, AgentId, EndId, Kind, Port, Member, Place, With, InFlight, Sender, LineNow, Facts, peer_of, is_queue, lines_of, on_line, is_out, is_with, own_poster_out, is_released, is_holder, has_poster_of, has_poster, is_away_of, SoundPlaces, count_away, Phase}
+use Rattle.hub_core.proofs.Lists.{eqb_same, and_false}
 use Rattle.hub_core.proofs.Totals.{bit}
 use Rattle.hub_core.proofs.Counts.{IsCalmAt, away_same, away_change}
 use Rattle.hub_core.proofs.Speakers.{no_port, port_of, hears_of, no_member}
@@ -24,10 +24,9 @@ calm_line a f g x l line (Some (Port q)) places =
       | inl out ↦ inl (ap (λ i. is_out (f.line x i).phase) (eqb-true l 0 first) ∙ out)
       | inr same ↦ inr same
     ])
-calm_line a f g x l line (Some Client) places = ap (λ (y : LineNow). not (is_out y.phase) && is_holder a y.held_by) line
-calm_line a f g x l line (Some Worker) places = ap (λ (y : LineNow). not (is_out y.phase) && is_holder a y.held_by) line
 calm_line a f g x l line (Some (Member b)) places = ap (λ (y : LineNow). not (is_out y.phase) && false) line
 calm_line a f g x l line None places = ap (λ (y : LineNow). not (is_out y.phase) && false) line
+calm_line a f g x l line _ places = ap (λ (y : LineNow). not (is_out y.phase) && is_holder a y.held_by) line
 
 pub calm_places : (a : AgentId) (f g : Facts) (x : ℕ) → (g.end x).kind ≡ (f.end x).kind → ((l : ℕ) → g.line x l ≡ f.line x l) → ((q : EndId) → (f.end x).kind ≡ Some (Port q) → (is_out (f.line x 0).phase ≡ true) ⊎ (is_with a (g.end q.0).place ≡ is_with a (f.end q.0).place)) → IsCalmAt a f g x
 calm_places a f g x kind lines places = (
@@ -39,9 +38,6 @@ calm_places a f g x kind lines places = (
 own_line : (f : Facts) (x : ℕ) (q : EndId) → SoundPlaces f → (f.end x).kind ≡ Some (Port q) → peer_of (f.end q.0).kind ≡ Some x
 own_line f x q h is = (h.peers x q.0 (ap peer_of is)).1
 
-own_out_there : (f : Facts) (x : ℕ) (q : EndId) → SoundPlaces f → (f.end x).kind ≡ Some (Port q) → own_poster_out f (peer_of (f.end q.0).kind) ≡ true → is_out (f.line x 0).phase ≡ true
-own_out_there f x q h is out = subst (λ p. own_poster_out f p ≡ true) (own_line f x q h is) out
-
 moved_with : (a : AgentId) (b : Bool) (p q : Option Place) → (b ≡ true → is_with a p ≡ is_with a q) → is_with a (cond b p q) ≡ is_with a q
 moved_with a true p q same = same refl
 moved_with a false p q same = refl
@@ -49,7 +45,7 @@ moved_with a false p q same = refl
 -- ports whose own posters are out were sent
 pub calm_sent : (a : AgentId) (f g : Facts) (moved : ℕ → Bool) (x : ℕ) → SoundPlaces f → (g.end x).kind ≡ (f.end x).kind → ((l : ℕ) → g.line x l ≡ f.line x l) → ((q : ℕ) → (g.end q).place ≡ cond (moved q) (Some InFlight) (f.end q).place) → ((q : ℕ) → moved q ≡ true → own_poster_out f (peer_of (f.end q).kind) ≡ true) → IsCalmAt a f g x
 calm_sent a f g moved x h kind lines places out = calm_places a f g x kind lines (λ q is. elim (moved q.0) as (λ b. moved q.0 ≡ b → (is_out (f.line x 0).phase ≡ true) ⊎ (is_with a (g.end q.0).place ≡ is_with a (f.end q.0).place)) [
-  | true ↦ λ named. inl (own_out_there f x q h is (out q.0 named))
+  | true ↦ λ named. inl (subst (λ p. own_poster_out f p ≡ true) (own_line f x q h is) (out q.0 named))
   | false ↦ λ other. inr (ap (is_with a) (places q.0 ∙ ap (λ b. cond b (Some InFlight) (f.end q.0).place) other))
 ] refl)
 
@@ -66,10 +62,7 @@ calm_gone a f g e p x h kind lines places free = calm_places a f g x kind lines 
   where
     out_of_released : (k : Option Kind) → peer_of k ≡ Some x → is_released f k ≡ true → is_out (f.line x 0).phase ≡ true
     out_of_released (Some (Port r)) is out = let same : r.0 ≡ x = cc in subst (λ y. is_out (f.line y 0).phase ≡ true) same out
-    out_of_released (Some Client) is out = absurd (search (rules, is))
-    out_of_released (Some Worker) is out = absurd (search (rules, is))
-    out_of_released (Some (Member b)) is out = absurd (search (rules, is))
-    out_of_released None is out = absurd (search (rules, is))
+    out_of_released _ is out = absurd (search (rules, is))
 
 -- a number that no line of a port has counts for nobody
 far_line : (a : AgentId) (f g : Facts) (d l : ℕ) → (g.end d).kind ≡ (f.end d).kind → g.line d l ≡ f.line d l → eqb l 0 ≡ false → is_away_of g a d l ≡ is_away_of f a d l
@@ -77,10 +70,9 @@ far_line a f g d l kind line far = ap (λ k. not (is_out (g.line d l).phase) && 
   where
     by_kind : (k : Option Kind) → (not (is_out (g.line d l).phase) && has_poster_of g a d l k) ≡ (not (is_out (f.line d l).phase) && has_poster_of f a d l k)
     by_kind (Some (Port q)) = ap (λ c. not (is_out (g.line d l).phase) && (c && is_with a (g.end q.0).place)) far ∙ ap (λ (y : LineNow). not (is_out y.phase) && false) line ∙ sym (ap (λ c. not (is_out (f.line d l).phase) && (c && is_with a (f.end q.0).place)) far)
-    by_kind (Some Client) = ap (λ (y : LineNow). not (is_out y.phase) && is_holder a y.held_by) line
-    by_kind (Some Worker) = ap (λ (y : LineNow). not (is_out y.phase) && is_holder a y.held_by) line
     by_kind (Some (Member b)) = ap (λ (y : LineNow). not (is_out y.phase) && false) line
     by_kind None = ap (λ (y : LineNow). not (is_out y.phase) && false) line
+    by_kind _ = ap (λ (y : LineNow). not (is_out y.phase) && is_holder a y.held_by) line
 
 -- one end came to an agent: a port brings its own poster along
 pub came_away : (a b : AgentId) (f g : Facts) (e : ℕ) → SoundPlaces f → e < f.ends → g.ends ≡ f.ends → ((d : ℕ) → (g.end d).kind ≡ (f.end d).kind) → ((d l : ℕ) → g.line d l ≡ f.line d l) → ((q : ℕ) → (g.end q).place ≡ cond (eqb q e) (Some (With b)) (f.end q).place) → is_with a (f.end e).place ≡ false → (k : Option Kind) → (f.end e).kind ≡ k → count_away a g ≡ count_away a f + bit (not (is_released f k) && eqb a.0 b.0)
@@ -88,16 +80,12 @@ came_away a b f g e h made ends kinds lines places nowhere (Some (Port p)) is =
     let back = h.peers e p.0 (ap peer_of is) in
     let port : (f.end p.0).kind ≡ Some (Port (record { 0 = e })) = port_of (f.end p.0).kind e back.1 in
     let sum : count_away a f + bit (is_away_of g a p.0 0) ≡ count_away a g + bit (is_away_of f a p.0 0) = away_change a f g p.0 0 back.0 (subst (λ n. 0 < n) (ap lines_of (sym port)) (omega arith)) ends kinds (λ d l other. calm d l other) in
-    let old : is_away_of f a p.0 0 ≡ false = ap (λ k. not (is_out (f.line p.0 0).phase) && has_poster_of f a p.0 0 k) port ∙ ap (λ c. not (is_out (f.line p.0 0).phase) && c) nowhere ∙ never_and (not (is_out (f.line p.0 0).phase)) in
+    let old : is_away_of f a p.0 0 ≡ false = ap (λ k. not (is_out (f.line p.0 0).phase) && has_poster_of f a p.0 0 k) port ∙ ap (λ c. not (is_out (f.line p.0 0).phase) && c) nowhere ∙ and_false (not (is_out (f.line p.0 0).phase)) in
     let new : is_away_of g a p.0 0 ≡ (not (is_out (f.line p.0 0).phase) && eqb a.0 b.0) = ap (λ k. not (is_out (g.line p.0 0).phase) && has_poster_of g a p.0 0 k) (kinds p.0 ∙ port) ∙ ap (λ (y : LineNow). not (is_out y.phase) && is_with a (g.end e).place) (lines p.0 0) ∙ ap (λ q. not (is_out (f.line p.0 0).phase) && is_with a q) (places e ∙ ap (λ c. cond c (Some (With b)) (f.end e).place) (eqb_same e)) in
     let before : bit (is_away_of f a p.0 0) ≡ 0 = ap bit old in
     let after : bit (is_away_of g a p.0 0) ≡ bit (not (is_out (f.line p.0 0).phase) && eqb a.0 b.0) = ap bit new in
     omega arith
   where
-    never_and : (c : Bool) → (c && false) ≡ false
-    never_and true = refl
-    never_and false = refl
-
     calm : (d l : ℕ) → (d ≡ p.0 → l ≡ 0 → ⊥) → is_away_of g a d l ≡ is_away_of f a d l
     calm d l other = (calm_there d l (eqb l 0) refl other)
       where
@@ -107,13 +95,7 @@ came_away a b f g e h made ends kinds lines places nowhere (Some (Port p)) is =
             let one : p.0 ≡ d = search (rules, sym mine ∙ ap peer_of is) in
             other (sym one) (eqb-true l 0 zeroth))))))).1 l
         calm_there d l false zeroth other = far_line a f g d l (kinds d) (lines d l) zeroth
-came_away a b f g e h made ends kinds lines places nowhere (Some Client) is =
-    away_same a f g ends (λ x less. calm_gone a f g e (Some (With b)) x h (kinds x) (lines x) places (ap (is_released f) is)) ∙ omega arith
-came_away a b f g e h made ends kinds lines places nowhere (Some Worker) is =
-    away_same a f g ends (λ x less. calm_gone a f g e (Some (With b)) x h (kinds x) (lines x) places (ap (is_released f) is)) ∙ omega arith
-came_away a b f g e h made ends kinds lines places nowhere (Some (Member c)) is =
-    away_same a f g ends (λ x less. calm_gone a f g e (Some (With b)) x h (kinds x) (lines x) places (ap (is_released f) is)) ∙ omega arith
-came_away a b f g e h made ends kinds lines places nowhere None is =
+came_away a b f g e h made ends kinds lines places nowhere _ is =
     away_same a f g ends (λ x less. calm_gone a f g e (Some (With b)) x h (kinds x) (lines x) places (ap (is_released f) is)) ∙ omega arith
 
 -- ---- lines
@@ -124,10 +106,9 @@ has_same a f g d l kind places held = ap (has_poster_of g a d l) kind ∙ by_kin
   where
     by_kind : (k : Option Kind) → has_poster_of g a d l k ≡ has_poster_of f a d l k
     by_kind (Some (Port q)) = ap (λ p. eqb l 0 && is_with a p) (places q.0)
-    by_kind (Some Client) = ap (is_holder a) held
-    by_kind (Some Worker) = ap (is_holder a) held
     by_kind (Some (Member b)) = refl
     by_kind None = refl
+    by_kind _ = ap (is_holder a) held
 
 either_place : (x e l k : ℕ) → (x ≡ e → l ≡ k → ⊥) → (eqb x e && eqb l k) ≡ false
 either_place x e l k other = elim (eqb x e) as (λ b. eqb x e ≡ b → (b && eqb l k) ≡ false) [
@@ -135,15 +116,12 @@ either_place x e l k other = elim (eqb x e) as (λ b. eqb x e ≡ b → (b && eq
   | false ↦ λ is. refl
 ] refl
 
-both_same : (x l : ℕ) → (eqb x x && eqb l l) ≡ true
-both_same x l = ap (λ b. b && eqb l l) (eqb_same x) ∙ eqb_same l
-
 -- one line comes to another phase
 pub phase_away : (a : AgentId) (f g : Facts) (s : Sender) (p : Phase) → s.end.0 < f.ends → s.line.0 < lines_of (f.end s.end.0).kind → g.ends ≡ f.ends → ((d : ℕ) → (g.end d).kind ≡ (f.end d).kind) → ((d : ℕ) → (g.end d).place ≡ (f.end d).place) → ((d l : ℕ) → (g.line d l).held_by ≡ (f.line d l).held_by) → ((d l : ℕ) → (g.line d l).phase ≡ on_line d l s p (f.line d l).phase) → count_away a f + bit (not (is_out p) && has_poster f a s.end.0 s.line.0) ≡ count_away a g + bit (is_away_of f a s.end.0 s.line.0)
 phase_away a f g s p made low ends kinds places held phases =
     let e : ℕ = s.end.0 in
     let k : ℕ = s.line.0 in
-    let here : (g.line e k).phase ≡ p = phases e k ∙ ap (λ b. cond b p (f.line e k).phase) (both_same e k) in
+    let here : (g.line e k).phase ≡ p = phases e k ∙ ap (λ b. cond b p (f.line e k).phase) (ap (λ b. b && eqb k k) (eqb_same e) ∙ eqb_same k) in
     let new : is_away_of g a e k ≡ (not (is_out p) && has_poster f a e k) = ap (λ q. not (is_out q) && has_poster g a e k) here ∙ ap (λ b. not (is_out p) && b) (has_same a f g e k (kinds e) places (held e k)) in
     let sum : count_away a f + bit (is_away_of g a e k) ≡ count_away a g + bit (is_away_of f a e k) = away_change a f g e k made low ends kinds (λ d l other.
     ap (λ q. not (is_out q) && has_poster g a d l) (phases d l ∙ ap (λ b. cond b p (f.line d l).phase) (either_place d e l k other)) ∙ ap (λ b. not (is_out (f.line d l).phase) && b) (has_same a f g d l (kinds d) places (held d l)))

@@ -1,13 +1,13 @@
 -- Broadcast channels: what their steps are answered, and the roster that they and the other steps leave.
 use Rattle.std.proofs.Common.{Bool, List, None, Option, Some, [], ap, append-nil, arith, cond, eqb, false, length, length-append, ltb-false, ltb-true, map, nat_lt, ne_eqb, not, refl, rules, subst, sym, true, ℕ, ◌&&◌, ◌++◌, ◌+◌, ◌<◌, ◌∙◌, ◌∷◌, ◌≡◌, ◌≤◌}
-use Rattle.hub_core.proofs.Words.{Action, AgentId, AllByRecursion, Answers, CastNow, Client, EndId, Facts, Group, IsFirst, IsMemberNow, JoinsGroup, Kind, Member, MemberLeaves, Outcome, PartLeaves, Port, Roster, RosterNow, SameRoster, Sender}
-use Rattle.hub_core.proofs.Words.{ShowsRoster, Sound, SoundPlaces, Worker, agent_answer, agents_after, cast_after, cast_to, destinations, destinations_of, ends, eqb-false, eqb-true, facts, false≢true, filter, get, group_named, group_of, has_end, insert_key, is_casting}
-use Rattle.hub_core.proofs.Words.{is_in, is_of_group, is_same_group, is_seated_in, kept_destinations, kind_after, leaves, nat_cmp, nat_tests, numbers, numbers_of, numbers_with, origin_at, others_of, part_answer, parted, roster_after, seated_without, slice_get, slice_get_past, ◌==◌}
+use Rattle.hub_core.proofs.Words.{Action, AgentId, AllByRecursion, Answers, CastNow, Client, EndId, Facts, Group, IsFirst, IsMemberNow, JoinsGroup, Kind, Member, MemberLeaves, Outcome, PartLeaves, Port, Roster, RosterNow, SameRoster, ShowsRoster, Sound, SoundPlaces, Worker}
+use Rattle.hub_core.proofs.Words.{agent_answer, agents_after, destinations_of, ends, eqb-false, eqb-true, facts, false≢true, filter, get, group_named, group_of, has_end, insert_key, is_casting, is_in, is_of_group, is_same_group, is_seated_in, kind_after, leaves, nat_cmp, nat_tests}
+use Rattle.hub_core.proofs.Words.{numbers, numbers_of, numbers_with, origin_at, others_of, part_answer, parted, roster_after, seated_without, slice_get, slice_get_past, ◌==◌}
 use Rattle.hub_core.specs.declared.step.Action.TheVariants as action
 use Rattle.hub_core.specs.declared.outcome.Outcome.TheVariants as outcome
 use Rattle.hub_core.proofs.Away.{kind_next}
-use Rattle.hub_core.proofs.Fitting.{member_made_of, new_agent}
-use Rattle.hub_core.proofs.Lists.{eqb_same, next_up, slice_get-append_back, slice_get-append_front}
+use Rattle.hub_core.proofs.Fitting.{member_made_of, new_agent, hit, both_tests}
+use Rattle.hub_core.proofs.Lists.{eqb_same, slice_get-append_back, slice_get-append_front, past_last}
 use Rattle.hub_core.proofs.Nexts.{next}
 use Rattle.hub_core.proofs.Seats.{all_at, all_more, all_without, group_flips, group_same, insert_last, is_in_with, numbers_below, numbers_less, numbers_more, numbers_same, others_with}
 use Rattle.hub_core.proofs.Speakers.{kind_made, old_one}
@@ -49,7 +49,7 @@ leaves_roster (action.Part e) = false
 leaves_roster _ = true
 
 -- what stays of the facts: roster and agents, and which ends are broadcast channels
-record Stays (f g : Facts) : Type 0 where
+pub record Stays (f g : Facts) : Type 0 where
   roster : g.roster ≡ f.roster
   agents : g.agents ≡ f.agents
   kept : (x : ℕ) (k : Kind) → (f.end x).kind ≡ Some k → (g.end x).kind ≡ Some k
@@ -79,7 +79,7 @@ old_member x p (outcome.End e) (action.Worker a) leaves b is = not_new (eqb x e.
 old_member x p (outcome.End e) (action.Member a name) leaves b is = absurd (false≢true leaves)
 old_member x p o a leaves b is = is
 
-stays : (f : Facts) (a : Action) (refused : Bool) (o : Outcome) → Sound f → Answers f a refused o → leaves_roster a ≡ true → Stays f (next f a o)
+pub stays : (f : Facts) (a : Action) (refused : Bool) (o : Outcome) → Sound f → Answers f a refused o → leaves_roster a ≡ true → Stays f (next f a o)
 stays f a refused o h fits leaves = record {
   roster = same_roster f.roster o a leaves;
   agents = same_agents f.agents o a leaves;
@@ -95,7 +95,7 @@ members_still f g kinds groups (y ∷ ys) h = (
   members_still f g kinds groups ys h.1,
 )
 
-shows_still : (r : Roster) (f g : Facts) → ShowsRoster r f → Stays f g → ShowsRoster r g
+pub shows_still : (r : Roster) (f g : Facts) → ShowsRoster r f → Stays f g → ShowsRoster r g
 shows_still r f g h s = record {
   agents = h.agents ∙ sym s.agents;
   origins = λ a. ap (λ (w : RosterNow). w.origin a) s.roster ∙ h.origins a;
@@ -105,13 +105,7 @@ shows_still r f g h s = record {
   cast = ap (λ (w : RosterNow). w.cast) s.roster ∙ h.cast;
 }
 
-pub roster_stays : (r : Roster) (f : Facts) (a : Action) (refused : Bool) (o : Outcome) → Sound f → Answers f a refused o → leaves_roster a ≡ true → ShowsRoster r f → ShowsRoster r (next f a o)
-roster_stays r f a refused o sound fits leaves h = shows_still r f (next f a o) h (stays f a refused o sound fits leaves)
-
 -- ---- an agent more
-
-past_origins : (xs : List (Option (List ℕ))) (o : Option (List ℕ)) (a : ℕ) → length xs ≤ a → (a ≡ length xs → ⊥) → length (xs ++ o ∷ []) ≤ a
-past_origins xs o a from other = let beyond : length xs + 1 ≤ a = next_up (length xs) a from other in simp length-append (omega arith)
 
 origin_more : (xs : List (Option (List ℕ))) (o : Option (List ℕ)) (a : ℕ) → (before same : Bool) → nat_lt a (length xs) ≡ before → eqb a (length xs) ≡ same → cond same o (origin_at (slice_get xs a)) ≡ origin_at (slice_get (xs ++ o ∷ []) a)
 origin_more xs o a before true is here =
@@ -120,7 +114,7 @@ origin_more xs o a before true is here =
 origin_more xs o a true false is here = ap origin_at (sym (slice_get-append_front xs (o ∷ []) a (ltb-true a (length xs) is)))
 origin_more xs o a false false is here =
     let from : length xs ≤ a = ltb-false a (length xs) is in
-    ap origin_at (slice_get_past xs a from ∙ sym (slice_get_past (xs ++ o ∷ []) a (past_origins xs o a from (eqb-false a (length xs) here))))
+    ap origin_at (slice_get_past xs a from ∙ sym (slice_get_past (xs ++ o ∷ []) a (past_last xs o a from (eqb-false a (length xs) here))))
 
 pub roster_agent : (r : Roster) (f : Facts) (origin : Option (List ℕ)) (refused : Bool) (n : AgentId) → ShowsRoster r f → outcome.Agent n ≡ agent_answer f refused → ShowsRoster (record r { members = record r.members { origins = r.members.origins ++ origin ∷ [] } }) (next f (action.Agent origin) (outcome.Agent n))
 roster_agent r f origin refused n h fits =
@@ -139,7 +133,7 @@ roster_agent r f origin refused n h fits =
 -- ---- another cast
 
 -- the same members, and another cast
-recast : (r : Roster) (c : Option CastNow) (f g : Facts) → ShowsRoster r f → g.agents ≡ f.agents → ((x : ℕ) → (g.end x).kind ≡ (f.end x).kind) → g.roster ≡ record f.roster { cast = g.roster.cast } → g.roster.cast ≡ c → ShowsRoster (record r { cast = c }) g
+pub recast : (r : Roster) (c : Option CastNow) (f g : Facts) → ShowsRoster r f → g.agents ≡ f.agents → ((x : ℕ) → (g.end x).kind ≡ (f.end x).kind) → g.roster ≡ record f.roster { cast = g.roster.cast } → g.roster.cast ≡ c → ShowsRoster (record r { cast = c }) g
 recast r c f g h agents kinds roster cast = record {
   agents = h.agents ∙ sym agents;
   origins = λ a. ap (λ (w : RosterNow). w.origin a) roster ∙ h.origins a;
@@ -148,12 +142,6 @@ recast r c f g h agents kinds roster cast = record {
   each = subst (AllByRecursion (IsMemberNow g)) (ap (λ (w : RosterNow). w.members) (sym roster)) (members_still f g (λ x k is. kinds x ∙ is) (λ x a _. ap (λ (w : RosterNow). w.group x) roster) f.roster.members h.each);
   cast = cast;
 }
-
-pub roster_leave : (r : Roster) (f : Facts) (t : Sender) → ShowsRoster r f → ShowsRoster (record r { cast = cast_after t.end.0 r.cast }) (next f (action.Leave t) outcome.Left)
-roster_leave r f t h = recast r (cast_after t.end.0 r.cast) f (next f (action.Leave t) outcome.Left) h refl (λ x. refl) refl (ap (cast_after t.end.0) h.cast)
-
-pub roster_cast : (r : Roster) (f : Facts) (e : EndId) (ports : List EndId) (body : List ℕ) (ends : List EndId) → ShowsRoster r f → ShowsRoster (record r { cast = cast_to e body ends }) (next f (action.Cast e ports body) (outcome.Destinations ends))
-roster_cast r f e ports body ends h = recast r (cast_to e body ends) f (next f (action.Cast e ports body) (outcome.Destinations ends)) h refl (λ x. refl) refl refl
 
 -- ---- a member more
 
@@ -222,18 +210,15 @@ seated_kept r f x h = elim (has_end x f.roster.members) as (λ b. has_end x f.ro
     never_seated none None = refl
     never_seated none (Some g) = ap (is_in x) (h.seated g) ∙ is_in_with f.roster g x f.roster.members ∙ ap (λ c. c && is_of_group g (f.roster.group x)) none
 
-destinations_by : (r : Roster) (f : Facts) (x : ℕ) → ShowsRoster r f → (o : Option Group) → map (λ n. let e : EndId = record { 0 = n } in e) (others_of r.members x o) ≡ destinations_of f x o
+pub destinations_by : (r : Roster) (f : Facts) (x : ℕ) → ShowsRoster r f → (o : Option Group) → map (λ n. let e : EndId = record { 0 = n } in e) (others_of r.members x o) ≡ destinations_of f x o
 destinations_by r f x h None = refl
 destinations_by r f x h (Some g) = ap (λ ns. map (λ n. let e : EndId = record { 0 = n } in e) (filter (λ n. not (n == x)) ns)) (h.seated g) ∙ others_with f.roster g x f.roster.members
-
-pub destinations_kept : (r : Roster) (f : Facts) (x : ℕ) (a : AgentId) → ShowsRoster r f → (f.end x).kind ≡ Some (Member a) → kept_destinations r.members x ≡ destinations f x
-destinations_kept r f x a h kind = destinations_by r f x h (group_of r.members x) ∙ ap (destinations_of f x) (sym (h.groups x a kind))
 
 -- ---- a member less
 
 pub roster_part : (r s : Roster) (f : Facts) (e : EndId) → ShowsRoster r f → outcome.Done ≡ part_answer f e → PartLeaves e.0 r outcome.Done s → ShowsRoster s (next f (action.Part e) outcome.Done)
 roster_part r s f e h fits leaves =
-    let there : has_end e.0 f.roster.members ≡ true = parts_when (has_end e.0 f.roster.members) (is_casting f) fits in
+    let there : has_end e.0 f.roster.members ≡ true = (both_tests (has_end e.0 f.roster.members) (is_casting f) (hit (has_end e.0 f.roster.members && not (is_casting f)) fits (λ is. cc)).0).0 in
     let at = all_at (IsMemberNow f) e.0 f.roster.members h.each there in
     let after : Facts = next f (action.Part e) outcome.Done in
     let group : group_of r.members e.0 ≡ Some at.group = sym (h.groups e.0 at.maker at.kind) ∙ at.is in
@@ -248,7 +233,3 @@ roster_part r s f e h fits leaves =
       each = all_without (IsMemberNow after) e.0 f.roster.members (members_still f after (λ x k is. is) (λ x a is. refl) f.roster.members h.each);
       cast = h.cast ∙ sym leaves.1;
     }
-  where
-    parts_when : (there casting : Bool) → outcome.Done ≡ cond (there && not casting) outcome.Done outcome.NotNow → there ≡ true
-    parts_when true casting is = refl
-    parts_when false casting is = cc

@@ -1,10 +1,13 @@
 -- How many queues of clients and workers an agent has: what the core counts is what the facts say.
 use Rattle.std.proofs.Common.{Bool, List, None, Option, Some, ap, arith, cond, eqb, false, length, length-set, lt-ltb, nat_lt, ne_eqb, not, refl, subst, suc, sym, true, zero, ℕ, ◌&&◌, ◌*◌, ◌+◌, ◌-◌, ◌<◌, ◌||◌, ◌∙◌, ◌≡◌, ◌≢◌, ◌≤◌}
-use Rattle.hub_core.proofs.Words.{Agent, AgentId, Arrived, Client, End, EndNow, Facts, Gone, InFlight, Kind, MAX_ENDS, Member, Place, Port, Swept, With, Worker, adopting, agent_now, any_below, by, change_agent}
-use Rattle.hub_core.proofs.Words.{change_owner, come, count_away, count_with, eqb-false, eqb-true, false≢true, gone, has_one, has_poster, is_away_of, is_client, is_out, is_some, is_with, is_worker, kept_away, kept_clients, kept_workers, lines_of, no_end, one_away}
-use Rattle.hub_core.proofs.Words.{one_less, one_more, one_out, option_map, owner, peer_of, place, set_agent, slice_get, slice_get_within, total}
-use Rattle.hub_core.proofs.Lists.{is_there, slice_get-set_other, slice_get-set_same}
+use Rattle.hub_core.proofs.Words.{Agent, AgentId, Client, End, EndNow, Facts, Kind, MAX_ENDS, Place, Port, SoundPlaces, With, Worker, adopting, agent_now, any_below, by, change_agent, change_owner, come, count_away, count_with, end_now, eqb-false, eqb-true}
+use Rattle.hub_core.proofs.Words.{false≢true}
+use Rattle.hub_core.proofs.Words.{gone, has_poster, is_away_of, is_client, is_out, is_some, is_with, is_worker, kept_away, kept_clients, kept_workers, lines_of, no_end, one_away, one_less, one_more, one_out, option_map, owner, peer_of, place, set_agent}
+use Rattle.hub_core.proofs.Words.{slice_get}
+use Rattle.hub_core.proofs.Words.{slice_get_within, total}
+use Rattle.hub_core.proofs.Lists.{eqb_same, is_there, slice_get-set_other, slice_get-set_same, and_false, or_true, or_none}
 use Rattle.hub_core.proofs.Showing.{SoundlyShows}
+use Rattle.hub_core.proofs.Speakers.{placed_made}
 use Rattle.hub_core.proofs.Totals.{bit, last_not, total_nothing, total_past, total_same}
 
 -- what the core keeps of these counts
@@ -63,9 +66,18 @@ pub record OneEnd (f g : Facts) (e more : ℕ) (k : Kind) (p q : Option Place) :
   pub kinds : (d : ℕ) → (d ≡ e → ⊥) → (g.end d).kind ≡ (f.end d).kind
   pub places : (d : ℕ) → (d ≡ e → ⊥) → (g.end d).place ≡ (f.end d).place
 
-pub and_false : (b : Bool) → (b && false) ≡ false
-and_false true = refl
-and_false false = refl
+-- an end that was made goes from its place to another
+pub end_went : {f g : Facts} (e : ℕ) (x : End) (q : Option Place) → SoundPlaces f → f.end e ≡ end_now (Some x) → g.ends ≡ f.ends → ((d : ℕ) → (g.end d).kind ≡ (f.end d).kind) → ((d : ℕ) → (g.end d).place ≡ cond (eqb d e) q (f.end d).place) → OneEnd f g e 0 x.kind (Some x.place) q
+end_went {f = f} {g = g} e x q h same ends kinds places = record {
+  ends = ends ∙ omega arith;
+  made = subst (λ n. e < n) (sym ends) (placed_made f e x.place h (ap (λ (y : EndNow). y.place) same));
+  none = h.ends;
+  was = λ test a. ap (counts_at test a) same;
+  is = kinds e ∙ ap (λ (y : EndNow). y.kind) same;
+  to = places e ∙ ap (λ b. cond b q (f.end e).place) (eqb_same e);
+  kinds = λ d far. kinds d;
+  places = λ d far. places d ∙ ap (λ b. cond b q (f.end d).place) (ne_eqb d e far);
+}
 
 -- where one end changes, which may be a new one
 one_end : {f g : Facts} {e more : ℕ} {k : Kind} {p q : Option Place} → OneEnd f g e more k p q → (test : Option Kind → Bool) (a : AgentId) → count_with test a f + bit (test (Some k) && is_with a q) ≡ count_with test a g + bit (test (Some k) && is_with a p)
@@ -129,25 +141,13 @@ away_change a f g x k made low ends kinds others =
     let old : w k ≡ bit (is_away_of f a x k) = bit_of (is_away_of f a x k) in
     omega arith
 
-never_none : (b : Bool) → false ≡ not (b || true)
-never_none true = refl
-never_none false = refl
-
-either_none : (b : Bool) → not b ≡ not (b || false)
-either_none true = refl
-either_none false = refl
-
 -- some number passes a test where the count isn't nothing
 pub none_counted : (test : ℕ → Bool) (n : ℕ) → eqb (total (λ x. cond (test x) 1 0) n) 0 ≡ not (any_below test n)
 none_counted test zero = refl
 none_counted test (suc n) = elim (test n) as (λ b. eqb (total (λ x. cond (test x) 1 0) n + cond b 1 0) 0 ≡ not (any_below test n || b)) [
-  | true ↦ ne_eqb (total (λ x. cond (test x) 1 0) n + 1) 0 (λ is. omega arith) ∙ never_none (any_below test n)
-  | false ↦ let same : total (λ x. cond (test x) 1 0) n + 0 ≡ total (λ x. cond (test x) 1 0) n = omega arith in ap (λ m. eqb m 0) same ∙ none_counted test n ∙ either_none (any_below test n)
+  | true ↦ ne_eqb (total (λ x. cond (test x) 1 0) n + 1) 0 (λ is. omega arith) ∙ sym (ap not (or_true (any_below test n)))
+  | false ↦ let same : total (λ x. cond (test x) 1 0) n + 0 ≡ total (λ x. cond (test x) 1 0) n = omega arith in ap (λ m. eqb m 0) same ∙ none_counted test n ∙ ap not (or_none (any_below test n))
 ]
-
--- an agent has no end of a kind where its count is nothing
-pub none_of_kind : (test : Option Kind → Bool) (a : AgentId) (f : Facts) → eqb (count_with test a f) 0 ≡ not (has_one test a f)
-none_of_kind test a f = none_counted (λ x. counts_at test a (f.end x)) f.ends
 
 -- ---- agents
 
@@ -189,16 +189,14 @@ change_each kept change agents b a same = ap kept (change_get change agents b a)
 
 -- what an agent keeps after an end of a kind came or went
 more_is : (k : Kind) (x : Agent) → (let y : Agent = record x { clients = x.clients + bit (is_client (Some k)); workers = x.workers + bit (is_worker (Some k)) } in one_more k x ≡ y)
-more_is (Port q) x = λ i. record x { clients = plus_none x.clients i; workers = plus_none x.workers i }
 more_is Client x = λ i. record x { clients = x.clients + 1; workers = plus_none x.workers i }
 more_is Worker x = λ i. record x { clients = plus_none x.clients i; workers = x.workers + 1 }
-more_is (Member a) x = λ i. record x { clients = plus_none x.clients i; workers = plus_none x.workers i }
+more_is _ x = λ i. record x { clients = plus_none x.clients i; workers = plus_none x.workers i }
 
 less_is : (k : Kind) (x : Agent) → (let y : Agent = record x { clients = x.clients - bit (is_client (Some k)); workers = x.workers - bit (is_worker (Some k)) } in one_less k x ≡ y)
-less_is (Port q) x = λ i. record x { clients = less_none x.clients i; workers = less_none x.workers i }
 less_is Client x = λ i. record x { clients = x.clients - 1; workers = less_none x.workers i }
 less_is Worker x = λ i. record x { clients = less_none x.clients i; workers = x.workers - 1 }
-less_is (Member a) x = λ i. record x { clients = less_none x.clients i; workers = less_none x.workers i }
+less_is _ x = λ i. record x { clients = less_none x.clients i; workers = less_none x.workers i }
 
 -- what else is kept of each agent stays
 pub come_each : {A : Type 0} (kept : Option Agent → A) → ((x : Agent) (c w : ℕ) → (let y : Agent = record x { clients = c; workers = w } in kept (Some y) ≡ kept (Some x))) → (k : Kind) (b : AgentId) (agents : List Agent) (a : ℕ) → kept (slice_get (come k b agents) a) ≡ kept (slice_get agents a)
@@ -206,10 +204,7 @@ come_each kept same k b agents a = change_each kept (one_more k) agents b.0 a (�
 
 pub gone_each : {A : Type 0} (kept : Option Agent → A) → ((x : Agent) (c w : ℕ) → (let y : Agent = record x { clients = c; workers = w } in kept (Some y) ≡ kept (Some x))) → (k : Kind) (p : Place) (agents : List Agent) (a : ℕ) → kept (slice_get (gone k p agents) a) ≡ kept (slice_get agents a)
 gone_each kept same k (With b) agents a = change_each kept (one_less k) agents b.0 a (λ x. ap (λ y. kept (Some y)) (less_is k x) ∙ same x _ _)
-gone_each kept same k InFlight agents a = refl
-gone_each kept same k (Arrived b) agents a = refl
-gone_each kept same k Swept agents a = refl
-gone_each kept same k Gone agents a = refl
+gone_each kept same k _ agents a = refl
 
 pub come_now : (k : Kind) (b : AgentId) (agents : List Agent) (a : ℕ) → agent_now (slice_get (come k b agents) a) ≡ agent_now (slice_get agents a)
 come_now k b agents a = come_each agent_now (λ x c w. refl) k b agents a
@@ -222,10 +217,7 @@ come_length k b agents = change_length (one_more k) agents b.0
 
 pub gone_length : (k : Kind) (p : Place) (agents : List Agent) → length (gone k p agents) ≡ length agents
 gone_length k (With b) agents = change_length (one_less k) agents b.0
-gone_length k InFlight agents = refl
-gone_length k (Arrived b) agents = refl
-gone_length k Swept agents = refl
-gone_length k Gone agents = refl
+gone_length k _ agents = refl
 
 -- what is counted of an agent, and by which test
 record CountsBy (kept : Option Agent → ℕ) (test : Option Kind → Bool) : Type 0 where
@@ -266,10 +258,6 @@ nowhere : (b : Bool) (n : ℕ) → n ≡ n - bit (b && false)
 nowhere true n = omega arith
 nowhere false n = omega arith
 
-never : (b : Bool) → bit (b && false) ≡ 0
-never true = refl
-never false = refl
-
 -- the count of an agent after an end went
 gone_count : (kept : Option Agent → ℕ) (test : Option Kind → Bool) → CountsBy kept test → (k : Kind) (p : Place) (agents : List Agent) (a : AgentId) → kept (slice_get (gone k p agents) a.0) ≡ kept (slice_get agents a.0) - bit (test (Some k) && is_with a (Some p))
 gone_count kept test by k (With b) agents a =
@@ -277,10 +265,7 @@ gone_count kept test by k (With b) agents a =
     ∙ under kept (eqb a.0 b.0) (option_map (one_less k) (slice_get agents a.0)) (slice_get agents a.0)
     ∙ ap (λ n. cond (eqb a.0 b.0) n (kept (slice_get agents a.0))) (by.less k (slice_get agents a.0))
     ∙ bit_and (test (Some k)) (eqb a.0 b.0) (kept (slice_get agents a.0))
-gone_count kept test by k InFlight agents a = nowhere (test (Some k)) (kept (slice_get agents a.0))
-gone_count kept test by k (Arrived b) agents a = nowhere (test (Some k)) (kept (slice_get agents a.0))
-gone_count kept test by k Swept agents a = nowhere (test (Some k)) (kept (slice_get agents a.0))
-gone_count kept test by k Gone agents a = nowhere (test (Some k)) (kept (slice_get agents a.0))
+gone_count kept test by k _ agents a = nowhere (test (Some k)) (kept (slice_get agents a.0))
 
 -- the count of an agent after an end came
 come_count : (kept : Option Agent → ℕ) (test : Option Kind → Bool) → CountsBy kept test → (k : Kind) (b : AgentId) (agents : List Agent) (a : AgentId) → b.0 < length agents → kept (slice_get (come k b agents) a.0) ≡ kept (slice_get agents a.0) + bit (test (Some k) && is_with a (Some (With b)))
@@ -312,18 +297,12 @@ moved_port test never a true q p k port = ap (λ t. t && is_with a q) (never k (
 moved_port test never a false q p k port = refl
 
 no_client : (k : Option Kind) → is_some (peer_of k) ≡ true → is_client k ≡ false
-no_client (Some (Port q)) h = refl
 no_client (Some Client) h = absurd (false≢true h)
-no_client (Some Worker) h = refl
-no_client (Some (Member a)) h = refl
-no_client None h = refl
+no_client _ h = refl
 
 no_worker : (k : Option Kind) → is_some (peer_of k) ≡ true → is_worker k ≡ false
-no_worker (Some (Port q)) h = refl
-no_worker (Some Client) h = refl
 no_worker (Some Worker) h = absurd (false≢true h)
-no_worker (Some (Member a)) h = refl
-no_worker None h = refl
+no_worker _ h = refl
 
 pub counts_still : (agents : List Agent) (ends : List End) (f g : Facts) → SoundlyShows agents ends f → g.ends ≡ f.ends → ((d : ℕ) → (g.end d).kind ≡ (f.end d).kind) → ((d : ℕ) → (g.end d).place ≡ (f.end d).place) → ((a : AgentId) (d l : ℕ) → is_away_of g a d l ≡ is_away_of f a d l) → Counted agents g
 counts_still agents ends f g h same kinds places calm = counted_same agents f g same (λ a d. rw (kinds d, places d) refl) (λ a d. rw (kinds d, places d) refl) (λ a x less. (ap lines_of (kinds x), calm a x)) (counts_of agents ends f h)
@@ -344,7 +323,7 @@ counted_went {f = f} {g = g} {k = k} {p = p} {q = q} agents w nowhere calm h = r
     by_test : (kept : Option Agent → ℕ) (test : Option Kind → Bool) → CountsBy kept test → (a : AgentId) → kept (slice_get agents a.0) ≡ count_with test a f → kept (slice_get (gone k p agents) a.0) ≡ count_with test a g
     by_test kept test by a old =
         let sum = one_end w test a in
-        let now : bit (test (Some k) && is_with a q) ≡ 0 = ap (λ c. bit (test (Some k) && c)) (nowhere a) ∙ never (test (Some k)) in
+        let now : bit (test (Some k) && is_with a q) ≡ 0 = ap (λ c. bit (test (Some k) && c)) (nowhere a) ∙ ap bit (and_false (test (Some k))) in
         let less = gone_count kept test by k p agents a in
         omega (arith, sum, now, less, old)
 
@@ -375,10 +354,7 @@ bits_bound test (suc n) =
 
 lines_bound : (k : Option Kind) → lines_of k ≤ 32
 lines_bound (Some (Port q)) = omega arith
-lines_bound (Some Client) = omega arith
-lines_bound (Some Worker) = omega arith
-lines_bound (Some (Member a)) = omega arith
-lines_bound None = omega arith
+lines_bound _ = omega arith
 
 at_bound : (a : AgentId) (f : Facts) (x : ℕ) → away_at a f x ≤ 32
 at_bound a f x =
@@ -392,18 +368,9 @@ away_bound a f few =
     let most : count_away a f ≤ 32 * f.ends = total_bound (away_at a f) f.ends 32 refl (at_bound a f) in
     omega arith
 
-kept_one_away : (x : Agent) → x.away < 4294967295 → (one_away x).away ≡ x.away + 1
-kept_one_away x less = ap (λ b. (cond b (record x { away = x.away + 1 }) x).away) (lt-ltb x.away 4294967295 less)
-
 -- what else is kept of the agent stays
-away_clients : (x : Agent) → (one_away x).clients ≡ x.clients
-away_clients x = elim (nat_lt x.away 4294967295) as (λ b. (cond b (record x { away = x.away + 1 }) x).clients ≡ x.clients) [ true ↦ refl | false ↦ refl ]
-
-away_workers : (x : Agent) → (one_away x).workers ≡ x.workers
-away_workers x = elim (nat_lt x.away 4294967295) as (λ b. (cond b (record x { away = x.away + 1 }) x).workers ≡ x.workers) [ true ↦ refl | false ↦ refl ]
-
-away_now : (x : Agent) → agent_now (Some (one_away x)) ≡ agent_now (Some x)
-away_now x = elim (nat_lt x.away 4294967295) as (λ b. agent_now (Some (cond b (record x { away = x.away + 1 }) x)) ≡ agent_now (Some x)) [ true ↦ refl | false ↦ refl ]
+away_each : {A : Type 0} (kept : Option Agent → A) (x : Agent) → kept (Some (record x { away = x.away + 1 })) ≡ kept (Some x) → kept (Some (one_away x)) ≡ kept (Some x)
+away_each kept x same = elim (nat_lt x.away 4294967295) as (λ b. kept (Some (cond b (record x { away = x.away + 1 }) x)) ≡ kept (Some x)) [ true ↦ same | false ↦ refl ]
 
 -- the same of the owner of a poster, where there is one
 owner_each : {A : Type 0} (kept : Option Agent → A) (change : Agent → Agent) (owner : Option AgentId) (agents : List Agent) (a : ℕ) → ((x : Agent) → kept (Some (change x)) ≡ kept (Some x)) → kept (slice_get (change_owner change owner agents) a) ≡ kept (slice_get agents a)
@@ -415,7 +382,7 @@ owner_length change None agents = refl
 owner_length change (Some b) agents = change_length change agents b.0
 
 pub owner_now_away : (owner : Option AgentId) (agents : List Agent) (a : ℕ) → agent_now (slice_get (change_owner one_away owner agents) a) ≡ agent_now (slice_get agents a)
-owner_now_away owner agents a = owner_each agent_now one_away owner agents a away_now
+owner_now_away owner agents a = owner_each agent_now one_away owner agents a (λ x. away_each agent_now x refl)
 
 pub owner_now_out : (owner : Option AgentId) (agents : List Agent) (a : ℕ) → agent_now (slice_get (change_owner one_out owner agents) a) ≡ agent_now (slice_get agents a)
 owner_now_out owner agents a = owner_each agent_now one_out owner agents a (λ x. refl)
@@ -435,7 +402,7 @@ owner_away (Some b) agents a known less =
   where
     there : (o : Option Agent) → kept_away o < 4294967295 → (o ≡ None → ⊥) → kept_away (option_map one_away o) ≡ kept_away o + 1
     there None under some = absurd (some refl)
-    there (Some x) under some = kept_one_away x under
+    there (Some x) under some = ap (λ b. (cond b (record x { away = x.away + 1 }) x).away) (lt-ltb x.away 4294967295 under)
 
 -- one less
 owner_out : (owner : Option AgentId) (agents : List Agent) (a : AgentId) → kept_away (slice_get (change_owner one_out owner agents) a.0) ≡ kept_away (slice_get agents a.0) - bit (owns_it owner a)
@@ -454,8 +421,8 @@ owner_out (Some b) agents a =
 -- a poster came inside or is being turned back
 pub counted_entered : (agents : List Agent) (f g : Facts) (owner : Option AgentId) → f.ends ≤ MAX_ENDS → ((b : AgentId) → owner ≡ Some b → b.0 < length agents) → g.ends ≡ f.ends → ((d : ℕ) → (g.end d).kind ≡ (f.end d).kind) → ((d : ℕ) → (g.end d).place ≡ (f.end d).place) → ((a : AgentId) → count_away a g ≡ count_away a f + bit (owns_it owner a)) → Counted agents f → Counted (change_owner one_away owner agents) g
 counted_entered agents f g owner few known ends kinds places more h = record {
-  clients = λ a. owner_each kept_clients one_away owner agents a.0 away_clients ∙ h.clients a ∙ sym (count_same is_client a f g ends (λ d. rw (kinds d, places d) refl));
-  workers = λ a. owner_each kept_workers one_away owner agents a.0 away_workers ∙ h.workers a ∙ sym (count_same is_worker a f g ends (λ d. rw (kinds d, places d) refl));
+  clients = λ a. owner_each kept_clients one_away owner agents a.0 (λ x. away_each kept_clients x refl) ∙ h.clients a ∙ sym (count_same is_client a f g ends (λ d. rw (kinds d, places d) refl));
+  workers = λ a. owner_each kept_workers one_away owner agents a.0 (λ x. away_each kept_workers x refl) ∙ h.workers a ∙ sym (count_same is_worker a f g ends (λ d. rw (kinds d, places d) refl));
   away = λ a.
       let under : count_away a f < 4294967295 = away_bound a f few in
       let kept : kept_away (slice_get agents a.0) ≡ count_away a f = h.away a in
@@ -482,15 +449,14 @@ adopted_get false k agents b a =
   where
     twice : (c : Bool) (o : Option Agent) → cond c (option_map (adopting false k) o) o ≡ cond c (option_map one_away (cond c (option_map (one_more k) o) o)) (cond c (option_map (one_more k) o) o)
     twice true None = refl
-    twice true (Some x) = refl
-    twice false o = refl
+    twice _ _ = refl
 
 adopted_each : {A : Type 0} (kept : Option Agent → A) → ((x : Agent) → kept (Some (one_away x)) ≡ kept (Some x)) → (released : Bool) (k : Kind) (agents : List Agent) (b : AgentId) (a : ℕ) → kept (slice_get (change_agent (adopting released k) b.0 agents) a) ≡ kept (slice_get (come k b agents) a)
 adopted_each kept same true k agents b a = refl
 adopted_each kept same false k agents b a = ap kept (adopted_get false k agents b a) ∙ change_each kept one_away (come k b agents) b.0 a same
 
 pub adopted_now : (released : Bool) (k : Kind) (agents : List Agent) (b : AgentId) (a : ℕ) → agent_now (slice_get (change_agent (adopting released k) b.0 agents) a) ≡ agent_now (slice_get agents a)
-adopted_now released k agents b a = adopted_each agent_now away_now released k agents b a ∙ come_now k b agents a
+adopted_now released k agents b a = adopted_each agent_now (λ x. away_each agent_now x refl) released k agents b a ∙ come_now k b agents a
 
 adopted_away : (released : Bool) (k : Kind) (agents : List Agent) (b a : AgentId) → b.0 < length agents → kept_away (slice_get agents a.0) < 4294967295 → kept_away (slice_get (change_agent (adopting released k) b.0 agents) a.0) ≡ kept_away (slice_get agents a.0) + bit (not released && eqb a.0 b.0)
 adopted_away true k agents b a known less = come_each kept_away (λ x c w. refl) k b agents a.0 ∙ omega arith
@@ -505,8 +471,8 @@ adopted_away false k agents b a known less =
 pub counted_came : {f g : Facts} {e more : ℕ} {k : Kind} {p : Option Place} {b : AgentId} (agents : List Agent) (released : Bool) → OneEnd f g e more k p (Some (With b)) → f.ends ≤ MAX_ENDS → b.0 < length agents → ((a : AgentId) → is_with a p ≡ false) → ((a : AgentId) → count_away a g ≡ count_away a f + bit (not released && eqb a.0 b.0))
     → Counted agents f → Counted (change_agent (adopting released k) b.0 agents) g
 counted_came {f = f} {g = g} {k = k} {p = p} {b = b} agents released w few known nowhere away h = record {
-  clients = λ a. adopted_each kept_clients away_clients released k agents b a.0 ∙ by_test kept_clients is_client clients_by a (h.clients a);
-  workers = λ a. adopted_each kept_workers away_workers released k agents b a.0 ∙ by_test kept_workers is_worker workers_by a (h.workers a);
+  clients = λ a. adopted_each kept_clients (λ x. away_each kept_clients x refl) released k agents b a.0 ∙ by_test kept_clients is_client clients_by a (h.clients a);
+  workers = λ a. adopted_each kept_workers (λ x. away_each kept_workers x refl) released k agents b a.0 ∙ by_test kept_workers is_worker workers_by a (h.workers a);
   away = λ a.
       let under : count_away a f < 4294967295 = away_bound a f few in
       let kept : kept_away (slice_get agents a.0) ≡ count_away a f = h.away a in
@@ -516,6 +482,6 @@ counted_came {f = f} {g = g} {k = k} {p = p} {b = b} agents released w few known
     by_test : (kept : Option Agent → ℕ) (test : Option Kind → Bool) → CountsBy kept test → (a : AgentId) → kept (slice_get agents a.0) ≡ count_with test a f → kept (slice_get (come k b agents) a.0) ≡ count_with test a g
     by_test kept test by a old =
         let sum = one_end w test a in
-        let then : bit (test (Some k) && is_with a p) ≡ 0 = ap (λ c. bit (test (Some k) && c)) (nowhere a) ∙ never (test (Some k)) in
+        let then : bit (test (Some k) && is_with a p) ≡ 0 = ap (λ c. bit (test (Some k) && c)) (nowhere a) ∙ ap bit (and_false (test (Some k))) in
         let more = come_count kept test by k b agents a known in
         omega (arith, sum, then, more, old)

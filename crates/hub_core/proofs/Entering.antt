@@ -1,22 +1,28 @@
--- Enter and Leave: what the core answers fits, and it shows the facts with the answered step.
-use Rattle.hub_core.proofs.Casts.{roster_leave}
-use Rattle.hub_core.proofs.Changing.{found_line, line_set, ShownAfter, ShownWith}
-use Rattle.hub_core.proofs.Nexts.{Change, let_in, found_moved, found_closed, left}
-use Rattle.hub_core.proofs.Seeing.{Sees, owner_seen}
-use Rattle.std.proofs.Common.{◌≡◌, ℕ, ◌<◌, Bool, true, false, cond, eqb, List, length, set, Option, Some, None, refl, sym, ap, subst, ◌∙◌, arith, ◌++◌, ◌+◌, ◌≤◌, inl, rules, inr, not, ◌&&◌, length-set}
-use Rattle.hub_core.proofs.Words.{slice_get, eqb-true, AgentId, Agent, Line, Phase, Out, Inside, Turned, Sender, End, CoreState, EndNow, LineNow, Facts, is_out, enter_answer, leave_answer, may_enter, is_with, Sound, ShowsPut, ShowsEnd, count_away, change_owner, with_agent, one_out, one_away, change_line, in_phase, owner_by, owner, seen}
-use Rattle.hub_core.proofs.Words.{lines_of, is_queue, is_holder, has_poster, has_poster_of, is_away_of, Place, Kind, Outcome, With, Arrived, InFlight, Swept, Gone, Port, Client, Worker, Member}
-use Rattle.hub_core.specs.declared.step.Action.TheVariants as action
+-- What the core answers to Enter, Leave, Line, Back, Order and See fits, and it shows the facts with the answered step.
+use Rattle.std.proofs.Common.{Bool, List, None, Option, Some, [], ap, arith, cond, eqb, false, inl, inr, length, length-set, lt-ltb, ltb-true, nat_lt, ne_eqb, not, refl, rules, set, subst, suc, sym, true, zero, ℕ, ◌&&◌, ◌++◌}
+use Rattle.std.proofs.Common.{◌+◌, ◌<◌, ◌||◌, ◌∙◌, ◌∷◌, ◌≡◌, ◌≤◌}
+use Rattle.hub_core.proofs.Words.{Action, Agent, AgentId, AgentNow, Answers, CoreState, End, EndId, EndNow, Facts, Inside, Kind, Line, LineNow, MAX_LINES, Member, Out, Outcome, Phase, Place, Port, Sender, ShowsEnd, ShowsFacts}
+use Rattle.hub_core.proofs.Words.{ShowsPut, Sound, Turned, With, agent_now, any_below, back_answer, cast_after, change_agent, change_line, change_owner, count_away, ends_at, enter_answer, eqb-true, false≢true, first_failing}
+use Rattle.hub_core.proofs.Words.{first_free, free_line, has_away, has_poster, has_poster_of, held_by, hold_outcome_of, in_phase, is_away_of, is_holder, is_out, is_queue, is_some, is_with, kept_away, kept_clients, kept_lines}
+use Rattle.hub_core.proofs.Words.{kept_workers, leave_answer, line_answer, line_found, line_now, line_outcome, line_within, lines_of, may_enter, nat_tests, one_away, one_out, option_map, order_answer, owner, owner_by, position}
+use Rattle.hub_core.proofs.Words.{position_from, position_from-zero, see_answer, see_outcome, seen, slice_get, slice_get_cases, slice_get_within, total, with_agent}
 use Rattle.hub_core.specs.declared.outcome.Outcome.TheVariants as outcome
+use Rattle.hub_core.specs.declared.step.Action.TheVariants as action
+use Rattle.hub_core.proofs.Calms.{calm_held, free_out, phase_away}
+use Rattle.hub_core.proofs.Casts.{recast}
+use Rattle.hub_core.proofs.Changing.{ShownAfter, ShownWith, found_line, line_set}
+use Rattle.hub_core.proofs.Counts.{Counted, away_at, change_each, change_get, change_length, counted_entered, counted_left, counts_of, counts_still, none_counted, owner_length, owner_now_away, owner_now_out, owns_it}
+use Rattle.hub_core.proofs.Fitting.{Entered, back_of, first_failing_of, found_closed_of, found_moved_of, hit, left_of, let_in_of, line_got_of}
+use Rattle.hub_core.proofs.Frames.{ShownAt, Stepped, changed, line_changed, recounted}
+use Rattle.hub_core.proofs.Lists.{is_there}
+use Rattle.hub_core.proofs.Nexts.{Change, agent_ended, agent_ordered, found_closed, found_moved, left, let_in, line_back, line_got, next}
+use Rattle.hub_core.proofs.Seeing.{Sees, owner_seen, seen_is}
 use Rattle.hub_core.proofs.Showing.{SoundlyShows}
-use Rattle.hub_core.proofs.Frames.{line_changed, ShownAt, Stepped, recounted}
-use Rattle.hub_core.proofs.SoundLines.{phased_line, line_there}
-use Rattle.hub_core.proofs.Fitting.{let_in_of, Entered, found_moved_of, found_closed_of, left_of}
-use Rattle.hub_core.proofs.Counts.{Counted, owns_it, owner_length, owner_now_away, counted_left, counted_entered, owner_now_out, counts_of}
-use Rattle.hub_core.proofs.Speakers.{hears_of, no_port, made_of, running_made, no_member}
-use Rattle.hub_core.proofs.Nexts.{next}
+use Rattle.hub_core.proofs.SoundLines.{LinesAt, held_line_as, line_there, phased_line, queue_lines}
+use Rattle.hub_core.proofs.Speakers.{hears_of, made_of, no_member, no_port, running_made}
 use Rattle.hub_core.proofs.Totals.{bit}
-use Rattle.hub_core.proofs.Calms.{phase_away}
+
+-- ==== Enter and Leave: what the core answers fits, and it shows the facts with the answered step.
 
 -- ---- a line in another phase
 
@@ -49,11 +55,7 @@ stand_kept f e l x s h opened =
 -- whose poster the line has
 with_owned : (a : AgentId) (p : Option Place) → is_with a p ≡ owns_it (with_agent p) a
 with_owned a (Some (With b)) = refl
-with_owned a (Some InFlight) = refl
-with_owned a (Some (Arrived b)) = refl
-with_owned a (Some Swept) = refl
-with_owned a (Some Gone) = refl
-with_owned a None = refl
+with_owned a _ = refl
 
 held_owned : (a : AgentId) (q : Option AgentId) → is_holder a q ≡ owns_it q a
 held_owned a None = refl
@@ -64,10 +66,9 @@ owner_has f s a (Some (Port q)) = elim (eqb s.line.0 0) as (λ b. (b && is_with 
   | true ↦ with_owned a (f.end q.0).place
   | false ↦ refl
 ]
-owner_has f s a (Some Client) = held_owned a (f.line s.end.0 s.line.0).held_by
-owner_has f s a (Some Worker) = held_owned a (f.line s.end.0 s.line.0).held_by
 owner_has f s a (Some (Member b)) = refl
 owner_has f s a None = refl
+owner_has f s a _ = held_owned a (f.line s.end.0 s.line.0).held_by
 
 -- an agent that holds a line that may be entered was made
 held_made : (agents : List Agent) (ends : List End) (f : Facts) (s : Sender) → SoundlyShows agents ends f → is_queue (f.end s.end.0).kind ≡ true → may_enter f s ≡ true → (b : AgentId) → (f.line s.end.0 s.line.0).held_by ≡ Some b → b.0 < length agents
@@ -86,11 +87,7 @@ held_made agents ends f s h queue may b is = elim (hears_of f s may) [
 -- it is one that was made
 with_found : (p : Option Place) (b : AgentId) → with_agent p ≡ Some b → p ≡ Some (With b)
 with_found (Some (With c)) b is = ap (λ q. Some (With q)) (let same : c ≡ b = cc in same)
-with_found (Some InFlight) b is = absurd (search (rules, is))
-with_found (Some (Arrived c)) b is = absurd (search (rules, is))
-with_found (Some Swept) b is = absurd (search (rules, is))
-with_found (Some Gone) b is = absurd (search (rules, is))
-with_found None b is = absurd (search (rules, is))
+with_found _ b is = absurd (search (rules, is))
 
 port_owner : (first : Bool) (p : Option Place) (b : AgentId) → cond first (with_agent p) None ≡ Some b → p ≡ Some (With b)
 port_owner true p b is = with_found p b is
@@ -101,10 +98,9 @@ owner_made agents ends f s h (Some (Port q)) kind may b is =
     let count : f.agents ≡ length agents = h.agents in
     let made : b.0 < f.agents = h.sound.places.with_made q.0 b (port_owner (eqb s.line.0 0) (f.end q.0).place b is) in
     omega arith
-owner_made agents ends f s h (Some Client) kind may b is = held_made agents ends f s h (ap is_queue kind) may b is
-owner_made agents ends f s h (Some Worker) kind may b is = held_made agents ends f s h (ap is_queue kind) may b is
 owner_made agents ends f s h (Some (Member a)) kind may b is = absurd (search (rules, is))
 owner_made agents ends f s h None kind may b is = absurd (search (rules, is))
+owner_made agents ends f s h _ kind may b is = held_made agents ends f s h (ap is_queue kind) may b is
 
 -- one poster more is away, of the line's owner
 entered_counts : (agents : List Agent) (ends : List End) (f : Facts) (s : Sender) (x : End) (p : Phase) → SoundlyShows agents ends f → ShownAt f s.end.0 (Some x) → Entered f s → is_out p ≡ false → Counted (change_owner one_away (owner f s) agents) (record f { line = phased_line f s p })
@@ -162,4 +158,198 @@ left_shown c f s refused h answer =
     (h.shows.ends ∙ sym (length-set c.ends s.end.0 (with_phase w.x w.y s.line.0 Out))) (left_counts c.agents c.ends f s w.x h.shows (subst (ShownAt f s.end.0) w.at (h.shows.end s.end.0)) away) (phased_shown c.agents c.ends f s Out w.x w.y h.shows w.at w.is (λ no. cc))))
 
 pub leave_changes : (c : CoreState) (f : Facts) (s : Sender) (refused : Bool) {o : Outcome} → Sees c f → o ≡ leave_answer f s → Change (action.Leave s) o → ShownWith c f (action.Leave s) refused o
-leave_changes c f s refused h answer (left t) = (left_shown c f s refused h answer, roster_leave c.roster f s h.roster)
+leave_changes c f s refused h answer (left t) = (left_shown c f s refused h answer, (recast c.roster (cast_after s.end.0 c.roster.cast) f (next f (action.Leave s) outcome.Left) h.roster refl (λ x. refl) refl (ap (cast_after s.end.0) h.roster.cast)))
+
+-- ==== Line and Back: what the core answers fits, and it shows the facts with the answered step.
+
+-- ---- a line with another holder
+
+-- the end with a line that this agent holds, or none
+abbrev with_holder : End → Line → ℕ → Option AgentId → End
+with_holder x y l holder = record x { lines = set x.lines l (record y { held_by = holder }) }
+
+-- every end, with this holder of the line
+held_shown : (agents : List Agent) (ends : List End) (f : Facts) (s : Sender) (holder : Option AgentId) (x : End) (y : Line) → SoundlyShows agents ends f → slice_get ends s.end.0 ≡ Some x → slice_get x.lines s.line.0 ≡ Some y → (d : ℕ) → ShowsEnd (f.end d) (held_line_as f s holder d) (f.clear d) (f.accepted d) (f.taken d ++ f.discarded d) (slice_get (set ends s.end.0 (with_holder x y s.line.0 holder)) d)
+held_shown agents ends f s holder x y h at is =
+    let shown : ShownAt f s.end.0 (Some x) = subst (ShownAt f s.end.0) at (h.end s.end.0) in
+    line_changed agents ends f s (λ b w. record w { held_by = cond b holder w.held_by }) x y (record y { held_by = holder }) h at is refl (λ w. refl) (subst (ShowsPut (f.accepted s.end.0) s.line.0) is (shown.put s.line.0)) shown.queues.inside
+
+-- ---- the first line that no agent holds
+
+abbrev is_free : Line → Bool
+is_free y = not (is_some y.held_by)
+
+free_step : (b : Bool) (p q : Option ℕ) (k : ℕ) → p ≡ q → cond b p (Some k) ≡ cond (not b) (Some k) q
+free_step true p q k same = same
+free_step false p q k same = refl
+
+free_from : (test : ℕ → Bool) (ys : List Line) (k : ℕ) → ((i : ℕ) (y : Line) → slice_get ys i ≡ Some y → test (k + i) ≡ is_some y.held_by) → first_failing test k (length ys) ≡ position_from is_free k ys
+free_from test [] k same = refl
+free_from test (y ∷ ys) k same =
+    let first : k + 0 ≡ k = omega arith in
+    let here : test k ≡ is_some y.held_by = ap test (sym first) ∙ same 0 y refl in
+    let rest : first_failing test (k + 1) (length ys) ≡ position_from is_free (k + 1) ys = free_from test ys (k + 1) (λ i z at. let one : k + 1 + i ≡ k + suc i = omega arith in ap test one ∙ same (suc i) z at) in
+    ap (λ b. cond b (first_failing test (k + 1) (length ys)) (Some k)) here ∙ free_step (is_some y.held_by) (first_failing test (k + 1) (length ys)) (position_from is_free (k + 1) ys) k rest
+
+-- what is found, within the lines
+within_lines : (q : Option ℕ) (n : ℕ) → n ≡ MAX_LINES → ((l : ℕ) → q ≡ Some l → l < n) → hold_outcome_of (line_within q) ≡ line_found q
+within_lines None n many less = refl
+within_lines (Some l) n many less =
+    let low : l < n = less l refl in
+    let under : nat_lt l MAX_LINES ≡ true = lt-ltb l MAX_LINES (omega arith) in
+    ap (λ b. hold_outcome_of (cond b (Some (record { 0 = l })) None)) under
+
+free_line_kept : (f : Facts) (e : ℕ) (o : Option End) → ShownAt f e o → is_queue (f.end e).kind ≡ true → hold_outcome_of (first_free (kept_lines o)) ≡ line_found (free_line f e)
+free_line_kept f e o h queue =
+    let many : length (kept_lines o) ≡ MAX_LINES = h.count ∙ queue_lines (f.end e).kind queue in
+    let held : first_failing (λ l. is_some (f.line e l).held_by) 0 (length (kept_lines o)) ≡ position_from is_free 0 (kept_lines o) = free_from (λ l. is_some (f.line e l).held_by) (kept_lines o) 0 (λ i y at. let none_more : 0 + i ≡ i = omega arith in ap (λ n. is_some (f.line e n).held_by) none_more ∙ ap (λ (z : LineNow). is_some z.held_by) (h.lines i ∙ ap line_now at)) in
+    let same : position is_free (kept_lines o) ≡ free_line f e = position_from-zero is_free (kept_lines o) ∙ sym held ∙ ap (first_failing (λ l. is_some (f.line e l).held_by) 0) many in
+    ap (λ q. hold_outcome_of (line_within q)) same ∙ within_lines (free_line f e) MAX_LINES refl (λ l is.
+    let found = first_failing_of (λ i. is_some (f.line e i).held_by) 0 MAX_LINES l is in
+    let below : l < 0 + MAX_LINES = found.below in
+    omega arith)
+
+-- ---- Line
+
+line_fits_at : (f : Facts) (e : EndId) (a : AgentId) (o : Option End) → ShownAt f e.0 o → line_outcome f e a o ≡ line_answer f e a
+line_fits_at f e a o shown = elim (is_queue (f.end e.0).kind) as (λ b. is_queue (f.end e.0).kind ≡ b → cond (not (f.agent a.0).runs) outcome.NotNow (cond (not b) outcome.NoSuchEnd (hold_outcome_of (first_free (kept_lines o)))) ≡ cond (not (f.agent a.0).runs) outcome.NotNow (cond (not b) outcome.NoSuchEnd (line_found (free_line f e.0)))) [
+  | true ↦ λ queue. ap (cond (not (f.agent a.0).runs) outcome.NotNow) (free_line_kept f e.0 o shown queue)
+  | false ↦ λ _. refl
+] refl
+
+pub line_fits : (c : CoreState) (f : Facts) (e : EndId) (a : AgentId) → Sees c f → line_outcome (seen c) e a (slice_get c.ends e.0) ≡ line_answer f e a
+line_fits c f e a h = ap (λ g. line_outcome g e a (slice_get c.ends e.0)) (seen_is c f h) ∙ line_fits_at f e a (slice_get c.ends e.0) (h.shows.end e.0)
+
+-- a line with this holder, or with none
+holder_shown : (c : CoreState) (f : Facts) (s : Sender) (holder : Option AgentId) (a : Action) (refused : Bool) (o : Outcome) → Sees c f → Answers f a refused o → s.line.0 < lines_of (f.end s.end.0).kind → is_out (f.line s.end.0 s.line.0).phase ≡ true
+    → next f a o ≡ (let g : Facts = record f { line = held_line_as f s holder } in g) → Stepped c.agents (change_line (held_by holder) s c.ends) f a refused o
+holder_shown c f s holder a refused o h answer low out after =
+    let w = found_line c.agents c.ends f s h.shows low in
+    let g : Facts = record f { line = held_line_as f s holder } in
+    subst (λ es. Stepped c.agents es f a refused o) (sym (line_set c.ends s (held_by holder) w))
+    (changed c.agents c.ends _ f a refused o h.shows answer (ap (λ (k : Facts). k.agents) after) (ap (λ (k : Facts). k.agent) after) (ap (λ (k : Facts). k.ends) after) (length-set c.ends s.end.0 (with_holder w.x w.y s.line.0 holder))
+    (subst (Counted c.agents) (sym after) (counts_still c.agents c.ends f g h.shows refl (λ d. refl) (λ d. refl) (λ b. calm_held b f g s holder out (λ d. refl) (λ d. refl) (λ d i. refl) (λ d i. refl))))
+    (λ d. subst (λ k. ShownAt k d (slice_get (set c.ends s.end.0 (with_holder w.x w.y s.line.0 holder)) d)) (sym after) (held_shown c.agents c.ends f s holder w.x w.y h.shows w.at w.is d)))
+
+pub line_changes : (c : CoreState) (f : Facts) (e : EndId) (a : AgentId) (refused : Bool) {o : Outcome} → Sees c f → o ≡ line_answer f e a → Change (action.Line e a) o → ShownAfter c f (action.Line e a) refused o
+line_changes c f e a refused h answer (line_got d b l) =
+    let s : Sender = record { end = e; line = l } in
+    let gets = line_got_of f e a l answer in
+    let many : lines_of (f.end e.0).kind ≡ MAX_LINES = queue_lines (f.end e.0).kind gets.queue in
+    let low : l.0 < MAX_LINES = gets.low in
+    (holder_shown c f s (Some a) (action.Line e a) refused (outcome.Line l) h answer (omega arith) (free_out f s h.shows.sound.places gets.queue gets.free) refl, refl)
+
+-- ---- Back
+
+-- a line that an agent holds is there
+held_there : (f : Facts) (s : Sender) → LinesAt f s.end.0 → is_some (f.line s.end.0 s.line.0).held_by ≡ true → s.line.0 < lines_of (f.end s.end.0).kind
+held_there f s lines held = elim (nat_lt s.line.0 (lines_of (f.end s.end.0).kind)) as (λ b. nat_lt s.line.0 (lines_of (f.end s.end.0).kind) ≡ b → s.line.0 < lines_of (f.end s.end.0).kind) [
+  | true ↦ λ low. search (rules, nat_tests, low)
+  | false ↦ λ high.
+      let past : lines_of (f.end s.end.0).kind ≤ s.line.0 = search (rules, nat_tests, high) in
+      absurd (false≢true (sym (ap (λ (z : LineNow). is_some z.held_by) (lines.none s.line.0 past)) ∙ held))
+] refl
+
+pub back_changes : (c : CoreState) (f : Facts) (s : Sender) (refused : Bool) {o : Outcome} → Sees c f → o ≡ back_answer f s → Change (action.Back s) o → ShownAfter c f (action.Back s) refused o
+back_changes c f s refused h answer (line_back t) =
+    let back = back_of f s answer in
+    (holder_shown c f s None (action.Back s) refused outcome.Done h answer (held_there f s (h.shows.sound.lines s.end.0) back.0) back.1 refl, refl)
+
+-- ==== Order and See: what the core answers fits, and it shows the facts with the answered step.
+
+-- ---- an agent that was ordered, and one that runs no more
+
+-- a number at which nothing is kept is past the agents
+slice_get_none : (agents : List Agent) (a : ℕ) → slice_get agents a ≡ None → length agents ≤ a
+slice_get_none agents a none = elim (slice_get_cases agents a).1 [
+  | inl there ↦ absurd (search (rules, sym there.2 ∙ none))
+  | inr past ↦ past.0
+]
+
+-- each agent, one of them changed
+now_each : (agents : List Agent) (f : Facts) (a c : ℕ) (change : Agent → Agent) (new : Bool → AgentNow → AgentNow) → ((b : ℕ) → f.agent b ≡ agent_now (slice_get agents b)) → (x : Agent) → slice_get agents a ≡ Some x → new true (agent_now (Some x)) ≡ agent_now (Some (change x)) → ((w : AgentNow) → new false w ≡ w) → new (eqb c a) (f.agent c) ≡ agent_now (slice_get (change_agent change a agents) c)
+now_each agents f a c change new h x at mine other = elim (eqb c a) as (λ b. eqb c a ≡ b → new b (f.agent c) ≡ agent_now (cond b (option_map change (slice_get agents c)) (slice_get agents c))) [
+  | true ↦ λ is. let here : slice_get agents c ≡ Some x = ap (slice_get agents) (eqb-true c a is) ∙ at in ap (new true) (h c ∙ ap agent_now here) ∙ mine ∙ sym (ap (λ o. agent_now (option_map change o)) here)
+  | false ↦ λ _. other (f.agent c) ∙ h c
+] refl ∙ ap agent_now (sym (change_get change agents a c))
+
+-- the facts with one agent changed, of which nothing is counted anew
+agent_set : (c : CoreState) (f : Facts) (a : ℕ) (change : Agent → Agent) (new : Bool → AgentNow → AgentNow) (x : Agent) → Sees c f → slice_get c.agents a ≡ Some x → new true (agent_now (Some x)) ≡ agent_now (Some (change x)) → ((w : AgentNow) → new false w ≡ w)
+    → ((z : Agent) → (change z).clients ≡ z.clients) → ((z : Agent) → (change z).workers ≡ z.workers) → ((z : Agent) → (change z).away ≡ z.away) → ShowsFacts (change_agent change a c.agents) c.ends (record f { agent = λ d. new (eqb d a) (f.agent d) })
+agent_set c f a change new x h at mine other clients workers away = record {
+  agents = h.shows.agents ∙ sym (change_length change c.agents a);
+  agent = λ d. now_each c.agents f a d change new h.shows.agent x at mine other;
+  ends = h.shows.ends;
+  end = h.shows.end;
+  clients = λ d. change_each kept_clients change c.agents a d.0 clients ∙ h.shows.clients d;
+  workers = λ d. change_each kept_workers change c.agents a d.0 workers ∙ h.shows.workers d;
+  away = λ d. change_each kept_away change c.agents a d.0 away ∙ h.shows.away d;
+}
+
+-- ---- Order
+
+pub order_changes : (c : CoreState) (f : Facts) (a : AgentId) (refused : Bool) {o : Outcome} → Sees c f → o ≡ order_answer f a → Change (action.Order a) o → ShownAfter c f (action.Order a) refused o
+order_changes c f a refused h answer (agent_ordered b) =
+    let known : a.0 < f.agents = ltb-true a.0 f.agents (hit (nat_lt a.0 f.agents) answer (λ is. cc)).0 in
+    let count : f.agents ≡ length c.agents = h.shows.agents in
+    let found = found_agent c.agents a.0 (omega arith) in
+    (record { fits = answer; shows = agent_set c f a.0 (λ z. record z { is_ordered = true }) (λ b w. record w { ordered = cond b true w.ordered }) found.0 h found.1 refl (λ w. refl) (λ z. refl) (λ z. refl) (λ z. refl) }, refl)
+  where
+    found_agent : (agents : List Agent) (n : ℕ) → n < length agents → (x : Agent) × (slice_get agents n ≡ Some x)
+    found_agent agents n less = elim (slice_get agents n) as (λ q. slice_get agents n ≡ q → (x : Agent) × (slice_get agents n ≡ Some x)) [
+      | Some x ↦ λ at. (x, at)
+      | None ↦ λ none. absurd (is_there agents n less none)
+    ] refl
+
+-- ---- See
+
+none_both : (p q : ℕ) → eqb (p + q) 0 ≡ (eqb p 0 && eqb q 0)
+none_both zero q = let same : 0 + q ≡ q = omega arith in ap (λ n. eqb n 0) same
+none_both (suc p) q = ne_eqb (suc p + q) 0 (λ is. omega arith) ∙ sym (ap (λ b. b && eqb q 0) (ne_eqb (suc p) 0 (λ is. omega arith)))
+
+neither : (b c : Bool) → (not b && not c) ≡ not (b || c)
+neither true c = refl
+neither false c = refl
+
+-- no poster of the agent is away where the count is nothing
+none_away_below : (f : Facts) (a : AgentId) (n : ℕ) → eqb (total (away_at a f) n) 0 ≡ not (any_below (λ x. any_below (is_away_of f a x) (lines_of (f.end x).kind)) n)
+none_away_below f a zero = refl
+none_away_below f a (suc n) =
+    none_both (total (away_at a f) n) (away_at a f n)
+    ∙ ap (λ b. b && eqb (away_at a f n) 0) (none_away_below f a n)
+    ∙ ap (λ b. not (any_below (λ x. any_below (is_away_of f a x) (lines_of (f.end x).kind)) n) && b) (none_counted (is_away_of f a n) (lines_of (f.end n).kind))
+    ∙ neither (any_below (λ x. any_below (is_away_of f a x) (lines_of (f.end x).kind)) n) (any_below (is_away_of f a n) (lines_of (f.end n).kind))
+
+abbrev see_by : Bool → Bool → Bool → List EndId → Outcome
+see_by made still ordered es = cond (not (made && still)) outcome.NotNow (cond ordered (outcome.Ending es) outcome.GoingOn)
+
+see_none : (f : Facts) (a : AgentId) → f.agents ≤ a.0 → outcome.NotNow ≡ see_answer f a
+see_none f a past = ap (λ b. see_by b (not (has_away f a)) (f.agent a.0).ordered (ends_at f a)) (sym (past_lt a.0 f.agents past))
+  where
+    past_lt : (n m : ℕ) → m ≤ n → nat_lt n m ≡ false
+    past_lt n m less = search (rules, nat_tests, less)
+
+see_fits_at : (c : CoreState) (f : Facts) (a : AgentId) → Sees c f → (q : Option Agent) → slice_get c.agents a.0 ≡ q → see_outcome (ends_at f a) q ≡ see_answer f a
+see_fits_at c f a h None at =
+    let count : f.agents ≡ length c.agents = h.shows.agents in
+    let past : length c.agents ≤ a.0 = slice_get_none c.agents a.0 at in
+    see_none f a (omega arith)
+see_fits_at c f a h (Some x) at =
+    let count : f.agents ≡ length c.agents = h.shows.agents in
+    let within : a.0 < length c.agents = slice_get_within c.agents a.0 x at in
+    let made : nat_lt a.0 f.agents ≡ true = lt-ltb a.0 f.agents (omega arith) in
+    let kept : x.away ≡ count_away a f = sym (ap kept_away at) ∙ h.shows.away a in
+    let still : eqb x.away 0 ≡ not (has_away f a) = ap (λ n. eqb n 0) kept ∙ none_away_below f a f.ends in
+    let ordered : x.is_ordered ≡ (f.agent a.0).ordered = ap (λ (y : AgentNow). y.ordered) (sym (h.shows.agent a.0 ∙ ap agent_now at)) in
+    ap (λ b. see_by true b x.is_ordered (ends_at f a)) still ∙ ap (λ b. see_by true (not (has_away f a)) b (ends_at f a)) ordered ∙ ap (λ b. see_by b (not (has_away f a)) (f.agent a.0).ordered (ends_at f a)) (sym made)
+
+pub see_fits : (c : CoreState) (f : Facts) (a : AgentId) → Sees c f → see_outcome (ends_at (seen c) a) (slice_get c.agents a.0) ≡ see_answer f a
+see_fits c f a h = ap (λ g. see_outcome (ends_at g a) (slice_get c.agents a.0)) (seen_is c f h) ∙ see_fits_at c f a h (slice_get c.agents a.0) refl
+
+pub see_changes : (c : CoreState) (f : Facts) (a : AgentId) (refused : Bool) {o : Outcome} → Sees c f → o ≡ see_answer f a → Change (action.See a) o → ShownAfter c f (action.See a) refused o
+see_changes c f a refused h answer (agent_ended b es) =
+    let found = elim (slice_get c.agents a.0) as (λ q. slice_get c.agents a.0 ≡ q → (x : Agent) × (slice_get c.agents a.0 ≡ Some x)) [
+      | Some x ↦ λ at. (x, at)
+      | None ↦ λ none. let is : outcome.Ending es ≡ outcome.NotNow = answer ∙ sym (see_fits_at c f a h None none) in absurd (search (rules, is))
+    ] refl in
+    (record { fits = answer; shows = agent_set c f a.0 (λ z. record z { is_running = false }) (λ b w. record w { runs = cond b false w.runs }) found.0 h found.1 refl (λ w. refl) (λ z. refl) (λ z. refl) (λ z. refl) }, refl)

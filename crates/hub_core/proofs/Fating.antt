@@ -26,9 +26,6 @@ line_parts h e l legal =
     let prefix = ((sound_legal h legal).waiting e).prefix l in
     prefix.1 ∙ ap (λ us. by l (taken h e ++ discarded h e) ++ us) (sym (rest_left l (taken h e ++ discarded h e) (accepted h e) prefix.0 (names_distinct h e legal) prefix.1))
 
-three_parts : (h : History) (e l : ℕ) → Legal h → by l (accepted h e) ≡ by l (taken h e) ++ (by l (discarded h e) ++ by l (waiting h e))
-three_parts h e l legal = line_parts h e l legal ∙ ap (λ us. us ++ by l (waiting h e)) (filter-append _ (taken h e) (discarded h e)) ∙ append_assoc (by l (taken h e)) (by l (discarded h e)) (by l (waiting h e))
-
 -- ---- ports in flight
 
 -- what names a port is among what was removed or waits
@@ -160,7 +157,7 @@ nothing_waits h before after e refused vs legal is =
 
 pub fates : (h : History) → Legal h → Fates h
 fates h legal = record {
-  parts = λ e line. three_parts h e line legal;
+  parts = λ e line. (line_parts h e line legal ∙ ap (λ us. us ++ by line (waiting h e)) (filter-append _ (taken h e) (discarded h e)) ∙ append_assoc (by line (taken h e)) (by line (discarded h e)) (by line (waiting h e)));
   once = λ e before middle after v w is. two_names before middle after v w (subst AreDistinct is (names_distinct h e legal));
   swept = λ before after e refused vs is. nothing_waits h before after e refused vs legal is;
   nothing_more = λ before after e refused vs is. (quiet_after h before after e refused vs legal is).same;

@@ -1,31 +1,27 @@
 -- What an answer that fits says of the facts.
 use Rattle.std.proofs.Common.{◌≡◌, ◌+◌, Bool, true, false, cond, List, length, Option, Some, None, refl, ap, ℕ, zero, suc, ◌<◌, ◌≤◌, eqb, sym, ◌∙◌, arith, rules, inl, inr, ltb-true, leb-false, ltb-false, ◌&&◌, not, nat_lt, ◌||◌, ◌⊎◌, nat_le}
 use Rattle.hub_core.proofs.Words.{is_some, MatchBool, list_all, AgentId, EndId, Envelope, MAX_ENDS, MAX_LINES, MAX_MOVES, MAX_PORTS, MAX_AGENTS, Good, HoldsTarget, Bad, Sender, Acceptance, Outcome, Facts, agent_answer, channel_answer, queue_answer, has_one, holder, poster, phase_of_line, is_out, is_inside, is_good, is_distinct}
-use Rattle.hub_core.proofs.Words.{may_leave_agent, listing_of, enter_answer, leave_answer, push_answer_of, push_answer, may_enter, hears_notice, is_here, next_name, notice_answer, is_fitting, is_empty, Serves, FitsTake, start_answer, false≢true, eqb-true, eqb-false, and_parts, or_parts, Place, With, InFlight, Arrived, Swept, Gone}
-use Rattle.hub_core.proofs.Words.{any_below, someone_at, first_failing, lookable, looked, look_answer_of, look_answer, all_from, all_settled, IsAllWaiting, FitsSweep, hop_answer, is_arrived, adopt_answer, close_answer, is_released, hand_answer, may_take_over, may_close, is_queue, lines_of, names, LineId, Kind, back_answer, line_found}
-use Rattle.hub_core.proofs.Words.{line_answer, free_line, member_answer, cast_answer, is_casting, destinations, has_end, maker_of, see_answer, has_away, has_poster, is_away_of}
+use Rattle.hub_core.proofs.Words.{may_leave_agent, listing_of, enter_answer, leave_answer, push_answer_of, push_answer, may_enter, hears_notice, is_here, next_name, notice_answer, is_fitting, is_empty, Serves, FitsTake, start_answer, false≢true, eqb-true, eqb-false, and_parts, or_parts, Place, Arrived, any_below, someone_at}
+use Rattle.hub_core.proofs.Words.{first_failing, lookable, looked, look_answer_of, look_answer, all_from, all_settled, IsAllWaiting, FitsSweep, hop_answer, is_arrived, adopt_answer, close_answer, is_released, hand_answer, may_take_over, may_close, is_queue, lines_of, names, LineId, Kind, back_answer, line_found, line_answer}
+use Rattle.hub_core.proofs.Words.{free_line, member_answer, cast_answer, is_casting, destinations, has_end, maker_of, see_answer, has_away, has_poster, is_away_of}
 use Rattle.hub_core.specs.declared.outcome.Outcome.TheVariants as outcome
-use Rattle.hub_core.proofs.Lists.{below_last, next_up}
+use Rattle.hub_core.proofs.Lists.{below_last, next_up, or_none}
 
 -- ---- tests
-
-either_left : (b : Bool) → (b || false) ≡ true → b ≡ true
-either_left true h = refl
-either_left false h = absurd (false≢true h)
 
 -- ---- tests, one after another
 
 -- An answer that a test refuses isn't this one, so the test was passed, or wasn't met.
-pass : {A : Type 0} (t : Bool) {o r rest : A} → o ≡ cond (not t) r rest → (o ≡ r → ⊥) → (t ≡ true) × (o ≡ rest)
+pub pass : {A : Type 0} (t : Bool) {o r rest : A} → o ≡ cond (not t) r rest → (o ≡ r → ⊥) → (t ≡ true) × (o ≡ rest)
 pass true h other = (refl, h)
 pass false h other = absurd (other h)
 
-miss : {A : Type 0} (t : Bool) {o r rest : A} → o ≡ cond t r rest → (o ≡ r → ⊥) → (t ≡ false) × (o ≡ rest)
+pub miss : {A : Type 0} (t : Bool) {o r rest : A} → o ≡ cond t r rest → (o ≡ r → ⊥) → (t ≡ false) × (o ≡ rest)
 miss false h other = (refl, h)
 miss true h other = absurd (other h)
 
 -- an answer that isn't the one that is given where the test fails
-hit : {A : Type 0} (t : Bool) {o r rest : A} → o ≡ cond t r rest → (o ≡ rest → ⊥) → (t ≡ true) × (o ≡ r)
+pub hit : {A : Type 0} (t : Bool) {o r rest : A} → o ≡ cond t r rest → (o ≡ rest → ⊥) → (t ≡ true) × (o ≡ r)
 hit true h other = (refl, h)
 hit false h other = absurd (other h)
 
@@ -45,15 +41,9 @@ new_ends f a refused e e' h =
     let last : outcome.Ends e e' ≡ outcome.Ends (record { 0 = f.ends }) (record { 0 = f.ends + 1 }) = (miss refused room.1 (λ is. cc)).1 in
     (runs.0, cc, cc, ltb-false MAX_ENDS (f.ends + 2) room.0)
 
-not_both : (b c : Bool) → not (b && not c) ≡ false → (b ≡ true) × (c ≡ false)
-not_both true true h = cc
-not_both true false h = (refl, refl)
-not_both false c h = cc
-
-both_tests : (b c : Bool) → (b && not c) ≡ true → (b ≡ true) × (c ≡ false)
+pub both_tests : (b c : Bool) → (b && not c) ≡ true → (b ≡ true) × (c ≡ false)
 both_tests true false h = (refl, refl)
-both_tests true true h = cc
-both_tests false c h = cc
+both_tests _ _ h = cc
 
 under_one : (n : ℕ) → n < MAX_ENDS → n + 1 ≤ MAX_ENDS
 under_one n less = omega arith
@@ -78,7 +68,6 @@ queue_made_of f test a refused e h =
 -- a broadcast channel that was made
 pub record MakesMember (f : Facts) (a : AgentId) (e : EndId) : Type 0 where
   pub runs : (f.agent a.0).runs ≡ true
-  pub over : is_casting f ≡ false
   pub named : is_some (f.roster.origin a.0) ≡ true
   pub few : f.ends + 1 ≤ MAX_ENDS
   pub number : e ≡ record { 0 = f.ends }
@@ -89,8 +78,7 @@ member_made_of f a refused e h =
     let named = pass (is_some (f.roster.origin a.0)) may.1 (λ is. cc) in
     let room = miss (nat_le MAX_ENDS f.ends) named.1 (λ is. cc) in
     let last : outcome.End e ≡ outcome.End (record { 0 = f.ends }) = (miss refused room.1 (λ is. cc)).1 in
-    let both = both_tests (f.agent a.0).runs (is_casting f) may.0 in
-    record { runs = both.0; over = both.1; named = named.0; few = under_one f.ends (leb-false MAX_ENDS f.ends room.0); number = cc }
+    record { runs = (both_tests (f.agent a.0).runs (is_casting f) may.0).0; named = named.0; few = under_one f.ends (leb-false MAX_ENDS f.ends room.0); number = cc }
 
 -- a cast that began
 pub record Begins (f : Facts) (e : EndId) (ends : List EndId) : Type 0 where
@@ -107,13 +95,6 @@ cast_of f e ports ends h =
 
 -- ---- entering and leaving
 
--- an Enter that was answered something else than NotNow
-entered_of : (may out noticed : Bool) (o p : Outcome) → (o ≡ outcome.NotNow → ⊥) → o ≡ cond (not (may && out && not noticed)) outcome.NotNow p → (may ≡ true) × (out ≡ true) × (noticed ≡ false) × (o ≡ p)
-entered_of true true false o p other h = (refl, refl, refl, h)
-entered_of true true true o p other h = absurd (other h)
-entered_of true false noticed o p other h = absurd (other h)
-entered_of false out noticed o p other h = absurd (other h)
-
 pub record Entered (f : Facts) (s : Sender) : Type 0 where
   pub may : may_enter f s ≡ true
   pub out : is_out (phase_of_line f s) ≡ true
@@ -122,11 +103,19 @@ pub record Entered (f : Facts) (s : Sender) : Type 0 where
 abbrev pub is_retired : Facts → Sender → Bool
 is_retired f s = nat_lt (f.line s.end.0 s.line.0).stand (f.end s.end.0).newest
 
+-- an Enter that was answered something else than NotNow
+pub entered_of : (f : Facts) (s : Sender) {o p : Outcome} → o ≡ cond (not (may_enter f s && is_out (phase_of_line f s) && not (f.line s.end.0 s.line.0).noticed)) outcome.NotNow p → (o ≡ outcome.NotNow → ⊥) → Entered f s × (o ≡ p)
+entered_of f s h other =
+    let r = pass (may_enter f s && is_out (phase_of_line f s) && not (f.line s.end.0 s.line.0).noticed) h other in
+    let plain = both_tests (may_enter f s && is_out (phase_of_line f s)) (f.line s.end.0 s.line.0).noticed r.0 in
+    let both = and_parts (may_enter f s) (is_out (phase_of_line f s)) plain.0 in
+    (record { may = both.0; out = both.1; plain = plain.1 }, r.1)
+
 pub let_in_of : (f : Facts) (s : Sender) → outcome.In ≡ enter_answer f s → Entered f s × (is_retired f s ≡ false) × ((f.end s.end.0).closed ≡ false)
 let_in_of f s h =
-    let r = entered_of (may_enter f s) (is_out (phase_of_line f s)) (f.line s.end.0 s.line.0).noticed outcome.In _ (λ (x : outcome.In ≡ outcome.NotNow). cc) h in
-    let stays = miss (is_retired f s) r.3 (λ is. cc) in
-    (record { may = r.0; out = r.1; plain = r.2 }, stays.0, (miss (f.end s.end.0).closed stays.1 (λ is. cc)).0)
+    let r = entered_of f s h (λ is. cc) in
+    let stays = miss (is_retired f s) r.1 (λ is. cc) in
+    (r.0, stays.0, (miss (f.end s.end.0).closed stays.1 (λ is. cc)).0)
 
 moved_when : (retired closed : Bool) → outcome.Moved ≡ cond retired outcome.Moved (cond closed outcome.Closed outcome.In) → retired ≡ true
 moved_when true closed h = refl
@@ -135,14 +124,14 @@ moved_when false false h = cc
 
 pub found_moved_of : (f : Facts) (s : Sender) → outcome.Moved ≡ enter_answer f s → Entered f s × (is_retired f s ≡ true)
 found_moved_of f s h =
-    let r = entered_of (may_enter f s) (is_out (phase_of_line f s)) (f.line s.end.0 s.line.0).noticed outcome.Moved _ (λ (x : outcome.Moved ≡ outcome.NotNow). cc) h in
-    (record { may = r.0; out = r.1; plain = r.2 }, moved_when (is_retired f s) (f.end s.end.0).closed r.3)
+    let r = entered_of f s h (λ is. cc) in
+    (r.0, moved_when (is_retired f s) (f.end s.end.0).closed r.1)
 
 pub found_closed_of : (f : Facts) (s : Sender) → outcome.Closed ≡ enter_answer f s → Entered f s × (is_retired f s ≡ false) × ((f.end s.end.0).closed ≡ true)
 found_closed_of f s h =
-    let r = entered_of (may_enter f s) (is_out (phase_of_line f s)) (f.line s.end.0 s.line.0).noticed outcome.Closed _ (λ (x : outcome.Closed ≡ outcome.NotNow). cc) h in
-    let stays = miss (is_retired f s) r.3 (λ is. cc) in
-    (record { may = r.0; out = r.1; plain = r.2 }, stays.0, (hit (f.end s.end.0).closed stays.1 (λ is. cc)).0)
+    let r = entered_of f s h (λ is. cc) in
+    let stays = miss (is_retired f s) r.1 (λ is. cc) in
+    (r.0, stays.0, (hit (f.end s.end.0).closed stays.1 (λ is. cc)).0)
 
 pub left_of : (f : Facts) (s : Sender) → outcome.Left ≡ leave_answer f s → is_out (phase_of_line f s) ≡ false
 left_of f s h = (miss (is_out (phase_of_line f s)) h (λ is. cc)).0
@@ -158,11 +147,6 @@ pub record Pushed (f : Facts) (s : Sender) (ports : List EndId) (n : Acceptance)
   pub distinct : is_distinct ports ≡ true
   pub leave : list_all (may_leave_agent f agent s) ports ≡ true
   pub name : n ≡ next_name f s agent
-
-passed : (inside noticed : Bool) (n : Acceptance) (o : Outcome) → outcome.Accepted n ≡ cond (not (inside && not noticed)) outcome.NotNow o → (inside ≡ true) × (noticed ≡ false) × (outcome.Accepted n ≡ o)
-passed false noticed n o h = cc
-passed true true n o h = cc
-passed true false n o h = (refl, refl, h)
 
 -- a list is good where its ports are distinct and may leave the agent
 listed_good : (leave target : Bool) → is_good (cond (not leave) Bad (cond target HoldsTarget Good)) ≡ true → leave ≡ true
@@ -181,8 +165,9 @@ pushed_by f s ports fitting refused n (Some a) inside plain is h =
 pub pushed_of : (f : Facts) (s : Sender) (ports : List EndId) (body : List ℕ) (refused : Bool) (n : Acceptance) → outcome.Accepted n ≡ push_answer f s ports body refused → Pushed f s ports n
 pushed_of f s ports body refused n h =
     let fitting : Bool = is_fitting f.roster.cast (f.end s.end.0).kind ports body in
-    let r = passed (is_inside (phase_of_line f s)) (f.line s.end.0 s.line.0).noticed n (push_answer_of f s ports fitting refused (poster f s)) h in
-    pushed_by f s ports fitting refused n (poster f s) r.0 r.1 refl r.2
+    let r = pass (is_inside (phase_of_line f s) && not (f.line s.end.0 s.line.0).noticed) h (λ is. cc) in
+    let posts = both_tests (is_inside (phase_of_line f s)) (f.line s.end.0 s.line.0).noticed r.0 in
+    pushed_by f s ports fitting refused n (poster f s) posts.0 posts.1 refl r.1
 
 -- a notice that was accepted
 pub record Noticed (f : Facts) (s : Sender) (n : Acceptance) : Type 0 where
@@ -220,19 +205,13 @@ served_when false true true o P x y z h = (refl, refl, refl, h)
 served_when false true false o P x y z h = absurd (z h)
 served_when false false enabled o P x y z h = absurd (y h)
 
-served_of : (f : Facts) (e : EndId) (o : Outcome) → (o ≡ outcome.Closed → ⊥) → (o ≡ outcome.NotNow → ⊥) → (o ≡ outcome.Disabled → ⊥) → FitsTake f e o → Served f e o
+pub served_of : (f : Facts) (e : EndId) (o : Outcome) → (o ≡ outcome.Closed → ⊥) → (o ≡ outcome.NotNow → ⊥) → (o ≡ outcome.Disabled → ⊥) → FitsTake f e o → Served f e o
 served_of f e o x y z h =
     let r = served_when (f.end e.0).closed (is_some (holder f e.0)) (f.end e.0).enabled o (Serves f e o) x y z h in
     record { is_open = r.0; held = r.1; is_enabled = r.2; serves = r.3 }
 
 pub got_of : (f : Facts) (e : EndId) (v : Envelope) → FitsTake f e (outcome.Got v) → Served f e (outcome.Got v)
 got_of f e v h = served_of f e (outcome.Got v) (λ is. cc) (λ is. cc) (λ is. cc) h
-
-pub empty_of : (f : Facts) (e : EndId) → FitsTake f e outcome.Empty → Served f e outcome.Empty
-empty_of f e h = served_of f e outcome.Empty (λ is. cc) (λ is. cc) (λ is. cc) h
-
-pub busy_of : (f : Facts) (e : EndId) → FitsTake f e outcome.Busy → Served f e outcome.Busy
-busy_of f e h = served_of f e outcome.Busy (λ is. cc) (λ is. cc) (λ is. cc) h
 
 pub went_on_of : (f : Facts) (e : EndId) → FitsTake f e outcome.Again → Served f e outcome.Again
 went_on_of f e h = served_of f e outcome.Again (λ is. cc) (λ is. cc) (λ is. cc) h
@@ -256,11 +235,7 @@ hopped_of f s k h =
 
 arrived_at : (a : AgentId) (p : Option Place) → is_arrived a p ≡ true → p ≡ Some (Arrived a)
 arrived_at a (Some (Arrived b)) h = let same : a.0 ≡ b.0 = search (rules, h) in ap (λ n. Some (Arrived (record { 0 = n }))) (sym same)
-arrived_at a (Some (With b)) h = absurd (false≢true h)
-arrived_at a (Some InFlight) h = absurd (false≢true h)
-arrived_at a (Some Swept) h = absurd (false≢true h)
-arrived_at a (Some Gone) h = absurd (false≢true h)
-arrived_at a None h = absurd (false≢true h)
+arrived_at a _ h = absurd (false≢true h)
 
 -- an end that was adopted
 pub record Adopts (f : Facts) (e : EndId) (a : AgentId) (k : ℕ) : Type 0 where
@@ -348,10 +323,6 @@ first_failing_of clear k (suc n) j is = elim (clear k) as (λ b. clear k ≡ b �
       record { from = omega arith; below = omega arith; unclear = ap clear (sym same) ∙ here; before = λ i low less. absurd (omega arith) }
 ] refl is
 
-looks_when : (may : Bool) (o p : Outcome) → (o ≡ outcome.NotNow → ⊥) → o ≡ cond may p outcome.NotNow → (may ≡ true) × (o ≡ p)
-looks_when true o p other h = (refl, h)
-looks_when false o p other h = absurd (other h)
-
 clear_when : (f : Facts) (x k : ℕ) (q : Option ℕ) → outcome.Clear (Some k) ≡ look_answer_of f x q → (q ≡ Some k) × (someone_at f x k ≡ false)
 clear_when f x k None h = cc
 clear_when f x k (Some j) h = elim (someone_at f x j) as (λ b. someone_at f x j ≡ b → outcome.Clear (Some k) ≡ cond b outcome.Busy (outcome.Clear (Some j)) → (Some j ≡ Some k) × (someone_at f x k ≡ false)) [
@@ -379,7 +350,7 @@ pub record Clears (f : Facts) (x k : ℕ) : Type 0 where
 
 pub cleared_of : (f : Facts) (e : EndId) (k : ℕ) → outcome.Clear (Some k) ≡ look_answer f e → Clears f e.0 k
 cleared_of f e k h =
-    let r = looks_when ((f.end e.0).closed || nat_lt (f.end e.0).taker_stand (f.end e.0).newest) (outcome.Clear (Some k)) _ (λ (x : outcome.Clear (Some k) ≡ outcome.NotNow). cc) h in
+    let r = hit ((f.end e.0).closed || nat_lt (f.end e.0).taker_stand (f.end e.0).newest) h (λ is. cc) in
     let both = clear_when f e.0 k (looked f e.0) r.1 in
     record { may = r.0; is_looked = both.0; looks = first_failing_of (f.clear e.0) _ _ k both.0; nobody = both.1 }
 
@@ -391,7 +362,7 @@ pub record FindsBusy (f : Facts) (x : ℕ) : Type 0 where
 
 pub look_busy_of : (f : Facts) (e : EndId) → outcome.Busy ≡ look_answer f e → FindsBusy f e.0
 look_busy_of f e h =
-    let r = looks_when ((f.end e.0).closed || nat_lt (f.end e.0).taker_stand (f.end e.0).newest) outcome.Busy _ (λ (x : outcome.Busy ≡ outcome.NotNow). cc) h in
+    let r = hit ((f.end e.0).closed || nat_lt (f.end e.0).taker_stand (f.end e.0).newest) h (λ is. cc) in
     let both = busy_when f e.0 (looked f e.0) r.1 in
     record { queue = both.0; is_looked = both.1; looks = first_failing_of (f.clear e.0) _ _ both.0 both.1; somebody = both.2 }
 
@@ -411,7 +382,7 @@ any_of test zero h = absurd (false≢true h)
 any_of test (suc n) h = elim (test n) as (λ b. test n ≡ b → (any_below test n || b) ≡ true → (l : ℕ) × (l < suc n) × (test l ≡ true)) [
   | true ↦ λ is _. (n, omega arith, is)
   | false ↦ λ is rest.
-      let r = any_of test n (either_left (any_below test n) rest) in
+      let r = any_of test n (or_none (any_below test n) ∙ rest) in
       let low : r.0 < n = r.1 in
       (r.0, omega arith, r.2)
 ] refl h
@@ -428,10 +399,8 @@ none_of_any test (suc n) l h less =
 -- ---- holding lines, and handing
 
 line_when : (runs queue : Bool) (l : LineId) (q : Option ℕ) → outcome.Line l ≡ cond (not runs) outcome.NotNow (cond (not queue) outcome.NoSuchEnd (line_found q)) → (runs ≡ true) × (queue ≡ true) × (q ≡ Some l.0)
-line_when false queue l q h = cc
-line_when true false l q h = cc
-line_when true true l None h = cc
 line_when true true l (Some n) h = (refl, refl, let same : l ≡ record { 0 = n } = cc in ap Some (sym (ap (λ (k : LineId). k.0) same)))
+line_when _ _ l _ h = cc
 
 not_some : {A : Type 0} (q : Option A) → is_some q ≡ false → q ≡ None
 not_some None h = refl

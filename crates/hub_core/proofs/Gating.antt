@@ -3,6 +3,7 @@ use Rattle.std.proofs.Common.{◌≡◌, ◌⊎◌, ℕ, zero, suc, ◌≤◌, �
 use Rattle.hub_core.proofs.Words.{slice_get, sum_by, is_some, length-map, map-set, sum_by-cons, false_from_ne_true, Phase, Out, Inside, Turned, Gate, IsAt, opened, weight, busy, Steps, finds_moved, finds_closed, goes_in, goes_out, turns_back, enables, retires, closes, gave, is_open, is_busy, gives, Reached, opens, goes_on, leaves_right}
 use Rattle.hub_core.proofs.Words.{IsGateOf, GateMachineLaws}
 use Rattle.hub_core.proofs.Items.{some_is, none_got, got_set, got_of-map}
+use Rattle.hub_core.proofs.Lists.{or_true}
 
 -- whether the right of a line in this phase is at home
 abbrev is_home : Bool → Phase → Bool
@@ -17,10 +18,6 @@ weight_le (q ∷ ps) zero p e =
 weight_le (q ∷ ps) (suc l) p e =
     let r = weight_le ps l p e in
     omega (arith, sum_by-cons weight q ps)
-
-or_right : (a : Bool) → (a || true) ≡ true
-or_right true = refl
-or_right false = refl
 
 -- a line whose right stays where it is
 home_stays : (c : Bool) (ps : List Phase) (l : ℕ) (p w : Phase) → slice_get ps l ≡ Some p → leaves_right p ≡ leaves_right w → map (is_home c) (set ps l w) ≡ map (is_home c) ps
@@ -40,11 +37,10 @@ gone B _ = None
 
 none_home : {A : Type 0} (B : Type 0) (hs : List A) (ps : List Phase) → length hs ≡ length ps → map is_some (map (gone B) hs) ≡ map (is_home true) ps
 none_home B [] [] same = refl
-none_home B [] (p ∷ ps) same = absurd (omega (arith, same))
-none_home B (h ∷ hs) [] same = absurd (omega (arith, same))
 none_home B (h ∷ hs) (Out ∷ ps) same = ap (λ bs. false ∷ bs) (none_home B hs ps (omega arith))
 none_home B (h ∷ hs) (Inside ∷ ps) same = ap (λ bs. false ∷ bs) (none_home B hs ps (omega arith))
 none_home B (h ∷ hs) (Turned ∷ ps) same = ap (λ bs. false ∷ bs) (none_home B hs ps (omega arith))
+none_home B _ _ same = absurd (omega (arith, same))
 
 all_home : {A : Type 0} (rights : List A) → map is_some (map Some rights) ≡ map (is_home false) (map (λ (_ : A). Out) rights)
 all_home [] = refl
@@ -53,15 +49,13 @@ all_home (r ∷ rights) = ap (λ bs. true ∷ bs) (all_home rights)
 -- where no line is inside or turned, each right is at home
 rights_of : {A : Type 0} (hs : List (Option A)) (ps : List Phase) → map is_some hs ≡ map (is_home false) ps → sum_by weight ps ≡ 0 → (rights : List A) × (length rights ≡ length ps) × (hs ≡ map Some rights)
 rights_of [] [] same none = ([], refl, refl)
-rights_of [] (p ∷ ps) same none = cc
-rights_of (h ∷ hs) [] same none = cc
 rights_of (h ∷ hs) (Inside ∷ ps) same none = absurd (omega (arith, none, sum_by-cons weight Inside ps))
 rights_of (h ∷ hs) (Turned ∷ ps) same none = absurd (omega (arith, none, sum_by-cons weight Turned ps))
-rights_of (None ∷ hs) (Out ∷ ps) same none = cc
 rights_of (Some r ∷ hs) (Out ∷ ps) same none =
     let rest : map is_some hs ≡ map (is_home false) ps = cc in
     let later = rights_of hs ps rest (omega (arith, none, sum_by-cons weight Out ps)) in
     (r ∷ later.0, ap suc later.1, ap (λ os. Some r ∷ os) later.2)
+rights_of _ _ same none = cc
 
 module _ {R : Type 0} where
   pub at_first : (rights : List R) → IsGateOf (length rights) (opened rights)
@@ -120,7 +114,7 @@ module _ {R : Type 0} where
     }
     after g' enables = record { phases = h.phases; homes = h.homes; turned = h.turned; shut = h.shut; nobody = h.nobody }
     after g' retires = record { phases = h.phases; homes = h.homes; turned = λ k at. refl; shut = λ c. refl; nobody = h.nobody }
-    after g' closes = record { phases = h.phases; homes = h.homes; turned = λ k at. or_right g.moved; shut = λ c. or_right g.moved; nobody = h.nobody }
+    after g' closes = record { phases = h.phases; homes = h.homes; turned = λ k at. or_true g.moved; shut = λ c. or_true g.moved; nobody = h.nobody }
     after g' (gave c) = h
     after g' (is_open c s) = h
     after g' (is_busy c s b) = h

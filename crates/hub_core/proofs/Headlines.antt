@@ -1,12 +1,12 @@
 -- What every legal history keeps: the headline, and the laws beside it.
-use Rattle.std.proofs.Common.{Bool, List, [], ap, arith, cond, eqb, false, get_or, inl, inr, length, length-append, ltb, map, not, refl, rules, subst, suc, sym, true, zero, ℕ, ◌&&◌, ◌++◌, ◌+◌, ◌<◌, ◌||◌, ◌∙◌, ◌∷◌, ◌≡◌}
+use Rattle.std.proofs.Common.{Bool, List, [], ap, arith, cond, eqb, false, get_or, inl, inr, length, length-append, ltb, map, not, refl, rules, subst, suc, sym, true, zero, ℕ, ◌&&◌, ◌++◌, ◌+◌, ◌<◌, ◌∙◌, ◌∷◌, ◌≡◌}
 use Rattle.hub_core.proofs.Words.{Action, AllByRecursion, Answers, EndId, Envelope, Facts, Headline, History, Inside, IsBusyAt, IsDrainedAt, IsTurned, KeepsTheLine, Legal, LegalAfter, MatchBool, Out, Outcome, Pair, Phase, Prefix, SameIsJoined}
 use Rattle.hub_core.proofs.Words.{Sender, Sound, Turned, TurnedPutsNothing, accepted, and_parts, by, discarded, enter_of, eqb-true, ext_get_or, facts, false≢true, filter, filter-append, get_or-append_seam, get_or_append_left, hears_notice, is_away_at, is_inside, is_line}
-use Rattle.hub_core.proofs.Words.{is_out, is_some, leaves, lines_of, map-append, nat_tests, not-true, numbers, phase_of_line, poster, posts, someone_at, take_of, taken, up_to}
+use Rattle.hub_core.proofs.Words.{is_out, is_some, leaves, lines_of, map-append, nat_tests, not-true, numbers, phase_of_line, poster, posts, someone_at, take_of, taken, up_to, not-false, or_parts}
 use Rattle.hub_core.specs.declared.step.Action.TheVariants as action
 use Rattle.hub_core.specs.declared.outcome.Outcome.TheVariants as outcome
 use Rattle.hub_core.proofs.Away.{speaker_next}
-use Rattle.hub_core.proofs.Fitting.{any_of, busy_of, empty_of, found_closed_of, found_moved_of, let_in_of, noticed_of, pushed_of}
+use Rattle.hub_core.proofs.Fitting.{any_of, found_closed_of, found_moved_of, let_in_of, noticed_of, pushed_of, served_of}
 use Rattle.hub_core.proofs.Legals.{legal_apart, legal_at, legal_joined}
 use Rattle.hub_core.proofs.Lists.{eqb_same}
 use Rattle.hub_core.proofs.Nexts.{facts_next, next}
@@ -14,12 +14,9 @@ use Rattle.hub_core.proofs.Sames.{turned_leaves, turned_same}
 use Rattle.hub_core.proofs.SoundLines.{Numbered, on_place}
 use Rattle.hub_core.proofs.SoundWaiting.{taken_prefix}
 use Rattle.hub_core.proofs.Sounds.{sound_legal}
+use Rattle.hub_core.proofs.Joins.{length-up_to}
 
 -- ---- a prefix of numbered envelopes is numbered
-
-length-up_to : (n : ℕ) → length (up_to n) ≡ n
-length-up_to zero = refl
-length-up_to (suc n) = length-append (up_to n) (n ∷ []) ∙ ap (λ m. m + 1) (length-up_to n) ∙ omega arith
 
 last_of : (i n : ℕ) → i < suc n → ltb i n ≡ false → i ≡ n
 last_of i n h e = grind (arith, nat_tests)
@@ -120,7 +117,7 @@ closed_takes h before after e refused o l is closed =
 empty_at : (h before after : History) (e : EndId) (refused : Bool) → Legal h → h ≡ before ++ take_of e refused outcome.Empty ∷ after → IsDrainedAt before e.0
 empty_at h before after e refused l is =
     let at = legal_at h before after (take_of e refused outcome.Empty) l is in
-    let served = empty_of (facts before) e at.1 in
+    let served = served_of (facts before) e outcome.Empty (λ is. cc) (λ is. cc) (λ is. cc) at.1 in
     record { is_open = served.is_open; is_enabled = served.is_enabled; all = served.serves.all }
 
 -- the line whose poster is inside or being turned back at a queue that isn't settled
@@ -129,11 +126,6 @@ pub record Waits (f : Facts) (x k : ℕ) : Type 0 where
   pub low : line < lines_of ((f.end x).kind)
   pub away : is_out (f.line x line).phase ≡ false
   pub there : (f.line x line).stand ≡ k
-
-unsettled : (c s : Bool) → (c || not s) ≡ false → (c ≡ false) × (s ≡ true)
-unsettled true s h = cc
-unsettled false true h = (refl, refl)
-unsettled false false h = cc
 
 pub waits_of : (f : Facts) (x k : ℕ) → someone_at f x k ≡ true → Waits f x k
 waits_of f x k h =
@@ -144,8 +136,10 @@ waits_of f x k h =
 busy_at : (h before after : History) (e : EndId) (refused : Bool) → Legal h → h ≡ before ++ take_of e refused outcome.Busy ∷ after → IsBusyAt before e.0
 busy_at h before after e refused l is =
     let at = legal_at h before after (take_of e refused outcome.Busy) l is in
-    let served = busy_of (facts before) e at.1 in
-    let who = waits_of (facts before) e.0 ((facts before).end e.0).taker_stand (unsettled ((facts before).clear e.0 ((facts before).end e.0).taker_stand) (someone_at (facts before) e.0 ((facts before).end e.0).taker_stand) served.serves.1).1 in
+    let served = served_of (facts before) e outcome.Busy (λ is. cc) (λ is. cc) (λ is. cc) at.1 in
+    let stand : ℕ = ((facts before).end e.0).taker_stand in
+    let unsettled = or_parts ((facts before).clear e.0 stand) (not (someone_at (facts before) e.0 stand)) served.serves.1 in
+    let who = waits_of (facts before) e.0 stand (not-false (someone_at (facts before) e.0 stand) unsettled.1) in
     record { is_open = served.is_open; is_enabled = served.is_enabled; retired = served.serves.0.retired; line = who.line; away = who.away; there = who.there }
 
 -- ---- the headline

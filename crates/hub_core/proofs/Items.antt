@@ -13,9 +13,8 @@ module _ {A : Type 0} where
   pub got_set : (l : List A) (i j : ℕ) (a b : A) → slice_get (set l i a) j ≡ Some b → ((j ≡ i) × (a ≡ b)) ⊎ ((j ≢ i) × (slice_get l j ≡ Some b))
   got_set [] i j a b e = none_got b e
   got_set (x ∷ xs) zero zero a b e = inl (refl, some_is a b e)
-  got_set (x ∷ xs) zero (suc j) a b e = inr ((λ h. omega arith), e)
-  got_set (x ∷ xs) (suc i) zero a b e = inr ((λ h. omega arith), e)
   got_set (x ∷ xs) (suc i) (suc j) a b e = ⊎_elim (λ t. inl (ap suc t.0, t.1)) (λ t. let n = t.0 in inr ((λ h. n (omega arith)), t.1)) (got_set xs i j a b e)
+  got_set (x ∷ xs) _ _ a b e = inr ((λ h. omega arith), e)
 
   -- with one item more, an item is that one, or was there
   pub got_push : (l : List A) (j : ℕ) (a b : A) → slice_get (l ++ a ∷ []) j ≡ Some b → ((j ≡ length l) × (a ≡ b)) ⊎ (slice_get l j ≡ Some b)

@@ -1,7 +1,7 @@
 -- Lists over the numbers below a bound, and the queues of an end joined to one list.
 use Rattle.std.proofs.Common.{◌≡◌, ℕ, zero, suc, ◌+◌, ◌<◌, ◌≤◌, Bool, true, false, cond, eqb, ltb, List, [], ◌∷◌, ◌++◌, length, map, refl, sym, ap, ◌∙◌, inl, inr, ⊎_elim, arith, rules, append-nil, append_assoc, length-append, Some, not, ◌&&◌, lt-ltb, ne_eqb}
 use Rattle.hub_core.proofs.Words.{slice_get, flat_map, filter, AllByRecursion, eqb-true, cases_order, le-ltb, eq-eqb, map-append, length-map, append_cancel_left, flat_map-append, Envelope, by, in_queue, Prefix, Rises, up_to}
-use Rattle.hub_core.proofs.Items.{none_got, got_push, got_there}
+use Rattle.hub_core.proofs.Items.{none_got, got_push}
 use Rattle.hub_core.proofs.Totals.{count, count_lines}
 
 -- ---- lists over the numbers below a bound
@@ -10,25 +10,16 @@ pub length-up_to : (n : ℕ) → length (up_to n) ≡ n
 length-up_to zero = refl
 length-up_to (suc n) = let rest = length-up_to n in length-append (up_to n) (n ∷ []) ∙ (omega arith)
 
-pub length-map-up_to : {A : Type 0} (w : ℕ → A) (n : ℕ) → length (map w (up_to n)) ≡ n
-length-map-up_to w n = length-map (up_to n) w ∙ length-up_to n
-
 -- what is found at a number is what the function has there
 pub got_of-up_to : {A : Type 0} (w : ℕ → A) (n k : ℕ) (b : A) → slice_get (map w (up_to n)) k ≡ Some b → (k < n) × (w k ≡ b)
 got_of-up_to w zero k b is = none_got b is
 got_of-up_to w (suc n) k b is = ⊎_elim
     (λ last.
-    let count : length (map w (up_to n)) ≡ n = length-map-up_to w n in
+    let count : length (map w (up_to n)) ≡ n = (length-map (up_to n) w ∙ length-up_to n) in
     let same : k ≡ n = last.0 ∙ count in
     (omega arith, ap w same ∙ last.1))
     (λ before. let rest = got_of-up_to w n k b before in let low : k < n = rest.0 in (omega arith, rest.1))
     (got_push (map w (up_to n)) k (w n) b (sym (ap (λ l. slice_get l k) (map-append w (up_to n) (n ∷ []))) ∙ is))
-
-pub got-up_to : {A : Type 0} (w : ℕ → A) (n k : ℕ) → k < n → slice_get (map w (up_to n)) k ≡ Some (w k)
-got-up_to w n k low =
-    let count : length (map w (up_to n)) ≡ n = length-map-up_to w n in
-    let there = got_there (map w (up_to n)) k (omega arith) in
-    there.1 ∙ ap Some (sym (got_of-up_to w n k there.0 there.1).1)
 
 -- ---- queues that are joined
 
@@ -144,13 +135,6 @@ of_line l (v ∷ vs) = elim (eqb v.line.0 l) as (λ b. eqb v.line.0 l ≡ b → 
   | true ↦ λ is. (eqb-true v.line.0 l is, of_line l vs)
   | false ↦ λ _. of_line l vs
 ] refl
-
--- no envelope is of a queue past all of theirs
-pub none_past : (k : ℕ) (vs : List Envelope) → AllByRecursion (λ (u : Envelope). u.epoch < k) vs → in_queue k vs ≡ []
-none_past k [] h = refl
-none_past k (u ∷ vs) h =
-    let low : u.epoch < k = h.0 in
-    ap (λ b. cond b (u ∷ in_queue k vs) (in_queue k vs)) (ne_eqb u.epoch k (λ same. absurd (omega arith))) ∙ none_past k vs h.1
 
 -- where nothing of any line is there, nothing is there
 pub nothing_there : (vs : List Envelope) → ((l : ℕ) → by l vs ≡ []) → vs ≡ []

@@ -6,14 +6,10 @@ pub legal_after_one : (past h : History) (p : Pair) → LegalAfter past h → Fi
 legal_after_one past [] p l f = (subst (λ k. Fits k p) (append-nil past) f, tt)
 legal_after_one past (q ∷ h) p l f = (l.0, legal_after_one (past ++ q ∷ []) h p l.1 (subst (λ k. Fits k p) (sym (append_assoc past (q ∷ []) h)) f))
 
-pub legal_one : (h : History) (p : Pair) → Legal h → Fits h p → Legal (h ++ p ∷ [])
-legal_one h p l f = legal_after_one [] h p l f
-
 pub zip_one : {A B : Type 0} (xs : List A) (ys : List B) (x : A) (y : B) → length ys ≡ length xs → zip (xs ++ x ∷ []) (ys ++ y ∷ []) ≡ zip xs ys ++ (x, y) ∷ []
 zip_one [] [] x y h = refl
-zip_one [] (b ∷ ys) x y h = absurd (omega (arith, h))
-zip_one (a ∷ xs) [] x y h = absurd (omega (arith, h))
 zip_one (a ∷ xs) (b ∷ ys) x y h = ap (λ zs. (a, b) ∷ zs) (zip_one xs ys x y (omega (arith, h)))
+zip_one _ _ x y h = absurd (omega (arith, h))
 
 -- what holds at first, and after each pair that fits, holds of every legal history
 pub by_pairs : (P : History → Type 0) → ((h : History) (p : Pair) → P h → Fits h p → P (h ++ p ∷ [])) → (past h : History) → P past → LegalAfter past h → P (past ++ h)

@@ -1,6 +1,7 @@
 -- Lists of ends, agents, lines and envelopes: what a write leaves at each number.
-use Rattle.std.proofs.Common.{ne_eqb, ◌≡◌, ℕ, ◌<◌, ◌+◌, true, false, eqb, List, [], ◌∷◌, ◌++◌, length, get_or, set, Option, Some, zero, suc, ◌≤◌, None, refl, sym, ap, subst, ◌∙◌, inl, inr, arith, rules, Bool}
-use Rattle.hub_core.proofs.Words.{nat_tests, slice_get, AllByRecursion, slice_get_cases}
+use Rattle.std.proofs.Common.{ne_eqb, ◌≡◌, ℕ, ◌<◌, ◌+◌, true, false, eqb, List, [], ◌∷◌, ◌++◌, length, get_or, set, Option, Some, zero, suc, ◌≤◌, None, refl, sym, ap, subst, ◌∙◌, inl, inr, arith, rules, Bool, length-append}
+use Rattle.std.proofs.Common.{◌&&◌, ◌||◌}
+use Rattle.hub_core.proofs.Words.{nat_tests, slice_get, AllByRecursion, slice_get_cases, Phase, Out, is_out, false≢true}
 
 pub slice_get-set_same : {A : Type 0} (xs : List A) (i : ℕ) (x : A) → i < length xs → slice_get (set xs i x) i ≡ Some x
 slice_get-set_same [] i x h = absurd (omega arith)
@@ -8,11 +9,9 @@ slice_get-set_same (y ∷ ys) zero x h = refl
 slice_get-set_same (y ∷ ys) (suc i) x h = slice_get-set_same ys i x (omega arith)
 
 pub slice_get-set_other : {A : Type 0} (xs : List A) (i j : ℕ) (x : A) → (j ≡ i → ⊥) → slice_get (set xs i x) j ≡ slice_get xs j
-slice_get-set_other [] i j x h = refl
 slice_get-set_other (y ∷ ys) zero zero x h = absurd (h refl)
-slice_get-set_other (y ∷ ys) zero (suc j) x h = refl
-slice_get-set_other (y ∷ ys) (suc i) zero x h = refl
 slice_get-set_other (y ∷ ys) (suc i) (suc j) x h = slice_get-set_other ys i j x (λ e. h (ap suc e))
+slice_get-set_other _ _ _ x h = refl
 
 -- what is there, written again, changes nothing
 pub set_again : {A : Type 0} (xs : List A) (i : ℕ) (x : A) → slice_get xs i ≡ Some x → set xs i x ≡ xs
@@ -59,11 +58,9 @@ get_or-set_same (y ∷ ys) zero x h = refl
 get_or-set_same (y ∷ ys) (suc i) x h = get_or-set_same ys i x (omega arith)
 
 pub get_or-set_other : {A : Type 0} (xs : List (List A)) (i j : ℕ) (x : List A) → (j ≡ i → ⊥) → get_or (set xs i x) j [] ≡ get_or xs j []
-get_or-set_other [] i j x h = refl
 get_or-set_other (y ∷ ys) zero zero x h = absurd (h refl)
-get_or-set_other (y ∷ ys) zero (suc j) x h = refl
-get_or-set_other (y ∷ ys) (suc i) zero x h = refl
 get_or-set_other (y ∷ ys) (suc i) (suc j) x h = get_or-set_other ys i j x (λ e. h (ap suc e))
+get_or-set_other _ _ _ x h = refl
 
 -- what is inside a list is there
 pub is_there : {A : Type 0} (xs : List A) (i : ℕ) → i < length xs → slice_get xs i ≡ None → ⊥
@@ -77,5 +74,31 @@ is_there xs i within none = elim (slice_get_cases xs i).1 [
 pub next_up : (n m : ℕ) → n ≤ m → (m ≡ n → ⊥) → n + 1 ≤ m
 next_up n m from other = grind (arith, nat_tests)
 
+-- past a list and not right after it is past the list with one more
+pub past_last : {A : Type 0} (xs : List A) (x : A) (m : ℕ) → length xs ≤ m → (m ≡ length xs → ⊥) → length (xs ++ x ∷ []) ≤ m
+past_last xs x m from other = let beyond : length xs + 1 ≤ m = next_up (length xs) m from other in simp length-append (omega arith)
+
+-- ---- tests
+
+pub and_false : (b : Bool) → (b && false) ≡ false
+and_false true = refl
+and_false false = refl
+
+pub or_none : (b : Bool) → b ≡ (b || false)
+or_none true = refl
+or_none false = refl
+
+pub or_third : (a b c : Bool) → ((a || b) || c) ≡ (a || (b || c))
+or_third true b c = refl
+or_third false b c = refl
+
 pub below_last : (i n : ℕ) → i < n + 1 → (i ≡ n → ⊥) → i < n
 below_last i n below other = grind (arith, nat_tests)
+
+pub or_true : (b : Bool) → (b || true) ≡ true
+or_true true = refl
+or_true false = refl
+
+pub is_out_of : (p : Phase) → is_out p ≡ true → p ≡ Out
+is_out_of Out h = refl
+is_out_of _ h = absurd (false≢true h)

@@ -1,7 +1,7 @@
 -- The mailbox of an end goes on by the events of each pair that fits.
 use Rattle.std.proofs.Common.{◌≡◌, ℕ, zero, suc, ◌+◌, ◌<◌, ◌≤◌, Bool, true, false, cond, eqb, List, [], ◌∷◌, ◌++◌, map, replicate, Option, Some, None, refl, sym, ap, subst, ◌∙◌, ⊎_elim, arith}
-use Rattle.hub_core.proofs.Words.{false≢true, false_from_ne_true, eqb-true, eqb-false, flat_map-append, length-replicate, Envelope, EndId, Kind, Port, Client, Worker, Member, Phase, Out, Inside, Turned, Action, Outcome, EndNow, LineNow, Facts, accepted_by, ends_after, kind_after, lines_of, is_client, is_worker, by, in_queue, no_end}
-use Rattle.hub_core.proofs.Words.{no_line, Sound, Answers, IsAt, opened, Mailbox, new_mailbox, IsMailbox, MailboxEvent, push, pop, put_in, OneRight, events_of, leaving, finds_busy_at, sweeping, Happen, after_events, first_mailbox, made_as, after_pair}
+use Rattle.hub_core.proofs.Words.{false≢true, false_from_ne_true, eqb-true, eqb-false, flat_map-append, length-replicate, Envelope, EndId, Kind, Port, Client, Worker, Member, Phase, Out, Action, Outcome, EndNow, LineNow, Facts, accepted_by, ends_after, kind_after, lines_of, is_client, is_worker, by, in_queue, no_end, no_line, Sound}
+use Rattle.hub_core.proofs.Words.{Answers, IsAt, opened, Mailbox, new_mailbox, IsMailbox, MailboxEvent, push, pop, put_in, OneRight, events_of, leaving, finds_busy_at, sweeping, Happen, after_events, first_mailbox, made_as, after_pair}
 use Rattle.hub_core.specs.declared.step.Action.TheVariants as action
 use Rattle.hub_core.specs.declared.outcome.Outcome.TheVariants as outcome
 use Rattle.hub_core.proofs.Items.{got_within, got_of-map}
@@ -26,8 +26,7 @@ one_put false v = refl
 
 leaving_puts : (m : Mailbox OneRight) (k line : ℕ) (p : Phase) → puts (leaving m k line p ∷ []) ≡ []
 leaving_puts m k line Out = refl
-leaving_puts m k line Inside = refl
-leaving_puts m k line Turned = refl
+leaving_puts m k line _ = refl
 
 look_puts : (m : Mailbox OneRight) (o : Option ℕ) → puts (finds_busy_at m o) ≡ []
 look_puts m None = refl

@@ -5,7 +5,7 @@ use Rattle.hub_core.proofs.Words.{Worker, add, advance, at_gate, close, enable, 
 use Rattle.hub_core.proofs.Words.{looked, named_envelope, named_notice, not-false, opened, or_parts, pop, push, rights_of, says_closed, says_done, says_moved, someone_at, sweeping, unsettled}
 use Rattle.hub_core.specs.declared.step.Action.TheVariants as action
 use Rattle.hub_core.specs.declared.outcome.Outcome.TheVariants as outcome
-use Rattle.hub_core.proofs.Fitting.{FindsBusy, adopted_of, busy_of, cleared_of, empty_of, got_of, hopped_of, look_busy_of, noticed_of, pushed_of, swept_of, went_on_of}
+use Rattle.hub_core.proofs.Fitting.{FindsBusy, adopted_of, cleared_of, got_of, hopped_of, look_busy_of, noticed_of, pushed_of, swept_of, went_on_of, served_of}
 use Rattle.hub_core.proofs.MailboxShown.{IsShown, Leads, ShownAt, View, at_end_or, view}
 use Rattle.hub_core.proofs.Nexts.{next}
 use Rattle.hub_core.proofs.PairGates.{closed_there, entered, left_line, started_there, turned_closed, turned_moved, with_line}
@@ -65,14 +65,14 @@ module _ (f : Facts) (e : ℕ) (m : Mailbox OneRight) (sound : Sound f) (shown :
 
   empty_at : (x : EndId) → FitsTake f x outcome.Empty → ShownAt f x.0 m → Leads x.0 (lines x.0) m (pop ((f.end x.0).taker_stand) None ∷ []) (view f x.0)
   empty_at x fits there =
-      let served = empty_of f x fits in
+      let served = served_of f x outcome.Empty (λ is. cc) (λ is. cc) (λ is. cc) fits in
       let all : IsDrained f x = served.serves in
       let nothing : HoldsNothing m m.taker = taken_all f x.0 m there (none_discarded x.0 served.is_open) (λ l. ap (in_queue (f.end x.0).taker_stand) (all.all l)) in
       pop_first x.0 [] (view f x.0) there nothing (m, refl, there)
 
   busy_at_taker : (x : EndId) → FitsTake f x outcome.Busy → ShownAt f x.0 m → Leads x.0 (lines x.0) m (finds_busy m ((f.end x.0).taker_stand) ∷ pop ((f.end x.0).taker_stand) None ∷ []) (view f x.0)
   busy_at_taker x fits there =
-      let served = busy_of f x fits in
+      let served = served_of f x outcome.Busy (λ is. cc) (λ is. cc) (λ is. cc) fits in
       let empty : IsLeft f x = served.serves.0 in
       let t : ℕ = (f.end x.0).taker_stand in
       let count : length m.gates ≡ (f.end x.0).newest + 1 = there.gates in

@@ -1,13 +1,13 @@
 -- Events of a mailbox, one after another: what they lead to is one, and they keep its queues in order.
 use Rattle.std.proofs.Common.{◌≡◌, ℕ, ◌+◌, ◌-◌, ◌≤◌, true, cond, eqb, List, [], ◌∷◌, ◌++◌, length, set, refl, sym, ap, subst, ◌∙◌, arith, append_assoc, append-nil, length-set, length-append}
-use Rattle.hub_core.proofs.Words.{flat_map, slice_get, get_or_from_slice_get, append_cancel_left, filter-append, Envelope, in_queue, Prefix, Gate, opened, Steps, finds_moved, finds_closed, goes_in, goes_out, turns_back, enables, retires, closes, gave, is_open, is_busy, gives, Queue, new_queue, pushed, Mailbox, QueueAt, got_from}
-use Rattle.hub_core.proofs.Words.{IsMailbox, MailboxEvent, put_in, got_in, MailboxStep, gate_steps, pushes, takes, sweeps, finds_none, hops, advances, adds, HoldsFirst, without_first, taken_out, with_gate, with_queue, with_stand, with_new, OneRight, Happen, gate_after, with_gate_after, with_queue_after, after_event, after_events}
+use Rattle.hub_core.proofs.Words.{flat_map, slice_get, get_or_from_slice_get, append_cancel_left, filter-append, Envelope, in_queue, Prefix, Gate, opened, Steps, finds_moved, Queue, new_queue, pushed, Mailbox, QueueAt, got_from, IsMailbox, MailboxEvent, put_in, got_in, MailboxStep, gate_steps, pushes, takes, sweeps, finds_none}
+use Rattle.hub_core.proofs.Words.{hops, advances, adds, HoldsFirst, without_first, taken_out, with_gate, with_queue, with_stand, with_new, OneRight, Happen, gate_after, with_gate_after, with_queue_after, after_event, after_events}
 use Rattle.hub_core.specs.GateMachine as machine
 use Rattle.hub_core.proofs.Lists.{eqb_same, slice_get-set_same}
 use Rattle.hub_core.proofs.Items.{got_within, at_written, at_pushed}
 use Rattle.hub_core.proofs.Waits.{queue_more, queue_other}
 use Rattle.hub_core.proofs.TakenOut.{some_held}
-use Rattle.hub_core.proofs.MailboxStepping.{step_kept, step_grows}
+use Rattle.hub_core.proofs.MailboxStepping.{step_grows, step_kept}
 use Rattle.hub_core.proofs.MailboxShown.{HasRight, Runs}
 use Rattle.hub_core.proofs.PairQueues.{got_there_in}
 
@@ -15,17 +15,7 @@ use Rattle.hub_core.proofs.PairQueues.{got_there_in}
 
 gate_one : {R : Type 0} {owns : ℕ → R → Type 0} (g g' : Gate R) {event : machine.Event R} {answer : machine.Answer R} → Steps owns g event answer g' → g' ≡ gate_after g event answer
 gate_one g g' (finds_moved l out moved) = refl
-gate_one g g' (finds_closed l out moved closed) = refl
-gate_one g g' (goes_in l r out moved closed home) = refl
-gate_one g g' (goes_out l r inside own) = refl
-gate_one g g' (turns_back l turned) = refl
-gate_one g g' enables = refl
-gate_one g g' retires = refl
-gate_one g g' closes = refl
-gate_one g g' (gave collected) = refl
-gate_one g g' (is_open kept open_yet) = refl
-gate_one g g' (is_busy kept shut busy) = refl
-gate_one g g' (gives rights kept shut nobody home) = refl
+gate_one g g' _ = refl
 
 module _ {R : Type 0} {owns : ℕ → ℕ → R → Type 0} {end lines : ℕ} where
   step_one : (m after : Mailbox R) {event : MailboxEvent R} → MailboxStep owns end lines m event after → after ≡ after_event m event

@@ -1,28 +1,24 @@
 -- Agent and Channel: what the core answers fits, and it shows the facts with the answered step.
 use Rattle.std.proofs.Common.{Bool, List, None, Option, Some, [], ap, append_assoc, arith, cond, eqb, false, get_or, inl, inr, length, length-append, ltb-false, ltb-true, nat_le, nat_lt, ne_eqb, not, refl, replicate, rules, set, subst, suc, sym, true, zero, ℕ, ◌&&◌, ◌++◌, ◌+◌, ◌-◌, ◌<◌, ◌||◌, ◌∙◌, ◌∷◌, ◌≡◌, ◌≢◌, ◌≤◌, ◌⊎◌}
-use Rattle.hub_core.proofs.Words.{Action, Agent, AgentId, AgentNow, Client, CoreState, End, EndId, EndNow, Envelope, Facts, Kind, LineNow, MAX_ENDS, Member, Outcome, Port, RosterNow, ShowsEnd, ShowsFacts, ShowsPut, Sound}
-use Rattle.hub_core.proofs.Words.{With, Worker, agent_answer, agent_now, channel_answer, come, count_away, count_of, count_with, end_now, ends, eqb-false, eqb-true, false_from_ne_true, false≢true, first_agent, first_line, has_one, is_casting, is_client, is_out, is_some}
-use Rattle.hub_core.proofs.Words.{is_with, is_worker, kept_away, kept_clients, kept_member_answer, kept_queue_answer, kept_workers, length-replicate, line_now, lines_of, member_answer, nat_tests, new_end, no_end, no_line, one_more, option_map, origin_at, peer_of, place, queue_answer, roster}
-use Rattle.hub_core.proofs.Words.{seen, set_agent, slice_get, slice_get_past, taken}
+use Rattle.hub_core.proofs.Words.{Action, Agent, AgentId, AgentNow, Client, CoreState, End, EndId, EndNow, Envelope, Facts, Kind, LineNow, MAX_ENDS, Member, Outcome, Port, ShowsEnd, ShowsFacts, ShowsPut, Sound, With, Worker, agent_answer, agent_now, channel_answer, come, count_away, count_of, count_with, end_now, ends}
+use Rattle.hub_core.proofs.Words.{eqb-false, eqb-true, false_from_ne_true, false≢true, first_agent, first_line, has_one, is_casting, is_client, is_out, is_some, is_with, is_worker, kept_away, kept_clients, kept_member_answer, kept_queue_answer, kept_workers, length-replicate, line_now, lines_of, member_answer, nat_tests}
+use Rattle.hub_core.proofs.Words.{new_end, no_end, no_line, one_more, option_map, origin_at, peer_of, place, queue_answer, roster, seen, set_agent, slice_get, slice_get_past, taken}
 use Rattle.hub_core.specs.declared.step.Action.TheVariants as action
 use Rattle.hub_core.specs.declared.outcome.Outcome.TheVariants as outcome
 use Rattle.hub_core.proofs.Calms.{calm_places}
 use Rattle.hub_core.proofs.Casts.{roster_agent}
 use Rattle.hub_core.proofs.Changing.{ShownAfter, ShownWith}
-use Rattle.hub_core.proofs.Counts.{Counted, IsCalmAt, OneEnd, and_false, away_more, come_length, come_now, counted_came, counts_at, none_at, none_of_kind}
+use Rattle.hub_core.proofs.Counts.{Counted, IsCalmAt, OneEnd, away_more, come_length, come_now, counted_came, counts_at, none_at, none_counted}
 use Rattle.hub_core.proofs.Fitting.{member_made_of, new_agent, new_ends, queue_made_of}
 use Rattle.hub_core.proofs.Frames.{Stepped}
-use Rattle.hub_core.proofs.Lists.{eqb_same, next_up, set_again, slice_get-append_back, slice_get-append_front}
+use Rattle.hub_core.proofs.Lists.{eqb_same, set_again, slice_get-append_back, slice_get-append_front, past_last, and_false}
 use Rattle.hub_core.proofs.Moves.{one_made}
 use Rattle.hub_core.proofs.Nexts.{Change, agent_made, channel_made, client_made, next, put, worker_made}
 use Rattle.hub_core.proofs.Seeing.{Sees, seen_is}
-use Rattle.hub_core.proofs.Showing.{SoundlyShows, plainly}
+use Rattle.hub_core.proofs.Showing.{SoundlyShows, plainly, with_roster}
 use Rattle.hub_core.proofs.Speakers.{nothing_accepted, nothing_removed, running_made}
 
 -- ---- Agent
-
-past_one : (agents : List Agent) (a : ℕ) → (a ≡ length agents → ⊥) → length agents ≤ a → length (agents ++ first_agent ∷ []) ≤ a
-past_one agents a other from = let beyond : length agents + 1 ≤ a = next_up (length agents) a from other in simp length-append (omega arith)
 
 -- each agent after one was made
 agent_each : (agents : List Agent) (f : Facts) (a : ℕ) → ((b : ℕ) → f.agent b ≡ agent_now (slice_get agents b)) → (before same : Bool) → nat_lt a (length agents) ≡ before → eqb a (length agents) ≡ same → (let y : AgentNow = record (f.agent a) { runs = cond same true (f.agent a).runs } in y ≡ agent_now (slice_get (agents ++ first_agent ∷ []) a))
@@ -34,15 +30,14 @@ agent_each agents f a h true false is here = h a ∙ ap agent_now (sym (slice_ge
 agent_each agents f a h false false is here =
     let other : a ≡ length agents → ⊥ = eqb-false a (length agents) here in
     let from : length agents ≤ a = ltb-false a (length agents) is in
-    let past : length (agents ++ first_agent ∷ []) ≤ a = past_one agents a other from in
+    let past : length (agents ++ first_agent ∷ []) ≤ a = past_last agents first_agent a from other in
     h a ∙ ap agent_now (slice_get_past agents a from ∙ sym (slice_get_past (agents ++ first_agent ∷ []) a past))
 
 -- of a new agent nothing is counted, as of none
 none_kept : (kept : Option Agent → ℕ) (agents : List Agent) (a : ℕ) → kept None ≡ 0 → kept (Some (first_agent)) ≡ 0 → kept (slice_get (agents ++ first_agent ∷ []) a) ≡ kept (slice_get agents a)
 none_kept kept [] zero none first = first ∙ sym none
-none_kept kept [] (suc a) none first = refl
-none_kept kept (x ∷ agents) zero none first = refl
 none_kept kept (x ∷ agents) (suc a) none first = none_kept kept agents a none first
+none_kept kept _ _ none first = refl
 
 agent_shown : (agents : List Agent) (ends : List End) (f : Facts) (origin : Option (List ℕ)) (refused : Bool) → SoundlyShows agents ends f → (let n : AgentId = record { 0 = length agents } in outcome.Agent n ≡ agent_answer f refused → Stepped (agents ++ first_agent ∷ []) ends f (action.Agent origin) refused (outcome.Agent n))
 agent_shown agents ends f origin refused h answer = record {
@@ -70,9 +65,8 @@ agent_changes c f origin refused h answer (agent_made p a) =
 
 -- the lines of a new end, and what they put
 line_first : (n l : ℕ) → line_now (slice_get (replicate n first_line) l) ≡ no_line
-line_first zero l = refl
-line_first (suc n) zero = refl
 line_first (suc n) (suc l) = line_first n l
+line_first _ _ = refl
 
 new_line : (n : ℕ) (line : ℕ → LineNow) → ((l : ℕ) → line l ≡ no_line) → (l : ℕ) → line l ≡ line_now (slice_get (replicate n first_line) l)
 new_line n line h l = h l ∙ sym (line_first n l)
@@ -127,9 +121,6 @@ nothing_at f d h past =
 abbrev made_end : Facts → AgentId → Kind → ℕ → Bool → EndNow
 made_end f a k d fresh = record (f.end d) { kind = cond fresh (Some k) (f.end d).kind; place = cond fresh (Some (With a)) (f.end d).place }
 
-past_end : (ends : List End) (p : End) (d : ℕ) → length ends ≤ d → (d ≡ length ends → ⊥) → length (ends ++ p ∷ []) ≤ d
-past_end ends p d from other = let one : length ends + 1 ≤ d = next_up (length ends) d from other in simp length-append (omega arith)
-
 -- What is kept of agents and ends, the facts that it shows, and what making an end asks of them: nothing is known of an
 -- end that isn't made, and a port is entangled with one that is, or its own line is out.
 module _ (agents : List Agent) (ends : List End) (f : Facts) (a : AgentId) (k : Kind) (h : ShowsFacts agents ends f) (few : f.ends ≤ MAX_ENDS) (known : a.0 < f.agents)
@@ -152,7 +143,7 @@ module _ (agents : List Agent) (ends : List End) (f : Facts) (a : AgentId) (k : 
   end_at d true false is here =
       subst (ShowsEnd _ _ _ _ _) (sym (slice_get-append_front ends (new_end a k ∷ []) d (ltb-true d (length ends) is))) (h.end d)
   end_at d false false is here =
-      let beyond : length (ends ++ new_end a k ∷ []) ≤ d = past_end ends (new_end a k) d (ltb-false d (length ends) is) (eqb-false d (length ends) here) in
+      let beyond : length (ends ++ new_end a k ∷ []) ≤ d = past_last ends (new_end a k) d (ltb-false d (length ends) is) (eqb-false d (length ends) here) in
       subst (ShowsEnd _ _ _ _ _) (slice_get_past ends d (ltb-false d (length ends) is) ∙ sym (slice_get_past (ends ++ new_end a k ∷ []) d beyond)) (h.end d)
 
   calm : (b : AgentId) (x : ℕ) → x < f.ends → IsCalmAt b f g x
@@ -191,13 +182,9 @@ module _ (agents : List Agent) (ends : List End) (f : Facts) (a : AgentId) (k : 
         away = counted.away;
       }
 
--- of facts that are sound all that is so
-sound_ports : (f : Facts) → Sound f → (x : ℕ) (q : EndId) → x < f.ends → (f.end x).kind ≡ Some (Port q) → (is_out (f.line x 0).phase ≡ true) ⊎ (q.0 < f.ends)
-sound_ports f h x q less is = inr (h.places.peers x q.0 (ap peer_of is)).0
-
 made_shown : (agents : List Agent) (ends : List End) (f : Facts) (a : AgentId) (k : Kind) (e : EndId) → SoundlyShows agents ends f → (f.agent a.0).runs ≡ true → e ≡ record { 0 = f.ends } → ShowsFacts (come k a agents) (ends ++ new_end a k ∷ []) (one_made f a k e)
 made_shown agents ends f a k e h runs number = subst (λ i. ShowsFacts (come k a agents) (ends ++ new_end a k ∷ []) (one_made f a k i)) (sym number)
-    (one_shown agents ends f a k (plainly h) h.sound.places.few (running_made f a h.sound.places runs) (λ d past. nothing_at f d h.sound past) (sound_ports f h.sound))
+    (one_shown agents ends f a k (plainly h) h.sound.places.few (running_made f a h.sound.places runs) (λ d past. nothing_at f d h.sound past) (λ x q less is. inr (h.sound.places.peers x q.0 (ap peer_of is)).0))
 
 -- ports and members count for no agent
 uncounted : (agents : List Agent) (k : Kind) (a : AgentId) → ((x : Agent) → one_more k x ≡ x) → come k a agents ≡ agents
@@ -213,9 +200,7 @@ both_made : (b c : Bool) (p q : EndId) (a : AgentId) (y : EndNow) → (b ≡ tru
     → (let one : EndNow = record y { kind = cond c (Some (Port p)) (cond b (Some (Port q)) y.kind); place = cond c (Some (With a)) (cond b (Some (With a)) y.place) } in
     let other : EndNow = record y { kind = cond b (Some (Port q)) (cond c (Some (Port p)) y.kind); place = cond (b || c) (Some (With a)) y.place } in one ≡ other)
 both_made true true p q a y never = absurd (never refl refl)
-both_made true false p q a y never = refl
-both_made false true p q a y never = refl
-both_made false false p q a y never = refl
+both_made _ _ p q a y never = refl
 
 channel_facts : (f : Facts) (a : AgentId) → (let e : EndId = record { 0 = f.ends } in let p : EndId = record { 0 = f.ends + 1 } in one_made (one_made f a (Port p) e) a (Port e) p ≡ next f (action.Channel a) (outcome.Ends e p))
 channel_facts f a =
@@ -293,7 +278,7 @@ pub queue_answered : (c : CoreState) (f : Facts) {b : Action} {k : Kind} {test :
 queue_answered c f {k = k} {test = test} {a = a} refused makes h =
     let held : ℕ = count_of k (slice_get c.agents a.0) in
     let full : Bool = nat_le MAX_ENDS (length c.ends) in
-    let same : ((seen c).agent a.0).runs && eqb held 0 ≡ ((f.agent a.0).runs && not (has_one test a f)) = ap (λ g. (g.agent a.0).runs && eqb held 0) (seen_is c f h) ∙ ap (λ d. (f.agent a.0).runs && d) (ap (λ n. eqb n 0) (count_kept c.agents c.ends f makes h.shows) ∙ none_of_kind test a f) in
+    let same : ((seen c).agent a.0).runs && eqb held 0 ≡ ((f.agent a.0).runs && not (has_one test a f)) = ap (λ g. (g.agent a.0).runs && eqb held 0) (seen_is c f h) ∙ ap (λ d. (f.agent a.0).runs && d) (ap (λ n. eqb n 0) (count_kept c.agents c.ends f makes h.shows) ∙ (none_counted (λ x. counts_at test a (f.end x)) f.ends)) in
     ap (λ d. made_by d full refused (length c.ends)) same ∙ ap (λ n. made_by ((f.agent a.0).runs && not (has_one test a f)) (nat_le MAX_ENDS n) refused n) (sym h.shows.ends)
 
 pub client_changes : (c : CoreState) (f : Facts) (a : AgentId) (refused : Bool) {o : Outcome} → Sees c f → o ≡ queue_answer is_client f a refused → Change (action.Client a) o → ShownAfter c f (action.Client a) refused o
@@ -314,10 +299,6 @@ member_answered c f a refused h =
     ap (λ g. joined_by ((g.agent a.0).runs && not (is_some g.roster.cast)) named (nat_le MAX_ENDS (length c.ends)) refused (length c.ends)) (seen_is c f h)
     ∙ ap (λ b. joined_by may b (nat_le MAX_ENDS (length c.ends)) refused (length c.ends)) (ap is_some (sym (h.roster.origins a.0)))
     ∙ ap (λ n. joined_by may (is_some (f.roster.origin a.0)) (nat_le MAX_ENDS n) refused n) (sym h.shows.ends)
-
--- nothing that is kept of agents and ends asks for the roster
-with_roster : {agents : List Agent} {ends : List End} {f : Facts} (roster : RosterNow) → ShowsFacts agents ends f → ShowsFacts agents ends (record f { roster = roster })
-with_roster roster h = record { agents = h.agents; agent = h.agent; ends = h.ends; end = h.end; clients = h.clients; workers = h.workers; away = h.away }
 
 pub member_shown : (c : CoreState) (f : Facts) (a : AgentId) (name : List ℕ) (refused : Bool) (e : EndId) → Sees c f → outcome.End e ≡ member_answer f a refused → Stepped c.agents (c.ends ++ new_end a (Member a) ∷ []) f (action.Member a name) refused (outcome.End e)
 member_shown c f a name refused e h answer =

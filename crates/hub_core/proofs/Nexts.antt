@@ -1,5 +1,5 @@
 -- One more pair, for all notions at once: the facts of the longer history.
-use Rattle.std.proofs.Common.{◌≡◌, ℕ, Bool, true, false, cond, eqb, List, [], ◌∷◌, ◌++◌, refl, sym, ap, subst, ◌∙◌, inl, inr, append-nil, Option, None, ◌⊎◌, Some}
+use Rattle.std.proofs.Common.{◌≡◌, ℕ, Bool, true, false, cond, eqb, List, [], ◌∷◌, ◌++◌, refl, sym, ap, ◌∙◌, inl, inr, append-nil, Option, None, ◌⊎◌, Some}
 use Rattle.hub_core.proofs.Words.{◌==◌, if◌then◌else◌, Place, fold, flat_map, fold-append, flat_map-append, Envelope, AgentId, EndId, LineId, Out, Sender, Acceptance, Action, Outcome, Pair, History, Facts, facts, named_envelope, accepted_by, named_notice, taken_by, agents_after, runs_after, ordered_after, ends_after, kind_after}
 use Rattle.hub_core.proofs.Words.{place_after, closed_after, enabled_after, phase_after, adoptions_after, hops_after, passed_after, noticed_after, held_after, clear_after, discarded_by, roster_after, no_roster, CoreState, core_after, changes_nothing, false≢true}
 use Rattle.hub_core.specs.declared.step.Action.TheVariants as action
@@ -55,21 +55,17 @@ flat_map_one : {A : Type 0} (f : Pair → List A) (h : History) (p : Pair) → f
 flat_map_one f h p = flat_map-append f h (p ∷ []) ∙ ap (λ xs. flat_map f h ++ xs) (append-nil (f p))
 
 -- one more where it is of the end, else nothing
-one_where : {A : Type 0} (b : Bool) (vs : List A) (v : A) → vs ++ cond b (v ∷ []) [] ≡ cond b (vs ++ v ∷ []) vs
-one_where true vs v = refl
-one_where false vs v = append-nil vs
-
-all_where : {A : Type 0} (b : Bool) (vs ws : List A) → vs ++ cond b ws [] ≡ cond b (vs ++ ws) vs
+pub all_where : {A : Type 0} (b : Bool) (vs ws : List A) → vs ++ cond b ws [] ≡ cond b (vs ++ ws) vs
 all_where true vs ws = refl
 all_where false vs ws = append-nil vs
 
 pub accepted_one : (x : ℕ) (vs : List Envelope) (o : Outcome) (a : Action) → vs ++ accepted_by x o a ≡ accepted_after x vs o a
-accepted_one x vs (outcome.Accepted n) (action.Push s ports body) = one_where (eqb x s.end.0) vs (named_envelope s n body ports)
-accepted_one x vs (outcome.Accepted n) (action.Notice s) = one_where (eqb x s.end.0) vs (named_notice s n)
+accepted_one x vs (outcome.Accepted n) (action.Push s ports body) = all_where (eqb x s.end.0) vs (named_envelope s n body ports ∷ [])
+accepted_one x vs (outcome.Accepted n) (action.Notice s) = all_where (eqb x s.end.0) vs (named_notice s n ∷ [])
 accepted_one x vs o a = append-nil vs
 
 taken_one : (x : ℕ) (vs : List Envelope) (o : Outcome) (a : Action) → vs ++ taken_by x o a ≡ taken_after x vs o a
-taken_one x vs (outcome.Got v) (action.Take t) = one_where (eqb x t.0) vs v
+taken_one x vs (outcome.Got v) (action.Take t) = all_where (eqb x t.0) vs (v ∷ [])
 taken_one x vs o a = append-nil vs
 
 discarded_one : (x : ℕ) (vs : List Envelope) (o : Outcome) (a : Action) → vs ++ discarded_by x o a ≡ discarded_after x vs o a
@@ -166,34 +162,13 @@ effect (outcome.Destinations ends) (action.Cast e ports body) = inr (cast_begun 
 effect outcome.Done (action.Part e) = inr (member_parted e)
 effect o a = inl (λ f. refl, λ c. refl)
 
--- what holds of the facts and is kept by each pair that changes something is kept by every pair
-pub by_change : (P : Facts → Type 0) (f : Facts) (a : Action) (o : Outcome) → P f → (Change a o → P (next f a o)) → P (next f a o)
-by_change P f a o h changed = elim (effect o a) [
-  | inl quiet ↦ subst P (sym (quiet.0 f)) h
-  | inr change ↦ changed change
-]
-
 -- a pair whose answer says so is quiet
+changing : {a : Action} {o : Outcome} → Change a o → changes_nothing o a ≡ false
+changing (agent_made origin a) = refl
+changing _ = refl
+
 pub nothing_changes : (o : Outcome) (a : Action) → changes_nothing o a ≡ true → Quiet o a
-nothing_changes outcome.NotNow a h = (λ f. refl, λ c. refl)
-nothing_changes outcome.NoMemory a h = (λ f. refl, λ c. refl)
-nothing_changes outcome.TooManyAgents a h = (λ f. refl, λ c. refl)
-nothing_changes outcome.TooManyEnds a h = (λ f. refl, λ c. refl)
-nothing_changes outcome.TooManyPorts a h = (λ f. refl, λ c. refl)
-nothing_changes outcome.Disabled a h = (λ f. refl, λ c. refl)
-nothing_changes outcome.Empty a h = (λ f. refl, λ c. refl)
-nothing_changes outcome.Busy a h = (λ f. refl, λ c. refl)
-nothing_changes outcome.TooManyMoves a h = (λ f. refl, λ c. refl)
-nothing_changes outcome.NoSuchEnd a h = (λ f. refl, λ c. refl)
-nothing_changes outcome.NoLine a h = (λ f. refl, λ c. refl)
-nothing_changes outcome.NoOrigin a h = (λ f. refl, λ c. refl)
-nothing_changes outcome.InvalidState a h = (λ f. refl, λ c. refl)
-nothing_changes outcome.NotTransferable a h = (λ f. refl, λ c. refl)
-nothing_changes outcome.GoingOn a h = (λ f. refl, λ c. refl)
-nothing_changes (outcome.Clear None) a h = (λ f. refl, λ c. refl)
-nothing_changes outcome.Closed (action.Start e) h = (λ f. refl, λ c. refl)
-nothing_changes outcome.Closed (action.Take e) h = (λ f. refl, λ c. refl)
-nothing_changes outcome.Closed (action.Adopt e a) h = (λ f. refl, λ c. refl)
-nothing_changes outcome.Closed (action.Close e) h = (λ f. refl, λ c. refl)
-nothing_changes outcome.Closed (action.Hand e b) h = (λ f. refl, λ c. refl)
-nothing_changes _ _ h = absurd (false≢true h)
+nothing_changes o a h = elim (effect o a) [
+  | inl quiet ↦ quiet
+  | inr change ↦ absurd (false≢true (sym (changing change) ∙ h))
+]

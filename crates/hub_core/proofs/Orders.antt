@@ -123,31 +123,11 @@ take_one false false enabled P Q o p k a b = a ∙ sym b
 
 -- an answer that is a function of the facts, but for that of a Take and of a Sweep
 answers_one : (h first second : History) (s : Step) (a : Action) (o p : Outcome) → s.action ≡ a → Sound (facts h) → LegalAfter h ((s, o) ∷ first) → LegalAfter h ((s, p) ∷ second) → Answers (facts h) a s.memory_refused o → Answers (facts h) a s.memory_refused p → InOrder (h ++ (s, o) ∷ first) → InOrder (h ++ (s, p) ∷ second) → o ≡ p
-answers_one h first second s (action.Agent origin) o p is x l m a b i j = a ∙ sym b
-answers_one h first second s (action.Channel g) o p is x l m a b i j = a ∙ sym b
-answers_one h first second s (action.Client g) o p is x l m a b i j = a ∙ sym b
-answers_one h first second s (action.Worker g) o p is x l m a b i j = a ∙ sym b
-answers_one h first second s (action.Member g name) o p is x l m a b i j = a ∙ sym b
-answers_one h first second s (action.Cast e ports body) o p is x l m a b i j = a ∙ sym b
-answers_one h first second s (action.Part e) o p is x l m a b i j = a ∙ sym b
-answers_one h first second s (action.Line e g) o p is x l m a b i j = a ∙ sym b
-answers_one h first second s (action.Back u) o p is x l m a b i j = a ∙ sym b
-answers_one h first second s (action.Order g) o p is x l m a b i j = a ∙ sym b
-answers_one h first second s (action.See g) o p is x l m a b i j = a ∙ sym b
-answers_one h first second s (action.Hand e g) o p is x l m a b i j = a ∙ sym b
-answers_one h first second s (action.Enter u) o p is x l m a b i j = a ∙ sym b
-answers_one h first second s (action.Push u ports body) o p is x l m a b i j = a ∙ sym b
-answers_one h first second s (action.Leave u) o p is x l m a b i j = a ∙ sym b
-answers_one h first second s (action.Hop u) o p is x l m a b i j = a ∙ sym b
-answers_one h first second s (action.Notice u) o p is x l m a b i j = a ∙ sym b
-answers_one h first second s (action.Close e) o p is x l m a b i j = a ∙ sym b
-answers_one h first second s (action.Look e) o p is x l m a b i j = a ∙ sym b
-answers_one h first second s (action.Adopt e g) o p is x l m a b i j = a ∙ sym b
-answers_one h first second s (action.Start e) o p is x l m a b i j = a ∙ sym b
 answers_one h first second s (action.Take e) o p is x l m a b i j =
     take_one ((facts h).end e.0).closed (is_some (holder (facts h) e.0)) ((facts h).end e.0).enabled (Serves (facts h) e o) (Serves (facts h) e p) o p
     (λ v w. serves_one h first second s e o p is x v w i j) a b
 answers_one h first second s (action.Sweep e) o p is x l m a b i j = sweep_one h first second s e o p is l m a b i j
+answers_one h first second s _ o p is x l m a b i j = a ∙ sym b
 
 pub one_answer : OneAnswer
 one_answer h first second s o p l m i j =

@@ -9,13 +9,9 @@ use Rattle.hub_core.proofs.Fitting.{is_retired, let_in_of, found_moved_of, found
 use Rattle.hub_core.proofs.SoundLines.{line_there, LinesAt}
 use Rattle.hub_core.proofs.MailboxStepping.{step_kept}
 use Rattle.hub_core.proofs.MailboxShown.{View, view, ShownAt, HasRight, Leads, one_step, Standing, standing, phase_shown, flags_shown}
+use Rattle.hub_core.proofs.Lists.{is_out_of}
 
 -- ---- what is said of phases and rights
-
-pub is_out_of : (p : Phase) → is_out p ≡ true → p ≡ Out
-is_out_of Out h = refl
-is_out_of Inside h = absurd (false≢true h)
-is_out_of Turned h = absurd (false≢true h)
 
 -- a gate that is neither moved nor closed hasn't given its rights away
 not_collected : (lines : ℕ) (g : Gate OneRight) → IsGateOf lines g → g.moved ≡ false → g.closed ≡ false → g.collected ≡ false

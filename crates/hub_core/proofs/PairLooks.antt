@@ -1,23 +1,21 @@
 -- Who is at a gate, and the pairs that are looks: at a queue where somebody is, and at one that becomes clear.
 use Rattle.std.proofs.Common.{◌≡◌, ◌⊎◌, ℕ, zero, suc, ◌+◌, ◌-◌, ◌<◌, ◌≤◌, ◌&&◌, Bool, true, false, true≢false, cond, eqb, List, [], ◌∷◌, length, map, refl, sym, ap, subst, ◌∙◌, inl, inr, ⊎_elim, arith, Some, not}
-use Rattle.hub_core.proofs.Words.{slice_get, sum_by, MatchBool, false≢true, not-true, not-false, and_parts, or_parts, eqb-true, eq-eqb, cases_eq, cases_lt, or_cases, or_left, or_right, length-map, sum_by-cons, EndId, Phase, Out, Inside, Turned, Facts, lines_of, is_out, is_away_at, someone_at, is_settled, first_failing, all_from}
-use Rattle.hub_core.proofs.Words.{all_settled, FitsSweep, Sound, Gate, weight, busy, is_shut, IsAt, with_none, is_busy, gives, IsGateOf, Mailbox, GateAt, StandsAt, at_gate, MailboxStep, gate_steps, with_gate, IsSettled, OneRight, busy_at, rights_of, finds_busy, unsettled}
+use Rattle.hub_core.proofs.Words.{slice_get, sum_by, MatchBool, false≢true, not-true, not-false, and_parts, or_parts, eqb-true, eq-eqb, cases_eq, cases_lt, or_cases, or_left, or_right, length-map, sum_by-cons, EndId, Phase, Out, Facts, lines_of, is_out, is_away_at, someone_at, is_settled, first_failing, all_from, all_settled}
+use Rattle.hub_core.proofs.Words.{FitsSweep, Sound, Gate, weight, busy, is_shut, IsAt, with_none, is_busy, gives, IsGateOf, Mailbox, GateAt, StandsAt, at_gate, MailboxStep, gate_steps, with_gate, IsSettled, OneRight, busy_at, rights_of, finds_busy, unsettled}
 use Rattle.hub_core.specs.declared.outcome.Outcome.TheVariants as outcome
 use Rattle.hub_core.specs.GateMachine as machine
-use Rattle.hub_core.proofs.Lists.{set_again}
+use Rattle.hub_core.proofs.Lists.{set_again, is_out_of}
 use Rattle.hub_core.proofs.Items.{some_is, got_within, got_there, got_same}
 use Rattle.hub_core.proofs.Gating.{weight_le, gate_machine_laws}
 use Rattle.hub_core.proofs.Fitting.{any_of, none_of_any, FirstFailing, first_failing_of, LooksAt, Clears, FindsBusy, looked_where}
 use Rattle.hub_core.proofs.MailboxStepping.{step_kept}
 use Rattle.hub_core.proofs.MailboxShown.{view, ShownAt, HasRight, Leads, one_step, Standing, standing, clear_shown}
-use Rattle.hub_core.proofs.PairGates.{is_out_of}
 
 -- ---- counts
 
 heavy : (p : Phase) → is_out p ≡ false → 0 < weight p
 heavy Out h = absurd (false≢true (sym h))
-heavy Inside h = omega arith
-heavy Turned h = omega arith
+heavy _ h = omega arith
 
 all_out : (ps : List Phase) → ((l : ℕ) (p : Phase) → slice_get ps l ≡ Some p → p ≡ Out) → sum_by weight ps ≡ 0
 all_out [] out = refl
@@ -34,9 +32,8 @@ out_where false here at away = absurd (false≢true (sym away ∙ at))
 -- there is one list of so many rights
 same_rights : (xs ys : List OneRight) → length xs ≡ length ys → xs ≡ ys
 same_rights [] [] same = refl
-same_rights [] (y ∷ ys) same = absurd (omega arith)
-same_rights (x ∷ xs) [] same = absurd (omega arith)
 same_rights (x ∷ xs) (y ∷ ys) same = ap (λ zs. tt ∷ zs) (same_rights xs ys (omega arith))
+same_rights _ _ same = absurd (omega arith)
 
 -- ---- a Sweep that finds somebody
 

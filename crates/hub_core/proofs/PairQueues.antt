@@ -1,24 +1,19 @@
 -- The pairs that are events of a queue: a Push or a Notice that was accepted, and a pop, which finds an envelope or none.
-use Rattle.std.proofs.Common.{◌≡◌, ◌≢◌, ℕ, zero, suc, ◌<◌, Bool, true, cond, eqb, List, [], ◌∷◌, ◌++◌, length, refl, sym, ap, subst, ◌∙◌, arith, append-nil, append_assoc, Some, None, ne_eqb}
+use Rattle.std.proofs.Common.{◌≡◌, ◌≢◌, ℕ, zero, suc, ◌<◌, Bool, true, eqb, List, [], ◌∷◌, ◌++◌, length, refl, sym, ap, subst, ◌∙◌, arith, append-nil, append_assoc, Some, None}
 use Rattle.hub_core.proofs.Words.{slice_get, flat_map, filter, AllByRecursion, append_cancel_left, filter-append, recursion_from_All, Envelope, EndId, Inside, Sender, Acceptance, Facts, named_envelope, named_notice, lines_of, by, in_queue, count_in_queue, phase_of_line, Queue, IsNamed, MayPush, pushed, pop_of, Mailbox, QueueAt, put_by}
 use Rattle.hub_core.proofs.Words.{got_from, IsMailbox, push, pop, MailboxStep, pushes, takes, finds_none, HoldsFirst, taken_out, with_queue, HoldsNothing, OneRight, IsNext}
 use Rattle.hub_core.proofs.Lists.{eqb_same, AllByRecursion-weaker}
 use Rattle.hub_core.proofs.Items.{none_got, some_is, got_there}
-use Rattle.hub_core.proofs.Waits.{all_kept, filters, queue_more, all_of_queue}
+use Rattle.hub_core.proofs.Waits.{all_kept, filters, queue_more, all_of_queue, none_of_queue}
 use Rattle.hub_core.proofs.TakenOut.{all_front}
 use Rattle.hub_core.proofs.Fitting.{Pushed, Noticed}
 use Rattle.hub_core.proofs.SoundLines.{MayPut, message_may, notice_may, LinesAt, by_more}
 use Rattle.hub_core.proofs.SoundWaiting.{inside_of}
-use Rattle.hub_core.proofs.MailboxStepping.{step_kept}
+use Rattle.hub_core.proofs.MailboxStepping.{nothing_joined, step_kept}
 use Rattle.hub_core.proofs.Joins.{filter_both, nothing_there}
 use Rattle.hub_core.proofs.MailboxShown.{view, ShownAt, IsShown, HasRight, Leads, one_step, event_grows, Standing, standing, queue_shown}
-use Rattle.hub_core.proofs.Growing.{nothing_joined}
 
 -- ---- what was put in a queue and taken out of it, by what was put and taken at the end
-
-none_in : (j k : ℕ) (vs : List Envelope) → j ≢ k → AllByRecursion (λ (v : Envelope). v.epoch ≡ j) vs → in_queue k vs ≡ []
-none_in j k [] other h = refl
-none_in j k (v ∷ vs) other h = ap (λ b. cond b (v ∷ in_queue k vs) (in_queue k vs)) (ne_eqb v.epoch k (λ same. other (sym h.0 ∙ same))) ∙ none_in j k vs other h.1
 
 -- what is joined of one queue where the others have nothing
 module _ (f : Queue → List Envelope) where
@@ -37,7 +32,7 @@ joined_filter p f (q ∷ qs) = filter-append p (f q) (flat_map f qs) ∙ ap (λ 
 in_joined : (f : Queue → List Envelope) (qs : List Queue) (k : ℕ) (q : Queue) → slice_get qs k ≡ Some q → ((j : ℕ) (u : Queue) → slice_get qs j ≡ Some u → AllByRecursion (λ (v : Envelope). v.epoch ≡ j) (f u)) → in_queue k (flat_map f qs) ≡ f q
 in_joined f qs k q at each =
     joined_filter (λ v. eqb v.epoch k) f qs
-    ∙ only_one (λ u. in_queue k (f u)) qs k q at (λ j u other there. none_in j k (f u) other (each j u there))
+    ∙ only_one (λ u. in_queue k (f u)) qs k q at (λ j u other there. none_of_queue (λ (v : Envelope). v.epoch ≡ j) k (f u) (λ v is same. other (sym is ∙ same)) (each j u there))
     ∙ all_of_queue k (f q) (each k q at)
 
 module _ (e n : ℕ) (m : Mailbox OneRight) (is : IsMailbox e n m) where

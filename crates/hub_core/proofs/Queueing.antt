@@ -1,14 +1,11 @@
 -- The laws of the queue machine.
 use Rattle.std.proofs.Common.{◌≡◌, ℕ, suc, ◌≤◌, Bool, true, false, cond, eqb, List, [], ◌∷◌, ◌++◌, length, map, Some, None, refl, sym, ap, subst, ◌∙◌, arith, rules, append_assoc, append-nil, length-append, ne_eqb}
 use Rattle.hub_core.proofs.Words.{All, eqb-true, map-append, filter-append, All-nil, All-head, All-tail, All-push, All-same, Envelope, by, up_to, Queue, new_queue, IsNamed, MayPush, pushed, pop_of, popped, IsQueue, QueueLaws}
+use Rattle.hub_core.proofs.Nexts.{all_where}
 
 -- one envelope more of its line, and none of another
-choose : (b : Bool) (ps : List Envelope) (v : Envelope) → ps ++ cond b (v ∷ []) [] ≡ cond b (ps ++ v ∷ []) ps
-choose true ps v = refl
-choose false ps v = append-nil ps
-
 put_one : (line : ℕ) (vs ps : List Envelope) (v : Envelope) → by line vs ≡ ps → by line (vs ++ v ∷ []) ≡ cond (eqb v.line.0 line) (ps ++ v ∷ []) ps
-put_one line vs ps v h = filter-append _ vs (v ∷ []) ∙ ap (λ us. us ++ cond (eqb v.line.0 line) (v ∷ []) []) h ∙ choose (eqb v.line.0 line) ps v
+put_one line vs ps v h = filter-append _ vs (v ∷ []) ∙ ap (λ us. us ++ cond (eqb v.line.0 line) (v ∷ []) []) h ∙ all_where (eqb v.line.0 line) ps (v ∷ [])
 
 -- the envelopes are numbered 0, 1, 2 and so on
 abbrev AreNumbered : List Envelope → Type 0

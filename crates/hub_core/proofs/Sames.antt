@@ -1,10 +1,12 @@
 -- Histories that can't be told apart.
-use Rattle.std.proofs.Common.{◌≡◌, ℕ, Bool, true, false, cond, eqb, [], ◌∷◌, ◌++◌, refl, sym, ap, subst, ◌∙◌, inl, inr, append_assoc, None, ◌&&◌, ◌⊎◌, not, Option, Some, drop}
-use Rattle.hub_core.proofs.Words.{false≢true, Phase, Out, Inside, Turned, Sender, Action, Outcome, Pair, History, Facts, facts, Answers, Fits, LegalAfter, Same, is_out, phase_of_line, may_enter, CastNow, cast_to, cast_after, goes_next, roster, changes_nothing, done_with}
+use Rattle.std.proofs.Common.{◌≡◌, ℕ, Bool, true, false, cond, eqb, [], ◌∷◌, ◌++◌, refl, sym, ap, subst, ◌∙◌, inl, inr, append_assoc, None, ◌&&◌, ◌⊎◌, Option, Some, drop}
+use Rattle.hub_core.proofs.Words.{Phase, Out, Turned, Sender, Action, Outcome, Pair, History, Facts, facts, Answers, Fits, LegalAfter, Same, phase_of_line, CastNow, cast_to, cast_after, goes_next, roster, changes_nothing, done_with}
 use Rattle.hub_core.specs.declared.step.Action.TheVariants as action
 use Rattle.hub_core.specs.declared.outcome.Outcome.TheVariants as outcome
 use Rattle.hub_core.proofs.Nexts.{next, nothing_changes, facts_next}
 use Rattle.hub_core.proofs.SoundLines.{on_place}
+use Rattle.hub_core.proofs.Lists.{is_out_of}
+use Rattle.hub_core.proofs.Fitting.{entered_of}
 
 legal_same : (h k more : History) → facts h ≡ facts k → LegalAfter h more → LegalAfter k more
 legal_same h k [] same l = tt
@@ -25,11 +27,6 @@ pub nothing_same : (h : History) (p : Pair) → changes_nothing p.1 p.0.action �
 nothing_same h p n = same_facts (h ++ p ∷ []) h (facts_next h p ∙ nothing_next (facts h) p.1 p.0.action n)
 
 -- ---- turned back
-
-out_of : (p : Phase) → is_out p ≡ true → p ≡ Out
-out_of Out h = refl
-out_of Inside h = absurd (false≢true h)
-out_of Turned h = absurd (false≢true h)
 
 -- the phase of a line that was turned back and is out again
 line_again : (s : Sender) (p q : Phase) (x l : ℕ) → (b : Bool) → (b ≡ true → q ≡ Out) → cond b Out (cond b p q) ≡ q
@@ -55,12 +52,6 @@ cast_stays x None h = refl
 cast_stays x (Some c) h = ap (λ b. cond b (cast_to c.source c.body (drop 1 c.left)) (Some c)) h
 
 -- an Enter that was turned back found its line out
-entered_out : (may out noticed : Bool) (o p : Outcome) → (o ≡ outcome.NotNow → ⊥) → o ≡ cond (not (may && out && not noticed)) outcome.NotNow p → out ≡ true
-entered_out true true false o p other h = refl
-entered_out true true true o p other h = absurd (other h)
-entered_out true false noticed o p other h = absurd (other h)
-entered_out false out noticed o p other h = absurd (other h)
-
 not_refused : (o : Outcome) → (o ≡ outcome.Closed) ⊎ (o ≡ outcome.Moved) → o ≡ outcome.NotNow → ⊥
 not_refused o (inl is) h = cc
 not_refused o (inr is) h = cc
@@ -75,7 +66,7 @@ turned_leaves h s r q o turned fits =
     let a : Pair = (record { action = action.Enter s; memory_refused = r }, o) in
     let b : Pair = (record { action = action.Leave s; memory_refused = q }, outcome.Left) in
     let f : Facts = facts h in
-    let out : phase_of_line f s ≡ Out = out_of (phase_of_line f s) (entered_out (may_enter f s) (is_out (phase_of_line f s)) (f.line s.end.0 s.line.0).noticed o _ (not_refused o turned) fits) in
+    let out : phase_of_line f s ≡ Out = is_out_of (phase_of_line f s) (entered_of f s fits (not_refused o turned)).0.out in
     ap facts (sym (append_assoc h (a ∷ []) (b ∷ []))) ∙ facts_next (h ++ a ∷ []) b ∙ ap (λ g. next g (action.Leave s) outcome.Left) (facts_next h a) ∙ turned_facts f s o turned out
 
 -- where no cast goes there next it leaves the same

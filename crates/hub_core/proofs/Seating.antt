@@ -1,7 +1,7 @@
 -- The seats of the members of each group.
 use Rattle.std.proofs.Common.{◌≡◌, ℕ, List, [], ◌∷◌, true, false, cond, eqb, ◌&&◌, Some, refl, sym, ap, ◌∙◌, arith, rules, subst, Result, Ok, Err}
-use Rattle.hub_core.proofs.Words.{bytes_eq, ◌==◌, IsSome, nat_tests, BTreeMap, get, WritesThrough, remove_key, lookup, OnErr, BTreeSet, insert_key, slice_cmp, is_eq, nat_cmp, ordering_then, Ordering, Less, Equal, Greater, is_eq-slice_cmp, and_parts, bytes_eq-Decides, Group, is_same_group, group_cmp, numbers_in, seated_with}
-use Rattle.hub_core.proofs.Words.{seated_without, parted, Parts, group_of, numbers_of, Members}
+use Rattle.hub_core.proofs.Words.{bytes_eq, ◌==◌, IsSome, nat_tests, BTreeMap, get, WritesThrough, remove_key, lookup, OnErr, BTreeSet, insert_key, slice_cmp, is_eq, nat_cmp, ordering_then, Ordering, Less, is_eq-slice_cmp, and_parts, bytes_eq-Decides, Group, is_same_group, group_cmp, numbers_in, seated_with, seated_without}
+use Rattle.hub_core.proofs.Words.{parted, Parts, group_of, numbers_of, Members}
 use Rattle.std.specs.BTreeMap as tree
 
 is_eq-nat_cmp : (a b : ℕ) → is_eq (nat_cmp a b) ≡ (a == b)
@@ -9,8 +9,7 @@ is_eq-nat_cmp a b = grind (arith, nat_tests)
 
 both_equal : (p q : Ordering) → is_eq (ordering_then p q) ≡ (is_eq p && is_eq q)
 both_equal Less q = refl
-both_equal Equal q = refl
-both_equal Greater q = refl
+both_equal _ q = refl
 
 pub is_same : (x y : Group) → is_eq (group_cmp x y) ≡ is_same_group x y
 is_same x y =

@@ -2,6 +2,7 @@
 use Rattle.std.proofs.Common.{◌≡◌, ℕ, ◌<◌, Bool, true, false, cond, eqb, List, [], ◌∷◌, ◌++◌, map, refl, sym, ap, subst, ◌∙◌, ◌&&◌, ◌||◌, not}
 use Rattle.hub_core.proofs.Words.{◌==◌, bytes_eq, AllByRecursion, filter, insert_key, nat_cmp, Greater, nat_cmp_is, false≢true, eqb-true, bytes_eq-Decides, EndId, Group, RosterNow, is_same_group, is_of_group, has_end, without, numbers_with, is_in, seated_without}
 use Rattle.hub_core.proofs.Seating.{same_group}
+use Rattle.hub_core.proofs.Lists.{and_false}
 
 -- ---- groups
 
@@ -95,14 +96,10 @@ numbers_less r k x (y ∷ ys) = elim (eqb x y.0) as (λ c. eqb x y.0 ≡ c → n
 
 -- ---- who is there
 
-never_of : (b : Bool) → (b && false) ≡ false
-never_of true = refl
-never_of false = refl
-
 in_first : (r : RosterNow) (k : Group) (x : ℕ) (y : EndId) (ys : List EndId) → eqb x y.0 ≡ true → x ≡ y.0 → is_in x (numbers_with r k ys) ≡ (has_end x ys && is_of_group k (r.group x)) → is_in x (numbers_with r k (y ∷ ys)) ≡ is_of_group k (r.group x)
 in_first r k x y ys is same more = elim (is_of_group k (r.group y.0)) as (λ b. is_of_group k (r.group y.0) ≡ b → is_in x (map (λ (z : EndId). z.0) (cond b (y ∷ filter (λ z. is_of_group k (r.group z.0)) ys) (filter (λ z. is_of_group k (r.group z.0)) ys))) ≡ is_of_group k (r.group x)) [
   | true ↦ λ of. ap (λ c. c || is_in x (numbers_with r k ys)) is ∙ sym (ap (λ n. is_of_group k (r.group n)) same ∙ of)
-  | false ↦ λ none. more ∙ ap (λ b. has_end x ys && b) (ap (λ n. is_of_group k (r.group n)) same ∙ none) ∙ never_of (has_end x ys) ∙ sym (ap (λ n. is_of_group k (r.group n)) same ∙ none)
+  | false ↦ λ none. more ∙ ap (λ b. has_end x ys && b) (ap (λ n. is_of_group k (r.group n)) same ∙ none) ∙ and_false (has_end x ys) ∙ sym (ap (λ n. is_of_group k (r.group n)) same ∙ none)
 ] refl
 
 in_later : (r : RosterNow) (k : Group) (x : ℕ) (y : EndId) (ys : List EndId) → eqb x y.0 ≡ false → is_in x (numbers_with r k ys) ≡ (has_end x ys && is_of_group k (r.group x)) → is_in x (numbers_with r k (y ∷ ys)) ≡ (has_end x ys && is_of_group k (r.group x))

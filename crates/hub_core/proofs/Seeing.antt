@@ -50,25 +50,18 @@ speaker_kept f x None = refl
 speaker_kept f x (Some c) = refl
 
 poster_kept : (f : Facts) (s : Sender) (k : Option Kind) → poster_of (kept_part f) s k ≡ poster_of f s k
-poster_kept f s (Some (Port q)) = refl
 poster_kept f s (Some Client) = running_kept f (f.line s.end.0 s.line.0).held_by
 poster_kept f s (Some Worker) = running_kept f (f.line s.end.0 s.line.0).held_by
 poster_kept f s (Some (Member a)) = ap (λ p. cond (s.line.0 == 0) p None) (speaker_kept f s.end.0 f.roster.cast)
-poster_kept f s None = refl
+poster_kept f s _ = refl
 
 owner_kept : (f : Facts) (s : Sender) (k : Option Kind) → owner_by (kept_part f) s k ≡ owner_by f s k
 owner_kept f s (Some (Port q)) = refl
-owner_kept f s (Some Client) = refl
-owner_kept f s (Some Worker) = refl
-owner_kept f s (Some (Member a)) = refl
-owner_kept f s None = refl
+owner_kept f s _ = refl
 
-released_kept : (f : Facts) (k : Option Kind) → is_released (kept_part f) k ≡ is_released f k
+pub released_kept : (f : Facts) (k : Option Kind) → is_released (kept_part f) k ≡ is_released f k
 released_kept f (Some (Port q)) = refl
-released_kept f (Some Client) = refl
-released_kept f (Some Worker) = refl
-released_kept f (Some (Member a)) = refl
-released_kept f None = refl
+released_kept f _ = refl
 
 take_over_kept : (f : Facts) (b : AgentId) (q : Option AgentId) → may_take_over (kept_part f) b q ≡ may_take_over f b q
 take_over_kept f b None = refl
@@ -112,9 +105,6 @@ hop_seen c f s h =
 
 pub owner_seen : (c : CoreState) (f : Facts) (s : Sender) → Sees c f → owner (seen c) s ≡ owner f s
 owner_seen c f s h = ap (λ g. owner g s) (seen_is c f h) ∙ owner_kept f s (f.end s.end.0).kind
-
-pub released_seen : (c : CoreState) (f : Facts) (e : ℕ) → Sees c f → is_released (seen c) ((seen c).end e).kind ≡ is_released f (f.end e).kind
-released_seen c f e h = ap (λ g. is_released g (g.end e).kind) (seen_is c f h) ∙ released_kept f (f.end e).kind
 
 pub may_close_seen : (c : CoreState) (f : Facts) (e : ℕ) → Sees c f → may_close (seen c) e ≡ may_close f e
 may_close_seen c f e h = ap (λ g. may_close g e) (seen_is c f h) ∙ ap (λ b. is_here (f.end e).place && b) (released_kept f (f.end e).kind)

@@ -69,25 +69,29 @@ grown n m line vs more s = record { none = λ l past. s.none l (omega arith); po
 abbrev pub phased_line : Facts → Sender → Phase → ℕ → ℕ → LineNow
 phased_line f t p x l = record (f.line x l) { phase = on_line x l t p (f.line x l).phase }
 
--- a line that isn't of its end stays out
-abbrev MayCome : Facts → Sender → Phase → Type 0
-MayCome f t p = (p ≡ Out) ⊎ (t.line.0 < lines_of ((f.end t.end.0).kind))
-
 -- what holds of the line of a step holds of each number that passes the test for it
 pub on_place : (P : ℕ → ℕ → Type 0) (t : Sender) (x l : ℕ) → (eqb x t.end.0 && eqb l t.line.0) ≡ true → P t.end.0 t.line.0 → P x l
 on_place P t x l is there =
     let both = and_parts (eqb x t.end.0) (eqb l t.line.0) is in
     subst (λ y. P y l) (sym (eqb-true x t.end.0 both.0)) (subst (P t.end.0) (sym (eqb-true l t.line.0 both.1)) there)
 
-none_phased : (f : Facts) (t : Sender) (p : Phase) (x l : ℕ) → MayCome f t p → f.line x l ≡ no_line → lines_of ((f.end x).kind) ≤ l → (b : Bool) → (eqb x t.end.0 && eqb l t.line.0) ≡ b → (let y : LineNow = record (f.line x l) { phase = cond b p (f.line x l).phase } in y ≡ no_line)
-none_phased f t p x l may none past true is = elim may [
-  | inl out ↦ rw out (λ i. record (none i) { phase = Out })
-  | inr less ↦ let bound : l < lines_of ((f.end x).kind) = on_place (λ y k. k < lines_of ((f.end y).kind)) t x l is less in absurd (omega arith)
-]
-none_phased f t p x l may none past false is = none
+-- A line is one of its end, or such that no line may be so.
+abbrev MayCome : Facts → Sender → LineNow → Type 0
+MayCome f t y = (y ≡ no_line) ⊎ (t.line.0 < lines_of ((f.end t.end.0).kind))
 
-phased : (f : Facts) (t : Sender) (p : Phase) (x : ℕ) → MayCome f t p → MarksAt f x → Marks (lines_of ((f.end x).kind)) (phased_line f t p x) (f.accepted x)
-phased f t p x may s = relined _ (f.line x) (phased_line f t p x) (f.accepted x) (λ l. refl) (λ l past. none_phased f t p x l may (s.none l past) past (eqb x t.end.0 && eqb l t.line.0) refl) s
+-- the lines of an end where one changes, but not in whether a notice was put
+changed_line : (f : Facts) (t : Sender) (x : ℕ) (new : Bool → LineNow → LineNow) → MayCome f t (new true no_line) → ((y : LineNow) → new false y ≡ y) → ((b : Bool) (y : LineNow) → (new b y).noticed ≡ y.noticed) → MarksAt f x → Marks (lines_of ((f.end x).kind)) (λ l. new (eqb x t.end.0 && eqb l t.line.0) (f.line x l)) (f.accepted x)
+changed_line f t x new may others noticed s = relined _ (f.line x) (λ l. new (eqb x t.end.0 && eqb l t.line.0) (f.line x l)) (f.accepted x) (λ l. noticed (eqb x t.end.0 && eqb l t.line.0) (f.line x l)) (λ l past. none l past (eqb x t.end.0 && eqb l t.line.0) refl) s
+  where
+    none : (l : ℕ) → lines_of ((f.end x).kind) ≤ l → (b : Bool) → (eqb x t.end.0 && eqb l t.line.0) ≡ b → new b (f.line x l) ≡ no_line
+    none l past false is = others (f.line x l) ∙ s.none l past
+    none l past true is = elim may [
+      | inl same ↦ ap (new true) (s.none l past) ∙ same
+      | inr less ↦ let bound : l < lines_of ((f.end x).kind) = on_place (λ y k. k < lines_of ((f.end y).kind)) t x l is less in absurd (omega arith)
+    ]
+
+phased : (f : Facts) (t : Sender) (p : Phase) (x : ℕ) → MayCome f t (record no_line { phase = p }) → MarksAt f x → Marks (lines_of ((f.end x).kind)) (phased_line f t p x) (f.accepted x)
+phased f t p x may s = changed_line f t x (λ b y. record y { phase = cond b p y.phase }) may (λ y. refl) (λ b y. refl) s
 
 -- a line that an agent holds is one of its end
 held_line : (f : Facts) (s : Sender) → LinesAt f s.end.0 → is_some (running f (f.line s.end.0 s.line.0).held_by) ≡ true → s.line.0 < lines_of ((f.end s.end.0).kind)
@@ -111,11 +115,8 @@ some_line f s h (Some (Member a)) is speaks = elim (eqb s.line.0 0) as (λ b. eq
 ] refl speaks
 
 heard_line : (f : Facts) (l : ℕ) (p : Option Kind) → (eqb l 0 && is_here (option_and_then (λ q. (f.end q).place) (peer_of p))) ≡ true → l < lines_of p
-heard_line f l None h = absurd (false≢true ((and_parts (eqb l 0) false h).1))
 heard_line f l (Some (Port q)) h = let zeroth : l ≡ 0 = eqb-true l 0 (and_parts (eqb l 0) (is_here (f.end q.0).place) h).0 in omega arith
-heard_line f l (Some Client) h = absurd (false≢true ((and_parts (eqb l 0) false h).1))
-heard_line f l (Some Worker) h = absurd (false≢true ((and_parts (eqb l 0) false h).1))
-heard_line f l (Some (Member a)) h = absurd (false≢true ((and_parts (eqb l 0) false h).1))
+heard_line f l _ h = absurd (false≢true ((and_parts (eqb l 0) false h).1))
 
 -- a line that may be entered is one of its end
 pub line_there : (f : Facts) (s : Sender) → LinesAt f s.end.0 → may_enter f s ≡ true → s.line.0 < lines_of ((f.end s.end.0).kind)
@@ -239,12 +240,8 @@ notice_at f s v x p h true is =
 abbrev pub gone_line : Facts → Sender → ℕ → ℕ → LineNow
 gone_line f t x l = record (f.line x l) { stand = cond (eqb x t.end.0 && eqb l t.line.0) ((f.line x l).stand + 1) (f.line x l).stand }
 
-gone_none : (f : Facts) (t : Sender) (x l : ℕ) → t.line.0 < lines_of ((f.end t.end.0).kind) → f.line x l ≡ no_line → lines_of ((f.end x).kind) ≤ l → (b : Bool) → (eqb x t.end.0 && eqb l t.line.0) ≡ b → (let y : LineNow = record (f.line x l) { stand = cond b ((f.line x l).stand + 1) (f.line x l).stand } in y ≡ no_line)
-gone_none f t x l low none past true is = absurd (let bound : l < lines_of ((f.end x).kind) = on_place (λ y k. k < lines_of ((f.end y).kind)) t x l is low in omega arith)
-gone_none f t x l low none past false is = none
-
 gone : (f : Facts) (t : Sender) (x : ℕ) → t.line.0 < lines_of ((f.end t.end.0).kind) → MarksAt f x → Marks (lines_of ((f.end x).kind)) (gone_line f t x) (f.accepted x)
-gone f t x low s = relined _ (f.line x) (gone_line f t x) (f.accepted x) (λ l. refl) (λ l past. gone_none f t x l low (s.none l past) past (eqb x t.end.0 && eqb l t.line.0) refl) s
+gone f t x low s = changed_line f t x (λ b y. record y { stand = cond b (y.stand + 1) y.stand }) (inr low) (λ y. refl) (λ b y. refl) s
 
 -- ---- who is inside
 
@@ -273,23 +270,14 @@ inside_unsettled f x k l s settled inside at = elim (f.clear x k) as (λ b. f.cl
 abbrev pub held_line_as : Facts → Sender → Option AgentId → ℕ → ℕ → LineNow
 held_line_as f t holder x l = record (f.line x l) { held_by = on_line x l t holder (f.line x l).held_by }
 
-held_none : (f : Facts) (t : Sender) (holder : Option AgentId) (x l : ℕ) → (t.line.0 < lines_of ((f.end t.end.0).kind)) ⊎ (holder ≡ None) → f.line x l ≡ no_line → lines_of ((f.end x).kind) ≤ l → (b : Bool) → (eqb x t.end.0 && eqb l t.line.0) ≡ b → (let y : LineNow = record (f.line x l) { held_by = cond b holder (f.line x l).held_by } in y ≡ no_line)
-held_none f t holder x l may none past true is = elim may [
-  | inl less ↦ let bound : l < lines_of ((f.end x).kind) = on_place (λ y k. k < lines_of ((f.end y).kind)) t x l is less in absurd (omega arith)
-  | inr nobody ↦ λ i. record (none i) { held_by = nobody i }
-]
-held_none f t holder x l may none past false is = none
-
-held : (f : Facts) (t : Sender) (holder : Option AgentId) (x : ℕ) → (t.line.0 < lines_of ((f.end t.end.0).kind)) ⊎ (holder ≡ None) → MarksAt f x → Marks (lines_of ((f.end x).kind)) (held_line_as f t holder x) (f.accepted x)
-held f t holder x may s = relined _ (f.line x) (held_line_as f t holder x) (f.accepted x) (λ l. refl) (λ l past. held_none f t holder x l may (s.none l past) past (eqb x t.end.0 && eqb l t.line.0) refl) s
+held : (f : Facts) (t : Sender) (holder : Option AgentId) (x : ℕ) → MayCome f t (record no_line { held_by = holder }) → MarksAt f x → Marks (lines_of ((f.end x).kind)) (held_line_as f t holder x) (f.accepted x)
+held f t holder x may s = changed_line f t x (λ b y. record y { held_by = cond b holder y.held_by }) may (λ y. refl) (λ b y. refl) s
 
 -- the lines of a queue are those that agents hold
 pub queue_lines : (p : Option Kind) → is_queue p ≡ true → lines_of p ≡ MAX_LINES
-queue_lines (Some (Port q)) h = absurd (false≢true h)
 queue_lines (Some Client) h = refl
 queue_lines (Some Worker) h = refl
-queue_lines (Some (Member a)) h = absurd (false≢true h)
-queue_lines None h = absurd (false≢true h)
+queue_lines _ h = absurd (false≢true h)
 
 -- ---- every pair that changes something
 
@@ -308,8 +296,8 @@ marks_next f refused none h m (outcome.End e) (action.Member a name) fits x =
     grown (lines_of ((f.end x).kind)) _ (f.line x) (f.accepted x) (one_more_line (eqb x e.0) (Member a) (f.end x).kind (one_new f e x none made.number)) (m x)
 marks_next f refused none h m (outcome.Line l) (action.Line e a) fits x =
     let gets = line_got_of f e a l fits in
-    held f (record { end = e; line = l }) (Some a) x (inl (subst (λ n. l.0 < n) (sym (queue_lines (f.end e.0).kind gets.queue)) gets.low)) (m x)
-marks_next f refused none h m outcome.Done (action.Back s) fits x = held f s None x (inr refl) (m x)
+    held f (record { end = e; line = l }) (Some a) x (inr (subst (λ n. l.0 < n) (sym (queue_lines (f.end e.0).kind gets.queue)) gets.low)) (m x)
+marks_next f refused none h m outcome.Done (action.Back s) fits x = held f s None x (inl refl) (m x)
 marks_next f refused none h m outcome.In (action.Enter s) fits x = phased f s Inside x (inr (line_there f s (h s.end.0) (let_in_of f s fits).0.may)) (m x)
 marks_next f refused none h m outcome.Moved (action.Enter s) fits x = phased f s Turned x (inr (line_there f s (h s.end.0) (found_moved_of f s fits).0.may)) (m x)
 marks_next f refused none h m outcome.Closed (action.Enter s) fits x = phased f s Turned x (inr (line_there f s (h s.end.0) (found_closed_of f s fits).0.may)) (m x)

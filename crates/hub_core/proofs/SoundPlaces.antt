@@ -1,8 +1,7 @@
 -- Places stay sound.
 use Rattle.std.proofs.Common.{Bool, List, None, Option, Some, [], ap, arith, cond, eqb, false, inl, inr, ne_eqb, refl, rules, subst, sym, true, ℕ, ◌&&◌, ◌++◌, ◌+◌, ◌-◌, ◌<◌, ◌||◌, ◌∙◌, ◌∷◌, ◌≡◌, ◌≢◌, ◌≤◌, ◌⊎◌}
-use Rattle.hub_core.proofs.Words.{Action, AgentId, Answers, Arrived, Client, EndId, EndNow, Envelope, Facts, Gone, InFlight, Inside, IsNext, Kind, MAX_ENDS, Member, Out, Outcome, Phase, Place, Port, Sender}
-use Rattle.hub_core.proofs.Words.{Sound, SoundPlaces, Swept, Turned, With, Worker, accepted, agents_after, and_parts, arrived, ends, ends_after, eqb-true, false≢true, flights, gone, is_client, is_gone, is_here, is_named, is_out, is_some}
-use Rattle.hub_core.proofs.Words.{is_worker, kind_after, may_enter, named_envelope, named_notice, names, naming, no_end, opened, own_poster_out, peer_of, phase_of_line, place, runs_after, taken, total}
+use Rattle.hub_core.proofs.Words.{Action, AgentId, Answers, Arrived, Client, EndId, EndNow, Envelope, Facts, Gone, InFlight, Inside, IsNext, Kind, MAX_ENDS, Member, Out, Outcome, Phase, Place, Port, Sender, Sound, SoundPlaces, Swept, Turned, With, Worker, accepted, agents_after, and_parts, arrived, ends, ends_after, eqb-true, false≢true, flights}
+use Rattle.hub_core.proofs.Words.{gone, is_client, is_gone, is_here, is_named, is_out, is_some, is_worker, kind_after, may_enter, named_envelope, named_notice, names, naming, no_end, opened, own_poster_out, peer_of, phase_of_line, place, runs_after, taken, total}
 use Rattle.hub_core.specs.declared.step.Action.TheVariants as action
 use Rattle.hub_core.specs.declared.outcome.Outcome.TheVariants as outcome
 use Rattle.hub_core.proofs.Away.{kind_next, may_next}
@@ -87,12 +86,8 @@ more_flights f x k h =
 -- ---- places that are not in flight
 
 no_flight : (p : Option Place) → is_here p ≡ true → flights p ≡ 0
-no_flight (Some (With a)) h = refl
-no_flight (Some (Arrived a)) h = refl
-no_flight (Some Swept) h = refl
 no_flight (Some InFlight) h = absurd (false≢true h)
-no_flight (Some Gone) h = refl
-no_flight None h = refl
+no_flight _ h = refl
 
 same_flights : (b : Bool) (q p : Option Place) → flights q ≡ 0 → (b ≡ true → flights p ≡ 0) → flights (cond b q p) ≡ flights p
 same_flights true q p none landed = none ∙ sym (landed refl)
@@ -127,9 +122,6 @@ posted_made f s h (inr (inr k)) = made_of f s.end.0 h.ends (λ none. absurd (sea
 pub some_own : (f : Facts) (q : Option ℕ) → own_poster_out f q ≡ true → is_some q ≡ true
 some_own f (Some q) h = refl
 some_own f None h = absurd (false≢true h)
-
-here_made : (f : Facts) (e : ℕ) → SoundPlaces f → is_here (f.end e).place ≡ true → e < f.ends
-here_made f e s h = made_of f e s.ends (λ none. false≢true (sym (ap (λ (d : EndNow). is_here d.place) none) ∙ h))
 
 -- ---- ends that are made
 
@@ -238,7 +230,7 @@ none_next f refused h (outcome.Adopted k) (action.Adopt e a) fits x past =
 none_next f refused h outcome.Handed (action.Hand e b) fits x past =
     none_else f e.0 x (λ c. record (f.end x) { place = cond c (Some (Arrived b)) (f.end x).place }) (queue_is_made f e.0 h.places (handed_of f e b fits).queue) past (h.places.ends x past)
 none_next f refused h outcome.Done (action.Close e) fits x past =
-    none_else f e.0 x (λ b. record (f.end x) { closed = cond b true (f.end x).closed; place = cond b (Some Gone) (f.end x).place }) (here_made f e.0 h.places (closed_of f e fits).here) past (h.places.ends x past)
+    none_else f e.0 x (λ b. record (f.end x) { closed = cond b true (f.end x).closed; place = cond b (Some Gone) (f.end x).place }) (made_of f e.0 h.places.ends (λ none. false≢true (sym (ap (λ (d : EndNow). is_here d.place) none) ∙ (closed_of f e fits).here))) past (h.places.ends x past)
 none_next f refused h o a fits x past = h.places.ends x past
 
 with_next : (f : Facts) (x : ℕ) (p : Option Place) (c : Bool) → SoundPlaces f → GoesTo f x p c → (a : AgentId) → p ≡ Some (With a) → a.0 < f.agents

@@ -1,24 +1,18 @@
 -- Where a mailbox shows what is known of an end, its lines and what waits there are sound.
-use Rattle.std.proofs.Common.{◌≡◌, ◌⊎◌, ℕ, suc, ◌+◌, ◌<◌, ◌≤◌, true, false, cond, eqb, List, [], ◌∷◌, ◌++◌, length, map, refl, sym, ap, subst, ◌∙◌, inl, inr, ⊎_elim, arith, append-nil, Some, ne_eqb}
+use Rattle.std.proofs.Common.{◌≡◌, ◌⊎◌, ℕ, suc, ◌+◌, ◌<◌, ◌≤◌, true, false, eqb, List, [], ◌∷◌, ◌++◌, length, map, refl, sym, ap, subst, ◌∙◌, inl, inr, ⊎_elim, arith, append-nil, Some}
 use Rattle.hub_core.proofs.Words.{slice_get, flat_map, AllByRecursion, false≢true, false_from_ne_true, or_cases, cases_lt, length-map, filter-append, recursion_from_All, Envelope, Out, Inside, Turned, LineNow, Facts, lines_of, up_to, numbers, is_distinct, by, in_queue, Rises, IsOfEnd, Gate, is_shut, Queue, IsNamed, Mailbox, GateAt}
 use Rattle.hub_core.proofs.Words.{QueueAt, IsMailbox, OneRight}
 use Rattle.hub_core.proofs.Items.{got_there}
-use Rattle.hub_core.proofs.Joins.{filter_both, of_line, none_past}
+use Rattle.hub_core.proofs.Joins.{filter_both, of_line}
 use Rattle.hub_core.proofs.Lists.{AllByRecursion-append, AllByRecursion-weaker}
 use Rattle.hub_core.proofs.MailboxShown.{view, ShownAt, Standing, standing}
 use Rattle.hub_core.proofs.MailboxStepping.{chain_laws}
 use Rattle.hub_core.proofs.PairQueues.{put_epochs, got_epochs, put_there, got_there_in}
 use Rattle.hub_core.proofs.SoundLines.{LinesAt, MarksAt, line_epochs}
-use Rattle.hub_core.proofs.SoundWaiting.{WaitingAt, LeavingsAt, all_by_lines, rises_joined}
-use Rattle.hub_core.proofs.Waits.{all_kept, all_both, filters}
+use Rattle.hub_core.proofs.SoundWaiting.{WaitingAt, LeavingsAt, all_by_lines, rises_joined, same_rises}
+use Rattle.hub_core.proofs.Waits.{all_kept, all_both, filters, none_of_queue}
 
 -- ---- queues that are joined
-
-rises_same : (k : ℕ) (vs : List Envelope) → AllByRecursion (λ (v : Envelope). v.epoch ≡ k) vs → Rises vs
-rises_same k [] h = tt
-rises_same k (v ∷ vs) h =
-    let mine : v.epoch ≡ k = h.0 in
-    (AllByRecursion-weaker (λ (u : Envelope). u.epoch ≡ k) (λ u. v.epoch ≤ u.epoch) (λ u same. let other : u.epoch ≡ k = same in omega arith) vs h.1, rises_same k vs h.1)
 
 module _ (g : Queue → List Envelope) where
   all_joined : (P : Envelope → Type 0) (qs : List Queue) → ((k : ℕ) (q : Queue) → slice_get qs k ≡ Some q → AllByRecursion P (g q)) → AllByRecursion P (flat_map g qs)
@@ -30,19 +24,13 @@ module _ (g : Queue → List Envelope) where
   rises_from n [] each = tt
   rises_from n (q ∷ qs) each =
       let first : AllByRecursion (λ (v : Envelope). v.epoch ≡ n) (g q) = AllByRecursion-weaker (λ (v : Envelope). v.epoch ≡ n + 0) (λ v. v.epoch ≡ n) (λ v is. let same : v.epoch ≡ n + 0 = is in omega arith) (g q) (each 0 q refl) in
-      rises_joined n (g q) (flat_map g qs) (rises_same n (g q) first)
+      rises_joined n (g q) (flat_map g qs) (same_rises n (g q) first)
       (rises_from (n + 1) qs (λ k u there. AllByRecursion-weaker (λ (v : Envelope). v.epoch ≡ n + suc k) (λ v. v.epoch ≡ n + 1 + k) (λ v is. let same : v.epoch ≡ n + suc k = is in omega arith) (g u) (each (suc k) u there)))
       (AllByRecursion-weaker (λ (v : Envelope). v.epoch ≡ n) (λ v. v.epoch ≤ n) (λ v is. let same : v.epoch ≡ n = is in omega arith) (g q) first)
       (all_joined (λ v. n ≤ v.epoch) qs (λ k u there. AllByRecursion-weaker (λ (v : Envelope). v.epoch ≡ n + suc k) (λ v. n ≤ v.epoch) (λ v is. let same : v.epoch ≡ n + suc k = is in omega arith) (g u) (each (suc k) u there)))
 
   rises_all : (qs : List Queue) → ((k : ℕ) (q : Queue) → slice_get qs k ≡ Some q → AllByRecursion (λ (v : Envelope). v.epoch ≡ k) (g q)) → Rises (flat_map g qs)
   rises_all qs each = rises_from 0 qs (λ k q at. AllByRecursion-weaker (λ (v : Envelope). v.epoch ≡ k) (λ v. v.epoch ≡ 0 + k) (λ v is. let same : v.epoch ≡ k = is in omega arith) (g q) (each k q at))
-
-none_before : (k : ℕ) (vs : List Envelope) → AllByRecursion (λ (v : Envelope). k < v.epoch) vs → in_queue k vs ≡ []
-none_before k [] h = refl
-none_before k (v ∷ vs) h =
-    let high : k < v.epoch = h.0 in
-    ap (λ b. cond b (v ∷ in_queue k vs) (in_queue k vs)) (ne_eqb v.epoch k (λ same. absurd (omega arith))) ∙ none_before k vs h.1
 
 -- ---- the end
 
@@ -172,7 +160,7 @@ module _ (f : Facts) (e : ℕ) (m : Mailbox OneRight) (is : ShownAt f e m) (mark
       let put : in_queue k (by l accepted) ≡ q.put l = ap (in_queue k) (sym (is.put l)) ∙ put_there e lines m box l k q there.1 in
       subst (λ ns. ns ≡ up_to (length ns)) (sym (queue ∙ ap (map number) put)) ((box.each_queue k q there.1).numbered l ∙ ap up_to (sym (length-map (q.put l) number))))
       (λ past.
-      let none : in_queue k (by l accepted) ≡ [] = none_past k (by l accepted) (AllByRecursion-weaker (λ (v : Envelope). v.epoch ≤ stand l) (λ v. v.epoch < k) (λ v low. let within : stand l ≤ newest = stand_within l in let reached : v.epoch ≤ stand l = low in omega arith) (by l accepted) (line_epochs e lines (f.line e) accepted l named)) in
+      let none : in_queue k (by l accepted) ≡ [] = none_of_queue (λ (v : Envelope). v.epoch ≤ stand l) k (by l accepted) (λ v low same. absurd (let within : stand l ≤ newest = stand_within l in let reached : v.epoch ≤ stand l = low in omega arith)) (line_epochs e lines (f.line e) accepted l named) in
       subst (λ ns. ns ≡ up_to (length ns)) (sym (queue ∙ ap (map number) none)) refl)
       (cases_lt k (length m.queues))
 
@@ -205,7 +193,7 @@ module _ (f : Facts) (e : ℕ) (m : Mailbox OneRight) (is : ShownAt f e m) (mark
       let none : q.held ≡ [] = box.nothing_held_before k q there.1 (omega arith) in
       let put : in_queue k (by l accepted) ≡ by l q.got = ap (in_queue k) (sym (is.put l)) ∙ put_there e lines m box l k q there.1 ∙ sym ((box.each_queue k q there.1).put l) ∙ ap (λ us. by l (q.got ++ us)) none ∙ ap (by l) (append-nil q.got) in
       let got : in_queue k (by l (f.taken e ++ f.discarded e)) ≡ by l q.got = filters _ _ (f.taken e ++ f.discarded e) ∙ ap (λ us. by l (in_queue k us)) (sym is.got) ∙ ap (by l) (got_there_in e lines m box k q there.1) in
-      let later : in_queue k (by l (f.discarded e)) ≡ [] = none_before k (by l (f.discarded e)) (all_kept (λ (v : Envelope). k < v.epoch) _ (f.discarded e) (AllByRecursion-weaker (λ (v : Envelope). taker ≤ v.epoch) (λ v. k < v.epoch) (λ v high. let from : taker ≤ v.epoch = high in omega arith) (f.discarded e) leavings.from)) in
+      let later : in_queue k (by l (f.discarded e)) ≡ [] = none_of_queue (λ (v : Envelope). taker ≤ v.epoch) k (by l (f.discarded e)) (λ v high same. absurd (let from : taker ≤ v.epoch = high in omega arith)) (all_kept (λ (v : Envelope). taker ≤ v.epoch) _ (f.discarded e) leavings.from) in
       sym (append-nil (in_queue k (by l (f.taken e)))) ∙ ap (λ us. in_queue k (by l (f.taken e)) ++ us) (sym later) ∙ sym (filter-append _ (by l (f.taken e)) (by l (f.discarded e))) ∙ ap (in_queue k) (sym (filter-append _ (f.taken e) (f.discarded e))) ∙ got ∙ sym put
 
   pub waiting_shown : WaitingAt f e

@@ -38,9 +38,8 @@ pub taken_prefix : (l : ℕ) (ts ds vs : List Envelope) → Prefix (by l (ts ++ 
 taken_prefix l ts ds vs p = (by l ds ++ p.0, p.1 ∙ ap (λ us. us ++ p.0) (filter-append _ ts ds) ∙ append_assoc (by l ts) (by l ds) p.0)
 
 pub inside_of : (p : Phase) → is_inside p ≡ true → p ≡ Inside
-inside_of Out h = cc
 inside_of Inside h = refl
-inside_of Turned h = cc
+inside_of _ h = cc
 
 -- ---- lines
 
@@ -140,6 +139,12 @@ all_by_lines P (v ∷ vs) h =
         | false ↦ λ rest. rest
       ] (h l)),
     )
+
+pub same_rises : (t : ℕ) (vs : List Envelope) → AllByRecursion (λ (v : Envelope). v.epoch ≡ t) vs → Rises vs
+same_rises t [] h = tt
+same_rises t (v ∷ vs) h =
+    let first : v.epoch ≡ t = h.0 in
+    (AllByRecursion-weaker (λ (u : Envelope). u.epoch ≡ t) (λ u. v.epoch ≤ u.epoch) (λ u is. omega arith) vs h.1, same_rises t vs h.1)
 
 pub rises_joined : (t : ℕ) (us vs : List Envelope) → Rises us → Rises vs → AllByRecursion (λ (u : Envelope). u.epoch ≤ t) us → AllByRecursion (λ (u : Envelope). t ≤ u.epoch) vs → Rises (us ++ vs)
 rises_joined t [] vs r q low high = q

@@ -1,9 +1,8 @@
 -- Who posts on a line, who may enter, and which ports are in flight.
 use Rattle.std.proofs.Common.{Bool, List, None, Option, Some, [], ap, append-nil, append_assoc, arith, cond, eqb, false, inl, inr, leb-false, leb-true, length, nat_le, ne_eqb, not, refl, rules, subst, sym, true, ℕ, ◌&&◌, ◌++◌, ◌+◌, ◌<◌, ◌||◌, ◌∙◌, ◌∷◌, ◌≡◌, ◌≤◌, ◌⊎◌}
-use Rattle.hub_core.proofs.Words.{AgentId, AllByRecursion, Arrived, CastNow, Client, EndId, EndNow, Envelope, Facts, Gone, InFlight, IsAllWaiting, IsNext, IsOfEnd, Kind, LineNow, Member, Out, Place, Port, Prefix, Sender}
-use Rattle.hub_core.proofs.Words.{Sound, SoundPlaces, Swept, With, Worker, and_parts, by, eqb-true, false≢true, filter, flights, has_poster, has_poster_of, hears_notice, holder, is_at, is_first, is_here, is_holder, is_named, is_out}
-use Rattle.hub_core.proofs.Words.{is_queue, is_released, is_some, is_with, lines_of, list_all, maker_of, may_enter, may_leave_agent, names, naming, no_end, on_line, opened, option_and_then, or_right, own_line_plain, own_poster_out, peer_of, phase_of_line, place, poster}
-use Rattle.hub_core.proofs.Words.{poster_of, running, running_at, speaker_in, total}
+use Rattle.hub_core.proofs.Words.{AgentId, AllByRecursion, CastNow, Client, EndId, EndNow, Envelope, Facts, InFlight, IsAllWaiting, IsNext, IsOfEnd, Kind, LineNow, Member, Out, Place, Port, Prefix, Sender, Sound, SoundPlaces, With, Worker, and_parts, by, eqb-true}
+use Rattle.hub_core.proofs.Words.{false≢true, filter, flights, has_poster, has_poster_of, hears_notice, holder, is_at, is_first, is_here, is_holder, is_named, is_out, is_queue, is_released, is_some, is_with, lines_of, list_all, maker_of, may_enter, may_leave_agent}
+use Rattle.hub_core.proofs.Words.{names, naming, no_end, on_line, opened, option_and_then, or_right, own_line_plain, own_poster_out, peer_of, phase_of_line, place, poster, poster_of, running, running_at, speaker_in, total}
 use Rattle.hub_core.proofs.Fitting.{SweptWith}
 use Rattle.hub_core.proofs.Lists.{eqb_same}
 use Rattle.hub_core.proofs.SoundLines.{LinesAt, line_there}
@@ -73,11 +72,7 @@ pub record Casts (f : Facts) (s : Sender) (agent : AgentId) : Type 0 where
 
 pub runs_there : (f : Facts) (p : Option Place) → is_some (running_at (λ a. (f.agent a).runs) p) ≡ true → (a : AgentId) × (p ≡ Some (With a)) × ((f.agent a.0).runs ≡ true)
 runs_there f (Some (With a)) h = (a, refl, elim ((f.agent a.0).runs) as (λ b. is_some (cond b (Some a) None) ≡ true → b ≡ true) [ true ↦ λ _. refl | false ↦ λ no. absurd (false≢true no) ] h)
-runs_there f (Some InFlight) h = absurd (false≢true h)
-runs_there f (Some (Arrived a)) h = absurd (false≢true h)
-runs_there f (Some Swept) h = absurd (false≢true h)
-runs_there f (Some Gone) h = absurd (false≢true h)
-runs_there f None h = absurd (false≢true h)
+runs_there f _ h = absurd (false≢true h)
 
 runs_held : (f : Facts) (q : Option AgentId) → is_some (running f q) ≡ true → (a : AgentId) × (q ≡ Some a) × ((f.agent a.0).runs ≡ true)
 runs_held f None h = absurd (false≢true h)
@@ -89,10 +84,7 @@ held_by_one f s queue h = let r = runs_held f (f.line s.end.0 s.line.0).held_by 
 -- a kind with a maker
 pub made_by : (p : Option Kind) → is_some (maker_of p) ≡ true → (a : AgentId) × (p ≡ Some (Member a))
 made_by (Some (Member a)) h = (a, refl)
-made_by (Some (Port q)) h = absurd (false≢true h)
-made_by (Some Client) h = absurd (false≢true h)
-made_by (Some Worker) h = absurd (false≢true h)
-made_by None h = absurd (false≢true h)
+made_by _ h = absurd (false≢true h)
 
 casts_by : (f : Facts) (s : Sender) (a : AgentId) → (f.end s.end.0).kind ≡ Some (Member a) → s.line.0 ≡ 0 → (o : Option CastNow) → f.roster.cast ≡ o → is_some (speaker_in f s.end.0 o) ≡ true → (b : AgentId) × Casts f s b
 casts_by f s a kind line None is h = absurd (false≢true h)
@@ -127,21 +119,16 @@ speaks_of f s h = speaks_by f s (f.end s.end.0).kind refl h
 -- a port is entangled
 pub port_of : (p : Option Kind) (q : ℕ) → peer_of p ≡ Some q → p ≡ Some (Port (record { 0 = q }))
 port_of (Some (Port r)) q h = let same : r.0 ≡ q = cc in ap (λ n. Some (Port (record { 0 = n }))) same
-port_of (Some Client) q h = absurd (search (rules, h))
-port_of (Some Worker) q h = absurd (search (rules, h))
-port_of (Some (Member a)) q h = absurd (search (rules, h))
-port_of None q h = absurd (search (rules, h))
+port_of _ q h = absurd (search (rules, h))
 
 -- the poster, by what it is read off
 pub poster_as : (g : Facts) (s : Sender) (q : ℕ) (a : AgentId) → s.line.0 ≡ 0 → peer_of (g.end s.end.0).kind ≡ Some q → (g.end q).place ≡ Some (With a) → (g.agent a.0).runs ≡ true → poster g s ≡ Some a
 poster_as g s q a line peer place runs = let port = port_of (g.end s.end.0).kind q peer in rw (line, port, place, runs) refl
 
 queue_poster : (g : Facts) (s : Sender) (p : Option Kind) → is_queue p ≡ true → poster_of g s p ≡ running g (g.line s.end.0 s.line.0).held_by
-queue_poster g s (Some (Port q)) h = absurd (false≢true h)
 queue_poster g s (Some Client) h = refl
 queue_poster g s (Some Worker) h = refl
-queue_poster g s (Some (Member a)) h = absurd (false≢true h)
-queue_poster g s None h = absurd (false≢true h)
+queue_poster g s _ h = absurd (false≢true h)
 
 pub holds_as : (g : Facts) (s : Sender) (k : HoldsLine g s) → poster g s ≡ Some k.agent
 holds_as g s k = queue_poster g s (g.end s.end.0).kind k.queue ∙ ap (running g) k.held ∙ ap (λ b. cond b (Some k.agent) None) k.runs
@@ -149,18 +136,11 @@ holds_as g s k = queue_poster g s (g.end s.end.0).kind k.queue ∙ ap (running g
 pub casts_as : (g : Facts) (s : Sender) (b : AgentId) → Casts g s b → poster g s ≡ Some b
 casts_as g s b k = rw (k.member, k.line, k.is_open, k.first, k.source) refl
 
-pub poster_is : (f : Facts) (s : Sender) (k : Speaks f s) → poster f s ≡ Some k.agent
-poster_is f s k = poster_as f s k.peer k.agent k.line k.entangled k.has k.runs
-
 -- ---- ports that travel
 
 with_agent : (a : AgentId) (p : Option Place) → is_with a p ≡ true → p ≡ Some (With a)
 with_agent a (Some (With b)) h = let same : a.0 ≡ b.0 = search (rules, h) in ap (λ n. Some (With (record { 0 = n }))) (sym same)
-with_agent a (Some InFlight) h = absurd (false≢true h)
-with_agent a (Some (Arrived b)) h = absurd (false≢true h)
-with_agent a (Some Swept) h = absurd (false≢true h)
-with_agent a (Some Gone) h = absurd (false≢true h)
-with_agent a None h = absurd (false≢true h)
+with_agent a _ h = absurd (false≢true h)
 
 -- a port of a good list has its own line out and is with the agent
 pub travels : (f : Facts) (a : AgentId) (s : Sender) (x : ℕ) (ports : List EndId) → list_all (may_leave_agent f a s) ports ≡ true → names ports x ≡ true → ((f.end x).place ≡ Some (With a)) × (own_poster_out f (peer_of (f.end x).kind) ≡ true)
@@ -180,11 +160,7 @@ travels f a s x (p ∷ ps) all named = elim (eqb p.0 x) as (λ b. eqb p.0 x ≡ 
 
 flying : (p : Option Place) → 1 ≤ flights p → p ≡ Some InFlight
 flying (Some InFlight) h = refl
-flying (Some (With a)) h = absurd (omega arith)
-flying (Some (Arrived a)) h = absurd (omega arith)
-flying (Some Swept) h = absurd (omega arith)
-flying (Some Gone) h = absurd (omega arith)
-flying None h = absurd (omega arith)
+flying _ h = absurd (omega arith)
 
 -- a take that fits names ports that are in flight
 pub taken_flies : (f : Facts) (e : EndId) (v : Envelope) (x : ℕ) → Sound f → IsNext f e v → (f.end e.0).closed ≡ false → e.0 < f.ends → names v.ports x ≡ true → (f.end x).place ≡ Some InFlight
@@ -261,10 +237,7 @@ swept_flies f e vs x s w named =
 -- the own poster of a port that may be closed is out
 pub released_out : (f : Facts) (p : Option Kind) (x : ℕ) → is_released f p ≡ true → peer_of p ≡ Some x → own_poster_out f (peer_of p) ≡ true
 released_out f (Some (Port q)) x h is = h
-released_out f (Some Client) x h is = absurd (search (rules, is))
-released_out f (Some Worker) x h is = absurd (search (rules, is))
-released_out f (Some (Member a)) x h is = absurd (search (rules, is))
-released_out f None x h is = absurd (search (rules, is))
+released_out f _ x h is = absurd (search (rules, is))
 
 pub own_out : (f : Facts) (s : Sender) (q : ℕ) → s.line.0 ≡ 0 → own_poster_out f (peer_of (f.end q).kind) ≡ true → peer_of (f.end q).kind ≡ Some s.end.0 → is_out (phase_of_line f s) ≡ true
 own_out f s q line out peer =
@@ -315,19 +288,15 @@ port_owned f a s k same =
 
 -- the poster of a queue's line is that of the agent that holds it
 pub line_owned : (f : Facts) (a : AgentId) (s : Sender) (p : Option Kind) → is_queue p ≡ true → (b : AgentId) → (f.line s.end.0 s.line.0).held_by ≡ Some b → b.0 ≡ a.0 → has_poster_of f a s.end.0 s.line.0 p ≡ true
-line_owned f a s (Some (Port q)) queue b held same = absurd (false≢true queue)
 line_owned f a s (Some Client) queue b held same = ap (is_holder a) held ∙ ap (eqb a.0) same ∙ eqb_same a.0
 line_owned f a s (Some Worker) queue b held same = ap (is_holder a) held ∙ ap (eqb a.0) same ∙ eqb_same a.0
-line_owned f a s (Some (Member c)) queue b held same = absurd (false≢true queue)
-line_owned f a s None queue b held same = absurd (false≢true queue)
+line_owned f a s _ queue b held same = absurd (false≢true queue)
 
 -- a queue is no port
 pub no_port : (p : Option Kind) (q : ℕ) → is_queue p ≡ true → peer_of p ≡ Some q → ⊥
-no_port (Some (Port r)) q h is = false≢true h
 no_port (Some Client) q h is = absurd (search (rules, is))
 no_port (Some Worker) q h is = absurd (search (rules, is))
-no_port (Some (Member a)) q h is = false≢true h
-no_port None q h is = false≢true h
+no_port _ q h is = false≢true h
 
 -- two senders with the same numbers are one
 pub same_sender : (s t : Sender) → s.end.0 ≡ t.end.0 → s.line.0 ≡ t.line.0 → s ≡ t
@@ -345,10 +314,6 @@ still_held f s t holder a held other = elim (eqb s.end.0 t.end.0 && eqb s.line.0
 -- an end of some kind was made
 pub kind_made : (f : Facts) (x : ℕ) (k : Kind) → SoundPlaces f → (f.end x).kind ≡ Some k → x < f.ends
 kind_made f x k s is = made_of f x s.ends (λ none. absurd (search (rules, sym (ap (λ (e : EndNow). e.kind) none) ∙ is)))
-
--- no cast is open, so no line is spoken on
-pub none_open : (f : Facts) (s : Sender) (b : AgentId) → Casts f s b → is_some f.roster.cast ≡ false → ⊥
-none_open f s b k over = false≢true (sym over ∙ ap is_some k.is_open)
 
 -- one end alone is the first
 pub not_first : (x y : ℕ) (left : List EndId) → is_first y left ≡ true → (x ≡ y → ⊥) → is_first x left ≡ false
@@ -394,14 +359,6 @@ may_as g s q line peer here = or_right (is_some (poster g s)) (hears_notice g s)
 
 pub not_here : (p : Option Place) → p ≡ Some InFlight → is_here p ≡ true → ⊥
 not_here p is h = false≢true (sym (ap is_here is) ∙ h)
-
--- a queue's line that an agent holds may be entered
-pub held_may : (g : Facts) (s : Sender) → HoldsLine g s → may_enter g s ≡ true
-held_may g s k = ap (λ q. is_some q || hears_notice g s) (holds_as g s k)
-
--- a line to which a cast goes next may be entered
-pub casts_may : (g : Facts) (s : Sender) (b : AgentId) → Casts g s b → may_enter g s ≡ true
-casts_may g s b k = ap (λ q. is_some q || hears_notice g s) (casts_as g s b k)
 
 -- a queue is no broadcast channel
 pub no_member : (p : Option Kind) (a : AgentId) → is_queue p ≡ true → p ≡ Some (Member a) → ⊥

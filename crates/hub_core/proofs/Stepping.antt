@@ -16,13 +16,9 @@ ok_all (Err e) P Q p q = tt
 -- ---- the queue of a client and of a worker
 
 pub client_core : (a : AgentId) (c : CoreState) (o : Outcome) → queue_core a Client c o ≡ core_after c o (action.Client a)
-client_core a c (outcome.End e) = refl
-client_core a c (outcome.Clear None) = refl
 client_core a c (outcome.Clear (Some k)) = refl
-client_core a c o = refl
+client_core a c _ = refl
 
 pub worker_core : (a : AgentId) (c : CoreState) (o : Outcome) → queue_core a Worker c o ≡ core_after c o (action.Worker a)
-worker_core a c (outcome.End e) = refl
-worker_core a c (outcome.Clear None) = refl
 worker_core a c (outcome.Clear (Some k)) = refl
-worker_core a c o = refl
+worker_core a c _ = refl

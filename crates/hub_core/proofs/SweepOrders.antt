@@ -1,7 +1,7 @@
 -- What a Sweep discards, where what is discarded is in order: there is one list of it.
 use Rattle.std.proofs.Common.{◌≡◌, ℕ, ◌+◌, ◌<◌, ◌≤◌, Bool, true, false, cond, eqb, List, [], ◌∷◌, ◌++◌, length, drop, map, refl, sym, ap, subst, ◌∙◌, arith, rules, append-nil, append_assoc, nat_lt, lt-ltb}
 use Rattle.hub_core.proofs.Words.{MatchBool, filter, flat_map, AllByRecursion, false≢true, flat_map-append, filter-append, EndId, Envelope, Step, Action, Outcome, Pair, History, Facts, facts, closed_after, accepted, accepted_by, taken, taken_by, discarded, discarded_by, by, in_queue, Rises, up_to, all_settled, IsAllWaiting, Sweeps}
-use Rattle.hub_core.proofs.Words.{FitsSweep, FitsTake, Fits, Answers, LegalAfter, InOrder}
+use Rattle.hub_core.proofs.Words.{FitsSweep, FitsTake, Answers, LegalAfter, InOrder}
 use Rattle.hub_core.specs.declared.step.Action.TheVariants as action
 use Rattle.hub_core.specs.declared.outcome.Outcome.TheVariants as outcome
 use Rattle.hub_core.proofs.Lists.{eqb_same, AllByRecursion-weaker}
@@ -28,14 +28,11 @@ takes_none f e refused o a closed fits = refl
 take_fits : (f : Facts) (a : Action) (t : EndId) (refused : Bool) (o : Outcome) → a ≡ action.Take t → Answers f a refused o → FitsTake f t o
 take_fits f a t refused o is fits = subst (λ b. Answers f b refused o) is fits
 
-fits_take : (h : History) (p : Pair) (t : EndId) (v : Envelope) → Fits h p → p.0.action ≡ action.Take t → p.1 ≡ outcome.Got v → FitsTake (facts h) t (outcome.Got v)
-fits_take h p t v fits is got = subst (FitsTake (facts h) t) got (take_fits (facts h) p.0.action t p.0.memory_refused p.1 is fits)
-
 pub taken_closed : (past rest : History) (e : ℕ) → LegalAfter past rest → ((facts past).end e).closed ≡ true → taken (past ++ rest) e ≡ taken past e
 taken_closed past [] e l closed = ap (λ h. taken h e) (append-nil past)
 taken_closed past (p ∷ rest) e l closed =
     let still : ((facts (past ++ p ∷ [])).end e).closed ≡ true = ap (λ (f : Facts). (f.end e).closed) (facts_next past p) ∙ stays_closed e ((facts past).end e).closed p.1 p.0.action closed in
-    let none : taken_by e p.1 p.0.action ≡ [] = takes_none (facts past) e p.0.memory_refused p.1 p.0.action closed (λ t v is got. fits_take past p t v l.0 is got) in
+    let none : taken_by e p.1 p.0.action ≡ [] = takes_none (facts past) e p.0.memory_refused p.1 p.0.action closed (λ t v is got. (subst (FitsTake (facts past) t) got (take_fits (facts past) p.0.action t p.0.memory_refused p.1 is l.0))) in
     let one : taken (past ++ p ∷ []) e ≡ taken past e =
     flat_map-append (λ (q : Pair). taken_by e q.1 q.0.action) past (p ∷ []) ∙ ap (λ us. taken past e ++ (us ++ [])) none ∙ append-nil (taken past e) in
     ap (λ h. taken h e) (sym (append_assoc past (p ∷ []) rest)) ∙ taken_closed (past ++ p ∷ []) rest e l.1 still ∙ one
@@ -44,12 +41,11 @@ taken_closed past (p ∷ rest) e l closed =
 
 same_front : {A : Type 0} (us bs xs ys : List A) → us ++ xs ≡ bs ++ ys → length us ≡ length bs → us ≡ bs
 same_front [] [] xs ys is count = refl
-same_front [] (b ∷ bs) xs ys is count = absurd (omega (arith, count))
-same_front (a ∷ us) [] xs ys is count = absurd (omega (arith, count))
 same_front (a ∷ us) (b ∷ bs) xs ys is count =
     let rest : us ++ xs ≡ bs ++ ys = cc in
     let first : a ≡ b = cc in
     ap (λ c. c ∷ us) first ∙ ap (λ cs. b ∷ cs) (same_front us bs xs ys rest (omega (arith, count)))
+same_front _ _ xs ys is count = absurd (omega (arith, count))
 
 drop_front : {A : Type 0} (xs ys : List A) → drop (length xs) (xs ++ ys) ≡ ys
 drop_front [] ys = refl
@@ -108,8 +104,7 @@ rises_one us vs r q same =
 
 sweep_when : (closed settled : Bool) (P Q : Type 0) (o p : Outcome) → (closed ≡ true → P → Q → o ≡ p) → MatchBool closed (MatchBool settled P (o ≡ outcome.Busy)) (o ≡ outcome.NotNow) → MatchBool closed (MatchBool settled Q (p ≡ outcome.Busy)) (p ≡ outcome.NotNow) → o ≡ p
 sweep_when true true P Q o p k a b = k refl a b
-sweep_when true false P Q o p k a b = a ∙ sym b
-sweep_when false settled P Q o p k a b = a ∙ sym b
+sweep_when _ _ P Q o p k a b = a ∙ sym b
 
 sweeps_one : (h first second : History) (s : Step) (e : EndId) (o p : Outcome) → s.action ≡ action.Sweep e → LegalAfter h ((s, o) ∷ first) → LegalAfter h ((s, p) ∷ second) → ((facts h).end e.0).closed ≡ true → Sweeps (facts h) e.0 o → Sweeps (facts h) e.0 p → InOrder (h ++ (s, o) ∷ first) → InOrder (h ++ (s, p) ∷ second) → o ≡ p
 sweeps_one h first second s e (outcome.Discarded us) (outcome.Discarded vs) is l m closed a b i j =

@@ -7,15 +7,15 @@ use Rattle.hub_core.specs.declared.outcome.Outcome.TheVariants as outcome
 use Rattle.hub_core.proofs.Seeing.{Sees}
 use Rattle.hub_core.proofs.Showing.{SoundlyShows, soundly, plainly}
 use Rattle.hub_core.proofs.Sounds.{sound_legal}
-use Rattle.hub_core.proofs.Legals.{legal_one}
 use Rattle.hub_core.proofs.Broadcasts.{part_answered, part_shown}
 use Rattle.hub_core.proofs.Makes.{member_answered, member_shown}
-use Rattle.hub_core.proofs.Casts.{same_members, leaves_roster, roster_stays, roster_member, roster_part}
+use Rattle.hub_core.proofs.Casts.{same_members, leaves_roster, roster_member, roster_part, shows_still, stays}
 use Rattle.hub_core.proofs.Changing.{ShownAfter, ShownWith}
 use Rattle.hub_core.proofs.Frames.{Stepped}
 use Rattle.hub_core.proofs.Nexts.{next, facts_next, Change, effect, nothing_changes}
 use Rattle.hub_core.proofs.Orders.{shows_in_order}
 use Rattle.hub_core.proofs.Stills.{same_shown}
+use Rattle.hub_core.proofs.Legals.{legal_after_one}
 
 -- After all that the old core shows the step got an answer that fits, and the new core shows what is so then; where
 -- the answer says that nothing changed all is as before.
@@ -54,9 +54,9 @@ took_where a refused old new o leaves fits changes = record {
 
 -- a step that leaves the roster
 pub took_by : (a : Action) (refused : Bool) (old new : CoreState) (o : Outcome) → new ≡ core_after old o a → leaves_roster a ≡ true → ((f : Facts) → Sees old f → Answers f a refused o) → ((f : Facts) → Sees old f → Answers f a refused o → Change a o → ShownAfter old f a refused o) → Took a refused old new o
-took_by a refused old new o leaves stays fits changes = took_where a refused old new o leaves fits (λ f h fit change.
+took_by a refused old new o leaves kept fits changes = took_where a refused old new o leaves fits (λ f h fit change.
     let after = changes f h fit change in
-    (after.0, subst (λ r. ShowsRoster r (next f a o)) (sym after.1) (roster_stays old.roster f a refused o h.shows.sound fit stays h.roster)))
+    (after.0, subst (λ r. ShowsRoster r (next f a o)) (sym after.1) (shows_still old.roster f (next f a o) h.roster (stays f a refused o h.shows.sound fit kept))))
 
 -- ---- steps that change the roster
 
@@ -106,7 +106,7 @@ fits_of step a old new o is t = λ h s.
     let at = t.shown (facts h) (soundly (sound_legal h s.2) s.0) s.1 in
     let longer : facts (h ++ (step, o) ∷ []) ≡ next (facts h) a o = facts_next h (step, o) ∙ ap (λ b. next (facts h) b o) is in
     let fits : Fits h (step, o) = subst (λ b. Answers (facts h) b step.memory_refused o) (sym is) at.0.fits in
-    (fits, (subst (ShowsFacts new.agents new.ends) (sym longer) at.0.shows, subst (ShowsRoster new.roster) (sym longer) at.1, legal_one h (step, o) s.2 fits))
+    (fits, (subst (ShowsFacts new.agents new.ends) (sym longer) at.0.shows, subst (ShowsRoster new.roster) (sym longer) at.1, legal_after_one [] h (step, o) s.2 fits))
 
 same_of : (step : Step) (a : Action) (old new : CoreState) (o : Outcome) → step.action ≡ a → Took a step.memory_refused old new o → changes_nothing o step.action ≡ true → SameContent old new
 same_of step a old new o is t nothing = t.same (subst (λ b. changes_nothing o b ≡ true) is nothing)

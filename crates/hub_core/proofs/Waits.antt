@@ -53,11 +53,9 @@ queue_other k vs v other = filter-append _ vs (v ∷ []) ∙ ap (λ b. in_queue 
 
 -- ---- what is left of a line
 
-none_above : (k m : ℕ) (rs : List Envelope) → k < m → AllByRecursion (λ (u : Envelope). m ≤ u.epoch) rs → in_queue k rs ≡ []
-none_above k m [] less h = refl
-none_above k m (u ∷ rs) less h =
-    let more : m ≤ u.epoch = h.0 in
-    ap (λ b. cond b (u ∷ in_queue k rs) (in_queue k rs)) (ne_eqb u.epoch k (λ is. omega arith)) ∙ none_above k m rs less h.1
+pub none_of_queue : (P : Envelope → Type 0) (k : ℕ) (vs : List Envelope) → ((v : Envelope) → P v → v.epoch ≡ k → ⊥) → AllByRecursion P vs → in_queue k vs ≡ []
+none_of_queue P k [] other h = refl
+none_of_queue P k (v ∷ vs) other h = ap (λ b. cond b (v ∷ in_queue k vs) (in_queue k vs)) (ne_eqb v.epoch k (other v h.0)) ∙ none_of_queue P k vs other h.1
 
 first_of : (u : Envelope) (xs : List Envelope) (b : Bool) → cond b (u ∷ xs) xs ≡ [] → (b ≡ false) × (xs ≡ [])
 first_of u xs true h = absurd (search (rules, h))
@@ -92,7 +90,7 @@ front_of t (u ∷ rs) v ws rises from is = elim (eqb u.epoch t) as (λ b. eqb u.
       let other : u.epoch ≡ t → ⊥ = eqb-false u.epoch t e in
       let least : t ≤ u.epoch = from.0 in
       let above : t < u.epoch = past t u.epoch least other in
-      absurd (search (rules, sym (none_above t u.epoch rs above rises.0) ∙ at))
+      absurd (search (rules, sym (none_of_queue (λ (w : Envelope). u.epoch ≤ w.epoch) t rs (λ w high same. absurd (let later : u.epoch ≤ w.epoch = high in omega arith)) rises.0) ∙ at))
 ] refl is
 
 -- The line of an end: everything below the queue t was taken, and in the queue t the envelopes that wait begin with v.

@@ -7,10 +7,8 @@ use Rattle.hub_core.specs.CoreState.{CoreState}
 use Rattle.hub_core.specs.Seen.{seen}
 use Rattle.hub_core.specs.declared.step.Action.TheVariants as action
 use Rattle.hub_core.specs.declared.outcome.Outcome.TheVariants as outcome
-use Rattle.hub_core.specs.Kept.{change_end, change_line, in_phase, held_by, gate_passed, at_queue, adopted_end, closed_end, went, adopted_agents}
-use Rattle.hub_core.specs.Kept.{change_agent, change_owner, one_away, one_out, come, first_agent, new_end}
-use Rattle.hub_core.specs.Kept.{accept_ends, moved_ends, arrived_ends, front_taken, advanced_end, ports_of}
-use Rattle.hub_core.specs.KeptEnding.{owner}
+use Rattle.hub_core.specs.Kept.{accept_ends, adopted_agents, adopted_end, advanced_end, arrived_ends, at_queue, change_agent, change_end, change_line, change_owner, closed_end, come, first_agent, front_taken, gate_passed}
+use Rattle.hub_core.specs.Kept.{held_by, in_phase, moved_ends, new_end, one_away, one_out, owner, ports_of, went}
 use Rattle.hub_core.specs.Moving.{is_released}
 use Rattle.hub_core.specs.Roster.{cast_to, cast_after}
 

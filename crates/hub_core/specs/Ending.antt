@@ -1,7 +1,7 @@
 -- What the orders to end, and the look of an agent whether it was ordered, are answered (W3C Service Workers, "Terminate
 -- Service Worker"; WHATWG HTML, "terminate a worker").
 use Rattle.std.specs.Prelude.{if◌then◌else◌, ◌&&◌, ◌++◌, ◌==◌, ◌||◌, ◌∷◌}
-use Rattle.hub_core.specs.Words.{AgentId, Bool, Client, EndId, Kind, List, Member, None, Option, Outcome, Port, Some, Worker, [], false, nat_lt, not, suc, zero, ℕ}
+use Rattle.hub_core.specs.Words.{AgentId, Bool, Client, EndId, Kind, List, None, Option, Outcome, Port, Some, Worker, [], false, nat_lt, not, suc, zero, ℕ}
 use Rattle.hub_core.specs.declared.outcome.Outcome.TheVariants as outcome
 use Rattle.hub_core.specs.Facts.{Facts}
 use Rattle.hub_core.specs.Made.{lines_of}
@@ -17,8 +17,7 @@ abbrev pub has_poster_of : Facts → AgentId → ℕ → ℕ → Option Kind →
 has_poster_of f a x l (Some (Port q)) = l == 0 && is_with a (f.end q.0).place
 has_poster_of f a x l (Some Client) = is_holder a (f.line x l).held_by
 has_poster_of f a x l (Some Worker) = is_holder a (f.line x l).held_by
-has_poster_of f a x l (Some (Member b)) = false
-has_poster_of f a x l None = false
+has_poster_of f a x l _ = false
 
 -- whether the line's poster is the agent's: the agent, running or ending, holds the line, or has the port that posts there;
 -- that of a cast is no agent's

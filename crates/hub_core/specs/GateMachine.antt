@@ -42,8 +42,7 @@ count_in word = word / 256
 -- a line counts while it is inside or being turned back
 abbrev pub weight : Phase → ℕ
 weight Out = 0
-weight Inside = 1
-weight Turned = 1
+weight _ = 1
 
 module _ {R : Type 0} where
   -- how many lines are inside or being turned back

@@ -5,9 +5,8 @@ use Rattle.hub_core.specs.GateMachine.{Gate, busy, is_shut, IsAt, opened, Event,
 
 -- whether a line in this phase leaves its right at the gate
 abbrev pub leaves_right : Phase → Bool
-leaves_right Out = true
 leaves_right Inside = false
-leaves_right Turned = true
+leaves_right _ = true
 
 -- What holds of a gate of so many lines, whatever happened there.
 pub record IsGateOf {R : Type 0} (lines : ℕ) (g : Gate R) : Type 0 where

@@ -1,15 +1,17 @@
--- For private clauses: what the parts of the core do to what it keeps.
-use Rattle.hub_core.specs.Shows.{kept_lines}
+-- What the core keeps, and what it answers by it.
 use Rattle.std.specs.Prelude.{if◌then◌else◌, ◌&&◌, ◌++◌, ◌+◌, ◌-◌, ◌==◌, ◌||◌, ◌∷◌, ◌≡◌}
-use Rattle.hub_core.specs.Words.{Agent, AgentId, Arrived, Bool, Client, End, EndId, Envelope, Err, Gone, IfSome, InFlight, Inside, Kind, Line, LineId, List, MAX_ENDS, MAX_LINES, MAX_PORTS, MatchBool, Member, None, Ok, Option, Out}
-use Rattle.hub_core.specs.Words.{Outcome, Phase, Place, Port, Result, Sender, Some, Swept, Turned, With, Worker, [], drop, false, flat_map, fold, is_some, length, list_any, nat_le, nat_lt, not, option_map, position, replicate}
+use Rattle.hub_core.specs.Words.{Agent, AgentId, Arrived, Bool, Client, End, EndId, Envelope, Err, Gone, IfSome, InFlight, Inside, Kind, Line, LineId, List, MAX_ENDS, MAX_LINES, MAX_PORTS, MatchBool, Member, None, Ok, Option}
+use Rattle.hub_core.specs.Words.{Out, Outcome, Phase, Place, Port, Result, Sender, Some, Turned, With, Worker, [], drop, false, flat_map, fold, is_some, length, list_any, nat_le, nat_lt, not, option_map, position, replicate}
 use Rattle.hub_core.specs.Words.{slice_get, slice_index_or, slice_set, true, ℕ}
-use Rattle.hub_core.specs.Made.{lines_of, is_queue}
 use Rattle.hub_core.specs.declared.outcome.Outcome.TheVariants as outcome
 use Rattle.hub_core.specs.CoreState.{CoreState}
 use Rattle.hub_core.specs.Facts.{Facts}
-use Rattle.hub_core.specs.Posting.{is_out, is_inside, hears_notice, is_fitting, is_good, listing_of, poster_of}
+use Rattle.hub_core.specs.Made.{is_queue, lines_of}
+use Rattle.hub_core.specs.Posting.{hears_notice, is_fitting, is_good, is_inside, is_out, listing_of, poster_of}
 use Rattle.hub_core.specs.Seen.{seen}
+use Rattle.hub_core.specs.Shows.{kept_lines}
+
+-- ==== For private clauses: what the parts of the core do to what it keeps.
 
 -- whether the poster of some line is inside or being turned back at a queue
 abbrev pub is_anyone_at : ℕ → List Line → Bool
@@ -145,11 +147,7 @@ arrived_ends (Some a) ports ends = moved_ends ports (Arrived a) ends
 -- the agent, running or ending, that has an end of this place
 abbrev pub with_agent : Option Place → Option AgentId
 with_agent (Some (With a)) = Some a
-with_agent (Some InFlight) = None
-with_agent (Some (Arrived a)) = None
-with_agent (Some Swept) = None
-with_agent (Some Gone) = None
-with_agent None = None
+with_agent _ = None
 
 -- the end of the sender has this line, and the queue at which it stands
 abbrev pub HasQueue : List End → Sender → Line → Type 0
@@ -207,15 +205,12 @@ joined queues = flat_map (λ q. q) queues
 abbrev pub is_anyone_from : ℕ → List Line → Bool
 is_anyone_from epoch lines = list_any (λ y. not (is_out y.phase) && nat_le epoch y.epoch) lines
 
-abbrev pub sweep_outcome : End → Outcome
-sweep_outcome x =
+abbrev pub sweep_outcome_at : Option End → Outcome
+sweep_outcome_at None = outcome.NotNow
+sweep_outcome_at (Some x) =
     if not x.is_closed then outcome.NotNow
     else (if is_anyone_from x.looked x.lines then outcome.Busy
     else outcome.Discarded (joined x.queues))
-
-abbrev pub sweep_outcome_at : Option End → Outcome
-sweep_outcome_at None = outcome.NotNow
-sweep_outcome_at (Some x) = sweep_outcome x
 
 -- the ports that the envelopes name
 abbrev pub ports_of : List Envelope → List EndId
@@ -281,16 +276,14 @@ change_owner change (Some a) agents = change_agent change a.0 agents
 
 -- an agent with another count of its queues of this kind
 abbrev pub one_more : Kind → Agent → Agent
-one_more (Port q) x = x
 one_more Client x = record x { clients = x.clients + 1 }
 one_more Worker x = record x { workers = x.workers + 1 }
-one_more (Member a) x = x
+one_more _ x = x
 
 abbrev pub one_less : Kind → Agent → Agent
-one_less (Port q) x = x
 one_less Client x = record x { clients = x.clients - 1 }
 one_less Worker x = record x { workers = x.workers - 1 }
-one_less (Member a) x = x
+one_less _ x = x
 
 -- the agents after an end of this kind came to an agent, and after it went from this place
 abbrev pub come : Kind → AgentId → List Agent → List Agent
@@ -298,10 +291,7 @@ come kind a agents = change_agent (one_more kind) a.0 agents
 
 abbrev pub gone : Kind → Place → List Agent → List Agent
 gone kind (With a) agents = change_agent (one_less kind) a.0 agents
-gone kind InFlight agents = agents
-gone kind (Arrived a) agents = agents
-gone kind Swept agents = agents
-gone kind Gone agents = agents
+gone kind _ agents = agents
 
 -- the agents after this end went from its place
 abbrev pub went : Option End → List Agent → List Agent
@@ -310,11 +300,9 @@ went (Some x) agents = gone x.kind x.place agents
 
 -- how many queues of this kind the agent has
 abbrev pub count_of : Kind → Option Agent → ℕ
-count_of kind None = 0
-count_of (Port q) (Some x) = 0
 count_of Client (Some x) = x.clients
 count_of Worker (Some x) = x.workers
-count_of (Member a) (Some x) = 0
+count_of _ _ = 0
 
 abbrev pub kept_queue_answer : Bool → ℕ → ℕ → Bool → Outcome
 kept_queue_answer runs held n refused =
@@ -350,3 +338,47 @@ adopting released kind x = if released then one_more kind x else one_away (one_m
 abbrev pub adopted_agents : Bool → AgentId → Option End → List Agent → List Agent
 adopted_agents released a None agents = agents
 adopted_agents released a (Some x) agents = change_agent (adopting released x.kind) a.0 agents
+
+-- ==== For private clauses: what the steps of broadcast channels do to what is kept of ends.
+
+abbrev pub kept_member_answer : Bool → Bool → ℕ → Bool → Outcome
+kept_member_answer may has_origin n refused =
+    if not may then outcome.NotNow
+    else (if not has_origin then outcome.NoOrigin
+    else (if nat_le MAX_ENDS n then outcome.TooManyEnds
+    else (if refused then outcome.NoMemory
+    else outcome.End (record { 0 = n }))))
+
+-- the tests of a Cast at an end, and what it is answered
+abbrev pub kept_cast_answer : Bool → Bool → Option AgentId → Bool → List EndId → Outcome
+kept_cast_answer may seated holder none others =
+    if not may then outcome.NotNow
+    else (if not seated then outcome.InvalidState
+    else (if not (is_some holder) then outcome.NotNow
+    else (if not none then outcome.NotTransferable
+    else outcome.Destinations others)))
+
+abbrev pub part_outcome : Bool → Outcome
+part_outcome may = if may then outcome.Done else outcome.NotNow
+
+abbrev pub member_made : AgentId → List End → Outcome → List End
+member_made a old (outcome.End e) = old ++ new_end a (Member a) ∷ []
+member_made a old _ = old
+
+-- ==== For private clauses: what the core keeps of posters that are away, and of agents that end.
+
+abbrev pub owner_by : Facts → Sender → Option Kind → Option AgentId
+owner_by f s (Some (Port q)) = if s.line.0 == 0 then with_agent (f.end q.0).place else None
+owner_by f s (Some Client) = (f.line s.end.0 s.line.0).held_by
+owner_by f s (Some Worker) = (f.line s.end.0 s.line.0).held_by
+owner_by f s _ = None
+
+-- the agent, running or ending, whose poster the line has
+abbrev pub owner : Facts → Sender → Option AgentId
+owner f s = owner_by f s (f.end s.end.0).kind
+
+abbrev pub see_outcome : List EndId → Option Agent → Outcome
+see_outcome ends None = outcome.NotNow
+see_outcome ends (Some x) =
+    if not (x.away == 0) then outcome.NotNow
+    else (if x.is_ordered then outcome.Ending ends else outcome.GoingOn)

@@ -29,8 +29,6 @@ pub mod Sound
 pub mod Shows
 pub mod Seen
 pub mod Kept
-pub mod KeptCasting
-pub mod KeptEnding
 pub mod KeptRoster
 pub mod Unchanged
 pub mod Numbers

@@ -57,29 +57,21 @@ kind h x = fold (λ q p. kind_after x q p.1 p.0.action) None h
 -- the port that a port is entangled with
 abbrev pub peer_of : Option Kind → Option ℕ
 peer_of (Some (Port q)) = Some q.0
-peer_of (Some Client) = None
-peer_of (Some Worker) = None
-peer_of (Some (Member a)) = None
-peer_of None = None
+peer_of _ = None
 
 abbrev pub peer : History → ℕ → Option ℕ
 peer h x = peer_of (kind h x)
 
 -- whether the end is a client's or a worker's queue
 abbrev pub is_queue : Option Kind → Bool
-is_queue (Some (Port q)) = false
 is_queue (Some Client) = true
 is_queue (Some Worker) = true
-is_queue (Some (Member a)) = false
-is_queue None = false
+is_queue _ = false
 
 -- the agent that made a broadcast channel
 abbrev pub maker_of : Option Kind → Option AgentId
-maker_of (Some (Port q)) = None
-maker_of (Some Client) = None
-maker_of (Some Worker) = None
 maker_of (Some (Member a)) = Some a
-maker_of None = None
+maker_of _ = None
 
 -- the line that a port posts on: line 0 of its peer
 abbrev pub line_of_port : History → ℕ → Option Sender
@@ -87,8 +79,7 @@ line_of_port h x = option_map (λ q. record { end = record { 0 = q }; line = rec
 
 -- how many lines an end has
 abbrev pub lines_of : Option Kind → ℕ
-lines_of (Some (Port q)) = 1
 lines_of (Some Client) = MAX_LINES
 lines_of (Some Worker) = MAX_LINES
-lines_of (Some (Member a)) = 1
 lines_of None = 0
+lines_of _ = 1

@@ -91,19 +91,11 @@ pub data MailboxEvent (R : Type 0) : Type 0 where
 -- what an event puts into the mailbox, and what it takes out
 abbrev pub put_in : {R : Type 0} → MailboxEvent R → List Envelope
 put_in (push v) = v ∷ []
-put_in (at_gate k event answer) = []
-put_in (pop k found) = []
-put_in (hop line) = []
-put_in advance = []
-put_in (add rights) = []
+put_in _ = []
 
 abbrev pub got_in : {R : Type 0} → MailboxEvent R → List Envelope
 got_in (pop k found) = option_to_list found
-got_in (push v) = []
-got_in (at_gate k event answer) = []
-got_in (hop line) = []
-got_in advance = []
-got_in (add rights) = []
+got_in _ = []
 
 -- One event: the mailbox before, and the mailbox after. `owns k line right` says that at epoch k this is a right of
 -- the line.

@@ -1,7 +1,7 @@
 -- What the steps that make agents and ends are answered (WHATWG HTML, "Message channels": a new channel is
 -- two entangled ports; the limits are this project's own).
 use Rattle.std.specs.Prelude.{if◌then◌else◌, ◌&&◌, ◌+◌}
-use Rattle.hub_core.specs.Words.{AgentId, Bool, Client, Kind, MAX_AGENTS, MAX_ENDS, Member, None, Option, Outcome, Port, Some, Worker, false, nat_le, nat_lt, not, true}
+use Rattle.hub_core.specs.Words.{AgentId, Bool, Client, Kind, MAX_AGENTS, MAX_ENDS, Option, Outcome, Some, Worker, false, nat_le, nat_lt, not, true}
 use Rattle.hub_core.specs.declared.outcome.Outcome.TheVariants as outcome
 use Rattle.hub_core.specs.Facts.{Facts}
 use Rattle.hub_core.specs.Posting.{is_with}
@@ -25,17 +25,11 @@ channel_answer f a refused =
 
 abbrev pub is_client : Option Kind → Bool
 is_client (Some Client) = true
-is_client (Some (Port q)) = false
-is_client (Some Worker) = false
-is_client (Some (Member a)) = false
-is_client None = false
+is_client _ = false
 
 abbrev pub is_worker : Option Kind → Bool
 is_worker (Some Worker) = true
-is_worker (Some (Port q)) = false
-is_worker (Some Client) = false
-is_worker (Some (Member a)) = false
-is_worker None = false
+is_worker _ = false
 
 -- whether the agent has an end whose kind passes the test
 abbrev pub has_one : (Option Kind → Bool) → AgentId → Facts → Bool

@@ -1,8 +1,7 @@
 -- What the steps that move lines and ends are answered (WHATWG HTML, "Message ports", the transfer and
 -- transfer-receiving steps; going on to a newer queue is this project's own).
 use Rattle.std.specs.Prelude.{if◌then◌else◌, ◌&&◌, ◌+◌, ◌==◌}
-use Rattle.hub_core.specs.Words.{AgentId, Arrived, Bool, Client, EndId, Gone, InFlight, Kind, MAX_MOVES, Member, None, Option, Outcome, Place, Port, Sender, Some, Swept, With, Worker, false, nat_le, nat_lt, not, true}
-use Rattle.hub_core.specs.Words.{ℕ}
+use Rattle.hub_core.specs.Words.{AgentId, Arrived, Bool, EndId, Kind, MAX_MOVES, None, Option, Outcome, Place, Port, Sender, Some, false, nat_le, nat_lt, not, true, ℕ}
 use Rattle.hub_core.specs.declared.outcome.Outcome.TheVariants as outcome
 use Rattle.hub_core.specs.Facts.{Facts}
 use Rattle.hub_core.specs.Made.{is_queue}
@@ -17,11 +16,7 @@ hop_answer f s =
 
 abbrev pub is_arrived : AgentId → Option Place → Bool
 is_arrived a (Some (Arrived b)) = a.0 == b.0
-is_arrived a (Some (With b)) = false
-is_arrived a (Some InFlight) = false
-is_arrived a (Some Swept) = false
-is_arrived a (Some Gone) = false
-is_arrived a None = false
+is_arrived a _ = false
 
 -- An Adopt looks for a closed end; then it tests that the end has arrived at the agent, which runs; then how often the
 -- end was adopted; then memory. The new queue is the newest.
@@ -36,10 +31,7 @@ adopt_answer f e a refused =
 -- whether the end is no port with its own poster inside or being turned back
 abbrev pub is_released : Facts → Option Kind → Bool
 is_released f (Some (Port q)) = is_out (f.line q.0 0).phase
-is_released f (Some Client) = true
-is_released f (Some Worker) = true
-is_released f (Some (Member a)) = true
-is_released f None = true
+is_released f _ = true
 
 -- whether an open end can be closed: it has a place where it can, and of a port its own poster is out
 abbrev pub may_close : Facts → ℕ → Bool

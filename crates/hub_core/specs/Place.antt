@@ -13,11 +13,7 @@ names ports x = list_any (λ p. p.0 == x) ports
 -- end. An end that no agent has leaves the port where it was.
 abbrev pub arrived : Option Place → Option Place → Option Place
 arrived (Some (With a)) old = Some (Arrived a)
-arrived (Some InFlight) old = old
-arrived (Some (Arrived a)) old = old
-arrived (Some Swept) old = old
-arrived (Some Gone) old = old
-arrived None old = old
+arrived _ old = old
 
 -- whether one of the envelopes names the end
 abbrev pub is_named : List Envelope → ℕ → Bool

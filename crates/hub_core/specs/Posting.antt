@@ -1,8 +1,8 @@
 -- What the steps of a poster are answered (WHATWG HTML, "Message ports", the message port post message steps
 -- with their transfer list; entering and leaving a gate are this project's own).
 use Rattle.std.specs.Prelude.{if◌then◌else◌, ◌&&◌, ◌==◌, ◌||◌, ◌∷◌}
-use Rattle.hub_core.specs.Words.{Acceptance, AgentId, Arrived, Bad, Bool, Client, EndId, Gone, Good, HoldsTarget, InFlight, Inside, Kind, List, Listing, MAX_PORTS, Member, None, Option, Out, Outcome, Phase, Place, Port, Sender, Some}
-use Rattle.hub_core.specs.Words.{Swept, Turned, With, Worker, [], bytes_eq, false, is_some, length, list_all, nat_lt, not, option_and_then, true, ℕ}
+use Rattle.hub_core.specs.Words.{Acceptance, AgentId, Arrived, Bad, Bool, EndId, Good, HoldsTarget, Inside, Kind, List, Listing, MAX_PORTS, Member, None, Option, Out, Outcome, Phase, Place, Port, Sender, Some, Swept, Turned, With}
+use Rattle.hub_core.specs.Words.{[], bytes_eq, false, is_some, length, list_all, nat_lt, not, option_and_then, true, ℕ}
 use Rattle.hub_core.specs.declared.outcome.Outcome.TheVariants as outcome
 use Rattle.hub_core.specs.Facts.{Facts}
 use Rattle.hub_core.specs.Place.{names}
@@ -12,22 +12,16 @@ use Rattle.hub_core.specs.Sender.{count_in_queue}
 
 abbrev pub is_out : Phase → Bool
 is_out Out = true
-is_out Inside = false
-is_out Turned = false
+is_out _ = false
 
 abbrev pub is_inside : Phase → Bool
-is_inside Out = false
 is_inside Inside = true
-is_inside Turned = false
+is_inside _ = false
 
 -- the agent that has an end of this place, where the agent runs
 abbrev pub running_at : (ℕ → Bool) → Option Place → Option AgentId
 running_at runs (Some (With a)) = if runs a.0 then Some a else None
-running_at runs (Some InFlight) = None
-running_at runs (Some (Arrived a)) = None
-running_at runs (Some Swept) = None
-running_at runs (Some Gone) = None
-running_at runs None = None
+running_at runs _ = None
 
 -- the running agent that has the end
 abbrev pub holder : Facts → ℕ → Option AgentId
@@ -52,10 +46,9 @@ speaker f x = speaker_in f x f.roster.cast
 
 abbrev pub poster_of : Facts → Sender → Option Kind → Option AgentId
 poster_of f s (Some (Port q)) = if s.line.0 == 0 then holder f q.0 else None
-poster_of f s (Some Client) = running f (f.line s.end.0 s.line.0).held_by
-poster_of f s (Some Worker) = running f (f.line s.end.0 s.line.0).held_by
 poster_of f s (Some (Member a)) = if s.line.0 == 0 then speaker f s.end.0 else None
 poster_of f s None = None
+poster_of f s _ = running f (f.line s.end.0 s.line.0).held_by
 
 -- the agent that posts on the line: for line 0 of a port the running one that has the port that it is entangled
 -- with, for a line of a queue the running one that holds it, and for line 0 of a broadcast channel the one whose cast goes
@@ -68,9 +61,7 @@ abbrev pub is_here : Option Place → Bool
 is_here (Some (With a)) = true
 is_here (Some (Arrived a)) = true
 is_here (Some Swept) = true
-is_here (Some InFlight) = false
-is_here (Some Gone) = false
-is_here None = false
+is_here _ = false
 
 -- whether the place of the port that posts on the line lets its poster put a notice
 abbrev pub hears_notice : Facts → Sender → Bool
@@ -98,11 +89,7 @@ is_distinct (p ∷ ps) = not (names ps p.0) && is_distinct ps
 
 abbrev pub is_with : AgentId → Option Place → Bool
 is_with a (Some (With b)) = a.0 == b.0
-is_with a (Some InFlight) = false
-is_with a (Some (Arrived b)) = false
-is_with a (Some Swept) = false
-is_with a (Some Gone) = false
-is_with a None = false
+is_with a _ = false
 
 -- whether there is the line that a port holds, and its poster is out
 abbrev pub own_poster_out : Facts → Option ℕ → Bool
@@ -137,8 +124,7 @@ listing f s ports = listing_of f s ports (poster f s)
 
 abbrev pub is_good : Listing → Bool
 is_good Good = true
-is_good HoldsTarget = false
-is_good Bad = false
+is_good _ = false
 
 -- the name that an envelope of an agent on a line gets now
 abbrev pub next_name : Facts → Sender → AgentId → Acceptance
@@ -159,10 +145,7 @@ is_of_cast ports body (Some c) = is_empty ports && bytes_eq body c.body
 -- whether a message may go to an end of this kind: to a broadcast channel only the body of the cast, with no ports
 abbrev pub is_fitting : Option CastNow → Option Kind → List EndId → List ℕ → Bool
 is_fitting cast (Some (Member a)) ports body = is_of_cast ports body cast
-is_fitting cast (Some (Port q)) ports body = true
-is_fitting cast (Some Client) ports body = true
-is_fitting cast (Some Worker) ports body = true
-is_fitting cast None ports body = true
+is_fitting cast _ ports body = true
 
 -- the last but two argument says whether the message may go to the end
 abbrev pub push_answer_of : Facts → Sender → List EndId → Bool → Bool → Option AgentId → Outcome

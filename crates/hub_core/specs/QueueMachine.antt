@@ -16,10 +16,6 @@ pub record Queue : Type 0 where
 abbrev pub new_queue : Queue
 new_queue = record { put = λ _. []; held = []; got = [] }
 
--- the number that the next envelope of a line gets
-abbrev pub next_number : Queue → ℕ → ℕ
-next_number q line = length (q.put line)
-
 -- the envelope bears the name of the queue k of the end e: that end and epoch, and one of its n lines
 pub record IsNamed (e k n : ℕ) (v : Envelope) : Type 0 where
   pub end : v.end.0 ≡ e
@@ -29,7 +25,7 @@ pub record IsNamed (e k n : ℕ) (v : Envelope) : Type 0 where
 -- A queue takes an envelope that bears its name and has the next number of its line.
 pub record MayPush (e k n : ℕ) (q : Queue) (v : Envelope) : Type 0 where
   pub named : IsNamed e k n v
-  pub number : v.number ≡ next_number q v.line.0
+  pub number : v.number ≡ length (q.put v.line.0)
 
 -- Push appends an envelope to what its line put and to what is held.
 abbrev pub pushed : Queue → Envelope → Queue

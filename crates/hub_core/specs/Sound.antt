@@ -1,7 +1,7 @@
 -- What holds of the facts of every legal history, each part with the notions that it reads (this project's own).
 use Rattle.std.specs.Prelude.{◌++◌, ◌+◌, ◌<◌, ◌∷◌, ◌≡◌, ◌≤◌, ◌⊎◌}
-use Rattle.hub_core.specs.Words.{AgentId, AllByRecursion, Arrived, Bool, Envelope, Gone, InFlight, Inside, List, MAX_ENDS, None, Option, Out, Place, Sender, Some, Swept, Turned, With, [], false, filter, is_some, length, suc, true}
-use Rattle.hub_core.specs.Words.{zero, ℕ}
+use Rattle.hub_core.specs.Words.{AgentId, AllByRecursion, Arrived, Bool, Envelope, Gone, InFlight, Inside, List, MAX_ENDS, None, Option, Out, Place, Sender, Some, Turned, With, [], false, filter, is_some, length, suc, true, zero}
+use Rattle.hub_core.specs.Words.{ℕ}
 use Rattle.hub_core.specs.Facts.{EndNow, LineNow, Facts}
 use Rattle.hub_core.specs.Place.{names}
 use Rattle.hub_core.specs.Sender.{by, in_queue, Prefix, Rises}
@@ -67,20 +67,12 @@ naming x vs = length (filter (λ v. names v.ports x) vs)
 -- 1 where a port of this place is in flight
 abbrev pub flights : Option Place → ℕ
 flights (Some InFlight) = 1
-flights (Some (With a)) = 0
-flights (Some (Arrived a)) = 0
-flights (Some Swept) = 0
-flights (Some Gone) = 0
-flights None = 0
+flights _ = 0
 
 -- whether an end of this place was closed
 abbrev pub is_gone : Option Place → Bool
 is_gone (Some Gone) = true
-is_gone (Some (With a)) = false
-is_gone (Some InFlight) = false
-is_gone (Some (Arrived a)) = false
-is_gone (Some Swept) = false
-is_gone None = false
+is_gone _ = false
 
 -- Where ends are. There are at most as many as there are numbers for. A number that no end or agent has stands for
 -- nothing. Ports are entangled both ways. The agents that have ends were made. A line whose poster is inside or being

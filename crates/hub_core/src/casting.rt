@@ -2,8 +2,8 @@
 
 ghost use Rattle.std.specs.Prelude.{◌≡◌, ◌&&◌, length, not, is_some, slice_get, unwrap_or};
 ghost use Rattle.std.specs.Prelude.{ℕ, List, IfOk, IfSome, OnErr};
-ghost use Rattle.hub_core.specs.KeptCasting.{kept_member_answer, kept_cast_answer, member_made};
-ghost use Rattle.hub_core.specs.KeptCasting.{part_outcome};
+ghost use Rattle.hub_core.specs.Kept.{kept_member_answer, kept_cast_answer, member_made};
+ghost use Rattle.hub_core.specs.Kept.{part_outcome};
 ghost use Rattle.hub_core.specs.Made.{maker_of};
 ghost use Rattle.hub_core.specs.Seen.{seen};
 ghost use Rattle.hub_core.specs.KeptRoster.{origin_at, group_of, is_seated_in, kept_destinations};

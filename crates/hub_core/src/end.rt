@@ -1,14 +1,12 @@
 //! What the core keeps of an end.
 
-ghost use Rattle.std.specs.Prelude.{◌≡◌, ◌||◌, ◌∷◌, ◌<◌, [], slice_get, IfOk, OnOk, OnErr};
-ghost use Rattle.std.specs.Prelude.{drop, MatchOption, false, true, List, Some};
-ghost use Rattle.hub_envelope.specs.declared.envelope.Envelope.{Envelope as EnvelopeValue};
+ghost use Rattle.std.specs.Prelude.{◌≡◌, ◌||◌, ◌∷◌, ◌<◌, [], slice_get, IfOk, OnOk, OnErr, drop};
+ghost use Rattle.std.specs.Prelude.{MatchOption, false, true, Some};
 ghost use Rattle.hub_envelope.specs.declared.limits.TheConstants.{MAX_MOVES};
 ghost use Rattle.hub_core.specs.Moving.{is_arrived};
 ghost use Rattle.hub_core.specs.Posting.{is_here, is_with};
-ghost use Rattle.hub_core.specs.Kept.{new_end, kept_looked, kept_settled};
-ghost use Rattle.hub_core.specs.Kept.{advanced_end, front_taken};
-ghost use Rattle.hub_core.specs.Kept.{adopted_end, has_queue, posting_line, put_end, sweep_outcome};
+ghost use Rattle.hub_core.specs.Kept.{new_end, kept_looked, kept_settled, advanced_end};
+ghost use Rattle.hub_core.specs.Kept.{front_taken, adopted_end, has_queue, posting_line, put_end};
 ghost use Rattle.hub_core.specs.Kept.{taker_queue};
 
 use crate::kind::Kind;

@@ -1,13 +1,12 @@
 //! How an agent ends: Order and See; and how many of its posters are away.
 
-ghost use Rattle.std.specs.Prelude.{◌≡◌, ◌++◌, ◌∷◌, [], length, slice_get, if◌then◌else◌, IfOk};
-ghost use Rattle.std.specs.Prelude.{OnOk, OnErr};
+ghost use Rattle.std.specs.Prelude.{◌≡◌, ◌++◌, ◌∷◌, [], slice_get, if◌then◌else◌, IfOk, OnOk};
+ghost use Rattle.std.specs.Prelude.{OnErr};
 ghost use Rattle.hub_core.specs.Ending.{ends_at, order_answer};
 ghost use Rattle.hub_core.specs.CoreSteps.{core_after};
 ghost use Rattle.hub_core.specs.declared.step.Action.TheVariants as action;
-ghost use Rattle.hub_core.specs.Kept.{with_agent, change_owner, one_away, one_out};
-ghost use Rattle.hub_core.specs.KeptEnding.{owner_by, owner};
-ghost use Rattle.hub_core.specs.KeptEnding.{see_outcome};
+ghost use Rattle.hub_core.specs.Kept.{with_agent, change_owner, one_away, one_out, owner_by};
+ghost use Rattle.hub_core.specs.Kept.{owner, see_outcome};
 ghost use Rattle.hub_core.specs.Seen.{seen};
 
 use crate::agent::Agent;

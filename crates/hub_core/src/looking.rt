@@ -1,8 +1,8 @@
 //! Steps that look who is inside: Look and Sweep.
 
 ghost use Rattle.std.specs.Prelude.{◌≡◌, [], slice_get, IfOk, IfSome, OnOk, OnErr};
-ghost use Rattle.hub_core.specs.Kept.{change_end, joined};
-ghost use Rattle.hub_core.specs.Kept.{look_outcome_at, sweep_outcome_at, moved_ends, ports_of};
+ghost use Rattle.hub_core.specs.Kept.{change_end, joined, look_outcome_at, sweep_outcome_at};
+ghost use Rattle.hub_core.specs.Kept.{moved_ends, ports_of};
 ghost use Rattle.hub_core.specs.CoreSteps.{core_after};
 ghost use Rattle.hub_core.specs.declared.step.Action.TheVariants as action;
 

@@ -1,7 +1,6 @@
-ghost use Rattle.std.specs.Prelude.{◌≡◌, ◌++◌, ◌∷◌, ◌<◌, ◌==◌, ℕ, [], if◌then◌else◌, map, not};
-ghost use Rattle.std.specs.Prelude.{slice_get, option_map, is_some, true, IfOk, OnOk, OnErr};
+ghost use Rattle.std.specs.Prelude.{◌≡◌, ◌++◌, ◌∷◌, ◌<◌, [], slice_get, option_map, is_some, true};
+ghost use Rattle.std.specs.Prelude.{IfOk, OnOk, OnErr};
 ghost use Rattle.std.specs.BTreeMap.{get};
-ghost use Rattle.std.specs.Ordering.{nat_cmp};
 ghost use Rattle.hub_core.specs.KeptRoster.{group_cmp, numbers_of, numbers_in, seated_with};
 ghost use Rattle.hub_core.specs.KeptRoster.{group_of, is_seated_in, kept_destinations, origin_at};
 ghost use Rattle.hub_core.specs.KeptRoster.{Joins, JoinsGroup, SameMembers, Parts};

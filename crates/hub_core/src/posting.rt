@@ -10,9 +10,8 @@ ghost use Rattle.hub_core.specs.Posting.{is_at, may_leave_agent, own_line_plain,
 ghost use Rattle.hub_core.specs.Seen.{seen};
 ghost use Rattle.hub_core.specs.Shows.{line_now};
 ghost use Rattle.hub_core.specs.Kept.{gate_passed, kept_noticing, kept_posting, notice_outcome};
-ghost use Rattle.hub_core.specs.Kept.{posting_at, push_outcome, HasQueue};
-ghost use Rattle.hub_core.specs.Kept.{put_ends, accept_ends, moved_ends, end_moved};
-ghost use Rattle.hub_core.specs.Kept.{change_line, in_phase, at_queue};
+ghost use Rattle.hub_core.specs.Kept.{posting_at, push_outcome, HasQueue, put_ends, accept_ends};
+ghost use Rattle.hub_core.specs.Kept.{moved_ends, end_moved, change_line, in_phase, at_queue};
 ghost use Rattle.hub_core.specs.CoreSteps.{core_after};
 ghost use Rattle.hub_core.specs.Moving.{hop_answer};
 ghost use Rattle.hub_core.specs.declared.step.Action.TheVariants as action;

@@ -1,4 +1,4 @@
-ghost use Rattle.std.specs.Prelude.{◌≡◌, ◌++◌, ◌∷◌, [], drop, None, is_some, IfOk, OnOk, OnErr};
+ghost use Rattle.std.specs.Prelude.{◌≡◌, drop, None, is_some, IfOk};
 ghost use Rattle.hub_core.specs.KeptRoster.{has_body, source_for, is_none, IsFirst};
 ghost use Rattle.hub_core.specs.Roster.{is_first, cast_to, cast_after};
 

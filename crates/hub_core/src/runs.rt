@@ -1,6 +1,6 @@
 //! A run of many steps, from a hub with no agent.
 
-ghost use Rattle.std.specs.Prelude.{◌≡◌, [], length, IfOk, OnOk};
+ghost use Rattle.std.specs.Prelude.{◌≡◌, [], length, IfOk};
 ghost use Rattle.std.specs.List.{zip};
 ghost use Rattle.hub_core.specs.Legal.{Legal};
 ghost use Rattle.hub_core.specs.Headline.{Headline};

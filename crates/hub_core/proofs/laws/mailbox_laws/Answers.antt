@@ -1,5 +1,5 @@
 -- An end of the core as a mailbox, the mailbox of an end after a history, and in order.
-use Rattle.hub_core.proofs.Mailboxes.{mailboxes_show, each_shows, goes_on, keeps_mailboxes}
+use Rattle.hub_core.proofs.Mailboxes.{mailboxes_show, each_shows, goes_on, holds_kept}
 use Rattle.hub_core.proofs.Orders.{shows_in_order}
 use Rattle.hub_core.proofs.laws.mailbox_laws.Goals as goal
 
@@ -10,7 +10,7 @@ pub returns-clause-shows : goal.returns-clause-shows
 returns-clause-shows c = each_shows
 
 pub returns-clause-kept : goal.returns-clause-kept
-returns-clause-kept c = keeps_mailboxes
+returns-clause-kept c = λ core h shows e x is. holds_kept core h shows e x is
 
 pub returns-clause-goes_on : goal.returns-clause-goes_on
 returns-clause-goes_on c = goes_on

@@ -6,18 +6,10 @@ use Rattle.hub_core.specs.declared.step.Action.TheVariants as action
 use Rattle.hub_core.proofs.Stepping.{ok_both, ok_all, client_core, worker_core}
 use Rattle.hub_core.proofs.Took.{ok, took_where, took_by, same_err, same_err_with, told, member_took, part_took}
 use Rattle.hub_core.proofs.Makes.{makes_client, makes_worker, agent_changes, channel_changes, queue_answered, client_changes, worker_changes}
-use Rattle.hub_core.proofs.Holds.{line_fits, line_changes, back_changes}
-use Rattle.hub_core.proofs.Hands.{hand_changes}
-use Rattle.hub_core.proofs.Entering.{enter_changes, leave_changes}
-use Rattle.hub_core.proofs.Endings.{order_changes, see_fits, see_changes}
-use Rattle.hub_core.proofs.Pushes.{push_fits, push_changes}
-use Rattle.hub_core.proofs.Takes.{start_changes, take_fits, take_changes}
-use Rattle.hub_core.proofs.Hops.{hop_changes}
-use Rattle.hub_core.proofs.Looks.{look_fits, look_changes}
-use Rattle.hub_core.proofs.Adopts.{adopt_changes}
-use Rattle.hub_core.proofs.Notices.{notice_fits, notice_changes}
-use Rattle.hub_core.proofs.Closes.{close_changes}
-use Rattle.hub_core.proofs.Sweeps.{sweep_fits, sweep_changes}
+use Rattle.hub_core.proofs.Entering.{back_changes, enter_changes, leave_changes, line_changes, line_fits, order_changes, see_changes, see_fits}
+use Rattle.hub_core.proofs.MovedEnds.{adopt_changes, close_changes, hand_changes, hop_changes}
+use Rattle.hub_core.proofs.Sending.{notice_changes, notice_fits, push_changes, push_fits}
+use Rattle.hub_core.proofs.Emptying.{look_changes, look_fits, start_changes, sweep_changes, sweep_fits, take_changes, take_fits}
 use Rattle.hub_core.proofs.Seeing.{seen_is, enter_seen, hop_seen, close_seen, hand_seen}
 use Rattle.hub_core.proofs.machine.Core.step.Goals as goal
 
