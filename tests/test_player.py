@@ -1,9 +1,9 @@
 """Step files played on the parts that threads share, and answered by the state machine alike.
 
-`hub_player` plays step lines by the public calls of hub_ports, hub_clients, hub_queue and
-hub_broadcast. What it prints has to be what `messagehub steps` prints, byte by byte. Where a step
-line has no call it ends with status 5 and the reason, and what it has printed until then is
-compared.
+`hub_player` plays step lines by the public calls of hub_loop, hub_ports, hub_clients, hub_queue
+and hub_broadcast. What it prints has to be what `messagehub steps` prints, byte by byte. Where a
+step line has no call it ends with status 5 and the reason, and what it has printed until then is
+compared. With turns of event loops it prints the step lines that do what the turns did.
 """
 
 import collections
@@ -89,6 +89,7 @@ class Steps:
 
     # How often it takes at most for a port that was sent.
     MOST_TAKES = 12
+    LEAST_LINES, MOST_LINES = 40, 160
 
     def __init__(self, seed):
         self.draw = random.Random(seed)
@@ -102,7 +103,7 @@ class Steps:
         for _ in range(self.draw.choice((1, 2, 3, 4, 10))):
             self.do("channel 0")
         ways, weights = zip(*self.WAYS)
-        length = self.draw.randint(40, 160)
+        length = self.draw.randint(self.LEAST_LINES, self.MOST_LINES)
         while len(self.lines) < length:
             self.draw.choices(ways, weights)[0](self)
         return self.lines
@@ -224,6 +225,10 @@ class Steps:
         taker = self.hub.ends[sender.peer]
         self.do_at_hand("start", taker)
         self.do(f"post {sender.number} {port.number} {self.text()}")
+        return port.place == machine.FLIGHT and self.is_brought(port, taker)
+
+    def is_brought(self, port, taker):
+        """Whether a port that was sent is taken and adopted."""
         for _ in range(self.MOST_TAKES):
             if port.place == machine.FLIGHT:
                 self.do_at_hand("take", taker)
@@ -299,3 +304,194 @@ class Steps:
         (adopt, 8), (travel, 5), (wander, 2), (hand, 2), (close, 3), (sweep, 3), (cast, 5),
         (part, 1), (order, 3), (refused, 2),
     )
+
+
+class Turns(Steps):
+    """Draws step lines, and turns of event loops, which choose where they take from.
+
+    After some turns the player says what they did, and the machine does that, too. A loop goes on
+    by itself from a retired queue where the state machine answers a take with `again`, so there the
+    take is repeated."""
+
+    LEAST_LINES, MOST_LINES = 80, 320
+    # How many turns of each agent are made at a time until all are idle.
+    LAST_TURNS = 4
+    MOST_ROUNDS = 100
+    # Which word of a line names the agent that has to be running.
+    AGENT_AT = {"channel": 1, "client": 1, "worker": 1, "member": 1, "line": 2, "adopt": 2}
+
+    def __init__(self, seed):
+        super().__init__(seed)
+        # All step lines that were played, and the places of those that were answered `again`.
+        self.steps, self.again = [], set()
+        # How many of them turns have made, and how many of those there are of each word.
+        self.made, self.words = 0, collections.Counter()
+        # The line to a queue that the loop of an agent holds.
+        self.held = {}
+        # The agents that were ordered to end, and may not have found it.
+        self.ordered = set()
+        # What the player printed: the outcomes, and what it said of the other turns.
+        self.outcomes, self.rests = [], []
+
+    def drawn(self):
+        super().drawn()
+        for _ in range(self.MOST_ROUNDS):
+            made = self.made
+            agents = range(len(self.hub.origins))
+            self.turn([agent for agent in agents for _ in range(self.LAST_TURNS)])
+            if self.made == made:
+                return self.lines
+        raise AssertionError("the loops are never all idle")
+
+    def turn(self, agents):
+        """Makes a turn of each of these agents, and has the machine do what they did."""
+        self.lines += [f"turn {agent}" for agent in agents]
+        text = "".join(f"{line}\n" for line in self.lines).encode()
+        found = outcome_of([PLAYER, "loops"], text)
+        if found.errors or found.status:
+            raise AssertionError(f"{found.errors}, {found.status} after {len(self.lines)} lines")
+        played, self.outcomes, self.rests = parts_of(found.output)
+        known = len(self.steps) - len(self.again)
+        own = sum(not line.startswith("turn ") for line in self.lines)
+        self.steps += played[known : own + self.made]
+        for line in played[own + self.made :]:
+            self.follow(line)
+        self.made = len(played) - own
+
+    def follow(self, line):
+        """Has the machine do what a turn did."""
+        word, number = line.split(" ")[:2]
+        self.words[word] += 1
+        if word == "see":
+            agent = int(number)
+            self.ending.add(agent)
+            self.held = {at: line for at, line in self.held.items() if at[0] != agent}
+            self.steps.append(line)
+        else:
+            self.take_on(line)
+
+    def take_on(self, line):
+        """A line that the machine does, a take past the queues from which everything was taken."""
+        while self.hub.do(line) == "again":
+            self.again.add(len(self.steps))
+            self.steps.append(line)
+        self.steps.append(line)
+
+    def open_ends(self):
+        """The ends from which an agent that runs can take."""
+        return [end for end in self.ends("port", "client", "worker", "member") if end.is_enabled]
+
+    def turns(self):
+        agent = self.pick(end.agent for end in self.open_ends() if end.head())
+        if self.is_rare():
+            agent = self.draw.randrange(len(self.hub.origins) + 1)
+        if agent is not None:
+            self.turn([agent] * self.draw.choice((1, 1, 2, 3, 5, 9)))
+
+    def do(self, line):
+        word = line.split(" ")
+        # The machine would do it, too, for an agent that a turn has ended meanwhile.
+        if word[0] in self.AGENT_AT and int(word[self.AGENT_AT[word[0]]]) in self.ending:
+            self.lines.append(line)
+            return "not-now"
+        outcome = super().do(line)
+        if word[0] == "line" and outcome.startswith("line "):
+            self.held.setdefault((int(word[2]), int(word[1])), int(outcome[5:]))
+        return outcome
+
+    def back(self):
+        """The first line of an agent to a queue is held by its loop, which gives none back."""
+        if found := self.pick(
+            (end, at) for end, at in self.held_lines()
+            if self.held.get((end.lines[at].holder, end.number)) != at
+        ):
+            self.do(f"back {found[0].number}/{found[1]}")
+
+    def is_brought(self, port, taker):
+        queues = (it for end in self.open_ends() if end.agent == taker.agent for it in end.queues)
+        self.turn([taker.agent] * sum(len(queue.waiting) for queue in queues))
+        return port.place == machine.WITH
+
+    def end(self):
+        """An agent is asked to end, which it finds in a turn."""
+        if (agent := self.runner()) is not None and self.is_rare(4):
+            self.lines.append(f"order {agent}")
+            self.ordered.add(agent)
+
+    def order(self):
+        """A look may find the order before a turn does."""
+        super().order()
+        word, agent = self.lines[-1].split(" ")[:2]
+        if word == "see" and int(agent) in self.ordered:
+            self.ending.add(int(agent))
+
+    WAYS = (
+        *(
+            way for way in Steps.WAYS
+            if way[0] not in (Steps.take, Steps.adopt, Steps.back, Steps.order)
+        ),
+        (Steps.adopt, 2), (back, 1), (order, 3), (end, 1), (turns, 24),
+    )
+
+
+def parts_of(output):
+    """The step lines that were played, their outcomes, and what the turns said besides."""
+    lines, outcomes, rests = [], [], []
+    texts = iter(output.split(b"\n")[:-1])
+    for text in texts:
+        if text.startswith(b"> "):
+            lines.append(text[2:].decode())
+            outcomes.append(next(texts))
+        else:
+            rests.append(text)
+    return lines, outcomes, rests
+
+
+class Loops(support.TestCase):
+    """Step files with turns of event loops, that are drawn from a seed.
+
+    What the player says that a turn has done is a choice that the state machine has, too."""
+
+    time_limit = 300
+
+    def test_files(self):
+        counts, words = collections.Counter(), collections.Counter()
+        for number in range(FILES):
+            with self.subTest(file=number):
+                drawn = Turns(SEED * FILES + number)
+                drawn.drawn()
+                self.compare(drawn)
+            words.update(drawn.words)
+            words.update(line.split(b" ")[0].decode() for line in drawn.outcomes)
+            counts.update(
+                lines=len(drawn.lines), rests=len(drawn.rests), again=len(drawn.again),
+                ends=len(drawn.open_ends()),
+            )
+        for word in ("cast", "closed", "discarded", "doomed", "ending", "got", "handed", "moving",
+                     "not-now", "notice"):
+            self.assertGreaterEqual(words[word], 10, word)
+        self.says(FILES, "files", 500)
+        self.says(counts["lines"], "lines", 108_000)
+        self.says(words["take"], "deliveries", 9_900)
+        self.says(words["adopt"], "adoptions", 5_000)
+        self.says(counts["rests"], "idle turns", 27_000)
+        self.says(counts["again"], "takes repeated", 1_400)
+        self.says(words["see"], "loops that ended", 500)
+        self.says(counts["ends"], "ends found empty", 1_500)
+
+    def compare(self, drawn):
+        """Asks the state machine for the outcomes of all lines that were played, and then whether
+        all is taken where an agent can take."""
+        self.assertEqual(set(drawn.rests), {b"idle"})
+        wanted = list(drawn.outcomes)
+        for end in drawn.open_ends():
+            drawn.take_on(f"take {end.number}")
+            wanted.append(b"empty")
+        text = "".join(f"{line}\n" for line in drawn.steps).encode()
+        answer = outcome_of([PROGRAM, "steps"], text)
+        self.assertEqual((answer.errors, answer.status), (b"", 0))
+        outcomes = answer.output.split(b"\n")[:-1]
+        self.assertEqual({outcomes[place] for place in drawn.again} - {b"again"}, set())
+        found = [it for place, it in enumerate(outcomes) if place not in drawn.again]
+        difference = support.first_difference(b"\n".join(found), b"\n".join(wanted))
+        self.assertIsNone(difference)

@@ -1,5 +1,6 @@
 //! Casts, and members that leave the roster.
 
+use crate::holding::loop_of;
 use crate::player::{Player, answer, not_now};
 use crate::seat::{Kind, Place};
 use crate::stop::Stop;
@@ -25,11 +26,17 @@ impl Player {
             return not_now();
         }
         let agent = seat.agent;
-        if seat.is_listed && seat.place == Place::Held && !self.is_running(agent) {
+        if seat.place != Place::Held {
+            return answer(Outcome::InvalidState);
+        }
+        if seat.is_listed && !self.is_running(agent) {
             return not_now();
         }
-        let Some(member) = &seat.member else {
-            return answer(Outcome::InvalidState);
+        let Some(event_loop) = loop_of(&mut self.agents, agent) else {
+            return Err(Stop::Unexpected);
+        };
+        let Some(member) = event_loop.member_mut(end) else {
+            return Err(Stop::Unexpected);
         };
         match self
             .roster

@@ -1,10 +1,13 @@
 //! Closing.
 
+use crate::holding::{loop_of, release};
 use crate::player::{Player, answer, not_now};
 use crate::seat::{Kind, Place};
 use crate::stop::Stop;
+use hub_clients::Handed;
 use hub_core::Outcome;
-use hub_envelope::EndId;
+use hub_envelope::{AgentId, EndId};
+use hub_loop::{ClosedEnd, Held};
 use hub_ports::{Arrived, Noticed};
 use hub_queue::Grave;
 use hub_steps::Shown;
@@ -15,27 +18,56 @@ impl Player {
         let Some(seat) = self.seat(end) else {
             return not_now();
         };
+        let agent = seat.agent;
         match (seat.place, seat.kind) {
             (Place::Closed | Place::Swept, _) => answer(Outcome::Closed),
             (Place::InFlight, _) => not_now(),
-            (Place::Held | Place::Arrived, Kind::Port) => self.close_port(rt, end),
-            (Place::Held | Place::Arrived, Kind::Member) => self.close_member(end),
-            (Place::Held | Place::Arrived, _) => self.close_queue(rt, end),
+            (Place::Held, Kind::Member) if seat.is_listed => self.close_listed(agent, end),
+            (Place::Held, _) => self.close_held(rt, agent, end),
+            (Place::Arrived, Kind::Port) => self.close_come(rt, end),
+            (Place::Arrived, _) => self.close_handed(rt, agent, end),
         }
     }
 
-    fn close_port<R: Wait>(&mut self, rt: &R, end: EndId) -> Result<Shown, Stop> {
+    /// Closes an end that the loop of its agent holds.
+    fn close_held<R: Wait>(&mut self, rt: &R, agent: AgentId, end: EndId) -> Result<Shown, Stop> {
+        let Some(event_loop) = loop_of(&mut self.agents, agent) else {
+            return Err(Stop::Unexpected);
+        };
+        let Some(closed) = event_loop.close(rt, &self.hub, &self.roster, end) else {
+            return Err(Stop::Unexpected);
+        };
+        let ClosedEnd { grave, port } = closed;
+        self.bury(grave)?;
+        match port {
+            Some(port) => Ok(shown_of(port.noticed)),
+            None => answer(Outcome::Done),
+        }
+    }
+
+    /// Closes a member that stays a destination, where a loop's own call would take it out of the
+    /// roster first.
+    fn close_listed(&mut self, agent: AgentId, end: EndId) -> Result<Shown, Stop> {
+        match release(&mut self.agents, agent, end) {
+            Some(Held::Member(member)) => {
+                self.bury(member.close())?;
+                answer(Outcome::Done)
+            }
+            Some(held) => {
+                drop(held);
+                Err(Stop::Unexpected)
+            }
+            None => Err(Stop::Unexpected),
+        }
+    }
+
+    fn close_come<R: Wait>(&mut self, rt: &R, end: EndId) -> Result<Shown, Stop> {
         let Some(seat) = self.seat_mut(end) else {
             return Err(Stop::Unexpected);
         };
-        match (seat.port.take(), seat.arrived.take()) {
-            (Some(port), _) => {
-                let (grave, _, noticed) = port.close(rt, &self.hub);
-                self.bury(grave)?;
-                Ok(closed(noticed))
-            }
-            (None, Some(arrived)) => self.close_arrived(rt, arrived),
-            (None, None) => Err(Stop::Unexpected),
+        match seat.arrived.take() {
+            Some(arrived) => self.close_arrived(rt, arrived),
+            None => Err(Stop::Unexpected),
         }
     }
 
@@ -47,26 +79,14 @@ impl Player {
     ) -> Result<Shown, Stop> {
         let (grave, _, noticed) = arrived.close(rt, &self.hub);
         self.bury(grave)?;
-        Ok(closed(noticed))
+        Ok(shown_of(noticed))
     }
 
-    fn close_member(&mut self, end: EndId) -> Result<Shown, Stop> {
-        let Some(seat) = self.seat_mut(end) else {
+    /// Closes a queue that was handed on and wasn't adopted.
+    fn close_handed<R: Wait>(&mut self, rt: &R, agent: AgentId, end: EndId) -> Result<Shown, Stop> {
+        let Some(Handed { queue, to: _ }) = self.directory.fetch(rt, end, agent) else {
             return Err(Stop::Unexpected);
         };
-        let Some(member) = seat.member.take() else {
-            return Err(Stop::Unexpected);
-        };
-        self.bury(member.close())?;
-        answer(Outcome::Done)
-    }
-
-    fn close_queue<R: Wait>(&mut self, rt: &R, end: EndId) -> Result<Shown, Stop> {
-        let Some(seat) = self.seat(end) else {
-            return Err(Stop::Unexpected);
-        };
-        let agent = seat.agent;
-        let queue = self.fetch(rt, end, agent)?;
         self.bury(queue.close())?;
         answer(Outcome::Done)
     }
@@ -83,7 +103,7 @@ impl Player {
 }
 
 /// What the closing of a port shows.
-fn closed(noticed: Noticed) -> Shown {
+pub(crate) fn shown_of(noticed: Noticed) -> Shown {
     match noticed {
         Noticed::Put(_) | Noticed::PeerClosed => Shown::Answer(Outcome::Done),
         Noticed::Moving => Shown::DoneMoving,

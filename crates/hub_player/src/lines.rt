@@ -1,12 +1,14 @@
 //! Lines of the queues of clients and workers, which the directory lends.
 
+use crate::agent::Agent;
+use crate::holding::hold;
 use crate::player::{Player, answer, not_now};
 use crate::stop::Stop;
 use hub_clients::DirectoryError;
 use hub_core::Outcome;
-use hub_envelope::{AgentId, Body, EndId, LineId};
-use hub_ports::{Hub, Port, PortError, send};
-use hub_queue::{Posted, Poster};
+use hub_envelope::{AgentId, EndId, LineId};
+use hub_loop::Held;
+use hub_queue::Poster;
 use hub_steps::Shown;
 use std::sync::Wait;
 
@@ -14,19 +16,16 @@ use std::sync::Wait;
 #[derive(Drop)]
 pub(crate) struct Lent {
     pub(crate) agent: AgentId,
-    pub(crate) poster: Poster,
+    pub(crate) end: EndId,
+    pub(crate) line: LineId,
+    /// `None` where the loop of the agent holds it.
+    pub(crate) poster: Option<Poster>,
 }
 
 impl Lent {
-    /// Posts a body over the line, with the ports that are sent along.
-    pub(crate) fn post<R: Wait>(
-        &mut self,
-        rt: &R,
-        hub: &Hub,
-        body: Body,
-        transfer: Vec<Port>,
-    ) -> Result<Posted, PortError> {
-        send(&mut self.poster, rt, hub, self.agent, body, transfer)
+    /// Whether the loop of this agent holds it.
+    pub(crate) fn is_held_by(&self, agent: AgentId) -> bool {
+        self.agent == agent && self.poster.is_none()
     }
 }
 
@@ -44,24 +43,54 @@ impl Player {
             return Err(Stop::OutOfMemory);
         }
         match self.directory.line_to(rt, end) {
-            Ok(poster) => {
-                let line = poster.name().line;
-                match self.lent.push(Lent { agent, poster }) {
-                    Ok(()) => answer(Outcome::Line(line)),
-                    Err(_) => Err(Stop::OutOfMemory),
-                }
-            }
+            Ok(poster) => self.lent_to(agent, poster),
             Err(DirectoryError::NoSuchEnd) => answer(Outcome::NoSuchEnd),
             Err(DirectoryError::NoLine) => answer(Outcome::NoLine),
         }
     }
 
+    /// The agent has the line from now on. Where lines are held its loop holds the first one to a
+    /// queue, since it tells lines apart by their queues.
+    fn lent_to(&mut self, agent: AgentId, poster: Poster) -> Result<Shown, Stop> {
+        let name = poster.name();
+        let (end, line) = (name.end, name.line);
+        let poster = if self.holds_lines && !self.has_line(agent, end) {
+            if !hold(&mut self.agents, agent, Held::Line(poster)) {
+                return Err(Stop::Unexpected);
+            }
+            None
+        } else {
+            Some(poster)
+        };
+        let lent = Lent {
+            agent,
+            end,
+            line,
+            poster,
+        };
+        match self.lent.push(lent) {
+            Ok(()) => answer(Outcome::Line(line)),
+            Err(_) => Err(Stop::OutOfMemory),
+        }
+    }
+
+    fn has_line(&self, agent: AgentId, end: EndId) -> bool {
+        match self.agent(agent) {
+            Some(
+                Agent {
+                    event_loop: Some(event_loop),
+                    ..
+                },
+            ) => event_loop.has_line(end),
+            _ => false,
+        }
+    }
+
     /// The place of the line among those that are lent.
     pub(crate) fn place_of(&self, end: EndId, line: LineId) -> Option<usize> {
-        self.lent.iter().position(|lent| {
-            let name = lent.poster.name();
-            name.end == end && name.line == line
-        })
+        self.lent
+            .iter()
+            .position(|lent| lent.end == end && lent.line == line)
     }
 
     pub(crate) fn give_back<R: Wait>(
@@ -76,7 +105,10 @@ impl Player {
         if place >= self.lent.len() {
             return not_now();
         }
-        let Lent { agent: _, poster } = self.lent.remove(place);
+        let Lent { poster, .. } = self.lent.remove(place);
+        let Some(poster) = poster else {
+            return Err(Stop::Line);
+        };
         match self.directory.give_back(rt, poster) {
             Ok(()) => answer(Outcome::Done),
             Err(_) => Err(Stop::Unexpected),

@@ -1,13 +1,15 @@
 //! Agents and new ends.
 
 use crate::agent::Agent;
+use crate::holding::hold;
 use crate::player::{Player, answer, not_now};
 use crate::seat::{Kind, Place, Seat};
 use crate::stop::Stop;
 use hub_broadcast::{JoinError, Origin};
-use hub_clients::{HandedQueue, QueueError};
+use hub_clients::QueueError;
 use hub_core::Outcome;
 use hub_envelope::{AgentId, EndId, MAX_AGENTS, Text};
+use hub_loop::Held;
 use hub_ports::{ChannelError, Port, channel};
 use hub_queue::Bell;
 use hub_steps::{AgentUrl, Shown};
@@ -28,7 +30,7 @@ impl Player {
         if number >= MAX_AGENTS {
             return answer(Outcome::TooManyAgents);
         }
-        let Some(agent) = Agent::open(self.alloc, origin) else {
+        let Some(agent) = Agent::open(self.alloc, AgentId(number as u8), origin) else {
             return Err(Stop::OutOfMemory);
         };
         match self.agents.push(agent) {
@@ -45,10 +47,11 @@ impl Player {
         }
     }
 
-    /// Keeps a new end. Whether its number is the next one.
-    fn add(&mut self, end: EndId, seat: Seat) -> bool {
-        let is_next = end.0 as usize == self.seats.len();
-        self.seats.push(seat).is_ok() && is_next
+    /// Keeps a new end, which the loop of its agent holds. Whether its number is the next one.
+    fn add(&mut self, kind: Kind, agent: AgentId, held: Held) -> bool {
+        let is_next = held.end().0 as usize == self.seats.len();
+        let is_held = hold(&mut self.agents, agent, held);
+        self.seats.push(Seat::new(kind, agent)).is_ok() && is_next && is_held
     }
 
     pub(crate) fn make_channel(&mut self, agent: AgentId) -> Result<Shown, Stop> {
@@ -69,8 +72,8 @@ impl Player {
 
     fn add_ports(&mut self, agent: AgentId, first: Port, second: Port) -> Result<Shown, Stop> {
         let (one, other) = (first.end(), second.end());
-        let has_one = self.add(one, Seat::of_port(agent, first));
-        let has_other = self.add(other, Seat::of_port(agent, second));
+        let has_one = self.add(Kind::Port, agent, Held::Port(first));
+        let has_other = self.add(Kind::Port, agent, Held::Port(second));
         if has_one && has_other {
             answer(Outcome::Ends(one, other))
         } else {
@@ -79,8 +82,9 @@ impl Player {
     }
 
     /// What is shown of a new end.
-    fn added(&mut self, end: EndId, seat: Seat) -> Result<Shown, Stop> {
-        if self.add(end, seat) {
+    fn added(&mut self, kind: Kind, agent: AgentId, held: Held) -> Result<Shown, Stop> {
+        let end = held.end();
+        if self.add(kind, agent, held) {
             answer(Outcome::End(end))
         } else {
             Err(Stop::Unexpected)
@@ -93,18 +97,13 @@ impl Player {
         })
     }
 
-    fn open_queue<R: Wait>(
-        &mut self,
-        rt: &R,
-        kind: Kind,
-        bell: Bell,
-    ) -> Result<HandedQueue, QueueError> {
+    fn open_queue<R: Wait>(&mut self, rt: &R, kind: Kind, bell: Bell) -> Result<Held, QueueError> {
         if kind == Kind::Client {
             let queue = self.directory.client(rt, &mut self.ends, bell)?;
-            Ok(HandedQueue::Client(queue))
+            Ok(Held::Client(queue))
         } else {
             let queue = self.directory.worker(rt, &mut self.ends, bell)?;
-            Ok(HandedQueue::Worker(queue))
+            Ok(Held::Worker(queue))
         }
     }
 
@@ -127,7 +126,7 @@ impl Player {
                 if let (Kind::Worker, Some(agent)) = (kind, self.agent_mut(agent)) {
                     agent.begin_life();
                 }
-                self.added(queue.end(), Seat::of_queue(agent, kind, queue))
+                self.added(kind, agent, queue)
             }
             Err(QueueError::TooManyEnds) => answer(Outcome::TooManyEnds),
             Err(QueueError::OutOfMemory) => Err(Stop::OutOfMemory),
@@ -174,7 +173,7 @@ impl Player {
         let bell = self.bell_of(agent)?;
         let ends = &mut self.ends;
         match self.roster.join(rt, ends, agent, origin, name, bell) {
-            Ok(member) => self.added(member.end(), Seat::of_member(agent, member)),
+            Ok(member) => self.added(Kind::Member, agent, Held::Member(member)),
             Err(JoinError::TooManyEnds) => answer(Outcome::TooManyEnds),
             Err(JoinError::OutOfMemory) => Err(Stop::OutOfMemory),
         }

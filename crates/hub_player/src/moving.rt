@@ -1,17 +1,16 @@
 //! Ends that go from one agent to another.
 
+use crate::holding::{hold, loop_of, release};
 use crate::player::{Player, Standing, answer, not_now};
 use crate::seat::{Kind, Place};
 use crate::stop::Stop;
-use hub_clients::{HandError, Handed, HandedQueue};
+use hub_clients::{Directory, HandError};
 use hub_core::Outcome;
 use hub_envelope::{AgentId, EndId};
-use hub_queue::{AdoptError, Bell};
+use hub_loop::{Held, LoopError};
+use hub_queue::AdoptError;
 use hub_steps::Shown;
 use std::sync::Wait;
-
-/// Adopts a queue, or gives it back with the reason. After both it is where it was put before.
-type Adopted = (HandedQueue, Result<(), AdoptError>);
 
 impl Player {
     pub(crate) fn hand<R: Wait>(&mut self, rt: &R, end: EndId, to: AgentId) -> Result<Shown, Stop> {
@@ -30,32 +29,24 @@ impl Player {
         let Some(seat) = self.seats.get_mut(end.0 as usize) else {
             return not_now();
         };
-        if seat.agent == to {
+        let agent = seat.agent;
+        if agent == to || matches!(seat.kind, Kind::Port | Kind::Member) {
             return not_now();
         }
-        let Some(queue) = seat.queue.take() else {
-            return not_now();
+        let Some(queue) = release(&mut self.agents, agent, end) else {
+            return Err(Stop::Unexpected);
         };
-        let handed = match queue {
-            HandedQueue::Client(queue) => match queue.hand(rt, &self.directory, to) {
-                Ok(()) => Ok(()),
-                Err((error, queue)) => Err((error, HandedQueue::Client(queue))),
-            },
-            HandedQueue::Worker(queue) => match queue.hand(rt, &self.directory, to) {
-                Ok(()) => Ok(()),
-                Err((error, queue)) => Err((error, HandedQueue::Worker(queue))),
-            },
-        };
-        if let Err((error, queue)) = handed {
-            seat.queue = Some(queue);
-            return match error {
-                HandError::OutOfMemory => Err(Stop::OutOfMemory),
-                HandError::Taken => Err(Stop::Unexpected),
-            };
+        match hand_queue(rt, &self.directory, queue, to) {
+            Ok(()) => {
+                seat.place = Place::Arrived;
+                seat.agent = to;
+                answer(Outcome::Handed)
+            }
+            Err((stop, queue)) => {
+                hold(&mut self.agents, agent, queue);
+                Err(stop)
+            }
         }
-        seat.place = Place::Arrived;
-        seat.agent = to;
-        answer(Outcome::Handed)
     }
 
     pub(crate) fn adopt<R: Wait>(
@@ -81,15 +72,15 @@ impl Player {
         if !self.is_running(agent) {
             return not_now();
         }
-        let bell = self.bell_of(agent)?;
         if is_port {
-            self.adopt_port(rt, end, bell)
+            self.adopt_port(rt, end, agent)
         } else {
-            self.adopt_queue(rt, end, agent, bell)
+            self.adopt_queue(rt, end, agent)
         }
     }
 
-    fn adopt_port<R: Wait>(&mut self, rt: &R, end: EndId, bell: Bell) -> Result<Shown, Stop> {
+    fn adopt_port<R: Wait>(&mut self, rt: &R, end: EndId, agent: AgentId) -> Result<Shown, Stop> {
+        let bell = self.bell_of(agent)?;
         let Some(seat) = self.seats.get_mut(end.0 as usize) else {
             return Err(Stop::Unexpected);
         };
@@ -99,7 +90,10 @@ impl Player {
         match arrived.adopt(rt, &self.hub, bell) {
             Ok(port) => {
                 let moves = port.moves();
-                seat.hold_port(port);
+                seat.place = Place::Held;
+                if !hold(&mut self.agents, agent, Held::Port(port)) {
+                    return Err(Stop::Unexpected);
+                }
                 answer(Outcome::Adopted(moves))
             }
             Err((error, arrived)) => {
@@ -109,62 +103,55 @@ impl Player {
         }
     }
 
-    /// A queue that was handed to the agent: the directory has it, or has given it out before.
-    pub(crate) fn fetch<R: Wait>(
-        &mut self,
-        rt: &R,
-        end: EndId,
-        agent: AgentId,
-    ) -> Result<HandedQueue, Stop> {
-        if let Some(seat) = self.seat_mut(end) {
-            if let Some(queue) = seat.queue.take() {
-                return Ok(queue);
-            }
-        }
-        match self.directory.fetch(rt, end, agent) {
-            Some(Handed { queue, to: _ }) => Ok(queue),
-            None => Err(Stop::Unexpected),
-        }
-    }
-
-    fn adopt_queue<R: Wait>(
-        &mut self,
-        rt: &R,
-        end: EndId,
-        agent: AgentId,
-        bell: Bell,
-    ) -> Result<Shown, Stop> {
-        let queue = self.fetch(rt, end, agent)?;
-        let (queue, adopted) = self.adopted(rt, queue, bell);
-        let moves = match &queue {
-            HandedQueue::Client(queue) => queue.moves(),
-            HandedQueue::Worker(queue) => queue.moves(),
-        };
-        let Some(seat) = self.seat_mut(end) else {
+    /// Adopts a queue that was handed to the agent. One that was adopted too often is closed.
+    fn adopt_queue<R: Wait>(&mut self, rt: &R, end: EndId, agent: AgentId) -> Result<Shown, Stop> {
+        let Some(event_loop) = loop_of(&mut self.agents, agent) else {
             return Err(Stop::Unexpected);
         };
-        seat.queue = Some(queue);
-        match adopted {
-            Ok(()) => {
+        match event_loop.fetch(rt, &self.hub, &self.directory, end) {
+            Ok(true) => {}
+            Ok(false) => return answer(Outcome::TooManyMoves),
+            Err(LoopError::OutOfMemory) => return Err(Stop::OutOfMemory),
+        }
+        let moves = match event_loop.held(end) {
+            Some(Held::Client(queue)) => queue.moves(),
+            Some(Held::Worker(queue)) => queue.moves(),
+            _ => return Err(Stop::Unexpected),
+        };
+        match self.seat_mut(end) {
+            Some(seat) => {
                 seat.place = Place::Held;
                 answer(Outcome::Adopted(moves))
             }
-            Err(error) => refused(error),
+            None => Err(Stop::Unexpected),
         }
     }
+}
 
-    fn adopted<R: Wait>(&self, rt: &R, queue: HandedQueue, bell: Bell) -> Adopted {
-        let yard = &self.hub.yard;
-        match queue {
-            HandedQueue::Client(queue) => match queue.adopt(rt, yard, bell) {
-                Ok(queue) => (HandedQueue::Client(queue), Ok(())),
-                Err((error, queue)) => (HandedQueue::Client(queue), Err(error)),
-            },
-            HandedQueue::Worker(queue) => match queue.adopt(rt, yard, bell) {
-                Ok(queue) => (HandedQueue::Worker(queue), Ok(())),
-                Err((error, queue)) => (HandedQueue::Worker(queue), Err(error)),
-            },
-        }
+/// Hands a queue on, or gives it back.
+fn hand_queue<R: Wait>(
+    rt: &R,
+    directory: &Directory,
+    queue: Held,
+    to: AgentId,
+) -> Result<(), (Stop, Held)> {
+    match queue {
+        Held::Client(queue) => match queue.hand(rt, directory, to) {
+            Ok(()) => Ok(()),
+            Err((error, queue)) => Err((not_handed(error), Held::Client(queue))),
+        },
+        Held::Worker(queue) => match queue.hand(rt, directory, to) {
+            Ok(()) => Ok(()),
+            Err((error, queue)) => Err((not_handed(error), Held::Worker(queue))),
+        },
+        held => Err((Stop::Unexpected, held)),
+    }
+}
+
+fn not_handed(error: HandError) -> Stop {
+    match error {
+        HandError::OutOfMemory => Stop::OutOfMemory,
+        HandError::Taken => Stop::Unexpected,
     }
 }
 

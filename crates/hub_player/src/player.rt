@@ -35,6 +35,8 @@ pub(crate) struct Player {
     /// The ends by number.
     pub(crate) seats: Vec<Seat>,
     pub(crate) lent: Vec<Lent>,
+    /// Loops hold lines too. None is given back before its loop ends.
+    pub(crate) holds_lines: bool,
 }
 
 /// What is shown where there is nothing to call.
@@ -63,7 +65,7 @@ fn takes_memory(command: &Command) -> bool {
 }
 
 impl Player {
-    pub(crate) fn new(alloc: Global) -> Player {
+    pub(crate) fn new(alloc: Global, holds_lines: bool) -> Player {
         Player {
             alloc,
             hub: Hub::new(alloc),
@@ -73,6 +75,7 @@ impl Player {
             agents: Vec::new(alloc),
             seats: Vec::new(alloc),
             lent: Vec::new(alloc),
+            holds_lines,
         }
     }
 

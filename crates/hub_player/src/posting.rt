@@ -1,11 +1,14 @@
 //! Posts, with the ports that are sent along.
 
+use crate::holding::{hold, loop_of, release_port};
+use crate::lines::Lent;
 use crate::player::{Player, Standing, answer, not_now};
-use crate::seat::Place;
+use crate::seat::{Kind, Place};
 use crate::stop::Stop;
 use hub_core::{Acceptance, Outcome};
 use hub_envelope::{AgentId, Body, EndId, Items, LineId, MAX_PORTS};
-use hub_ports::{Closings, Port, PortError};
+use hub_loop::Held;
+use hub_ports::{Closings, Port, PortError, send};
 use hub_queue::Posted;
 use hub_steps::Shown;
 use std::sync::Wait;
@@ -27,7 +30,7 @@ impl Player {
     }
 
     /// Takes the ports of a list out of the agent's hands.
-    fn take_out(&mut self, list: &[EndId]) -> Result<Vec<Port>, Stop> {
+    fn take_out(&mut self, agent: AgentId, list: &[EndId]) -> Result<Vec<Port>, Stop> {
         let Ok(mut ports) = Vec::with_capacity(self.alloc, list.len()) else {
             return Err(Stop::OutOfMemory);
         };
@@ -36,7 +39,7 @@ impl Player {
                 return Err(Stop::Unexpected);
             };
             seat.place = Place::InFlight;
-            let Some(port) = seat.port.take() else {
+            let Some(port) = release_port(&mut self.agents, agent, *end) else {
                 return Err(Stop::Unexpected);
             };
             if ports.push(port).is_err() {
@@ -47,11 +50,17 @@ impl Player {
     }
 
     /// The ports that have come back are in the agent's hands again.
-    fn put_back(&mut self, ports: Vec<Port>, shown: Result<Shown, Stop>) -> Result<Shown, Stop> {
+    fn put_back(
+        &mut self,
+        agent: AgentId,
+        ports: Vec<Port>,
+        shown: Result<Shown, Stop>,
+    ) -> Result<Shown, Stop> {
         for port in ports {
             if let Some(seat) = self.seat_mut(port.end()) {
-                seat.hold_port(port);
+                seat.place = Place::Held;
             }
+            hold(&mut self.agents, agent, Held::Port(port));
         }
         shown
     }
@@ -64,7 +73,7 @@ impl Player {
         list: &[EndId],
     ) -> Result<Option<Vec<Port>>, Stop> {
         if self.are_at_hand(agent, source, list) {
-            let ports = self.take_out(list)?;
+            let ports = self.take_out(agent, list)?;
             Ok(Some(ports))
         } else if list.len() > MAX_PORTS {
             Err(Stop::List)
@@ -84,20 +93,19 @@ impl Player {
             return not_now();
         }
         let agent = match self.seat(port) {
-            Some(seat) if seat.port.is_some() => seat.agent,
+            Some(seat) if seat.kind == Kind::Port => seat.agent,
             _ => return not_now(),
         };
         let Some(transfer) = self.listed(agent, Some(port), ports.as_slice())? else {
             return not_now();
         };
-        let posted = match self.seats.get_mut(port.0 as usize) {
-            Some(seat) => match &mut seat.port {
-                Some(port) => port.post(rt, &self.hub, agent, body, transfer),
-                None => return Err(Stop::Unexpected),
-            },
-            None => return Err(Stop::Unexpected),
+        let Some(event_loop) = loop_of(&mut self.agents, agent) else {
+            return Err(Stop::Unexpected);
         };
-        self.told(agent, ports.as_slice(), posted)
+        match event_loop.post(rt, &self.hub, agent, port, body, transfer) {
+            Ok(posted) => self.told(agent, ports.as_slice(), posted),
+            Err(_) => Err(Stop::Unexpected),
+        }
     }
 
     pub(crate) fn post_on_line<R: Wait>(
@@ -121,11 +129,21 @@ impl Player {
         let Some(transfer) = self.listed(agent, None, ports.as_slice())? else {
             return not_now();
         };
-        let posted = match self.lent.get_mut(place) {
-            Some(lent) => lent.post(rt, &self.hub, body, transfer),
-            None => return Err(Stop::Unexpected),
+        let list = ports.as_slice();
+        let Some(Lent { poster, .. }) = self.lent.get_mut(place) else {
+            return Err(Stop::Unexpected);
         };
-        self.told(agent, ports.as_slice(), posted)
+        if let Some(poster) = poster {
+            let posted = send(poster, rt, &self.hub, agent, body, transfer);
+            return self.told(agent, list, posted);
+        }
+        let Some(event_loop) = loop_of(&mut self.agents, agent) else {
+            return Err(Stop::Unexpected);
+        };
+        match event_loop.send(rt, &self.hub, agent, end, body, transfer) {
+            Ok(posted) => self.told(agent, list, posted),
+            Err(_) => Err(Stop::Unexpected),
+        }
     }
 
     /// What a post shows.
@@ -146,11 +164,13 @@ impl Player {
             Err(error) => error,
         };
         match error {
-            PortError::Closed(_, back) => self.put_back(back, answer(Outcome::Closed)),
-            PortError::Moving(_, back) => self.put_back(back, Ok(Shown::Moving)),
-            PortError::TooManyPorts(_, back) => self.put_back(back, answer(Outcome::TooManyPorts)),
+            PortError::Closed(_, back) => self.put_back(agent, back, answer(Outcome::Closed)),
+            PortError::Moving(_, back) => self.put_back(agent, back, Ok(Shown::Moving)),
+            PortError::TooManyPorts(_, back) => {
+                self.put_back(agent, back, answer(Outcome::TooManyPorts))
+            }
             PortError::Doomed(closings) => self.doomed(list, &closings),
-            PortError::OutOfMemory(_, back) => self.put_back(back, Err(Stop::OutOfMemory)),
+            PortError::OutOfMemory(_, back) => self.put_back(agent, back, Err(Stop::OutOfMemory)),
             PortError::Strayed(_, _, _) | PortError::Taken(_, _) => Err(Stop::Unexpected),
         }
     }

@@ -2,12 +2,14 @@
 
 use crate::player::Player;
 use crate::stop::Stop;
+use crate::told::Told;
+use crate::turning::turn_in;
 use hub_engine::{
     CountedReader, CountedWriter, Device, ExitStatus, InputError, end_out_of_memory, end_unread,
     end_with, read_input,
 };
 use hub_steps::read_step_line::read_step_line;
-use hub_steps::{Shown, StepLineError, write_shown};
+use hub_steps::{Shown, StepLineError};
 use hub_text::split_text_line;
 use std::alloc::Global;
 use std::io::{Read, Write};
@@ -37,40 +39,19 @@ impl Ended {
     }
 }
 
-/// The outcome lines so far.
-#[derive(Drop)]
-struct Told {
-    lines: Vec<u8>,
-    /// The last one. Its memory is used again.
-    text: String,
-}
-
-impl Told {
-    fn new(alloc: Global) -> Told {
-        Told {
-            lines: Vec::new(alloc),
-            text: String::new(alloc),
-        }
-    }
-
-    /// Adds an outcome line. Where there is no memory it adds nothing.
-    fn tell(&mut self, shown: &Shown) -> bool {
-        self.text.clear();
-        write_shown(&mut self.text, shown).is_ok()
-            && self.lines.extend_from_slice(self.text.as_bytes()).is_ok()
-    }
-}
-
 /// Reads the input to its end, plays its lines, and writes their outcome lines: up to the first
-/// that was not played, or one line alone where a line before that is no step line.
+/// that was not played, or one line alone where a line before that is no step line. It may have
+/// lines that ask for turns.
 pub(crate) fn play_input<R: Read, W: Write, H: Wait>(
     rt: &H,
     alloc: Global,
+    has_turns: bool,
     reader: &mut CountedReader<R>,
     writer: &mut CountedWriter<W>,
 ) -> Ended {
+    let told = Told::new(alloc, has_turns);
     match read_input(alloc, reader) {
-        Ok(input) => play_text(rt, alloc, input.as_slice(), writer),
+        Ok(input) => play_text(rt, alloc, input.as_slice(), told, writer),
         Err(InputError::Device) => Ended::of(Err(Device)),
         Err(InputError::OutOfMemory) => Ended::of(end_out_of_memory(writer)),
     }
@@ -80,10 +61,10 @@ fn play_text<W: Write, H: Wait>(
     rt: &H,
     alloc: Global,
     input: &[u8],
+    mut told: Told,
     writer: &mut CountedWriter<W>,
 ) -> Ended {
-    let mut player = Player::new(alloc);
-    let mut told = Told::new(alloc);
+    let mut player = Player::new(alloc, told.has_turns);
     match play_lines(rt, alloc, &mut player, input, &mut told) {
         Ok(()) => Ended::of(end_with(writer, told.lines.as_slice(), ExitStatus::Success)),
         Err((number, stop)) => end_at(alloc, number, stop, &told, writer),
@@ -119,16 +100,17 @@ fn play_line<H: Wait>(
     bytes: &[u8],
     told: &mut Told,
 ) -> Result<(), Stop> {
+    if told.has_turns {
+        if let Some(agent) = turn_in(bytes) {
+            return player.turn(rt, agent, told);
+        }
+    }
     // Where there was no memory all is as it was, and the line is played once more.
     let shown = match answer_to(rt, alloc, player, bytes) {
         Err(Stop::OutOfMemory) => answer_to(rt, alloc, player, bytes)?,
         answered => answered?,
     };
-    if told.tell(&shown) || told.tell(&shown) {
-        Ok(())
-    } else {
-        Err(Stop::OutOfMemory)
-    }
+    told.tell(bytes, &shown)
 }
 
 fn answer_to<H: Wait>(

@@ -1,10 +1,6 @@
-use crate::counted_take::take_from;
-use hub_broadcast::Member;
-use hub_clients::HandedQueue;
 use hub_envelope::AgentId;
-use hub_ports::{Arrived, Port};
-use hub_queue::{Grave, Took};
-use std::sync::Wait;
+use hub_ports::Arrived;
+use hub_queue::Grave;
 
 /// What an end is.
 #[derive(Clone, Copy, PartialEq, Eq)]
@@ -18,29 +14,25 @@ pub(crate) enum Kind {
 /// Where an end is.
 #[derive(Clone, Copy, PartialEq, Eq)]
 pub(crate) enum Place {
-    /// Its agent has it.
+    /// Its agent has it: the loop of that agent holds it.
     Held,
     /// A message names it that was not taken.
     InFlight,
-    /// It has come to its agent, which has not adopted it.
+    /// It has come to its agent, which has not adopted it. A queue waits in the directory.
     Arrived,
     Closed,
     /// It is closed and empty.
     Swept,
 }
 
-/// An end: what it is, where it is, and the value that stands for it there.
+/// An end: what it is, where it is, and what no loop holds of it.
 pub(crate) struct Seat {
     pub(crate) kind: Kind,
     pub(crate) place: Place,
     pub(crate) agent: AgentId,
     /// A member of the roster.
     pub(crate) is_listed: bool,
-    pub(crate) port: Option<Port>,
     pub(crate) arrived: Option<Arrived>,
-    /// A queue that was handed on waits in the directory until it is fetched.
-    pub(crate) queue: Option<HandedQueue>,
-    pub(crate) member: Option<Member>,
     pub(crate) grave: Option<Grave>,
 }
 
@@ -52,52 +44,25 @@ impl Drop for Seat {
             place: _,
             agent: _,
             is_listed: _,
-            port,
             arrived,
-            queue,
-            member,
             grave,
         } = self;
-        drop(port);
         drop(arrived);
-        drop(queue);
-        drop(member);
         drop(grave);
     }
 }
 
 impl Seat {
-    fn new(kind: Kind, agent: AgentId) -> Seat {
+    /// A new end, which the agent has.
+    pub(crate) fn new(kind: Kind, agent: AgentId) -> Seat {
         Seat {
             kind,
             place: Place::Held,
             agent,
-            is_listed: false,
-            port: None,
+            is_listed: kind == Kind::Member,
             arrived: None,
-            queue: None,
-            member: None,
             grave: None,
         }
-    }
-
-    pub(crate) fn of_port(agent: AgentId, port: Port) -> Seat {
-        let mut seat = Seat::new(Kind::Port, agent);
-        seat.port = Some(port);
-        seat
-    }
-
-    pub(crate) fn of_queue(agent: AgentId, kind: Kind, queue: HandedQueue) -> Seat {
-        let mut seat = Seat::new(kind, agent);
-        seat.queue = Some(queue);
-        seat
-    }
-
-    pub(crate) fn of_member(agent: AgentId, member: Member) -> Seat {
-        let mut seat = Seat::new(Kind::Member, agent);
-        seat.member = Some(member);
-        seat.is_listed = true;
-        seat
     }
 
     pub(crate) fn is_closed(&self) -> bool {
@@ -114,12 +79,6 @@ impl Seat {
         self.kind == Kind::Port && self.place == Place::Held && self.agent == agent
     }
 
-    /// The agent has the port again, or for the first time.
-    pub(crate) fn hold_port(&mut self, port: Port) {
-        self.port = Some(port);
-        self.place = Place::Held;
-    }
-
     /// The port has come to this agent.
     pub(crate) fn arrive(&mut self, arrived: Arrived, agent: AgentId) {
         self.arrived = Some(arrived);
@@ -130,36 +89,5 @@ impl Seat {
     pub(crate) fn bury(&mut self, grave: Grave) {
         self.grave = Some(grave);
         self.place = Place::Closed;
-    }
-
-    /// Enables the end. `None` where there is no call for it.
-    pub(crate) fn start(&mut self) -> Option<()> {
-        if let Some(port) = &mut self.port {
-            port.start();
-            return Some(());
-        }
-        match &mut self.queue {
-            Some(HandedQueue::Client(queue)) => {
-                queue.start_messages();
-                Some(())
-            }
-            _ => None,
-        }
-    }
-
-    /// Enables a client's queue, whose document is parsed. `None` for any other.
-    pub(crate) fn loaded(&mut self) -> Option<()> {
-        match &mut self.queue {
-            Some(HandedQueue::Client(queue)) => {
-                queue.loaded();
-                Some(())
-            }
-            _ => None,
-        }
-    }
-
-    /// Takes once. `None` where nothing stands for the end.
-    pub(crate) fn take<R: Wait>(&mut self, rt: &R) -> Option<Took> {
-        take_from(rt, &mut self.port, &mut self.queue, &mut self.member)
     }
 }

@@ -16,6 +16,8 @@ pub(crate) enum Stop {
     Start,
     /// The sweep of a port that a doomed post has closed and kept nothing of.
     Doomed,
+    /// A line that a loop holds is given back, which it does when it ends.
+    Line,
     /// A list of more ports than a message takes, of which some are not at hand.
     List,
     /// A call has answered what no step line shows.
@@ -32,6 +34,7 @@ impl Stop {
             Stop::Part => "no call makes a part of a post or of a sweep",
             Stop::Start => "no call starts a queue that is enabled from the first",
             Stop::Doomed => "nothing is kept of a port that a doomed post has closed",
+            Stop::Line => "a loop gives its lines back when it ends",
             Stop::List => "no call lists so many ports that are not at hand",
             Stop::Unexpected => "a call has answered what no step line shows",
         }

@@ -1,5 +1,7 @@
 //! Starts and takes.
 
+use crate::counted_take::take_from;
+use crate::holding::loop_of;
 use crate::player::{Player, Standing, answer, not_now};
 use crate::seat::Kind;
 use crate::stop::Stop;
@@ -15,13 +17,27 @@ impl Player {
         match self.standing(end) {
             Standing::Closed => answer(Outcome::Closed),
             Standing::Elsewhere => not_now(),
-            Standing::AtHand => match self.seat_mut(end) {
-                Some(seat) => match seat.start() {
-                    Some(()) => answer(Outcome::Started),
-                    None => Err(Stop::Start),
-                },
-                None => Err(Stop::Unexpected),
-            },
+            Standing::AtHand => self.start_at(end),
+        }
+    }
+
+    fn start_at(&mut self, end: EndId) -> Result<Shown, Stop> {
+        let Some(seat) = self.seat(end) else {
+            return Err(Stop::Unexpected);
+        };
+        let (kind, agent) = (seat.kind, seat.agent);
+        let Some(event_loop) = loop_of(&mut self.agents, agent) else {
+            return Err(Stop::Unexpected);
+        };
+        let is_started = match kind {
+            Kind::Port => event_loop.start_port(end),
+            Kind::Client => event_loop.start_client(end),
+            Kind::Worker | Kind::Member => return Err(Stop::Start),
+        };
+        if is_started {
+            answer(Outcome::Started)
+        } else {
+            Err(Stop::Unexpected)
         }
     }
 
@@ -36,13 +52,24 @@ impl Player {
         match self.standing(end) {
             Standing::Closed => answer(Outcome::Closed),
             Standing::Elsewhere => not_now(),
-            Standing::AtHand => match self.seat_mut(end) {
-                Some(seat) => match seat.loaded() {
-                    Some(()) => answer(Outcome::Started),
-                    None => Err(Stop::Unexpected),
-                },
-                None => Err(Stop::Unexpected),
-            },
+            Standing::AtHand => self.load_at(end),
+        }
+    }
+
+    fn load_at(&mut self, end: EndId) -> Result<Shown, Stop> {
+        let Some(seat) = self.seat(end) else {
+            return Err(Stop::Unexpected);
+        };
+        let agent = seat.agent;
+        let Some(event_loop) = loop_of(&mut self.agents, agent) else {
+            return Err(Stop::Unexpected);
+        };
+        match event_loop.client_mut(end) {
+            Some(queue) => {
+                queue.loaded();
+                answer(Outcome::Started)
+            }
+            None => Err(Stop::Unexpected),
         }
     }
 
@@ -55,11 +82,14 @@ impl Player {
     }
 
     fn take_at<R: Wait>(&mut self, rt: &R, end: EndId) -> Result<Shown, Stop> {
-        let Some(seat) = self.seat_mut(end) else {
+        let Some(seat) = self.seat(end) else {
             return Err(Stop::Unexpected);
         };
         let agent = seat.agent;
-        match seat.take(rt) {
+        let Some(event_loop) = loop_of(&mut self.agents, agent) else {
+            return Err(Stop::Unexpected);
+        };
+        match take_from(rt, event_loop, end) {
             Some(Took::Got(envelope)) => self.got(rt, agent, envelope),
             Some(Took::Empty) => answer(Outcome::Empty),
             Some(Took::Busy) => answer(Outcome::Busy),
