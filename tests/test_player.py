@@ -317,8 +317,6 @@ class Turns(Steps):
     # How many turns of each agent are made at a time until all are idle.
     LAST_TURNS = 4
     MOST_ROUNDS = 100
-    # Which word of a line names the agent that has to be running.
-    AGENT_AT = {"channel": 1, "client": 1, "worker": 1, "member": 1, "line": 2, "adopt": 2}
 
     def __init__(self, seed):
         super().__init__(seed)
@@ -389,12 +387,7 @@ class Turns(Steps):
             self.turn([agent] * self.draw.choice((1, 1, 2, 3, 5, 9)))
 
     def do(self, line):
-        word = line.split(" ")
-        # The machine would do it, too, for an agent that a turn has ended meanwhile.
-        if word[0] in self.AGENT_AT and int(word[self.AGENT_AT[word[0]]]) in self.ending:
-            self.lines.append(line)
-            return "not-now"
-        outcome = super().do(line)
+        word, outcome = line.split(" "), super().do(line)
         if word[0] == "line" and outcome.startswith("line "):
             self.held.setdefault((int(word[2]), int(word[1])), int(outcome[5:]))
         return outcome
