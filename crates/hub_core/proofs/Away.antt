@@ -8,7 +8,8 @@ use Rattle.hub_core.proofs.Fitting.{back_of, cast_of, left_of, line_got_of, memb
 use Rattle.hub_core.proofs.Moves.{GoesTo, came, dropped, goes_to, handed_on, new, sent, shut, stays, taken_up}
 use Rattle.hub_core.proofs.Nexts.{next}
 use Rattle.hub_core.proofs.SoundLines.{line_there}
-use Rattle.hub_core.proofs.Speakers.{Casts, Hears, HoldsLine, Speaks, casts_as, entangled_made, hears_of, holds_as, kind_made, left_other, line_owned, may_as, no_port, not_first, not_here, old_end, old_one, own_out, port_owned, poster_as, queue_is_made, released_out, runs_on, speaks_of, still_held, still_runs}
+use Rattle.hub_core.proofs.Speakers.{Casts, Hears, HoldsLine, Speaks, casts_as, entangled_made, hears_of, holds_as, kind_made, left_other, line_owned, may_as, no_port, not_first, not_here, old_end, old_one, own_out, port_owned, poster_as, queue_is_made, released_out, speaks_of, still_held}
+use Rattle.hub_core.proofs.Lists.{at_test}
 
 -- an end keeps its kind
 pub kind_next : (f : Facts) (refused : Bool) (o : Outcome) (a : Action) → Answers f a refused o → (x : ℕ) → x < f.ends → kind_after x (f.end x).kind o a ≡ (f.end x).kind
@@ -24,9 +25,9 @@ kind_next f refused o a fits x less = refl
 -- an agent whose poster is away runs on
 runs_next : (f : Facts) (refused : Bool) (o : Outcome) (a : Action) → Answers f a refused o → (s : Sender) → s.end.0 < f.ends → s.line.0 < lines_of (f.end s.end.0).kind → is_out (phase_of_line f s) ≡ false
     → (b : AgentId) → ((c : AgentId) → b.0 ≡ c.0 → has_poster f c s.end.0 s.line.0 ≡ true) → (f.agent b.0).runs ≡ true → runs_after b.0 (f.agent b.0).runs o a ≡ true
-runs_next f refused (outcome.Agent n) (action.Agent origin) fits s made low away b owns runs = still_runs (eqb b.0 n.0) (f.agent b.0).runs runs
+runs_next f refused (outcome.Agent n) (action.Agent origin) fits s made low away b owns runs = at_test (λ r. r ≡ true) (eqb b.0 n.0) true (f.agent b.0).runs (λ _. refl) (λ _. runs)
 runs_next f refused (outcome.Ending es) (action.See a) fits s made low away b owns runs =
-    runs_on (eqb b.0 a.0) (f.agent b.0).runs (λ same. false≢true (sym (none_away f a s.end.0 s.line.0 (see_of f a es fits) made low away) ∙ owns a (eqb-true b.0 a.0 same))) runs
+    at_test (λ r. r ≡ true) (eqb b.0 a.0) false (f.agent b.0).runs (λ same. absurd (false≢true (sym (none_away f a s.end.0 s.line.0 (see_of f a es fits) made low away) ∙ owns a (eqb-true b.0 a.0 same)))) (λ _. runs)
 runs_next f refused o a fits s made low away b owns runs = runs
 
 -- ---- ports

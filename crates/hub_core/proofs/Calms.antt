@@ -1,7 +1,7 @@
 -- Who is away: what steps that move ends and lines make of it.
-use Rattle.std.proofs.Common.{◌≡◌, ℕ, ◌+◌, ◌<◌, Bool, true, false, cond, eqb, Option, Some, None, refl, sym, ap, subst, ◌∙◌, inl, inr, arith, rules, ◌&&◌, ◌⊎◌, not, ne_eqb}
-use Rattle.hub_core.proofs.Words.{false≢true, eqb-true, AgentId, EndId, Kind, Port, Member, Place, With, InFlight, Sender, LineNow, Facts, peer_of, is_queue, lines_of, on_line, is_out, is_with, own_poster_out, is_released, is_holder, has_poster_of, has_poster, is_away_of, SoundPlaces, count_away, Phase}
-use Rattle.hub_core.proofs.Lists.{eqb_same, and_false}
+use Rattle.std.proofs.Common.{◌≡◌, ℕ, ◌+◌, ◌<◌, Bool, true, false, cond, eqb, Option, Some, None, refl, sym, ap, subst, ◌∙◌, inl, inr, arith, rules, ◌&&◌, ◌⊎◌, not, ne_eqb, ⊎_elim}
+use Rattle.hub_core.proofs.Words.{false≢true, eqb-true, AgentId, EndId, Kind, Port, Member, Place, With, InFlight, Sender, LineNow, Facts, peer_of, is_queue, lines_of, on_line, is_out, is_with, own_poster_out, is_released, is_holder, has_poster_of, has_poster, is_away_of, SoundPlaces, count_away, Phase, cases_eq}
+use Rattle.hub_core.proofs.Lists.{eqb_same, and_false, at_test}
 use Rattle.hub_core.proofs.Totals.{bit}
 use Rattle.hub_core.proofs.Counts.{IsCalmAt, away_same, away_change}
 use Rattle.hub_core.proofs.Speakers.{no_port, port_of, hears_of, no_member}
@@ -38,10 +38,6 @@ calm_places a f g x kind lines places = (
 own_line : (f : Facts) (x : ℕ) (q : EndId) → SoundPlaces f → (f.end x).kind ≡ Some (Port q) → peer_of (f.end q.0).kind ≡ Some x
 own_line f x q h is = (h.peers x q.0 (ap peer_of is)).1
 
-moved_with : (a : AgentId) (b : Bool) (p q : Option Place) → (b ≡ true → is_with a p ≡ is_with a q) → is_with a (cond b p q) ≡ is_with a q
-moved_with a true p q same = same refl
-moved_with a false p q same = refl
-
 -- ports whose own posters are out were sent
 pub calm_sent : (a : AgentId) (f g : Facts) (moved : ℕ → Bool) (x : ℕ) → SoundPlaces f → (g.end x).kind ≡ (f.end x).kind → ((l : ℕ) → g.line x l ≡ f.line x l) → ((q : ℕ) → (g.end q).place ≡ cond (moved q) (Some InFlight) (f.end q).place) → ((q : ℕ) → moved q ≡ true → own_poster_out f (peer_of (f.end q).kind) ≡ true) → IsCalmAt a f g x
 calm_sent a f g moved x h kind lines places out = calm_places a f g x kind lines (λ q is. elim (moved q.0) as (λ b. moved q.0 ≡ b → (is_out (f.line x 0).phase ≡ true) ⊎ (is_with a (g.end q.0).place ≡ is_with a (f.end q.0).place)) [
@@ -51,14 +47,14 @@ calm_sent a f g moved x h kind lines places out = calm_places a f g x kind lines
 
 -- ports that were in flight went to a place where no agent has them
 pub calm_landed : (a : AgentId) (f g : Facts) (moved : ℕ → Bool) (place : ℕ → Option Place) (x : ℕ) → (g.end x).kind ≡ (f.end x).kind → ((l : ℕ) → g.line x l ≡ f.line x l) → ((q : ℕ) → (g.end q).place ≡ cond (moved q) (place q) (f.end q).place) → ((q : ℕ) → moved q ≡ true → (f.end q).place ≡ Some InFlight) → ((q : ℕ) → is_with a (place q) ≡ false) → IsCalmAt a f g x
-calm_landed a f g moved place x kind lines places flew landed = calm_places a f g x kind lines (λ q is. inr (ap (is_with a) (places q.0) ∙ moved_with a (moved q.0) (place q.0) (f.end q.0).place (λ named. landed q.0 ∙ sym (ap (is_with a) (flew q.0 named)))))
+calm_landed a f g moved place x kind lines places flew landed = calm_places a f g x kind lines (λ q is. inr (ap (is_with a) (places q.0) ∙ at_test (λ p. is_with a p ≡ is_with a (f.end q.0).place) (moved q.0) (place q.0) (f.end q.0).place (λ named. landed q.0 ∙ sym (ap (is_with a) (flew q.0 named))) (λ _. refl)))
 
 -- one end went, that is no port or whose own poster is out
 pub calm_gone : (a : AgentId) (f g : Facts) (e : ℕ) (p : Option Place) (x : ℕ) → SoundPlaces f → (g.end x).kind ≡ (f.end x).kind → ((l : ℕ) → g.line x l ≡ f.line x l) → ((q : ℕ) → (g.end q).place ≡ cond (eqb q e) p (f.end q).place) → is_released f (f.end e).kind ≡ true → IsCalmAt a f g x
-calm_gone a f g e p x h kind lines places free = calm_places a f g x kind lines (λ q is. elim (eqb q.0 e) as (λ b. eqb q.0 e ≡ b → (is_out (f.line x 0).phase ≡ true) ⊎ (is_with a (g.end q.0).place ≡ is_with a (f.end q.0).place)) [
-  | true ↦ λ same. inl (out_of_released (f.end q.0).kind (own_line f x q h is) (ap (λ y. is_released f (f.end y).kind) (eqb-true q.0 e same) ∙ free))
-  | false ↦ λ other. inr (ap (is_with a) (places q.0 ∙ ap (λ b. cond b p (f.end q.0).place) other))
-] refl)
+calm_gone a f g e p x h kind lines places free = calm_places a f g x kind lines (λ q is. ⊎_elim
+    (λ same. inl (out_of_released (f.end q.0).kind (own_line f x q h is) (ap (λ y. is_released f (f.end y).kind) same ∙ free)))
+    (λ other. inr (ap (is_with a) (places q.0 ∙ ap (λ b. cond b p (f.end q.0).place) (ne_eqb q.0 e other))))
+    (cases_eq q.0 e))
   where
     out_of_released : (k : Option Kind) → peer_of k ≡ Some x → is_released f k ≡ true → is_out (f.line x 0).phase ≡ true
     out_of_released (Some (Port r)) is out = let same : r.0 ≡ x = cc in subst (λ y. is_out (f.line y 0).phase ≡ true) same out

@@ -1,9 +1,9 @@
 -- How many queues of clients and workers an agent has: what the core counts is what the facts say.
-use Rattle.std.proofs.Common.{Bool, List, None, Option, Some, ap, arith, cond, eqb, false, length, length-set, lt-ltb, nat_lt, ne_eqb, not, refl, subst, suc, sym, true, zero, ℕ, ◌&&◌, ◌*◌, ◌+◌, ◌-◌, ◌<◌, ◌||◌, ◌∙◌, ◌≡◌, ◌≢◌, ◌≤◌}
+use Rattle.std.proofs.Common.{Bool, List, None, Option, Some, ap, arith, cond, eqb, false, length, length-set, lt-ltb, nat_lt, ne_eqb, not, refl, subst, suc, sym, true, zero, ℕ, ◌&&◌, ◌*◌, ◌+◌, ◌-◌, ◌<◌, ◌||◌, ◌∙◌, ◌≡◌, ◌≤◌, ⊎_elim}
 use Rattle.hub_core.proofs.Words.{Agent, AgentId, Client, End, EndNow, Facts, Kind, MAX_ENDS, Place, Port, SoundPlaces, With, Worker, adopting, agent_now, any_below, by, change_agent, change_owner, come, count_away, count_with, end_now, eqb-false, eqb-true}
 use Rattle.hub_core.proofs.Words.{false≢true}
 use Rattle.hub_core.proofs.Words.{gone, has_poster, is_away_of, is_client, is_out, is_some, is_with, is_worker, kept_away, kept_clients, kept_workers, lines_of, no_end, one_away, one_less, one_more, one_out, option_map, owner, peer_of, place, set_agent}
-use Rattle.hub_core.proofs.Words.{slice_get}
+use Rattle.hub_core.proofs.Words.{slice_get, cases_eq}
 use Rattle.hub_core.proofs.Words.{slice_get_within, total}
 use Rattle.hub_core.proofs.Lists.{eqb_same, is_there, slice_get-set_other, slice_get-set_same, and_false, or_true, or_none}
 use Rattle.hub_core.proofs.Showing.{SoundlyShows}
@@ -28,19 +28,17 @@ counts_at test a x = test x.kind && is_with a x.place
 -- one term changes
 pub total_change : (w u : ℕ → ℕ) (n e : ℕ) → e < n → ((d : ℕ) → (d ≡ e → ⊥) → u d ≡ w d) → total w n + u e ≡ total u n + w e
 total_change w u zero e below others = absurd (omega arith)
-total_change w u (suc n) e below others = elim (eqb e n) as (λ b. eqb e n ≡ b → (total w n + w n) + u e ≡ (total u n + u n) + w e) [
-  | true ↦ λ is.
-      let same : e ≡ n = eqb-true e n is in
-      let new : u e ≡ u n = ap u same in
-      let old : w e ≡ w n = ap w same in
-      let rest : total u n ≡ total w n = total_same w u n (λ d less. others d (λ at. let no : d ≡ n = at ∙ same in omega arith)) in
-      omega arith
-  | false ↦ λ is.
-      let other : e ≡ n → ⊥ = eqb-false e n is in
-      let last : u n ≡ w n = others n (λ at. other (sym at)) in
-      let rest : total w n + u e ≡ total u n + w e = total_change w u n e (last_not e n below other) others in
-      omega arith
-] refl
+total_change w u (suc n) e below others = ⊎_elim
+    (λ same.
+    let new : u e ≡ u n = ap u same in
+    let old : w e ≡ w n = ap w same in
+    let rest : total u n ≡ total w n = total_same w u n (λ d less. others d (λ at. let no : d ≡ n = at ∙ same in omega arith)) in
+    omega arith)
+    (λ other.
+    let last : u n ≡ w n = others n (λ at. other (sym at)) in
+    let rest : total w n + u e ≡ total u n + w e = total_change w u n e (last_not e n below other) others in
+    omega arith)
+    (cases_eq e n)
 
 bit_of : (b : Bool) → cond b 1 0 ≡ bit b
 bit_of true = refl

@@ -1,12 +1,12 @@
 -- What the core answers to Look, Sweep and Take fits, and it shows the facts with the answered step.
 use Rattle.std.proofs.Common.{Bool, List, None, Option, Some, [], ap, append-nil, append_assoc, arith, cond, drop, eqb, false, get_or, leb-false, leb-true, length, length-set, lt-ltb, ltb-false, ltb-true, nat_le, nat_lt, ne_eqb}
-use Rattle.std.proofs.Common.{not, refl, rules, set, subst, suc, sym, true, zero, ℕ, ◌&&◌, ◌++◌, ◌+◌, ◌-◌, ◌<◌, ◌||◌, ◌∙◌, ◌∷◌, ◌≡◌, ◌≤◌}
+use Rattle.std.proofs.Common.{not, refl, rules, set, subst, suc, sym, true, zero, ℕ, ◌&&◌, ◌++◌, ◌+◌, ◌-◌, ◌<◌, ◌||◌, ◌∙◌, ◌∷◌, ◌≡◌, ◌≤◌, ⊎_elim}
 use Rattle.hub_core.proofs.Words.{Agent, AgentId, AllByRecursion, Arrived, CoreState, End, EndId, EndNow, Envelope, Facts, FitsSweep, FitsTake, InFlight, Inside, IsAllWaiting, IsDrained, IsLeft, IsNext, IsOfEnd, KeepsQueues}
 use Rattle.hub_core.proofs.Words.{Line, LineNow, MatchBool, Outcome, Rises, Serves, ShowsEnd, Sound, Swept, TakeAnswers, TakeHeld, TakeServes, With, advanced_end, all_from, all_settled, and_parts, any_below, append_cancel_left}
-use Rattle.hub_core.proofs.Words.{arrived, arrived_ends, by, change_end, changed_ends, eqb-false, eqb-true, false_from_ne_true, false≢true, filter-append, first_failing, front_taken, holder, in_queue, is_anyone_at}
+use Rattle.hub_core.proofs.Words.{arrived, arrived_ends, by, change_end, changed_ends, eqb-true, false_from_ne_true, false≢true, filter-append, first_failing, front_taken, holder, in_queue, is_anyone_at}
 use Rattle.hub_core.proofs.Words.{is_anyone_from, is_away_at, is_named, is_out, is_settled, is_some, is_with, joined, kept_looked, kept_settled, le-leb, le-ltb, line_now, lines_of, list_any, look_answer, look_answer_at}
 use Rattle.hub_core.proofs.Words.{look_answer_of, look_outcome, look_outcome_at, lookable, looked, may_look, moved_ends, names, nat_tests, no_end, option_map, ports_of, running_at, seen, slice_get, slice_get_within, someone_at}
-use Rattle.hub_core.proofs.Words.{start_answer, sweep_outcome_at, with_taker_queue}
+use Rattle.hub_core.proofs.Words.{start_answer, sweep_outcome_at, with_taker_queue, cases_eq, cases_lt}
 use Rattle.hub_core.specs.declared.outcome.Outcome.TheVariants as outcome
 use Rattle.hub_core.specs.declared.step.Action.TheVariants as action
 use Rattle.hub_core.proofs.Calms.{calm_landed}
@@ -120,12 +120,12 @@ advanced_queues line clear vs ts x opened low empty h =
       clear_below = λ k from. h.clear_below k (omega (arith, from)) ∙ clear_next x.taker x.looked k h.reached from (nat_lt x.looked (x.taker + 1)) refl;
       count = λ _. omega arith;
       inside = λ l at. let within : (line l).stand < x.taker + length x.queues = h.inside l at in omega arith;
-      behind = λ k less. elim (eqb k x.taker) as (λ b. eqb k x.taker ≡ b → in_queue k vs ≡ in_queue k ts) [
-        | true ↦ λ is.
-            let same : x.taker + 0 ≡ k = omega (arith, eqb-true k x.taker is) in
-            subst (λ j. in_queue j vs ≡ in_queue j ts) same (h.each 0 ∙ ap (λ q. in_queue (x.taker + 0) ts ++ q) empty ∙ append-nil (in_queue (x.taker + 0) ts))
-        | false ↦ λ is. h.behind k (below_last k x.taker less (eqb-false k x.taker is))
-      ] refl;
+      behind = λ k less. ⊎_elim
+          (λ is.
+          let same : x.taker + 0 ≡ k = omega arith in
+          subst (λ j. in_queue j vs ≡ in_queue j ts) same (h.each 0 ∙ ap (λ q. in_queue (x.taker + 0) ts ++ q) empty ∙ append-nil (in_queue (x.taker + 0) ts)))
+          (λ other. h.behind k (below_last k x.taker less other))
+          (cases_eq k x.taker);
       each = λ i.
           let shift : x.taker + suc i ≡ x.taker + 1 + i = omega arith in
           subst (λ j. in_queue j vs ≡ in_queue j ts ++ get_or x.queues (suc i) []) shift (h.each (suc i)) ∙ ap (λ q. in_queue (x.taker + 1 + i) ts ++ q) (sym (get_or-drop x.queues i));
@@ -275,10 +275,10 @@ none_below test (suc n) h = rw (none_below test n (λ l less. h l (omega (arith,
 
 some_below : (test : ℕ → Bool) (n l : ℕ) → l < n → test l ≡ true → any_below test n ≡ true
 some_below test zero l less is = absurd (omega (arith, less))
-some_below test (suc n) l less is = elim (eqb l n) as (λ b. eqb l n ≡ b → (any_below test n || test n) ≡ true) [
-  | true ↦ λ same. ap (λ b. any_below test n || b) (ap test (sym (eqb-true l n same)) ∙ is) ∙ or_true (any_below test n)
-  | false ↦ λ other. ap (λ b. b || test n) (some_below test n l (below_last l n (omega (arith, less)) (eqb-false l n other)) is)
-] refl
+some_below test (suc n) l less is = ⊎_elim
+    (λ same. ap (λ b. any_below test n || b) (ap test (sym same) ∙ is) ∙ or_true (any_below test n))
+    (λ other. ap (λ b. b || test n) (some_below test n l (below_last l n (omega (arith, less)) other) is))
+    (cases_eq l n)
 
 rises_by : (l : ℕ) (vs : List Envelope) → Rises vs → Rises (by l vs)
 rises_by l [] h = tt
@@ -377,16 +377,13 @@ module _ (f : Facts) (e : ℕ) (x : End) (s : Sound f) (h : ShownAt f e (Some x)
 
   -- queue by queue, what is kept is what was accepted and not removed
   kept_queue : (k : ℕ) → in_queue k (f.accepted e) ≡ in_queue k removed ++ in_queue k (joined x.queues)
-  kept_queue k = elim (nat_lt k x.taker) as (λ b. nat_lt k x.taker ≡ b → in_queue k (f.accepted e) ≡ in_queue k removed ++ in_queue k (joined x.queues)) [
-    | true ↦ λ is.
-        let less : k < x.taker = ltb-true k x.taker is in
-        h.queues.behind k less ∙ sym (append-nil (in_queue k removed)) ∙ ap (λ us. in_queue k removed ++ us) (sym (joined_behind x.taker k x.queues are_from less))
-    | false ↦ λ is.
-        let from : x.taker ≤ k = ltb-false k x.taker is in
-        let place : x.taker + (k - x.taker) ≡ k = omega arith in
-        subst (λ m. in_queue m (f.accepted e) ≡ in_queue m removed ++ in_queue m (joined x.queues)) place
-        (h.queues.each (k - x.taker) ∙ ap (λ us. in_queue (x.taker + (k - x.taker)) removed ++ us) (sym (joined_queue x.taker (k - x.taker) x.queues are_from)))
-  ] refl
+  kept_queue k = ⊎_elim
+      (λ less. h.queues.behind k less ∙ sym (append-nil (in_queue k removed)) ∙ ap (λ us. in_queue k removed ++ us) (sym (joined_behind x.taker k x.queues are_from less)))
+      (λ from.
+      let place : x.taker + (k - x.taker) ≡ k = omega arith in
+      subst (λ m. in_queue m (f.accepted e) ≡ in_queue m removed ++ in_queue m (joined x.queues)) place
+      (h.queues.each (k - x.taker) ∙ ap (λ us. in_queue (x.taker + (k - x.taker)) removed ++ us) (sym (joined_queue x.taker (k - x.taker) x.queues are_from))))
+      (cases_lt k x.taker)
 
   kept_line : (l : ℕ) → by l (removed ++ joined x.queues) ≡ by l (f.accepted e)
   kept_line l =

@@ -1,11 +1,11 @@
 -- What the core answers to Enter, Leave, Line, Back, Order and See fits, and it shows the facts with the answered step.
 use Rattle.std.proofs.Common.{Bool, List, None, Option, Some, [], ap, arith, cond, eqb, false, inl, inr, length, length-set, lt-ltb, ltb-true, nat_lt, ne_eqb, not, refl, rules, set, subst, suc, sym, true, zero, ℕ, ◌&&◌, ◌++◌}
-use Rattle.std.proofs.Common.{◌+◌, ◌<◌, ◌||◌, ◌∙◌, ◌∷◌, ◌≡◌, ◌≤◌}
+use Rattle.std.proofs.Common.{◌+◌, ◌<◌, ◌||◌, ◌∙◌, ◌∷◌, ◌≡◌, ◌≤◌, ⊎_elim}
 use Rattle.hub_core.proofs.Words.{Action, Agent, AgentId, AgentNow, Answers, CoreState, End, EndId, EndNow, Facts, Inside, Kind, Line, LineNow, MAX_LINES, Member, Out, Outcome, Phase, Place, Port, Sender, ShowsEnd, ShowsFacts}
 use Rattle.hub_core.proofs.Words.{ShowsPut, Sound, Turned, With, agent_now, any_below, back_answer, cast_after, change_agent, change_line, change_owner, count_away, ends_at, enter_answer, eqb-true, false≢true, first_failing}
 use Rattle.hub_core.proofs.Words.{first_free, free_line, has_away, has_poster, has_poster_of, held_by, hold_outcome_of, in_phase, is_away_of, is_holder, is_out, is_queue, is_some, is_with, kept_away, kept_clients, kept_lines}
 use Rattle.hub_core.proofs.Words.{kept_workers, leave_answer, line_answer, line_found, line_now, line_outcome, line_within, lines_of, may_enter, nat_tests, one_away, one_out, option_map, order_answer, owner, owner_by, position}
-use Rattle.hub_core.proofs.Words.{position_from, position_from-zero, see_answer, see_outcome, seen, slice_get, slice_get_cases, slice_get_within, total, with_agent}
+use Rattle.hub_core.proofs.Words.{position_from, position_from-zero, see_answer, see_outcome, seen, slice_get, slice_get_cases, slice_get_within, total, with_agent, cases_lt}
 use Rattle.hub_core.specs.declared.outcome.Outcome.TheVariants as outcome
 use Rattle.hub_core.specs.declared.step.Action.TheVariants as action
 use Rattle.hub_core.proofs.Calms.{calm_held, free_out, phase_away}
@@ -14,13 +14,13 @@ use Rattle.hub_core.proofs.Changing.{ShownAfter, ShownWith, found_line, line_set
 use Rattle.hub_core.proofs.Counts.{Counted, away_at, change_each, change_get, change_length, counted_entered, counted_left, counts_of, counts_still, none_counted, owner_length, owner_now_away, owner_now_out, owns_it}
 use Rattle.hub_core.proofs.Fitting.{Entered, back_of, first_failing_of, found_closed_of, found_moved_of, hit, left_of, let_in_of, line_got_of}
 use Rattle.hub_core.proofs.Frames.{ShownAt, Stepped, changed, line_changed, recounted}
-use Rattle.hub_core.proofs.Lists.{is_there}
 use Rattle.hub_core.proofs.Nexts.{Change, agent_ended, agent_ordered, found_closed, found_moved, left, let_in, line_back, line_got, next}
 use Rattle.hub_core.proofs.Seeing.{Sees, owner_seen, seen_is}
 use Rattle.hub_core.proofs.Showing.{SoundlyShows}
 use Rattle.hub_core.proofs.SoundLines.{LinesAt, held_line_as, line_there, phased_line, queue_lines}
 use Rattle.hub_core.proofs.Speakers.{hears_of, made_of, no_member, no_port, running_made}
 use Rattle.hub_core.proofs.Totals.{bit}
+use Rattle.hub_core.proofs.Items.{got_there}
 
 -- ==== Enter and Leave: what the core answers fits, and it shows the facts with the answered step.
 
@@ -243,12 +243,7 @@ line_changes c f e a refused h answer (line_got d b l) =
 
 -- a line that an agent holds is there
 held_there : (f : Facts) (s : Sender) → LinesAt f s.end.0 → is_some (f.line s.end.0 s.line.0).held_by ≡ true → s.line.0 < lines_of (f.end s.end.0).kind
-held_there f s lines held = elim (nat_lt s.line.0 (lines_of (f.end s.end.0).kind)) as (λ b. nat_lt s.line.0 (lines_of (f.end s.end.0).kind) ≡ b → s.line.0 < lines_of (f.end s.end.0).kind) [
-  | true ↦ λ low. search (rules, nat_tests, low)
-  | false ↦ λ high.
-      let past : lines_of (f.end s.end.0).kind ≤ s.line.0 = search (rules, nat_tests, high) in
-      absurd (false≢true (sym (ap (λ (z : LineNow). is_some z.held_by) (lines.none s.line.0 past)) ∙ held))
-] refl
+held_there f s lines held = ⊎_elim (λ low. low) (λ past. absurd (false≢true (sym (ap (λ (z : LineNow). is_some z.held_by) (lines.none s.line.0 past)) ∙ held))) (cases_lt s.line.0 (lines_of (f.end s.end.0).kind))
 
 pub back_changes : (c : CoreState) (f : Facts) (s : Sender) (refused : Bool) {o : Outcome} → Sees c f → o ≡ back_answer f s → Change (action.Back s) o → ShownAfter c f (action.Back s) refused o
 back_changes c f s refused h answer (line_back t) =
@@ -292,14 +287,8 @@ pub order_changes : (c : CoreState) (f : Facts) (a : AgentId) (refused : Bool) {
 order_changes c f a refused h answer (agent_ordered b) =
     let known : a.0 < f.agents = ltb-true a.0 f.agents (hit (nat_lt a.0 f.agents) answer (λ is. cc)).0 in
     let count : f.agents ≡ length c.agents = h.shows.agents in
-    let found = found_agent c.agents a.0 (omega arith) in
+    let found = got_there c.agents a.0 (omega arith) in
     (record { fits = answer; shows = agent_set c f a.0 (λ z. record z { is_ordered = true }) (λ b w. record w { ordered = cond b true w.ordered }) found.0 h found.1 refl (λ w. refl) (λ z. refl) (λ z. refl) (λ z. refl) }, refl)
-  where
-    found_agent : (agents : List Agent) (n : ℕ) → n < length agents → (x : Agent) × (slice_get agents n ≡ Some x)
-    found_agent agents n less = elim (slice_get agents n) as (λ q. slice_get agents n ≡ q → (x : Agent) × (slice_get agents n ≡ Some x)) [
-      | Some x ↦ λ at. (x, at)
-      | None ↦ λ none. absurd (is_there agents n less none)
-    ] refl
 
 -- ---- See
 

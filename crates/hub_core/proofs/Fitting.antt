@@ -1,13 +1,11 @@
 -- What an answer that fits says of the facts.
-use Rattle.std.proofs.Common.{◌≡◌, ◌+◌, Bool, true, false, cond, List, length, Option, Some, None, refl, ap, ℕ, zero, suc, ◌<◌, ◌≤◌, eqb, sym, ◌∙◌, arith, rules, inl, inr, ltb-true, leb-false, ltb-false, ◌&&◌, not, nat_lt, ◌||◌, ◌⊎◌, nat_le}
+use Rattle.std.proofs.Common.{◌≡◌, ◌+◌, Bool, true, false, cond, List, length, Option, Some, None, refl, ap, ℕ, zero, suc, ◌<◌, ◌≤◌, eqb, sym, ◌∙◌, arith, rules, inl, inr, ltb-true, leb-false, ltb-false, ◌&&◌, not, nat_lt, ◌||◌, ◌⊎◌, nat_le, ⊎_elim}
 use Rattle.hub_core.proofs.Words.{is_some, MatchBool, list_all, AgentId, EndId, Envelope, MAX_ENDS, MAX_LINES, MAX_MOVES, MAX_PORTS, MAX_AGENTS, Good, HoldsTarget, Bad, Sender, Acceptance, Outcome, Facts, agent_answer, channel_answer, queue_answer, has_one, holder, poster, phase_of_line, is_out, is_inside, is_good, is_distinct}
-use Rattle.hub_core.proofs.Words.{may_leave_agent, listing_of, enter_answer, leave_answer, push_answer_of, push_answer, may_enter, hears_notice, is_here, next_name, notice_answer, is_fitting, is_empty, Serves, FitsTake, start_answer, false≢true, eqb-true, eqb-false, and_parts, or_parts, Place, Arrived, any_below, someone_at}
+use Rattle.hub_core.proofs.Words.{may_leave_agent, listing_of, enter_answer, leave_answer, push_answer_of, push_answer, may_enter, hears_notice, is_here, next_name, notice_answer, is_fitting, is_empty, Serves, FitsTake, start_answer, false≢true, and_parts, or_parts, Place, Arrived, any_below, someone_at}
 use Rattle.hub_core.proofs.Words.{first_failing, lookable, looked, look_answer_of, look_answer, all_from, all_settled, IsAllWaiting, FitsSweep, hop_answer, is_arrived, adopt_answer, close_answer, is_released, hand_answer, may_take_over, may_close, is_queue, lines_of, names, LineId, Kind, back_answer, line_found, line_answer}
-use Rattle.hub_core.proofs.Words.{free_line, member_answer, cast_answer, is_casting, destinations, has_end, maker_of, see_answer, has_away, has_poster, is_away_of}
+use Rattle.hub_core.proofs.Words.{free_line, member_answer, cast_answer, is_casting, destinations, has_end, maker_of, see_answer, has_away, has_poster, is_away_of, cases_eq}
 use Rattle.hub_core.specs.declared.outcome.Outcome.TheVariants as outcome
 use Rattle.hub_core.proofs.Lists.{below_last, next_up, or_none}
-
--- ---- tests
 
 -- ---- tests, one after another
 
@@ -288,10 +286,7 @@ pub each_of : (test : ℕ → Bool) (k n : ℕ) → all_from test k n ≡ true �
 each_of test k zero h i from below = absurd (omega arith)
 each_of test k (suc n) h i from below =
     let both = and_parts (test k) (all_from test (k + 1) n) h in
-    elim (eqb i k) as (λ b. eqb i k ≡ b → test i ≡ true) [
-      | true ↦ λ is. ap test (eqb-true i k is) ∙ both.0
-      | false ↦ λ is. each_of test (k + 1) n both.1 i (next_up k i from (eqb-false i k is)) (omega arith)
-    ] refl
+    ⊎_elim (λ same. ap test same ∙ both.0) (λ other. each_of test (k + 1) n both.1 i (next_up k i from other) (omega arith)) (cases_eq i k)
 
 -- ---- looking
 
@@ -313,10 +308,7 @@ first_failing_of clear k (suc n) j is = elim (clear k) as (λ b. clear k ≡ b �
         from = omega arith;
         below = omega arith;
         unclear = r.unclear;
-        before = λ i low less. elim (eqb i k) as (λ b. eqb i k ≡ b → clear i ≡ true) [
-          | true ↦ λ same. let first : i ≡ k = eqb-true i k same in ap clear first ∙ here
-          | false ↦ λ other. r.before i (next_up k i low (eqb-false i k other)) less
-        ] refl;
+        before = λ i low less. ⊎_elim (λ same. ap clear same ∙ here) (λ other. r.before i (next_up k i low other) less) (cases_eq i k);
       }
   | false ↦ λ here found.
       let same : k ≡ j = cc in
@@ -368,10 +360,7 @@ look_busy_of f e h =
 
 -- a queue that may be looked at is retired, or the newest of a closed end
 pub looked_where : (taker newest k : ℕ) (closed : Bool) → taker ≤ newest → k < taker + lookable taker newest closed → (k < newest) ⊎ ((k ≡ newest) × (closed ≡ true))
-looked_where taker newest k true within below = elim (eqb k newest) as (λ b. eqb k newest ≡ b → (k < newest) ⊎ ((k ≡ newest) × (true ≡ true))) [
-  | true ↦ λ is. inr (eqb-true k newest is, refl)
-  | false ↦ λ is. let other : k ≡ newest → ⊥ = eqb-false k newest is in inl (below_last k newest (omega arith) other)
-] refl
+looked_where taker newest k true within below = ⊎_elim (λ is. inr (is, refl)) (λ other. inl (below_last k newest (omega arith) other)) (cases_eq k newest)
 looked_where taker newest k false within below = inl (omega arith)
 
 -- ---- who is at a queue
@@ -391,10 +380,7 @@ pub none_of_any : (test : ℕ → Bool) (n l : ℕ) → any_below test n ≡ fal
 none_of_any test zero l h less = absurd (omega arith)
 none_of_any test (suc n) l h less =
     let both = or_parts (any_below test n) (test n) h in
-    elim (eqb l n) as (λ b. eqb l n ≡ b → test l ≡ false) [
-      | true ↦ λ is. ap test (eqb-true l n is) ∙ both.1
-      | false ↦ λ is. none_of_any test n l both.0 (below_last l n (omega arith) (eqb-false l n is))
-    ] refl
+    ⊎_elim (λ is. ap test is ∙ both.1) (λ other. none_of_any test n l both.0 (below_last l n (omega arith) other)) (cases_eq l n)
 
 -- ---- holding lines, and handing
 

@@ -1,8 +1,8 @@
 -- What every legal history keeps: the headline, and the laws beside it.
-use Rattle.std.proofs.Common.{Bool, List, [], ap, arith, cond, eqb, false, get_or, inl, inr, length, length-append, ltb, map, not, refl, rules, subst, suc, sym, true, zero, ℕ, ◌&&◌, ◌++◌, ◌+◌, ◌<◌, ◌∙◌, ◌∷◌, ◌≡◌}
+use Rattle.std.proofs.Common.{Bool, List, [], ap, arith, cond, eqb, false, get_or, inl, inr, length, length-append, map, not, refl, rules, subst, suc, sym, true, zero, ℕ, ◌&&◌, ◌++◌, ◌<◌, ◌∙◌, ◌∷◌, ◌≡◌, ⊎_elim}
 use Rattle.hub_core.proofs.Words.{Action, AllByRecursion, Answers, EndId, Envelope, Facts, Headline, History, Inside, IsBusyAt, IsDrainedAt, IsTurned, KeepsTheLine, Legal, LegalAfter, MatchBool, Out, Outcome, Pair, Phase, Prefix, SameIsJoined}
 use Rattle.hub_core.proofs.Words.{Sender, Sound, Turned, TurnedPutsNothing, accepted, and_parts, by, discarded, enter_of, eqb-true, ext_get_or, facts, false≢true, filter, filter-append, get_or-append_seam, get_or_append_left, hears_notice, is_away_at, is_inside, is_line}
-use Rattle.hub_core.proofs.Words.{is_out, is_some, leaves, lines_of, map-append, nat_tests, not-true, numbers, phase_of_line, poster, posts, someone_at, take_of, taken, up_to, not-false, or_parts}
+use Rattle.hub_core.proofs.Words.{is_out, is_some, leaves, lines_of, map-append, not-true, numbers, phase_of_line, poster, posts, someone_at, take_of, taken, up_to, not-false, or_parts, cases_lt}
 use Rattle.hub_core.specs.declared.step.Action.TheVariants as action
 use Rattle.hub_core.specs.declared.outcome.Outcome.TheVariants as outcome
 use Rattle.hub_core.proofs.Away.{speaker_next}
@@ -18,18 +18,14 @@ use Rattle.hub_core.proofs.Joins.{length-up_to}
 
 -- ---- a prefix of numbered envelopes is numbered
 
-last_of : (i n : ℕ) → i < suc n → ltb i n ≡ false → i ≡ n
-last_of i n h e = grind (arith, nat_tests)
-
 get_or-up_to : (n i d : ℕ) → i < n → get_or (up_to n) i d ≡ i
 get_or-up_to zero i d h = absurd (omega arith)
-get_or-up_to (suc n) i d h = elim (ltb i n) as (λ b. ltb i n ≡ b → get_or (up_to n ++ n ∷ []) i d ≡ i) [
-  | true ↦ λ e. let below : i < n = search (rules, nat_tests) in
-      let within : i < length (up_to n) = subst (λ m. i < m) (sym (length-up_to n)) below in
-      get_or_append_left (up_to n) (n ∷ []) d i within ∙ get_or-up_to n i d below
-  | false ↦ λ e. let last : i ≡ n = last_of i n h e in
-      rw last (subst (λ m. get_or (up_to n ++ n ∷ []) m d ≡ n) (length-up_to n) (get_or-append_seam (up_to n) n [] d))
-] refl
+get_or-up_to (suc n) i d h = ⊎_elim
+    (λ below. get_or_append_left (up_to n) (n ∷ []) d i (subst (λ m. i < m) (sym (length-up_to n)) below) ∙ get_or-up_to n i d below)
+    (λ past.
+    let last : i ≡ n = omega arith in
+    rw last (subst (λ m. get_or (up_to n ++ n ∷ []) m d ≡ n) (length-up_to n) (get_or-append_seam (up_to n) n [] d)))
+    (cases_lt i n)
 
 front_numbered : (ns ms : List ℕ) → Numbered (ns ++ ms) → Numbered ns
 front_numbered ns ms h = ext_get_or 0 ns (up_to (length ns)) (sym (length-up_to (length ns))) (λ i within.

@@ -1,7 +1,7 @@
 -- Lists of ends, agents, lines and envelopes: what a write leaves at each number.
 use Rattle.std.proofs.Common.{ne_eqb, ◌≡◌, ℕ, ◌<◌, ◌+◌, true, false, eqb, List, [], ◌∷◌, ◌++◌, length, get_or, set, Option, Some, zero, suc, ◌≤◌, None, refl, sym, ap, subst, ◌∙◌, inl, inr, arith, rules, Bool, length-append}
-use Rattle.std.proofs.Common.{◌&&◌, ◌||◌}
-use Rattle.hub_core.proofs.Words.{nat_tests, slice_get, AllByRecursion, slice_get_cases, Phase, Out, is_out, false≢true}
+use Rattle.std.proofs.Common.{◌&&◌, ◌||◌, ⊎_elim, cond}
+use Rattle.hub_core.proofs.Words.{nat_tests, slice_get, AllByRecursion, slice_get_cases, Phase, Out, is_out, false≢true, cases_eq}
 
 pub slice_get-set_same : {A : Type 0} (xs : List A) (i : ℕ) (x : A) → i < length xs → slice_get (set xs i x) i ≡ Some x
 slice_get-set_same [] i x h = absurd (omega arith)
@@ -42,10 +42,10 @@ eqb_same n = search (rules, nat_tests)
 
 -- what is said of each number, after one was written
 pub each_set : {A : Type 0} (P : ℕ → Option A → Type 0) (xs : List A) (i : ℕ) (x : A) → i < length xs → P i (Some x) → ((j : ℕ) → (j ≡ i → ⊥) → P j (slice_get xs j)) → (j : ℕ) → P j (slice_get (set xs i x) j)
-each_set P xs i x there here others j = elim (eqb j i) as (λ b. eqb j i ≡ b → P j (slice_get (set xs i x) j)) [
-  | true ↦ λ t. let same : j ≡ i = search (rules, t) in subst (λ k. P k (slice_get (set xs i x) k)) (sym same) (subst (P i) (sym (slice_get-set_same xs i x there)) here)
-  | false ↦ λ t. let other : j ≡ i → ⊥ = search (rules, t) in subst (P j) (sym (slice_get-set_other xs i j x other)) (others j other)
-] refl
+each_set P xs i x there here others j = ⊎_elim
+    (λ same. subst (λ k. P k (slice_get (set xs i x) k)) (sym same) (subst (P i) (sym (slice_get-set_same xs i x there)) here))
+    (λ other. subst (P j) (sym (slice_get-set_other xs i j x other)) (others j other))
+    (cases_eq j i)
 
 -- the same, by whether it is the one that was written
 pub each_changed : {A : Type 0} (P : ℕ → Bool → Option A → Type 0) (xs : List A) (i : ℕ) (x : A) → i < length xs → P i true (Some x) → ((j : ℕ) → P j false (slice_get xs j)) → (j : ℕ) → P j (eqb j i) (slice_get (set xs i x) j)
@@ -79,6 +79,11 @@ pub past_last : {A : Type 0} (xs : List A) (x : A) (m : ℕ) → length xs ≤ m
 past_last xs x m from other = let beyond : length xs + 1 ≤ m = next_up (length xs) m from other in simp length-append (omega arith)
 
 -- ---- tests
+
+-- what holds of either holds of the one that a test chooses
+pub at_test : {A : Type 0} (P : A → Type 0) (b : Bool) (x y : A) → (b ≡ true → P x) → (b ≡ false → P y) → P (cond b x y)
+at_test P true x y met failed = met refl
+at_test P false x y met failed = failed refl
 
 pub and_false : (b : Bool) → (b && false) ≡ false
 and_false true = refl

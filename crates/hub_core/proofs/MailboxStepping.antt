@@ -3,7 +3,7 @@ use Rattle.std.proofs.Common.{List, None, Some, [], ap, append-nil, append_assoc
 use Rattle.std.proofs.Common.{◌∷◌, ◌≡◌, ◌≢◌, ◌≤◌, ◌⊎◌}
 use Rattle.hub_core.proofs.Words.{ChainLaws, Envelope, Gate, GateAt, Grows, HappensAt, HoldsFirst, HoldsNothing, Inside, IsAt, IsGateOf, IsMailbox, IsNewest, IsQueue, IsSettled, Mailbox, MailboxEvent, MailboxStep, MayPush}
 use Rattle.hub_core.proofs.Words.{MaySweep, Out, Phase, Prefix, Queue, QueueAt, StandsAt, Steps, Turned, adds, advances, by, cases_lt, closes, eqb-true, filter-append, finds_closed, finds_moved, finds_none, flat_map, gate_steps}
-use Rattle.hub_core.proofs.Words.{goes_in, goes_out, got_from, got_in, hops, is_open, new_queue, popped, pushed, pushes, put_by, put_in, retires, slice_get, sweeps, taken_out, takes, turns_back, with_gate, with_queue}
+use Rattle.hub_core.proofs.Words.{goes_in, goes_out, got_from, got_in, hops, new_queue, popped, pushed, pushes, put_by, put_in, retires, slice_get, sweeps, taken_out, takes, turns_back, with_gate, with_queue}
 use Rattle.hub_core.specs.GateMachine as machine
 use Rattle.hub_core.proofs.Gating.{after, nobody_left}
 use Rattle.hub_core.proofs.Items.{at_written, got_same, got_same_at, got_set, got_within, none_got, pairs_written, some_is}

@@ -1,9 +1,9 @@
 -- What the core answers to Hop, Hand, Adopt and Close fits, and it shows the facts with the answered step.
-use Rattle.std.proofs.Common.{Bool, List, None, Option, Some, [], ap, arith, cond, eqb, false, get_or, length, length-append, length-set, ne_eqb, refl, rules, set, subst, suc, sym, true, zero, ℕ, ◌&&◌, ◌++◌, ◌+◌, ◌-◌, ◌<◌, ◌∙◌}
-use Rattle.std.proofs.Common.{◌∷◌, ◌≡◌, ◌≢◌, ◌≤◌}
+use Rattle.std.proofs.Common.{Bool, List, None, Option, Some, [], ap, arith, cond, eqb, false, get_or, length, length-append, length-set, ne_eqb, refl, rules, set, subst, suc, sym, true, zero, ℕ, ◌&&◌, ◌++◌, ◌+◌, ◌<◌, ◌∙◌}
+use Rattle.std.proofs.Common.{◌∷◌, ◌≡◌, ◌≤◌}
 use Rattle.hub_core.proofs.Words.{Agent, AgentId, AllByRecursion, Arrived, CoreState, End, EndId, EndNow, Envelope, Facts, Gone, Inside, IsOfEnd, Kind, Line, LineNow, Outcome, Port, Sender, ShowsEnd, With, adopt_answer}
-use Rattle.hub_core.proofs.Words.{adopted_agents, adopted_end, adopting, arrived, at_queue, change_agent, changed_ends, close_answer, closed_end, count_in_queue, ends, eqb-true, false≢true, filter, gone, hand_answer, hop_answer}
-use Rattle.hub_core.proofs.Words.{in_queue, is_here, is_out, is_queue, is_released, is_with, line_now, opened, place, slice_get, went}
+use Rattle.hub_core.proofs.Words.{adopted_agents, adopted_end, adopting, at_queue, change_agent, changed_ends, close_answer, closed_end, count_in_queue, ends, eqb-true, false≢true, filter, gone, hand_answer, hop_answer}
+use Rattle.hub_core.proofs.Words.{in_queue, is_here, is_out, is_queue, is_released, is_with, line_now, slice_get, went}
 use Rattle.hub_core.specs.declared.outcome.Outcome.TheVariants as outcome
 use Rattle.hub_core.specs.declared.step.Action.TheVariants as action
 use Rattle.hub_core.proofs.Calms.{calm_gone, came_away}
@@ -11,7 +11,7 @@ use Rattle.hub_core.proofs.Changing.{ShownAfter, found_end, found_line, line_set
 use Rattle.hub_core.proofs.Counts.{adopted_now, change_length, counted_came, counted_went, counts_of, counts_still, end_went, gone_length, gone_now}
 use Rattle.hub_core.proofs.Fitting.{adopted_of, closed_of, handed_of, hopped_of}
 use Rattle.hub_core.proofs.Frames.{ShownAt, Stepped, changed, end_changed, end_restated, line_changed, recounted}
-use Rattle.hub_core.proofs.Nexts.{Change, adopted, end_closed, handed, hopped, next, put}
+use Rattle.hub_core.proofs.Nexts.{Change, adopted, end_closed, handed, hopped, next}
 use Rattle.hub_core.proofs.Seeing.{Sees, released_kept, seen_is}
 use Rattle.hub_core.proofs.Showing.{SoundlyShows}
 use Rattle.hub_core.proofs.SoundLines.{gone_line, line_there}

@@ -1,7 +1,7 @@
 -- Where a pair that fits moves an end: from which place to which, and whether the end is closed then.
-use Rattle.std.proofs.Common.{Bool, Option, Some, ap, arith, cond, eqb, false, refl, true, ℕ, ◌+◌, ◌-◌, ◌<◌, ◌||◌, ◌∙◌, ◌≡◌}
-use Rattle.hub_core.proofs.Words.{Action, AgentId, Answers, Arrived, EndId, Facts, Gone, InFlight, Kind, Outcome, Place, Sound, SoundPlaces, Swept, With, arrived, closed_after, closes, ends, eqb-true, is_client, is_here}
-use Rattle.hub_core.proofs.Words.{is_named, is_queue, is_released, is_some, is_worker, names, no_end, own_poster_out, peer_of, place, place_after}
+use Rattle.std.proofs.Common.{Bool, Option, Some, ap, arith, cond, eqb, false, refl, true, ℕ, ◌+◌, ◌<◌, ◌||◌, ◌∙◌, ◌≡◌}
+use Rattle.hub_core.proofs.Words.{Action, AgentId, Answers, Arrived, EndId, Facts, Gone, InFlight, Kind, Outcome, Place, Sound, SoundPlaces, Swept, With, arrived, closed_after, eqb-true, is_client, is_here}
+use Rattle.hub_core.proofs.Words.{is_named, is_queue, is_released, is_some, is_worker, names, no_end, own_poster_out, peer_of, place_after}
 use Rattle.hub_core.specs.declared.step.Action.TheVariants as action
 use Rattle.hub_core.specs.declared.outcome.Outcome.TheVariants as outcome
 use Rattle.hub_core.proofs.Fitting.{adopted_of, closed_of, got_of, handed_of, member_made_of, new_ends, pushed_of, queue_made_of, swept_of}

@@ -1,11 +1,11 @@
 -- What the core answers to Push and Notice fits, and it shows the facts with the answered step.
 use Rattle.std.proofs.Common.{Bool, Err, List, None, Ok, Option, Some, [], ap, append_assoc, arith, cond, eqb, false, get_or, leb-true, length, length-append, length-set, lt-ltb, ltb-true, nat_le, nat_lt, ne_eqb, not, refl, set}
-use Rattle.std.proofs.Common.{subst, sym, true, ℕ, ◌&&◌, ◌++◌, ◌+◌, ◌-◌, ◌<◌, ◌||◌, ◌∙◌, ◌∷◌, ◌≡◌, ◌≤◌}
+use Rattle.std.proofs.Common.{subst, sym, true, ℕ, ◌&&◌, ◌++◌, ◌+◌, ◌-◌, ◌<◌, ◌||◌, ◌∙◌, ◌∷◌, ◌≡◌, ◌≤◌, ⊎_elim}
 use Rattle.hub_core.proofs.Words.{Acceptance, Agent, AgentId, CoreState, End, EndId, EndNow, Envelope, Facts, InFlight, Line, LineNow, MAX_PORTS, Outcome, Place, Sender, ShowsEnd, ShowsPut, Sound, With, accept_ends, and_parts}
-use Rattle.hub_core.proofs.Words.{change_end, changed_ends, count_in_queue, end_moved, end_now, eqb-false, eqb-true, false≢true, filter, filter-append, has_queue, hears_notice, if◌then◌else◌, in_queue, is_fitting, is_good}
+use Rattle.hub_core.proofs.Words.{change_end, changed_ends, count_in_queue, end_moved, end_now, eqb-true, false≢true, filter, filter-append, has_queue, hears_notice, if◌then◌else◌, in_queue, is_fitting, is_good}
 use Rattle.hub_core.proofs.Words.{is_inside, is_out, is_posting, kept_noticing, kept_noticing_line, kept_posting, kept_posting_by, kept_posting_line, le-leb, line_now, listing_of, moved_ends, named_envelope, named_notice, names}
 use Rattle.hub_core.proofs.Words.{next_name, no_line, notice_answer, notice_outcome, option_map, peer_of, phase_of_line, poster, poster_of, posting_at, posting_line, push_answer, push_answer_of, push_outcome, put_end, put_found}
-use Rattle.hub_core.proofs.Words.{slice_get, slice_get_within}
+use Rattle.hub_core.proofs.Words.{slice_get, slice_get_within, cases_eq}
 use Rattle.hub_core.specs.declared.outcome.Outcome.TheVariants as outcome
 use Rattle.hub_core.specs.declared.step.Action.TheVariants as action
 use Rattle.hub_core.proofs.Calms.{calm_sent}
@@ -104,16 +104,12 @@ put_other vs v l other None h = tt
 put_other vs v l other (Some y) h = count_more l y.epoch vs v false (ap (λ b. b && eqb v.epoch y.epoch) (ne_eqb v.line.0 l (λ is. other (sym is)))) ∙ omega (arith, h)
 
 each_put : (taker at : ℕ) (vs ts : List Envelope) (queues : List (List Envelope)) (v : Envelope) → v.epoch ≡ taker + at → at < length queues → ((i : ℕ) → in_queue (taker + i) vs ≡ in_queue (taker + i) ts ++ get_or queues i []) → (i : ℕ) → in_queue (taker + i) (vs ++ v ∷ []) ≡ in_queue (taker + i) ts ++ get_or (set queues at (get_or queues at [] ++ v ∷ [])) i []
-each_put taker at vs ts queues v epoch within each i = elim (eqb i at) as (λ b. eqb i at ≡ b → in_queue (taker + i) (vs ++ v ∷ []) ≡ in_queue (taker + i) ts ++ get_or (set queues at (get_or queues at [] ++ v ∷ [])) i []) [
-  | true ↦ λ t.
-      let same : i ≡ at = eqb-true i at t in
-      subst (λ k. in_queue (taker + k) (vs ++ v ∷ []) ≡ in_queue (taker + k) ts ++ get_or (set queues at (get_or queues at [] ++ v ∷ [])) k []) (sym same)
-      (queue_more (taker + at) vs v epoch ∙ ap (λ us. us ++ v ∷ []) (each at) ∙ append_assoc (in_queue (taker + at) ts) (get_or queues at []) (v ∷ [])
-      ∙ ap (λ q. in_queue (taker + at) ts ++ q) (sym (get_or-set_same queues at (get_or queues at [] ++ v ∷ []) within)))
-  | false ↦ λ t.
-      let other : i ≡ at → ⊥ = eqb-false i at t in
-      queue_other (taker + i) vs v (λ is. other (omega arith)) ∙ each i ∙ ap (λ q. in_queue (taker + i) ts ++ q) (sym (get_or-set_other queues at i (get_or queues at [] ++ v ∷ []) other))
-] refl
+each_put taker at vs ts queues v epoch within each i = ⊎_elim
+    (λ same. subst (λ k. in_queue (taker + k) (vs ++ v ∷ []) ≡ in_queue (taker + k) ts ++ get_or (set queues at (get_or queues at [] ++ v ∷ [])) k []) (sym same)
+    (queue_more (taker + at) vs v epoch ∙ ap (λ us. us ++ v ∷ []) (each at) ∙ append_assoc (in_queue (taker + at) ts) (get_or queues at []) (v ∷ [])
+    ∙ ap (λ q. in_queue (taker + at) ts ++ q) (sym (get_or-set_same queues at (get_or queues at [] ++ v ∷ []) within))))
+    (λ other. queue_other (taker + i) vs v (λ is. other (omega arith)) ∙ each i ∙ ap (λ q. in_queue (taker + i) ts ++ q) (sym (get_or-set_other queues at i (get_or queues at [] ++ v ∷ []) other)))
+    (cases_eq i at)
 
 -- the end with an envelope put by a line, which a notice changes and a message doesn't
 put_shown : (now : EndNow) (line told : ℕ → LineNow) (clear : ℕ → Bool) (vs ts : List Envelope) (x : End) (y : Line) (v : Envelope) → slice_get x.lines v.line.0 ≡ Some y → v.epoch ≡ y.epoch → has_queue x y.epoch ≡ true

@@ -1,12 +1,12 @@
 -- What a mailbox doesn't show of the lines of an end stays so with each pair that fits.
-use Rattle.std.proofs.Common.{Bool, List, None, Option, Some, [], ap, append-nil, arith, cond, eqb, false, inl, inr, leb-false, leb-true, length, ltb-false, ltb-true, nat_le, nat_lt, not, refl, rules, subst, sym, true, ℕ, ◌&&◌, ◌++◌, ◌+◌, ◌<◌, ◌||◌, ◌∙◌, ◌∷◌, ◌≡◌, ◌≤◌, ◌⊎◌}
+use Rattle.std.proofs.Common.{Bool, List, None, Option, Some, [], ap, append-nil, arith, cond, eqb, false, inl, inr, length, not, refl, rules, subst, sym, true, ℕ, ◌&&◌, ◌++◌, ◌+◌, ◌<◌, ◌||◌, ◌∙◌, ◌∷◌, ◌≡◌, ◌≤◌, ◌⊎◌, ⊎_elim, ne_eqb}
 use Rattle.hub_core.proofs.Words.{Acceptance, Action, AgentId, AllByRecursion, Answers, Client, EndId, EndNow, Envelope, Facts, Inside, IsOfEnd, Kind, LineNow, MAX_LINES, Member, Out, Outcome, Phase, Port, Sender, SoundLines}
 use Rattle.hub_core.proofs.Words.{Turned, Worker, and_parts, by, count_in_queue, eqb-false, eqb-true, false≢true, filter-append, hears_notice, holder, is_away_at, is_client, is_distinct, is_here, is_inside, is_queue, is_settled, is_some, is_worker}
-use Rattle.hub_core.proofs.Words.{lines_of, may_enter, named_envelope, named_notice, no_end, no_line, not-true, on_line, option_and_then, peer_of, phase_of_line, poster, poster_of, running, someone_at, speaker, up_to}
+use Rattle.hub_core.proofs.Words.{lines_of, may_enter, named_envelope, named_notice, no_end, no_line, not-true, on_line, option_and_then, peer_of, phase_of_line, poster, poster_of, running, someone_at, speaker, up_to, cases_lt, cases_eq, eq-eqb}
 use Rattle.hub_core.specs.declared.step.Action.TheVariants as action
 use Rattle.hub_core.specs.declared.outcome.Outcome.TheVariants as outcome
 use Rattle.hub_core.proofs.Fitting.{Noticed, Pushed, found_closed_of, found_moved_of, hopped_of, let_in_of, line_got_of, member_made_of, new_ends, none_of_any, noticed_of, pushed_of, queue_made_of}
-use Rattle.hub_core.proofs.Lists.{AllByRecursion-append, eqb_same}
+use Rattle.hub_core.proofs.Lists.{AllByRecursion-append, eqb_same, at_test}
 use Rattle.hub_core.proofs.Nexts.{next}
 
 -- what is said of the lines of an end
@@ -95,10 +95,7 @@ phased f t p x may s = changed_line f t x (λ b y. record y { phase = cond b p y
 
 -- a line that an agent holds is one of its end
 held_line : (f : Facts) (s : Sender) → LinesAt f s.end.0 → is_some (running f (f.line s.end.0 s.line.0).held_by) ≡ true → s.line.0 < lines_of ((f.end s.end.0).kind)
-held_line f s h held = elim (nat_le (lines_of ((f.end s.end.0).kind)) s.line.0) as (λ b. nat_le (lines_of ((f.end s.end.0).kind)) s.line.0 ≡ b → s.line.0 < lines_of ((f.end s.end.0).kind)) [
-  | true ↦ λ past. absurd (false≢true (sym (ap (λ (y : LineNow). is_some (running f y.held_by)) (h.none s.line.0 (leb-true (lines_of ((f.end s.end.0).kind)) s.line.0 past))) ∙ held))
-  | false ↦ λ under. leb-false (lines_of ((f.end s.end.0).kind)) s.line.0 under
-] refl
+held_line f s h held = ⊎_elim (λ under. under) (λ past. absurd (false≢true (sym (ap (λ (y : LineNow). is_some (running f y.held_by)) (h.none s.line.0 past)) ∙ held))) (cases_lt s.line.0 (lines_of ((f.end s.end.0).kind)))
 
 -- a line with a poster is one of its end
 some_line : (f : Facts) (s : Sender) → LinesAt f s.end.0 → (p : Option Kind) → (f.end s.end.0).kind ≡ p → is_some (poster_of f s p) ≡ true → s.line.0 < lines_of p
@@ -187,16 +184,14 @@ only_last (w ∷ vs) [] after v u h is notice = let same : w ≡ u = cc in absur
 only_last (w ∷ vs) (b ∷ before) after v u h is notice = let rest : vs ++ v ∷ [] ≡ before ++ u ∷ after = cc in only_last vs before after v u h.1 rest notice
 
 last_put : (vs : List Envelope) (v : Envelope) (l : ℕ) → (v.line.0 ≡ l → AllByRecursion (λ (w : Envelope). w.notice ≡ false) (by l vs)) → ((before after : List Envelope) (u : Envelope) → by l vs ≡ before ++ u ∷ after → u.notice ≡ true → after ≡ []) → (before after : List Envelope) (u : Envelope) → by l (vs ++ v ∷ []) ≡ before ++ u ∷ after → u.notice ≡ true → after ≡ []
-last_put vs v l plain old before after u is notice = elim (eqb v.line.0 l) as (λ b. eqb v.line.0 l ≡ b → after ≡ []) [
-  | true ↦ λ mine. only_last (by l vs) before after v u (plain (eqb-true v.line.0 l mine)) (sym (by_more l vs v true mine) ∙ is) notice
-  | false ↦ λ other. old before after u (sym (by_more l vs v false other ∙ append-nil (by l vs)) ∙ is) notice
-] refl
+last_put vs v l plain old before after u is notice = ⊎_elim
+    (λ mine. only_last (by l vs) before after v u (plain mine) (sym (by_more l vs v true (eq-eqb v.line.0 l mine)) ∙ is) notice)
+    (λ other. old before after u (sym (by_more l vs v false (ne_eqb v.line.0 l other) ∙ append-nil (by l vs)) ∙ is) notice)
+    (cases_eq v.line.0 l)
 
 messages_put : (vs : List Envelope) (v : Envelope) (l : ℕ) → AllByRecursion (λ (w : Envelope). w.notice ≡ false) (by l vs) → (v.line.0 ≡ l → v.notice ≡ false) → AllByRecursion (λ (w : Envelope). w.notice ≡ false) (by l (vs ++ v ∷ []))
-messages_put vs v l old mine = elim (eqb v.line.0 l) as (λ b. eqb v.line.0 l ≡ b → AllByRecursion (λ (w : Envelope). w.notice ≡ false) (by l (vs ++ v ∷ []))) [
-  | true ↦ λ is. subst (AllByRecursion (λ (w : Envelope). w.notice ≡ false)) (sym (by_more l vs v true is)) (AllByRecursion-append (λ (w : Envelope). w.notice ≡ false) (by l vs) (v ∷ []) old (mine (eqb-true v.line.0 l is), tt))
-  | false ↦ λ is. subst (AllByRecursion (λ (w : Envelope). w.notice ≡ false)) (sym (by_more l vs v false is ∙ append-nil (by l vs))) old
-] refl
+messages_put vs v l old mine = subst (AllByRecursion (λ (w : Envelope). w.notice ≡ false)) (sym (by_more l vs v (eqb v.line.0 l) refl))
+    (AllByRecursion-append (λ (w : Envelope). w.notice ≡ false) (by l vs) (cond (eqb v.line.0 l) (v ∷ []) []) old (at_test (AllByRecursion (λ (w : Envelope). w.notice ≡ false)) (eqb v.line.0 l) (v ∷ []) [] (λ is. (mine (eqb-true v.line.0 l is), tt)) (λ _. tt)))
 
 -- the lines of the end, where at most what was noticed changes
 put_lines : (f : Facts) (s : Sender) (v : Envelope) (x : ℕ) → MayPut f s v → MarksAt f x → x ≡ s.end.0 → (line : ℕ → LineNow) → ((l : ℕ) → lines_of ((f.end x).kind) ≤ l → line l ≡ no_line)
@@ -247,15 +242,12 @@ gone f t x low s = changed_line f t x (λ b y. record y { stand = cond b (y.stan
 
 -- nobody is inside a queue at which nobody is
 pub nobody_inside : (f : Facts) (x k l : ℕ) → LinesAt f x → someone_at f x k ≡ false → (f.line x l).phase ≡ Inside → (f.line x l).stand ≡ k → ⊥
-nobody_inside f x k l s none inside at = elim (nat_lt l (lines_of ((f.end x).kind))) as (λ b. nat_lt l (lines_of ((f.end x).kind)) ≡ b → ⊥) [
-  | true ↦ λ low.
-      let away : is_away_at k (f.line x l) ≡ false = none_of_any (λ i. is_away_at k (f.line x i)) (lines_of ((f.end x).kind)) l none (ltb-true l (lines_of ((f.end x).kind)) low) in
-      let there : is_away_at k (f.line x l) ≡ true = rw (inside, at) (eqb_same k) in
-      false≢true (sym away ∙ there)
-  | false ↦ λ high.
-      let out : Out ≡ Inside = sym (ap (λ (y : LineNow). y.phase) (s.none l (ltb-false l (lines_of ((f.end x).kind)) high))) ∙ inside in
-      absurd (search (rules, out))
-] refl
+nobody_inside f x k l s none inside at = ⊎_elim
+    (λ low.
+    let there : is_away_at k (f.line x l) ≡ true = rw (inside, at) (eqb_same k) in
+    false≢true (sym (none_of_any (λ i. is_away_at k (f.line x i)) (lines_of ((f.end x).kind)) l none low) ∙ there))
+    (λ high. absurd (search (rules, sym (ap (λ (y : LineNow). y.phase) (s.none l high)) ∙ inside)))
+    (cases_lt l (lines_of ((f.end x).kind)))
 
 -- a line inside is at none of the settled queues
 pub inside_unsettled : (f : Facts) (x k l : ℕ) → LinesAt f x → is_settled f x k ≡ true → (f.line x l).phase ≡ Inside → (f.line x l).stand ≡ k → ⊥

@@ -1,12 +1,12 @@
 -- Places stay sound.
-use Rattle.std.proofs.Common.{Bool, List, None, Option, Some, [], ap, arith, cond, eqb, false, inl, inr, ne_eqb, refl, rules, subst, sym, true, ℕ, ◌&&◌, ◌++◌, ◌+◌, ◌-◌, ◌<◌, ◌||◌, ◌∙◌, ◌∷◌, ◌≡◌, ◌≢◌, ◌≤◌, ◌⊎◌}
-use Rattle.hub_core.proofs.Words.{Action, AgentId, Answers, Arrived, Client, EndId, EndNow, Envelope, Facts, Gone, InFlight, Inside, IsNext, Kind, MAX_ENDS, Member, Out, Outcome, Phase, Place, Port, Sender, Sound, SoundPlaces, Swept, Turned, With, Worker, accepted, agents_after, and_parts, arrived, ends, ends_after, eqb-true, false≢true, flights}
-use Rattle.hub_core.proofs.Words.{gone, is_client, is_gone, is_here, is_named, is_out, is_some, is_worker, kind_after, may_enter, named_envelope, named_notice, names, naming, no_end, opened, own_poster_out, peer_of, phase_of_line, place, runs_after, taken, total}
+use Rattle.std.proofs.Common.{Bool, List, None, Option, Some, [], ap, arith, cond, eqb, false, inl, inr, ne_eqb, refl, rules, subst, sym, true, ℕ, ◌&&◌, ◌++◌, ◌+◌, ◌<◌, ◌||◌, ◌∙◌, ◌∷◌, ◌≡◌, ◌≤◌, ◌⊎◌}
+use Rattle.hub_core.proofs.Words.{Action, AgentId, Answers, Arrived, Client, EndId, EndNow, Envelope, Facts, Gone, InFlight, Inside, IsNext, Kind, MAX_ENDS, Member, Out, Outcome, Phase, Place, Port, Sender, Sound, SoundPlaces, Swept, Turned, With, Worker, agents_after, and_parts, arrived, ends_after, eqb-true, false≢true, flights}
+use Rattle.hub_core.proofs.Words.{is_client, is_gone, is_here, is_named, is_out, is_some, is_worker, kind_after, may_enter, named_envelope, named_notice, names, naming, no_end, opened, own_poster_out, peer_of, phase_of_line, runs_after, total}
 use Rattle.hub_core.specs.declared.step.Action.TheVariants as action
 use Rattle.hub_core.specs.declared.outcome.Outcome.TheVariants as outcome
 use Rattle.hub_core.proofs.Away.{kind_next, may_next}
 use Rattle.hub_core.proofs.Fitting.{SweptWith, adopted_of, closed_of, found_closed_of, found_moved_of, got_of, handed_of, let_in_of, member_made_of, new_agent, new_ends, noticed_of, pushed_of, queue_made_of, started_of, swept_of, went_on_of}
-use Rattle.hub_core.proofs.Lists.{eqb_same}
+use Rattle.hub_core.proofs.Lists.{eqb_same, at_test}
 use Rattle.hub_core.proofs.Moves.{GoesTo, came, dropped, goes_to, handed_on, new, one_made, sent, shut, stays, taken_up, unmade_end, unmade_one}
 use Rattle.hub_core.proofs.Nexts.{next}
 use Rattle.hub_core.proofs.Speakers.{HoldsLine, SomeCasts, Speaks, closed_made, entangled_made, heard_of, holder_made, made_of, named_count, nothing_accepted, nothing_removed, old_end, old_one, placed_made, queue_is_made, running_made, runs_there, same_sender, speaks_of, swept_flies, swept_total, swept_within, taken_flies, travels, unnamed_count}
@@ -90,8 +90,7 @@ no_flight (Some InFlight) h = absurd (false≢true h)
 no_flight _ h = refl
 
 same_flights : (b : Bool) (q p : Option Place) → flights q ≡ 0 → (b ≡ true → flights p ≡ 0) → flights (cond b q p) ≡ flights p
-same_flights true q p none landed = none ∙ sym (landed refl)
-same_flights false q p none landed = refl
+same_flights b q p none landed = at_test (λ r. flights r ≡ flights p) b q p (λ is. none ∙ sym (landed is)) (λ _. refl)
 
 -- one end goes from a place that is no flight to another
 placed_flights : (f : Facts) (x e : ℕ) (q : Option Place) → SoundPlaces f → flights q ≡ 0 → flights ((f.end e).place) ≡ 0 → total (λ d. naming x (f.accepted d)) f.ends ≡ total (λ d. naming x (f.taken d ++ f.discarded d)) f.ends + flights (cond (eqb x e) q (f.end x).place)
@@ -169,12 +168,6 @@ one_peers f b k e h alone first x y false is at =
 
 -- ---- each part, after every pair that fits
 
-known : (f : Facts) (a b : AgentId) → b.0 < f.agents → Some (With b) ≡ Some (With a) → a.0 < f.agents
-known f a b there is = let same : b ≡ a = cc in subst (λ (c : AgentId). c.0 < f.agents) same there
-
-known_there : (f : Facts) (a b : AgentId) → b.0 < f.agents → Some (Arrived b) ≡ Some (Arrived a) → a.0 < f.agents
-known_there f a b there is = let same : b ≡ a = cc in subst (λ (c : AgentId). c.0 < f.agents) same there
-
 few_next : (f : Facts) (refused : Bool) (o : Outcome) (a : Action) → Answers f a refused o → f.ends ≤ MAX_ENDS → ends_after f.ends o a ≤ MAX_ENDS
 few_next f refused (outcome.Ends e e') (action.Channel a) fits few = (new_ends f a refused e e' fits).3
 few_next f refused (outcome.End e) (action.Client a) fits few = (queue_made_of f is_client a refused e fits).few
@@ -190,11 +183,7 @@ agents_next : (f : Facts) (refused : Bool) → SoundPlaces f → (o : Outcome) (
 agents_next f refused h (outcome.Agent n) (action.Agent origin) fits x past =
     let number : n.0 ≡ f.agents = new_agent f refused n fits in
     ap (λ b. cond b true (f.agent x).runs) (ne_eqb x n.0 (λ same. omega arith)) ∙ h.agents x (omega arith)
-agents_next f refused h (outcome.Ending es) (action.See a) fits x past = rests (eqb x a.0) (f.agent x).runs (h.agents x past)
-  where
-    rests : (b r : Bool) → r ≡ false → cond b false r ≡ false
-    rests true r none = refl
-    rests false r none = none
+agents_next f refused h (outcome.Ending es) (action.See a) fits x past = at_test (λ r. r ≡ false) (eqb x a.0) false (f.agent x).runs (λ _. refl) (λ _. h.agents x past)
 agents_next f refused h o a fits x past = h.agents x past
 
 peers_next : (f : Facts) (refused : Bool) → SoundPlaces f → (o : Outcome) (a : Action) → Answers f a refused o → (x y : ℕ) → peer_of (kind_after x (f.end x).kind o a) ≡ Some y → (y < ends_after f.ends o a) × (peer_of (kind_after y (f.end y).kind o a) ≡ Some x)
@@ -233,36 +222,28 @@ none_next f refused h outcome.Done (action.Close e) fits x past =
     none_else f e.0 x (λ b. record (f.end x) { closed = cond b true (f.end x).closed; place = cond b (Some Gone) (f.end x).place }) (made_of f e.0 h.places.ends (λ none. false≢true (sym (ap (λ (d : EndNow). is_here d.place) none) ∙ (closed_of f e fits).here))) past (h.places.ends x past)
 none_next f refused h o a fits x past = h.places.ends x past
 
-with_next : (f : Facts) (x : ℕ) (p : Option Place) (c : Bool) → SoundPlaces f → GoesTo f x p c → (a : AgentId) → p ≡ Some (With a) → a.0 < f.agents
-with_next f x p c h (stays is _) a at = h.with_made x a (sym is ∙ at)
-with_next f x p c h (new b is _ none runs) a at = known f a b (running_made f b h runs) (sym is ∙ at)
-with_next f x p c h (sent b is _ was out) a at = absurd (search (rules, sym is ∙ at))
-with_next f x p c h (came b is _ was known) a at = absurd (search (rules, sym is ∙ at))
-with_next f x p c h (taken_up b is _ was runs) a at = known f a b (running_made f b h runs) (sym is ∙ at)
-with_next f x p c h (handed_on b d is _ was queue known) a at = absurd (search (rules, sym is ∙ at))
-with_next f x p c h (dropped is _ was) a at = absurd (search (rules, sym is ∙ at))
-with_next f x p c h (shut is _ here free) a at = absurd (search (rules, sym is ∙ at))
+-- what holds of an end at this place: the agent was made; and what is in flight is a port that was made
+abbrev Lands : Facts → ℕ → Option Place → Type 0
+Lands f x (Some (With a)) = a.0 < f.agents
+Lands f x (Some (Arrived a)) = a.0 < f.agents
+Lands f x (Some InFlight) = (x < f.ends) × (is_some (peer_of (f.end x).kind) ≡ true)
+Lands f x _ = Unit {0}
 
-arrived_next : (f : Facts) (x : ℕ) (p : Option Place) (c : Bool) → SoundPlaces f → GoesTo f x p c → (a : AgentId) → p ≡ Some (Arrived a) → a.0 < f.agents
-arrived_next f x p c h (stays is _) a at = h.arrived_made x a (sym is ∙ at)
-arrived_next f x p c h (new b is _ none runs) a at = absurd (search (rules, sym is ∙ at))
-arrived_next f x p c h (sent b is _ was out) a at = absurd (search (rules, sym is ∙ at))
-arrived_next f x p c h (came b is _ was there) a at = known_there f a b there (sym is ∙ at)
-arrived_next f x p c h (taken_up b is _ was runs) a at = absurd (search (rules, sym is ∙ at))
-arrived_next f x p c h (handed_on b d is _ was queue there) a at = known_there f a d there (sym is ∙ at)
-arrived_next f x p c h (dropped is _ was) a at = absurd (search (rules, sym is ∙ at))
-arrived_next f x p c h (shut is _ here free) a at = absurd (search (rules, sym is ∙ at))
+landed_at : (f : Facts) (x : ℕ) → SoundPlaces f → (p : Option Place) → (f.end x).place ≡ p → Lands f x p
+landed_at f x h (Some (With a)) is = h.with_made x a is
+landed_at f x h (Some (Arrived a)) is = h.arrived_made x a is
+landed_at f x h (Some InFlight) is = (placed_made f x InFlight h is, h.flying x is)
+landed_at f x h _ is = tt
 
--- a port that is in flight then is one now, and was made
-flew : (f : Facts) (x : ℕ) (p : Option Place) (c : Bool) → SoundPlaces f → GoesTo f x p c → p ≡ Some InFlight → (x < f.ends) × (is_some (peer_of (f.end x).kind) ≡ true)
-flew f x p c h (stays is _) at = let was = sym is ∙ at in (placed_made f x InFlight h was, h.flying x was)
-flew f x p c h (new b is _ none runs) at = absurd (search (rules, sym is ∙ at))
-flew f x p c h (sent b is _ was out) at = (placed_made f x (With b) h was, some_own f (peer_of (f.end x).kind) out)
-flew f x p c h (came b is _ was there) at = absurd (search (rules, sym is ∙ at))
-flew f x p c h (taken_up b is _ was runs) at = absurd (search (rules, sym is ∙ at))
-flew f x p c h (handed_on b d is _ was queue there) at = absurd (search (rules, sym is ∙ at))
-flew f x p c h (dropped is _ was) at = absurd (search (rules, sym is ∙ at))
-flew f x p c h (shut is _ here free) at = absurd (search (rules, sym is ∙ at))
+lands : (f : Facts) (x : ℕ) (p : Option Place) (c : Bool) → SoundPlaces f → GoesTo f x p c → Lands f x p
+lands f x p c h (stays is _) = landed_at f x h p (sym is)
+lands f x p c h (new b is _ none runs) = subst (Lands f x) (sym is) (running_made f b h runs)
+lands f x p c h (sent b is _ was out) = subst (Lands f x) (sym is) (placed_made f x (With b) h was, some_own f (peer_of (f.end x).kind) out)
+lands f x p c h (came b is _ was made) = subst (Lands f x) (sym is) made
+lands f x p c h (taken_up b is _ was runs) = subst (Lands f x) (sym is) (running_made f b h runs)
+lands f x p c h (handed_on b d is _ was queue made) = subst (Lands f x) (sym is) made
+lands f x p c h (dropped is _ was) = subst (Lands f x) (sym is) tt
+lands f x p c h (shut is _ here free) = subst (Lands f x) (sym is) tt
 
 gone_next : (f : Facts) (x : ℕ) (p : Option Place) (c : Bool) → SoundPlaces f → GoesTo f x p c → c ≡ is_gone p
 gone_next f x p c h (stays is same) = same ∙ h.gone x ∙ sym (ap is_gone is)
@@ -274,17 +255,12 @@ gone_next f x p c h (handed_on b d is same was queue there) = same ∙ h.gone x 
 gone_next f x p c h (dropped is same was) = same ∙ h.gone x ∙ ap is_gone was ∙ sym (ap is_gone is)
 gone_next f x p c h (shut is same here free) = same ∙ sym (ap is_gone is)
 
--- a line that is away after another one was left was away
-was_away : (b : Bool) (p : Phase) → is_out (cond b Out p) ≡ false → is_out p ≡ false
-was_away true p h = absurd (false≢true (sym h))
-was_away false p h = h
-
 away_next : (f : Facts) (refused : Bool) → Sound f → (o : Outcome) (a : Action) → Answers f a refused o → (s : Sender) → is_out (phase_of_line (next f a o) s) ≡ false → may_enter (next f a o) s ≡ true
 away_next f refused h outcome.In (action.Enter t) fits s away = away_entered f s t Inside h.places (let_in_of f t fits).0.may (eqb s.end.0 t.end.0 && eqb s.line.0 t.line.0) refl away
 away_next f refused h outcome.Moved (action.Enter t) fits s away = away_entered f s t Turned h.places (found_moved_of f t fits).0.may (eqb s.end.0 t.end.0 && eqb s.line.0 t.line.0) refl away
 away_next f refused h outcome.Closed (action.Enter t) fits s away = away_entered f s t Turned h.places (found_closed_of f t fits).0.may (eqb s.end.0 t.end.0 && eqb s.line.0 t.line.0) refl away
 away_next f refused h outcome.Left (action.Leave t) fits s away =
-    let before : is_out (phase_of_line f s) ≡ false = was_away (eqb s.end.0 t.end.0 && eqb s.line.0 t.line.0) (phase_of_line f s) away in
+    let before : is_out (phase_of_line f s) ≡ false = at_test (λ p. is_out p ≡ false → is_out (phase_of_line f s) ≡ false) (eqb s.end.0 t.end.0 && eqb s.line.0 t.line.0) Out (phase_of_line f s) (λ _ no. absurd (false≢true (sym no))) (λ _ still. still) away in
     may_next f refused h outcome.Left (action.Leave t) fits s before away (h.places.away s before)
 away_next f refused h o a fits s away = may_next f refused h o a fits s away away (h.places.away s away)
 
@@ -319,10 +295,10 @@ places_next f refused h o a fits =
       ends = none_next f refused h o a fits;
       agents = agents_next f refused h.places o a fits;
       peers = peers_next f refused h.places o a fits;
-      with_made = λ x b is. let there : b.0 < f.agents = with_next f x _ _ h.places (goes x) b is in omega arith;
-      arrived_made = λ x b is. let there : b.0 < f.agents = arrived_next f x _ _ h.places (goes x) b is in omega arith;
+      with_made = λ x b is. let there : b.0 < f.agents = subst (Lands f x) is (lands f x _ _ h.places (goes x)) in omega arith;
+      arrived_made = λ x b is. let there : b.0 < f.agents = subst (Lands f x) is (lands f x _ _ h.places (goes x)) in omega arith;
       away = away_next f refused h o a fits;
-      flying = λ x is. let was = flew f x _ _ h.places (goes x) is in ap (λ k. is_some (peer_of k)) (kind_next f refused o a fits x was.0) ∙ was.1;
+      flying = λ x is. let was : Lands f x (Some InFlight) = subst (Lands f x) is (lands f x _ _ h.places (goes x)) in ap (λ k. is_some (peer_of k)) (kind_next f refused o a fits x was.0) ∙ was.1;
       gone = λ x. gone_next f x _ _ h.places (goes x);
       flights = flights_next f refused h o a fits;
     }

@@ -1,8 +1,8 @@
 -- Who posts on a line, who may enter, and which ports are in flight.
-use Rattle.std.proofs.Common.{Bool, List, None, Option, Some, [], ap, append-nil, append_assoc, arith, cond, eqb, false, inl, inr, leb-false, leb-true, length, nat_le, ne_eqb, not, refl, rules, subst, sym, true, ℕ, ◌&&◌, ◌++◌, ◌+◌, ◌<◌, ◌||◌, ◌∙◌, ◌∷◌, ◌≡◌, ◌≤◌, ◌⊎◌}
+use Rattle.std.proofs.Common.{Bool, List, None, Option, Some, [], ap, append-nil, append_assoc, arith, cond, eqb, false, inl, inr, length, ne_eqb, not, refl, rules, subst, sym, true, ℕ, ◌&&◌, ◌++◌, ◌+◌, ◌<◌, ◌||◌, ◌∙◌, ◌∷◌, ◌≡◌, ◌≤◌, ◌⊎◌, ⊎_elim}
 use Rattle.hub_core.proofs.Words.{AgentId, AllByRecursion, CastNow, Client, EndId, EndNow, Envelope, Facts, InFlight, IsAllWaiting, IsNext, IsOfEnd, Kind, LineNow, Member, Out, Place, Port, Prefix, Sender, Sound, SoundPlaces, With, Worker, and_parts, by, eqb-true}
 use Rattle.hub_core.proofs.Words.{false≢true, filter, flights, has_poster, has_poster_of, hears_notice, holder, is_at, is_first, is_here, is_holder, is_named, is_out, is_queue, is_released, is_some, is_with, lines_of, list_all, maker_of, may_enter, may_leave_agent}
-use Rattle.hub_core.proofs.Words.{names, naming, no_end, on_line, opened, option_and_then, or_right, own_line_plain, own_poster_out, peer_of, phase_of_line, place, poster, poster_of, running, running_at, speaker_in, total}
+use Rattle.hub_core.proofs.Words.{names, naming, no_end, on_line, opened, option_and_then, or_right, own_line_plain, own_poster_out, peer_of, phase_of_line, place, poster, poster_of, running, running_at, speaker_in, total, cases_lt}
 use Rattle.hub_core.proofs.Fitting.{SweptWith}
 use Rattle.hub_core.proofs.Lists.{eqb_same}
 use Rattle.hub_core.proofs.SoundLines.{LinesAt, line_there}
@@ -13,10 +13,7 @@ use Rattle.hub_core.proofs.Totals.{bit, count, count_append, count_lines, count_
 
 -- an end of which something is known was made
 pub made_of : (f : Facts) (x : ℕ) → ((y : ℕ) → f.ends ≤ y → f.end y ≡ no_end) → (f.end x ≡ no_end → ⊥) → x < f.ends
-made_of f x none known = elim (nat_le f.ends x) as (λ b. nat_le f.ends x ≡ b → x < f.ends) [
-  | true ↦ λ past. absurd (known (none x (leb-true f.ends x past)))
-  | false ↦ λ below. leb-false f.ends x below
-] refl
+made_of f x none known = ⊎_elim (λ below. below) (λ past. absurd (known (none x past))) (cases_lt x f.ends)
 
 pub placed_made : (f : Facts) (x : ℕ) (p : Place) → SoundPlaces f → (f.end x).place ≡ Some p → x < f.ends
 placed_made f x p s is = made_of f x s.ends (λ none. absurd (search (rules, sym (ap (λ (e : EndNow). e.place) none) ∙ is)))
@@ -244,10 +241,6 @@ own_out f s q line out peer =
     let first : is_out ((f.line s.end.0 0).phase) ≡ true = subst (λ p. own_poster_out f p ≡ true) peer out in
     subst (λ l. is_out ((f.line s.end.0 l).phase) ≡ true) (sym line) first
 
-pub still_runs : (b r : Bool) → r ≡ true → cond b true r ≡ true
-still_runs true r h = refl
-still_runs false r h = h
-
 below : (x n : ℕ) → x < n → (eqb x n ≡ false) × (eqb x (n + 1) ≡ false)
 below x n less = (ne_eqb x n (λ is. omega arith), ne_eqb x (n + 1) (λ is. omega arith))
 
@@ -262,10 +255,7 @@ holder_made f e s h = let there = runs_there f (f.end e).place h in placed_made 
 
 -- an agent that runs was made
 pub running_made : (f : Facts) (a : AgentId) → SoundPlaces f → (f.agent a.0).runs ≡ true → a.0 < f.agents
-running_made f a h runs = elim (nat_le f.agents a.0) as (λ c. nat_le f.agents a.0 ≡ c → a.0 < f.agents) [
-  | true ↦ λ past. absurd (false≢true (sym (h.agents a.0 (leb-true f.agents a.0 past)) ∙ runs))
-  | false ↦ λ under. leb-false f.agents a.0 under
-] refl
+running_made f a h runs = ⊎_elim (λ under. under) (λ past. absurd (false≢true (sym (h.agents a.0 past) ∙ runs))) (cases_lt a.0 f.agents)
 
 -- the number of a new end is not that of an end that was made
 pub old_one : (f : Facts) (e : EndId) (x : ℕ) → e ≡ record { 0 = f.ends } → x < f.ends → eqb x e.0 ≡ false
@@ -274,11 +264,6 @@ old_one f e x first less = ap (λ (d : EndId). eqb x d.0) first ∙ ne_eqb x f.e
 -- a queue was made
 pub queue_is_made : (f : Facts) (x : ℕ) → SoundPlaces f → is_queue (f.end x).kind ≡ true → x < f.ends
 queue_is_made f x s is = made_of f x s.ends (λ none. false≢true (sym (ap (λ (e : EndNow). is_queue e.kind) none) ∙ is))
-
--- an agent that isn't the one that ends runs on
-pub runs_on : (b r : Bool) → (b ≡ true → ⊥) → r ≡ true → cond b false r ≡ true
-runs_on true r never h = absurd (never refl)
-runs_on false r never h = h
 
 -- the poster of a port's line is that of the agent that has the port
 pub port_owned : (f : Facts) (a : AgentId) (s : Sender) (k : Speaks f s) → k.agent.0 ≡ a.0 → has_poster f a s.end.0 s.line.0 ≡ true

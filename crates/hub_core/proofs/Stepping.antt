@@ -1,5 +1,5 @@
 -- From what the parts of the core did to the clauses of a step.
-use Rattle.std.proofs.Common.{◌≡◌, Some, None, Result, Ok, Err, refl, IfOk}
+use Rattle.std.proofs.Common.{◌≡◌, Some, Result, Ok, Err, refl, IfOk}
 use Rattle.hub_core.proofs.Words.{AgentId, Client, Worker, CoreState, core_after, queue_core, Outcome}
 use Rattle.hub_core.specs.declared.step.Action.TheVariants as action
 use Rattle.hub_core.specs.declared.outcome.Outcome.TheVariants as outcome

@@ -1,6 +1,6 @@
 -- Sums over numbers, and counts of envelopes line by line.
-use Rattle.std.proofs.Common.{Bool, List, [], ap, arith, cond, eqb, false, length, length-append, refl, rules, subst, suc, sym, true, zero, ℕ, ◌++◌, ◌+◌, ◌-◌, ◌<◌, ◌∙◌, ◌∷◌, ◌≡◌, ◌≤◌}
-use Rattle.hub_core.proofs.Words.{AllByRecursion, Envelope, Prefix, by, filter, filter-append, nat_tests, taken, total}
+use Rattle.std.proofs.Common.{Bool, List, [], ap, arith, cond, eqb, false, length, length-append, refl, rules, subst, suc, sym, true, zero, ℕ, ◌++◌, ◌+◌, ◌<◌, ◌∙◌, ◌∷◌, ◌≡◌, ◌≤◌, ⊎_elim}
+use Rattle.hub_core.proofs.Words.{AllByRecursion, Envelope, Prefix, by, filter, filter-append, nat_tests, total, cases_eq}
 use Rattle.hub_core.proofs.Lists.{AllByRecursion-weaker, eqb_same}
 
 pub total_same : (w u : ℕ → ℕ) (n : ℕ) → ((e : ℕ) → e < n → u e ≡ w e) → total u n ≡ total w n
@@ -23,19 +23,16 @@ last_not e n below other = grind (arith, nat_tests)
 -- one term grows
 pub total_more : (w u : ℕ → ℕ) (n e k : ℕ) → e < n → u e ≡ w e + k → ((d : ℕ) → (d ≡ e → ⊥) → u d ≡ w d) → total u n ≡ total w n + k
 total_more w u zero e k below here others = absurd (omega arith)
-total_more w u (suc n) e k below here others = elim (eqb e n) as (λ b. eqb e n ≡ b → total u n + u n ≡ (total w n + w n) + k) [
-  | true ↦ λ t.
-      let same : e ≡ n = search (rules, t) in
-      let last : u n ≡ w n + k = subst (λ m. u m ≡ w m + k) same here in
-      let rest : total u n ≡ total w n = total_same w u n (λ d less. others d (λ is. let no : d ≡ n = is ∙ same in omega arith)) in
-      omega arith
-  | false ↦ λ t.
-      let other : e ≡ n → ⊥ = search (rules, t) in
-      let before : e < n = last_not e n below other in
-      let last : u n ≡ w n = others n (λ is. other (sym is)) in
-      let rest : total u n ≡ total w n + k = total_more w u n e k before here others in
-      omega arith
-] refl
+total_more w u (suc n) e k below here others = ⊎_elim
+    (λ same.
+    let last : u n ≡ w n + k = subst (λ m. u m ≡ w m + k) same here in
+    let rest : total u n ≡ total w n = total_same w u n (λ d less. others d (λ is. let no : d ≡ n = is ∙ same in omega arith)) in
+    omega arith)
+    (λ other.
+    let last : u n ≡ w n = others n (λ is. other (sym is)) in
+    let rest : total u n ≡ total w n + k = total_more w u n e k (last_not e n below other) here others in
+    omega arith)
+    (cases_eq e n)
 
 -- the numbers that come behind add nothing
 pub total_past : (w : ℕ → ℕ) (n k : ℕ) → ((i : ℕ) → n ≤ i → w i ≡ 0) → total w (n + k) ≡ total w n

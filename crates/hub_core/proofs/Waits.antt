@@ -1,6 +1,6 @@
 -- What waits at an end, queue by queue and line by line.
-use Rattle.std.proofs.Common.{◌≡◌, ℕ, ◌<◌, ◌≤◌, Bool, true, false, cond, eqb, List, [], ◌∷◌, ◌++◌, refl, sym, ap, subst, ◌∙◌, arith, rules, append-nil, append_assoc, nat_lt, ne_eqb, ltb-true, ltb-false}
-use Rattle.hub_core.proofs.Words.{filter, AllByRecursion, eqb-true, eqb-false, nat_tests, append_cancel_left, filter-append, Envelope, by, in_queue, Prefix, Rises}
+use Rattle.std.proofs.Common.{◌≡◌, ℕ, ◌<◌, ◌≤◌, Bool, true, false, cond, eqb, List, [], ◌∷◌, ◌++◌, refl, sym, ap, subst, ◌∙◌, arith, rules, append-nil, append_assoc, ne_eqb, ⊎_elim}
+use Rattle.hub_core.proofs.Words.{filter, AllByRecursion, eqb-true, eqb-false, nat_tests, append_cancel_left, filter-append, Envelope, by, in_queue, Prefix, Rises, cases_lt}
 use Rattle.hub_core.proofs.Lists.{eqb_same}
 
 -- ---- filters
@@ -65,12 +65,10 @@ first_of u xs false h = (refl, h)
 pub from_queue : (t : ℕ) (rs : List Envelope) → ((k : ℕ) → k < t → in_queue k rs ≡ []) → AllByRecursion (λ (u : Envelope). t ≤ u.epoch) rs
 from_queue t [] h = tt
 from_queue t (u ∷ rs) h = (
-  elim (nat_lt u.epoch t) as (λ b. nat_lt u.epoch t ≡ b → t ≤ u.epoch) [
-    | true ↦ λ is.
-        let none = first_of u (in_queue u.epoch rs) (eqb u.epoch u.epoch) (h u.epoch (ltb-true u.epoch t is)) in
-        absurd (search (rules, sym (eqb_same u.epoch) ∙ none.0))
-    | false ↦ λ is. ltb-false u.epoch t is
-  ] refl,
+  ⊎_elim
+      (λ less. absurd (search (rules, sym (eqb_same u.epoch) ∙ (first_of u (in_queue u.epoch rs) (eqb u.epoch u.epoch) (h u.epoch less)).0)))
+      (λ from. from)
+      (cases_lt u.epoch t),
   from_queue t rs (λ k less. (first_of u (in_queue k rs) (eqb u.epoch k) (h k less)).1),
 )
 
