@@ -6,7 +6,7 @@ use Rattle.hub_core.proofs.Words.{nat_tests, is_some, AgentId, EndId, Agent, End
 use Rattle.hub_core.proofs.Words.{part_outcome, group_of, is_seated_in, kept_destinations, destinations_of, cast_to}
 use Rattle.hub_core.specs.declared.step.Action.TheVariants as action
 use Rattle.hub_core.specs.declared.outcome.Outcome.TheVariants as outcome
-use Rattle.hub_core.proofs.Showing.{SoundlyShows, with_roster, plainly}
+use Rattle.hub_core.proofs.Showing.{SoundlyShows, with_roster}
 use Rattle.hub_core.proofs.Casts.{seated_kept, recast, destinations_by}
 use Rattle.hub_core.proofs.Frames.{Stepped}
 use Rattle.hub_core.proofs.Seeing.{Sees, seen_is}
@@ -30,7 +30,7 @@ cast_fits c f e ports h =
 
 pub cast_changes : (c : CoreState) (f : Facts) (e : EndId) (ports : List EndId) (body : List ℕ) (refused : Bool) {o : Outcome} → Sees c f → o ≡ cast_answer f e ports → Change (action.Cast e ports body) o → ShownWith c f (action.Cast e ports body) refused o
 cast_changes c f e ports body refused h answer (cast_begun d ps b ends) = (
-  record { fits = answer; shows = with_roster (next f (action.Cast e ports body) (outcome.Destinations ends)).roster (plainly h.shows) },
+  record { fits = answer; shows = with_roster (next f (action.Cast e ports body) (outcome.Destinations ends)).roster h.shows.shown },
   recast c.roster (cast_to e body ends) f (next f (action.Cast e ports body) (outcome.Destinations ends)) h.roster refl (λ x. refl) refl refl,
 )
 
@@ -40,7 +40,7 @@ pub part_answered : (r : Roster) (f : Facts) (e : EndId) → ShowsRoster r f →
 part_answered r f e w = ap (λ b. part_outcome (b && not (is_some r.cast))) (seated_kept r f e.0 w) ∙ ap (λ b. part_outcome (has_end e.0 f.roster.members && not b)) (ap is_some (sym w.cast))
 
 pub part_shown : (agents : List Agent) (ends : List End) (f : Facts) (e : EndId) (refused : Bool) → SoundlyShows agents ends f → outcome.Done ≡ part_answer f e → Stepped agents ends f (action.Part e) refused outcome.Done
-part_shown agents ends f e refused h answer = record { fits = answer; shows = with_roster (next f (action.Part e) outcome.Done).roster (plainly h) }
+part_shown agents ends f e refused h answer = record { fits = answer; shows = with_roster (next f (action.Part e) outcome.Done).roster h.shown }
 
 -- a cast that passes each test goes to the destinations
 pub cast_goes : (m : Option AgentId) (casting seated shut none : Bool) (p : Option AgentId) (ds es : List EndId) → is_some m ≡ true → casting ≡ false → seated ≡ true → shut ≡ true → is_some p ≡ true → none ≡ true → ds ≡ es → outcome.Destinations ds ≡ kept_cast_answer (is_some m && not casting) (seated && shut) p none es

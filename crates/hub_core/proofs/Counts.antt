@@ -16,8 +16,8 @@ pub record Counted (agents : List Agent) (f : Facts) : Type 0 where
   pub workers : (a : AgentId) → kept_workers (slice_get agents a.0) ≡ count_with is_worker a f
   pub away : (a : AgentId) → kept_away (slice_get agents a.0) ≡ count_away a f
 
-pub counts_of : (agents : List Agent) (ends : List End) (f : Facts) → SoundlyShows agents ends f → Counted agents f
-counts_of agents ends f h = record { clients = h.clients; workers = h.workers; away = h.away }
+pub counts_of : {agents : List Agent} {ends : List End} {f : Facts} → SoundlyShows agents ends f → Counted agents f
+counts_of h = record { clients = h.clients; workers = h.workers; away = h.away }
 
 -- whether the agent has the end, and its kind passes the test
 abbrev pub counts_at : (Option Kind → Bool) → AgentId → EndNow → Bool
@@ -282,8 +282,8 @@ come_count kept test by k b agents a known =
 -- ---- what steps make of the counts
 
 -- no end changes in what is counted
-pub counted_same : (agents : List Agent) (f g : Facts) → g.ends ≡ f.ends → ((a : AgentId) (d : ℕ) → counts_at is_client a (g.end d) ≡ counts_at is_client a (f.end d)) → ((a : AgentId) (d : ℕ) → counts_at is_worker a (g.end d) ≡ counts_at is_worker a (f.end d)) → ((a : AgentId) (x : ℕ) → x < f.ends → IsCalmAt a f g x) → Counted agents f → Counted agents g
-counted_same agents f g ends clients workers calm h = record {
+pub counted_same : {agents : List Agent} {f g : Facts} → g.ends ≡ f.ends → ((a : AgentId) (d : ℕ) → counts_at is_client a (g.end d) ≡ counts_at is_client a (f.end d)) → ((a : AgentId) (d : ℕ) → counts_at is_worker a (g.end d) ≡ counts_at is_worker a (f.end d)) → ((a : AgentId) (x : ℕ) → x < f.ends → IsCalmAt a f g x) → Counted agents f → Counted agents g
+counted_same {f = f} {g = g} ends clients workers calm h = record {
   clients = λ a. h.clients a ∙ sym (count_same is_client a f g ends (clients a));
   workers = λ a. h.workers a ∙ sym (count_same is_worker a f g ends (workers a));
   away = λ a. h.away a ∙ sym (away_same a f g ends (calm a));
@@ -302,11 +302,11 @@ no_worker : (k : Option Kind) → is_some (peer_of k) ≡ true → is_worker k �
 no_worker (Some Worker) h = absurd (false≢true h)
 no_worker _ h = refl
 
-pub counts_still : (agents : List Agent) (ends : List End) (f g : Facts) → SoundlyShows agents ends f → g.ends ≡ f.ends → ((d : ℕ) → (g.end d).kind ≡ (f.end d).kind) → ((d : ℕ) → (g.end d).place ≡ (f.end d).place) → ((a : AgentId) (d l : ℕ) → is_away_of g a d l ≡ is_away_of f a d l) → Counted agents g
-counts_still agents ends f g h same kinds places calm = counted_same agents f g same (λ a d. rw (kinds d, places d) refl) (λ a d. rw (kinds d, places d) refl) (λ a x less. (ap lines_of (kinds x), calm a x)) (counts_of agents ends f h)
+pub counts_still : {agents : List Agent} {ends : List End} {f g : Facts} → SoundlyShows agents ends f → g.ends ≡ f.ends → ((d : ℕ) → (g.end d).kind ≡ (f.end d).kind) → ((d : ℕ) → (g.end d).place ≡ (f.end d).place) → ((a : AgentId) (d l : ℕ) → is_away_of g a d l ≡ is_away_of f a d l) → Counted agents g
+counts_still h same kinds places calm = counted_same same (λ a d. rw (kinds d, places d) refl) (λ a d. rw (kinds d, places d) refl) (λ a x less. (ap lines_of (kinds x), calm a x)) (counts_of h)
 
-pub counted_ports : (agents : List Agent) (f g : Facts) (moved : ℕ → Bool) (place : ℕ → Option Place) → g.ends ≡ f.ends → ((d : ℕ) → (g.end d).kind ≡ (f.end d).kind) → ((d : ℕ) → (g.end d).place ≡ cond (moved d) (place d) (f.end d).place) → ((d : ℕ) → moved d ≡ true → is_some (peer_of (f.end d).kind) ≡ true) → ((a : AgentId) (x : ℕ) → x < f.ends → IsCalmAt a f g x) → Counted agents f → Counted agents g
-counted_ports agents f g moved place ends kinds places ports calm h = counted_same agents f g ends
+pub counted_ports : {agents : List Agent} {f g : Facts} (moved : ℕ → Bool) (place : ℕ → Option Place) → g.ends ≡ f.ends → ((d : ℕ) → (g.end d).kind ≡ (f.end d).kind) → ((d : ℕ) → (g.end d).place ≡ cond (moved d) (place d) (f.end d).place) → ((d : ℕ) → moved d ≡ true → is_some (peer_of (f.end d).kind) ≡ true) → ((a : AgentId) (x : ℕ) → x < f.ends → IsCalmAt a f g x) → Counted agents f → Counted agents g
+counted_ports {f = f} moved place ends kinds places ports calm h = counted_same ends
     (λ a d. rw (kinds d, places d) (moved_port is_client no_client a (moved d) (place d) (f.end d).place (f.end d).kind (ports d)))
     (λ a d. rw (kinds d, places d) (moved_port is_worker no_worker a (moved d) (place d) (f.end d).place (f.end d).kind (ports d))) calm h
 

@@ -13,7 +13,7 @@ use Rattle.hub_core.proofs.Calms.{calm_landed}
 use Rattle.hub_core.proofs.Changing.{ShownAfter, found_end}
 use Rattle.hub_core.proofs.Counts.{counted_ports, counts_of, counts_still}
 use Rattle.hub_core.proofs.Fitting.{any_of, each_of, got_of, miss, none_of_any, pass, started_of, swept_of, went_on_of}
-use Rattle.hub_core.proofs.Frames.{ShownAt, Stepped, changed, end_changed, end_restated}
+use Rattle.hub_core.proofs.Frames.{ShownAt, Stepped, changed, end_changed, end_restated, same_queues}
 use Rattle.hub_core.proofs.Lists.{AllByRecursion-append, AllByRecursion-weaker, below_last, each_changed, eqb_same, get_or-set_other, get_or-set_same, is_there, or_none, or_third, or_true}
 use Rattle.hub_core.proofs.Nexts.{Change, cleared, end_swept, got, next, started, went_on}
 use Rattle.hub_core.proofs.Sending.{Moves, moved_end, moved_shown, moves_of, moves_to}
@@ -110,8 +110,8 @@ length-drop : (queues : List (List Envelope)) (n : ℕ) → length queues ≡ n 
 length-drop [] n is = absurd (omega (arith, is))
 length-drop (q ∷ qs) n is = omega (arith, is)
 
-advanced_queues : (line : ℕ → LineNow) (clear : ℕ → Bool) (vs ts : List Envelope) (x : End) → x.is_closed ≡ false → x.taker < x.newest → get_or x.queues 0 [] ≡ [] → KeepsQueues line clear vs ts x → KeepsQueues line clear vs ts (advanced_end x)
-advanced_queues line clear vs ts x opened low empty h =
+advanced_queues : {line : ℕ → LineNow} {clear : ℕ → Bool} {vs ts : List Envelope} (x : End) → x.is_closed ≡ false → x.taker < x.newest → get_or x.queues 0 [] ≡ [] → KeepsQueues line clear vs ts x → KeepsQueues line clear vs ts (advanced_end x)
+advanced_queues {line = line} {vs = vs} {ts = ts} x opened low empty h =
     let many : x.taker + length x.queues ≡ x.newest + 1 = h.count opened in
     let rest : length x.queues ≡ (x.newest - x.taker) + 1 = omega arith in
     let fewer : length (drop 1 x.queues) ≡ x.newest - x.taker = length-drop x.queues (x.newest - x.taker) rest in
@@ -131,14 +131,8 @@ advanced_queues line clear vs ts x opened low empty h =
           subst (λ j. in_queue j vs ≡ in_queue j ts ++ get_or x.queues (suc i) []) shift (h.each (suc i)) ∙ ap (λ q. in_queue (x.taker + 1 + i) ts ++ q) (sym (get_or-drop x.queues i));
     }
 
-advanced_shown : (now : EndNow) (line : ℕ → LineNow) (clear : ℕ → Bool) (vs ts : List Envelope) (x : End) → x.is_closed ≡ false → x.taker < x.newest → get_or x.queues 0 [] ≡ [] → ShowsEnd now line clear vs ts (Some x) → ShowsEnd (record now { taker_stand = now.taker_stand + 1 }) line clear vs ts (Some (advanced_end x))
-advanced_shown now line clear vs ts x opened low empty h = record {
-  same = ap (λ (e : EndNow). let d : EndNow = record e { taker_stand = e.taker_stand + 1 } in d) h.same;
-  count = h.count;
-  lines = h.lines;
-  put = h.put;
-  queues = advanced_queues line clear vs ts x opened low empty h.queues;
-}
+advanced_shown : {now : EndNow} {line : ℕ → LineNow} {clear : ℕ → Bool} {vs ts : List Envelope} (x : End) → x.is_closed ≡ false → x.taker < x.newest → get_or x.queues 0 [] ≡ [] → ShowsEnd now line clear vs ts (Some x) → ShowsEnd (record now { taker_stand = now.taker_stand + 1 }) line clear vs ts (Some (advanced_end x))
+advanced_shown x opened low empty h = end_restated h refl (ap (λ (e : EndNow). let d : EndNow = record e { taker_stand = e.taker_stand + 1 } in d) h.same) refl (advanced_queues x opened low empty h.queues)
 
 -- ---- what is answered
 
@@ -159,8 +153,8 @@ went_on_shown agents ends f e refused x h at opened empty retired fits =
     let shown : ShownAt f e.0 (Some x) = subst (ShownAt f e.0) at (h.end e.0) in
     let low : x.taker < x.newest = subst (λ (y : EndNow). y.taker_stand < y.newest) shown.same retired in
     let still : x.is_closed ≡ false = sym (ap (λ (y : EndNow). y.closed) shown.same) ∙ opened in
-    changed agents ends (set ends e.0 (advanced_end x)) f (action.Take e) refused outcome.Again h fits refl refl refl (length-set ends e.0 (advanced_end x)) (counts_still agents ends f _ h refl (λ d. refl) (λ d. refl) (λ a d l. refl))
-    (end_changed agents ends f e.0 (λ b w. record w { taker_stand = cond b (w.taker_stand + 1) w.taker_stand }) x (advanced_end x) h at (λ w. refl) (advanced_shown (f.end e.0) (f.line e.0) (f.clear e.0) (f.accepted e.0) (f.taken e.0 ++ f.discarded e.0) x still low empty shown))
+    changed h fits refl refl refl (length-set ends e.0 (advanced_end x)) (counts_still h refl (λ d. refl) (λ d. refl) (λ a d l. refl))
+    (end_changed e.0 (λ b w. record w { taker_stand = cond b (w.taker_stand + 1) w.taker_stand }) x (advanced_end x) h at (λ w. refl) (advanced_shown x still low empty shown))
 
 -- ==== Look: what the core answers fits, and it shows the facts with the answered step.
 
@@ -220,8 +214,8 @@ clear_more : (i last : ℕ) (b c : Bool) → b ≡ nat_lt i last → eqb i last 
 clear_more i last b true is same = let here : i ≡ last = eqb-true i last same in sym (lt-ltb i (last + 1) (omega arith))
 clear_more i last b false is other = is ∙ sym (last_or i last ∙ ap (λ c. nat_lt i last || c) other ∙ sym (or_none (nat_lt i last)))
 
-cleared_queues : (line : ℕ → LineNow) (clear : ℕ → Bool) (vs ts : List Envelope) (x : End) → KeepsQueues line clear vs ts x → KeepsQueues line (λ i. cond (eqb i x.looked) true (clear i)) vs ts (record x { looked = x.looked + 1 })
-cleared_queues line clear vs ts x h = record {
+cleared_queues : {line : ℕ → LineNow} {clear : ℕ → Bool} {vs ts : List Envelope} {x : End} → KeepsQueues line clear vs ts x → KeepsQueues line (λ i. cond (eqb i x.looked) true (clear i)) vs ts (record x { looked = x.looked + 1 })
+cleared_queues {clear = clear} {x = x} h = record {
   reached = let reached : x.taker ≤ x.looked = h.reached in omega arith;
   clear_below = λ i from. clear_more i x.looked (clear i) (eqb i x.looked) (h.clear_below i from) refl;
   count = h.count;
@@ -230,15 +224,13 @@ cleared_queues line clear vs ts x h = record {
   each = h.each;
 }
 
-cleared_end : (now : EndNow) (line : ℕ → LineNow) (clear : ℕ → Bool) (vs ts : List Envelope) (x : End) → ShowsEnd now line clear vs ts (Some x) → ShowsEnd now line (λ i. cond (eqb i x.looked) true (clear i)) vs ts (Some (record x { looked = x.looked + 1 }))
-cleared_end now line clear vs ts x h = record { same = h.same; count = h.count; lines = h.lines; put = h.put; queues = cleared_queues line clear vs ts x h.queues }
-
 cleared_shown : (agents : List Agent) (ends : List End) (f : Facts) (e : EndId) (refused : Bool) (x : End) → SoundlyShows agents ends f → slice_get ends e.0 ≡ Some x → outcome.Clear (Some x.looked) ≡ look_answer f e → Stepped agents (set ends e.0 (record x { looked = x.looked + 1 })) f (action.Look e) refused (outcome.Clear (Some x.looked))
 cleared_shown agents ends f e refused x h at answer =
     let y : End = record x { looked = x.looked + 1 } in
-    changed agents ends (set ends e.0 y) f (action.Look e) refused (outcome.Clear (Some x.looked)) h answer refl refl refl (length-set ends e.0 y) (counts_still agents ends f _ h refl (λ d. refl) (λ d. refl) (λ a d l. refl))
+    let shown : ShownAt f e.0 (Some x) = subst (ShownAt f e.0) at (h.end e.0) in
+    changed h answer refl refl refl (length-set ends e.0 y) (counts_still h refl (λ d. refl) (λ d. refl) (λ a d l. refl))
     (each_changed (λ d b q. ShowsEnd (f.end d) (f.line d) (λ i. cond (b && eqb i x.looked) true (f.clear d i)) (f.accepted d) (f.taken d ++ f.discarded d) q) ends e.0 y (slice_get_within ends e.0 x at)
-    (cleared_end (f.end e.0) (f.line e.0) (f.clear e.0) (f.accepted e.0) (f.taken e.0 ++ f.discarded e.0) x (subst (ShownAt f e.0) at (h.end e.0))) h.end)
+    (end_restated shown refl shown.same refl (cleared_queues shown.queues)) h.end)
 
 -- ---- Look
 
@@ -401,20 +393,17 @@ module _ (f : Facts) (e : ℕ) (x : End) (s : Sound f) (h : ShownAt f e (Some x)
 
   -- the end with its queues emptied
   swept_one : x.is_closed ≡ true → ((l : ℕ) → (f.line e l).phase ≡ Inside → ⊥) → ShowsEnd (f.end e) (f.line e) (f.clear e) (f.accepted e) (f.taken e ++ (f.discarded e ++ joined x.queues)) (Some (record x { queues = [] }))
-  swept_one closed nobody = record {
-    same = h.same;
-    count = h.count;
-    lines = h.lines;
-    put = h.put;
-    queues = record {
-      reached = h.queues.reached;
-      clear_below = h.queues.clear_below;
-      count = λ opened. absurd (search (rules, false≢true, sym opened ∙ closed));
-      inside = λ l at. absurd (nobody l at);
-      behind = λ k less. kept_queue k ∙ sym (filter-append _ removed (joined x.queues)) ∙ ap (in_queue k) (append_assoc (f.taken e) (f.discarded e) (joined x.queues));
-      each = λ i. kept_queue (x.taker + i) ∙ sym (filter-append _ removed (joined x.queues)) ∙ ap (in_queue (x.taker + i)) (append_assoc (f.taken e) (f.discarded e) (joined x.queues)) ∙ sym (append-nil (in_queue (x.taker + i) (f.taken e ++ (f.discarded e ++ joined x.queues))));
-    };
-  }
+  swept_one closed nobody = end_restated h refl h.same refl (record {
+    reached = h.queues.reached;
+    clear_below = h.queues.clear_below;
+    count = λ opened. absurd (search (rules, false≢true, sym opened ∙ closed));
+    inside = λ l at. absurd (nobody l at);
+    behind = λ k less. all_kept_of k;
+    each = λ i. all_kept_of (x.taker + i) ∙ sym (append-nil (in_queue (x.taker + i) (f.taken e ++ (f.discarded e ++ joined x.queues))));
+  })
+    where
+      all_kept_of : (k : ℕ) → in_queue k (f.accepted e) ≡ in_queue k (f.taken e ++ (f.discarded e ++ joined x.queues))
+      all_kept_of k = kept_queue k ∙ sym (filter-append _ removed (joined x.queues)) ∙ ap (in_queue k) (append_assoc (f.taken e) (f.discarded e) (joined x.queues))
 
 -- ---- the ports of what was discarded
 
@@ -440,16 +429,16 @@ swept_shown agents ends f e refused x h at closed settled fits =
     in
     let same_count : length base ≡ length ends = length-set ends e.0 y in
     let count : f.ends ≡ length ends = h.ends in
-    changed agents ends _ f (action.Sweep e) refused (outcome.Discarded vs) h fits refl refl refl (moves.count ∙ same_count)
-    (counted_ports agents f (next f (action.Sweep e) (outcome.Discarded vs)) (is_named vs) (λ d. Some Swept) refl (λ d. refl) (λ d. refl) (λ d named. h.sound.places.flying d (swept_flies f e vs d h.sound (swept_of f e vs fits) named)) (λ b x less. calm_landed b f (next f (action.Sweep e) (outcome.Discarded vs)) (is_named vs) (λ d. Some Swept) x refl (λ l. refl) (λ q. refl) (λ q named. swept_flies f e vs q h.sound (swept_of f e vs fits) named) (λ q. refl)) (counts_of agents ends f h)) (λ d.
+    changed h fits refl refl refl (moves.count ∙ same_count)
+    (counted_ports (is_named vs) (λ d. Some Swept) refl (λ d. refl) (λ d. refl) (λ d named. h.sound.places.flying d (swept_flies f e vs d h.sound (swept_of f e vs fits) named)) (λ b x less. calm_landed b f (next f (action.Sweep e) (outcome.Discarded vs)) (is_named vs) (λ d. Some Swept) x refl (λ l. refl) (λ q. refl) (λ q named. swept_flies f e vs q h.sound (swept_of f e vs fits) named) (λ q. refl)) (counts_of h)) (λ d.
     subst (ShowsEnd _ _ _ _ _) (sym (moves.each d))
     (subst (λ b. ShowsEnd (record (f.end d) { place = cond b (Some Swept) (f.end d).place }) (f.line d) (f.clear d) (f.accepted d) (f.taken d ++ cond (eqb d e.0) (f.discarded d ++ vs) (f.discarded d)) (option_map (moved_end (ports_of vs) Swept d) (slice_get base d))) (named_ports d vs)
-    (moved_shown (f.end d) (f.line d) (f.clear d) (f.accepted d) (f.taken d ++ cond (eqb d e.0) (f.discarded d ++ vs) (f.discarded d)) (slice_get base d) (ports_of vs) Swept (Some Swept) d (λ named. (
+    (moved_shown (slice_get base d) (ports_of vs) Swept (Some Swept) d (each d) (λ named. (
       refl,
       λ none.
           let there : d < f.ends = placed_made f d InFlight h.sound.places (swept_flies f e vs d h.sound (swept_of f e vs fits) (sym (named_ports d vs) ∙ named)) in
           is_there base d (omega arith) none,
-    )) (each d))))
+    )))))
 
 -- ---- what is answered
 
@@ -487,9 +476,9 @@ sweep_changes c f e refused h says fits (end_swept d vs) =
 started_shown : (agents : List Agent) (ends : List End) (f : Facts) (e : EndId) (refused : Bool) (x : End) → SoundlyShows agents ends f → slice_get ends e.0 ≡ Some x → outcome.Started ≡ start_answer f e → Stepped agents (set ends e.0 (record x { is_enabled = true })) f (action.Start e) refused outcome.Started
 started_shown agents ends f e refused x h at answer =
     let shown_at : ShownAt f e.0 (Some x) = subst (ShownAt f e.0) at (h.end e.0) in
-    changed agents ends _ f (action.Start e) refused outcome.Started h answer refl refl refl (length-set ends e.0 (record x { is_enabled = true })) (counts_still agents ends f _ h refl (λ d. refl) (λ d. refl) (λ a d l. refl))
-    (end_changed agents ends f e.0 (λ b w. record w { enabled = cond b true w.enabled }) x (record x { is_enabled = true }) h at (λ w. refl)
-    (end_restated (f.end e.0) (record (f.end e.0) { enabled = true }) (f.line e.0) (f.clear e.0) (f.accepted e.0) (f.taken e.0 ++ f.discarded e.0) x x.place true (ap (λ (w : EndNow). let v : EndNow = record w { enabled = true } in v) (shown_at.same)) refl shown_at))
+    changed h answer refl refl refl (length-set ends e.0 (record x { is_enabled = true })) (counts_still h refl (λ d. refl) (λ d. refl) (λ a d l. refl))
+    (end_changed e.0 (λ b w. record w { enabled = cond b true w.enabled }) x (record x { is_enabled = true }) h at (λ w. refl)
+    (end_restated shown_at refl (ap (λ (w : EndNow). let v : EndNow = record w { enabled = true } in v) shown_at.same) refl (same_queues x.place true shown_at.queues)))
 
 pub start_changes : (c : CoreState) (f : Facts) (e : EndId) (refused : Bool) {o : Outcome} → Sees c f → o ≡ start_answer f e → Change (action.Start e) o → ShownAfter c f (action.Start e) refused o
 start_changes c f e refused h answer (started d) =
@@ -543,20 +532,14 @@ taken_end : (f : Facts) (e : EndId) (x : End) (v : Envelope) (rest : List Envelo
 taken_end f e x v rest s none h front =
     let taker : v.epoch ≡ x.taker = (front_at f e x v rest s none h front).epoch ∙ ap (λ (y : EndNow). y.taker_stand) h.same in
     let same : f.taken e.0 ++ f.discarded e.0 ≡ f.taken e.0 = nothing_more (f.taken e.0) (f.discarded e.0) none in
-    record {
-      same = h.same;
-      count = h.count;
-      lines = h.lines;
-      put = h.put;
-      queues = record {
-        reached = h.queues.reached;
-        clear_below = h.queues.clear_below;
-        count = λ opened. ap (λ n. x.taker + n) (length-set x.queues 0 rest) ∙ h.queues.count opened;
-        inside = λ l at. subst (λ n. (f.line e.0 l).stand < x.taker + n) (sym (length-set x.queues 0 rest)) (h.queues.inside l at);
-        behind = λ k less. h.queues.behind k less ∙ ap (in_queue k) same ∙ sym (queue_other k (f.taken e.0) v (λ is. omega arith));
-        each = each_taken x.taker (f.accepted e.0) (f.taken e.0) x.queues v rest taker front (λ i. subst (λ us. in_queue (x.taker + i) (f.accepted e.0) ≡ in_queue (x.taker + i) us ++ get_or x.queues i []) same (h.queues.each i));
-      };
-    }
+    end_restated h refl h.same refl (record {
+      reached = h.queues.reached;
+      clear_below = h.queues.clear_below;
+      count = λ opened. ap (λ n. x.taker + n) (length-set x.queues 0 rest) ∙ h.queues.count opened;
+      inside = λ l at. subst (λ n. (f.line e.0 l).stand < x.taker + n) (sym (length-set x.queues 0 rest)) (h.queues.inside l at);
+      behind = λ k less. h.queues.behind k less ∙ ap (in_queue k) same ∙ sym (queue_other k (f.taken e.0) v (λ is. omega arith));
+      each = each_taken x.taker (f.accepted e.0) (f.taken e.0) x.queues v rest taker front (λ i. subst (λ us. in_queue (x.taker + i) (f.accepted e.0) ≡ in_queue (x.taker + i) us ++ get_or x.queues i []) same (h.queues.each i));
+    })
 
 -- every end, with the envelope taken and its ports arrived
 got_shown : (agents : List Agent) (ends new : List End) (f : Facts) (e : EndId) (refused : Bool) (x : End) (a : AgentId) (v : Envelope) (rest : List Envelope) → SoundlyShows agents ends f → slice_get ends e.0 ≡ Some x → (f.end e.0).place ≡ Some (With a) → (f.end e.0).closed ≡ false → FitsTake f e (outcome.Got v) → get_or x.queues 0 [] ≡ v ∷ rest → IsNext f e v → new ≡ moved_ends v.ports (Arrived a) (set ends e.0 (with_taker_queue x rest)) → Stepped agents new f (action.Take e) refused (outcome.Got v)
@@ -571,16 +554,16 @@ got_shown agents ends new f e refused x a v rest h at has opened fits front n le
     in
     let made : e.0 < f.ends = placed_made f e.0 (With a) h.sound.places has in
     let same_count : length base ≡ length ends = length-set ends e.0 (with_taker_queue x rest) in
-    changed agents ends new f (action.Take e) refused (outcome.Got v) h fits refl refl refl (moves.count ∙ same_count)
-    (counted_ports agents f (next f (action.Take e) (outcome.Got v)) (names v.ports) (λ d. arrived (f.end e.0).place (f.end d).place) refl (λ d. refl) (λ d. refl) (λ d named. h.sound.places.flying d (taken_flies f e v d h.sound n opened made named)) (λ b x less. calm_landed b f (next f (action.Take e) (outcome.Got v)) (names v.ports) (λ d. arrived (f.end e.0).place (f.end d).place) x refl (λ l. refl) (λ q. refl) (λ q named. taken_flies f e v q h.sound n opened made named) (λ q. ap (λ p. is_with b (arrived p (f.end q).place)) has)) (counts_of agents ends f h)) (λ d.
+    changed h fits refl refl refl (moves.count ∙ same_count)
+    (counted_ports (names v.ports) (λ d. arrived (f.end e.0).place (f.end d).place) refl (λ d. refl) (λ d. refl) (λ d named. h.sound.places.flying d (taken_flies f e v d h.sound n opened made named)) (λ b x less. calm_landed b f (next f (action.Take e) (outcome.Got v)) (names v.ports) (λ d. arrived (f.end e.0).place (f.end d).place) x refl (λ l. refl) (λ q. refl) (λ q named. taken_flies f e v q h.sound n opened made named) (λ q. ap (λ p. is_with b (arrived p (f.end q).place)) has)) (counts_of h)) (λ d.
     subst (ShowsEnd _ _ _ _ _) (sym (moves.each d))
-    (moved_shown (f.end d) (f.line d) (f.clear d) (f.accepted d) (cond (eqb d e.0) (f.taken d ++ v ∷ []) (f.taken d) ++ f.discarded d) (slice_get base d) v.ports (Arrived a) (arrived ((f.end e.0).place) ((f.end d).place)) d (λ named. (
+    (moved_shown (slice_get base d) v.ports (Arrived a) (arrived ((f.end e.0).place) ((f.end d).place)) d (each d) (λ named. (
       ap (λ p. arrived p ((f.end d).place)) has,
       λ none.
           let there : d < f.ends = placed_made f d InFlight h.sound.places (taken_flies f e v d h.sound n opened made named) in
           let count : f.ends ≡ length ends = h.ends in
           is_there base d (omega arith) none,
-    )) (each d)))
+    ))))
 
 -- ---- the tests of a take, one after another
 

@@ -39,7 +39,7 @@ phased_inside old k bound p l false is may kept at = kept at
 pub phased_shown : (agents : List Agent) (ends : List End) (f : Facts) (s : Sender) (p : Phase) (x : End) (y : Line) → SoundlyShows agents ends f → slice_get ends s.end.0 ≡ Some x → slice_get x.lines s.line.0 ≡ Some y → (p ≡ Inside → (f.line s.end.0 s.line.0).stand < x.taker + length x.queues) → (d : ℕ) → ShowsEnd (f.end d) (phased_line f s p d) (f.clear d) (f.accepted d) (f.taken d ++ f.discarded d) (slice_get (set ends s.end.0 (with_phase x y s.line.0 p)) d)
 phased_shown agents ends f s p x y h at is may =
     let shown : ShownAt f s.end.0 (Some x) = subst (ShownAt f s.end.0) at (h.end s.end.0) in
-    line_changed agents ends f s (λ b w. record w { phase = cond b p w.phase }) x y (record y { phase = p }) h at is refl (λ w. refl) (subst (ShowsPut (f.accepted s.end.0) s.line.0) is (shown.put s.line.0))
+    line_changed s (λ b w. record w { phase = cond b p w.phase }) x y (record y { phase = p }) h at is refl (λ w. refl) (subst (ShowsPut (f.accepted s.end.0) s.line.0) is (shown.put s.line.0))
     (λ l inside. phased_inside (f.line s.end.0) s.line.0 (x.taker + length x.queues) p l (eqb l s.line.0) refl may (shown.queues.inside l) inside)
 
 -- ---- Enter
@@ -113,7 +113,7 @@ entered_counts agents ends f s x p h shown entered away =
     let sum : count_away a f + bit (not (is_out p) && has_poster f a s.end.0 s.line.0) ≡ count_away a g + bit (is_away_of f a s.end.0 s.line.0) = phase_away a f g s p made low refl (λ d. refl) (λ d. refl) (λ d l. refl) (λ d l. refl) in
     let new : bit (not (is_out p) && has_poster f a s.end.0 s.line.0) ≡ bit (owns_it (owner f s) a) = ap (λ b. bit (not b && has_poster f a s.end.0 s.line.0)) away ∙ ap bit (owner_has f s a (f.end s.end.0).kind) in
     let old : bit (is_away_of f a s.end.0 s.line.0) ≡ 0 = ap (λ b. bit (not b && has_poster f a s.end.0 s.line.0)) entered.out in
-    omega arith) (counts_of agents ends f h)
+    omega arith) (counts_of h)
 
 -- the poster of a line that may be entered is in another phase, and one more is away of its owner
 came_shown : (c : CoreState) (f : Facts) (s : Sender) (refused : Bool) (p : Phase) (o : Outcome) → Sees c f → o ≡ enter_answer f s → Entered f s → is_out p ≡ false → (p ≡ Inside → (f.end s.end.0).closed ≡ false)
@@ -124,7 +124,7 @@ came_shown c f s refused p o h answer entered away opened after =
     let g : Facts = record f { line = phased_line f s p } in
     subst (λ q. Stepped (change_owner one_away q c.agents) (change_line (in_phase p) s c.ends) f (action.Enter s) refused o) (sym (owner_seen c f s h))
     (subst (λ es. Stepped (change_owner one_away (owner f s) c.agents) es f (action.Enter s) refused o) (sym (line_set c.ends s (in_phase p) w))
-    (recounted c.agents (change_owner one_away (owner f s) c.agents) c.ends _ f (action.Enter s) refused o h.shows answer (ap (λ (k : Facts). k.agents) after) (ap (λ (k : Facts). k.agent) after) (owner_length one_away (owner f s) c.agents) (owner_now_away (owner f s) c.agents)
+    (recounted h.shows answer (ap (λ (k : Facts). k.agents) after) (ap (λ (k : Facts). k.agent) after) (owner_length one_away (owner f s) c.agents) (owner_now_away (owner f s) c.agents)
     (ap (λ (k : Facts). k.ends) after ∙ h.shows.ends ∙ sym (length-set c.ends s.end.0 (with_phase w.x w.y s.line.0 p)))
     (subst (Counted (change_owner one_away (owner f s) c.agents)) (sym after) (entered_counts c.agents c.ends f s w.x p h.shows shown entered away))
     (λ d. subst (λ k. ShownAt k d (slice_get (set c.ends s.end.0 (with_phase w.x w.y s.line.0 p)) d)) (sym after) (phased_shown c.agents c.ends f s p w.x w.y h.shows w.at w.is (λ in_side. stand_kept f s.end.0 s.line.0 w.x h.shows.sound shown (opened in_side)) d))))
@@ -146,7 +146,7 @@ left_counts agents ends f s x h shown away =
     counted_left agents f g (owner f s) refl (λ d. refl) (λ d. refl) (λ a.
     let sum : count_away a f + bit (not (is_out Out) && has_poster f a s.end.0 s.line.0) ≡ count_away a g + bit (is_away_of f a s.end.0 s.line.0) = phase_away a f g s Out made low refl (λ d. refl) (λ d. refl) (λ d l. refl) (λ d l. refl) in
     let old : bit (is_away_of f a s.end.0 s.line.0) ≡ bit (owns_it (owner f s) a) = ap (λ b. bit (not b && has_poster f a s.end.0 s.line.0)) away ∙ ap bit (owner_has f s a (f.end s.end.0).kind) in
-    omega arith) (counts_of agents ends f h)
+    omega arith) (counts_of h)
 
 left_shown : (c : CoreState) (f : Facts) (s : Sender) (refused : Bool) → Sees c f → outcome.Left ≡ leave_answer f s → Stepped (change_owner one_out (owner (seen c) s) c.agents) (change_line (in_phase Out) s c.ends) f (action.Leave s) refused outcome.Left
 left_shown c f s refused h answer =
@@ -154,7 +154,7 @@ left_shown c f s refused h answer =
     let w = found_line c.agents c.ends f s h.shows (line_there f s (h.shows.sound.lines s.end.0) (h.shows.sound.places.away s away)) in
     subst (λ q. Stepped (change_owner one_out q c.agents) (change_line (in_phase Out) s c.ends) f (action.Leave s) refused outcome.Left) (sym (owner_seen c f s h))
     (subst (λ es. Stepped (change_owner one_out (owner f s) c.agents) es f (action.Leave s) refused outcome.Left) (sym (line_set c.ends s (in_phase Out) w))
-    (recounted c.agents (change_owner one_out (owner f s) c.agents) c.ends _ f (action.Leave s) refused outcome.Left h.shows answer refl refl (owner_length one_out (owner f s) c.agents) (owner_now_out (owner f s) c.agents)
+    (recounted h.shows answer refl refl (owner_length one_out (owner f s) c.agents) (owner_now_out (owner f s) c.agents)
     (h.shows.ends ∙ sym (length-set c.ends s.end.0 (with_phase w.x w.y s.line.0 Out))) (left_counts c.agents c.ends f s w.x h.shows (subst (ShownAt f s.end.0) w.at (h.shows.end s.end.0)) away) (phased_shown c.agents c.ends f s Out w.x w.y h.shows w.at w.is (λ no. cc))))
 
 pub leave_changes : (c : CoreState) (f : Facts) (s : Sender) (refused : Bool) {o : Outcome} → Sees c f → o ≡ leave_answer f s → Change (action.Leave s) o → ShownWith c f (action.Leave s) refused o
@@ -172,7 +172,7 @@ with_holder x y l holder = record x { lines = set x.lines l (record y { held_by 
 held_shown : (agents : List Agent) (ends : List End) (f : Facts) (s : Sender) (holder : Option AgentId) (x : End) (y : Line) → SoundlyShows agents ends f → slice_get ends s.end.0 ≡ Some x → slice_get x.lines s.line.0 ≡ Some y → (d : ℕ) → ShowsEnd (f.end d) (held_line_as f s holder d) (f.clear d) (f.accepted d) (f.taken d ++ f.discarded d) (slice_get (set ends s.end.0 (with_holder x y s.line.0 holder)) d)
 held_shown agents ends f s holder x y h at is =
     let shown : ShownAt f s.end.0 (Some x) = subst (ShownAt f s.end.0) at (h.end s.end.0) in
-    line_changed agents ends f s (λ b w. record w { held_by = cond b holder w.held_by }) x y (record y { held_by = holder }) h at is refl (λ w. refl) (subst (ShowsPut (f.accepted s.end.0) s.line.0) is (shown.put s.line.0)) shown.queues.inside
+    line_changed s (λ b w. record w { held_by = cond b holder w.held_by }) x y (record y { held_by = holder }) h at is refl (λ w. refl) (subst (ShowsPut (f.accepted s.end.0) s.line.0) is (shown.put s.line.0)) shown.queues.inside
 
 -- ---- the first line that no agent holds
 
@@ -227,8 +227,8 @@ holder_shown c f s holder a refused o h answer low out after =
     let w = found_line c.agents c.ends f s h.shows low in
     let g : Facts = record f { line = held_line_as f s holder } in
     subst (λ es. Stepped c.agents es f a refused o) (sym (line_set c.ends s (held_by holder) w))
-    (changed c.agents c.ends _ f a refused o h.shows answer (ap (λ (k : Facts). k.agents) after) (ap (λ (k : Facts). k.agent) after) (ap (λ (k : Facts). k.ends) after) (length-set c.ends s.end.0 (with_holder w.x w.y s.line.0 holder))
-    (subst (Counted c.agents) (sym after) (counts_still c.agents c.ends f g h.shows refl (λ d. refl) (λ d. refl) (λ b. calm_held b f g s holder out (λ d. refl) (λ d. refl) (λ d i. refl) (λ d i. refl))))
+    (changed h.shows answer (ap (λ (k : Facts). k.agents) after) (ap (λ (k : Facts). k.agent) after) (ap (λ (k : Facts). k.ends) after) (length-set c.ends s.end.0 (with_holder w.x w.y s.line.0 holder))
+    (subst (Counted c.agents) (sym after) (counts_still h.shows refl (λ d. refl) (λ d. refl) (λ b. calm_held b f g s holder out (λ d. refl) (λ d. refl) (λ d i. refl) (λ d i. refl))))
     (λ d. subst (λ k. ShownAt k d (slice_get (set c.ends s.end.0 (with_holder w.x w.y s.line.0 holder)) d)) (sym after) (held_shown c.agents c.ends f s holder w.x w.y h.shows w.at w.is d)))
 
 pub line_changes : (c : CoreState) (f : Facts) (e : EndId) (a : AgentId) (refused : Bool) {o : Outcome} → Sees c f → o ≡ line_answer f e a → Change (action.Line e a) o → ShownAfter c f (action.Line e a) refused o

@@ -1,6 +1,6 @@
 -- What a step leaves alone: an end of which no fact changes is shown as before, and so is each other line where one changes.
 use Rattle.std.proofs.Common.{◌≡◌, ℕ, ◌+◌, ◌<◌, Bool, true, false, eqb, List, [], length, set, length-set, Option, Some, refl, sym, ap, subst, ◌∙◌, ◌++◌, ne_eqb, ◌&&◌}
-use Rattle.hub_core.proofs.Words.{Envelope, Place, lines_of, slice_get_within, Line, Sender, Inside, slice_get, Agent, End, Action, Outcome, LineNow, Facts, facts, EndNow, Answers, ShowsEnd, ShowsPut, agent_now, line_now, end_now, ShowsFacts}
+use Rattle.hub_core.proofs.Words.{Envelope, Place, lines_of, slice_get_within, Line, Sender, Inside, slice_get, Agent, End, Action, Outcome, LineNow, Facts, facts, EndNow, Answers, ShowsEnd, ShowsPut, agent_now, line_now, end_now, ShowsFacts, KeepsQueues}
 use Rattle.hub_core.proofs.Lists.{eqb_same, each_set, each_changed}
 use Rattle.hub_core.proofs.Showing.{SoundlyShows}
 use Rattle.hub_core.proofs.Nexts.{next}
@@ -16,8 +16,8 @@ pub record Stepped (agents : List Agent) (ends : List End) (f : Facts) (a : Acti
   pub shows : ShowsFacts agents ends (next f a o)
 
 -- a step that counts the queues of agents anew
-pub recounted : (agents new : List Agent) (ends after : List End) (f : Facts) (a : Action) (refused : Bool) (o : Outcome) → SoundlyShows agents ends f → Answers f a refused o → (next f a o).agents ≡ f.agents → (next f a o).agent ≡ f.agent → length new ≡ length agents → ((x : ℕ) → agent_now (slice_get new x) ≡ agent_now (slice_get agents x)) → (next f a o).ends ≡ length after → Counted new (next f a o) → ((x : ℕ) → ShownAt (next f a o) x (slice_get after x)) → Stepped new after f a refused o
-recounted agents new ends after f a refused o h fits same_agents same_agent same_count same_now count counted each = record {
+pub recounted : {agents new : List Agent} {ends after : List End} {f : Facts} {a : Action} {refused : Bool} {o : Outcome} → SoundlyShows agents ends f → Answers f a refused o → (next f a o).agents ≡ f.agents → (next f a o).agent ≡ f.agent → length new ≡ length agents → ((x : ℕ) → agent_now (slice_get new x) ≡ agent_now (slice_get agents x)) → (next f a o).ends ≡ length after → Counted new (next f a o) → ((x : ℕ) → ShownAt (next f a o) x (slice_get after x)) → Stepped new after f a refused o
+recounted h fits same_agents same_agent same_count same_now count counted each = record {
   fits = fits;
   shows = record {
     agents = same_agents ∙ h.agents ∙ sym same_count;
@@ -31,9 +31,8 @@ recounted agents new ends after f a refused o h fits same_agents same_agent same
 }
 
 -- a step that makes no agent and no end
-pub changed : (agents : List Agent) (ends after : List End) (f : Facts) (a : Action) (refused : Bool) (o : Outcome) → SoundlyShows agents ends f → Answers f a refused o → (next f a o).agents ≡ f.agents → (next f a o).agent ≡ f.agent → (next f a o).ends ≡ f.ends → length after ≡ length ends → Counted agents (next f a o) → ((x : ℕ) → ShownAt (next f a o) x (slice_get after x)) → Stepped agents after f a refused o
-changed agents ends after f a refused o h fits same_agents same_agent same_ends count counted each =
-    recounted agents agents ends after f a refused o h fits same_agents same_agent refl (λ x. refl) (same_ends ∙ h.ends ∙ sym count) counted each
+pub changed : {agents : List Agent} {ends after : List End} {f : Facts} {a : Action} {refused : Bool} {o : Outcome} → SoundlyShows agents ends f → Answers f a refused o → (next f a o).agents ≡ f.agents → (next f a o).agent ≡ f.agent → (next f a o).ends ≡ f.ends → length after ≡ length ends → Counted agents (next f a o) → ((x : ℕ) → ShownAt (next f a o) x (slice_get after x)) → Stepped agents after f a refused o
+changed h fits same_agents same_agent same_ends count counted each = recounted h fits same_agents same_agent refl (λ x. refl) (same_ends ∙ h.ends ∙ sym count) counted each
 
 -- with no agent and no end the history with no pair is shown
 pub shows_first : (agents : List Agent) (ends : List End) → agents ≡ [] → ends ≡ [] → ShowsFacts agents ends (facts [])
@@ -50,11 +49,11 @@ shows_first agents ends none nothing = rw (none, nothing) (record {
 -- ---- one line
 
 -- The ends, where one line of one end changes: `new` says what becomes of a line, where it is that one and where it isn't.
-pub line_changed : (agents : List Agent) (ends : List End) (f : Facts) (s : Sender) (new : Bool → LineNow → LineNow) (x : End) (y z : Line) → SoundlyShows agents ends f → slice_get ends s.end.0 ≡ Some x → slice_get x.lines s.line.0 ≡ Some y
+pub line_changed : {agents : List Agent} {ends : List End} {f : Facts} (s : Sender) (new : Bool → LineNow → LineNow) (x : End) (y z : Line) → SoundlyShows agents ends f → slice_get ends s.end.0 ≡ Some x → slice_get x.lines s.line.0 ≡ Some y
     → new true (line_now (Some y)) ≡ line_now (Some z) → ((w : LineNow) → new false w ≡ w) → ShowsPut (f.accepted s.end.0) s.line.0 (Some z)
     → ((l : ℕ) → (new (eqb l s.line.0) (f.line s.end.0 l)).phase ≡ Inside → (new (eqb l s.line.0) (f.line s.end.0 l)).stand < x.taker + length x.queues)
     → (d : ℕ) → ShowsEnd (f.end d) (λ l. new (eqb d s.end.0 && eqb l s.line.0) (f.line d l)) (f.clear d) (f.accepted d) (f.taken d ++ f.discarded d) (slice_get (set ends s.end.0 (record x { lines = set x.lines s.line.0 z })) d)
-line_changed agents ends f s new x y z h at is mine others put inside =
+line_changed {ends = ends} {f = f} s new x y z h at is mine others put inside =
     let e : ℕ = s.end.0 in
     let k : ℕ = s.line.0 in
     let old : ShownAt f e (Some x) = subst (ShownAt f e) at (h.end e) in
@@ -76,18 +75,22 @@ line_changed agents ends f s new x y z h at is mine others put inside =
 -- ---- one end
 
 -- The ends, where one of them changes: `new` says what becomes of an end, where it is that one and where it isn't.
-pub end_changed : (agents : List Agent) (ends : List End) (f : Facts) (e : ℕ) (new : Bool → EndNow → EndNow) (x after : End) → SoundlyShows agents ends f → slice_get ends e ≡ Some x → ((w : EndNow) → new false w ≡ w) → ShowsEnd (new true (f.end e)) (f.line e) (f.clear e) (f.accepted e) (f.taken e ++ f.discarded e) (Some after)
+pub end_changed : {agents : List Agent} {ends : List End} {f : Facts} (e : ℕ) (new : Bool → EndNow → EndNow) (x after : End) → SoundlyShows agents ends f → slice_get ends e ≡ Some x → ((w : EndNow) → new false w ≡ w) → ShowsEnd (new true (f.end e)) (f.line e) (f.clear e) (f.accepted e) (f.taken e ++ f.discarded e) (Some after)
     → (d : ℕ) → ShowsEnd (new (eqb d e) (f.end d)) (f.line d) (f.clear d) (f.accepted d) (f.taken d ++ f.discarded d) (slice_get (set ends e after) d)
-end_changed agents ends f e new x after h at others here =
+end_changed {ends = ends} {f = f} e new x after h at others here =
     each_changed (λ d b o. ShowsEnd (new b (f.end d)) (f.line d) (f.clear d) (f.accepted d) (f.taken d ++ f.discarded d) o) ends e after (slice_get_within ends e x at) here
     (λ d. subst (λ w. ShowsEnd w (f.line d) (f.clear d) (f.accepted d) (f.taken d ++ f.discarded d) (slice_get ends d)) (sym (others (f.end d))) (h.end d))
 
--- an end with another place, enabled or not
-pub end_restated : (now then : EndNow) (line : ℕ → LineNow) (clear : ℕ → Bool) (vs ts : List Envelope) (x : End) (p : Place) (b : Bool) → (let y : End = record x { place = p; is_enabled = b } in then ≡ end_now (Some y) → then.kind ≡ now.kind → ShowsEnd now line clear vs ts (Some x) → ShowsEnd then line clear vs ts (Some y))
-end_restated now then line clear vs ts x p b same kind h = record {
+-- an end that is shown as another one with its lines is, with other queues
+pub end_restated : {now then : EndNow} {line : ℕ → LineNow} {clear after : ℕ → Bool} {vs ts us : List Envelope} {x y : End} → ShowsEnd now line clear vs ts (Some x) → y.lines ≡ x.lines → then ≡ end_now (Some y) → then.kind ≡ now.kind → KeepsQueues line after vs us y → ShowsEnd then line after vs us (Some y)
+end_restated {vs = vs} h lines same kind queues = record {
   same = same;
-  count = h.count ∙ ap lines_of (sym kind);
-  lines = h.lines;
-  put = h.put;
-  queues = record { reached = h.queues.reached; clear_below = h.queues.clear_below; count = h.queues.count; inside = h.queues.inside; behind = h.queues.behind; each = h.queues.each };
+  count = ap length lines ∙ h.count ∙ ap lines_of (sym kind);
+  lines = λ l. h.lines l ∙ ap (λ ys. line_now (slice_get ys l)) (sym lines);
+  put = λ l. subst (λ ys. ShowsPut vs l (slice_get ys l)) (sym lines) (h.put l);
+  queues = queues;
 }
+
+-- the queues of an end don't ask where it is and whether it is enabled
+pub same_queues : {line : ℕ → LineNow} {clear : ℕ → Bool} {vs ts : List Envelope} {x : End} (p : Place) (b : Bool) → KeepsQueues line clear vs ts x → (let y : End = record x { place = p; is_enabled = b } in KeepsQueues line clear vs ts y)
+same_queues p b h = record { reached = h.reached; clear_below = h.clear_below; count = h.count; inside = h.inside; behind = h.behind; each = h.each }

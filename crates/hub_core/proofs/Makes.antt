@@ -15,7 +15,7 @@ use Rattle.hub_core.proofs.Lists.{eqb_same, set_again, slice_get-append_back, sl
 use Rattle.hub_core.proofs.Moves.{one_made}
 use Rattle.hub_core.proofs.Nexts.{Change, agent_made, channel_made, client_made, next, worker_made}
 use Rattle.hub_core.proofs.Seeing.{Sees, seen_is}
-use Rattle.hub_core.proofs.Showing.{SoundlyShows, plainly, with_roster}
+use Rattle.hub_core.proofs.Showing.{SoundlyShows, with_roster}
 use Rattle.hub_core.proofs.Speakers.{nothing_accepted, nothing_removed, running_made}
 
 -- ---- Agent
@@ -184,7 +184,7 @@ module _ (agents : List Agent) (ends : List End) (f : Facts) (a : AgentId) (k : 
 
 made_shown : (agents : List Agent) (ends : List End) (f : Facts) (a : AgentId) (k : Kind) (e : EndId) → SoundlyShows agents ends f → (f.agent a.0).runs ≡ true → e ≡ record { 0 = f.ends } → ShowsFacts (come k a agents) (ends ++ new_end a k ∷ []) (one_made f a k e)
 made_shown agents ends f a k e h runs number = subst (λ i. ShowsFacts (come k a agents) (ends ++ new_end a k ∷ []) (one_made f a k i)) (sym number)
-    (one_shown agents ends f a k (plainly h) h.sound.places.few (running_made f a h.sound.places runs) (λ d past. nothing_at f d h.sound past) (λ x q less is. inr (h.sound.places.peers x q.0 (ap peer_of is)).0))
+    (one_shown agents ends f a k h.shown h.sound.places.few (running_made f a h.sound.places runs) (λ d past. nothing_at f d h.sound past) (λ x q less is. inr (h.sound.places.peers x q.0 (ap peer_of is)).0))
 
 -- ports and members count for no agent
 uncounted : (agents : List Agent) (k : Kind) (a : AgentId) → ((x : Agent) → one_more k x ≡ x) → come k a agents ≡ agents

@@ -10,7 +10,7 @@ use Rattle.hub_core.proofs.Calms.{calm_gone, came_away}
 use Rattle.hub_core.proofs.Changing.{ShownAfter, found_end, found_line, line_set, with_line}
 use Rattle.hub_core.proofs.Counts.{adopted_now, change_length, counted_came, counted_went, counts_of, counts_still, end_went, gone_length, gone_now}
 use Rattle.hub_core.proofs.Fitting.{adopted_of, closed_of, handed_of, hopped_of}
-use Rattle.hub_core.proofs.Frames.{ShownAt, Stepped, changed, end_changed, end_restated, line_changed, recounted}
+use Rattle.hub_core.proofs.Frames.{ShownAt, Stepped, changed, end_changed, end_restated, line_changed, recounted, same_queues}
 use Rattle.hub_core.proofs.Nexts.{Change, adopted, end_closed, handed, hopped, next}
 use Rattle.hub_core.proofs.Seeing.{Sees, released_kept, seen_is}
 use Rattle.hub_core.proofs.Showing.{SoundlyShows}
@@ -47,7 +47,7 @@ gone_shown agents ends f s x y h at is out =
     let k : ℕ = s.line.0 in
     let shown : ShownAt f e (Some x) = subst (ShownAt f e) at (h.end e) in
     let stand : (f.line e k).stand ≡ y.epoch = ap (λ (w : LineNow). w.stand) (shown.lines k ∙ ap line_now is) in
-    line_changed agents ends f s (λ b w. record w { stand = cond b (w.stand + 1) w.stand }) x y (record y { epoch = y.epoch + 1; put = 0 }) h at is refl (λ w. refl)
+    line_changed s (λ b w. record w { stand = cond b (w.stand + 1) w.stand }) x y (record y { epoch = y.epoch + 1; put = 0 }) h at is refl (λ w. refl)
     (nothing_next e _ (f.line e) k y.epoch stand (f.accepted e) (h.sound.lines e).named)
     (λ l inside. gone_inside (f.line e) k (x.taker + length x.queues) l (eqb l k) refl (λ here. false≢true (sym (ap is_out here) ∙ out)) (shown.queues.inside l) inside)
 
@@ -60,8 +60,8 @@ hop_changes c f s refused h answer (hopped t k) =
     let shown : ShownAt f s.end.0 (Some w.x) = subst (ShownAt f s.end.0) w.at (h.shows.end s.end.0) in
     let one_on : k ≡ w.y.epoch + 1 = hops.number ∙ ap (λ (z : LineNow). z.stand + 1) (shown.lines s.line.0 ∙ ap line_now w.is) in (
       subst (λ es. Stepped c.agents es f (action.Hop s) refused (outcome.Hopped k)) (sym (line_set c.ends s (at_queue k) w ∙ ap (λ m. set c.ends s.end.0 (with_line w.x s.line.0 (at_queue m w.y))) one_on))
-          (changed c.agents c.ends _ f (action.Hop s) refused (outcome.Hopped k) h.shows answer refl refl refl (length-set c.ends s.end.0 (with_line w.x s.line.0 (at_queue (w.y.epoch + 1) w.y)))
-          (counts_still c.agents c.ends f _ h.shows refl (λ d. refl) (λ d. refl) (λ a d l. refl)) (gone_shown c.agents c.ends f s w.x w.y h.shows w.at w.is hops.out)),
+          (changed h.shows answer refl refl refl (length-set c.ends s.end.0 (with_line w.x s.line.0 (at_queue (w.y.epoch + 1) w.y)))
+          (counts_still h.shows refl (λ d. refl) (λ d. refl) (λ a d l. refl)) (gone_shown c.agents c.ends f s w.x w.y h.shows w.at w.is hops.out)),
       refl,
     )
 
@@ -81,12 +81,12 @@ queue_released f _ h = refl
 moved_shown : (agents : List Agent) (ends : List End) (f : Facts) (e : EndId) (b : AgentId) (refused : Bool) (x : End) → SoundlyShows agents ends f → slice_get ends e.0 ≡ Some x → outcome.Handed ≡ hand_answer f e b → Stepped (gone x.kind x.place agents) (set ends e.0 (moved_to b x)) f (action.Hand e b) refused outcome.Handed
 moved_shown agents ends f e b refused x h at answer =
     let shown : ShownAt f e.0 (Some x) = subst (ShownAt f e.0) at (h.end e.0) in
-    recounted agents (gone x.kind x.place agents) ends (set ends e.0 (moved_to b x)) f (action.Hand e b) refused outcome.Handed h answer refl refl
+    recounted h answer refl refl
     (gone_length x.kind x.place agents) (gone_now x.kind x.place agents) (h.ends ∙ sym (length-set ends e.0 (moved_to b x)))
     (counted_went agents (end_went e.0 x (Some (Arrived b)) h.sound.places shown.same refl (λ d. refl) (λ d. refl)) (λ a. refl)
-    (λ a y less. calm_gone a f (next f (action.Hand e b) outcome.Handed) e.0 (Some (Arrived b)) y h.sound.places refl (λ l. refl) (λ q. refl) (queue_released f (f.end e.0).kind (handed_of f e b answer).queue)) (counts_of agents ends f h))
-    (end_changed agents ends f e.0 (λ c w. record w { place = cond c (Some (Arrived b)) w.place }) x (moved_to b x) h at (λ w. refl)
-    (end_restated (f.end e.0) (record (f.end e.0) { place = Some (Arrived b) }) (f.line e.0) (f.clear e.0) (f.accepted e.0) (f.taken e.0 ++ f.discarded e.0) x (Arrived b) x.is_enabled (ap (λ (w : EndNow). let v : EndNow = record w { place = Some (Arrived b) } in v) shown.same) refl shown))
+    (λ a y less. calm_gone a f (next f (action.Hand e b) outcome.Handed) e.0 (Some (Arrived b)) y h.sound.places refl (λ l. refl) (λ q. refl) (queue_released f (f.end e.0).kind (handed_of f e b answer).queue)) (counts_of h))
+    (end_changed e.0 (λ c w. record w { place = cond c (Some (Arrived b)) w.place }) x (moved_to b x) h at (λ w. refl)
+    (end_restated shown refl (ap (λ (w : EndNow). let v : EndNow = record w { place = Some (Arrived b) } in v) shown.same) refl (same_queues (Arrived b) x.is_enabled shown.queues)))
 
 -- ---- what is answered
 
@@ -105,27 +105,17 @@ get_or-one_more [] (suc i) = refl
 get_or-one_more (q ∷ qs) zero = refl
 get_or-one_more (q ∷ qs) (suc i) = get_or-one_more qs i
 
-adopted_one : (now : EndNow) (line : ℕ → LineNow) (clear : ℕ → Bool) (vs ts : List Envelope) (x : End) (a : AgentId) → ShowsEnd now line clear vs ts (Some x) → ShowsEnd (record now { place = Some (With a); enabled = false; newest = now.newest + 1 }) line clear vs ts (Some (adopted_end a x))
-adopted_one now line clear vs ts x a h = record {
-  same = ap (λ (e : EndNow). let d : EndNow = record e { place = Some (With a); enabled = false; newest = e.newest + 1 } in d) h.same;
-  count = h.count;
-  lines = h.lines;
-  put = h.put;
-  queues = record {
-    reached = h.queues.reached;
-    clear_below = h.queues.clear_below;
-    count = λ opened.
-        let more : length (x.queues ++ [] ∷ []) ≡ length x.queues + 1 = length-append x.queues ([] ∷ []) in
-        let many : x.taker + length x.queues ≡ x.newest + 1 = h.queues.count opened in
-        omega arith;
-    inside = λ l at.
-        let more : length (x.queues ++ [] ∷ []) ≡ length x.queues + 1 = length-append x.queues ([] ∷ []) in
-        let within : (line l).stand < x.taker + length x.queues = h.queues.inside l at in
-        omega arith;
-    behind = h.queues.behind;
-    each = λ i. h.queues.each i ∙ ap (λ q. in_queue (x.taker + i) ts ++ q) (sym (get_or-one_more x.queues i));
-  };
-}
+adopted_one : {now : EndNow} {line : ℕ → LineNow} {clear : ℕ → Bool} {vs ts : List Envelope} {x : End} (a : AgentId) → ShowsEnd now line clear vs ts (Some x) → ShowsEnd (record now { place = Some (With a); enabled = false; newest = now.newest + 1 }) line clear vs ts (Some (adopted_end a x))
+adopted_one {line = line} {ts = ts} {x = x} a h =
+    let more : length (x.queues ++ [] ∷ []) ≡ length x.queues + 1 = length-append x.queues ([] ∷ []) in
+    end_restated h refl (ap (λ (e : EndNow). let d : EndNow = record e { place = Some (With a); enabled = false; newest = e.newest + 1 } in d) h.same) refl (record {
+      reached = h.queues.reached;
+      clear_below = h.queues.clear_below;
+      count = λ opened. let many : x.taker + length x.queues ≡ x.newest + 1 = h.queues.count opened in omega arith;
+      inside = λ l at. let within : (line l).stand < x.taker + length x.queues = h.queues.inside l at in omega arith;
+      behind = h.queues.behind;
+      each = λ i. h.queues.each i ∙ ap (λ q. in_queue (x.taker + i) ts ++ q) (sym (get_or-one_more x.queues i));
+    })
 
 adopted_shown : (agents : List Agent) (ends : List End) (f : Facts) (e : EndId) (a : AgentId) (refused : Bool) (x : End) (k : ℕ) → SoundlyShows agents ends f → slice_get ends e.0 ≡ Some x → outcome.Adopted k ≡ adopt_answer f e a refused → Stepped (change_agent (adopting (is_released f (f.end e.0).kind) x.kind) a.0 agents) (set ends e.0 (adopted_end a x)) f (action.Adopt e a) refused (outcome.Adopted k)
 adopted_shown agents ends f e a refused x k h at answer =
@@ -134,11 +124,11 @@ adopted_shown agents ends f e a refused x k h at answer =
     let known : a.0 < f.agents = running_made f a h.sound.places (adopted_of f e a refused k answer).runs in
     let arrived : (f.end e.0).place ≡ Some (Arrived a) = (adopted_of f e a refused k answer).arrived in
     let nowhere : (c : AgentId) → is_with c (Some x.place) ≡ false = λ c. ap (is_with c) (sym (ap (λ (y : EndNow). y.place) shown.same) ∙ arrived) in
-    recounted agents (change_agent (adopting (is_released f (f.end e.0).kind) x.kind) a.0 agents) ends (set ends e.0 (adopted_end a x)) f (action.Adopt e a) refused (outcome.Adopted k) h answer refl refl
+    recounted h answer refl refl
     (change_length (adopting (is_released f (f.end e.0).kind) x.kind) agents a.0) (adopted_now (is_released f (f.end e.0).kind) x.kind agents a) (h.ends ∙ sym (length-set ends e.0 (adopted_end a x)))
     (counted_came agents (is_released f (f.end e.0).kind) (end_went e.0 x (Some (With a)) h.sound.places shown.same refl (λ d. refl) (λ d. refl)) h.sound.places.few (omega arith) nowhere
-    (λ c. came_away c a f (next f (action.Adopt e a) (outcome.Adopted k)) e.0 h.sound.places (placed_made f e.0 x.place h.sound.places (ap (λ (y : EndNow). y.place) shown.same)) refl (λ d. refl) (λ d l. refl) (λ q. refl) (ap (is_with c) arrived) (f.end e.0).kind refl) (counts_of agents ends f h))
-    (end_changed agents ends f e.0 (λ b w. record w { place = cond b (Some (With a)) w.place; enabled = cond b false w.enabled; newest = cond b (w.newest + 1) w.newest }) x (adopted_end a x) h at (λ w. refl) (adopted_one (f.end e.0) (f.line e.0) (f.clear e.0) (f.accepted e.0) (f.taken e.0 ++ f.discarded e.0) x a shown))
+    (λ c. came_away c a f (next f (action.Adopt e a) (outcome.Adopted k)) e.0 h.sound.places (placed_made f e.0 x.place h.sound.places (ap (λ (y : EndNow). y.place) shown.same)) refl (λ d. refl) (λ d l. refl) (λ q. refl) (ap (is_with c) arrived) (f.end e.0).kind refl) (counts_of h))
+    (end_changed e.0 (λ b w. record w { place = cond b (Some (With a)) w.place; enabled = cond b false w.enabled; newest = cond b (w.newest + 1) w.newest }) x (adopted_end a x) h at (λ w. refl) (adopted_one a shown))
 
 -- ---- what is answered
 
@@ -154,23 +144,18 @@ adopt_changes c f e a refused h answer (adopted d b k) =
 
 -- ---- a closed end
 
-shut_one : (now : EndNow) (line : ℕ → LineNow) (clear : ℕ → Bool) (vs ts : List Envelope) (x : End) → ShowsEnd now line clear vs ts (Some x) → ShowsEnd (record now { closed = true; place = Some Gone }) line clear vs ts (Some (closed_end x))
-shut_one now line clear vs ts x h = record {
-  same = ap (λ (e : EndNow). let d : EndNow = record e { closed = true; place = Some Gone } in d) h.same;
-  count = h.count;
-  lines = h.lines;
-  put = h.put;
-  queues = record { reached = h.queues.reached; clear_below = h.queues.clear_below; count = λ opened. absurd (false≢true (sym opened)); inside = h.queues.inside; behind = h.queues.behind; each = h.queues.each };
-}
+shut_one : {now : EndNow} {line : ℕ → LineNow} {clear : ℕ → Bool} {vs ts : List Envelope} {x : End} → ShowsEnd now line clear vs ts (Some x) → ShowsEnd (record now { closed = true; place = Some Gone }) line clear vs ts (Some (closed_end x))
+shut_one h = end_restated h refl (ap (λ (e : EndNow). let d : EndNow = record e { closed = true; place = Some Gone } in d) h.same) refl
+    (record { reached = h.queues.reached; clear_below = h.queues.clear_below; count = λ opened. absurd (false≢true (sym opened)); inside = h.queues.inside; behind = h.queues.behind; each = h.queues.each })
 
 shut_shown : (agents : List Agent) (ends : List End) (f : Facts) (e : EndId) (refused : Bool) (x : End) → SoundlyShows agents ends f → slice_get ends e.0 ≡ Some x → outcome.Done ≡ close_answer f e → Stepped (gone x.kind x.place agents) (set ends e.0 (closed_end x)) f (action.Close e) refused outcome.Done
 shut_shown agents ends f e refused x h at answer =
     let shown : ShownAt f e.0 (Some x) = subst (ShownAt f e.0) at (h.end e.0) in
-    recounted agents (gone x.kind x.place agents) ends (set ends e.0 (closed_end x)) f (action.Close e) refused outcome.Done h answer refl refl
+    recounted h answer refl refl
     (gone_length x.kind x.place agents) (gone_now x.kind x.place agents) (h.ends ∙ sym (length-set ends e.0 (closed_end x)))
     (counted_went agents (end_went e.0 x (Some Gone) h.sound.places shown.same refl (λ d. refl) (λ d. refl)) (λ a. refl)
-    (λ a y less. calm_gone a f (next f (action.Close e) outcome.Done) e.0 (Some Gone) y h.sound.places refl (λ l. refl) (λ q. refl) (closed_of f e answer).released) (counts_of agents ends f h))
-    (end_changed agents ends f e.0 (λ b w. record w { closed = cond b true w.closed; place = cond b (Some Gone) w.place }) x (closed_end x) h at (λ w. refl) (shut_one (f.end e.0) (f.line e.0) (f.clear e.0) (f.accepted e.0) (f.taken e.0 ++ f.discarded e.0) x shown))
+    (λ a y less. calm_gone a f (next f (action.Close e) outcome.Done) e.0 (Some Gone) y h.sound.places refl (λ l. refl) (λ q. refl) (closed_of f e answer).released) (counts_of h))
+    (end_changed e.0 (λ b w. record w { closed = cond b true w.closed; place = cond b (Some Gone) w.place }) x (closed_end x) h at (λ w. refl) (shut_one shown))
 
 -- ---- what is answered
 

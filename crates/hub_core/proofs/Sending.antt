@@ -12,7 +12,7 @@ use Rattle.hub_core.proofs.Calms.{calm_sent}
 use Rattle.hub_core.proofs.Changing.{FoundLine, ShownAfter, found_line}
 use Rattle.hub_core.proofs.Counts.{counted_ports, counts_of, counts_still}
 use Rattle.hub_core.proofs.Fitting.{noticed_of, pushed_of}
-use Rattle.hub_core.proofs.Frames.{ShownAt, Stepped, changed, end_restated}
+use Rattle.hub_core.proofs.Frames.{ShownAt, Stepped, changed, end_restated, same_queues}
 use Rattle.hub_core.proofs.Lists.{each_set, eqb_same, get_or-set_other, get_or-set_same, is_there}
 use Rattle.hub_core.proofs.Nexts.{Change, next, notice_put, put}
 use Rattle.hub_core.proofs.Seeing.{Sees, posting_seen, seen_is}
@@ -76,18 +76,18 @@ pub moves_to : (ports : List EndId) (p : Place) (ends new : List End) → new �
 moves_to ports p ends new same = subst (Moves ports p ends) (sym same) (moves_of ports p ends)
 
 -- an end that is moved where the test says so
-moved_by : (now : EndNow) (line : ℕ → LineNow) (clear : ℕ → Bool) (vs ts : List Envelope) (x : End) (p : Place) (q : Option Place) (b : Bool) → (b ≡ true → q ≡ Some p) → ShowsEnd now line clear vs ts (Some x) → ShowsEnd (record now { place = cond b q now.place }) line clear vs ts (Some (cond b (record x { place = p }) x))
-moved_by now line clear vs ts x p q true is h =
-    end_restated now (record now { place = q }) line clear vs ts x p x.is_enabled (ap (λ (e : EndNow). let d : EndNow = record e { place = q } in d) h.same ∙ ap (λ r. let d : EndNow = record (end_now (Some x)) { place = r } in d) (is refl)) refl h
-moved_by now line clear vs ts x p q false is h = h
+moved_by : {now : EndNow} {line : ℕ → LineNow} {clear : ℕ → Bool} {vs ts : List Envelope} (x : End) (p : Place) (q : Option Place) (b : Bool) → (b ≡ true → q ≡ Some p) → ShowsEnd now line clear vs ts (Some x) → ShowsEnd (record now { place = cond b q now.place }) line clear vs ts (Some (cond b (record x { place = p }) x))
+moved_by x p q true is h =
+    end_restated h refl (ap (λ (e : EndNow). let d : EndNow = record e { place = q } in d) h.same ∙ ap (λ r. let d : EndNow = record (end_now (Some x)) { place = r } in d) (is refl)) refl (same_queues p x.is_enabled h.queues)
+moved_by x p q false is h = h
 
-none_by : (now : EndNow) (line : ℕ → LineNow) (clear : ℕ → Bool) (vs ts : List Envelope) (q : Option Place) (b : Bool) → (b ≡ true → ⊥) → ShowsEnd now line clear vs ts None → ShowsEnd (record now { place = cond b q now.place }) line clear vs ts None
-none_by now line clear vs ts q true never h = absurd (never refl)
-none_by now line clear vs ts q false never h = h
+none_by : {now : EndNow} {line : ℕ → LineNow} {clear : ℕ → Bool} {vs ts : List Envelope} (q : Option Place) (b : Bool) → (b ≡ true → ⊥) → ShowsEnd now line clear vs ts None → ShowsEnd (record now { place = cond b q now.place }) line clear vs ts None
+none_by q true never h = absurd (never refl)
+none_by q false never h = h
 
-pub moved_shown : (now : EndNow) (line : ℕ → LineNow) (clear : ℕ → Bool) (vs ts : List Envelope) (o : Option End) (ports : List EndId) (p : Place) (q : Option Place) (d : ℕ) → (names ports d ≡ true → (q ≡ Some p) × (o ≡ None → ⊥)) → ShowsEnd now line clear vs ts o → ShowsEnd (record now { place = cond (names ports d) q now.place }) line clear vs ts (option_map (moved_end ports p d) o)
-moved_shown now line clear vs ts None ports p q d known h = none_by now line clear vs ts q (names ports d) (λ named. (known named).1 refl) h
-moved_shown now line clear vs ts (Some x) ports p q d known h = moved_by now line clear vs ts x p q (names ports d) (λ named. (known named).0) h
+pub moved_shown : {now : EndNow} {line : ℕ → LineNow} {clear : ℕ → Bool} {vs ts : List Envelope} (o : Option End) (ports : List EndId) (p : Place) (q : Option Place) (d : ℕ) → ShowsEnd now line clear vs ts o → (names ports d ≡ true → (q ≡ Some p) × (o ≡ None → ⊥)) → ShowsEnd (record now { place = cond (names ports d) q now.place }) line clear vs ts (option_map (moved_end ports p d) o)
+moved_shown None ports p q d h known = none_by q (names ports d) (λ named. (known named).1 refl) h
+moved_shown (Some x) ports p q d h known = moved_by x p q (names ports d) (λ named. (known named).0) h
 
 -- ==== An envelope put on a line: what the core keeps then is what the facts say.
 
@@ -156,10 +156,7 @@ each_shown agents ends new f v x y told h at is epoch queue mine others phases s
     let same_count : length base ≡ length ends = length-set ends v.end.0 (put_end x y v) in
     let count : f.ends ≡ length ends = h.ends in
     subst (ShowsEnd _ _ _ _ _) (sym (moves.each d))
-    (moved_shown (f.end d) (told d) (f.clear d) (cond (eqb d v.end.0) (f.accepted d ++ v ∷ []) (f.accepted d)) (f.taken d ++ f.discarded d) (slice_get base d) v.ports InFlight (Some InFlight) d (λ named. (
-      refl,
-      λ none. let there : d < f.ends = made d named in is_there base d (omega arith) none,
-    )) (each d))
+    (moved_shown (slice_get base d) v.ports InFlight (Some InFlight) d (each d) (λ named. (refl, λ none. let there : d < f.ends = made d named in is_there base d (omega arith) none)))
 
 -- how many ends there are then
 pub put_count : (ends new : List End) (e : ℕ) (x : End) (ports : List EndId) → Moves ports InFlight (set ends e x) new → length new ≡ length ends
@@ -195,8 +192,8 @@ pushed_shown agents ends new f s ports body refused n x y h at is line epoch que
     let v : Envelope = named_envelope s n body ports in
     let p = pushed_of f s ports body refused n fits in
     let plain : y.has_noticed ≡ false = sym (ap (λ (z : LineNow). z.noticed) line) ∙ p.plain in
-    changed agents ends new f (action.Push s ports body) refused (outcome.Accepted n) h fits refl refl refl (put_count ends new s.end.0 (put_end x y v) ports moves)
-    (counted_ports agents f (next f (action.Push s ports body) (outcome.Accepted n)) (names ports) (λ d. Some InFlight) refl (λ d. refl) (λ d. refl) (λ d named. some_own f (peer_of (f.end d).kind) (travels f p.agent s d ports p.leave named).1) (λ a x less. calm_sent a f (next f (action.Push s ports body) (outcome.Accepted n)) (names ports) x h.sound.places refl (λ l. refl) (λ q. refl) (λ q named. (travels f p.agent s q ports p.leave named).1)) (counts_of agents ends f h))
+    changed h fits refl refl refl (put_count ends new s.end.0 (put_end x y v) ports moves)
+    (counted_ports (names ports) (λ d. Some InFlight) refl (λ d. refl) (λ d. refl) (λ d named. some_own f (peer_of (f.end d).kind) (travels f p.agent s d ports p.leave named).1) (λ a x less. calm_sent a f (next f (action.Push s ports body) (outcome.Accepted n)) (names ports) x h.sound.places refl (λ l. refl) (λ q. refl) (λ q named. (travels f p.agent s q ports p.leave named).1)) (counts_of h))
     (each_shown agents ends new f v x y f.line h at is epoch queue (line ∙ ap (λ b. let z : LineNow = record { phase = y.phase; stand = y.epoch; noticed = b; held_by = y.held_by } in z) plain) (λ l other. refl) (λ l. refl) (λ l. refl) (λ d other. refl)
     (λ d named. placed_made f d (With p.agent) h.sound.places (travels f p.agent s d ports p.leave named).0) moves)
 
@@ -283,7 +280,7 @@ told_other f s l other = ap (λ b. let z : LineNow = record (f.line s.end.0 l) {
 noticed_shown : (agents : List Agent) (ends new : List End) (f : Facts) (s : Sender) (refused : Bool) (n : Acceptance) (x : End) (y : Line) → SoundlyShows agents ends f → slice_get ends s.end.0 ≡ Some x → slice_get x.lines s.line.0 ≡ Some y → f.line s.end.0 s.line.0 ≡ line_now (Some y) → n.epoch ≡ y.epoch → has_queue x y.epoch ≡ true → outcome.Accepted n ≡ notice_answer f s refused → Moves [] InFlight (set ends s.end.0 (put_end x y (named_notice s n))) new → Stepped agents new f (action.Notice s) refused (outcome.Accepted n)
 noticed_shown agents ends new f s refused n x y h at is line epoch queue fits moves =
     let v : Envelope = named_notice s n in
-    changed agents ends new f (action.Notice s) refused (outcome.Accepted n) h fits refl refl refl (put_count ends new s.end.0 (put_end x y v) [] moves) (counts_still agents ends f _ h refl (λ d. refl) (λ d. refl) (λ a d l. refl))
+    changed h fits refl refl refl (put_count ends new s.end.0 (put_end x y v) [] moves) (counts_still h refl (λ d. refl) (λ d. refl) (λ a d l. refl))
     (each_shown agents ends new f v x y (told_line f s) h at is epoch queue (told_mine f s y line) (told_other f s) (λ l. refl) (λ l. refl) (λ d other. λ i l. record (f.line d l) { noticed = cond (ne_eqb d s.end.0 other i && eqb l s.line.0) true (f.line d l).noticed }) (λ d named. absurd (false≢true named)) moves)
 
 -- ---- the tests of a notice

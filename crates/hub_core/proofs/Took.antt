@@ -5,7 +5,7 @@ use Rattle.hub_core.proofs.Words.{ShowsRoster, FitsAndShows, StillShows, changes
 use Rattle.hub_core.specs.declared.step.Action.TheVariants as action
 use Rattle.hub_core.specs.declared.outcome.Outcome.TheVariants as outcome
 use Rattle.hub_core.proofs.Seeing.{Sees}
-use Rattle.hub_core.proofs.Showing.{SoundlyShows, soundly, plainly}
+use Rattle.hub_core.proofs.Showing.{SoundlyShows}
 use Rattle.hub_core.proofs.Sounds.{sound_legal}
 use Rattle.hub_core.proofs.Broadcasts.{part_answered, part_shown}
 use Rattle.hub_core.proofs.Makes.{member_answered, member_shown}
@@ -46,7 +46,7 @@ took_where a refused old new o leaves fits changes = record {
       let h : Sees old f = record { shows = s; roster = w } in
       let fit : Answers f a refused o = fits f h in
       subst (λ (c : CoreState). Stepped c.agents c.ends f a refused o × ShowsRoster c.roster (next f a o)) (sym leaves) (elim (effect o a) [
-        | inl quiet ↦ subst (λ (c : CoreState). Stepped c.agents c.ends f a refused o × ShowsRoster c.roster (next f a o)) (sym (quiet.1 old)) (record { fits = fit; shows = subst (ShowsFacts old.agents old.ends) (sym (quiet.0 f)) (plainly s) }, subst (ShowsRoster old.roster) (sym (quiet.0 f)) w)
+        | inl quiet ↦ subst (λ (c : CoreState). Stepped c.agents c.ends f a refused o × ShowsRoster c.roster (next f a o)) (sym (quiet.1 old)) (record { fits = fit; shows = subst (ShowsFacts old.agents old.ends) (sym (quiet.0 f)) s.shown }, subst (ShowsRoster old.roster) (sym (quiet.0 f)) w)
         | inr change ↦ changes f h fit change
       ]);
   same = λ nothing. same_content old new (leaves ∙ (nothing_changes o a nothing).1 old);
@@ -66,7 +66,7 @@ stayed a refused old new o leaves roster quiet fits =
     let same : new ≡ old = leaves ∙ ap (λ r. let c : CoreState = record old { roster = r } in c) roster in
     record {
       shown = λ f s w. subst (λ (c : CoreState). Stepped c.agents c.ends f a refused o × ShowsRoster c.roster (next f a o)) (sym same) (
-        record { fits = fits f (record { shows = s; roster = w }); shows = subst (ShowsFacts old.agents old.ends) (sym (quiet f)) (plainly s) },
+        record { fits = fits f (record { shows = s; roster = w }); shows = subst (ShowsFacts old.agents old.ends) (sym (quiet f)) s.shown },
         subst (ShowsRoster old.roster) (sym (quiet f)) w,
       );
       same = λ nothing. same_content old new same;
@@ -103,7 +103,7 @@ ok o = Ok o
 
 fits_of : (step : Step) (a : Action) (old new : CoreState) (o : Outcome) → step.action ≡ a → Took a step.memory_refused old new o → FitsAndShows old new step o
 fits_of step a old new o is t = λ h s.
-    let at = t.shown (facts h) (soundly (sound_legal h s.2) s.0) s.1 in
+    let at = t.shown (facts h) (record { shown = s.0; sound = sound_legal h s.2 }) s.1 in
     let longer : facts (h ++ (step, o) ∷ []) ≡ next (facts h) a o = facts_next h (step, o) ∙ ap (λ b. next (facts h) b o) is in
     let fits : Fits h (step, o) = subst (λ b. Answers (facts h) b step.memory_refused o) (sym is) at.0.fits in
     (fits, (subst (ShowsFacts new.agents new.ends) (sym longer) at.0.shows, subst (ShowsRoster new.roster) (sym longer) at.1, legal_after_one [] h (step, o) s.2 fits))
