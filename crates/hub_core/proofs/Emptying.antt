@@ -9,16 +9,13 @@ use Rattle.hub_core.proofs.Words.{look_answer_of, look_outcome, look_outcome_at,
 use Rattle.hub_core.proofs.Words.{start_answer, sweep_outcome_at, with_taker_queue, cases_eq, cases_lt}
 use Rattle.hub_core.specs.declared.outcome.Outcome.TheVariants as outcome
 use Rattle.hub_core.specs.declared.step.Action.TheVariants as action
-use Rattle.hub_core.proofs.Calms.{calm_landed}
-use Rattle.hub_core.proofs.Changing.{ShownAfter, found_end}
-use Rattle.hub_core.proofs.Counts.{counted_ports, counts_of, counts_still}
+use Rattle.hub_core.proofs.Counts.{calm_landed, counted_ports, counts_of, counts_still}
+use Rattle.hub_core.proofs.Frames.{ShownAfter, found_end, ShownAt, Stepped, changed, end_changed, end_restated, same_queues}
 use Rattle.hub_core.proofs.Fitting.{any_of, each_of, got_of, miss, none_of_any, pass, started_of, swept_of, went_on_of}
-use Rattle.hub_core.proofs.Frames.{ShownAt, Stepped, changed, end_changed, end_restated, same_queues}
 use Rattle.hub_core.proofs.Lists.{AllByRecursion-append, AllByRecursion-weaker, below_last, each_changed, eqb_same, get_or-set_other, get_or-set_same, is_there, or_none, or_third, or_true}
 use Rattle.hub_core.proofs.Nexts.{Change, cleared, end_swept, got, next, started, went_on}
 use Rattle.hub_core.proofs.Sending.{Moves, moved_end, moved_shown, moves_of, moves_to}
-use Rattle.hub_core.proofs.Seeing.{Sees, seen_is}
-use Rattle.hub_core.proofs.Showing.{SoundlyShows}
+use Rattle.hub_core.proofs.Seeing.{Sees, seen_is, SoundlyShows}
 use Rattle.hub_core.proofs.SoundLines.{line_epochs}
 use Rattle.hub_core.proofs.SoundWaiting.{nobody_there, nothing_more, rises_joined, same_rises, taken_prefix}
 use Rattle.hub_core.proofs.Speakers.{placed_made, runs_there, swept_flies, taken_flies}

@@ -8,19 +8,16 @@ use Rattle.hub_core.proofs.Words.{kept_workers, leave_answer, line_answer, line_
 use Rattle.hub_core.proofs.Words.{position_from, position_from-zero, see_answer, see_outcome, seen, slice_get, slice_get_cases, slice_get_within, total, with_agent, cases_lt}
 use Rattle.hub_core.specs.declared.outcome.Outcome.TheVariants as outcome
 use Rattle.hub_core.specs.declared.step.Action.TheVariants as action
-use Rattle.hub_core.proofs.Calms.{calm_held, free_out, phase_away}
+use Rattle.hub_core.proofs.Counts.{calm_held, free_out, phase_away, Counted, away_at, change_each, change_get, change_length, counted_entered, counted_left, counts_of, counts_still, none_counted, owner_length, owner_now_away, owner_now_out, owns_it}
 use Rattle.hub_core.proofs.Casts.{recast}
-use Rattle.hub_core.proofs.Changing.{ShownAfter, ShownWith, found_line, line_set}
-use Rattle.hub_core.proofs.Counts.{Counted, away_at, change_each, change_get, change_length, counted_entered, counted_left, counts_of, counts_still, none_counted, owner_length, owner_now_away, owner_now_out, owns_it}
+use Rattle.hub_core.proofs.Frames.{ShownAfter, ShownWith, found_line, line_set, ShownAt, Stepped, changed, line_changed, recounted}
 use Rattle.hub_core.proofs.Fitting.{Entered, back_of, first_failing_of, found_closed_of, found_moved_of, hit, left_of, let_in_of, line_got_of}
-use Rattle.hub_core.proofs.Frames.{ShownAt, Stepped, changed, line_changed, recounted}
 use Rattle.hub_core.proofs.Nexts.{Change, agent_ended, agent_ordered, found_closed, found_moved, left, let_in, line_back, line_got, next}
-use Rattle.hub_core.proofs.Seeing.{Sees, owner_seen, seen_is}
-use Rattle.hub_core.proofs.Showing.{SoundlyShows}
+use Rattle.hub_core.proofs.Seeing.{Sees, owner_seen, seen_is, SoundlyShows}
 use Rattle.hub_core.proofs.SoundLines.{LinesAt, held_line_as, line_there, phased_line, queue_lines}
 use Rattle.hub_core.proofs.Speakers.{hears_of, made_of, no_member, no_port, running_made}
 use Rattle.hub_core.proofs.Totals.{bit}
-use Rattle.hub_core.proofs.Items.{got_there}
+use Rattle.hub_core.proofs.Lists.{got_there}
 
 -- ==== Enter and Leave: what the core answers fits, and it shows the facts with the answered step.
 

@@ -1,10 +1,13 @@
--- What a step leaves alone: an end of which no fact changes is shown as before, and so is each other line where one changes.
-use Rattle.std.proofs.Common.{◌≡◌, ℕ, ◌+◌, ◌<◌, Bool, true, false, eqb, List, [], length, set, length-set, Option, Some, refl, sym, ap, subst, ◌∙◌, ◌++◌, ne_eqb, ◌&&◌}
-use Rattle.hub_core.proofs.Words.{Envelope, Place, lines_of, slice_get_within, Line, Sender, Inside, slice_get, Agent, End, Action, Outcome, LineNow, Facts, facts, EndNow, Answers, ShowsEnd, ShowsPut, agent_now, line_now, end_now, ShowsFacts, KeepsQueues}
-use Rattle.hub_core.proofs.Lists.{eqb_same, each_set, each_changed}
-use Rattle.hub_core.proofs.Showing.{SoundlyShows}
+-- What a step leaves alone of what is kept, and what it changes.
+use Rattle.std.proofs.Common.{◌≡◌, ℕ, ◌+◌, ◌<◌, Bool, true, false, eqb, List, [], length, set, length-set, Option, Some, refl, sym, ap, subst, ◌∙◌, ◌++◌, ne_eqb, ◌&&◌, None, arith}
+use Rattle.hub_core.proofs.Words.{Envelope, Place, lines_of, slice_get_within, Line, Sender, Inside, slice_get, Agent, End, Action, Outcome, LineNow, Facts, facts, EndNow, Answers, ShowsEnd, ShowsPut, agent_now, line_now, end_now, ShowsFacts}
+use Rattle.hub_core.proofs.Words.{KeepsQueues, CoreState, core_after, changed_ends, changed_lines, change_line, ShowsRoster, no_end}
+use Rattle.hub_core.proofs.Lists.{eqb_same, each_set, each_changed, is_there}
+use Rattle.hub_core.proofs.Seeing.{SoundlyShows}
 use Rattle.hub_core.proofs.Nexts.{next}
 use Rattle.hub_core.proofs.Counts.{Counted}
+
+-- ==== What a step leaves alone: an end of which no fact changes is shown as before, and so is each other line where one changes.
 
 -- what is shown of an end
 abbrev pub ShownAt : Facts → ℕ → Option End → Type 0
@@ -94,3 +97,48 @@ end_restated {vs = vs} h lines same kind queues = record {
 -- the queues of an end don't ask where it is and whether it is enabled
 pub same_queues : {line : ℕ → LineNow} {clear : ℕ → Bool} {vs ts : List Envelope} {x : End} (p : Place) (b : Bool) → KeepsQueues line clear vs ts x → (let y : End = record x { place = p; is_enabled = b } in KeepsQueues line clear vs ts y)
 same_queues p b h = record { reached = h.reached; clear_below = h.clear_below; count = h.count; inside = h.inside; behind = h.behind; each = h.each }
+
+-- ==== What a step changes of what is kept, where it changes something.
+
+-- ---- an end and a line that are there
+
+pub found_end : (agents : List Agent) (ends : List End) (f : Facts) (e : ℕ) → SoundlyShows agents ends f → (f.end e ≡ no_end → ⊥) → (x : End) × (slice_get ends e ≡ Some x)
+found_end agents ends f e h there = elim (slice_get ends e) as (λ o. slice_get ends e ≡ o → ShownAt f e o → (x : End) × (slice_get ends e ≡ Some x)) [
+  | Some x ↦ λ at _. (x, at)
+  | None ↦ λ _ shown. absurd (there shown.same)
+] refl (h.end e)
+
+pub record FoundLine (ends : List End) (s : Sender) : Type 0 where
+  pub x : End
+  pub y : Line
+  pub at : slice_get ends s.end.0 ≡ Some x
+  pub is : slice_get x.lines s.line.0 ≡ Some y
+
+pub found_line : (agents : List Agent) (ends : List End) (f : Facts) (s : Sender) → SoundlyShows agents ends f → s.line.0 < lines_of (f.end s.end.0).kind → FoundLine ends s
+found_line agents ends f s h low =
+    let found = found_end agents ends f s.end.0 h (λ none. let no_lines : lines_of (f.end s.end.0).kind ≡ 0 = ap (λ (z : EndNow). lines_of z.kind) none in omega arith) in
+    let shown : ShownAt f s.end.0 (Some found.0) = subst (ShownAt f s.end.0) found.1 (h.end s.end.0) in
+    let count : length found.0.lines ≡ lines_of (f.end s.end.0).kind = shown.count in
+    elim (slice_get found.0.lines s.line.0) as (λ q. slice_get found.0.lines s.line.0 ≡ q → FoundLine ends s) [
+      | Some y ↦ λ is. record { x = found.0; y = y; at = found.1; is = is }
+      | None ↦ λ is. absurd (is_there found.0.lines s.line.0 (omega arith) is)
+    ] refl
+
+-- an end with this line
+abbrev pub with_line : End → ℕ → Line → End
+with_line x l y = record x { lines = set x.lines l y }
+
+pub line_set : (ends : List End) (s : Sender) (change : Line → Line) (w : FoundLine ends s) → change_line change s ends ≡ set ends s.end.0 (with_line w.x s.line.0 (change w.y))
+line_set ends s change w =
+    ap (changed_ends (λ x. record x { lines = changed_lines change s.line.0 x.lines (slice_get x.lines s.line.0) }) s.end.0 ends) w.at
+    ∙ ap (λ q. set ends s.end.0 (let x : End = record w.x { lines = changed_lines change s.line.0 w.x.lines q } in x)) w.is
+
+-- ---- a step by what it was answered
+
+-- what the core keeps after a step, and that the roster stays
+abbrev pub ShownAfter : CoreState → Facts → Action → Bool → Outcome → Type 0
+ShownAfter c f a refused o = Stepped (core_after c o a).agents (core_after c o a).ends f a refused o × ((core_after c o a).roster ≡ c.roster)
+
+-- the same of a step that changes the roster
+abbrev pub ShownWith : CoreState → Facts → Action → Bool → Outcome → Type 0
+ShownWith c f a refused o = Stepped (core_after c o a).agents (core_after c o a).ends f a refused o × ShowsRoster (core_after c o a).roster (next f a o)

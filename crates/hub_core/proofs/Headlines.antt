@@ -5,16 +5,15 @@ use Rattle.hub_core.proofs.Words.{Sender, Sound, Turned, TurnedPutsNothing, acce
 use Rattle.hub_core.proofs.Words.{is_out, is_some, leaves, lines_of, map-append, not-true, numbers, phase_of_line, poster, posts, someone_at, take_of, taken, up_to, not-false, or_parts, cases_lt}
 use Rattle.hub_core.specs.declared.step.Action.TheVariants as action
 use Rattle.hub_core.specs.declared.outcome.Outcome.TheVariants as outcome
-use Rattle.hub_core.proofs.Away.{speaker_next}
+use Rattle.hub_core.proofs.SoundPlaces.{speaker_next}
 use Rattle.hub_core.proofs.Fitting.{any_of, found_closed_of, found_moved_of, let_in_of, noticed_of, pushed_of, served_of}
-use Rattle.hub_core.proofs.Legals.{legal_apart, legal_at, legal_joined}
+use Rattle.hub_core.proofs.Sames.{legal_apart, legal_at, legal_joined, turned_leaves, turned_same}
 use Rattle.hub_core.proofs.Lists.{eqb_same}
 use Rattle.hub_core.proofs.Nexts.{facts_next, next}
-use Rattle.hub_core.proofs.Sames.{turned_leaves, turned_same}
 use Rattle.hub_core.proofs.SoundLines.{Numbered, on_place}
 use Rattle.hub_core.proofs.SoundWaiting.{taken_prefix}
 use Rattle.hub_core.proofs.Sounds.{sound_legal}
-use Rattle.hub_core.proofs.Joins.{length-up_to}
+use Rattle.hub_core.proofs.Totals.{length-up_to}
 
 -- ---- a prefix of numbered envelopes is numbered
 

@@ -8,11 +8,8 @@ use Rattle.hub_core.specs.declared.outcome.Outcome.TheVariants as outcome
 use Rattle.hub_core.proofs.Fitting.{FindsBusy, adopted_of, cleared_of, got_of, hopped_of, look_busy_of, noticed_of, pushed_of, swept_of, went_on_of, served_of}
 use Rattle.hub_core.proofs.MailboxShown.{IsShown, Leads, ShownAt, View, at_end_or, view}
 use Rattle.hub_core.proofs.Nexts.{next}
-use Rattle.hub_core.proofs.PairGates.{closed_there, entered, left_line, started_there, turned_closed, turned_moved, with_line}
-use Rattle.hub_core.proofs.PairLooks.{SweepsBusy, busy_there, cleared_there, look_busy_there, settled_there, sweep_busy_of, sweep_busy_there}
-use Rattle.hub_core.proofs.PairMoves.{adopted_there, hopped_there, went_on_there, with_next, with_queue_new, with_taker_at}
-use Rattle.hub_core.proofs.PairQueues.{none_there, noticed_there, pushed_there, taken_all, taken_there}
-use Rattle.hub_core.proofs.PairSweeps.{swept_there}
+use Rattle.hub_core.proofs.PairGates.{closed_there, entered, left_line, started_there, turned_closed, turned_moved, with_line, adopted_there, hopped_there, went_on_there, with_next, with_queue_new, with_taker_at}
+use Rattle.hub_core.proofs.PairQueues.{SweepsBusy, busy_there, cleared_there, look_busy_there, settled_there, sweep_busy_of, sweep_busy_there, none_there, noticed_there, pushed_there, taken_all, taken_there, swept_there}
 
 -- an end that the pair doesn't make
 not_made : (b : Bool) (k : Kind) (q : Option Kind) → cond b (Some k) q ≡ None → (b ≡ false) × (q ≡ None)

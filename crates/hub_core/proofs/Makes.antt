@@ -5,17 +5,14 @@ use Rattle.hub_core.proofs.Words.{eqb-false, eqb-true, false_from_ne_true, false
 use Rattle.hub_core.proofs.Words.{new_end, no_end, no_line, one_more, option_map, origin_at, peer_of, queue_answer, seen, set_agent, slice_get, slice_get_past, taken}
 use Rattle.hub_core.specs.declared.step.Action.TheVariants as action
 use Rattle.hub_core.specs.declared.outcome.Outcome.TheVariants as outcome
-use Rattle.hub_core.proofs.Calms.{calm_places}
+use Rattle.hub_core.proofs.Counts.{calm_places, Counted, IsCalmAt, OneEnd, away_more, come_length, come_now, counted_came, counts_at, none_at, none_counted}
 use Rattle.hub_core.proofs.Casts.{roster_agent}
-use Rattle.hub_core.proofs.Changing.{ShownAfter, ShownWith}
-use Rattle.hub_core.proofs.Counts.{Counted, IsCalmAt, OneEnd, away_more, come_length, come_now, counted_came, counts_at, none_at, none_counted}
+use Rattle.hub_core.proofs.Frames.{ShownAfter, ShownWith, Stepped}
 use Rattle.hub_core.proofs.Fitting.{member_made_of, new_agent, new_ends, queue_made_of}
-use Rattle.hub_core.proofs.Frames.{Stepped}
 use Rattle.hub_core.proofs.Lists.{eqb_same, set_again, slice_get-append_back, slice_get-append_front, past_last, and_false}
-use Rattle.hub_core.proofs.Moves.{one_made}
+use Rattle.hub_core.proofs.SoundPlaces.{one_made}
 use Rattle.hub_core.proofs.Nexts.{Change, agent_made, channel_made, client_made, next, worker_made}
-use Rattle.hub_core.proofs.Seeing.{Sees, seen_is}
-use Rattle.hub_core.proofs.Showing.{SoundlyShows, with_roster}
+use Rattle.hub_core.proofs.Seeing.{Sees, seen_is, SoundlyShows, with_roster}
 use Rattle.hub_core.proofs.Speakers.{nothing_accepted, nothing_removed, running_made}
 
 -- ---- Agent

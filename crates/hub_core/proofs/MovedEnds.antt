@@ -6,14 +6,11 @@ use Rattle.hub_core.proofs.Words.{adopted_agents, adopted_end, adopting, at_queu
 use Rattle.hub_core.proofs.Words.{in_queue, is_here, is_out, is_queue, is_released, is_with, line_now, slice_get, went}
 use Rattle.hub_core.specs.declared.outcome.Outcome.TheVariants as outcome
 use Rattle.hub_core.specs.declared.step.Action.TheVariants as action
-use Rattle.hub_core.proofs.Calms.{calm_gone, came_away}
-use Rattle.hub_core.proofs.Changing.{ShownAfter, found_end, found_line, line_set, with_line}
-use Rattle.hub_core.proofs.Counts.{adopted_now, change_length, counted_came, counted_went, counts_of, counts_still, end_went, gone_length, gone_now}
+use Rattle.hub_core.proofs.Counts.{calm_gone, came_away, adopted_now, change_length, counted_came, counted_went, counts_of, counts_still, end_went, gone_length, gone_now}
+use Rattle.hub_core.proofs.Frames.{ShownAfter, found_end, found_line, line_set, with_line, ShownAt, Stepped, changed, end_changed, end_restated, line_changed, recounted, same_queues}
 use Rattle.hub_core.proofs.Fitting.{adopted_of, closed_of, handed_of, hopped_of}
-use Rattle.hub_core.proofs.Frames.{ShownAt, Stepped, changed, end_changed, end_restated, line_changed, recounted, same_queues}
 use Rattle.hub_core.proofs.Nexts.{Change, adopted, end_closed, handed, hopped, next}
-use Rattle.hub_core.proofs.Seeing.{Sees, released_kept, seen_is}
-use Rattle.hub_core.proofs.Showing.{SoundlyShows}
+use Rattle.hub_core.proofs.Seeing.{Sees, released_kept, seen_is, SoundlyShows}
 use Rattle.hub_core.proofs.SoundLines.{gone_line, line_there}
 use Rattle.hub_core.proofs.Speakers.{placed_made, running_made}
 

@@ -12,7 +12,7 @@ use Rattle.hub_core.proofs.SoundLines.{by_more}
 use Rattle.hub_core.proofs.SoundWaiting.{got_prefix}
 use Rattle.hub_core.proofs.Speakers.{nothing_accepted, nothing_removed}
 use Rattle.hub_core.proofs.Sounds.{sound_legal}
-use Rattle.hub_core.proofs.Legals.{legal_at}
+use Rattle.hub_core.proofs.Sames.{legal_at}
 use Rattle.hub_core.proofs.SweepOrders.{sweep_one}
 
 -- ---- what a core shows is in order

@@ -1,9 +1,24 @@
--- What the core keeps, seen as facts, answers as the facts do that it shows.
+-- What the core keeps, seen as facts: it shows sound facts, and answers as they do.
+use Rattle.std.proofs.Common.{◌≡◌, ℕ, List, length, ◌++◌, Bool, false, cond, [], Option, Some, None, refl, sym, ap, ◌∙◌, nat_lt, ◌+◌, not, ◌||◌, ◌&&◌}
+use Rattle.hub_core.proofs.Words.{slice_get, AgentId, Agent, End, Facts, is_client, is_worker, Sound, agent_now, ShowsEnd, ShowsFacts, kept_clients, kept_workers, kept_away, count_with, count_away, RosterNow, is_some, ◌==◌, list_all, EndId, Kind}
+use Rattle.hub_core.proofs.Words.{Port, Client, Worker, Member, Line, Good, HoldsTarget, Bad, Sender, CoreState, kept_posting_by, kept_posting_line, owner_by, owner, is_queue, peer_of, close_answer, hand_answer, hop_answer, is_released, may_close}
+use Rattle.hub_core.proofs.Words.{may_take_over, names, enter_answer, holder, running, speaker_in, poster_of, poster, hears_notice, may_enter, is_here, is_with, is_at, own_poster_out, own_line_plain, may_leave_agent, is_distinct, is_fitting}
+use Rattle.hub_core.proofs.Words.{listing_of, listing, is_out, phase_of_line, may_post, CastNow, no_roster, seen, ShowsRoster}
 use Rattle.hub_core.specs.declared.outcome.Outcome.TheVariants as outcome
-use Rattle.std.proofs.Common.{◌≡◌, Bool, false, cond, List, [], Option, Some, None, refl, sym, ap, ◌∙◌, ℕ, nat_lt, ◌+◌, not, ◌||◌, ◌&&◌}
-use Rattle.hub_core.proofs.Words.{is_some, ◌==◌, list_all, AgentId, EndId, Kind, Port, Client, Worker, Member, Line, Good, HoldsTarget, Bad, Sender, CoreState, Facts, kept_posting_by, kept_posting_line, owner_by, owner, is_queue, peer_of, close_answer, hand_answer, hop_answer, is_released, may_close, may_take_over, names, enter_answer}
-use Rattle.hub_core.proofs.Words.{holder, running, speaker_in, poster_of, poster, hears_notice, may_enter, is_here, is_with, is_at, own_poster_out, own_line_plain, may_leave_agent, is_distinct, is_fitting, listing_of, listing, is_out, phase_of_line, may_post, CastNow, no_roster, seen, ShowsRoster}
-use Rattle.hub_core.proofs.Showing.{SoundlyShows}
+
+-- ==== What a core shows of a legal history: its facts are sound as well.
+
+-- agents and ends are those of the facts, which are sound
+pub record SoundlyShows (kept_agents : List Agent) (kept_ends : List End) (f : Facts) : Type 0 where
+  pub shown : ShowsFacts kept_agents kept_ends f
+  pub open shown use *
+  pub sound : Sound f
+
+-- nothing that is kept of agents and ends asks for the roster
+pub with_roster : {agents : List Agent} {ends : List End} {f : Facts} (roster : RosterNow) → ShowsFacts agents ends f → ShowsFacts agents ends (record f { roster = roster })
+with_roster roster h = record { agents = h.agents; agent = h.agent; ends = h.ends; end = h.end; clients = h.clients; workers = h.workers; away = h.away }
+
+-- ==== What the core keeps, seen as facts, answers as the facts do that it shows.
 
 -- the facts that a core keeps
 abbrev pub kept_part : Facts → Facts

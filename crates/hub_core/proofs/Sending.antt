@@ -8,15 +8,12 @@ use Rattle.hub_core.proofs.Words.{next_name, no_line, notice_answer, notice_outc
 use Rattle.hub_core.proofs.Words.{slice_get, slice_get_within, cases_eq}
 use Rattle.hub_core.specs.declared.outcome.Outcome.TheVariants as outcome
 use Rattle.hub_core.specs.declared.step.Action.TheVariants as action
-use Rattle.hub_core.proofs.Calms.{calm_sent}
-use Rattle.hub_core.proofs.Changing.{FoundLine, ShownAfter, found_line}
-use Rattle.hub_core.proofs.Counts.{counted_ports, counts_of, counts_still}
+use Rattle.hub_core.proofs.Counts.{calm_sent, counted_ports, counts_of, counts_still}
+use Rattle.hub_core.proofs.Frames.{FoundLine, ShownAfter, found_line, ShownAt, Stepped, changed, end_restated, same_queues}
 use Rattle.hub_core.proofs.Fitting.{noticed_of, pushed_of}
-use Rattle.hub_core.proofs.Frames.{ShownAt, Stepped, changed, end_restated, same_queues}
 use Rattle.hub_core.proofs.Lists.{each_set, eqb_same, get_or-set_other, get_or-set_same, is_there}
 use Rattle.hub_core.proofs.Nexts.{Change, next, notice_put, put}
-use Rattle.hub_core.proofs.Seeing.{Sees, posting_seen, seen_is}
-use Rattle.hub_core.proofs.Showing.{SoundlyShows}
+use Rattle.hub_core.proofs.Seeing.{Sees, posting_seen, seen_is, SoundlyShows}
 use Rattle.hub_core.proofs.SoundLines.{line_there, told_line}
 use Rattle.hub_core.proofs.SoundPlaces.{some_own}
 use Rattle.hub_core.proofs.SoundWaiting.{inside_of}

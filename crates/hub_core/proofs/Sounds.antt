@@ -1,7 +1,7 @@
 -- After each pair that fits, the mailbox of each end shows what is known there; so the facts of every legal history are sound.
 use Rattle.std.proofs.Common.{Bool, List, None, [], ap, append-nil, append_assoc, arith, inl, refl, rules, subst, sym, ℕ, ◌++◌, ◌∙◌, ◌∷◌, ◌≡◌}
 use Rattle.hub_core.proofs.Words.{Action, Answers, Envelope, Facts, Fits, History, Legal, Mailbox, OneRight, Outcome, Pair, Sound, SoundPlaces, after_pair, facts, first_mailbox, mailbox, mailbox_from}
-use Rattle.hub_core.proofs.Legals.{by_pairs}
+use Rattle.hub_core.proofs.Sames.{by_pairs}
 use Rattle.hub_core.proofs.MailboxOf.{Kept, kept_next, new_shown}
 use Rattle.hub_core.proofs.Nexts.{facts_next, next}
 use Rattle.hub_core.proofs.SoundLines.{MarksAt, marks_next}

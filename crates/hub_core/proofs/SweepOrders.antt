@@ -5,10 +5,9 @@ use Rattle.hub_core.proofs.Words.{FitsSweep, FitsTake, Answers, LegalAfter, InOr
 use Rattle.hub_core.specs.declared.step.Action.TheVariants as action
 use Rattle.hub_core.specs.declared.outcome.Outcome.TheVariants as outcome
 use Rattle.hub_core.proofs.Lists.{eqb_same, AllByRecursion-weaker}
-use Rattle.hub_core.proofs.Totals.{count_lines}
+use Rattle.hub_core.proofs.Totals.{count_lines, joined, all_pass}
 use Rattle.hub_core.proofs.Nexts.{facts_next}
 use Rattle.hub_core.proofs.Fitting.{got_of}
-use Rattle.hub_core.proofs.Joins.{joined, all_pass}
 
 -- ---- a closed end takes nothing more
 

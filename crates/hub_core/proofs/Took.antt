@@ -1,21 +1,61 @@
 -- A step of the core from one value to another, and the clauses of `Core::step` that follow.
-use Rattle.std.proofs.Common.{◌≡◌, ℕ, Bool, true, List, [], ◌∷◌, ◌++◌, length, Some, None, Result, Ok, Err, refl, sym, ap, subst, ◌∙◌, inl, inr, IfOk, not, ◌&&◌}
-use Rattle.hub_core.proofs.Words.{OnErr, is_some, slice_get, false≢true, AgentId, EndId, Members, core_after, kept_member_answer, part_outcome, member_made, origin_at, group_of, is_seated_in, MemberLeaves, PartLeaves, seen, CoreState, Step, Action, Outcome, Facts, facts, Answers, Fits, History, InOrder, takes_memory, Shows, ShowsFacts}
-use Rattle.hub_core.proofs.Words.{ShowsRoster, FitsAndShows, StillShows, changes_nothing, SameContent, member_answer, part_answer}
+use Rattle.std.proofs.Common.{◌<◌, length, sym, ap, subst, ◌∙◌, ◌≡◌, Some, Result, Ok, Err, refl, IfOk, ℕ, Bool, true, List, [], ◌∷◌, ◌++◌, None, inl, inr, not, ◌&&◌}
+use Rattle.hub_core.proofs.Words.{slice_get, Core, Member, facts, origin_at, ShowsFacts, StillShows, SameContent, AgentId, Client, Worker, CoreState, core_after, queue_core, Outcome, OnErr, is_some, false≢true, EndId, Members, kept_member_answer}
+use Rattle.hub_core.proofs.Words.{part_outcome, member_made, group_of, is_seated_in, MemberLeaves, PartLeaves, seen, Step, Action, Facts, Answers, Fits, History, InOrder, takes_memory, Shows, ShowsRoster, FitsAndShows, changes_nothing, member_answer}
+use Rattle.hub_core.proofs.Words.{part_answer}
+use Rattle.hub_core.proofs.Sounds.{sound_legal}
+use Rattle.hub_core.proofs.Speakers.{kind_made}
 use Rattle.hub_core.specs.declared.step.Action.TheVariants as action
 use Rattle.hub_core.specs.declared.outcome.Outcome.TheVariants as outcome
-use Rattle.hub_core.proofs.Seeing.{Sees}
-use Rattle.hub_core.proofs.Showing.{SoundlyShows}
-use Rattle.hub_core.proofs.Sounds.{sound_legal}
-use Rattle.hub_core.proofs.Broadcasts.{part_answered, part_shown}
+use Rattle.hub_core.proofs.Seeing.{Sees, SoundlyShows}
+use Rattle.hub_core.proofs.Casts.{part_answered, part_shown, same_members, leaves_roster, roster_member, roster_part, shows_still, stays}
 use Rattle.hub_core.proofs.Makes.{member_answered, member_shown}
-use Rattle.hub_core.proofs.Casts.{same_members, leaves_roster, roster_member, roster_part, shows_still, stays}
-use Rattle.hub_core.proofs.Changing.{ShownAfter, ShownWith}
-use Rattle.hub_core.proofs.Frames.{Stepped}
+use Rattle.hub_core.proofs.Frames.{ShownAfter, ShownWith, Stepped}
 use Rattle.hub_core.proofs.Nexts.{next, facts_next, Change, effect, nothing_changes}
 use Rattle.hub_core.proofs.Orders.{shows_in_order}
-use Rattle.hub_core.proofs.Stills.{same_shown}
-use Rattle.hub_core.proofs.Legals.{legal_after_one}
+use Rattle.hub_core.proofs.Sames.{legal_after_one}
+
+-- ==== A core that didn't change still shows what it showed.
+
+-- the same agents, ends and roster show the same
+pub same_shown : (old new : Core) → SameContent old new → StillShows old new
+same_shown old new same = λ h shows. (
+  subst (λ es. ShowsFacts new.agents es (facts h)) (sym same.1) (subst (λ gs. ShowsFacts gs old.ends (facts h)) (sym same.0) shows.0),
+  record {
+    agents = ap length same.2.members.origins ∙ shows.1.agents;
+    origins = λ a. shows.1.origins a ∙ ap (λ os. origin_at (slice_get os a)) (sym same.2.members.origins);
+    groups = λ x a is.
+        let made : x < length old.ends = subst (λ n. x < n) shows.0.ends (kind_made (facts h) x (Member a) (sound_legal h shows.2).places is) in
+        shows.1.groups x a is ∙ sym (same.2.members.groups x made);
+    seated = λ k. same.2.members.seated k ∙ shows.1.seated k;
+    each = shows.1.each;
+    cast = shows.1.cast ∙ sym same.2.cast;
+  },
+  shows.2,
+)
+
+-- ==== From what the parts of the core did to the clauses of a step.
+
+-- two facts of what was answered Ok give a third
+pub ok_both : {E : Type 0} (r : Result Outcome E) (P Q R : Outcome → Type 0) → IfOk r P → IfOk r Q → ((o : Outcome) → P o → Q o → R o) → IfOk r R
+ok_both (Ok o) P Q R p q f = f o p q
+ok_both (Err e) P Q R p q f = tt
+
+pub ok_all : {E : Type 0} (r : Result Outcome E) (P Q : Outcome → Type 0) → IfOk r P → IfOk r Q → IfOk r (λ o. P o × Q o)
+ok_all (Ok o) P Q p q = (p, q)
+ok_all (Err e) P Q p q = tt
+
+-- ---- the queue of a client and of a worker
+
+pub client_core : (a : AgentId) (c : CoreState) (o : Outcome) → queue_core a Client c o ≡ core_after c o (action.Client a)
+client_core a c (outcome.Clear (Some k)) = refl
+client_core a c _ = refl
+
+pub worker_core : (a : AgentId) (c : CoreState) (o : Outcome) → queue_core a Worker c o ≡ core_after c o (action.Worker a)
+worker_core a c (outcome.Clear (Some k)) = refl
+worker_core a c _ = refl
+
+-- ==== A step of the core from one value to another, and the clauses of `Core::step` that follow.
 
 -- After all that the old core shows the step got an answer that fits, and the new core shows what is so then; where
 -- the answer says that nothing changed all is as before.

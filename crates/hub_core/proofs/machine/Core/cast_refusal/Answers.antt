@@ -1,7 +1,7 @@
 -- A cast that passes each test goes to the members of its group.
 use Rattle.std.proofs.Common.{◌≡◌, sym, ◌∙◌, ap, refl, not}
 use Rattle.hub_core.proofs.Words.{is_some}
-use Rattle.hub_core.proofs.Broadcasts.{cast_goes, none_listed}
+use Rattle.hub_core.proofs.Casts.{cast_goes, none_listed}
 use Rattle.hub_core.proofs.machine.Core.cast_refusal.Goals as goal
 
 pub returns-clause-answer : goal.returns-clause-answer

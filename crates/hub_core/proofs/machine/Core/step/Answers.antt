@@ -1,10 +1,9 @@
 -- Each arm of a step: what the family did to the core is what the facts say.
-use Rattle.hub_core.proofs.Broadcasts.{cast_fits, cast_changes}
+use Rattle.hub_core.proofs.Casts.{cast_fits, cast_changes}
 use Rattle.std.proofs.Common.{refl, ap, ◌∙◌, subst, sym}
 use Rattle.hub_core.proofs.Words.{FitsSweep, leave_answer, agent_answer, channel_answer, order_answer, back_answer, adopt_answer, start_answer}
 use Rattle.hub_core.specs.declared.step.Action.TheVariants as action
-use Rattle.hub_core.proofs.Stepping.{ok_both, ok_all, client_core, worker_core}
-use Rattle.hub_core.proofs.Took.{ok, took_where, took_by, same_err, same_err_with, told, member_took, part_took}
+use Rattle.hub_core.proofs.Took.{ok_both, ok_all, client_core, worker_core, ok, took_where, took_by, same_err, same_err_with, told, member_took, part_took}
 use Rattle.hub_core.proofs.Makes.{makes_client, makes_worker, agent_changes, channel_changes, queue_answered, client_changes, worker_changes}
 use Rattle.hub_core.proofs.Entering.{back_changes, enter_changes, leave_changes, line_changes, line_fits, order_changes, see_changes, see_fits}
 use Rattle.hub_core.proofs.MovedEnds.{adopt_changes, close_changes, hand_changes, hop_changes}

@@ -1,7 +1,7 @@
 -- A step more makes the history one pair longer.
 use Rattle.std.proofs.Common.{◌≡◌, ◌+◌, [], ◌∷◌, ◌++◌, sym, ap, subst, ◌∙◌, length, length-append}
 use Rattle.hub_core.proofs.Words.{zip, History, Shows}
-use Rattle.hub_core.proofs.Legals.{zip_one}
+use Rattle.hub_core.proofs.Sames.{zip_one}
 use Rattle.hub_core.proofs.machine.Core.take_all.Goals as goal
 
 pub loop-step-preserved : goal.loop-step-preserved

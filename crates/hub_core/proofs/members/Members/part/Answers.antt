@@ -1,6 +1,6 @@
 -- A member parts: its number leaves the numbers of its group.
 use Rattle.std.proofs.Common.{refl}
-use Rattle.hub_core.proofs.Seating.{parts}
+use Rattle.hub_core.proofs.Seats.{parts}
 use Rattle.hub_core.proofs.members.Members.part.Goals as goal
 
 pub returns-in-Some-get_mut : goal.returns-in-Some-get_mut
