@@ -253,13 +253,13 @@ cast_tests _ seated none p ds es same _ = refl
 pub cast_fits : (c : CoreState) (f : Facts) (e : EndId) (ports : List EndId) → Sees c f → (let m : Members = c.roster.members in let g : Facts = seen c in kept_cast_answer (is_some (maker_of (g.end e.0).kind) && not (is_some c.roster.cast)) (is_seated_in m e.0 (group_of m e.0) && not (g.end e.0).closed) (holder g e.0) (is_empty ports) (kept_destinations m e.0) ≡ cast_answer f e ports)
 cast_fits c f e ports h =
     let answer : Bool → List EndId → Facts → Outcome = λ seated others g. kept_cast_answer (is_some (maker_of (g.end e.0).kind) && not (is_some g.roster.cast)) (seated && not (g.end e.0).closed) (holder g e.0) (is_empty ports) others in
-    ap (answer (is_seated_in c.roster.members e.0 (group_of c.roster.members e.0)) (kept_destinations c.roster.members e.0)) (seen_is c f h)
+    ap (answer (is_seated_in c.roster.members e.0 (group_of c.roster.members e.0)) (kept_destinations c.roster.members e.0)) (seen_is h)
     ∙ ap (λ b. answer b (kept_destinations c.roster.members e.0) f) (seated_kept c.roster f e.0 h.roster)
     ∙ cast_tests (is_some (maker_of (f.end e.0).kind)) (has_end e.0 f.roster.members && not (f.end e.0).closed) (is_empty ports) (holder f e.0) (kept_destinations c.roster.members e.0) (destinations f e.0)
     (λ made. let by = made_by (f.end e.0).kind made in (destinations_by c.roster f e.0 h.roster (group_of c.roster.members e.0) ∙ ap (destinations_of f e.0) (sym (h.roster.groups e.0 by.0 by.1)))) (is_casting f)
 
-pub cast_changes : (c : CoreState) (f : Facts) (e : EndId) (ports : List EndId) (body : List ℕ) (refused : Bool) {o : Outcome} → Sees c f → o ≡ cast_answer f e ports → Change (action.Cast e ports body) o → ShownWith c f (action.Cast e ports body) refused o
-cast_changes c f e ports body refused h answer (cast_begun d ps b ends) = (
+pub cast_changes : {c : CoreState} {f : Facts} (e : EndId) (ports : List EndId) (body : List ℕ) (refused : Bool) {o : Outcome} → Sees c f → o ≡ cast_answer f e ports → Change (action.Cast e ports body) o → ShownWith c f (action.Cast e ports body) refused o
+cast_changes {c} {f} e ports body refused h answer (cast_begun d ps b ends) = (
   record { fits = answer; shows = with_roster (next f (action.Cast e ports body) (outcome.Destinations ends)).roster h.shows.shown },
   recast c.roster (cast_to e body ends) f (next f (action.Cast e ports body) (outcome.Destinations ends)) h.roster refl (λ x. refl) refl refl,
 )

@@ -243,8 +243,8 @@ look_found lines n k true true h = elim (is_anyone_at n lines) as (λ b. outcome
   | false ↦ λ is. cc
 ] h
 
-pub look_changes : (c : CoreState) (f : Facts) (e : EndId) (refused : Bool) {o : Outcome} → Sees c f → o ≡ look_outcome_at (slice_get c.ends e.0) → o ≡ look_answer f e → Change (action.Look e) o → ShownAfter c f (action.Look e) refused o
-look_changes c f e refused h says answer (cleared d k) =
+pub look_changes : {c : CoreState} {f : Facts} (e : EndId) (refused : Bool) {o : Outcome} → Sees c f → o ≡ look_outcome_at (slice_get c.ends e.0) → o ≡ look_answer f e → Change (action.Look e) o → ShownAfter c f (action.Look e) refused o
+look_changes {c} {f} e refused h says answer (cleared d k) =
     let found = found_end c.agents c.ends f e.0 h.shows (λ none. let is : outcome.Clear (Some k) ≡ outcome.NotNow = answer ∙ sym (look_none f e none) in cc) in
     let x : End = found.0 in
     let number : k ≡ x.looked = look_found x.lines x.looked k (may_look x) (nat_lt x.looked x.newest || (x.is_closed && eqb x.looked x.newest)) (says ∙ ap look_outcome_at found.1) in (
@@ -451,8 +451,8 @@ pub sweep_fits : (f : Facts) (e : EndId) (o : Option End) → Sound f → ShownA
 sweep_fits f e None s shown = fits_open f e (ap (λ (y : EndNow). y.closed) shown.same)
 sweep_fits f e (Some x) s shown = sweep_by f e x s shown x.is_closed (is_anyone_from x.looked x.lines) refl refl
 
-pub sweep_changes : (c : CoreState) (f : Facts) (e : EndId) (refused : Bool) {o : Outcome} → Sees c f → o ≡ sweep_outcome_at (slice_get c.ends e.0) → FitsSweep f e o → Change (action.Sweep e) o → ShownAfter c f (action.Sweep e) refused o
-sweep_changes c f e refused h says fits (end_swept d vs) =
+pub sweep_changes : {c : CoreState} {f : Facts} (e : EndId) (refused : Bool) {o : Outcome} → Sees c f → o ≡ sweep_outcome_at (slice_get c.ends e.0) → FitsSweep f e o → Change (action.Sweep e) o → ShownAfter c f (action.Sweep e) refused o
+sweep_changes {c} {f} e refused h says fits (end_swept d vs) =
     let swept = swept_of f e vs fits in
     let found = found_end c.agents c.ends f e.0 h.shows (λ none. false≢true (sym (ap (λ (z : EndNow). z.closed) none) ∙ swept.is_closed)) in
     let x : End = found.0 in
@@ -477,8 +477,8 @@ started_shown agents ends f e refused x h at answer =
     (end_changed e.0 (λ b w. record w { enabled = cond b true w.enabled }) x (record x { is_enabled = true }) h at (λ w. refl)
     (end_restated shown_at refl (ap (λ (w : EndNow). let v : EndNow = record w { enabled = true } in v) shown_at.same) refl (same_queues x.place true shown_at.queues)))
 
-pub start_changes : (c : CoreState) (f : Facts) (e : EndId) (refused : Bool) {o : Outcome} → Sees c f → o ≡ start_answer f e → Change (action.Start e) o → ShownAfter c f (action.Start e) refused o
-start_changes c f e refused h answer (started d) =
+pub start_changes : {c : CoreState} {f : Facts} (e : EndId) (refused : Bool) {o : Outcome} → Sees c f → o ≡ start_answer f e → Change (action.Start e) o → ShownAfter c f (action.Start e) refused o
+start_changes {c} {f} e refused h answer (started d) =
     let found = found_end c.agents c.ends f e.0 h.shows (λ none. false≢true (sym (ap (λ (z : EndNow). is_some (running_at (λ a. (f.agent a).runs) z.place)) none) ∙ (started_of f e answer).1)) in
     (subst (λ q. Stepped c.agents (changed_ends (λ x. record x { is_enabled = true }) e.0 c.ends q) f (action.Start e) refused outcome.Started) (sym found.1) (started_shown c.agents c.ends f e refused found.0 h.shows found.1 answer), refl)
 
@@ -588,7 +588,7 @@ take_at f e o h (Some x) shown t = elim x.is_closed as (λ b. (f.end e.0).closed
 
 -- the same of what the core keeps
 take_seen : (c : CoreState) (f : Facts) (e : EndId) (o : Outcome) → Sees c f → TakeAnswers (holder (seen c) e.0) (slice_get c.ends e.0) o → TakeAnswers (holder f e.0) (slice_get c.ends e.0) o
-take_seen c f e o h t = subst (λ p. TakeAnswers p (slice_get c.ends e.0) o) (ap (λ g. holder g e.0) (seen_is c f h)) t
+take_seen c f e o h t = subst (λ p. TakeAnswers p (slice_get c.ends e.0) o) (ap (λ g. holder g e.0) (seen_is h)) t
 
 pub take_fits : (c : CoreState) (f : Facts) (e : EndId) (o : Outcome) → Sees c f → TakeAnswers (holder (seen c) e.0) (slice_get c.ends e.0) o → FitsTake f e o
 take_fits c f e o h t = take_at f e o h.shows.sound (slice_get c.ends e.0) (h.shows.end e.0) (take_seen c f e o h t)
@@ -611,18 +611,18 @@ serves_there P (Some x) o n c d t = (
   ] t,
 )
 
-pub take_changes : (c : CoreState) (f : Facts) (e : EndId) (refused : Bool) {o : Outcome} → Sees c f → TakeAnswers (holder (seen c) e.0) (slice_get c.ends e.0) o → FitsTake f e o → Change (action.Take e) o → ShownAfter c f (action.Take e) refused o
-take_changes c f e refused h says fits (got d v) =
+pub take_changes : {c : CoreState} {f : Facts} (e : EndId) (refused : Bool) {o : Outcome} → Sees c f → TakeAnswers (holder (seen c) e.0) (slice_get c.ends e.0) o → FitsTake f e o → Change (action.Take e) o → ShownAfter c f (action.Take e) refused o
+take_changes {c} {f} e refused h says fits (got d v) =
     let there = serves_there (holder f e.0) (slice_get c.ends e.0) (outcome.Got v) (λ is. cc) (λ is. cc) (λ is. cc) (take_seen c f e (outcome.Got v) h says) in
     let x : End = there.0 in
     let served = got_of f e v fits in
     let has = runs_there f (f.end e.0).place served.held in
     let held : holder f e.0 ≡ Some has.0 = ap (running_at (λ a. (f.agent a).runs)) has.1 ∙ ap (λ b. cond b (Some has.0) None) has.2 in (
-      subst (λ p. Stepped c.agents (arrived_ends p v.ports (change_end front_taken e.0 c.ends)) f (action.Take e) refused (outcome.Got v)) (sym (ap (λ g. holder g e.0) (seen_is c f h) ∙ held))
+      subst (λ p. Stepped c.agents (arrived_ends p v.ports (change_end front_taken e.0 c.ends)) f (action.Take e) refused (outcome.Got v)) (sym (ap (λ g. holder g e.0) (seen_is h) ∙ held))
           (got_shown c.agents c.ends _ f e refused x has.0 v (drop 1 (get_or x.queues 0 [])) h.shows there.1 has.1 served.is_open fits there.2 served.serves (ap (λ q. moved_ends v.ports (Arrived has.0) (changed_ends front_taken e.0 c.ends q)) there.1)),
       refl,
     )
-take_changes c f e refused h says fits (went_on d) =
+take_changes {c} {f} e refused h says fits (went_on d) =
     let there = serves_there (holder f e.0) (slice_get c.ends e.0) outcome.Again (λ is. cc) (λ is. cc) (λ is. cc) (take_seen c f e outcome.Again h says) in
     let served = went_on_of f e fits in (
       subst (λ q. Stepped c.agents (changed_ends advanced_end e.0 c.ends q) f (action.Take e) refused outcome.Again) (sym there.1)

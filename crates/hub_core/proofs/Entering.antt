@@ -119,17 +119,17 @@ came_shown c f s refused p o h answer entered away opened after =
     let w = found_line c.agents c.ends f s h.shows (line_there f s (h.shows.sound.lines s.end.0) entered.may) in
     let shown : ShownAt f s.end.0 (Some w.x) = subst (ShownAt f s.end.0) w.at (h.shows.end s.end.0) in
     let g : Facts = record f { line = phased_line f s p } in
-    subst (λ q. Stepped (change_owner one_away q c.agents) (change_line (in_phase p) s c.ends) f (action.Enter s) refused o) (sym (owner_seen c f s h))
+    subst (λ q. Stepped (change_owner one_away q c.agents) (change_line (in_phase p) s c.ends) f (action.Enter s) refused o) (sym (owner_seen s h))
     (subst (λ es. Stepped (change_owner one_away (owner f s) c.agents) es f (action.Enter s) refused o) (sym (line_set c.ends s (in_phase p) w))
     (recounted h.shows answer (ap (λ (k : Facts). k.agents) after) (ap (λ (k : Facts). k.agent) after) (owner_length one_away (owner f s) c.agents) (owner_now_away (owner f s) c.agents)
     (ap (λ (k : Facts). k.ends) after ∙ h.shows.ends ∙ sym (length-set c.ends s.end.0 (with_phase w.x w.y s.line.0 p)))
     (subst (Counted (change_owner one_away (owner f s) c.agents)) (sym after) (entered_counts c.agents c.ends f s w.x p h.shows shown entered away))
     (λ d. subst (λ k. ShownAt k d (slice_get (set c.ends s.end.0 (with_phase w.x w.y s.line.0 p)) d)) (sym after) (phased_shown c.agents c.ends f s p w.x w.y h.shows w.at w.is (λ in_side. stand_kept f s.end.0 s.line.0 w.x h.shows.sound shown (opened in_side)) d))))
 
-pub enter_changes : (c : CoreState) (f : Facts) (s : Sender) (refused : Bool) {o : Outcome} → Sees c f → o ≡ enter_answer f s → Change (action.Enter s) o → ShownAfter c f (action.Enter s) refused o
-enter_changes c f s refused h answer (let_in t) = (came_shown c f s refused Inside outcome.In h answer (let_in_of f s answer).0 refl (λ _. (let_in_of f s answer).2) refl, refl)
-enter_changes c f s refused h answer (found_moved t) = (came_shown c f s refused Turned outcome.Moved h answer (found_moved_of f s answer).0 refl (λ no. cc) refl, refl)
-enter_changes c f s refused h answer (found_closed t) = (came_shown c f s refused Turned outcome.Closed h answer (found_closed_of f s answer).0 refl (λ no. cc) refl, refl)
+pub enter_changes : {c : CoreState} {f : Facts} (s : Sender) (refused : Bool) {o : Outcome} → Sees c f → o ≡ enter_answer f s → Change (action.Enter s) o → ShownAfter c f (action.Enter s) refused o
+enter_changes {c} {f} s refused h answer (let_in t) = (came_shown c f s refused Inside outcome.In h answer (let_in_of f s answer).0 refl (λ _. (let_in_of f s answer).2) refl, refl)
+enter_changes {c} {f} s refused h answer (found_moved t) = (came_shown c f s refused Turned outcome.Moved h answer (found_moved_of f s answer).0 refl (λ no. cc) refl, refl)
+enter_changes {c} {f} s refused h answer (found_closed t) = (came_shown c f s refused Turned outcome.Closed h answer (found_closed_of f s answer).0 refl (λ no. cc) refl, refl)
 
 -- ---- Leave
 
@@ -149,13 +149,13 @@ left_shown : (c : CoreState) (f : Facts) (s : Sender) (refused : Bool) → Sees 
 left_shown c f s refused h answer =
     let away = left_of f s answer in
     let w = found_line c.agents c.ends f s h.shows (line_there f s (h.shows.sound.lines s.end.0) (h.shows.sound.places.away s away)) in
-    subst (λ q. Stepped (change_owner one_out q c.agents) (change_line (in_phase Out) s c.ends) f (action.Leave s) refused outcome.Left) (sym (owner_seen c f s h))
+    subst (λ q. Stepped (change_owner one_out q c.agents) (change_line (in_phase Out) s c.ends) f (action.Leave s) refused outcome.Left) (sym (owner_seen s h))
     (subst (λ es. Stepped (change_owner one_out (owner f s) c.agents) es f (action.Leave s) refused outcome.Left) (sym (line_set c.ends s (in_phase Out) w))
     (recounted h.shows answer refl refl (owner_length one_out (owner f s) c.agents) (owner_now_out (owner f s) c.agents)
     (h.shows.ends ∙ sym (length-set c.ends s.end.0 (with_phase w.x w.y s.line.0 Out))) (left_counts c.agents c.ends f s w.x h.shows (subst (ShownAt f s.end.0) w.at (h.shows.end s.end.0)) away) (phased_shown c.agents c.ends f s Out w.x w.y h.shows w.at w.is (λ no. cc))))
 
-pub leave_changes : (c : CoreState) (f : Facts) (s : Sender) (refused : Bool) {o : Outcome} → Sees c f → o ≡ leave_answer f s → Change (action.Leave s) o → ShownWith c f (action.Leave s) refused o
-leave_changes c f s refused h answer (left t) = (left_shown c f s refused h answer, (recast c.roster (cast_after s.end.0 c.roster.cast) f (next f (action.Leave s) outcome.Left) h.roster refl (λ x. refl) refl (ap (cast_after s.end.0) h.roster.cast)))
+pub leave_changes : {c : CoreState} {f : Facts} (s : Sender) (refused : Bool) {o : Outcome} → Sees c f → o ≡ leave_answer f s → Change (action.Leave s) o → ShownWith c f (action.Leave s) refused o
+leave_changes {c} {f} s refused h answer (left t) = (left_shown c f s refused h answer, (recast c.roster (cast_after s.end.0 c.roster.cast) f (next f (action.Leave s) outcome.Left) h.roster refl (λ x. refl) refl (ap (cast_after s.end.0) h.roster.cast)))
 
 -- ==== Line and Back: what the core answers fits, and it shows the facts with the answered step.
 
@@ -215,7 +215,7 @@ line_fits_at f e a o shown = elim (is_queue (f.end e.0).kind) as (λ b. is_queue
 ] refl
 
 pub line_fits : (c : CoreState) (f : Facts) (e : EndId) (a : AgentId) → Sees c f → line_outcome (seen c) e a (slice_get c.ends e.0) ≡ line_answer f e a
-line_fits c f e a h = ap (λ g. line_outcome g e a (slice_get c.ends e.0)) (seen_is c f h) ∙ line_fits_at f e a (slice_get c.ends e.0) (h.shows.end e.0)
+line_fits c f e a h = ap (λ g. line_outcome g e a (slice_get c.ends e.0)) (seen_is h) ∙ line_fits_at f e a (slice_get c.ends e.0) (h.shows.end e.0)
 
 -- a line with this holder, or with none
 holder_shown : (c : CoreState) (f : Facts) (s : Sender) (holder : Option AgentId) (a : Action) (refused : Bool) (o : Outcome) → Sees c f → Answers f a refused o → s.line.0 < lines_of (f.end s.end.0).kind → is_out (f.line s.end.0 s.line.0).phase ≡ true
@@ -228,8 +228,8 @@ holder_shown c f s holder a refused o h answer low out after =
     (subst (Counted c.agents) (sym after) (counts_still h.shows refl (λ d. refl) (λ d. refl) (λ b. calm_held b f g s holder out (λ d. refl) (λ d. refl) (λ d i. refl) (λ d i. refl))))
     (λ d. subst (λ k. ShownAt k d (slice_get (set c.ends s.end.0 (with_holder w.x w.y s.line.0 holder)) d)) (sym after) (held_shown c.agents c.ends f s holder w.x w.y h.shows w.at w.is d)))
 
-pub line_changes : (c : CoreState) (f : Facts) (e : EndId) (a : AgentId) (refused : Bool) {o : Outcome} → Sees c f → o ≡ line_answer f e a → Change (action.Line e a) o → ShownAfter c f (action.Line e a) refused o
-line_changes c f e a refused h answer (line_got d b l) =
+pub line_changes : {c : CoreState} {f : Facts} (e : EndId) (a : AgentId) (refused : Bool) {o : Outcome} → Sees c f → o ≡ line_answer f e a → Change (action.Line e a) o → ShownAfter c f (action.Line e a) refused o
+line_changes {c} {f} e a refused h answer (line_got d b l) =
     let s : Sender = record { end = e; line = l } in
     let gets = line_got_of f e a l answer in
     let many : lines_of (f.end e.0).kind ≡ MAX_LINES = queue_lines (f.end e.0).kind gets.queue in
@@ -242,8 +242,8 @@ line_changes c f e a refused h answer (line_got d b l) =
 held_there : (f : Facts) (s : Sender) → LinesAt f s.end.0 → is_some (f.line s.end.0 s.line.0).held_by ≡ true → s.line.0 < lines_of (f.end s.end.0).kind
 held_there f s lines held = ⊎_elim (λ low. low) (λ past. absurd (false≢true (sym (ap (λ (z : LineNow). is_some z.held_by) (lines.none s.line.0 past)) ∙ held))) (cases_lt s.line.0 (lines_of (f.end s.end.0).kind))
 
-pub back_changes : (c : CoreState) (f : Facts) (s : Sender) (refused : Bool) {o : Outcome} → Sees c f → o ≡ back_answer f s → Change (action.Back s) o → ShownAfter c f (action.Back s) refused o
-back_changes c f s refused h answer (line_back t) =
+pub back_changes : {c : CoreState} {f : Facts} (s : Sender) (refused : Bool) {o : Outcome} → Sees c f → o ≡ back_answer f s → Change (action.Back s) o → ShownAfter c f (action.Back s) refused o
+back_changes {c} {f} s refused h answer (line_back t) =
     let back = back_of f s answer in
     (holder_shown c f s None (action.Back s) refused outcome.Done h answer (held_there f s (h.shows.sound.lines s.end.0) back.0) back.1 refl, refl)
 
@@ -280,8 +280,8 @@ agent_set c f a change new x h at mine other clients workers away = record {
 
 -- ---- Order
 
-pub order_changes : (c : CoreState) (f : Facts) (a : AgentId) (refused : Bool) {o : Outcome} → Sees c f → o ≡ order_answer f a → Change (action.Order a) o → ShownAfter c f (action.Order a) refused o
-order_changes c f a refused h answer (agent_ordered b) =
+pub order_changes : {c : CoreState} {f : Facts} (a : AgentId) (refused : Bool) {o : Outcome} → Sees c f → o ≡ order_answer f a → Change (action.Order a) o → ShownAfter c f (action.Order a) refused o
+order_changes {c} {f} a refused h answer (agent_ordered b) =
     let known : a.0 < f.agents = ltb-true a.0 f.agents (hit (nat_lt a.0 f.agents) answer (λ is. cc)).0 in
     let count : f.agents ≡ length c.agents = h.shows.agents in
     let found = got_there c.agents a.0 (omega arith) in
@@ -330,10 +330,10 @@ see_fits_at c f a h (Some x) at =
     ap (λ b. see_by true b x.is_ordered (ends_at f a)) still ∙ ap (λ b. see_by true (not (has_away f a)) b (ends_at f a)) ordered ∙ ap (λ b. see_by b (not (has_away f a)) (f.agent a.0).ordered (ends_at f a)) (sym made)
 
 pub see_fits : (c : CoreState) (f : Facts) (a : AgentId) → Sees c f → see_outcome (ends_at (seen c) a) (slice_get c.agents a.0) ≡ see_answer f a
-see_fits c f a h = ap (λ g. see_outcome (ends_at g a) (slice_get c.agents a.0)) (seen_is c f h) ∙ see_fits_at c f a h (slice_get c.agents a.0) refl
+see_fits c f a h = ap (λ g. see_outcome (ends_at g a) (slice_get c.agents a.0)) (seen_is h) ∙ see_fits_at c f a h (slice_get c.agents a.0) refl
 
-pub see_changes : (c : CoreState) (f : Facts) (a : AgentId) (refused : Bool) {o : Outcome} → Sees c f → o ≡ see_answer f a → Change (action.See a) o → ShownAfter c f (action.See a) refused o
-see_changes c f a refused h answer (agent_ended b es) =
+pub see_changes : {c : CoreState} {f : Facts} (a : AgentId) (refused : Bool) {o : Outcome} → Sees c f → o ≡ see_answer f a → Change (action.See a) o → ShownAfter c f (action.See a) refused o
+see_changes {c} {f} a refused h answer (agent_ended b es) =
     let found = elim (slice_get c.agents a.0) as (λ q. slice_get c.agents a.0 ≡ q → (x : Agent) × (slice_get c.agents a.0 ≡ Some x)) [
       | Some x ↦ λ at. (x, at)
       | None ↦ λ none. let is : outcome.Ending es ≡ outcome.NotNow = answer ∙ sym (see_fits_at c f a h None none) in absurd (search (rules, is))

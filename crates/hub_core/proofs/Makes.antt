@@ -50,8 +50,8 @@ agent_shown agents ends f origin refused h answer = record {
   };
 }
 
-pub agent_changes : (c : CoreState) (f : Facts) (origin : Option (List ℕ)) (refused : Bool) {o : Outcome} → Sees c f → o ≡ agent_answer f refused → Change (action.Agent origin) o → ShownWith c f (action.Agent origin) refused o
-agent_changes c f origin refused h answer (agent_made p a) =
+pub agent_changes : {c : CoreState} {f : Facts} (origin : Option (List ℕ)) (refused : Bool) {o : Outcome} → Sees c f → o ≡ agent_answer f refused → Change (action.Agent origin) o → ShownWith c f (action.Agent origin) refused o
+agent_changes {c} {f} origin refused h answer (agent_made p a) =
     let n : AgentId = record { 0 = length c.agents } in
     let same : a ≡ n = ap (λ m. let i : AgentId = record { 0 = m } in i) (new_agent f refused a answer ∙ h.shows.agents) in (
       subst (λ i. Stepped (c.agents ++ first_agent ∷ []) c.ends f (action.Agent origin) refused (outcome.Agent i)) (sym same) (agent_shown c.agents c.ends f origin refused h.shows (ap outcome.Agent (sym same) ∙ answer)),
@@ -237,8 +237,8 @@ channel_shown agents ends f a h runs few =
       | false ↦ λ other kind. let there : q.0 < f.ends = (h.sound.places.peers x q.0 (ap peer_of kind)).0 in inr (omega arith)
     ] refl is
 
-pub channel_changes : (c : CoreState) (f : Facts) (a : AgentId) (refused : Bool) {o : Outcome} → Sees c f → o ≡ channel_answer f a refused → Change (action.Channel a) o → ShownAfter c f (action.Channel a) refused o
-channel_changes c f a refused h answer (channel_made b e p) =
+pub channel_changes : {c : CoreState} {f : Facts} (a : AgentId) (refused : Bool) {o : Outcome} → Sees c f → o ≡ channel_answer f a refused → Change (action.Channel a) o → ShownAfter c f (action.Channel a) refused o
+channel_changes {c} {f} a refused h answer (channel_made b e p) =
     let made = new_ends f a refused e p answer in
     let room : f.ends + 2 ≤ MAX_ENDS = made.3 in
     let few : f.ends + 1 ≤ MAX_ENDS = omega arith in
@@ -275,14 +275,14 @@ pub queue_answered : (c : CoreState) (f : Facts) {b : Action} {k : Kind} {test :
 queue_answered c f {k = k} {test = test} {a = a} refused makes h =
     let held : ℕ = count_of k (slice_get c.agents a.0) in
     let full : Bool = nat_le MAX_ENDS (length c.ends) in
-    let same : ((seen c).agent a.0).runs && eqb held 0 ≡ ((f.agent a.0).runs && not (has_one test a f)) = ap (λ g. (g.agent a.0).runs && eqb held 0) (seen_is c f h) ∙ ap (λ d. (f.agent a.0).runs && d) (ap (λ n. eqb n 0) (count_kept c.agents c.ends f makes h.shows) ∙ (none_counted (λ x. counts_at test a (f.end x)) f.ends)) in
+    let same : ((seen c).agent a.0).runs && eqb held 0 ≡ ((f.agent a.0).runs && not (has_one test a f)) = ap (λ g. (g.agent a.0).runs && eqb held 0) (seen_is h) ∙ ap (λ d. (f.agent a.0).runs && d) (ap (λ n. eqb n 0) (count_kept c.agents c.ends f makes h.shows) ∙ (none_counted (λ x. counts_at test a (f.end x)) f.ends)) in
     ap (λ d. made_by d full refused (length c.ends)) same ∙ ap (λ n. made_by ((f.agent a.0).runs && not (has_one test a f)) (nat_le MAX_ENDS n) refused n) (sym h.shows.ends)
 
-pub client_changes : (c : CoreState) (f : Facts) (a : AgentId) (refused : Bool) {o : Outcome} → Sees c f → o ≡ queue_answer is_client f a refused → Change (action.Client a) o → ShownAfter c f (action.Client a) refused o
-client_changes c f a refused h answer (client_made b e) = let made = queue_made_of f is_client a refused e answer in (record { fits = answer; shows = made_shown c.agents c.ends f a Client e h.shows made.runs made.number }, refl)
+pub client_changes : {c : CoreState} {f : Facts} (a : AgentId) (refused : Bool) {o : Outcome} → Sees c f → o ≡ queue_answer is_client f a refused → Change (action.Client a) o → ShownAfter c f (action.Client a) refused o
+client_changes {c} {f} a refused h answer (client_made b e) = let made = queue_made_of f is_client a refused e answer in (record { fits = answer; shows = made_shown c.agents c.ends f a Client e h.shows made.runs made.number }, refl)
 
-pub worker_changes : (c : CoreState) (f : Facts) (a : AgentId) (refused : Bool) {o : Outcome} → Sees c f → o ≡ queue_answer is_worker f a refused → Change (action.Worker a) o → ShownAfter c f (action.Worker a) refused o
-worker_changes c f a refused h answer (worker_made b e) = let made = queue_made_of f is_worker a refused e answer in (record { fits = answer; shows = made_shown c.agents c.ends f a Worker e h.shows made.runs made.number }, refl)
+pub worker_changes : {c : CoreState} {f : Facts} (a : AgentId) (refused : Bool) {o : Outcome} → Sees c f → o ≡ queue_answer is_worker f a refused → Change (action.Worker a) o → ShownAfter c f (action.Worker a) refused o
+worker_changes {c} {f} a refused h answer (worker_made b e) = let made = queue_made_of f is_worker a refused e answer in (record { fits = answer; shows = made_shown c.agents c.ends f a Worker e h.shows made.runs made.number }, refl)
 
 -- ---- Member
 
@@ -293,7 +293,7 @@ pub member_answered : (c : CoreState) (f : Facts) (a : AgentId) (refused : Bool)
 member_answered c f a refused h =
     let named : Bool = is_some (origin_at (slice_get c.roster.members.origins a.0)) in
     let may : Bool = (f.agent a.0).runs && not (is_casting f) in
-    ap (λ g. joined_by ((g.agent a.0).runs && not (is_some g.roster.cast)) named (nat_le MAX_ENDS (length c.ends)) refused (length c.ends)) (seen_is c f h)
+    ap (λ g. joined_by ((g.agent a.0).runs && not (is_some g.roster.cast)) named (nat_le MAX_ENDS (length c.ends)) refused (length c.ends)) (seen_is h)
     ∙ ap (λ b. joined_by may b (nat_le MAX_ENDS (length c.ends)) refused (length c.ends)) (ap is_some (sym (h.roster.origins a.0)))
     ∙ ap (λ n. joined_by may (is_some (f.roster.origin a.0)) (nat_le MAX_ENDS n) refused n) (sym h.shows.ends)
 

@@ -50,8 +50,8 @@ gone_shown agents ends f s x y h at is out =
 
 -- ---- what is answered
 
-pub hop_changes : (c : CoreState) (f : Facts) (s : Sender) (refused : Bool) {o : Outcome} → Sees c f → o ≡ hop_answer f s → Change (action.Hop s) o → ShownAfter c f (action.Hop s) refused o
-hop_changes c f s refused h answer (hopped t k) =
+pub hop_changes : {c : CoreState} {f : Facts} (s : Sender) (refused : Bool) {o : Outcome} → Sees c f → o ≡ hop_answer f s → Change (action.Hop s) o → ShownAfter c f (action.Hop s) refused o
+hop_changes {c} {f} s refused h answer (hopped t k) =
     let hops = hopped_of f s k answer in
     let w = found_line c.agents c.ends f s h.shows (line_there f s (h.shows.sound.lines s.end.0) hops.may) in
     let shown : ShownAt f s.end.0 (Some w.x) = subst (ShownAt f s.end.0) w.at (h.shows.end s.end.0) in
@@ -87,8 +87,8 @@ moved_shown agents ends f e b refused x h at answer =
 
 -- ---- what is answered
 
-pub hand_changes : (c : CoreState) (f : Facts) (e : EndId) (b : AgentId) (refused : Bool) {o : Outcome} → Sees c f → o ≡ hand_answer f e b → Change (action.Hand e b) o → ShownAfter c f (action.Hand e b) refused o
-hand_changes c f e b refused h answer (handed d a) =
+pub hand_changes : {c : CoreState} {f : Facts} (e : EndId) (b : AgentId) (refused : Bool) {o : Outcome} → Sees c f → o ≡ hand_answer f e b → Change (action.Hand e b) o → ShownAfter c f (action.Hand e b) refused o
+hand_changes {c} {f} e b refused h answer (handed d a) =
     let found = found_end c.agents c.ends f e.0 h.shows (λ none. false≢true (sym (ap (λ (z : EndNow). is_queue z.kind) none) ∙ (handed_of f e b answer).queue)) in
     (subst (λ q. Stepped (went q c.agents) (changed_ends (moved_to b) e.0 c.ends q) f (action.Hand e b) refused outcome.Handed) (sym found.1) (moved_shown c.agents c.ends f e b refused found.0 h.shows found.1 answer), refl)
 
@@ -129,10 +129,10 @@ adopted_shown agents ends f e a refused x k h at answer =
 
 -- ---- what is answered
 
-pub adopt_changes : (c : CoreState) (f : Facts) (e : EndId) (a : AgentId) (refused : Bool) {o : Outcome} → Sees c f → o ≡ adopt_answer f e a refused → Change (action.Adopt e a) o → ShownAfter c f (action.Adopt e a) refused o
-adopt_changes c f e a refused h answer (adopted d b k) =
+pub adopt_changes : {c : CoreState} {f : Facts} (e : EndId) (a : AgentId) (refused : Bool) {o : Outcome} → Sees c f → o ≡ adopt_answer f e a refused → Change (action.Adopt e a) o → ShownAfter c f (action.Adopt e a) refused o
+adopt_changes {c} {f} e a refused h answer (adopted d b k) =
     let found = found_end c.agents c.ends f e.0 h.shows (λ none. let placed : None ≡ Some (Arrived a) = sym (ap (λ (z : EndNow). z.place) none) ∙ (adopted_of f e a refused k answer).arrived in absurd (search (rules, placed))) in (
-      subst (λ r. Stepped (adopted_agents r a (slice_get c.ends e.0) c.agents) (changed_ends (adopted_end a) e.0 c.ends (slice_get c.ends e.0)) f (action.Adopt e a) refused (outcome.Adopted k)) (sym (ap (λ g. is_released g (g.end e.0).kind) (seen_is c f h) ∙ released_kept f (f.end e.0).kind))
+      subst (λ r. Stepped (adopted_agents r a (slice_get c.ends e.0) c.agents) (changed_ends (adopted_end a) e.0 c.ends (slice_get c.ends e.0)) f (action.Adopt e a) refused (outcome.Adopted k)) (sym (ap (λ g. is_released g (g.end e.0).kind) (seen_is h) ∙ released_kept f (f.end e.0).kind))
           (subst (λ q. Stepped (adopted_agents (is_released f (f.end e.0).kind) a q c.agents) (changed_ends (adopted_end a) e.0 c.ends q) f (action.Adopt e a) refused (outcome.Adopted k)) (sym found.1) (adopted_shown c.agents c.ends f e a refused found.0 k h.shows found.1 answer)),
       refl,
     )
@@ -156,7 +156,7 @@ shut_shown agents ends f e refused x h at answer =
 
 -- ---- what is answered
 
-pub close_changes : (c : CoreState) (f : Facts) (e : EndId) (refused : Bool) {o : Outcome} → Sees c f → o ≡ close_answer f e → Change (action.Close e) o → ShownAfter c f (action.Close e) refused o
-close_changes c f e refused h answer (end_closed d) =
+pub close_changes : {c : CoreState} {f : Facts} (e : EndId) (refused : Bool) {o : Outcome} → Sees c f → o ≡ close_answer f e → Change (action.Close e) o → ShownAfter c f (action.Close e) refused o
+close_changes {c} {f} e refused h answer (end_closed d) =
     let found = found_end c.agents c.ends f e.0 h.shows (λ none. false≢true (sym (ap (λ (z : EndNow). is_here z.place) none) ∙ (closed_of f e answer).here)) in
     (subst (λ q. Stepped (went q c.agents) (changed_ends closed_end e.0 c.ends q) f (action.Close e) refused outcome.Done) (sym found.1) (shut_shown c.agents c.ends f e refused found.0 h.shows found.1 answer), refl)

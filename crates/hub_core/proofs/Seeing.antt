@@ -40,8 +40,8 @@ pub record Sees (c : CoreState) (f : Facts) : Type 0 where
   pub shows : SoundlyShows c.agents c.ends f
   pub roster : ShowsRoster c.roster f
 
-pub seen_is : (c : CoreState) (f : Facts) → Sees c f → seen c ≡ kept_part f
-seen_is c f h = λ i. record {
+pub seen_is : {c : CoreState} {f : Facts} → Sees c f → seen c ≡ kept_part f
+seen_is {c} {f} h = λ i. record {
   agents = sym h.shows.agents i;
   ends = sym h.shows.ends i;
   agent = λ a. sym (h.shows.agent a) i;
@@ -108,33 +108,33 @@ posting_kept f s ports body refused (Some p) =
 may_enter_kept : (f : Facts) (s : Sender) → may_enter (kept_part f) s ≡ may_enter f s
 may_enter_kept f s = ap (λ p. is_some p || hears_notice f s) (poster_kept f s (f.end s.end.0).kind)
 
-pub enter_seen : (c : CoreState) (f : Facts) (s : Sender) → Sees c f → enter_answer (seen c) s ≡ enter_answer f s
-enter_seen c f s h =
-    ap (λ g. enter_answer g s) (seen_is c f h)
+pub enter_seen : {c : CoreState} {f : Facts} (s : Sender) → Sees c f → enter_answer (seen c) s ≡ enter_answer f s
+enter_seen {c} {f} s h =
+    ap (λ g. enter_answer g s) (seen_is h)
     ∙ ap (λ b. cond (not (b && is_out (phase_of_line f s) && not (f.line s.end.0 s.line.0).noticed)) outcome.NotNow (cond (nat_lt (f.line s.end.0 s.line.0).stand (f.end s.end.0).newest) outcome.Moved (cond (f.end s.end.0).closed outcome.Closed outcome.In))) (may_enter_kept f s)
 
-pub hop_seen : (c : CoreState) (f : Facts) (s : Sender) → Sees c f → hop_answer (seen c) s ≡ hop_answer f s
-hop_seen c f s h =
-    ap (λ g. hop_answer g s) (seen_is c f h)
+pub hop_seen : {c : CoreState} {f : Facts} (s : Sender) → Sees c f → hop_answer (seen c) s ≡ hop_answer f s
+hop_seen {c} {f} s h =
+    ap (λ g. hop_answer g s) (seen_is h)
     ∙ ap (λ b. cond (b && (is_out (phase_of_line f s) && nat_lt (f.line s.end.0 s.line.0).stand (f.end s.end.0).newest)) (outcome.Hopped ((f.line s.end.0 s.line.0).stand + 1)) outcome.NotNow) (may_enter_kept f s)
 
-pub owner_seen : (c : CoreState) (f : Facts) (s : Sender) → Sees c f → owner (seen c) s ≡ owner f s
-owner_seen c f s h = ap (λ g. owner g s) (seen_is c f h) ∙ owner_kept f s (f.end s.end.0).kind
+pub owner_seen : {c : CoreState} {f : Facts} (s : Sender) → Sees c f → owner (seen c) s ≡ owner f s
+owner_seen {c} {f} s h = ap (λ g. owner g s) (seen_is h) ∙ owner_kept f s (f.end s.end.0).kind
 
-pub may_close_seen : (c : CoreState) (f : Facts) (e : ℕ) → Sees c f → may_close (seen c) e ≡ may_close f e
-may_close_seen c f e h = ap (λ g. may_close g e) (seen_is c f h) ∙ ap (λ b. is_here (f.end e).place && b) (released_kept f (f.end e).kind)
+pub may_close_seen : {c : CoreState} {f : Facts} (e : ℕ) → Sees c f → may_close (seen c) e ≡ may_close f e
+may_close_seen {c} {f} e h = ap (λ g. may_close g e) (seen_is h) ∙ ap (λ b. is_here (f.end e).place && b) (released_kept f (f.end e).kind)
 
-pub close_seen : (c : CoreState) (f : Facts) (e : EndId) → Sees c f → close_answer (seen c) e ≡ close_answer f e
-close_seen c f e h = ap (λ g. close_answer g e) (seen_is c f h) ∙ ap (λ b. cond (f.end e.0).closed outcome.Closed (cond (is_here (f.end e.0).place && b) outcome.Done outcome.NotNow)) (released_kept f (f.end e.0).kind)
+pub close_seen : {c : CoreState} {f : Facts} (e : EndId) → Sees c f → close_answer (seen c) e ≡ close_answer f e
+close_seen {c} {f} e h = ap (λ g. close_answer g e) (seen_is h) ∙ ap (λ b. cond (f.end e.0).closed outcome.Closed (cond (is_here (f.end e.0).place && b) outcome.Done outcome.NotNow)) (released_kept f (f.end e.0).kind)
 
-pub hand_seen : (c : CoreState) (f : Facts) (e : EndId) (b : AgentId) → Sees c f → hand_answer (seen c) e b ≡ hand_answer f e b
-hand_seen c f e b h = ap (λ g. hand_answer g e b) (seen_is c f h) ∙ ap (λ d. cond (f.end e.0).closed outcome.Closed (cond (is_queue (f.end e.0).kind && d) outcome.Handed outcome.NotNow)) (take_over_kept f b (holder f e.0))
+pub hand_seen : {c : CoreState} {f : Facts} (e : EndId) (b : AgentId) → Sees c f → hand_answer (seen c) e b ≡ hand_answer f e b
+hand_seen {c} {f} e b h = ap (λ g. hand_answer g e b) (seen_is h) ∙ ap (λ d. cond (f.end e.0).closed outcome.Closed (cond (is_queue (f.end e.0).kind && d) outcome.Handed outcome.NotNow)) (take_over_kept f b (holder f e.0))
 
-pub posting_seen : (c : CoreState) (f : Facts) (s : Sender) (ports : List EndId) (body : List ℕ) (refused : Bool) (q : Option (Kind × Line)) → Sees c f → kept_posting_line (seen c) s ports body refused q ≡ kept_posting_line f s ports body refused q
-posting_seen c f s ports body refused q h = ap (λ g. kept_posting_line g s ports body refused q) (seen_is c f h) ∙ posting_kept f s ports body refused q
+pub posting_seen : {c : CoreState} {f : Facts} (s : Sender) (ports : List EndId) (body : List ℕ) (refused : Bool) (q : Option (Kind × Line)) → Sees c f → kept_posting_line (seen c) s ports body refused q ≡ kept_posting_line f s ports body refused q
+posting_seen {c} {f} s ports body refused q h = ap (λ g. kept_posting_line g s ports body refused q) (seen_is h) ∙ posting_kept f s ports body refused q
 
-pub listing_seen : (c : CoreState) (f : Facts) (s : Sender) (ports : List EndId) → Sees c f → listing (seen c) s ports ≡ listing f s ports
-listing_seen c f s ports h = ap (λ g. listing g s ports) (seen_is c f h) ∙ ap (listing_of (kept_part f) s ports) (poster_kept f s (f.end s.end.0).kind) ∙ listing_kept f s ports (poster f s)
+pub listing_seen : {c : CoreState} {f : Facts} (s : Sender) (ports : List EndId) → Sees c f → listing (seen c) s ports ≡ listing f s ports
+listing_seen {c} {f} s ports h = ap (λ g. listing g s ports) (seen_is h) ∙ ap (listing_of (kept_part f) s ports) (poster_kept f s (f.end s.end.0).kind) ∙ listing_kept f s ports (poster f s)
 
-pub post_seen : (c : CoreState) (f : Facts) (s : Sender) → Sees c f → may_post (seen c) s ≡ may_post f s
-post_seen c f s h = ap (λ g. may_post g s) (seen_is c f h) ∙ ap (λ p. is_some p && is_out (phase_of_line f s) && not (f.line s.end.0 s.line.0).noticed) (poster_kept f s (f.end s.end.0).kind)
+pub post_seen : {c : CoreState} {f : Facts} (s : Sender) → Sees c f → may_post (seen c) s ≡ may_post f s
+post_seen {c} {f} s h = ap (λ g. may_post g s) (seen_is h) ∙ ap (λ p. is_some p && is_out (phase_of_line f s) && not (f.line s.end.0 s.line.0).noticed) (poster_kept f s (f.end s.end.0).kind)

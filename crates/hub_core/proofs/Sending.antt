@@ -235,7 +235,7 @@ push_at f s ports body refused h None shown = not_posting f s ports body refused
 push_at f s ports body refused h (Some x) shown = push_line f s ports body refused x h shown (slice_get x.lines s.line.0) refl
 
 pub push_fits : (c : CoreState) (f : Facts) (s : Sender) (ports : List EndId) (body : List ℕ) (refused : Bool) → Sees c f → push_outcome (kept_posting c s ports body refused) ≡ push_answer f s ports body refused
-push_fits c f s ports body refused h = ap push_outcome (posting_seen c f s ports body refused (posting_at s (slice_get c.ends s.end.0)) h) ∙ push_at f s ports body refused h.shows.sound (slice_get c.ends s.end.0) (h.shows.end s.end.0)
+push_fits c f s ports body refused h = ap push_outcome (posting_seen s ports body refused (posting_at s (slice_get c.ends s.end.0)) h) ∙ push_at f s ports body refused h.shows.sound (slice_get c.ends s.end.0) (h.shows.end s.end.0)
 
 -- ---- what is put
 
@@ -255,8 +255,8 @@ accepted_moves ends s w v end at_line = moves_to v.ports InFlight (set ends s.en
     ∙ ap (λ q. moved_ends v.ports InFlight (changed_ends (λ z. put_found v z (slice_get z.lines s.line.0)) s.end.0 ends q)) w.at
     ∙ ap (λ q. moved_ends v.ports InFlight (set ends s.end.0 (put_found v w.x q))) w.is)
 
-pub push_changes : (c : CoreState) (f : Facts) (s : Sender) (ports : List EndId) (body : List ℕ) (refused : Bool) {o : Outcome} → Sees c f → o ≡ push_answer f s ports body refused → Change (action.Push s ports body) o → ShownAfter c f (action.Push s ports body) refused o
-push_changes c f s ports body refused h answer (put t ps b n) =
+pub push_changes : {c : CoreState} {f : Facts} (s : Sender) (ports : List EndId) (body : List ℕ) (refused : Bool) {o : Outcome} → Sees c f → o ≡ push_answer f s ports body refused → Change (action.Push s ports body) o → ShownAfter c f (action.Push s ports body) refused o
+push_changes {c} {f} s ports body refused h answer (put t ps b n) =
     let p = pushed_of f s ports body refused n answer in
     let found = inside_line c f s h p.inside in
     let w = found.0 in
@@ -312,10 +312,10 @@ notice_at f s refused h None shown = not_noticing f s refused (posting_as f s no
 notice_at f s refused h (Some x) shown = notice_line f s refused x h shown (slice_get x.lines s.line.0) refl
 
 pub notice_fits : (c : CoreState) (f : Facts) (s : Sender) (refused : Bool) → Sees c f → notice_outcome (kept_noticing c s refused) ≡ notice_answer f s refused
-notice_fits c f s refused h = ap (λ g. notice_outcome (kept_noticing_line (hears_notice g s) refused (posting_at s (slice_get c.ends s.end.0)))) (seen_is c f h) ∙ notice_at f s refused h.shows.sound (slice_get c.ends s.end.0) (h.shows.end s.end.0)
+notice_fits c f s refused h = ap (λ g. notice_outcome (kept_noticing_line (hears_notice g s) refused (posting_at s (slice_get c.ends s.end.0)))) (seen_is h) ∙ notice_at f s refused h.shows.sound (slice_get c.ends s.end.0) (h.shows.end s.end.0)
 
-pub notice_changes : (c : CoreState) (f : Facts) (s : Sender) (refused : Bool) {o : Outcome} → Sees c f → o ≡ notice_answer f s refused → Change (action.Notice s) o → ShownAfter c f (action.Notice s) refused o
-notice_changes c f s refused h answer (notice_put t n) =
+pub notice_changes : {c : CoreState} {f : Facts} (s : Sender) (refused : Bool) {o : Outcome} → Sees c f → o ≡ notice_answer f s refused → Change (action.Notice s) o → ShownAfter c f (action.Notice s) refused o
+notice_changes {c} {f} s refused h answer (notice_put t n) =
     let p = noticed_of f s refused n answer in
     let found = inside_line c f s h p.inside in
     let w = found.0 in

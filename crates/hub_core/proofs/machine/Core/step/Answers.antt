@@ -13,7 +13,7 @@ use Rattle.hub_core.proofs.Seeing.{seen_is, enter_seen, hop_seen, close_seen, ha
 use Rattle.hub_core.proofs.machine.Core.step.Goals as goal
 
 pub returns-in-Agent : goal.returns-in-Agent
-returns-in-Agent c = told c.args.step (action.Agent c.in-Agent.origin) _ _ _ c.in-Agent.is (ok_both c.make_agent.result _ _ _ c.make_agent.ensures.outcome c.make_agent.ensures.new (λ o is leaves. took_where _ _ c.args.self.now _ _ leaves (λ f s. is ∙ ap (λ g. agent_answer g c.args.step.memory_refused) (seen_is c.args.self.now f s)) (λ f s fit change. agent_changes c.args.self.now f c.in-Agent.origin _ s fit change)))
+returns-in-Agent c = told c.args.step (action.Agent c.in-Agent.origin) _ _ _ c.in-Agent.is (ok_both c.make_agent.result _ _ _ c.make_agent.ensures.outcome c.make_agent.ensures.new (λ o is leaves. took_where _ _ c.args.self.now _ _ leaves (λ f s. is ∙ ap (λ g. agent_answer g c.args.step.memory_refused) (seen_is s)) (λ f. agent_changes c.in-Agent.origin _)))
     (same_err (action.Agent c.in-Agent.origin) c.make_agent.result _ _ refl c.make_agent.ensures.err)
 
 pub returns-in-Member : goal.returns-in-Member
@@ -21,73 +21,73 @@ returns-in-Member c = told c.args.step (action.Member c.in-Member.agent c.in-Mem
     member_took c.in-Member.agent c.in-Member.name c.args.step.memory_refused _ _ o is made.0 made.1)) (same_err_with (action.Member c.in-Member.agent c.in-Member.name) c.make_member.result _ _ refl c.make_member.ensures.err)
 
 pub returns-in-Cast : goal.returns-in-Cast
-returns-in-Cast c = told c.args.step (action.Cast c.in-Cast.end c.in-Cast.ports c.in-Cast.body) _ _ _ c.in-Cast.is (ok_both c.cast.result _ _ _ c.cast.ensures.outcome c.cast.ensures.new (λ o is leaves. took_where _ _ c.args.self.now _ _ leaves (λ f s. is ∙ cast_fits c.args.self.now f c.in-Cast.end c.in-Cast.ports s) (λ f s fit change. cast_changes c.args.self.now f c.in-Cast.end c.in-Cast.ports c.in-Cast.body _ s fit change)))
+returns-in-Cast c = told c.args.step (action.Cast c.in-Cast.end c.in-Cast.ports c.in-Cast.body) _ _ _ c.in-Cast.is (ok_both c.cast.result _ _ _ c.cast.ensures.outcome c.cast.ensures.new (λ o is leaves. took_where _ _ c.args.self.now _ _ leaves (λ f s. is ∙ cast_fits c.args.self.now f c.in-Cast.end c.in-Cast.ports s) (λ f. cast_changes c.in-Cast.end c.in-Cast.ports c.in-Cast.body _)))
     (same_err (action.Cast c.in-Cast.end c.in-Cast.ports c.in-Cast.body) c.cast.result _ _ refl c.cast.ensures.err)
 
 pub returns-in-Part : goal.returns-in-Part
 returns-in-Part c = told c.args.step (action.Part c.in-Part.end) _ _ (ok c.part.result) c.in-Part.is (part_took c.in-Part.end c.args.step.memory_refused _ _ _ c.part.ensures.outcome c.part.ensures.roster c.part.ensures.rest) tt
 
 pub returns-in-Leave : goal.returns-in-Leave
-returns-in-Leave c = told c.args.step (action.Leave c.in-Leave.sender) _ _ (ok c.leave.result) c.in-Leave.is (took_where _ _ c.args.self.now _ _ c.leave.ensures.new (λ f s. c.leave.ensures.outcome ∙ ap (λ g. leave_answer g c.in-Leave.sender) (seen_is c.args.self.now f s)) (λ f s fit change. leave_changes c.args.self.now f c.in-Leave.sender _ s fit change)) tt
+returns-in-Leave c = told c.args.step (action.Leave c.in-Leave.sender) _ _ (ok c.leave.result) c.in-Leave.is (took_where _ _ c.args.self.now _ _ c.leave.ensures.new (λ f s. c.leave.ensures.outcome ∙ ap (λ g. leave_answer g c.in-Leave.sender) (seen_is s)) (λ f. leave_changes c.in-Leave.sender _)) tt
 
 pub returns-in-Channel : goal.returns-in-Channel
-returns-in-Channel c = told c.args.step (action.Channel c.in-Channel.agent) _ _ _ c.in-Channel.is (ok_both c.make_channel.result _ _ _ c.make_channel.ensures.outcome c.make_channel.ensures.new (λ o is leaves. took_by _ _ c.args.self.now _ _ leaves refl (λ f s. is ∙ ap (λ g. channel_answer g c.in-Channel.agent c.args.step.memory_refused) (seen_is c.args.self.now f s)) (λ f s fit change. channel_changes c.args.self.now f c.in-Channel.agent _ s fit change)))
+returns-in-Channel c = told c.args.step (action.Channel c.in-Channel.agent) _ _ _ c.in-Channel.is (ok_both c.make_channel.result _ _ _ c.make_channel.ensures.outcome c.make_channel.ensures.new (λ o is leaves. took_by _ _ c.args.self.now _ _ leaves refl (λ f s. is ∙ ap (λ g. channel_answer g c.in-Channel.agent c.args.step.memory_refused) (seen_is s)) (λ f. channel_changes c.in-Channel.agent _)))
     (same_err (action.Channel c.in-Channel.agent) c.make_channel.result _ _ refl c.make_channel.ensures.err)
 
 pub returns-in-Client : goal.returns-in-Client
-returns-in-Client c = told c.args.step (action.Client c.in-Client.agent) _ _ _ c.in-Client.is (ok_both c.make_queue.result _ _ _ c.make_queue.ensures.outcome c.make_queue.ensures.new (λ o is leaves. took_by _ _ c.args.self.now _ _ (leaves ∙ client_core c.in-Client.agent c.args.self.now o) refl (λ f s. is ∙ queue_answered c.args.self.now f _ (makes_client c.in-Client.agent) s) (λ f s fit change. client_changes c.args.self.now f c.in-Client.agent _ s fit change)))
+returns-in-Client c = told c.args.step (action.Client c.in-Client.agent) _ _ _ c.in-Client.is (ok_both c.make_queue.result _ _ _ c.make_queue.ensures.outcome c.make_queue.ensures.new (λ o is leaves. took_by _ _ c.args.self.now _ _ (leaves ∙ client_core c.in-Client.agent c.args.self.now o) refl (λ f s. is ∙ queue_answered c.args.self.now f _ (makes_client c.in-Client.agent) s) (λ f. client_changes c.in-Client.agent _)))
     (same_err (action.Client c.in-Client.agent) c.make_queue.result _ _ refl c.make_queue.ensures.err)
 
 pub returns-in-Worker : goal.returns-in-Worker
-returns-in-Worker c = told c.args.step (action.Worker c.in-Worker.agent) _ _ _ c.in-Worker.is (ok_both c.make_queue-in-Worker.result _ _ _ c.make_queue-in-Worker.ensures.outcome c.make_queue-in-Worker.ensures.new (λ o is leaves. took_by _ _ c.args.self.now _ _ (leaves ∙ worker_core c.in-Worker.agent c.args.self.now o) refl (λ f s. is ∙ queue_answered c.args.self.now f _ (makes_worker c.in-Worker.agent) s) (λ f s fit change. worker_changes c.args.self.now f c.in-Worker.agent _ s fit change)))
+returns-in-Worker c = told c.args.step (action.Worker c.in-Worker.agent) _ _ _ c.in-Worker.is (ok_both c.make_queue-in-Worker.result _ _ _ c.make_queue-in-Worker.ensures.outcome c.make_queue-in-Worker.ensures.new (λ o is leaves. took_by _ _ c.args.self.now _ _ (leaves ∙ worker_core c.in-Worker.agent c.args.self.now o) refl (λ f s. is ∙ queue_answered c.args.self.now f _ (makes_worker c.in-Worker.agent) s) (λ f. worker_changes c.in-Worker.agent _)))
     (same_err (action.Worker c.in-Worker.agent) c.make_queue-in-Worker.result _ _ refl c.make_queue-in-Worker.ensures.err)
 
 pub returns-in-Line : goal.returns-in-Line
-returns-in-Line c = told c.args.step (action.Line c.in-Line.end c.in-Line.agent) _ _ (ok c.hold.result) c.in-Line.is (took_by _ _ c.args.self.now _ _ c.hold.ensures.new refl (λ f s. c.hold.ensures.outcome ∙ line_fits c.args.self.now f c.in-Line.end c.in-Line.agent s) (λ f s fit change. line_changes c.args.self.now f c.in-Line.end c.in-Line.agent _ s fit change)) tt
+returns-in-Line c = told c.args.step (action.Line c.in-Line.end c.in-Line.agent) _ _ (ok c.hold.result) c.in-Line.is (took_by _ _ c.args.self.now _ _ c.hold.ensures.new refl (λ f s. c.hold.ensures.outcome ∙ line_fits c.args.self.now f c.in-Line.end c.in-Line.agent s) (λ f. line_changes c.in-Line.end c.in-Line.agent _)) tt
 
 pub returns-in-Back : goal.returns-in-Back
-returns-in-Back c = told c.args.step (action.Back c.in-Back.sender) _ _ (ok c.give_back.result) c.in-Back.is (took_by _ _ c.args.self.now _ _ c.give_back.ensures.new refl (λ f s. c.give_back.ensures.outcome ∙ ap (λ g. back_answer g c.in-Back.sender) (seen_is c.args.self.now f s)) (λ f s fit change. back_changes c.args.self.now f c.in-Back.sender _ s fit change)) tt
+returns-in-Back c = told c.args.step (action.Back c.in-Back.sender) _ _ (ok c.give_back.result) c.in-Back.is (took_by _ _ c.args.self.now _ _ c.give_back.ensures.new refl (λ f s. c.give_back.ensures.outcome ∙ ap (λ g. back_answer g c.in-Back.sender) (seen_is s)) (λ f. back_changes c.in-Back.sender _)) tt
 
 pub returns-in-Hop : goal.returns-in-Hop
-returns-in-Hop c = told c.args.step (action.Hop c.in-Hop.sender) _ _ (ok c.hop.result) c.in-Hop.is (took_by _ _ c.args.self.now _ _ c.hop.ensures.new refl (λ f s. c.hop.ensures.outcome ∙ hop_seen c.args.self.now f c.in-Hop.sender s) (λ f s fit change. hop_changes c.args.self.now f c.in-Hop.sender _ s fit change)) tt
+returns-in-Hop c = told c.args.step (action.Hop c.in-Hop.sender) _ _ (ok c.hop.result) c.in-Hop.is (took_by _ _ c.args.self.now _ _ c.hop.ensures.new refl (λ f s. c.hop.ensures.outcome ∙ hop_seen c.in-Hop.sender s) (λ f. hop_changes c.in-Hop.sender _)) tt
 
 pub returns-in-Start : goal.returns-in-Start
-returns-in-Start c = told c.args.step (action.Start c.in-Start.end) _ _ (ok c.start.result) c.in-Start.is (took_by _ _ c.args.self.now _ _ c.start.ensures.new refl (λ f s. c.start.ensures.outcome ∙ ap (λ g. start_answer g c.in-Start.end) (seen_is c.args.self.now f s)) (λ f s fit change. start_changes c.args.self.now f c.in-Start.end _ s fit change)) tt
+returns-in-Start c = told c.args.step (action.Start c.in-Start.end) _ _ (ok c.start.result) c.in-Start.is (took_by _ _ c.args.self.now _ _ c.start.ensures.new refl (λ f s. c.start.ensures.outcome ∙ ap (λ g. start_answer g c.in-Start.end) (seen_is s)) (λ f. start_changes c.in-Start.end _)) tt
 
 pub returns-in-Look : goal.returns-in-Look
-returns-in-Look c = told c.args.step (action.Look c.in-Look.end) _ _ (ok c.look.result) c.in-Look.is (took_by _ _ c.args.self.now _ _ c.look.ensures.new refl (λ f s. c.look.ensures.outcome ∙ look_fits f c.in-Look.end _ (s.shows.end c.in-Look.end.0) (s.shows.sound.lines c.in-Look.end.0).taker_stand) (λ f s fit change. look_changes c.args.self.now f c.in-Look.end _ s c.look.ensures.outcome fit change)) tt
+returns-in-Look c = told c.args.step (action.Look c.in-Look.end) _ _ (ok c.look.result) c.in-Look.is (took_by _ _ c.args.self.now _ _ c.look.ensures.new refl (λ f s. c.look.ensures.outcome ∙ look_fits f c.in-Look.end _ (s.shows.end c.in-Look.end.0) (s.shows.sound.lines c.in-Look.end.0).taker_stand) (λ f s. look_changes c.in-Look.end _ s c.look.ensures.outcome)) tt
 
 pub returns-in-Order : goal.returns-in-Order
-returns-in-Order c = told c.args.step (action.Order c.in-Order.agent) _ _ (ok c.order.result) c.in-Order.is (took_by _ _ c.args.self.now _ _ c.order.ensures.new refl (λ f s. c.order.ensures.outcome ∙ ap (λ g. order_answer g c.in-Order.agent) (seen_is c.args.self.now f s)) (λ f s fit change. order_changes c.args.self.now f c.in-Order.agent _ s fit change)) tt
+returns-in-Order c = told c.args.step (action.Order c.in-Order.agent) _ _ (ok c.order.result) c.in-Order.is (took_by _ _ c.args.self.now _ _ c.order.ensures.new refl (λ f s. c.order.ensures.outcome ∙ ap (λ g. order_answer g c.in-Order.agent) (seen_is s)) (λ f. order_changes c.in-Order.agent _)) tt
 
 pub returns-in-Enter : goal.returns-in-Enter
-returns-in-Enter c = told c.args.step (action.Enter c.in-Enter.sender) _ _ (ok c.enter.result) c.in-Enter.is (took_by _ _ c.args.self.now _ _ c.enter.ensures.new refl (λ f s. c.enter.ensures.outcome ∙ enter_seen c.args.self.now f c.in-Enter.sender s) (λ f s fit change. enter_changes c.args.self.now f c.in-Enter.sender _ s fit change)) tt
+returns-in-Enter c = told c.args.step (action.Enter c.in-Enter.sender) _ _ (ok c.enter.result) c.in-Enter.is (took_by _ _ c.args.self.now _ _ c.enter.ensures.new refl (λ f s. c.enter.ensures.outcome ∙ enter_seen c.in-Enter.sender s) (λ f. enter_changes c.in-Enter.sender _)) tt
 
 pub returns-in-Close : goal.returns-in-Close
-returns-in-Close c = told c.args.step (action.Close c.in-Close.end) _ _ (ok c.close.result) c.in-Close.is (took_by _ _ c.args.self.now _ _ c.close.ensures.new refl (λ f s. c.close.ensures.outcome ∙ close_seen c.args.self.now f c.in-Close.end s) (λ f s fit change. close_changes c.args.self.now f c.in-Close.end _ s fit change)) tt
+returns-in-Close c = told c.args.step (action.Close c.in-Close.end) _ _ (ok c.close.result) c.in-Close.is (took_by _ _ c.args.self.now _ _ c.close.ensures.new refl (λ f s. c.close.ensures.outcome ∙ close_seen c.in-Close.end s) (λ f. close_changes c.in-Close.end _)) tt
 
 pub returns-in-Hand : goal.returns-in-Hand
-returns-in-Hand c = told c.args.step (action.Hand c.in-Hand.end c.in-Hand.agent) _ _ (ok c.hand.result) c.in-Hand.is (took_by _ _ c.args.self.now _ _ c.hand.ensures.new refl (λ f s. c.hand.ensures.outcome ∙ hand_seen c.args.self.now f c.in-Hand.end c.in-Hand.agent s) (λ f s fit change. hand_changes c.args.self.now f c.in-Hand.end c.in-Hand.agent _ s fit change)) tt
+returns-in-Hand c = told c.args.step (action.Hand c.in-Hand.end c.in-Hand.agent) _ _ (ok c.hand.result) c.in-Hand.is (took_by _ _ c.args.self.now _ _ c.hand.ensures.new refl (λ f s. c.hand.ensures.outcome ∙ hand_seen c.in-Hand.end c.in-Hand.agent s) (λ f. hand_changes c.in-Hand.end c.in-Hand.agent _)) tt
 
 pub returns-in-Adopt : goal.returns-in-Adopt
-returns-in-Adopt c = told c.args.step (action.Adopt c.in-Adopt.end c.in-Adopt.agent) _ _ _ c.in-Adopt.is (ok_both c.adopt.result _ _ _ c.adopt.ensures.outcome c.adopt.ensures.new (λ o is leaves. took_by _ _ c.args.self.now _ _ leaves refl (λ f s. is ∙ ap (λ g. adopt_answer g c.in-Adopt.end c.in-Adopt.agent c.args.step.memory_refused) (seen_is c.args.self.now f s)) (λ f s fit change. adopt_changes c.args.self.now f c.in-Adopt.end c.in-Adopt.agent _ s fit change)))
+returns-in-Adopt c = told c.args.step (action.Adopt c.in-Adopt.end c.in-Adopt.agent) _ _ _ c.in-Adopt.is (ok_both c.adopt.result _ _ _ c.adopt.ensures.outcome c.adopt.ensures.new (λ o is leaves. took_by _ _ c.args.self.now _ _ leaves refl (λ f s. is ∙ ap (λ g. adopt_answer g c.in-Adopt.end c.in-Adopt.agent c.args.step.memory_refused) (seen_is s)) (λ f. adopt_changes c.in-Adopt.end c.in-Adopt.agent _)))
     (same_err (action.Adopt c.in-Adopt.end c.in-Adopt.agent) c.adopt.result _ _ refl c.adopt.ensures.err)
 
 pub returns-in-Push : goal.returns-in-Push
-returns-in-Push c = told c.args.step (action.Push c.in-Push.sender c.in-Push.ports c.in-Push.body) _ _ _ c.in-Push.is (ok_both c.push.result _ _ _ c.push.ensures.outcome c.push.ensures.new (λ o is leaves. took_by _ _ c.args.self.now _ _ leaves refl (λ f s. is ∙ push_fits c.args.self.now f c.in-Push.sender c.in-Push.ports c.in-Push.body _ s) (λ f s fit change. push_changes c.args.self.now f c.in-Push.sender c.in-Push.ports c.in-Push.body _ s fit change)))
+returns-in-Push c = told c.args.step (action.Push c.in-Push.sender c.in-Push.ports c.in-Push.body) _ _ _ c.in-Push.is (ok_both c.push.result _ _ _ c.push.ensures.outcome c.push.ensures.new (λ o is leaves. took_by _ _ c.args.self.now _ _ leaves refl (λ f s. is ∙ push_fits c.args.self.now f c.in-Push.sender c.in-Push.ports c.in-Push.body _ s) (λ f. push_changes c.in-Push.sender c.in-Push.ports c.in-Push.body _)))
     (same_err (action.Push c.in-Push.sender c.in-Push.ports c.in-Push.body) c.push.result _ _ refl c.push.ensures.err)
 
 pub returns-in-Notice : goal.returns-in-Notice
-returns-in-Notice c = told c.args.step (action.Notice c.in-Notice.sender) _ _ _ c.in-Notice.is (ok_both c.notice.result _ _ _ c.notice.ensures.outcome c.notice.ensures.new (λ o is leaves. took_by _ _ c.args.self.now _ _ leaves refl (λ f s. is ∙ notice_fits c.args.self.now f c.in-Notice.sender _ s) (λ f s fit change. notice_changes c.args.self.now f c.in-Notice.sender _ s fit change)))
+returns-in-Notice c = told c.args.step (action.Notice c.in-Notice.sender) _ _ _ c.in-Notice.is (ok_both c.notice.result _ _ _ c.notice.ensures.outcome c.notice.ensures.new (λ o is leaves. took_by _ _ c.args.self.now _ _ leaves refl (λ f s. is ∙ notice_fits c.args.self.now f c.in-Notice.sender _ s) (λ f. notice_changes c.in-Notice.sender _)))
     (same_err (action.Notice c.in-Notice.sender) c.notice.result _ _ refl c.notice.ensures.err)
 
 pub returns-in-Sweep : goal.returns-in-Sweep
-returns-in-Sweep c = told c.args.step (action.Sweep c.in-Sweep.end) _ _ _ c.in-Sweep.is (ok_both c.sweep.result _ _ _ c.sweep.ensures.outcome c.sweep.ensures.new (λ o is leaves. took_by _ _ c.args.self.now _ _ leaves refl (λ f s. subst (FitsSweep f c.in-Sweep.end) (sym is) (sweep_fits f c.in-Sweep.end _ s.shows.sound (s.shows.end c.in-Sweep.end.0))) (λ f s fit change. sweep_changes c.args.self.now f c.in-Sweep.end _ s is fit change)))
+returns-in-Sweep c = told c.args.step (action.Sweep c.in-Sweep.end) _ _ _ c.in-Sweep.is (ok_both c.sweep.result _ _ _ c.sweep.ensures.outcome c.sweep.ensures.new (λ o is leaves. took_by _ _ c.args.self.now _ _ leaves refl (λ f s. subst (FitsSweep f c.in-Sweep.end) (sym is) (sweep_fits f c.in-Sweep.end _ s.shows.sound (s.shows.end c.in-Sweep.end.0))) (λ f s. sweep_changes c.in-Sweep.end _ s is)))
     (same_err (action.Sweep c.in-Sweep.end) c.sweep.result _ _ refl c.sweep.ensures.err)
 
 pub returns-in-See : goal.returns-in-See
-returns-in-See c = told c.args.step (action.See c.in-See.agent) _ _ _ c.in-See.is (ok_both c.see.result _ _ _ c.see.ensures.outcome c.see.ensures.new (λ o is leaves. took_by _ _ c.args.self.now _ _ leaves refl (λ f s. is ∙ see_fits c.args.self.now f c.in-See.agent s) (λ f s fit change. see_changes c.args.self.now f c.in-See.agent _ s fit change)))
+returns-in-See c = told c.args.step (action.See c.in-See.agent) _ _ _ c.in-See.is (ok_both c.see.result _ _ _ c.see.ensures.outcome c.see.ensures.new (λ o is leaves. took_by _ _ c.args.self.now _ _ leaves refl (λ f s. is ∙ see_fits c.args.self.now f c.in-See.agent s) (λ f. see_changes c.in-See.agent _)))
     (same_err (action.See c.in-See.agent) c.see.result _ _ refl c.see.ensures.err)
 
 pub returns-in-Take : goal.returns-in-Take
-returns-in-Take c = told c.args.step (action.Take c.in-Take.end) _ _ (ok c.take.result) c.in-Take.is (took_by _ _ c.args.self.now _ _ c.take.ensures.new refl (λ f s. take_fits c.args.self.now f c.in-Take.end _ s c.take.ensures.outcome) (λ f s fit change. take_changes c.args.self.now f c.in-Take.end _ s c.take.ensures.outcome fit change)) tt
+returns-in-Take c = told c.args.step (action.Take c.in-Take.end) _ _ (ok c.take.result) c.in-Take.is (took_by _ _ c.args.self.now _ _ c.take.ensures.new refl (λ f s. take_fits c.args.self.now f c.in-Take.end _ s c.take.ensures.outcome) (λ f s. take_changes c.in-Take.end _ s c.take.ensures.outcome)) tt
