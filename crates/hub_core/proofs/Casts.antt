@@ -9,7 +9,7 @@ use Rattle.hub_core.specs.declared.step.Action.TheVariants as action
 use Rattle.hub_core.specs.declared.outcome.Outcome.TheVariants as outcome
 use Rattle.hub_core.proofs.SoundPlaces.{kind_next}
 use Rattle.hub_core.proofs.Fitting.{member_made_of, new_agent, hit, both_tests}
-use Rattle.hub_core.proofs.Lists.{eqb_same, slice_get-append_back, slice_get-append_front, past_last}
+use Rattle.hub_core.proofs.Lists.{eqb_same, slice_get-append_back, slice_get-append_front, past_last, each_pushed}
 use Rattle.hub_core.proofs.Nexts.{next, Change, cast_begun}
 use Rattle.hub_core.proofs.Seats.{all_at, all_more, all_without, group_flips, group_same, insert_last, is_in_with, numbers_below, numbers_less, numbers_more, numbers_same, others_with}
 use Rattle.hub_core.proofs.Speakers.{kind_made, old_one, made_by}
@@ -113,23 +113,14 @@ shows_still r f g h s = record {
 
 -- ---- an agent more
 
-origin_more : (xs : List (Option (List ℕ))) (o : Option (List ℕ)) (a : ℕ) → (before same : Bool) → nat_lt a (length xs) ≡ before → eqb a (length xs) ≡ same → cond same o (origin_at (slice_get xs a)) ≡ origin_at (slice_get (xs ++ o ∷ []) a)
-origin_more xs o a before true is here =
-    let at : a ≡ length xs + 0 = eqb-true a (length xs) here ∙ omega arith in
-    ap origin_at (sym (slice_get-append_back xs (o ∷ []) a 0 at))
-origin_more xs o a true false is here = ap origin_at (sym (slice_get-append_front xs (o ∷ []) a (ltb-true a (length xs) is)))
-origin_more xs o a false false is here =
-    let from : length xs ≤ a = ltb-false a (length xs) is in
-    ap origin_at (slice_get_past xs a from ∙ sym (slice_get_past (xs ++ o ∷ []) a (past_last xs o a from (eqb-false a (length xs) here))))
-
 pub roster_agent : (r : Roster) (f : Facts) (origin : Option (List ℕ)) (refused : Bool) (n : AgentId) → ShowsRoster r f → outcome.Agent n ≡ agent_answer f refused → ShowsRoster (record r { members = record r.members { origins = r.members.origins ++ origin ∷ [] } }) (next f (action.Agent origin) (outcome.Agent n))
 roster_agent r f origin refused n h fits =
     let number : n.0 ≡ f.agents = new_agent f refused n fits in
     record {
       agents = length-append r.members.origins (origin ∷ []) ∙ ap (λ m. m + 1) h.agents;
       origins = λ a.
-          ap (λ b. cond b origin (f.roster.origin a)) (ap (eqb a) (number ∙ sym h.agents)) ∙ ap (cond (eqb a (length r.members.origins)) origin) (h.origins a)
-          ∙ origin_more r.members.origins origin a (nat_lt a (length r.members.origins)) (eqb a (length r.members.origins)) refl refl;
+          ap (λ b. cond b origin (f.roster.origin a)) (ap (eqb a) (number ∙ sym h.agents))
+          ∙ each_pushed (λ x b o. cond b origin (f.roster.origin x) ≡ origin_at o) r.members.origins origin h.origins refl a;
       groups = h.groups;
       seated = h.seated;
       each = members_still f (next f (action.Agent origin) (outcome.Agent n)) (λ x k is. is) (λ x a is. refl) f.roster.members h.each;
@@ -269,8 +260,8 @@ cast_changes {c} {f} e ports body refused h answer (cast_begun d ps b ends) = (
 pub part_answered : (r : Roster) (f : Facts) (e : EndId) → ShowsRoster r f → part_outcome (is_seated_in r.members e.0 (group_of r.members e.0) && not (is_some r.cast)) ≡ part_answer f e
 part_answered r f e w = ap (λ b. part_outcome (b && not (is_some r.cast))) (seated_kept r f e.0 w) ∙ ap (λ b. part_outcome (has_end e.0 f.roster.members && not b)) (ap is_some (sym w.cast))
 
-pub part_shown : (agents : List Agent) (ends : List End) (f : Facts) (e : EndId) (refused : Bool) → SoundlyShows agents ends f → outcome.Done ≡ part_answer f e → Stepped agents ends f (action.Part e) refused outcome.Done
-part_shown agents ends f e refused h answer = record { fits = answer; shows = with_roster (next f (action.Part e) outcome.Done).roster h.shown }
+pub part_shown : {agents : List Agent} {ends : List End} {f : Facts} (e : EndId) (refused : Bool) → SoundlyShows agents ends f → outcome.Done ≡ part_answer f e → Stepped agents ends f (action.Part e) refused outcome.Done
+part_shown {f} e refused h answer = record { fits = answer; shows = with_roster (next f (action.Part e) outcome.Done).roster h.shown }
 
 -- a cast that passes each test goes to the destinations
 pub cast_goes : (m : Option AgentId) (casting seated shut none : Bool) (p : Option AgentId) (ds es : List EndId) → is_some m ≡ true → casting ≡ false → seated ≡ true → shut ≡ true → is_some p ≡ true → none ≡ true → ds ≡ es → outcome.Destinations ds ≡ kept_cast_answer (is_some m && not casting) (seated && shut) p none es

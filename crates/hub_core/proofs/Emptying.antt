@@ -48,13 +48,13 @@ settled_kept f e k x h from =
 -- ==== A Take that finds nothing: what the core answers fits, and it shows the facts with the answered step.
 
 -- what waits in the taker's queue of an open end
-pub taker_queue_at : (f : Facts) (e : EndId) (x : End) → f.discarded e.0 ≡ [] → ShownAt f e.0 (Some x) → in_queue ((f.end e.0).taker_stand) (f.accepted e.0) ≡ in_queue ((f.end e.0).taker_stand) (f.taken e.0) ++ get_or x.queues 0 []
+pub taker_queue_at : (f : Facts) (e : EndId) (x : End) → f.discarded e.0 ≡ [] → ShownAt f e.0 (Some x) → in_queue (f.end e.0).taker_stand (f.accepted e.0) ≡ in_queue (f.end e.0).taker_stand (f.taken e.0) ++ get_or x.queues 0 []
 taker_queue_at f e x none h =
     let taker : (f.end e.0).taker_stand ≡ x.taker + 0 = ap (λ (y : EndNow). y.taker_stand) h.same ∙ omega arith in
     subst (λ k. in_queue k (f.accepted e.0) ≡ in_queue k (f.taken e.0) ++ get_or x.queues 0 []) (sym taker)
     (subst (λ us. in_queue (x.taker + 0) (f.accepted e.0) ≡ in_queue (x.taker + 0) us ++ get_or x.queues 0 []) (nothing_more (f.taken e.0) (f.discarded e.0) none) (h.queues.each 0))
 
-drained_queue : (f : Facts) (e : EndId) (x : End) → f.discarded e.0 ≡ [] → ShownAt f e.0 (Some x) → get_or x.queues 0 [] ≡ [] → in_queue ((f.end e.0).taker_stand) (f.accepted e.0) ≡ in_queue ((f.end e.0).taker_stand) (f.taken e.0)
+drained_queue : (f : Facts) (e : EndId) (x : End) → f.discarded e.0 ≡ [] → ShownAt f e.0 (Some x) → get_or x.queues 0 [] ≡ [] → in_queue (f.end e.0).taker_stand (f.accepted e.0) ≡ in_queue (f.end e.0).taker_stand (f.taken e.0)
 drained_queue f e x none h empty =
     let t : ℕ = (f.end e.0).taker_stand in
     taker_queue_at f e x none h ∙ ap (λ q. in_queue t (f.taken e.0) ++ q) empty ∙ append-nil (in_queue t (f.taken e.0))
@@ -145,8 +145,8 @@ left_by f e x h shown opened empty false settled is found =
     ] same
 
 -- every end, with the taker of one further
-pub went_on_shown : (agents : List Agent) (ends : List End) (f : Facts) (e : EndId) (refused : Bool) (x : End) → SoundlyShows agents ends f → slice_get ends e.0 ≡ Some x → (f.end e.0).closed ≡ false → get_or x.queues 0 [] ≡ [] → (f.end e.0).taker_stand < (f.end e.0).newest → FitsTake f e outcome.Again → Stepped agents (set ends e.0 (advanced_end x)) f (action.Take e) refused outcome.Again
-went_on_shown agents ends f e refused x h at opened empty retired fits =
+pub went_on_shown : {agents : List Agent} {ends : List End} {f : Facts} (e : EndId) (refused : Bool) (x : End) → SoundlyShows agents ends f → slice_get ends e.0 ≡ Some x → (f.end e.0).closed ≡ false → get_or x.queues 0 [] ≡ [] → (f.end e.0).taker_stand < (f.end e.0).newest → FitsTake f e outcome.Again → Stepped agents (set ends e.0 (advanced_end x)) f (action.Take e) refused outcome.Again
+went_on_shown {ends} {f} e refused x h at opened empty retired fits =
     let shown : ShownAt f e.0 (Some x) = subst (ShownAt f e.0) at (h.end e.0) in
     let low : x.taker < x.newest = subst (λ (y : EndNow). y.taker_stand < y.newest) shown.same retired in
     let still : x.is_closed ≡ false = sym (ap (λ (y : EndNow). y.closed) shown.same) ∙ opened in
@@ -221,8 +221,8 @@ cleared_queues {clear = clear} {x = x} h = record {
   each = h.each;
 }
 
-cleared_shown : (agents : List Agent) (ends : List End) (f : Facts) (e : EndId) (refused : Bool) (x : End) → SoundlyShows agents ends f → slice_get ends e.0 ≡ Some x → outcome.Clear (Some x.looked) ≡ look_answer f e → Stepped agents (set ends e.0 (record x { looked = x.looked + 1 })) f (action.Look e) refused (outcome.Clear (Some x.looked))
-cleared_shown agents ends f e refused x h at answer =
+cleared_shown : {agents : List Agent} {ends : List End} {f : Facts} (e : EndId) (refused : Bool) (x : End) → SoundlyShows agents ends f → slice_get ends e.0 ≡ Some x → outcome.Clear (Some x.looked) ≡ look_answer f e → Stepped agents (set ends e.0 (record x { looked = x.looked + 1 })) f (action.Look e) refused (outcome.Clear (Some x.looked))
+cleared_shown {ends} {f} e refused x h at answer =
     let y : End = record x { looked = x.looked + 1 } in
     let shown : ShownAt f e.0 (Some x) = subst (ShownAt f e.0) at (h.end e.0) in
     changed h answer refl refl refl (length-set ends e.0 y) (counts_still h refl (λ d. refl) (λ d. refl) (λ a d l. refl))
@@ -245,12 +245,12 @@ look_found lines n k true true h = elim (is_anyone_at n lines) as (λ b. outcome
 
 pub look_changes : {c : CoreState} {f : Facts} (e : EndId) (refused : Bool) {o : Outcome} → Sees c f → o ≡ look_outcome_at (slice_get c.ends e.0) → o ≡ look_answer f e → Change (action.Look e) o → ShownAfter c f (action.Look e) refused o
 look_changes {c} {f} e refused h says answer (cleared d k) =
-    let found = found_end c.agents c.ends f e.0 h.shows (λ none. let is : outcome.Clear (Some k) ≡ outcome.NotNow = answer ∙ sym (look_none f e none) in cc) in
+    let found = found_end e.0 h.shows (λ none. let is : outcome.Clear (Some k) ≡ outcome.NotNow = answer ∙ sym (look_none f e none) in cc) in
     let x : End = found.0 in
     let number : k ≡ x.looked = look_found x.lines x.looked k (may_look x) (nat_lt x.looked x.newest || (x.is_closed && eqb x.looked x.newest)) (says ∙ ap look_outcome_at found.1) in (
       subst (λ n. Stepped c.agents (changed_ends (λ y. record y { looked = y.looked + 1 }) e.0 c.ends (slice_get c.ends e.0)) f (action.Look e) refused (outcome.Clear (Some n))) (sym number)
           (subst (λ q. Stepped c.agents (changed_ends (λ y. record y { looked = y.looked + 1 }) e.0 c.ends q) f (action.Look e) refused (outcome.Clear (Some x.looked))) (sym found.1)
-          (cleared_shown c.agents c.ends f e refused x h.shows found.1 (ap (λ n. outcome.Clear (Some n)) (sym number) ∙ answer))),
+          (cleared_shown e refused x h.shows found.1 (ap (λ n. outcome.Clear (Some n)) (sym number) ∙ answer))),
       refl,
     )
 
@@ -413,8 +413,8 @@ named_ports d [] = refl
 named_ports d (v ∷ vs) = either_any (λ p. eqb p.0 d) v.ports (ports_of vs) ∙ ap (λ b. names v.ports d || b) (named_ports d vs)
 
 -- every end, with what waited discarded and its ports swept
-swept_shown : (agents : List Agent) (ends : List End) (f : Facts) (e : EndId) (refused : Bool) (x : End) → SoundlyShows agents ends f → slice_get ends e.0 ≡ Some x → x.is_closed ≡ true → all_settled f e.0 ≡ true → FitsSweep f e (outcome.Discarded (joined x.queues)) → Stepped agents (moved_ends (ports_of (joined x.queues)) Swept (set ends e.0 (record x { queues = [] }))) f (action.Sweep e) refused (outcome.Discarded (joined x.queues))
-swept_shown agents ends f e refused x h at closed settled fits =
+swept_shown : {agents : List Agent} {ends : List End} {f : Facts} (e : EndId) (refused : Bool) (x : End) → SoundlyShows agents ends f → slice_get ends e.0 ≡ Some x → x.is_closed ≡ true → all_settled f e.0 ≡ true → FitsSweep f e (outcome.Discarded (joined x.queues)) → Stepped agents (moved_ends (ports_of (joined x.queues)) Swept (set ends e.0 (record x { queues = [] }))) f (action.Sweep e) refused (outcome.Discarded (joined x.queues))
+swept_shown {ends} {f} e refused x h at closed settled fits =
     let vs : List Envelope = joined x.queues in
     let y : End = record x { queues = [] } in
     let base : List End = set ends e.0 y in
@@ -454,14 +454,14 @@ sweep_fits f e (Some x) s shown = sweep_by f e x s shown x.is_closed (is_anyone_
 pub sweep_changes : {c : CoreState} {f : Facts} (e : EndId) (refused : Bool) {o : Outcome} → Sees c f → o ≡ sweep_outcome_at (slice_get c.ends e.0) → FitsSweep f e o → Change (action.Sweep e) o → ShownAfter c f (action.Sweep e) refused o
 sweep_changes {c} {f} e refused h says fits (end_swept d vs) =
     let swept = swept_of f e vs fits in
-    let found = found_end c.agents c.ends f e.0 h.shows (λ none. false≢true (sym (ap (λ (z : EndNow). z.closed) none) ∙ swept.is_closed)) in
+    let found = found_end e.0 h.shows (λ none. false≢true (sym (ap (λ (z : EndNow). z.closed) none) ∙ swept.is_closed)) in
     let x : End = found.0 in
     let shown : ShownAt f e.0 (Some x) = subst (ShownAt f e.0) found.1 (h.shows.end e.0) in
     let last : outcome.Discarded vs ≡ outcome.Discarded (joined x.queues) = (miss (is_anyone_from x.looked x.lines) (pass x.is_closed (says ∙ ap sweep_outcome_at found.1) (λ is. cc)).1 (λ is. cc)).1 in
     let all : vs ≡ joined x.queues = cc in (
       subst (λ us. Stepped c.agents (moved_ends (ports_of us) Swept (changed_ends (λ y. record y { queues = [] }) e.0 c.ends (slice_get c.ends e.0))) f (action.Sweep e) refused (outcome.Discarded us)) (sym all)
           (subst (λ q. Stepped c.agents (moved_ends (ports_of (joined x.queues)) Swept (changed_ends (λ y. record y { queues = [] }) e.0 c.ends q)) f (action.Sweep e) refused (outcome.Discarded (joined x.queues))) (sym found.1)
-          (swept_shown c.agents c.ends f e refused x h.shows found.1 (sym (ap (λ (z : EndNow). z.closed) shown.same) ∙ swept.is_closed) swept.settled (subst (λ us. FitsSweep f e (outcome.Discarded us)) all fits))),
+          (swept_shown e refused x h.shows found.1 (sym (ap (λ (z : EndNow). z.closed) shown.same) ∙ swept.is_closed) swept.settled (subst (λ us. FitsSweep f e (outcome.Discarded us)) all fits))),
       refl,
     )
 
@@ -470,8 +470,8 @@ sweep_changes {c} {f} e refused h says fits (end_swept d vs) =
 -- ---- Start
 
 -- the ends, one of them enabled
-started_shown : (agents : List Agent) (ends : List End) (f : Facts) (e : EndId) (refused : Bool) (x : End) → SoundlyShows agents ends f → slice_get ends e.0 ≡ Some x → outcome.Started ≡ start_answer f e → Stepped agents (set ends e.0 (record x { is_enabled = true })) f (action.Start e) refused outcome.Started
-started_shown agents ends f e refused x h at answer =
+started_shown : {agents : List Agent} {ends : List End} {f : Facts} (e : EndId) (refused : Bool) (x : End) → SoundlyShows agents ends f → slice_get ends e.0 ≡ Some x → outcome.Started ≡ start_answer f e → Stepped agents (set ends e.0 (record x { is_enabled = true })) f (action.Start e) refused outcome.Started
+started_shown {ends} {f} e refused x h at answer =
     let shown_at : ShownAt f e.0 (Some x) = subst (ShownAt f e.0) at (h.end e.0) in
     changed h answer refl refl refl (length-set ends e.0 (record x { is_enabled = true })) (counts_still h refl (λ d. refl) (λ d. refl) (λ a d l. refl))
     (end_changed e.0 (λ b w. record w { enabled = cond b true w.enabled }) x (record x { is_enabled = true }) h at (λ w. refl)
@@ -479,8 +479,8 @@ started_shown agents ends f e refused x h at answer =
 
 pub start_changes : {c : CoreState} {f : Facts} (e : EndId) (refused : Bool) {o : Outcome} → Sees c f → o ≡ start_answer f e → Change (action.Start e) o → ShownAfter c f (action.Start e) refused o
 start_changes {c} {f} e refused h answer (started d) =
-    let found = found_end c.agents c.ends f e.0 h.shows (λ none. false≢true (sym (ap (λ (z : EndNow). is_some (running_at (λ a. (f.agent a).runs) z.place)) none) ∙ (started_of f e answer).1)) in
-    (subst (λ q. Stepped c.agents (changed_ends (λ x. record x { is_enabled = true }) e.0 c.ends q) f (action.Start e) refused outcome.Started) (sym found.1) (started_shown c.agents c.ends f e refused found.0 h.shows found.1 answer), refl)
+    let found = found_end e.0 h.shows (λ none. false≢true (sym (ap (λ (z : EndNow). is_some (running_at (λ a. (f.agent a).runs) z.place)) none) ∙ (started_of f e answer).1)) in
+    (subst (λ q. Stepped c.agents (changed_ends (λ x. record x { is_enabled = true }) e.0 c.ends q) f (action.Start e) refused outcome.Started) (sym found.1) (started_shown e refused found.0 h.shows found.1 answer), refl)
 
 -- ---- Take
 
@@ -539,8 +539,8 @@ taken_end f e x v rest s none h front =
     })
 
 -- every end, with the envelope taken and its ports arrived
-got_shown : (agents : List Agent) (ends new : List End) (f : Facts) (e : EndId) (refused : Bool) (x : End) (a : AgentId) (v : Envelope) (rest : List Envelope) → SoundlyShows agents ends f → slice_get ends e.0 ≡ Some x → (f.end e.0).place ≡ Some (With a) → (f.end e.0).closed ≡ false → FitsTake f e (outcome.Got v) → get_or x.queues 0 [] ≡ v ∷ rest → IsNext f e v → new ≡ moved_ends v.ports (Arrived a) (set ends e.0 (with_taker_queue x rest)) → Stepped agents new f (action.Take e) refused (outcome.Got v)
-got_shown agents ends new f e refused x a v rest h at has opened fits front n leaves =
+got_shown : {agents : List Agent} {ends new : List End} {f : Facts} (e : EndId) (refused : Bool) (x : End) (a : AgentId) (v : Envelope) (rest : List Envelope) → SoundlyShows agents ends f → slice_get ends e.0 ≡ Some x → (f.end e.0).place ≡ Some (With a) → (f.end e.0).closed ≡ false → FitsTake f e (outcome.Got v) → get_or x.queues 0 [] ≡ v ∷ rest → IsNext f e v → new ≡ moved_ends v.ports (Arrived a) (set ends e.0 (with_taker_queue x rest)) → Stepped agents new f (action.Take e) refused (outcome.Got v)
+got_shown {ends} {new} {f} e refused x a v rest h at has opened fits front n leaves =
     let base : List End = set ends e.0 (with_taker_queue x rest) in
     let moves : Moves v.ports (Arrived a) base new = moves_to v.ports (Arrived a) base new leaves in
     let shown : ShownAt f e.0 (Some x) = subst (ShownAt f e.0) at (h.end e.0) in
@@ -554,8 +554,8 @@ got_shown agents ends new f e refused x a v rest h at has opened fits front n le
     changed h fits refl refl refl (moves.count ∙ same_count)
     (counted_ports (names v.ports) (λ d. arrived (f.end e.0).place (f.end d).place) refl (λ d. refl) (λ d. refl) (λ d named. h.sound.places.flying d (taken_flies f e v d h.sound n opened made named)) (λ b x less. calm_landed b f (next f (action.Take e) (outcome.Got v)) (names v.ports) (λ d. arrived (f.end e.0).place (f.end d).place) x refl (λ l. refl) (λ q. refl) (λ q named. taken_flies f e v q h.sound n opened made named) (λ q. ap (λ p. is_with b (arrived p (f.end q).place)) has)) (counts_of h)) (λ d.
     subst (ShowsEnd _ _ _ _ _) (sym (moves.each d))
-    (moved_shown (slice_get base d) v.ports (Arrived a) (arrived ((f.end e.0).place) ((f.end d).place)) d (each d) (λ named. (
-      ap (λ p. arrived p ((f.end d).place)) has,
+    (moved_shown (slice_get base d) v.ports (Arrived a) (arrived (f.end e.0).place (f.end d).place) d (each d) (λ named. (
+      ap (λ p. arrived p (f.end d).place) has,
       λ none.
           let there : d < f.ends = placed_made f d InFlight h.sound.places (taken_flies f e v d h.sound n opened made named) in
           let count : f.ends ≡ length ends = h.ends in
@@ -619,13 +619,13 @@ take_changes {c} {f} e refused h says fits (got d v) =
     let has = runs_there f (f.end e.0).place served.held in
     let held : holder f e.0 ≡ Some has.0 = ap (running_at (λ a. (f.agent a).runs)) has.1 ∙ ap (λ b. cond b (Some has.0) None) has.2 in (
       subst (λ p. Stepped c.agents (arrived_ends p v.ports (change_end front_taken e.0 c.ends)) f (action.Take e) refused (outcome.Got v)) (sym (ap (λ g. holder g e.0) (seen_is h) ∙ held))
-          (got_shown c.agents c.ends _ f e refused x has.0 v (drop 1 (get_or x.queues 0 [])) h.shows there.1 has.1 served.is_open fits there.2 served.serves (ap (λ q. moved_ends v.ports (Arrived has.0) (changed_ends front_taken e.0 c.ends q)) there.1)),
+          (got_shown e refused x has.0 v (drop 1 (get_or x.queues 0 [])) h.shows there.1 has.1 served.is_open fits there.2 served.serves (ap (λ q. moved_ends v.ports (Arrived has.0) (changed_ends front_taken e.0 c.ends q)) there.1)),
       refl,
     )
 take_changes {c} {f} e refused h says fits (went_on d) =
     let there = serves_there (holder f e.0) (slice_get c.ends e.0) outcome.Again (λ is. cc) (λ is. cc) (λ is. cc) (take_seen c f e outcome.Again h says) in
     let served = went_on_of f e fits in (
       subst (λ q. Stepped c.agents (changed_ends advanced_end e.0 c.ends q) f (action.Take e) refused outcome.Again) (sym there.1)
-          (went_on_shown c.agents c.ends f e refused there.0 h.shows there.1 served.is_open there.2.0 served.serves.0.retired fits),
+          (went_on_shown e refused there.0 h.shows there.1 served.is_open there.2.0 served.serves.0.retired fits),
       refl,
     )

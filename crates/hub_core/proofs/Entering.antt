@@ -33,8 +33,8 @@ phased_inside old k bound p l true is may kept at = subst (λ i. (old i).stand <
 phased_inside old k bound p l false is may kept at = kept at
 
 -- every end, with this line in this phase
-pub phased_shown : (agents : List Agent) (ends : List End) (f : Facts) (s : Sender) (p : Phase) (x : End) (y : Line) → SoundlyShows agents ends f → slice_get ends s.end.0 ≡ Some x → slice_get x.lines s.line.0 ≡ Some y → (p ≡ Inside → (f.line s.end.0 s.line.0).stand < x.taker + length x.queues) → (d : ℕ) → ShowsEnd (f.end d) (phased_line f s p d) (f.clear d) (f.accepted d) (f.taken d ++ f.discarded d) (slice_get (set ends s.end.0 (with_phase x y s.line.0 p)) d)
-phased_shown agents ends f s p x y h at is may =
+pub phased_shown : {agents : List Agent} {ends : List End} {f : Facts} (s : Sender) (p : Phase) (x : End) (y : Line) → SoundlyShows agents ends f → slice_get ends s.end.0 ≡ Some x → slice_get x.lines s.line.0 ≡ Some y → (p ≡ Inside → (f.line s.end.0 s.line.0).stand < x.taker + length x.queues) → (d : ℕ) → ShowsEnd (f.end d) (phased_line f s p d) (f.clear d) (f.accepted d) (f.taken d ++ f.discarded d) (slice_get (set ends s.end.0 (with_phase x y s.line.0 p)) d)
+phased_shown {f} s p x y h at is may =
     let shown : ShownAt f s.end.0 (Some x) = subst (ShownAt f s.end.0) at (h.end s.end.0) in
     line_changed s (λ b w. record w { phase = cond b p w.phase }) x y (record y { phase = p }) h at is refl (λ w. refl) (subst (ShowsPut (f.accepted s.end.0) s.line.0) is (shown.put s.line.0))
     (λ l inside. phased_inside (f.line s.end.0) s.line.0 (x.taker + length x.queues) p l (eqb l s.line.0) refl may (shown.queues.inside l) inside)
@@ -68,8 +68,8 @@ owner_has f s a None = refl
 owner_has f s a _ = held_owned a (f.line s.end.0 s.line.0).held_by
 
 -- an agent that holds a line that may be entered was made
-held_made : (agents : List Agent) (ends : List End) (f : Facts) (s : Sender) → SoundlyShows agents ends f → is_queue (f.end s.end.0).kind ≡ true → may_enter f s ≡ true → (b : AgentId) → (f.line s.end.0 s.line.0).held_by ≡ Some b → b.0 < length agents
-held_made agents ends f s h queue may b is = elim (hears_of f s may) [
+held_made : {agents : List Agent} {ends : List End} {f : Facts} (s : Sender) → SoundlyShows agents ends f → is_queue (f.end s.end.0).kind ≡ true → may_enter f s ≡ true → (b : AgentId) → (f.line s.end.0 s.line.0).held_by ≡ Some b → b.0 < length agents
+held_made {agents} {f} s h queue may b is = elim (hears_of f s may) [
   | inl k ↦ absurd (no_port (f.end s.end.0).kind k.peer queue k.entangled)
   | inr other ↦ elim other [
     | inl k ↦
@@ -90,23 +90,23 @@ port_owner : (first : Bool) (p : Option Place) (b : AgentId) → cond first (wit
 port_owner true p b is = with_found p b is
 port_owner false p b is = absurd (search (rules, is))
 
-owner_made : (agents : List Agent) (ends : List End) (f : Facts) (s : Sender) → SoundlyShows agents ends f → (k : Option Kind) → (f.end s.end.0).kind ≡ k → may_enter f s ≡ true → (b : AgentId) → owner_by f s k ≡ Some b → b.0 < length agents
-owner_made agents ends f s h (Some (Port q)) kind may b is =
+owner_made : {agents : List Agent} {ends : List End} {f : Facts} (s : Sender) → SoundlyShows agents ends f → (k : Option Kind) → (f.end s.end.0).kind ≡ k → may_enter f s ≡ true → (b : AgentId) → owner_by f s k ≡ Some b → b.0 < length agents
+owner_made {agents} {f} s h (Some (Port q)) kind may b is =
     let count : f.agents ≡ length agents = h.agents in
     let made : b.0 < f.agents = h.sound.places.with_made q.0 b (port_owner (eqb s.line.0 0) (f.end q.0).place b is) in
     omega arith
-owner_made agents ends f s h (Some (Member a)) kind may b is = absurd (search (rules, is))
-owner_made agents ends f s h None kind may b is = absurd (search (rules, is))
-owner_made agents ends f s h _ kind may b is = held_made agents ends f s h (ap is_queue kind) may b is
+owner_made s h (Some (Member a)) kind may b is = absurd (search (rules, is))
+owner_made s h None kind may b is = absurd (search (rules, is))
+owner_made {agents} {ends} {f} s h _ kind may b is = held_made s h (ap is_queue kind) may b is
 
 -- one poster more is away, of the line's owner
-entered_counts : (agents : List Agent) (ends : List End) (f : Facts) (s : Sender) (x : End) (p : Phase) → SoundlyShows agents ends f → ShownAt f s.end.0 (Some x) → Entered f s → is_out p ≡ false → Counted (change_owner one_away (owner f s) agents) (record f { line = phased_line f s p })
-entered_counts agents ends f s x p h shown entered away =
+entered_counts : {agents : List Agent} {ends : List End} {f : Facts} (s : Sender) (x : End) (p : Phase) → SoundlyShows agents ends f → ShownAt f s.end.0 (Some x) → Entered f s → is_out p ≡ false → Counted (change_owner one_away (owner f s) agents) (record f { line = phased_line f s p })
+entered_counts {agents} {ends} {f} s x p h shown entered away =
     let g : Facts = record f { line = phased_line f s p } in
     let kind : (f.end s.end.0).kind ≡ Some x.kind = ap (λ (z : EndNow). z.kind) shown.same in
     let low : s.line.0 < lines_of (f.end s.end.0).kind = line_there f s (h.sound.lines s.end.0) entered.may in
     let made : s.end.0 < f.ends = made_of f s.end.0 h.sound.places.ends (λ none. absurd (search (rules, sym (ap (λ (z : EndNow). z.kind) none) ∙ kind))) in
-    counted_entered agents f g (owner f s) h.sound.places.few (owner_made agents ends f s h (f.end s.end.0).kind refl entered.may) refl (λ d. refl) (λ d. refl) (λ a.
+    counted_entered agents f g (owner f s) h.sound.places.few (owner_made s h (f.end s.end.0).kind refl entered.may) refl (λ d. refl) (λ d. refl) (λ a.
     let sum : count_away a f + bit (not (is_out p) && has_poster f a s.end.0 s.line.0) ≡ count_away a g + bit (is_away_of f a s.end.0 s.line.0) = phase_away a f g s p made low refl (λ d. refl) (λ d. refl) (λ d l. refl) (λ d l. refl) in
     let new : bit (not (is_out p) && has_poster f a s.end.0 s.line.0) ≡ bit (owns_it (owner f s) a) = ap (λ b. bit (not b && has_poster f a s.end.0 s.line.0)) away ∙ ap bit (owner_has f s a (f.end s.end.0).kind) in
     let old : bit (is_away_of f a s.end.0 s.line.0) ≡ 0 = ap (λ b. bit (not b && has_poster f a s.end.0 s.line.0)) entered.out in
@@ -116,15 +116,15 @@ entered_counts agents ends f s x p h shown entered away =
 came_shown : (c : CoreState) (f : Facts) (s : Sender) (refused : Bool) (p : Phase) (o : Outcome) → Sees c f → o ≡ enter_answer f s → Entered f s → is_out p ≡ false → (p ≡ Inside → (f.end s.end.0).closed ≡ false)
     → next f (action.Enter s) o ≡ (let g : Facts = record f { line = phased_line f s p } in g) → Stepped (change_owner one_away (owner (seen c) s) c.agents) (change_line (in_phase p) s c.ends) f (action.Enter s) refused o
 came_shown c f s refused p o h answer entered away opened after =
-    let w = found_line c.agents c.ends f s h.shows (line_there f s (h.shows.sound.lines s.end.0) entered.may) in
+    let w = found_line s h.shows (line_there f s (h.shows.sound.lines s.end.0) entered.may) in
     let shown : ShownAt f s.end.0 (Some w.x) = subst (ShownAt f s.end.0) w.at (h.shows.end s.end.0) in
     let g : Facts = record f { line = phased_line f s p } in
     subst (λ q. Stepped (change_owner one_away q c.agents) (change_line (in_phase p) s c.ends) f (action.Enter s) refused o) (sym (owner_seen s h))
     (subst (λ es. Stepped (change_owner one_away (owner f s) c.agents) es f (action.Enter s) refused o) (sym (line_set c.ends s (in_phase p) w))
     (recounted h.shows answer (ap (λ (k : Facts). k.agents) after) (ap (λ (k : Facts). k.agent) after) (owner_length one_away (owner f s) c.agents) (owner_now_away (owner f s) c.agents)
     (ap (λ (k : Facts). k.ends) after ∙ h.shows.ends ∙ sym (length-set c.ends s.end.0 (with_phase w.x w.y s.line.0 p)))
-    (subst (Counted (change_owner one_away (owner f s) c.agents)) (sym after) (entered_counts c.agents c.ends f s w.x p h.shows shown entered away))
-    (λ d. subst (λ k. ShownAt k d (slice_get (set c.ends s.end.0 (with_phase w.x w.y s.line.0 p)) d)) (sym after) (phased_shown c.agents c.ends f s p w.x w.y h.shows w.at w.is (λ in_side. stand_kept f s.end.0 s.line.0 w.x h.shows.sound shown (opened in_side)) d))))
+    (subst (Counted (change_owner one_away (owner f s) c.agents)) (sym after) (entered_counts s w.x p h.shows shown entered away))
+    (λ d. subst (λ k. ShownAt k d (slice_get (set c.ends s.end.0 (with_phase w.x w.y s.line.0 p)) d)) (sym after) (phased_shown s p w.x w.y h.shows w.at w.is (λ in_side. stand_kept f s.end.0 s.line.0 w.x h.shows.sound shown (opened in_side)) d))))
 
 pub enter_changes : {c : CoreState} {f : Facts} (s : Sender) (refused : Bool) {o : Outcome} → Sees c f → o ≡ enter_answer f s → Change (action.Enter s) o → ShownAfter c f (action.Enter s) refused o
 enter_changes {c} {f} s refused h answer (let_in t) = (came_shown c f s refused Inside outcome.In h answer (let_in_of f s answer).0 refl (λ _. (let_in_of f s answer).2) refl, refl)
@@ -134,8 +134,8 @@ enter_changes {c} {f} s refused h answer (found_closed t) = (came_shown c f s re
 -- ---- Leave
 
 -- one poster less is away, of the line's owner
-left_counts : (agents : List Agent) (ends : List End) (f : Facts) (s : Sender) (x : End) → SoundlyShows agents ends f → ShownAt f s.end.0 (Some x) → is_out (f.line s.end.0 s.line.0).phase ≡ false → Counted (change_owner one_out (owner f s) agents) (next f (action.Leave s) outcome.Left)
-left_counts agents ends f s x h shown away =
+left_counts : {agents : List Agent} {ends : List End} {f : Facts} (s : Sender) (x : End) → SoundlyShows agents ends f → ShownAt f s.end.0 (Some x) → is_out (f.line s.end.0 s.line.0).phase ≡ false → Counted (change_owner one_out (owner f s) agents) (next f (action.Leave s) outcome.Left)
+left_counts {agents} {f} s x h shown away =
     let g : Facts = next f (action.Leave s) outcome.Left in
     let kind : (f.end s.end.0).kind ≡ Some x.kind = ap (λ (z : EndNow). z.kind) shown.same in
     let low : s.line.0 < lines_of (f.end s.end.0).kind = line_there f s (h.sound.lines s.end.0) (h.sound.places.away s away) in
@@ -148,11 +148,11 @@ left_counts agents ends f s x h shown away =
 left_shown : (c : CoreState) (f : Facts) (s : Sender) (refused : Bool) → Sees c f → outcome.Left ≡ leave_answer f s → Stepped (change_owner one_out (owner (seen c) s) c.agents) (change_line (in_phase Out) s c.ends) f (action.Leave s) refused outcome.Left
 left_shown c f s refused h answer =
     let away = left_of f s answer in
-    let w = found_line c.agents c.ends f s h.shows (line_there f s (h.shows.sound.lines s.end.0) (h.shows.sound.places.away s away)) in
+    let w = found_line s h.shows (line_there f s (h.shows.sound.lines s.end.0) (h.shows.sound.places.away s away)) in
     subst (λ q. Stepped (change_owner one_out q c.agents) (change_line (in_phase Out) s c.ends) f (action.Leave s) refused outcome.Left) (sym (owner_seen s h))
     (subst (λ es. Stepped (change_owner one_out (owner f s) c.agents) es f (action.Leave s) refused outcome.Left) (sym (line_set c.ends s (in_phase Out) w))
     (recounted h.shows answer refl refl (owner_length one_out (owner f s) c.agents) (owner_now_out (owner f s) c.agents)
-    (h.shows.ends ∙ sym (length-set c.ends s.end.0 (with_phase w.x w.y s.line.0 Out))) (left_counts c.agents c.ends f s w.x h.shows (subst (ShownAt f s.end.0) w.at (h.shows.end s.end.0)) away) (phased_shown c.agents c.ends f s Out w.x w.y h.shows w.at w.is (λ no. cc))))
+    (h.shows.ends ∙ sym (length-set c.ends s.end.0 (with_phase w.x w.y s.line.0 Out))) (left_counts s w.x h.shows (subst (ShownAt f s.end.0) w.at (h.shows.end s.end.0)) away) (phased_shown s Out w.x w.y h.shows w.at w.is (λ no. cc))))
 
 pub leave_changes : {c : CoreState} {f : Facts} (s : Sender) (refused : Bool) {o : Outcome} → Sees c f → o ≡ leave_answer f s → Change (action.Leave s) o → ShownWith c f (action.Leave s) refused o
 leave_changes {c} {f} s refused h answer (left t) = (left_shown c f s refused h answer, (recast c.roster (cast_after s.end.0 c.roster.cast) f (next f (action.Leave s) outcome.Left) h.roster refl (λ x. refl) refl (ap (cast_after s.end.0) h.roster.cast)))
@@ -166,8 +166,8 @@ abbrev with_holder : End → Line → ℕ → Option AgentId → End
 with_holder x y l holder = record x { lines = set x.lines l (record y { held_by = holder }) }
 
 -- every end, with this holder of the line
-held_shown : (agents : List Agent) (ends : List End) (f : Facts) (s : Sender) (holder : Option AgentId) (x : End) (y : Line) → SoundlyShows agents ends f → slice_get ends s.end.0 ≡ Some x → slice_get x.lines s.line.0 ≡ Some y → (d : ℕ) → ShowsEnd (f.end d) (held_line_as f s holder d) (f.clear d) (f.accepted d) (f.taken d ++ f.discarded d) (slice_get (set ends s.end.0 (with_holder x y s.line.0 holder)) d)
-held_shown agents ends f s holder x y h at is =
+held_shown : {agents : List Agent} {ends : List End} {f : Facts} (s : Sender) (holder : Option AgentId) (x : End) (y : Line) → SoundlyShows agents ends f → slice_get ends s.end.0 ≡ Some x → slice_get x.lines s.line.0 ≡ Some y → (d : ℕ) → ShowsEnd (f.end d) (held_line_as f s holder d) (f.clear d) (f.accepted d) (f.taken d ++ f.discarded d) (slice_get (set ends s.end.0 (with_holder x y s.line.0 holder)) d)
+held_shown {f} s holder x y h at is =
     let shown : ShownAt f s.end.0 (Some x) = subst (ShownAt f s.end.0) at (h.end s.end.0) in
     line_changed s (λ b w. record w { held_by = cond b holder w.held_by }) x y (record y { held_by = holder }) h at is refl (λ w. refl) (subst (ShowsPut (f.accepted s.end.0) s.line.0) is (shown.put s.line.0)) shown.queues.inside
 
@@ -221,12 +221,12 @@ line_fits c f e a h = ap (λ g. line_outcome g e a (slice_get c.ends e.0)) (seen
 holder_shown : (c : CoreState) (f : Facts) (s : Sender) (holder : Option AgentId) (a : Action) (refused : Bool) (o : Outcome) → Sees c f → Answers f a refused o → s.line.0 < lines_of (f.end s.end.0).kind → is_out (f.line s.end.0 s.line.0).phase ≡ true
     → next f a o ≡ (let g : Facts = record f { line = held_line_as f s holder } in g) → Stepped c.agents (change_line (held_by holder) s c.ends) f a refused o
 holder_shown c f s holder a refused o h answer low out after =
-    let w = found_line c.agents c.ends f s h.shows low in
+    let w = found_line s h.shows low in
     let g : Facts = record f { line = held_line_as f s holder } in
     subst (λ es. Stepped c.agents es f a refused o) (sym (line_set c.ends s (held_by holder) w))
     (changed h.shows answer (ap (λ (k : Facts). k.agents) after) (ap (λ (k : Facts). k.agent) after) (ap (λ (k : Facts). k.ends) after) (length-set c.ends s.end.0 (with_holder w.x w.y s.line.0 holder))
     (subst (Counted c.agents) (sym after) (counts_still h.shows refl (λ d. refl) (λ d. refl) (λ b. calm_held b f g s holder out (λ d. refl) (λ d. refl) (λ d i. refl) (λ d i. refl))))
-    (λ d. subst (λ k. ShownAt k d (slice_get (set c.ends s.end.0 (with_holder w.x w.y s.line.0 holder)) d)) (sym after) (held_shown c.agents c.ends f s holder w.x w.y h.shows w.at w.is d)))
+    (λ d. subst (λ k. ShownAt k d (slice_get (set c.ends s.end.0 (with_holder w.x w.y s.line.0 holder)) d)) (sym after) (held_shown s holder w.x w.y h.shows w.at w.is d)))
 
 pub line_changes : {c : CoreState} {f : Facts} (e : EndId) (a : AgentId) (refused : Bool) {o : Outcome} → Sees c f → o ≡ line_answer f e a → Change (action.Line e a) o → ShownAfter c f (action.Line e a) refused o
 line_changes {c} {f} e a refused h answer (line_got d b l) =

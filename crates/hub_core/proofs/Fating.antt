@@ -207,7 +207,7 @@ record IsQuiet (closed : Bool) (phase : ℕ → Phase) (accepted taken discarded
   same : accepted ≡ whole
 
 abbrev QuietAt : Facts → ℕ → List Envelope → Type 0
-QuietAt f x whole = IsQuiet ((f.end x).closed) (λ l. (f.line x l).phase) (f.accepted x) (f.taken x) (f.discarded x) whole
+QuietAt f x whole = IsQuiet (f.end x).closed (λ l. (f.line x l).phase) (f.accepted x) (f.taken x) (f.discarded x) whole
 
 module _ (f : Facts) (x : ℕ) (whole : List Envelope) (h : QuietAt f x whole) where
   -- what only an open end answers was answered at another end
@@ -218,7 +218,7 @@ module _ (f : Facts) (x : ℕ) (whole : List Envelope) (h : QuietAt f x whole) w
   not_inside : (s : Sender) → is_inside (phase_of_line f s) ≡ true → eqb x s.end.0 ≡ false
   not_inside s inside = false_from_ne_true (eqb x s.end.0) (λ is. h.nobody s.line.0 (ap (λ y. (f.line y s.line.0).phase) (eqb-true x s.end.0 is) ∙ inside_of (phase_of_line f s) inside))
 
-  quiet_phased : (s : Sender) (p : Phase) → (p ≡ Inside → eqb x s.end.0 ≡ false) → IsQuiet ((f.end x).closed) (λ l. on_line x l s p (f.line x l).phase) (f.accepted x) (f.taken x) (f.discarded x) whole
+  quiet_phased : (s : Sender) (p : Phase) → (p ≡ Inside → eqb x s.end.0 ≡ false) → IsQuiet (f.end x).closed (λ l. on_line x l s p (f.line x l).phase) (f.accepted x) (f.taken x) (f.discarded x) whole
   quiet_phased s p away = record {
     is_closed = h.is_closed;
     nobody = λ l is. elim (eqb x s.end.0 && eqb l s.line.0) as (λ b. (eqb x s.end.0 && eqb l s.line.0) ≡ b → cond b p (f.line x l).phase ≡ Inside → ⊥) [
@@ -229,11 +229,11 @@ module _ (f : Facts) (x : ℕ) (whole : List Envelope) (h : QuietAt f x whole) w
     same = h.same;
   }
 
-  quiet_put : (b : Bool) (vs : List Envelope) → b ≡ false → IsQuiet ((f.end x).closed) (λ l. (f.line x l).phase) (cond b vs (f.accepted x)) (f.taken x) (f.discarded x) whole
+  quiet_put : (b : Bool) (vs : List Envelope) → b ≡ false → IsQuiet (f.end x).closed (λ l. (f.line x l).phase) (cond b vs (f.accepted x)) (f.taken x) (f.discarded x) whole
   quiet_put true vs is = absurd (false≢true (sym is))
   quiet_put false vs is = h
 
-  quiet_got : (b : Bool) (vs : List Envelope) → b ≡ false → IsQuiet ((f.end x).closed) (λ l. (f.line x l).phase) (f.accepted x) (cond b vs (f.taken x)) (f.discarded x) whole
+  quiet_got : (b : Bool) (vs : List Envelope) → b ≡ false → IsQuiet (f.end x).closed (λ l. (f.line x l).phase) (f.accepted x) (cond b vs (f.taken x)) (f.discarded x) whole
   quiet_got true vs is = absurd (false≢true (sym is))
   quiet_got false vs is = h
 
@@ -241,7 +241,7 @@ module _ (f : Facts) (x : ℕ) (whole : List Envelope) (h : QuietAt f x whole) w
   quiet_closed true = record { is_closed = refl; nobody = h.nobody; all = h.all; same = h.same }
   quiet_closed false = h
 
-  quiet_swept : (e : EndId) (vs : List Envelope) (b : Bool) → SweptWith f e vs → eqb x e.0 ≡ b → IsQuiet ((f.end x).closed) (λ l. (f.line x l).phase) (f.accepted x) (f.taken x) (cond b (f.discarded x ++ vs) (f.discarded x)) whole
+  quiet_swept : (e : EndId) (vs : List Envelope) (b : Bool) → SweptWith f e vs → eqb x e.0 ≡ b → IsQuiet (f.end x).closed (λ l. (f.line x l).phase) (f.accepted x) (f.taken x) (cond b (f.discarded x ++ vs) (f.discarded x)) whole
   quiet_swept e vs false w is = h
   quiet_swept e vs true w is = record {
     is_closed = h.is_closed;

@@ -102,8 +102,8 @@ same_queues p b h = record { reached = h.reached; clear_below = h.clear_below; c
 
 -- ---- an end and a line that are there
 
-pub found_end : (agents : List Agent) (ends : List End) (f : Facts) (e : ℕ) → SoundlyShows agents ends f → (f.end e ≡ no_end → ⊥) → (x : End) × (slice_get ends e ≡ Some x)
-found_end agents ends f e h there = elim (slice_get ends e) as (λ o. slice_get ends e ≡ o → ShownAt f e o → (x : End) × (slice_get ends e ≡ Some x)) [
+pub found_end : {agents : List Agent} {ends : List End} {f : Facts} (e : ℕ) → SoundlyShows agents ends f → (f.end e ≡ no_end → ⊥) → (x : End) × (slice_get ends e ≡ Some x)
+found_end {ends} {f} e h there = elim (slice_get ends e) as (λ o. slice_get ends e ≡ o → ShownAt f e o → (x : End) × (slice_get ends e ≡ Some x)) [
   | Some x ↦ λ at _. (x, at)
   | None ↦ λ _ shown. absurd (there shown.same)
 ] refl (h.end e)
@@ -114,9 +114,9 @@ pub record FoundLine (ends : List End) (s : Sender) : Type 0 where
   pub at : slice_get ends s.end.0 ≡ Some x
   pub is : slice_get x.lines s.line.0 ≡ Some y
 
-pub found_line : (agents : List Agent) (ends : List End) (f : Facts) (s : Sender) → SoundlyShows agents ends f → s.line.0 < lines_of (f.end s.end.0).kind → FoundLine ends s
-found_line agents ends f s h low =
-    let found = found_end agents ends f s.end.0 h (λ none. let no_lines : lines_of (f.end s.end.0).kind ≡ 0 = ap (λ (z : EndNow). lines_of z.kind) none in omega arith) in
+pub found_line : {agents : List Agent} {ends : List End} {f : Facts} (s : Sender) → SoundlyShows agents ends f → s.line.0 < lines_of (f.end s.end.0).kind → FoundLine ends s
+found_line {agents} {ends} {f} s h low =
+    let found = found_end s.end.0 h (λ none. let no_lines : lines_of (f.end s.end.0).kind ≡ 0 = ap (λ (z : EndNow). lines_of z.kind) none in omega arith) in
     let shown : ShownAt f s.end.0 (Some found.0) = subst (ShownAt f s.end.0) found.1 (h.end s.end.0) in
     let count : length found.0.lines ≡ lines_of (f.end s.end.0).kind = shown.count in
     elim (slice_get found.0.lines s.line.0) as (λ q. slice_get found.0.lines s.line.0 ≡ q → FoundLine ends s) [

@@ -13,7 +13,7 @@ use Rattle.hub_core.proofs.Nexts.{facts_next, next}
 use Rattle.hub_core.proofs.SoundLines.{Numbered, on_place}
 use Rattle.hub_core.proofs.SoundWaiting.{taken_prefix}
 use Rattle.hub_core.proofs.Sounds.{sound_legal}
-use Rattle.hub_core.proofs.Totals.{length-up_to}
+use Rattle.hub_core.proofs.Totals.{length-up_to, filter_both}
 
 -- ---- a prefix of numbered envelopes is numbered
 
@@ -31,20 +31,15 @@ front_numbered ns ms h = ext_get_or 0 ns (up_to (length ns)) (sym (length-up_to 
     let total : i < length (ns ++ ms) = rw (length-append ns ms) (omega arith) in
     sym (get_or_append_left ns ms 0 i within) ∙ ap (λ us. get_or us i 0) h ∙ get_or-up_to (length (ns ++ ms)) i 0 total ∙ sym (get_or-up_to (length ns) i 0 within))
 
--- the envelopes of a line and a queue are among those of the line
-pub filter_both : (line epoch : ℕ) (vs : List Envelope) → filter (λ (v : Envelope). eqb v.line.0 line && eqb v.epoch epoch) vs ≡ filter (λ v. eqb v.epoch epoch) (by line vs)
-filter_both line epoch [] = refl
-filter_both line epoch (v ∷ vs) = elim (eqb v.line.0 line) as (λ b. cond (b && eqb v.epoch epoch) (v ∷ filter (λ (u : Envelope). eqb u.line.0 line && eqb u.epoch epoch) vs) (filter (λ u. eqb u.line.0 line && eqb u.epoch epoch) vs) ≡ filter (λ u. eqb u.epoch epoch) (cond b (v ∷ by line vs) (by line vs))) [
-  | true ↦ ap (λ us. cond (eqb v.epoch epoch) (v ∷ us) us) (filter_both line epoch vs)
-  | false ↦ filter_both line epoch vs
-]
-
 numbers_prefix : (line epoch : ℕ) (ts vs : List Envelope) → Prefix (by line ts) (by line vs) → (rest : List ℕ) × (numbers line epoch vs ≡ numbers line epoch ts ++ rest)
 numbers_prefix line epoch ts vs p = (
   map (λ (v : Envelope). v.number) (filter (λ (v : Envelope). eqb v.epoch epoch) p.0),
-  ap (map (λ (v : Envelope). v.number)) (filter_both line epoch vs ∙ ap (filter (λ (v : Envelope). eqb v.epoch epoch)) p.1 ∙ filter-append _ (by line ts) p.0 ∙ ap (λ us. us ++ filter (λ (v : Envelope). eqb v.epoch epoch) p.0) (sym (filter_both line epoch ts)))
+  ap (map (λ (v : Envelope). v.number)) (sym (both vs) ∙ ap (filter (λ (v : Envelope). eqb v.epoch epoch)) p.1 ∙ filter-append _ (by line ts) p.0 ∙ ap (λ us. us ++ filter (λ (v : Envelope). eqb v.epoch epoch) p.0) (both ts))
       ∙ map-append _ (filter (λ (v : Envelope). eqb v.line.0 line && eqb v.epoch epoch) ts) (filter (λ (v : Envelope). eqb v.epoch epoch) p.0),
 )
+  where
+    both : (us : List Envelope) → filter (λ (v : Envelope). eqb v.epoch epoch) (by line us) ≡ filter (λ v. eqb v.line.0 line && eqb v.epoch epoch) us
+    both us = filter_both (λ v. eqb v.line.0 line) (λ v. eqb v.epoch epoch) us
 
 -- ---- a poster that is turned back
 
@@ -118,13 +113,13 @@ empty_at h before after e refused l is =
 -- the line whose poster is inside or being turned back at a queue that isn't settled
 pub record Waits (f : Facts) (x k : ℕ) : Type 0 where
   pub line : ℕ
-  pub low : line < lines_of ((f.end x).kind)
+  pub low : line < lines_of (f.end x).kind
   pub away : is_out (f.line x line).phase ≡ false
   pub there : (f.line x line).stand ≡ k
 
 pub waits_of : (f : Facts) (x k : ℕ) → someone_at f x k ≡ true → Waits f x k
 waits_of f x k h =
-    let found = any_of (λ l. is_away_at k (f.line x l)) (lines_of ((f.end x).kind)) h in
+    let found = any_of (λ l. is_away_at k (f.line x l)) (lines_of (f.end x).kind) h in
     let both = and_parts (not (is_out (f.line x found.0).phase)) (eqb (f.line x found.0).stand k) found.2 in
     record { line = found.0; low = found.1; away = not-true (is_out (f.line x found.0).phase) both.0; there = eqb-true (f.line x found.0).stand k both.1 }
 
@@ -165,18 +160,14 @@ keeps_the_line = record {
       ap (λ (f : Facts). poster f s) (facts_next h p) ∙ speaker_next (facts h) p.0.memory_refused (sound_legal h l) p.1 p.0.action fits s away (ap (λ (f : Facts). is_out (phase_of_line f s)) (sym (facts_next h p)) ∙ still) (ap is_some posts) ∙ posts;
 }
 
-turned_push : (inside noticed : Bool) (rest o : Outcome) → inside ≡ false → o ≡ cond (not (inside && not noticed)) outcome.NotNow rest → o ≡ outcome.NotNow
-turned_push true noticed rest o is h = absurd (false≢true (sym is))
-turned_push false noticed rest o is h = h
-
-turned_notice : (inside noticed hears : Bool) (rest o : Outcome) → inside ≡ false → o ≡ cond (not (inside && not noticed && hears)) outcome.NotNow rest → o ≡ outcome.NotNow
-turned_notice true noticed hears rest o is h = absurd (false≢true (sym is))
-turned_notice false noticed hears rest o is h = h
+refused_by : (may : Bool) (rest o : Outcome) → may ≡ false → o ≡ cond (not may) outcome.NotNow rest → o ≡ outcome.NotNow
+refused_by true rest o is h = absurd (false≢true (sym is))
+refused_by false rest o is h = h
 
 pub turned_puts_nothing : TurnedPutsNothing
 turned_puts_nothing = record {
-  push = λ h s ports body refused o turned fits. turned_push (is_inside (phase_of_line (facts h) s)) ((facts h).line s.end.0 s.line.0).noticed _ o (ap is_inside turned) fits;
-  notice = λ h s refused o turned fits. turned_notice (is_inside (phase_of_line (facts h) s)) ((facts h).line s.end.0 s.line.0).noticed (hears_notice (facts h) s) _ o (ap is_inside turned) fits;
+  push = λ h s ports body refused o turned fits. refused_by _ _ o (ap (λ p. is_inside p && not ((facts h).line s.end.0 s.line.0).noticed) turned) fits;
+  notice = λ h s refused o turned fits. refused_by _ _ o (ap (λ p. is_inside p && not ((facts h).line s.end.0 s.line.0).noticed && hears_notice (facts h) s) turned) fits;
 }
 
 pub same_is_joined : SameIsJoined

@@ -1,7 +1,7 @@
 -- Lists of ends, agents, lines and envelopes: what a write leaves at each number, or behind a further item.
 use Rattle.std.proofs.Common.{ne_eqb, ◌≡◌, ℕ, ◌<◌, ◌+◌, true, false, eqb, List, [], ◌∷◌, ◌++◌, length, get_or, set, Option, Some, zero, suc, ◌≤◌, None, refl, sym, ap, subst, ◌∙◌, inl, inr, arith, rules, Bool, length-append, ◌&&◌, ◌||◌, ⊎_elim, cond}
 use Rattle.std.proofs.Common.{◌≢◌, ◌⊎◌, map}
-use Rattle.hub_core.proofs.Words.{nat_tests, slice_get, AllByRecursion, slice_get_cases, Phase, Out, is_out, false≢true, cases_eq}
+use Rattle.hub_core.proofs.Words.{nat_tests, slice_get, AllByRecursion, slice_get_cases, Phase, Out, is_out, false≢true, cases_eq, slice_get_past, cases_lt}
 
 -- ==== Lists of ends, agents, lines and envelopes: what a write leaves at each number.
 
@@ -42,6 +42,17 @@ slice_get-append_back (x ∷ xs) ys (suc i) k h = slice_get-append_back xs ys i 
 pub eqb_same : (n : ℕ) → eqb n n ≡ true
 eqb_same n = search (rules, nat_tests)
 
+-- ---- numbers beside one that they are not
+
+pub next_up : (n m : ℕ) → n ≤ m → (m ≡ n → ⊥) → n + 1 ≤ m
+next_up n m from other = grind (arith, nat_tests)
+
+-- past a list and not right after it is past the list with one more
+pub past_last : {A : Type 0} (xs : List A) (x : A) (m : ℕ) → length xs ≤ m → (m ≡ length xs → ⊥) → length (xs ++ x ∷ []) ≤ m
+past_last xs x m from other = let beyond : length xs + 1 ≤ m = next_up (length xs) m from other in simp length-append (omega arith)
+
+-- ---- each number
+
 -- what is said of each number, after one was written
 pub each_set : {A : Type 0} (P : ℕ → Option A → Type 0) (xs : List A) (i : ℕ) (x : A) → i < length xs → P i (Some x) → ((j : ℕ) → (j ≡ i → ⊥) → P j (slice_get xs j)) → (j : ℕ) → P j (slice_get (set xs i x) j)
 each_set P xs i x there here others j = ⊎_elim
@@ -52,6 +63,20 @@ each_set P xs i x there here others j = ⊎_elim
 -- the same, by whether it is the one that was written
 pub each_changed : {A : Type 0} (P : ℕ → Bool → Option A → Type 0) (xs : List A) (i : ℕ) (x : A) → i < length xs → P i true (Some x) → ((j : ℕ) → P j false (slice_get xs j)) → (j : ℕ) → P j (eqb j i) (slice_get (set xs i x) j)
 each_changed P xs i x there here others = each_set (λ j o. P j (eqb j i) o) xs i x there (subst (λ b. P i b (Some x)) (sym (eqb_same i)) here) (λ j far. subst (λ b. P j b (slice_get xs j)) (sym (ne_eqb j i far)) (others j))
+
+-- the same of a list with one more
+pub each_pushed : {A : Type 0} (P : ℕ → Bool → Option A → Type 0) (xs : List A) (x : A) → ((i : ℕ) → P i false (slice_get xs i)) → P (length xs) true (Some x) → (i : ℕ) → P i (eqb i (length xs)) (slice_get (xs ++ x ∷ []) i)
+each_pushed P xs x others last i = ⊎_elim
+    (λ same. subst (λ j. P j (eqb j (length xs)) (slice_get (xs ++ x ∷ []) j)) (sym same)
+    (subst (λ b. P (length xs) b (slice_get (xs ++ x ∷ []) (length xs))) (sym (eqb_same (length xs))) (subst (P (length xs) true) (sym (slice_get-append_back xs (x ∷ []) (length xs) 0 (omega arith))) last)))
+    (λ far. subst (λ b. P i b (slice_get (xs ++ x ∷ []) i)) (sym (ne_eqb i (length xs) far)) (subst (P i false) (still far) (others i)))
+    (cases_eq i (length xs))
+  where
+    still : (i ≡ length xs → ⊥) → slice_get xs i ≡ slice_get (xs ++ x ∷ []) i
+    still far = ⊎_elim
+        (λ within. sym (slice_get-append_front xs (x ∷ []) i within))
+        (λ past. slice_get_past xs i past ∙ sym (slice_get_past (xs ++ x ∷ []) i (past_last xs x i past far)))
+        (cases_lt i (length xs))
 
 -- what a list of lists holds at each number, after one was written
 pub get_or-set_same : {A : Type 0} (xs : List (List A)) (i : ℕ) (x : List A) → i < length xs → get_or (set xs i x) i [] ≡ x
@@ -70,15 +95,6 @@ is_there xs i within none = elim (slice_get_cases xs i).1 [
   | inl p ↦ absurd (search (rules, sym p.2 ∙ none))
   | inr p ↦ absurd (let past : length xs ≤ i = p.0 in omega arith)
 ]
-
--- ---- numbers beside one that they are not
-
-pub next_up : (n m : ℕ) → n ≤ m → (m ≡ n → ⊥) → n + 1 ≤ m
-next_up n m from other = grind (arith, nat_tests)
-
--- past a list and not right after it is past the list with one more
-pub past_last : {A : Type 0} (xs : List A) (x : A) (m : ℕ) → length xs ≤ m → (m ≡ length xs → ⊥) → length (xs ++ x ∷ []) ≤ m
-past_last xs x m from other = let beyond : length xs + 1 ≤ m = next_up (length xs) m from other in simp length-append (omega arith)
 
 -- ---- tests
 

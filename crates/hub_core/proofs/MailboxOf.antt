@@ -199,7 +199,7 @@ puts_of : (f : Facts) (e : ℕ) (m : Mailbox OneRight) (o : Outcome) (a : Action
 puts_of f e m outcome.In (action.Enter s) = none_put (eqb e s.end.0) _ refl
 puts_of f e m outcome.Moved (action.Enter s) = none_put (eqb e s.end.0) _ refl
 puts_of f e m outcome.Closed (action.Enter s) = none_put (eqb e s.end.0) _ refl
-puts_of f e m outcome.Left (action.Leave s) = none_put (eqb e s.end.0) _ (leaving_puts m _ _ ((f.line e s.line.0).phase))
+puts_of f e m outcome.Left (action.Leave s) = none_put (eqb e s.end.0) _ (leaving_puts m _ _ (f.line e s.line.0).phase)
 puts_of f e m (outcome.Accepted n) (action.Push s ports body) = one_put (eqb e s.end.0) _
 puts_of f e m (outcome.Accepted n) (action.Notice s) = one_put (eqb e s.end.0) _
 puts_of f e m (outcome.Hopped k) (action.Hop s) = none_put (eqb e s.end.0) _ refl
@@ -293,12 +293,12 @@ module _ (f : Facts) (e : ℕ) (sound : Sound f) (past : f.ends ≤ e) where
 pub record Kept (f : Facts) (e : ℕ) (m : Mailbox OneRight) : Type 0 where
   pub shown : ShownAt f e m
   pub events : List (MailboxEvent OneRight)
-  pub runs : Runs e (lines_of ((f.end e).kind)) (first_mailbox ((f.end e).kind)) events m
+  pub runs : Runs e (lines_of (f.end e).kind) (first_mailbox (f.end e).kind) events m
   pub put : puts events ≡ f.accepted e
 
 module _ (f : Facts) (e : ℕ) (m : Mailbox OneRight) (sound : Sound f) (refused : Bool) (o : Outcome) (a : Action) (fits : Answers f a refused o) where
   abbrev lines : ℕ
-  lines = lines_of ((f.end e).kind)
+  lines = lines_of (f.end e).kind
 
   abbrev events_here : List (MailboxEvent OneRight)
   events_here = events_of f e m o a
@@ -338,7 +338,7 @@ module _ (f : Facts) (e : ℕ) (m : Mailbox OneRight) (sound : Sound f) (refused
         shown = shown;
         events = k.events ++ events_here;
         runs = subst (λ n. Runs e n (new_mailbox (replicate n tt)) (k.events ++ events_here) after) same_lines
-            (runs_joined e lines k.events events_here (first_mailbox ((f.end e).kind)) m after k.runs runs);
+            (runs_joined e lines k.events events_here (first_mailbox (f.end e).kind) m after k.runs runs);
         put = flat_map-append put_in k.events events_here ∙ ap (λ us. us ++ puts events_here) k.put ∙ ap (λ us. f.accepted e ++ us) (puts_of f e m o a) ∙ accepted_one e (f.accepted e) o a;
       }
 

@@ -18,7 +18,7 @@ not_made false k q is = (refl, is)
 
 module _ (f : Facts) (e : ℕ) (m : Mailbox OneRight) (sound : Sound f) (shown : ShownAt f e m) where
   abbrev lines : ℕ → ℕ
-  lines y = lines_of ((f.end y).kind)
+  lines y = lines_of (f.end y).kind
 
   -- what is proved for the end of the step holds for this end where it is the same, and another end stays
   at_step : (x : ℕ) (events : ℕ → List (MailboxEvent OneRight)) (w : ℕ → Bool → View) → IsShown e (w e false) m → (ShownAt f x m → Leads x (lines x) m (events x) (w x true)) → Leads e (lines e) m (cond (eqb e x) (events e) []) (w e (eqb e x))
@@ -47,10 +47,10 @@ module _ (f : Facts) (e : ℕ) (m : Mailbox OneRight) (sound : Sound f) (shown :
   left_all x there opened empty = taken_all f x.0 m there (none_discarded x.0 opened) empty.all
 
   -- the events after a pop that found none
-  pop_first : (x : ℕ) (events : List (MailboxEvent OneRight)) (w : View) → ShownAt f x m → HoldsNothing m m.taker → Leads x (lines x) m events w → Leads x (lines x) m (pop ((f.end x).taker_stand) None ∷ events) w
+  pop_first : (x : ℕ) (events : List (MailboxEvent OneRight)) (w : View) → ShownAt f x m → HoldsNothing m m.taker → Leads x (lines x) m events w → Leads x (lines x) m (pop (f.end x).taker_stand None ∷ events) w
   pop_first x events w there nothing done = (done.0, (m, none_there f x m there nothing, done.1), done.2)
 
-  went_on_at : (x : EndId) → FitsTake f x outcome.Again → ShownAt f x.0 m → Leads x.0 (lines x.0) m (pop ((f.end x.0).taker_stand) None ∷ advance ∷ []) (with_taker_at f x.0 true)
+  went_on_at : (x : EndId) → FitsTake f x outcome.Again → ShownAt f x.0 m → Leads x.0 (lines x.0) m (pop (f.end x.0).taker_stand None ∷ advance ∷ []) (with_taker_at f x.0 true)
   went_on_at x fits there =
       let served = went_on_of f x fits in
       let empty : IsLeft f x = served.serves.0 in
@@ -60,14 +60,14 @@ module _ (f : Facts) (e : ℕ) (m : Mailbox OneRight) (sound : Sound f) (shown :
       let settled : IsSettled m m.taker = subst (IsSettled m) (sym there.taker_at) (settled_there f x.0 m there (f.end x.0).taker_stand (omega arith) served.serves.1) in
       pop_first x.0 (advance ∷ []) (with_taker_at f x.0 true) there nothing (went_on_there f x.0 m there retired settled nothing)
 
-  empty_at : (x : EndId) → FitsTake f x outcome.Empty → ShownAt f x.0 m → Leads x.0 (lines x.0) m (pop ((f.end x.0).taker_stand) None ∷ []) (view f x.0)
+  empty_at : (x : EndId) → FitsTake f x outcome.Empty → ShownAt f x.0 m → Leads x.0 (lines x.0) m (pop (f.end x.0).taker_stand None ∷ []) (view f x.0)
   empty_at x fits there =
       let served = served_of f x outcome.Empty (λ is. cc) (λ is. cc) (λ is. cc) fits in
       let all : IsDrained f x = served.serves in
       let nothing : HoldsNothing m m.taker = taken_all f x.0 m there (none_discarded x.0 served.is_open) (λ l. ap (in_queue (f.end x.0).taker_stand) (all.all l)) in
       pop_first x.0 [] (view f x.0) there nothing (m, refl, there)
 
-  busy_at_taker : (x : EndId) → FitsTake f x outcome.Busy → ShownAt f x.0 m → Leads x.0 (lines x.0) m (finds_busy m ((f.end x.0).taker_stand) ∷ pop ((f.end x.0).taker_stand) None ∷ []) (view f x.0)
+  busy_at_taker : (x : EndId) → FitsTake f x outcome.Busy → ShownAt f x.0 m → Leads x.0 (lines x.0) m (finds_busy m (f.end x.0).taker_stand ∷ pop (f.end x.0).taker_stand None ∷ []) (view f x.0)
   busy_at_taker x fits there =
       let served = served_of f x outcome.Busy (λ is. cc) (λ is. cc) (λ is. cc) fits in
       let empty : IsLeft f x = served.serves.0 in
@@ -97,11 +97,11 @@ module _ (f : Facts) (e : ℕ) (m : Mailbox OneRight) (sound : Sound f) (shown :
   goes refused (outcome.End x) (action.Worker a) fits made = (m, refl, made_queue x Worker made)
   goes refused (outcome.End x) (action.Member a name) fits made = (m, refl, made_queue x (Member a) made)
   goes refused outcome.In (action.Enter s) fits made =
-      at_step s.end.0 (λ y. at_gate ((f.line y s.line.0).stand) (enter s.line.0) (lets_in tt) ∷ []) (λ y. with_line f y s.line.0 Inside) shown (λ there. entered f s m there (sound.lines s.end.0) fits)
+      at_step s.end.0 (λ y. at_gate (f.line y s.line.0).stand (enter s.line.0) (lets_in tt) ∷ []) (λ y. with_line f y s.line.0 Inside) shown (λ there. entered f s m there (sound.lines s.end.0) fits)
   goes refused outcome.Moved (action.Enter s) fits made =
-      at_step s.end.0 (λ y. at_gate ((f.line y s.line.0).stand) (enter s.line.0) says_moved ∷ []) (λ y. with_line f y s.line.0 Turned) shown (λ there. turned_moved f s m there (sound.lines s.end.0) fits)
+      at_step s.end.0 (λ y. at_gate (f.line y s.line.0).stand (enter s.line.0) says_moved ∷ []) (λ y. with_line f y s.line.0 Turned) shown (λ there. turned_moved f s m there (sound.lines s.end.0) fits)
   goes refused outcome.Closed (action.Enter s) fits made =
-      at_step s.end.0 (λ y. at_gate ((f.line y s.line.0).stand) (enter s.line.0) says_closed ∷ []) (λ y. with_line f y s.line.0 Turned) shown (λ there. turned_closed f s m there (sound.lines s.end.0) fits)
+      at_step s.end.0 (λ y. at_gate (f.line y s.line.0).stand (enter s.line.0) says_closed ∷ []) (λ y. with_line f y s.line.0 Turned) shown (λ there. turned_closed f s m there (sound.lines s.end.0) fits)
   goes refused (outcome.Accepted n) (action.Push s ports body) fits made =
       at_step s.end.0 (λ y. push (named_envelope s n body ports) ∷ [])
       (λ y b. record (view f y) { accepted = cond b (f.accepted y ++ named_envelope s n body ports ∷ []) (f.accepted y) }) shown
@@ -110,18 +110,18 @@ module _ (f : Facts) (e : ℕ) (m : Mailbox OneRight) (sound : Sound f) (shown :
       at_step s.end.0 (λ y. push (named_notice s n) ∷ []) (λ y b. record (view f y) { accepted = cond b (f.accepted y ++ named_notice s n ∷ []) (f.accepted y) }) shown
       (λ there. noticed_there f s n m there (noticed_of f s refused n fits))
   goes refused outcome.Left (action.Leave s) fits made =
-      at_step s.end.0 (λ y. leaving m ((f.line y s.line.0).stand) s.line.0 ((f.line y s.line.0).phase) ∷ []) (λ y. with_line f y s.line.0 Out) shown (λ there. left_line f s m there sound fits)
+      at_step s.end.0 (λ y. leaving m (f.line y s.line.0).stand s.line.0 (f.line y s.line.0).phase ∷ []) (λ y. with_line f y s.line.0 Out) shown (λ there. left_line f s m there sound fits)
   goes refused (outcome.Hopped k) (action.Hop s) fits made =
       let may = hopped_of f s k fits in
       at_step s.end.0 (λ y. hop s.line.0 ∷ []) (λ y. with_next f y s.line.0) shown (λ there. hopped_there f s m there (sound.lines s.end.0) may.may may.out may.retired)
   goes refused outcome.Started (action.Start x) fits made =
-      at_step x.0 (λ y. at_gate ((f.end y).newest) enable says_done ∷ []) (λ y b. record (view f y) { enabled = cond b true ((f.end y).enabled) }) shown (λ there. started_there f x.0 m there)
+      at_step x.0 (λ y. at_gate (f.end y).newest enable says_done ∷ []) (λ y b. record (view f y) { enabled = cond b true (f.end y).enabled }) shown (λ there. started_there f x.0 m there)
   goes refused (outcome.Got v) (action.Take x) fits made =
       let served = got_of f x v fits in
-      at_step x.0 (λ y. pop ((f.end y).taker_stand) (Some v) ∷ []) (λ y b. record (view f y) { removed = cond b (f.taken y ++ v ∷ []) (f.taken y) ++ f.discarded y }) shown
+      at_step x.0 (λ y. pop (f.end y).taker_stand (Some v) ∷ []) (λ y b. record (view f y) { removed = cond b (f.taken y ++ v ∷ []) (f.taken y) ++ f.discarded y }) shown
       (λ there. taken_there f x m v there (none_discarded x.0 served.is_open) served.serves)
   goes refused outcome.Again (action.Take x) fits made =
-      at_step x.0 (λ y. pop ((f.end y).taker_stand) None ∷ advance ∷ []) (λ y. with_taker_at f y) shown (λ there. went_on_at x fits there)
+      at_step x.0 (λ y. pop (f.end y).taker_stand None ∷ advance ∷ []) (λ y. with_taker_at f y) shown (λ there. went_on_at x fits there)
   goes refused (outcome.Clear (Some k)) (action.Look x) fits made =
       at_step x.0 (λ y. at_gate k look (gives_rights (rights_of m)) ∷ []) (λ y b. record (view f y) { clear = λ i. cond (b && eqb i k) true (f.clear y i) }) shown
       (λ there. cleared_there f x.0 m there k sound (cleared_of f x k fits))
@@ -129,14 +129,14 @@ module _ (f : Facts) (e : ℕ) (m : Mailbox OneRight) (sound : Sound f) (shown :
       at_step x.0 (λ y. add (rights_of m) ∷ []) (λ y. with_queue_new f y) shown
       (λ there. adopted_there f x.0 m there sound (adopted_of f x a refused k fits).is_open)
   goes refused outcome.Done (action.Close x) fits made =
-      at_step x.0 (λ y. at_gate ((f.end y).newest) close says_done ∷ []) (λ y b. record (view f y) { closed = cond b true ((f.end y).closed) }) shown (λ there. closed_there f x.0 m there)
+      at_step x.0 (λ y. at_gate (f.end y).newest close says_done ∷ []) (λ y b. record (view f y) { closed = cond b true (f.end y).closed }) shown (λ there. closed_there f x.0 m there)
   goes refused (outcome.Discarded vs) (action.Sweep x) fits made =
-      at_step x.0 (λ y. sweeping vs ((f.end y).taker_stand) ((f.end y).newest - (f.end y).taker_stand + 1)) (λ y b. record (view f y) { removed = f.taken y ++ cond b (f.discarded y ++ vs) (f.discarded y) }) shown
+      at_step x.0 (λ y. sweeping vs (f.end y).taker_stand ((f.end y).newest - (f.end y).taker_stand + 1)) (λ y b. record (view f y) { removed = f.taken y ++ cond b (f.discarded y ++ vs) (f.discarded y) }) shown
       (λ there. swept_there f x m vs there sound (swept_of f x vs fits))
   goes refused outcome.Empty (action.Take x) fits made =
-      at_step x.0 (λ y. pop ((f.end y).taker_stand) None ∷ []) (λ y _. view f y) shown (λ there. empty_at x fits there)
+      at_step x.0 (λ y. pop (f.end y).taker_stand None ∷ []) (λ y _. view f y) shown (λ there. empty_at x fits there)
   goes refused outcome.Busy (action.Take x) fits made =
-      at_step x.0 (λ y. finds_busy m ((f.end y).taker_stand) ∷ pop ((f.end y).taker_stand) None ∷ []) (λ y _. view f y) shown (λ there. busy_at_taker x fits there)
+      at_step x.0 (λ y. finds_busy m (f.end y).taker_stand ∷ pop (f.end y).taker_stand None ∷ []) (λ y _. view f y) shown (λ there. busy_at_taker x fits there)
   goes refused outcome.Busy (action.Look x) fits made =
       at_step x.0 (λ y. finds_busy_at m (looked f y)) (λ y _. view f y) shown (λ there. looked_busy_at x fits there)
   goes refused outcome.Busy (action.Sweep x) fits made =

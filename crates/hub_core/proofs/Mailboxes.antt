@@ -25,7 +25,7 @@ goes_on h p legal fits e =
       happen = λ within. happen_here f e (mailbox h e) sound p.0.memory_refused p.1 p.0.action fits (old within) (box_legal h legal e).shown;
       after = λ within. mailbox_one h p e ∙ same_after f e (mailbox h e) sound p.0.memory_refused p.1 p.0.action fits (old within);
       made = λ past within. mailbox_one h p e ∙ new_after f e (mailbox h e) sound p.0.memory_refused p.1 p.0.action fits past (subst (λ (g : Facts). e < g.ends) (facts_next h p) within)
-          ∙ ap (λ (g : Facts). first_mailbox ((g.end e).kind)) (sym (facts_next h p));
+          ∙ ap (λ (g : Facts). first_mailbox (g.end e).kind) (sym (facts_next h p));
     }
 
 pub pairs_are_events : PairsAreEvents
@@ -33,7 +33,7 @@ pairs_are_events h p e m legal fits made shows =
     let f : Facts = facts h in
     let sound : Sound f = sound_legal h legal in
     let events : List (MailboxEvent OneRight) = events_of f e m p.1 p.0.action in
-    let lines : ℕ = lines_of ((f.end e).kind) in
+    let lines : ℕ = lines_of (f.end e).kind in
     let done = goes f e m sound (of_history h e m shows) p.0.memory_refused p.1 p.0.action fits (old_end f e m sound p.0.memory_refused p.1 p.0.action fits made) in
     (runs_happen e lines events m done.0 done.1, subst (ShowsMailbox (h ++ p ∷ []) e []) (runs_one e lines events m done.0 done.1) (to_history (h ++ p ∷ []) e done.0 (subst (λ f. ShownAt f e done.0) (sym (facts_next h p)) done.2)))
 
@@ -49,7 +49,7 @@ module _ (core : Core) (h : History) (shows : Shows core h) (e : ℕ) (x : End) 
   kept : Kept f e m
   kept = box_legal h shows.2 e
 
-  in_order : Ordered e (lines_of ((f.end e).kind)) (f.accepted e) m
+  in_order : Ordered e (lines_of (f.end e).kind) (f.accepted e) m
   in_order =
       let kind : Option Kind = (f.end e).kind in
       let rights : List OneRight = replicate (lines_of kind) tt in
@@ -66,7 +66,7 @@ module _ (core : Core) (h : History) (shows : Shows core h) (e : ℕ) (x : End) 
       let at = subst (ShowsEnd (f.end e) (f.line e) (f.clear e) (f.accepted e) (f.taken e ++ f.discarded e)) is (shows.0.end e) in
       append_cancel_left q.got q.held (slice_index_or x.queues i [])
       (sym (in_order.each k q there) ∙ at.queues.each i
-      ∙ ap (λ us. us ++ slice_index_or x.queues i []) (ap (in_queue k) (sym kept.shown.got) ∙ got_there_in e (lines_of ((f.end e).kind)) m kept.shown.is_mailbox k q there))
+      ∙ ap (λ us. us ++ slice_index_or x.queues i []) (ap (in_queue k) (sym kept.shown.got) ∙ got_there_in e (lines_of (f.end e).kind) m kept.shown.is_mailbox k q there))
 
 pub mailboxes_show : (core : Core) (h : History) → Shows core h → MailboxesShow core h
 mailboxes_show core h shows = λ e x is. (mailbox h e, holds_kept core h shows e x is, to_history h e (mailbox h e) (box_legal h shows.2 e).shown)

@@ -9,7 +9,7 @@ use Rattle.hub_core.proofs.Counts.{calm_places, Counted, IsCalmAt, OneEnd, away_
 use Rattle.hub_core.proofs.Casts.{roster_agent}
 use Rattle.hub_core.proofs.Frames.{ShownAfter, ShownWith, Stepped}
 use Rattle.hub_core.proofs.Fitting.{member_made_of, new_agent, new_ends, queue_made_of}
-use Rattle.hub_core.proofs.Lists.{eqb_same, set_again, slice_get-append_back, slice_get-append_front, past_last, and_false}
+use Rattle.hub_core.proofs.Lists.{eqb_same, set_again, slice_get-append_back, slice_get-append_front, past_last, and_false, each_pushed}
 use Rattle.hub_core.proofs.SoundPlaces.{one_made}
 use Rattle.hub_core.proofs.Nexts.{Change, agent_made, channel_made, client_made, next, worker_made}
 use Rattle.hub_core.proofs.Seeing.{Sees, seen_is, SoundlyShows, with_roster}
@@ -18,17 +18,9 @@ use Rattle.hub_core.proofs.Speakers.{nothing_accepted, nothing_removed, running_
 -- ---- Agent
 
 -- each agent after one was made
-agent_each : (agents : List Agent) (f : Facts) (a : ℕ) → ((b : ℕ) → f.agent b ≡ agent_now (slice_get agents b)) → (before same : Bool) → nat_lt a (length agents) ≡ before → eqb a (length agents) ≡ same → (let y : AgentNow = record (f.agent a) { runs = cond same true (f.agent a).runs } in y ≡ agent_now (slice_get (agents ++ first_agent ∷ []) a))
-agent_each agents f a h before true is here =
-    let at : a ≡ length agents + 0 = eqb-true a (length agents) here ∙ omega arith in
-    ap (λ (x : AgentNow). let y : AgentNow = record x { runs = true } in y) (h a ∙ ap agent_now (slice_get_past agents a (omega arith)))
-    ∙ ap agent_now (sym (slice_get-append_back agents (first_agent ∷ []) a 0 at))
-agent_each agents f a h true false is here = h a ∙ ap agent_now (sym (slice_get-append_front agents (first_agent ∷ []) a (ltb-true a (length agents) is)))
-agent_each agents f a h false false is here =
-    let other : a ≡ length agents → ⊥ = eqb-false a (length agents) here in
-    let from : length agents ≤ a = ltb-false a (length agents) is in
-    let past : length (agents ++ first_agent ∷ []) ≤ a = past_last agents first_agent a from other in
-    h a ∙ ap agent_now (slice_get_past agents a from ∙ sym (slice_get_past (agents ++ first_agent ∷ []) a past))
+agent_each : (agents : List Agent) (f : Facts) → ((b : ℕ) → f.agent b ≡ agent_now (slice_get agents b)) → (a : ℕ) → (let y : AgentNow = record (f.agent a) { runs = cond (eqb a (length agents)) true (f.agent a).runs } in y ≡ agent_now (slice_get (agents ++ first_agent ∷ []) a))
+agent_each agents f h = each_pushed (λ a b o. let y : AgentNow = record (f.agent a) { runs = cond b true (f.agent a).runs } in y ≡ agent_now o) agents first_agent h
+    (ap (λ (x : AgentNow). let y : AgentNow = record x { runs = true } in y) (h (length agents) ∙ ap agent_now (slice_get_past agents (length agents) (omega arith))))
 
 -- of a new agent nothing is counted, as of none
 none_kept : (kept : Option Agent → ℕ) (agents : List Agent) (a : ℕ) → kept None ≡ 0 → kept (Some (first_agent)) ≡ 0 → kept (slice_get (agents ++ first_agent ∷ []) a) ≡ kept (slice_get agents a)
@@ -36,12 +28,12 @@ none_kept kept [] zero none first = first ∙ sym none
 none_kept kept (x ∷ agents) (suc a) none first = none_kept kept agents a none first
 none_kept kept _ _ none first = refl
 
-agent_shown : (agents : List Agent) (ends : List End) (f : Facts) (origin : Option (List ℕ)) (refused : Bool) → SoundlyShows agents ends f → (let n : AgentId = record { 0 = length agents } in outcome.Agent n ≡ agent_answer f refused → Stepped (agents ++ first_agent ∷ []) ends f (action.Agent origin) refused (outcome.Agent n))
-agent_shown agents ends f origin refused h answer = record {
+agent_shown : {agents : List Agent} {ends : List End} {f : Facts} (origin : Option (List ℕ)) (refused : Bool) → SoundlyShows agents ends f → (let n : AgentId = record { 0 = length agents } in outcome.Agent n ≡ agent_answer f refused → Stepped (agents ++ first_agent ∷ []) ends f (action.Agent origin) refused (outcome.Agent n))
+agent_shown {agents} {ends} {f} origin refused h answer = record {
   fits = answer;
   shows = record {
     agents = ap (λ m. m + 1) h.agents ∙ sym (length-append agents (first_agent ∷ []));
-    agent = λ a. agent_each agents f a h.agent (nat_lt a (length agents)) (eqb a (length agents)) refl refl;
+    agent = agent_each agents f h.agent;
     ends = h.ends;
     end = h.end;
     clients = λ a. none_kept kept_clients agents a.0 refl refl ∙ h.clients a;
@@ -54,7 +46,7 @@ pub agent_changes : {c : CoreState} {f : Facts} (origin : Option (List ℕ)) (re
 agent_changes {c} {f} origin refused h answer (agent_made p a) =
     let n : AgentId = record { 0 = length c.agents } in
     let same : a ≡ n = ap (λ m. let i : AgentId = record { 0 = m } in i) (new_agent f refused a answer ∙ h.shows.agents) in (
-      subst (λ i. Stepped (c.agents ++ first_agent ∷ []) c.ends f (action.Agent origin) refused (outcome.Agent i)) (sym same) (agent_shown c.agents c.ends f origin refused h.shows (ap outcome.Agent (sym same) ∙ answer)),
+      subst (λ i. Stepped (c.agents ++ first_agent ∷ []) c.ends f (action.Agent origin) refused (outcome.Agent i)) (sym same) (agent_shown origin refused h.shows (ap outcome.Agent (sym same) ∙ answer)),
       roster_agent c.roster f origin refused a h.roster answer,
     )
 
@@ -81,8 +73,8 @@ none_below : (k : ℕ) → nat_lt k 0 ≡ false
 none_below k = search (rules, nat_tests)
 
 -- an end that has just been made
-new_shown : (now : EndNow) (line : ℕ → LineNow) (clear : ℕ → Bool) (vs ts : List Envelope) (a : AgentId) (k : Kind) → now ≡ end_now (Some (new_end a k)) → ((l : ℕ) → line l ≡ no_line) → ((k : ℕ) → clear k ≡ false) → vs ≡ [] → ts ≡ [] → ShowsEnd now line clear vs ts (Some (new_end a k))
-new_shown now line clear vs ts a k is lines unclear accepted taken =
+new_shown : {now : EndNow} {line : ℕ → LineNow} {clear : ℕ → Bool} {vs ts : List Envelope} (a : AgentId) (k : Kind) → now ≡ end_now (Some (new_end a k)) → ((l : ℕ) → line l ≡ no_line) → ((k : ℕ) → clear k ≡ false) → vs ≡ [] → ts ≡ [] → ShowsEnd now line clear vs ts (Some (new_end a k))
+new_shown {line = line} a k is lines unclear accepted taken =
     rw (accepted, taken) (record {
       same = is;
       count = length-replicate (lines_of (Some k)) first_line ∙ ap (λ (y : EndNow). lines_of y.kind) (sym is);
@@ -128,20 +120,13 @@ module _ (agents : List Agent) (ends : List End) (f : Facts) (a : AgentId) (k : 
   old : (d : ℕ) → d < f.ends → eqb d f.ends ≡ false
   old d less = ne_eqb d f.ends (λ is. omega arith)
 
-  end_at : (d : ℕ) → (before fresh : Bool) → nat_lt d (length ends) ≡ before → eqb d (length ends) ≡ fresh → ShowsEnd (made_end f a k d fresh) (f.line d) (f.clear d) (f.accepted d) (f.taken d ++ f.discarded d) (slice_get (ends ++ new_end a k ∷ []) d)
-  end_at d before true is here =
-      let n = length ends in
-      let count : f.ends ≡ n = h.ends in
-      let same : d ≡ n = eqb-true d n here in
-      let at : d ≡ n + 0 = omega arith in
-      let none = nothing d (omega arith) in
-      subst (ShowsEnd _ _ _ _ _) (sym (slice_get-append_back ends (new_end a k ∷ []) d 0 at))
-      (new_shown _ (f.line d) (f.clear d) (f.accepted d) (f.taken d ++ f.discarded d) a k (ap (λ (y : EndNow). let z : EndNow = record y { kind = Some k; place = Some (With a) } in z) none.now) none.lines none.unclear none.accepted none.removed)
-  end_at d true false is here =
-      subst (ShowsEnd _ _ _ _ _) (sym (slice_get-append_front ends (new_end a k ∷ []) d (ltb-true d (length ends) is))) (h.end d)
-  end_at d false false is here =
-      let beyond : length (ends ++ new_end a k ∷ []) ≤ d = past_last ends (new_end a k) d (ltb-false d (length ends) is) (eqb-false d (length ends) here) in
-      subst (ShowsEnd _ _ _ _ _) (slice_get_past ends d (ltb-false d (length ends) is) ∙ sym (slice_get_past (ends ++ new_end a k ∷ []) d beyond)) (h.end d)
+  end_at : (d : ℕ) → ShowsEnd (made_end f a k d (eqb d f.ends)) (f.line d) (f.clear d) (f.accepted d) (f.taken d ++ f.discarded d) (slice_get (ends ++ new_end a k ∷ []) d)
+  end_at d =
+      let count : f.ends ≡ length ends = h.ends in
+      let none = nothing (length ends) (omega arith) in
+      subst (λ n. ShowsEnd (made_end f a k d (eqb d n)) (f.line d) (f.clear d) (f.accepted d) (f.taken d ++ f.discarded d) (slice_get (ends ++ new_end a k ∷ []) d)) (sym count)
+      (each_pushed (λ x fresh o. ShowsEnd (made_end f a k x fresh) (f.line x) (f.clear x) (f.accepted x) (f.taken x ++ f.discarded x) o) ends (new_end a k) h.end
+      (new_shown a k (ap (λ (y : EndNow). let z : EndNow = record y { kind = Some k; place = Some (With a) } in z) none.now) none.lines none.unclear none.accepted none.removed) d)
 
   calm : (b : AgentId) (x : ℕ) → x < f.ends → IsCalmAt b f g x
   calm b x less = calm_places b f g x (ap (λ c. cond c (Some k) (f.end x).kind) (old x less)) (λ l. refl) (λ q is. elim (ports x q less is) [
@@ -173,14 +158,14 @@ module _ (agents : List Agent) (ends : List End) (f : Facts) (a : AgentId) (k : 
         agents = h.agents ∙ sym (come_length k a agents);
         agent = λ x. h.agent x ∙ sym (come_now k a agents x);
         ends = ap (λ n. n + 1) h.ends ∙ sym (length-append ends (new_end a k ∷ []));
-        end = λ d. end_at d (nat_lt d (length ends)) (eqb d f.ends) refl (ap (eqb d) (sym h.ends));
+        end = end_at;
         clients = counted.clients;
         workers = counted.workers;
         away = counted.away;
       }
 
-made_shown : (agents : List Agent) (ends : List End) (f : Facts) (a : AgentId) (k : Kind) (e : EndId) → SoundlyShows agents ends f → (f.agent a.0).runs ≡ true → e ≡ record { 0 = f.ends } → ShowsFacts (come k a agents) (ends ++ new_end a k ∷ []) (one_made f a k e)
-made_shown agents ends f a k e h runs number = subst (λ i. ShowsFacts (come k a agents) (ends ++ new_end a k ∷ []) (one_made f a k i)) (sym number)
+made_shown : {agents : List Agent} {ends : List End} {f : Facts} (a : AgentId) (k : Kind) (e : EndId) → SoundlyShows agents ends f → (f.agent a.0).runs ≡ true → e ≡ record { 0 = f.ends } → ShowsFacts (come k a agents) (ends ++ new_end a k ∷ []) (one_made f a k e)
+made_shown {agents} {ends} {f} a k e h runs number = subst (λ i. ShowsFacts (come k a agents) (ends ++ new_end a k ∷ []) (one_made f a k i)) (sym number)
     (one_shown agents ends f a k h.shown h.sound.places.few (running_made f a h.sound.places runs) (λ d past. nothing_at f d h.sound past) (λ x q less is. inr (h.sound.places.peers x q.0 (ap peer_of is)).0))
 
 -- ports and members count for no agent
@@ -219,7 +204,7 @@ channel_shown agents ends f a h runs few =
     let p : EndId = record { 0 = f.ends + 1 } in
     let g : Facts = one_port f a in
     let known : a.0 < f.agents = running_made f a h.sound.places runs in
-    let first : ShowsFacts agents (ends ++ new_end a (Port p) ∷ []) g = subst (λ kept. ShowsFacts kept (ends ++ new_end a (Port p) ∷ []) g) (uncounted agents (Port p) a (λ x. refl)) (made_shown agents ends f a (Port p) e h runs refl) in
+    let first : ShowsFacts agents (ends ++ new_end a (Port p) ∷ []) g = subst (λ kept. ShowsFacts kept (ends ++ new_end a (Port p) ∷ []) g) (uncounted agents (Port p) a (λ x. refl)) (made_shown a (Port p) e h runs refl) in
     let second = one_shown agents (ends ++ new_end a (Port p) ∷ []) g a (Port e) first few known (λ d past. still_nothing d (omega arith)) still_ports in
     subst (ShowsFacts agents (ends ++ new_end a (Port p) ∷ new_end a (Port e) ∷ [])) (channel_facts f a)
     (subst (λ kept. ShowsFacts kept (ends ++ new_end a (Port p) ∷ new_end a (Port e) ∷ []) (one_made g a (Port e) p)) (uncounted agents (Port e) a (λ x. refl))
@@ -256,13 +241,13 @@ pub data Makes : Action → Kind → (Option Kind → Bool) → AgentId → Type
   makes_worker : (a : AgentId) → Makes (action.Worker a) Worker is_worker a
 
 -- what an agent keeps of its queues of this kind
-count_kept : (agents : List Agent) (ends : List End) (f : Facts) {b : Action} {k : Kind} {test : Option Kind → Bool} {a : AgentId} → Makes b k test a → SoundlyShows agents ends f → count_of k (slice_get agents a.0) ≡ count_with test a f
-count_kept agents ends f (makes_client a) h = client_count (slice_get agents a.0) ∙ h.clients a
+count_kept : {agents : List Agent} {ends : List End} {f : Facts} {b : Action} {k : Kind} {test : Option Kind → Bool} {a : AgentId} → Makes b k test a → SoundlyShows agents ends f → count_of k (slice_get agents a.0) ≡ count_with test a f
+count_kept {agents} (makes_client a) h = client_count (slice_get agents a.0) ∙ h.clients a
   where
     client_count : (o : Option Agent) → count_of Client o ≡ kept_clients o
     client_count None = refl
     client_count (Some x) = refl
-count_kept agents ends f (makes_worker a) h = worker_count (slice_get agents a.0) ∙ h.workers a
+count_kept {agents} (makes_worker a) h = worker_count (slice_get agents a.0) ∙ h.workers a
   where
     worker_count : (o : Option Agent) → count_of Worker o ≡ kept_workers o
     worker_count None = refl
@@ -275,14 +260,14 @@ pub queue_answered : (c : CoreState) (f : Facts) {b : Action} {k : Kind} {test :
 queue_answered c f {k = k} {test = test} {a = a} refused makes h =
     let held : ℕ = count_of k (slice_get c.agents a.0) in
     let full : Bool = nat_le MAX_ENDS (length c.ends) in
-    let same : ((seen c).agent a.0).runs && eqb held 0 ≡ ((f.agent a.0).runs && not (has_one test a f)) = ap (λ g. (g.agent a.0).runs && eqb held 0) (seen_is h) ∙ ap (λ d. (f.agent a.0).runs && d) (ap (λ n. eqb n 0) (count_kept c.agents c.ends f makes h.shows) ∙ (none_counted (λ x. counts_at test a (f.end x)) f.ends)) in
+    let same : ((seen c).agent a.0).runs && eqb held 0 ≡ ((f.agent a.0).runs && not (has_one test a f)) = ap (λ g. (g.agent a.0).runs && eqb held 0) (seen_is h) ∙ ap (λ d. (f.agent a.0).runs && d) (ap (λ n. eqb n 0) (count_kept makes h.shows) ∙ (none_counted (λ x. counts_at test a (f.end x)) f.ends)) in
     ap (λ d. made_by d full refused (length c.ends)) same ∙ ap (λ n. made_by ((f.agent a.0).runs && not (has_one test a f)) (nat_le MAX_ENDS n) refused n) (sym h.shows.ends)
 
 pub client_changes : {c : CoreState} {f : Facts} (a : AgentId) (refused : Bool) {o : Outcome} → Sees c f → o ≡ queue_answer is_client f a refused → Change (action.Client a) o → ShownAfter c f (action.Client a) refused o
-client_changes {c} {f} a refused h answer (client_made b e) = let made = queue_made_of f is_client a refused e answer in (record { fits = answer; shows = made_shown c.agents c.ends f a Client e h.shows made.runs made.number }, refl)
+client_changes {c} {f} a refused h answer (client_made b e) = let made = queue_made_of f is_client a refused e answer in (record { fits = answer; shows = made_shown a Client e h.shows made.runs made.number }, refl)
 
 pub worker_changes : {c : CoreState} {f : Facts} (a : AgentId) (refused : Bool) {o : Outcome} → Sees c f → o ≡ queue_answer is_worker f a refused → Change (action.Worker a) o → ShownAfter c f (action.Worker a) refused o
-worker_changes {c} {f} a refused h answer (worker_made b e) = let made = queue_made_of f is_worker a refused e answer in (record { fits = answer; shows = made_shown c.agents c.ends f a Worker e h.shows made.runs made.number }, refl)
+worker_changes {c} {f} a refused h answer (worker_made b e) = let made = queue_made_of f is_worker a refused e answer in (record { fits = answer; shows = made_shown a Worker e h.shows made.runs made.number }, refl)
 
 -- ---- Member
 
@@ -300,5 +285,5 @@ member_answered c f a refused h =
 pub member_shown : (c : CoreState) (f : Facts) (a : AgentId) (name : List ℕ) (refused : Bool) (e : EndId) → Sees c f → outcome.End e ≡ member_answer f a refused → Stepped c.agents (c.ends ++ new_end a (Member a) ∷ []) f (action.Member a name) refused (outcome.End e)
 member_shown c f a name refused e h answer =
     let made = member_made_of f a refused e answer in
-    let shows = subst (λ kept. ShowsFacts kept (c.ends ++ new_end a (Member a) ∷ []) (one_made f a (Member a) e)) (uncounted c.agents (Member a) a (λ x. refl)) (made_shown c.agents c.ends f a (Member a) e h.shows made.runs made.number) in
+    let shows = subst (λ kept. ShowsFacts kept (c.ends ++ new_end a (Member a) ∷ []) (one_made f a (Member a) e)) (uncounted c.agents (Member a) a (λ x. refl)) (made_shown a (Member a) e h.shows made.runs made.number) in
     record { fits = answer; shows = with_roster (next f (action.Member a name) (outcome.End e)).roster shows }

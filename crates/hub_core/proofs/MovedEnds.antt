@@ -38,8 +38,8 @@ gone_inside old k bound l true is out kept at = absurd (out (ap (λ i. (old i).p
 gone_inside old k bound l false is out kept at = kept at
 
 -- every end, with this line one further
-gone_shown : (agents : List Agent) (ends : List End) (f : Facts) (s : Sender) (x : End) (y : Line) → SoundlyShows agents ends f → slice_get ends s.end.0 ≡ Some x → slice_get x.lines s.line.0 ≡ Some y → is_out (f.line s.end.0 s.line.0).phase ≡ true → (d : ℕ) → ShowsEnd (f.end d) (gone_line f s d) (f.clear d) (f.accepted d) (f.taken d ++ f.discarded d) (slice_get (set ends s.end.0 (with_line x s.line.0 (at_queue (y.epoch + 1) y))) d)
-gone_shown agents ends f s x y h at is out =
+gone_shown : {agents : List Agent} {ends : List End} {f : Facts} (s : Sender) (x : End) (y : Line) → SoundlyShows agents ends f → slice_get ends s.end.0 ≡ Some x → slice_get x.lines s.line.0 ≡ Some y → is_out (f.line s.end.0 s.line.0).phase ≡ true → (d : ℕ) → ShowsEnd (f.end d) (gone_line f s d) (f.clear d) (f.accepted d) (f.taken d ++ f.discarded d) (slice_get (set ends s.end.0 (with_line x s.line.0 (at_queue (y.epoch + 1) y))) d)
+gone_shown {f} s x y h at is out =
     let e : ℕ = s.end.0 in
     let k : ℕ = s.line.0 in
     let shown : ShownAt f e (Some x) = subst (ShownAt f e) at (h.end e) in
@@ -53,12 +53,12 @@ gone_shown agents ends f s x y h at is out =
 pub hop_changes : {c : CoreState} {f : Facts} (s : Sender) (refused : Bool) {o : Outcome} → Sees c f → o ≡ hop_answer f s → Change (action.Hop s) o → ShownAfter c f (action.Hop s) refused o
 hop_changes {c} {f} s refused h answer (hopped t k) =
     let hops = hopped_of f s k answer in
-    let w = found_line c.agents c.ends f s h.shows (line_there f s (h.shows.sound.lines s.end.0) hops.may) in
+    let w = found_line s h.shows (line_there f s (h.shows.sound.lines s.end.0) hops.may) in
     let shown : ShownAt f s.end.0 (Some w.x) = subst (ShownAt f s.end.0) w.at (h.shows.end s.end.0) in
     let one_on : k ≡ w.y.epoch + 1 = hops.number ∙ ap (λ (z : LineNow). z.stand + 1) (shown.lines s.line.0 ∙ ap line_now w.is) in (
       subst (λ es. Stepped c.agents es f (action.Hop s) refused (outcome.Hopped k)) (sym (line_set c.ends s (at_queue k) w ∙ ap (λ m. set c.ends s.end.0 (with_line w.x s.line.0 (at_queue m w.y))) one_on))
           (changed h.shows answer refl refl refl (length-set c.ends s.end.0 (with_line w.x s.line.0 (at_queue (w.y.epoch + 1) w.y)))
-          (counts_still h.shows refl (λ d. refl) (λ d. refl) (λ a d l. refl)) (gone_shown c.agents c.ends f s w.x w.y h.shows w.at w.is hops.out)),
+          (counts_still h.shows refl (λ d. refl) (λ d. refl) (λ a d l. refl)) (gone_shown s w.x w.y h.shows w.at w.is hops.out)),
       refl,
     )
 
@@ -75,8 +75,8 @@ queue_released : (f : Facts) (k : Option Kind) → is_queue k ≡ true → is_re
 queue_released f (Some (Port q)) h = absurd (false≢true h)
 queue_released f _ h = refl
 
-moved_shown : (agents : List Agent) (ends : List End) (f : Facts) (e : EndId) (b : AgentId) (refused : Bool) (x : End) → SoundlyShows agents ends f → slice_get ends e.0 ≡ Some x → outcome.Handed ≡ hand_answer f e b → Stepped (gone x.kind x.place agents) (set ends e.0 (moved_to b x)) f (action.Hand e b) refused outcome.Handed
-moved_shown agents ends f e b refused x h at answer =
+moved_shown : {agents : List Agent} {ends : List End} {f : Facts} (e : EndId) (b : AgentId) (refused : Bool) (x : End) → SoundlyShows agents ends f → slice_get ends e.0 ≡ Some x → outcome.Handed ≡ hand_answer f e b → Stepped (gone x.kind x.place agents) (set ends e.0 (moved_to b x)) f (action.Hand e b) refused outcome.Handed
+moved_shown {agents} {ends} {f} e b refused x h at answer =
     let shown : ShownAt f e.0 (Some x) = subst (ShownAt f e.0) at (h.end e.0) in
     recounted h answer refl refl
     (gone_length x.kind x.place agents) (gone_now x.kind x.place agents) (h.ends ∙ sym (length-set ends e.0 (moved_to b x)))
@@ -89,8 +89,8 @@ moved_shown agents ends f e b refused x h at answer =
 
 pub hand_changes : {c : CoreState} {f : Facts} (e : EndId) (b : AgentId) (refused : Bool) {o : Outcome} → Sees c f → o ≡ hand_answer f e b → Change (action.Hand e b) o → ShownAfter c f (action.Hand e b) refused o
 hand_changes {c} {f} e b refused h answer (handed d a) =
-    let found = found_end c.agents c.ends f e.0 h.shows (λ none. false≢true (sym (ap (λ (z : EndNow). is_queue z.kind) none) ∙ (handed_of f e b answer).queue)) in
-    (subst (λ q. Stepped (went q c.agents) (changed_ends (moved_to b) e.0 c.ends q) f (action.Hand e b) refused outcome.Handed) (sym found.1) (moved_shown c.agents c.ends f e b refused found.0 h.shows found.1 answer), refl)
+    let found = found_end e.0 h.shows (λ none. false≢true (sym (ap (λ (z : EndNow). is_queue z.kind) none) ∙ (handed_of f e b answer).queue)) in
+    (subst (λ q. Stepped (went q c.agents) (changed_ends (moved_to b) e.0 c.ends q) f (action.Hand e b) refused outcome.Handed) (sym found.1) (moved_shown e b refused found.0 h.shows found.1 answer), refl)
 
 -- ==== Adopt: what the core answers fits, and it shows the facts with the answered step.
 
@@ -114,8 +114,8 @@ adopted_one {line = line} {ts = ts} {x = x} a h =
       each = λ i. h.queues.each i ∙ ap (λ q. in_queue (x.taker + i) ts ++ q) (sym (get_or-one_more x.queues i));
     })
 
-adopted_shown : (agents : List Agent) (ends : List End) (f : Facts) (e : EndId) (a : AgentId) (refused : Bool) (x : End) (k : ℕ) → SoundlyShows agents ends f → slice_get ends e.0 ≡ Some x → outcome.Adopted k ≡ adopt_answer f e a refused → Stepped (change_agent (adopting (is_released f (f.end e.0).kind) x.kind) a.0 agents) (set ends e.0 (adopted_end a x)) f (action.Adopt e a) refused (outcome.Adopted k)
-adopted_shown agents ends f e a refused x k h at answer =
+adopted_shown : {agents : List Agent} {ends : List End} {f : Facts} (e : EndId) (a : AgentId) (refused : Bool) (x : End) (k : ℕ) → SoundlyShows agents ends f → slice_get ends e.0 ≡ Some x → outcome.Adopted k ≡ adopt_answer f e a refused → Stepped (change_agent (adopting (is_released f (f.end e.0).kind) x.kind) a.0 agents) (set ends e.0 (adopted_end a x)) f (action.Adopt e a) refused (outcome.Adopted k)
+adopted_shown {agents} {ends} {f} e a refused x k h at answer =
     let shown : ShownAt f e.0 (Some x) = subst (ShownAt f e.0) at (h.end e.0) in
     let count : f.agents ≡ length agents = h.agents in
     let known : a.0 < f.agents = running_made f a h.sound.places (adopted_of f e a refused k answer).runs in
@@ -131,9 +131,9 @@ adopted_shown agents ends f e a refused x k h at answer =
 
 pub adopt_changes : {c : CoreState} {f : Facts} (e : EndId) (a : AgentId) (refused : Bool) {o : Outcome} → Sees c f → o ≡ adopt_answer f e a refused → Change (action.Adopt e a) o → ShownAfter c f (action.Adopt e a) refused o
 adopt_changes {c} {f} e a refused h answer (adopted d b k) =
-    let found = found_end c.agents c.ends f e.0 h.shows (λ none. let placed : None ≡ Some (Arrived a) = sym (ap (λ (z : EndNow). z.place) none) ∙ (adopted_of f e a refused k answer).arrived in absurd (search (rules, placed))) in (
+    let found = found_end e.0 h.shows (λ none. let placed : None ≡ Some (Arrived a) = sym (ap (λ (z : EndNow). z.place) none) ∙ (adopted_of f e a refused k answer).arrived in absurd (search (rules, placed))) in (
       subst (λ r. Stepped (adopted_agents r a (slice_get c.ends e.0) c.agents) (changed_ends (adopted_end a) e.0 c.ends (slice_get c.ends e.0)) f (action.Adopt e a) refused (outcome.Adopted k)) (sym (ap (λ g. is_released g (g.end e.0).kind) (seen_is h) ∙ released_kept f (f.end e.0).kind))
-          (subst (λ q. Stepped (adopted_agents (is_released f (f.end e.0).kind) a q c.agents) (changed_ends (adopted_end a) e.0 c.ends q) f (action.Adopt e a) refused (outcome.Adopted k)) (sym found.1) (adopted_shown c.agents c.ends f e a refused found.0 k h.shows found.1 answer)),
+          (subst (λ q. Stepped (adopted_agents (is_released f (f.end e.0).kind) a q c.agents) (changed_ends (adopted_end a) e.0 c.ends q) f (action.Adopt e a) refused (outcome.Adopted k)) (sym found.1) (adopted_shown e a refused found.0 k h.shows found.1 answer)),
       refl,
     )
 
@@ -145,8 +145,8 @@ shut_one : {now : EndNow} {line : ℕ → LineNow} {clear : ℕ → Bool} {vs ts
 shut_one h = end_restated h refl (ap (λ (e : EndNow). let d : EndNow = record e { closed = true; place = Some Gone } in d) h.same) refl
     (record { reached = h.queues.reached; clear_below = h.queues.clear_below; count = λ opened. absurd (false≢true (sym opened)); inside = h.queues.inside; behind = h.queues.behind; each = h.queues.each })
 
-shut_shown : (agents : List Agent) (ends : List End) (f : Facts) (e : EndId) (refused : Bool) (x : End) → SoundlyShows agents ends f → slice_get ends e.0 ≡ Some x → outcome.Done ≡ close_answer f e → Stepped (gone x.kind x.place agents) (set ends e.0 (closed_end x)) f (action.Close e) refused outcome.Done
-shut_shown agents ends f e refused x h at answer =
+shut_shown : {agents : List Agent} {ends : List End} {f : Facts} (e : EndId) (refused : Bool) (x : End) → SoundlyShows agents ends f → slice_get ends e.0 ≡ Some x → outcome.Done ≡ close_answer f e → Stepped (gone x.kind x.place agents) (set ends e.0 (closed_end x)) f (action.Close e) refused outcome.Done
+shut_shown {agents} {ends} {f} e refused x h at answer =
     let shown : ShownAt f e.0 (Some x) = subst (ShownAt f e.0) at (h.end e.0) in
     recounted h answer refl refl
     (gone_length x.kind x.place agents) (gone_now x.kind x.place agents) (h.ends ∙ sym (length-set ends e.0 (closed_end x)))
@@ -158,5 +158,5 @@ shut_shown agents ends f e refused x h at answer =
 
 pub close_changes : {c : CoreState} {f : Facts} (e : EndId) (refused : Bool) {o : Outcome} → Sees c f → o ≡ close_answer f e → Change (action.Close e) o → ShownAfter c f (action.Close e) refused o
 close_changes {c} {f} e refused h answer (end_closed d) =
-    let found = found_end c.agents c.ends f e.0 h.shows (λ none. false≢true (sym (ap (λ (z : EndNow). is_here z.place) none) ∙ (closed_of f e answer).here)) in
-    (subst (λ q. Stepped (went q c.agents) (changed_ends closed_end e.0 c.ends q) f (action.Close e) refused outcome.Done) (sym found.1) (shut_shown c.agents c.ends f e refused found.0 h.shows found.1 answer), refl)
+    let found = found_end e.0 h.shows (λ none. false≢true (sym (ap (λ (z : EndNow). is_here z.place) none) ∙ (closed_of f e answer).here)) in
+    (subst (λ q. Stepped (went q c.agents) (changed_ends closed_end e.0 c.ends q) f (action.Close e) refused outcome.Done) (sym found.1) (shut_shown e refused found.0 h.shows found.1 answer), refl)

@@ -43,7 +43,7 @@ module _ (f : Facts) (s : Sender) (m : Mailbox OneRight) (is : ShownAt f s.end.0
   here = f.line s.end.0 s.line.0
 
   abbrev lines : ℕ
-  lines = lines_of ((f.end s.end.0).kind)
+  lines = lines_of (f.end s.end.0).kind
 
   pub at_line : s.line.0 < lines → Standing lines m s.line.0 here.stand here.phase
   at_line low = standing s.end.0 (view f s.end.0) m is s.line.0 low
@@ -60,14 +60,14 @@ module _ (f : Facts) (s : Sender) (m : Mailbox OneRight) (is : ShownAt f s.end.0
   -- the line stands at the newest gate where it isn't at a retired one
   at_newest : (y : Standing lines m s.line.0 here.stand here.phase) → is_retired f s ≡ false → IsNewest m here.stand
   at_newest y fresh =
-      let reached : (f.end s.end.0).newest ≤ here.stand = ltb-false here.stand ((f.end s.end.0).newest) fresh in
+      let reached : (f.end s.end.0).newest ≤ here.stand = ltb-false here.stand (f.end s.end.0).newest fresh in
       let within : here.stand < length m.gates = is.is_mailbox.stands_within s.line.0 here.stand y.stands in
       let count : length m.gates ≡ (f.end s.end.0).newest + 1 = is.gates in
       omega arith
 
   pub at_retired : is_retired f s ≡ true → here.stand + 1 < length m.gates
   at_retired old =
-      let low : here.stand < (f.end s.end.0).newest = ltb-true here.stand ((f.end s.end.0).newest) old in
+      let low : here.stand < (f.end s.end.0).newest = ltb-true here.stand (f.end s.end.0).newest old in
       let count : length m.gates ≡ (f.end s.end.0).newest + 1 = is.gates in
       omega arith
 
@@ -127,7 +127,7 @@ module _ (f : Facts) (e : ℕ) (m : Mailbox OneRight) (is : ShownAt f e m) where
   newest = (f.end e).newest
 
   abbrev end_lines : ℕ
-  end_lines = lines_of ((f.end e).kind)
+  end_lines = lines_of (f.end e).kind
 
   newest_gate : (g : Gate OneRight) × (slice_get m.gates newest ≡ Some g)
   newest_gate = let count : length m.gates ≡ newest + 1 = is.gates in got_there m.gates newest (omega arith)
@@ -139,7 +139,7 @@ module _ (f : Facts) (e : ℕ) (m : Mailbox OneRight) (is : ShownAt f e m) where
       let g' : Gate OneRight = with_flags g true g.moved g.closed in
       let step : MailboxStep HasRight e end_lines m (at_gate newest machine.enable machine.says_done) (with_gate m newest g') = gate_steps newest g g' machine.enable machine.says_done newest_gate.1 last enables in
       one_step e end_lines m (with_gate m newest g') _ (record (view f e) { enabled = true }) step
-      (flags_shown e (view f e) m is newest g g' true ((f.end e).closed) newest_gate.1 last refl refl ((is.flags newest g last newest_gate.1).1) refl (step_kept e end_lines m (with_gate m newest g') is.is_mailbox step))
+      (flags_shown e (view f e) m is newest g g' true (f.end e).closed newest_gate.1 last refl refl ((is.flags newest g last newest_gate.1).1) refl (step_kept e end_lines m (with_gate m newest g') is.is_mailbox step))
 
   pub closed_there : Leads e end_lines m (at_gate newest machine.close machine.says_done ∷ []) (record (view f e) { closed = true })
   closed_there =
@@ -148,7 +148,7 @@ module _ (f : Facts) (e : ℕ) (m : Mailbox OneRight) (is : ShownAt f e m) where
       let g' : Gate OneRight = with_flags g g.enabled g.moved true in
       let step : MailboxStep HasRight e end_lines m (at_gate newest machine.close machine.says_done) (with_gate m newest g') = gate_steps newest g g' machine.close machine.says_done newest_gate.1 last closes in
       one_step e end_lines m (with_gate m newest g') _ (record (view f e) { closed = true }) step
-      (flags_shown e (view f e) m is newest g g' ((f.end e).enabled) true newest_gate.1 last refl ((is.flags newest g last newest_gate.1).0) refl refl (step_kept e end_lines m (with_gate m newest g') is.is_mailbox step))
+      (flags_shown e (view f e) m is newest g g' (f.end e).enabled true newest_gate.1 last refl ((is.flags newest g last newest_gate.1).0) refl refl (step_kept e end_lines m (with_gate m newest g') is.is_mailbox step))
 
 -- ==== The pairs that move a line or the taker to the next queue, and the one that adds a queue.
 
@@ -158,11 +158,11 @@ module _ (f : Facts) (e : ℕ) (m : Mailbox OneRight) (is : ShownAt f e m) where
 abbrev pub with_next : Facts → ℕ → ℕ → Bool → View
 with_next f e l here = record (view f e) { stand = λ i. cond (here && eqb i l) ((f.line e i).stand + 1) (f.line e i).stand }
 
-pub hopped_there : (f : Facts) (s : Sender) (m : Mailbox OneRight) → ShownAt f s.end.0 m → LinesAt f s.end.0 → may_enter f s ≡ true → is_out (phase_of_line f s) ≡ true → is_retired f s ≡ true → Leads s.end.0 (lines_of ((f.end s.end.0).kind)) m (hop s.line.0 ∷ []) (with_next f s.end.0 s.line.0 true)
+pub hopped_there : (f : Facts) (s : Sender) (m : Mailbox OneRight) → ShownAt f s.end.0 m → LinesAt f s.end.0 → may_enter f s ≡ true → is_out (phase_of_line f s) ≡ true → is_retired f s ≡ true → Leads s.end.0 (lines_of (f.end s.end.0).kind) m (hop s.line.0 ∷ []) (with_next f s.end.0 s.line.0 true)
 hopped_there f s m is lines_at may out_of retired =
     let e : ℕ = s.end.0 in
     let l : ℕ = s.line.0 in
-    let lines : ℕ = lines_of ((f.end e).kind) in
+    let lines : ℕ = lines_of (f.end e).kind in
     let y : Standing lines m l (f.line e l).stand (f.line e l).phase = at_line f s m is (line_there f s lines_at may) in
     let k : ℕ = (f.line e l).stand in
     let after : Mailbox OneRight = with_stand m l (k + 1) in
@@ -189,9 +189,9 @@ hopped_there f s m is lines_at may out_of retired =
 abbrev pub with_taker_at : Facts → ℕ → Bool → View
 with_taker_at f e here = record (view f e) { taker = cond here ((f.end e).taker_stand + 1) (f.end e).taker_stand }
 
-pub went_on_there : (f : Facts) (e : ℕ) (m : Mailbox OneRight) → ShownAt f e m → (f.end e).taker_stand < (f.end e).newest → IsSettled m m.taker → HoldsNothing m m.taker → Leads e (lines_of ((f.end e).kind)) m (advance ∷ []) (with_taker_at f e true)
+pub went_on_there : (f : Facts) (e : ℕ) (m : Mailbox OneRight) → ShownAt f e m → (f.end e).taker_stand < (f.end e).newest → IsSettled m m.taker → HoldsNothing m m.taker → Leads e (lines_of (f.end e).kind) m (advance ∷ []) (with_taker_at f e true)
 went_on_there f e m is retired settled nothing =
-    let lines : ℕ = lines_of ((f.end e).kind) in
+    let lines : ℕ = lines_of (f.end e).kind in
     let at : m.taker ≡ (f.end e).taker_stand = is.taker_at in
     let count : length m.gates ≡ (f.end e).newest + 1 = is.gates in
     let after : Mailbox OneRight = with_taker m (m.taker + 1) in
@@ -216,7 +216,7 @@ with_queue_new f e here = record (view f e) { newest = cond here ((f.end e).newe
 
 module _ (f : Facts) (e : ℕ) (m : Mailbox OneRight) (is : ShownAt f e m) (sound : Sound f) (opened_yet : (f.end e).closed ≡ false) where
   abbrev line_count : ℕ
-  line_count = lines_of ((f.end e).kind)
+  line_count = lines_of (f.end e).kind
 
   abbrev last_gate : ℕ
   last_gate = (f.end e).newest

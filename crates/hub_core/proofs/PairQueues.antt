@@ -79,12 +79,12 @@ counted line k vs = ap length (sym (filter_both (λ v. eqb v.line.0 line) (λ v.
 
 -- an envelope that may be put on its line is a push
 accepted_there : (f : Facts) (s : Sender) (v : Envelope) (m : Mailbox OneRight) → ShownAt f s.end.0 m → MayPut f s v
-    → Leads s.end.0 (lines_of ((f.end s.end.0).kind)) m (push v ∷ []) (record (view f s.end.0) { accepted = f.accepted s.end.0 ++ v ∷ [] })
+    → Leads s.end.0 (lines_of (f.end s.end.0).kind) m (push v ∷ []) (record (view f s.end.0) { accepted = f.accepted s.end.0 ++ v ∷ [] })
 accepted_there f s v m is p =
     let e : ℕ = s.end.0 in
     let l : ℕ = v.line.0 in
     let k : ℕ = (f.line e l).stand in
-    let lines : ℕ = lines_of ((f.end e).kind) in
+    let lines : ℕ = lines_of (f.end e).kind in
     let low : l < lines = subst (λ i. i < lines) (sym p.line) p.there in
     let y : Standing lines m l (f.line e l).stand (f.line e l).phase = standing e (view f e) m is l low in
     let within : k < length m.gates = is.is_mailbox.stands_within l k y.stands in
@@ -103,17 +103,17 @@ accepted_there f s v m is p =
     (queue_shown e (view f e) m is k (pushed q v) (v ∷ []) [] (step_kept e lines m after is.is_mailbox step) (event_grows e lines m after _ is.is_mailbox step)))
 
 pub pushed_there : (f : Facts) (s : Sender) (ports : List EndId) (body : List ℕ) (n : Acceptance) (m : Mailbox OneRight) → ShownAt f s.end.0 m → LinesAt f s.end.0 → Pushed f s ports n
-    → Leads s.end.0 (lines_of ((f.end s.end.0).kind)) m (push (named_envelope s n body ports) ∷ []) (record (view f s.end.0) { accepted = f.accepted s.end.0 ++ named_envelope s n body ports ∷ [] })
+    → Leads s.end.0 (lines_of (f.end s.end.0).kind) m (push (named_envelope s n body ports) ∷ []) (record (view f s.end.0) { accepted = f.accepted s.end.0 ++ named_envelope s n body ports ∷ [] })
 pushed_there f s ports body n m is lines_at p = accepted_there f s (named_envelope s n body ports) m is (message_may f s ports body n lines_at p)
 
 -- a mailbox doesn't show which lines put a notice
 pub noticed_there : (f : Facts) (s : Sender) (n : Acceptance) (m : Mailbox OneRight) → ShownAt f s.end.0 m → Noticed f s n
-    → Leads s.end.0 (lines_of ((f.end s.end.0).kind)) m (push (named_notice s n) ∷ []) (record (view f s.end.0) { accepted = f.accepted s.end.0 ++ named_notice s n ∷ [] })
+    → Leads s.end.0 (lines_of (f.end s.end.0).kind) m (push (named_notice s n) ∷ []) (record (view f s.end.0) { accepted = f.accepted s.end.0 ++ named_notice s n ∷ [] })
 noticed_there f s n m is p = accepted_there f s (named_notice s n) m is (notice_may f s n p)
 
 -- line by line a queue holds what was accepted there and neither taken nor discarded
 pub held_of : (f : Facts) (e : ℕ) (m : Mailbox OneRight) → ShownAt f e m → (k l : ℕ) (q : Queue) (ws : List Envelope) → QueueAt m k q → in_queue k (by l (f.accepted e)) ≡ in_queue k (by l (f.taken e ++ f.discarded e)) ++ ws → by l q.held ≡ ws
-held_of f e m is k l q ws at left = held_there e (lines_of ((f.end e).kind)) m is.is_mailbox k l q ws at (ap (in_queue k) (is.put l) ∙ left ∙ ap (λ us. in_queue k (by l us) ++ ws) (sym is.got))
+held_of f e m is k l q ws at left = held_there e (lines_of (f.end e).kind) m is.is_mailbox k l q ws at (ap (in_queue k) (is.put l) ∙ left ∙ ap (λ us. in_queue k (by l us) ++ ws) (sym is.got))
 
 -- ---- pops at the taker's queue
 
@@ -135,10 +135,10 @@ next_held f x m v q is kept next at =
 
 -- one that finds an envelope
 pub taken_there : (f : Facts) (x : EndId) (m : Mailbox OneRight) (v : Envelope) → ShownAt f x.0 m → f.discarded x.0 ≡ [] → IsNext f x v
-    → Leads x.0 (lines_of ((f.end x.0).kind)) m (pop ((f.end x.0).taker_stand) (Some v) ∷ []) (record (view f x.0) { removed = (f.taken x.0 ++ v ∷ []) ++ f.discarded x.0 })
+    → Leads x.0 (lines_of (f.end x.0).kind) m (pop (f.end x.0).taker_stand (Some v) ∷ []) (record (view f x.0) { removed = (f.taken x.0 ++ v ∷ []) ++ f.discarded x.0 })
 taken_there f x m v is kept next =
     let e : ℕ = x.0 in
-    let lines : ℕ = lines_of ((f.end e).kind) in
+    let lines : ℕ = lines_of (f.end e).kind in
     let within : m.taker < length m.gates = is.is_mailbox.taker_within in
     let many : length m.queues ≡ length m.gates = is.is_mailbox.queues in
     let there = got_there m.queues m.taker (omega arith) in
@@ -160,13 +160,13 @@ taken_there f x m v is kept next =
 pub taken_all : (f : Facts) (e : ℕ) (m : Mailbox OneRight) → ShownAt f e m → f.discarded e ≡ [] → ((l : ℕ) → in_queue (f.end e).taker_stand (by l (f.taken e)) ≡ in_queue (f.end e).taker_stand (by l (f.accepted e))) → HoldsNothing m m.taker
 taken_all f e m is kept all =
     let t : ℕ = (f.end e).taker_stand in
-    holds_nothing e (lines_of ((f.end e).kind)) m is.is_mailbox m.taker is.is_mailbox.taker_within (λ l.
+    holds_nothing e (lines_of (f.end e).kind) m is.is_mailbox m.taker is.is_mailbox.taker_within (λ l.
     let got : got_from m ≡ f.taken e = is.got ∙ ap (λ us. f.taken e ++ us) kept ∙ append-nil (f.taken e) in
     ap (λ k. in_queue k (by l (got_from m))) is.taker_at ∙ ap (λ us. in_queue t (by l us)) got ∙ all l ∙ sym (ap (in_queue t) (is.put l)) ∙ sym (ap (λ k. in_queue k (put_by m l)) is.taker_at))
 
 -- one that finds none
-pub none_there : (f : Facts) (e : ℕ) (m : Mailbox OneRight) → ShownAt f e m → HoldsNothing m m.taker → MailboxStep HasRight e (lines_of ((f.end e).kind)) m (pop ((f.end e).taker_stand) None) m
-none_there f e m is nothing = subst (λ k. MailboxStep HasRight e (lines_of ((f.end e).kind)) m (pop k None) m) is.taker_at (finds_none m.taker nothing.queue nothing.is_queue nothing.nothing)
+pub none_there : (f : Facts) (e : ℕ) (m : Mailbox OneRight) → ShownAt f e m → HoldsNothing m m.taker → MailboxStep HasRight e (lines_of (f.end e).kind) m (pop (f.end e).taker_stand None) m
+none_there f e m is nothing = subst (λ k. MailboxStep HasRight e (lines_of (f.end e).kind) m (pop k None) m) is.taker_at (finds_none m.taker nothing.queue nothing.is_queue nothing.nothing)
 
 -- ==== Who is at a gate, and the pairs that are looks: at a queue where somebody is, and at one that becomes clear.
 
@@ -225,7 +225,7 @@ sweep_busy_of f e h =
 
 module _ (f : Facts) (e : ℕ) (m : Mailbox OneRight) (is : ShownAt f e m) where
   abbrev lines : ℕ
-  lines = lines_of ((f.end e).kind)
+  lines = lines_of (f.end e).kind
 
   module _ (k : ℕ) (g : Gate OneRight) (at : GateAt m k g) where
     somebody_there : someone_at f e k ≡ true → 0 < busy g
@@ -344,14 +344,14 @@ module _ (f : Facts) (e : ℕ) (m : Mailbox OneRight) (is : ShownAt f e m) where
 -- what was accepted at an end is of queues up to the newest
 accepted_below : (f : Facts) (e : ℕ) → Sound f → AllByRecursion (λ (v : Envelope). ltb v.epoch ((f.end e).newest + 1) ≡ true) (f.accepted e)
 accepted_below f e sound =
-    AllByRecursion-weaker (IsOfEnd e (lines_of ((f.end e).kind)) (f.line e)) (λ v. ltb v.epoch ((f.end e).newest + 1) ≡ true) (λ v is.
+    AllByRecursion-weaker (IsOfEnd e (lines_of (f.end e).kind) (f.line e)) (λ v. ltb v.epoch ((f.end e).newest + 1) ≡ true) (λ v is.
     let low : v.epoch ≤ (f.line e v.line.0).stand = is.epoch in
     let stand : (f.line e v.line.0).stand ≤ (f.end e).newest = (sound.lines e).stand v.line.0 in
     lt-ltb v.epoch ((f.end e).newest + 1) (omega arith)) (f.accepted e) (sound.lines e).named
 
 module _ (f : Facts) (e : ℕ) (vs : List Envelope) where
   abbrev line_count : ℕ
-  line_count = lines_of ((f.end e).kind)
+  line_count = lines_of (f.end e).kind
 
   abbrev taker : ℕ
   taker = (f.end e).taker_stand
@@ -491,7 +491,7 @@ module _ (f : Facts) (e : ℕ) (vs : List Envelope) where
 
 -- a Sweep pops all that waits
 pub swept_there : (f : Facts) (x : EndId) (m : Mailbox OneRight) (vs : List Envelope) → ShownAt f x.0 m → Sound f → SweptWith f x vs
-    → Leads x.0 (lines_of ((f.end x.0).kind)) m (sweeping vs (f.end x.0).taker_stand ((f.end x.0).newest - (f.end x.0).taker_stand + 1)) (record (view f x.0) { removed = f.taken x.0 ++ (f.discarded x.0 ++ vs) })
+    → Leads x.0 (lines_of (f.end x.0).kind) m (sweeping vs (f.end x.0).taker_stand ((f.end x.0).newest - (f.end x.0).taker_stand + 1)) (record (view f x.0) { removed = f.taken x.0 ++ (f.discarded x.0 ++ vs) })
 swept_there f x m vs is sound s =
     let e : ℕ = x.0 in
     let t : ℕ = (f.end e).taker_stand in
@@ -510,5 +510,5 @@ swept_there f x m vs is sound s =
     let last : (f.taken e ++ f.discarded e) ++ queues_from t n vs ≡ f.taken e ++ (f.discarded e ++ vs) =
     ap (λ us. (f.taken e ++ f.discarded e) ++ us) (all_queues f e vs sound s.all) ∙ append_assoc (f.taken e) (f.discarded e) vs
     in
-    subst (λ us. Leads e (lines_of ((f.end e).kind)) m (sweeping vs t n) (record (view f e) { removed = us })) last
+    subst (λ us. Leads e (lines_of (f.end e).kind) m (sweeping vs t n) (record (view f e) { removed = us })) last
     (swept_from f e vs s.is_closed n t (f.taken e ++ f.discarded e) m (omega arith) (omega arith) first)

@@ -137,11 +137,11 @@ put_shown now line told clear vs ts x y v is epoch queue mine others phases stan
     }
 
 -- every end, with the envelope put and its ports in flight
-pub each_shown : (agents : List Agent) (ends new : List End) (f : Facts) (v : Envelope) (x : End) (y : Line) (told : ℕ → ℕ → LineNow) → SoundlyShows agents ends f → slice_get ends v.end.0 ≡ Some x → slice_get x.lines v.line.0 ≡ Some y → v.epoch ≡ y.epoch → has_queue x y.epoch ≡ true
+pub each_shown : {agents : List Agent} {ends new : List End} {f : Facts} (v : Envelope) (x : End) (y : Line) (told : ℕ → ℕ → LineNow) → SoundlyShows agents ends f → slice_get ends v.end.0 ≡ Some x → slice_get x.lines v.line.0 ≡ Some y → v.epoch ≡ y.epoch → has_queue x y.epoch ≡ true
     → (let z : LineNow = record { phase = y.phase; stand = y.epoch; noticed = v.notice; held_by = y.held_by } in told v.end.0 v.line.0 ≡ z) → ((l : ℕ) → (l ≡ v.line.0 → ⊥) → told v.end.0 l ≡ f.line v.end.0 l) → ((l : ℕ) → (told v.end.0 l).phase ≡ (f.line v.end.0 l).phase) → ((l : ℕ) → (told v.end.0 l).stand ≡ (f.line v.end.0 l).stand) → ((d : ℕ) → (d ≡ v.end.0 → ⊥) → told d ≡ f.line d)
     → ((d : ℕ) → names v.ports d ≡ true → d < f.ends) → Moves v.ports InFlight (set ends v.end.0 (put_end x y v)) new
     → (d : ℕ) → ShowsEnd (record (f.end d) { place = cond (names v.ports d) (Some InFlight) (f.end d).place }) (told d) (f.clear d) (cond (eqb d v.end.0) (f.accepted d ++ v ∷ []) (f.accepted d)) (f.taken d ++ f.discarded d) (slice_get new d)
-each_shown agents ends new f v x y told h at is epoch queue mine others phases stands elsewhere made moves d =
+each_shown {ends} {f} v x y told h at is epoch queue mine others phases stands elsewhere made moves d =
     let base : List End = set ends v.end.0 (put_end x y v) in
     let each : (b : ℕ) → ShowsEnd (f.end b) (told b) (f.clear b) (cond (eqb b v.end.0) (f.accepted b ++ v ∷ []) (f.accepted b)) (f.taken b ++ f.discarded b) (slice_get base b) =
     each_set (λ b o. ShowsEnd (f.end b) (told b) (f.clear b) (cond (eqb b v.end.0) (f.accepted b ++ v ∷ []) (f.accepted b)) (f.taken b ++ f.discarded b) o) ends v.end.0 (put_end x y v) (slice_get_within ends v.end.0 x at)
@@ -184,14 +184,14 @@ queue_kept f s x y h shown line inside =
 -- ==== Push: what the core answers fits, and it shows the facts with the answered step.
 
 -- every end, with the message put and its ports in flight
-pushed_shown : (agents : List Agent) (ends new : List End) (f : Facts) (s : Sender) (ports : List EndId) (body : List ℕ) (refused : Bool) (n : Acceptance) (x : End) (y : Line) → SoundlyShows agents ends f → slice_get ends s.end.0 ≡ Some x → slice_get x.lines s.line.0 ≡ Some y → f.line s.end.0 s.line.0 ≡ line_now (Some y) → n.epoch ≡ y.epoch → has_queue x y.epoch ≡ true → outcome.Accepted n ≡ push_answer f s ports body refused → Moves ports InFlight (set ends s.end.0 (put_end x y (named_envelope s n body ports))) new → Stepped agents new f (action.Push s ports body) refused (outcome.Accepted n)
-pushed_shown agents ends new f s ports body refused n x y h at is line epoch queue fits moves =
+pushed_shown : {agents : List Agent} {ends new : List End} {f : Facts} (s : Sender) (ports : List EndId) (body : List ℕ) (refused : Bool) (n : Acceptance) (x : End) (y : Line) → SoundlyShows agents ends f → slice_get ends s.end.0 ≡ Some x → slice_get x.lines s.line.0 ≡ Some y → f.line s.end.0 s.line.0 ≡ line_now (Some y) → n.epoch ≡ y.epoch → has_queue x y.epoch ≡ true → outcome.Accepted n ≡ push_answer f s ports body refused → Moves ports InFlight (set ends s.end.0 (put_end x y (named_envelope s n body ports))) new → Stepped agents new f (action.Push s ports body) refused (outcome.Accepted n)
+pushed_shown {agents} {ends} {new} {f} s ports body refused n x y h at is line epoch queue fits moves =
     let v : Envelope = named_envelope s n body ports in
     let p = pushed_of f s ports body refused n fits in
     let plain : y.has_noticed ≡ false = sym (ap (λ (z : LineNow). z.noticed) line) ∙ p.plain in
     changed h fits refl refl refl (put_count ends new s.end.0 (put_end x y v) ports moves)
     (counted_ports (names ports) (λ d. Some InFlight) refl (λ d. refl) (λ d. refl) (λ d named. some_own f (peer_of (f.end d).kind) (travels f p.agent s d ports p.leave named).1) (λ a x less. calm_sent a f (next f (action.Push s ports body) (outcome.Accepted n)) (names ports) x h.sound.places refl (λ l. refl) (λ q. refl) (λ q named. (travels f p.agent s q ports p.leave named).1)) (counts_of h))
-    (each_shown agents ends new f v x y f.line h at is epoch queue (line ∙ ap (λ b. let z : LineNow = record { phase = y.phase; stand = y.epoch; noticed = b; held_by = y.held_by } in z) plain) (λ l other. refl) (λ l. refl) (λ l. refl) (λ d other. refl)
+    (each_shown v x y f.line h at is epoch queue (line ∙ ap (λ b. let z : LineNow = record { phase = y.phase; stand = y.epoch; noticed = b; held_by = y.held_by } in z) plain) (λ l other. refl) (λ l. refl) (λ l. refl) (λ d other. refl)
     (λ d named. placed_made f d (With p.agent) h.sound.places (travels f p.agent s d ports p.leave named).0) moves)
 
 -- ---- the tests of a push, one after another
@@ -243,7 +243,7 @@ push_fits c f s ports body refused h = ap push_outcome (posting_seen s ports bod
 pub inside_line : (c : CoreState) (f : Facts) (s : Sender) → Sees c f → is_inside (phase_of_line f s) ≡ true → (w : FoundLine c.ends s) × (f.line s.end.0 s.line.0 ≡ line_now (Some w.y)) × (has_queue w.x w.y.epoch ≡ true)
 inside_line c f s h inside =
     let away : is_out (phase_of_line f s) ≡ false = ap is_out (inside_of (phase_of_line f s) inside) in
-    let w = found_line c.agents c.ends f s h.shows (line_there f s (h.shows.sound.lines s.end.0) (h.shows.sound.places.away s away)) in
+    let w = found_line s h.shows (line_there f s (h.shows.sound.lines s.end.0) (h.shows.sound.places.away s away)) in
     let shown : ShownAt f s.end.0 (Some w.x) = subst (ShownAt f s.end.0) w.at (h.shows.end s.end.0) in
     let line : f.line s.end.0 s.line.0 ≡ line_now (Some w.y) = shown.lines s.line.0 ∙ ap line_now w.is in
     (w, line, queue_kept f s w.x w.y h.shows.sound shown line inside)
@@ -261,7 +261,7 @@ push_changes {c} {f} s ports body refused h answer (put t ps b n) =
     let found = inside_line c f s h p.inside in
     let w = found.0 in
     let epoch : n.epoch ≡ w.y.epoch = ap (λ (m : Acceptance). m.epoch) p.name ∙ ap (λ (z : LineNow). z.stand) found.1 in
-    (pushed_shown c.agents c.ends _ f s ports body refused n w.x w.y h.shows w.at w.is found.1 epoch found.2 answer (accepted_moves c.ends s w (named_envelope s n body ports) refl refl), refl)
+    (pushed_shown s ports body refused n w.x w.y h.shows w.at w.is found.1 epoch found.2 answer (accepted_moves c.ends s w (named_envelope s n body ports) refl refl), refl)
 
 -- ==== Notice: what the core answers fits, and it shows the facts with the answered step.
 
@@ -274,11 +274,11 @@ told_mine f s y line = ap (λ b. let z : LineNow = record (f.line s.end.0 s.line
 told_other : (f : Facts) (s : Sender) (l : ℕ) → (l ≡ s.line.0 → ⊥) → told_line f s s.end.0 l ≡ f.line s.end.0 l
 told_other f s l other = ap (λ b. let z : LineNow = record (f.line s.end.0 l) { noticed = cond b true (f.line s.end.0 l).noticed } in z) (ap (λ b. b && eqb l s.line.0) (eqb_same s.end.0) ∙ ne_eqb l s.line.0 other)
 
-noticed_shown : (agents : List Agent) (ends new : List End) (f : Facts) (s : Sender) (refused : Bool) (n : Acceptance) (x : End) (y : Line) → SoundlyShows agents ends f → slice_get ends s.end.0 ≡ Some x → slice_get x.lines s.line.0 ≡ Some y → f.line s.end.0 s.line.0 ≡ line_now (Some y) → n.epoch ≡ y.epoch → has_queue x y.epoch ≡ true → outcome.Accepted n ≡ notice_answer f s refused → Moves [] InFlight (set ends s.end.0 (put_end x y (named_notice s n))) new → Stepped agents new f (action.Notice s) refused (outcome.Accepted n)
-noticed_shown agents ends new f s refused n x y h at is line epoch queue fits moves =
+noticed_shown : {agents : List Agent} {ends new : List End} {f : Facts} (s : Sender) (refused : Bool) (n : Acceptance) (x : End) (y : Line) → SoundlyShows agents ends f → slice_get ends s.end.0 ≡ Some x → slice_get x.lines s.line.0 ≡ Some y → f.line s.end.0 s.line.0 ≡ line_now (Some y) → n.epoch ≡ y.epoch → has_queue x y.epoch ≡ true → outcome.Accepted n ≡ notice_answer f s refused → Moves [] InFlight (set ends s.end.0 (put_end x y (named_notice s n))) new → Stepped agents new f (action.Notice s) refused (outcome.Accepted n)
+noticed_shown {agents} {ends} {new} {f} s refused n x y h at is line epoch queue fits moves =
     let v : Envelope = named_notice s n in
     changed h fits refl refl refl (put_count ends new s.end.0 (put_end x y v) [] moves) (counts_still h refl (λ d. refl) (λ d. refl) (λ a d l. refl))
-    (each_shown agents ends new f v x y (told_line f s) h at is epoch queue (told_mine f s y line) (told_other f s) (λ l. refl) (λ l. refl) (λ d other. λ i l. record (f.line d l) { noticed = cond (ne_eqb d s.end.0 other i && eqb l s.line.0) true (f.line d l).noticed }) (λ d named. absurd (false≢true named)) moves)
+    (each_shown v x y (told_line f s) h at is epoch queue (told_mine f s y line) (told_other f s) (λ l. refl) (λ l. refl) (λ d other. λ i l. record (f.line d l) { noticed = cond (ne_eqb d s.end.0 other i && eqb l s.line.0) true (f.line d l).noticed }) (λ d named. absurd (false≢true named)) moves)
 
 -- ---- the tests of a notice
 
@@ -320,4 +320,4 @@ notice_changes {c} {f} s refused h answer (notice_put t n) =
     let found = inside_line c f s h p.inside in
     let w = found.0 in
     let epoch : n.epoch ≡ w.y.epoch = ap (λ (m : Acceptance). m.epoch) p.name ∙ ap (λ (z : LineNow). z.stand) found.1 in
-    (noticed_shown c.agents c.ends _ f s refused n w.x w.y h.shows w.at w.is found.1 epoch found.2 answer (accepted_moves c.ends s w (named_notice s n) refl refl), refl)
+    (noticed_shown s refused n w.x w.y h.shows w.at w.is found.1 epoch found.2 answer (accepted_moves c.ends s w (named_notice s n) refl refl), refl)

@@ -1,6 +1,6 @@
 -- What a mailbox doesn't show of the lines of an end stays so with each pair that fits.
 use Rattle.std.proofs.Common.{Bool, List, None, Option, Some, [], ap, append-nil, arith, cond, eqb, false, inl, inr, length, not, refl, rules, subst, sym, true, ℕ, ◌&&◌, ◌++◌, ◌+◌, ◌<◌, ◌||◌, ◌∙◌, ◌∷◌, ◌≡◌, ◌≤◌, ◌⊎◌, ⊎_elim, ne_eqb}
-use Rattle.hub_core.proofs.Words.{Acceptance, Action, AgentId, AllByRecursion, Answers, Client, EndId, EndNow, Envelope, Facts, Inside, IsOfEnd, Kind, LineNow, MAX_LINES, Member, Out, Outcome, Phase, Port, Sender, SoundLines}
+use Rattle.hub_core.proofs.Words.{Acceptance, Action, AgentId, AllByRecursion, Answers, Client, EndId, EndNow, Envelope, Facts, Inside, IsOfEnd, Kind, LineNow, MAX_LINES, Member, Out, Outcome, Phase, Port, Sender, SoundLines, or_cases}
 use Rattle.hub_core.proofs.Words.{Turned, Worker, and_parts, by, count_in_queue, eqb-false, eqb-true, false≢true, filter-append, hears_notice, holder, is_away_at, is_client, is_distinct, is_here, is_inside, is_queue, is_settled, is_some, is_worker}
 use Rattle.hub_core.proofs.Words.{lines_of, may_enter, named_envelope, named_notice, no_end, no_line, not-true, on_line, option_and_then, peer_of, phase_of_line, poster, poster_of, running, someone_at, speaker, up_to, cases_lt, cases_eq, eq-eqb}
 use Rattle.hub_core.specs.declared.step.Action.TheVariants as action
@@ -11,7 +11,7 @@ use Rattle.hub_core.proofs.Nexts.{next}
 
 -- what is said of the lines of an end
 abbrev pub LinesAt : Facts → ℕ → Type 0
-LinesAt f x = SoundLines x (lines_of ((f.end x).kind)) ((f.end x).newest) ((f.end x).taker_stand) ((f.end x).closed) (f.line x) (f.clear x) (f.accepted x)
+LinesAt f x = SoundLines x (lines_of (f.end x).kind) (f.end x).newest (f.end x).taker_stand (f.end x).closed (f.line x) (f.clear x) (f.accepted x)
 
 -- What a mailbox doesn't show of them: a number that no line has is out, at the first queue; each envelope has different
 -- ports; and a notice is the last of its line.
@@ -22,7 +22,7 @@ pub record Marks (lines : ℕ) (line : ℕ → LineNow) (accepted : List Envelop
   pub last : (l : ℕ) (before after : List Envelope) (v : Envelope) → by l accepted ≡ before ++ v ∷ after → v.notice ≡ true → after ≡ []
 
 abbrev pub MarksAt : Facts → ℕ → Type 0
-MarksAt f x = Marks (lines_of ((f.end x).kind)) (f.line x) (f.accepted x)
+MarksAt f x = Marks (lines_of (f.end x).kind) (f.line x) (f.accepted x)
 
 -- lines that differ in what a mailbox shows, and in who holds them
 relined : (n : ℕ) (line after : ℕ → LineNow) (vs : List Envelope) → ((l : ℕ) → (after l).noticed ≡ (line l).noticed) → ((l : ℕ) → n ≤ l → after l ≡ no_line) → Marks n line vs → Marks n after vs
@@ -47,21 +47,22 @@ one_more_line false u p new = omega arith
 abbrev pub IsUnmade : Facts → Type 0
 IsUnmade f = (x : ℕ) → f.ends ≤ x → f.end x ≡ no_end
 
-kind_none : (f : Facts) (x : ℕ) → IsUnmade f → f.ends ≤ x → (f.end x).kind ≡ None
-kind_none f x none past = ap (λ (e : EndNow). e.kind) (none x past)
+pub unmade_end : (f : Facts) (e e' : EndId) (x : ℕ) → IsUnmade f → e ≡ record { 0 = f.ends } → e' ≡ record { 0 = f.ends + 1 } → (eqb x e.0 || eqb x e'.0) ≡ true → f.end x ≡ no_end
+unmade_end f e e' x none first second is = elim (or_cases (eqb x e.0) (eqb x e'.0) is) [
+  | inl t ↦ let same : x ≡ f.ends = eqb-true x e.0 t ∙ ap (λ (d : EndId). d.0) first in none x (omega arith)
+  | inr t ↦ let same : x ≡ f.ends + 1 = eqb-true x e'.0 t ∙ ap (λ (d : EndId). d.0) second in none x (omega arith)
+]
 
-either_new : (f : Facts) (e e' : EndId) (x : ℕ) → IsUnmade f → e ≡ record { 0 = f.ends } → e' ≡ record { 0 = f.ends + 1 } → (eqb x e.0 || eqb x e'.0) ≡ true → (f.end x).kind ≡ None
-either_new f e e' x h first second is = elim (eqb x e.0) as (λ b. eqb x e.0 ≡ b → (b || eqb x e'.0) ≡ true → (f.end x).kind ≡ None) [
-  | true ↦ λ t _. let same : x ≡ f.ends = eqb-true x e.0 t ∙ ap (λ (d : EndId). d.0) first in kind_none f x h (omega arith)
-  | false ↦ λ _ t. let same : x ≡ f.ends + 1 = eqb-true x e'.0 t ∙ ap (λ (d : EndId). d.0) second in kind_none f x h (omega arith)
-] refl is
-
-one_new : (f : Facts) (e : EndId) (x : ℕ) → IsUnmade f → e ≡ record { 0 = f.ends } → eqb x e.0 ≡ true → (f.end x).kind ≡ None
-one_new f e x h first is = let same : x ≡ f.ends = eqb-true x e.0 is ∙ ap (λ (d : EndId). d.0) first in kind_none f x h (omega arith)
+pub unmade_one : (f : Facts) (e : EndId) (x : ℕ) → IsUnmade f → e ≡ record { 0 = f.ends } → eqb x e.0 ≡ true → f.end x ≡ no_end
+unmade_one f e x none first is = let same : x ≡ f.ends = eqb-true x e.0 is ∙ ap (λ (d : EndId). d.0) first in none x (omega arith)
 
 -- an end that has more lines now
 grown : (n m : ℕ) (line : ℕ → LineNow) (vs : List Envelope) → n ≤ m → Marks n line vs → Marks m line vs
 grown n m line vs more s = record { none = λ l past. s.none l (omega arith); ports = s.ports; messages = s.messages; last = s.last }
+
+-- and one that was made of a kind
+made_marks : (f : Facts) (e : EndId) (k : Kind) (x : ℕ) → IsUnmade f → e ≡ record { 0 = f.ends } → MarksAt f x → Marks (lines_of (cond (eqb x e.0) (Some k) (f.end x).kind)) (f.line x) (f.accepted x)
+made_marks f e k x none number = grown _ _ (f.line x) (f.accepted x) (one_more_line (eqb x e.0) k (f.end x).kind (λ is. ap (λ (d : EndNow). d.kind) (unmade_one f e x none number is)))
 
 -- ---- phases
 
@@ -77,25 +78,25 @@ on_place P t x l is there =
 
 -- A line is one of its end, or such that no line may be so.
 abbrev MayCome : Facts → Sender → LineNow → Type 0
-MayCome f t y = (y ≡ no_line) ⊎ (t.line.0 < lines_of ((f.end t.end.0).kind))
+MayCome f t y = (y ≡ no_line) ⊎ (t.line.0 < lines_of (f.end t.end.0).kind)
 
 -- the lines of an end where one changes, but not in whether a notice was put
-changed_line : (f : Facts) (t : Sender) (x : ℕ) (new : Bool → LineNow → LineNow) → MayCome f t (new true no_line) → ((y : LineNow) → new false y ≡ y) → ((b : Bool) (y : LineNow) → (new b y).noticed ≡ y.noticed) → MarksAt f x → Marks (lines_of ((f.end x).kind)) (λ l. new (eqb x t.end.0 && eqb l t.line.0) (f.line x l)) (f.accepted x)
+changed_line : (f : Facts) (t : Sender) (x : ℕ) (new : Bool → LineNow → LineNow) → MayCome f t (new true no_line) → ((y : LineNow) → new false y ≡ y) → ((b : Bool) (y : LineNow) → (new b y).noticed ≡ y.noticed) → MarksAt f x → Marks (lines_of (f.end x).kind) (λ l. new (eqb x t.end.0 && eqb l t.line.0) (f.line x l)) (f.accepted x)
 changed_line f t x new may others noticed s = relined _ (f.line x) (λ l. new (eqb x t.end.0 && eqb l t.line.0) (f.line x l)) (f.accepted x) (λ l. noticed (eqb x t.end.0 && eqb l t.line.0) (f.line x l)) (λ l past. none l past (eqb x t.end.0 && eqb l t.line.0) refl) s
   where
-    none : (l : ℕ) → lines_of ((f.end x).kind) ≤ l → (b : Bool) → (eqb x t.end.0 && eqb l t.line.0) ≡ b → new b (f.line x l) ≡ no_line
+    none : (l : ℕ) → lines_of (f.end x).kind ≤ l → (b : Bool) → (eqb x t.end.0 && eqb l t.line.0) ≡ b → new b (f.line x l) ≡ no_line
     none l past false is = others (f.line x l) ∙ s.none l past
     none l past true is = elim may [
       | inl same ↦ ap (new true) (s.none l past) ∙ same
-      | inr less ↦ let bound : l < lines_of ((f.end x).kind) = on_place (λ y k. k < lines_of ((f.end y).kind)) t x l is less in absurd (omega arith)
+      | inr less ↦ let bound : l < lines_of (f.end x).kind = on_place (λ y k. k < lines_of (f.end y).kind) t x l is less in absurd (omega arith)
     ]
 
-phased : (f : Facts) (t : Sender) (p : Phase) (x : ℕ) → MayCome f t (record no_line { phase = p }) → MarksAt f x → Marks (lines_of ((f.end x).kind)) (phased_line f t p x) (f.accepted x)
+phased : (f : Facts) (t : Sender) (p : Phase) (x : ℕ) → MayCome f t (record no_line { phase = p }) → MarksAt f x → Marks (lines_of (f.end x).kind) (phased_line f t p x) (f.accepted x)
 phased f t p x may s = changed_line f t x (λ b y. record y { phase = cond b p y.phase }) may (λ y. refl) (λ b y. refl) s
 
 -- a line that an agent holds is one of its end
-held_line : (f : Facts) (s : Sender) → LinesAt f s.end.0 → is_some (running f (f.line s.end.0 s.line.0).held_by) ≡ true → s.line.0 < lines_of ((f.end s.end.0).kind)
-held_line f s h held = ⊎_elim (λ under. under) (λ past. absurd (false≢true (sym (ap (λ (y : LineNow). is_some (running f y.held_by)) (h.none s.line.0 past)) ∙ held))) (cases_lt s.line.0 (lines_of ((f.end s.end.0).kind)))
+held_line : (f : Facts) (s : Sender) → LinesAt f s.end.0 → is_some (running f (f.line s.end.0 s.line.0).held_by) ≡ true → s.line.0 < lines_of (f.end s.end.0).kind
+held_line f s h held = ⊎_elim (λ under. under) (λ past. absurd (false≢true (sym (ap (λ (y : LineNow). is_some (running f y.held_by)) (h.none s.line.0 past)) ∙ held))) (cases_lt s.line.0 (lines_of (f.end s.end.0).kind))
 
 -- a line with a poster is one of its end
 some_line : (f : Facts) (s : Sender) → LinesAt f s.end.0 → (p : Option Kind) → (f.end s.end.0).kind ≡ p → is_some (poster_of f s p) ≡ true → s.line.0 < lines_of p
@@ -116,8 +117,8 @@ heard_line f l (Some (Port q)) h = let zeroth : l ≡ 0 = eqb-true l 0 (and_part
 heard_line f l _ h = absurd (false≢true ((and_parts (eqb l 0) false h).1))
 
 -- a line that may be entered is one of its end
-pub line_there : (f : Facts) (s : Sender) → LinesAt f s.end.0 → may_enter f s ≡ true → s.line.0 < lines_of ((f.end s.end.0).kind)
-line_there f s lines h = elim (is_some (poster f s)) as (λ b. is_some (poster f s) ≡ b → (b || hears_notice f s) ≡ true → s.line.0 < lines_of ((f.end s.end.0).kind)) [
+pub line_there : (f : Facts) (s : Sender) → LinesAt f s.end.0 → may_enter f s ≡ true → s.line.0 < lines_of (f.end s.end.0).kind
+line_there f s lines h = elim (is_some (poster f s)) as (λ b. is_some (poster f s) ≡ b → (b || hears_notice f s) ≡ true → s.line.0 < lines_of (f.end s.end.0).kind) [
   | true ↦ λ speaks _. some_line f s lines (f.end s.end.0).kind refl speaks
   | false ↦ λ _ hears. heard_line f s.line.0 (f.end s.end.0).kind hears
 ] refl h
@@ -147,7 +148,7 @@ pub record MayPut (f : Facts) (s : Sender) (v : Envelope) : Type 0 where
   pub epoch : v.epoch ≡ (f.line s.end.0 s.line.0).stand
   pub number : v.number ≡ count_in_queue s.line.0 (f.line s.end.0 s.line.0).stand (f.accepted s.end.0)
   pub ports : is_distinct v.ports ≡ true
-  pub there : s.line.0 < lines_of ((f.end s.end.0).kind)
+  pub there : s.line.0 < lines_of (f.end s.end.0).kind
   pub inside : is_inside (phase_of_line f s) ≡ true
   pub plain : (f.line s.end.0 s.line.0).noticed ≡ false
 
@@ -194,8 +195,8 @@ messages_put vs v l old mine = subst (AllByRecursion (λ (w : Envelope). w.notic
     (AllByRecursion-append (λ (w : Envelope). w.notice ≡ false) (by l vs) (cond (eqb v.line.0 l) (v ∷ []) []) old (at_test (AllByRecursion (λ (w : Envelope). w.notice ≡ false)) (eqb v.line.0 l) (v ∷ []) [] (λ is. (mine (eqb-true v.line.0 l is), tt)) (λ _. tt)))
 
 -- the lines of the end, where at most what was noticed changes
-put_lines : (f : Facts) (s : Sender) (v : Envelope) (x : ℕ) → MayPut f s v → MarksAt f x → x ≡ s.end.0 → (line : ℕ → LineNow) → ((l : ℕ) → lines_of ((f.end x).kind) ≤ l → line l ≡ no_line)
-    → ((l : ℕ) → (line l).noticed ≡ false → ((f.line x l).noticed ≡ false) × (v.line.0 ≡ l → v.notice ≡ false)) → Marks (lines_of ((f.end x).kind)) line (f.accepted x ++ v ∷ [])
+put_lines : (f : Facts) (s : Sender) (v : Envelope) (x : ℕ) → MayPut f s v → MarksAt f x → x ≡ s.end.0 → (line : ℕ → LineNow) → ((l : ℕ) → lines_of (f.end x).kind ≤ l → line l ≡ no_line)
+    → ((l : ℕ) → (line l).noticed ≡ false → ((f.line x l).noticed ≡ false) × (v.line.0 ≡ l → v.notice ≡ false)) → Marks (lines_of (f.end x).kind) line (f.accepted x ++ v ∷ [])
 put_lines f s v x p h here line none noticed =
     let plain : (f.line x s.line.0).noticed ≡ false = ap (λ y. (f.line y s.line.0).noticed) here ∙ p.plain in
     record {
@@ -205,7 +206,7 @@ put_lines f s v x p h here line none noticed =
       last = λ l. last_put (f.accepted x) v l (λ same. h.messages l (ap (λ i. (f.line x i).noticed) (sym same ∙ p.line) ∙ plain)) (h.last l);
     }
 
-put_at : (f : Facts) (s : Sender) (v : Envelope) (x : ℕ) → MayPut f s v → v.notice ≡ false → MarksAt f x → (b : Bool) → eqb x s.end.0 ≡ b → Marks (lines_of ((f.end x).kind)) (f.line x) (cond b (f.accepted x ++ v ∷ []) (f.accepted x))
+put_at : (f : Facts) (s : Sender) (v : Envelope) (x : ℕ) → MayPut f s v → v.notice ≡ false → MarksAt f x → (b : Bool) → eqb x s.end.0 ≡ b → Marks (lines_of (f.end x).kind) (f.line x) (cond b (f.accepted x ++ v ∷ []) (f.accepted x))
 put_at f s v x p message h false is = h
 put_at f s v x p message h true is = put_lines f s v x p h (eqb-true x s.end.0 is) (f.line x) h.none (λ l plain. (plain, λ _. message))
 
@@ -213,7 +214,7 @@ put_at f s v x p message h true is = put_lines f s v x p h (eqb-true x s.end.0 i
 abbrev pub told_line : Facts → Sender → ℕ → ℕ → LineNow
 told_line f t x l = record (f.line x l) { noticed = on_line x l t true (f.line x l).noticed }
 
-told_none : (f : Facts) (s : Sender) (x l : ℕ) → s.line.0 < lines_of ((f.end x).kind) → lines_of ((f.end x).kind) ≤ l → f.line x l ≡ no_line → (c : Bool) → eqb l s.line.0 ≡ c → (let y : LineNow = record (f.line x l) { noticed = cond c true (f.line x l).noticed } in y ≡ no_line)
+told_none : (f : Facts) (s : Sender) (x l : ℕ) → s.line.0 < lines_of (f.end x).kind → lines_of (f.end x).kind ≤ l → f.line x l ≡ no_line → (c : Bool) → eqb l s.line.0 ≡ c → (let y : LineNow = record (f.line x l) { noticed = cond c true (f.line x l).noticed } in y ≡ no_line)
 told_none f s x l low past none true is = absurd (let same : l ≡ s.line.0 = eqb-true l s.line.0 is in omega arith)
 told_none f s x l low past none false is = none
 
@@ -221,11 +222,11 @@ told_false : (l m : ℕ) (old : Bool) → (c : Bool) → eqb l m ≡ c → cond 
 told_false l m old true is h = absurd (false≢true (sym h))
 told_false l m old false is h = (h, eqb-false l m is)
 
-notice_at : (f : Facts) (s : Sender) (v : Envelope) (x : ℕ) → MayPut f s v → MarksAt f x → (b : Bool) → eqb x s.end.0 ≡ b → Marks (lines_of ((f.end x).kind)) (λ l. record (f.line x l) { noticed = cond (b && eqb l s.line.0) true (f.line x l).noticed }) (cond b (f.accepted x ++ v ∷ []) (f.accepted x))
+notice_at : (f : Facts) (s : Sender) (v : Envelope) (x : ℕ) → MayPut f s v → MarksAt f x → (b : Bool) → eqb x s.end.0 ≡ b → Marks (lines_of (f.end x).kind) (λ l. record (f.line x l) { noticed = cond (b && eqb l s.line.0) true (f.line x l).noticed }) (cond b (f.accepted x ++ v ∷ []) (f.accepted x))
 notice_at f s v x p h false is = h
 notice_at f s v x p h true is =
     let here : x ≡ s.end.0 = eqb-true x s.end.0 is in
-    let low : s.line.0 < lines_of ((f.end x).kind) = subst (λ y. s.line.0 < lines_of ((f.end y).kind)) (sym here) p.there in
+    let low : s.line.0 < lines_of (f.end x).kind = subst (λ y. s.line.0 < lines_of (f.end y).kind) (sym here) p.there in
     put_lines f s v x p h here (λ l. record (f.line x l) { noticed = cond (eqb l s.line.0) true (f.line x l).noticed }) (λ l past. told_none f s x l low past (h.none l past) (eqb l s.line.0) refl)
     (λ l plain. let both = told_false l s.line.0 (f.line x l).noticed (eqb l s.line.0) refl plain in (both.0, λ same. absurd (both.1 (sym same ∙ p.line))))
 
@@ -235,7 +236,7 @@ notice_at f s v x p h true is =
 abbrev pub gone_line : Facts → Sender → ℕ → ℕ → LineNow
 gone_line f t x l = record (f.line x l) { stand = cond (eqb x t.end.0 && eqb l t.line.0) ((f.line x l).stand + 1) (f.line x l).stand }
 
-gone : (f : Facts) (t : Sender) (x : ℕ) → t.line.0 < lines_of ((f.end t.end.0).kind) → MarksAt f x → Marks (lines_of ((f.end x).kind)) (gone_line f t x) (f.accepted x)
+gone : (f : Facts) (t : Sender) (x : ℕ) → t.line.0 < lines_of (f.end t.end.0).kind → MarksAt f x → Marks (lines_of (f.end x).kind) (gone_line f t x) (f.accepted x)
 gone f t x low s = changed_line f t x (λ b y. record y { stand = cond b (y.stand + 1) y.stand }) (inr low) (λ y. refl) (λ b y. refl) s
 
 -- ---- who is inside
@@ -245,9 +246,9 @@ pub nobody_inside : (f : Facts) (x k l : ℕ) → LinesAt f x → someone_at f x
 nobody_inside f x k l s none inside at = ⊎_elim
     (λ low.
     let there : is_away_at k (f.line x l) ≡ true = rw (inside, at) (eqb_same k) in
-    false≢true (sym (none_of_any (λ i. is_away_at k (f.line x i)) (lines_of ((f.end x).kind)) l none low) ∙ there))
+    false≢true (sym (none_of_any (λ i. is_away_at k (f.line x i)) (lines_of (f.end x).kind) l none low) ∙ there))
     (λ high. absurd (search (rules, sym (ap (λ (y : LineNow). y.phase) (s.none l high)) ∙ inside)))
-    (cases_lt l (lines_of ((f.end x).kind)))
+    (cases_lt l (lines_of (f.end x).kind))
 
 -- a line inside is at none of the settled queues
 pub inside_unsettled : (f : Facts) (x k l : ℕ) → LinesAt f x → is_settled f x k ≡ true → (f.line x l).phase ≡ Inside → (f.line x l).stand ≡ k → ⊥
@@ -262,7 +263,7 @@ inside_unsettled f x k l s settled inside at = elim (f.clear x k) as (λ b. f.cl
 abbrev pub held_line_as : Facts → Sender → Option AgentId → ℕ → ℕ → LineNow
 held_line_as f t holder x l = record (f.line x l) { held_by = on_line x l t holder (f.line x l).held_by }
 
-held : (f : Facts) (t : Sender) (holder : Option AgentId) (x : ℕ) → MayCome f t (record no_line { held_by = holder }) → MarksAt f x → Marks (lines_of ((f.end x).kind)) (held_line_as f t holder x) (f.accepted x)
+held : (f : Facts) (t : Sender) (holder : Option AgentId) (x : ℕ) → MayCome f t (record no_line { held_by = holder }) → MarksAt f x → Marks (lines_of (f.end x).kind) (held_line_as f t holder x) (f.accepted x)
 held f t holder x may s = changed_line f t x (λ b y. record y { held_by = cond b holder y.held_by }) may (λ y. refl) (λ b y. refl) s
 
 -- the lines of a queue are those that agents hold
@@ -276,16 +277,10 @@ queue_lines _ h = absurd (false≢true h)
 pub marks_next : (f : Facts) (refused : Bool) → IsUnmade f → ((x : ℕ) → LinesAt f x) → ((x : ℕ) → MarksAt f x) → (o : Outcome) (a : Action) → Answers f a refused o → (x : ℕ) → MarksAt (next f a o) x
 marks_next f refused none h m (outcome.Ends e e') (action.Channel a) fits x =
     let made = new_ends f a refused e e' fits in
-    grown (lines_of ((f.end x).kind)) _ (f.line x) (f.accepted x) (more_lines (eqb x e.0) (eqb x e'.0) (Port e') (Port e) (f.end x).kind (either_new f e e' x none made.1 made.2)) (m x)
-marks_next f refused none h m (outcome.End e) (action.Client a) fits x =
-    let made = queue_made_of f is_client a refused e fits in
-    grown (lines_of ((f.end x).kind)) _ (f.line x) (f.accepted x) (one_more_line (eqb x e.0) Client (f.end x).kind (one_new f e x none made.number)) (m x)
-marks_next f refused none h m (outcome.End e) (action.Worker a) fits x =
-    let made = queue_made_of f is_worker a refused e fits in
-    grown (lines_of ((f.end x).kind)) _ (f.line x) (f.accepted x) (one_more_line (eqb x e.0) Worker (f.end x).kind (one_new f e x none made.number)) (m x)
-marks_next f refused none h m (outcome.End e) (action.Member a name) fits x =
-    let made = member_made_of f a refused e fits in
-    grown (lines_of ((f.end x).kind)) _ (f.line x) (f.accepted x) (one_more_line (eqb x e.0) (Member a) (f.end x).kind (one_new f e x none made.number)) (m x)
+    grown (lines_of (f.end x).kind) _ (f.line x) (f.accepted x) (more_lines (eqb x e.0) (eqb x e'.0) (Port e') (Port e) (f.end x).kind (λ is. ap (λ (d : EndNow). d.kind) (unmade_end f e e' x none made.1 made.2 is))) (m x)
+marks_next f refused none h m (outcome.End e) (action.Client a) fits x = made_marks f e Client x none (queue_made_of f is_client a refused e fits).number (m x)
+marks_next f refused none h m (outcome.End e) (action.Worker a) fits x = made_marks f e Worker x none (queue_made_of f is_worker a refused e fits).number (m x)
+marks_next f refused none h m (outcome.End e) (action.Member a name) fits x = made_marks f e (Member a) x none (member_made_of f a refused e fits).number (m x)
 marks_next f refused none h m (outcome.Line l) (action.Line e a) fits x =
     let gets = line_got_of f e a l fits in
     held f (record { end = e; line = l }) (Some a) x (inr (subst (λ n. l.0 < n) (sym (queue_lines (f.end e.0).kind gets.queue)) gets.low)) (m x)

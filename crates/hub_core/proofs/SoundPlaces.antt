@@ -12,7 +12,7 @@ use Rattle.hub_core.proofs.Speakers.{holder_made, runs_there, swept_flies, taken
 use Rattle.hub_core.proofs.Speakers.{old_end, old_one, own_out, port_owned, poster_as, queue_is_made, released_out, speaks_of, still_held, SomeCasts, closed_made, heard_of, made_of, named_count, nothing_accepted, nothing_removed, placed_made}
 use Rattle.hub_core.proofs.Speakers.{running_made, same_sender, swept_total, swept_within, unnamed_count}
 use Rattle.hub_core.proofs.Nexts.{next}
-use Rattle.hub_core.proofs.SoundLines.{line_there}
+use Rattle.hub_core.proofs.SoundLines.{line_there, unmade_end, unmade_one}
 use Rattle.hub_core.proofs.Lists.{at_test, eqb_same}
 use Rattle.hub_core.proofs.Totals.{bit, count_between, count_more, total_more, total_past}
 
@@ -38,20 +38,13 @@ one_made f b k e = record f {
   end = λ x. record (f.end x) { kind = cond (eqb x e.0) (Some k) (f.end x).kind; place = cond (eqb x e.0) (Some (With b)) (f.end x).place };
 }
 
--- what is said of a new end: it was none before
-pub unmade_end : (f : Facts) (e e' : EndId) (x : ℕ) → SoundPlaces f → e ≡ record { 0 = f.ends } → e' ≡ record { 0 = f.ends + 1 } → (eqb x e.0 || eqb x e'.0) ≡ true → f.end x ≡ no_end
-unmade_end f e e' x h first second is = elim (eqb x e.0) as (λ b. eqb x e.0 ≡ b → (b || eqb x e'.0) ≡ true → f.end x ≡ no_end) [
-  | true ↦ λ t _. let same : x ≡ f.ends = eqb-true x e.0 t ∙ ap (λ (d : EndId). d.0) first in h.ends x (omega arith)
-  | false ↦ λ _ t. let same : x ≡ f.ends + 1 = eqb-true x e'.0 t ∙ ap (λ (d : EndId). d.0) second in h.ends x (omega arith)
-] refl is
-
-pub unmade_one : (f : Facts) (e : EndId) (x : ℕ) → SoundPlaces f → e ≡ record { 0 = f.ends } → eqb x e.0 ≡ true → f.end x ≡ no_end
-unmade_one f e x h first is = let same : x ≡ f.ends = eqb-true x e.0 is ∙ ap (λ (d : EndId). d.0) first in h.ends x (omega arith)
-
 -- an end goes to another place where the pair is about it
 moved : (f : Facts) (x : ℕ) (b : Bool) (p : Option Place) → (b ≡ true → GoesTo f x p (f.end x).closed) → GoesTo f x (cond b p (f.end x).place) (f.end x).closed
 moved f x true p goes = goes refl
 moved f x false p goes = stays refl refl
+
+made_goes : (f : Facts) (e : EndId) (a : AgentId) (x : ℕ) → SoundPlaces f → (f.agent a.0).runs ≡ true → e ≡ record { 0 = f.ends } → GoesTo f x (cond (eqb x e.0) (Some (With a)) (f.end x).place) (f.end x).closed
+made_goes f e a x h runs number = moved f x (eqb x e.0) (Some (With a)) (λ is. new a refl refl (unmade_one f e x h.ends number is) runs)
 
 closing : (f : Facts) (x : ℕ) (b : Bool) → (b ≡ true → (is_here (f.end x).place ≡ true) × (is_released f (f.end x).kind ≡ true)) → GoesTo f x (cond b (Some Gone) (f.end x).place) (cond b true (f.end x).closed)
 closing f x true may = shut refl refl (may refl).0 (may refl).1
@@ -60,16 +53,10 @@ closing f x false may = stays refl refl
 pub goes_to : (f : Facts) (refused : Bool) → Sound f → (o : Outcome) (a : Action) → Answers f a refused o → (x : ℕ) → GoesTo f x (place_after x (λ y. (f.end y).place) o a) (closed_after x (f.end x).closed o a)
 goes_to f refused h (outcome.Ends e e') (action.Channel a) fits x =
     let made = new_ends f a refused e e' fits in
-    moved f x (eqb x e.0 || eqb x e'.0) (Some (With a)) (λ is. new a refl refl (unmade_end f e e' x h.places made.1 made.2 is) made.0)
-goes_to f refused h (outcome.End e) (action.Client a) fits x =
-    let made = queue_made_of f is_client a refused e fits in
-    moved f x (eqb x e.0) (Some (With a)) (λ is. new a refl refl (unmade_one f e x h.places made.number is) made.runs)
-goes_to f refused h (outcome.End e) (action.Worker a) fits x =
-    let made = queue_made_of f is_worker a refused e fits in
-    moved f x (eqb x e.0) (Some (With a)) (λ is. new a refl refl (unmade_one f e x h.places made.number is) made.runs)
-goes_to f refused h (outcome.End e) (action.Member a name) fits x =
-    let made = member_made_of f a refused e fits in
-    moved f x (eqb x e.0) (Some (With a)) (λ is. new a refl refl (unmade_one f e x h.places made.number is) made.runs)
+    moved f x (eqb x e.0 || eqb x e'.0) (Some (With a)) (λ is. new a refl refl (unmade_end f e e' x h.places.ends made.1 made.2 is) made.0)
+goes_to f refused h (outcome.End e) (action.Client a) fits x = let made = queue_made_of f is_client a refused e fits in made_goes f e a x h.places made.runs made.number
+goes_to f refused h (outcome.End e) (action.Worker a) fits x = let made = queue_made_of f is_worker a refused e fits in made_goes f e a x h.places made.runs made.number
+goes_to f refused h (outcome.End e) (action.Member a name) fits x = let made = member_made_of f a refused e fits in made_goes f e a x h.places made.runs made.number
 goes_to f refused h (outcome.Accepted n) (action.Push s ports body) fits x =
     let p = pushed_of f s ports body refused n fits in
     moved f x (names ports x) (Some InFlight) (λ named. let may = travels f p.agent s x ports p.leave named in sent p.agent refl refl may.0 may.1)
@@ -225,7 +212,7 @@ may_next f refused h o a fits s away after may = elim (hears_of f s may) [
 -- ---- who is away after a pair
 
 -- after an Enter
-away_entered : (f : Facts) (s t : Sender) (p : Phase) → SoundPlaces f → may_enter f t ≡ true → (b : Bool) → (eqb s.end.0 t.end.0 && eqb s.line.0 t.line.0) ≡ b → is_out (cond b p ((f.line s.end.0 s.line.0).phase)) ≡ false → may_enter f s ≡ true
+away_entered : (f : Facts) (s t : Sender) (p : Phase) → SoundPlaces f → may_enter f t ≡ true → (b : Bool) → (eqb s.end.0 t.end.0 && eqb s.line.0 t.line.0) ≡ b → is_out (cond b p (f.line s.end.0 s.line.0).phase) ≡ false → may_enter f s ≡ true
 away_entered f s t p h may true is away =
     let both = and_parts (eqb s.end.0 t.end.0) (eqb s.line.0 t.line.0) is in
     subst (λ u. may_enter f u ≡ true) (sym (same_sender s t (eqb-true s.end.0 t.end.0 both.0) (eqb-true s.line.0 t.line.0 both.1))) may
@@ -233,55 +220,55 @@ away_entered f s t p h may false is away = h.away s away
 
 -- ---- flights
 
-put_flights : (f : Facts) (s : Sender) (v : Envelope) (x : ℕ) → SoundPlaces f → s.end.0 < f.ends → (b : Bool) → names v.ports x ≡ b → (b ≡ true → flights ((f.end x).place) ≡ 0) → total (λ e. naming x (cond (eqb e s.end.0) (f.accepted e ++ v ∷ []) (f.accepted e))) f.ends ≡ total (λ e. naming x (f.taken e ++ f.discarded e)) f.ends + flights (cond b (Some InFlight) ((f.end x).place))
+put_flights : (f : Facts) (s : Sender) (v : Envelope) (x : ℕ) → SoundPlaces f → s.end.0 < f.ends → (b : Bool) → names v.ports x ≡ b → (b ≡ true → flights (f.end x).place ≡ 0) → total (λ e. naming x (cond (eqb e s.end.0) (f.accepted e ++ v ∷ []) (f.accepted e))) f.ends ≡ total (λ e. naming x (f.taken e ++ f.discarded e)) f.ends + flights (cond b (Some InFlight) (f.end x).place)
 put_flights f s v x h made b is landed =
     let P : Envelope → Bool = λ u. names u.ports x in
     let u : ℕ → ℕ = λ e. naming x (cond (eqb e s.end.0) (f.accepted e ++ v ∷ []) (f.accepted e)) in
     let w : ℕ → ℕ = λ e. naming x (f.accepted e) in
     let here : u s.end.0 ≡ w s.end.0 + bit b = ap (λ c. naming x (cond c (f.accepted s.end.0 ++ v ∷ []) (f.accepted s.end.0))) (eqb_same s.end.0) ∙ count_more P (f.accepted s.end.0) v ∙ ap (λ c. w s.end.0 + bit c) is in
     let grows : total u f.ends ≡ total w f.ends + bit b = total_more w u f.ends s.end.0 (bit b) made here (λ d other. ap (λ c. naming x (cond c (f.accepted d ++ v ∷ []) (f.accepted d))) (ne_eqb d s.end.0 other)) in
-    let before : total w f.ends ≡ total (λ e. naming x (f.taken e ++ f.discarded e)) f.ends + flights ((f.end x).place) = h.flights x in
-    let more : flights (cond b (Some InFlight) ((f.end x).place)) ≡ flights ((f.end x).place) + bit b = elim b as (λ c. (c ≡ true → flights ((f.end x).place) ≡ 0) → flights (cond c (Some InFlight) ((f.end x).place)) ≡ flights ((f.end x).place) + bit c) [
-      | true ↦ λ none. let zeroth : flights ((f.end x).place) ≡ 0 = none refl in omega arith
+    let before : total w f.ends ≡ total (λ e. naming x (f.taken e ++ f.discarded e)) f.ends + flights (f.end x).place = h.flights x in
+    let more : flights (cond b (Some InFlight) (f.end x).place) ≡ flights (f.end x).place + bit b = elim b as (λ c. (c ≡ true → flights (f.end x).place ≡ 0) → flights (cond c (Some InFlight) (f.end x).place) ≡ flights (f.end x).place + bit c) [
+      | true ↦ λ none. let zeroth : flights (f.end x).place ≡ 0 = none refl in omega arith
       | false ↦ λ none. omega arith
     ] landed in
     omega arith
 
-got_flights : (f : Facts) (e : EndId) (v : Envelope) (x : ℕ) (a : AgentId) → Sound f → IsNext f e v → (f.end e.0).closed ≡ false → e.0 < f.ends → (f.end e.0).place ≡ Some (With a) → (b : Bool) → names v.ports x ≡ b → total (λ d. naming x (f.accepted d)) f.ends ≡ total (λ d. naming x (cond (eqb d e.0) (f.taken d ++ v ∷ []) (f.taken d) ++ f.discarded d)) f.ends + flights (cond b (arrived ((f.end e.0).place) ((f.end x).place)) ((f.end x).place))
+got_flights : (f : Facts) (e : EndId) (v : Envelope) (x : ℕ) (a : AgentId) → Sound f → IsNext f e v → (f.end e.0).closed ≡ false → e.0 < f.ends → (f.end e.0).place ≡ Some (With a) → (b : Bool) → names v.ports x ≡ b → total (λ d. naming x (f.accepted d)) f.ends ≡ total (λ d. naming x (cond (eqb d e.0) (f.taken d ++ v ∷ []) (f.taken d) ++ f.discarded d)) f.ends + flights (cond b (arrived (f.end e.0).place (f.end x).place) (f.end x).place)
 got_flights f e v x a h n opened made has b is =
     let P : Envelope → Bool = λ u. names u.ports x in
     let u : ℕ → ℕ = λ d. naming x (cond (eqb d e.0) (f.taken d ++ v ∷ []) (f.taken d) ++ f.discarded d) in
     let w : ℕ → ℕ = λ d. naming x (f.taken d ++ f.discarded d) in
     let here : u e.0 ≡ w e.0 + bit b = ap (λ c. naming x (cond c (f.taken e.0 ++ v ∷ []) (f.taken e.0) ++ f.discarded e.0)) (eqb_same e.0) ∙ count_between P (f.taken e.0) (f.discarded e.0) v ∙ ap (λ c. w e.0 + bit c) is in
     let grows : total u f.ends ≡ total w f.ends + bit b = total_more w u f.ends e.0 (bit b) made here (λ d other. ap (λ c. naming x (cond c (f.taken d ++ v ∷ []) (f.taken d) ++ f.discarded d)) (ne_eqb d e.0 other)) in
-    let before : total (λ d. naming x (f.accepted d)) f.ends ≡ total w f.ends + flights ((f.end x).place) = h.places.flights x in
-    let fewer : flights ((f.end x).place) ≡ bit b + flights (cond b (arrived ((f.end e.0).place) ((f.end x).place)) ((f.end x).place)) = elim b as (λ c. names v.ports x ≡ c → flights ((f.end x).place) ≡ bit c + flights (cond c (arrived ((f.end e.0).place) ((f.end x).place)) ((f.end x).place))) [
+    let before : total (λ d. naming x (f.accepted d)) f.ends ≡ total w f.ends + flights (f.end x).place = h.places.flights x in
+    let fewer : flights (f.end x).place ≡ bit b + flights (cond b (arrived (f.end e.0).place (f.end x).place) (f.end x).place) = elim b as (λ c. names v.ports x ≡ c → flights (f.end x).place ≡ bit c + flights (cond c (arrived (f.end e.0).place (f.end x).place) (f.end x).place)) [
       | true ↦ λ t.
-          let one : flights ((f.end x).place) ≡ 1 = ap flights (taken_flies f e v x h n opened made t) in
-          let none : flights (arrived ((f.end e.0).place) ((f.end x).place)) ≡ 0 = ap (λ p. flights (arrived p ((f.end x).place))) has in
+          let one : flights (f.end x).place ≡ 1 = ap flights (taken_flies f e v x h n opened made t) in
+          let none : flights (arrived (f.end e.0).place (f.end x).place) ≡ 0 = ap (λ p. flights (arrived p (f.end x).place)) has in
           omega arith
       | false ↦ λ t. omega arith
     ] is in
     omega arith
 
-swept_flights : (f : Facts) (e : EndId) (vs : List Envelope) (x : ℕ) → Sound f → SweptWith f e vs → e.0 < f.ends → (b : Bool) → is_named vs x ≡ b → total (λ d. naming x (f.accepted d)) f.ends ≡ total (λ d. naming x (f.taken d ++ cond (eqb d e.0) (f.discarded d ++ vs) (f.discarded d))) f.ends + flights (cond b (Some Swept) ((f.end x).place))
+swept_flights : (f : Facts) (e : EndId) (vs : List Envelope) (x : ℕ) → Sound f → SweptWith f e vs → e.0 < f.ends → (b : Bool) → is_named vs x ≡ b → total (λ d. naming x (f.accepted d)) f.ends ≡ total (λ d. naming x (f.taken d ++ cond (eqb d e.0) (f.discarded d ++ vs) (f.discarded d))) f.ends + flights (cond b (Some Swept) (f.end x).place)
 swept_flights f e vs x h w made true named =
     let one : 1 ≤ naming x vs = named_count x vs named in
-    let within : naming x vs ≤ flights ((f.end x).place) = swept_within f e vs x h w in
-    let was : flights ((f.end x).place) ≡ 1 = ap flights (swept_flies f e vs x h w named) in
+    let within : naming x vs ≤ flights (f.end x).place = swept_within f e vs x h w in
+    let was : flights (f.end x).place ≡ 1 = ap flights (swept_flies f e vs x h w named) in
     let grows : total (λ d. naming x (f.taken d ++ cond (eqb d e.0) (f.discarded d ++ vs) (f.discarded d))) f.ends ≡ total (λ d. naming x (f.taken d ++ f.discarded d)) f.ends + naming x vs = swept_total f e vs x made in
-    let before : total (λ d. naming x (f.accepted d)) f.ends ≡ total (λ d. naming x (f.taken d ++ f.discarded d)) f.ends + flights ((f.end x).place) = h.places.flights x in
+    let before : total (λ d. naming x (f.accepted d)) f.ends ≡ total (λ d. naming x (f.taken d ++ f.discarded d)) f.ends + flights (f.end x).place = h.places.flights x in
     omega arith
 swept_flights f e vs x h w made false named =
     let none : naming x vs ≡ 0 = unnamed_count x vs named in
     let grows : total (λ d. naming x (f.taken d ++ cond (eqb d e.0) (f.discarded d ++ vs) (f.discarded d))) f.ends ≡ total (λ d. naming x (f.taken d ++ f.discarded d)) f.ends + naming x vs = swept_total f e vs x made in
-    let before : total (λ d. naming x (f.accepted d)) f.ends ≡ total (λ d. naming x (f.taken d ++ f.discarded d)) f.ends + flights ((f.end x).place) = h.places.flights x in
+    let before : total (λ d. naming x (f.accepted d)) f.ends ≡ total (λ d. naming x (f.taken d ++ f.discarded d)) f.ends + flights (f.end x).place = h.places.flights x in
     omega arith
 
 -- ---- sums over more ends
 
 -- nothing was accepted at ends that are not made yet
-more_flights : (f : Facts) (x k : ℕ) → Sound f → total (λ e. naming x (f.accepted e)) (f.ends + k) ≡ total (λ e. naming x (f.taken e ++ f.discarded e)) (f.ends + k) + flights ((f.end x).place)
+more_flights : (f : Facts) (x k : ℕ) → Sound f → total (λ e. naming x (f.accepted e)) (f.ends + k) ≡ total (λ e. naming x (f.taken e ++ f.discarded e)) (f.ends + k) + flights (f.end x).place
 more_flights f x k h =
     let w : ℕ → ℕ = λ d. naming x (f.accepted d) in
     let u : ℕ → ℕ = λ d. naming x (f.taken d ++ f.discarded d) in
@@ -290,7 +277,7 @@ more_flights f x k h =
     in
     let accepted : total w (f.ends + k) ≡ total w f.ends = total_past w f.ends k (λ i past. ap (naming x) (none_at i past).0) in
     let taken : total u (f.ends + k) ≡ total u f.ends = total_past u f.ends k (λ i past. ap (naming x) (none_at i past).1) in
-    let before : total w f.ends ≡ total u f.ends + flights ((f.end x).place) = h.places.flights x in
+    let before : total w f.ends ≡ total u f.ends + flights (f.end x).place = h.places.flights x in
     omega arith
 
 -- ---- places that are not in flight
@@ -303,7 +290,7 @@ same_flights : (b : Bool) (q p : Option Place) → flights q ≡ 0 → (b ≡ tr
 same_flights b q p none landed = at_test (λ r. flights r ≡ flights p) b q p (λ is. none ∙ sym (landed is)) (λ _. refl)
 
 -- one end goes from a place that is no flight to another
-placed_flights : (f : Facts) (x e : ℕ) (q : Option Place) → SoundPlaces f → flights q ≡ 0 → flights ((f.end e).place) ≡ 0 → total (λ d. naming x (f.accepted d)) f.ends ≡ total (λ d. naming x (f.taken d ++ f.discarded d)) f.ends + flights (cond (eqb x e) q (f.end x).place)
+placed_flights : (f : Facts) (x e : ℕ) (q : Option Place) → SoundPlaces f → flights q ≡ 0 → flights (f.end e).place ≡ 0 → total (λ d. naming x (f.accepted d)) f.ends ≡ total (λ d. naming x (f.taken d ++ f.discarded d)) f.ends + flights (cond (eqb x e) q (f.end x).place)
 placed_flights f x e q h none landed =
     h.flights x ∙ ap (λ n. total (λ d. naming x (f.taken d ++ f.discarded d)) f.ends + n) (sym (same_flights (eqb x e) q (f.end x).place none (λ is. ap (λ y. flights (f.end y).place) (eqb-true x e is) ∙ landed)))
 
@@ -415,7 +402,7 @@ none_next f refused h (outcome.Accepted n) (action.Push s ports body) fits x pas
 none_next f refused h (outcome.Got v) (action.Take e) fits x past =
     let served = got_of f e v fits in
     let none = h.places.ends x past in
-    moved_none f x (names v.ports x) (arrived ((f.end e.0).place) ((f.end x).place)) none (λ named. none_with f x InFlight none (taken_flies f e v x h served.serves served.is_open (holder_made f e.0 h.places served.held) named))
+    moved_none f x (names v.ports x) (arrived (f.end e.0).place (f.end x).place) none (λ named. none_with f x InFlight none (taken_flies f e v x h served.serves served.is_open (holder_made f e.0 h.places served.held) named))
 none_next f refused h (outcome.Discarded vs) (action.Sweep e) fits x past =
     let none = h.places.ends x past in
     moved_none f x (is_named vs x) (Some Swept) none (λ named. none_with f x InFlight none (swept_flies f e vs x h (swept_of f e vs fits) named))
@@ -474,11 +461,11 @@ away_next f refused h outcome.Left (action.Leave t) fits s away =
     may_next f refused h outcome.Left (action.Leave t) fits s before away (h.places.away s before)
 away_next f refused h o a fits s away = may_next f refused h o a fits s away away (h.places.away s away)
 
-flights_next : (f : Facts) (refused : Bool) → Sound f → (o : Outcome) (a : Action) → Answers f a refused o → (x : ℕ) → (let g : Facts = next f a o in total (λ d. naming x (g.accepted d)) g.ends ≡ total (λ d. naming x (g.taken d ++ g.discarded d)) g.ends + flights ((g.end x).place))
-flights_next f refused h (outcome.Ends e e') (action.Channel a) fits x = let made = new_ends f a refused e e' fits in made_flights f x 2 (eqb x e.0 || eqb x e'.0) a h (unmade_end f e e' x h.places made.1 made.2)
-flights_next f refused h (outcome.End e) (action.Client a) fits x = made_flights f x 1 (eqb x e.0) a h (unmade_one f e x h.places (queue_made_of f is_client a refused e fits).number)
-flights_next f refused h (outcome.End e) (action.Worker a) fits x = made_flights f x 1 (eqb x e.0) a h (unmade_one f e x h.places (queue_made_of f is_worker a refused e fits).number)
-flights_next f refused h (outcome.End e) (action.Member a name) fits x = made_flights f x 1 (eqb x e.0) a h (unmade_one f e x h.places (member_made_of f a refused e fits).number)
+flights_next : (f : Facts) (refused : Bool) → Sound f → (o : Outcome) (a : Action) → Answers f a refused o → (x : ℕ) → (let g : Facts = next f a o in total (λ d. naming x (g.accepted d)) g.ends ≡ total (λ d. naming x (g.taken d ++ g.discarded d)) g.ends + flights (g.end x).place)
+flights_next f refused h (outcome.Ends e e') (action.Channel a) fits x = let made = new_ends f a refused e e' fits in made_flights f x 2 (eqb x e.0 || eqb x e'.0) a h (unmade_end f e e' x h.places.ends made.1 made.2)
+flights_next f refused h (outcome.End e) (action.Client a) fits x = made_flights f x 1 (eqb x e.0) a h (unmade_one f e x h.places.ends (queue_made_of f is_client a refused e fits).number)
+flights_next f refused h (outcome.End e) (action.Worker a) fits x = made_flights f x 1 (eqb x e.0) a h (unmade_one f e x h.places.ends (queue_made_of f is_worker a refused e fits).number)
+flights_next f refused h (outcome.End e) (action.Member a name) fits x = made_flights f x 1 (eqb x e.0) a h (unmade_one f e x h.places.ends (member_made_of f a refused e fits).number)
 flights_next f refused h (outcome.Accepted n) (action.Push s ports body) fits x =
     let p = pushed_of f s ports body refused n fits in
     put_flights f s (named_envelope s n body ports) x h.places (posted_made f s h.places (speaks_of f s (ap is_some p.speaks))) (names ports x) refl (λ named. ap flights (travels f p.agent s x ports p.leave named).0)

@@ -35,7 +35,7 @@ module _ (g : Queue → List Envelope) where
 
 module _ (f : Facts) (e : ℕ) (m : Mailbox OneRight) (is : ShownAt f e m) (marks : MarksAt f e) (leavings : LeavingsAt f e) where
   abbrev lines : ℕ
-  lines = lines_of ((f.end e).kind)
+  lines = lines_of (f.end e).kind
 
   abbrev newest : ℕ
   newest = (f.end e).newest

@@ -12,7 +12,7 @@ use Rattle.hub_core.proofs.SoundLines.{LinesAt, MayPut, by_more, inside_unsettle
 use Rattle.hub_core.proofs.Waits.{from_queue}
 
 abbrev pub WaitingAt : Facts → ℕ → Type 0
-WaitingAt f x = SoundWaiting ((f.end x).taker_stand) ((f.end x).closed) (f.line x) (f.accepted x) (f.taken x) (f.discarded x)
+WaitingAt f x = SoundWaiting (f.end x).taker_stand (f.end x).closed (f.line x) (f.accepted x) (f.taken x) (f.discarded x)
 
 -- What a mailbox doesn't show of it, where what was taken and what was discarded is one, and a queue that it hasn't is
 -- none. No queue past the newest is clear. What was taken is of queues that the taker came to, and what was discarded of
@@ -27,7 +27,7 @@ pub record Leavings (newest taker : ℕ) (closed : Bool) (line : ℕ → LineNow
   pub swept : (discarded ≡ []) ⊎ ((l : ℕ) → by l (taken ++ discarded) ≡ by l accepted)
 
 abbrev pub LeavingsAt : Facts → ℕ → Type 0
-LeavingsAt f x = Leavings ((f.end x).newest) ((f.end x).taker_stand) ((f.end x).closed) (f.line x) (f.clear x) (f.accepted x) (f.taken x) (f.discarded x)
+LeavingsAt f x = Leavings (f.end x).newest (f.end x).taker_stand (f.end x).closed (f.line x) (f.clear x) (f.accepted x) (f.taken x) (f.discarded x)
 
 -- what was removed from the queues, where nothing was discarded
 pub nothing_more : (ts ds : List Envelope) → ds ≡ [] → ts ++ ds ≡ ts
@@ -47,7 +47,7 @@ inside_of _ h = cc
 relined : (n t : ℕ) (closed : Bool) (line after : ℕ → LineNow) (clear : ℕ → Bool) (vs ts ds : List Envelope) → ((l : ℕ) → (after l).phase ≡ Inside → ds ≡ []) → Leavings n t closed line clear vs ts ds → Leavings n t closed after clear vs ts ds
 relined n t closed line after clear vs ts ds nobody h = record { unclear = h.unclear; reached = h.reached; from = h.from; kept = h.kept; nobody = nobody; swept = h.swept }
 
-left_phased : (f : Facts) (t : Sender) (p : Phase) (x : ℕ) → (p ≡ Inside → f.discarded t.end.0 ≡ []) → LeavingsAt f x → Leavings ((f.end x).newest) ((f.end x).taker_stand) ((f.end x).closed) (phased_line f t p x) (f.clear x) (f.accepted x) (f.taken x) (f.discarded x)
+left_phased : (f : Facts) (t : Sender) (p : Phase) (x : ℕ) → (p ≡ Inside → f.discarded t.end.0 ≡ []) → LeavingsAt f x → Leavings (f.end x).newest (f.end x).taker_stand (f.end x).closed (phased_line f t p x) (f.clear x) (f.accepted x) (f.taken x) (f.discarded x)
 left_phased f t p x may h = relined _ _ _ (f.line x) _ _ _ _ _ (λ l is. elim (eqb x t.end.0 && eqb l t.line.0) as (λ b. (eqb x t.end.0 && eqb l t.line.0) ≡ b → cond b p (f.line x l).phase ≡ Inside → f.discarded x ≡ []) [
   | true ↦ λ on inside. let here : x ≡ t.end.0 = eqb-true x t.end.0 (and_parts (eqb x t.end.0) (eqb l t.line.0) on).0 in ap f.discarded here ∙ may inside
   | false ↦ λ on inside. h.nobody l inside
@@ -55,7 +55,7 @@ left_phased f t p x may h = relined _ _ _ (f.line x) _ _ _ _ _ (λ l is. elim (e
 
 -- ---- pushing
 
-left_put : (f : Facts) (s : Sender) (v : Envelope) (x : ℕ) → MayPut f s v → LeavingsAt f x → (b : Bool) → eqb x s.end.0 ≡ b → Leavings ((f.end x).newest) ((f.end x).taker_stand) ((f.end x).closed) (f.line x) (f.clear x) (cond b (f.accepted x ++ v ∷ []) (f.accepted x)) (f.taken x) (f.discarded x)
+left_put : (f : Facts) (s : Sender) (v : Envelope) (x : ℕ) → MayPut f s v → LeavingsAt f x → (b : Bool) → eqb x s.end.0 ≡ b → Leavings (f.end x).newest (f.end x).taker_stand (f.end x).closed (f.line x) (f.clear x) (cond b (f.accepted x ++ v ∷ []) (f.accepted x)) (f.taken x) (f.discarded x)
 left_put f s v x p h false is = h
 left_put f s v x p h true is = record {
   unclear = h.unclear;
@@ -79,7 +79,7 @@ got_line f e v line n old false is =
 pub got_prefix : (f : Facts) (e : EndId) (v : Envelope) → IsNext f e v → WaitingAt f e.0 → (l : ℕ) → Prefix (by l (f.taken e.0 ++ v ∷ [])) (by l (f.accepted e.0))
 got_prefix f e v n h l = got_line f e v l n (taken_prefix l (f.taken e.0) (f.discarded e.0) (f.accepted e.0) (h.prefix l)) (eqb v.line.0 l) refl
 
-left_got : (f : Facts) (e : EndId) (v : Envelope) (x : ℕ) → IsNext f e v → (f.end e.0).closed ≡ false → LeavingsAt f x → (b : Bool) → eqb x e.0 ≡ b → Leavings ((f.end x).newest) ((f.end x).taker_stand) ((f.end x).closed) (f.line x) (f.clear x) (f.accepted x) (cond b (f.taken x ++ v ∷ []) (f.taken x)) (f.discarded x)
+left_got : (f : Facts) (e : EndId) (v : Envelope) (x : ℕ) → IsNext f e v → (f.end e.0).closed ≡ false → LeavingsAt f x → (b : Bool) → eqb x e.0 ≡ b → Leavings (f.end x).newest (f.end x).taker_stand (f.end x).closed (f.line x) (f.clear x) (f.accepted x) (cond b (f.taken x ++ v ∷ []) (f.taken x)) (f.discarded x)
 left_got f e v x n opened h false is = h
 left_got f e v x n opened h true is =
     let here : x ≡ e.0 = eqb-true x e.0 is in
@@ -93,7 +93,7 @@ left_got f e v x n opened h true is =
       swept = inl (h.kept (ap (λ y. (f.end y).closed) here ∙ opened));
     }
 
-left_went : (f : Facts) (e : EndId) (x : ℕ) → (f.end e.0).closed ≡ false → LeavingsAt f x → (b : Bool) → eqb x e.0 ≡ b → Leavings ((f.end x).newest) (cond b ((f.end x).taker_stand + 1) (f.end x).taker_stand) ((f.end x).closed) (f.line x) (f.clear x) (f.accepted x) (f.taken x) (f.discarded x)
+left_went : (f : Facts) (e : EndId) (x : ℕ) → (f.end e.0).closed ≡ false → LeavingsAt f x → (b : Bool) → eqb x e.0 ≡ b → Leavings (f.end x).newest (cond b ((f.end x).taker_stand + 1) (f.end x).taker_stand) (f.end x).closed (f.line x) (f.clear x) (f.accepted x) (f.taken x) (f.discarded x)
 left_went f e x opened h false is = h
 left_went f e x opened h true is = record {
   unclear = h.unclear;
@@ -106,7 +106,7 @@ left_went f e x opened h true is = record {
 
 -- ---- queues that are clear
 
-left_cleared : (f : Facts) (e : EndId) (k x : ℕ) → k ≤ (f.end e.0).newest → LeavingsAt f x → (b : Bool) → eqb x e.0 ≡ b → Leavings ((f.end x).newest) ((f.end x).taker_stand) ((f.end x).closed) (f.line x) (λ i. cond (b && eqb i k) true (f.clear x i)) (f.accepted x) (f.taken x) (f.discarded x)
+left_cleared : (f : Facts) (e : EndId) (k x : ℕ) → k ≤ (f.end e.0).newest → LeavingsAt f x → (b : Bool) → eqb x e.0 ≡ b → Leavings (f.end x).newest (f.end x).taker_stand (f.end x).closed (f.line x) (λ i. cond (b && eqb i k) true (f.clear x i)) (f.accepted x) (f.taken x) (f.discarded x)
 left_cleared f e k x low h false is = h
 left_cleared f e k x low h true is = record {
   unclear = λ i past.
@@ -119,13 +119,13 @@ left_cleared f e k x low h true is = record {
   swept = h.swept;
 }
 
-left_longer : (f : Facts) (x : ℕ) → LeavingsAt f x → (b : Bool) → Leavings (cond b ((f.end x).newest + 1) (f.end x).newest) ((f.end x).taker_stand) ((f.end x).closed) (f.line x) (f.clear x) (f.accepted x) (f.taken x) (f.discarded x)
+left_longer : (f : Facts) (x : ℕ) → LeavingsAt f x → (b : Bool) → Leavings (cond b ((f.end x).newest + 1) (f.end x).newest) (f.end x).taker_stand (f.end x).closed (f.line x) (f.clear x) (f.accepted x) (f.taken x) (f.discarded x)
 left_longer f x h false = h
 left_longer f x h true = record { unclear = λ k past. h.unclear k (omega arith); reached = h.reached; from = h.from; kept = h.kept; nobody = h.nobody; swept = h.swept }
 
 -- ---- closing and sweeping
 
-left_shut : (f : Facts) (x : ℕ) → LeavingsAt f x → (b : Bool) → Leavings ((f.end x).newest) ((f.end x).taker_stand) (cond b true (f.end x).closed) (f.line x) (f.clear x) (f.accepted x) (f.taken x) (f.discarded x)
+left_shut : (f : Facts) (x : ℕ) → LeavingsAt f x → (b : Bool) → Leavings (f.end x).newest (f.end x).taker_stand (cond b true (f.end x).closed) (f.line x) (f.clear x) (f.accepted x) (f.taken x) (f.discarded x)
 left_shut f x h false = h
 left_shut f x h true = record { unclear = h.unclear; reached = h.reached; from = h.from; kept = λ is. absurd (false≢true (sym is)); nobody = h.nobody; swept = h.swept }
 
@@ -189,7 +189,7 @@ nobody_there f x l s settled inside =
     let within : (f.line x l).stand ≤ (f.end x).newest = s.stand l in
     inside_unsettled f x (f.line x l).stand l s (each_of (is_settled f x) (f.end x).taker_stand ((f.end x).newest - (f.end x).taker_stand + 1) settled (f.line x l).stand reached (omega arith)) inside refl
 
-left_swept : (f : Facts) (e : EndId) (vs : List Envelope) (x : ℕ) → SweptWith f e vs → LinesAt f x → WaitingAt f x → LeavingsAt f x → (b : Bool) → eqb x e.0 ≡ b → Leavings ((f.end x).newest) ((f.end x).taker_stand) ((f.end x).closed) (f.line x) (f.clear x) (f.accepted x) (f.taken x) (cond b (f.discarded x ++ vs) (f.discarded x))
+left_swept : (f : Facts) (e : EndId) (vs : List Envelope) (x : ℕ) → SweptWith f e vs → LinesAt f x → WaitingAt f x → LeavingsAt f x → (b : Bool) → eqb x e.0 ≡ b → Leavings (f.end x).newest (f.end x).taker_stand (f.end x).closed (f.line x) (f.clear x) (f.accepted x) (f.taken x) (cond b (f.discarded x ++ vs) (f.discarded x))
 left_swept f e vs x w s h old false is = old
 left_swept f e vs x w s h old true is =
     let here : x ≡ e.0 = eqb-true x e.0 is in

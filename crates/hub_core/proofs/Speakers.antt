@@ -175,8 +175,8 @@ taken_flies f e v x s n opened made named =
       | true ↦ λ t. let here : d ≡ e.0 = search (rules, t) in subst (λ y. gone y + 1 ≤ u y) (sym here) mine
       | false ↦ λ t. count_lines P (f.taken d ++ f.discarded d) (f.accepted d) ((s.waiting d).prefix)
     ] refl) in
-    let sum : total u f.ends ≡ total gone f.ends + flights ((f.end x).place) = s.places.flights x in
-    flying ((f.end x).place) (omega arith)
+    let sum : total u f.ends ≡ total gone f.ends + flights (f.end x).place = s.places.flights x in
+    flying (f.end x).place (omega arith)
 
 -- the ports of what a sweep that fits discards
 
@@ -205,7 +205,7 @@ swept_total f e vs x made =
 pub closed_made : (f : Facts) (x : ℕ) → SoundPlaces f → (f.end x).closed ≡ true → x < f.ends
 closed_made f x s is = made_of f x s.ends (λ none. absurd (search (rules, sym (ap (λ (e : EndNow). e.closed) none) ∙ is)))
 
-pub swept_within : (f : Facts) (e : EndId) (vs : List Envelope) (x : ℕ) → Sound f → SweptWith f e vs → naming x vs ≤ flights ((f.end x).place)
+pub swept_within : (f : Facts) (e : EndId) (vs : List Envelope) (x : ℕ) → Sound f → SweptWith f e vs → naming x vs ≤ flights (f.end x).place
 swept_within f e vs x s w =
     let P : Envelope → Bool = λ u. names u.ports x in
     let made : e.0 < f.ends = closed_made f e.0 s.places w.is_closed in
@@ -220,14 +220,14 @@ swept_within f e vs x s w =
           count_lines P (f.taken d ++ (f.discarded d ++ vs)) (f.accepted d) (λ l. ([], sym (append-nil (by l (f.taken d ++ (f.discarded d ++ vs))) ∙ all_removed f d vs (s.waiting d) all l)))
       | false ↦ λ is. count_lines P (f.taken d ++ f.discarded d) (f.accepted d) ((s.waiting d).prefix)
     ] refl) in
-    let sum : total u f.ends ≡ total gone f.ends + flights ((f.end x).place) = s.places.flights x in
+    let sum : total u f.ends ≡ total gone f.ends + flights (f.end x).place = s.places.flights x in
     omega arith
 
 pub swept_flies : (f : Facts) (e : EndId) (vs : List Envelope) (x : ℕ) → Sound f → SweptWith f e vs → is_named vs x ≡ true → (f.end x).place ≡ Some InFlight
 swept_flies f e vs x s w named =
     let one : 1 ≤ naming x vs = named_count x vs named in
-    let within : naming x vs ≤ flights ((f.end x).place) = swept_within f e vs x s w in
-    flying ((f.end x).place) (omega arith)
+    let within : naming x vs ≤ flights (f.end x).place = swept_within f e vs x s w in
+    flying (f.end x).place (omega arith)
 
 -- ---- whoever is away keeps the line
 
@@ -238,8 +238,8 @@ released_out f _ x h is = absurd (search (rules, is))
 
 pub own_out : (f : Facts) (s : Sender) (q : ℕ) → s.line.0 ≡ 0 → own_poster_out f (peer_of (f.end q).kind) ≡ true → peer_of (f.end q).kind ≡ Some s.end.0 → is_out (phase_of_line f s) ≡ true
 own_out f s q line out peer =
-    let first : is_out ((f.line s.end.0 0).phase) ≡ true = subst (λ p. own_poster_out f p ≡ true) peer out in
-    subst (λ l. is_out ((f.line s.end.0 l).phase) ≡ true) (sym line) first
+    let first : is_out (f.line s.end.0 0).phase ≡ true = subst (λ p. own_poster_out f p ≡ true) peer out in
+    subst (λ l. is_out (f.line s.end.0 l).phase ≡ true) (sym line) first
 
 below : (x n : ℕ) → x < n → (eqb x n ≡ false) × (eqb x (n + 1) ≡ false)
 below x n less = (ne_eqb x n (λ is. omega arith), ne_eqb x (n + 1) (λ is. omega arith))

@@ -128,7 +128,7 @@ pub part_took : (e : EndId) (refused : Bool) (old new : CoreState) (o : Outcome)
 part_took e refused old new outcome.Done says leaves same = record {
   shown = λ f s w.
       let answer : outcome.Done ≡ part_answer f e = says ∙ part_answered old.roster f e w in
-      (subst (λ (c : CoreState). Stepped c.agents c.ends f (action.Part e) refused outcome.Done) (sym same) (part_shown old.agents old.ends f e refused s answer), roster_part old.roster new.roster f e w answer leaves);
+      (subst (λ (c : CoreState). Stepped c.agents c.ends f (action.Part e) refused outcome.Done) (sym same) (part_shown e refused s answer), roster_part old.roster new.roster f e w answer leaves);
   same = λ nothing. absurd (false≢true nothing);
 }
 part_took e refused old new (outcome.Clear None) says leaves same = stayed (action.Part e) refused old new (outcome.Clear None) same leaves (λ f. refl) (λ f h. says ∙ part_answered old.roster f e h.roster)
