@@ -1,11 +1,9 @@
 -- What the core answers to Enter, Leave, Line, Back, Order and See fits, and it shows the facts with the answered step.
-use Rattle.std.proofs.Common.{Bool, List, None, Option, Some, [], ap, arith, cond, eqb, false, inl, inr, length, length-set, lt-ltb, ltb-true, nat_lt, ne_eqb, not, refl, rules, set, subst, suc, sym, true, zero, ℕ, ◌&&◌, ◌++◌}
-use Rattle.std.proofs.Common.{◌+◌, ◌<◌, ◌||◌, ◌∙◌, ◌∷◌, ◌≡◌, ◌≤◌, ⊎_elim}
-use Rattle.hub_core.proofs.Words.{Action, Agent, AgentId, AgentNow, Answers, CoreState, End, EndId, EndNow, Facts, Inside, Kind, Line, LineNow, MAX_LINES, Member, Out, Outcome, Phase, Place, Port, Sender, ShowsEnd, ShowsFacts}
-use Rattle.hub_core.proofs.Words.{ShowsPut, Sound, Turned, With, agent_now, any_below, back_answer, cast_after, change_agent, change_line, change_owner, count_away, ends_at, enter_answer, eqb-true, false≢true, first_failing}
-use Rattle.hub_core.proofs.Words.{first_free, free_line, has_away, has_poster, has_poster_of, held_by, hold_outcome_of, in_phase, is_away_of, is_holder, is_out, is_queue, is_some, is_with, kept_away, kept_clients, kept_lines}
-use Rattle.hub_core.proofs.Words.{kept_workers, leave_answer, line_answer, line_found, line_now, line_outcome, line_within, lines_of, may_enter, nat_tests, one_away, one_out, option_map, order_answer, owner, owner_by, position}
-use Rattle.hub_core.proofs.Words.{position_from, position_from-zero, see_answer, see_outcome, seen, slice_get, slice_get_cases, slice_get_within, total, with_agent, cases_lt}
+use Rattle.std.proofs.Common.{Bool, List, None, Option, Some, [], ap, arith, cond, eqb, false, inl, inr, length, length-set, lt-ltb, ltb-true, nat_lt, ne_eqb, not, refl, rules, set, subst, suc, sym, true, zero, ℕ, ◌&&◌, ◌++◌, ◌+◌, ◌<◌, ◌||◌, ◌∙◌, ◌∷◌, ◌≡◌, ◌≤◌, ⊎_elim}
+use Rattle.hub_core.proofs.Words.{Action, Agent, AgentId, AgentNow, Answers, CoreState, End, EndId, EndNow, Facts, Inside, Kind, Line, LineNow, MAX_LINES, Member, Out, Outcome, Phase, Place, Port, Sender, ShowsEnd, ShowsFacts, ShowsPut, Sound, Turned, With, agent_now, any_below, back_answer}
+use Rattle.hub_core.proofs.Words.{cast_after, change_agent, change_line, change_owner, count_away, ends_at, enter_answer, eqb-true, false≢true, first_failing, first_free, free_line, has_away, has_poster, has_poster_of, held_by, hold_outcome_of, in_phase, is_away_of, is_holder, is_out, is_queue}
+use Rattle.hub_core.proofs.Words.{is_some, is_with, kept_away, kept_clients, kept_lines, kept_workers, leave_answer, line_answer, line_found, line_now, line_outcome, line_within, lines_of, may_enter, nat_tests, one_away, one_out, option_map, order_answer, owner, owner_by, position, position_from}
+use Rattle.hub_core.proofs.Words.{position_from-zero, see_answer, see_outcome, seen, slice_get, slice_get_cases, slice_get_within, total, with_agent, cases_lt}
 use Rattle.hub_core.specs.declared.outcome.Outcome.TheVariants as outcome
 use Rattle.hub_core.specs.declared.step.Action.TheVariants as action
 use Rattle.hub_core.proofs.Counts.{calm_held, free_out, phase_away, Counted, away_at, change_each, change_get, change_length, counted_entered, counted_left, counts_of, counts_still, none_counted, owner_length, owner_now_away, owner_now_out, owns_it}

@@ -1,8 +1,7 @@
 -- What becomes of each accepted envelope of a legal history.
 use Rattle.std.proofs.Common.{◌≡◌, ℕ, zero, suc, ◌<◌, Bool, true, false, cond, eqb, List, [], ◌∷◌, ◌++◌, length, map, refl, sym, ap, subst, ◌∙◌, arith, ◌&&◌, not, ne_eqb, append-nil, append_assoc, ◌+◌, ◌≤◌}
-use Rattle.hub_core.proofs.Words.{filter, list_any, AllByRecursion, false≢true, false_from_ne_true, eqb-true, eq-eqb, and_from, and_parts, or_left, or_right, or_from, filter-append, Envelope, same_name, up_to, numbers, by, Action, Answers, EndId}
-use Rattle.hub_core.proofs.Words.{Facts, Fates, Fits, History, Inside, Legal, NoticeIsLast, Out, Outcome, Pair, Phase, Sender, Sound, Turned, accepted, discarded, ends, facts, flights, is_inside, names, naming, on_line, opened, phase_of_line, place}
-use Rattle.hub_core.proofs.Words.{sweep_of, taken, total, waiting}
+use Rattle.hub_core.proofs.Words.{filter, list_any, AllByRecursion, false≢true, false_from_ne_true, eqb-true, eq-eqb, and_from, and_parts, or_left, or_right, or_from, filter-append, Envelope, same_name, up_to, numbers, by, Action, Answers, EndId, Facts, Fates, Fits, History, Inside, Legal}
+use Rattle.hub_core.proofs.Words.{NoticeIsLast, Out, Outcome, Pair, Phase, Sender, Sound, Turned, accepted, discarded, ends, facts, flights, is_inside, names, naming, on_line, opened, phase_of_line, place, sweep_of, taken, total, waiting}
 use Rattle.hub_core.proofs.Lists.{AllByRecursion-append, AllByRecursion-weaker, eqb_same}
 use Rattle.hub_core.proofs.Waits.{all_kept, all_back, all_both, filters}
 use Rattle.hub_core.proofs.Totals.{all_pass, none_fail, of_line, nothing_more, nothing_there, count_append, count_lines, total_same}

@@ -1,8 +1,8 @@
 -- What every legal history keeps: the headline, and the laws beside it.
 use Rattle.std.proofs.Common.{Bool, List, [], ap, arith, cond, eqb, false, get_or, inl, inr, length, length-append, map, not, refl, rules, subst, suc, sym, true, zero, ℕ, ◌&&◌, ◌++◌, ◌<◌, ◌∙◌, ◌∷◌, ◌≡◌, ⊎_elim}
-use Rattle.hub_core.proofs.Words.{Action, AllByRecursion, Answers, EndId, Envelope, Facts, Headline, History, Inside, IsBusyAt, IsDrainedAt, IsTurned, KeepsTheLine, Legal, LegalAfter, MatchBool, Out, Outcome, Pair, Phase, Prefix, SameIsJoined}
-use Rattle.hub_core.proofs.Words.{Sender, Sound, Turned, TurnedPutsNothing, accepted, and_parts, by, discarded, enter_of, eqb-true, ext_get_or, facts, false≢true, filter, filter-append, get_or-append_seam, get_or_append_left, hears_notice, is_away_at, is_inside, is_line}
-use Rattle.hub_core.proofs.Words.{is_out, is_some, leaves, lines_of, map-append, not-true, numbers, phase_of_line, poster, posts, someone_at, take_of, taken, up_to, not-false, or_parts, cases_lt}
+use Rattle.hub_core.proofs.Words.{Action, AllByRecursion, Answers, EndId, Envelope, Facts, Headline, History, Inside, IsBusyAt, IsDrainedAt, IsTurned, KeepsTheLine, Legal, LegalAfter, MatchBool, Out, Outcome, Pair, Phase, Prefix, SameIsJoined, Sender, Sound, Turned, TurnedPutsNothing, accepted}
+use Rattle.hub_core.proofs.Words.{and_parts, by, discarded, enter_of, eqb-true, ext_get_or, facts, false≢true, filter, filter-append, get_or-append_seam, get_or_append_left, hears_notice, is_away_at, is_inside, is_line, is_out, is_some, leaves, lines_of, map-append, not-true, numbers, phase_of_line}
+use Rattle.hub_core.proofs.Words.{poster, posts, someone_at, take_of, taken, up_to, not-false, or_parts, cases_lt}
 use Rattle.hub_core.specs.declared.step.Action.TheVariants as action
 use Rattle.hub_core.specs.declared.outcome.Outcome.TheVariants as outcome
 use Rattle.hub_core.proofs.SoundPlaces.{speaker_next}

@@ -1,6 +1,5 @@
 -- Lists of ends, agents, lines and envelopes: what a write leaves at each number, or behind a further item.
-use Rattle.std.proofs.Common.{ne_eqb, ◌≡◌, ℕ, ◌<◌, ◌+◌, true, false, eqb, List, [], ◌∷◌, ◌++◌, length, get_or, set, Option, Some, zero, suc, ◌≤◌, None, refl, sym, ap, subst, ◌∙◌, inl, inr, arith, rules, Bool, length-append, ◌&&◌, ◌||◌, ⊎_elim, cond}
-use Rattle.std.proofs.Common.{◌≢◌, ◌⊎◌, map}
+use Rattle.std.proofs.Common.{ne_eqb, ◌≡◌, ℕ, ◌<◌, ◌+◌, true, false, eqb, List, [], ◌∷◌, ◌++◌, length, get_or, set, Option, Some, zero, suc, ◌≤◌, None, refl, sym, ap, subst, ◌∙◌, inl, inr, arith, rules, Bool, length-append, ◌&&◌, ◌||◌, ⊎_elim, cond, ◌≢◌, ◌⊎◌, map}
 use Rattle.hub_core.proofs.Words.{nat_tests, slice_get, AllByRecursion, slice_get_cases, Phase, Out, is_out, false≢true, cases_eq, slice_get_past, cases_lt}
 
 -- ==== Lists of ends, agents, lines and envelopes: what a write leaves at each number.

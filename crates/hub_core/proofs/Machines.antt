@@ -1,9 +1,7 @@
 -- The laws of the gate machine and of the queue machine.
-use Rattle.std.proofs.Common.{◌≡◌, ◌⊎◌, ℕ, zero, suc, ◌≤◌, ◌||◌, ◌&&◌, Bool, true, false, true≢false, List, [], ◌∷◌, length, map, set, refl, sym, ap, ◌∙◌, subst, ⊎_elim, arith, length-set, Option, Some, None, not, cond, eqb, ◌++◌, rules}
-use Rattle.std.proofs.Common.{append_assoc, append-nil, length-append, ne_eqb}
-use Rattle.hub_core.proofs.Words.{slice_get, sum_by, is_some, length-map, map-set, sum_by-cons, false_from_ne_true, Phase, Out, Inside, Turned, Gate, IsAt, opened, weight, busy, Steps, finds_moved, finds_closed, goes_in, goes_out, turns_back}
-use Rattle.hub_core.proofs.Words.{enables, retires, closes, gave, is_open, is_busy, gives, Reached, opens, goes_on, leaves_right, IsGateOf, GateMachineLaws, All, eqb-true, map-append, filter-append, All-nil, All-head, All-tail, All-push, All-same}
-use Rattle.hub_core.proofs.Words.{Envelope, by, up_to, Queue, new_queue, IsNamed, MayPush, pushed, pop_of, popped, IsQueue, QueueLaws}
+use Rattle.std.proofs.Common.{◌≡◌, ◌⊎◌, ℕ, zero, suc, ◌≤◌, ◌||◌, ◌&&◌, Bool, true, false, true≢false, List, [], ◌∷◌, length, map, set, refl, sym, ap, ◌∙◌, subst, ⊎_elim, arith, length-set, Option, Some, None, not, cond, eqb, ◌++◌, rules, append_assoc, append-nil, length-append, ne_eqb}
+use Rattle.hub_core.proofs.Words.{slice_get, sum_by, is_some, length-map, map-set, sum_by-cons, false_from_ne_true, Phase, Out, Inside, Turned, Gate, IsAt, opened, weight, busy, Steps, finds_moved, finds_closed, goes_in, goes_out, turns_back, enables, retires, closes, gave, is_open, is_busy, gives}
+use Rattle.hub_core.proofs.Words.{Reached, opens, goes_on, leaves_right, IsGateOf, GateMachineLaws, All, eqb-true, map-append, filter-append, All-nil, All-head, All-tail, All-push, All-same, Envelope, by, up_to, Queue, new_queue, IsNamed, MayPush, pushed, pop_of, popped, IsQueue, QueueLaws}
 use Rattle.hub_core.proofs.Lists.{some_is, none_got, got_set, got_of-map, or_true}
 use Rattle.hub_core.proofs.Nexts.{all_where}
 

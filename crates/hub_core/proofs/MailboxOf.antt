@@ -1,11 +1,9 @@
 -- The mailbox of an end goes on by the events of each pair that fits.
-use Rattle.std.proofs.Common.{◌≡◌, ℕ, ◌+◌, ◌-◌, ◌≤◌, true, cond, eqb, List, [], ◌∷◌, ◌++◌, length, set, refl, sym, ap, subst, ◌∙◌, arith, append_assoc, append-nil, length-set, length-append, zero, suc, ◌<◌, Bool, false, map, replicate, Option, Some}
-use Rattle.std.proofs.Common.{None, ⊎_elim}
-use Rattle.hub_core.proofs.Words.{flat_map, slice_get, get_or_from_slice_get, append_cancel_left, filter-append, Envelope, in_queue, Prefix, Gate, opened, Steps, finds_moved, Queue, new_queue, pushed, Mailbox, QueueAt, got_from, IsMailbox}
-use Rattle.hub_core.proofs.Words.{MailboxEvent, put_in, got_in, MailboxStep, gate_steps, pushes, takes, sweeps, finds_none, hops, advances, adds, HoldsFirst, without_first, taken_out, with_gate, with_queue, with_stand, with_new, OneRight, Happen}
-use Rattle.hub_core.proofs.Words.{gate_after, with_gate_after, with_queue_after, after_event, after_events, false≢true, false_from_ne_true, eqb-true, eqb-false, flat_map-append, length-replicate, EndId, Kind, Port, Client, Worker, Member, Phase, Out}
-use Rattle.hub_core.proofs.Words.{Action, Outcome, EndNow, LineNow, Facts, accepted_by, ends_after, kind_after, lines_of, is_client, is_worker, by, no_end, no_line, Sound, Answers, IsAt, new_mailbox, push, pop, events_of, leaving, finds_busy_at}
-use Rattle.hub_core.proofs.Words.{sweeping, first_mailbox, made_as, after_pair}
+use Rattle.std.proofs.Common.{◌≡◌, ℕ, ◌+◌, ◌-◌, ◌≤◌, true, cond, eqb, List, [], ◌∷◌, ◌++◌, length, set, refl, sym, ap, subst, ◌∙◌, arith, append_assoc, append-nil, length-set, length-append, zero, suc, ◌<◌, Bool, false, map, replicate, Option, Some, None, ⊎_elim}
+use Rattle.hub_core.proofs.Words.{flat_map, slice_get, get_or_from_slice_get, append_cancel_left, filter-append, Envelope, in_queue, Prefix, Gate, opened, Steps, finds_moved, Queue, new_queue, pushed, Mailbox, QueueAt, got_from, IsMailbox, MailboxEvent, put_in, got_in, MailboxStep, gate_steps}
+use Rattle.hub_core.proofs.Words.{pushes, takes, sweeps, finds_none, hops, advances, adds, HoldsFirst, without_first, taken_out, with_gate, with_queue, with_stand, with_new, OneRight, Happen, gate_after, with_gate_after, with_queue_after, after_event, after_events, false≢true, false_from_ne_true}
+use Rattle.hub_core.proofs.Words.{eqb-true, eqb-false, flat_map-append, length-replicate, EndId, Kind, Port, Client, Worker, Member, Phase, Out, Action, Outcome, EndNow, LineNow, Facts, accepted_by, ends_after, kind_after, lines_of, is_client, is_worker, by, no_end, no_line, Sound, Answers, IsAt}
+use Rattle.hub_core.proofs.Words.{new_mailbox, push, pop, events_of, leaving, finds_busy_at, sweeping, first_mailbox, made_as, after_pair}
 use Rattle.hub_core.specs.GateMachine as machine
 use Rattle.hub_core.proofs.Lists.{eqb_same, slice_get-set_same, got_within, at_written, at_pushed, got_of-map}
 use Rattle.hub_core.proofs.Waits.{queue_more, queue_other, some_held}

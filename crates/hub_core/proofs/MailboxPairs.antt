@@ -1,8 +1,8 @@
 -- Each pair of a history is events of the mailbox of an end, or leaves it.
 use Rattle.std.proofs.Common.{Bool, List, None, Option, Some, [], ap, arith, cond, eqb, false, inl, length, not, refl, subst, sym, true, ℕ, ◌&&◌, ◌++◌, ◌+◌, ◌-◌, ◌<◌, ◌∷◌, ◌≡◌}
-use Rattle.hub_core.proofs.Words.{Action, Answers, Client, EndId, Facts, FitsSweep, FitsTake, HoldsNothing, Inside, IsDrained, IsLeft, IsSettled, Kind, Mailbox, MailboxEvent, Member, OneRight, Out, Outcome, Port, Sound, Turned}
-use Rattle.hub_core.proofs.Words.{Worker, add, advance, at_gate, close, enable, enter, eqb-true, events_of, finds_busy, finds_busy_at, gives_rights, hop, in_queue, kind_after, leaving, lets_in, lines_of, look, look_answer}
-use Rattle.hub_core.proofs.Words.{looked, named_envelope, named_notice, not-false, opened, or_parts, pop, push, rights_of, says_closed, says_done, says_moved, someone_at, sweeping, unsettled}
+use Rattle.hub_core.proofs.Words.{Action, Answers, Client, EndId, Facts, FitsSweep, FitsTake, HoldsNothing, Inside, IsDrained, IsLeft, IsSettled, Kind, Mailbox, MailboxEvent, Member, OneRight, Out, Outcome, Port, Sound, Turned, Worker, add, advance, at_gate, close, enable, enter, eqb-true}
+use Rattle.hub_core.proofs.Words.{events_of, finds_busy, finds_busy_at, gives_rights, hop, in_queue, kind_after, leaving, lets_in, lines_of, look, look_answer, looked, named_envelope, named_notice, not-false, opened, or_parts, pop, push, rights_of, says_closed, says_done, says_moved, someone_at}
+use Rattle.hub_core.proofs.Words.{sweeping, unsettled}
 use Rattle.hub_core.specs.declared.step.Action.TheVariants as action
 use Rattle.hub_core.specs.declared.outcome.Outcome.TheVariants as outcome
 use Rattle.hub_core.proofs.Fitting.{FindsBusy, adopted_of, cleared_of, got_of, hopped_of, look_busy_of, noticed_of, pushed_of, swept_of, went_on_of, served_of}

@@ -1,15 +1,15 @@
 -- Agent and Channel: what the core answers fits, and it shows the facts with the answered step.
-use Rattle.std.proofs.Common.{Bool, List, None, Option, Some, [], ap, append_assoc, arith, cond, eqb, false, get_or, inl, inr, length, length-append, ltb-false, ltb-true, nat_le, nat_lt, ne_eqb, not, refl, replicate, rules, set, subst, suc, sym, true, zero, ℕ, ◌&&◌, ◌++◌, ◌+◌, ◌<◌, ◌||◌, ◌∙◌, ◌∷◌, ◌≡◌, ◌≤◌, ◌⊎◌}
-use Rattle.hub_core.proofs.Words.{Action, Agent, AgentId, AgentNow, Client, CoreState, End, EndId, EndNow, Envelope, Facts, Kind, LineNow, MAX_ENDS, Member, Outcome, Port, ShowsEnd, ShowsFacts, ShowsPut, Sound, With, Worker, agent_answer, agent_now, channel_answer, come, count_away, count_of, count_with, end_now, ends}
-use Rattle.hub_core.proofs.Words.{eqb-false, eqb-true, false_from_ne_true, false≢true, first_agent, first_line, has_one, is_casting, is_client, is_out, is_some, is_with, is_worker, kept_away, kept_clients, kept_member_answer, kept_queue_answer, kept_workers, length-replicate, line_now, lines_of, member_answer, nat_tests}
-use Rattle.hub_core.proofs.Words.{new_end, no_end, no_line, one_more, option_map, origin_at, peer_of, queue_answer, seen, set_agent, slice_get, slice_get_past, taken}
+use Rattle.std.proofs.Common.{Bool, List, None, Option, Some, [], ap, append_assoc, arith, cond, eqb, false, get_or, inl, inr, length, length-append, nat_le, nat_lt, ne_eqb, not, refl, replicate, rules, set, subst, suc, sym, true, zero, ℕ, ◌&&◌, ◌++◌, ◌+◌, ◌<◌, ◌||◌, ◌∙◌, ◌∷◌, ◌≡◌, ◌≤◌, ◌⊎◌}
+use Rattle.hub_core.proofs.Words.{Action, Agent, AgentId, AgentNow, Client, CoreState, End, EndId, EndNow, Envelope, Facts, Kind, LineNow, MAX_ENDS, Member, Outcome, Port, ShowsEnd, ShowsFacts, ShowsPut, Sound, With, Worker, agent_answer, agent_now, channel_answer, come, count_away, count_of}
+use Rattle.hub_core.proofs.Words.{count_with, end_now, ends, eqb-true, false_from_ne_true, false≢true, first_agent, first_line, has_one, is_casting, is_client, is_out, is_some, is_with, is_worker, kept_away, kept_clients, kept_member_answer, kept_queue_answer, kept_workers, length-replicate}
+use Rattle.hub_core.proofs.Words.{line_now, lines_of, member_answer, nat_tests, new_end, no_end, no_line, one_more, option_map, origin_at, peer_of, queue_answer, seen, set_agent, slice_get, slice_get_past, taken}
 use Rattle.hub_core.specs.declared.step.Action.TheVariants as action
 use Rattle.hub_core.specs.declared.outcome.Outcome.TheVariants as outcome
 use Rattle.hub_core.proofs.Counts.{calm_places, Counted, IsCalmAt, OneEnd, away_more, come_length, come_now, counted_came, counts_at, none_at, none_counted}
 use Rattle.hub_core.proofs.Casts.{roster_agent}
 use Rattle.hub_core.proofs.Frames.{ShownAfter, ShownWith, Stepped}
 use Rattle.hub_core.proofs.Fitting.{member_made_of, new_agent, new_ends, queue_made_of}
-use Rattle.hub_core.proofs.Lists.{eqb_same, set_again, slice_get-append_back, slice_get-append_front, past_last, and_false, each_pushed}
+use Rattle.hub_core.proofs.Lists.{eqb_same, set_again, and_false, each_pushed}
 use Rattle.hub_core.proofs.SoundPlaces.{one_made}
 use Rattle.hub_core.proofs.Nexts.{Change, agent_made, channel_made, client_made, next, worker_made}
 use Rattle.hub_core.proofs.Seeing.{Sees, seen_is, SoundlyShows, with_roster}

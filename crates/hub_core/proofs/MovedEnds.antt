@@ -1,9 +1,7 @@
 -- What the core answers to Hop, Hand, Adopt and Close fits, and it shows the facts with the answered step.
-use Rattle.std.proofs.Common.{Bool, List, None, Option, Some, [], ap, arith, cond, eqb, false, get_or, length, length-append, length-set, ne_eqb, refl, rules, set, subst, suc, sym, true, zero, ℕ, ◌&&◌, ◌++◌, ◌+◌, ◌<◌, ◌∙◌}
-use Rattle.std.proofs.Common.{◌∷◌, ◌≡◌, ◌≤◌}
-use Rattle.hub_core.proofs.Words.{Agent, AgentId, AllByRecursion, Arrived, CoreState, End, EndId, EndNow, Envelope, Facts, Gone, Inside, IsOfEnd, Kind, Line, LineNow, Outcome, Port, Sender, ShowsEnd, With, adopt_answer}
-use Rattle.hub_core.proofs.Words.{adopted_agents, adopted_end, adopting, at_queue, change_agent, changed_ends, close_answer, closed_end, count_in_queue, ends, eqb-true, false≢true, filter, gone, hand_answer, hop_answer}
-use Rattle.hub_core.proofs.Words.{in_queue, is_here, is_out, is_queue, is_released, is_with, line_now, slice_get, went}
+use Rattle.std.proofs.Common.{Bool, List, None, Option, Some, [], ap, arith, cond, eqb, false, get_or, length, length-append, length-set, ne_eqb, refl, rules, set, subst, suc, sym, true, zero, ℕ, ◌&&◌, ◌++◌, ◌+◌, ◌<◌, ◌∙◌, ◌∷◌, ◌≡◌, ◌≤◌}
+use Rattle.hub_core.proofs.Words.{Agent, AgentId, AllByRecursion, Arrived, CoreState, End, EndId, EndNow, Envelope, Facts, Gone, Inside, IsOfEnd, Kind, Line, LineNow, Outcome, Port, Sender, ShowsEnd, With, adopt_answer, adopted_agents, adopted_end, adopting, at_queue, change_agent, changed_ends}
+use Rattle.hub_core.proofs.Words.{close_answer, closed_end, count_in_queue, ends, eqb-true, false≢true, filter, gone, hand_answer, hop_answer, in_queue, is_here, is_out, is_queue, is_released, is_with, line_now, slice_get, went}
 use Rattle.hub_core.specs.declared.outcome.Outcome.TheVariants as outcome
 use Rattle.hub_core.specs.declared.step.Action.TheVariants as action
 use Rattle.hub_core.proofs.Counts.{calm_gone, came_away, adopted_now, change_length, counted_came, counted_went, counts_of, counts_still, end_went, gone_length, gone_now}

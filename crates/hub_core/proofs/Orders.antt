@@ -1,7 +1,7 @@
 -- In order, queue by queue; and that legal histories in order have one answer to each step.
 use Rattle.std.proofs.Common.{◌≡◌, ℕ, ◌+◌, ◌-◌, ◌<◌, ◌≤◌, Bool, true, false, cond, eqb, get_or, List, [], ◌∷◌, ◌++◌, length, Option, Some, None, refl, sym, ap, subst, ◌∙◌, arith, append_assoc, append-nil, length-append, nat_lt, ltb-true, ltb-false}
-use Rattle.hub_core.proofs.Words.{is_some, MatchBool, flat_map, slice_get, flat_map-append, eq-eqb, false≢true, get_or_append_left, filter-append, get_or-append_seam, EndId, Envelope, End, Core, Step, Action, Outcome, Pair, History, Facts, facts, LineNow, Answers, accepted, accepted_by, taken, taken_by, by, in_queue, Prefix, holder}
-use Rattle.hub_core.proofs.Words.{IsNext, IsDrained, Serves, IsLeft, Sound, KeepsQueues, Shows, InOrder, OneAnswer, discarded, LegalAfter}
+use Rattle.hub_core.proofs.Words.{is_some, MatchBool, flat_map, slice_get, flat_map-append, eq-eqb, false≢true, get_or_append_left, filter-append, get_or-append_seam, EndId, Envelope, End, Core, Step, Action, Outcome, Pair, History, Facts, facts, LineNow, Answers, accepted, accepted_by, taken}
+use Rattle.hub_core.proofs.Words.{taken_by, by, in_queue, Prefix, holder, IsNext, IsDrained, Serves, IsLeft, Sound, KeepsQueues, Shows, InOrder, OneAnswer, discarded, LegalAfter}
 use Rattle.hub_core.specs.declared.step.Action.TheVariants as action
 use Rattle.hub_core.specs.declared.outcome.Outcome.TheVariants as outcome
 use Rattle.hub_core.proofs.Lists.{eqb_same}

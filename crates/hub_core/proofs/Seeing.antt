@@ -1,8 +1,7 @@
 -- What the core keeps, seen as facts: it shows sound facts, and answers as they do.
-use Rattle.std.proofs.Common.{◌≡◌, ℕ, List, length, ◌++◌, Bool, false, cond, [], Option, Some, None, refl, sym, ap, ◌∙◌, nat_lt, ◌+◌, not, ◌||◌, ◌&&◌}
-use Rattle.hub_core.proofs.Words.{slice_get, AgentId, Agent, End, Facts, is_client, is_worker, Sound, agent_now, ShowsEnd, ShowsFacts, kept_clients, kept_workers, kept_away, count_with, count_away, RosterNow, is_some, ◌==◌, list_all, EndId, Kind}
-use Rattle.hub_core.proofs.Words.{Port, Client, Worker, Member, Line, Good, HoldsTarget, Bad, Sender, CoreState, kept_posting_by, kept_posting_line, owner_by, owner, is_queue, peer_of, close_answer, hand_answer, hop_answer, is_released, may_close}
-use Rattle.hub_core.proofs.Words.{may_take_over, names, enter_answer, holder, running, speaker_in, poster_of, poster, hears_notice, may_enter, is_here, is_with, is_at, own_poster_out, own_line_plain, may_leave_agent, is_distinct, is_fitting}
+use Rattle.std.proofs.Common.{◌≡◌, ℕ, List, Bool, false, cond, [], Option, Some, None, refl, sym, ap, ◌∙◌, nat_lt, ◌+◌, not, ◌||◌, ◌&&◌}
+use Rattle.hub_core.proofs.Words.{AgentId, Agent, End, Facts, Sound, ShowsFacts, RosterNow, is_some, ◌==◌, list_all, EndId, Kind, Port, Client, Worker, Member, Line, Good, HoldsTarget, Bad, Sender, CoreState, kept_posting_by, kept_posting_line, owner_by, owner, is_queue, peer_of, close_answer}
+use Rattle.hub_core.proofs.Words.{hand_answer, hop_answer, is_released, may_close, may_take_over, names, enter_answer, holder, running, speaker_in, poster_of, poster, hears_notice, may_enter, is_here, is_with, is_at, own_poster_out, own_line_plain, may_leave_agent, is_distinct, is_fitting}
 use Rattle.hub_core.proofs.Words.{listing_of, listing, is_out, phase_of_line, may_post, CastNow, no_roster, seen, ShowsRoster}
 use Rattle.hub_core.specs.declared.outcome.Outcome.TheVariants as outcome
 

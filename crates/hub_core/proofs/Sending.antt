@@ -1,11 +1,10 @@
 -- What the core answers to Push and Notice fits, and it shows the facts with the answered step.
-use Rattle.std.proofs.Common.{Bool, Err, List, None, Ok, Option, Some, [], ap, append_assoc, arith, cond, eqb, false, get_or, leb-true, length, length-append, length-set, lt-ltb, ltb-true, nat_le, nat_lt, ne_eqb, not, refl, set}
-use Rattle.std.proofs.Common.{subst, sym, true, ℕ, ◌&&◌, ◌++◌, ◌+◌, ◌-◌, ◌<◌, ◌||◌, ◌∙◌, ◌∷◌, ◌≡◌, ◌≤◌, ⊎_elim}
-use Rattle.hub_core.proofs.Words.{Acceptance, Agent, AgentId, CoreState, End, EndId, EndNow, Envelope, Facts, InFlight, Line, LineNow, MAX_PORTS, Outcome, Place, Sender, ShowsEnd, ShowsPut, Sound, With, accept_ends, and_parts}
-use Rattle.hub_core.proofs.Words.{change_end, changed_ends, count_in_queue, end_moved, end_now, eqb-true, false≢true, filter, filter-append, has_queue, hears_notice, if◌then◌else◌, in_queue, is_fitting, is_good}
-use Rattle.hub_core.proofs.Words.{is_inside, is_out, is_posting, kept_noticing, kept_noticing_line, kept_posting, kept_posting_by, kept_posting_line, le-leb, line_now, listing_of, moved_ends, named_envelope, named_notice, names}
-use Rattle.hub_core.proofs.Words.{next_name, no_line, notice_answer, notice_outcome, option_map, peer_of, phase_of_line, poster, poster_of, posting_at, posting_line, push_answer, push_answer_of, push_outcome, put_end, put_found}
-use Rattle.hub_core.proofs.Words.{slice_get, slice_get_within, cases_eq}
+use Rattle.std.proofs.Common.{Bool, Err, List, None, Ok, Option, Some, [], ap, append_assoc, arith, cond, eqb, false, get_or, leb-true, length, length-append, length-set, lt-ltb, ltb-true, nat_le, nat_lt, ne_eqb, not, refl, set, subst, sym, true, ℕ, ◌&&◌, ◌++◌, ◌+◌, ◌-◌, ◌<◌, ◌||◌, ◌∙◌, ◌∷◌, ◌≡◌}
+use Rattle.std.proofs.Common.{◌≤◌, ⊎_elim}
+use Rattle.hub_core.proofs.Words.{Acceptance, Agent, AgentId, CoreState, End, EndId, EndNow, Envelope, Facts, InFlight, Line, LineNow, MAX_PORTS, Outcome, Place, Sender, ShowsEnd, ShowsPut, Sound, With, accept_ends, and_parts, change_end, changed_ends, count_in_queue, end_moved, end_now, eqb-true}
+use Rattle.hub_core.proofs.Words.{false≢true, filter, filter-append, has_queue, hears_notice, if◌then◌else◌, in_queue, is_fitting, is_good, is_inside, is_out, is_posting, kept_noticing, kept_noticing_line, kept_posting, kept_posting_by, kept_posting_line, le-leb, line_now, listing_of, moved_ends}
+use Rattle.hub_core.proofs.Words.{named_envelope, named_notice, names, next_name, no_line, notice_answer, notice_outcome, option_map, peer_of, phase_of_line, poster, poster_of, posting_at, posting_line, push_answer, push_answer_of, push_outcome, put_end, put_found, slice_get, slice_get_within}
+use Rattle.hub_core.proofs.Words.{cases_eq}
 use Rattle.hub_core.specs.declared.outcome.Outcome.TheVariants as outcome
 use Rattle.hub_core.specs.declared.step.Action.TheVariants as action
 use Rattle.hub_core.proofs.Counts.{calm_sent, counted_ports, counts_of, counts_still}

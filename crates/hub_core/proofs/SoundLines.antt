@@ -1,8 +1,8 @@
 -- What a mailbox doesn't show of the lines of an end stays so with each pair that fits.
 use Rattle.std.proofs.Common.{Bool, List, None, Option, Some, [], ap, append-nil, arith, cond, eqb, false, inl, inr, length, not, refl, rules, subst, sym, true, ℕ, ◌&&◌, ◌++◌, ◌+◌, ◌<◌, ◌||◌, ◌∙◌, ◌∷◌, ◌≡◌, ◌≤◌, ◌⊎◌, ⊎_elim, ne_eqb}
-use Rattle.hub_core.proofs.Words.{Acceptance, Action, AgentId, AllByRecursion, Answers, Client, EndId, EndNow, Envelope, Facts, Inside, IsOfEnd, Kind, LineNow, MAX_LINES, Member, Out, Outcome, Phase, Port, Sender, SoundLines, or_cases}
-use Rattle.hub_core.proofs.Words.{Turned, Worker, and_parts, by, count_in_queue, eqb-false, eqb-true, false≢true, filter-append, hears_notice, holder, is_away_at, is_client, is_distinct, is_here, is_inside, is_queue, is_settled, is_some, is_worker}
-use Rattle.hub_core.proofs.Words.{lines_of, may_enter, named_envelope, named_notice, no_end, no_line, not-true, on_line, option_and_then, peer_of, phase_of_line, poster, poster_of, running, someone_at, speaker, up_to, cases_lt, cases_eq, eq-eqb}
+use Rattle.hub_core.proofs.Words.{Acceptance, Action, AgentId, AllByRecursion, Answers, Client, EndId, EndNow, Envelope, Facts, Inside, IsOfEnd, Kind, LineNow, MAX_LINES, Member, Out, Outcome, Phase, Port, Sender, SoundLines, or_cases, Turned, Worker, and_parts, by, count_in_queue, eqb-false}
+use Rattle.hub_core.proofs.Words.{eqb-true, false≢true, filter-append, hears_notice, holder, is_away_at, is_client, is_distinct, is_here, is_inside, is_queue, is_settled, is_some, is_worker, lines_of, may_enter, named_envelope, named_notice, no_end, no_line, not-true, on_line, option_and_then}
+use Rattle.hub_core.proofs.Words.{peer_of, phase_of_line, poster, poster_of, running, someone_at, speaker, up_to, cases_lt, cases_eq, eq-eqb}
 use Rattle.hub_core.specs.declared.step.Action.TheVariants as action
 use Rattle.hub_core.specs.declared.outcome.Outcome.TheVariants as outcome
 use Rattle.hub_core.proofs.Fitting.{Noticed, Pushed, found_closed_of, found_moved_of, hopped_of, let_in_of, line_got_of, member_made_of, new_ends, none_of_any, noticed_of, pushed_of, queue_made_of}

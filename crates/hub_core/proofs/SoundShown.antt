@@ -1,7 +1,7 @@
 -- Where a mailbox shows what is known of an end, its lines and what waits there are sound.
 use Rattle.std.proofs.Common.{◌≡◌, ◌⊎◌, ℕ, suc, ◌+◌, ◌<◌, ◌≤◌, true, false, eqb, List, [], ◌∷◌, ◌++◌, length, map, refl, sym, ap, subst, ◌∙◌, inl, inr, ⊎_elim, arith, append-nil, Some}
-use Rattle.hub_core.proofs.Words.{slice_get, flat_map, AllByRecursion, false≢true, false_from_ne_true, or_cases, cases_lt, length-map, filter-append, recursion_from_All, Envelope, Out, Inside, Turned, LineNow, Facts, lines_of, up_to, numbers, is_distinct, by, in_queue, Rises, IsOfEnd, Gate, is_shut, Queue, IsNamed, Mailbox, GateAt}
-use Rattle.hub_core.proofs.Words.{QueueAt, IsMailbox, OneRight}
+use Rattle.hub_core.proofs.Words.{slice_get, flat_map, AllByRecursion, false≢true, false_from_ne_true, or_cases, cases_lt, length-map, filter-append, recursion_from_All, Envelope, Out, Inside, Turned, LineNow, Facts, lines_of, up_to, numbers, is_distinct, by, in_queue, Rises, IsOfEnd, Gate, is_shut}
+use Rattle.hub_core.proofs.Words.{Queue, IsNamed, Mailbox, GateAt, QueueAt, IsMailbox, OneRight}
 use Rattle.hub_core.proofs.Lists.{got_there, AllByRecursion-append, AllByRecursion-weaker}
 use Rattle.hub_core.proofs.Totals.{filter_both, of_line}
 use Rattle.hub_core.proofs.MailboxShown.{view, ShownAt, Standing, standing}

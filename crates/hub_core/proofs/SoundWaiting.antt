@@ -1,7 +1,7 @@
 -- What a mailbox doesn't show of what waits stays so with each pair that fits.
 use Rattle.std.proofs.Common.{Bool, List, Some, [], ap, append-nil, append_assoc, arith, cond, eqb, false, inl, inr, ne_eqb, refl, rules, subst, sym, true, ℕ, ⊎_elim, ◌&&◌, ◌++◌, ◌+◌, ◌-◌, ◌<◌, ◌∙◌, ◌∷◌, ◌≡◌, ◌≤◌, ◌⊎◌}
-use Rattle.hub_core.proofs.Words.{Action, AllByRecursion, Answers, EndId, Envelope, Facts, Inside, IsAllWaiting, IsNext, LineNow, Out, Outcome, Phase, Prefix, Rises, Sender, SoundWaiting, Turned, all_settled, and_parts, append_cancel_left}
-use Rattle.hub_core.proofs.Words.{by, eqb-true, false≢true, filter-append, in_queue, is_inside, is_settled, named_envelope, named_notice, opened, phase_of_line}
+use Rattle.hub_core.proofs.Words.{Action, AllByRecursion, Answers, EndId, Envelope, Facts, Inside, IsAllWaiting, IsNext, LineNow, Out, Outcome, Phase, Prefix, Rises, Sender, SoundWaiting, Turned, all_settled, and_parts, append_cancel_left, by, eqb-true, false≢true, filter-append, in_queue}
+use Rattle.hub_core.proofs.Words.{is_inside, is_settled, named_envelope, named_notice, opened, phase_of_line}
 use Rattle.hub_core.specs.declared.step.Action.TheVariants as action
 use Rattle.hub_core.specs.declared.outcome.Outcome.TheVariants as outcome
 use Rattle.hub_core.proofs.Fitting.{SweptWith, cleared_of, each_of, got_of, let_in_of, looked_where, noticed_of, pushed_of, swept_of, went_on_of}

@@ -1,7 +1,7 @@
 -- What a Sweep discards, where what is discarded is in order: there is one list of it.
 use Rattle.std.proofs.Common.{◌≡◌, ℕ, ◌+◌, ◌<◌, ◌≤◌, Bool, true, false, cond, eqb, List, [], ◌∷◌, ◌++◌, length, drop, map, refl, sym, ap, subst, ◌∙◌, arith, rules, append-nil, append_assoc, nat_lt, lt-ltb}
-use Rattle.hub_core.proofs.Words.{MatchBool, filter, flat_map, AllByRecursion, false≢true, flat_map-append, filter-append, EndId, Envelope, Step, Action, Outcome, Pair, History, Facts, facts, closed_after, accepted, accepted_by, taken, taken_by, discarded, discarded_by, by, in_queue, Rises, up_to, all_settled, IsAllWaiting, Sweeps}
-use Rattle.hub_core.proofs.Words.{FitsSweep, FitsTake, Answers, LegalAfter, InOrder}
+use Rattle.hub_core.proofs.Words.{MatchBool, filter, flat_map, AllByRecursion, false≢true, flat_map-append, filter-append, EndId, Envelope, Step, Action, Outcome, Pair, History, Facts, facts, closed_after, accepted, accepted_by, taken, taken_by, discarded, discarded_by, by, in_queue, Rises, up_to}
+use Rattle.hub_core.proofs.Words.{all_settled, IsAllWaiting, Sweeps, FitsSweep, FitsTake, Answers, LegalAfter, InOrder}
 use Rattle.hub_core.specs.declared.step.Action.TheVariants as action
 use Rattle.hub_core.specs.declared.outcome.Outcome.TheVariants as outcome
 use Rattle.hub_core.proofs.Lists.{eqb_same, AllByRecursion-weaker}

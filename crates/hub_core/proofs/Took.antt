@@ -1,8 +1,7 @@
 -- A step of the core from one value to another, and the clauses of `Core::step` that follow.
 use Rattle.std.proofs.Common.{◌<◌, length, sym, ap, subst, ◌∙◌, ◌≡◌, Some, Result, Ok, Err, refl, IfOk, ℕ, Bool, true, List, [], ◌∷◌, ◌++◌, None, inl, inr, not, ◌&&◌}
-use Rattle.hub_core.proofs.Words.{slice_get, Core, Member, facts, origin_at, ShowsFacts, StillShows, SameContent, AgentId, Client, Worker, CoreState, core_after, queue_core, Outcome, OnErr, is_some, false≢true, EndId, Members, kept_member_answer}
-use Rattle.hub_core.proofs.Words.{part_outcome, member_made, group_of, is_seated_in, MemberLeaves, PartLeaves, seen, Step, Action, Facts, Answers, Fits, History, InOrder, takes_memory, Shows, ShowsRoster, FitsAndShows, changes_nothing, member_answer}
-use Rattle.hub_core.proofs.Words.{part_answer}
+use Rattle.hub_core.proofs.Words.{slice_get, Core, Member, facts, origin_at, ShowsFacts, StillShows, SameContent, AgentId, Client, Worker, CoreState, core_after, queue_core, Outcome, OnErr, is_some, false≢true, EndId, Members, kept_member_answer, part_outcome, member_made, group_of, is_seated_in}
+use Rattle.hub_core.proofs.Words.{MemberLeaves, PartLeaves, seen, Step, Action, Facts, Answers, Fits, History, InOrder, takes_memory, Shows, ShowsRoster, FitsAndShows, changes_nothing, member_answer, part_answer}
 use Rattle.hub_core.proofs.Sounds.{sound_legal}
 use Rattle.hub_core.proofs.Speakers.{kind_made}
 use Rattle.hub_core.specs.declared.step.Action.TheVariants as action

@@ -5,7 +5,7 @@ use Rattle.hub_core.specs.Words.{AgentId, Bool, Client, EndId, Kind, List, None,
 use Rattle.hub_core.specs.declared.outcome.Outcome.TheVariants as outcome
 use Rattle.hub_core.specs.Facts.{Facts}
 use Rattle.hub_core.specs.Made.{lines_of}
-use Rattle.hub_core.specs.Looking.{any_below}
+use Rattle.hub_core.specs.Taking.{any_below}
 use Rattle.hub_core.specs.Posting.{is_out, is_with}
 use Rattle.hub_core.specs.Moving.{is_arrived}
 

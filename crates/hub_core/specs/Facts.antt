@@ -1,15 +1,10 @@
 -- All that an answer may depend on: agent by agent, end by end, line by line.
 use Rattle.hub_core.specs.Words.{AgentId, Bool, Envelope, Kind, List, Option, Phase, Place, ℕ}
 use Rattle.hub_core.specs.History.{History}
-use Rattle.hub_core.specs.Accepted as accepted
-use Rattle.hub_core.specs.Taken as taken
+use Rattle.hub_core.specs.Envelopes as envelopes
 use Rattle.hub_core.specs.Made as made
 use Rattle.hub_core.specs.Place as place
-use Rattle.hub_core.specs.Closed as closed
-use Rattle.hub_core.specs.Enabled as enabled
 use Rattle.hub_core.specs.Lines as lines
-use Rattle.hub_core.specs.Clear as clear
-use Rattle.hub_core.specs.Discarded as discarded
 use Rattle.hub_core.specs.Roster.{RosterNow}
 use Rattle.hub_core.specs.Roster as roster
 
@@ -57,8 +52,8 @@ facts h = record {
   end = λ x. record {
     kind = made.kind h x;
     place = place.place h x;
-    closed = closed.closed h x;
-    enabled = enabled.enabled h x;
+    closed = place.closed h x;
+    enabled = place.enabled h x;
     newest = lines.newest h x;
     taker_stand = lines.taker_stand h x;
   };
@@ -68,9 +63,9 @@ facts h = record {
     noticed = lines.noticed h x l;
     held_by = lines.held_by h x l;
   };
-  clear = clear.clear h;
-  accepted = accepted.accepted h;
-  taken = taken.taken h;
-  discarded = discarded.discarded h;
+  clear = lines.clear h;
+  accepted = envelopes.accepted h;
+  taken = envelopes.taken h;
+  discarded = envelopes.discarded h;
   roster = roster.roster h;
 }

@@ -6,9 +6,7 @@ use Rattle.hub_core.specs.declared.outcome.Outcome.TheVariants as outcome
 use Rattle.hub_core.specs.History.{Pair, History}
 use Rattle.hub_core.specs.Made.{ends}
 use Rattle.hub_core.specs.Place.{place}
-use Rattle.hub_core.specs.Accepted.{accepted}
-use Rattle.hub_core.specs.Taken.{taken}
-use Rattle.hub_core.specs.Discarded.{discarded}
+use Rattle.hub_core.specs.Envelopes.{accepted, taken, discarded}
 use Rattle.hub_core.specs.Sender.{by}
 use Rattle.hub_core.specs.Sound.{total, naming, flights}
 

@@ -5,13 +5,10 @@ use Rattle.hub_core.specs.Words.{Action, AllByRecursion, Bool, EndId, Outcome, S
 use Rattle.hub_core.specs.declared.step.Action.TheVariants as action
 use Rattle.hub_core.specs.declared.outcome.Outcome.TheVariants as outcome
 use Rattle.hub_core.specs.History.{Pair, History}
-use Rattle.hub_core.specs.Accepted.{accepted}
-use Rattle.hub_core.specs.Taken.{taken}
-use Rattle.hub_core.specs.Closed.{closed}
-use Rattle.hub_core.specs.Enabled.{enabled}
+use Rattle.hub_core.specs.Envelopes.{accepted, taken}
+use Rattle.hub_core.specs.Place.{closed, enabled}
 use Rattle.hub_core.specs.Legal.{Same}
-use Rattle.hub_core.specs.Numbers.{up_to, numbers}
-use Rattle.hub_core.specs.Sender.{by, Prefix}
+use Rattle.hub_core.specs.Sender.{up_to, numbers, by, Prefix}
 use Rattle.hub_core.specs.Lines.{phase, stand, newest, taker_stand}
 use Rattle.hub_core.specs.Posting.{is_out}
 use Rattle.hub_core.specs.Roster.{goes_next, cast_after, roster}

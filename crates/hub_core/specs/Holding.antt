@@ -5,7 +5,7 @@ use Rattle.hub_core.specs.Words.{AgentId, EndId, MAX_LINES, None, Option, Outcom
 use Rattle.hub_core.specs.declared.outcome.Outcome.TheVariants as outcome
 use Rattle.hub_core.specs.Facts.{Facts}
 use Rattle.hub_core.specs.Made.{is_queue}
-use Rattle.hub_core.specs.Looking.{first_failing}
+use Rattle.hub_core.specs.Taking.{first_failing}
 use Rattle.hub_core.specs.Posting.{is_out, phase_of_line}
 
 -- the least line of the end that no agent holds

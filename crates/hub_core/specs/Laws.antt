@@ -5,14 +5,11 @@ use Rattle.hub_core.specs.declared.step.Action.TheVariants as action
 use Rattle.hub_core.specs.declared.outcome.Outcome.TheVariants as outcome
 use Rattle.hub_core.specs.History.{Pair, History}
 use Rattle.hub_core.specs.Facts.{facts}
-use Rattle.hub_core.specs.Accepted.{accepted}
-use Rattle.hub_core.specs.Taken.{taken}
+use Rattle.hub_core.specs.Envelopes.{accepted, taken, discarded}
 use Rattle.hub_core.specs.Sender.{in_queue, Prefix, by}
 use Rattle.hub_core.specs.Posting.{is_out, poster, phase_of_line, may_enter}
-use Rattle.hub_core.specs.Fits.{Fits}
-use Rattle.hub_core.specs.Legal.{Legal, Same}
+use Rattle.hub_core.specs.Legal.{Fits, Legal, Same}
 use Rattle.hub_core.specs.Unchanged.{changes_nothing}
-use Rattle.hub_core.specs.Discarded.{discarded}
 
 -- A pair that changes nothing leaves the same.
 abbrev pub NothingLeavesTheSame : Type 0

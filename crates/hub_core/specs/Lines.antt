@@ -1,5 +1,6 @@
--- Where the posters of an end's lines are, and at which queues its lines and its taker stand (this project's
--- own; WHATWG HTML, "Message ports", moves the tasks of a transferred port to the new port's queue).
+-- Where the posters of an end's lines are, at which queues its lines and its taker stand, and which queues are clear: nobody
+-- can be inside them any more (this project's own; WHATWG HTML, "Message ports", moves the tasks of a transferred port to
+-- the new port's queue).
 use Rattle.std.specs.Prelude.{if◌then◌else◌, ◌&&◌, ◌+◌, ◌==◌}
 use Rattle.hub_core.specs.Words.{Action, AgentId, Bool, Inside, None, Option, Out, Outcome, Phase, Sender, Some, Turned, false, fold, true, ℕ}
 use Rattle.hub_core.specs.declared.step.Action.TheVariants as action
@@ -62,3 +63,11 @@ held_after x l held _ _ = held
 -- The agent that holds a line of a client's or a worker's queue: the one that got it by a Line, until a Back.
 abbrev pub held_by : History → ℕ → ℕ → Option AgentId
 held_by h x l = fold (λ q p. held_after x l q p.1 p.0.action) None h
+
+abbrev pub clear_after : ℕ → ℕ → Bool → Outcome → Action → Bool
+clear_after x k clear (outcome.Clear (Some n)) (action.Look t) = if x == t.0 && k == n then true else clear
+clear_after x k clear _ _ = clear
+
+-- a Look found nobody inside or being turned back at this queue of the end
+abbrev pub clear : History → ℕ → ℕ → Bool
+clear h x k = fold (λ q p. clear_after x k q p.1 p.0.action) false h

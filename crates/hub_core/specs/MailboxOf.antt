@@ -7,7 +7,7 @@ use Rattle.hub_core.specs.Facts.{Facts, facts}
 use Rattle.hub_core.specs.Made.{ends, kind, kind_after, lines_of}
 use Rattle.hub_core.specs.Mailbox.{Mailbox, new_mailbox}
 use Rattle.hub_core.specs.MailboxShows.{ShowsMailbox, HoldsKept}
-use Rattle.hub_core.specs.MailboxAfter.{after_events}
+use Rattle.hub_core.specs.MailboxSteps.{after_events}
 use Rattle.hub_core.specs.MailboxPairs.{OneRight, events_of, Happen}
 
 -- the mailbox of an end as it is made: one queue, at which each of its lines stands

@@ -5,16 +5,14 @@ use Rattle.hub_core.specs.declared.step.Action.TheVariants as action
 use Rattle.hub_core.specs.declared.outcome.Outcome.TheVariants as outcome
 use Rattle.hub_core.specs.History.{Pair, History}
 use Rattle.hub_core.specs.Facts.{Facts, facts}
-use Rattle.hub_core.specs.Accepted.{named_envelope, named_notice}
+use Rattle.hub_core.specs.Envelopes.{named_envelope, named_notice}
 use Rattle.hub_core.specs.Made.{ends, kind, lines_of}
-use Rattle.hub_core.specs.Fits.{Fits}
-use Rattle.hub_core.specs.Legal.{Legal}
+use Rattle.hub_core.specs.Legal.{Fits, Legal}
 use Rattle.hub_core.specs.GateMachine.{Gate, enter, leave, turn_back, enable, lets_in, says_moved, says_closed, lets_out, says_done, busy, look, says_inside, gives_rights, close}
 use Rattle.hub_core.specs.Mailbox.{Mailbox}
-use Rattle.hub_core.specs.MailboxSteps.{MailboxEvent, at_gate, push, pop, MailboxStep, hop, advance, add}
-use Rattle.hub_core.specs.MailboxAfter.{after_event, after_events}
+use Rattle.hub_core.specs.MailboxSteps.{MailboxEvent, at_gate, push, pop, MailboxStep, hop, advance, add, after_event, after_events}
 use Rattle.hub_core.specs.MailboxShows.{ShowsMailbox}
-use Rattle.hub_core.specs.Looking.{looked, is_settled, first_failing}
+use Rattle.hub_core.specs.Taking.{looked, is_settled, first_failing}
 use Rattle.hub_core.specs.Sender.{in_queue}
 
 -- A history says nothing of rights. So there is one right, which each line has at every epoch.

@@ -3,18 +3,14 @@ use Rattle.std.specs.Prelude.{◌++◌, ◌+◌, ◌≡◌}
 use Rattle.hub_core.specs.Words.{End, Envelope, List, Some, [], length, slice_get, slice_index_or, ℕ}
 use Rattle.hub_core.specs.declared.machine.Core.{Core}
 use Rattle.hub_core.specs.History.{History}
-use Rattle.hub_core.specs.Accepted.{accepted}
-use Rattle.hub_core.specs.Taken.{taken}
+use Rattle.hub_core.specs.Envelopes.{accepted, taken, discarded}
 use Rattle.hub_core.specs.Made.{kind, lines_of}
-use Rattle.hub_core.specs.Closed.{closed}
-use Rattle.hub_core.specs.Enabled.{enabled}
-use Rattle.hub_core.specs.Lines.{phase, newest, stand, taker_stand}
+use Rattle.hub_core.specs.Place.{closed, enabled}
+use Rattle.hub_core.specs.Lines.{phase, newest, stand, taker_stand, clear}
 use Rattle.hub_core.specs.Sender.{by}
 use Rattle.hub_core.specs.GateMachine.{Gate, IsAt}
 use Rattle.hub_core.specs.QueueMachine.{Queue}
 use Rattle.hub_core.specs.Mailbox.{Mailbox, GateAt, QueueAt, StandsAt, IsNewest, put_by, got_from, IsMailbox}
-use Rattle.hub_core.specs.Clear.{clear}
-use Rattle.hub_core.specs.Discarded.{discarded}
 
 -- The mailbox shows the history at the end: what each line put is what was accepted of it, what was taken out is
 -- what was taken, then what was discarded, and then what was collected, as by a sweep that isn't done; the newest gate

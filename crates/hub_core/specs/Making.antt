@@ -5,7 +5,7 @@ use Rattle.hub_core.specs.Words.{AgentId, Bool, Client, Kind, MAX_AGENTS, MAX_EN
 use Rattle.hub_core.specs.declared.outcome.Outcome.TheVariants as outcome
 use Rattle.hub_core.specs.Facts.{Facts}
 use Rattle.hub_core.specs.Posting.{is_with}
-use Rattle.hub_core.specs.Looking.{any_below}
+use Rattle.hub_core.specs.Taking.{any_below}
 
 -- An Agent tests memory and then the limit. A new agent gets the least number not given.
 abbrev pub agent_answer : Facts → Bool → Outcome

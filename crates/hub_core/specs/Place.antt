@@ -1,6 +1,7 @@
--- Where an end is (WHATWG HTML, "Transferable objects": the transfer and transfer-receiving steps).
+-- Where an end is (WHATWG HTML, "Transferable objects": the transfer and transfer-receiving steps), and whether it is closed
+-- and its queue enabled ("Message ports": a port message queue is disabled when it is made, and `start()` enables it).
 use Rattle.std.specs.Prelude.{if◌then◌else◌, ◌==◌, ◌||◌}
-use Rattle.hub_core.specs.Words.{Action, Arrived, Bool, EndId, Envelope, Gone, InFlight, List, None, Option, Outcome, Place, Some, Swept, With, fold, list_any, ℕ}
+use Rattle.hub_core.specs.Words.{Action, Arrived, Bool, EndId, Envelope, Gone, InFlight, List, None, Option, Outcome, Place, Some, Swept, With, fold, list_any, ℕ, false, true}
 use Rattle.hub_core.specs.declared.step.Action.TheVariants as action
 use Rattle.hub_core.specs.declared.outcome.Outcome.TheVariants as outcome
 use Rattle.hub_core.specs.History.{History}
@@ -38,3 +39,20 @@ place_after x place _ _ = place x
 -- handed; swept where it was Discarded; with the agent that adopted it; and gone where it was closed.
 abbrev pub place : History → ℕ → Option Place
 place h = fold (λ q p x. place_after x q p.1 p.0.action) (λ _. None) h
+
+abbrev pub closed_after : ℕ → Bool → Outcome → Action → Bool
+closed_after x closed outcome.Done (action.Close t) = if x == t.0 then true else closed
+closed_after x closed _ _ = closed
+
+-- a Close of the end was answered Done
+abbrev pub closed : History → ℕ → Bool
+closed h x = fold (λ q p. closed_after x q p.1 p.0.action) false h
+
+abbrev pub enabled_after : ℕ → Bool → Outcome → Action → Bool
+enabled_after x enabled outcome.Started (action.Start e) = if x == e.0 then true else enabled
+enabled_after x enabled (outcome.Adopted n) (action.Adopt t a) = if x == t.0 then false else enabled
+enabled_after x enabled _ _ = enabled
+
+-- a Start of the end was answered Started, after its last adoption where it was adopted
+abbrev pub enabled : History → ℕ → Bool
+enabled h x = fold (λ q p. enabled_after x q p.1 p.0.action) false h

@@ -3,8 +3,7 @@
 -- threads.
 use Rattle.std.specs.Prelude.{if◌then◌else◌, ◌++◌, ◌<◌, ◌==◌, ◌∷◌, ◌≡◌, ◌≤◌}
 use Rattle.hub_core.specs.Words.{All, Envelope, List, None, Option, Some, [], length, map, ℕ}
-use Rattle.hub_core.specs.Sender.{by, Prefix}
-use Rattle.hub_core.specs.Numbers.{up_to}
+use Rattle.hub_core.specs.Sender.{by, Prefix, up_to}
 
 -- for each line what it put; what is held, and what was taken out, both in order
 pub record Queue : Type 0 where

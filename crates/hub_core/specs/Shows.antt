@@ -6,9 +6,8 @@ use Rattle.hub_core.specs.declared.roster.Roster.{Roster}
 use Rattle.hub_core.specs.KeptRoster.{origin_at, group_of, numbers_of, numbers_with}
 use Rattle.hub_core.specs.History.{History}
 use Rattle.hub_core.specs.Facts.{AgentNow, EndNow, LineNow, Facts, facts}
-use Rattle.hub_core.specs.Fits.{Fits}
+use Rattle.hub_core.specs.Legal.{Fits, Legal}
 use Rattle.hub_core.specs.Sender.{in_queue, count_in_queue}
-use Rattle.hub_core.specs.Legal.{Legal}
 use Rattle.hub_core.specs.Sound.{no_end, no_line, total}
 use Rattle.hub_core.specs.Making.{is_client, is_worker}
 use Rattle.hub_core.specs.Ending.{is_away_of}

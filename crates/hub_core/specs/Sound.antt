@@ -4,9 +4,8 @@ use Rattle.hub_core.specs.Words.{AgentId, AllByRecursion, Arrived, Bool, Envelop
 use Rattle.hub_core.specs.Words.{ℕ}
 use Rattle.hub_core.specs.Facts.{EndNow, LineNow, Facts}
 use Rattle.hub_core.specs.Place.{names}
-use Rattle.hub_core.specs.Sender.{by, in_queue, Prefix, Rises}
+use Rattle.hub_core.specs.Sender.{by, in_queue, Prefix, Rises, up_to, numbers}
 use Rattle.hub_core.specs.Posting.{is_out, is_distinct, may_enter}
-use Rattle.hub_core.specs.Numbers.{up_to, numbers}
 use Rattle.hub_core.specs.Made.{peer_of, lines_of}
 
 -- a number that no end has, and one that no line of an end has

@@ -3,12 +3,10 @@
 ghost use Rattle.std.specs.Prelude.{◌≡◌, ◌&&◌, length, not, is_some, slice_get, unwrap_or};
 ghost use Rattle.std.specs.Prelude.{ℕ, List, IfOk, IfSome, OnErr};
 ghost use Rattle.hub_core.specs.Kept.{kept_member_answer, kept_cast_answer, member_made};
-ghost use Rattle.hub_core.specs.Kept.{part_outcome};
+ghost use Rattle.hub_core.specs.Kept.{part_outcome, seen, core_after};
 ghost use Rattle.hub_core.specs.Made.{maker_of};
-ghost use Rattle.hub_core.specs.Seen.{seen};
 ghost use Rattle.hub_core.specs.KeptRoster.{origin_at, group_of, is_seated_in, kept_destinations};
 ghost use Rattle.hub_core.specs.KeptRoster.{MemberLeaves, PartLeaves};
-ghost use Rattle.hub_core.specs.CoreSteps.{core_after};
 ghost use Rattle.hub_core.specs.declared.outcome.Outcome.TheVariants as outcome;
 ghost use Rattle.hub_core.specs.declared.step.Action.TheVariants as action;
 ghost use Rattle.hub_envelope.specs.declared.ids.EndId.{EndId as EndIdValue};

@@ -3,11 +3,9 @@
 ghost use Rattle.std.specs.Prelude.{◌≡◌, ◌++◌, ◌∷◌, [], slice_get, if◌then◌else◌, IfOk, OnOk};
 ghost use Rattle.std.specs.Prelude.{OnErr};
 ghost use Rattle.hub_core.specs.Ending.{ends_at, order_answer};
-ghost use Rattle.hub_core.specs.CoreSteps.{core_after};
+ghost use Rattle.hub_core.specs.Kept.{core_after, with_agent, change_owner, one_away, one_out};
+ghost use Rattle.hub_core.specs.Kept.{owner_by, owner, see_outcome, seen};
 ghost use Rattle.hub_core.specs.declared.step.Action.TheVariants as action;
-ghost use Rattle.hub_core.specs.Kept.{with_agent, change_owner, one_away, one_out, owner_by};
-ghost use Rattle.hub_core.specs.Kept.{owner, see_outcome};
-ghost use Rattle.hub_core.specs.Seen.{seen};
 
 use crate::agent::Agent;
 use crate::end::Place;

@@ -3,11 +3,9 @@
 
 ghost use Rattle.std.specs.Prelude.{◌≡◌, option_map, slice_get, IfOk};
 ghost use Rattle.hub_core.specs.Kept.{count_of, one_more, set_agent, gone, line_outcome};
-ghost use Rattle.hub_core.specs.Kept.{change_line, held_by};
-ghost use Rattle.hub_core.specs.CoreSteps.{core_after};
+ghost use Rattle.hub_core.specs.Kept.{change_line, held_by, core_after, seen};
 ghost use Rattle.hub_core.specs.Holding.{back_answer};
 ghost use Rattle.hub_core.specs.declared.step.Action.TheVariants as action;
-ghost use Rattle.hub_core.specs.Seen.{seen};
 
 use crate::agent::Agent;
 use crate::end::Place;

@@ -3,8 +3,7 @@
 
 ghost use Rattle.std.specs.Prelude.{ℕ};
 ghost use Rattle.hub_core.specs.History.{Pair, History};
-ghost use Rattle.hub_core.specs.Fits.{Fits};
-ghost use Rattle.hub_core.specs.Legal.{Legal};
+ghost use Rattle.hub_core.specs.Legal.{Fits, Legal};
 ghost use Rattle.hub_core.specs.Headline.{Headline};
 ghost use Rattle.hub_core.specs.QueueMachine.{QueueLaws};
 ghost use Rattle.hub_core.specs.declared.machine.Core.{Core};

@@ -14,7 +14,6 @@ mod kind;
 mod laws;
 mod line;
 mod listing;
-mod looking;
 mod machine;
 mod making;
 mod members;

@@ -9,7 +9,7 @@
 //! changed, where it can't be taken.
 //!
 //! What a function answers is said by the definitions that a history is held to, over what the
-//! core keeps seen as facts (`specs/Seen`); what it changes is one table (`specs/CoreSteps`).
+//! core keeps seen as facts (`seen`); what it changes is one table (`core_after`).
 //!
 //! It is three steps and not one because agents on threads of their own act between them: an end
 //! may be adopted or closed while the poster is inside, whose Push may still be accepted. So a
@@ -22,7 +22,7 @@ ghost use Rattle.hub_core.specs.History.{History};
 ghost use Rattle.hub_core.specs.Laws.{InOrder};
 ghost use Rattle.hub_core.specs.Made.{line_of_port, peer_of};
 ghost use Rattle.hub_core.specs.Memory.{takes_memory};
-ghost use Rattle.hub_core.specs.Seen.{seen};
+ghost use Rattle.hub_core.specs.Kept.{seen};
 ghost use Rattle.hub_core.specs.Shows.{Shows, FitsAndShows, StillShows, line_now};
 ghost use Rattle.hub_core.specs.Unchanged.{changes_nothing, SameContent};
 

@@ -1,11 +1,9 @@
 //! Steps that make agents and ends: Agent, Channel, Client and Worker.
 
 ghost use Rattle.std.specs.Prelude.{◌≡◌, length, slice_get, IfOk, OnErr};
-ghost use Rattle.hub_core.specs.Kept.{count_of, kept_queue_answer};
-ghost use Rattle.hub_core.specs.CoreSteps.{core_after, queue_core};
+ghost use Rattle.hub_core.specs.Kept.{count_of, kept_queue_answer, core_after, queue_core, seen};
 ghost use Rattle.hub_core.specs.Making.{agent_answer, channel_answer};
 ghost use Rattle.hub_core.specs.declared.step.Action.TheVariants as action;
-ghost use Rattle.hub_core.specs.Seen.{seen};
 
 use crate::agent::Agent;
 use crate::end::End;

@@ -3,11 +3,10 @@
 ghost use Rattle.std.specs.Prelude.{◌≡◌, ◌<◌, option_map, slice_get, Some};
 ghost use Rattle.std.specs.Prelude.{IfOk, IfSome, OnOk, OnErr};
 ghost use Rattle.hub_envelope.specs.declared.limits.TheConstants.{MAX_MOVES};
-ghost use Rattle.hub_core.specs.Kept.{adopting, adopted_end, change_end, closed_end};
+ghost use Rattle.hub_core.specs.Kept.{adopting, adopted_end, change_end, closed_end, seen};
+ghost use Rattle.hub_core.specs.Kept.{core_after};
 ghost use Rattle.hub_core.specs.Moving.{adopt_answer, close_answer, hand_answer, is_released};
 ghost use Rattle.hub_core.specs.Moving.{may_close, may_take_over};
-ghost use Rattle.hub_core.specs.Seen.{seen};
-ghost use Rattle.hub_core.specs.CoreSteps.{core_after};
 ghost use Rattle.hub_core.specs.declared.step.Action.TheVariants as action;
 
 use crate::agent::Agent;

@@ -7,12 +7,11 @@ ghost use Rattle.hub_core.specs.Made.{peer_of};
 ghost use Rattle.hub_core.specs.Posting.{enter_answer, is_distinct, is_fitting, is_good, leave_answer};
 ghost use Rattle.hub_core.specs.Posting.{listing_of};
 ghost use Rattle.hub_core.specs.Posting.{is_at, may_leave_agent, own_line_plain, own_poster_out};
-ghost use Rattle.hub_core.specs.Seen.{seen};
+ghost use Rattle.hub_core.specs.Kept.{seen, gate_passed, kept_noticing, kept_posting};
+ghost use Rattle.hub_core.specs.Kept.{notice_outcome, posting_at, push_outcome, HasQueue};
+ghost use Rattle.hub_core.specs.Kept.{put_ends, accept_ends, moved_ends, end_moved, change_line};
+ghost use Rattle.hub_core.specs.Kept.{in_phase, at_queue, core_after};
 ghost use Rattle.hub_core.specs.Shows.{line_now};
-ghost use Rattle.hub_core.specs.Kept.{gate_passed, kept_noticing, kept_posting, notice_outcome};
-ghost use Rattle.hub_core.specs.Kept.{posting_at, push_outcome, HasQueue, put_ends, accept_ends};
-ghost use Rattle.hub_core.specs.Kept.{moved_ends, end_moved, change_line, in_phase, at_queue};
-ghost use Rattle.hub_core.specs.CoreSteps.{core_after};
 ghost use Rattle.hub_core.specs.Moving.{hop_answer};
 ghost use Rattle.hub_core.specs.declared.step.Action.TheVariants as action;
 

@@ -6,7 +6,7 @@ ghost use Rattle.hub_core.specs.History.{History};
 ghost use Rattle.hub_core.specs.Made.{kind};
 ghost use Rattle.hub_core.specs.Moving.{may_close};
 ghost use Rattle.hub_core.specs.Posting.{may_post, listing};
-ghost use Rattle.hub_core.specs.Seen.{seen};
+ghost use Rattle.hub_core.specs.Kept.{seen};
 ghost use Rattle.hub_core.specs.Shows.{Shows};
 
 use crate::kind::Kind;

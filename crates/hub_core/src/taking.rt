@@ -1,17 +1,16 @@
-//! Steps of whoever takes: Start and Take.
+//! Steps of whoever takes: Start, Take, Look and Sweep.
 
-ghost use Rattle.std.specs.Prelude.{◌≡◌, slice_get};
-ghost use Rattle.hub_core.specs.Kept.{TakeAnswers};
+ghost use Rattle.std.specs.Prelude.{◌≡◌, slice_get, [], IfOk, IfSome, OnOk, OnErr};
+ghost use Rattle.hub_core.specs.Kept.{TakeAnswers, seen, core_after, change_end, joined};
+ghost use Rattle.hub_core.specs.Kept.{look_outcome_at, sweep_outcome_at, moved_ends, ports_of};
 ghost use Rattle.hub_core.specs.Posting.{holder};
-ghost use Rattle.hub_core.specs.Seen.{seen};
-ghost use Rattle.hub_core.specs.CoreSteps.{core_after};
 ghost use Rattle.hub_core.specs.Taking.{start_answer};
 ghost use Rattle.hub_core.specs.declared.step.Action.TheVariants as action;
 
 use crate::end::Place;
 use crate::machine::Core;
 use crate::outcome::Outcome;
-use hub_envelope::EndId;
+use hub_envelope::{EndId, Envelope, Items, OutOfMemory};
 
 impl Core {
     pub(crate) fn start(&mut self, end: EndId) -> Outcome
@@ -62,6 +61,74 @@ impl Core {
                 served.advance();
                 Outcome::Again
             }
+        }
+    }
+
+    /// The queue that is looked at becomes clear where nobody is inside or being turned back there.
+    pub(crate) fn look(&mut self, end: EndId) -> Outcome
+        ensures outcome { result ≡ look_outcome_at (slice_get self.old.ends end.0) }
+        ensures new { self.new ≡ core_after self.old result (action.Look end) }
+    {
+        let Some(found) = self.ends.get_mut(end.0 as usize) else {
+            return Outcome::NotNow;
+        };
+        if !found.is_closed && found.taker >= found.newest {
+            return Outcome::NotNow;
+        }
+        let Some(epoch) = found.looked() else {
+            return Outcome::Clear(None);
+        };
+        if found.lines.is_anyone_at(epoch) {
+            return Outcome::Busy;
+        }
+        found.looked += 1;
+        Outcome::Clear(Some(epoch))
+    }
+
+    /// Discards what waits at a closed end, where every queue is settled.
+    pub(crate) fn sweep(&mut self, end: EndId) -> Result<Outcome, OutOfMemory>
+        ensures outcome { IfOk result (λ o. o
+            ≡ sweep_outcome_at (slice_get self.old.ends end.0)) }
+        ensures new { IfOk result (λ o. self.new ≡ core_after self.old o (action.Sweep end)) }
+        ensures err { OnErr result (self.new ≡ self.old) }
+    {
+        let Some(found) = self.end_at(end) else {
+            return Ok(Outcome::NotNow);
+        };
+        if !found.is_closed {
+            return Ok(Outcome::NotNow);
+        }
+        if found.lines.is_anyone_from(found.looked) {
+            return Ok(Outcome::Busy);
+        }
+        let envelopes = self.empty(end)?;
+        self.place_swept(envelopes.as_slice());
+        Ok(Outcome::Discarded(envelopes))
+    }
+
+    /// Takes what waits at an end, and leaves no queue there.
+    fn empty(&mut self, end: EndId) -> Result<Items<Envelope>, OutOfMemory>
+        ensures all { IfSome (slice_get self.old.ends end.0)
+            (λ x. IfOk result (λ envelopes. envelopes ≡ joined x.queues)) }
+        ensures new { OnOk result (self.new ≡ record self.old {
+          ends = change_end (λ x. record x { queues = [] }) end.0 self.old.ends;
+        }) }
+        ensures err { OnErr result (self.new ≡ self.old) }
+    {
+        match self.ends.get_mut(end.0 as usize) {
+            Some(found) => Ok(found.queues.empty(self.alloc)?),
+            None => Ok(Items::of(Vec::new(self.alloc))),
+        }
+    }
+
+    /// Gives each port that the envelopes name its place.
+    fn place_swept(&mut self, envelopes: &[Envelope])
+        ensures { self.new ≡ record self.old {
+          ends = moved_ends (ports_of envelopes.now) Place.Swept self.old.ends;
+        } }
+    {
+        for envelope in envelopes {
+            self.place_each(envelope.ports.as_slice(), Place::Swept);
         }
     }
 }

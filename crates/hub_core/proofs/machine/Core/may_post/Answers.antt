@@ -1,7 +1,6 @@
 -- What the core is asked is what the facts say.
 use Rattle.hub_core.proofs.Sounds.{sound_legal}
 use Rattle.std.proofs.Common.{◌∙◌}
-use Rattle.hub_core.proofs.Words.{facts}
 use Rattle.hub_core.proofs.Seeing.{post_seen}
 use Rattle.hub_core.proofs.machine.Core.may_post.Goals as goal
 
