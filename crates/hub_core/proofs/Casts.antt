@@ -239,8 +239,8 @@ cast_tests : (made seated none : Bool) (p : Option AgentId) (ds es : List EndId)
 cast_tests true seated none p ds es same false = ap (kept_cast_answer true seated p none) (same refl)
 cast_tests _ seated none p ds es same _ = refl
 
-pub cast_fits : (c : CoreState) (f : Facts) (e : EndId) (ports : List EndId) → Sees c f → (let m : Members = c.roster.members in let g : Facts = seen c in kept_cast_answer (is_some (maker_of (g.end e.0).kind) && not (is_some c.roster.cast)) (is_seated_in m e.0 (group_of m e.0) && not (g.end e.0).closed) (holder g e.0) (is_empty ports) (kept_destinations m e.0) ≡ cast_answer f e ports)
-cast_fits c f e ports h =
+pub cast_fits : {c : CoreState} {f : Facts} (e : EndId) (ports : List EndId) → Sees c f → (let m : Members = c.roster.members in let g : Facts = seen c in kept_cast_answer (is_some (maker_of (g.end e.0).kind) && not (is_some c.roster.cast)) (is_seated_in m e.0 (group_of m e.0) && not (g.end e.0).closed) (holder g e.0) (is_empty ports) (kept_destinations m e.0) ≡ cast_answer f e ports)
+cast_fits {c} {f} e ports h =
     let answer : Bool → List EndId → Facts → Outcome = λ seated others g. kept_cast_answer (is_some (maker_of (g.end e.0).kind) && not (is_some g.roster.cast)) (seated && not (g.end e.0).closed) (holder g e.0) (is_empty ports) others in
     ap (answer (is_seated_in c.roster.members e.0 (group_of c.roster.members e.0)) (kept_destinations c.roster.members e.0)) (seen_is h)
     ∙ ap (λ b. answer b (kept_destinations c.roster.members e.0) f) (seated_kept c.roster f e.0 h.roster)

@@ -8,7 +8,7 @@ use Rattle.hub_core.proofs.Words.{looked, may_look, moved_ends, names, nat_tests
 use Rattle.hub_core.specs.declared.outcome.Outcome.TheVariants as outcome
 use Rattle.hub_core.specs.declared.step.Action.TheVariants as action
 use Rattle.hub_core.proofs.Counts.{calm_landed, counted_ports, counts_of, counts_still}
-use Rattle.hub_core.proofs.Frames.{ShownAfter, found_end, ShownAt, Stepped, changed, end_changed, end_restated, same_queues}
+use Rattle.hub_core.proofs.Frames.{ShownAfter, found_end, ShownAt, Stepped, changed, end_changed, end_restated, same_queues, end_there}
 use Rattle.hub_core.proofs.Fitting.{any_of, each_of, got_of, miss, none_of_any, pass, started_of, swept_of, went_on_of}
 use Rattle.hub_core.proofs.Lists.{AllByRecursion-append, AllByRecursion-weaker, below_last, each_changed, eqb_same, get_or-set_other, get_or-set_same, is_there, or_none, or_third, or_true}
 use Rattle.hub_core.proofs.Nexts.{Change, cleared, end_swept, got, next, started, went_on}
@@ -17,7 +17,7 @@ use Rattle.hub_core.proofs.Seeing.{Sees, seen_is, SoundlyShows}
 use Rattle.hub_core.proofs.SoundLines.{line_epochs}
 use Rattle.hub_core.proofs.SoundWaiting.{nobody_there, nothing_more, rises_joined, same_rises, taken_prefix}
 use Rattle.hub_core.proofs.Speakers.{placed_made, runs_there, swept_flies, taken_flies}
-use Rattle.hub_core.proofs.SweepOrders.{rises_one}
+use Rattle.hub_core.proofs.Orders.{rises_one}
 use Rattle.hub_core.proofs.Waits.{all_back, all_kept, all_of_queue, all_taken, filters, next_in_line, none_of_queue, of_queue, queue_more, queue_other, rises_back}
 
 -- ==== Who is at a queue: what the core finds is what the facts say.
@@ -145,7 +145,7 @@ left_by f e x h shown opened empty false settled is found =
 -- every end, with the taker of one further
 pub went_on_shown : {agents : List Agent} {ends : List End} {f : Facts} (e : EndId) (refused : Bool) (x : End) → SoundlyShows agents ends f → slice_get ends e.0 ≡ Some x → (f.end e.0).closed ≡ false → get_or x.queues 0 [] ≡ [] → (f.end e.0).taker_stand < (f.end e.0).newest → FitsTake f e outcome.Again → Stepped agents (set ends e.0 (advanced_end x)) f (action.Take e) refused outcome.Again
 went_on_shown {ends} {f} e refused x h at opened empty retired fits =
-    let shown : ShownAt f e.0 (Some x) = subst (ShownAt f e.0) at (h.end e.0) in
+    let shown = end_there e.0 h at in
     let low : x.taker < x.newest = subst (λ (y : EndNow). y.taker_stand < y.newest) shown.same retired in
     let still : x.is_closed ≡ false = sym (ap (λ (y : EndNow). y.closed) shown.same) ∙ opened in
     changed h fits refl refl refl (length-set ends e.0 (advanced_end x)) (counts_still h refl (λ d. refl) (λ d. refl) (λ a d l. refl))
@@ -222,7 +222,7 @@ cleared_queues {clear = clear} {x = x} h = record {
 cleared_shown : {agents : List Agent} {ends : List End} {f : Facts} (e : EndId) (refused : Bool) (x : End) → SoundlyShows agents ends f → slice_get ends e.0 ≡ Some x → outcome.Clear (Some x.looked) ≡ look_answer f e → Stepped agents (set ends e.0 (record x { looked = x.looked + 1 })) f (action.Look e) refused (outcome.Clear (Some x.looked))
 cleared_shown {ends} {f} e refused x h at answer =
     let y : End = record x { looked = x.looked + 1 } in
-    let shown : ShownAt f e.0 (Some x) = subst (ShownAt f e.0) at (h.end e.0) in
+    let shown = end_there e.0 h at in
     changed h answer refl refl refl (length-set ends e.0 y) (counts_still h refl (λ d. refl) (λ d. refl) (λ a d l. refl))
     (each_changed (λ d b q. ShowsEnd (f.end d) (f.line d) (λ i. cond (b && eqb i x.looked) true (f.clear d i)) (f.accepted d) (f.taken d ++ f.discarded d) q) ends e.0 y (slice_get_within ends e.0 x at)
     (end_restated shown refl shown.same refl (cleared_queues shown.queues)) h.end)
@@ -417,7 +417,7 @@ swept_shown {ends} {f} e refused x h at closed settled fits =
     let y : End = record x { queues = [] } in
     let base : List End = set ends e.0 y in
     let moves = moves_of (ports_of vs) Swept base in
-    let shown : ShownAt f e.0 (Some x) = subst (ShownAt f e.0) at (h.end e.0) in
+    let shown = end_there e.0 h at in
     let each : (d : ℕ) → ShowsEnd (f.end d) (f.line d) (f.clear d) (f.accepted d) (f.taken d ++ cond (eqb d e.0) (f.discarded d ++ vs) (f.discarded d)) (slice_get base d) =
     each_changed (λ d b o. ShowsEnd (f.end d) (f.line d) (f.clear d) (f.accepted d) (f.taken d ++ cond b (f.discarded d ++ vs) (f.discarded d)) o) ends e.0 y (slice_get_within ends e.0 x at)
     (swept_one f e.0 x h.sound shown closed (λ l inside. nobody_there f e.0 l (h.sound.lines e.0) settled inside)) h.end
@@ -454,7 +454,7 @@ sweep_changes {c} {f} e refused h says fits (end_swept d vs) =
     let swept = swept_of f e vs fits in
     let found = found_end e.0 h.shows (λ none. false≢true (sym (ap (λ (z : EndNow). z.closed) none) ∙ swept.is_closed)) in
     let x : End = found.0 in
-    let shown : ShownAt f e.0 (Some x) = subst (ShownAt f e.0) found.1 (h.shows.end e.0) in
+    let shown = end_there e.0 h.shows found.1 in
     let last : outcome.Discarded vs ≡ outcome.Discarded (joined x.queues) = (miss (is_anyone_from x.looked x.lines) (pass x.is_closed (says ∙ ap sweep_outcome_at found.1) (λ is. cc)).1 (λ is. cc)).1 in
     let all : vs ≡ joined x.queues = cc in (
       subst (λ us. Stepped c.agents (moved_ends (ports_of us) Swept (changed_ends (λ y. record y { queues = [] }) e.0 c.ends (slice_get c.ends e.0))) f (action.Sweep e) refused (outcome.Discarded us)) (sym all)
@@ -470,7 +470,7 @@ sweep_changes {c} {f} e refused h says fits (end_swept d vs) =
 -- the ends, one of them enabled
 started_shown : {agents : List Agent} {ends : List End} {f : Facts} (e : EndId) (refused : Bool) (x : End) → SoundlyShows agents ends f → slice_get ends e.0 ≡ Some x → outcome.Started ≡ start_answer f e → Stepped agents (set ends e.0 (record x { is_enabled = true })) f (action.Start e) refused outcome.Started
 started_shown {ends} {f} e refused x h at answer =
-    let shown_at : ShownAt f e.0 (Some x) = subst (ShownAt f e.0) at (h.end e.0) in
+    let shown_at = end_there e.0 h at in
     changed h answer refl refl refl (length-set ends e.0 (record x { is_enabled = true })) (counts_still h refl (λ d. refl) (λ d. refl) (λ a d l. refl))
     (end_changed e.0 (λ b w. record w { enabled = cond b true w.enabled }) x (record x { is_enabled = true }) h at (λ w. refl)
     (end_restated shown_at refl (ap (λ (w : EndNow). let v : EndNow = record w { enabled = true } in v) shown_at.same) refl (same_queues x.place true shown_at.queues)))
@@ -541,7 +541,7 @@ got_shown : {agents : List Agent} {ends new : List End} {f : Facts} (e : EndId) 
 got_shown {ends} {new} {f} e refused x a v rest h at has opened fits front n leaves =
     let base : List End = set ends e.0 (with_taker_queue x rest) in
     let moves : Moves v.ports (Arrived a) base new = moves_to v.ports (Arrived a) base new leaves in
-    let shown : ShownAt f e.0 (Some x) = subst (ShownAt f e.0) at (h.end e.0) in
+    let shown = end_there e.0 h at in
     let none : f.discarded e.0 ≡ [] = (h.sound.waiting e.0).kept opened in
     let each : (d : ℕ) → ShowsEnd (f.end d) (f.line d) (f.clear d) (f.accepted d) (cond (eqb d e.0) (f.taken d ++ v ∷ []) (f.taken d) ++ f.discarded d) (slice_get base d) =
     each_changed (λ d b o. ShowsEnd (f.end d) (f.line d) (f.clear d) (f.accepted d) (cond b (f.taken d ++ v ∷ []) (f.taken d) ++ f.discarded d) o) ends e.0 (with_taker_queue x rest) (slice_get_within ends e.0 x at)
@@ -585,11 +585,11 @@ take_at f e o h (Some x) shown t = elim x.is_closed as (λ b. (f.end e.0).closed
 ] (ap (λ (y : EndNow). y.closed) shown.same) t
 
 -- the same of what the core keeps
-take_seen : (c : CoreState) (f : Facts) (e : EndId) (o : Outcome) → Sees c f → TakeAnswers (holder (seen c) e.0) (slice_get c.ends e.0) o → TakeAnswers (holder f e.0) (slice_get c.ends e.0) o
-take_seen c f e o h t = subst (λ p. TakeAnswers p (slice_get c.ends e.0) o) (ap (λ g. holder g e.0) (seen_is h)) t
+take_seen : {c : CoreState} {f : Facts} (e : EndId) (o : Outcome) → Sees c f → TakeAnswers (holder (seen c) e.0) (slice_get c.ends e.0) o → TakeAnswers (holder f e.0) (slice_get c.ends e.0) o
+take_seen {c} {f} e o h t = subst (λ p. TakeAnswers p (slice_get c.ends e.0) o) (ap (λ g. holder g e.0) (seen_is h)) t
 
-pub take_fits : (c : CoreState) (f : Facts) (e : EndId) (o : Outcome) → Sees c f → TakeAnswers (holder (seen c) e.0) (slice_get c.ends e.0) o → FitsTake f e o
-take_fits c f e o h t = take_at f e o h.shows.sound (slice_get c.ends e.0) (h.shows.end e.0) (take_seen c f e o h t)
+pub take_fits : {c : CoreState} {f : Facts} (e : EndId) (o : Outcome) → Sees c f → TakeAnswers (holder (seen c) e.0) (slice_get c.ends e.0) o → FitsTake f e o
+take_fits {c} {f} e o h t = take_at f e o h.shows.sound (slice_get c.ends e.0) (h.shows.end e.0) (take_seen e o h t)
 
 -- what was served at an end that is there
 serves_there : (P : Option AgentId) (q : Option End) (o : Outcome) → (o ≡ outcome.NotNow → ⊥) → (o ≡ outcome.Closed → ⊥) → (o ≡ outcome.Disabled → ⊥) → TakeAnswers P q o → (x : End) × (q ≡ Some x) × TakeServes x o
@@ -611,7 +611,7 @@ serves_there P (Some x) o n c d t = (
 
 pub take_changes : {c : CoreState} {f : Facts} (e : EndId) (refused : Bool) {o : Outcome} → Sees c f → TakeAnswers (holder (seen c) e.0) (slice_get c.ends e.0) o → FitsTake f e o → Change (action.Take e) o → ShownAfter c f (action.Take e) refused o
 take_changes {c} {f} e refused h says fits (got d v) =
-    let there = serves_there (holder f e.0) (slice_get c.ends e.0) (outcome.Got v) (λ is. cc) (λ is. cc) (λ is. cc) (take_seen c f e (outcome.Got v) h says) in
+    let there = serves_there (holder f e.0) (slice_get c.ends e.0) (outcome.Got v) (λ is. cc) (λ is. cc) (λ is. cc) (take_seen e (outcome.Got v) h says) in
     let x : End = there.0 in
     let served = got_of f e v fits in
     let has = runs_there f (f.end e.0).place served.held in
@@ -621,7 +621,7 @@ take_changes {c} {f} e refused h says fits (got d v) =
       refl,
     )
 take_changes {c} {f} e refused h says fits (went_on d) =
-    let there = serves_there (holder f e.0) (slice_get c.ends e.0) outcome.Again (λ is. cc) (λ is. cc) (λ is. cc) (take_seen c f e outcome.Again h says) in
+    let there = serves_there (holder f e.0) (slice_get c.ends e.0) outcome.Again (λ is. cc) (λ is. cc) (λ is. cc) (take_seen e outcome.Again h says) in
     let served = went_on_of f e fits in (
       subst (λ q. Stepped c.agents (changed_ends advanced_end e.0 c.ends q) f (action.Take e) refused outcome.Again) (sym there.1)
           (went_on_shown e refused there.0 h.shows there.1 served.is_open there.2.0 served.serves.0.retired fits),

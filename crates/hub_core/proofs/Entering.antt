@@ -8,7 +8,7 @@ use Rattle.hub_core.specs.declared.outcome.Outcome.TheVariants as outcome
 use Rattle.hub_core.specs.declared.step.Action.TheVariants as action
 use Rattle.hub_core.proofs.Counts.{calm_held, free_out, phase_away, Counted, away_at, change_each, change_get, change_length, counted_entered, counted_left, counts_of, counts_still, none_counted, owner_length, owner_now_away, owner_now_out, owns_it}
 use Rattle.hub_core.proofs.Casts.{recast}
-use Rattle.hub_core.proofs.Frames.{ShownAfter, ShownWith, found_line, line_set, ShownAt, Stepped, changed, line_changed, recounted}
+use Rattle.hub_core.proofs.Frames.{ShownAfter, ShownWith, found_line, line_set, ShownAt, Stepped, changed, line_changed, recounted, end_there}
 use Rattle.hub_core.proofs.Fitting.{Entered, back_of, first_failing_of, found_closed_of, found_moved_of, hit, left_of, let_in_of, line_got_of}
 use Rattle.hub_core.proofs.Nexts.{Change, agent_ended, agent_ordered, found_closed, found_moved, left, let_in, line_back, line_got, next}
 use Rattle.hub_core.proofs.Seeing.{Sees, owner_seen, seen_is, SoundlyShows}
@@ -33,7 +33,7 @@ phased_inside old k bound p l false is may kept at = kept at
 -- every end, with this line in this phase
 pub phased_shown : {agents : List Agent} {ends : List End} {f : Facts} (s : Sender) (p : Phase) (x : End) (y : Line) → SoundlyShows agents ends f → slice_get ends s.end.0 ≡ Some x → slice_get x.lines s.line.0 ≡ Some y → (p ≡ Inside → (f.line s.end.0 s.line.0).stand < x.taker + length x.queues) → (d : ℕ) → ShowsEnd (f.end d) (phased_line f s p d) (f.clear d) (f.accepted d) (f.taken d ++ f.discarded d) (slice_get (set ends s.end.0 (with_phase x y s.line.0 p)) d)
 phased_shown {f} s p x y h at is may =
-    let shown : ShownAt f s.end.0 (Some x) = subst (ShownAt f s.end.0) at (h.end s.end.0) in
+    let shown = end_there s.end.0 h at in
     line_changed s (λ b w. record w { phase = cond b p w.phase }) x y (record y { phase = p }) h at is refl (λ w. refl) (subst (ShowsPut (f.accepted s.end.0) s.line.0) is (shown.put s.line.0))
     (λ l inside. phased_inside (f.line s.end.0) s.line.0 (x.taker + length x.queues) p l (eqb l s.line.0) refl may (shown.queues.inside l) inside)
 
@@ -115,7 +115,7 @@ came_shown : (c : CoreState) (f : Facts) (s : Sender) (refused : Bool) (p : Phas
     → next f (action.Enter s) o ≡ (let g : Facts = record f { line = phased_line f s p } in g) → Stepped (change_owner one_away (owner (seen c) s) c.agents) (change_line (in_phase p) s c.ends) f (action.Enter s) refused o
 came_shown c f s refused p o h answer entered away opened after =
     let w = found_line s h.shows (line_there f s (h.shows.sound.lines s.end.0) entered.may) in
-    let shown : ShownAt f s.end.0 (Some w.x) = subst (ShownAt f s.end.0) w.at (h.shows.end s.end.0) in
+    let shown = end_there s.end.0 h.shows w.at in
     let g : Facts = record f { line = phased_line f s p } in
     subst (λ q. Stepped (change_owner one_away q c.agents) (change_line (in_phase p) s c.ends) f (action.Enter s) refused o) (sym (owner_seen s h))
     (subst (λ es. Stepped (change_owner one_away (owner f s) c.agents) es f (action.Enter s) refused o) (sym (line_set c.ends s (in_phase p) w))
@@ -150,7 +150,7 @@ left_shown c f s refused h answer =
     subst (λ q. Stepped (change_owner one_out q c.agents) (change_line (in_phase Out) s c.ends) f (action.Leave s) refused outcome.Left) (sym (owner_seen s h))
     (subst (λ es. Stepped (change_owner one_out (owner f s) c.agents) es f (action.Leave s) refused outcome.Left) (sym (line_set c.ends s (in_phase Out) w))
     (recounted h.shows answer refl refl (owner_length one_out (owner f s) c.agents) (owner_now_out (owner f s) c.agents)
-    (h.shows.ends ∙ sym (length-set c.ends s.end.0 (with_phase w.x w.y s.line.0 Out))) (left_counts s w.x h.shows (subst (ShownAt f s.end.0) w.at (h.shows.end s.end.0)) away) (phased_shown s Out w.x w.y h.shows w.at w.is (λ no. cc))))
+    (h.shows.ends ∙ sym (length-set c.ends s.end.0 (with_phase w.x w.y s.line.0 Out))) (left_counts s w.x h.shows (end_there s.end.0 h.shows w.at) away) (phased_shown s Out w.x w.y h.shows w.at w.is (λ no. cc))))
 
 pub leave_changes : {c : CoreState} {f : Facts} (s : Sender) (refused : Bool) {o : Outcome} → Sees c f → o ≡ leave_answer f s → Change (action.Leave s) o → ShownWith c f (action.Leave s) refused o
 leave_changes {c} {f} s refused h answer (left t) = (left_shown c f s refused h answer, (recast c.roster (cast_after s.end.0 c.roster.cast) f (next f (action.Leave s) outcome.Left) h.roster refl (λ x. refl) refl (ap (cast_after s.end.0) h.roster.cast)))
@@ -166,7 +166,7 @@ with_holder x y l holder = record x { lines = set x.lines l (record y { held_by 
 -- every end, with this holder of the line
 held_shown : {agents : List Agent} {ends : List End} {f : Facts} (s : Sender) (holder : Option AgentId) (x : End) (y : Line) → SoundlyShows agents ends f → slice_get ends s.end.0 ≡ Some x → slice_get x.lines s.line.0 ≡ Some y → (d : ℕ) → ShowsEnd (f.end d) (held_line_as f s holder d) (f.clear d) (f.accepted d) (f.taken d ++ f.discarded d) (slice_get (set ends s.end.0 (with_holder x y s.line.0 holder)) d)
 held_shown {f} s holder x y h at is =
-    let shown : ShownAt f s.end.0 (Some x) = subst (ShownAt f s.end.0) at (h.end s.end.0) in
+    let shown = end_there s.end.0 h at in
     line_changed s (λ b w. record w { held_by = cond b holder w.held_by }) x y (record y { held_by = holder }) h at is refl (λ w. refl) (subst (ShowsPut (f.accepted s.end.0) s.line.0) is (shown.put s.line.0)) shown.queues.inside
 
 -- ---- the first line that no agent holds
@@ -212,8 +212,8 @@ line_fits_at f e a o shown = elim (is_queue (f.end e.0).kind) as (λ b. is_queue
   | false ↦ λ _. refl
 ] refl
 
-pub line_fits : (c : CoreState) (f : Facts) (e : EndId) (a : AgentId) → Sees c f → line_outcome (seen c) e a (slice_get c.ends e.0) ≡ line_answer f e a
-line_fits c f e a h = ap (λ g. line_outcome g e a (slice_get c.ends e.0)) (seen_is h) ∙ line_fits_at f e a (slice_get c.ends e.0) (h.shows.end e.0)
+pub line_fits : {c : CoreState} {f : Facts} (e : EndId) (a : AgentId) → Sees c f → line_outcome (seen c) e a (slice_get c.ends e.0) ≡ line_answer f e a
+line_fits {c} {f} e a h = ap (λ g. line_outcome g e a (slice_get c.ends e.0)) (seen_is h) ∙ line_fits_at f e a (slice_get c.ends e.0) (h.shows.end e.0)
 
 -- a line with this holder, or with none
 holder_shown : (c : CoreState) (f : Facts) (s : Sender) (holder : Option AgentId) (a : Action) (refused : Bool) (o : Outcome) → Sees c f → Answers f a refused o → s.line.0 < lines_of (f.end s.end.0).kind → is_out (f.line s.end.0 s.line.0).phase ≡ true
@@ -327,8 +327,8 @@ see_fits_at c f a h (Some x) at =
     let ordered : x.is_ordered ≡ (f.agent a.0).ordered = ap (λ (y : AgentNow). y.ordered) (sym (h.shows.agent a.0 ∙ ap agent_now at)) in
     ap (λ b. see_by true b x.is_ordered (ends_at f a)) still ∙ ap (λ b. see_by true (not (has_away f a)) b (ends_at f a)) ordered ∙ ap (λ b. see_by b (not (has_away f a)) (f.agent a.0).ordered (ends_at f a)) (sym made)
 
-pub see_fits : (c : CoreState) (f : Facts) (a : AgentId) → Sees c f → see_outcome (ends_at (seen c) a) (slice_get c.agents a.0) ≡ see_answer f a
-see_fits c f a h = ap (λ g. see_outcome (ends_at g a) (slice_get c.agents a.0)) (seen_is h) ∙ see_fits_at c f a h (slice_get c.agents a.0) refl
+pub see_fits : {c : CoreState} {f : Facts} (a : AgentId) → Sees c f → see_outcome (ends_at (seen c) a) (slice_get c.agents a.0) ≡ see_answer f a
+see_fits {c} {f} a h = ap (λ g. see_outcome (ends_at g a) (slice_get c.agents a.0)) (seen_is h) ∙ see_fits_at c f a h (slice_get c.agents a.0) refl
 
 pub see_changes : {c : CoreState} {f : Facts} (a : AgentId) (refused : Bool) {o : Outcome} → Sees c f → o ≡ see_answer f a → Change (action.See a) o → ShownAfter c f (action.See a) refused o
 see_changes {c} {f} a refused h answer (agent_ended b es) =

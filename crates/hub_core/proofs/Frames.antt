@@ -13,6 +13,9 @@ use Rattle.hub_core.proofs.Counts.{Counted}
 abbrev pub ShownAt : Facts → ℕ → Option End → Type 0
 ShownAt f x kept = ShowsEnd (f.end x) (f.line x) (f.clear x) (f.accepted x) (f.taken x ++ f.discarded x) kept
 
+pub end_there : {agents : List Agent} {ends : List End} {f : Facts} {x : End} (e : ℕ) → SoundlyShows agents ends f → slice_get ends e ≡ Some x → ShownAt f e (Some x)
+end_there {f = f} e h at = subst (ShownAt f e) at (h.end e)
+
 -- a step's answer, and the facts with it
 pub record Stepped (agents : List Agent) (ends : List End) (f : Facts) (a : Action) (refused : Bool) (o : Outcome) : Type 0 where
   pub fits : Answers f a refused o
@@ -59,7 +62,7 @@ pub line_changed : {agents : List Agent} {ends : List End} {f : Facts} (s : Send
 line_changed {ends = ends} {f = f} s new x y z h at is mine others put inside =
     let e : ℕ = s.end.0 in
     let k : ℕ = s.line.0 in
-    let old : ShownAt f e (Some x) = subst (ShownAt f e) at (h.end e) in
+    let old = end_there e h at in
     let within : k < length x.lines = slice_get_within x.lines k y is in
     let lines : Bool → ℕ → ℕ → LineNow = λ b d l. new (b && eqb l k) (f.line d l) in
     let after : End = record x { lines = set x.lines k z } in
@@ -117,7 +120,7 @@ pub record FoundLine (ends : List End) (s : Sender) : Type 0 where
 pub found_line : {agents : List Agent} {ends : List End} {f : Facts} (s : Sender) → SoundlyShows agents ends f → s.line.0 < lines_of (f.end s.end.0).kind → FoundLine ends s
 found_line {agents} {ends} {f} s h low =
     let found = found_end s.end.0 h (λ none. let no_lines : lines_of (f.end s.end.0).kind ≡ 0 = ap (λ (z : EndNow). lines_of z.kind) none in omega arith) in
-    let shown : ShownAt f s.end.0 (Some found.0) = subst (ShownAt f s.end.0) found.1 (h.end s.end.0) in
+    let shown = end_there s.end.0 h found.1 in
     let count : length found.0.lines ≡ lines_of (f.end s.end.0).kind = shown.count in
     elim (slice_get found.0.lines s.line.0) as (λ q. slice_get found.0.lines s.line.0 ≡ q → FoundLine ends s) [
       | Some y ↦ λ is. record { x = found.0; y = y; at = found.1; is = is }

@@ -9,11 +9,9 @@ pub mod SoundLines
 pub mod SoundWaiting
 pub mod Speakers
 pub mod SoundPlaces
-pub mod SoundShown
 pub mod Sounds
 pub mod Waits
 pub mod Headlines
-pub mod SweepOrders
 pub mod Orders
 pub mod Counts
 pub mod Frames
@@ -31,6 +29,4 @@ pub mod Mailboxes
 pub mod MailboxShown
 pub mod PairGates
 pub mod PairQueues
-pub mod MailboxPairs
 pub mod MailboxOf
-pub mod Fating

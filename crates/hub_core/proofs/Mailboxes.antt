@@ -7,8 +7,7 @@ use Rattle.hub_core.proofs.Sounds.{sound_legal, mailbox_one, box_legal}
 use Rattle.hub_core.proofs.Orders.{shows_in_order}
 use Rattle.hub_core.proofs.MailboxStepping.{chain_laws, only}
 use Rattle.hub_core.proofs.MailboxShown.{of_history, to_history, ShownAt}
-use Rattle.hub_core.proofs.MailboxPairs.{goes}
-use Rattle.hub_core.proofs.MailboxOf.{puts, runs_one, runs_happen, Ordered, runs_ordered, Kept, same_after, new_after, old_end, happen_here}
+use Rattle.hub_core.proofs.MailboxOf.{goes, puts, runs_one, runs_happen, Ordered, runs_ordered, Kept, same_after, new_after, old_end, happen_here}
 use Rattle.hub_core.proofs.PairQueues.{got_there_in}
 
 -- ---- histories

@@ -256,8 +256,8 @@ count_kept {agents} (makes_worker a) h = worker_count (slice_get agents a.0) ∙
 abbrev made_by : Bool → Bool → Bool → ℕ → Outcome
 made_by may full refused n = cond (not may) outcome.NotNow (cond full outcome.TooManyEnds (cond refused outcome.NoMemory (outcome.End (record { 0 = n }))))
 
-pub queue_answered : (c : CoreState) (f : Facts) {b : Action} {k : Kind} {test : Option Kind → Bool} {a : AgentId} (refused : Bool) → Makes b k test a → Sees c f → kept_queue_answer ((seen c).agent a.0).runs (count_of k (slice_get c.agents a.0)) (length c.ends) refused ≡ queue_answer test f a refused
-queue_answered c f {k = k} {test = test} {a = a} refused makes h =
+pub queue_answered : {c : CoreState} {f : Facts} {b : Action} {k : Kind} {test : Option Kind → Bool} {a : AgentId} (refused : Bool) → Makes b k test a → Sees c f → kept_queue_answer ((seen c).agent a.0).runs (count_of k (slice_get c.agents a.0)) (length c.ends) refused ≡ queue_answer test f a refused
+queue_answered {c} {f} {k = k} {test = test} {a = a} refused makes h =
     let held : ℕ = count_of k (slice_get c.agents a.0) in
     let full : Bool = nat_le MAX_ENDS (length c.ends) in
     let same : ((seen c).agent a.0).runs && eqb held 0 ≡ ((f.agent a.0).runs && not (has_one test a f)) = ap (λ g. (g.agent a.0).runs && eqb held 0) (seen_is h) ∙ ap (λ d. (f.agent a.0).runs && d) (ap (λ n. eqb n 0) (count_kept makes h.shows) ∙ (none_counted (λ x. counts_at test a (f.end x)) f.ends)) in
@@ -274,8 +274,8 @@ worker_changes {c} {f} a refused h answer (worker_made b e) = let made = queue_m
 abbrev joined_by : Bool → Bool → Bool → Bool → ℕ → Outcome
 joined_by may named full refused n = cond (not may) outcome.NotNow (cond (not named) outcome.NoOrigin (cond full outcome.TooManyEnds (cond refused outcome.NoMemory (outcome.End (record { 0 = n })))))
 
-pub member_answered : (c : CoreState) (f : Facts) (a : AgentId) (refused : Bool) → Sees c f → kept_member_answer (((seen c).agent a.0).runs && not (is_some c.roster.cast)) (is_some (origin_at (slice_get c.roster.members.origins a.0))) (length c.ends) refused ≡ member_answer f a refused
-member_answered c f a refused h =
+pub member_answered : {c : CoreState} {f : Facts} (a : AgentId) (refused : Bool) → Sees c f → kept_member_answer (((seen c).agent a.0).runs && not (is_some c.roster.cast)) (is_some (origin_at (slice_get c.roster.members.origins a.0))) (length c.ends) refused ≡ member_answer f a refused
+member_answered {c} {f} a refused h =
     let named : Bool = is_some (origin_at (slice_get c.roster.members.origins a.0)) in
     let may : Bool = (f.agent a.0).runs && not (is_casting f) in
     ap (λ g. joined_by ((g.agent a.0).runs && not (is_some g.roster.cast)) named (nat_le MAX_ENDS (length c.ends)) refused (length c.ends)) (seen_is h)

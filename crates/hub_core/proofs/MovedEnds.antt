@@ -5,7 +5,7 @@ use Rattle.hub_core.proofs.Words.{close_answer, closed_end, count_in_queue, ends
 use Rattle.hub_core.specs.declared.outcome.Outcome.TheVariants as outcome
 use Rattle.hub_core.specs.declared.step.Action.TheVariants as action
 use Rattle.hub_core.proofs.Counts.{calm_gone, came_away, adopted_now, change_length, counted_came, counted_went, counts_of, counts_still, end_went, gone_length, gone_now}
-use Rattle.hub_core.proofs.Frames.{ShownAfter, found_end, found_line, line_set, with_line, ShownAt, Stepped, changed, end_changed, end_restated, line_changed, recounted, same_queues}
+use Rattle.hub_core.proofs.Frames.{ShownAfter, found_end, found_line, line_set, with_line, ShownAt, Stepped, changed, end_changed, end_restated, line_changed, recounted, same_queues, end_there}
 use Rattle.hub_core.proofs.Fitting.{adopted_of, closed_of, handed_of, hopped_of}
 use Rattle.hub_core.proofs.Nexts.{Change, adopted, end_closed, handed, hopped, next}
 use Rattle.hub_core.proofs.Seeing.{Sees, released_kept, seen_is, SoundlyShows}
@@ -40,7 +40,7 @@ gone_shown : {agents : List Agent} {ends : List End} {f : Facts} (s : Sender) (x
 gone_shown {f} s x y h at is out =
     let e : ℕ = s.end.0 in
     let k : ℕ = s.line.0 in
-    let shown : ShownAt f e (Some x) = subst (ShownAt f e) at (h.end e) in
+    let shown = end_there e h at in
     let stand : (f.line e k).stand ≡ y.epoch = ap (λ (w : LineNow). w.stand) (shown.lines k ∙ ap line_now is) in
     line_changed s (λ b w. record w { stand = cond b (w.stand + 1) w.stand }) x y (record y { epoch = y.epoch + 1; put = 0 }) h at is refl (λ w. refl)
     (nothing_next e _ (f.line e) k y.epoch stand (f.accepted e) (h.sound.lines e).named)
@@ -52,7 +52,7 @@ pub hop_changes : {c : CoreState} {f : Facts} (s : Sender) (refused : Bool) {o :
 hop_changes {c} {f} s refused h answer (hopped t k) =
     let hops = hopped_of f s k answer in
     let w = found_line s h.shows (line_there f s (h.shows.sound.lines s.end.0) hops.may) in
-    let shown : ShownAt f s.end.0 (Some w.x) = subst (ShownAt f s.end.0) w.at (h.shows.end s.end.0) in
+    let shown = end_there s.end.0 h.shows w.at in
     let one_on : k ≡ w.y.epoch + 1 = hops.number ∙ ap (λ (z : LineNow). z.stand + 1) (shown.lines s.line.0 ∙ ap line_now w.is) in (
       subst (λ es. Stepped c.agents es f (action.Hop s) refused (outcome.Hopped k)) (sym (line_set c.ends s (at_queue k) w ∙ ap (λ m. set c.ends s.end.0 (with_line w.x s.line.0 (at_queue m w.y))) one_on))
           (changed h.shows answer refl refl refl (length-set c.ends s.end.0 (with_line w.x s.line.0 (at_queue (w.y.epoch + 1) w.y)))
@@ -75,7 +75,7 @@ queue_released f _ h = refl
 
 moved_shown : {agents : List Agent} {ends : List End} {f : Facts} (e : EndId) (b : AgentId) (refused : Bool) (x : End) → SoundlyShows agents ends f → slice_get ends e.0 ≡ Some x → outcome.Handed ≡ hand_answer f e b → Stepped (gone x.kind x.place agents) (set ends e.0 (moved_to b x)) f (action.Hand e b) refused outcome.Handed
 moved_shown {agents} {ends} {f} e b refused x h at answer =
-    let shown : ShownAt f e.0 (Some x) = subst (ShownAt f e.0) at (h.end e.0) in
+    let shown = end_there e.0 h at in
     recounted h answer refl refl
     (gone_length x.kind x.place agents) (gone_now x.kind x.place agents) (h.ends ∙ sym (length-set ends e.0 (moved_to b x)))
     (counted_went agents (end_went e.0 x (Some (Arrived b)) h.sound.places shown.same refl (λ d. refl) (λ d. refl)) (λ a. refl)
@@ -114,7 +114,7 @@ adopted_one {line = line} {ts = ts} {x = x} a h =
 
 adopted_shown : {agents : List Agent} {ends : List End} {f : Facts} (e : EndId) (a : AgentId) (refused : Bool) (x : End) (k : ℕ) → SoundlyShows agents ends f → slice_get ends e.0 ≡ Some x → outcome.Adopted k ≡ adopt_answer f e a refused → Stepped (change_agent (adopting (is_released f (f.end e.0).kind) x.kind) a.0 agents) (set ends e.0 (adopted_end a x)) f (action.Adopt e a) refused (outcome.Adopted k)
 adopted_shown {agents} {ends} {f} e a refused x k h at answer =
-    let shown : ShownAt f e.0 (Some x) = subst (ShownAt f e.0) at (h.end e.0) in
+    let shown = end_there e.0 h at in
     let count : f.agents ≡ length agents = h.agents in
     let known : a.0 < f.agents = running_made f a h.sound.places (adopted_of f e a refused k answer).runs in
     let arrived : (f.end e.0).place ≡ Some (Arrived a) = (adopted_of f e a refused k answer).arrived in
@@ -145,7 +145,7 @@ shut_one h = end_restated h refl (ap (λ (e : EndNow). let d : EndNow = record e
 
 shut_shown : {agents : List Agent} {ends : List End} {f : Facts} (e : EndId) (refused : Bool) (x : End) → SoundlyShows agents ends f → slice_get ends e.0 ≡ Some x → outcome.Done ≡ close_answer f e → Stepped (gone x.kind x.place agents) (set ends e.0 (closed_end x)) f (action.Close e) refused outcome.Done
 shut_shown {agents} {ends} {f} e refused x h at answer =
-    let shown : ShownAt f e.0 (Some x) = subst (ShownAt f e.0) at (h.end e.0) in
+    let shown = end_there e.0 h at in
     recounted h answer refl refl
     (gone_length x.kind x.place agents) (gone_now x.kind x.place agents) (h.ends ∙ sym (length-set ends e.0 (closed_end x)))
     (counted_went agents (end_went e.0 x (Some Gone) h.sound.places shown.same refl (λ d. refl) (λ d. refl)) (λ a. refl)

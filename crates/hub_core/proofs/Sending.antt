@@ -8,7 +8,7 @@ use Rattle.hub_core.proofs.Words.{cases_eq}
 use Rattle.hub_core.specs.declared.outcome.Outcome.TheVariants as outcome
 use Rattle.hub_core.specs.declared.step.Action.TheVariants as action
 use Rattle.hub_core.proofs.Counts.{calm_sent, counted_ports, counts_of, counts_still}
-use Rattle.hub_core.proofs.Frames.{FoundLine, ShownAfter, found_line, ShownAt, Stepped, changed, end_restated, same_queues}
+use Rattle.hub_core.proofs.Frames.{FoundLine, ShownAfter, found_line, ShownAt, Stepped, changed, end_restated, same_queues, end_there}
 use Rattle.hub_core.proofs.Fitting.{noticed_of, pushed_of}
 use Rattle.hub_core.proofs.Lists.{each_set, eqb_same, get_or-set_other, get_or-set_same, is_there}
 use Rattle.hub_core.proofs.Nexts.{Change, next, notice_put, put}
@@ -145,7 +145,7 @@ each_shown {ends} {f} v x y told h at is epoch queue mine others phases stands e
     let each : (b : ℕ) → ShowsEnd (f.end b) (told b) (f.clear b) (cond (eqb b v.end.0) (f.accepted b ++ v ∷ []) (f.accepted b)) (f.taken b ++ f.discarded b) (slice_get base b) =
     each_set (λ b o. ShowsEnd (f.end b) (told b) (f.clear b) (cond (eqb b v.end.0) (f.accepted b ++ v ∷ []) (f.accepted b)) (f.taken b ++ f.discarded b) o) ends v.end.0 (put_end x y v) (slice_get_within ends v.end.0 x at)
     (subst (λ c. ShowsEnd (f.end v.end.0) (told v.end.0) (f.clear v.end.0) (cond c (f.accepted v.end.0 ++ v ∷ []) (f.accepted v.end.0)) (f.taken v.end.0 ++ f.discarded v.end.0) (Some (put_end x y v))) (sym (eqb_same v.end.0))
-    (put_shown (f.end v.end.0) (f.line v.end.0) (told v.end.0) (f.clear v.end.0) (f.accepted v.end.0) (f.taken v.end.0 ++ f.discarded v.end.0) x y v is epoch queue mine others phases stands (subst (ShownAt f v.end.0) at (h.end v.end.0))))
+    (put_shown (f.end v.end.0) (f.line v.end.0) (told v.end.0) (f.clear v.end.0) (f.accepted v.end.0) (f.taken v.end.0 ++ f.discarded v.end.0) x y v is epoch queue mine others phases stands (end_there v.end.0 h at)))
     (λ b other. subst (λ line. ShowsEnd (f.end b) line (f.clear b) (cond (eqb b v.end.0) (f.accepted b ++ v ∷ []) (f.accepted b)) (f.taken b ++ f.discarded b) (slice_get ends b)) (sym (elsewhere b other))
     (subst (λ c. ShowsEnd (f.end b) (f.line b) (f.clear b) (cond c (f.accepted b ++ v ∷ []) (f.accepted b)) (f.taken b ++ f.discarded b) (slice_get ends b)) (sym (ne_eqb b v.end.0 other)) (h.end b)))
     in
@@ -233,17 +233,17 @@ push_at : (f : Facts) (s : Sender) (ports : List EndId) (body : List ℕ) (refus
 push_at f s ports body refused h None shown = not_posting f s ports body refused (posting_as f s no_line (shown.lines s.line.0))
 push_at f s ports body refused h (Some x) shown = push_line f s ports body refused x h shown (slice_get x.lines s.line.0) refl
 
-pub push_fits : (c : CoreState) (f : Facts) (s : Sender) (ports : List EndId) (body : List ℕ) (refused : Bool) → Sees c f → push_outcome (kept_posting c s ports body refused) ≡ push_answer f s ports body refused
-push_fits c f s ports body refused h = ap push_outcome (posting_seen s ports body refused (posting_at s (slice_get c.ends s.end.0)) h) ∙ push_at f s ports body refused h.shows.sound (slice_get c.ends s.end.0) (h.shows.end s.end.0)
+pub push_fits : {c : CoreState} {f : Facts} (s : Sender) (ports : List EndId) (body : List ℕ) (refused : Bool) → Sees c f → push_outcome (kept_posting c s ports body refused) ≡ push_answer f s ports body refused
+push_fits {c} {f} s ports body refused h = ap push_outcome (posting_seen s ports body refused (posting_at s (slice_get c.ends s.end.0)) h) ∙ push_at f s ports body refused h.shows.sound (slice_get c.ends s.end.0) (h.shows.end s.end.0)
 
 -- ---- what is put
 
 -- the line of a poster that is inside, with the queue at which it stands
-pub inside_line : (c : CoreState) (f : Facts) (s : Sender) → Sees c f → is_inside (phase_of_line f s) ≡ true → (w : FoundLine c.ends s) × (f.line s.end.0 s.line.0 ≡ line_now (Some w.y)) × (has_queue w.x w.y.epoch ≡ true)
-inside_line c f s h inside =
+pub inside_line : {c : CoreState} {f : Facts} (s : Sender) → Sees c f → is_inside (phase_of_line f s) ≡ true → (w : FoundLine c.ends s) × (f.line s.end.0 s.line.0 ≡ line_now (Some w.y)) × (has_queue w.x w.y.epoch ≡ true)
+inside_line {c} {f} s h inside =
     let away : is_out (phase_of_line f s) ≡ false = ap is_out (inside_of (phase_of_line f s) inside) in
     let w = found_line s h.shows (line_there f s (h.shows.sound.lines s.end.0) (h.shows.sound.places.away s away)) in
-    let shown : ShownAt f s.end.0 (Some w.x) = subst (ShownAt f s.end.0) w.at (h.shows.end s.end.0) in
+    let shown = end_there s.end.0 h.shows w.at in
     let line : f.line s.end.0 s.line.0 ≡ line_now (Some w.y) = shown.lines s.line.0 ∙ ap line_now w.is in
     (w, line, queue_kept f s w.x w.y h.shows.sound shown line inside)
 
@@ -257,7 +257,7 @@ accepted_moves ends s w v end at_line = moves_to v.ports InFlight (set ends s.en
 pub push_changes : {c : CoreState} {f : Facts} (s : Sender) (ports : List EndId) (body : List ℕ) (refused : Bool) {o : Outcome} → Sees c f → o ≡ push_answer f s ports body refused → Change (action.Push s ports body) o → ShownAfter c f (action.Push s ports body) refused o
 push_changes {c} {f} s ports body refused h answer (put t ps b n) =
     let p = pushed_of f s ports body refused n answer in
-    let found = inside_line c f s h p.inside in
+    let found = inside_line s h p.inside in
     let w = found.0 in
     let epoch : n.epoch ≡ w.y.epoch = ap (λ (m : Acceptance). m.epoch) p.name ∙ ap (λ (z : LineNow). z.stand) found.1 in
     (pushed_shown s ports body refused n w.x w.y h.shows w.at w.is found.1 epoch found.2 answer (accepted_moves c.ends s w (named_envelope s n body ports) refl refl), refl)
@@ -310,13 +310,13 @@ notice_at : (f : Facts) (s : Sender) (refused : Bool) → Sound f → (q : Optio
 notice_at f s refused h None shown = not_noticing f s refused (posting_as f s no_line (shown.lines s.line.0))
 notice_at f s refused h (Some x) shown = notice_line f s refused x h shown (slice_get x.lines s.line.0) refl
 
-pub notice_fits : (c : CoreState) (f : Facts) (s : Sender) (refused : Bool) → Sees c f → notice_outcome (kept_noticing c s refused) ≡ notice_answer f s refused
-notice_fits c f s refused h = ap (λ g. notice_outcome (kept_noticing_line (hears_notice g s) refused (posting_at s (slice_get c.ends s.end.0)))) (seen_is h) ∙ notice_at f s refused h.shows.sound (slice_get c.ends s.end.0) (h.shows.end s.end.0)
+pub notice_fits : {c : CoreState} {f : Facts} (s : Sender) (refused : Bool) → Sees c f → notice_outcome (kept_noticing c s refused) ≡ notice_answer f s refused
+notice_fits {c} {f} s refused h = ap (λ g. notice_outcome (kept_noticing_line (hears_notice g s) refused (posting_at s (slice_get c.ends s.end.0)))) (seen_is h) ∙ notice_at f s refused h.shows.sound (slice_get c.ends s.end.0) (h.shows.end s.end.0)
 
 pub notice_changes : {c : CoreState} {f : Facts} (s : Sender) (refused : Bool) {o : Outcome} → Sees c f → o ≡ notice_answer f s refused → Change (action.Notice s) o → ShownAfter c f (action.Notice s) refused o
 notice_changes {c} {f} s refused h answer (notice_put t n) =
     let p = noticed_of f s refused n answer in
-    let found = inside_line c f s h p.inside in
+    let found = inside_line s h p.inside in
     let w = found.0 in
     let epoch : n.epoch ≡ w.y.epoch = ap (λ (m : Acceptance). m.epoch) p.name ∙ ap (λ (z : LineNow). z.stand) found.1 in
     (noticed_shown s refused n w.x w.y h.shows w.at w.is found.1 epoch found.2 answer (accepted_moves c.ends s w (named_notice s n) refl refl), refl)

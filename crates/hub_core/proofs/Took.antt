@@ -115,13 +115,13 @@ pub member_took : (a : AgentId) (name : List ℕ) (refused : Bool) (old new : Co
 member_took a name refused old new (outcome.End e) says leaves same = record {
   shown = λ f s w.
       let h : Sees old f = record { shows = s; roster = w } in
-      let answer : outcome.End e ≡ member_answer f a refused = says ∙ member_answered old f a refused h in
+      let answer : outcome.End e ≡ member_answer f a refused = says ∙ member_answered a refused h in
       (subst (λ (c : CoreState). Stepped c.agents c.ends f (action.Member a name) refused (outcome.End e)) (sym same) (member_shown old f a name refused e h answer), roster_member old.roster new.roster f a name refused e s.sound w answer leaves);
   same = λ nothing. absurd (false≢true nothing);
 }
-member_took a name refused old new (outcome.Clear None) says leaves same = stayed (action.Member a name) refused old new (outcome.Clear None) same leaves (λ f. refl) (λ f h. says ∙ member_answered old f a refused h)
-member_took a name refused old new (outcome.Clear (Some k)) says leaves same = stayed (action.Member a name) refused old new (outcome.Clear (Some k)) same leaves (λ f. refl) (λ f h. says ∙ member_answered old f a refused h)
-member_took a name refused old new o says leaves same = stayed (action.Member a name) refused old new o same leaves (λ f. refl) (λ f h. says ∙ member_answered old f a refused h)
+member_took a name refused old new (outcome.Clear None) says leaves same = stayed (action.Member a name) refused old new (outcome.Clear None) same leaves (λ f. refl) (λ f h. says ∙ member_answered a refused h)
+member_took a name refused old new (outcome.Clear (Some k)) says leaves same = stayed (action.Member a name) refused old new (outcome.Clear (Some k)) same leaves (λ f. refl) (λ f h. says ∙ member_answered a refused h)
+member_took a name refused old new o says leaves same = stayed (action.Member a name) refused old new o same leaves (λ f. refl) (λ f h. says ∙ member_answered a refused h)
 
 pub part_took : (e : EndId) (refused : Bool) (old new : CoreState) (o : Outcome) → (let m : Members = old.roster.members in o ≡ part_outcome (is_seated_in m e.0 (group_of m e.0) && not (is_some old.roster.cast))) → PartLeaves e.0 old.roster o new.roster → new ≡ record old { roster = new.roster } → Took (action.Part e) refused old new o
 part_took e refused old new outcome.Done says leaves same = record {

@@ -35,12 +35,11 @@ pub use Rattle.hub_core.specs.Kept.{look_outcome, look_outcome_at, may_look, mem
 pub use Rattle.hub_core.specs.Kept.{put_end, put_found, see_outcome, set_agent, sweep_outcome_at, went, with_agent, with_taker_queue, seen}
 pub use Rattle.hub_core.specs.Ending.{ends_at, ends_below, has_away, has_poster, has_poster_of, is_away_of, is_holder, order_answer, see_answer}
 pub use Rattle.hub_core.specs.Facts.{AgentNow, EndNow, Facts, LineNow, facts}
-pub use Rattle.hub_core.specs.Fates.{Fates, same_name, sweep_of, waiting}
+pub use Rattle.hub_core.specs.Headline.{Fates, same_name, sweep_of, waiting, Headline, IsBusyAt, IsDrainedAt, IsTurned, done_with, enter_of, is_line, leaves, posts, take_of}
 pub use Rattle.hub_core.specs.Legal.{Answers, Fits, Legal, LegalAfter, Same}
 pub use Rattle.hub_core.specs.GateMachine.{Gate, IsAt, Reached, Steps, busy, close, closes, enable, enables, enter, finds_closed, finds_moved, gave, gives, gives_rights, goes_in, goes_on, goes_out, is_busy, is_open, is_shut, lets_in, look, opened, opens}
 pub use Rattle.hub_core.specs.GateMachine.{retires, says_closed, says_done, says_moved, turns_back, weight, with_flags, with_home, with_none, with_phase}
 pub use Rattle.hub_core.specs.GateMachineLaws.{GateMachineLaws, IsGateOf, leaves_right}
-pub use Rattle.hub_core.specs.Headline.{Headline, IsBusyAt, IsDrainedAt, IsTurned, done_with, enter_of, is_line, leaves, posts, take_of}
 pub use Rattle.hub_core.specs.History.{History, Pair}
 pub use Rattle.hub_core.specs.Holding.{back_answer, free_line, line_answer, line_found}
 pub use Rattle.hub_core.specs.KeptRoster.{IsFirst, JoinsGroup, MemberLeaves, PartLeaves, Parts, SameRoster, group_cmp, group_of, is_in, is_seated_in}
@@ -52,9 +51,8 @@ pub use Rattle.hub_core.specs.Made.{agents_after, ends, ends_after, is_queue, ki
 pub use Rattle.hub_core.specs.Mailbox.{GateAt, IsMailbox, IsNewest, Mailbox, QueueAt, StandsAt, got_from, new_mailbox, put_by}
 pub use Rattle.hub_core.specs.MailboxSteps.{after_event, after_events, gate_after, with_gate_after, with_queue_after, HappensAt, HoldsFirst, HoldsNothing, IsSettled, MailboxEvent, MailboxStep, MaySweep, add, adds, advance, advances, at_gate}
 pub use Rattle.hub_core.specs.MailboxSteps.{finds_none, gate_steps, got_in, hop, hops, pop, push, pushes, put_in, sweeps, taken_out, takes, with_gate, with_new, with_queue, with_stand, with_taker, without_first}
-pub use Rattle.hub_core.specs.MailboxOf.{EachShows, GoesOn, after_pair, first_mailbox, made_as, mailbox, mailbox_from}
-pub use Rattle.hub_core.specs.MailboxPairs.{Happen, OneRight, PairsAreEvents, busy_at, enabled_of, events_of, finds_busy, finds_busy_at, has_right, leaving, rights_of, sweeping, unsettled}
-pub use Rattle.hub_core.specs.MailboxShows.{HoldsKept, MailboxesShow, ShowsMailbox}
+pub use Rattle.hub_core.specs.MailboxOf.{EachShows, GoesOn, after_pair, first_mailbox, made_as, mailbox, mailbox_from, Happen, OneRight, PairsAreEvents, busy_at, enabled_of, events_of, finds_busy, finds_busy_at, has_right, leaving, rights_of, sweeping}
+pub use Rattle.hub_core.specs.MailboxOf.{unsettled, HoldsKept, MailboxesShow, ShowsMailbox}
 pub use Rattle.hub_core.specs.Making.{agent_answer, channel_answer, has_one, is_client, is_worker, queue_answer}
 pub use Rattle.hub_core.specs.Memory.{takes_memory}
 pub use Rattle.hub_core.specs.Moving.{adopt_answer, close_answer, hand_answer, hop_answer, is_arrived, is_released, may_close, may_take_over}

@@ -24,13 +24,10 @@ pub mod KeptRoster
 pub mod Unchanged
 pub mod Headline
 pub mod Laws
-pub mod Fates
 pub mod QueueMachine
 pub mod GateMachine
 pub mod GateMachineLaws
 pub mod Mailbox
 pub mod MailboxSteps
 pub mod ChainLaws
-pub mod MailboxShows
-pub mod MailboxPairs
 pub mod MailboxOf

@@ -1,7 +1,7 @@
 //! Broadcast channels: Member, Cast and Part.
 
-ghost use Rattle.std.specs.Prelude.{◌≡◌, ◌&&◌, length, not, is_some, slice_get, unwrap_or};
-ghost use Rattle.std.specs.Prelude.{ℕ, List, IfOk, IfSome, OnErr};
+ghost use Rattle.std.specs.Prelude.{◌≡◌, ◌&&◌, length, not, is_some, slice_get, unwrap_or, ℕ};
+ghost use Rattle.std.specs.Prelude.{List, IfOk, IfSome, OnErr};
 ghost use Rattle.hub_core.specs.Kept.{kept_member_answer, kept_cast_answer, member_made};
 ghost use Rattle.hub_core.specs.Kept.{part_outcome, seen, core_after};
 ghost use Rattle.hub_core.specs.Made.{maker_of};

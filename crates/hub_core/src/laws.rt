@@ -4,20 +4,18 @@
 ghost use Rattle.std.specs.Prelude.{ℕ};
 ghost use Rattle.hub_core.specs.History.{Pair, History};
 ghost use Rattle.hub_core.specs.Legal.{Fits, Legal};
-ghost use Rattle.hub_core.specs.Headline.{Headline};
+ghost use Rattle.hub_core.specs.Headline.{Headline, Fates};
 ghost use Rattle.hub_core.specs.QueueMachine.{QueueLaws};
 ghost use Rattle.hub_core.specs.declared.machine.Core.{Core};
 ghost use Rattle.hub_core.specs.Shows.{Shows};
 ghost use Rattle.hub_core.specs.GateMachineLaws.{GateMachineLaws};
 ghost use Rattle.hub_core.specs.ChainLaws.{ChainLaws};
-ghost use Rattle.hub_core.specs.MailboxOf.{EachShows, GoesOn, KeepsMailboxes};
-ghost use Rattle.hub_core.specs.MailboxShows.{MailboxesShow};
-ghost use Rattle.hub_core.specs.MailboxPairs.{PairsAreEvents};
+ghost use Rattle.hub_core.specs.MailboxOf.{EachShows, GoesOn, KeepsMailboxes, MailboxesShow};
+ghost use Rattle.hub_core.specs.MailboxOf.{PairsAreEvents};
 ghost use Rattle.hub_core.specs.Facts.{facts};
 ghost use Rattle.hub_core.specs.Sound.{Sound};
 ghost use Rattle.hub_core.specs.Laws.{NothingLeavesTheSame, SameIsJoined, KeepsTheLine};
 ghost use Rattle.hub_core.specs.Laws.{TurnedPutsNothing, NoticeIsLast, InOrder, OneAnswer};
-ghost use Rattle.hub_core.specs.Fates.{Fates};
 
 /// What holds of every legal history: `run` answers one, and `Core::step` makes one longer.
 /// The function does nothing; the laws are its contract.

@@ -1,7 +1,7 @@
 //! Steps that move an end or close it: Adopt, Close and Hand.
 
-ghost use Rattle.std.specs.Prelude.{◌≡◌, ◌<◌, option_map, slice_get, Some};
-ghost use Rattle.std.specs.Prelude.{IfOk, IfSome, OnOk, OnErr};
+ghost use Rattle.std.specs.Prelude.{◌≡◌, ◌<◌, option_map, slice_get, Some, IfOk, IfSome, OnOk};
+ghost use Rattle.std.specs.Prelude.{OnErr};
 ghost use Rattle.hub_envelope.specs.declared.limits.TheConstants.{MAX_MOVES};
 ghost use Rattle.hub_core.specs.Kept.{adopting, adopted_end, change_end, closed_end, seen};
 ghost use Rattle.hub_core.specs.Kept.{core_after};

@@ -4,9 +4,9 @@ ghost use Rattle.std.specs.Prelude.{◌≡◌, ◌<◌, ◌≤◌, ◌&&◌, len
 ghost use Rattle.std.specs.Prelude.{IfSome, IfOk, IfErr, OnOk, OnErr};
 ghost use Rattle.std.specs.List.{list_all};
 ghost use Rattle.hub_core.specs.Made.{peer_of};
-ghost use Rattle.hub_core.specs.Posting.{enter_answer, is_distinct, is_fitting, is_good, leave_answer};
-ghost use Rattle.hub_core.specs.Posting.{listing_of};
-ghost use Rattle.hub_core.specs.Posting.{is_at, may_leave_agent, own_line_plain, own_poster_out};
+ghost use Rattle.hub_core.specs.Posting.{enter_answer, is_distinct, is_fitting, is_good};
+ghost use Rattle.hub_core.specs.Posting.{leave_answer, listing_of, is_at, may_leave_agent};
+ghost use Rattle.hub_core.specs.Posting.{own_line_plain, own_poster_out};
 ghost use Rattle.hub_core.specs.Kept.{seen, gate_passed, kept_noticing, kept_posting};
 ghost use Rattle.hub_core.specs.Kept.{notice_outcome, posting_at, push_outcome, HasQueue};
 ghost use Rattle.hub_core.specs.Kept.{put_ends, accept_ends, moved_ends, end_moved, change_line};

@@ -1,8 +1,7 @@
 -- What the core shows at last is legal, and in order.
 use Rattle.std.proofs.lemmas.Result.{IfOk-weaker}
-use Rattle.hub_core.proofs.Headlines.{headline}
+use Rattle.hub_core.proofs.Headlines.{headline, fates}
 use Rattle.hub_core.proofs.Orders.{shows_in_order}
-use Rattle.hub_core.proofs.Fating.{fates}
 use Rattle.hub_core.proofs.runs.run.Goals as goal
 
 pub returns : goal.returns

@@ -21,7 +21,7 @@ returns-in-Member c = told c.args.step (action.Member c.in-Member.agent c.in-Mem
     member_took c.in-Member.agent c.in-Member.name c.args.step.memory_refused _ _ o is made.0 made.1)) (same_err_with (action.Member c.in-Member.agent c.in-Member.name) c.make_member.result _ _ refl c.make_member.ensures.err)
 
 pub returns-in-Cast : goal.returns-in-Cast
-returns-in-Cast c = told c.args.step (action.Cast c.in-Cast.end c.in-Cast.ports c.in-Cast.body) _ _ _ c.in-Cast.is (ok_both c.cast.result _ _ _ c.cast.ensures.outcome c.cast.ensures.new (λ o is leaves. took_where _ _ c.args.self.now _ _ leaves (λ f s. is ∙ cast_fits c.args.self.now f c.in-Cast.end c.in-Cast.ports s) (λ f. cast_changes c.in-Cast.end c.in-Cast.ports c.in-Cast.body _)))
+returns-in-Cast c = told c.args.step (action.Cast c.in-Cast.end c.in-Cast.ports c.in-Cast.body) _ _ _ c.in-Cast.is (ok_both c.cast.result _ _ _ c.cast.ensures.outcome c.cast.ensures.new (λ o is leaves. took_where _ _ c.args.self.now _ _ leaves (λ f s. is ∙ cast_fits c.in-Cast.end c.in-Cast.ports s) (λ f. cast_changes c.in-Cast.end c.in-Cast.ports c.in-Cast.body _)))
     (same_err (action.Cast c.in-Cast.end c.in-Cast.ports c.in-Cast.body) c.cast.result _ _ refl c.cast.ensures.err)
 
 pub returns-in-Part : goal.returns-in-Part
@@ -35,15 +35,15 @@ returns-in-Channel c = told c.args.step (action.Channel c.in-Channel.agent) _ _ 
     (same_err (action.Channel c.in-Channel.agent) c.make_channel.result _ _ refl c.make_channel.ensures.err)
 
 pub returns-in-Client : goal.returns-in-Client
-returns-in-Client c = told c.args.step (action.Client c.in-Client.agent) _ _ _ c.in-Client.is (ok_both c.make_queue.result _ _ _ c.make_queue.ensures.outcome c.make_queue.ensures.new (λ o is leaves. took_by _ _ c.args.self.now _ _ (leaves ∙ client_core c.in-Client.agent c.args.self.now o) refl (λ f s. is ∙ queue_answered c.args.self.now f _ (makes_client c.in-Client.agent) s) (λ f. client_changes c.in-Client.agent _)))
+returns-in-Client c = told c.args.step (action.Client c.in-Client.agent) _ _ _ c.in-Client.is (ok_both c.make_queue.result _ _ _ c.make_queue.ensures.outcome c.make_queue.ensures.new (λ o is leaves. took_by _ _ c.args.self.now _ _ (leaves ∙ client_core c.in-Client.agent c.args.self.now o) refl (λ f s. is ∙ queue_answered _ (makes_client c.in-Client.agent) s) (λ f. client_changes c.in-Client.agent _)))
     (same_err (action.Client c.in-Client.agent) c.make_queue.result _ _ refl c.make_queue.ensures.err)
 
 pub returns-in-Worker : goal.returns-in-Worker
-returns-in-Worker c = told c.args.step (action.Worker c.in-Worker.agent) _ _ _ c.in-Worker.is (ok_both c.make_queue-in-Worker.result _ _ _ c.make_queue-in-Worker.ensures.outcome c.make_queue-in-Worker.ensures.new (λ o is leaves. took_by _ _ c.args.self.now _ _ (leaves ∙ worker_core c.in-Worker.agent c.args.self.now o) refl (λ f s. is ∙ queue_answered c.args.self.now f _ (makes_worker c.in-Worker.agent) s) (λ f. worker_changes c.in-Worker.agent _)))
+returns-in-Worker c = told c.args.step (action.Worker c.in-Worker.agent) _ _ _ c.in-Worker.is (ok_both c.make_queue-in-Worker.result _ _ _ c.make_queue-in-Worker.ensures.outcome c.make_queue-in-Worker.ensures.new (λ o is leaves. took_by _ _ c.args.self.now _ _ (leaves ∙ worker_core c.in-Worker.agent c.args.self.now o) refl (λ f s. is ∙ queue_answered _ (makes_worker c.in-Worker.agent) s) (λ f. worker_changes c.in-Worker.agent _)))
     (same_err (action.Worker c.in-Worker.agent) c.make_queue-in-Worker.result _ _ refl c.make_queue-in-Worker.ensures.err)
 
 pub returns-in-Line : goal.returns-in-Line
-returns-in-Line c = told c.args.step (action.Line c.in-Line.end c.in-Line.agent) _ _ (ok c.hold.result) c.in-Line.is (took_by _ _ c.args.self.now _ _ c.hold.ensures.new refl (λ f s. c.hold.ensures.outcome ∙ line_fits c.args.self.now f c.in-Line.end c.in-Line.agent s) (λ f. line_changes c.in-Line.end c.in-Line.agent _)) tt
+returns-in-Line c = told c.args.step (action.Line c.in-Line.end c.in-Line.agent) _ _ (ok c.hold.result) c.in-Line.is (took_by _ _ c.args.self.now _ _ c.hold.ensures.new refl (λ f s. c.hold.ensures.outcome ∙ line_fits c.in-Line.end c.in-Line.agent s) (λ f. line_changes c.in-Line.end c.in-Line.agent _)) tt
 
 pub returns-in-Back : goal.returns-in-Back
 returns-in-Back c = told c.args.step (action.Back c.in-Back.sender) _ _ (ok c.give_back.result) c.in-Back.is (took_by _ _ c.args.self.now _ _ c.give_back.ensures.new refl (λ f s. c.give_back.ensures.outcome ∙ ap (λ g. back_answer g c.in-Back.sender) (seen_is s)) (λ f. back_changes c.in-Back.sender _)) tt
@@ -74,11 +74,11 @@ returns-in-Adopt c = told c.args.step (action.Adopt c.in-Adopt.end c.in-Adopt.ag
     (same_err (action.Adopt c.in-Adopt.end c.in-Adopt.agent) c.adopt.result _ _ refl c.adopt.ensures.err)
 
 pub returns-in-Push : goal.returns-in-Push
-returns-in-Push c = told c.args.step (action.Push c.in-Push.sender c.in-Push.ports c.in-Push.body) _ _ _ c.in-Push.is (ok_both c.push.result _ _ _ c.push.ensures.outcome c.push.ensures.new (λ o is leaves. took_by _ _ c.args.self.now _ _ leaves refl (λ f s. is ∙ push_fits c.args.self.now f c.in-Push.sender c.in-Push.ports c.in-Push.body _ s) (λ f. push_changes c.in-Push.sender c.in-Push.ports c.in-Push.body _)))
+returns-in-Push c = told c.args.step (action.Push c.in-Push.sender c.in-Push.ports c.in-Push.body) _ _ _ c.in-Push.is (ok_both c.push.result _ _ _ c.push.ensures.outcome c.push.ensures.new (λ o is leaves. took_by _ _ c.args.self.now _ _ leaves refl (λ f s. is ∙ push_fits c.in-Push.sender c.in-Push.ports c.in-Push.body _ s) (λ f. push_changes c.in-Push.sender c.in-Push.ports c.in-Push.body _)))
     (same_err (action.Push c.in-Push.sender c.in-Push.ports c.in-Push.body) c.push.result _ _ refl c.push.ensures.err)
 
 pub returns-in-Notice : goal.returns-in-Notice
-returns-in-Notice c = told c.args.step (action.Notice c.in-Notice.sender) _ _ _ c.in-Notice.is (ok_both c.notice.result _ _ _ c.notice.ensures.outcome c.notice.ensures.new (λ o is leaves. took_by _ _ c.args.self.now _ _ leaves refl (λ f s. is ∙ notice_fits c.args.self.now f c.in-Notice.sender _ s) (λ f. notice_changes c.in-Notice.sender _)))
+returns-in-Notice c = told c.args.step (action.Notice c.in-Notice.sender) _ _ _ c.in-Notice.is (ok_both c.notice.result _ _ _ c.notice.ensures.outcome c.notice.ensures.new (λ o is leaves. took_by _ _ c.args.self.now _ _ leaves refl (λ f s. is ∙ notice_fits c.in-Notice.sender _ s) (λ f. notice_changes c.in-Notice.sender _)))
     (same_err (action.Notice c.in-Notice.sender) c.notice.result _ _ refl c.notice.ensures.err)
 
 pub returns-in-Sweep : goal.returns-in-Sweep
@@ -86,8 +86,8 @@ returns-in-Sweep c = told c.args.step (action.Sweep c.in-Sweep.end) _ _ _ c.in-S
     (same_err (action.Sweep c.in-Sweep.end) c.sweep.result _ _ refl c.sweep.ensures.err)
 
 pub returns-in-See : goal.returns-in-See
-returns-in-See c = told c.args.step (action.See c.in-See.agent) _ _ _ c.in-See.is (ok_both c.see.result _ _ _ c.see.ensures.outcome c.see.ensures.new (λ o is leaves. took_by _ _ c.args.self.now _ _ leaves refl (λ f s. is ∙ see_fits c.args.self.now f c.in-See.agent s) (λ f. see_changes c.in-See.agent _)))
+returns-in-See c = told c.args.step (action.See c.in-See.agent) _ _ _ c.in-See.is (ok_both c.see.result _ _ _ c.see.ensures.outcome c.see.ensures.new (λ o is leaves. took_by _ _ c.args.self.now _ _ leaves refl (λ f s. is ∙ see_fits c.in-See.agent s) (λ f. see_changes c.in-See.agent _)))
     (same_err (action.See c.in-See.agent) c.see.result _ _ refl c.see.ensures.err)
 
 pub returns-in-Take : goal.returns-in-Take
-returns-in-Take c = told c.args.step (action.Take c.in-Take.end) _ _ (ok c.take.result) c.in-Take.is (took_by _ _ c.args.self.now _ _ c.take.ensures.new refl (λ f s. take_fits c.args.self.now f c.in-Take.end _ s c.take.ensures.outcome) (λ f s. take_changes c.in-Take.end _ s c.take.ensures.outcome)) tt
+returns-in-Take c = told c.args.step (action.Take c.in-Take.end) _ _ (ok c.take.result) c.in-Take.is (took_by _ _ c.args.self.now _ _ c.take.ensures.new refl (λ f s. take_fits c.in-Take.end _ s c.take.ensures.outcome) (λ f s. take_changes c.in-Take.end _ s c.take.ensures.outcome)) tt
