@@ -152,11 +152,10 @@ none_counted test (suc n) = elim (test n) as (λ b. eqb (total (λ x. cond (test
 
 -- an agent of those of which one was changed
 pub change_get : (change : Agent → Agent) (agents : List Agent) (b a : ℕ) → slice_get (change_agent change b agents) a ≡ cond (eqb a b) (option_map change (slice_get agents a)) (slice_get agents a)
-change_get change agents b a = elim (eqb a b) as (λ c. eqb a b ≡ c → slice_get (change_agent change b agents) a ≡ cond c (option_map change (slice_get agents a)) (slice_get agents a)) [
-  | true ↦ λ is. let same : a ≡ b = eqb-true a b is in
-      ap (slice_get (change_agent change b agents)) same ∙ mine (slice_get agents b) refl ∙ ap (λ n. option_map change (slice_get agents n)) (sym same)
-  | false ↦ λ is. other (slice_get agents b) (eqb-false a b is)
-] refl
+change_get change agents b a = at_test (λ o. slice_get (change_agent change b agents) a ≡ o) (eqb a b) (option_map change (slice_get agents a)) (slice_get agents a)
+    (λ is. let same : a ≡ b = eqb-true a b is in
+    ap (slice_get (change_agent change b agents)) same ∙ mine (slice_get agents b) refl ∙ ap (λ n. option_map change (slice_get agents n)) (sym same))
+    (λ is. other (slice_get agents b) (eqb-false a b is))
   where
     mine : (o : Option Agent) → slice_get agents b ≡ o → slice_get (set_agent b agents (option_map change o)) b ≡ option_map change (slice_get agents b)
     mine None at = at ∙ sym (ap (option_map change) at)
@@ -175,10 +174,7 @@ change_length change agents b = elim (slice_get agents b) as (λ o. length (set_
 
 -- what is kept of each agent, where one is changed
 pub change_each : {A : Type 0} (kept : Option Agent → A) (change : Agent → Agent) (agents : List Agent) (b a : ℕ) → ((x : Agent) → kept (Some (change x)) ≡ kept (Some x)) → kept (slice_get (change_agent change b agents) a) ≡ kept (slice_get agents a)
-change_each kept change agents b a same = ap kept (change_get change agents b a) ∙ elim (eqb a b) as (λ c. kept (cond c (option_map change (slice_get agents a)) (slice_get agents a)) ≡ kept (slice_get agents a)) [
-  | true ↦ each (slice_get agents a)
-  | false ↦ refl
-]
+change_each kept change agents b a same = ap kept (change_get change agents b a) ∙ at_test (λ o. kept o ≡ kept (slice_get agents a)) (eqb a b) (option_map change (slice_get agents a)) (slice_get agents a) (λ _. each (slice_get agents a)) (λ _. refl)
   where
     each : (o : Option Agent) → kept (option_map change o) ≡ kept o
     each None = refl

@@ -10,7 +10,7 @@ use Rattle.hub_core.specs.declared.step.Action.TheVariants as action
 use Rattle.hub_core.proofs.Counts.{calm_landed, counted_ports, counts_of, counts_still}
 use Rattle.hub_core.proofs.Frames.{ShownAfter, found_end, ShownAt, Stepped, changed, end_changed, end_restated, same_queues, end_there}
 use Rattle.hub_core.proofs.Fitting.{any_of, each_of, got_of, miss, none_of_any, pass, started_of, swept_of, went_on_of}
-use Rattle.hub_core.proofs.Lists.{AllByRecursion-append, AllByRecursion-weaker, below_last, each_changed, eqb_same, get_or-set_other, get_or-set_same, is_there, or_none, or_third, or_true}
+use Rattle.hub_core.proofs.Lists.{AllByRecursion-append, AllByRecursion-weaker, below_last, each_changed, eqb_same, get_or-set_other, get_or-set_same, is_there, or_none, or_third, or_true, at_test}
 use Rattle.hub_core.proofs.Nexts.{Change, cleared, end_swept, got, next, started, went_on}
 use Rattle.hub_core.proofs.Sending.{Moves, moved_end, moved_shown, moves_of, moves_to}
 use Rattle.hub_core.proofs.Seeing.{Sees, seen_is, SoundlyShows}
@@ -137,10 +137,7 @@ left_by f e x h shown opened empty false settled is found =
     let taker : (f.end e.0).taker_stand ≡ x.taker = ap (λ (y : EndNow). y.taker_stand) shown.same in
     let same : is_settled f e.0 (f.end e.0).taker_stand ≡ settled = ap (is_settled f e.0) taker ∙ sym (settled_kept f e.0 x.taker x shown (omega arith)) ∙ found in
     let left = left_of f e x ((h.waiting e.0).kept opened) shown empty is in
-    elim settled as (λ b. is_settled f e.0 (f.end e.0).taker_stand ≡ b → Serves f e (cond b outcome.Again outcome.Busy)) [
-      | true ↦ λ settles. (left, settles)
-      | false ↦ λ busy. (left, busy)
-    ] same
+    at_test (Serves f e) settled outcome.Again outcome.Busy (λ is. (left, same ∙ is)) (λ is. (left, same ∙ is))
 
 -- every end, with the taker of one further
 pub went_on_shown : {agents : List Agent} {ends : List End} {f : Facts} (e : EndId) (refused : Bool) (x : End) → SoundlyShows agents ends f → slice_get ends e.0 ≡ Some x → (f.end e.0).closed ≡ false → get_or x.queues 0 [] ≡ [] → (f.end e.0).taker_stand < (f.end e.0).newest → FitsTake f e outcome.Again → Stepped agents (set ends e.0 (advanced_end x)) f (action.Take e) refused outcome.Again
@@ -236,10 +233,7 @@ look_fits f e (Some x) shown within = look_as f e x shown within
 look_found : (lines : List Line) (n k : ℕ) (may first : Bool) → outcome.Clear (Some k) ≡ cond may (look_answer_at lines (cond first (Some n) None)) outcome.NotNow → k ≡ n
 look_found lines n k false first h = cc
 look_found lines n k true false h = cc
-look_found lines n k true true h = elim (is_anyone_at n lines) as (λ b. outcome.Clear (Some k) ≡ cond b outcome.Busy (outcome.Clear (Some n)) → k ≡ n) [
-  | true ↦ λ is. cc
-  | false ↦ λ is. cc
-] h
+look_found lines n k true true h = at_test (λ o. outcome.Clear (Some k) ≡ o → k ≡ n) (is_anyone_at n lines) outcome.Busy (outcome.Clear (Some n)) (λ _ is. cc) (λ _ is. cc) h
 
 pub look_changes : {c : CoreState} {f : Facts} (e : EndId) (refused : Bool) {o : Outcome} → Sees c f → o ≡ look_outcome_at (slice_get c.ends e.0) → o ≡ look_answer f e → Change (action.Look e) o → ShownAfter c f (action.Look e) refused o
 look_changes {c} {f} e refused h says answer (cleared d k) =
@@ -269,10 +263,7 @@ some_below test (suc n) l less is = ⊎_elim
 
 rises_by : (l : ℕ) (vs : List Envelope) → Rises vs → Rises (by l vs)
 rises_by l [] h = tt
-rises_by l (v ∷ vs) h = elim (eqb v.line.0 l) as (λ b. Rises (cond b (v ∷ by l vs) (by l vs))) [
-  | true ↦ (all_kept (λ (u : Envelope). v.epoch ≤ u.epoch) (λ (u : Envelope). eqb u.line.0 l) vs h.0, rises_by l vs h.1)
-  | false ↦ rises_by l vs h.1
-]
+rises_by l (v ∷ vs) h = at_test Rises (eqb v.line.0 l) (v ∷ by l vs) (by l vs) (λ _. (all_kept (λ (u : Envelope). v.epoch ≤ u.epoch) (λ (u : Envelope). eqb u.line.0 l) vs h.0, rises_by l vs h.1)) (λ _. rises_by l vs h.1)
 
 -- ---- whether every queue is settled
 

@@ -5,7 +5,7 @@ use Rattle.hub_core.proofs.Words.{is_inside, is_good, is_distinct, may_leave_age
 use Rattle.hub_core.proofs.Words.{Place, Arrived, any_below, someone_at, first_failing, lookable, looked, look_answer_of, look_answer, all_from, all_settled, IsAllWaiting, FitsSweep, hop_answer, is_arrived, adopt_answer, close_answer, is_released, hand_answer, may_take_over, may_close, is_queue}
 use Rattle.hub_core.proofs.Words.{lines_of, names, LineId, Kind, back_answer, line_found, line_answer, free_line, member_answer, cast_answer, is_casting, destinations, has_end, maker_of, see_answer, has_away, has_poster, is_away_of, cases_eq}
 use Rattle.hub_core.specs.declared.outcome.Outcome.TheVariants as outcome
-use Rattle.hub_core.proofs.Lists.{below_last, next_up, or_none}
+use Rattle.hub_core.proofs.Lists.{below_last, next_up, or_none, at_test}
 
 -- ---- tests, one after another
 
@@ -317,17 +317,11 @@ first_failing_of clear k (suc n) j is = elim (clear k) as (λ b. clear k ≡ b �
 
 clear_when : (f : Facts) (x k : ℕ) (q : Option ℕ) → outcome.Clear (Some k) ≡ look_answer_of f x q → (q ≡ Some k) × (someone_at f x k ≡ false)
 clear_when f x k None h = cc
-clear_when f x k (Some j) h = elim (someone_at f x j) as (λ b. someone_at f x j ≡ b → outcome.Clear (Some k) ≡ cond b outcome.Busy (outcome.Clear (Some j)) → (Some j ≡ Some k) × (someone_at f x k ≡ false)) [
-  | true ↦ λ is no. cc
-  | false ↦ λ is yes. let same : k ≡ j = cc in (ap Some (sym same), ap (someone_at f x) same ∙ is)
-] refl h
+clear_when f x k (Some j) h = at_test (λ o. outcome.Clear (Some k) ≡ o → (Some j ≡ Some k) × (someone_at f x k ≡ false)) (someone_at f x j) outcome.Busy (outcome.Clear (Some j)) (λ is no. cc) (λ is yes. let same : k ≡ j = cc in (ap Some (sym same), ap (someone_at f x) same ∙ is)) h
 
 busy_when : (f : Facts) (x : ℕ) (q : Option ℕ) → outcome.Busy ≡ look_answer_of f x q → (k : ℕ) × (q ≡ Some k) × (someone_at f x k ≡ true)
 busy_when f x None h = cc
-busy_when f x (Some j) h = elim (someone_at f x j) as (λ b. someone_at f x j ≡ b → outcome.Busy ≡ cond b outcome.Busy (outcome.Clear (Some j)) → (k : ℕ) × (Some j ≡ Some k) × (someone_at f x k ≡ true)) [
-  | true ↦ λ is yes. (j, refl, is)
-  | false ↦ λ is no. cc
-] refl h
+busy_when f x (Some j) h = at_test (λ o. outcome.Busy ≡ o → (k : ℕ) × (Some j ≡ Some k) × (someone_at f x k ≡ true)) (someone_at f x j) outcome.Busy (outcome.Clear (Some j)) (λ is yes. (j, refl, is)) (λ is no. cc) h
 
 -- a queue that is looked at
 abbrev pub LooksAt : Facts → ℕ → ℕ → Type 0

@@ -9,7 +9,7 @@ use Rattle.hub_core.specs.declared.outcome.Outcome.TheVariants as outcome
 use Rattle.hub_core.proofs.SoundPlaces.{speaker_next}
 use Rattle.hub_core.proofs.Fitting.{any_of, found_closed_of, found_moved_of, let_in_of, noticed_of, pushed_of, served_of, SweptWith, got_of, swept_of}
 use Rattle.hub_core.proofs.Sames.{legal_apart, legal_at, legal_joined, turned_leaves, turned_same, by_pairs}
-use Rattle.hub_core.proofs.Lists.{eqb_same, AllByRecursion-append, AllByRecursion-weaker}
+use Rattle.hub_core.proofs.Lists.{eqb_same, AllByRecursion-append, AllByRecursion-weaker, at_test}
 use Rattle.hub_core.proofs.Nexts.{facts_next, next}
 use Rattle.hub_core.proofs.SoundLines.{Numbered, on_place}
 use Rattle.hub_core.proofs.SoundWaiting.{taken_prefix, inside_of, nobody_there}
@@ -275,10 +275,7 @@ two_names (u ∷ before) middle after v w d = two_names before middle after v w 
 
 kept_distinct : (q : Envelope → Bool) (vs : List Envelope) → AreDistinct vs → AreDistinct (filter q vs)
 kept_distinct q [] d = tt
-kept_distinct q (v ∷ vs) d = elim (q v) as (λ b. AreDistinct (cond b (v ∷ filter q vs) (filter q vs))) [
-  | true ↦ (all_kept (λ u. same_name v u ≡ false) q vs d.0, kept_distinct q vs d.1)
-  | false ↦ kept_distinct q vs d.1
-]
+kept_distinct q (v ∷ vs) d = at_test AreDistinct (q v) (v ∷ filter q vs) (filter q vs) (λ _. (all_kept (λ u. same_name v u ≡ false) q vs d.0, kept_distinct q vs d.1)) (λ _. kept_distinct q vs d.1)
 
 -- none of the last bears the name of one of the first
 apart : (us ws : List Envelope) → AreDistinct (us ++ ws) → AllByRecursion (λ w. AllByRecursion (λ u. same_name u w ≡ false) us) ws
@@ -305,10 +302,9 @@ all_gone (v ∷ vs) = (
 -- an envelope of the line that has the name of none of that line
 not_gone : (l : ℕ) (v : Envelope) (gone : List Envelope) → v.line.0 ≡ l → AllByRecursion (λ u. same_name u v ≡ false) (by l gone) → is_gone gone v ≡ false
 not_gone l v [] line h = refl
-not_gone l v (u ∷ gone) line h = elim (eqb u.line.0 l) as (λ b. eqb u.line.0 l ≡ b → AllByRecursion (λ w. same_name w v ≡ false) (cond b (u ∷ by l gone) (by l gone)) → is_gone (u ∷ gone) v ≡ false) [
-  | true ↦ λ _ none. or_from _ _ (either_way u v none.0) (not_gone l v gone line none.1)
-  | false ↦ λ away none. or_from _ _ (other_name v u (λ is. false≢true (sym away ∙ eq-eqb u.line.0 l (sym is.line ∙ line)))) (not_gone l v gone line none)
-] refl h
+not_gone l v (u ∷ gone) line h = at_test (λ us. AllByRecursion (λ w. same_name w v ≡ false) us → is_gone (u ∷ gone) v ≡ false) (eqb u.line.0 l) (u ∷ by l gone) (by l gone)
+    (λ _ none. or_from _ _ (either_way u v none.0) (not_gone l v gone line none.1))
+    (λ away none. or_from _ _ (other_name v u (λ is. false≢true (sym away ∙ eq-eqb u.line.0 l (sym is.line ∙ line)))) (not_gone l v gone line none)) h
 
 -- Of a line whose first envelopes are gone, those whose names are not gone are the rest.
 pub rest_left : (l : ℕ) (gone whole rest : List Envelope) → AreDistinct whole → by l whole ≡ by l gone ++ rest → by l (filter (λ v. not (list_any (same_name v) gone)) whole) ≡ rest
@@ -395,10 +391,7 @@ module _ (f : Facts) (x : ℕ) (whole : List Envelope) (h : QuietAt f x whole) w
   quiet_phased : (s : Sender) (p : Phase) → (p ≡ Inside → eqb x s.end.0 ≡ false) → IsQuiet (f.end x).closed (λ l. on_line x l s p (f.line x l).phase) (f.accepted x) (f.taken x) (f.discarded x) whole
   quiet_phased s p away = record {
     is_closed = h.is_closed;
-    nobody = λ l is. elim (eqb x s.end.0 && eqb l s.line.0) as (λ b. (eqb x s.end.0 && eqb l s.line.0) ≡ b → cond b p (f.line x l).phase ≡ Inside → ⊥) [
-      | true ↦ λ on inside. false≢true (sym (away inside) ∙ (and_parts (eqb x s.end.0) (eqb l s.line.0) on).0)
-      | false ↦ λ _ inside. h.nobody l inside
-    ] refl is;
+    nobody = λ l is. at_test (λ q. q ≡ Inside → ⊥) (eqb x s.end.0 && eqb l s.line.0) p (f.line x l).phase (λ on inside. false≢true (sym (away inside) ∙ (and_parts (eqb x s.end.0) (eqb l s.line.0) on).0)) (λ _ inside. h.nobody l inside) is;
     all = h.all;
     same = h.same;
   }

@@ -2,7 +2,7 @@
 use Rattle.std.proofs.Common.{◌≡◌, ◌≢◌, ℕ, ◌+◌, ◌<◌, Bool, true, false, cond, eqb, List, [], ◌∷◌, ◌++◌, length, set, refl, sym, ap, subst, ◌∙◌, arith, append-nil, length-set, Option, Some, ne_eqb}
 use Rattle.hub_core.proofs.Words.{IsTrue, slice_get, eqb-true, eqb-false, eq-eqb, filter-append, Envelope, Phase, History, Facts, facts, lines_of, by, Gate, IsAt, IsGateOf, Queue, Mailbox, GateAt, StandsAt, IsNewest, put_by, got_from, IsMailbox, MailboxEvent, MailboxStep, put_in, got_in, with_gate}
 use Rattle.hub_core.proofs.Words.{with_queue, ShowsMailbox, Grows, OneRight, has_right, Kind}
-use Rattle.hub_core.proofs.Lists.{slice_get-set_same, slice_get-set_other, got_within, got_there, got_same_at, at_written}
+use Rattle.hub_core.proofs.Lists.{slice_get-set_same, slice_get-set_other, got_within, got_there, got_same_at, at_written, at_test}
 use Rattle.hub_core.proofs.MailboxStepping.{chain_laws}
 
 -- what is known of an end, as far as a mailbox shows it
@@ -168,13 +168,12 @@ module _ (e : ℕ) (v : View) (m : Mailbox OneRight) (is : IsShown e v m) where
         other_flags = λ _. (refl, refl);
         given = same_given ∙ is.given k g at;
         other_given = λ i _. refl;
-        phases = λ i there. elim (eqb i l) as (λ b. eqb i l ≡ b → IsAt g' i (cond b p (v.phase i))) [
-          | true ↦ λ t.
-              let same : i ≡ l = eqb-true i l t in
-              let written : slice_get g'.phases l ≡ Some p = ap (λ ps. slice_get ps l) phases ∙ slice_get-set_same g.phases l p (got_within g.phases l q was) in
-              subst (λ x. slice_get g'.phases x ≡ Some p) (sym same) written
-          | false ↦ λ t. ap (λ ps. slice_get ps i) phases ∙ slice_get-set_other g.phases l i p (eqb-false i l t) ∙ is.phases i k g there at
-        ] refl;
+        phases = λ i there. at_test (IsAt g' i) (eqb i l) p (v.phase i)
+            (λ t.
+            let same : i ≡ l = eqb-true i l t in
+            let written : slice_get g'.phases l ≡ Some p = ap (λ ps. slice_get ps l) phases ∙ slice_get-set_same g.phases l p (got_within g.phases l q was) in
+            subst (λ x. slice_get g'.phases x ≡ Some p) (sym same) written)
+            (λ t. ap (λ ps. slice_get ps i) phases ∙ slice_get-set_other g.phases l i p (eqb-false i l t) ∙ is.phases i k g there at);
         other_phases = λ i j other there. ap (λ b. cond b p (v.phase i)) (ne_eqb i l (λ same. other (got_same_at m.stands i l j k same there stands)));
       }) after
 

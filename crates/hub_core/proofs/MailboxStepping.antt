@@ -4,7 +4,7 @@ use Rattle.hub_core.proofs.Words.{slice_get, cases_lt, cases_eq, length-map, Out
 use Rattle.hub_core.proofs.Words.{ChainLaws, Envelope, Grows, HappensAt, HoldsFirst, MailboxEvent, MailboxStep, MayPush, MaySweep, Phase, Prefix, QueueAt, Turned, adds, advances, by, closes, eqb-true, filter-append, finds_closed, finds_moved, finds_none, flat_map, gate_steps, goes_in, goes_out}
 use Rattle.hub_core.proofs.Words.{got_from, got_in, hops, popped, pushed, pushes, put_by, put_in, sweeps, taken_out, takes, turns_back, with_queue}
 use Rattle.hub_core.specs.GateMachine as machine
-use Rattle.hub_core.proofs.Lists.{got_within, got_there, got_same_at, got-map, got_of-map, at_written, at_pushed, got_same, got_set, none_got, pairs_written, some_is, slice_get-set_other}
+use Rattle.hub_core.proofs.Lists.{got_within, got_there, got_same_at, got-map, got_of-map, at_written, at_pushed, got_same, got_set, none_got, pairs_written, some_is, slice_get-set_other, at_test}
 use Rattle.hub_core.proofs.Machines.{at_first, after, nobody_left, at_first_queue, none_held, after_push}
 use Rattle.hub_core.proofs.Waits.{pop_takes, queue_taken, some_held}
 
@@ -290,14 +290,13 @@ module _ {R : Type 0} (m after : Mailbox R) where
 module _ {R : Type 0} (end lines : ℕ) (m : Mailbox R) (is : IsMailbox end lines m) where
   pub push_grows : (k : ℕ) (q : Queue) (v : Envelope) → StandsAt m v.line.0 k → QueueAt m k q → Grows m (v ∷ []) [] (with_queue m k (pushed q v))
   push_grows k q v stands at = record {
-    puts = λ line. elim (eqb v.line.0 line) as (λ b. eqb v.line.0 line ≡ b → put_by (with_queue m k (pushed q v)) line ≡ put_by m line ++ cond b (v ∷ []) []) [
-      | true ↦ λ mine.
-          let same : v.line.0 ≡ line = eqb-true v.line.0 line mine in
-          one_more (λ u. u.put line) m.queues k q (pushed q v) (v ∷ []) at (ap (λ b. cond b (q.put line ++ v ∷ []) (q.put line)) mine)
-          (λ j u there later. is.nothing_put_ahead line k j u (subst (λ l. StandsAt m l k) same stands) there later)
-      | false ↦ λ other.
-          one_same (λ u. u.put line) m.queues k q (pushed q v) at (ap (λ b. cond b (q.put line ++ v ∷ []) (q.put line)) other) ∙ sym (append-nil (put_by m line))
-    ] refl;
+    puts = λ line. at_test (λ us. put_by (with_queue m k (pushed q v)) line ≡ put_by m line ++ us) (eqb v.line.0 line) (v ∷ []) []
+        (λ mine.
+        let same : v.line.0 ≡ line = eqb-true v.line.0 line mine in
+        one_more (λ u. u.put line) m.queues k q (pushed q v) (v ∷ []) at (ap (λ b. cond b (q.put line ++ v ∷ []) (q.put line)) mine)
+        (λ j u there later. is.nothing_put_ahead line k j u (subst (λ l. StandsAt m l k) same stands) there later))
+        (λ other.
+        one_same (λ u. u.put line) m.queues k q (pushed q v) at (ap (λ b. cond b (q.put line ++ v ∷ []) (q.put line)) other) ∙ sym (append-nil (put_by m line)));
     gots = one_same (λ u. u.got) m.queues k q (pushed q v) at refl ∙ sym (append-nil (got_from m));
   }
 

@@ -9,7 +9,7 @@ use Rattle.hub_core.proofs.Counts.{calm_places, Counted, IsCalmAt, OneEnd, away_
 use Rattle.hub_core.proofs.Casts.{roster_agent}
 use Rattle.hub_core.proofs.Frames.{ShownAfter, ShownWith, Stepped}
 use Rattle.hub_core.proofs.Fitting.{member_made_of, new_agent, new_ends, queue_made_of}
-use Rattle.hub_core.proofs.Lists.{eqb_same, set_again, and_false, each_pushed}
+use Rattle.hub_core.proofs.Lists.{eqb_same, set_again, and_false, each_pushed, at_test}
 use Rattle.hub_core.proofs.SoundPlaces.{one_made}
 use Rattle.hub_core.proofs.Nexts.{Change, agent_made, channel_made, client_made, next, worker_made}
 use Rattle.hub_core.proofs.Seeing.{Sees, seen_is, SoundlyShows, with_roster}
@@ -217,10 +217,9 @@ channel_shown agents ends f a h runs few =
         record { now = rw other none.now; lines = none.lines; unclear = none.unclear; accepted = none.accepted; removed = none.removed }
 
     still_ports : (x : ℕ) (q : EndId) → x < f.ends + 1 → ((one_port f a).end x).kind ≡ Some (Port q) → (is_out (f.line x 0).phase ≡ true) ⊎ (q.0 < f.ends + 1)
-    still_ports x q less is = elim (eqb x f.ends) as (λ b. eqb x f.ends ≡ b → cond b (Some (Port (record { 0 = f.ends + 1 }))) (f.end x).kind ≡ Some (Port q) → (is_out (f.line x 0).phase ≡ true) ⊎ (q.0 < f.ends + 1)) [
-      | true ↦ λ same _. let here : x ≡ f.ends = eqb-true x f.ends same in inl (ap (λ (y : LineNow). is_out y.phase) ((nothing_at f x h.sound (omega arith)).lines 0))
-      | false ↦ λ other kind. let there : q.0 < f.ends = (h.sound.places.peers x q.0 (ap peer_of kind)).0 in inr (omega arith)
-    ] refl is
+    still_ports x q less is = at_test (λ p. p ≡ Some (Port q) → (is_out (f.line x 0).phase ≡ true) ⊎ (q.0 < f.ends + 1)) (eqb x f.ends) (Some (Port (record { 0 = f.ends + 1 }))) (f.end x).kind
+        (λ same _. let here : x ≡ f.ends = eqb-true x f.ends same in inl (ap (λ (y : LineNow). is_out y.phase) ((nothing_at f x h.sound (omega arith)).lines 0)))
+        (λ other kind. let there : q.0 < f.ends = (h.sound.places.peers x q.0 (ap peer_of kind)).0 in inr (omega arith)) is
 
 pub channel_changes : {c : CoreState} {f : Facts} (a : AgentId) (refused : Bool) {o : Outcome} → Sees c f → o ≡ channel_answer f a refused → Change (action.Channel a) o → ShownAfter c f (action.Channel a) refused o
 channel_changes {c} {f} a refused h answer (channel_made b e p) =

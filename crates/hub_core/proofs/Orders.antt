@@ -4,7 +4,7 @@ use Rattle.hub_core.proofs.Words.{MatchBool, filter, flat_map, AllByRecursion, f
 use Rattle.hub_core.proofs.Words.{all_settled, IsAllWaiting, Sweeps, FitsSweep, FitsTake, Answers, LegalAfter, InOrder, is_some, slice_get, eq-eqb, get_or_append_left, get_or-append_seam, End, Core, LineNow, Prefix, holder, IsNext, IsDrained, Serves, IsLeft, Sound, KeepsQueues, Shows, OneAnswer}
 use Rattle.hub_core.specs.declared.step.Action.TheVariants as action
 use Rattle.hub_core.specs.declared.outcome.Outcome.TheVariants as outcome
-use Rattle.hub_core.proofs.Lists.{eqb_same, AllByRecursion-weaker}
+use Rattle.hub_core.proofs.Lists.{eqb_same, AllByRecursion-weaker, at_test}
 use Rattle.hub_core.proofs.Totals.{count_lines, joined, all_pass}
 use Rattle.hub_core.proofs.Nexts.{facts_next}
 use Rattle.hub_core.proofs.Fitting.{got_of}
@@ -25,12 +25,11 @@ stays_closed x closed outcome.Done (action.Close t) is = elim (eqb x t.0) as (λ
 stays_closed x closed o a is = is
 
 takes_none : (f : Facts) (e : ℕ) (refused : Bool) (o : Outcome) (a : Action) → (f.end e).closed ≡ true → ((t : EndId) (v : Envelope) → a ≡ action.Take t → o ≡ outcome.Got v → FitsTake f t (outcome.Got v)) → taken_by e o a ≡ []
-takes_none f e refused (outcome.Got v) (action.Take t) closed fits = elim (eqb e t.0) as (λ b. eqb e t.0 ≡ b → cond b (v ∷ []) [] ≡ []) [
-  | true ↦ λ is.
-      let here : e ≡ t.0 = search (rules, is) in
-      absurd (search (rules, false≢true, sym (got_of f t v (fits t v refl refl)).is_open ∙ (ap (λ y. (f.end y).closed) (sym here) ∙ closed)))
-  | false ↦ λ is. refl
-] refl
+takes_none f e refused (outcome.Got v) (action.Take t) closed fits = at_test (λ us. us ≡ []) (eqb e t.0) (v ∷ []) []
+    (λ is.
+    let here : e ≡ t.0 = search (rules, is) in
+    absurd (search (rules, false≢true, sym (got_of f t v (fits t v refl refl)).is_open ∙ (ap (λ y. (f.end y).closed) (sym here) ∙ closed))))
+    (λ is. refl)
 takes_none f e refused o a closed fits = refl
 
 take_fits : (f : Facts) (a : Action) (t : EndId) (refused : Bool) (o : Outcome) → a ≡ action.Take t → Answers f a refused o → FitsTake f t o

@@ -3,7 +3,7 @@ use Rattle.std.proofs.Common.{◌≡◌, ℕ, List, [], ◌∷◌, true, false, 
 use Rattle.hub_core.proofs.Words.{bytes_eq, ◌==◌, IsSome, nat_tests, BTreeMap, get, WritesThrough, remove_key, lookup, OnErr, BTreeSet, insert_key, slice_cmp, is_eq, nat_cmp, ordering_then, Ordering, Less, is_eq-slice_cmp, and_parts, bytes_eq-Decides, Group, is_same_group, group_cmp, numbers_in}
 use Rattle.hub_core.proofs.Words.{seated_with, seated_without, parted, Parts, group_of, numbers_of, Members, AllByRecursion, filter, Greater, nat_cmp_is, false≢true, eqb-true, EndId, RosterNow, is_of_group, has_end, without, numbers_with, is_in}
 use Rattle.std.specs.BTreeMap as tree
-use Rattle.hub_core.proofs.Lists.{and_false}
+use Rattle.hub_core.proofs.Lists.{and_false, at_test}
 
 -- ==== The seats of the members of each group.
 
@@ -27,22 +27,23 @@ same_group x y h =
     let both = and_parts (bytes_eq x.origin y.origin) (bytes_eq x.name y.name) h in
     λ i. record { origin = equal x.origin y.origin both.0 i; name = equal x.name y.name both.1 i }
 
--- the seats after one set is written
-pub seats : (old new : BTreeMap Group (BTreeSet ℕ)) (g : Group) (n : ℕ) (w : BTreeSet ℕ) → tree.Updates group_cmp old new g (Some w) → w.keys ≡ insert_key nat_cmp (numbers_in (get group_cmp old g)) n → (k : Group) → numbers_in (get group_cmp new k) ≡ seated_with g n k (numbers_in (get group_cmp old k))
-seats old new g n w u wrote k =
+-- the numbers of each group after one set is written, by what becomes of those that were there
+at_set : (change : List ℕ → List ℕ) (old new : BTreeMap Group (BTreeSet ℕ)) (g : Group) (w : BTreeSet ℕ) → tree.Updates group_cmp old new g (Some w) → w.keys ≡ change (numbers_in (get group_cmp old g)) → (k : Group)
+    → numbers_in (get group_cmp new k) ≡ cond (is_same_group g k) (change (numbers_in (get group_cmp old k))) (numbers_in (get group_cmp old k))
+at_set change old new g w u wrote k =
     ap numbers_in (u.0 k) ∙ ap (λ b. numbers_in (cond b (Some w) (get group_cmp old k))) (is_same g k)
-    ∙ elim (is_same_group g k) as (λ b. is_same_group g k ≡ b → numbers_in (cond b (Some w) (get group_cmp old k)) ≡ cond b (insert_key nat_cmp (numbers_in (get group_cmp old k)) n) (numbers_in (get group_cmp old k))) [
-      | true ↦ λ is. wrote ∙ ap (λ h. insert_key nat_cmp (numbers_in (get group_cmp old h)) n) (same_group g k is)
+    ∙ elim (is_same_group g k) as (λ b. is_same_group g k ≡ b → numbers_in (cond b (Some w) (get group_cmp old k)) ≡ cond b (change (numbers_in (get group_cmp old k))) (numbers_in (get group_cmp old k))) [
+      | true ↦ λ is. wrote ∙ ap (λ h. change (numbers_in (get group_cmp old h))) (same_group g k is)
       | false ↦ λ _. refl
     ] refl
 
+pub seats : (old new : BTreeMap Group (BTreeSet ℕ)) (g : Group) (n : ℕ) (w : BTreeSet ℕ) → tree.Updates group_cmp old new g (Some w) → w.keys ≡ insert_key nat_cmp (numbers_in (get group_cmp old g)) n → (k : Group) → numbers_in (get group_cmp new k) ≡ seated_with g n k (numbers_in (get group_cmp old k))
+seats old new g n w u wrote k = at_set (λ ns. insert_key nat_cmp ns n) old new g w u wrote k
+
 pub rests : (old new : BTreeMap Group (BTreeSet ℕ)) (g : Group) (w : BTreeSet ℕ) → tree.Updates group_cmp old new g (Some w) → w.keys ≡ numbers_in (get group_cmp old g) → (k : Group) → numbers_in (get group_cmp new k) ≡ numbers_in (get group_cmp old k)
 rests old new g w u wrote k =
-    ap numbers_in (u.0 k) ∙ ap (λ b. numbers_in (cond b (Some w) (get group_cmp old k))) (is_same g k)
-    ∙ elim (is_same_group g k) as (λ b. is_same_group g k ≡ b → numbers_in (cond b (Some w) (get group_cmp old k)) ≡ numbers_in (get group_cmp old k)) [
-      | true ↦ λ is. wrote ∙ ap (λ h. numbers_in (get group_cmp old h)) (same_group g k is)
-      | false ↦ λ _. refl
-    ] refl
+    let old_ones : List ℕ = numbers_in (get group_cmp old k) in
+    at_set (λ ns. ns) old new g w u wrote k ∙ at_test (λ ns. ns ≡ old_ones) (is_same_group g k) old_ones old_ones (λ _. refl) (λ _. refl)
 
 -- a set that is written through a reference was there
 pub written : (old new : BTreeMap Group (BTreeSet ℕ)) (g : Group) (was w : BTreeSet ℕ) → WritesThrough group_cmp (group_cmp g) old w new → Some was ≡ get group_cmp old g → tree.Updates group_cmp old new g (Some w)
@@ -67,12 +68,7 @@ seats_first old mid new g n w same u wrote k =
 
 -- the seats after one set lost a number
 pub leaves : (old new : BTreeMap Group (BTreeSet ℕ)) (g : Group) (n : ℕ) (w : BTreeSet ℕ) → tree.Updates group_cmp old new g (Some w) → w.keys ≡ seated_without n (numbers_in (get group_cmp old g)) → (k : Group) → numbers_in (get group_cmp new k) ≡ parted n (Some g) k (numbers_in (get group_cmp old k))
-leaves old new g n w u wrote k =
-    ap numbers_in (u.0 k) ∙ ap (λ b. numbers_in (cond b (Some w) (get group_cmp old k))) (is_same g k)
-    ∙ elim (is_same_group g k) as (λ b. is_same_group g k ≡ b → numbers_in (cond b (Some w) (get group_cmp old k)) ≡ cond b (seated_without n (numbers_in (get group_cmp old k))) (numbers_in (get group_cmp old k))) [
-      | true ↦ λ is. wrote ∙ ap (λ h. seated_without n (numbers_in (get group_cmp old h))) (same_group g k is)
-      | false ↦ λ _. refl
-    ] refl
+leaves old new g n w u wrote k = at_set (seated_without n) old new g w u wrote k
 
 pub parts : (old new : Members) (g : Group) (n : ℕ) (was w : BTreeSet ℕ) → new.origins ≡ old.origins → new.groups ≡ old.groups → Some g ≡ group_of old n → WritesThrough group_cmp (group_cmp g) old.seated w new.seated → Some was ≡ get group_cmp old.seated g → w.keys ≡ remove_key (λ x. is_eq (nat_cmp n x)) was.keys → Parts n old new
 parts old new g n was w origins groups is writes there removed =
@@ -129,10 +125,7 @@ numbers_more r k (x ∷ xs) y = elim (is_of_group k (r.group x.0)) as (λ b. map
 -- the numbers of a group are those of members
 pub numbers_below : (r : RosterNow) (k : Group) (n : ℕ) (ys : List EndId) → AllByRecursion (λ (y : EndId). y.0 < n) ys → AllByRecursion (λ x. x < n) (numbers_with r k ys)
 numbers_below r k n [] h = tt
-numbers_below r k n (y ∷ ys) h = elim (is_of_group k (r.group y.0)) as (λ b. AllByRecursion (λ x. x < n) (map (λ (z : EndId). z.0) (cond b (y ∷ filter (λ z. is_of_group k (r.group z.0)) ys) (filter (λ z. is_of_group k (r.group z.0)) ys)))) [
-  | true ↦ (h.0, numbers_below r k n ys h.1)
-  | false ↦ numbers_below r k n ys h.1
-]
+numbers_below r k n (y ∷ ys) h = at_test (λ zs. AllByRecursion (λ x. x < n) (map (λ (z : EndId). z.0) zs)) (is_of_group k (r.group y.0)) (y ∷ filter (λ z. is_of_group k (r.group z.0)) ys) (filter (λ z. is_of_group k (r.group z.0)) ys) (λ _. (h.0, numbers_below r k n ys h.1)) (λ _. numbers_below r k n ys h.1)
 
 -- groups that are the same at each of these ends
 pub numbers_same : (r w : RosterNow) (k : Group) (ys : List EndId) → AllByRecursion (λ (y : EndId). w.group y.0 ≡ r.group y.0) ys → numbers_with w k ys ≡ numbers_with r k ys
@@ -220,10 +213,7 @@ all_more P (y ∷ ys) x h p = (h.0, all_more P ys x h.1 p)
 
 pub all_without : (P : EndId → Type 0) (x : ℕ) (ys : List EndId) → AllByRecursion P ys → AllByRecursion P (without x ys)
 all_without P x [] h = tt
-all_without P x (y ∷ ys) h = elim (eqb x y.0) as (λ c. AllByRecursion P (cond c ys (y ∷ without x ys))) [
-  | true ↦ h.1
-  | false ↦ (h.0, all_without P x ys h.1)
-]
+all_without P x (y ∷ ys) h = at_test (AllByRecursion P) (eqb x y.0) ys (y ∷ without x ys) (λ _. h.1) (λ _. (h.0, all_without P x ys h.1))
 
 pub all_at : (P : EndId → Type 0) (x : ℕ) (ys : List EndId) → AllByRecursion P ys → has_end x ys ≡ true → P (record { 0 = x })
 all_at P x [] h there = absurd (false≢true there)

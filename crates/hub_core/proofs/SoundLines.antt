@@ -101,16 +101,10 @@ held_line f s h held = ⊎_elim (λ under. under) (λ past. absurd (false≢true
 -- a line with a poster is one of its end
 some_line : (f : Facts) (s : Sender) → LinesAt f s.end.0 → (p : Option Kind) → (f.end s.end.0).kind ≡ p → is_some (poster_of f s p) ≡ true → s.line.0 < lines_of p
 some_line f s h None is speaks = absurd (false≢true speaks)
-some_line f s h (Some (Port q)) is speaks = elim (eqb s.line.0 0) as (λ b. eqb s.line.0 0 ≡ b → is_some (cond b (holder f q.0) None) ≡ true → s.line.0 < 1) [
-  | true ↦ λ zeroth _. let first : s.line.0 ≡ 0 = eqb-true s.line.0 0 zeroth in omega arith
-  | false ↦ λ _ no. absurd (false≢true no)
-] refl speaks
+some_line f s h (Some (Port q)) is speaks = at_test (λ q. is_some q ≡ true → s.line.0 < 1) (eqb s.line.0 0) (holder f q.0) None (λ zeroth _. let first : s.line.0 ≡ 0 = eqb-true s.line.0 0 zeroth in omega arith) (λ _ no. absurd (false≢true no)) speaks
 some_line f s h (Some Client) is speaks = subst (λ p. s.line.0 < lines_of p) is (held_line f s h speaks)
 some_line f s h (Some Worker) is speaks = subst (λ p. s.line.0 < lines_of p) is (held_line f s h speaks)
-some_line f s h (Some (Member a)) is speaks = elim (eqb s.line.0 0) as (λ b. eqb s.line.0 0 ≡ b → is_some (cond b (speaker f s.end.0) None) ≡ true → s.line.0 < 1) [
-  | true ↦ λ zeroth _. let first : s.line.0 ≡ 0 = eqb-true s.line.0 0 zeroth in omega arith
-  | false ↦ λ _ no. absurd (false≢true no)
-] refl speaks
+some_line f s h (Some (Member a)) is speaks = at_test (λ q. is_some q ≡ true → s.line.0 < 1) (eqb s.line.0 0) (speaker f s.end.0) None (λ zeroth _. let first : s.line.0 ≡ 0 = eqb-true s.line.0 0 zeroth in omega arith) (λ _ no. absurd (false≢true no)) speaks
 
 heard_line : (f : Facts) (l : ℕ) (p : Option Kind) → (eqb l 0 && is_here (option_and_then (λ q. (f.end q).place) (peer_of p))) ≡ true → l < lines_of p
 heard_line f l (Some (Port q)) h = let zeroth : l ≡ 0 = eqb-true l 0 (and_parts (eqb l 0) (is_here (f.end q.0).place) h).0 in omega arith
@@ -132,10 +126,7 @@ by_more line ts v b is = filter-append _ ts (v ∷ []) ∙ ap (λ c. by line ts 
 -- what was accepted of a line is of queues that the line came to
 pub line_epochs : (x n : ℕ) (line : ℕ → LineNow) (vs : List Envelope) (l : ℕ) → AllByRecursion (IsOfEnd x n line) vs → AllByRecursion (λ (u : Envelope). u.epoch ≤ (line l).stand) (by l vs)
 line_epochs x n line [] l h = tt
-line_epochs x n line (v ∷ vs) l h = elim (eqb v.line.0 l) as (λ b. eqb v.line.0 l ≡ b → AllByRecursion (λ (u : Envelope). u.epoch ≤ (line l).stand) (cond b (v ∷ by l vs) (by l vs))) [
-  | true ↦ λ t. let same : v.line.0 ≡ l = search (rules, t) in (subst (λ k. v.epoch ≤ (line k).stand) same h.0.epoch, line_epochs x n line vs l h.1)
-  | false ↦ λ t. line_epochs x n line vs l h.1
-] refl
+line_epochs x n line (v ∷ vs) l h = at_test (AllByRecursion (λ (u : Envelope). u.epoch ≤ (line l).stand)) (eqb v.line.0 l) (v ∷ by l vs) (by l vs) (λ t. let same : v.line.0 ≡ l = search (rules, t) in (subst (λ k. v.epoch ≤ (line k).stand) same h.0.epoch, line_epochs x n line vs l h.1)) (λ t. line_epochs x n line vs l h.1)
 
 -- numbers
 abbrev pub Numbered : List ℕ → Type 0

@@ -6,7 +6,7 @@ use Rattle.hub_core.specs.declared.step.Action.TheVariants as action
 use Rattle.hub_core.specs.declared.outcome.Outcome.TheVariants as outcome
 use Rattle.hub_core.proofs.Fitting.{SweptWith, cleared_of, each_of, got_of, let_in_of, looked_where, noticed_of, pushed_of, swept_of, went_on_of}
 use Rattle.hub_core.proofs.Totals.{nothing_there}
-use Rattle.hub_core.proofs.Lists.{AllByRecursion-append, AllByRecursion-weaker, eqb_same}
+use Rattle.hub_core.proofs.Lists.{AllByRecursion-append, AllByRecursion-weaker, eqb_same, at_test}
 use Rattle.hub_core.proofs.Nexts.{next}
 use Rattle.hub_core.proofs.SoundLines.{LinesAt, MayPut, by_more, inside_unsettled, message_may, notice_may, phased_line}
 use Rattle.hub_core.proofs.Waits.{from_queue}
@@ -48,10 +48,9 @@ relined : (n t : ℕ) (closed : Bool) (line after : ℕ → LineNow) (clear : �
 relined n t closed line after clear vs ts ds nobody h = record { unclear = h.unclear; reached = h.reached; from = h.from; kept = h.kept; nobody = nobody; swept = h.swept }
 
 left_phased : (f : Facts) (t : Sender) (p : Phase) (x : ℕ) → (p ≡ Inside → f.discarded t.end.0 ≡ []) → LeavingsAt f x → Leavings (f.end x).newest (f.end x).taker_stand (f.end x).closed (phased_line f t p x) (f.clear x) (f.accepted x) (f.taken x) (f.discarded x)
-left_phased f t p x may h = relined _ _ _ (f.line x) _ _ _ _ _ (λ l is. elim (eqb x t.end.0 && eqb l t.line.0) as (λ b. (eqb x t.end.0 && eqb l t.line.0) ≡ b → cond b p (f.line x l).phase ≡ Inside → f.discarded x ≡ []) [
-  | true ↦ λ on inside. let here : x ≡ t.end.0 = eqb-true x t.end.0 (and_parts (eqb x t.end.0) (eqb l t.line.0) on).0 in ap f.discarded here ∙ may inside
-  | false ↦ λ on inside. h.nobody l inside
-] refl is) h
+left_phased f t p x may h = relined _ _ _ (f.line x) _ _ _ _ _ (λ l is. at_test (λ q. q ≡ Inside → f.discarded x ≡ []) (eqb x t.end.0 && eqb l t.line.0) p (f.line x l).phase
+    (λ on inside. let here : x ≡ t.end.0 = eqb-true x t.end.0 (and_parts (eqb x t.end.0) (eqb l t.line.0) on).0 in ap f.discarded here ∙ may inside)
+    (λ on inside. h.nobody l inside) is) h
 
 -- ---- pushing
 
@@ -134,10 +133,7 @@ all_by_lines P [] h = tt
 all_by_lines P (v ∷ vs) h =
     let mine : AllByRecursion P (v ∷ by v.line.0 vs) = subst (λ b. AllByRecursion P (cond b (v ∷ by v.line.0 vs) (by v.line.0 vs))) (eqb_same v.line.0) (h v.line.0) in (
       mine.0,
-      all_by_lines P vs (λ l. elim (eqb v.line.0 l) as (λ b. AllByRecursion P (cond b (v ∷ by l vs) (by l vs)) → AllByRecursion P (by l vs)) [
-        | true ↦ λ both. both.1
-        | false ↦ λ rest. rest
-      ] (h l)),
+      all_by_lines P vs (λ l. at_test (λ us. AllByRecursion P us → AllByRecursion P (by l vs)) (eqb v.line.0 l) (v ∷ by l vs) (by l vs) (λ _ both. both.1) (λ _ rest. rest) (h l)),
     )
 
 pub same_rises : (t : ℕ) (vs : List Envelope) → AllByRecursion (λ (v : Envelope). v.epoch ≡ t) vs → Rises vs

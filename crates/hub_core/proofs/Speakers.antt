@@ -4,7 +4,7 @@ use Rattle.hub_core.proofs.Words.{AgentId, AllByRecursion, CastNow, Client, EndI
 use Rattle.hub_core.proofs.Words.{has_poster, has_poster_of, hears_notice, holder, is_at, is_first, is_here, is_holder, is_named, is_out, is_queue, is_released, is_some, is_with, lines_of, list_all, maker_of, may_enter, may_leave_agent, names, naming, no_end, on_line, opened, option_and_then}
 use Rattle.hub_core.proofs.Words.{or_right, own_line_plain, own_poster_out, peer_of, phase_of_line, place, poster, poster_of, running, running_at, speaker_in, total, cases_lt}
 use Rattle.hub_core.proofs.Fitting.{SweptWith}
-use Rattle.hub_core.proofs.Lists.{eqb_same}
+use Rattle.hub_core.proofs.Lists.{eqb_same, at_test}
 use Rattle.hub_core.proofs.SoundLines.{LinesAt, line_there}
 use Rattle.hub_core.proofs.SoundWaiting.{WaitingAt, all_removed, got_prefix, nothing_more}
 use Rattle.hub_core.proofs.Totals.{bit, count, count_append, count_lines, count_more, total_less, total_more}
@@ -83,32 +83,27 @@ pub made_by : (p : Option Kind) → is_some (maker_of p) ≡ true → (a : Agent
 made_by (Some (Member a)) h = (a, refl)
 made_by _ h = absurd (false≢true h)
 
-casts_by : (f : Facts) (s : Sender) (a : AgentId) → (f.end s.end.0).kind ≡ Some (Member a) → s.line.0 ≡ 0 → (o : Option CastNow) → f.roster.cast ≡ o → is_some (speaker_in f s.end.0 o) ≡ true → (b : AgentId) × Casts f s b
-casts_by f s a kind line None is h = absurd (false≢true h)
-casts_by f s a kind line (Some c) is h = elim (is_first s.end.0 c.left) as (λ b. is_first s.end.0 c.left ≡ b → is_some (cond b (maker_of (f.end c.source.0).kind) None) ≡ true → (b : AgentId) × Casts f s b) [
-  | true ↦ λ first made.
-      let by = made_by (f.end c.source.0).kind made in
-      (by.0, record { line = line; maker = a; member = kind; cast = c; is_open = is; first = first; source = by.1 })
-  | false ↦ λ _ none. absurd (false≢true none)
-] refl h
-
 abbrev pub SomeCasts : Facts → Sender → Type 0
 SomeCasts f s = (b : AgentId) × Casts f s b
 
+casts_by : (f : Facts) (s : Sender) (a : AgentId) → (f.end s.end.0).kind ≡ Some (Member a) → s.line.0 ≡ 0 → (o : Option CastNow) → f.roster.cast ≡ o → is_some (speaker_in f s.end.0 o) ≡ true → (b : AgentId) × Casts f s b
+casts_by f s a kind line None is h = absurd (false≢true h)
+casts_by f s a kind line (Some c) is h = at_test (λ q. is_some q ≡ true → SomeCasts f s) (is_first s.end.0 c.left) (maker_of (f.end c.source.0).kind) None
+    (λ first made.
+    let by = made_by (f.end c.source.0).kind made in
+    (by.0, record { line = line; maker = a; member = kind; cast = c; is_open = is; first = first; source = by.1 }))
+    (λ _ none. absurd (false≢true none)) h
+
 speaks_by : (f : Facts) (s : Sender) (p : Option Kind) → (f.end s.end.0).kind ≡ p → is_some (poster_of f s p) ≡ true → Speaks f s ⊎ (HoldsLine f s ⊎ SomeCasts f s)
 speaks_by f s None is h = absurd (false≢true h)
-speaks_by f s (Some (Port q)) is h = elim (eqb s.line.0 0) as (λ b. eqb s.line.0 0 ≡ b → is_some (cond b (holder f q.0) None) ≡ true → Speaks f s ⊎ (HoldsLine f s ⊎ SomeCasts f s)) [
-  | true ↦ λ line held.
-      let there = runs_there f (f.end q.0).place held in
-      inl (record { line = eqb-true s.line.0 0 line; peer = q.0; entangled = ap peer_of is; agent = there.0; has = there.1; runs = there.2 })
-  | false ↦ λ line none. absurd (false≢true none)
-] refl h
+speaks_by f s (Some (Port q)) is h = at_test (λ p. is_some p ≡ true → Speaks f s ⊎ (HoldsLine f s ⊎ SomeCasts f s)) (eqb s.line.0 0) (holder f q.0) None
+    (λ line held.
+    let there = runs_there f (f.end q.0).place held in
+    inl (record { line = eqb-true s.line.0 0 line; peer = q.0; entangled = ap peer_of is; agent = there.0; has = there.1; runs = there.2 }))
+    (λ line none. absurd (false≢true none)) h
 speaks_by f s (Some Client) is h = inr (inl (held_by_one f s (ap is_queue is) h))
 speaks_by f s (Some Worker) is h = inr (inl (held_by_one f s (ap is_queue is) h))
-speaks_by f s (Some (Member a)) is h = elim (eqb s.line.0 0) as (λ b. eqb s.line.0 0 ≡ b → is_some (cond b (speaker_in f s.end.0 f.roster.cast) None) ≡ true → Speaks f s ⊎ (HoldsLine f s ⊎ SomeCasts f s)) [
-  | true ↦ λ line speaks. inr (inr (casts_by f s a is (eqb-true s.line.0 0 line) f.roster.cast refl speaks))
-  | false ↦ λ line none. absurd (false≢true none)
-] refl h
+speaks_by f s (Some (Member a)) is h = at_test (λ p. is_some p ≡ true → Speaks f s ⊎ (HoldsLine f s ⊎ SomeCasts f s)) (eqb s.line.0 0) (speaker_in f s.end.0 f.roster.cast) None (λ line speaks. inr (inr (casts_by f s a is (eqb-true s.line.0 0 line) f.roster.cast refl speaks))) (λ line none. absurd (false≢true none)) h
 
 pub speaks_of : (f : Facts) (s : Sender) → is_some (poster f s) ≡ true → Speaks f s ⊎ (HoldsLine f s ⊎ SomeCasts f s)
 speaks_of f s h = speaks_by f s (f.end s.end.0).kind refl h
@@ -171,10 +166,7 @@ taken_flies f e v x s n opened made named =
     let same : gone e.0 ≡ count P (f.taken e.0) = ap (naming x) (nothing_more (f.taken e.0) (f.discarded e.0) ((s.waiting e.0).kept opened)) in
     let grows : total top f.ends ≡ total gone f.ends + 1 = total_more gone top f.ends e.0 1 made (ap (λ b. cond b (gone e.0 + 1) (gone e.0)) (eqb_same e.0)) (λ d other. ap (λ b. cond b (gone d + 1) (gone d)) (ne_eqb d e.0 other)) in
     let mine : gone e.0 + 1 ≤ u e.0 = omega arith in
-    let under : total top f.ends ≤ total u f.ends = total_less top u f.ends (λ d. elim (eqb d e.0) as (λ b. eqb d e.0 ≡ b → cond b (gone d + 1) (gone d) ≤ u d) [
-      | true ↦ λ t. let here : d ≡ e.0 = search (rules, t) in subst (λ y. gone y + 1 ≤ u y) (sym here) mine
-      | false ↦ λ t. count_lines P (f.taken d ++ f.discarded d) (f.accepted d) ((s.waiting d).prefix)
-    ] refl) in
+    let under : total top f.ends ≤ total u f.ends = total_less top u f.ends (λ d. at_test (λ n. n ≤ u d) (eqb d e.0) (gone d + 1) (gone d) (λ t. let here : d ≡ e.0 = search (rules, t) in subst (λ y. gone y + 1 ≤ u y) (sym here) mine) (λ t. count_lines P (f.taken d ++ f.discarded d) (f.accepted d) ((s.waiting d).prefix))) in
     let sum : total u f.ends ≡ total gone f.ends + flights (f.end x).place = s.places.flights x in
     flying (f.end x).place (omega arith)
 
@@ -213,13 +205,12 @@ swept_within f e vs x s w =
     let top : ℕ → ℕ = λ d. naming x (f.taken d ++ cond (eqb d e.0) (f.discarded d ++ vs) (f.discarded d)) in
     let gone : ℕ → ℕ = λ d. naming x (f.taken d ++ f.discarded d) in
     let grows : total top f.ends ≡ total gone f.ends + naming x vs = swept_total f e vs x made in
-    let under : total top f.ends ≤ total u f.ends = total_less top u f.ends (λ d. elim (eqb d e.0) as (λ b. eqb d e.0 ≡ b → naming x (f.taken d ++ cond b (f.discarded d ++ vs) (f.discarded d)) ≤ u d) [
-      | true ↦ λ is.
-          let here : d ≡ e.0 = eqb-true d e.0 is in
-          let all : IsAllWaiting f d vs = subst (λ y. IsAllWaiting f y vs) (sym here) w.all in
-          count_lines P (f.taken d ++ (f.discarded d ++ vs)) (f.accepted d) (λ l. ([], sym (append-nil (by l (f.taken d ++ (f.discarded d ++ vs))) ∙ all_removed f d vs (s.waiting d) all l)))
-      | false ↦ λ is. count_lines P (f.taken d ++ f.discarded d) (f.accepted d) ((s.waiting d).prefix)
-    ] refl) in
+    let under : total top f.ends ≤ total u f.ends = total_less top u f.ends (λ d. at_test (λ ws. naming x (f.taken d ++ ws) ≤ u d) (eqb d e.0) (f.discarded d ++ vs) (f.discarded d)
+    (λ is.
+    let here : d ≡ e.0 = eqb-true d e.0 is in
+    let all : IsAllWaiting f d vs = subst (λ y. IsAllWaiting f y vs) (sym here) w.all in
+    count_lines P (f.taken d ++ (f.discarded d ++ vs)) (f.accepted d) (λ l. ([], sym (append-nil (by l (f.taken d ++ (f.discarded d ++ vs))) ∙ all_removed f d vs (s.waiting d) all l))))
+    (λ is. count_lines P (f.taken d ++ f.discarded d) (f.accepted d) ((s.waiting d).prefix))) in
     let sum : total u f.ends ≡ total gone f.ends + flights (f.end x).place = s.places.flights x in
     omega arith
 
@@ -289,10 +280,9 @@ same_sender s t end line = λ i. record { end = record { 0 = end i }; line = rec
 
 -- a line that another one isn't stays held
 pub still_held : (f : Facts) (s t : Sender) (holder : Option AgentId) (a : AgentId) → (f.line s.end.0 s.line.0).held_by ≡ Some a → (s ≡ t → ⊥) → on_line s.end.0 s.line.0 t holder (f.line s.end.0 s.line.0).held_by ≡ Some a
-still_held f s t holder a held other = elim (eqb s.end.0 t.end.0 && eqb s.line.0 t.line.0) as (λ b. (eqb s.end.0 t.end.0 && eqb s.line.0 t.line.0) ≡ b → cond b holder (f.line s.end.0 s.line.0).held_by ≡ Some a) [
-  | true ↦ λ is. let both = and_parts (eqb s.end.0 t.end.0) (eqb s.line.0 t.line.0) is in absurd (other (same_sender s t (eqb-true s.end.0 t.end.0 both.0) (eqb-true s.line.0 t.line.0 both.1)))
-  | false ↦ λ is. held
-] refl
+still_held f s t holder a held other = at_test (λ q. q ≡ Some a) (eqb s.end.0 t.end.0 && eqb s.line.0 t.line.0) holder (f.line s.end.0 s.line.0).held_by
+    (λ is. let both = and_parts (eqb s.end.0 t.end.0) (eqb s.line.0 t.line.0) is in absurd (other (same_sender s t (eqb-true s.end.0 t.end.0 both.0) (eqb-true s.line.0 t.line.0 both.1))))
+    (λ is. held)
 
 -- ---- broadcast channels
 

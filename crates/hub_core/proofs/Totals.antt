@@ -1,7 +1,7 @@
 -- Sums and lists over numbers, counts of envelopes line by line, and the queues of an end joined to one list.
 use Rattle.std.proofs.Common.{Bool, List, [], ap, arith, cond, eqb, false, length, length-append, refl, rules, subst, suc, sym, true, zero, ℕ, ◌++◌, ◌+◌, ◌<◌, ◌∙◌, ◌∷◌, ◌≡◌, ◌≤◌, ⊎_elim, ltb, map, inl, inr, append-nil, append_assoc, Some, not, ◌&&◌, lt-ltb, ne_eqb}
 use Rattle.hub_core.proofs.Words.{AllByRecursion, Envelope, Prefix, by, filter, filter-append, nat_tests, total, cases_eq, slice_get, flat_map, eqb-true, cases_order, le-ltb, eq-eqb, map-append, length-map, append_cancel_left, flat_map-append, in_queue, Rises, up_to}
-use Rattle.hub_core.proofs.Lists.{AllByRecursion-weaker, eqb_same, none_got, got_push}
+use Rattle.hub_core.proofs.Lists.{AllByRecursion-weaker, eqb_same, none_got, got_push, at_test}
 
 -- ==== Sums over numbers, and counts of envelopes line by line.
 
@@ -252,10 +252,7 @@ filter_both p q (v ∷ vs) = elim (p v) as (λ b. filter q (cond b (v ∷ filter
 -- the envelopes of a line bear its number
 pub of_line : (l : ℕ) (vs : List Envelope) → AllByRecursion (λ (u : Envelope). u.line.0 ≡ l) (by l vs)
 of_line l [] = tt
-of_line l (v ∷ vs) = elim (eqb v.line.0 l) as (λ b. eqb v.line.0 l ≡ b → AllByRecursion (λ (u : Envelope). u.line.0 ≡ l) (cond b (v ∷ by l vs) (by l vs))) [
-  | true ↦ λ is. (eqb-true v.line.0 l is, of_line l vs)
-  | false ↦ λ _. of_line l vs
-] refl
+of_line l (v ∷ vs) = at_test (AllByRecursion (λ (u : Envelope). u.line.0 ≡ l)) (eqb v.line.0 l) (v ∷ by l vs) (by l vs) (λ is. (eqb-true v.line.0 l is, of_line l vs)) (λ _. of_line l vs)
 
 -- where nothing of any line is there, nothing is there
 pub nothing_there : (vs : List Envelope) → ((l : ℕ) → by l vs ≡ []) → vs ≡ []

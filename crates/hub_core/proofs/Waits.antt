@@ -2,7 +2,7 @@
 use Rattle.std.proofs.Common.{◌≡◌, ℕ, ◌<◌, ◌≤◌, Bool, true, false, cond, eqb, List, [], ◌∷◌, ◌++◌, refl, sym, ap, subst, ◌∙◌, arith, rules, append-nil, append_assoc, ne_eqb, ⊎_elim, Some}
 use Rattle.hub_core.proofs.Words.{filter, AllByRecursion, eqb-true, eqb-false, nat_tests, append_cancel_left, filter-append, Envelope, by, in_queue, Prefix, Rises, cases_lt, false≢true, recursion_from_All, All-from_recursion, Queue, pop_of, popped, IsNamed, IsQueue, HoldsFirst, without_first}
 use Rattle.hub_core.proofs.Words.{taken_out}
-use Rattle.hub_core.proofs.Lists.{eqb_same, AllByRecursion-append}
+use Rattle.hub_core.proofs.Lists.{eqb_same, AllByRecursion-append, at_test}
 
 -- ==== What waits at an end, queue by queue and line by line.
 
@@ -10,10 +10,7 @@ use Rattle.hub_core.proofs.Lists.{eqb_same, AllByRecursion-append}
 
 pub all_kept : {A : Type 0} (P : A → Type 0) (q : A → Bool) (xs : List A) → AllByRecursion P xs → AllByRecursion P (filter q xs)
 all_kept P q [] h = tt
-all_kept P q (x ∷ xs) h = elim (q x) as (λ b. AllByRecursion P (cond b (x ∷ filter q xs) (filter q xs))) [
-  | true ↦ (h.0, all_kept P q xs h.1)
-  | false ↦ all_kept P q xs h.1
-]
+all_kept P q (x ∷ xs) h = at_test (AllByRecursion P) (q x) (x ∷ filter q xs) (filter q xs) (λ _. (h.0, all_kept P q xs h.1)) (λ _. all_kept P q xs h.1)
 
 pub all_back : {A : Type 0} (P : A → Type 0) (xs ys : List A) → AllByRecursion P (xs ++ ys) → AllByRecursion P ys
 all_back P [] ys h = h
@@ -39,10 +36,7 @@ filters p q (x ∷ xs) = elim (p x) as (λ b. p x ≡ b → filter p (filter q (
 -- the envelopes of a queue bear its epoch
 pub of_queue : (k : ℕ) (vs : List Envelope) → AllByRecursion (λ (u : Envelope). u.epoch ≡ k) (in_queue k vs)
 of_queue k [] = tt
-of_queue k (v ∷ vs) = elim (eqb v.epoch k) as (λ b. eqb v.epoch k ≡ b → AllByRecursion (λ (u : Envelope). u.epoch ≡ k) (cond b (v ∷ in_queue k vs) (in_queue k vs))) [
-  | true ↦ λ is. (eqb-true v.epoch k is, of_queue k vs)
-  | false ↦ λ _. of_queue k vs
-] refl
+of_queue k (v ∷ vs) = at_test (AllByRecursion (λ (u : Envelope). u.epoch ≡ k)) (eqb v.epoch k) (v ∷ in_queue k vs) (in_queue k vs) (λ is. (eqb-true v.epoch k is, of_queue k vs)) (λ _. of_queue k vs)
 
 pub all_of_queue : (k : ℕ) (vs : List Envelope) → AllByRecursion (λ (v : Envelope). v.epoch ≡ k) vs → in_queue k vs ≡ vs
 all_of_queue k [] h = refl
@@ -153,10 +147,7 @@ first_back line l v (u ∷ us) rest mine is = elim (eqb u.line.0 line) as (λ b.
 
 all_without : (P : Envelope → Type 0) (line : ℕ) (vs : List Envelope) → AllByRecursion P vs → AllByRecursion P (without_first line vs)
 all_without P line [] h = tt
-all_without P line (u ∷ us) h = elim (eqb u.line.0 line) as (λ b. AllByRecursion P (cond b us (u ∷ without_first line us))) [
-  | true ↦ h.1
-  | false ↦ (h.0, all_without P line us h.1)
-]
+all_without P line (u ∷ us) h = at_test (AllByRecursion P) (eqb u.line.0 line) us (u ∷ without_first line us) (λ _. h.1) (λ _. (h.0, all_without P line us h.1))
 
 pub all_front : {A : Type 0} (P : A → Type 0) (xs ys : List A) → AllByRecursion P (xs ++ ys) → AllByRecursion P xs
 all_front P [] ys h = tt
