@@ -18,13 +18,10 @@ use Rattle.hub_core.proofs.Seeing.{SoundlyShows, with_roster, Sees, seen_is}
 
 -- ---- the first roster
 
-no_agent : (xs : List (Option (List ℕ))) (a : ℕ) → xs ≡ [] → origin_at (slice_get xs a) ≡ None
-no_agent xs a none = ap (λ ys. origin_at (slice_get ys a)) none
-
 pub roster_first : (r : Roster) → IsFirst r → ShowsRoster r (facts [])
 roster_first r h = record {
   agents = ap length h.origins;
-  origins = λ a. sym (no_agent r.members.origins a h.origins);
+  origins = λ a. sym (ap (λ xs. origin_at (slice_get xs a)) h.origins);
   groups = λ x a is. absurd (search (rules, is));
   seated = h.seated;
   each = tt;

@@ -152,16 +152,13 @@ went_on_shown {ends} {f} e refused x h at opened empty retired fits =
 
 -- ---- the queue that is looked at
 
-next_up : (n m : ℕ) → n < m → n + 1 ≤ m
-next_up n m less = omega arith
-
 -- where the queues from k on are clear exactly below a number, that is the first that isn't
 first_below : (clear : ℕ → Bool) (k n last : ℕ) → k ≤ last → ((i : ℕ) → k ≤ i → clear i ≡ nat_lt i last) → first_failing clear k n ≡ cond (nat_lt last (k + n)) (Some last) None
 first_below clear k zero last from h = ap (λ b. cond b (Some last) None) (sym (le-ltb last (k + 0) (omega arith)))
 first_below clear k (suc n) last from h = ap (λ b. cond b (first_failing clear (k + 1) n) (Some k)) (h k (omega arith)) ∙ elim (nat_lt k last) as (λ b. nat_lt k last ≡ b → cond b (first_failing clear (k + 1) n) (Some k) ≡ cond (nat_lt last (k + suc n)) (Some last) None) [
   | true ↦ λ is.
       let sum : k + 1 + n ≡ k + suc n = omega arith in
-      first_below clear (k + 1) n last (next_up k last (ltb-true k last is)) (λ i more. h i (omega (arith, more))) ∙ ap (λ m. cond (nat_lt last m) (Some last) None) sum
+      first_below clear (k + 1) n last (let less : k < last = ltb-true k last is in omega arith) (λ i more. h i (omega (arith, more))) ∙ ap (λ m. cond (nat_lt last m) (Some last) None) sum
   | false ↦ λ is.
       let most : last ≤ k = ltb-false k last is in
       let same : k ≡ last = omega arith in

@@ -235,9 +235,6 @@ same_of v w is = and_from _ _ (eq-eqb v.line.0 w.line.0 is.line) (and_from _ _ (
 other_name : (v w : Envelope) → (IsSameName v w → ⊥) → same_name v w ≡ false
 other_name v w other = false_from_ne_true (same_name v w) (λ is. other (parts_of v w is))
 
-either_way : (v w : Envelope) → same_name v w ≡ false → same_name w v ≡ false
-either_way v w other = other_name w v (λ is. false≢true (sym other ∙ same_of v w (record { line = sym is.line; epoch = sym is.epoch; number = sym is.number })))
-
 -- the numbers of a line and a queue, without the first envelope
 rest_distinct : (b : Bool) (v : Envelope) (us : List Envelope) → AreDistinctNumbers (map (λ (u : Envelope). u.number) (cond b (v ∷ us) us)) → AreDistinctNumbers (map (λ (u : Envelope). u.number) us)
 rest_distinct true v us h = h.1
@@ -303,7 +300,7 @@ all_gone (v ∷ vs) = (
 not_gone : (l : ℕ) (v : Envelope) (gone : List Envelope) → v.line.0 ≡ l → AllByRecursion (λ u. same_name u v ≡ false) (by l gone) → is_gone gone v ≡ false
 not_gone l v [] line h = refl
 not_gone l v (u ∷ gone) line h = at_test (λ us. AllByRecursion (λ w. same_name w v ≡ false) us → is_gone (u ∷ gone) v ≡ false) (eqb u.line.0 l) (u ∷ by l gone) (by l gone)
-    (λ _ none. or_from _ _ (either_way u v none.0) (not_gone l v gone line none.1))
+    (λ _ none. or_from _ _ (other_name v u (λ is. false≢true (sym none.0 ∙ same_of u v (record { line = sym is.line; epoch = sym is.epoch; number = sym is.number })))) (not_gone l v gone line none.1))
     (λ away none. or_from _ _ (other_name v u (λ is. false≢true (sym away ∙ eq-eqb u.line.0 l (sym is.line ∙ line)))) (not_gone l v gone line none)) h
 
 -- Of a line whose first envelopes are gone, those whose names are not gone are the rest.

@@ -1,10 +1,10 @@
 -- The mailbox of an end goes on by the events of each pair that fits.
-use Rattle.std.proofs.Common.{Bool, List, None, Option, Some, [], ap, arith, cond, eqb, false, inl, length, not, refl, subst, sym, true, ℕ, ◌&&◌, ◌++◌, ◌+◌, ◌-◌, ◌<◌, ◌∷◌, ◌≡◌, ◌≤◌, set, ◌∙◌, append_assoc, append-nil, length-set, length-append, zero, suc, map, replicate, ⊎_elim}
+use Rattle.std.proofs.Common.{Bool, List, None, Option, Some, [], ap, arith, cond, eqb, false, inl, length, not, refl, subst, sym, true, ℕ, ◌&&◌, ◌++◌, ◌+◌, ◌-◌, ◌<◌, ◌∷◌, ◌≡◌, ◌≤◌, set, ◌∙◌, append_assoc, append-nil, length-set, length-append, zero, suc, map, replicate, ⊎_elim, ne_eqb}
 use Rattle.hub_core.proofs.Words.{Action, Answers, Client, EndId, Facts, FitsSweep, FitsTake, HoldsNothing, Inside, IsDrained, IsLeft, IsSettled, Kind, Mailbox, MailboxEvent, Member, OneRight, Out, Outcome, Port, Sound, Turned, Worker, add, advance, at_gate, close, enable, enter, eqb-true}
 use Rattle.hub_core.proofs.Words.{events_of, finds_busy, finds_busy_at, gives_rights, hop, in_queue, kind_after, leaving, lets_in, lines_of, look, look_answer, looked, named_envelope, named_notice, not-false, opened, or_parts, pop, push, rights_of, says_closed, says_done, says_moved, someone_at}
 use Rattle.hub_core.proofs.Words.{sweeping, unsettled, flat_map, slice_get, get_or_from_slice_get, append_cancel_left, filter-append, Envelope, Prefix, Gate, Steps, finds_moved, Queue, new_queue, pushed, QueueAt, got_from, IsMailbox, put_in, got_in, MailboxStep, gate_steps, pushes, takes, sweeps}
 use Rattle.hub_core.proofs.Words.{finds_none, hops, advances, adds, HoldsFirst, without_first, taken_out, with_gate, with_queue, with_stand, with_new, Happen, gate_after, with_gate_after, with_queue_after, after_event, after_events, false≢true, false_from_ne_true, eqb-false, flat_map-append}
-use Rattle.hub_core.proofs.Words.{length-replicate, Phase, EndNow, LineNow, accepted_by, ends_after, is_client, is_worker, by, no_end, no_line, IsAt, new_mailbox, first_mailbox, made_as, after_pair}
+use Rattle.hub_core.proofs.Words.{length-replicate, Phase, EndNow, LineNow, accepted_by, ends_after, is_client, is_worker, by, no_end, no_line, IsAt, new_mailbox, first_mailbox, made_as, after_pair, eq-eqb, cases_eq}
 use Rattle.hub_core.specs.declared.step.Action.TheVariants as action
 use Rattle.hub_core.specs.declared.outcome.Outcome.TheVariants as outcome
 use Rattle.hub_core.proofs.Fitting.{FindsBusy, adopted_of, cleared_of, got_of, hopped_of, look_busy_of, noticed_of, pushed_of, swept_of, went_on_of, served_of, new_ends, queue_made_of, member_made_of}
@@ -361,10 +361,10 @@ makes_one : (f : Facts) (e : ℕ) (x : EndId) (k : Kind) (a : Action) → x ≡ 
     → view (next f a (outcome.End x)) e ≡ record (view f e) { kind = ((next f a (outcome.End x)).end e).kind } → Makes f e (outcome.End x) a
 makes_one f e x k a first kind count same =
     let number : x.0 ≡ f.ends = ap (λ (n : EndId). n.0) first in
-    elim (eqb e x.0) as (λ b. eqb e x.0 ≡ b → Makes f e (outcome.End x) a) [
-      | true ↦ λ here. let is : e ≡ x.0 = eqb-true e x.0 here in makes k (kind ∙ ap (λ b. cond b (Some k) None) here) (omega arith) same
-      | false ↦ λ other. let differ = eqb-false e x.0 other in leaves (kind ∙ ap (λ b. cond b (Some k) None) other) (λ within. let below : e < f.ends + 1 = subst (λ n. e < n) count within in omega arith)
-    ] refl
+    ⊎_elim
+    (λ is. makes k (kind ∙ ap (λ b. cond b (Some k) None) (eq-eqb e x.0 is)) (omega arith) same)
+    (λ differ. leaves (kind ∙ ap (λ b. cond b (Some k) None) (ne_eqb e x.0 differ)) (λ within. let below : e < f.ends + 1 = subst (λ n. e < n) count within in omega arith))
+    (cases_eq e x.0)
 
 makes_or : (f : Facts) (e : ℕ) (refused : Bool) (o : Outcome) (a : Action) → Answers f a refused o → Makes f e o a
 makes_or f e refused (outcome.Ends x y) (action.Channel a) fits =

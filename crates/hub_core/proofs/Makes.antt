@@ -57,9 +57,6 @@ line_first : (n l : ℕ) → line_now (slice_get (replicate n first_line) l) ≡
 line_first (suc n) (suc l) = line_first n l
 line_first _ _ = refl
 
-new_line : (n : ℕ) (line : ℕ → LineNow) → ((l : ℕ) → line l ≡ no_line) → (l : ℕ) → line l ≡ line_now (slice_get (replicate n first_line) l)
-new_line n line h l = h l ∙ sym (line_first n l)
-
 new_put : (n l i : ℕ) → ShowsPut [] i (slice_get (replicate n first_line) l)
 new_put zero l i = tt
 new_put (suc n) zero i = refl
@@ -74,11 +71,11 @@ none_below k = search (rules, nat_tests)
 
 -- an end that has just been made
 new_shown : {now : EndNow} {line : ℕ → LineNow} {clear : ℕ → Bool} {vs ts : List Envelope} (a : AgentId) (k : Kind) → now ≡ end_now (Some (new_end a k)) → ((l : ℕ) → line l ≡ no_line) → ((k : ℕ) → clear k ≡ false) → vs ≡ [] → ts ≡ [] → ShowsEnd now line clear vs ts (Some (new_end a k))
-new_shown {line = line} a k is lines unclear accepted taken =
+new_shown a k is lines unclear accepted taken =
     rw (accepted, taken) (record {
       same = is;
       count = length-replicate (lines_of (Some k)) first_line ∙ ap (λ (y : EndNow). lines_of y.kind) (sym is);
-      lines = new_line (lines_of (Some k)) line lines;
+      lines = λ l. lines l ∙ sym (line_first (lines_of (Some k)) l);
       put = λ l. new_put (lines_of (Some k)) l l;
       queues = record { reached = omega arith; clear_below = λ k from. unclear k ∙ sym (none_below k); count = λ _. refl; inside = λ l at. absurd (search (rules, sym (ap (λ (y : LineNow). y.phase) (lines l)) ∙ at)); behind = λ k less. refl; each = no_queue };
     })

@@ -32,14 +32,11 @@ takes_none f e refused (outcome.Got v) (action.Take t) closed fits = at_test (λ
     (λ is. refl)
 takes_none f e refused o a closed fits = refl
 
-take_fits : (f : Facts) (a : Action) (t : EndId) (refused : Bool) (o : Outcome) → a ≡ action.Take t → Answers f a refused o → FitsTake f t o
-take_fits f a t refused o is fits = subst (λ b. Answers f b refused o) is fits
-
 pub taken_closed : (past rest : History) (e : ℕ) → LegalAfter past rest → ((facts past).end e).closed ≡ true → taken (past ++ rest) e ≡ taken past e
 taken_closed past [] e l closed = ap (λ h. taken h e) (append-nil past)
 taken_closed past (p ∷ rest) e l closed =
     let still : ((facts (past ++ p ∷ [])).end e).closed ≡ true = ap (λ (f : Facts). (f.end e).closed) (facts_next past p) ∙ stays_closed e ((facts past).end e).closed p.1 p.0.action closed in
-    let none : taken_by e p.1 p.0.action ≡ [] = takes_none (facts past) e p.0.memory_refused p.1 p.0.action closed (λ t v is got. (subst (FitsTake (facts past) t) got (take_fits (facts past) p.0.action t p.0.memory_refused p.1 is l.0))) in
+    let none : taken_by e p.1 p.0.action ≡ [] = takes_none (facts past) e p.0.memory_refused p.1 p.0.action closed (λ t v is got. (subst (FitsTake (facts past) t) got (subst (λ b. Answers (facts past) b p.0.memory_refused p.1) is l.0))) in
     let one : taken (past ++ p ∷ []) e ≡ taken past e =
     flat_map-append (λ (q : Pair). taken_by e q.1 q.0.action) past (p ∷ []) ∙ ap (λ us. taken past e ++ (us ++ [])) none ∙ append-nil (taken past e) in
     ap (λ h. taken h e) (sym (append_assoc past (p ∷ []) rest)) ∙ taken_closed (past ++ p ∷ []) rest e l.1 still ∙ one

@@ -16,10 +16,6 @@ use Rattle.hub_core.proofs.MailboxShown.{View, view, ShownAt, HasRight, Leads, o
 
 -- ---- what is said of phases and rights
 
--- a gate that is neither moved nor closed hasn't given its rights away
-not_collected : (lines : ℕ) (g : Gate OneRight) → IsGateOf lines g → g.moved ≡ false → g.closed ≡ false → g.collected ≡ false
-not_collected lines g h moved closed = false_from_ne_true g.collected (λ given. false≢true (sym (or_from g.moved g.closed moved closed) ∙ h.shut given))
-
 one_right : (o : Option OneRight) → is_some o ≡ true → o ≡ Some tt
 one_right None h = absurd (false≢true h)
 one_right (Some r) h = refl
@@ -78,7 +74,7 @@ module _ (f : Facts) (s : Sender) (m : Mailbox OneRight) (is : ShownAt f s.end.0
       let moved : y.gate.moved ≡ false = is.is_mailbox.newest here.stand y.gate y.is_gate newest in
       let closed : y.gate.closed ≡ false = (is.flags here.stand y.gate newest y.is_gate).1 ∙ why.2 in
       let out : IsAt y.gate s.line.0 Out = out_there y why.0.out in
-      let home : slice_get y.gate.homes s.line.0 ≡ Some (Some tt) = right_home lines y.gate s.line.0 y.sound (not_collected lines y.gate y.sound moved closed) out in
+      let home : slice_get y.gate.homes s.line.0 ≡ Some (Some tt) = right_home lines y.gate s.line.0 y.sound (false_from_ne_true y.gate.collected (λ given. false≢true (sym (or_from y.gate.moved y.gate.closed moved closed) ∙ y.sound.shut given))) out in
       moves y (with_home (with_phase y.gate s.line.0 Inside) s.line.0 None) (machine.enter s.line.0) (machine.lets_in tt) Inside
       (gate_steps here.stand y.gate _ (machine.enter s.line.0) (machine.lets_in tt) y.is_gate y.stands (goes_in s.line.0 tt out moved closed home)) refl refl refl refl
 

@@ -72,9 +72,6 @@ module _ (e n : ℕ) (m : Mailbox OneRight) (is : IsMailbox e n m) where
 
 -- ---- Push and Notice
 
-counted : (line k : ℕ) (vs : List Envelope) → count_in_queue line k vs ≡ length (in_queue k (by line vs))
-counted line k vs = ap length (sym (filter_both (λ v. eqb v.line.0 line) (λ v. eqb v.epoch k) vs))
-
 -- an envelope that may be put on its line is a push
 accepted_there : (f : Facts) (s : Sender) (v : Envelope) (m : Mailbox OneRight) → ShownAt f s.end.0 m → MayPut f s v
     → Leads s.end.0 (lines_of (f.end s.end.0).kind) m (push v ∷ []) (record (view f s.end.0) { accepted = f.accepted s.end.0 ++ v ∷ [] })
@@ -90,7 +87,7 @@ accepted_there f s v m is p =
     let there = got_there m.queues k (omega arith) in
     let q : Queue = there.0 in
     let after : Mailbox OneRight = with_queue m k (pushed q v) in
-    let counted_there : count_in_queue l k (f.accepted e) ≡ length (q.put l) = counted l k (f.accepted e) ∙ ap (λ us. length (in_queue k us)) (sym (is.put l)) ∙ ap length (put_there e lines m is.is_mailbox l k q there.1) in
+    let counted_there : count_in_queue l k (f.accepted e) ≡ length (q.put l) = ap length (sym (filter_both (λ v. eqb v.line.0 l) (λ v. eqb v.epoch k) (f.accepted e))) ∙ ap (λ us. length (in_queue k us)) (sym (is.put l)) ∙ ap length (put_there e lines m is.is_mailbox l k q there.1) in
     let number : v.number ≡ length (q.put l) = p.number ∙ ap (λ i. count_in_queue i (f.line e i).stand (f.accepted e)) (sym p.line) ∙ counted_there in
     let epoch : v.epoch ≡ k = p.epoch ∙ ap (λ i. (f.line e i).stand) (sym p.line) in
     let may : MayPush e k lines q v = record { named = record { end = p.end; epoch = epoch; line = low }; number = number } in

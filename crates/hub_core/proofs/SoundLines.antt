@@ -24,10 +24,6 @@ pub record Marks (lines : ℕ) (line : ℕ → LineNow) (accepted : List Envelop
 abbrev pub MarksAt : Facts → ℕ → Type 0
 MarksAt f x = Marks (lines_of (f.end x).kind) (f.line x) (f.accepted x)
 
--- lines that differ in what a mailbox shows, and in who holds them
-relined : (n : ℕ) (line after : ℕ → LineNow) (vs : List Envelope) → ((l : ℕ) → (after l).noticed ≡ (line l).noticed) → ((l : ℕ) → n ≤ l → after l ≡ no_line) → Marks n line vs → Marks n after vs
-relined n line after vs same none s = record { none = none; ports = s.ports; messages = λ l plain. s.messages l (sym (same l) ∙ plain); last = s.last }
-
 -- ---- making
 
 -- a number that no end had has no lines
@@ -82,7 +78,12 @@ MayCome f t y = (y ≡ no_line) ⊎ (t.line.0 < lines_of (f.end t.end.0).kind)
 
 -- the lines of an end where one changes, but not in whether a notice was put
 changed_line : (f : Facts) (t : Sender) (x : ℕ) (new : Bool → LineNow → LineNow) → MayCome f t (new true no_line) → ((y : LineNow) → new false y ≡ y) → ((b : Bool) (y : LineNow) → (new b y).noticed ≡ y.noticed) → MarksAt f x → Marks (lines_of (f.end x).kind) (λ l. new (eqb x t.end.0 && eqb l t.line.0) (f.line x l)) (f.accepted x)
-changed_line f t x new may others noticed s = relined _ (f.line x) (λ l. new (eqb x t.end.0 && eqb l t.line.0) (f.line x l)) (f.accepted x) (λ l. noticed (eqb x t.end.0 && eqb l t.line.0) (f.line x l)) (λ l past. none l past (eqb x t.end.0 && eqb l t.line.0) refl) s
+changed_line f t x new may others noticed s = record {
+  none = λ l past. none l past (eqb x t.end.0 && eqb l t.line.0) refl;
+  ports = s.ports;
+  messages = λ l plain. s.messages l (sym (noticed (eqb x t.end.0 && eqb l t.line.0) (f.line x l)) ∙ plain);
+  last = s.last;
+}
   where
     none : (l : ℕ) → lines_of (f.end x).kind ≤ l → (b : Bool) → (eqb x t.end.0 && eqb l t.line.0) ≡ b → new b (f.line x l) ≡ no_line
     none l past false is = others (f.line x l) ∙ s.none l past
@@ -227,9 +228,6 @@ notice_at f s v x p h true is =
 abbrev pub gone_line : Facts → Sender → ℕ → ℕ → LineNow
 gone_line f t x l = record (f.line x l) { stand = cond (eqb x t.end.0 && eqb l t.line.0) ((f.line x l).stand + 1) (f.line x l).stand }
 
-gone : (f : Facts) (t : Sender) (x : ℕ) → t.line.0 < lines_of (f.end t.end.0).kind → MarksAt f x → Marks (lines_of (f.end x).kind) (gone_line f t x) (f.accepted x)
-gone f t x low s = changed_line f t x (λ b y. record y { stand = cond b (y.stand + 1) y.stand }) (inr low) (λ y. refl) (λ b y. refl) s
-
 -- ---- who is inside
 
 -- nobody is inside a queue at which nobody is
@@ -282,5 +280,5 @@ marks_next f refused none h m outcome.Closed (action.Enter s) fits x = phased f 
 marks_next f refused none h m (outcome.Accepted n) (action.Push s ports body) fits x = put_at f s (named_envelope s n body ports) x (message_may f s ports body n (h s.end.0) (pushed_of f s ports body refused n fits)) refl (m x) (eqb x s.end.0) refl
 marks_next f refused none h m (outcome.Accepted n) (action.Notice s) fits x = notice_at f s (named_notice s n) x (notice_may f s n (noticed_of f s refused n fits)) (m x) (eqb x s.end.0) refl
 marks_next f refused none h m outcome.Left (action.Leave s) fits x = phased f s Out x (inl refl) (m x)
-marks_next f refused none h m (outcome.Hopped k) (action.Hop s) fits x = gone f s x (line_there f s (h s.end.0) (hopped_of f s k fits).may) (m x)
+marks_next f refused none h m (outcome.Hopped k) (action.Hop s) fits x = changed_line f s x (λ b y. record y { stand = cond b (y.stand + 1) y.stand }) (inr (line_there f s (h s.end.0) (hopped_of f s k fits).may)) (λ y. refl) (λ b y. refl) (m x)
 marks_next f refused none h m o a fits x = m x
