@@ -155,15 +155,14 @@ went_on_shown {ends} {f} e refused x h at opened empty retired fits =
 -- where the queues from k on are clear exactly below a number, that is the first that isn't
 first_below : (clear : ℕ → Bool) (k n last : ℕ) → k ≤ last → ((i : ℕ) → k ≤ i → clear i ≡ nat_lt i last) → first_failing clear k n ≡ cond (nat_lt last (k + n)) (Some last) None
 first_below clear k zero last from h = ap (λ b. cond b (Some last) None) (sym (le-ltb last (k + 0) (omega arith)))
-first_below clear k (suc n) last from h = ap (λ b. cond b (first_failing clear (k + 1) n) (Some k)) (h k (omega arith)) ∙ elim (nat_lt k last) as (λ b. nat_lt k last ≡ b → cond b (first_failing clear (k + 1) n) (Some k) ≡ cond (nat_lt last (k + suc n)) (Some last) None) [
-  | true ↦ λ is.
-      let sum : k + 1 + n ≡ k + suc n = omega arith in
-      first_below clear (k + 1) n last (let less : k < last = ltb-true k last is in omega arith) (λ i more. h i (omega (arith, more))) ∙ ap (λ m. cond (nat_lt last m) (Some last) None) sum
-  | false ↦ λ is.
-      let most : last ≤ k = ltb-false k last is in
-      let same : k ≡ last = omega arith in
-      ap Some same ∙ ap (λ b. cond b (Some last) None) (sym (lt-ltb last (k + suc n) (omega arith)))
-] refl
+first_below clear k (suc n) last from h = ap (λ b. cond b (first_failing clear (k + 1) n) (Some k)) (h k (omega arith)) ∙ at_test (λ q. q ≡ cond (nat_lt last (k + suc n)) (Some last) None) (nat_lt k last) (first_failing clear (k + 1) n) (Some k)
+    (λ is.
+    let sum : k + 1 + n ≡ k + suc n = omega arith in
+    first_below clear (k + 1) n last (let less : k < last = ltb-true k last is in omega arith) (λ i more. h i (omega (arith, more))) ∙ ap (λ m. cond (nat_lt last m) (Some last) None) sum)
+    (λ is.
+    let most : last ≤ k = ltb-false k last is in
+    let same : k ≡ last = omega arith in
+    ap Some same ∙ ap (λ b. cond b (Some last) None) (sym (lt-ltb last (k + suc n) (omega arith))))
 
 last_or : (n m : ℕ) → nat_lt n (m + 1) ≡ (nat_lt n m || eqb n m)
 last_or n m = grind (arith, nat_tests)

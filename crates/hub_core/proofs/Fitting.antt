@@ -299,21 +299,20 @@ pub record FirstFailing (clear : ℕ → Bool) (k n j : ℕ) : Type 0 where
 
 pub first_failing_of : (clear : ℕ → Bool) (k n j : ℕ) → first_failing clear k n ≡ Some j → FirstFailing clear k n j
 first_failing_of clear k zero j is = absurd (search (rules, is))
-first_failing_of clear k (suc n) j is = elim (clear k) as (λ b. clear k ≡ b → cond b (first_failing clear (k + 1) n) (Some k) ≡ Some j → FirstFailing clear k (suc n) j) [
-  | true ↦ λ here later.
-      let r = first_failing_of clear (k + 1) n j later in
-      let from : k + 1 ≤ j = r.from in
-      let below : j < k + 1 + n = r.below in
-      record {
-        from = omega arith;
-        below = omega arith;
-        unclear = r.unclear;
-        before = λ i low less. ⊎_elim (λ same. ap clear same ∙ here) (λ other. r.before i (next_up k i low other) less) (cases_eq i k);
-      }
-  | false ↦ λ here found.
-      let same : k ≡ j = cc in
-      record { from = omega arith; below = omega arith; unclear = ap clear (sym same) ∙ here; before = λ i low less. absurd (omega arith) }
-] refl is
+first_failing_of clear k (suc n) j is = at_test (λ q. q ≡ Some j → FirstFailing clear k (suc n) j) (clear k) (first_failing clear (k + 1) n) (Some k)
+    (λ here later.
+    let r = first_failing_of clear (k + 1) n j later in
+    let from : k + 1 ≤ j = r.from in
+    let below : j < k + 1 + n = r.below in
+    record {
+      from = omega arith;
+      below = omega arith;
+      unclear = r.unclear;
+      before = λ i low less. ⊎_elim (λ same. ap clear same ∙ here) (λ other. r.before i (next_up k i low other) less) (cases_eq i k);
+    })
+    (λ here found.
+    let same : k ≡ j = cc in
+    record { from = omega arith; below = omega arith; unclear = ap clear (sym same) ∙ here; before = λ i low less. absurd (omega arith) }) is
 
 clear_when : (f : Facts) (x k : ℕ) (q : Option ℕ) → outcome.Clear (Some k) ≡ look_answer_of f x q → (q ≡ Some k) × (someone_at f x k ≡ false)
 clear_when f x k None h = cc

@@ -371,18 +371,14 @@ makes_or f e refused (outcome.Ends x y) (action.Channel a) fits =
     let new = new_ends f a refused x y fits in
     let first : x.0 ≡ f.ends = ap (λ (n : EndId). n.0) new.1 in
     let second : y.0 ≡ f.ends + 1 = ap (λ (n : EndId). n.0) new.2 in
-    elim (eqb e x.0) as (λ b. eqb e x.0 ≡ b → Makes f e (outcome.Ends x y) (action.Channel a)) [
-      | true ↦ λ here. let is : e ≡ x.0 = eqb-true e x.0 here in makes (Port y) (ap (λ b. cond b (Some (Port y)) (cond (eqb e y.0) (Some (Port x)) None)) here) (omega arith) refl
-      | false ↦ λ other. elim (eqb e y.0) as (λ b. eqb e y.0 ≡ b → Makes f e (outcome.Ends x y) (action.Channel a)) [
-        | true ↦ λ here.
-            let is : e ≡ y.0 = eqb-true e y.0 here in
-            makes (Port x) (ap (λ b. cond b (Some (Port y)) (cond (eqb e y.0) (Some (Port x)) None)) other ∙ ap (λ b. cond b (Some (Port x)) None) here) (omega arith) refl
-        | false ↦ λ neither.
-            let not_first = eqb-false e x.0 other in
-            let not_second = eqb-false e y.0 neither in
-            leaves (ap (λ b. cond b (Some (Port y)) (cond (eqb e y.0) (Some (Port x)) None)) other ∙ ap (λ b. cond b (Some (Port x)) None) neither) (λ within. omega arith)
-      ] refl
-    ] refl
+    ⊎_elim
+    (λ is. makes (Port y) (ap (λ b. cond b (Some (Port y)) (cond (eqb e y.0) (Some (Port x)) None)) (eq-eqb e x.0 is)) (omega arith) refl)
+    (λ not_first.
+    let other : eqb e x.0 ≡ false = ne_eqb e x.0 not_first in ⊎_elim
+    (λ is. makes (Port x) (ap (λ b. cond b (Some (Port y)) (cond (eqb e y.0) (Some (Port x)) None)) other ∙ ap (λ b. cond b (Some (Port x)) None) (eq-eqb e y.0 is)) (omega arith) refl)
+    (λ not_second. leaves (ap (λ b. cond b (Some (Port y)) (cond (eqb e y.0) (Some (Port x)) None)) other ∙ ap (λ b. cond b (Some (Port x)) None) (ne_eqb e y.0 not_second)) (λ within. omega arith))
+    (cases_eq e y.0))
+    (cases_eq e x.0)
 makes_or f e refused (outcome.End x) (action.Client a) fits = makes_one f e x Client (action.Client a) (queue_made_of f is_client a refused x fits).number refl refl refl
 makes_or f e refused (outcome.End x) (action.Worker a) fits = makes_one f e x Worker (action.Worker a) (queue_made_of f is_worker a refused x fits).number refl refl refl
 makes_or f e refused (outcome.End x) (action.Member a name) fits = makes_one f e x (Member a) (action.Member a name) (member_made_of f a refused x fits).number refl refl refl

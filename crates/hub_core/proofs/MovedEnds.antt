@@ -5,7 +5,7 @@ use Rattle.hub_core.proofs.Words.{close_answer, closed_end, count_in_queue, ends
 use Rattle.hub_core.specs.declared.outcome.Outcome.TheVariants as outcome
 use Rattle.hub_core.specs.declared.step.Action.TheVariants as action
 use Rattle.hub_core.proofs.Counts.{calm_gone, came_away, adopted_now, change_length, counted_came, counted_went, counts_of, counts_still, end_went, gone_length, gone_now}
-use Rattle.hub_core.proofs.Frames.{ShownAfter, found_end, found_line, line_set, with_line, ShownAt, Stepped, changed, end_changed, end_restated, line_changed, recounted, same_queues, end_there}
+use Rattle.hub_core.proofs.Frames.{ShownAfter, found_end, found_line, line_set, with_line, Stepped, changed, end_changed, end_restated, line_changed, recounted, same_queues, end_there}
 use Rattle.hub_core.proofs.Fitting.{adopted_of, closed_of, handed_of, hopped_of}
 use Rattle.hub_core.proofs.Nexts.{Change, adopted, end_closed, handed, hopped, next}
 use Rattle.hub_core.proofs.Seeing.{Sees, released_kept, seen_is, SoundlyShows}

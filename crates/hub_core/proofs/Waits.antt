@@ -79,14 +79,13 @@ past t n least other = grind (arith, nat_tests)
 -- the first that is left is the first of its queue
 front_of : (t : ℕ) (rs : List Envelope) (v : Envelope) (ws : List Envelope) → Rises rs → AllByRecursion (λ (u : Envelope). t ≤ u.epoch) rs → in_queue t rs ≡ v ∷ ws → (back : List Envelope) × (rs ≡ v ∷ back)
 front_of t [] v ws rises from is = absurd (search (rules, is))
-front_of t (u ∷ rs) v ws rises from is = elim (eqb u.epoch t) as (λ b. eqb u.epoch t ≡ b → cond b (u ∷ in_queue t rs) (in_queue t rs) ≡ v ∷ ws → (back : List Envelope) × (u ∷ rs ≡ v ∷ back)) [
-  | true ↦ λ e at. (rs, (let same : u ≡ v = cc in ap (λ w. w ∷ rs) same))
-  | false ↦ λ e at.
-      let other : u.epoch ≡ t → ⊥ = eqb-false u.epoch t e in
-      let least : t ≤ u.epoch = from.0 in
-      let above : t < u.epoch = past t u.epoch least other in
-      absurd (search (rules, sym (none_of_queue (λ (w : Envelope). u.epoch ≤ w.epoch) t rs (λ w high same. absurd (let later : u.epoch ≤ w.epoch = high in omega arith)) rises.0) ∙ at))
-] refl is
+front_of t (u ∷ rs) v ws rises from is = at_test (λ us. us ≡ v ∷ ws → (back : List Envelope) × (u ∷ rs ≡ v ∷ back)) (eqb u.epoch t) (u ∷ in_queue t rs) (in_queue t rs)
+    (λ e at. (rs, (let same : u ≡ v = cc in ap (λ w. w ∷ rs) same)))
+    (λ e at.
+    let other : u.epoch ≡ t → ⊥ = eqb-false u.epoch t e in
+    let least : t ≤ u.epoch = from.0 in
+    let above : t < u.epoch = past t u.epoch least other in
+    absurd (search (rules, sym (none_of_queue (λ (w : Envelope). u.epoch ≤ w.epoch) t rs (λ w high same. absurd (let later : u.epoch ≤ w.epoch = high in omega arith)) rises.0) ∙ at))) is
 
 -- The line of an end: everything below the queue t was taken, and in the queue t the envelopes that wait begin with v.
 -- Then what was taken of the line of v, followed by v, is a prefix of what was accepted of it.
