@@ -7,7 +7,7 @@ use Rattle.hub_core.specs.declared.step.Action.TheVariants as action
 use Rattle.hub_core.specs.declared.outcome.Outcome.TheVariants as outcome
 use Rattle.hub_core.proofs.SoundPlaces.{kind_next}
 use Rattle.hub_core.proofs.Fitting.{member_made_of, new_agent, hit, both_tests}
-use Rattle.hub_core.proofs.Lists.{eqb_same, each_pushed}
+use Rattle.hub_core.proofs.Items.{eqb_same, each_pushed}
 use Rattle.hub_core.proofs.Nexts.{next, Change, cast_begun}
 use Rattle.hub_core.proofs.Seats.{all_at, all_more, all_without, group_flips, group_same, insert_last, is_in_with, numbers_below, numbers_less, numbers_more, numbers_same, others_with}
 use Rattle.hub_core.proofs.Speakers.{kind_made, old_one, made_by}

@@ -3,7 +3,7 @@ use Rattle.std.proofs.Common.{Bool, List, None, Option, Some, ap, arith, cond, e
 use Rattle.hub_core.proofs.Words.{Agent, AgentId, Client, End, EndNow, Facts, Kind, MAX_ENDS, Place, Port, SoundPlaces, With, Worker, adopting, agent_now, any_below, by, change_agent, change_owner, come, count_away, count_with, end_now, eqb-false, eqb-true, false≢true, gone, has_poster, is_away_of}
 use Rattle.hub_core.proofs.Words.{is_client, is_out, is_some, is_with, is_worker, kept_away, kept_clients, kept_workers, lines_of, no_end, one_away, one_less, one_more, one_out, option_map, owner, peer_of, place, set_agent, slice_get, cases_eq, slice_get_within, total, EndId, Member, InFlight}
 use Rattle.hub_core.proofs.Words.{Sender, LineNow, is_queue, on_line, own_poster_out, is_released, is_holder, has_poster_of, Phase}
-use Rattle.hub_core.proofs.Lists.{eqb_same, is_there, slice_get-set_other, slice_get-set_same, and_false, or_true, or_none, at_test}
+use Rattle.hub_core.proofs.Items.{eqb_same, is_there, slice_get-set_other, slice_get-set_same, and_false, or_true, or_none, at_test}
 use Rattle.hub_core.proofs.Seeing.{SoundlyShows}
 use Rattle.hub_core.proofs.Speakers.{placed_made, no_port, port_of, hears_of, no_member}
 use Rattle.hub_core.proofs.Totals.{bit, last_not, total_nothing, total_past, total_same}

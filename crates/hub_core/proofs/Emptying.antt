@@ -10,7 +10,7 @@ use Rattle.hub_core.specs.declared.step.Action.TheVariants as action
 use Rattle.hub_core.proofs.Counts.{calm_landed, counted_ports, counts_of, counts_still}
 use Rattle.hub_core.proofs.Frames.{ShownAfter, found_end, ShownAt, Stepped, changed, end_changed, end_restated, same_queues, end_there}
 use Rattle.hub_core.proofs.Fitting.{any_of, each_of, got_of, miss, none_of_any, pass, started_of, swept_of, went_on_of}
-use Rattle.hub_core.proofs.Lists.{AllByRecursion-append, AllByRecursion-weaker, below_last, each_changed, eqb_same, get_or-set_other, get_or-set_same, is_there, or_none, or_third, or_true, at_test}
+use Rattle.hub_core.proofs.Items.{AllByRecursion-append, AllByRecursion-weaker, below_last, each_changed, eqb_same, get_or-set_other, get_or-set_same, is_there, or_none, or_third, or_true, at_test}
 use Rattle.hub_core.proofs.Nexts.{Change, cleared, end_swept, got, next, started, went_on}
 use Rattle.hub_core.proofs.Sending.{Moves, moved_end, moved_shown, moves_of, moves_to}
 use Rattle.hub_core.proofs.Seeing.{Sees, seen_is, SoundlyShows}

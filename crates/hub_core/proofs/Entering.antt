@@ -15,7 +15,7 @@ use Rattle.hub_core.proofs.Seeing.{Sees, owner_seen, seen_is, SoundlyShows}
 use Rattle.hub_core.proofs.SoundLines.{LinesAt, held_line_as, line_there, phased_line, queue_lines}
 use Rattle.hub_core.proofs.Speakers.{hears_of, made_of, no_member, no_port, running_made}
 use Rattle.hub_core.proofs.Totals.{bit}
-use Rattle.hub_core.proofs.Lists.{got_there}
+use Rattle.hub_core.proofs.Items.{got_there}
 
 -- ==== Enter and Leave: what the core answers fits, and it shows the facts with the answered step.
 

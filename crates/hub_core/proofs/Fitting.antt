@@ -5,7 +5,7 @@ use Rattle.hub_core.proofs.Words.{is_inside, is_good, is_distinct, may_leave_age
 use Rattle.hub_core.proofs.Words.{Place, Arrived, any_below, someone_at, first_failing, lookable, looked, look_answer_of, look_answer, all_from, all_settled, IsAllWaiting, FitsSweep, hop_answer, is_arrived, adopt_answer, close_answer, is_released, hand_answer, may_take_over, may_close, is_queue}
 use Rattle.hub_core.proofs.Words.{lines_of, names, LineId, Kind, back_answer, line_found, line_answer, free_line, member_answer, cast_answer, is_casting, destinations, has_end, maker_of, see_answer, has_away, has_poster, is_away_of, cases_eq}
 use Rattle.hub_core.specs.declared.outcome.Outcome.TheVariants as outcome
-use Rattle.hub_core.proofs.Lists.{below_last, next_up, or_none, at_test}
+use Rattle.hub_core.proofs.Items.{below_last, next_up, or_none, at_test}
 
 -- ---- tests, one after another
 

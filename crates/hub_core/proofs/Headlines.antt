@@ -9,7 +9,7 @@ use Rattle.hub_core.specs.declared.outcome.Outcome.TheVariants as outcome
 use Rattle.hub_core.proofs.SoundPlaces.{speaker_next}
 use Rattle.hub_core.proofs.Fitting.{any_of, found_closed_of, found_moved_of, let_in_of, noticed_of, pushed_of, served_of, SweptWith, got_of, swept_of}
 use Rattle.hub_core.proofs.Sames.{legal_apart, legal_at, legal_joined, turned_leaves, turned_same, by_pairs}
-use Rattle.hub_core.proofs.Lists.{eqb_same, AllByRecursion-append, AllByRecursion-weaker, at_test}
+use Rattle.hub_core.proofs.Items.{eqb_same, AllByRecursion-append, AllByRecursion-weaker, at_test}
 use Rattle.hub_core.proofs.Nexts.{facts_next, next}
 use Rattle.hub_core.proofs.SoundLines.{Numbered, on_place}
 use Rattle.hub_core.proofs.SoundWaiting.{taken_prefix, inside_of, nobody_there}

@@ -1,5 +1,5 @@
 pub mod Words
-pub mod Lists
+pub mod Items
 pub mod Nexts
 pub mod Sames
 pub mod Seeing
@@ -23,7 +23,8 @@ pub mod Casts
 pub mod MovedEnds
 pub mod Entering
 pub mod Took
-pub mod Machines
+pub mod Queueing
+pub mod Gating
 pub mod MailboxStepping
 pub mod Mailboxes
 pub mod MailboxShown

@@ -13,7 +13,7 @@ use Rattle.hub_core.proofs.Nexts.{next, accepted_one}
 use Rattle.hub_core.proofs.PairGates.{closed_there, entered, left_line, started_there, turned_closed, turned_moved, with_line, adopted_there, hopped_there, went_on_there, with_next, with_queue_new, with_taker_at}
 use Rattle.hub_core.proofs.PairQueues.{SweepsBusy, busy_there, cleared_there, look_busy_there, settled_there, sweep_busy_of, sweep_busy_there, none_there, noticed_there, pushed_there, taken_all, taken_there, swept_there, got_there_in}
 use Rattle.hub_core.specs.GateMachine as machine
-use Rattle.hub_core.proofs.Lists.{eqb_same, slice_get-set_same, got_within, at_written, at_pushed, got_of-map}
+use Rattle.hub_core.proofs.Items.{eqb_same, slice_get-set_same, got_within, at_written, at_pushed, got_of-map}
 use Rattle.hub_core.proofs.Waits.{queue_more, queue_other, some_held}
 use Rattle.hub_core.proofs.MailboxStepping.{step_grows, step_kept, chain_laws, only, opened_out}
 use Rattle.hub_core.proofs.Speakers.{nothing_accepted, nothing_removed}

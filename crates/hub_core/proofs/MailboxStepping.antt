@@ -4,8 +4,9 @@ use Rattle.hub_core.proofs.Words.{slice_get, cases_lt, cases_eq, length-map, Out
 use Rattle.hub_core.proofs.Words.{ChainLaws, Envelope, Grows, HappensAt, HoldsFirst, MailboxEvent, MailboxStep, MayPush, MaySweep, Phase, Prefix, QueueAt, Turned, adds, advances, by, closes, eqb-true, filter-append, finds_closed, finds_moved, finds_none, flat_map, gate_steps, goes_in, goes_out}
 use Rattle.hub_core.proofs.Words.{got_from, got_in, hops, popped, pushed, pushes, put_by, put_in, sweeps, taken_out, takes, turns_back, with_queue}
 use Rattle.hub_core.specs.GateMachine as machine
-use Rattle.hub_core.proofs.Lists.{got_within, got_there, got_same_at, got-map, got_of-map, at_written, at_pushed, got_same, got_set, none_got, pairs_written, some_is, slice_get-set_other, at_test}
-use Rattle.hub_core.proofs.Machines.{at_first, after, nobody_left, at_first_queue, none_held, after_push}
+use Rattle.hub_core.proofs.Items.{got_within, got_there, got_same_at, got-map, got_of-map, at_written, at_pushed, got_same, got_set, none_got, pairs_written, some_is, slice_get-set_other, at_test}
+use Rattle.hub_core.proofs.Gating.{at_first, after, nobody_left}
+use Rattle.hub_core.proofs.Queueing.{at_first_queue, none_held, after_push}
 use Rattle.hub_core.proofs.Waits.{pop_takes, queue_taken, some_held}
 
 -- ==== A mailbox after a line or the taker went on, or a queue was added.

@@ -9,7 +9,7 @@ use Rattle.hub_core.proofs.Counts.{calm_places, Counted, IsCalmAt, OneEnd, away_
 use Rattle.hub_core.proofs.Casts.{roster_agent}
 use Rattle.hub_core.proofs.Frames.{ShownAfter, ShownWith, Stepped}
 use Rattle.hub_core.proofs.Fitting.{member_made_of, new_agent, new_ends, queue_made_of}
-use Rattle.hub_core.proofs.Lists.{eqb_same, set_again, and_false, each_pushed, at_test}
+use Rattle.hub_core.proofs.Items.{eqb_same, set_again, and_false, each_pushed, at_test}
 use Rattle.hub_core.proofs.SoundPlaces.{one_made}
 use Rattle.hub_core.proofs.Nexts.{Change, agent_made, channel_made, client_made, next, worker_made}
 use Rattle.hub_core.proofs.Seeing.{Sees, seen_is, SoundlyShows, with_roster}

@@ -4,7 +4,7 @@ use Rattle.hub_core.proofs.Words.{MatchBool, filter, flat_map, AllByRecursion, f
 use Rattle.hub_core.proofs.Words.{all_settled, IsAllWaiting, Sweeps, FitsSweep, FitsTake, Answers, LegalAfter, InOrder, is_some, slice_get, eq-eqb, get_or_append_left, get_or-append_seam, End, Core, LineNow, Prefix, holder, IsNext, IsDrained, Serves, IsLeft, Sound, KeepsQueues, Shows, OneAnswer}
 use Rattle.hub_core.specs.declared.step.Action.TheVariants as action
 use Rattle.hub_core.specs.declared.outcome.Outcome.TheVariants as outcome
-use Rattle.hub_core.proofs.Lists.{eqb_same, AllByRecursion-weaker, at_test}
+use Rattle.hub_core.proofs.Items.{eqb_same, AllByRecursion-weaker, at_test}
 use Rattle.hub_core.proofs.Totals.{count_lines, joined, all_pass}
 use Rattle.hub_core.proofs.Nexts.{facts_next}
 use Rattle.hub_core.proofs.Fitting.{got_of}

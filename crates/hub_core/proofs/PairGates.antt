@@ -6,7 +6,7 @@ use Rattle.hub_core.proofs.Words.{goes_out, turns_back, enables, closes, leaves_
 use Rattle.hub_core.proofs.Words.{with_taker, with_new, IsSettled, HoldsNothing, Grows, rights_of, phase_of_line, may_enter}
 use Rattle.hub_core.specs.declared.outcome.Outcome.TheVariants as outcome
 use Rattle.hub_core.specs.GateMachine as machine
-use Rattle.hub_core.proofs.Lists.{got_there, got-map, got_of-map, got_within, at_written, at_pushed, is_out_of}
+use Rattle.hub_core.proofs.Items.{got_there, got-map, got_of-map, got_within, at_written, at_pushed, is_out_of}
 use Rattle.hub_core.proofs.Fitting.{is_retired, let_in_of, found_moved_of, found_closed_of, left_of}
 use Rattle.hub_core.proofs.SoundLines.{line_there, LinesAt}
 use Rattle.hub_core.proofs.MailboxStepping.{step_kept}

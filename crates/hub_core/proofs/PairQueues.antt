@@ -4,7 +4,7 @@ use Rattle.hub_core.proofs.Words.{slice_get, flat_map, filter, AllByRecursion, a
 use Rattle.hub_core.proofs.Words.{pushed, pop_of, Mailbox, QueueAt, put_by, got_from, IsMailbox, push, pop, MailboxStep, pushes, takes, finds_none, HoldsFirst, taken_out, with_queue, HoldsNothing, OneRight, IsNext, sum_by, MatchBool, false≢true, not-true, not-false, and_parts, or_parts, eqb-true}
 use Rattle.hub_core.proofs.Words.{eq-eqb, cases_eq, cases_lt, or_cases, or_left, or_right, length-map, sum_by-cons, Phase, Out, is_out, is_away_at, someone_at, is_settled, first_failing, all_from, all_settled, FitsSweep, Sound, Gate, weight, busy, is_shut, IsAt, with_none, is_busy, gives, IsGateOf}
 use Rattle.hub_core.proofs.Words.{GateAt, StandsAt, at_gate, gate_steps, with_gate, IsSettled, busy_at, rights_of, finds_busy, unsettled, IsAllWaiting, IsOfEnd, popped, MailboxEvent, sweeps, MaySweep, sweeping}
-use Rattle.hub_core.proofs.Lists.{eqb_same, AllByRecursion-weaker, set_again, is_out_of, slice_get-set_same, slice_get-set_other, none_got, some_is, got_there, got_within, got_same}
+use Rattle.hub_core.proofs.Items.{eqb_same, AllByRecursion-weaker, set_again, is_out_of, slice_get-set_same, slice_get-set_other, none_got, some_is, got_there, got_within, got_same}
 use Rattle.hub_core.proofs.Waits.{all_kept, filters, queue_more, all_of_queue, none_of_queue, all_front, first_of, left_same}
 use Rattle.hub_core.proofs.Fitting.{Pushed, Noticed, any_of, none_of_any, FirstFailing, first_failing_of, LooksAt, Clears, FindsBusy, looked_where, SweptWith, each_of}
 use Rattle.hub_core.proofs.SoundLines.{MayPut, message_may, notice_may, LinesAt, by_more}
@@ -14,7 +14,7 @@ use Rattle.hub_core.proofs.Totals.{filter_both, nothing_there, queues_from, join
 use Rattle.hub_core.proofs.MailboxShown.{view, ShownAt, IsShown, HasRight, Leads, one_step, event_grows, Standing, standing, queue_shown, clear_shown, Runs}
 use Rattle.hub_core.specs.declared.outcome.Outcome.TheVariants as outcome
 use Rattle.hub_core.specs.GateMachine as machine
-use Rattle.hub_core.proofs.Machines.{weight_le, gate_machine_laws}
+use Rattle.hub_core.proofs.Gating.{weight_le, gate_machine_laws}
 
 -- ==== The pairs that are events of a queue: a Push or a Notice that was accepted, and a pop, which finds an envelope or none.
 

@@ -5,7 +5,7 @@ use Rattle.hub_core.specs.declared.step.Action.TheVariants as action
 use Rattle.hub_core.specs.declared.outcome.Outcome.TheVariants as outcome
 use Rattle.hub_core.proofs.Nexts.{next, nothing_changes, facts_next}
 use Rattle.hub_core.proofs.SoundLines.{on_place}
-use Rattle.hub_core.proofs.Lists.{is_out_of}
+use Rattle.hub_core.proofs.Items.{is_out_of}
 use Rattle.hub_core.proofs.Fitting.{entered_of}
 
 -- ==== Legal histories, one pair more.

@@ -3,7 +3,7 @@ use Rattle.std.proofs.Common.{◌≡◌, ℕ, List, [], ◌∷◌, true, false, 
 use Rattle.hub_core.proofs.Words.{bytes_eq, ◌==◌, IsSome, nat_tests, BTreeMap, get, WritesThrough, remove_key, lookup, OnErr, BTreeSet, insert_key, slice_cmp, is_eq, nat_cmp, ordering_then, Ordering, Less, is_eq-slice_cmp, and_parts, bytes_eq-Decides, Group, is_same_group, group_cmp, numbers_in}
 use Rattle.hub_core.proofs.Words.{seated_with, seated_without, parted, Parts, group_of, numbers_of, Members, AllByRecursion, filter, Greater, nat_cmp_is, false≢true, eqb-true, EndId, RosterNow, is_of_group, has_end, without, numbers_with, is_in}
 use Rattle.std.specs.BTreeMap as tree
-use Rattle.hub_core.proofs.Lists.{and_false, at_test}
+use Rattle.hub_core.proofs.Items.{and_false, at_test}
 
 -- ==== The seats of the members of each group.
 

@@ -10,7 +10,7 @@ use Rattle.hub_core.specs.declared.step.Action.TheVariants as action
 use Rattle.hub_core.proofs.Counts.{calm_sent, counted_ports, counts_of, counts_still}
 use Rattle.hub_core.proofs.Frames.{FoundLine, ShownAfter, found_line, ShownAt, Stepped, changed, end_restated, same_queues, end_there}
 use Rattle.hub_core.proofs.Fitting.{noticed_of, pushed_of}
-use Rattle.hub_core.proofs.Lists.{each_set, eqb_same, get_or-set_other, get_or-set_same, is_there}
+use Rattle.hub_core.proofs.Items.{each_set, eqb_same, get_or-set_other, get_or-set_same, is_there}
 use Rattle.hub_core.proofs.Nexts.{Change, next, notice_put, put}
 use Rattle.hub_core.proofs.Seeing.{Sees, posting_seen, seen_is, SoundlyShows}
 use Rattle.hub_core.proofs.SoundLines.{line_there, told_line}

@@ -6,7 +6,7 @@ use Rattle.hub_core.proofs.Words.{peer_of, phase_of_line, poster, poster_of, run
 use Rattle.hub_core.specs.declared.step.Action.TheVariants as action
 use Rattle.hub_core.specs.declared.outcome.Outcome.TheVariants as outcome
 use Rattle.hub_core.proofs.Fitting.{Noticed, Pushed, found_closed_of, found_moved_of, hopped_of, let_in_of, line_got_of, member_made_of, new_ends, none_of_any, noticed_of, pushed_of, queue_made_of}
-use Rattle.hub_core.proofs.Lists.{AllByRecursion-append, eqb_same, at_test}
+use Rattle.hub_core.proofs.Items.{AllByRecursion-append, eqb_same, at_test}
 use Rattle.hub_core.proofs.Nexts.{next}
 
 -- what is said of the lines of an end

@@ -10,7 +10,7 @@ use Rattle.hub_core.proofs.Speakers.{holder_made, runs_there, swept_flies, taken
 use Rattle.hub_core.proofs.Speakers.{queue_is_made, released_out, speaks_of, still_held, SomeCasts, closed_made, heard_of, made_of, named_count, nothing_accepted, nothing_removed, placed_made, running_made, same_sender, swept_total, swept_within, unnamed_count}
 use Rattle.hub_core.proofs.Nexts.{next}
 use Rattle.hub_core.proofs.SoundLines.{line_there, unmade_end, unmade_one}
-use Rattle.hub_core.proofs.Lists.{at_test, eqb_same}
+use Rattle.hub_core.proofs.Items.{at_test, eqb_same}
 use Rattle.hub_core.proofs.Totals.{bit, count_between, count_more, total_more, total_past}
 
 -- ==== Where a pair that fits moves an end: from which place to which, and whether the end is closed then.

@@ -6,7 +6,7 @@ use Rattle.hub_core.specs.declared.step.Action.TheVariants as action
 use Rattle.hub_core.specs.declared.outcome.Outcome.TheVariants as outcome
 use Rattle.hub_core.proofs.Fitting.{SweptWith, cleared_of, each_of, got_of, let_in_of, looked_where, noticed_of, pushed_of, swept_of, went_on_of}
 use Rattle.hub_core.proofs.Totals.{nothing_there}
-use Rattle.hub_core.proofs.Lists.{AllByRecursion-append, AllByRecursion-weaker, eqb_same, at_test}
+use Rattle.hub_core.proofs.Items.{AllByRecursion-append, AllByRecursion-weaker, eqb_same, at_test}
 use Rattle.hub_core.proofs.Nexts.{next}
 use Rattle.hub_core.proofs.SoundLines.{LinesAt, MayPut, by_more, inside_unsettled, message_may, notice_may, phased_line}
 use Rattle.hub_core.proofs.Waits.{from_queue}

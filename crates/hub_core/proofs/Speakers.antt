@@ -4,7 +4,7 @@ use Rattle.hub_core.proofs.Words.{AgentId, AllByRecursion, CastNow, Client, EndI
 use Rattle.hub_core.proofs.Words.{has_poster, has_poster_of, hears_notice, holder, is_at, is_first, is_here, is_holder, is_named, is_out, is_queue, is_released, is_some, is_with, lines_of, list_all, maker_of, may_enter, may_leave_agent, names, naming, no_end, on_line, opened, option_and_then}
 use Rattle.hub_core.proofs.Words.{or_right, own_line_plain, own_poster_out, peer_of, phase_of_line, place, poster, poster_of, running, running_at, speaker_in, total, cases_lt}
 use Rattle.hub_core.proofs.Fitting.{SweptWith}
-use Rattle.hub_core.proofs.Lists.{eqb_same, at_test}
+use Rattle.hub_core.proofs.Items.{eqb_same, at_test}
 use Rattle.hub_core.proofs.SoundLines.{LinesAt, line_there}
 use Rattle.hub_core.proofs.SoundWaiting.{WaitingAt, all_removed, got_prefix, nothing_more}
 use Rattle.hub_core.proofs.Totals.{bit, count, count_append, count_lines, count_more, total_less, total_more}

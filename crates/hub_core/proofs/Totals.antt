@@ -1,7 +1,7 @@
 -- Sums and lists over numbers, counts of envelopes line by line, and the queues of an end joined to one list.
 use Rattle.std.proofs.Common.{Bool, List, [], ap, arith, cond, eqb, false, length, length-append, refl, rules, subst, suc, sym, true, zero, ℕ, ◌++◌, ◌+◌, ◌<◌, ◌∙◌, ◌∷◌, ◌≡◌, ◌≤◌, ⊎_elim, ltb, map, inl, inr, append-nil, append_assoc, Some, not, ◌&&◌, lt-ltb, ne_eqb}
 use Rattle.hub_core.proofs.Words.{AllByRecursion, Envelope, Prefix, by, filter, filter-append, nat_tests, total, cases_eq, slice_get, flat_map, eqb-true, cases_order, le-ltb, eq-eqb, map-append, length-map, append_cancel_left, flat_map-append, in_queue, Rises, up_to}
-use Rattle.hub_core.proofs.Lists.{AllByRecursion-weaker, eqb_same, none_got, got_push, at_test}
+use Rattle.hub_core.proofs.Items.{AllByRecursion-weaker, eqb_same, none_got, got_push, at_test}
 
 -- ==== Sums over numbers, and counts of envelopes line by line.
 
