@@ -1,6 +1,7 @@
 -- What the steps of broadcast channels are answered (WHATWG HTML, "Broadcasting to other browsing contexts", the steps of
 -- `new BroadcastChannel(name)`, `postMessage(message)` and `close()`).
-use Rattle.hub_core.specs.Words.{if◌then◌else◌, ◌&&◌, ◌==◌, AgentId, Bool, EndId, Group, List, MAX_ENDS, None, Option, Outcome, Some, [], filter, is_some, nat_le, not, ℕ}
+use Rattle.std.specs.Prelude.{if◌then◌else◌, ◌&&◌, ◌==◌}
+use Rattle.hub_core.specs.Words.{AgentId, Bool, EndId, Group, List, MAX_ENDS, None, Option, Outcome, Some, [], filter, is_some, nat_le, not, ℕ}
 use Rattle.hub_core.specs.declared.outcome.Outcome.TheVariants as outcome
 use Rattle.hub_core.specs.Facts.{Facts}
 use Rattle.hub_core.specs.Made.{maker_of}

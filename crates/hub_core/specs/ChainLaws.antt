@@ -1,5 +1,6 @@
 -- What holds of every mailbox, and of the chain of its queues.
-use Rattle.hub_core.specs.Words.{◌++◌, ◌≡◌, Bool, Envelope, IsTrue, List, None, Some, length, ℕ}
+use Rattle.std.specs.Prelude.{◌++◌, ◌≡◌}
+use Rattle.hub_core.specs.Words.{Bool, Envelope, IsTrue, List, None, Some, length, ℕ}
 use Rattle.hub_core.specs.Sender.{by, Prefix}
 use Rattle.hub_core.specs.QueueMachine.{Queue, popped}
 use Rattle.hub_core.specs.Mailbox.{Mailbox, new_mailbox, QueueAt, IsNewest, put_by, got_from, IsMailbox}

@@ -1,6 +1,7 @@
 -- What the orders to end, and the look of an agent whether it was ordered, are answered (W3C Service Workers, "Terminate
 -- Service Worker"; WHATWG HTML, "terminate a worker").
-use Rattle.hub_core.specs.Words.{if◌then◌else◌, ◌&&◌, ◌++◌, ◌==◌, ◌||◌, ◌∷◌, AgentId, Bool, Client, EndId, Kind, List, None, Option, Outcome, Port, Some, Worker, [], false, nat_lt, not, suc, zero, ℕ}
+use Rattle.std.specs.Prelude.{if◌then◌else◌, ◌&&◌, ◌++◌, ◌==◌, ◌||◌, ◌∷◌}
+use Rattle.hub_core.specs.Words.{AgentId, Bool, Client, EndId, Kind, List, None, Option, Outcome, Port, Some, Worker, [], false, nat_lt, not, suc, zero, ℕ}
 use Rattle.hub_core.specs.declared.outcome.Outcome.TheVariants as outcome
 use Rattle.hub_core.specs.Facts.{Facts}
 use Rattle.hub_core.specs.Made.{lines_of}

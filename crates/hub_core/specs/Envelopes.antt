@@ -1,6 +1,7 @@
 -- What was accepted for an end, and what was taken there (WHATWG HTML, "Message ports": the tasks queued on a port message
 -- queue, and those that its event loop ran); and what was discarded (this project's own).
-use Rattle.hub_core.specs.Words.{if◌then◌else◌, ◌==◌, ◌∷◌, Acceptance, Action, EndId, Envelope, List, Outcome, Sender, [], codes, false, flat_map, true, ℕ}
+use Rattle.std.specs.Prelude.{if◌then◌else◌, ◌==◌, ◌∷◌}
+use Rattle.hub_core.specs.Words.{Acceptance, Action, EndId, Envelope, List, Outcome, Sender, [], codes, false, flat_map, true, ℕ}
 use Rattle.hub_core.specs.declared.step.Action.TheVariants as action
 use Rattle.hub_core.specs.declared.outcome.Outcome.TheVariants as outcome
 use Rattle.hub_core.specs.History.{History}

@@ -1,6 +1,7 @@
 -- The gate of one queue as a machine (this project's own): what its flags, its lines and the rights of its lines
 -- are, what one event makes of them, and the one word that shows flags and count.
-use Rattle.hub_core.specs.Words.{◌*◌, ◌+◌, ◌/◌, ◌<◌, ◌==◌, ◌||◌, ◌≡◌, Bool, Inside, List, None, Option, Out, Phase, Some, Turned, bit_and, false, map, not, slice_get, slice_set, sum_by, true, ℕ}
+use Rattle.std.specs.Prelude.{◌*◌, ◌+◌, ◌/◌, ◌<◌, ◌==◌, ◌||◌, ◌≡◌}
+use Rattle.hub_core.specs.Words.{Bool, Inside, List, None, Option, Out, Phase, Some, Turned, bit_and, false, map, not, slice_get, slice_set, sum_by, true, ℕ}
 
 -- three flags; for each line whether it is out, inside or being turned back; the rights at home, by line; and whether they were collected
 pub record Gate (R : Type 0) : Type 0 where

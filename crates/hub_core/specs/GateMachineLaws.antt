@@ -1,5 +1,6 @@
 -- What holds of each state that the gate machine reaches.
-use Rattle.hub_core.specs.Words.{◌&&◌, ◌≡◌, Bool, Inside, IsTrue, List, Phase, Some, Turned, false, is_some, length, map, not, true, ℕ}
+use Rattle.std.specs.Prelude.{◌&&◌, ◌≡◌}
+use Rattle.hub_core.specs.Words.{Bool, Inside, IsTrue, List, Phase, Some, Turned, false, is_some, length, map, not, true, ℕ}
 use Rattle.hub_core.specs.GateMachine.{Gate, busy, is_shut, IsAt, opened, Event, Answer, Steps, Reached}
 
 -- whether a line in this phase leaves its right at the gate

@@ -1,6 +1,7 @@
 -- What every legal history keeps, in the words of the subject (WHATWG HTML, "Message ports": the tasks of a
 -- port message queue are run in order, each once).
-use Rattle.hub_core.specs.Words.{◌&&◌, ◌++◌, ◌<◌, ◌==◌, ◌∷◌, ◌≡◌, ◌⊎◌, ◌≤◌, Action, AllByRecursion, Bool, EndId, Outcome, Sender, [], false, length, true, ℕ, Envelope, List, filter, list_any, not}
+use Rattle.std.specs.Prelude.{◌&&◌, ◌++◌, ◌<◌, ◌==◌, ◌∷◌, ◌≡◌, ◌⊎◌, ◌≤◌}
+use Rattle.hub_core.specs.Words.{Action, AllByRecursion, Bool, EndId, Outcome, Sender, [], false, length, true, ℕ, Envelope, List, filter, list_any, not}
 use Rattle.hub_core.specs.declared.step.Action.TheVariants as action
 use Rattle.hub_core.specs.declared.outcome.Outcome.TheVariants as outcome
 use Rattle.hub_core.specs.History.{Pair, History}

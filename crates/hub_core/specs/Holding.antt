@@ -1,6 +1,7 @@
 -- What the steps that hold a line of a client's or a worker's queue, and give it back, are answered (this project's own; in
 -- W3C Service Workers such a queue gets the messages of any client or worker).
-use Rattle.hub_core.specs.Words.{if◌then◌else◌, ◌&&◌, AgentId, EndId, MAX_LINES, None, Option, Outcome, Sender, Some, is_some, not, ℕ}
+use Rattle.std.specs.Prelude.{if◌then◌else◌, ◌&&◌}
+use Rattle.hub_core.specs.Words.{AgentId, EndId, MAX_LINES, None, Option, Outcome, Sender, Some, is_some, not, ℕ}
 use Rattle.hub_core.specs.declared.outcome.Outcome.TheVariants as outcome
 use Rattle.hub_core.specs.Facts.{Facts}
 use Rattle.hub_core.specs.Made.{is_queue}

@@ -1,5 +1,6 @@
 -- For private clauses: what the core keeps, what it answers by it, and what it is after a step.
-use Rattle.hub_core.specs.Words.{if◌then◌else◌, ◌&&◌, ◌++◌, ◌+◌, ◌-◌, ◌==◌, ◌||◌, ◌∷◌, ◌≡◌, [], false, length, slice_get, Agent, AgentId, Arrived, Bool, Client, End, EndId, Envelope, Err, Gone, IfSome, InFlight, Inside, Kind, Line, LineId, List, MAX_ENDS}
+use Rattle.std.specs.Prelude.{if◌then◌else◌, ◌&&◌, ◌++◌, ◌+◌, ◌-◌, ◌==◌, ◌||◌, ◌∷◌, ◌≡◌}
+use Rattle.hub_core.specs.Words.{[], false, length, slice_get, Agent, AgentId, Arrived, Bool, Client, End, EndId, Envelope, Err, Gone, IfSome, InFlight, Inside, Kind, Line, LineId, List, MAX_ENDS}
 use Rattle.hub_core.specs.Words.{MAX_LINES, MAX_PORTS, MatchBool, Member, None, Ok, Option, Out, Outcome, Phase, Place, Port, Result, Sender, Some, Turned, With, Worker, drop, flat_map, fold, is_some, list_any, nat_le, nat_lt, not, option_map, position}
 use Rattle.hub_core.specs.Words.{replicate, slice_index_or, slice_set, true, ℕ, Action, Swept}
 use Rattle.hub_core.specs.CoreState.{CoreState}

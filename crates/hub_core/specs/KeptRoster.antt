@@ -1,5 +1,6 @@
 -- What the core keeps of the roster.
-use Rattle.hub_core.specs.Words.{if◌then◌else◌, ◌<◌, ◌==◌, ◌∷◌, ◌≡◌, BTreeSet, Bool, EndId, Group, List, None, Option, Ordering, Outcome, Some, [], bytes_eq, false, filter, get, insert_key, list_any, map, nat_cmp, not, ordering_then, slice_cmp, slice_get}
+use Rattle.std.specs.Prelude.{if◌then◌else◌, ◌<◌, ◌==◌, ◌∷◌, ◌≡◌}
+use Rattle.hub_core.specs.Words.{BTreeSet, Bool, EndId, Group, List, None, Option, Ordering, Outcome, Some, [], bytes_eq, false, filter, get, insert_key, list_any, map, nat_cmp, not, ordering_then, slice_cmp, slice_get}
 use Rattle.hub_core.specs.Words.{true, ℕ}
 use Rattle.hub_core.specs.declared.members.Members.{Members}
 use Rattle.hub_core.specs.declared.roster.Roster.{Roster}

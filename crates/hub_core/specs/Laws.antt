@@ -1,5 +1,6 @@
 -- Laws of what fits and of legal histories, in the words of the subject.
-use Rattle.hub_core.specs.Words.{◌++◌, ◌↔◌, ◌∷◌, ◌≡◌, AgentId, Bool, EndId, Envelope, List, Outcome, Sender, Some, Step, Turned, [], false, true, ℕ}
+use Rattle.std.specs.Prelude.{◌++◌, ◌↔◌, ◌∷◌, ◌≡◌}
+use Rattle.hub_core.specs.Words.{AgentId, Bool, EndId, Envelope, List, Outcome, Sender, Some, Step, Turned, [], false, true, ℕ}
 use Rattle.hub_core.specs.declared.step.Action.TheVariants as action
 use Rattle.hub_core.specs.declared.outcome.Outcome.TheVariants as outcome
 use Rattle.hub_core.specs.History.{Pair, History}

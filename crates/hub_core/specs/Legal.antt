@@ -1,6 +1,7 @@
 -- What a step may be answered after a history; which histories may come, and which of them can't be told apart from now on
 -- (this project's own). Pairs that no case allows never come.
-use Rattle.hub_core.specs.Words.{◌≡◌, ◌++◌, ◌↔◌, ◌∷◌, Action, Bool, Outcome, []}
+use Rattle.std.specs.Prelude.{◌≡◌, ◌++◌, ◌↔◌, ◌∷◌}
+use Rattle.hub_core.specs.Words.{Action, Bool, Outcome, []}
 use Rattle.hub_core.specs.declared.step.Action.TheVariants as action
 use Rattle.hub_core.specs.History.{Pair, History}
 use Rattle.hub_core.specs.Facts.{Facts, facts}

@@ -1,7 +1,8 @@
 -- Where the posters of an end's lines are, at which queues its lines and its taker stand, and which queues are clear: nobody
 -- can be inside them any more (this project's own; WHATWG HTML, "Message ports", moves the tasks of a transferred port to
 -- the new port's queue).
-use Rattle.hub_core.specs.Words.{if◌then◌else◌, ◌&&◌, ◌+◌, ◌==◌, Action, AgentId, Bool, Inside, None, Option, Out, Outcome, Phase, Sender, Some, Turned, false, fold, true, ℕ}
+use Rattle.std.specs.Prelude.{if◌then◌else◌, ◌&&◌, ◌+◌, ◌==◌}
+use Rattle.hub_core.specs.Words.{Action, AgentId, Bool, Inside, None, Option, Out, Outcome, Phase, Sender, Some, Turned, false, fold, true, ℕ}
 use Rattle.hub_core.specs.declared.step.Action.TheVariants as action
 use Rattle.hub_core.specs.declared.outcome.Outcome.TheVariants as outcome
 use Rattle.hub_core.specs.History.{History}

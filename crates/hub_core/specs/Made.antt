@@ -1,6 +1,7 @@
 -- Which agents and ends were made (WHATWG HTML, "Message channels"; W3C Service Workers, the queues of the messages to a
 -- client and to a worker).
-use Rattle.hub_core.specs.Words.{if◌then◌else◌, ◌+◌, ◌==◌, Action, AgentId, Bool, Client, Kind, MAX_LINES, Member, None, Option, Outcome, Port, Sender, Some, Worker, false, fold, option_map, true, ℕ}
+use Rattle.std.specs.Prelude.{if◌then◌else◌, ◌+◌, ◌==◌}
+use Rattle.hub_core.specs.Words.{Action, AgentId, Bool, Client, Kind, MAX_LINES, Member, None, Option, Outcome, Port, Sender, Some, Worker, false, fold, option_map, true, ℕ}
 use Rattle.hub_core.specs.declared.step.Action.TheVariants as action
 use Rattle.hub_core.specs.declared.outcome.Outcome.TheVariants as outcome
 use Rattle.hub_core.specs.History.{History}

@@ -1,6 +1,7 @@
 -- A mailbox, the queues of one end, as a machine (this project's own): queue by queue its gate and what was put,
 -- held and taken there, and where the lines and the taker stand. The ends of the core are such mailboxes.
-use Rattle.hub_core.specs.Words.{◌+◌, ◌<◌, ◌∷◌, ◌≡◌, ◌≢◌, ◌≤◌, ◌⊎◌, flat_map, Envelope, Inside, List, Out, Some, [], false, length, map, slice_get, true, ℕ}
+use Rattle.std.specs.Prelude.{◌+◌, ◌<◌, ◌∷◌, ◌≡◌, ◌≢◌, ◌≤◌, ◌⊎◌}
+use Rattle.hub_core.specs.Words.{flat_map, Envelope, Inside, List, Out, Some, [], false, length, map, slice_get, true, ℕ}
 use Rattle.hub_core.specs.GateMachine.{Gate, IsAt, opened}
 use Rattle.hub_core.specs.GateMachineLaws.{IsGateOf}
 use Rattle.hub_core.specs.QueueMachine.{Queue, new_queue, IsQueue}

@@ -1,5 +1,6 @@
 -- A mailbox beside a history: what it means that it shows one at an end, what each pair is to it, and the one that it is.
-use Rattle.hub_core.specs.Words.{◌++◌, ◌+◌, ◌≡◌, if◌then◌else◌, ◌-◌, ◌<◌, ◌==◌, ◌∷◌, ◌≤◌, End, Envelope, List, Some, [], length, slice_get, slice_index_or, ℕ, Action, Bool, EndId, Inside, IsTrue, None, Option, Outcome, Phase, false, map, suc, true, zero, Kind}
+use Rattle.std.specs.Prelude.{◌++◌, ◌+◌, ◌≡◌, if◌then◌else◌, ◌-◌, ◌<◌, ◌==◌, ◌∷◌, ◌≤◌}
+use Rattle.hub_core.specs.Words.{End, Envelope, List, Some, [], length, slice_get, slice_index_or, ℕ, Action, Bool, EndId, Inside, IsTrue, None, Option, Outcome, Phase, false, map, suc, true, zero, Kind}
 use Rattle.hub_core.specs.Words.{replicate}
 use Rattle.hub_core.specs.declared.machine.Core.{Core}
 use Rattle.hub_core.specs.History.{History, Pair}

@@ -1,5 +1,6 @@
 -- What may happen at a mailbox, and what it makes of it.
-use Rattle.hub_core.specs.Words.{if◌then◌else◌, ◌++◌, ◌+◌, ◌<◌, ◌==◌, ◌∷◌, ◌≡◌, ◌≤◌, ◌⊎◌, ◌-◌, Envelope, Inside, List, None, Option, Out, Some, [], false, length, option_to_list, slice_get, slice_set, true, ℕ, Turned, fold, slice_index_or}
+use Rattle.std.specs.Prelude.{if◌then◌else◌, ◌++◌, ◌+◌, ◌<◌, ◌==◌, ◌∷◌, ◌≡◌, ◌≤◌, ◌⊎◌, ◌-◌}
+use Rattle.hub_core.specs.Words.{Envelope, Inside, List, None, Option, Out, Some, [], false, length, option_to_list, slice_get, slice_set, true, ℕ, Turned, fold, slice_index_or}
 use Rattle.hub_core.specs.Sender.{by}
 use Rattle.hub_core.specs.GateMachine as machine
 use Rattle.hub_core.specs.GateMachine.{Gate, IsAt, opened, busy, Steps, with_phase, with_home, with_flags, with_none}

@@ -1,6 +1,7 @@
 -- What the steps that make agents and ends are answered (WHATWG HTML, "Message channels": a new channel is
 -- two entangled ports; the limits are this project's own).
-use Rattle.hub_core.specs.Words.{if◌then◌else◌, ◌&&◌, ◌+◌, AgentId, Bool, Client, Kind, MAX_AGENTS, MAX_ENDS, Option, Outcome, Some, Worker, false, nat_le, nat_lt, not, true}
+use Rattle.std.specs.Prelude.{if◌then◌else◌, ◌&&◌, ◌+◌}
+use Rattle.hub_core.specs.Words.{AgentId, Bool, Client, Kind, MAX_AGENTS, MAX_ENDS, Option, Outcome, Some, Worker, false, nat_le, nat_lt, not, true}
 use Rattle.hub_core.specs.declared.outcome.Outcome.TheVariants as outcome
 use Rattle.hub_core.specs.Facts.{Facts}
 use Rattle.hub_core.specs.Posting.{is_with}

@@ -1,6 +1,7 @@
 -- What the steps that move lines and ends are answered (WHATWG HTML, "Message ports", the transfer and
 -- transfer-receiving steps; going on to a newer queue is this project's own).
-use Rattle.hub_core.specs.Words.{if◌then◌else◌, ◌&&◌, ◌+◌, ◌==◌, AgentId, Arrived, Bool, EndId, Kind, MAX_MOVES, None, Option, Outcome, Place, Port, Sender, Some, false, nat_le, nat_lt, not, true, ℕ}
+use Rattle.std.specs.Prelude.{if◌then◌else◌, ◌&&◌, ◌+◌, ◌==◌}
+use Rattle.hub_core.specs.Words.{AgentId, Arrived, Bool, EndId, Kind, MAX_MOVES, None, Option, Outcome, Place, Port, Sender, Some, false, nat_le, nat_lt, not, true, ℕ}
 use Rattle.hub_core.specs.declared.outcome.Outcome.TheVariants as outcome
 use Rattle.hub_core.specs.Facts.{Facts}
 use Rattle.hub_core.specs.Made.{is_queue}

@@ -1,6 +1,7 @@
 -- Where an end is (WHATWG HTML, "Transferable objects": the transfer and transfer-receiving steps), and whether it is closed
 -- and its queue enabled ("Message ports": a port message queue is disabled when it is made, and `start()` enables it).
-use Rattle.hub_core.specs.Words.{if◌then◌else◌, ◌==◌, ◌||◌, Action, Arrived, Bool, EndId, Envelope, Gone, InFlight, List, None, Option, Outcome, Place, Some, Swept, With, fold, list_any, ℕ, false, true}
+use Rattle.std.specs.Prelude.{if◌then◌else◌, ◌==◌, ◌||◌}
+use Rattle.hub_core.specs.Words.{Action, Arrived, Bool, EndId, Envelope, Gone, InFlight, List, None, Option, Outcome, Place, Some, Swept, With, fold, list_any, ℕ, false, true}
 use Rattle.hub_core.specs.declared.step.Action.TheVariants as action
 use Rattle.hub_core.specs.declared.outcome.Outcome.TheVariants as outcome
 use Rattle.hub_core.specs.History.{History}

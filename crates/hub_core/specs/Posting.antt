@@ -1,6 +1,7 @@
 -- What the steps of a poster are answered (WHATWG HTML, "Message ports", the message port post message steps
 -- with their transfer list; entering and leaving a gate are this project's own).
-use Rattle.hub_core.specs.Words.{if◌then◌else◌, ◌&&◌, ◌==◌, ◌||◌, ◌∷◌, Acceptance, AgentId, Arrived, Bad, Bool, EndId, Good, HoldsTarget, Inside, Kind, List, Listing, MAX_PORTS, Member, None, Option, Out, Outcome, Phase, Place, Port, Sender, Some, Swept, With}
+use Rattle.std.specs.Prelude.{if◌then◌else◌, ◌&&◌, ◌==◌, ◌||◌, ◌∷◌}
+use Rattle.hub_core.specs.Words.{Acceptance, AgentId, Arrived, Bad, Bool, EndId, Good, HoldsTarget, Inside, Kind, List, Listing, MAX_PORTS, Member, None, Option, Out, Outcome, Phase, Place, Port, Sender, Some, Swept, With}
 use Rattle.hub_core.specs.Words.{[], bytes_eq, false, is_some, length, list_all, nat_lt, not, option_and_then, true, ℕ}
 use Rattle.hub_core.specs.declared.outcome.Outcome.TheVariants as outcome
 use Rattle.hub_core.specs.Facts.{Facts}

@@ -1,6 +1,7 @@
 -- Which agents have an origin, which broadcast channels are members of the roster, and the cast that isn't over (WHATWG
 -- HTML, "Broadcasting to other browsing contexts").
-use Rattle.hub_core.specs.Words.{if◌then◌else◌, ◌&&◌, ◌++◌, ◌==◌, ◌∷◌, Action, Bool, EndId, Group, List, None, Option, Outcome, Some, [], bytes_eq, drop, false, fold, list_any, option_map, ℕ}
+use Rattle.std.specs.Prelude.{if◌then◌else◌, ◌&&◌, ◌++◌, ◌==◌, ◌∷◌}
+use Rattle.hub_core.specs.Words.{Action, Bool, EndId, Group, List, None, Option, Outcome, Some, [], bytes_eq, drop, false, fold, list_any, option_map, ℕ}
 use Rattle.hub_core.specs.declared.step.Action.TheVariants as action
 use Rattle.hub_core.specs.declared.outcome.Outcome.TheVariants as outcome
 use Rattle.hub_core.specs.History.{History}

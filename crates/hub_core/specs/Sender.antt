@@ -1,6 +1,7 @@
 -- What one sender posts at an end goes by one line: order is stated line by line (this project's own; in
 -- WHATWG HTML, "Message ports", a port's one sender is the port that it is entangled with).
-use Rattle.hub_core.specs.Words.{◌&&◌, ◌++◌, ◌==◌, ◌∷◌, ◌≡◌, ◌≤◌, AllByRecursion, Envelope, List, [], filter, length, ℕ, map, suc, zero}
+use Rattle.std.specs.Prelude.{◌&&◌, ◌++◌, ◌==◌, ◌∷◌, ◌≡◌, ◌≤◌}
+use Rattle.hub_core.specs.Words.{AllByRecursion, Envelope, List, [], filter, length, ℕ, map, suc, zero}
 
 -- the envelopes of a line, in order
 abbrev pub by : ℕ → List Envelope → List Envelope

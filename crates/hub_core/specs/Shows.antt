@@ -1,5 +1,6 @@
 -- What it means that the core shows a history: what it keeps of each agent, end and line are the facts of the history.
-use Rattle.hub_core.specs.Words.{if◌then◌else◌, ◌&&◌, ◌++◌, ◌+◌, ◌<◌, ◌∷◌, ◌≡◌, ◌≤◌, Agent, AgentId, AllByRecursion, Bool, End, EndId, Envelope, Group, Inside, Kind, Line, List, Member, None, Option, Outcome, Some, Step, [], false, length, nat_lt, slice_get}
+use Rattle.std.specs.Prelude.{if◌then◌else◌, ◌&&◌, ◌++◌, ◌+◌, ◌<◌, ◌∷◌, ◌≡◌, ◌≤◌}
+use Rattle.hub_core.specs.Words.{Agent, AgentId, AllByRecursion, Bool, End, EndId, Envelope, Group, Inside, Kind, Line, List, Member, None, Option, Outcome, Some, Step, [], false, length, nat_lt, slice_get}
 use Rattle.hub_core.specs.Words.{slice_index_or, ℕ}
 use Rattle.hub_core.specs.declared.machine.Core.{Core}
 use Rattle.hub_core.specs.declared.roster.Roster.{Roster}

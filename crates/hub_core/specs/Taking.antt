@@ -1,6 +1,7 @@
 -- What the steps of a taker are answered: Start and Take (WHATWG HTML, "Message ports": `start()`, and an enabled queue as
 -- a task source); and who is at a queue, and what a Look and a Sweep are answered (this project's own).
-use Rattle.hub_core.specs.Words.{if◌then◌else◌, ◌&&◌, ◌++◌, ◌+◌, ◌-◌, ◌==◌, ◌||◌, ◌≡◌, ◌<◌, ◌∷◌, Bool, EndId, Envelope, List, MatchBool, None, Option, Outcome, Some, false, nat_lt, not, suc, true, zero, ℕ, [], is_some}
+use Rattle.std.specs.Prelude.{if◌then◌else◌, ◌&&◌, ◌++◌, ◌+◌, ◌-◌, ◌==◌, ◌||◌, ◌≡◌, ◌<◌, ◌∷◌}
+use Rattle.hub_core.specs.Words.{Bool, EndId, Envelope, List, MatchBool, None, Option, Outcome, Some, false, nat_lt, not, suc, true, zero, ℕ, [], is_some}
 use Rattle.hub_core.specs.declared.outcome.Outcome.TheVariants as outcome
 use Rattle.hub_core.specs.Made.{lines_of}
 use Rattle.hub_core.specs.Facts.{LineNow, Facts}

@@ -1,5 +1,6 @@
 -- Which answers leave everything as it was.
-use Rattle.hub_core.specs.Words.{◌≡◌, Action, Bool, None, Outcome, false, length, true}
+use Rattle.std.specs.Prelude.{◌≡◌}
+use Rattle.hub_core.specs.Words.{Action, Bool, None, Outcome, false, length, true}
 use Rattle.hub_core.specs.declared.step.Action.TheVariants as action
 use Rattle.hub_core.specs.declared.outcome.Outcome.TheVariants as outcome
 use Rattle.hub_core.specs.declared.machine.Core.{Core}
