@@ -20,6 +20,8 @@ PROGRAM = os.environ.get("VARUKONI_PROGRAM", str(BUILT))
 # The program that plays step files on the parts that threads share.
 PLAYER = str(ROOT / "crates" / "hub_player" / "out" / "hub_player")
 MODES = ("steps", "run", "check")
+# The folders of rows. Those of `turns` are played by `hub_player loops`.
+FOLDERS = (*MODES, "turns")
 # A longer input or output stands in the repository as a recipe.
 MOST_BYTES = 100_000
 

@@ -34,6 +34,10 @@ def played(text):
     return outcome_of([PLAYER], text)
 
 
+def played_with_loops(text):
+    return outcome_of([PLAYER, "loops"], text)
+
+
 class Rows(support.TestCase):
     """The rows of `steps`."""
 
@@ -345,7 +349,7 @@ class Turns(Steps):
         """Makes a turn of each of these agents, and has the machine do what they did."""
         self.lines += [f"turn {agent}" for agent in agents]
         text = "".join(f"{line}\n" for line in self.lines).encode()
-        found = outcome_of([PLAYER, "loops"], text)
+        found = played_with_loops(text)
         if found.errors or found.status:
             raise AssertionError(f"{found.errors}, {found.status} after {len(self.lines)} lines")
         played, self.outcomes, self.rests = parts_of(found.output)
@@ -488,3 +492,85 @@ class Loops(support.TestCase):
         found = [it for place, it in enumerate(outcomes) if place not in drawn.again]
         difference = support.first_difference(b"\n".join(found), b"\n".join(wanted))
         self.assertIsNone(difference)
+
+
+class TurnRows(support.TestCase):
+    """The rows of `turns`, where event loops do what no step line says, and two that are too long to
+    be written down."""
+
+    def test_rows(self):
+        rows = support.rows("turns")
+        lines = 0
+        for row in rows:
+            with self.subTest(row=row.name):
+                self.assert_outcome(played_with_loops(row.text), row.wanted())
+            lines += row.text.count(b"\n")
+        self.says(len(rows), "rows", 26)
+        self.says(lines, "lines", 263_000)
+
+    def play(self, steps):
+        """Plays lines, each with all that it is to print."""
+        text = "".join(f"{line}\n" for line, _ in steps).encode()
+        wanted = "".join(f"{line}\n" for _, lines in steps for line in lines).encode()
+        self.assert_outcome(played_with_loops(text), support.Outcome(wanted, b"", 0))
+        self.says(len(steps), "lines")
+
+    def test_ten_thousand_ends_are_swept_in_order(self):
+        """The end that the loop holds first has the greatest number."""
+        numbers = range(10_000)
+        steps = [step("agent -", f"agent {agent}") for agent in range(3)]
+        for number in numbers:
+            steps += [step("worker 1", f"end {number}"), (f"give {number} 2", ["given"])]
+        steps += [(f"give {number} 0", ["given"]) for number in reversed(numbers)]
+        ended = ["> see 0", f"ending {' '.join(map(str, numbers))}"]
+        ended += [line for number in numbers for line in (f"> close {number}", "done")]
+        ended += [line for it in numbers for line in (f"> sweep {it}", "discarded nothing")]
+        self.play([*steps, step("order 0", "ordered"), ("turn 0", ended)])
+
+    def test_shuffled_posts_are_served_in_order(self):
+        """A turn asks from behind the end served last. First there are more posts than turns."""
+        course = Course(200)
+        for _ in range(40):
+            for _ in range(50):
+                course.post()
+            for _ in range(30):
+                course.turn()
+        while course.turn():
+            pass
+        self.play(course.steps)
+
+
+def step(line, outcome):
+    """A step line, and what is printed for it."""
+    return line, [f"> {line}", outcome]
+
+
+class Course:
+    """The order in which a loop serves its ends, where an agent posts at them by chance."""
+
+    def __init__(self, count):
+        self.draw, self.count = random.Random(SEED), count
+        # What was posted at each end and taken there, and where the next turn begins to ask.
+        self.posted, self.taken, self.next = [0] * count, [0] * count, 0
+        self.steps = [step("agent -", "agent 0"), step("agent -", "agent 1")]
+        for at in range(0, 2 * count, 2):
+            self.steps += [step("channel 0", f"ends {at} {at + 1}"), (f"give {at} 1", ["given"])]
+            self.steps.append(step(f"start {at + 1}", "started"))
+
+    def post(self):
+        at = self.draw.randrange(self.count)
+        self.steps.append(step(f"post {2 * at} - 1", f"accepted 0:{self.posted[at]}"))
+        self.posted[at] += 1
+
+    def turn(self):
+        """Whether something was delivered."""
+        order = [*range(self.next, self.count), *range(self.next)]
+        at = next((it for it in order if self.taken[it] < self.posted[it]), None)
+        if at is None:
+            self.steps.append(("turn 0", ["idle"]))
+            return False
+        got = f"got 0:{self.taken[at]} from 0 1"
+        self.steps.append(("turn 0", [f"> take {2 * at + 1}", got]))
+        self.taken[at] += 1
+        self.next = at + 1
+        return True

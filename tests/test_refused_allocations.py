@@ -13,6 +13,7 @@ from support import PLAYER, PROGRAM, ROOT, outcome_of
 SETTING = "REFUSED_ALLOCATION"
 ENDING = "whichever_allocation_is_refused"
 LAST_LINE = b"out of memory\n"
+CLOSED = re.compile(rb"(?<=\n)(> close \d+\ndone)$", re.MULTILINE)
 # More than any of the runs asks for.
 MOST = 100_000
 
@@ -90,33 +91,60 @@ class Player(Refusing):
     a close may have found no memory. Where the input found none, `out of memory` is alone.
     """
 
-    @staticmethod
-    def right_outcomes(text):
-        """The outcome, and those in which the notice of one close finds no memory."""
-        lines = text.splitlines(keepends=True)
-        marked = [
-            b"".join([*lines[:at], b"!" + line, *lines[at + 1:]])
-            for at, line in enumerate(lines) if line.startswith(b"close ")
-        ]
-        return [outcome_of([PROGRAM, "steps"], it) for it in [text, *marked]]
+    def refuse(self, words, row, right):
+        """How many calls were refused in a row."""
+        # Without memory for the words behind its name the player takes them for none.
+        unread = [support.Outcome(LAST_LINE, b"", 3)]
+        unread += [outcome_of(words[:1], row.text)] if words[1:] else []
+        calls = 0
+        for number, found, was_refused in self.outcomes(words, row.text):
+            if was_refused and found in unread:
+                self.unread += 1
+            else:
+                self.assertIn(found, right, f"call {number} refused")
+            calls += was_refused
+        return calls
+
+    def refuse_all(self, words, rows, right_of):
+        self.unread = calls = 0
+        for row in rows:
+            with self.subTest(row=row.name):
+                right = right_of(row)
+                self.assertEqual(right[0], row.wanted())
+                calls += self.refuse(words, row, right)
+        most = 4 * len(words) * len(rows)
+        self.assertLessEqual(self.unread, most, "most calls come after the input was read")
+        self.says(len(rows), "rows", 5)
+        self.says(calls, "calls", 200)
 
     def test_rows(self):
-        calls = unread = 0
-        for name in PLAYED:
-            row = support.row("steps", name)
-            with self.subTest(row=name):
-                right = self.right_outcomes(row.text)
-                self.assertEqual(right[0], row.wanted())
-                for number, found, was_refused in self.outcomes([PLAYER], row.text):
-                    if was_refused and found.status == 3:
-                        self.assertEqual((found.output, found.errors), (LAST_LINE, b""), number)
-                        unread += 1
-                    else:
-                        self.assertIn(found, right, f"call {number} refused")
-                    calls += was_refused
-        self.assertLessEqual(unread, 4 * len(PLAYED), "most calls come after the input was read")
-        self.says(len(PLAYED), "rows")
-        self.says(calls, "calls", 200)
+        self.refuse_all([PLAYER], [support.row("steps", it) for it in PLAYED], right_outcomes)
+
+    def test_turns(self):
+        """Rows with turns of loops."""
+        rows = [row for row in support.rows("turns") if row.name.endswith(ENDING)]
+        self.refuse_all([PLAYER, "loops"], rows, right_turns)
+
+
+def right_outcomes(row):
+    """The outcome, and those in which the notice of one close finds no memory."""
+    lines = row.text.splitlines(keepends=True)
+    marked = [
+        b"".join([*lines[:at], b"!" + line, *lines[at + 1:]])
+        for at, line in enumerate(lines) if line.startswith(b"close ")
+    ]
+    return [outcome_of([PROGRAM, "steps"], it) for it in [row.text, *marked]]
+
+
+def right_turns(row):
+    """The same where a loop closes the ports. The last turn gets a notice, and then it gets none."""
+    lines, found = row.output.splitlines(keepends=True), [row.output]
+    for at, line in enumerate(lines):
+        if line.startswith(b"notice "):
+            text = b"".join([*lines[: at - 1], *lines[at + 1:], b"idle\n"])
+            # The loop tells it of a port that it held.
+            found += [text, CLOSED.sub(rb"\1 no-memory", text, count=1)]
+    return [row.wanted()._replace(output=it) for it in found]
 
 
 class Program(Refusing):
@@ -230,9 +258,9 @@ class Crates(Refusing):
         return refused
 
     def test_sources(self):
-        """No test of that kind is lost from the sources. Posts of ports, and queues that are handed
-        on, are played as files (`Player`)."""
-        self.says(sum(map(len, CRATES.values())), "tests in the sources", 22)
+        """No test of that kind is lost from the sources. Posts of ports, queues that are handed on
+        and turns of loops are played as files (`Player`)."""
+        self.says(sum(map(len, CRATES.values())), "tests in the sources", 17)
 
 
 def method_of(crate):

@@ -3,7 +3,7 @@
 import csv
 
 import support
-from support import MODES, ROWS
+from support import FOLDERS, ROWS
 
 # What a row consists of: one file of each of these. A recipe stands for a longer text.
 PARTS = ({"in", "in.recipe"}, {"out", "out.recipe"}, {"status"})
@@ -35,7 +35,7 @@ class Files(support.TestCase):
 
     def test_rows_are_whole(self):
         count = 0
-        for mode in MODES:
+        for mode in FOLDERS:
             files = {}
             for path in (ROWS / mode).iterdir():
                 name, _, suffix = path.name.partition(".")
@@ -45,26 +45,26 @@ class Files(support.TestCase):
                     self.assertEqual([len(found & part) for part in PARTS], [1, 1, 1], found)
                     self.assertEqual(found - set().union(*PARTS), set())
                     count += 1
-        self.says(count, "rows", 173)
+        self.says(count, "rows", 199)
 
     def test_long_texts_are_made_by_recipes(self):
-        paths = [path for mode in MODES for path in (ROWS / mode).iterdir()]
+        paths = [path for mode in FOLDERS for path in (ROWS / mode).iterdir()]
         for path in paths:
             with self.subTest(path=path):
                 self.assertLessEqual(path.stat().st_size, support.MOST_BYTES)
-        self.says(len(paths), "files", 519)
+        self.says(len(paths), "files", 597)
 
     def test_manifest_names_each_row(self):
         with open(ROWS / "MANIFEST.tsv", encoding="utf-8", newline="") as file:
             lines = list(csv.DictReader(file, delimiter="\t", quoting=csv.QUOTE_NONE))
         named = [(line["mode"], line["name"]) for line in lines]
-        there = [(mode, row.name) for mode in MODES for row in support.rows(mode)]
+        there = [(mode, row.name) for mode in FOLDERS for row in support.rows(mode)]
         self.assertEqual(sorted(named), sorted(there))
         for line in lines:
             with self.subTest(row=line["name"]):
                 self.assertIn(line["origin"], ORIGINS)
                 self.assertTrue(line["shows"])
-        self.says(len(lines), "lines", 170)
+        self.says(len(lines), "lines", 196)
 
 
 class Recipes(support.TestCase):

@@ -41,7 +41,7 @@ impl Agent {
     /// `None` where there is no memory.
     pub(crate) fn open(alloc: Global, number: AgentId, origin: Option<Origin>) -> Option<Agent> {
         let (listener, bell) = Listener::open(alloc).ok()?;
-        let mut orders = Order::open(alloc, 3).ok()?;
+        let mut orders = Order::open(alloc, 4).ok()?;
         let event_loop = open_loop(alloc, number, &mut orders, listener)?;
         Some(Agent {
             origin,

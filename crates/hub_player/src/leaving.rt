@@ -22,7 +22,11 @@ impl Player {
         agent: AgentId,
         told: &mut Told,
     ) -> Result<(), Stop> {
-        let shown = self.see(agent)?;
+        // Where there was no memory it looks once more, since the loop has found its order.
+        let shown = match self.see(agent) {
+            Err(Stop::OutOfMemory) => self.see(agent)?,
+            seen => seen?,
+        };
         told.tell_made("see", u32::from(agent.0), None, &shown)?;
         let event_loop = match self.agent_mut(agent) {
             Some(agent) => agent.event_loop.take(),

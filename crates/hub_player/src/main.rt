@@ -2,15 +2,27 @@
 //! their public calls alone, and prints the outcome lines that `messagehub steps` prints for them.
 //! The ends that an agent has are held by its event loop.
 //!
-//! Called as `hub_player loops` it knows one more line: `turn A` makes a turn of the loop of agent
-//! A. Then each step line is printed behind `> ` above its outcome, those too that do what a turn
-//! has done: a take with the adoptions, or the end of an agent that was ordered to end. A turn that
-//! has delivered nothing prints `idle`, or `busy` where somebody was inside.
+//! Called as `hub_player loops` it knows more lines. `turn A` makes a turn of the loop of agent A.
+//! Each step line is printed behind `> ` above its outcome, those too that do what a turn has done:
+//! a take with the adoptions, or the end of an agent that was ordered to end. A port of the take
+//! that the loop doesn't hold is `missing E`. A turn that has delivered nothing prints `idle`, or
+//! `busy` where somebody was inside. The others say what no step line says:
+//!
+//! | Line | What it does |
+//! |---|---|
+//! | `refuse A` | a turn whose delivery the handler refuses |
+//! | `rest A` | the loop rests, and goes on only where somebody has rung |
+//! | `run A N` | the loop runs, and its handler gives the order to end with the Nth delivery |
+//! | `give E A` | end E is given out by the loop that holds it, and held by that of agent A |
+//! | `holds A E` | says what the loop holds under the number E, and how often that has moved |
+//! | `lose E` | port E is lost in flight |
+//! | `shut E` | the loop closes end E, and a member parts first |
 //!
 //! It ends at the first line for which no call is there, and says which one that is and why.
 #![tactic(auto)]
 
 mod agent;
+mod asking;
 mod casting;
 mod closing;
 mod counted_take;

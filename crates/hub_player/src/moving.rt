@@ -56,17 +56,13 @@ impl Player {
         agent: AgentId,
     ) -> Result<Shown, Stop> {
         let Some(seat) = self.seat(end) else {
-            return not_now();
+            return self.fetch_none(rt, end, agent);
         };
         if seat.is_closed() {
             return answer(Outcome::Closed);
         }
         if seat.place != Place::Arrived || seat.agent != agent {
-            // No queue of that number waits for the agent.
-            return match self.directory.fetch(rt, end, agent) {
-                Some(_) => Err(Stop::Unexpected),
-                None => not_now(),
-            };
+            return self.fetch_none(rt, end, agent);
         }
         let is_port = seat.kind == Kind::Port;
         if !self.is_running(agent) {
@@ -76,6 +72,18 @@ impl Player {
             self.adopt_port(rt, end, agent)
         } else {
             self.adopt_queue(rt, end, agent)
+        }
+    }
+
+    /// No queue of that number waits for the agent, and its loop finds none.
+    fn fetch_none<R: Wait>(&mut self, rt: &R, end: EndId, agent: AgentId) -> Result<Shown, Stop> {
+        let Some(event_loop) = loop_of(&mut self.agents, agent) else {
+            return not_now();
+        };
+        match event_loop.fetch(rt, &self.hub, &self.directory, end) {
+            Ok(false) => not_now(),
+            Ok(true) => Err(Stop::Unexpected),
+            Err(LoopError::OutOfMemory) => Err(Stop::OutOfMemory),
         }
     }
 

@@ -1,4 +1,4 @@
-//! The loops of the agents, and what a turn leaves at their handlers.
+//! The loops of the agents, and what turns leave at their handlers.
 
 use hub_envelope::{AgentId, EndId, Envelope, OutOfMemory};
 use hub_life::Order;
@@ -10,12 +10,23 @@ use std::sync::Wait;
 /// The loop of an agent.
 pub(crate) type Loop = EventLoop<Note, NoCheckpoint>;
 
-/// The envelope that was delivered last, until it is shown.
+/// An envelope that was delivered, and those of its ports that the loop doesn't hold.
+#[derive(Drop)]
+pub(crate) struct Delivered {
+    pub(crate) envelope: Envelope,
+    pub(crate) missing: Vec<EndId>,
+}
+
+/// What was delivered and is not shown yet.
 #[derive(Drop)]
 pub(crate) struct Note {
-    pub(crate) envelope: Option<Envelope>,
-    /// Ports of it that the loop doesn't hold were told.
-    pub(crate) is_missing: bool,
+    alloc: Global,
+    pub(crate) delivered: Vec<Delivered>,
+    /// The next call is to be refused.
+    pub(crate) refuses: bool,
+    /// The order to end is given with so many deliveries. None is with 0.
+    pub(crate) until_order: usize,
+    order: Order,
 }
 
 impl Handler for Note {
@@ -31,23 +42,36 @@ impl Handler for Note {
         envelope: &Envelope,
         missing: &[EndId],
     ) -> Result<(), OutOfMemory> {
-        self.envelope = Some(envelope.clone()?);
-        self.is_missing = !missing.is_empty();
+        if self.refuses {
+            self.refuses = false;
+            return Err(OutOfMemory);
+        }
+        let delivered = Delivered {
+            envelope: envelope.clone()?,
+            missing: Vec::from_slice(self.alloc, missing)?,
+        };
+        self.delivered.push(delivered)?;
+        if self.delivered.len() == self.until_order {
+            self.order.give();
+        }
         Ok(())
     }
 }
 
-/// A loop that holds nothing, with one of these seats. `None` where there is no memory.
+/// A loop that holds nothing, with two of these seats. `None` where there is no memory.
 pub(crate) fn open_loop(
     alloc: Global,
     agent: AgentId,
     orders: &mut Vec<Order>,
     listener: Listener,
 ) -> Option<Loop> {
-    let order = orders.pop()?;
+    let seat = orders.pop()?;
     let note = Note {
-        envelope: None,
-        is_missing: false,
+        alloc,
+        delivered: Vec::new(alloc),
+        refuses: false,
+        until_order: 0,
+        order: orders.pop()?,
     };
-    EventLoop::open(alloc, agent, order, note, NoCheckpoint, listener).ok()
+    EventLoop::open(alloc, agent, seat, note, NoCheckpoint, listener).ok()
 }

@@ -1,9 +1,9 @@
 //! How a whole input is read and played.
 
+use crate::asking::asked_in;
 use crate::player::Player;
 use crate::stop::Stop;
 use crate::told::Told;
-use crate::turning::turn_in;
 use hub_engine::{
     CountedReader, CountedWriter, Device, ExitStatus, InputError, end_out_of_memory, end_unread,
     end_with, read_input,
@@ -41,7 +41,7 @@ impl Ended {
 
 /// Reads the input to its end, plays its lines, and writes their outcome lines: up to the first
 /// that was not played, or one line alone where a line before that is no step line. It may have
-/// lines that ask for turns.
+/// lines beyond the step lines.
 pub(crate) fn play_input<R: Read, W: Write, H: Wait>(
     rt: &H,
     alloc: Global,
@@ -101,8 +101,8 @@ fn play_line<H: Wait>(
     told: &mut Told,
 ) -> Result<(), Stop> {
     if told.has_turns {
-        if let Some(agent) = turn_in(bytes) {
-            return player.turn(rt, agent, told);
+        if let Some(asked) = asked_in(bytes) {
+            return player.do_asked(rt, asked, told);
         }
     }
     // Where there was no memory all is as it was, and the line is played once more.

@@ -46,10 +46,14 @@ impl Told {
         }
     }
 
+    // Where there is no memory it asks once more, since a turn was made.
     fn tell_text(&mut self, text: &[u8]) -> Result<(), Stop> {
-        match self.lines.extend_from_slice(text) {
-            Ok(()) => Ok(()),
-            Err(_) => Err(Stop::OutOfMemory),
+        if self.lines.extend_from_slice(text).is_ok()
+            || self.lines.extend_from_slice(text).is_ok()
+        {
+            Ok(())
+        } else {
+            Err(Stop::OutOfMemory)
         }
     }
 
@@ -61,19 +65,55 @@ impl Told {
         other: Option<(&str, u8)>,
         shown: &Shown,
     ) -> Result<(), Stop> {
-        let line = match other {
-            Some((mark, other)) => format!(in self.alloc; "{word} {number}{mark}{other}"),
-            None => format!(in self.alloc; "{word} {number}"),
-        };
-        match line {
-            Ok(line) => self.tell(line.as_bytes(), shown),
-            Err(_) => Err(Stop::OutOfMemory),
-        }
+        let line = numbered(self.alloc, word, number, other)?;
+        self.tell(line.as_bytes(), shown)
+    }
+
+    /// Tells in such a line what is no step line.
+    pub(crate) fn tell_numbers(
+        &mut self,
+        word: &str,
+        number: u32,
+        other: Option<(&str, u8)>,
+    ) -> Result<(), Stop> {
+        let line = numbered(self.alloc, word, number, other)?;
+        self.tell_text(line.as_bytes())?;
+        self.tell_text("\n".as_bytes())
+    }
+
+    /// Tells a whole line that is no step line.
+    pub(crate) fn tell_word(&mut self, line: &str) -> Result<(), Stop> {
+        self.tell_text(line.as_bytes())
     }
 
     /// Tells that a turn has delivered nothing, and whether somebody was inside.
     pub(crate) fn tell_idle(&mut self, busy: bool) -> Result<(), Stop> {
-        let text = if busy { "busy\n" } else { "idle\n" };
-        self.tell_text(text.as_bytes())
+        self.tell_word(if busy { "busy\n" } else { "idle\n" })
+    }
+}
+
+fn try_numbered(
+    alloc: Global,
+    word: &str,
+    number: u32,
+    other: Option<(&str, u8)>,
+) -> Option<String> {
+    match other {
+        Some((mark, other)) => format!(in alloc; "{word} {number}{mark}{other}").ok(),
+        None => format!(in alloc; "{word} {number}").ok(),
+    }
+}
+
+/// A word with a number, and maybe a mark and one more number. Where there is no memory it asks
+/// once more.
+fn numbered(
+    alloc: Global,
+    word: &str,
+    number: u32,
+    other: Option<(&str, u8)>,
+) -> Result<String, Stop> {
+    match try_numbered(alloc, word, number, other) {
+        Some(text) => Ok(text),
+        None => try_numbered(alloc, word, number, other).ok_or(Stop::OutOfMemory),
     }
 }

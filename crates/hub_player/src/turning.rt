@@ -2,6 +2,7 @@
 
 use crate::counted_take::turn;
 use crate::holding::loop_of;
+use crate::note::Delivered;
 use crate::player::Player;
 use crate::seat::Place;
 use crate::stop::Stop;
@@ -10,20 +11,8 @@ use hub_core::Outcome;
 use hub_envelope::{AgentId, EndId};
 use hub_loop::{Held, LoopError, Turn};
 use hub_steps::Shown;
-use hub_text::{next_word, number_of};
-use std::str;
+use std::mem::replace;
 use std::sync::Wait;
-
-/// The agent whose turn a text line asks for. `None` where it asks for none.
-pub(crate) fn turn_in(bytes: &[u8]) -> Option<AgentId> {
-    let text = str::from_utf8(bytes).ok()?;
-    let (word, number) = next_word(text)?;
-    if word != "turn" {
-        return None;
-    }
-    let number = number_of(number, 255)?;
-    Some(AgentId(u8::try_from(number).ok()?))
-}
 
 impl Player {
     /// Makes a turn of the loop of an agent, and tells what was done. Where there is no such loop
@@ -43,36 +32,65 @@ impl Player {
             Err(LoopError::OutOfMemory) => turn(rt, &self.hub, event_loop),
         };
         match turned {
-            Ok(Turn::Delivered) => self.tell_delivery(agent, told),
+            Ok(Turn::Delivered) => self.tell_deliveries(agent, told),
             Ok(Turn::Idle { busy }) => told.tell_idle(busy),
             Ok(Turn::Ending) => self.end(rt, agent, told),
             Err(LoopError::OutOfMemory) => Err(Stop::OutOfMemory),
         }
     }
 
-    fn tell_delivery(&mut self, agent: AgentId, told: &mut Told) -> Result<(), Stop> {
+    /// Tells what was delivered and isn't told yet.
+    pub(crate) fn tell_deliveries(&mut self, agent: AgentId, told: &mut Told) -> Result<(), Stop> {
+        let alloc = self.alloc;
         let Some(event_loop) = loop_of(&mut self.agents, agent) else {
             return Err(Stop::Unexpected);
         };
-        let note = event_loop.handler_mut();
-        if note.is_missing {
-            return Err(Stop::Unexpected);
+        let all = replace(&mut event_loop.handler_mut().delivered, Vec::new(alloc));
+        for delivered in all {
+            self.tell_delivery(agent, delivered, told)?;
         }
-        let Some(envelope) = note.envelope.take() else {
-            return Err(Stop::Unexpected);
-        };
-        self.tell_taken(agent, &Shown::Answer(Outcome::Got(envelope)), told)
+        Ok(())
     }
 
-    fn tell_taken(&mut self, agent: AgentId, shown: &Shown, told: &mut Told) -> Result<(), Stop> {
+    fn tell_delivery(
+        &mut self,
+        agent: AgentId,
+        delivered: Delivered,
+        told: &mut Told,
+    ) -> Result<(), Stop> {
+        let Delivered { envelope, missing } = delivered;
+        let shown = Shown::Answer(Outcome::Got(envelope));
+        self.tell_taken(agent, &shown, missing.as_slice(), told)
+    }
+
+    fn tell_taken(
+        &mut self,
+        agent: AgentId,
+        shown: &Shown,
+        missing: &[EndId],
+        told: &mut Told,
+    ) -> Result<(), Stop> {
         let Shown::Answer(Outcome::Got(envelope)) = shown else {
             return Err(Stop::Unexpected);
         };
         told.tell_made("take", envelope.end.0, None, shown)?;
         for end in envelope.ports.as_slice() {
-            self.tell_adoption(*end, agent, told)?;
+            if missing.contains(end) {
+                self.tell_missing(*end, told)?;
+            } else {
+                self.tell_adoption(*end, agent, told)?;
+            }
         }
         Ok(())
+    }
+
+    /// Tells that a port was lost, or that the loop has closed it.
+    fn tell_missing(&mut self, end: EndId, told: &mut Told) -> Result<(), Stop> {
+        match self.seat_mut(end) {
+            Some(seat) => seat.place = Place::Swept,
+            None => return Err(Stop::Unexpected),
+        }
+        told.tell_numbers("missing", end.0, None)
     }
 
     /// Tells that the loop has adopted a port, where it holds it.
