@@ -1,197 +1,221 @@
 //! A client's queue is handed on while a post over one of its lines is held up.
-use crate::agent::{Answer, Way};
-use crate::mail::Mail;
-use crate::shared::Shared;
-use crate::table::{Step, Table, walks};
-use hub_queue::{Pause, Point, Poster};
-use hub_test_parts::post_with;
+use crate::parts::{Loop, Name, Shared, delivers, holds, is_idle, open};
+use hub_envelope::{AgentId, EndId};
+use hub_loop::Held;
+use hub_queue::{Ends, Pause, Point, Poster};
+use hub_test_parts::{bell, post, post_with};
+use std::alloc::Global;
 use std::sync::{Mutex, Wait};
 
-// The table, and how many of the steps that are taken meanwhile came to what they are to.
-#[derive(Drop)]
-struct Stage<'t, 's> {
-    table: &'t mut Table<'s>,
-    walked: usize,
+// Queue 0 goes from agent 0 to agent 3 on this stage.
+struct Stage<'s> {
+    shared: &'s Shared,
+    from: Loop,
+    to: Loop,
+    // A line to the queue beside that of the post that is held up, and one to the worker's queue 1
+    // of agent 3.
+    line: Poster,
+    other: Poster,
+    // Whether queue 1 is to be busy meanwhile.
+    is_beside: bool,
+    // Whether what was done meanwhile came to what it is to.
+    is_right: bool,
 }
 
-// Takes these steps once the post is inside.
-#[derive(Drop)]
-struct Meanwhile<'t, 's> {
-    steps: &'static [(u8, Step)],
-    stage: Mutex<Stage<'t, 's>>,
+// By hand, so that whoever drops one makes one call.
+impl Drop for Stage<'_> {
+    fn drop(self) {
+        let Stage {
+            shared: _,
+            from,
+            to,
+            line,
+            other,
+            is_beside: _,
+            is_right: _,
+        } = self;
+        drop(from);
+        drop(to);
+        drop(line);
+        drop(other);
+    }
 }
 
-impl Pause for Meanwhile<'_, '_> {
+// What is done while a post is inside.
+#[derive(Drop)]
+struct Meanwhile<'s> {
+    stage: Mutex<Stage<'s>>,
+}
+
+impl Pause for Meanwhile<'_> {
     fn at<R: Wait>(&self, rt: &R, point: Point) {
         if point != Point::Inside {
             return;
         }
         let mut stage = self.stage.lock(rt);
-        stage.walked = stage.table.walk(rt, self.steps);
+        stage.is_right = if stage.is_beside {
+            stage.goes_on_beside(rt)
+        } else {
+            stage.goes_on_alone(rt)
+        };
     }
 }
 
-// Posts a text, held up for these steps. Under which epoch and number it was accepted,
-// and how many of the steps came to what they are to.
-fn post_held<R: Wait>(
+// Whether a text is accepted over a line under this epoch and number.
+fn posts<R: Wait>(
     rt: &R,
     shared: &Shared,
-    table: &mut Table<'_>,
-    poster: &mut Poster,
+    line: &mut Poster,
     text: &str,
-    steps: &'static [(u8, Step)],
-) -> Option<(u32, u64, usize)> {
-    let meanwhile = Meanwhile {
-        steps,
-        stage: Mutex::new(Stage { table, walked: 0 }),
-    };
-    let yard = &shared.hub.yard;
-    let posting = post_with(rt, shared.alloc, yard, poster, text, &meanwhile);
-    let walked = meanwhile.stage.into_inner().walked;
-    let (epoch, number) = posting?.ok()?;
-    Some((epoch, number, walked))
+    name: (u32, u64),
+) -> bool {
+    match post(rt, shared.alloc, &shared.hub.yard, line, text) {
+        Some(Ok(posted)) => posted == name,
+        _ => false,
+    }
 }
 
-const BEFORE: &[(u8, Step)] = &[
-    (0, Step::Open),
-    (1, Step::Open),
-    (2, Step::Open),
-    (3, Step::Open),
-    (0, Step::Client(0)),
-];
+impl Stage<'_> {
+    fn hands<R: Wait>(&mut self, rt: &R) -> bool {
+        match self.from.release(EndId(0)) {
+            Some(Held::Client(queue)) => {
+                queue
+                    .hand(rt, &self.shared.directory, AgentId(3))
+                    .ok()
+                    .is_some()
+            }
+            held => {
+                drop(held);
+                false
+            }
+        }
+    }
 
-const LENT: &[(u8, Step)] = &[(2, Step::Line(0, 1)), (0, Step::Start(0))];
+    // Whether the queue has gone on, and is left to the first loop no more.
+    fn moves<R: Wait>(&mut self, rt: &R) -> bool {
+        let (hub, directory) = (&self.shared.hub, &self.shared.directory);
+        self.hands(rt)
+            && self.from.held(EndId(0)).is_none()
+            && is_idle(rt, hub, &mut self.from, false)
+            && self.to.fetch(rt, hub, directory, EndId(0)).ok() == Some(true)
+            && match self.to.client_mut(EndId(0)) {
+                Some(queue) => queue.moves() == 1,
+                None => false,
+            }
+    }
 
-const MEANWHILE: &[(u8, Step)] = &[
-    (
-        2,
-        Step::Post(Way::Line(0), &[], "\"b\"", Answer::Accepted(0, 0)),
-    ),
-    (0, Step::Hand(0, 3)),
-    (0, Step::HasNone(0)),
-    (0, Step::Idle(false)),
-    (3, Step::Fetch(0, true)),
-    (3, Step::Moves(0, 1)),
-    (
-        2,
-        Step::Post(Way::Line(0), &[], "\"c\"", Answer::Accepted(1, 0)),
-    ),
-    (3, Step::Idle(false)),
-    (3, Step::Start(0)),
-    (3, Step::Deliver(0, Mail::Text(1, 0, 0, "\"b\""))),
-    (3, Step::Idle(true)),
-];
+    fn gets<R: Wait>(&mut self, rt: &R, name: Name, text: &str) -> bool {
+        delivers(rt, &self.shared.hub, &mut self.to, name, text, 0)
+    }
 
-const AFTER: &[(u8, Step)] = &[
-    (3, Step::Deliver(0, Mail::Text(0, 0, 0, "\"a\""))),
-    (3, Step::Deliver(0, Mail::Text(1, 1, 0, "\"c\""))),
-    (3, Step::Idle(false)),
-    (0, Step::Client(1)),
-];
+    fn rests<R: Wait>(&mut self, rt: &R, busy: bool) -> bool {
+        is_idle(rt, &self.shared.hub, &mut self.to, busy)
+    }
 
-// How many steps of each part came to what they are to, and the name of the post that was held up.
-fn walk_held<R: Wait>(
-    rt: &R,
-    shared: &Shared,
-    table: &mut Table<'_>,
-    steps: [&'static [(u8, Step)]; 4],
-) -> Option<([usize; 4], (u32, u64))> {
-    let [before, lent, meanwhile, after] = steps;
-    let before = table.walk(rt, before);
-    let mut poster = shared.line_to(rt, 0)?;
-    let lent = table.walk(rt, lent);
-    let posted = post_held(rt, shared, table, &mut poster, "\"a\"", meanwhile);
-    let after = table.walk(rt, after);
+    // Of what was posted meanwhile only what went to the first loop's queue is served.
+    fn goes_on_alone<R: Wait>(&mut self, rt: &R) -> bool {
+        posts(rt, self.shared, &mut self.line, "\"b\"", (0, 0))
+            && self.moves(rt)
+            && posts(rt, self.shared, &mut self.line, "\"c\"", (1, 0))
+            && self.rests(rt, false)
+            && self.to.start_client(EndId(0))
+            && self.gets(rt, (0, 1, 0, 0), "\"b\"")
+            && self.rests(rt, true)
+    }
+
+    // The queue stays busy, and another end is served.
+    fn goes_on_beside<R: Wait>(&mut self, rt: &R) -> bool {
+        self.moves(rt)
+            && self.to.start_client(EndId(0))
+            && self.rests(rt, true)
+            && posts(rt, self.shared, &mut self.other, "1", (0, 0))
+            && self.gets(rt, (1, 0, 0, 0), "1")
+            && self.rests(rt, true)
+            && posts(rt, self.shared, &mut self.other, "2", (0, 1))
+            && posts(rt, self.shared, &mut self.other, "3", (0, 2))
+            && posts(rt, self.shared, &mut self.other, "4", (0, 3))
+            && self.gets(rt, (1, 0, 0, 1), "2")
+    }
+
+    // The post that was held up has rung the loop that the queue has left. It is served all the
+    // same, and then what is left.
+    fn ends<R: Wait>(&mut self, rt: &R) -> bool {
+        let is_served = self.gets(rt, (0, 0, 0, 0), "\"a\"")
+            && if self.is_beside {
+                self.gets(rt, (1, 0, 0, 2), "3") && self.gets(rt, (1, 0, 0, 3), "4")
+            } else {
+                self.gets(rt, (0, 1, 1, 0), "\"c\"")
+            };
+        is_served && self.rests(rt, false)
+    }
+}
+
+// The stage, and the line for the post that is to be held up.
+fn set<'s, R: Wait>(rt: &R, shared: &'s Shared, is_beside: bool) -> Option<(Stage<'s>, Poster)> {
+    let (mut from, bell) = open(shared.alloc, 0)?;
+    let (mut to, other_bell) = open(shared.alloc, 3)?;
+    let ends = &mut Ends::new();
+    let queue = shared.directory.client(rt, ends, bell).ok()?;
+    let other = shared.directory.worker(rt, ends, other_bell).ok()?;
+    let are_held = holds(&mut from, Held::Client(queue)) && holds(&mut to, Held::Worker(other));
+    let is_started = are_held && from.start_client(EndId(0));
+    let held_up = shared.directory.line_to(rt, EndId(0)).ok()?;
+    let stage = Stage {
+        shared,
+        from,
+        to,
+        line: shared.directory.line_to(rt, EndId(0)).ok()?,
+        other: shared.directory.line_to(rt, EndId(1)).ok()?,
+        is_beside,
+        is_right: false,
+    };
+    if is_started {
+        Some((stage, held_up))
+    } else {
+        None
+    }
+}
+
+fn walks_on<R: Wait>(rt: &R, shared: &Shared, is_beside: bool) -> Option<bool> {
+    let (stage, mut poster) = set(rt, shared, is_beside)?;
+    let meanwhile = Meanwhile {
+        stage: Mutex::new(stage),
+    };
+    let yard = &shared.hub.yard;
+    let posting = post_with(rt, shared.alloc, yard, &mut poster, "\"a\"", &meanwhile);
+    let mut stage = meanwhile.stage.into_inner();
+    let is_right = posting == Some(Ok((0, 0))) && stage.is_right && stage.ends(rt);
+    drop(stage);
     drop(poster);
-    let (epoch, number, walked) = posted?;
-    Some(([before, lent, walked, after], (epoch, number)))
+    Some(is_right)
+}
+
+// Whether an agent that has handed its queue on makes another one.
+fn makes_another<R: Wait>(rt: &R, shared: &Shared) -> Option<bool> {
+    let bell = bell(shared.alloc)?;
+    let queue = shared
+        .directory
+        .client(rt, &mut Ends { drawn: 2 }, bell)
+        .ok()?;
+    let is_next = queue.end().0 == 2;
+    drop(queue);
+    Some(is_next)
+}
+
+fn walks<R: Wait>(rt: &R, alloc: Global, is_beside: bool) -> bool {
+    let shared = Shared::new(alloc);
+    let is_right = walks_on(rt, &shared, is_beside) == Some(true)
+        && makes_another(rt, &shared) == Some(true);
+    drop(shared);
+    is_right
 }
 
 #[test]
 fn handed_queue(rt: HostRuntime) {
-    let shared = Shared::new(rt.alloc());
-    let mut table = Table::new(&shared, false);
-    let walked = walk_held(&rt, &shared, &mut table, [BEFORE, LENT, MEANWHILE, AFTER]);
-    drop(table);
-    drop(shared);
-    assert_eq!(rt; walked, Some(([5, 2, 11, 4], (0, 0))));
+    assert!(rt; walks(&rt, rt.alloc(), false));
 }
-
-// The post that was held up rings the loop that the queue has left. It is served while another end
-// of the loop stays busy.
-const BUSY_BEFORE: &[(u8, Step)] = &[
-    (0, Step::Open),
-    (1, Step::Open),
-    (2, Step::Open),
-    (3, Step::Open),
-    (0, Step::Client(0)),
-    (1, Step::Channel(3)),
-    (3, Step::Start(2)),
-];
-
-const BUSY_MEANWHILE: &[(u8, Step)] = &[
-    (0, Step::Hand(0, 3)),
-    (3, Step::Fetch(0, true)),
-    (3, Step::Start(0)),
-    (3, Step::Idle(true)),
-    (
-        1,
-        Step::Post(Way::Port(1), &[], "1", Answer::Accepted(0, 0)),
-    ),
-    (3, Step::Deliver(2, Mail::Text(0, 0, 0, "1"))),
-    (3, Step::Idle(true)),
-    (
-        1,
-        Step::Post(Way::Port(1), &[], "2", Answer::Accepted(0, 1)),
-    ),
-    (
-        1,
-        Step::Post(Way::Port(1), &[], "3", Answer::Accepted(0, 2)),
-    ),
-    (
-        1,
-        Step::Post(Way::Port(1), &[], "4", Answer::Accepted(0, 3)),
-    ),
-    (3, Step::Deliver(2, Mail::Text(0, 0, 1, "2"))),
-];
-
-const BUSY_AFTER: &[(u8, Step)] = &[
-    (3, Step::Deliver(0, Mail::Text(0, 0, 0, "\"a\""))),
-    (3, Step::Deliver(2, Mail::Text(0, 0, 2, "3"))),
-    (3, Step::Deliver(2, Mail::Text(0, 0, 3, "4"))),
-    (3, Step::Idle(false)),
-];
 
 #[test]
 fn a_held_post_is_served_beside_a_busy_end(rt: HostRuntime) {
-    let shared = Shared::new(rt.alloc());
-    let mut table = Table::new(&shared, false);
-    let parts = [BUSY_BEFORE, LENT, BUSY_MEANWHILE, BUSY_AFTER];
-    let walked = walk_held(&rt, &shared, &mut table, parts);
-    drop(table);
-    drop(shared);
-    assert_eq!(rt; walked, Some(([7, 2, 11, 4], (0, 0))));
-}
-
-// A queue waits for the agent that it was handed to, and for its number, alone.
-const NOT_THERE: &[(u8, Step)] = &[
-    (0, Step::Open),
-    (1, Step::Open),
-    (0, Step::Worker(0)),
-    (0, Step::Hand(0, 1)),
-    (0, Step::Fetch(0, false)),
-    (1, Step::Fetch(1, false)),
-    (1, Step::Fetch(0, true)),
-    (1, Step::Line(0, 0)),
-    (
-        1,
-        Step::Post(Way::Line(0), &[], "1", Answer::Accepted(1, 0)),
-    ),
-    (1, Step::Deliver(0, Mail::Text(0, 1, 0, "1"))),
-    (1, Step::Fetch(0, false)),
-];
-
-#[test]
-fn a_queue_is_fetched_by_its_agent_alone(rt: HostRuntime) {
-    walks(&rt, rt.alloc(), NOT_THERE, 11);
+    assert!(rt; walks(&rt, rt.alloc(), true));
 }

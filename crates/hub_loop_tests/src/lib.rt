@@ -1,35 +1,18 @@
-//! Tests of the event loop of an agent through its public calls.
+//! Tests of the event loop of an agent that no step file shows: numbers that are taken, a post that
+//! is held up, a line to another end, and a fetch that is tried once.
 //!
-//! This crate has nothing but tests, as `hub_tests` says.
+//! This crate has nothing but tests, as `hub_tests` says. `hub_player` plays the rest.
 #![tactic(auto)]
 
 #[cfg(test)]
-mod agent;
-#[cfg(test)]
-mod closed;
-#[cfg(test)]
-mod deliveries;
-#[cfg(test)]
-mod ended;
-#[cfg(test)]
 mod handing;
 #[cfg(test)]
-mod mail;
+mod left;
 #[cfg(test)]
-mod many;
+mod lines;
 #[cfg(test)]
 mod memory;
-#[cfg(test)]
-mod order;
 #[cfg(test)]
 mod parts;
 #[cfg(test)]
 mod refusals;
-#[cfg(test)]
-mod rows;
-#[cfg(test)]
-mod scribe;
-#[cfg(test)]
-mod shared;
-#[cfg(test)]
-mod table;
