@@ -2,7 +2,7 @@
 use Rattle.std.proofs.Common.{Bool, List, None, Option, Some, [], ap, append-nil, arith, cond, eqb, false, length, length-append, map, ne_eqb, not, refl, rules, subst, sym, true, ℕ, ◌&&◌, ◌++◌, ◌+◌, ◌<◌, ◌∙◌, ◌∷◌, ◌≡◌}
 use Rattle.hub_core.proofs.Words.{Action, AgentId, AllByRecursion, Answers, CastNow, Client, EndId, Facts, Group, IsFirst, IsMemberNow, JoinsGroup, Kind, Member, MemberLeaves, Outcome, PartLeaves, Port, Roster, RosterNow, SameRoster, ShowsRoster, Sound, SoundPlaces, Worker, agent_answer}
 use Rattle.hub_core.proofs.Words.{agents_after, destinations_of, ends, facts, false≢true, filter, get, group_named, group_of, has_end, insert_key, is_casting, is_in, is_of_group, is_same_group, is_seated_in, kind_after, leaves, nat_cmp, nat_tests, numbers, numbers_of, numbers_with, origin_at}
-use Rattle.hub_core.proofs.Words.{others_of, part_answer, parted, roster_after, seated_without, slice_get, ◌==◌, is_some, Agent, End, maker_of, holder, is_empty, cast_answer, destinations, CoreState, Members, seen, kept_cast_answer, part_outcome, kept_destinations, cast_to}
+use Rattle.hub_core.proofs.Words.{others_of, part_answer, parted, roster_after, seated_without, slice_get, ◌==◌, is_some, Agent, End, maker_of, holder, is_empty, cast_answer, destinations, CoreState, Members, seen, kept_destinations, cast_to, cast_answer_of, is_seated, part_answer_of}
 use Rattle.hub_core.specs.declared.step.Action.TheVariants as action
 use Rattle.hub_core.specs.declared.outcome.Outcome.TheVariants as outcome
 use Rattle.hub_core.proofs.SoundPlaces.{kind_next}
@@ -96,16 +96,6 @@ members_still f g kinds groups (y ∷ ys) h = (
   members_still f g kinds groups ys h.1,
 )
 
-pub shows_still : (r : Roster) (f g : Facts) → ShowsRoster r f → Stays f g → ShowsRoster r g
-shows_still r f g h s = record {
-  agents = h.agents ∙ sym s.agents;
-  origins = λ a. ap (λ (w : RosterNow). w.origin a) s.roster ∙ h.origins a;
-  groups = λ x a is. ap (λ (w : RosterNow). w.group x) s.roster ∙ h.groups x a (s.old x a is);
-  seated = λ k. h.seated k ∙ ap (λ (w : RosterNow). numbers_with w k w.members) (sym s.roster);
-  each = subst (AllByRecursion (IsMemberNow g)) (ap (λ (w : RosterNow). w.members) (sym s.roster)) (members_still f g s.kept (λ x a _. ap (λ (w : RosterNow). w.group x) s.roster) f.roster.members h.each);
-  cast = ap (λ (w : RosterNow). w.cast) s.roster ∙ h.cast;
-}
-
 -- ---- an agent more
 
 pub roster_agent : (r : Roster) (f : Facts) (origin : Option (List ℕ)) (refused : Bool) (n : AgentId) → ShowsRoster r f → outcome.Agent n ≡ agent_answer f refused → ShowsRoster (record r { members = record r.members { origins = r.members.origins ++ origin ∷ [] } }) (next f (action.Agent origin) (outcome.Agent n))
@@ -122,18 +112,21 @@ roster_agent r f origin refused n h fits =
       cast = h.cast;
     }
 
--- ---- another cast
+-- ---- the same members
 
--- the same members, and another cast
-pub recast : (r : Roster) (c : Option CastNow) (f g : Facts) → ShowsRoster r f → g.agents ≡ f.agents → ((x : ℕ) → (g.end x).kind ≡ (f.end x).kind) → g.roster ≡ record f.roster { cast = g.roster.cast } → g.roster.cast ≡ c → ShowsRoster (record r { cast = c }) g
-recast r c f g h agents kinds roster cast = record {
+-- another cast
+pub recast : (r : Roster) (c : Option CastNow) (f g : Facts) → ShowsRoster r f → g.agents ≡ f.agents → ((x : ℕ) (k : Kind) → (f.end x).kind ≡ Some k → (g.end x).kind ≡ Some k) → ((x : ℕ) (a : AgentId) → (g.end x).kind ≡ Some (Member a) → (f.end x).kind ≡ Some (Member a)) → g.roster ≡ record f.roster { cast = g.roster.cast } → g.roster.cast ≡ c → ShowsRoster (record r { cast = c }) g
+recast r c f g h agents kept old roster cast = record {
   agents = h.agents ∙ sym agents;
   origins = λ a. ap (λ (w : RosterNow). w.origin a) roster ∙ h.origins a;
-  groups = λ x a is. ap (λ (w : RosterNow). w.group x) roster ∙ h.groups x a (sym (kinds x) ∙ is);
+  groups = λ x a is. ap (λ (w : RosterNow). w.group x) roster ∙ h.groups x a (old x a is);
   seated = λ k. h.seated k ∙ ap (λ (w : RosterNow). numbers_with w k w.members) (sym roster);
-  each = subst (AllByRecursion (IsMemberNow g)) (ap (λ (w : RosterNow). w.members) (sym roster)) (members_still f g (λ x k is. kinds x ∙ is) (λ x a _. ap (λ (w : RosterNow). w.group x) roster) f.roster.members h.each);
+  each = subst (AllByRecursion (IsMemberNow g)) (ap (λ (w : RosterNow). w.members) (sym roster)) (members_still f g kept (λ x a _. ap (λ (w : RosterNow). w.group x) roster) f.roster.members h.each);
   cast = cast;
 }
+
+pub shows_still : (r : Roster) (f g : Facts) → ShowsRoster r f → Stays f g → ShowsRoster r g
+shows_still r f g h s = recast r r.cast f g h s.agents s.kept s.old (λ i. record (s.roster i) { cast = g.roster.cast }) (ap (λ (w : RosterNow). w.cast) s.roster ∙ h.cast)
 
 -- ---- a member more
 
@@ -232,35 +225,38 @@ roster_part r s f e h fits leaves =
 
 -- ---- Cast
 
-cast_tests : (made seated none : Bool) (p : Option AgentId) (ds es : List EndId) → (made ≡ true → ds ≡ es) → (casting : Bool) → kept_cast_answer (made && not casting) seated p none ds ≡ kept_cast_answer (made && not casting) seated p none es
-cast_tests true seated none p ds es same false = ap (kept_cast_answer true seated p none) (same refl)
-cast_tests _ seated none p ds es same _ = refl
+abbrev cast_by : Bool → Bool → Bool → Bool → Bool → List EndId → Outcome
+cast_by made casting seated held none ends = cond (not (made && not casting)) outcome.NotNow (cond (not seated) outcome.InvalidState (cond (not held) outcome.NotNow (cond (not none) outcome.NotTransferable (outcome.Destinations ends))))
 
-pub cast_fits : {c : CoreState} {f : Facts} (e : EndId) (ports : List EndId) → Sees c f → (let m : Members = c.roster.members in let g : Facts = seen c in kept_cast_answer (is_some (maker_of (g.end e.0).kind) && not (is_some c.roster.cast)) (is_seated_in m e.0 (group_of m e.0) && not (g.end e.0).closed) (holder g e.0) (is_empty ports) (kept_destinations m e.0) ≡ cast_answer f e ports)
+cast_tests : (made casting seated held none : Bool) (ds es : List EndId) → (made ≡ true → ds ≡ es) → cast_by made casting seated held none ds ≡ cast_by made casting seated held none es
+cast_tests true casting seated held none ds es same = ap (cast_by true casting seated held none) (same refl)
+cast_tests false casting seated held none ds es same = refl
+
+pub cast_fits : {c : CoreState} {f : Facts} (e : EndId) (ports : List EndId) → Sees c f → (let m : Members = c.roster.members in cast_answer_of (is_seated m e.0) (kept_destinations m e.0) (seen c) e ports ≡ cast_answer f e ports)
 cast_fits {c} {f} e ports h =
-    let answer : Bool → List EndId → Facts → Outcome = λ seated others g. kept_cast_answer (is_some (maker_of (g.end e.0).kind) && not (is_some g.roster.cast)) (seated && not (g.end e.0).closed) (holder g e.0) (is_empty ports) others in
-    ap (answer (is_seated_in c.roster.members e.0 (group_of c.roster.members e.0)) (kept_destinations c.roster.members e.0)) (seen_is h)
-    ∙ ap (λ b. answer b (kept_destinations c.roster.members e.0) f) (seated_kept c.roster f e.0 h.roster)
-    ∙ cast_tests (is_some (maker_of (f.end e.0).kind)) (has_end e.0 f.roster.members && not (f.end e.0).closed) (is_empty ports) (holder f e.0) (kept_destinations c.roster.members e.0) (destinations f e.0)
-    (λ made. let by = made_by (f.end e.0).kind made in (destinations_by c.roster f e.0 h.roster (group_of c.roster.members e.0) ∙ ap (destinations_of f e.0) (sym (h.roster.groups e.0 by.0 by.1)))) (is_casting f)
+    let m : Members = c.roster.members in
+    ap (λ g. cast_answer_of (is_seated m e.0) (kept_destinations m e.0) g e ports) (seen_is h)
+    ∙ ap (λ b. cast_answer_of b (kept_destinations m e.0) f e ports) (seated_kept c.roster f e.0 h.roster)
+    ∙ cast_tests (is_some (maker_of (f.end e.0).kind)) (is_casting f) (has_end e.0 f.roster.members && not (f.end e.0).closed) (is_some (holder f e.0)) (is_empty ports) (kept_destinations m e.0) (destinations f e.0)
+    (λ made. let by = made_by (f.end e.0).kind made in (destinations_by c.roster f e.0 h.roster (group_of m e.0) ∙ ap (destinations_of f e.0) (sym (h.roster.groups e.0 by.0 by.1))))
 
 pub cast_changes : {c : CoreState} {f : Facts} (e : EndId) (ports : List EndId) (body : List ℕ) (refused : Bool) {o : Outcome} → Sees c f → o ≡ cast_answer f e ports → Change (action.Cast e ports body) o → ShownWith c f (action.Cast e ports body) refused o
 cast_changes {c} {f} e ports body refused h answer (cast_begun d ps b ends) = (
   record { fits = answer; shows = with_roster (next f (action.Cast e ports body) (outcome.Destinations ends)).roster h.shows.shown },
-  recast c.roster (cast_to e body ends) f (next f (action.Cast e ports body) (outcome.Destinations ends)) h.roster refl (λ x. refl) refl refl,
+  recast c.roster (cast_to e body ends) f (next f (action.Cast e ports body) (outcome.Destinations ends)) h.roster refl (λ x k is. is) (λ x a is. is) refl refl,
 )
 
 -- ---- Part
 
-pub part_answered : (r : Roster) (f : Facts) (e : EndId) → ShowsRoster r f → part_outcome (is_seated_in r.members e.0 (group_of r.members e.0) && not (is_some r.cast)) ≡ part_answer f e
-part_answered r f e w = ap (λ b. part_outcome (b && not (is_some r.cast))) (seated_kept r f e.0 w) ∙ ap (λ b. part_outcome (has_end e.0 f.roster.members && not b)) (ap is_some (sym w.cast))
+pub part_answered : {c : CoreState} {f : Facts} (e : EndId) → Sees c f → part_answer_of (is_seated c.roster.members e.0) (seen c) ≡ part_answer f e
+part_answered {c} {f} e h = ap (part_answer_of (is_seated c.roster.members e.0)) (seen_is h) ∙ ap (λ b. part_answer_of b f) (seated_kept c.roster f e.0 h.roster)
 
 pub part_shown : {agents : List Agent} {ends : List End} {f : Facts} (e : EndId) (refused : Bool) → SoundlyShows agents ends f → outcome.Done ≡ part_answer f e → Stepped agents ends f (action.Part e) refused outcome.Done
 part_shown {f} e refused h answer = record { fits = answer; shows = with_roster (next f (action.Part e) outcome.Done).roster h.shown }
 
 -- a cast that passes each test goes to the destinations
-pub cast_goes : (m : Option AgentId) (casting seated shut none : Bool) (p : Option AgentId) (ds es : List EndId) → is_some m ≡ true → casting ≡ false → seated ≡ true → shut ≡ true → is_some p ≡ true → none ≡ true → ds ≡ es → outcome.Destinations ds ≡ kept_cast_answer (is_some m && not casting) (seated && shut) p none es
-cast_goes m casting seated shut none p ds es a b c d e f same = rw (a, b, c, d, e, f) (ap outcome.Destinations same)
+pub cast_goes : (f : Facts) (e : EndId) (ports ds : List EndId) (seated : Bool) → is_some (maker_of (f.end e.0).kind) ≡ true → is_casting f ≡ false → seated ≡ true → (f.end e.0).closed ≡ false → is_some (holder f e.0) ≡ true → is_empty ports ≡ true → outcome.Destinations ds ≡ cast_answer_of seated ds f e ports
+cast_goes f e ports ds seated made casting seat opened held none = rw (made, casting, seat, opened, held, none) refl
 
 pub none_listed : (ports : List EndId) → eqb (length ports) 0 ≡ true → is_empty ports ≡ true
 none_listed [] h = refl

@@ -1,45 +1,29 @@
 -- How many queues and how many posters that are away an agent has: what the core counts is what the facts say.
 use Rattle.std.proofs.Common.{Bool, List, None, Option, Some, ap, arith, cond, eqb, false, length, length-set, lt-ltb, nat_lt, ne_eqb, not, refl, subst, suc, sym, true, zero, ℕ, ◌&&◌, ◌*◌, ◌+◌, ◌-◌, ◌<◌, ◌||◌, ◌∙◌, ◌≡◌, ◌≤◌, ⊎_elim, inl, inr, rules, ◌⊎◌}
-use Rattle.hub_core.proofs.Words.{Agent, AgentId, Client, End, EndNow, Facts, Kind, MAX_ENDS, Place, Port, SoundPlaces, With, Worker, adopting, agent_now, any_below, by, change_agent, change_owner, come, count_away, count_with, end_now, eqb-false, eqb-true, false≢true, gone, has_poster, is_away_of}
-use Rattle.hub_core.proofs.Words.{is_client, is_out, is_some, is_with, is_worker, kept_away, kept_clients, kept_workers, lines_of, no_end, one_away, one_less, one_more, one_out, option_map, owner, peer_of, place, set_agent, slice_get, cases_eq, slice_get_within, total, EndId, Member, InFlight}
-use Rattle.hub_core.proofs.Words.{Sender, LineNow, is_queue, on_line, own_poster_out, is_released, is_holder, has_poster_of, Phase}
-use Rattle.hub_core.proofs.Items.{eqb_same, is_there, slice_get-set_other, slice_get-set_same, and_false, or_true, or_none, at_test}
+use Rattle.hub_core.proofs.Words.{Agent, AgentId, Client, End, EndNow, Facts, Kind, MAX_ENDS, Place, Port, SoundPlaces, With, Worker, adopting, agent_now, any_below, change_agent, change_owner, come, count_away, count_with, end_now, eqb-false, eqb-true, false≢true, gone, has_poster, is_away_of}
+use Rattle.hub_core.proofs.Words.{is_client, is_out, is_some, is_with, is_worker, kept_away, lines_of, no_end, one_away, one_less, one_more, one_out, option_map, owner, peer_of, place, set_agent, slice_get, cases_eq, slice_get_within, total, EndId, Member, InFlight}
+use Rattle.hub_core.proofs.Words.{Sender, LineNow, is_queue, on_line, own_poster_out, is_released, is_holder, has_poster_of, Phase, count_of, is_queue_of, and-false, or-true}
+use Rattle.hub_core.proofs.Items.{eqb_same, is_there, slice_get-set_other, slice_get-set_same, or_none, at_test}
 use Rattle.hub_core.proofs.Seeing.{SoundlyShows}
 use Rattle.hub_core.proofs.Speakers.{placed_made, no_port, port_of, hears_of, no_member}
-use Rattle.hub_core.proofs.Totals.{bit, last_not, total_nothing, total_past, total_same}
+use Rattle.hub_core.proofs.Totals.{bit, total_nothing, total_past, total_same, total_change}
 use Rattle.hub_core.proofs.SoundLines.{on_place}
 
 -- ==== How many queues of clients and workers an agent has: what the core counts is what the facts say.
 
 -- what the core keeps of these counts
 pub record Counted (agents : List Agent) (f : Facts) : Type 0 where
-  pub clients : (a : AgentId) → kept_clients (slice_get agents a.0) ≡ count_with is_client a f
-  pub workers : (a : AgentId) → kept_workers (slice_get agents a.0) ≡ count_with is_worker a f
+  pub queues : (j : Kind) (a : AgentId) → count_of j (slice_get agents a.0) ≡ count_with (is_queue_of j) a f
   pub away : (a : AgentId) → kept_away (slice_get agents a.0) ≡ count_away a f
 
 pub counts_of : {agents : List Agent} {ends : List End} {f : Facts} → SoundlyShows agents ends f → Counted agents f
-counts_of h = record { clients = h.clients; workers = h.workers; away = h.away }
+counts_of h = record { queues = h.queues; away = h.away }
 
 -- whether the agent has the end, and its kind passes the test
 abbrev pub counts_at : (Option Kind → Bool) → AgentId → EndNow → Bool
 counts_at test a x = test x.kind && is_with a x.place
 
 -- ---- sums
-
--- one term changes
-pub total_change : (w u : ℕ → ℕ) (n e : ℕ) → e < n → ((d : ℕ) → (d ≡ e → ⊥) → u d ≡ w d) → total w n + u e ≡ total u n + w e
-total_change w u zero e below others = absurd (omega arith)
-total_change w u (suc n) e below others = ⊎_elim
-    (λ same.
-    let new : u e ≡ u n = ap u same in
-    let old : w e ≡ w n = ap w same in
-    let rest : total u n ≡ total w n = total_same w u n (λ d less. others d (λ at. let no : d ≡ n = at ∙ same in omega arith)) in
-    omega arith)
-    (λ other.
-    let last : u n ≡ w n = others n (λ at. other (sym at)) in
-    let rest : total w n + u e ≡ total u n + w e = total_change w u n e (last_not e n below other) others in
-    omega arith)
-    (cases_eq e n)
 
 bit_of : (b : Bool) → cond b 1 0 ≡ bit b
 bit_of true = refl
@@ -83,7 +67,7 @@ one_end : {f g : Facts} {e more : ℕ} {k : Kind} {p q : Option Place} → OneEn
 one_end {f = f} {g = g} {e = e} {more = more} {k = k} {p = p} {q = q} w test a =
     let u : ℕ → ℕ = λ x. cond (counts_at test a (g.end x)) 1 0 in
     let v : ℕ → ℕ = λ x. cond (counts_at test a (f.end x)) 1 0 in
-    let past : total v (f.ends + more) ≡ total v f.ends = total_past v f.ends more (λ d from. ap (λ (x : EndNow). cond (counts_at test a x) 1 0) (w.none d from) ∙ ap (λ b. cond b 1 0) (and_false (test None))) in
+    let past : total v (f.ends + more) ≡ total v f.ends = total_past v f.ends more (λ d from. ap (λ (x : EndNow). cond (counts_at test a x) 1 0) (w.none d from) ∙ ap (λ b. cond b 1 0) (and-false (test None))) in
     let made : e < f.ends + more = subst (λ n. e < n) w.ends w.made in
     let sum : total v (f.ends + more) + u e ≡ total u (f.ends + more) + v e = total_change v u (f.ends + more) e made (λ d far. ap (λ b. cond b 1 0) (rw (w.kinds d far, w.places d far) refl)) in
     let range : total u g.ends ≡ total u (f.ends + more) = ap (total u) w.ends in
@@ -144,7 +128,7 @@ away_change a f g x k made low ends kinds others =
 pub none_counted : (test : ℕ → Bool) (n : ℕ) → eqb (total (λ x. cond (test x) 1 0) n) 0 ≡ not (any_below test n)
 none_counted test zero = refl
 none_counted test (suc n) = elim (test n) as (λ b. eqb (total (λ x. cond (test x) 1 0) n + cond b 1 0) 0 ≡ not (any_below test n || b)) [
-  | true ↦ ne_eqb (total (λ x. cond (test x) 1 0) n + 1) 0 (λ is. omega arith) ∙ sym (ap not (or_true (any_below test n)))
+  | true ↦ ne_eqb (total (λ x. cond (test x) 1 0) n + 1) 0 (λ is. omega arith) ∙ sym (ap not (or-true (any_below test n)))
   | false ↦ let same : total (λ x. cond (test x) 1 0) n + 0 ≡ total (λ x. cond (test x) 1 0) n = omega arith in ap (λ m. eqb m 0) same ∙ none_counted test n ∙ ap not (or_none (any_below test n))
 ]
 
@@ -214,24 +198,22 @@ pub gone_length : (k : Kind) (p : Place) (agents : List Agent) → length (gone 
 gone_length k (With b) agents = change_length (one_less k) agents b.0
 gone_length k _ agents = refl
 
--- what is counted of an agent, and by which test
-record CountsBy (kept : Option Agent → ℕ) (test : Option Kind → Bool) : Type 0 where
-  less : (k : Kind) (o : Option Agent) → kept (option_map (one_less k) o) ≡ kept o - bit (test (Some k))
-  more : (k : Kind) (x : Agent) → kept (Some (one_more k x)) ≡ kept (Some x) + bit (test (Some k))
+-- what is counted of an agent depends on its counts alone
+pub same_count : (j : Kind) (x y : Agent) → y.clients ≡ x.clients → y.workers ≡ x.workers → count_of j (Some y) ≡ count_of j (Some x)
+same_count Client x y clients workers = clients
+same_count Worker x y clients workers = workers
+same_count _ x y clients workers = refl
 
-clients_by : CountsBy kept_clients is_client
-clients_by = record { less = λ k o. clients_less k o; more = λ k x. ap (λ (y : Agent). y.clients) (more_is k x) }
-  where
-    clients_less : (k : Kind) (o : Option Agent) → kept_clients (option_map (one_less k) o) ≡ kept_clients o - bit (is_client (Some k))
-    clients_less k None = none_less (bit (is_client (Some k)))
-    clients_less k (Some x) = ap (λ (y : Agent). y.clients) (less_is k x)
+less_by : (j k : Kind) (o : Option Agent) → count_of j (option_map (one_less k) o) ≡ count_of j o - bit (is_queue_of j (Some k))
+less_by j k None = none_less (bit (is_queue_of j (Some k)))
+less_by Client k (Some x) = ap (λ (y : Agent). y.clients) (less_is k x)
+less_by Worker k (Some x) = ap (λ (y : Agent). y.workers) (less_is k x)
+less_by _ k (Some x) = refl
 
-workers_by : CountsBy kept_workers is_worker
-workers_by = record { less = λ k o. workers_less k o; more = λ k x. ap (λ (y : Agent). y.workers) (more_is k x) }
-  where
-    workers_less : (k : Kind) (o : Option Agent) → kept_workers (option_map (one_less k) o) ≡ kept_workers o - bit (is_worker (Some k))
-    workers_less k None = none_less (bit (is_worker (Some k)))
-    workers_less k (Some x) = ap (λ (y : Agent). y.workers) (less_is k x)
+more_by : (j k : Kind) (x : Agent) → count_of j (Some (one_more k x)) ≡ count_of j (Some x) + bit (is_queue_of j (Some k))
+more_by Client k x = ap (λ (y : Agent). y.clients) (more_is k x)
+more_by Worker k x = ap (λ (y : Agent). y.workers) (more_is k x)
+more_by _ k x = refl
 
 bit_and : (b c : Bool) (n : ℕ) → cond c (n - bit b) n ≡ n - bit (b && c)
 bit_and true true n = refl
@@ -254,72 +236,65 @@ nowhere true n = omega arith
 nowhere false n = omega arith
 
 -- the count of an agent after an end went
-gone_count : (kept : Option Agent → ℕ) (test : Option Kind → Bool) → CountsBy kept test → (k : Kind) (p : Place) (agents : List Agent) (a : AgentId) → kept (slice_get (gone k p agents) a.0) ≡ kept (slice_get agents a.0) - bit (test (Some k) && is_with a (Some p))
-gone_count kept test by k (With b) agents a =
-    ap kept (change_get (one_less k) agents b.0 a.0)
-    ∙ under kept (eqb a.0 b.0) (option_map (one_less k) (slice_get agents a.0)) (slice_get agents a.0)
-    ∙ ap (λ n. cond (eqb a.0 b.0) n (kept (slice_get agents a.0))) (by.less k (slice_get agents a.0))
-    ∙ bit_and (test (Some k)) (eqb a.0 b.0) (kept (slice_get agents a.0))
-gone_count kept test by k _ agents a = nowhere (test (Some k)) (kept (slice_get agents a.0))
+gone_count : (j k : Kind) (p : Place) (agents : List Agent) (a : AgentId) → count_of j (slice_get (gone k p agents) a.0) ≡ count_of j (slice_get agents a.0) - bit (is_queue_of j (Some k) && is_with a (Some p))
+gone_count j k (With b) agents a =
+    ap (count_of j) (change_get (one_less k) agents b.0 a.0)
+    ∙ under (count_of j) (eqb a.0 b.0) (option_map (one_less k) (slice_get agents a.0)) (slice_get agents a.0)
+    ∙ ap (λ n. cond (eqb a.0 b.0) n (count_of j (slice_get agents a.0))) (less_by j k (slice_get agents a.0))
+    ∙ bit_and (is_queue_of j (Some k)) (eqb a.0 b.0) (count_of j (slice_get agents a.0))
+gone_count j k _ agents a = nowhere (is_queue_of j (Some k)) (count_of j (slice_get agents a.0))
 
 -- the count of an agent after an end came
-come_count : (kept : Option Agent → ℕ) (test : Option Kind → Bool) → CountsBy kept test → (k : Kind) (b : AgentId) (agents : List Agent) (a : AgentId) → b.0 < length agents → kept (slice_get (come k b agents) a.0) ≡ kept (slice_get agents a.0) + bit (test (Some k) && is_with a (Some (With b)))
-come_count kept test by k b agents a known =
-    ap kept (change_get (one_more k) agents b.0 a.0)
-    ∙ under kept (eqb a.0 b.0) (option_map (one_more k) (slice_get agents a.0)) (slice_get agents a.0)
-    ∙ elim (eqb a.0 b.0) as (λ c. eqb a.0 b.0 ≡ c → cond c (kept (option_map (one_more k) (slice_get agents a.0))) (kept (slice_get agents a.0)) ≡ kept (slice_get agents a.0) + bit (test (Some k) && c)) [
-      | true ↦ λ is. let same : a.0 ≡ b.0 = eqb-true a.0 b.0 is in there (slice_get agents a.0) (is_there agents a.0 (omega arith)) ∙ bit_plus (test (Some k)) true (kept (slice_get agents a.0))
-      | false ↦ λ is. bit_plus (test (Some k)) false (kept (slice_get agents a.0))
+come_count : (j k : Kind) (b : AgentId) (agents : List Agent) (a : AgentId) → b.0 < length agents → count_of j (slice_get (come k b agents) a.0) ≡ count_of j (slice_get agents a.0) + bit (is_queue_of j (Some k) && is_with a (Some (With b)))
+come_count j k b agents a known =
+    ap (count_of j) (change_get (one_more k) agents b.0 a.0)
+    ∙ under (count_of j) (eqb a.0 b.0) (option_map (one_more k) (slice_get agents a.0)) (slice_get agents a.0)
+    ∙ elim (eqb a.0 b.0) as (λ c. eqb a.0 b.0 ≡ c → cond c (count_of j (option_map (one_more k) (slice_get agents a.0))) (count_of j (slice_get agents a.0)) ≡ count_of j (slice_get agents a.0) + bit (is_queue_of j (Some k) && c)) [
+      | true ↦ λ is. let same : a.0 ≡ b.0 = eqb-true a.0 b.0 is in there (slice_get agents a.0) (is_there agents a.0 (omega arith)) ∙ bit_plus (is_queue_of j (Some k)) true (count_of j (slice_get agents a.0))
+      | false ↦ λ is. bit_plus (is_queue_of j (Some k)) false (count_of j (slice_get agents a.0))
     ] refl
   where
-    there : (o : Option Agent) → (o ≡ None → ⊥) → kept (option_map (one_more k) o) ≡ kept o + bit (test (Some k))
+    there : (o : Option Agent) → (o ≡ None → ⊥) → count_of j (option_map (one_more k) o) ≡ count_of j o + bit (is_queue_of j (Some k))
     there None some = absurd (some refl)
-    there (Some x) some = by.more k x
+    there (Some x) some = more_by j k x
 
 -- ---- what steps make of the counts
 
 -- no end changes in what is counted
-pub counted_same : {agents : List Agent} {f g : Facts} → g.ends ≡ f.ends → ((a : AgentId) (d : ℕ) → counts_at is_client a (g.end d) ≡ counts_at is_client a (f.end d)) → ((a : AgentId) (d : ℕ) → counts_at is_worker a (g.end d) ≡ counts_at is_worker a (f.end d)) → ((a : AgentId) (x : ℕ) → x < f.ends → IsCalmAt a f g x) → Counted agents f → Counted agents g
-counted_same {f = f} {g = g} ends clients workers calm h = record {
-  clients = λ a. h.clients a ∙ sym (count_same is_client a f g ends (clients a));
-  workers = λ a. h.workers a ∙ sym (count_same is_worker a f g ends (workers a));
+pub counted_same : {agents : List Agent} {f g : Facts} → g.ends ≡ f.ends → ((j : Kind) (a : AgentId) (d : ℕ) → counts_at (is_queue_of j) a (g.end d) ≡ counts_at (is_queue_of j) a (f.end d)) → ((a : AgentId) (x : ℕ) → x < f.ends → IsCalmAt a f g x) → Counted agents f → Counted agents g
+counted_same {f = f} {g = g} ends each calm h = record {
+  queues = λ j a. h.queues j a ∙ sym (count_same (is_queue_of j) a f g ends (each j a));
   away = λ a. h.away a ∙ sym (away_same a f g ends (calm a));
 }
 
 -- ports alone went to another place
-moved_port : (test : Option Kind → Bool) → ((k : Option Kind) → is_some (peer_of k) ≡ true → test k ≡ false) → (a : AgentId) (b : Bool) (q p : Option Place) (k : Option Kind) → (b ≡ true → is_some (peer_of k) ≡ true) → (test k && is_with a (cond b q p)) ≡ (test k && is_with a p)
-moved_port test never a true q p k port = ap (λ t. t && is_with a q) (never k (port refl)) ∙ sym (ap (λ t. t && is_with a p) (never k (port refl)))
-moved_port test never a false q p k port = refl
-
-no_client : (k : Option Kind) → is_some (peer_of k) ≡ true → is_client k ≡ false
-no_client (Some Client) h = absurd (false≢true h)
-no_client _ h = refl
-
-no_worker : (k : Option Kind) → is_some (peer_of k) ≡ true → is_worker k ≡ false
-no_worker (Some Worker) h = absurd (false≢true h)
-no_worker _ h = refl
+moved_port : (j : Kind) (a : AgentId) (b : Bool) (q p : Option Place) (k : Option Kind) → (b ≡ true → is_some (peer_of k) ≡ true) → (is_queue_of j k && is_with a (cond b q p)) ≡ (is_queue_of j k && is_with a p)
+moved_port j a true q p k port = ap (λ t. t && is_with a q) (no_queue j k (port refl)) ∙ sym (ap (λ t. t && is_with a p) (no_queue j k (port refl)))
+  where
+    no_queue : (j : Kind) (k : Option Kind) → is_some (peer_of k) ≡ true → is_queue_of j k ≡ false
+    no_queue Client (Some Client) h = absurd (false≢true h)
+    no_queue Worker (Some Worker) h = absurd (false≢true h)
+    no_queue _ _ h = refl
+moved_port j a false q p k port = refl
 
 pub counts_still : {agents : List Agent} {ends : List End} {f g : Facts} → SoundlyShows agents ends f → g.ends ≡ f.ends → ((d : ℕ) → (g.end d).kind ≡ (f.end d).kind) → ((d : ℕ) → (g.end d).place ≡ (f.end d).place) → ((a : AgentId) (d l : ℕ) → is_away_of g a d l ≡ is_away_of f a d l) → Counted agents g
-counts_still h same kinds places calm = counted_same same (λ a d. rw (kinds d, places d) refl) (λ a d. rw (kinds d, places d) refl) (λ a x less. (ap lines_of (kinds x), calm a x)) (counts_of h)
+counts_still h same kinds places calm = counted_same same (λ j a d. rw (kinds d, places d) refl) (λ a x less. (ap lines_of (kinds x), calm a x)) (counts_of h)
 
 pub counted_ports : {agents : List Agent} {f g : Facts} (moved : ℕ → Bool) (place : ℕ → Option Place) → g.ends ≡ f.ends → ((d : ℕ) → (g.end d).kind ≡ (f.end d).kind) → ((d : ℕ) → (g.end d).place ≡ cond (moved d) (place d) (f.end d).place) → ((d : ℕ) → moved d ≡ true → is_some (peer_of (f.end d).kind) ≡ true) → ((a : AgentId) (x : ℕ) → x < f.ends → IsCalmAt a f g x) → Counted agents f → Counted agents g
-counted_ports {f = f} moved place ends kinds places ports calm h = counted_same ends
-    (λ a d. rw (kinds d, places d) (moved_port is_client no_client a (moved d) (place d) (f.end d).place (f.end d).kind (ports d)))
-    (λ a d. rw (kinds d, places d) (moved_port is_worker no_worker a (moved d) (place d) (f.end d).place (f.end d).kind (ports d))) calm h
+counted_ports {f = f} moved place ends kinds places ports calm h = counted_same ends (λ j a d. rw (kinds d, places d) (moved_port j a (moved d) (place d) (f.end d).place (f.end d).kind (ports d))) calm h
 
 -- one end went from a place to one where no agent has it
 pub counted_went : {f g : Facts} {e : ℕ} {k : Kind} {p : Place} {q : Option Place} (agents : List Agent) → OneEnd f g e 0 k (Some p) q → ((a : AgentId) → is_with a q ≡ false) → ((a : AgentId) (x : ℕ) → x < f.ends → IsCalmAt a f g x) → Counted agents f → Counted (gone k p agents) g
 counted_went {f = f} {g = g} {k = k} {p = p} {q = q} agents w nowhere calm h = record {
-  clients = λ a. by_test kept_clients is_client clients_by a (h.clients a);
-  workers = λ a. by_test kept_workers is_worker workers_by a (h.workers a);
+  queues = λ j a. by_kind j a (h.queues j a);
   away = λ a. gone_each kept_away (λ x c d. refl) k p agents a.0 ∙ h.away a ∙ sym (away_same a f g (w.ends ∙ omega arith) (calm a));
 }
   where
-    by_test : (kept : Option Agent → ℕ) (test : Option Kind → Bool) → CountsBy kept test → (a : AgentId) → kept (slice_get agents a.0) ≡ count_with test a f → kept (slice_get (gone k p agents) a.0) ≡ count_with test a g
-    by_test kept test by a old =
-        let sum = one_end w test a in
-        let now : bit (test (Some k) && is_with a q) ≡ 0 = ap (λ c. bit (test (Some k) && c)) (nowhere a) ∙ ap bit (and_false (test (Some k))) in
-        let less = gone_count kept test by k p agents a in
+    by_kind : (j : Kind) (a : AgentId) → count_of j (slice_get agents a.0) ≡ count_with (is_queue_of j) a f → count_of j (slice_get (gone k p agents) a.0) ≡ count_with (is_queue_of j) a g
+    by_kind j a old =
+        let sum = one_end w (is_queue_of j) a in
+        let now : bit (is_queue_of j (Some k) && is_with a q) ≡ 0 = ap (λ c. bit (is_queue_of j (Some k) && c)) (nowhere a) ∙ ap bit (and-false (is_queue_of j (Some k))) in
+        let less = gone_count j k p agents a in
         omega (arith, sum, now, less, old)
 
 -- ---- posters that come and go
@@ -416,8 +391,7 @@ owner_out (Some b) agents a =
 -- a poster came inside or is being turned back
 pub counted_entered : (agents : List Agent) (f g : Facts) (owner : Option AgentId) → f.ends ≤ MAX_ENDS → ((b : AgentId) → owner ≡ Some b → b.0 < length agents) → g.ends ≡ f.ends → ((d : ℕ) → (g.end d).kind ≡ (f.end d).kind) → ((d : ℕ) → (g.end d).place ≡ (f.end d).place) → ((a : AgentId) → count_away a g ≡ count_away a f + bit (owns_it owner a)) → Counted agents f → Counted (change_owner one_away owner agents) g
 counted_entered agents f g owner few known ends kinds places more h = record {
-  clients = λ a. owner_each kept_clients one_away owner agents a.0 (λ x. away_each kept_clients x refl) ∙ h.clients a ∙ sym (count_same is_client a f g ends (λ d. rw (kinds d, places d) refl));
-  workers = λ a. owner_each kept_workers one_away owner agents a.0 (λ x. away_each kept_workers x refl) ∙ h.workers a ∙ sym (count_same is_worker a f g ends (λ d. rw (kinds d, places d) refl));
+  queues = λ j a. owner_each (count_of j) one_away owner agents a.0 (λ x. away_each (count_of j) x (same_count j x _ refl refl)) ∙ h.queues j a ∙ sym (count_same (is_queue_of j) a f g ends (λ d. rw (kinds d, places d) refl));
   away = λ a.
       let under : count_away a f < 4294967295 = away_bound a f few in
       let kept : kept_away (slice_get agents a.0) ≡ count_away a f = h.away a in
@@ -427,8 +401,7 @@ counted_entered agents f g owner few known ends kinds places more h = record {
 -- a poster left
 pub counted_left : (agents : List Agent) (f g : Facts) (owner : Option AgentId) → g.ends ≡ f.ends → ((d : ℕ) → (g.end d).kind ≡ (f.end d).kind) → ((d : ℕ) → (g.end d).place ≡ (f.end d).place) → ((a : AgentId) → count_away a f ≡ count_away a g + bit (owns_it owner a)) → Counted agents f → Counted (change_owner one_out owner agents) g
 counted_left agents f g owner ends kinds places less h = record {
-  clients = λ a. owner_each kept_clients one_out owner agents a.0 (λ x. refl) ∙ h.clients a ∙ sym (count_same is_client a f g ends (λ d. rw (kinds d, places d) refl));
-  workers = λ a. owner_each kept_workers one_out owner agents a.0 (λ x. refl) ∙ h.workers a ∙ sym (count_same is_worker a f g ends (λ d. rw (kinds d, places d) refl));
+  queues = λ j a. owner_each (count_of j) one_out owner agents a.0 (λ x. same_count j x _ refl refl) ∙ h.queues j a ∙ sym (count_same (is_queue_of j) a f g ends (λ d. rw (kinds d, places d) refl));
   away = λ a.
       let kept : kept_away (slice_get agents a.0) ≡ count_away a f = h.away a in
       let fewer : count_away a f ≡ count_away a g + bit (owns_it owner a) = less a in
@@ -466,19 +439,18 @@ adopted_away false k agents b a known less =
 pub counted_came : {f g : Facts} {e more : ℕ} {k : Kind} {p : Option Place} {b : AgentId} (agents : List Agent) (released : Bool) → OneEnd f g e more k p (Some (With b)) → f.ends ≤ MAX_ENDS → b.0 < length agents → ((a : AgentId) → is_with a p ≡ false) → ((a : AgentId) → count_away a g ≡ count_away a f + bit (not released && eqb a.0 b.0))
     → Counted agents f → Counted (change_agent (adopting released k) b.0 agents) g
 counted_came {f = f} {g = g} {k = k} {p = p} {b = b} agents released w few known nowhere away h = record {
-  clients = λ a. adopted_each kept_clients (λ x. away_each kept_clients x refl) released k agents b a.0 ∙ by_test kept_clients is_client clients_by a (h.clients a);
-  workers = λ a. adopted_each kept_workers (λ x. away_each kept_workers x refl) released k agents b a.0 ∙ by_test kept_workers is_worker workers_by a (h.workers a);
+  queues = λ j a. adopted_each (count_of j) (λ x. away_each (count_of j) x (same_count j x _ refl refl)) released k agents b a.0 ∙ by_kind j a (h.queues j a);
   away = λ a.
       let under : count_away a f < 4294967295 = away_bound a f few in
       let kept : kept_away (slice_get agents a.0) ≡ count_away a f = h.away a in
       adopted_away released k agents b a known (omega arith) ∙ ap (λ n. n + bit (not released && eqb a.0 b.0)) kept ∙ sym (away a);
 }
   where
-    by_test : (kept : Option Agent → ℕ) (test : Option Kind → Bool) → CountsBy kept test → (a : AgentId) → kept (slice_get agents a.0) ≡ count_with test a f → kept (slice_get (come k b agents) a.0) ≡ count_with test a g
-    by_test kept test by a old =
-        let sum = one_end w test a in
-        let then : bit (test (Some k) && is_with a p) ≡ 0 = ap (λ c. bit (test (Some k) && c)) (nowhere a) ∙ ap bit (and_false (test (Some k))) in
-        let more = come_count kept test by k b agents a known in
+    by_kind : (j : Kind) (a : AgentId) → count_of j (slice_get agents a.0) ≡ count_with (is_queue_of j) a f → count_of j (slice_get (come k b agents) a.0) ≡ count_with (is_queue_of j) a g
+    by_kind j a old =
+        let sum = one_end w (is_queue_of j) a in
+        let then : bit (is_queue_of j (Some k) && is_with a p) ≡ 0 = ap (λ c. bit (is_queue_of j (Some k) && c)) (nowhere a) ∙ ap bit (and-false (is_queue_of j (Some k))) in
+        let more = come_count j k b agents a known in
         omega (arith, sum, then, more, old)
 
 -- ==== Who is away: what steps that move ends and lines make of it.
@@ -552,7 +524,7 @@ came_away a b f g e h made ends kinds lines places nowhere (Some (Port p)) is =
     let back = h.peers e p.0 (ap peer_of is) in
     let port : (f.end p.0).kind ≡ Some (Port (record { 0 = e })) = port_of (f.end p.0).kind e back.1 in
     let sum : count_away a f + bit (is_away_of g a p.0 0) ≡ count_away a g + bit (is_away_of f a p.0 0) = away_change a f g p.0 0 back.0 (subst (λ n. 0 < n) (ap lines_of (sym port)) (omega arith)) ends kinds (λ d l other. calm d l other) in
-    let old : is_away_of f a p.0 0 ≡ false = ap (λ k. not (is_out (f.line p.0 0).phase) && has_poster_of f a p.0 0 k) port ∙ ap (λ c. not (is_out (f.line p.0 0).phase) && c) nowhere ∙ and_false (not (is_out (f.line p.0 0).phase)) in
+    let old : is_away_of f a p.0 0 ≡ false = ap (λ k. not (is_out (f.line p.0 0).phase) && has_poster_of f a p.0 0 k) port ∙ ap (λ c. not (is_out (f.line p.0 0).phase) && c) nowhere ∙ and-false (not (is_out (f.line p.0 0).phase)) in
     let new : is_away_of g a p.0 0 ≡ (not (is_out (f.line p.0 0).phase) && eqb a.0 b.0) = ap (λ k. not (is_out (g.line p.0 0).phase) && has_poster_of g a p.0 0 k) (kinds p.0 ∙ port) ∙ ap (λ (y : LineNow). not (is_out y.phase) && is_with a (g.end e).place) (lines p.0 0) ∙ ap (λ q. not (is_out (f.line p.0 0).phase) && is_with a q) (places e ∙ ap (λ c. cond c (Some (With b)) (f.end e).place) (eqb_same e)) in
     let before : bit (is_away_of f a p.0 0) ≡ 0 = ap bit old in
     let after : bit (is_away_of g a p.0 0) ≡ bit (not (is_out (f.line p.0 0).phase) && eqb a.0 b.0) = ap bit new in

@@ -2,22 +2,21 @@
 use Rattle.std.proofs.Common.{Bool, List, None, Option, Some, [], ap, append-nil, append_assoc, arith, cond, drop, eqb, false, get_or, leb-false, leb-true, length, length-set, lt-ltb, ltb-false, ltb-true, nat_le, nat_lt, ne_eqb, not, refl, rules, set, subst, suc, sym, true, zero, ℕ, ◌&&◌, ◌++◌, ◌+◌}
 use Rattle.std.proofs.Common.{◌-◌, ◌<◌, ◌||◌, ◌∙◌, ◌∷◌, ◌≡◌, ◌≤◌, ⊎_elim}
 use Rattle.hub_core.proofs.Words.{Agent, AgentId, AllByRecursion, Arrived, CoreState, End, EndId, EndNow, Envelope, Facts, FitsSweep, FitsTake, InFlight, Inside, IsAllWaiting, IsDrained, IsLeft, IsNext, IsOfEnd, KeepsQueues, Line, LineNow, MatchBool, Outcome, Rises, Serves, ShowsEnd, Sound, Swept}
-use Rattle.hub_core.proofs.Words.{TakeAnswers, TakeHeld, TakeServes, With, advanced_end, all_from, all_settled, and_parts, any_below, append_cancel_left, arrived, arrived_ends, by, change_end, changed_ends, eqb-true, false_from_ne_true, false≢true, filter-append, first_failing, front_taken, holder}
-use Rattle.hub_core.proofs.Words.{in_queue, is_anyone_at, is_anyone_from, is_away_at, is_named, is_out, is_settled, is_some, is_with, joined, kept_looked, kept_settled, le-leb, le-ltb, line_now, lines_of, list_any, look_answer, look_answer_at, look_answer_of, look_outcome, look_outcome_at, lookable}
-use Rattle.hub_core.proofs.Words.{looked, may_look, moved_ends, names, nat_tests, no_end, option_map, ports_of, running_at, seen, slice_get, slice_get_within, someone_at, start_answer, sweep_outcome_at, with_taker_queue, cases_eq, cases_lt}
+use Rattle.hub_core.proofs.Words.{TakeServes, With, advanced_end, all_from, all_settled, and_parts, any_below, append_cancel_left, arrived, arrived_ends, by, change_end, changed_ends, eqb-true, false_from_ne_true, false≢true, filter-append, first_failing, front_taken, holder}
+use Rattle.hub_core.proofs.Words.{in_queue, is_anyone_at, is_anyone_from, is_away_at, is_named, is_out, is_settled, is_some, is_with, joined, kept_looked, kept_settled, le-leb, le-ltb, line_now, lines_of, list_any, look_answer, look_answer_of, lookable}
+use Rattle.hub_core.proofs.Words.{looked, moved_ends, names, nat_tests, no_end, option_map, ports_of, running_at, seen, slice_get, slice_get_within, someone_at, start_answer, sweep_outcome_at, with_taker_queue, cases_eq, cases_lt, FitsTakeOf, ServesAt, found_at, kept_lines, option_and_then, get_or-set_other, get_or-set_same, list_any-append, or-true, or_assoc}
 use Rattle.hub_core.specs.declared.outcome.Outcome.TheVariants as outcome
 use Rattle.hub_core.specs.declared.step.Action.TheVariants as action
 use Rattle.hub_core.proofs.Counts.{calm_landed, counted_ports, counts_of, counts_still}
 use Rattle.hub_core.proofs.Frames.{ShownAfter, found_end, ShownAt, Stepped, changed, end_changed, end_restated, same_queues, end_there}
-use Rattle.hub_core.proofs.Fitting.{any_of, each_of, got_of, miss, none_of_any, pass, started_of, swept_of, went_on_of}
-use Rattle.hub_core.proofs.Items.{AllByRecursion-append, AllByRecursion-weaker, below_last, each_changed, eqb_same, get_or-set_other, get_or-set_same, is_there, or_none, or_third, or_true, at_test}
+use Rattle.hub_core.proofs.Fitting.{any_of, each_of, got_of, miss, none_of_any, pass, started_of, swept_of, went_on_of, cleared_of, served_when}
+use Rattle.hub_core.proofs.Items.{AllByRecursion-append, AllByRecursion-weaker, below_last, each_changed, eqb_same, is_there, or_none, at_test}
 use Rattle.hub_core.proofs.Nexts.{Change, cleared, end_swept, got, next, started, went_on}
-use Rattle.hub_core.proofs.Sending.{Moves, moved_end, moved_shown, moves_of, moves_to}
+use Rattle.hub_core.proofs.LineSteps.{Moves, moved_end, moved_shown, moves_of, moves_to}
 use Rattle.hub_core.proofs.Seeing.{Sees, seen_is, SoundlyShows}
-use Rattle.hub_core.proofs.SoundLines.{line_epochs}
-use Rattle.hub_core.proofs.SoundWaiting.{nobody_there, nothing_more, rises_joined, same_rises, taken_prefix}
+use Rattle.hub_core.proofs.SoundLines.{line_epochs, nobody_there, nothing_more, rises_joined, same_rises, taken_prefix}
 use Rattle.hub_core.proofs.Speakers.{placed_made, runs_there, swept_flies, taken_flies}
-use Rattle.hub_core.proofs.Orders.{rises_one}
+use Rattle.hub_core.proofs.Headlines.{rises_one}
 use Rattle.hub_core.proofs.Waits.{all_back, all_kept, all_of_queue, all_taken, filters, next_in_line, none_of_queue, of_queue, queue_more, queue_other, rises_back}
 
 -- ==== Who is at a queue: what the core finds is what the facts say.
@@ -25,7 +24,7 @@ use Rattle.hub_core.proofs.Waits.{all_back, all_kept, all_of_queue, all_taken, f
 -- the first number may be tested first
 any_front : (test : ℕ → Bool) (n : ℕ) → any_below test (suc n) ≡ (test 0 || any_below (λ l. test (suc l)) n)
 any_front test zero = or_none (test 0)
-any_front test (suc n) = ap (λ b. b || test (suc n)) (any_front test n) ∙ or_third (test 0) (any_below (λ l. test (suc l)) n) (test (suc n))
+any_front test (suc n) = ap (λ b. b || test (suc n)) (any_front test n) ∙ or_assoc (test 0) (any_below (λ l. test (suc l)) n) (test (suc n))
 
 -- what is asked of the lines that are kept, and of the lines of the facts
 any_lines : (q : LineNow → Bool) (test : ℕ → Bool) (ys : List Line) → ((l : ℕ) → test l ≡ q (line_now (slice_get ys l))) → any_below test (length ys) ≡ list_any (λ y. q (line_now (Some y))) ys
@@ -184,17 +183,13 @@ looked_kept f e x h within =
 
 -- ---- what is answered
 
-answer_of : (f : Facts) (e : ℕ) (x : End) → ShownAt f e (Some x) → (q : Option ℕ) → look_answer_at x.lines q ≡ look_answer_of f e q
-answer_of f e x h None = refl
-answer_of f e x h (Some k) = ap (λ b. cond b outcome.Busy (outcome.Clear (Some k))) (someone_kept f e k x h)
+found_kept : (f : Facts) (e : ℕ) (x : End) → ShownAt f e (Some x) → (q : Option ℕ) → found_at (λ k. is_anyone_at k x.lines) q ≡ found_at (someone_at f e) q
+found_kept f e x h None = refl
+found_kept f e x h (Some k) = ap (λ b. cond b outcome.Busy (outcome.Clear (Some k))) (someone_kept f e k x h)
 
-look_as : (f : Facts) (e : EndId) (x : End) → ShownAt f e.0 (Some x) → (f.end e.0).taker_stand ≤ (f.end e.0).newest → look_outcome x ≡ look_answer f e
-look_as f e x h within =
-    ap (λ o. cond (may_look x) o outcome.NotNow) (answer_of f e.0 x h (kept_looked x) ∙ ap (look_answer_of f e.0) (sym (looked_kept f e.0 x h within)))
-    ∙ ap (λ (y : EndNow). cond (y.closed || nat_lt y.taker_stand y.newest) (look_answer_of f e.0 (looked f e.0)) outcome.NotNow) (sym h.same)
-
-look_none : (f : Facts) (e : EndId) → f.end e.0 ≡ no_end → outcome.NotNow ≡ look_answer f e
-look_none f e none = ap (λ (y : EndNow). cond (y.closed || nat_lt y.taker_stand y.newest) (look_answer_of f e.0 (looked f e.0)) outcome.NotNow) (sym none)
+-- an end that isn't there isn't looked at
+look_none : (f : Facts) (e : EndId) (o : Outcome) → f.end e.0 ≡ no_end → look_answer_of o f e ≡ outcome.NotNow
+look_none f e o none = ap (λ (y : EndNow). cond (y.closed || nat_lt y.taker_stand y.newest) o outcome.NotNow) none
 
 -- ---- a queue that became clear
 
@@ -222,20 +217,22 @@ cleared_shown {ends} {f} e refused x h at answer =
 
 -- ---- Look
 
-pub look_fits : (f : Facts) (e : EndId) (o : Option End) → ShownAt f e.0 o → (f.end e.0).taker_stand ≤ (f.end e.0).newest → look_outcome_at o ≡ look_answer f e
-look_fits f e None shown within = look_none f e shown.same
-look_fits f e (Some x) shown within = look_as f e x shown within
+pub look_fits : {c : CoreState} {f : Facts} (e : EndId) → Sees c f → (let o : Option End = slice_get c.ends e.0 in look_answer_of (found_at (λ k. is_anyone_at k (kept_lines o)) (option_and_then kept_looked o)) (seen c) e ≡ look_answer f e)
+look_fits {c} {f} e h = let o : Option End = slice_get c.ends e.0 in ap (λ g. look_answer_of (found_at (λ k. is_anyone_at k (kept_lines o)) (option_and_then kept_looked o)) g e) (seen_is h) ∙ at o (h.shows.end e.0)
+  where
+    at : (o : Option End) → ShownAt f e.0 o → look_answer_of (found_at (λ k. is_anyone_at k (kept_lines o)) (option_and_then kept_looked o)) f e ≡ look_answer f e
+    at None shown = look_none f e _ shown.same ∙ sym (look_none f e _ shown.same)
+    at (Some x) shown = ap (λ w. look_answer_of w f e) (found_kept f e.0 x shown (kept_looked x) ∙ ap (found_at (someone_at f e.0)) (sym (looked_kept f e.0 x shown (h.shows.sound.lines e.0).taker_stand)))
 
-look_found : (lines : List Line) (n k : ℕ) (may first : Bool) → outcome.Clear (Some k) ≡ cond may (look_answer_at lines (cond first (Some n) None)) outcome.NotNow → k ≡ n
-look_found lines n k false first h = cc
-look_found lines n k true false h = cc
-look_found lines n k true true h = at_test (λ o. outcome.Clear (Some k) ≡ o → k ≡ n) (is_anyone_at n lines) outcome.Busy (outcome.Clear (Some n)) (λ _ is. cc) (λ _ is. cc) h
+look_found : (n k : ℕ) (b : Bool) → cond b (Some n) None ≡ Some k → k ≡ n
+look_found n k true is = cc
+look_found n k false is = cc
 
-pub look_changes : {c : CoreState} {f : Facts} (e : EndId) (refused : Bool) {o : Outcome} → Sees c f → o ≡ look_outcome_at (slice_get c.ends e.0) → o ≡ look_answer f e → Change (action.Look e) o → ShownAfter c f (action.Look e) refused o
-look_changes {c} {f} e refused h says answer (cleared d k) =
-    let found = found_end e.0 h.shows (λ none. let is : outcome.Clear (Some k) ≡ outcome.NotNow = answer ∙ sym (look_none f e none) in cc) in
+pub look_changes : {c : CoreState} {f : Facts} (e : EndId) (refused : Bool) {o : Outcome} → Sees c f → o ≡ look_answer f e → Change (action.Look e) o → ShownAfter c f (action.Look e) refused o
+look_changes {c} {f} e refused h answer (cleared d k) =
+    let found = found_end e.0 h.shows (λ none. let is : outcome.Clear (Some k) ≡ outcome.NotNow = answer ∙ look_none f e _ none in cc) in
     let x : End = found.0 in
-    let number : k ≡ x.looked = look_found x.lines x.looked k (may_look x) (nat_lt x.looked x.newest || (x.is_closed && eqb x.looked x.newest)) (says ∙ ap look_outcome_at found.1) in (
+    let number : k ≡ x.looked = look_found x.looked k (nat_lt x.looked x.newest || (x.is_closed && eqb x.looked x.newest)) (sym (looked_kept f e.0 x (end_there e.0 h.shows found.1) (h.shows.sound.lines e.0).taker_stand) ∙ (cleared_of f e k answer).is_looked) in (
       subst (λ n. Stepped c.agents (changed_ends (λ y. record y { looked = y.looked + 1 }) e.0 c.ends (slice_get c.ends e.0)) f (action.Look e) refused (outcome.Clear (Some n))) (sym number)
           (subst (λ q. Stepped c.agents (changed_ends (λ y. record y { looked = y.looked + 1 }) e.0 c.ends q) f (action.Look e) refused (outcome.Clear (Some x.looked))) (sym found.1)
           (cleared_shown e refused x h.shows found.1 (ap (λ n. outcome.Clear (Some n)) (sym number) ∙ answer))),
@@ -253,7 +250,7 @@ none_below test (suc n) h = rw (none_below test n (λ l less. h l (omega (arith,
 some_below : (test : ℕ → Bool) (n l : ℕ) → l < n → test l ≡ true → any_below test n ≡ true
 some_below test zero l less is = absurd (omega (arith, less))
 some_below test (suc n) l less is = ⊎_elim
-    (λ same. ap (λ b. any_below test n || b) (ap test (sym same) ∙ is) ∙ or_true (any_below test n))
+    (λ same. ap (λ b. any_below test n || b) (ap test (sym same) ∙ is) ∙ or-true (any_below test n))
     (λ other. ap (λ b. b || test n) (some_below test n l (below_last l n (omega (arith, less)) other) is))
     (cases_eq l n)
 
@@ -286,7 +283,7 @@ module _ (f : Facts) (e : ℕ) (x : End) (s : Sound f) (h : ShownAt f e (Some x)
         | false ↦ λ is.
             let at : x.looked ≤ k = ltb-false k x.looked is in
             let nobody : someone_at f e k ≡ false = none_below (λ l. is_away_at k (f.line e l)) (lines_of (f.end e).kind) (λ l low. no_test (not (is_out (f.line e l).phase)) k x.looked (f.line e l).stand at (none_of_any (λ i. away_from x.looked (f.line e i)) (lines_of (f.end e).kind) l lines low)) in
-            ap (λ b. f.clear e k || not b) nobody ∙ or_true (f.clear e k)
+            ap (λ b. f.clear e k || not b) nobody ∙ or-true (f.clear e k)
       ] refl)
 
   somebody_from : is_anyone_from x.looked x.lines ≡ true → all_settled f e ≡ false
@@ -311,22 +308,17 @@ AreFrom t queues = (i : ℕ) → AllByRecursion (λ (v : Envelope). v.epoch ≡ 
 rest_from : (t : ℕ) (q : List Envelope) (qs : List (List Envelope)) → AreFrom t (q ∷ qs) → AreFrom (t + 1) qs
 rest_from t q qs h = λ i. AllByRecursion-weaker (λ (v : Envelope). v.epoch ≡ t + suc i) (λ v. v.epoch ≡ t + 1 + i) (λ v is. omega arith) (get_or qs i []) (h (suc i))
 
-joined_least : (t : ℕ) (queues : List (List Envelope)) → AreFrom t queues → AllByRecursion (λ (v : Envelope). t ≤ v.epoch) (joined queues)
-joined_least t [] h = tt
-joined_least t (q ∷ qs) h =
-    AllByRecursion-append (λ (v : Envelope). t ≤ v.epoch) q (joined qs)
-    (AllByRecursion-weaker (λ (v : Envelope). v.epoch ≡ t + 0) (λ v. t ≤ v.epoch) (λ v is. omega arith) q (h 0))
-    (AllByRecursion-weaker (λ (v : Envelope). t + 1 ≤ v.epoch) (λ v. t ≤ v.epoch) (λ v more. omega arith) (joined qs) (joined_least (t + 1) qs (rest_from t q qs h)))
-
-joined_rises : (t : ℕ) (queues : List (List Envelope)) → AreFrom t queues → Rises (joined queues)
-joined_rises t [] h = tt
+joined_rises : (t : ℕ) (queues : List (List Envelope)) → AreFrom t queues → AllByRecursion (λ (v : Envelope). t ≤ v.epoch) (joined queues) × Rises (joined queues)
+joined_rises t [] h = (tt, tt)
 joined_rises t (q ∷ qs) h =
-    rises_joined t q (joined qs) (same_rises (t + 0) q (h 0)) (joined_rises (t + 1) qs (rest_from t q qs h))
-    (AllByRecursion-weaker (λ (v : Envelope). v.epoch ≡ t + 0) (λ v. v.epoch ≤ t) (λ v is. omega arith) q (h 0))
-    (AllByRecursion-weaker (λ (v : Envelope). t + 1 ≤ v.epoch) (λ v. t ≤ v.epoch) (λ v more. omega arith) (joined qs) (joined_least (t + 1) qs (rest_from t q qs h)))
+    let rest = joined_rises (t + 1) qs (rest_from t q qs h) in
+    let later = AllByRecursion-weaker (λ (v : Envelope). t + 1 ≤ v.epoch) (λ v. t ≤ v.epoch) (λ v more. omega arith) (joined qs) rest.0 in (
+      AllByRecursion-append (λ (v : Envelope). t ≤ v.epoch) q (joined qs) (AllByRecursion-weaker (λ (v : Envelope). v.epoch ≡ t + 0) (λ v. t ≤ v.epoch) (λ v is. omega arith) q (h 0)) later,
+      rises_joined t q (joined qs) (same_rises (t + 0) q (h 0)) rest.1 (AllByRecursion-weaker (λ (v : Envelope). v.epoch ≡ t + 0) (λ v. v.epoch ≤ t) (λ v is. omega arith) q (h 0)) later,
+    )
 
 joined_behind : (t k : ℕ) (queues : List (List Envelope)) → AreFrom t queues → k < t → in_queue k (joined queues) ≡ []
-joined_behind t k queues h less = none_of_queue (λ (v : Envelope). t ≤ v.epoch) k (joined queues) (λ v least same. absurd (let from : t ≤ v.epoch = least in omega arith)) (joined_least t queues h)
+joined_behind t k queues h less = none_of_queue (λ (v : Envelope). t ≤ v.epoch) k (joined queues) (λ v least same. absurd (let from : t ≤ v.epoch = least in omega arith)) (joined_rises t queues h).0
 
 joined_queue : (t i : ℕ) (queues : List (List Envelope)) → AreFrom t queues → in_queue (t + i) (joined queues) ≡ get_or queues i []
 joined_queue t i [] h = refl
@@ -363,7 +355,7 @@ module _ (f : Facts) (e : ℕ) (x : End) (s : Sound f) (h : ShownAt f e (Some x)
   kept_line l =
       let p = (s.waiting e).prefix l in
       let suffix : Rises p.0 = rises_back (by l removed) p.0 (subst Rises p.1 ((s.lines e).rising l)) in
-      let mine : Rises (by l (joined x.queues)) = rises_by l (joined x.queues) (joined_rises x.taker x.queues are_from) in
+      let mine : Rises (by l (joined x.queues)) = rises_by l (joined x.queues) (joined_rises x.taker x.queues are_from).1 in
       let same : by l (joined x.queues) ≡ p.0 = rises_one (by l (joined x.queues)) p.0 mine suffix (λ k.
       append_cancel_left (in_queue k (by l removed)) (in_queue k (by l (joined x.queues))) (in_queue k p.0)
       (ap (λ us. us ++ in_queue k (by l (joined x.queues))) (filters _ _ removed) ∙ ap (λ us. by l (in_queue k removed) ++ us) (filters _ _ (joined x.queues)) ∙ sym (filter-append _ (in_queue k removed) (in_queue k (joined x.queues)))
@@ -371,7 +363,7 @@ module _ (f : Facts) (e : ℕ) (x : End) (s : Sound f) (h : ShownAt f e (Some x)
       filter-append _ removed (joined x.queues) ∙ ap (λ us. by l removed ++ us) same ∙ sym p.1
 
   all_waiting : IsAllWaiting f e (joined x.queues)
-  all_waiting = record { rises = joined_rises x.taker x.queues are_from; all = kept_line }
+  all_waiting = record { rises = (joined_rises x.taker x.queues are_from).1; all = kept_line }
 
   -- the end with its queues emptied
   swept_one : x.is_closed ≡ true → ((l : ℕ) → (f.line e l).phase ≡ Inside → ⊥) → ShowsEnd (f.end e) (f.line e) (f.clear e) (f.accepted e) (f.taken e ++ (f.discarded e ++ joined x.queues)) (Some (record x { queues = [] }))
@@ -389,13 +381,9 @@ module _ (f : Facts) (e : ℕ) (x : End) (s : Sound f) (h : ShownAt f e (Some x)
 
 -- ---- the ports of what was discarded
 
-either_any : {A : Type 0} (test : A → Bool) (xs ys : List A) → list_any test (xs ++ ys) ≡ (list_any test xs || list_any test ys)
-either_any test [] ys = refl
-either_any test (x ∷ xs) ys = ap (λ b. test x || b) (either_any test xs ys) ∙ sym (or_third (test x) (list_any test xs) (list_any test ys))
-
 named_ports : (d : ℕ) (vs : List Envelope) → names (ports_of vs) d ≡ is_named vs d
 named_ports d [] = refl
-named_ports d (v ∷ vs) = either_any (λ p. eqb p.0 d) v.ports (ports_of vs) ∙ ap (λ b. names v.ports d || b) (named_ports d vs)
+named_ports d (v ∷ vs) = list_any-append (λ p. eqb p.0 d) v.ports (ports_of vs) ∙ ap (λ b. names v.ports d || b) (named_ports d vs)
 
 -- every end, with what waited discarded and its ports swept
 swept_shown : {agents : List Agent} {ends : List End} {f : Facts} (e : EndId) (refused : Bool) (x : End) → SoundlyShows agents ends f → slice_get ends e.0 ≡ Some x → x.is_closed ≡ true → all_settled f e.0 ≡ true → FitsSweep f e (outcome.Discarded (joined x.queues)) → Stepped agents (moved_ends (ports_of (joined x.queues)) Swept (set ends e.0 (record x { queues = [] }))) f (action.Sweep e) refused (outcome.Discarded (joined x.queues))
@@ -410,7 +398,6 @@ swept_shown {ends} {f} e refused x h at closed settled fits =
     (swept_one f e.0 x h.sound shown closed (λ l inside. nobody_there f e.0 l (h.sound.lines e.0) settled inside)) h.end
     in
     let same_count : length base ≡ length ends = length-set ends e.0 y in
-    let count : f.ends ≡ length ends = h.ends in
     changed h fits refl refl refl (moves.count ∙ same_count)
     (counted_ports (is_named vs) (λ d. Some Swept) refl (λ d. refl) (λ d. refl) (λ d named. h.sound.places.flying d (swept_flies f e vs d h.sound (swept_of f e vs fits) named)) (λ b x less. calm_landed b f (next f (action.Sweep e) (outcome.Discarded vs)) (is_named vs) (λ d. Some Swept) x refl (λ l. refl) (λ q. refl) (λ q named. swept_flies f e vs q h.sound (swept_of f e vs fits) named) (λ q. refl)) (counts_of h)) (λ d.
     subst (ShowsEnd _ _ _ _ _) (sym (moves.each d))
@@ -419,7 +406,7 @@ swept_shown {ends} {f} e refused x h at closed settled fits =
       refl,
       λ none.
           let there : d < f.ends = placed_made f d InFlight h.sound.places (swept_flies f e vs d h.sound (swept_of f e vs fits) (sym (named_ports d vs) ∙ named)) in
-          is_there base d (omega arith) none,
+          is_there base d (omega (arith, h.ends)) none,
     )))))
 
 -- ---- what is answered
@@ -503,11 +490,11 @@ each_taken : (taker : ℕ) (vs ts : List Envelope) (queues : List (List Envelope
 each_taken taker vs ts queues v rest epoch front each zero =
     each 0 ∙ ap (λ q. in_queue (taker + 0) ts ++ q) front ∙ sym (append_assoc (in_queue (taker + 0) ts) (v ∷ []) rest)
     ∙ ap (λ us. us ++ rest) (sym (queue_more (taker + 0) ts v (epoch ∙ omega arith)))
-    ∙ ap (λ q. in_queue (taker + 0) (ts ++ v ∷ []) ++ q) (sym (get_or-set_same queues 0 rest (some_queue queues v rest front)))
+    ∙ ap (λ q. in_queue (taker + 0) (ts ++ v ∷ []) ++ q) (sym (get_or-set_same queues 0 rest [] (some_queue queues v rest front)))
 each_taken taker vs ts queues v rest epoch front each (suc i) =
     each (suc i)
     ∙ ap (λ us. us ++ get_or queues (suc i) []) (sym (queue_other (taker + suc i) ts v (λ is. omega arith)))
-    ∙ ap (λ q. in_queue (taker + suc i) (ts ++ v ∷ []) ++ q) (sym (get_or-set_other queues 0 (suc i) rest (λ is. omega arith)))
+    ∙ ap (λ q. in_queue (taker + suc i) (ts ++ v ∷ []) ++ q) (sym (get_or-set_other queues 0 (suc i) rest [] (λ is. omega arith)))
 
 -- the end whose front was taken
 taken_end : (f : Facts) (e : EndId) (x : End) (v : Envelope) (rest : List Envelope) → Sound f → f.discarded e.0 ≡ [] → ShownAt f e.0 (Some x) → get_or x.queues 0 [] ≡ v ∷ rest → ShowsEnd (f.end e.0) (f.line e.0) (f.clear e.0) (f.accepted e.0) (f.taken e.0 ++ v ∷ []) (Some (with_taker_queue x rest))
@@ -543,62 +530,48 @@ got_shown {ends} {new} {f} e refused x a v rest h at has opened fits front n lea
       ap (λ p. arrived p (f.end d).place) has,
       λ none.
           let there : d < f.ends = placed_made f d InFlight h.sound.places (taken_flies f e v d h.sound n opened made named) in
-          let count : f.ends ≡ length ends = h.ends in
-          is_there base d (omega arith) none,
+          is_there base d (omega (arith, h.ends)) none,
     ))))
 
 -- ---- the tests of a take, one after another
-
-fits_unheld : (f : Facts) (e : EndId) → (f.end e.0).closed ≡ false → is_some (holder f e.0) ≡ false → FitsTake f e outcome.NotNow
-fits_unheld f e opened none = rw (opened, none) refl
 
 -- what is served at an open, enabled end fits
 take_served : (f : Facts) (e : EndId) (x : End) → Sound f → ShownAt f e.0 (Some x) → (f.end e.0).closed ≡ false → (o : Outcome) → TakeServes x o → Serves f e o
 take_served f e x h shown opened (outcome.Got v) front = next_of f e x v (drop 1 (get_or x.queues 0 [])) h ((h.waiting e.0).kept opened) shown front
 take_served f e x h shown opened o served = subst (Serves f e) (sym served.1) (left_by f e x h shown opened served.0 (nat_le x.newest x.taker) (kept_settled x x.taker) refl refl)
 
-take_held : (f : Facts) (e : EndId) (x : End) (o : Outcome) → Sound f → ShownAt f e.0 (Some x) → (f.end e.0).closed ≡ false → (P : Option AgentId) → holder f e.0 ≡ P → TakeHeld P x o → FitsTake f e o
-take_held f e x o h shown opened None is t = subst (FitsTake f e) (sym t) (fits_unheld f e opened (ap is_some is))
-take_held f e x o h shown opened (Some a) is t = elim x.is_enabled as (λ b. (f.end e.0).enabled ≡ b → MatchBool b (TakeServes x o) (o ≡ outcome.Disabled) → FitsTake f e o) [
-  | true ↦ λ enabled served. (rw (opened, (ap is_some is), enabled) (take_served f e x h shown opened o served))
-  | false ↦ λ disabled says. subst (FitsTake f e) (sym says) (rw (opened, (ap is_some is), disabled) refl)
-] (ap (λ (y : EndNow). y.enabled) shown.same) t
+-- nobody has an end that isn't there
+unheld : (f : Facts) (e : EndId) → f.end e.0 ≡ no_end → is_some (holder f e.0) ≡ true → ⊥
+unheld f e none held = false≢true (sym (ap (λ (y : EndNow). is_some (running_at (λ a. (f.agent a).runs) y.place)) none) ∙ held)
 
-take_at : (f : Facts) (e : EndId) (o : Outcome) → Sound f → (q : Option End) → ShownAt f e.0 q → TakeAnswers (holder f e.0) q o → FitsTake f e o
-take_at f e o h None shown t = subst (FitsTake f e) (sym t) (fits_unheld f e (ap (λ (y : EndNow). y.closed) shown.same) (ap (λ (y : EndNow). is_some (running_at (λ a. (f.agent a).runs) y.place)) shown.same))
-take_at f e o h (Some x) shown t = elim x.is_closed as (λ b. (f.end e.0).closed ≡ b → MatchBool b (o ≡ outcome.Closed) (TakeHeld (holder f e.0) x o) → FitsTake f e o) [
-  | true ↦ λ closed says. subst (FitsTake f e) (sym says) (rw closed refl)
-  | false ↦ λ opened held. take_held f e x o h shown opened (holder f e.0) refl held
-] (ap (λ (y : EndNow). y.closed) shown.same) t
+-- what is served where a running agent has the end
+served_at : (f : Facts) (e : EndId) (o : Outcome) → Sound f → (q : Option End) → ShownAt f e.0 q → (f.end e.0).closed ≡ false → is_some (holder f e.0) ≡ true → ServesAt q o → Serves f e o
+served_at f e o h None shown opened held served = absurd (unheld f e shown.same held)
+served_at f e o h (Some x) shown opened held served = take_served f e x h shown opened o served
+
+match_to : (closed held enabled : Bool) (o : Outcome) (P Q : Type 0) → (closed ≡ false → held ≡ true → P → Q) → MatchBool closed (o ≡ outcome.Closed) (MatchBool held (MatchBool enabled P (o ≡ outcome.Disabled)) (o ≡ outcome.NotNow)) → MatchBool closed (o ≡ outcome.Closed) (MatchBool held (MatchBool enabled Q (o ≡ outcome.Disabled)) (o ≡ outcome.NotNow))
+match_to true held enabled o P Q to h = h
+match_to false true true o P Q to h = to refl refl h
+match_to false true false o P Q to h = h
+match_to false false enabled o P Q to h = h
 
 -- the same of what the core keeps
-take_seen : {c : CoreState} {f : Facts} (e : EndId) (o : Outcome) → Sees c f → TakeAnswers (holder (seen c) e.0) (slice_get c.ends e.0) o → TakeAnswers (holder f e.0) (slice_get c.ends e.0) o
-take_seen {c} {f} e o h t = subst (λ p. TakeAnswers p (slice_get c.ends e.0) o) (ap (λ g. holder g e.0) (seen_is h)) t
+take_seen : {c : CoreState} {f : Facts} (e : EndId) (o : Outcome) → Sees c f → (let P : Outcome → Type 0 = ServesAt (slice_get c.ends e.0) in FitsTakeOf P (seen c) e o → FitsTakeOf P f e o)
+take_seen {c} {f} e o h t = subst (λ g. FitsTakeOf (ServesAt (slice_get c.ends e.0)) g e o) (seen_is h) t
 
-pub take_fits : {c : CoreState} {f : Facts} (e : EndId) (o : Outcome) → Sees c f → TakeAnswers (holder (seen c) e.0) (slice_get c.ends e.0) o → FitsTake f e o
-take_fits {c} {f} e o h t = take_at f e o h.shows.sound (slice_get c.ends e.0) (h.shows.end e.0) (take_seen e o h t)
+pub take_fits : {c : CoreState} {f : Facts} (e : EndId) (o : Outcome) → Sees c f → FitsTakeOf (ServesAt (slice_get c.ends e.0)) (seen c) e o → FitsTake f e o
+take_fits {c} {f} e o h t = match_to (f.end e.0).closed (is_some (holder f e.0)) (f.end e.0).enabled o _ _ (λ opened held. served_at f e o h.shows.sound (slice_get c.ends e.0) (h.shows.end e.0) opened held) (take_seen e o h t)
 
 -- what was served at an end that is there
-serves_there : (P : Option AgentId) (q : Option End) (o : Outcome) → (o ≡ outcome.NotNow → ⊥) → (o ≡ outcome.Closed → ⊥) → (o ≡ outcome.Disabled → ⊥) → TakeAnswers P q o → (x : End) × (q ≡ Some x) × TakeServes x o
-serves_there P None o n c d t = absurd (n t)
-serves_there P (Some x) o n c d t = (
-  x,
-  refl,
-  elim x.is_closed as (λ b. MatchBool b (o ≡ outcome.Closed) (TakeHeld P x o) → TakeServes x o) [
-    | true ↦ λ closed. absurd (c closed)
-    | false ↦ λ held. elim P as (λ p. TakeHeld p x o → TakeServes x o) [
-      | None ↦ λ not_now. absurd (n not_now)
-      | Some a ↦ λ enabled. elim x.is_enabled as (λ b. MatchBool b (TakeServes x o) (o ≡ outcome.Disabled) → TakeServes x o) [
-        | true ↦ λ served. served
-        | false ↦ λ disabled. absurd (d disabled)
-      ] enabled
-    ] held
-  ] t,
-)
+serves_there : {c : CoreState} {f : Facts} (e : EndId) (o : Outcome) → (o ≡ outcome.NotNow → ⊥) → (o ≡ outcome.Closed → ⊥) → (o ≡ outcome.Disabled → ⊥) → Sees c f → FitsTakeOf (ServesAt (slice_get c.ends e.0)) (seen c) e o → (x : End) × (slice_get c.ends e.0 ≡ Some x) × TakeServes x o
+serves_there {c} {f} e o n k d h t =
+    let r = served_when (f.end e.0).closed (is_some (holder f e.0)) (f.end e.0).enabled o (ServesAt (slice_get c.ends e.0) o) k n d (take_seen e o h t) in
+    let found = found_end e.0 h.shows (λ none. unheld f e none r.1) in
+    (found.0, found.1, subst (λ q. ServesAt q o) found.1 r.3)
 
-pub take_changes : {c : CoreState} {f : Facts} (e : EndId) (refused : Bool) {o : Outcome} → Sees c f → TakeAnswers (holder (seen c) e.0) (slice_get c.ends e.0) o → FitsTake f e o → Change (action.Take e) o → ShownAfter c f (action.Take e) refused o
+pub take_changes : {c : CoreState} {f : Facts} (e : EndId) (refused : Bool) {o : Outcome} → Sees c f → FitsTakeOf (ServesAt (slice_get c.ends e.0)) (seen c) e o → FitsTake f e o → Change (action.Take e) o → ShownAfter c f (action.Take e) refused o
 take_changes {c} {f} e refused h says fits (got d v) =
-    let there = serves_there (holder f e.0) (slice_get c.ends e.0) (outcome.Got v) (λ is. cc) (λ is. cc) (λ is. cc) (take_seen e (outcome.Got v) h says) in
+    let there = serves_there e (outcome.Got v) (λ is. cc) (λ is. cc) (λ is. cc) h says in
     let x : End = there.0 in
     let served = got_of f e v fits in
     let has = runs_there f (f.end e.0).place served.held in
@@ -608,7 +581,7 @@ take_changes {c} {f} e refused h says fits (got d v) =
       refl,
     )
 take_changes {c} {f} e refused h says fits (went_on d) =
-    let there = serves_there (holder f e.0) (slice_get c.ends e.0) outcome.Again (λ is. cc) (λ is. cc) (λ is. cc) (take_seen e outcome.Again h says) in
+    let there = serves_there e outcome.Again (λ is. cc) (λ is. cc) (λ is. cc) h says in
     let served = went_on_of f e fits in (
       subst (λ q. Stepped c.agents (changed_ends advanced_end e.0 c.ends q) f (action.Take e) refused outcome.Again) (sym there.1)
           (went_on_shown e refused there.0 h.shows there.1 served.is_open there.2.0 served.serves.0.retired fits),

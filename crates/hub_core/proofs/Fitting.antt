@@ -2,8 +2,8 @@
 use Rattle.std.proofs.Common.{◌≡◌, ◌+◌, Bool, true, false, cond, List, length, Option, Some, None, refl, ap, ℕ, zero, suc, ◌<◌, ◌≤◌, eqb, sym, ◌∙◌, arith, rules, inl, inr, ltb-true, leb-false, ltb-false, ◌&&◌, not, nat_lt, ◌||◌, ◌⊎◌, nat_le, ⊎_elim}
 use Rattle.hub_core.proofs.Words.{is_some, MatchBool, list_all, AgentId, EndId, Envelope, MAX_ENDS, MAX_LINES, MAX_MOVES, MAX_PORTS, MAX_AGENTS, Good, HoldsTarget, Bad, Sender, Acceptance, Outcome, Facts, agent_answer, channel_answer, queue_answer, has_one, holder, poster, phase_of_line, is_out}
 use Rattle.hub_core.proofs.Words.{is_inside, is_good, is_distinct, may_leave_agent, listing_of, enter_answer, leave_answer, push_answer_of, push_answer, may_enter, hears_notice, is_here, next_name, notice_answer, is_fitting, is_empty, Serves, FitsTake, start_answer, false≢true, and_parts, or_parts}
-use Rattle.hub_core.proofs.Words.{Place, Arrived, any_below, someone_at, first_failing, lookable, looked, look_answer_of, look_answer, all_from, all_settled, IsAllWaiting, FitsSweep, hop_answer, is_arrived, adopt_answer, close_answer, is_released, hand_answer, may_take_over, may_close, is_queue}
-use Rattle.hub_core.proofs.Words.{lines_of, names, LineId, Kind, back_answer, line_found, line_answer, free_line, member_answer, cast_answer, is_casting, destinations, has_end, maker_of, see_answer, has_away, has_poster, is_away_of, cases_eq}
+use Rattle.hub_core.proofs.Words.{Place, Arrived, any_below, someone_at, first_failing, lookable, looked, look_answer, all_from, all_settled, IsAllWaiting, FitsSweep, hop_answer, is_arrived, adopt_answer, close_answer, is_released, hand_answer, may_take_over, may_close, is_queue}
+use Rattle.hub_core.proofs.Words.{lines_of, names, LineId, Kind, back_answer, line_found, line_answer, free_line, member_answer, cast_answer, is_casting, destinations, has_end, maker_of, see_answer, has_away, has_poster, is_away_of, cases_eq, found_at, put_there}
 use Rattle.hub_core.specs.declared.outcome.Outcome.TheVariants as outcome
 use Rattle.hub_core.proofs.Items.{below_last, next_up, or_none, at_test}
 
@@ -151,7 +151,7 @@ listed_good : (leave target : Bool) → is_good (cond (not leave) Bad (cond targ
 listed_good true target h = refl
 listed_good false target h = absurd (false≢true h)
 
-pushed_by : (f : Facts) (s : Sender) (ports : List EndId) (fitting refused : Bool) (n : Acceptance) (q : Option AgentId) → is_inside (phase_of_line f s) ≡ true → (f.line s.end.0 s.line.0).noticed ≡ false → poster f s ≡ q → outcome.Accepted n ≡ push_answer_of f s ports fitting refused q → Pushed f s ports n
+pushed_by : (f : Facts) (s : Sender) (ports : List EndId) (fitting refused : Bool) (n : Acceptance) (q : Option AgentId) → is_inside (phase_of_line f s) ≡ true → (f.line s.end.0 s.line.0).noticed ≡ false → poster f s ≡ q → outcome.Accepted n ≡ push_answer_of (put_there f s) f s ports fitting refused q → Pushed f s ports n
 pushed_by f s ports fitting refused n None inside plain is h = cc
 pushed_by f s ports fitting refused n (Some a) inside plain is h =
     let r = pass (is_good (listing_of f s ports (Some a)) && fitting) (miss (nat_lt MAX_PORTS (length ports)) h (λ many. cc)).1 (λ bad. cc) in
@@ -197,7 +197,7 @@ pub record Served (f : Facts) (e : EndId) (o : Outcome) : Type 0 where
   pub serves : Serves f e o
 
 -- a take that was answered neither Closed nor NotNow nor Disabled was served
-served_when : (closed held enabled : Bool) (o : Outcome) (P : Type 0) → (o ≡ outcome.Closed → ⊥) → (o ≡ outcome.NotNow → ⊥) → (o ≡ outcome.Disabled → ⊥) → MatchBool closed (o ≡ outcome.Closed) (MatchBool held (MatchBool enabled P (o ≡ outcome.Disabled)) (o ≡ outcome.NotNow)) → (closed ≡ false) × (held ≡ true) × (enabled ≡ true) × P
+pub served_when : (closed held enabled : Bool) (o : Outcome) (P : Type 0) → (o ≡ outcome.Closed → ⊥) → (o ≡ outcome.NotNow → ⊥) → (o ≡ outcome.Disabled → ⊥) → MatchBool closed (o ≡ outcome.Closed) (MatchBool held (MatchBool enabled P (o ≡ outcome.Disabled)) (o ≡ outcome.NotNow)) → (closed ≡ false) × (held ≡ true) × (enabled ≡ true) × P
 served_when true held enabled o P x y z h = absurd (x h)
 served_when false true true o P x y z h = (refl, refl, refl, h)
 served_when false true false o P x y z h = absurd (z h)
@@ -314,11 +314,11 @@ first_failing_of clear k (suc n) j is = at_test (λ q. q ≡ Some j → FirstFai
     let same : k ≡ j = cc in
     record { from = omega arith; below = omega arith; unclear = ap clear (sym same) ∙ here; before = λ i low less. absurd (omega arith) }) is
 
-clear_when : (f : Facts) (x k : ℕ) (q : Option ℕ) → outcome.Clear (Some k) ≡ look_answer_of f x q → (q ≡ Some k) × (someone_at f x k ≡ false)
+clear_when : (f : Facts) (x k : ℕ) (q : Option ℕ) → outcome.Clear (Some k) ≡ found_at (someone_at f x) q → (q ≡ Some k) × (someone_at f x k ≡ false)
 clear_when f x k None h = cc
 clear_when f x k (Some j) h = at_test (λ o. outcome.Clear (Some k) ≡ o → (Some j ≡ Some k) × (someone_at f x k ≡ false)) (someone_at f x j) outcome.Busy (outcome.Clear (Some j)) (λ is no. cc) (λ is yes. let same : k ≡ j = cc in (ap Some (sym same), ap (someone_at f x) same ∙ is)) h
 
-busy_when : (f : Facts) (x : ℕ) (q : Option ℕ) → outcome.Busy ≡ look_answer_of f x q → (k : ℕ) × (q ≡ Some k) × (someone_at f x k ≡ true)
+busy_when : (f : Facts) (x : ℕ) (q : Option ℕ) → outcome.Busy ≡ found_at (someone_at f x) q → (k : ℕ) × (q ≡ Some k) × (someone_at f x k ≡ true)
 busy_when f x None h = cc
 busy_when f x (Some j) h = at_test (λ o. outcome.Busy ≡ o → (k : ℕ) × (Some j ≡ Some k) × (someone_at f x k ≡ true)) (someone_at f x j) outcome.Busy (outcome.Clear (Some j)) (λ is yes. (j, refl, is)) (λ is no. cc) h
 

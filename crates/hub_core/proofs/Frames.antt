@@ -1,7 +1,7 @@
 -- What a step leaves alone of what is kept, and what it changes.
 use Rattle.std.proofs.Common.{◌≡◌, ℕ, ◌+◌, ◌<◌, Bool, true, false, eqb, List, [], length, set, length-set, Option, Some, refl, sym, ap, subst, ◌∙◌, ◌++◌, ne_eqb, ◌&&◌, None, arith}
 use Rattle.hub_core.proofs.Words.{Envelope, Place, lines_of, slice_get_within, Line, Sender, Inside, slice_get, Agent, End, Action, Outcome, LineNow, Facts, facts, EndNow, Answers, ShowsEnd, ShowsPut, agent_now, line_now, end_now, ShowsFacts, KeepsQueues, CoreState, core_after, changed_ends}
-use Rattle.hub_core.proofs.Words.{changed_lines, change_line, ShowsRoster, no_end}
+use Rattle.hub_core.proofs.Words.{change_line, first_line, kept_lines, unwrap_or, ShowsRoster, no_end}
 use Rattle.hub_core.proofs.Items.{eqb_same, each_set, each_changed, is_there}
 use Rattle.hub_core.proofs.Seeing.{SoundlyShows}
 use Rattle.hub_core.proofs.Nexts.{next}
@@ -30,8 +30,7 @@ recounted h fits same_agents same_agent same_count same_now count counted each =
     agent = λ x. ap (λ g. g x) same_agent ∙ h.agent x ∙ sym (same_now x);
     ends = count;
     end = each;
-    clients = counted.clients;
-    workers = counted.workers;
+    queues = counted.queues;
     away = counted.away;
   };
 }
@@ -47,8 +46,7 @@ shows_first agents ends none nothing = rw (none, nothing) (record {
   agent = λ a. refl;
   ends = refl;
   end = λ e. record { same = refl; count = refl; lines = λ l. refl; put = λ l. tt; queues = tt };
-  clients = λ a. refl;
-  workers = λ a. refl;
+  queues = λ j a. refl;
   away = λ a. refl;
 })
 
@@ -133,8 +131,8 @@ with_line x l y = record x { lines = set x.lines l y }
 
 pub line_set : (ends : List End) (s : Sender) (change : Line → Line) (w : FoundLine ends s) → change_line change s ends ≡ set ends s.end.0 (with_line w.x s.line.0 (change w.y))
 line_set ends s change w =
-    ap (changed_ends (λ x. record x { lines = changed_lines change s.line.0 x.lines (slice_get x.lines s.line.0) }) s.end.0 ends) w.at
-    ∙ ap (λ q. set ends s.end.0 (let x : End = record w.x { lines = changed_lines change s.line.0 w.x.lines q } in x)) w.is
+    ap (λ q. changed_ends (λ x. with_line x s.line.0 (change (unwrap_or (slice_get (kept_lines q) s.line.0) first_line))) s.end.0 ends q) w.at
+    ∙ ap (λ q. set ends s.end.0 (with_line w.x s.line.0 (change (unwrap_or q first_line)))) w.is
 
 -- ---- a step by what it was answered
 

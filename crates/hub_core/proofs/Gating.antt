@@ -1,8 +1,8 @@
 -- The laws of the gate machine.
 use Rattle.std.proofs.Common.{◌≡◌, ◌⊎◌, ℕ, zero, suc, ◌≤◌, ◌||◌, ◌&&◌, Bool, true, false, true≢false, List, [], ◌∷◌, length, map, set, refl, sym, ap, ◌∙◌, subst, ⊎_elim, arith, length-set, Option, Some, None, not}
 use Rattle.hub_core.proofs.Words.{slice_get, sum_by, is_some, length-map, map-set, sum_by-cons, false_from_ne_true, Phase, Out, Inside, Turned, Gate, IsAt, opened, weight, busy, Steps, finds_moved, finds_closed, goes_in, goes_out, turns_back, enables, retires, closes, gave, is_open, is_busy, gives}
-use Rattle.hub_core.proofs.Words.{Reached, opens, goes_on, leaves_right, IsGateOf, GateMachineLaws, by}
-use Rattle.hub_core.proofs.Items.{some_is, none_got, got_set, got_of-map, or_true}
+use Rattle.hub_core.proofs.Words.{Reached, opens, goes_on, leaves_right, IsGateOf, GateMachineLaws, or-true}
+use Rattle.hub_core.proofs.Items.{some_is, none_got, got_set, got_of-map}
 
 -- whether the right of a line in this phase is at home
 abbrev is_home : Bool → Phase → Bool
@@ -113,7 +113,7 @@ module _ {R : Type 0} where
     }
     after g' enables = record { phases = h.phases; homes = h.homes; turned = h.turned; shut = h.shut; nobody = h.nobody }
     after g' retires = record { phases = h.phases; homes = h.homes; turned = λ k at. refl; shut = λ c. refl; nobody = h.nobody }
-    after g' closes = record { phases = h.phases; homes = h.homes; turned = λ k at. or_true g.moved; shut = λ c. or_true g.moved; nobody = h.nobody }
+    after g' closes = record { phases = h.phases; homes = h.homes; turned = λ k at. or-true g.moved; shut = λ c. or-true g.moved; nobody = h.nobody }
     after g' (gave c) = h
     after g' (is_open c s) = h
     after g' (is_busy c s b) = h

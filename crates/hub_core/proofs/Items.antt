@@ -1,13 +1,11 @@
 -- Lists of ends, agents, lines and envelopes: what a write leaves at each number, or behind a further item.
-use Rattle.std.proofs.Common.{ne_eqb, ◌≡◌, ℕ, ◌<◌, ◌+◌, true, false, eqb, List, [], ◌∷◌, ◌++◌, length, get_or, set, Option, Some, zero, suc, ◌≤◌, None, refl, sym, ap, subst, ◌∙◌, inl, inr, arith, rules, Bool, length-append, ◌&&◌, ◌||◌, ⊎_elim, cond, ◌≢◌, ◌⊎◌, map}
-use Rattle.hub_core.proofs.Words.{nat_tests, slice_get, AllByRecursion, slice_get_cases, Phase, Out, is_out, false≢true, cases_eq, slice_get_past, cases_lt}
+use Rattle.std.proofs.Common.{ne_eqb, ◌≡◌, ℕ, ◌<◌, ◌+◌, true, false, eqb, List, [], ◌∷◌, ◌++◌, length, length-set, set, Option, Some, zero, suc, ◌≤◌, None, refl, sym, ap, subst, ◌∙◌, inl, inr, arith, rules, Bool, length-append, ◌||◌, ⊎_elim, cond, ◌≢◌, ◌⊎◌, map}
+use Rattle.hub_core.proofs.Words.{nat_tests, slice_get, AllByRecursion, slice_get_cases, Phase, Out, is_out, false≢true, cases_eq, slice_get_past, cases_lt, get_or-set_same, slice_get-get_or, get_or_from_slice_get, set-get_or, option_map, slice_get-map, slice_get_within}
 
 -- ==== Lists of ends, agents, lines and envelopes: what a write leaves at each number.
 
 pub slice_get-set_same : {A : Type 0} (xs : List A) (i : ℕ) (x : A) → i < length xs → slice_get (set xs i x) i ≡ Some x
-slice_get-set_same [] i x h = absurd (omega arith)
-slice_get-set_same (y ∷ ys) zero x h = refl
-slice_get-set_same (y ∷ ys) (suc i) x h = slice_get-set_same ys i x (omega arith)
+slice_get-set_same xs i x h = slice_get-get_or (set xs i x) i x (subst (λ n. i < n) (sym (length-set xs i x)) h) ∙ ap Some (get_or-set_same xs i x x h)
 
 pub slice_get-set_other : {A : Type 0} (xs : List A) (i j : ℕ) (x : A) → (j ≡ i → ⊥) → slice_get (set xs i x) j ≡ slice_get xs j
 slice_get-set_other (y ∷ ys) zero zero x h = absurd (h refl)
@@ -16,9 +14,7 @@ slice_get-set_other _ _ _ x h = refl
 
 -- what is there, written again, changes nothing
 pub set_again : {A : Type 0} (xs : List A) (i : ℕ) (x : A) → slice_get xs i ≡ Some x → set xs i x ≡ xs
-set_again [] i x h = refl
-set_again (y ∷ ys) zero x h = let e : y ≡ x = cc in ap (λ z. z ∷ ys) (sym e)
-set_again (y ∷ ys) (suc i) x h = ap (λ zs. y ∷ zs) (set_again ys i x h)
+set_again xs i x h = ap (set xs i) (sym (get_or_from_slice_get xs i x x h)) ∙ set-get_or xs i x
 
 pub AllByRecursion-append : {A : Type 0} (P : A → Type 0) (xs ys : List A) → AllByRecursion P xs → AllByRecursion P ys → AllByRecursion P (xs ++ ys)
 AllByRecursion-append P [] ys p q = q
@@ -77,17 +73,6 @@ each_pushed P xs x others last i = ⊎_elim
         (λ past. slice_get_past xs i past ∙ sym (slice_get_past (xs ++ x ∷ []) i (past_last xs x i past far)))
         (cases_lt i (length xs))
 
--- what a list of lists holds at each number, after one was written
-pub get_or-set_same : {A : Type 0} (xs : List (List A)) (i : ℕ) (x : List A) → i < length xs → get_or (set xs i x) i [] ≡ x
-get_or-set_same [] i x h = absurd (omega arith)
-get_or-set_same (y ∷ ys) zero x h = refl
-get_or-set_same (y ∷ ys) (suc i) x h = get_or-set_same ys i x (omega arith)
-
-pub get_or-set_other : {A : Type 0} (xs : List (List A)) (i j : ℕ) (x : List A) → (j ≡ i → ⊥) → get_or (set xs i x) j [] ≡ get_or xs j []
-get_or-set_other (y ∷ ys) zero zero x h = absurd (h refl)
-get_or-set_other (y ∷ ys) (suc i) (suc j) x h = get_or-set_other ys i j x (λ e. h (ap suc e))
-get_or-set_other _ _ _ x h = refl
-
 -- what is inside a list is there
 pub is_there : {A : Type 0} (xs : List A) (i : ℕ) → i < length xs → slice_get xs i ≡ None → ⊥
 is_there xs i within none = elim (slice_get_cases xs i).1 [
@@ -102,24 +87,12 @@ pub at_test : {A : Type 0} (P : A → Type 0) (b : Bool) (x y : A) → (b ≡ tr
 at_test P true x y met failed = met refl
 at_test P false x y met failed = failed refl
 
-pub and_false : (b : Bool) → (b && false) ≡ false
-and_false true = refl
-and_false false = refl
-
 pub or_none : (b : Bool) → b ≡ (b || false)
 or_none true = refl
 or_none false = refl
 
-pub or_third : (a b c : Bool) → ((a || b) || c) ≡ (a || (b || c))
-or_third true b c = refl
-or_third false b c = refl
-
 pub below_last : (i n : ℕ) → i < n + 1 → (i ≡ n → ⊥) → i < n
 below_last i n below other = grind (arith, nat_tests)
-
-pub or_true : (b : Bool) → (b || true) ≡ true
-or_true true = refl
-or_true false = refl
 
 pub is_out_of : (p : Phase) → is_out p ≡ true → p ≡ Out
 is_out_of Out h = refl
@@ -149,9 +122,7 @@ module _ {A : Type 0} where
   got_push (x ∷ xs) (suc j) a b e = ⊎_elim (λ t. inl (ap suc t.0, t.1)) (λ t. inr t) (got_push xs j a b e)
 
   pub got_within : (l : List A) (i : ℕ) (b : A) → slice_get l i ≡ Some b → i < length l
-  got_within [] i b e = none_got b e
-  got_within (x ∷ xs) zero b e = omega arith
-  got_within (x ∷ xs) (suc i) b e = let h = got_within xs i b e in omega arith
+  got_within l i b = slice_get_within l i b
 
   pub got_there : (l : List A) (i : ℕ) → i < length l → (b : A) × (slice_get l i ≡ Some b)
   got_there [] i h = absurd (omega arith)
@@ -166,9 +137,7 @@ module _ {A : Type 0} where
 
 module _ {A B : Type 0} (f : A → B) where
   pub got-map : (l : List A) (i : ℕ) (a : A) → slice_get l i ≡ Some a → slice_get (map f l) i ≡ Some (f a)
-  got-map [] i a e = none_got a e
-  got-map (x ∷ xs) zero a e = ap (λ y. Some (f y)) (some_is x a e)
-  got-map (x ∷ xs) (suc i) a e = got-map xs i a e
+  got-map l i a e = slice_get-map f l i ∙ ap (option_map f) e
 
   pub got_of-map : (l : List A) (i : ℕ) (b : B) → slice_get (map f l) i ≡ Some b → (a : A) × (slice_get l i ≡ Some a) × (f a ≡ b)
   got_of-map [] i b e = none_got b e

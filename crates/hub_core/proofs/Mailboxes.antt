@@ -4,7 +4,7 @@ use Rattle.hub_core.proofs.Words.{slice_get, slice_index_or, length-replicate, a
 use Rattle.hub_core.proofs.Words.{PairsAreEvents, ShowsMailbox, HoldsKept, MailboxesShow, first_mailbox, mailbox, GoesOn, EachShows}
 use Rattle.hub_core.proofs.Nexts.{facts_next}
 use Rattle.hub_core.proofs.Sounds.{sound_legal, mailbox_one, box_legal}
-use Rattle.hub_core.proofs.Orders.{shows_in_order}
+use Rattle.hub_core.proofs.Headlines.{shows_in_order}
 use Rattle.hub_core.proofs.MailboxStepping.{chain_laws, only}
 use Rattle.hub_core.proofs.MailboxShown.{of_history, to_history, ShownAt}
 use Rattle.hub_core.proofs.MailboxOf.{goes, puts, runs_one, runs_happen, Ordered, runs_ordered, Kept, same_after, new_after, old_end, happen_here}

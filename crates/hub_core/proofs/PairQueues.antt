@@ -7,8 +7,7 @@ use Rattle.hub_core.proofs.Words.{GateAt, StandsAt, at_gate, gate_steps, with_ga
 use Rattle.hub_core.proofs.Items.{eqb_same, AllByRecursion-weaker, set_again, is_out_of, slice_get-set_same, slice_get-set_other, none_got, some_is, got_there, got_within, got_same}
 use Rattle.hub_core.proofs.Waits.{all_kept, filters, queue_more, all_of_queue, none_of_queue, all_front, first_of, left_same}
 use Rattle.hub_core.proofs.Fitting.{Pushed, Noticed, any_of, none_of_any, FirstFailing, first_failing_of, LooksAt, Clears, FindsBusy, looked_where, SweptWith, each_of}
-use Rattle.hub_core.proofs.SoundLines.{MayPut, message_may, notice_may, LinesAt, by_more}
-use Rattle.hub_core.proofs.SoundWaiting.{inside_of}
+use Rattle.hub_core.proofs.SoundLines.{MayPut, message_may, notice_may, LinesAt, by_more, inside_of}
 use Rattle.hub_core.proofs.MailboxStepping.{nothing_joined, step_kept}
 use Rattle.hub_core.proofs.Totals.{filter_both, nothing_there, queues_from, joined_from, prefixes_pass, nothing_more}
 use Rattle.hub_core.proofs.MailboxShown.{view, ShownAt, IsShown, HasRight, Leads, one_step, event_grows, Standing, standing, queue_shown, clear_shown, Runs}

@@ -1,6 +1,6 @@
 -- The laws of the queue machine.
 use Rattle.std.proofs.Common.{◌≡◌, ℕ, suc, ◌≤◌, Bool, true, false, List, [], ◌∷◌, length, map, refl, sym, ap, ◌∙◌, subst, arith, Some, None, cond, eqb, ◌++◌, rules, append_assoc, append-nil, length-append, ne_eqb}
-use Rattle.hub_core.proofs.Words.{opened, gives, All, eqb-true, map-append, filter-append, All-nil, All-head, All-tail, All-push, All-same, Envelope, by, up_to, Queue, new_queue, IsNamed, MayPush, pushed, pop_of, popped, IsQueue, QueueLaws}
+use Rattle.hub_core.proofs.Words.{All, eqb-true, map-append, filter-append, All-nil, All-head, All-tail, All-push, All-same, Envelope, by, up_to, Queue, new_queue, IsNamed, MayPush, pushed, pop_of, popped, IsQueue, QueueLaws}
 use Rattle.hub_core.proofs.Nexts.{all_where}
 
 -- one envelope more of its line, and none of another

@@ -1,9 +1,9 @@
 -- The members of the roster: their seats, group by group, and the lists of their numbers.
 use Rattle.std.proofs.Common.{◌≡◌, ℕ, List, [], ◌∷◌, true, false, cond, eqb, ◌&&◌, Some, refl, sym, ap, ◌∙◌, arith, rules, subst, Result, Ok, Err, ◌<◌, Bool, ◌++◌, map, ◌||◌, not}
 use Rattle.hub_core.proofs.Words.{bytes_eq, ◌==◌, IsSome, nat_tests, BTreeMap, get, WritesThrough, remove_key, lookup, OnErr, BTreeSet, insert_key, slice_cmp, is_eq, nat_cmp, ordering_then, Ordering, Less, is_eq-slice_cmp, and_parts, bytes_eq-Decides, Group, is_same_group, group_cmp, numbers_in}
-use Rattle.hub_core.proofs.Words.{seated_with, seated_without, parted, Parts, group_of, numbers_of, Members, AllByRecursion, filter, Greater, nat_cmp_is, false≢true, eqb-true, EndId, RosterNow, is_of_group, has_end, without, numbers_with, is_in}
+use Rattle.hub_core.proofs.Words.{seated_with, seated_without, parted, Parts, group_of, numbers_of, Members, AllByRecursion, filter, Greater, nat_cmp_is, false≢true, eqb-true, EndId, RosterNow, is_of_group, has_end, without, numbers_with, is_in, and-false}
 use Rattle.std.specs.BTreeMap as tree
-use Rattle.hub_core.proofs.Items.{and_false, at_test}
+use Rattle.hub_core.proofs.Items.{AllByRecursion-append, at_test}
 
 -- ==== The seats of the members of each group.
 
@@ -177,7 +177,7 @@ numbers_less r k x (y ∷ ys) = elim (eqb x y.0) as (λ c. eqb x y.0 ≡ c → n
 in_first : (r : RosterNow) (k : Group) (x : ℕ) (y : EndId) (ys : List EndId) → eqb x y.0 ≡ true → x ≡ y.0 → is_in x (numbers_with r k ys) ≡ (has_end x ys && is_of_group k (r.group x)) → is_in x (numbers_with r k (y ∷ ys)) ≡ is_of_group k (r.group x)
 in_first r k x y ys is same more = elim (is_of_group k (r.group y.0)) as (λ b. is_of_group k (r.group y.0) ≡ b → is_in x (map (λ (z : EndId). z.0) (cond b (y ∷ filter (λ z. is_of_group k (r.group z.0)) ys) (filter (λ z. is_of_group k (r.group z.0)) ys))) ≡ is_of_group k (r.group x)) [
   | true ↦ λ of. ap (λ c. c || is_in x (numbers_with r k ys)) is ∙ sym (ap (λ n. is_of_group k (r.group n)) same ∙ of)
-  | false ↦ λ none. more ∙ ap (λ b. has_end x ys && b) (ap (λ n. is_of_group k (r.group n)) same ∙ none) ∙ and_false (has_end x ys) ∙ sym (ap (λ n. is_of_group k (r.group n)) same ∙ none)
+  | false ↦ λ none. more ∙ ap (λ b. has_end x ys && b) (ap (λ n. is_of_group k (r.group n)) same ∙ none) ∙ and-false (has_end x ys) ∙ sym (ap (λ n. is_of_group k (r.group n)) same ∙ none)
 ] refl
 
 in_later : (r : RosterNow) (k : Group) (x : ℕ) (y : EndId) (ys : List EndId) → eqb x y.0 ≡ false → is_in x (numbers_with r k ys) ≡ (has_end x ys && is_of_group k (r.group x)) → is_in x (numbers_with r k (y ∷ ys)) ≡ (has_end x ys && is_of_group k (r.group x))
@@ -208,8 +208,7 @@ others_with r g x (y ∷ ys) = elim (is_of_group g (r.group y.0)) as (λ b. map 
 -- ---- what holds of each
 
 pub all_more : {A : Type 0} (P : A → Type 0) (xs : List A) (x : A) → AllByRecursion P xs → P x → AllByRecursion P (xs ++ x ∷ [])
-all_more P [] x h p = (p, tt)
-all_more P (y ∷ ys) x h p = (h.0, all_more P ys x h.1 p)
+all_more P xs x h p = AllByRecursion-append P xs (x ∷ []) h (p, tt)
 
 pub all_without : (P : EndId → Type 0) (x : ℕ) (ys : List EndId) → AllByRecursion P ys → AllByRecursion P (without x ys)
 all_without P x [] h = tt

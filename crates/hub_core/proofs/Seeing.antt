@@ -1,8 +1,8 @@
 -- What the core keeps, seen as facts: it shows sound facts, and answers as they do.
-use Rattle.std.proofs.Common.{◌≡◌, ℕ, List, Bool, false, cond, [], Option, Some, None, refl, sym, ap, ◌∙◌, nat_lt, ◌+◌, not, ◌||◌, ◌&&◌}
-use Rattle.hub_core.proofs.Words.{AgentId, Agent, End, Facts, Sound, ShowsFacts, RosterNow, is_some, ◌==◌, list_all, EndId, Kind, Port, Client, Worker, Member, Line, Good, HoldsTarget, Bad, Sender, CoreState, kept_posting_by, kept_posting_line, owner_by, owner, is_queue, peer_of, close_answer}
-use Rattle.hub_core.proofs.Words.{hand_answer, hop_answer, is_released, may_close, may_take_over, names, enter_answer, holder, running, speaker_in, poster_of, poster, hears_notice, may_enter, is_here, is_with, is_at, own_poster_out, own_line_plain, may_leave_agent, is_distinct, is_fitting}
-use Rattle.hub_core.proofs.Words.{listing_of, listing, is_out, phase_of_line, may_post, CastNow, no_roster, seen, ShowsRoster}
+use Rattle.std.proofs.Common.{◌≡◌, ℕ, List, Bool, cond, [], Option, Some, None, refl, sym, ap, ◌∙◌, nat_lt, ◌+◌, not, ◌||◌, ◌&&◌}
+use Rattle.hub_core.proofs.Words.{AgentId, Agent, End, Facts, Sound, ShowsFacts, RosterNow, is_some, ◌==◌, list_all, EndId, Kind, Port, Client, Worker, Member, Good, HoldsTarget, Bad, Sender, CoreState, owner_by, owner, is_queue, peer_of, close_answer}
+use Rattle.hub_core.proofs.Words.{hand_answer, hop_answer, is_released, may_take_over, names, enter_answer, holder, running, speaker_in, poster_of, poster, hears_notice, may_enter, is_here, is_with, is_at, own_poster_out, own_line_plain, may_leave_agent, is_distinct, is_fitting}
+use Rattle.hub_core.proofs.Words.{listing_of, listing, is_out, phase_of_line, CastNow, no_roster, seen, ShowsRoster, push_answer_at, push_answer_of, facts}
 use Rattle.hub_core.specs.declared.outcome.Outcome.TheVariants as outcome
 
 -- ==== What a core shows of a legal history: its facts are sound as well.
@@ -15,23 +15,19 @@ pub record SoundlyShows (kept_agents : List Agent) (kept_ends : List End) (f : F
 
 -- nothing that is kept of agents and ends asks for the roster
 pub with_roster : {agents : List Agent} {ends : List End} {f : Facts} (roster : RosterNow) → ShowsFacts agents ends f → ShowsFacts agents ends (record f { roster = roster })
-with_roster roster h = record { agents = h.agents; agent = h.agent; ends = h.ends; end = h.end; clients = h.clients; workers = h.workers; away = h.away }
+with_roster roster h = record { agents = h.agents; agent = h.agent; ends = h.ends; end = h.end; queues = h.queues; away = h.away }
 
 -- ==== What the core keeps, seen as facts, answers as the facts do that it shows.
 
 -- the facts that a core keeps
 abbrev pub kept_part : Facts → Facts
-kept_part f = record {
+kept_part f = record (facts []) {
   agents = f.agents;
   ends = f.ends;
   agent = f.agent;
   end = f.end;
   line = f.line;
-  clear = λ x k. false;
-  accepted = λ x. [];
-  taken = λ x. [];
-  discarded = λ x. [];
-  roster = record no_roster { cast = f.roster.cast };
+  roster = record no_roster { origin = f.roster.origin; cast = f.roster.cast };
 }
 
 -- the core shows these facts
@@ -40,17 +36,13 @@ pub record Sees (c : CoreState) (f : Facts) : Type 0 where
   pub roster : ShowsRoster c.roster f
 
 pub seen_is : {c : CoreState} {f : Facts} → Sees c f → seen c ≡ kept_part f
-seen_is {c} {f} h = λ i. record {
+seen_is {c} {f} h = λ i. record (facts []) {
   agents = sym h.shows.agents i;
   ends = sym h.shows.ends i;
   agent = λ a. sym (h.shows.agent a) i;
   end = λ x. sym (h.shows.end x).same i;
   line = λ x l. sym ((h.shows.end x).lines l) i;
-  clear = λ x k. false;
-  accepted = λ x. [];
-  taken = λ x. [];
-  discarded = λ x. [];
-  roster = record no_roster { cast = sym h.roster.cast i };
+  roster = record no_roster { origin = λ a. sym (h.roster.origins a) i; cast = sym h.roster.cast i };
 }
 
 -- ---- what doesn't read the other facts
@@ -92,15 +84,9 @@ listing_kept : (f : Facts) (s : Sender) (ports : List EndId) (q : Option AgentId
 listing_kept f s ports None = refl
 listing_kept f s ports (Some a) = ap (λ test. cond (not (is_distinct ports && list_all test ports)) Bad (cond (names ports s.end.0) HoldsTarget Good)) (λ i p. leave_kept f a s p i)
 
-posting_by_kept : (f : Facts) (s : Sender) (ports : List EndId) (fit refused : Bool) (y : Line) (q : Option AgentId) → kept_posting_by (kept_part f) s ports fit refused y q ≡ kept_posting_by f s ports fit refused y q
-posting_by_kept f s ports fit refused y None = refl
-posting_by_kept f s ports fit refused y (Some a) = rw (listing_kept f s ports (Some a)) refl
-
-posting_kept : (f : Facts) (s : Sender) (ports : List EndId) (body : List ℕ) (refused : Bool) (q : Option (Kind × Line)) → kept_posting_line (kept_part f) s ports body refused q ≡ kept_posting_line f s ports body refused q
-posting_kept f s ports body refused None = refl
-posting_kept f s ports body refused (Some p) =
-    ap (kept_posting_by (kept_part f) s ports (is_fitting f.roster.cast (Some p.0) ports body) refused p.1) (poster_kept f s (Some p.0))
-    ∙ posting_by_kept f s ports (is_fitting f.roster.cast (Some p.0) ports body) refused p.1 (poster_of f s (Some p.0))
+push_kept : (n : ℕ) (f : Facts) (s : Sender) (ports : List EndId) (fit refused : Bool) (q : Option AgentId) → push_answer_of n (kept_part f) s ports fit refused q ≡ push_answer_of n f s ports fit refused q
+push_kept n f s ports fit refused None = refl
+push_kept n f s ports fit refused (Some a) = rw (listing_kept f s ports (Some a)) refl
 
 -- ---- what the core is asked
 
@@ -120,20 +106,17 @@ hop_seen {c} {f} s h =
 pub owner_seen : {c : CoreState} {f : Facts} (s : Sender) → Sees c f → owner (seen c) s ≡ owner f s
 owner_seen {c} {f} s h = ap (λ g. owner g s) (seen_is h) ∙ owner_kept f s (f.end s.end.0).kind
 
-pub may_close_seen : {c : CoreState} {f : Facts} (e : ℕ) → Sees c f → may_close (seen c) e ≡ may_close f e
-may_close_seen {c} {f} e h = ap (λ g. may_close g e) (seen_is h) ∙ ap (λ b. is_here (f.end e).place && b) (released_kept f (f.end e).kind)
-
 pub close_seen : {c : CoreState} {f : Facts} (e : EndId) → Sees c f → close_answer (seen c) e ≡ close_answer f e
 close_seen {c} {f} e h = ap (λ g. close_answer g e) (seen_is h) ∙ ap (λ b. cond (f.end e.0).closed outcome.Closed (cond (is_here (f.end e.0).place && b) outcome.Done outcome.NotNow)) (released_kept f (f.end e.0).kind)
 
 pub hand_seen : {c : CoreState} {f : Facts} (e : EndId) (b : AgentId) → Sees c f → hand_answer (seen c) e b ≡ hand_answer f e b
 hand_seen {c} {f} e b h = ap (λ g. hand_answer g e b) (seen_is h) ∙ ap (λ d. cond (f.end e.0).closed outcome.Closed (cond (is_queue (f.end e.0).kind && d) outcome.Handed outcome.NotNow)) (take_over_kept f b (holder f e.0))
 
-pub posting_seen : {c : CoreState} {f : Facts} (s : Sender) (ports : List EndId) (body : List ℕ) (refused : Bool) (q : Option (Kind × Line)) → Sees c f → kept_posting_line (seen c) s ports body refused q ≡ kept_posting_line f s ports body refused q
-posting_seen {c} {f} s ports body refused q h = ap (λ g. kept_posting_line g s ports body refused q) (seen_is h) ∙ posting_kept f s ports body refused q
+pub push_seen : {c : CoreState} {f : Facts} (posting : Bool) (n : ℕ) (s : Sender) (ports : List EndId) (body : List ℕ) (refused : Bool) → Sees c f → push_answer_at posting n (seen c) s ports body refused ≡ push_answer_at posting n f s ports body refused
+push_seen {c} {f} posting n s ports body refused h =
+    let fit : Bool = is_fitting f.roster.cast (f.end s.end.0).kind ports body in
+    ap (λ g. push_answer_at posting n g s ports body refused) (seen_is h)
+    ∙ ap (λ q. cond (not posting) outcome.NotNow (push_answer_of n (kept_part f) s ports fit refused q)) (poster_kept f s (f.end s.end.0).kind) ∙ ap (cond (not posting) outcome.NotNow) (push_kept n f s ports fit refused (poster f s))
 
 pub listing_seen : {c : CoreState} {f : Facts} (s : Sender) (ports : List EndId) → Sees c f → listing (seen c) s ports ≡ listing f s ports
 listing_seen {c} {f} s ports h = ap (λ g. listing g s ports) (seen_is h) ∙ ap (listing_of (kept_part f) s ports) (poster_kept f s (f.end s.end.0).kind) ∙ listing_kept f s ports (poster f s)
-
-pub post_seen : {c : CoreState} {f : Facts} (s : Sender) → Sees c f → may_post (seen c) s ≡ may_post f s
-post_seen {c} {f} s h = ap (λ g. may_post g s) (seen_is h) ∙ ap (λ p. is_some p && is_out (phase_of_line f s) && not (f.line s.end.0 s.line.0).noticed) (poster_kept f s (f.end s.end.0).kind)

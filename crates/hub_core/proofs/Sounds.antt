@@ -7,8 +7,7 @@ use Rattle.hub_core.proofs.Totals.{filter_both, of_line}
 use Rattle.hub_core.proofs.MailboxShown.{view, ShownAt, Standing, standing}
 use Rattle.hub_core.proofs.MailboxStepping.{chain_laws}
 use Rattle.hub_core.proofs.PairQueues.{put_epochs, got_epochs, put_there, got_there_in}
-use Rattle.hub_core.proofs.SoundLines.{LinesAt, MarksAt, line_epochs, marks_next}
-use Rattle.hub_core.proofs.SoundWaiting.{WaitingAt, LeavingsAt, all_by_lines, rises_joined, same_rises, leavings_next}
+use Rattle.hub_core.proofs.SoundLines.{LinesAt, MarksAt, line_epochs, marks_next, WaitingAt, LeavingsAt, all_by_lines, rises_joined, same_rises, leavings_next}
 use Rattle.hub_core.proofs.Waits.{all_kept, all_both, filters, none_of_queue}
 use Rattle.hub_core.proofs.Sames.{by_pairs}
 use Rattle.hub_core.proofs.MailboxOf.{Kept, kept_next, new_shown}

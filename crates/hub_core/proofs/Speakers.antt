@@ -5,8 +5,7 @@ use Rattle.hub_core.proofs.Words.{has_poster, has_poster_of, hears_notice, holde
 use Rattle.hub_core.proofs.Words.{or_right, own_line_plain, own_poster_out, peer_of, phase_of_line, place, poster, poster_of, running, running_at, speaker_in, total, cases_lt}
 use Rattle.hub_core.proofs.Fitting.{SweptWith}
 use Rattle.hub_core.proofs.Items.{eqb_same, at_test}
-use Rattle.hub_core.proofs.SoundLines.{LinesAt, line_there}
-use Rattle.hub_core.proofs.SoundWaiting.{WaitingAt, all_removed, got_prefix, nothing_more}
+use Rattle.hub_core.proofs.SoundLines.{LinesAt, line_there, WaitingAt, all_removed, got_prefix, nothing_more}
 use Rattle.hub_core.proofs.Totals.{bit, count, count_append, count_lines, count_more, total_less, total_more}
 
 -- ---- ends that were not made

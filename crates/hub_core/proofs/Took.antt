@@ -1,17 +1,17 @@
 -- A step of the core from one value to another, and the clauses of `Core::step` that follow.
-use Rattle.std.proofs.Common.{◌<◌, length, sym, ap, subst, ◌∙◌, ◌≡◌, Some, Result, Ok, Err, refl, IfOk, ℕ, Bool, true, List, [], ◌∷◌, ◌++◌, None, inl, inr, not, ◌&&◌}
-use Rattle.hub_core.proofs.Words.{slice_get, Core, Member, facts, origin_at, ShowsFacts, StillShows, SameContent, AgentId, Client, Worker, CoreState, core_after, queue_core, Outcome, OnErr, is_some, false≢true, EndId, Members, kept_member_answer, part_outcome, member_made, group_of, is_seated_in}
+use Rattle.std.proofs.Common.{◌<◌, length, sym, ap, subst, ◌∙◌, ◌≡◌, Some, Result, Ok, Err, refl, IfOk, ℕ, Bool, true, List, [], ◌∷◌, ◌++◌, None, inl, inr}
+use Rattle.hub_core.proofs.Words.{slice_get, Core, Member, facts, origin_at, ShowsFacts, StillShows, SameContent, AgentId, Client, Worker, CoreState, core_after, queue_core, Outcome, OnErr, false≢true, EndId, member_made, is_seated, part_answer_of}
 use Rattle.hub_core.proofs.Words.{MemberLeaves, PartLeaves, seen, Step, Action, Facts, Answers, Fits, History, InOrder, takes_memory, Shows, ShowsRoster, FitsAndShows, changes_nothing, member_answer, part_answer}
 use Rattle.hub_core.proofs.Sounds.{sound_legal}
 use Rattle.hub_core.proofs.Speakers.{kind_made}
 use Rattle.hub_core.specs.declared.step.Action.TheVariants as action
 use Rattle.hub_core.specs.declared.outcome.Outcome.TheVariants as outcome
-use Rattle.hub_core.proofs.Seeing.{Sees, SoundlyShows}
+use Rattle.hub_core.proofs.Seeing.{Sees, SoundlyShows, seen_is}
 use Rattle.hub_core.proofs.Casts.{part_answered, part_shown, same_members, leaves_roster, roster_member, roster_part, shows_still, stays}
-use Rattle.hub_core.proofs.Makes.{member_answered, member_shown}
+use Rattle.hub_core.proofs.EndSteps.{member_shown}
 use Rattle.hub_core.proofs.Frames.{ShownAfter, ShownWith, Stepped}
 use Rattle.hub_core.proofs.Nexts.{next, facts_next, Change, effect, nothing_changes}
-use Rattle.hub_core.proofs.Orders.{shows_in_order}
+use Rattle.hub_core.proofs.Headlines.{shows_in_order}
 use Rattle.hub_core.proofs.Sames.{legal_after_one}
 
 -- ==== A core that didn't change still shows what it showed.
@@ -111,28 +111,28 @@ stayed a refused old new o leaves roster quiet fits =
       same = λ nothing. same_content old new same;
     }
 
-pub member_took : (a : AgentId) (name : List ℕ) (refused : Bool) (old new : CoreState) (o : Outcome) → o ≡ kept_member_answer (((seen old).agent a.0).runs && not (is_some old.roster.cast)) (is_some (origin_at (slice_get old.roster.members.origins a.0))) (length old.ends) refused → MemberLeaves a.0 name old.roster o new.roster → new ≡ record old { ends = member_made a old.ends o; roster = new.roster } → Took (action.Member a name) refused old new o
+pub member_took : (a : AgentId) (name : List ℕ) (refused : Bool) (old new : CoreState) (o : Outcome) → o ≡ member_answer (seen old) a refused → MemberLeaves a.0 name old.roster o new.roster → new ≡ record old { ends = member_made a old.ends o; roster = new.roster } → Took (action.Member a name) refused old new o
 member_took a name refused old new (outcome.End e) says leaves same = record {
   shown = λ f s w.
       let h : Sees old f = record { shows = s; roster = w } in
-      let answer : outcome.End e ≡ member_answer f a refused = says ∙ member_answered a refused h in
+      let answer : outcome.End e ≡ member_answer f a refused = says ∙ ap (λ g. member_answer g a refused) (seen_is h) in
       (subst (λ (c : CoreState). Stepped c.agents c.ends f (action.Member a name) refused (outcome.End e)) (sym same) (member_shown old f a name refused e h answer), roster_member old.roster new.roster f a name refused e s.sound w answer leaves);
   same = λ nothing. absurd (false≢true nothing);
 }
-member_took a name refused old new (outcome.Clear None) says leaves same = stayed (action.Member a name) refused old new (outcome.Clear None) same leaves (λ f. refl) (λ f h. says ∙ member_answered a refused h)
-member_took a name refused old new (outcome.Clear (Some k)) says leaves same = stayed (action.Member a name) refused old new (outcome.Clear (Some k)) same leaves (λ f. refl) (λ f h. says ∙ member_answered a refused h)
-member_took a name refused old new o says leaves same = stayed (action.Member a name) refused old new o same leaves (λ f. refl) (λ f h. says ∙ member_answered a refused h)
+member_took a name refused old new (outcome.Clear None) says leaves same = stayed (action.Member a name) refused old new (outcome.Clear None) same leaves (λ f. refl) (λ f h. says ∙ ap (λ g. member_answer g a refused) (seen_is h))
+member_took a name refused old new (outcome.Clear (Some k)) says leaves same = stayed (action.Member a name) refused old new (outcome.Clear (Some k)) same leaves (λ f. refl) (λ f h. says ∙ ap (λ g. member_answer g a refused) (seen_is h))
+member_took a name refused old new o says leaves same = stayed (action.Member a name) refused old new o same leaves (λ f. refl) (λ f h. says ∙ ap (λ g. member_answer g a refused) (seen_is h))
 
-pub part_took : (e : EndId) (refused : Bool) (old new : CoreState) (o : Outcome) → (let m : Members = old.roster.members in o ≡ part_outcome (is_seated_in m e.0 (group_of m e.0) && not (is_some old.roster.cast))) → PartLeaves e.0 old.roster o new.roster → new ≡ record old { roster = new.roster } → Took (action.Part e) refused old new o
+pub part_took : (e : EndId) (refused : Bool) (old new : CoreState) (o : Outcome) → o ≡ part_answer_of (is_seated old.roster.members e.0) (seen old) → PartLeaves e.0 old.roster o new.roster → new ≡ record old { roster = new.roster } → Took (action.Part e) refused old new o
 part_took e refused old new outcome.Done says leaves same = record {
   shown = λ f s w.
-      let answer : outcome.Done ≡ part_answer f e = says ∙ part_answered old.roster f e w in
+      let answer : outcome.Done ≡ part_answer f e = says ∙ part_answered e (record { shows = s; roster = w }) in
       (subst (λ (c : CoreState). Stepped c.agents c.ends f (action.Part e) refused outcome.Done) (sym same) (part_shown e refused s answer), roster_part old.roster new.roster f e w answer leaves);
   same = λ nothing. absurd (false≢true nothing);
 }
-part_took e refused old new (outcome.Clear None) says leaves same = stayed (action.Part e) refused old new (outcome.Clear None) same leaves (λ f. refl) (λ f h. says ∙ part_answered old.roster f e h.roster)
-part_took e refused old new (outcome.Clear (Some k)) says leaves same = stayed (action.Part e) refused old new (outcome.Clear (Some k)) same leaves (λ f. refl) (λ f h. says ∙ part_answered old.roster f e h.roster)
-part_took e refused old new o says leaves same = stayed (action.Part e) refused old new o same leaves (λ f. refl) (λ f h. says ∙ part_answered old.roster f e h.roster)
+part_took e refused old new (outcome.Clear None) says leaves same = stayed (action.Part e) refused old new (outcome.Clear None) same leaves (λ f. refl) (λ f h. says ∙ part_answered e h)
+part_took e refused old new (outcome.Clear (Some k)) says leaves same = stayed (action.Part e) refused old new (outcome.Clear (Some k)) same leaves (λ f. refl) (λ f h. says ∙ part_answered e h)
+part_took e refused old new o says leaves same = stayed (action.Part e) refused old new o same leaves (λ f. refl) (λ f h. says ∙ part_answered e h)
 
 -- ---- the clauses
 

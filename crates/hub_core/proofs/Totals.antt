@@ -1,6 +1,6 @@
 -- Sums and lists over numbers, counts of envelopes line by line, and the queues of an end joined to one list.
-use Rattle.std.proofs.Common.{Bool, List, [], ap, arith, cond, eqb, false, length, length-append, refl, rules, subst, suc, sym, true, zero, ℕ, ◌++◌, ◌+◌, ◌<◌, ◌∙◌, ◌∷◌, ◌≡◌, ◌≤◌, ⊎_elim, ltb, map, inl, inr, append-nil, append_assoc, Some, not, ◌&&◌, lt-ltb, ne_eqb}
-use Rattle.hub_core.proofs.Words.{AllByRecursion, Envelope, Prefix, by, filter, filter-append, nat_tests, total, cases_eq, slice_get, flat_map, eqb-true, cases_order, le-ltb, eq-eqb, map-append, length-map, append_cancel_left, flat_map-append, in_queue, Rises, up_to}
+use Rattle.std.proofs.Common.{Bool, List, [], ap, arith, cond, eqb, false, length, length-append, refl, rules, suc, sym, true, zero, ℕ, ◌++◌, ◌+◌, ◌<◌, ◌∙◌, ◌∷◌, ◌≡◌, ◌≤◌, ⊎_elim, ltb, map, inl, inr, append-nil, append_assoc, Some, not, ◌&&◌, lt-ltb, ne_eqb}
+use Rattle.hub_core.proofs.Words.{AllByRecursion, Envelope, Prefix, by, filter, filter-append, nat_tests, total, cases_eq, slice_get, flat_map, eqb-true, cases_order, le-ltb, eq-eqb, map-append, length-map, append_cancel_left, flat_map-append, in_queue, Rises, up_to, flat_map-map}
 use Rattle.hub_core.proofs.Items.{AllByRecursion-weaker, eqb_same, none_got, got_push, at_test}
 
 -- ==== Sums over numbers, and counts of envelopes line by line.
@@ -22,19 +22,24 @@ total_less w u (suc n) h =
 pub last_not : (e n : ℕ) → e < suc n → (e ≡ n → ⊥) → e < n
 last_not e n below other = grind (arith, nat_tests)
 
--- one term grows
-pub total_more : (w u : ℕ → ℕ) (n e k : ℕ) → e < n → u e ≡ w e + k → ((d : ℕ) → (d ≡ e → ⊥) → u d ≡ w d) → total u n ≡ total w n + k
-total_more w u zero e k below here others = absurd (omega arith)
-total_more w u (suc n) e k below here others = ⊎_elim
+-- one term changes
+pub total_change : (w u : ℕ → ℕ) (n e : ℕ) → e < n → ((d : ℕ) → (d ≡ e → ⊥) → u d ≡ w d) → total w n + u e ≡ total u n + w e
+total_change w u zero e below others = absurd (omega arith)
+total_change w u (suc n) e below others = ⊎_elim
     (λ same.
-    let last : u n ≡ w n + k = subst (λ m. u m ≡ w m + k) same here in
-    let rest : total u n ≡ total w n = total_same w u n (λ d less. others d (λ is. let no : d ≡ n = is ∙ same in omega arith)) in
+    let new : u e ≡ u n = ap u same in
+    let old : w e ≡ w n = ap w same in
+    let rest : total u n ≡ total w n = total_same w u n (λ d less. others d (λ at. let no : d ≡ n = at ∙ same in omega arith)) in
     omega arith)
     (λ other.
-    let last : u n ≡ w n = others n (λ is. other (sym is)) in
-    let rest : total u n ≡ total w n + k = total_more w u n e k (last_not e n below other) here others in
+    let last : u n ≡ w n = others n (λ at. other (sym at)) in
+    let rest : total w n + u e ≡ total u n + w e = total_change w u n e (last_not e n below other) others in
     omega arith)
     (cases_eq e n)
+
+-- one term grows
+pub total_more : (w u : ℕ → ℕ) (n e k : ℕ) → e < n → u e ≡ w e + k → ((d : ℕ) → (d ≡ e → ⊥) → u d ≡ w d) → total u n ≡ total w n + k
+total_more w u n e k below here others = let sum : total w n + u e ≡ total u n + w e = total_change w u n e below others in omega (arith, here)
 
 -- the numbers that come behind add nothing
 pub total_past : (w : ℕ → ℕ) (n k : ℕ) → ((i : ℕ) → n ≤ i → w i ≡ 0) → total w (n + k) ≡ total w n
@@ -85,13 +90,13 @@ count_prefix P ts vs p =
     let all : count P vs ≡ count P ts + count P p.0 = ap (count P) p.1 ∙ ap length (filter-append P ts p.0) ∙ length-append (filter P ts) (filter P p.0) in
     omega arith
 
--- every list of envelopes has lines below some number
-bound_of : (vs : List Envelope) → (n : ℕ) × AllByRecursion (λ v. v.line.0 < n) vs
-bound_of [] = (0, tt)
-bound_of (v ∷ vs) =
-    let rest = bound_of vs in
-    let n : ℕ = rest.0 + (v.line.0 + 1) in
-    (n, (omega arith, AllByRecursion-weaker (λ (u : Envelope). u.line.0 < rest.0) (λ u. u.line.0 < n) (λ u less. omega arith) vs rest.1))
+-- the lines, or other numbers, of a list of envelopes are below some number
+pub bound_of : (g : Envelope → ℕ) (vs : List Envelope) → (n : ℕ) × AllByRecursion (λ v. g v < n) vs
+bound_of g [] = (0, tt)
+bound_of g (v ∷ vs) =
+    let rest = bound_of g vs in
+    let n : ℕ = rest.0 + (g v + 1) in
+    (n, (omega arith, AllByRecursion-weaker (λ u. g u < rest.0) (λ u. g u < n) (λ u less. omega arith) vs rest.1))
 
 -- a count is the sum of the counts line by line
 by_first : (P : Envelope → Bool) (l : ℕ) (vs : List Envelope) (v : Envelope) (b : Bool) → count P (cond b (v ∷ by l vs) (by l vs)) ≡ count P (by l vs) + cond b (bit (P v)) 0
@@ -115,8 +120,8 @@ count_by_line P n (v ∷ vs) h =
 -- where line by line the one list is a prefix of the other, it has no more of anything
 pub count_lines : (P : Envelope → Bool) (ts vs : List Envelope) → ((l : ℕ) → Prefix (by l ts) (by l vs)) → count P ts ≤ count P vs
 count_lines P ts vs p =
-    let few = bound_of ts in
-    let many = bound_of vs in
+    let few = bound_of (λ v. v.line.0) ts in
+    let many = bound_of (λ v. v.line.0) vs in
     let n : ℕ = few.0 + many.0 in
     let taken : total (λ l. count P (by l ts)) n ≡ count P ts = count_by_line P n ts (AllByRecursion-weaker (λ (v : Envelope). v.line.0 < few.0) (λ v. v.line.0 < n) (λ v less. omega arith) ts few.1) in
     let all : total (λ l. count P (by l vs)) n ≡ count P vs = count_by_line P n vs (AllByRecursion-weaker (λ (v : Envelope). v.line.0 < many.0) (λ v. v.line.0 < n) (λ v less. omega arith) vs many.1) in
@@ -143,10 +148,6 @@ got_of-up_to w (suc n) k b is = ⊎_elim
     (got_push (map w (up_to n)) k (w n) b (sym (ap (λ l. slice_get l k) (map-append w (up_to n) (n ∷ []))) ∙ is))
 
 -- ---- queues that are joined
-
-pub flat_map-map : {A B C : Type 0} (f : B → List C) (w : A → B) (xs : List A) → flat_map f (map w xs) ≡ flat_map (λ x. f (w x)) xs
-flat_map-map f w [] = refl
-flat_map-map f w (x ∷ xs) = ap (λ ys. f (w x) ++ ys) (flat_map-map f w xs)
 
 abbrev before : ℕ → List Envelope → List Envelope
 before n vs = filter (λ v. ltb v.epoch n) vs

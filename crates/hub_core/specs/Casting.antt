@@ -30,16 +30,23 @@ destinations_of f x (Some g) = filter (λ y. is_of_group g (f.roster.group y.0) 
 abbrev pub destinations : Facts → ℕ → List EndId
 destinations f x = destinations_of f x (f.roster.group x)
 
+-- the first two arguments say whether the end is a member, and where its cast goes
+abbrev pub cast_answer_of : Bool → List EndId → Facts → EndId → List EndId → Outcome
+cast_answer_of is_member ends f e ports =
+    if not (is_some (maker_of (f.end e.0).kind) && not (is_casting f)) then outcome.NotNow
+    else (if not (is_member && not (f.end e.0).closed) then outcome.InvalidState
+    else (if not (is_some (holder f e.0)) then outcome.NotNow
+    else (if not (is_empty ports) then outcome.NotTransferable
+    else outcome.Destinations ends)))
+
 -- A Cast tests that the end is a broadcast channel and no cast has destinations left; that it hasn't parted and isn't
 -- closed; that a running agent has it; and that no ports are listed.
 abbrev pub cast_answer : Facts → EndId → List EndId → Outcome
-cast_answer f e ports =
-    if not (is_some (maker_of (f.end e.0).kind) && not (is_casting f)) then outcome.NotNow
-    else (if not (has_end e.0 f.roster.members && not (f.end e.0).closed) then outcome.InvalidState
-    else (if not (is_some (holder f e.0)) then outcome.NotNow
-    else (if not (is_empty ports) then outcome.NotTransferable
-    else outcome.Destinations (destinations f e.0))))
+cast_answer f e ports = cast_answer_of (has_end e.0 f.roster.members) (destinations f e.0) f e ports
 
 -- A Part tests that the end is a member, and that no cast has destinations left.
+abbrev pub part_answer_of : Bool → Facts → Outcome
+part_answer_of is_member f = if is_member && not (is_casting f) then outcome.Done else outcome.NotNow
+
 abbrev pub part_answer : Facts → EndId → Outcome
-part_answer f e = if has_end e.0 f.roster.members && not (is_casting f) then outcome.Done else outcome.NotNow
+part_answer f e = part_answer_of (has_end e.0 f.roster.members) f

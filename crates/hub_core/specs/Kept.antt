@@ -1,35 +1,31 @@
 -- For private clauses: what the core keeps, what it answers by it, and what it is after a step.
 use Rattle.std.specs.Prelude.{if◌then◌else◌, ◌&&◌, ◌++◌, ◌+◌, ◌-◌, ◌==◌, ◌||◌, ◌∷◌, ◌≡◌}
-use Rattle.hub_core.specs.Words.{[], false, length, slice_get, Agent, AgentId, Arrived, Bool, Client, End, EndId, Envelope, Err, Gone, IfSome, InFlight, Inside, Kind, Line, LineId, List, MAX_ENDS}
-use Rattle.hub_core.specs.Words.{MAX_LINES, MAX_PORTS, MatchBool, Member, None, Ok, Option, Out, Outcome, Phase, Place, Port, Result, Sender, Some, Turned, With, Worker, drop, flat_map, fold, is_some, list_any, nat_le, nat_lt, not, option_map, position}
-use Rattle.hub_core.specs.Words.{replicate, slice_index_or, slice_set, true, ℕ, Action, Swept}
+use Rattle.hub_core.specs.Words.{[], false, length, slice_get, Agent, AgentId, Arrived, Bool, Client, End, EndId, Envelope, Err, Gone, IfSome, InFlight, Inside, Kind, Line, List, MAX_LINES, Member, None, Ok, Option, Out, Outcome, Phase, Place, Port, Result, Sender, Some, Turned}
+use Rattle.hub_core.specs.Words.{With, Worker, drop, flat_map, fold, is_some, list_any, nat_le, nat_lt, not, option_map, position, option_and_then, replicate, slice_index_or, slice_set, true, unwrap_or, ℕ, Action, Swept}
 use Rattle.hub_core.specs.CoreState.{CoreState}
-use Rattle.hub_core.specs.Facts.{Facts}
+use Rattle.hub_core.specs.KeptRoster.{origin_at}
+use Rattle.hub_core.specs.Facts.{Facts, facts}
 use Rattle.hub_core.specs.Roster.{no_roster, cast_to, cast_after}
 use Rattle.hub_core.specs.Shows.{agent_now, end_now, line_now, kept_lines}
 use Rattle.hub_core.specs.declared.outcome.Outcome.TheVariants as outcome
-use Rattle.hub_core.specs.Made.{is_queue, lines_of}
-use Rattle.hub_core.specs.Posting.{hears_notice, is_fitting, is_good, is_inside, is_out, listing_of, poster_of, holder}
+use Rattle.hub_core.specs.Made.{lines_of}
+use Rattle.hub_core.specs.Posting.{is_inside, is_out, holder}
 use Rattle.hub_core.specs.Envelopes.{named_envelope, named_notice}
 use Rattle.hub_core.specs.declared.step.Action.TheVariants as action
-use Rattle.hub_core.specs.Moving.{is_released}
+use Rattle.hub_core.specs.Taking.{is_released}
 
 -- ==== What the core keeps, seen as facts, so that what is asked of a history is asked of the core as well.
 
--- Nothing is said of what the core doesn't keep: which queues are clear, what was accepted, taken and discarded, and the
--- members of the roster.
+-- What the core doesn't keep is as at first: which queues are clear, what was accepted, taken and discarded, and the members
+-- of the roster, in order, with their groups.
 abbrev pub seen : CoreState → Facts
-seen c = record {
+seen c = record (facts []) {
   agents = length c.agents;
   ends = length c.ends;
   agent = λ a. agent_now (slice_get c.agents a);
   end = λ x. end_now (slice_get c.ends x);
   line = λ x l. line_now (slice_get (kept_lines (slice_get c.ends x)) l);
-  clear = λ x k. false;
-  accepted = λ x. [];
-  taken = λ x. [];
-  discarded = λ x. [];
-  roster = record no_roster { cast = c.roster.cast };
+  roster = record no_roster { origin = λ a. origin_at (slice_get c.roster.members.origins a); cast = c.roster.cast };
 }
 
 -- ==== For private clauses: what the parts of the core do to what it keeps.
@@ -45,21 +41,6 @@ kept_settled x epoch = nat_lt epoch x.looked || not (is_anyone_at epoch x.lines)
 -- the queue that a look looks at
 abbrev pub kept_looked : End → Option ℕ
 kept_looked x = if nat_lt x.looked x.newest || (x.is_closed && x.looked == x.newest) then Some x.looked else None
-
-abbrev pub look_answer_at : List Line → Option ℕ → Outcome
-look_answer_at lines None = outcome.Clear None
-look_answer_at lines (Some k) = if is_anyone_at k lines then outcome.Busy else outcome.Clear (Some k)
-
--- whether there is something to look at: the end is closed, or its taker at a retired queue
-abbrev pub may_look : End → Bool
-may_look x = x.is_closed || nat_lt x.taker x.newest
-
-abbrev pub look_outcome : End → Outcome
-look_outcome x = if may_look x then look_answer_at x.lines (kept_looked x) else outcome.NotNow
-
-abbrev pub look_outcome_at : Option End → Outcome
-look_outcome_at None = outcome.NotNow
-look_outcome_at (Some x) = look_outcome x
 
 -- the end with its taker at the next queue
 abbrev pub advanced_end : End → End
@@ -97,6 +78,10 @@ abbrev pub posting_at : Sender → Option End → Option (Kind × Line)
 posting_at s None = None
 posting_at s (Some x) = option_map (λ y. (x.kind, y)) (posting_line x (slice_get x.lines s.line.0))
 
+-- whether the line's poster may put an envelope
+abbrev pub may_put : List End → Sender → Bool
+may_put ends s = is_some (posting_at s (slice_get ends s.end.0))
+
 -- the end with an envelope put by a line
 abbrev pub put_end : End → Line → Envelope → End
 put_end x y v = record x {
@@ -128,26 +113,26 @@ changed_ends change e ends (Some x) = slice_set ends e (change x)
 abbrev pub change_end : (End → End) → ℕ → List End → List End
 change_end change e ends = changed_ends change e ends (slice_get ends e)
 
-abbrev pub changed_lines : (Line → Line) → ℕ → List Line → Option Line → List Line
-changed_lines change l lines None = lines
-changed_lines change l lines (Some y) = slice_set lines l (change y)
+-- a line that has put nothing
+abbrev pub first_line : Line
+first_line = record { phase = Out; epoch = 0; put = 0; has_noticed = false; held_by = None }
 
--- the ends with one line of one of them changed, where it is there
+-- what is kept of a line; where there is none it is one that has put nothing
+abbrev pub line_of : List End → Sender → Line
+line_of ends s = unwrap_or (slice_get (kept_lines (slice_get ends s.end.0)) s.line.0) first_line
+
+-- the ends with one line of one of them set or changed, where it is there
+abbrev pub set_line : Sender → Line → List End → List End
+set_line s y ends = change_end (λ x. record x { lines = slice_set x.lines s.line.0 y }) s.end.0 ends
+
 abbrev pub change_line : (Line → Line) → Sender → List End → List End
-change_line change s ends = change_end (λ x. record x { lines = changed_lines change s.line.0 x.lines (slice_get x.lines s.line.0) }) s.end.0 ends
+change_line change s ends = set_line s (change (line_of ends s)) ends
 
 abbrev pub in_phase : Phase → Line → Line
 in_phase p y = record y { phase = p }
 
 abbrev pub held_by : Option AgentId → Line → Line
 held_by holder y = record y { held_by = holder }
-
--- the ends after an Enter got this answer
-abbrev pub gate_passed : Sender → List End → Outcome → List End
-gate_passed s ends outcome.In = change_line (in_phase Inside) s ends
-gate_passed s ends outcome.Moved = change_line (in_phase Turned) s ends
-gate_passed s ends outcome.Closed = change_line (in_phase Turned) s ends
-gate_passed s ends _ = ends
 
 -- a line at this queue, where it has put nothing
 abbrev pub at_queue : ℕ → Line → Line
@@ -174,22 +159,7 @@ with_agent _ = None
 abbrev pub HasQueue : List End → Sender → Line → Type 0
 HasQueue ends s y = IfSome (slice_get ends s.end.0) (λ x. (has_queue x y.epoch ≡ true) × (slice_get x.lines s.line.0 ≡ Some y))
 
--- a line that may push, and the agent that posts, or why it may not
-abbrev pub kept_posting_by : Facts → Sender → List EndId → Bool → Bool → Line → Option AgentId → Result (Line × AgentId) Outcome
-kept_posting_by f s ports fitting refused y None = Err outcome.NotNow
-kept_posting_by f s ports fitting refused y (Some a) =
-    if nat_lt MAX_PORTS (length ports) then Err outcome.TooManyPorts
-    else (if is_good (listing_of f s ports (Some a)) && fitting then (if refused then Err outcome.NoMemory else Ok (y, a)) else Err outcome.NotNow)
-
-abbrev pub kept_posting_line : Facts → Sender → List EndId → List ℕ → Bool → Option (Kind × Line) → Result (Line × AgentId) Outcome
-kept_posting_line f s ports body refused None = Err outcome.NotNow
-kept_posting_line f s ports body refused (Some p) =
-    kept_posting_by f s ports (is_fitting f.roster.cast (Some p.0) ports body) refused p.1 (poster_of f s (Some p.0))
-
--- the line on which the message may be pushed, and the agent that posts; or why it may not
-abbrev pub kept_posting : CoreState → Sender → List EndId → List ℕ → Bool → Result (Line × AgentId) Outcome
-kept_posting c s ports body refused = kept_posting_line (seen c) s ports body refused (posting_at s (slice_get c.ends s.end.0))
-
+-- what a Push is answered, by the line on which it is put and the agent that posts
 abbrev pub push_outcome : Result (Line × AgentId) Outcome → Outcome
 push_outcome (Ok p) = outcome.Accepted (record { agent = p.1; epoch = p.0.epoch; number = p.0.put })
 push_outcome (Err o) = o
@@ -201,19 +171,6 @@ put_ends ends v = change_end (λ x. put_found v x (slice_get x.lines v.line.0)) 
 -- the ends after an envelope was put on a line: an envelope more at its end, and its ports in flight
 abbrev pub accept_ends : List End → Envelope → List End
 accept_ends ends v = moved_ends v.ports InFlight (put_ends ends v)
-
--- a line on which a notice may be put, or why it may not
-abbrev pub kept_noticing_line : Bool → Bool → Option (Kind × Line) → Result Line Outcome
-kept_noticing_line hears refused None = Err outcome.NotNow
-kept_noticing_line hears refused (Some p) =
-    if hears then (if refused then Err outcome.NoMemory else Ok p.1) else Err outcome.NotNow
-
-abbrev pub kept_noticing : CoreState → Sender → Bool → Result Line Outcome
-kept_noticing c s refused = kept_noticing_line (hears_notice (seen c) s) refused (posting_at s (slice_get c.ends s.end.0))
-
-abbrev pub notice_outcome : Result Line Outcome → Outcome
-notice_outcome (Ok y) = outcome.Accepted (record { agent = record { 0 = 0 }; epoch = y.epoch; number = y.put })
-notice_outcome (Err o) = o
 
 abbrev pub closed_end : End → End
 closed_end x = record x { is_closed = true; place = Gone }
@@ -242,22 +199,12 @@ abbrev pub TakeServes : End → Outcome → Type 0
 TakeServes x (outcome.Got v) = taker_queue x ≡ v ∷ drop 1 (taker_queue x)
 TakeServes x o = (taker_queue x ≡ []) × (o ≡ left_outcome x)
 
-abbrev pub TakeHeld : Option AgentId → End → Outcome → Type 0
-TakeHeld None x o = o ≡ outcome.NotNow
-TakeHeld (Some a) x o = MatchBool x.is_enabled (TakeServes x o) (o ≡ outcome.Disabled)
-
--- what a take is answered, by the running agent that has the end
-abbrev pub TakeAnswers : Option AgentId → Option End → Outcome → Type 0
-TakeAnswers holder None o = o ≡ outcome.NotNow
-TakeAnswers holder (Some x) o = MatchBool x.is_closed (o ≡ outcome.Closed) (TakeHeld holder x o)
+abbrev pub ServesAt : Option End → Outcome → Type 0
+ServesAt found o = IfSome found (λ x. TakeServes x o)
 
 -- an agent that has no end
 abbrev pub first_agent : Agent
 first_agent = record { is_running = true; is_ordered = false; away = 0; clients = 0; workers = 0 }
-
--- a line that has put nothing
-abbrev pub first_line : Line
-first_line = record { phase = Out; epoch = 0; put = 0; has_noticed = false; held_by = None }
 
 -- a new end
 abbrev pub new_end : AgentId → Kind → End
@@ -319,37 +266,9 @@ abbrev pub went : Option End → List Agent → List Agent
 went None agents = agents
 went (Some x) agents = gone x.kind x.place agents
 
--- how many queues of this kind the agent has
-abbrev pub count_of : Kind → Option Agent → ℕ
-count_of Client (Some x) = x.clients
-count_of Worker (Some x) = x.workers
-count_of _ _ = 0
-
-abbrev pub kept_queue_answer : Bool → ℕ → ℕ → Bool → Outcome
-kept_queue_answer runs held n refused =
-    if not (runs && held == 0) then outcome.NotNow
-    else (if nat_le MAX_ENDS n then outcome.TooManyEnds
-    else (if refused then outcome.NoMemory
-    else outcome.End (record { 0 = n })))
-
-abbrev pub line_within : Option ℕ → Option LineId
-line_within None = None
-line_within (Some l) = if nat_lt l MAX_LINES then Some (record { 0 = l }) else None
-
 -- the first line that no agent holds
-abbrev pub first_free : List Line → Option LineId
-first_free lines = line_within (position (λ y. not (is_some y.held_by)) lines)
-
-abbrev pub hold_outcome_of : Option LineId → Outcome
-hold_outcome_of None = outcome.NoLine
-hold_outcome_of (Some l) = outcome.Line l
-
--- what a Line is answered
-abbrev pub line_outcome : Facts → EndId → AgentId → Option End → Outcome
-line_outcome f e a x =
-    if not (f.agent a.0).runs then outcome.NotNow
-    else (if not (is_queue (f.end e.0).kind) then outcome.NoSuchEnd
-    else hold_outcome_of (first_free (kept_lines x)))
+abbrev pub first_free : List Line → Option ℕ
+first_free lines = option_and_then (λ l. if nat_lt l MAX_LINES then Some l else None) (position (λ y. not (is_some y.held_by)) lines)
 
 -- an agent that an end of this kind came to; of a port with its own poster away that poster is the agent's now
 abbrev pub adopting : Bool → Kind → Agent → Agent
@@ -361,26 +280,6 @@ adopted_agents released a None agents = agents
 adopted_agents released a (Some x) agents = change_agent (adopting released x.kind) a.0 agents
 
 -- ==== For private clauses: what the steps of broadcast channels do to what is kept of ends.
-
-abbrev pub kept_member_answer : Bool → Bool → ℕ → Bool → Outcome
-kept_member_answer may has_origin n refused =
-    if not may then outcome.NotNow
-    else (if not has_origin then outcome.NoOrigin
-    else (if nat_le MAX_ENDS n then outcome.TooManyEnds
-    else (if refused then outcome.NoMemory
-    else outcome.End (record { 0 = n }))))
-
--- the tests of a Cast at an end, and what it is answered
-abbrev pub kept_cast_answer : Bool → Bool → Option AgentId → Bool → List EndId → Outcome
-kept_cast_answer may seated holder none others =
-    if not may then outcome.NotNow
-    else (if not seated then outcome.InvalidState
-    else (if not (is_some holder) then outcome.NotNow
-    else (if not none then outcome.NotTransferable
-    else outcome.Destinations others)))
-
-abbrev pub part_outcome : Bool → Outcome
-part_outcome may = if may then outcome.Done else outcome.NotNow
 
 abbrev pub member_made : AgentId → List End → Outcome → List End
 member_made a old (outcome.End e) = old ++ new_end a (Member a) ∷ []
@@ -398,12 +297,6 @@ owner_by f s _ = None
 abbrev pub owner : Facts → Sender → Option AgentId
 owner f s = owner_by f s (f.end s.end.0).kind
 
-abbrev pub see_outcome : List EndId → Option Agent → Outcome
-see_outcome ends None = outcome.NotNow
-see_outcome ends (Some x) =
-    if not (x.away == 0) then outcome.NotNow
-    else (if x.is_ordered then outcome.Ending ends else outcome.GoingOn)
-
 -- ==== The core after a step, where the step got this answer.
 
 -- the core after an agent made its queue of a kind
@@ -412,10 +305,10 @@ queue_core a kind c (outcome.End e) = record c { agents = come kind a c.agents; 
 queue_core a kind c _ = c
 
 -- The core after a poster passed the gate, or was turned back there: it is one of its agent's that are away.
-abbrev pub entered_core : CoreState → Sender → Outcome → CoreState
-entered_core c s o = record c {
+abbrev pub entered_core : CoreState → Sender → Phase → CoreState
+entered_core c s p = record c {
   agents = change_owner one_away (owner (seen c) s) c.agents;
-  ends = gate_passed s c.ends o;
+  ends = change_line (in_phase p) s c.ends;
 }
 
 -- The core after an answered step. A Member and a Part change the roster by a relation of `KeptRoster`: they aren't in
@@ -430,9 +323,9 @@ core_after c (outcome.End e) (action.Client a) = queue_core a Client c (outcome.
 core_after c (outcome.End e) (action.Worker a) = queue_core a Worker c (outcome.End e)
 core_after c (outcome.Line l) (action.Line e a) = record c { ends = change_line (held_by (Some a)) (record { end = e; line = l }) c.ends }
 core_after c outcome.Done (action.Back s) = record c { ends = change_line (held_by None) s c.ends }
-core_after c outcome.In (action.Enter s) = entered_core c s outcome.In
-core_after c outcome.Moved (action.Enter s) = entered_core c s outcome.Moved
-core_after c outcome.Closed (action.Enter s) = entered_core c s outcome.Closed
+core_after c outcome.In (action.Enter s) = entered_core c s Inside
+core_after c outcome.Moved (action.Enter s) = entered_core c s Turned
+core_after c outcome.Closed (action.Enter s) = entered_core c s Turned
 core_after c (outcome.Accepted n) (action.Push s ports body) = record c { ends = accept_ends c.ends (named_envelope s n body ports) }
 core_after c (outcome.Accepted n) (action.Notice s) = record c { ends = accept_ends c.ends (named_notice s n) }
 core_after c outcome.Left (action.Leave s) = record c {

@@ -1,8 +1,7 @@
 -- What the core keeps of the roster.
 use Rattle.std.specs.Prelude.{if◌then◌else◌, ◌<◌, ◌==◌, ◌∷◌, ◌≡◌}
-use Rattle.hub_core.specs.Words.{BTreeSet, Bool, EndId, Group, List, None, Option, Ordering, Outcome, Some, [], bytes_eq, false, filter, get, insert_key, list_any, map, nat_cmp, not, ordering_then, slice_cmp, slice_get}
-use Rattle.hub_core.specs.Words.{true, ℕ}
-use Rattle.hub_core.specs.declared.members.Members.{Members}
+use Rattle.hub_core.specs.Words.{BTreeSet, Bool, EndId, Group, List, None, Option, Ordering, Outcome, Some, [], bytes_eq, false, filter, get, insert_key, list_any, map, nat_cmp, not, ordering_then, slice_cmp, slice_get, ℕ}
+use Rattle.hub_core.specs.declared.roster.Members.{Members}
 use Rattle.hub_core.specs.declared.roster.Roster.{Roster}
 use Rattle.hub_core.specs.Roster.{CastNow, RosterNow, is_same_group, is_of_group, is_first, group_named}
 use Rattle.hub_core.specs.declared.outcome.Outcome.TheVariants as outcome
@@ -36,6 +35,9 @@ is_in n xs = list_any (λ x. n == x) xs
 abbrev pub is_seated_in : Members → ℕ → Option Group → Bool
 is_seated_in m n None = false
 is_seated_in m n (Some g) = is_in n (numbers_of m g)
+
+abbrev pub is_seated : Members → ℕ → Bool
+is_seated m n = is_seated_in m n (group_of m n)
 
 -- an end has joined a group
 pub record Joins (n : ℕ) (g : Group) (old new : Members) : Type 0 where
@@ -86,10 +88,6 @@ has_body body (Some c) = bytes_eq body c.body
 pub record SameRoster (n : ℕ) (old new : Roster) : Type 0 where
   pub members : SameMembers n old.members new.members
   pub cast : new.cast ≡ old.cast
-
-abbrev pub is_none : List EndId → Bool
-is_none [] = true
-is_none (y ∷ ys) = false
 
 -- the destinations of a cast of the end
 abbrev pub kept_destinations : Members → ℕ → List EndId

@@ -1,15 +1,112 @@
--- Laws of what fits and of legal histories, in the words of the subject.
-use Rattle.std.specs.Prelude.{◌++◌, ◌↔◌, ◌∷◌, ◌≡◌}
-use Rattle.hub_core.specs.Words.{AgentId, Bool, EndId, Envelope, List, Outcome, Sender, Some, Step, Turned, [], false, true, ℕ}
-use Rattle.hub_core.specs.declared.step.Action.TheVariants as action
-use Rattle.hub_core.specs.declared.outcome.Outcome.TheVariants as outcome
-use Rattle.hub_core.specs.History.{Pair, History}
-use Rattle.hub_core.specs.Facts.{facts}
-use Rattle.hub_core.specs.Envelopes.{accepted, taken, discarded}
-use Rattle.hub_core.specs.Sender.{in_queue, Prefix, by}
-use Rattle.hub_core.specs.Posting.{is_out, poster, phase_of_line, may_enter}
+-- What every legal history keeps, in the words of the subject (WHATWG HTML, "Message ports": the tasks of a
+-- port message queue are run in order, each once).
+use Rattle.std.specs.Prelude.{◌&&◌, ◌++◌, ◌<◌, ◌==◌, ◌↔◌, ◌∷◌, ◌≡◌, ◌≤◌, ◌⊎◌}
+use Rattle.hub_core.specs.Words.{Action, AgentId, AllByRecursion, Bool, EndId, Envelope, List, Outcome, Sender, Some, Step, Turned, [], false, filter, length, list_any, not, true, ℕ}
+use Rattle.hub_core.specs.History.{History, Pair}
+use Rattle.hub_core.specs.Envelopes.{accepted, discarded, taken}
+use Rattle.hub_core.specs.Place.{closed, enabled, place}
 use Rattle.hub_core.specs.Legal.{Fits, Legal, Same}
+use Rattle.hub_core.specs.Sender.{Prefix, by, in_queue, numbers, up_to}
+use Rattle.hub_core.specs.Lines.{newest, phase, stand, taker_stand}
+use Rattle.hub_core.specs.Posting.{is_out, may_enter, phase_of_line, poster}
+use Rattle.hub_core.specs.Roster.{cast_after, goes_next, roster}
+use Rattle.hub_core.specs.Facts.{Facts, facts}
+use Rattle.hub_core.specs.Made.{ends}
+use Rattle.hub_core.specs.Sound.{flights, naming, total}
 use Rattle.hub_core.specs.Unchanged.{changes_nothing}
+use Rattle.hub_core.specs.declared.outcome.Outcome.TheVariants as outcome
+use Rattle.hub_core.specs.declared.step.Action.TheVariants as action
+
+-- a Take, and an Enter, with memory refused in it or not
+abbrev pub take_of : EndId → Bool → Outcome → Pair
+take_of e refused o = (record { action = action.Take e; memory_refused = refused }, o)
+
+abbrev pub enter_of : Sender → Bool → Outcome → Pair
+enter_of s refused o = (record { action = action.Enter s; memory_refused = refused }, o)
+
+abbrev pub leave_of : Sender → Bool → Pair
+leave_of s refused = (record { action = action.Leave s; memory_refused = refused }, outcome.Left)
+
+abbrev pub is_line : Sender → Sender → Bool
+is_line s t = s.end.0 == t.end.0 && s.line.0 == t.line.0
+
+-- whether an answered step leaves the line, and whether it is a Push or a Notice on it that was Accepted
+abbrev pub leaves : Sender → Outcome → Action → Bool
+leaves s outcome.Left (action.Leave t) = is_line s t
+leaves s _ _ = false
+
+abbrev pub posts : Sender → Outcome → Action → Bool
+posts s (outcome.Accepted n) (action.Push t ports body) = is_line s t
+posts s (outcome.Accepted n) (action.Notice t) = is_line s t
+posts s _ _ = false
+
+-- the answers of an Enter that turn a poster back: the end is closed, or the line's queue is retired
+abbrev pub IsTurned : Outcome → Type 0
+IsTurned o = (o ≡ outcome.Closed) ⊎ (o ≡ outcome.Moved)
+
+-- an open, enabled end of which everything accepted was taken
+pub record IsDrainedAt (h : History) (e : ℕ) : Type 0 where
+  pub is_open : closed h e ≡ false
+  pub is_enabled : enabled h e ≡ true
+  pub all : (line : ℕ) → by line (taken h e) ≡ by line (accepted h e)
+
+-- an open, enabled end with its taker at a retired queue, where the poster of some line is inside or being turned back
+pub record IsBusyAt (h : History) (e : ℕ) : Type 0 where
+  pub is_open : closed h e ≡ false
+  pub is_enabled : enabled h e ≡ true
+  pub retired : taker_stand h e < newest h e
+  pub line : ℕ
+  pub away : is_out (phase h e line) ≡ false
+  pub there : stand h e line ≡ taker_stand h e
+
+-- the facts, but that a cast that goes to the end next is done with it
+abbrev pub done_with : ℕ → Facts → Facts
+done_with x f = record f { roster = record f.roster { cast = cast_after x f.roster.cast } }
+
+-- For each end and line, what was taken is a prefix of what was accepted, in order; and in each queue the
+-- envelopes are numbered 0, 1, 2 and so on, those accepted and those taken, so that each comes once. For each pair of
+-- the history: a Take at a closed end takes nothing; from an Enter that was turned back to its Leave nothing of that
+-- line is accepted, and the two leave the same where no cast goes to that end next; where one does, they leave the same
+-- facts, but that the cast is done with that destination. A Take finds nothing only where nothing is left, or a poster is
+-- inside or being turned back at the taker's queue.
+pub record Headline (h : History) : Type 0 where
+  pub prefix : (e line : ℕ) → Prefix (by line (taken h e)) (by line (accepted h e))
+  pub accepted_once : (e line epoch : ℕ) → numbers line epoch (accepted h e) ≡ up_to (length (numbers line epoch (accepted h e)))
+  pub taken_once : (e line epoch : ℕ) → numbers line epoch (taken h e) ≡ up_to (length (numbers line epoch (taken h e)))
+  pub closed : (before after : History) (e : EndId) (refused : Bool) (o : Outcome) → h ≡ before ++ take_of e refused o ∷ after → closed before e.0 ≡ true → o ≡ outcome.Closed
+  pub turned : (before middle after : History) (s : Sender) (refused : Bool) (o : Outcome) → IsTurned o → h ≡ before ++ enter_of s refused o ∷ (middle ++ after) → AllByRecursion (λ p. leaves s p.1 p.0.action ≡ false) middle → AllByRecursion (λ p. posts s p.1 p.0.action ≡ false) middle
+  pub same : (before after : History) (s : Sender) (refused again : Bool) (o : Outcome) → IsTurned o → goes_next s.end.0 (roster before).cast ≡ false → h ≡ before ++ enter_of s refused o ∷ after → Same (before ++ enter_of s refused o ∷ leave_of s again ∷ []) before
+  pub same_but_destination : (before after : History) (s : Sender) (refused again : Bool) (o : Outcome) → IsTurned o → goes_next s.end.0 (roster before).cast ≡ true → h ≡ before ++ enter_of s refused o ∷ after → facts (before ++ enter_of s refused o ∷ leave_of s again ∷ []) ≡ done_with s.end.0 (facts before)
+  pub empty : (before after : History) (e : EndId) (refused : Bool) → h ≡ before ++ take_of e refused outcome.Empty ∷ after → IsDrainedAt before e.0
+  pub busy : (before after : History) (e : EndId) (refused : Bool) → h ≡ before ++ take_of e refused outcome.Busy ∷ after → IsBusyAt before e.0
+
+-- ==== What becomes of each accepted envelope (this project's own).
+
+-- whether two envelopes of one end have one name: one line, queue and number
+abbrev pub same_name : Envelope → Envelope → Bool
+same_name v w = v.line.0 == w.line.0 && (v.epoch == w.epoch && v.number == w.number)
+
+-- what waits at the end: the envelopes that were accepted and whose name is none of those taken or discarded
+abbrev pub waiting : History → ℕ → List Envelope
+waiting h e = filter (λ v. not (list_any (same_name v) (taken h e ++ discarded h e))) (accepted h e)
+
+-- a Sweep that was answered Discarded, with memory refused in it or not
+abbrev pub sweep_of : EndId → Bool → List Envelope → Pair
+sweep_of e refused vs = (record { action = action.Sweep e; memory_refused = refused }, outcome.Discarded vs)
+
+-- Each accepted envelope is exactly one of taken, discarded and waiting: of each line what was accepted is what was taken,
+-- then what was discarded, then what waits, and no name comes twice. After a Sweep was answered Discarded nothing waits at
+-- the end, and nothing is accepted there any more. A port is in flight exactly where one waiting envelope names it, and at
+-- most one does, at all ends together: a number that no end has yet accepts nothing.
+pub record Fates (h : History) : Type 0 where
+  pub parts : (e line : ℕ) → by line (accepted h e) ≡ by line (taken h e) ++ (by line (discarded h e) ++ by line (waiting h e))
+  pub once : (e : ℕ) (before middle after : List Envelope) (v w : Envelope) → accepted h e ≡ before ++ v ∷ (middle ++ w ∷ after) → same_name v w ≡ false
+  pub swept : (before after : History) (e : EndId) (refused : Bool) (vs : List Envelope) → h ≡ before ++ sweep_of e refused vs ∷ after → waiting h e.0 ≡ []
+  pub nothing_more : (before after : History) (e : EndId) (refused : Bool) (vs : List Envelope) → h ≡ before ++ sweep_of e refused vs ∷ after → accepted h e.0 ≡ accepted before e.0
+  pub in_flight : (x : ℕ) → total (λ e. naming x (waiting h e)) (ends h) ≡ flights (place h x)
+  pub at_ends : (e : ℕ) → ends h ≤ e → accepted h e ≡ []
+
+-- ==== Laws of what fits and of legal histories, in the words of the subject.
 
 -- A pair that changes nothing leaves the same.
 abbrev pub NothingLeavesTheSame : Type 0

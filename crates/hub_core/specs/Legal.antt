@@ -5,12 +5,9 @@ use Rattle.hub_core.specs.Words.{Action, Bool, Outcome, []}
 use Rattle.hub_core.specs.declared.step.Action.TheVariants as action
 use Rattle.hub_core.specs.History.{Pair, History}
 use Rattle.hub_core.specs.Facts.{Facts, facts}
-use Rattle.hub_core.specs.Making.{agent_answer, channel_answer, queue_answer, is_client, is_worker}
+use Rattle.hub_core.specs.Making.{agent_answer, channel_answer, queue_answer, is_client, is_worker, line_answer, back_answer, order_answer, see_answer}
 use Rattle.hub_core.specs.Posting.{enter_answer, leave_answer, push_answer, notice_answer}
-use Rattle.hub_core.specs.Taking.{start_answer, FitsTake, look_answer, FitsSweep}
-use Rattle.hub_core.specs.Moving.{hop_answer, adopt_answer, close_answer, hand_answer}
-use Rattle.hub_core.specs.Holding.{line_answer, back_answer}
-use Rattle.hub_core.specs.Ending.{order_answer, see_answer}
+use Rattle.hub_core.specs.Taking.{start_answer, FitsTake, look_answer, FitsSweep, hop_answer, adopt_answer, close_answer, hand_answer}
 use Rattle.hub_core.specs.Casting.{member_answer, cast_answer, part_answer}
 
 -- the last but one argument says whether memory is refused in the step

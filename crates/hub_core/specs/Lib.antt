@@ -12,9 +12,6 @@ pub mod Kept
 pub mod Making
 pub mod Posting
 pub mod Taking
-pub mod Moving
-pub mod Holding
-pub mod Ending
 pub mod Casting
 pub mod Memory
 pub mod Legal
@@ -22,12 +19,9 @@ pub mod Sound
 pub mod Shows
 pub mod KeptRoster
 pub mod Unchanged
-pub mod Headline
 pub mod Laws
 pub mod QueueMachine
 pub mod GateMachine
 pub mod GateMachineLaws
 pub mod Mailbox
-pub mod MailboxSteps
-pub mod ChainLaws
 pub mod MailboxOf

@@ -1,7 +1,6 @@
 -- A mailbox beside a history: what it means that it shows one at an end, what each pair is to it, and the one that it is.
 use Rattle.std.specs.Prelude.{◌++◌, ◌+◌, ◌≡◌, if◌then◌else◌, ◌-◌, ◌<◌, ◌==◌, ◌∷◌, ◌≤◌}
-use Rattle.hub_core.specs.Words.{End, Envelope, List, Some, [], length, slice_get, slice_index_or, ℕ, Action, Bool, EndId, Inside, IsTrue, None, Option, Outcome, Phase, false, map, suc, true, zero, Kind}
-use Rattle.hub_core.specs.Words.{replicate}
+use Rattle.hub_core.specs.Words.{End, Envelope, List, Some, [], length, slice_get, slice_index_or, ℕ, Action, Bool, EndId, Inside, IsTrue, None, Option, Outcome, Phase, false, map, suc, true, zero, Kind, replicate}
 use Rattle.hub_core.specs.declared.machine.Core.{Core}
 use Rattle.hub_core.specs.History.{History, Pair}
 use Rattle.hub_core.specs.Envelopes.{accepted, taken, discarded, named_envelope, named_notice}
@@ -11,12 +10,11 @@ use Rattle.hub_core.specs.Lines.{phase, newest, stand, taker_stand, clear}
 use Rattle.hub_core.specs.Sender.{by, in_queue}
 use Rattle.hub_core.specs.GateMachine.{Gate, IsAt, enter, leave, turn_back, enable, lets_in, says_moved, says_closed, lets_out, says_done, busy, look, says_inside, gives_rights, close}
 use Rattle.hub_core.specs.QueueMachine.{Queue}
-use Rattle.hub_core.specs.Mailbox.{Mailbox, GateAt, QueueAt, StandsAt, IsNewest, put_by, got_from, IsMailbox, new_mailbox}
+use Rattle.hub_core.specs.Mailbox.{Mailbox, GateAt, QueueAt, StandsAt, IsNewest, put_by, got_from, IsMailbox, new_mailbox, MailboxEvent, at_gate, push, pop, MailboxStep, hop, advance, add, after_event, after_events}
 use Rattle.hub_core.specs.declared.step.Action.TheVariants as action
 use Rattle.hub_core.specs.declared.outcome.Outcome.TheVariants as outcome
 use Rattle.hub_core.specs.Facts.{Facts, facts}
 use Rattle.hub_core.specs.Legal.{Fits, Legal}
-use Rattle.hub_core.specs.MailboxSteps.{MailboxEvent, at_gate, push, pop, MailboxStep, hop, advance, add, after_event, after_events}
 use Rattle.hub_core.specs.Taking.{looked, is_settled, first_failing}
 
 -- ==== What it means that a mailbox shows a history at an end, and that the ends of a core are such mailboxes.

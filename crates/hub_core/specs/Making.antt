@@ -1,11 +1,12 @@
--- What the steps that make agents and ends are answered (WHATWG HTML, "Message channels": a new channel is
--- two entangled ports; the limits are this project's own).
-use Rattle.std.specs.Prelude.{if◌then◌else◌, ◌&&◌, ◌+◌}
-use Rattle.hub_core.specs.Words.{AgentId, Bool, Client, Kind, MAX_AGENTS, MAX_ENDS, Option, Outcome, Some, Worker, false, nat_le, nat_lt, not, true}
-use Rattle.hub_core.specs.declared.outcome.Outcome.TheVariants as outcome
+-- What the steps of agents are answered: those that make agents and ends (WHATWG HTML, "Message channels": a new channel is
+-- two entangled ports; the limits are this project's own), those that hold lines, and those that end an agent.
+use Rattle.std.specs.Prelude.{if◌then◌else◌, ◌&&◌, ◌++◌, ◌+◌, ◌==◌, ◌||◌, ◌∷◌}
+use Rattle.hub_core.specs.Words.{AgentId, Bool, Client, EndId, Kind, List, MAX_AGENTS, MAX_ENDS, MAX_LINES, None, Option, Outcome, Port, Sender, Some, Worker, [], false, is_some, nat_le, nat_lt, not, suc, true, zero, ℕ}
 use Rattle.hub_core.specs.Facts.{Facts}
-use Rattle.hub_core.specs.Posting.{is_with}
-use Rattle.hub_core.specs.Taking.{any_below}
+use Rattle.hub_core.specs.Posting.{is_out, is_with, phase_of_line}
+use Rattle.hub_core.specs.Taking.{any_below, first_failing, is_arrived}
+use Rattle.hub_core.specs.Made.{is_queue, lines_of}
+use Rattle.hub_core.specs.declared.outcome.Outcome.TheVariants as outcome
 
 -- An Agent tests memory and then the limit. A new agent gets the least number not given.
 abbrev pub agent_answer : Facts → Bool → Outcome
@@ -31,14 +32,99 @@ abbrev pub is_worker : Option Kind → Bool
 is_worker (Some Worker) = true
 is_worker _ = false
 
+-- whether the queue of this kind, a client's or a worker's, is what the end is
+abbrev pub is_queue_of : Kind → Option Kind → Bool
+is_queue_of Client kind = is_client kind
+is_queue_of Worker kind = is_worker kind
+is_queue_of _ kind = false
+
 -- whether the agent has an end whose kind passes the test
 abbrev pub has_one : (Option Kind → Bool) → AgentId → Facts → Bool
 has_one test a f = any_below (λ x. test (f.end x).kind && is_with a (f.end x).place) f.ends
 
--- A Client and a Worker test that their agent runs and has no such queue, then the limit, then memory.
-abbrev pub queue_answer : (Option Kind → Bool) → Facts → AgentId → Bool → Outcome
-queue_answer test f a refused =
-    if not ((f.agent a.0).runs && not (has_one test a f)) then outcome.NotNow
+-- the first argument says whether the agent has no such queue
+abbrev pub queue_answer_of : Bool → Facts → AgentId → Bool → Outcome
+queue_answer_of has_none f a refused =
+    if not ((f.agent a.0).runs && has_none) then outcome.NotNow
     else (if nat_le MAX_ENDS f.ends then outcome.TooManyEnds
     else (if refused then outcome.NoMemory
     else outcome.End (record { 0 = f.ends })))
+
+-- A Client and a Worker test that their agent runs and has no such queue, then the limit, then memory.
+abbrev pub queue_answer : (Option Kind → Bool) → Facts → AgentId → Bool → Outcome
+queue_answer test f a refused = queue_answer_of (not (has_one test a f)) f a refused
+
+-- ---- Line and Back (this project's own; in W3C Service Workers such a queue gets the messages of any client or worker)
+
+-- the least line of the end that no agent holds
+abbrev pub free_line : Facts → ℕ → Option ℕ
+free_line f x = first_failing (λ l. is_some (f.line x l).held_by) 0 MAX_LINES
+
+abbrev pub line_found : Option ℕ → Outcome
+line_found None = outcome.NoLine
+line_found (Some l) = outcome.Line (record { 0 = l })
+
+abbrev pub line_answer_of : Option ℕ → Facts → EndId → AgentId → Outcome
+line_answer_of free f e a =
+    if not (f.agent a.0).runs then outcome.NotNow
+    else (if not (is_queue (f.end e.0).kind) then outcome.NoSuchEnd
+    else line_found free)
+
+-- A Line tests that its agent runs; then that the end is a client's or a worker's queue, closed or not; then it looks for
+-- a line that no agent holds.
+abbrev pub line_answer : Facts → EndId → AgentId → Outcome
+line_answer f e a = line_answer_of (free_line f e.0) f e a
+
+-- A Back tests that an agent, running or not, holds the line, and that its poster is out.
+abbrev pub back_answer : Facts → Sender → Outcome
+back_answer f s =
+    if is_some (f.line s.end.0 s.line.0).held_by && is_out (phase_of_line f s) then outcome.Done else outcome.NotNow
+
+-- ---- Order and See (W3C Service Workers, "Terminate Service Worker"; WHATWG HTML, "terminate a worker")
+
+abbrev pub is_holder : AgentId → Option AgentId → Bool
+is_holder a None = false
+is_holder a (Some b) = a.0 == b.0
+
+abbrev pub has_poster_of : Facts → AgentId → ℕ → ℕ → Option Kind → Bool
+has_poster_of f a x l (Some (Port q)) = l == 0 && is_with a (f.end q.0).place
+has_poster_of f a x l (Some Client) = is_holder a (f.line x l).held_by
+has_poster_of f a x l (Some Worker) = is_holder a (f.line x l).held_by
+has_poster_of f a x l _ = false
+
+-- whether the line's poster is the agent's: the agent, running or ending, holds the line, or has the port that posts there;
+-- that of a cast is no agent's
+abbrev pub has_poster : Facts → AgentId → ℕ → ℕ → Bool
+has_poster f a x l = has_poster_of f a x l (f.end x).kind
+
+-- whether such a poster is inside or being turned back
+abbrev pub is_away_of : Facts → AgentId → ℕ → ℕ → Bool
+is_away_of f a x l = not (is_out (f.line x l).phase) && has_poster f a x l
+
+-- whether some poster of the agent is inside or being turned back
+abbrev pub has_away : Facts → AgentId → Bool
+has_away f a = any_below (λ x. any_below (is_away_of f a x) (lines_of (f.end x).kind)) f.ends
+
+-- the numbers below a bound that pass the test, rising
+abbrev pub ends_below : (ℕ → Bool) → ℕ → List EndId
+ends_below test zero = []
+ends_below test (suc n) = ends_below test n ++ (if test n then record { 0 = n } ∷ [] else [])
+
+-- the ends that the agent has, and those that have arrived at it
+abbrev pub ends_at : Facts → AgentId → List EndId
+ends_at f a = ends_below (λ x. is_with a (f.end x).place || is_arrived a (f.end x).place) f.ends
+
+-- An Order tests that the agent was made, running or ending.
+abbrev pub order_answer : Facts → AgentId → Outcome
+order_answer f a = if nat_lt a.0 f.agents then outcome.Ordered else outcome.NotNow
+
+-- the first argument says whether none of the agent's posters is away
+abbrev pub see_answer_of : Bool → Facts → AgentId → Outcome
+see_answer_of none_away f a =
+    if not (nat_lt a.0 f.agents && none_away) then outcome.NotNow
+    else (if (f.agent a.0).ordered then outcome.Ending (ends_at f a) else outcome.GoingOn)
+
+-- A See tests that the agent was made, and that none of its posters is away; then it looks for an order. An agent that
+-- finds one is ending, with these ends.
+abbrev pub see_answer : Facts → AgentId → Outcome
+see_answer f a = see_answer_of (not (has_away f a)) f a

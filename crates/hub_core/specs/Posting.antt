@@ -126,13 +126,16 @@ abbrev pub is_good : Listing → Bool
 is_good Good = true
 is_good _ = false
 
--- the name that an envelope of an agent on a line gets now
+-- how many envelopes of the line were accepted in the queue at which it stands
+abbrev pub put_there : Facts → Sender → ℕ
+put_there f s = count_in_queue s.line.0 (f.line s.end.0 s.line.0).stand (f.accepted s.end.0)
+
+-- the name that an envelope of an agent on a line gets now, with this number
+abbrev pub name_of : ℕ → Facts → Sender → AgentId → Acceptance
+name_of n f s a = record { agent = a; epoch = (f.line s.end.0 s.line.0).stand; number = n }
+
 abbrev pub next_name : Facts → Sender → AgentId → Acceptance
-next_name f s a = record {
-  agent = a;
-  epoch = (f.line s.end.0 s.line.0).stand;
-  number = count_in_queue s.line.0 (f.line s.end.0 s.line.0).stand (f.accepted s.end.0);
-}
+next_name f s a = name_of (put_there f s) f s a
 
 abbrev pub is_empty : List EndId → Bool
 is_empty [] = true
@@ -148,32 +151,39 @@ is_fitting cast (Some (Member a)) ports body = is_of_cast ports body cast
 is_fitting cast _ ports body = true
 
 -- the last but two argument says whether the message may go to the end
-abbrev pub push_answer_of : Facts → Sender → List EndId → Bool → Bool → Option AgentId → Outcome
-push_answer_of f s ports fitting refused None = outcome.NotNow
-push_answer_of f s ports fitting refused (Some a) =
+abbrev pub push_answer_of : ℕ → Facts → Sender → List EndId → Bool → Bool → Option AgentId → Outcome
+push_answer_of n f s ports fitting refused None = outcome.NotNow
+push_answer_of n f s ports fitting refused (Some a) =
     if nat_lt MAX_PORTS (length ports) then outcome.TooManyPorts
     else (if not (is_good (listing_of f s ports (Some a)) && fitting) then outcome.NotNow
     else (if refused then outcome.NoMemory
-    else outcome.Accepted (next_name f s a)))
+    else outcome.Accepted (name_of n f s a)))
 
 -- whether the line's poster is inside, and no notice was put
 abbrev pub is_posting : Facts → Sender → Bool
 is_posting f s = is_inside (phase_of_line f s) && not (f.line s.end.0 s.line.0).noticed
 
+-- the first two arguments of each say whether the line's poster may put an envelope, and the number that this gets
+abbrev pub push_answer_at : Bool → ℕ → Facts → Sender → List EndId → List ℕ → Bool → Outcome
+push_answer_at posting n f s ports body refused =
+    if not posting then outcome.NotNow
+    else push_answer_of n f s ports (is_fitting f.roster.cast (f.end s.end.0).kind ports body) refused (poster f s)
+
+abbrev pub notice_answer_at : Bool → ℕ → Facts → Sender → Bool → Outcome
+notice_answer_at posting n f s refused =
+    if not (posting && hears_notice f s) then outcome.NotNow
+    else (if refused then outcome.NoMemory
+    else outcome.Accepted (name_of n f s (record { 0 = 0 })))
+
 -- A Push tests that its poster is inside with no notice put, and that an agent that may post holds the line; then the number
 -- of ports, that the agent may send them and the message may go to the end, and memory.
 abbrev pub push_answer : Facts → Sender → List EndId → List ℕ → Bool → Outcome
-push_answer f s ports body refused =
-    if not (is_posting f s) then outcome.NotNow
-    else push_answer_of f s ports (is_fitting f.roster.cast (f.end s.end.0).kind ports body) refused (poster f s)
+push_answer f s ports body refused = push_answer_at (is_posting f s) (put_there f s) f s ports body refused
 
 -- A Notice tests that its poster is inside with no notice put, and that the port's place lets it; then memory. The
 -- envelope is of agent 0, whichever agent the port is with.
 abbrev pub notice_answer : Facts → Sender → Bool → Outcome
-notice_answer f s refused =
-    if not (is_posting f s && hears_notice f s) then outcome.NotNow
-    else (if refused then outcome.NoMemory
-    else outcome.Accepted (next_name f s (record { 0 = 0 })))
+notice_answer f s refused = notice_answer_at (is_posting f s) (put_there f s) f s refused
 
 -- whether a message may be posted on the line: an agent that may post holds it, its poster is out, and no notice was put
 abbrev pub may_post : Facts → Sender → Bool

@@ -1,7 +1,6 @@
 -- What it means that the core shows a history: what it keeps of each agent, end and line are the facts of the history.
 use Rattle.std.specs.Prelude.{if◌then◌else◌, ◌&&◌, ◌++◌, ◌+◌, ◌<◌, ◌∷◌, ◌≡◌, ◌≤◌}
-use Rattle.hub_core.specs.Words.{Agent, AgentId, AllByRecursion, Bool, End, EndId, Envelope, Group, Inside, Kind, Line, List, Member, None, Option, Outcome, Some, Step, [], false, length, nat_lt, slice_get}
-use Rattle.hub_core.specs.Words.{slice_index_or, ℕ}
+use Rattle.hub_core.specs.Words.{Agent, AgentId, AllByRecursion, Bool, Client, End, EndId, Envelope, Group, Inside, Kind, Line, List, Member, None, Option, Outcome, Some, Step, Worker, [], false, length, nat_lt, slice_get, slice_index_or, ℕ}
 use Rattle.hub_core.specs.declared.machine.Core.{Core}
 use Rattle.hub_core.specs.declared.roster.Roster.{Roster}
 use Rattle.hub_core.specs.KeptRoster.{origin_at, group_of, numbers_of, numbers_with}
@@ -10,8 +9,7 @@ use Rattle.hub_core.specs.Facts.{AgentNow, EndNow, LineNow, Facts, facts}
 use Rattle.hub_core.specs.Legal.{Fits, Legal}
 use Rattle.hub_core.specs.Sender.{in_queue, count_in_queue}
 use Rattle.hub_core.specs.Sound.{no_end, no_line, total}
-use Rattle.hub_core.specs.Making.{is_client, is_worker}
-use Rattle.hub_core.specs.Ending.{is_away_of}
+use Rattle.hub_core.specs.Making.{is_away_of, is_queue_of}
 use Rattle.hub_core.specs.Posting.{is_with}
 use Rattle.hub_core.specs.Made.{lines_of}
 
@@ -67,13 +65,12 @@ pub record ShowsEnd (now : EndNow) (line : ℕ → LineNow) (clear : ℕ → Boo
   pub put : (l : ℕ) → ShowsPut accepted l (slice_get (kept_lines kept) l)
   pub queues : ShowsQueues line clear accepted removed kept
 
-abbrev pub kept_clients : Option Agent → ℕ
-kept_clients None = 0
-kept_clients (Some x) = x.clients
-
-abbrev pub kept_workers : Option Agent → ℕ
-kept_workers None = 0
-kept_workers (Some x) = x.workers
+-- how many queues of this kind, a client's or a worker's, the agent has
+abbrev pub count_of : Kind → Option Agent → ℕ
+count_of kind None = 0
+count_of Client (Some x) = x.clients
+count_of Worker (Some x) = x.workers
+count_of _ (Some x) = 0
 
 abbrev pub kept_away : Option Agent → ℕ
 kept_away None = 0
@@ -94,8 +91,7 @@ pub record ShowsFacts (kept_agents : List Agent) (kept_ends : List End) (f : Fac
   pub agent : (a : ℕ) → f.agent a ≡ agent_now (slice_get kept_agents a)
   pub ends : f.ends ≡ length kept_ends
   pub end : (e : ℕ) → ShowsEnd (f.end e) (f.line e) (f.clear e) (f.accepted e) (f.taken e ++ f.discarded e) (slice_get kept_ends e)
-  pub clients : (a : AgentId) → kept_clients (slice_get kept_agents a.0) ≡ count_with is_client a f
-  pub workers : (a : AgentId) → kept_workers (slice_get kept_agents a.0) ≡ count_with is_worker a f
+  pub queues : (kind : Kind) (a : AgentId) → count_of kind (slice_get kept_agents a.0) ≡ count_with (is_queue_of kind) a f
   pub away : (a : AgentId) → kept_away (slice_get kept_agents a.0) ≡ count_away a f
 
 -- a member of the roster is a broadcast channel, with an origin and a name

@@ -1,7 +1,6 @@
 -- What holds of the facts of every legal history, each part with the notions that it reads (this project's own).
 use Rattle.std.specs.Prelude.{◌++◌, ◌+◌, ◌<◌, ◌∷◌, ◌≡◌, ◌≤◌, ◌⊎◌}
-use Rattle.hub_core.specs.Words.{AgentId, AllByRecursion, Arrived, Bool, Envelope, Gone, InFlight, Inside, List, MAX_ENDS, None, Option, Out, Place, Sender, Some, Turned, With, [], false, filter, is_some, length, suc, true}
-use Rattle.hub_core.specs.Words.{zero, ℕ}
+use Rattle.hub_core.specs.Words.{AgentId, AllByRecursion, Arrived, Bool, Envelope, Gone, InFlight, Inside, List, MAX_ENDS, None, Option, Out, Place, Sender, Some, Turned, With, [], false, filter, is_some, length, suc, true, zero, ℕ}
 use Rattle.hub_core.specs.Facts.{EndNow, LineNow, Facts}
 use Rattle.hub_core.specs.Place.{names}
 use Rattle.hub_core.specs.Sender.{by, in_queue, Prefix, Rises, up_to, numbers}

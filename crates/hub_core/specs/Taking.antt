@@ -1,12 +1,12 @@
 -- What the steps of a taker are answered: Start and Take (WHATWG HTML, "Message ports": `start()`, and an enabled queue as
--- a task source); and who is at a queue, and what a Look and a Sweep are answered (this project's own).
-use Rattle.std.specs.Prelude.{if◌then◌else◌, ◌&&◌, ◌++◌, ◌+◌, ◌-◌, ◌==◌, ◌||◌, ◌≡◌, ◌<◌, ◌∷◌}
-use Rattle.hub_core.specs.Words.{Bool, EndId, Envelope, List, MatchBool, None, Option, Outcome, Some, false, nat_lt, not, suc, true, zero, ℕ, [], is_some}
+-- a task source); who is at a queue, and what a Look and a Sweep are answered (this project's own); and what moves lines and ends.
+use Rattle.std.specs.Prelude.{if◌then◌else◌, ◌&&◌, ◌++◌, ◌+◌, ◌-◌, ◌<◌, ◌==◌, ◌||◌, ◌∷◌, ◌≡◌}
+use Rattle.hub_core.specs.Words.{AgentId, Arrived, Bool, EndId, Envelope, Kind, List, MAX_MOVES, MatchBool, None, Option, Outcome, Place, Port, Sender, Some, [], false, is_some, nat_le, nat_lt, not, suc, true, zero, ℕ}
+use Rattle.hub_core.specs.Made.{is_queue, lines_of}
+use Rattle.hub_core.specs.Facts.{Facts, LineNow}
+use Rattle.hub_core.specs.Posting.{holder, is_here, is_out, may_enter, phase_of_line}
+use Rattle.hub_core.specs.Sender.{Prefix, Rises, by, in_queue}
 use Rattle.hub_core.specs.declared.outcome.Outcome.TheVariants as outcome
-use Rattle.hub_core.specs.Made.{lines_of}
-use Rattle.hub_core.specs.Facts.{LineNow, Facts}
-use Rattle.hub_core.specs.Posting.{is_out, holder}
-use Rattle.hub_core.specs.Sender.{by, Rises, Prefix, in_queue}
 
 -- ---- Look and Sweep
 
@@ -40,15 +40,18 @@ lookable taker newest closed = (newest - taker) + (if closed then 1 else 0)
 abbrev pub looked : Facts → ℕ → Option ℕ
 looked f x = first_failing (f.clear x) (f.end x).taker_stand (lookable (f.end x).taker_stand (f.end x).newest (f.end x).closed)
 
-abbrev pub look_answer_of : Facts → ℕ → Option ℕ → Outcome
-look_answer_of f x None = outcome.Clear None
-look_answer_of f x (Some k) = if someone_at f x k then outcome.Busy else outcome.Clear (Some k)
+-- what is found at the queue, by whether somebody is there
+abbrev pub found_at : (ℕ → Bool) → Option ℕ → Outcome
+found_at someone None = outcome.Clear None
+found_at someone (Some k) = if someone k then outcome.Busy else outcome.Clear (Some k)
+
+abbrev pub look_answer_of : Outcome → Facts → EndId → Outcome
+look_answer_of found f e =
+    if (f.end e.0).closed || nat_lt (f.end e.0).taker_stand (f.end e.0).newest then found else outcome.NotNow
 
 -- A Look tests that the end is closed, or its taker at a retired queue; then it looks for somebody at the queue.
 abbrev pub look_answer : Facts → EndId → Outcome
-look_answer f e =
-    if (f.end e.0).closed || nat_lt (f.end e.0).taker_stand (f.end e.0).newest then look_answer_of f e.0 (looked f e.0)
-    else outcome.NotNow
+look_answer f e = look_answer_of (found_at (someone_at f e.0) (looked f e.0)) f e
 
 -- whether n queues, from the queue k on, pass the test
 abbrev pub all_from : (ℕ → Bool) → ℕ → ℕ → Bool
@@ -109,10 +112,66 @@ Serves f e outcome.Busy = IsLeft f e × (is_settled f e.0 (f.end e.0).taker_stan
 Serves f e outcome.Again = IsLeft f e × (is_settled f e.0 (f.end e.0).taker_stand ≡ true)
 Serves f e _ = ⊥
 
--- A Take looks for a closed end, then for a running agent that has the end, then for an enabled queue.
-abbrev pub FitsTake : Facts → EndId → Outcome → Type 0
-FitsTake f e o =
+abbrev pub FitsTakeOf : (Outcome → Type 0) → Facts → EndId → Outcome → Type 0
+FitsTakeOf Serves f e o =
     MatchBool ((f.end e.0).closed) (o ≡ outcome.Closed)
     (MatchBool (is_some (holder f e.0))
-    (MatchBool ((f.end e.0).enabled) (Serves f e o) (o ≡ outcome.Disabled))
+    (MatchBool ((f.end e.0).enabled) (Serves o) (o ≡ outcome.Disabled))
     (o ≡ outcome.NotNow))
+
+-- A Take looks for a closed end, then for a running agent that has the end, then for an enabled queue.
+abbrev pub FitsTake : Facts → EndId → Outcome → Type 0
+FitsTake f e o = FitsTakeOf (Serves f e) f e o
+
+-- ---- Hop, Adopt, Close and Hand (WHATWG HTML, "Message ports", the transfer and transfer-receiving steps; going on to a
+-- newer queue is this project's own)
+
+-- A Hop tests that its poster may enter and is out, and that the line stands at a retired queue.
+abbrev pub hop_answer : Facts → Sender → Outcome
+hop_answer f s =
+    if may_enter f s && (is_out (phase_of_line f s) && nat_lt (f.line s.end.0 s.line.0).stand (f.end s.end.0).newest)
+    then outcome.Hopped ((f.line s.end.0 s.line.0).stand + 1)
+    else outcome.NotNow
+
+abbrev pub is_arrived : AgentId → Option Place → Bool
+is_arrived a (Some (Arrived b)) = a.0 == b.0
+is_arrived a _ = false
+
+-- An Adopt looks for a closed end; then it tests that the end has arrived at the agent, which runs; then how often the
+-- end was adopted; then memory. The new queue is the newest.
+abbrev pub adopt_answer : Facts → EndId → AgentId → Bool → Outcome
+adopt_answer f e a refused =
+    if (f.end e.0).closed then outcome.Closed
+    else (if not (is_arrived a (f.end e.0).place && (f.agent a.0).runs) then outcome.NotNow
+    else (if nat_le MAX_MOVES (f.end e.0).newest then outcome.TooManyMoves
+    else (if refused then outcome.NoMemory
+    else outcome.Adopted ((f.end e.0).newest + 1))))
+
+-- whether the end is no port with its own poster inside or being turned back
+abbrev pub is_released : Facts → Option Kind → Bool
+is_released f (Some (Port q)) = is_out (f.line q.0 0).phase
+is_released f _ = true
+
+-- whether an open end can be closed: it has a place where it can, and of a port its own poster is out
+abbrev pub may_close : Facts → ℕ → Bool
+may_close f e = is_here (f.end e).place && is_released f (f.end e).kind
+
+-- A Close looks for a closed end, and then tests that the end can be closed.
+abbrev pub close_answer : Facts → EndId → Outcome
+close_answer f e =
+    if (f.end e.0).closed then outcome.Closed
+    else (if may_close f e.0 then outcome.Done
+    else outcome.NotNow)
+
+-- whether an agent may take over what this agent has: it is another one that was made
+abbrev pub may_take_over : Facts → AgentId → Option AgentId → Bool
+may_take_over f b None = false
+may_take_over f b (Some a) = nat_lt b.0 f.agents && not (a.0 == b.0)
+
+-- A Hand looks for a closed end; then it tests that the end is a client's or a worker's queue that a running agent has,
+-- and that the other agent may take it over.
+abbrev pub hand_answer : Facts → EndId → AgentId → Outcome
+hand_answer f e b =
+    if (f.end e.0).closed then outcome.Closed
+    else (if is_queue (f.end e.0).kind && may_take_over f b (holder f e.0) then outcome.Handed
+    else outcome.NotNow)

@@ -1,5 +1,6 @@
 ghost use Rattle.std.specs.Prelude.{◌≡◌, Some, IfOk};
-ghost use Rattle.hub_core.specs.Kept.{count_of, one_more, one_less, one_away, one_out};
+ghost use Rattle.hub_core.specs.Kept.{one_more, one_less, one_away, one_out};
+ghost use Rattle.hub_core.specs.Shows.{count_of};
 
 use crate::kind::Kind;
 use hub_envelope::OutOfMemory;

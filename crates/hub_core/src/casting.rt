@@ -1,23 +1,21 @@
 //! Broadcast channels: Member, Cast and Part.
 
-ghost use Rattle.std.specs.Prelude.{◌≡◌, ◌&&◌, length, not, is_some, slice_get, unwrap_or, ℕ};
-ghost use Rattle.std.specs.Prelude.{List, IfOk, IfSome, OnErr};
-ghost use Rattle.hub_core.specs.Kept.{kept_member_answer, kept_cast_answer, member_made};
-ghost use Rattle.hub_core.specs.Kept.{part_outcome, seen, core_after};
+ghost use Rattle.std.specs.Prelude.{◌≡◌, unwrap_or, List, ℕ, IfOk, IfSome, OnErr};
+ghost use Rattle.hub_core.specs.Casting.{member_answer, cast_answer_of, part_answer_of};
+ghost use Rattle.hub_core.specs.Kept.{member_made, seen, core_after};
 ghost use Rattle.hub_core.specs.Made.{maker_of};
-ghost use Rattle.hub_core.specs.KeptRoster.{origin_at, group_of, is_seated_in, kept_destinations};
+ghost use Rattle.hub_core.specs.KeptRoster.{is_seated, kept_destinations};
 ghost use Rattle.hub_core.specs.KeptRoster.{MemberLeaves, PartLeaves};
 ghost use Rattle.hub_core.specs.declared.outcome.Outcome.TheVariants as outcome;
 ghost use Rattle.hub_core.specs.declared.step.Action.TheVariants as action;
 ghost use Rattle.hub_envelope.specs.declared.ids.EndId.{EndId as EndIdValue};
-ghost use Rattle.hub_core.specs.Posting.{holder, is_empty};
 ghost use Rattle.hub_core.specs.Unchanged.{SameContent};
 
 use crate::end::End;
 use crate::kind::Kind;
 use crate::machine::Core;
 use crate::outcome::Outcome;
-use crate::roster::Destinations;
+use crate::roster::all_left;
 use hub_envelope::{AgentId, Body, EndId, Items, MAX_ENDS, OutOfMemory, Text};
 
 impl Core {
@@ -28,12 +26,7 @@ impl Core {
         name: Text,
         memory_refused: bool,
     ) -> Result<Outcome, OutOfMemory>
-        ensures outcome { let origin = origin_at
-            (slice_get self.old.roster.members.origins agent.0) in
-            let casting = is_some self.old.roster.cast in
-            let may = ((seen self.old).agent agent.0).runs && not casting in
-            let count = length self.old.ends in
-            IfOk result (λ o. o ≡ kept_member_answer may (is_some origin) count memory_refused) }
+        ensures outcome { IfOk result (λ o. o ≡ member_answer (seen self.old) agent memory_refused) }
         ensures roster { IfOk result (λ o. MemberLeaves agent.0 name self.old.roster o
             self.new.roster) }
         ensures new { IfOk result (λ o. self.new ≡ record self.old {
@@ -42,12 +35,12 @@ impl Core {
         }) }
         ensures err { OnErr result (SameContent self.old self.new) }
     {
-        if !self.is_running(agent) || self.roster.is_casting() {
+        if !self.is_running(agent) || self.roster.cast.is_some() {
             return Ok(Outcome::NotNow);
         }
-        if !self.roster.members.has_origin(agent) {
+        let Some(group) = self.roster.members.group_named(agent, name)? else {
             return Ok(Outcome::NoOrigin);
-        }
+        };
         let number = self.ends.len();
         if number >= MAX_ENDS {
             return Ok(Outcome::TooManyEnds);
@@ -57,8 +50,7 @@ impl Core {
         }
         self.ends.reserve(1)?;
         let end = End::new(self.alloc, agent, Kind::Member(agent))?;
-        let members = &mut self.roster.members;
-        members.join_named(self.alloc, number as u32, agent, name)?;
+        self.roster.members.join(self.alloc, number as u32, group)?;
         self.ends.push(end).unwrap();
         Ok(Outcome::End(EndId(number as u32)))
     }
@@ -70,14 +62,9 @@ impl Core {
         ports: Items<EndId>,
         body: Body,
     ) -> Result<Outcome, OutOfMemory>
-        ensures outcome { let f = seen self.old in
-            let members = self.old.roster.members in
-            let casting = is_some self.old.roster.cast in
-            let may = is_some (maker_of (f.end end.0).kind) && not casting in
-            let seated = is_seated_in members end.0 (group_of members end.0) in
-            let others = kept_destinations members end.0 in
-            IfOk result (λ o. o ≡ kept_cast_answer may (seated && not (f.end end.0).closed)
-            (holder f end.0) (is_empty ports) others) }
+        ensures outcome { let seated = is_seated self.old.roster.members end.0 in
+            let others = kept_destinations self.old.roster.members end.0 in
+            IfOk result (λ o. o ≡ cast_answer_of seated others (seen self.old) end ports) }
         ensures new { IfOk result (λ o. self.new
             ≡ core_after self.old o (action.Cast end ports body)) }
         ensures err { OnErr result (self.new ≡ self.old) }
@@ -86,25 +73,20 @@ impl Core {
             return Ok(refusal);
         }
         let ends = self.roster.members.others(self.alloc, end.0)?;
-        let left = Destinations::of(self.alloc, &ends)?;
+        let left = all_left(self.alloc, &ends)?;
         self.roster.begin(end, body, left);
         Ok(Outcome::Destinations(Items::of(ends)))
     }
 
     /// What a cast is answered that doesn't begin.
     fn cast_refusal(&self, end: EndId, ports: &[EndId]) -> Option<Outcome>
-        ensures answer { let f = seen self.now in
-            let members = self.now.roster.members in
-            let casting = is_some self.now.roster.cast in
-            let may = is_some (maker_of (f.end end.0).kind) && not casting in
-            let seated = is_seated_in members end.0 (group_of members end.0) in
-            (others : List EndIdValue) → kept_cast_answer may
-            (seated && not (f.end end.0).closed) (holder f end.0) (is_empty ports.now) others
+        ensures answer { let seated = is_seated self.now.roster.members end.0 in
+            (others : List EndIdValue) → cast_answer_of seated others (seen self.now) end ports.now
             ≡ unwrap_or result (outcome.Destinations others) }
         ensures refused { (body : List ℕ) → IfSome result (λ o.
             core_after self.now o (action.Cast end ports.now body) ≡ self.now) }
     {
-        if self.maker_of(end).is_none() || self.roster.is_casting() {
+        if self.maker_of(end).is_none() || self.roster.cast.is_some() {
             return Some(Outcome::NotNow);
         }
         if !self.roster.members.has(end.0) || self.is_closed(end) {
@@ -137,14 +119,12 @@ impl Core {
 
     /// A member leaves the roster.
     pub(crate) fn part(&mut self, end: EndId) -> Outcome
-        ensures outcome { let members = self.old.roster.members in
-            let casting = is_some self.old.roster.cast in
-            let seated = is_seated_in members end.0 (group_of members end.0) in
-            result ≡ part_outcome (seated && not casting) }
+        ensures outcome { result
+            ≡ part_answer_of (is_seated self.old.roster.members end.0) (seen self.old) }
         ensures roster { PartLeaves end.0 self.old.roster result self.new.roster }
         ensures rest { self.new ≡ record self.old { roster = self.new.roster } }
     {
-        if self.roster.is_casting() || !self.roster.members.has(end.0) {
+        if self.roster.cast.is_some() || !self.roster.members.has(end.0) {
             return Outcome::NotNow;
         }
         self.roster.members.part(end.0);

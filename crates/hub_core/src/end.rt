@@ -1,13 +1,11 @@
 //! What the core keeps of an end.
 
-ghost use Rattle.std.specs.Prelude.{◌≡◌, ◌||◌, ◌∷◌, ◌<◌, [], slice_get, IfOk, OnOk, OnErr, drop};
-ghost use Rattle.std.specs.Prelude.{MatchOption, false, true, Some};
+ghost use Rattle.std.specs.Prelude.{◌≡◌, ◌||◌, ◌<◌, slice_get, true, Some, IfOk, OnOk, OnErr};
 ghost use Rattle.hub_envelope.specs.declared.limits.TheConstants.{MAX_MOVES};
-ghost use Rattle.hub_core.specs.Moving.{is_arrived};
+ghost use Rattle.hub_core.specs.Taking.{is_arrived};
 ghost use Rattle.hub_core.specs.Posting.{is_here, is_with};
 ghost use Rattle.hub_core.specs.Kept.{new_end, kept_looked, kept_settled, advanced_end};
-ghost use Rattle.hub_core.specs.Kept.{front_taken, adopted_end, has_queue, posting_line, put_end};
-ghost use Rattle.hub_core.specs.Kept.{taker_queue};
+ghost use Rattle.hub_core.specs.Kept.{adopted_end, has_queue, posting_line, put_end};
 
 use crate::kind::Kind;
 use crate::line::{Line, Lines, Phase};
@@ -183,15 +181,5 @@ impl End {
             },
         );
         Ok(())
-    }
-
-    /// Takes the first envelope of the taker's queue.
-    pub(crate) fn take(&mut self) -> Option<Envelope>
-        ensures { MatchOption result
-            ((taker_queue self.old ≡ []) × (self.new ≡ self.old))
-            (λ v. (taker_queue self.old ≡ v ∷ drop 1 (taker_queue self.old))
-            × (self.new ≡ front_taken self.old)) }
-    {
-        self.queues.take_first()
     }
 }

@@ -4,12 +4,12 @@
 ghost use Rattle.std.specs.Prelude.{ℕ};
 ghost use Rattle.hub_core.specs.History.{Pair, History};
 ghost use Rattle.hub_core.specs.Legal.{Fits, Legal};
-ghost use Rattle.hub_core.specs.Headline.{Headline, Fates};
+ghost use Rattle.hub_core.specs.Laws.{Headline, Fates};
 ghost use Rattle.hub_core.specs.QueueMachine.{QueueLaws};
 ghost use Rattle.hub_core.specs.declared.machine.Core.{Core};
 ghost use Rattle.hub_core.specs.Shows.{Shows};
 ghost use Rattle.hub_core.specs.GateMachineLaws.{GateMachineLaws};
-ghost use Rattle.hub_core.specs.ChainLaws.{ChainLaws};
+ghost use Rattle.hub_core.specs.Mailbox.{ChainLaws};
 ghost use Rattle.hub_core.specs.MailboxOf.{EachShows, GoesOn, KeepsMailboxes, MailboxesShow};
 ghost use Rattle.hub_core.specs.MailboxOf.{PairsAreEvents};
 ghost use Rattle.hub_core.specs.Facts.{facts};

@@ -5,35 +5,25 @@
 #![tactic(auto)]
 
 mod agent;
+mod agents;
 mod casting;
 mod end;
-mod ending;
-mod group;
-mod holding;
+mod ends;
 mod kind;
 mod laws;
 mod line;
-mod listing;
 mod machine;
-mod making;
-mod members;
-mod moving;
 mod outcome;
 mod posting;
-mod queries;
 mod queues;
 mod roster;
 mod runs;
-mod sender;
 mod step;
-mod taking;
 
 pub use hub_envelope::OutOfMemory;
 pub use kind::Kind;
 pub use laws::{chain_laws, gate_machine_laws, history_laws, mailbox_laws, pair_laws, queue_laws};
-pub use listing::Listing;
 pub use machine::Core;
-pub use outcome::{Acceptance, Outcome};
+pub use outcome::{Acceptance, Listing, Outcome};
 pub use runs::run;
-pub use sender::Sender;
-pub use step::{Action, Step};
+pub use step::{Action, Sender, Step};

@@ -1,9 +1,9 @@
 //! What the core keeps of a line.
 
-ghost use Rattle.std.specs.Prelude.{◌≡◌, replicate, not, is_some, IfOk, slice_get, slice_set};
+ghost use Rattle.std.specs.Prelude.{◌≡◌, replicate, not, is_some, option_map, IfOk};
+ghost use Rattle.std.specs.Prelude.{slice_get, slice_set};
 ghost use Rattle.std.specs.List.{position};
-ghost use Rattle.hub_core.specs.Kept.{first_line, first_free, changed_lines, held_by, in_phase};
-ghost use Rattle.hub_core.specs.Kept.{at_queue, is_anyone_at, is_anyone_from};
+ghost use Rattle.hub_core.specs.Kept.{first_line, first_free, is_anyone_at, is_anyone_from};
 
 use hub_envelope::{AgentId, LineId, MAX_LINES};
 use std::alloc::{AllocError, Global};
@@ -92,7 +92,7 @@ impl Lines {
 
     /// The first line that no agent holds.
     pub(crate) fn first_free(&self) -> Option<LineId>
-        ensures { result ≡ first_free self.now }
+        ensures { option_map (λ l. l.0) result ≡ first_free self.now }
     {
         match self.first_unheld() {
             Some(position) if position < MAX_LINES => Some(LineId(position as u8)),
@@ -104,37 +104,6 @@ impl Lines {
         ensures { result ≡ position (λ y. not (is_some y.held_by)) self.now }
     {
         self.lines.iter().position(|line| line.held_by.is_none())
-    }
-
-    /// Changes who holds a line.
-    pub(crate) fn hold(&mut self, line: LineId, holder: Option<AgentId>)
-        ensures { let held = slice_get self.old line.0 in
-            self.new ≡ changed_lines (held_by holder) line.0 self.old held }
-    {
-        if let Some(kept) = self.lines.get_mut(line.0 as usize) {
-            kept.held_by = holder;
-        }
-    }
-
-    /// Changes where the poster of a line is.
-    pub(crate) fn pass(&mut self, line: LineId, phase: Phase)
-        ensures { let kept = slice_get self.old line.0 in
-            self.new ≡ changed_lines (in_phase phase) line.0 self.old kept }
-    {
-        if let Some(kept) = self.lines.get_mut(line.0 as usize) {
-            kept.phase = phase;
-        }
-    }
-
-    /// A line goes to this queue, where it has put nothing.
-    pub(crate) fn go_to(&mut self, line: LineId, epoch: u32)
-        ensures { let kept = slice_get self.old line.0 in
-            self.new ≡ changed_lines (at_queue epoch) line.0 self.old kept }
-    {
-        if let Some(kept) = self.lines.get_mut(line.0 as usize) {
-            kept.epoch = epoch;
-            kept.put = 0;
-        }
     }
 
     /// Changes a line. A line that isn't there stays away.

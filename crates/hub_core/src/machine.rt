@@ -1,4 +1,5 @@
-//! The core, its dispatch, and what several families of steps ask of agents, ends and lines.
+//! The core, its dispatch, what several families of steps ask of agents, ends and lines, and what a
+//! core may be asked.
 //!
 //! A post is the steps Enter, Push and Leave of one line. `Core::enter` (`posting.rt`) asks
 //! `Core::may_enter`; then `Core::pass_gate` answers `In`, or `Moved` at a retired queue and
@@ -16,24 +17,25 @@
 //! Look, a Sweep, and a Take at a retired queue with nothing left are `Busy` while it is there.
 
 ghost use Rattle.std.specs.Prelude.{◌≡◌, [], true, option_map, slice_get, Some, IfOk, OnErr};
-ghost use Rattle.hub_core.specs.Posting.{holder, running, speaker, poster, poster_of, is_here};
-ghost use Rattle.hub_core.specs.Posting.{hears_notice, may_enter};
+ghost use Rattle.hub_core.specs.Posting.{holder, poster, poster_of, is_here, hears_notice};
+ghost use Rattle.hub_core.specs.Posting.{may_enter, may_post, listing};
+ghost use Rattle.hub_core.specs.Facts.{facts};
 ghost use Rattle.hub_core.specs.History.{History};
 ghost use Rattle.hub_core.specs.Laws.{InOrder};
-ghost use Rattle.hub_core.specs.Made.{line_of_port, peer_of};
+ghost use Rattle.hub_core.specs.Made.{kind, line_of_port};
+ghost use Rattle.hub_core.specs.Taking.{may_close};
 ghost use Rattle.hub_core.specs.Memory.{takes_memory};
-ghost use Rattle.hub_core.specs.Kept.{seen};
+ghost use Rattle.hub_core.specs.Kept.{seen, line_of, set_line};
 ghost use Rattle.hub_core.specs.Shows.{Shows, FitsAndShows, StillShows, line_now};
 ghost use Rattle.hub_core.specs.Unchanged.{changes_nothing, SameContent};
 
 use crate::agent::Agent;
 use crate::end::{End, Place};
 use crate::kind::Kind;
-use crate::line::Line;
-use crate::outcome::Outcome;
+use crate::line::{Line, Phase};
+use crate::outcome::{Listing, Outcome};
 use crate::roster::Roster;
-use crate::sender::Sender;
-use crate::step::{Action, Step};
+use crate::step::{Action, Sender, Step};
 use hub_envelope::{AgentId, EndId, LineId, OutOfMemory};
 use std::alloc::Global;
 use std::marker::Model;
@@ -141,13 +143,6 @@ impl Core {
     pub fn sender_of(&self, port: EndId) -> Option<Sender>
         ensures { (h : History) → Shows self.now h → result ≡ line_of_port h port.0 }
     {
-        self.line_held_by(port)
-    }
-
-    fn line_held_by(&self, port: EndId) -> Option<Sender>
-        ensures { let peer = peer_of ((seen self.now).end port.0).kind in result
-            ≡ option_map (λ q. record { end = record { 0 = q }; line = record { 0 = 0 } }) peer }
-    {
         let end = self.end_at(port)?.kind.source()?;
         let line = LineId(0);
         Some(Sender { end, line })
@@ -188,23 +183,9 @@ impl Core {
         }
     }
 
-    /// The agent, where it runs.
-    fn running(&self, agent: Option<AgentId>) -> Option<AgentId>
-        ensures { result ≡ running (seen self.now) agent }
-    {
-        agent.filter(|agent| self.is_running(*agent))
-    }
-
-    /// The agent whose cast goes to the end next, running or ending.
-    fn speaker(&self, end: EndId) -> Option<AgentId>
-        ensures { result ≡ speaker (seen self.now) end.0 }
-    {
-        let source = self.roster.source_for(end)?;
-        self.maker_of(source)
-    }
-
     /// The agent that posts on a line of an end of this kind, where one does: for a port's line the
-    /// running one that has the port at the other side.
+    /// running one that has the port at the other side; for a channel's the one, running or ending,
+    /// whose cast goes there next.
     pub(crate) fn poster_by(
         &self,
         sender: Sender,
@@ -216,8 +197,10 @@ impl Core {
     {
         match kind {
             Kind::Port(peer) if sender.line.0 == 0 => self.running_holder(peer),
-            Kind::Client | Kind::Worker => self.running(held_by),
-            Kind::Member(_) if sender.line.0 == 0 => self.speaker(sender.end),
+            Kind::Client | Kind::Worker => held_by.filter(|agent| self.is_running(*agent)),
+            Kind::Member(_) if sender.line.0 == 0 => {
+                self.maker_of(self.roster.source_for(sender.end)?)
+            }
             Kind::Port(_) | Kind::Member(_) => None,
         }
     }
@@ -232,12 +215,22 @@ impl Core {
     }
 
     /// What is kept of a line. Where there is none it is one that has put nothing.
-    pub(crate) fn line_at(&self, end: EndId, line: LineId) -> Line
-        ensures { line_now (Some result) ≡ (seen self.now).line end.0 line.0 }
+    pub(crate) fn line_at(&self, sender: Sender) -> Line
+        ensures kept { result ≡ line_of self.now.ends sender }
+        ensures seen { line_now (Some result) ≡ (seen self.now).line sender.end.0 sender.line.0 }
     {
-        match self.end_at(end) {
-            Some(end) => end.lines.get(line).unwrap_or(Line::FIRST),
+        match self.end_at(sender.end) {
+            Some(end) => end.lines.get(sender.line).unwrap_or(Line::FIRST),
             None => Line::FIRST,
+        }
+    }
+
+    /// Changes what is kept of a line. A line that isn't there stays away.
+    pub(crate) fn set_line(&mut self, sender: Sender, line: Line)
+        ensures { self.new ≡ record self.old { ends = set_line sender line self.old.ends } }
+    {
+        if let Some(end) = self.ends.get_mut(sender.end.0 as usize) {
+            end.lines.set(sender.line, line);
         }
     }
 
@@ -269,5 +262,42 @@ impl Core {
         ensures { result ≡ may_enter (seen self.now) sender }
     {
         self.poster_of(sender).is_some() || self.hears_notice(sender)
+    }
+
+    /// Whether a message may be posted on a line now: an agent that may post holds it, its poster
+    /// is out, and no notice was put.
+    pub fn may_post(&self, sender: Sender) -> bool
+        ensures { (h : History) → Shows self.now h → result ≡ may_post (facts h) sender }
+    {
+        let line = self.line_at(sender);
+        self.poster_of(sender).is_some() && line.phase == Phase::Out && !line.has_noticed
+    }
+
+    /// What a list of ports is to a message on a line now. Where no agent that may post holds the
+    /// line each list is bad.
+    pub fn listing(&self, sender: Sender, ports: &[EndId]) -> Listing
+        ensures { (h : History) → Shows self.now h → result ≡ listing (facts h) sender ports.now }
+    {
+        let Some(end) = self.end_at(sender.end) else {
+            return Listing::Bad;
+        };
+        let Some(agent) = self.poster_of(sender) else {
+            return Listing::Bad;
+        };
+        self.listing_to(sender, end.kind, agent, ports)
+    }
+
+    /// What an end is, where there is one.
+    pub fn kind_of(&self, end: EndId) -> Option<Kind>
+        ensures { (h : History) → Shows self.now h → result ≡ kind h end.0 }
+    {
+        Some(self.end_at(end)?.kind)
+    }
+
+    /// Whether a Close of the end would be answered Done now.
+    pub fn may_close(&self, end: EndId) -> bool
+        ensures { (h : History) → Shows self.now h → result ≡ may_close (facts h) end.0 }
+    {
+        self.can_close(end)
     }
 }

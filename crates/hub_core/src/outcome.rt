@@ -90,3 +90,14 @@ pub enum Outcome {
     /// What waited at the end, in order of the queues and then of acceptance. It waits no more.
     Discarded(Items<Envelope>),
 }
+
+/// What a list of ports is to a message on a line.
+#[derive(Clone, Copy, Debug, PartialEq, Eq)]
+pub enum Listing {
+    /// The message may take the ports along.
+    Good,
+    /// The list would be good, but it holds the end to which the message goes (WHATWG HTML,
+    /// "Message ports", the message port post message steps: such a message is doomed).
+    HoldsTarget,
+    Bad,
+}

@@ -6,22 +6,20 @@ ghost use Rattle.std.specs.List.{list_all};
 ghost use Rattle.hub_core.specs.Made.{peer_of};
 ghost use Rattle.hub_core.specs.Posting.{enter_answer, is_distinct, is_fitting, is_good};
 ghost use Rattle.hub_core.specs.Posting.{leave_answer, listing_of, is_at, may_leave_agent};
-ghost use Rattle.hub_core.specs.Posting.{own_line_plain, own_poster_out};
-ghost use Rattle.hub_core.specs.Kept.{seen, gate_passed, kept_noticing, kept_posting};
-ghost use Rattle.hub_core.specs.Kept.{notice_outcome, posting_at, push_outcome, HasQueue};
-ghost use Rattle.hub_core.specs.Kept.{put_ends, accept_ends, moved_ends, end_moved, change_line};
-ghost use Rattle.hub_core.specs.Kept.{in_phase, at_queue, core_after};
+ghost use Rattle.hub_core.specs.Posting.{notice_answer_at, own_line_plain, own_poster_out};
+ghost use Rattle.hub_core.specs.Posting.{push_answer_at};
+ghost use Rattle.hub_core.specs.Kept.{seen, line_of, may_put, posting_at, push_outcome, HasQueue};
+ghost use Rattle.hub_core.specs.Kept.{put_ends, accept_ends, moved_ends, end_moved, core_after};
 ghost use Rattle.hub_core.specs.Shows.{line_now};
-ghost use Rattle.hub_core.specs.Moving.{hop_answer};
+ghost use Rattle.hub_core.specs.Taking.{hop_answer};
 ghost use Rattle.hub_core.specs.declared.step.Action.TheVariants as action;
 
 use crate::end::Place;
 use crate::kind::Kind;
 use crate::line::{Line, Phase};
-use crate::listing::Listing;
 use crate::machine::Core;
-use crate::outcome::{Acceptance, Outcome};
-use crate::sender::Sender;
+use crate::outcome::{Acceptance, Listing, Outcome};
+use crate::step::Sender;
 use hub_envelope::{AgentId, Body, EndId, Envelope, Items, LineId, MAX_PORTS, OutOfMemory, Ports};
 
 impl Core {
@@ -29,65 +27,41 @@ impl Core {
         ensures outcome { result ≡ enter_answer (seen self.old) sender }
         ensures new { self.new ≡ core_after self.old result (action.Enter sender) }
     {
-        let owner = self.owner_of(sender);
-        let outcome = self.pass_gate(sender);
-        if matches!(outcome, Outcome::In | Outcome::Moved | Outcome::Closed) {
-            self.count_away(owner);
-        }
-        outcome
-    }
-
-    /// The poster passes the gate of its line's queue or is turned back there; what is counted of
-    /// its agent stays.
-    fn pass_gate(&mut self, sender: Sender) -> Outcome
-        ensures outcome { result ≡ enter_answer (seen self.old) sender }
-        ensures new { self.new ≡ record self.old {
-          ends = gate_passed sender self.old.ends result;
-        } }
-    {
         if !self.may_enter(sender) {
             return Outcome::NotNow;
         }
         let Some(end) = self.end_at(sender.end) else {
             return Outcome::NotNow;
         };
-        let found = end.lines.get(sender.line).unwrap_or(Line::FIRST);
+        let found = self.line_at(sender);
         if found.phase != Phase::Out || found.has_noticed {
             return Outcome::NotNow;
         }
-        if found.epoch < end.newest {
-            self.pass(sender, Phase::Turned);
-            return Outcome::Moved;
-        }
-        if end.is_closed {
-            self.pass(sender, Phase::Turned);
-            return Outcome::Closed;
-        }
-        self.pass(sender, Phase::Inside);
-        Outcome::In
-    }
-
-    /// Changes where the poster of a line is.
-    fn pass(&mut self, sender: Sender, phase: Phase)
-        ensures { self.new ≡ record self.old {
-          ends = change_line (in_phase phase) sender self.old.ends;
-        } }
-    {
-        if let Some(end) = self.ends.get_mut(sender.end.0 as usize) {
-            end.lines.pass(sender.line, phase);
-        }
+        let (phase, outcome) = if found.epoch < end.newest {
+            (Phase::Turned, Outcome::Moved)
+        } else if end.is_closed {
+            (Phase::Turned, Outcome::Closed)
+        } else {
+            (Phase::Inside, Outcome::In)
+        };
+        let owner = self.owner_of(sender);
+        self.count_away(owner);
+        self.set_line(sender, Line { phase, ..found });
+        outcome
     }
 
     pub(crate) fn leave(&mut self, sender: Sender) -> Outcome
         ensures outcome { result ≡ leave_answer (seen self.old) sender }
         ensures new { self.new ≡ core_after self.old result (action.Leave sender) }
     {
-        let owner = self.owner_of(sender);
-        if self.line_at(sender.end, sender.line).phase == Phase::Out {
+        let found = self.line_at(sender);
+        if found.phase == Phase::Out {
             return Outcome::NotNow;
         }
-        self.pass(sender, Phase::Out);
+        let phase = Phase::Out;
+        let owner = self.owner_of(sender);
         self.count_out(owner);
+        self.set_line(sender, Line { phase, ..found });
         self.roster.leave(sender.end);
         Outcome::Left
     }
@@ -103,24 +77,21 @@ impl Core {
         let Some(end) = self.end_at(sender.end) else {
             return Outcome::NotNow;
         };
-        let found = end.lines.get(sender.line).unwrap_or(Line::FIRST);
+        let found = self.line_at(sender);
         if found.phase != Phase::Out || found.epoch >= end.newest {
             return Outcome::NotNow;
         }
         let epoch = found.epoch + 1;
-        self.go_to(sender, epoch);
+        let put = 0;
+        self.set_line(
+            sender,
+            Line {
+                epoch,
+                put,
+                ..found
+            },
+        );
         Outcome::Hopped(epoch)
-    }
-
-    /// A line stands at this queue now.
-    fn go_to(&mut self, sender: Sender, epoch: u32)
-        ensures { self.new ≡ record self.old {
-          ends = change_line (at_queue epoch) sender self.old.ends;
-        } }
-    {
-        if let Some(end) = self.ends.get_mut(sender.end.0 as usize) {
-            end.lines.go_to(sender.line, epoch);
-        }
     }
 
     pub(crate) fn push(
@@ -130,8 +101,10 @@ impl Core {
         body: Body,
         memory_refused: bool,
     ) -> Result<Outcome, OutOfMemory>
-        ensures outcome { let posting = kept_posting self.old sender ports body memory_refused in
-            IfOk result (λ o. o ≡ push_outcome posting) }
+        ensures outcome { let n = (line_of self.old.ends sender).put in
+            let posting = may_put self.old.ends sender in
+            let f = seen self.old in
+            IfOk result (λ o. o ≡ push_answer_at posting n f sender ports body memory_refused) }
         ensures new { IfOk result (λ o. self.new
             ≡ core_after self.old o (action.Push sender ports body)) }
         ensures err { OnErr result (self.new ≡ self.old) }
@@ -170,7 +143,10 @@ impl Core {
         body: &Body,
         memory_refused: bool,
     ) -> Result<(Line, AgentId), Outcome>
-        ensures answer { result ≡ kept_posting self.now sender ports.now body.now memory_refused }
+        ensures answer { let n = (line_of self.now.ends sender).put in
+            let posting = may_put self.now.ends sender in
+            push_outcome result
+            ≡ push_answer_at posting n (seen self.now) sender ports.now body.now memory_refused }
         ensures few { OnOk result (length ports.now ≤ MAX_PORTS) }
         ensures there { IfOk result (λ p. (sender.end.0 < length self.now.ends)
             × HasQueue self.now.ends sender p.0) }
@@ -201,7 +177,8 @@ impl Core {
         ensures there { IfSome result (λ p. (sender.end.0 < length self.now.ends)
             × HasQueue self.now.ends sender p.1) }
         ensures kind { IfSome result (λ p. ((seen self.now).end sender.end.0).kind ≡ Some p.0) }
-        ensures line { IfSome result (λ p. (seen self.now).line sender.end.0 sender.line.0
+        ensures line { IfSome result (λ p. p.1 ≡ line_of self.now.ends sender) }
+        ensures seen { IfSome result (λ p. (seen self.now).line sender.end.0 sender.line.0
             ≡ line_now (Some p.1)) }
     {
         let end = self.end_at(sender.end)?;
@@ -226,8 +203,10 @@ impl Core {
         sender: Sender,
         memory_refused: bool,
     ) -> Result<Outcome, OutOfMemory>
-        ensures outcome { let noticing = kept_noticing self.old sender memory_refused in
-            IfOk result (λ o. o ≡ notice_outcome noticing) }
+        ensures outcome { let n = (line_of self.old.ends sender).put in
+            let posting = may_put self.old.ends sender in
+            IfOk result (λ o. o
+            ≡ notice_answer_at posting n (seen self.old) sender memory_refused) }
         ensures new { IfOk result (λ o. self.new ≡ core_after self.old o (action.Notice sender)) }
         ensures err { OnErr result (self.new ≡ self.old) }
     {
@@ -303,7 +282,7 @@ impl Core {
         ensures { let list = listing_of (seen self.now) sender ports.now (Some agent) in
             result ≡ is_good list }
     {
-        ports.is_empty() || self.listing_to(sender, kind, agent, ports).is_good()
+        ports.is_empty() || matches!(self.listing_to(sender, kind, agent, ports), Listing::Good)
     }
 
     /// What a list of ports is to a message of an agent on a line of an end of this kind.
@@ -369,7 +348,10 @@ impl Core {
         let Kind::Port(peer) = kind else {
             return false;
         };
-        let line = self.line_at(peer, LineId(0));
+        let line = self.line_at(Sender {
+            end: peer,
+            line: LineId(0),
+        });
         line.phase == Phase::Out && !line.has_noticed
     }
 

@@ -1,6 +1,5 @@
 ghost use Rattle.std.specs.Prelude.{◌≡◌, ◌<◌, [], ◌∷◌, ◌++◌, length, slice_set, slice_index_or};
-ghost use Rattle.std.specs.Prelude.{drop, IfOk, OnOk, OnErr, MatchOption, List};
-ghost use Rattle.hub_envelope.specs.declared.envelope.Envelope.{Envelope as EnvelopeValue};
+ghost use Rattle.std.specs.Prelude.{drop, IfOk, OnOk, OnErr, MatchOption};
 ghost use Rattle.hub_core.specs.Kept.{joined};
 
 use hub_envelope::{Envelope, Items};
@@ -115,11 +114,9 @@ impl Queues {
 
     /// Takes the first envelope of the first queue.
     pub(crate) fn take_first(&mut self) -> Option<Envelope>
-        ensures { MatchOption result
-            ((slice_index_or self.old 0 [] ≡ []) × (self.new ≡ self.old))
-            (λ envelope. (rest : List EnvelopeValue)
-            × (slice_index_or self.old 0 [] ≡ envelope ∷ rest)
-            × (self.new ≡ slice_set self.old 0 rest)) }
+        ensures { let first = slice_index_or self.old 0 [] in
+            MatchOption result ((first ≡ []) × (self.new ≡ self.old))
+            (λ v. (first ≡ v ∷ drop 1 first) × (self.new ≡ slice_set self.old 0 (drop 1 first))) }
     {
         let queue = self.queues.front_mut()?;
         queue.take()

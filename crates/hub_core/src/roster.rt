@@ -1,68 +1,186 @@
-ghost use Rattle.std.specs.Prelude.{◌≡◌, drop, None, is_some, IfOk};
-ghost use Rattle.hub_core.specs.KeptRoster.{has_body, source_for, is_none, IsFirst};
-ghost use Rattle.hub_core.specs.Roster.{is_first, cast_to, cast_after};
+//! Broadcast channels: what the core keeps of them, which are the members with their origins and
+//! names, and the cast that goes on.
 
-use crate::members::Members;
-use hub_envelope::{Body, EndId, OutOfMemory};
+ghost use Rattle.std.specs.Prelude.{◌≡◌, ◌++◌, ◌∷◌, ◌<◌, [], None, slice_get, option_map};
+ghost use Rattle.std.specs.Prelude.{IfOk, OnOk, OnErr};
+ghost use Rattle.std.specs.BTreeMap.{get};
+ghost use Rattle.hub_core.specs.KeptRoster.{group_cmp, numbers_of, numbers_in, seated_with};
+ghost use Rattle.hub_core.specs.KeptRoster.{is_seated, kept_destinations, origin_at};
+ghost use Rattle.hub_core.specs.KeptRoster.{Joins, SameMembers, Parts, IsFirst};
+ghost use Rattle.hub_core.specs.KeptRoster.{has_body, source_for};
+ghost use Rattle.hub_core.specs.Roster.{group_named, is_first, cast_to, cast_after};
+ghost use Rattle.hub_core.specs.declared.roster.Group.{Group as GroupValue};
+
+use hub_envelope::{AgentId, Body, EndId, OutOfMemory, Text};
 use std::alloc::Global;
-use std::collections::VecDeque;
+use std::collections::{BTreeMap, BTreeSet, VecDeque};
 use std::marker::Model;
 
-/// The destinations of a cast that are left, in order.
+/// What the broadcast channels that reach one another have in common (WHATWG HTML, "Broadcasting
+/// to other browsing contexts"): the origin of their agents, and their name.
+#[derive(PartialEq, Eq, PartialOrd, Ord, Drop)]
+pub struct Group {
+    pub(crate) origin: Text,
+    pub(crate) name: Text,
+}
+
+/// The clone is of the same origin and name.
+impl Clone for Group {
+    ghost is_clone = { λ group copy. copy ≡ group };
+
+    fn clone(&self) -> Result<Group, OutOfMemory> {
+        Ok(Group {
+            origin: self.origin.clone()?,
+            name: self.name.clone()?,
+        })
+    }
+}
+
+/// The origin of each agent, or none.
 #[derive(Drop)]
-pub struct Destinations {
-    ends: VecDeque<EndId>,
+pub struct Origins {
+    origins: Vec<Option<Text>>,
 }
 
-impl Model for Destinations {
-    ghost use Rattle.std.specs.Prelude.{List};
-    ghost use Rattle.hub_envelope.specs.declared.ids.EndId.{EndId};
+impl Model for Origins {
+    ghost use Rattle.std.specs.Prelude.{List, Option};
+    ghost use Rattle.hub_envelope.specs.declared.text.Text.{Text};
 
-    ghost Value = { List EndId };
+    ghost Value = { List (Option Text) };
 
-    ghost view = { λ d. d.ends.items };
+    ghost view = { λ o. o.origins.items };
 }
 
-impl Destinations {
-    /// These ends.
-    pub(crate) fn of(alloc: Global, ends: &[EndId]) -> Result<Destinations, OutOfMemory>
-        ensures { IfOk result (λ d. d ≡ ends.now) }
+/// The members of the roster.
+#[derive(Drop)]
+pub struct Members {
+    origins: Origins,
+    /// The group of each member, by the number of its end; of those that have parted too.
+    groups: BTreeMap<u32, Group>,
+    /// The members of each group that haven't parted, by the numbers of their ends.
+    seated: BTreeMap<Group, BTreeSet<u32>>,
+}
+
+impl Origins {
+    /// The origin of an agent, where it has one.
+    fn of(&self, agent: AgentId) -> Option<&Text>
+        ensures { origin_at (slice_get self.now agent.0) ≡ option_map (λ x. x.now) result }
     {
-        let mut left = VecDeque::with_capacity(alloc, ends.len())?;
-        for end in ends {
-            left.push_back(*end)?;
+        self.origins.get(agent.0 as usize)?.as_ref()
+    }
+}
+
+impl Members {
+    pub(crate) fn new(alloc: Global) -> Members
+        ensures origins { result.origins ≡ [] }
+        ensures seated { (k : GroupValue) → numbers_of result k ≡ [] }
+    {
+        Members {
+            origins: Origins {
+                origins: Vec::new(alloc),
+            },
+            groups: BTreeMap::new(alloc),
+            seated: BTreeMap::new(alloc),
         }
-        Ok(Destinations { ends: left })
     }
 
-    fn is_first(&self, end: EndId) -> bool
-        ensures { result ≡ is_first end.0 self.now }
+    /// One more agent, of this origin or of none.
+    pub(crate) fn enrol(&mut self, origin: Option<Text>) -> Result<(), OutOfMemory>
+        ensures ok { OnOk result (self.new ≡ record self.old {
+          origins = self.old.origins ++ origin ∷ [];
+        }) }
+        ensures err { OnErr result (self.new ≡ self.old) }
     {
-        match self.ends.front() {
-            Some(first) => *first == end,
+        let agents = &mut self.origins;
+        agents.origins.push(origin)?;
+        Ok(())
+    }
+
+    /// The group of the agent's channels of a name; `None` where the agent has no origin.
+    pub(crate) fn group_named(
+        &self,
+        agent: AgentId,
+        name: Text,
+    ) -> Result<Option<Group>, OutOfMemory>
+        ensures { let origin = origin_at (slice_get self.now.origins agent.0) in
+            IfOk result (λ group. group ≡ group_named origin name) }
+    {
+        let Some(origin) = self.origins.of(agent) else {
+            return Ok(None);
+        };
+        let origin = origin.clone()?;
+        Ok(Some(Group { origin, name }))
+    }
+
+    /// The end joins a group, of which it has the greatest number.
+    pub(crate) fn join(
+        &mut self,
+        alloc: Global,
+        number: u32,
+        group: Group,
+    ) -> Result<(), OutOfMemory>
+        ensures ok { OnOk result (Joins number group self.old self.new) }
+        ensures err { OnErr result (SameMembers number self.old self.new) }
+    {
+        self.groups.insert(number, group.clone()?)?;
+        let seated = seat(alloc, &mut self.seated, number, group);
+        if seated.is_err() {
+            self.groups.remove(&number);
+        }
+        seated
+    }
+
+    /// The member parts, where it hasn't.
+    pub(crate) fn part(&mut self, number: u32)
+        ensures { Parts number self.old self.new }
+    {
+        let Some(group) = self.groups.get(&number) else {
+            return;
+        };
+        if let Some(numbers) = self.seated.get_mut(group) {
+            numbers.remove(&number);
+        }
+    }
+
+    /// Whether a member hasn't parted.
+    pub(crate) fn has(&self, number: u32) -> bool
+        ensures { result ≡ is_seated self.now number }
+    {
+        let Some(group) = self.groups.get(&number) else {
+            return false;
+        };
+        match self.seated.get(group) {
+            Some(numbers) => numbers.contains(&number),
             None => false,
         }
     }
 
-    fn is_empty(&self) -> bool
-        ensures { result ≡ is_none self.now }
+    /// The other members of a member's group that haven't parted, in rising order.
+    pub(crate) fn others(&self, alloc: Global, number: u32) -> Result<Vec<EndId>, OutOfMemory>
+        ensures { IfOk result (λ found. found.items ≡ kept_destinations self.now number) }
     {
-        self.ends.is_empty()
-    }
-
-    fn drop_first(&mut self)
-        ensures { self.new ≡ drop 1 self.old }
-    {
-        self.ends.pop_front();
+        let mut others = Vec::new(alloc);
+        let Some(group) = self.groups.get(&number) else {
+            return Ok(others);
+        };
+        let Some(numbers) = self.seated.get(group) else {
+            return Ok(others);
+        };
+        for other in numbers {
+            if *other != number {
+                others.push(EndId(*other))?;
+            }
+        }
+        Ok(others)
     }
 }
 
-/// A cast with destinations left.
+/// A cast, with the destinations that are left, in order.
 #[derive(Drop)]
 pub struct Cast {
     source: EndId,
     body: Body,
-    left: Destinations,
+    left: VecDeque<EndId>,
 }
 
 impl Model for Cast {
@@ -70,7 +188,19 @@ impl Model for Cast {
 
     ghost Value = { CastNow };
 
-    ghost view = { λ c. record { source = c.source; body = c.body; left = c.left } };
+    ghost view = { λ c. record { source = c.source; body = c.body; left = c.left.items } };
+}
+
+impl Cast {
+    /// Whether the cast goes to the end next.
+    fn goes_to(&self, end: EndId) -> bool
+        ensures { result ≡ is_first end.0 self.now.left }
+    {
+        match self.left.front() {
+            Some(first) => *first == end,
+            None => false,
+        }
+    }
 }
 
 /// What the core keeps of broadcast channels.
@@ -91,19 +221,12 @@ impl Roster {
         }
     }
 
-    /// Whether a cast has destinations left.
-    pub(crate) fn is_casting(&self) -> bool
-        ensures { result ≡ is_some self.now.cast }
-    {
-        self.cast.is_some()
-    }
-
     /// The source of the cast that goes to the end next.
     pub(crate) fn source_for(&self, end: EndId) -> Option<EndId>
         ensures { result ≡ source_for self.now.cast end.0 }
     {
         let cast = self.cast.as_ref()?;
-        if cast.left.is_first(end) {
+        if cast.goes_to(end) {
             Some(cast.source)
         } else {
             None
@@ -121,8 +244,8 @@ impl Roster {
     }
 
     /// A cast goes to these destinations.
-    pub(crate) fn begin(&mut self, source: EndId, body: Body, left: Destinations)
-        ensures { self.new ≡ record self.old { cast = cast_to source body left } }
+    pub(crate) fn begin(&mut self, source: EndId, body: Body, left: VecDeque<EndId>)
+        ensures { self.new ≡ record self.old { cast = cast_to source body left.items } }
     {
         self.cast = if left.is_empty() {
             None
@@ -138,12 +261,45 @@ impl Roster {
         let Some(cast) = &mut self.cast else {
             return;
         };
-        if !cast.left.is_first(end) {
+        if !cast.goes_to(end) {
             return;
         }
-        cast.left.drop_first();
+        cast.left.pop_front();
         if cast.left.is_empty() {
             self.cast = None;
         }
     }
+}
+
+/// These ends, as what is left of a cast.
+pub(crate) fn all_left(alloc: Global, ends: &[EndId]) -> Result<VecDeque<EndId>, OutOfMemory>
+    ensures { IfOk result (λ left. left.items ≡ ends.now) }
+{
+    let mut left = VecDeque::with_capacity(alloc, ends.len())?;
+    for end in ends {
+        left.push_back(*end)?;
+    }
+    Ok(left)
+}
+
+/// The end has a seat in its group.
+fn seat(
+    alloc: Global,
+    seated: &mut BTreeMap<Group, BTreeSet<u32>>,
+    number: u32,
+    group: Group,
+) -> Result<(), OutOfMemory>
+    ensures ok { OnOk result ((k : GroupValue) → numbers_in (get group_cmp seated.new k)
+        ≡ seated_with group number k (numbers_in (get group_cmp seated.old k))) }
+    ensures err { OnErr result ((k : GroupValue) → numbers_in (get group_cmp seated.new k)
+        ≡ numbers_in (get group_cmp seated.old k)) }
+{
+    if let Some(numbers) = seated.get_mut(&group) {
+        numbers.insert(number)?;
+        return Ok(());
+    }
+    let mut numbers = BTreeSet::new(alloc);
+    numbers.insert(number)?;
+    seated.insert(group, numbers)?;
+    Ok(())
 }

@@ -3,8 +3,7 @@
 ghost use Rattle.std.specs.Prelude.{◌≡◌, [], length, IfOk};
 ghost use Rattle.std.specs.List.{zip};
 ghost use Rattle.hub_core.specs.Legal.{Legal};
-ghost use Rattle.hub_core.specs.Headline.{Headline, Fates};
-ghost use Rattle.hub_core.specs.Laws.{InOrder};
+ghost use Rattle.hub_core.specs.Laws.{Headline, Fates, InOrder};
 ghost use Rattle.hub_core.specs.Shows.{FitsAndShows, Shows};
 
 use crate::machine::Core;

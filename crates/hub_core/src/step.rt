@@ -1,5 +1,13 @@
-use crate::sender::Sender;
-use hub_envelope::{AgentId, Body, EndId, Items, Text};
+use hub_envelope::{AgentId, Body, EndId, Items, LineId, Text};
+
+/// A line of an end: what one sender posts at that end goes by it. A port has the one line 0, which
+/// the port that it is entangled with holds. A client's or worker's queue has `MAX_LINES` lines,
+/// which agents hold. A broadcast channel has the one line 0, by which casts come.
+#[derive(Clone, Copy, Debug, PartialEq, Eq)]
+pub struct Sender {
+    pub end: EndId,
+    pub line: LineId,
+}
 
 /// One event of the hub. A number that names nothing is answered by `NotNow`.
 #[derive(Debug, Drop)]

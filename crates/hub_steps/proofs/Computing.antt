@@ -5,15 +5,15 @@ use Rattle.std.specs.Prelude.{nat_lt, IfOk}
 use Rattle.hub_envelope.specs.declared.ids.AgentId.{AgentId}
 use Rattle.hub_envelope.specs.declared.ids.EndId.{EndId}
 use Rattle.hub_envelope.specs.declared.envelope.Envelope.{Envelope}
-use Rattle.hub_core.specs.declared.sender.Sender.{Sender}
+use Rattle.hub_core.specs.declared.step.Sender.{Sender}
 use Rattle.hub_core.specs.declared.machine.Core.{Core}
 use Rattle.hub_core.specs.declared.step.Action.{Action}
 use Rattle.hub_core.specs.declared.step.Action.TheVariants as action
 use Rattle.hub_core.specs.declared.outcome.Outcome.{Outcome}
 use Rattle.hub_core.specs.declared.outcome.Outcome.TheVariants as outcome
 use Rattle.hub_core.specs.History.{History}
-use Rattle.hub_core.specs.declared.listing.Listing.{Listing}
-use Rattle.hub_core.specs.declared.listing.Listing.TheVariants.{HoldsTarget}
+use Rattle.hub_core.specs.declared.outcome.Listing.{Listing}
+use Rattle.hub_core.specs.declared.outcome.Listing.TheVariants.{HoldsTarget}
 use Rattle.hub_core.specs.Facts.{Facts, facts}
 use Rattle.hub_core.specs.Posting.{may_post, listing}
 use Rattle.hub_core.specs.Legal.{LegalAfter}

@@ -4,7 +4,7 @@ use Rattle.hub_core.specs.History.{History}
 use Rattle.hub_core.specs.Facts.{facts}
 use Rattle.hub_core.specs.Legal.{Legal}
 use Rattle.hub_core.specs.Laws.{InOrder}
-use Rattle.hub_core.proofs.Orders.{one_answer}
+use Rattle.hub_core.proofs.Headlines.{one_answer}
 use Rattle.hub_steps.specs.declared.step_line.StepLine.{StepLine}
 use Rattle.hub_steps.specs.ShownText.{shown_line}
 use Rattle.hub_steps.specs.Computation.{Computation, MayGive, pair, pure, ask_then, step_then}

@@ -19,7 +19,7 @@ use Rattle.hub_steps.specs.UnderWay.{AreRun, AreTold}
 use Rattle.hub_engine.specs.OutOfMemory.{out_of_memory}
 use Rattle.hub_engine.specs.Engine.{Says, Writes}
 use Rattle.hub_steps.specs.Output.{IsCutShort, IsRunOutput}
-use Rattle.hub_core.proofs.Orders.{shows_in_order}
+use Rattle.hub_core.proofs.Headlines.{shows_in_order}
 use Rattle.hub_steps.proofs.Computing.{legal_append}
 use Rattle.hub_engine.proofs.Bytes.{appends_more, appends_kept, begins_after, begins_kept, begins_longer}
 

@@ -4,18 +4,18 @@ use Rattle.hub_envelope.specs.declared.ids.AgentId.{AgentId}
 use Rattle.hub_envelope.specs.declared.ids.EndId.{EndId}
 use Rattle.hub_envelope.specs.declared.envelope.Envelope.{Envelope}
 use Rattle.hub_envelope.specs.declared.limits.TheConstants.{MAX_HOPS, MAX_PORTS}
-use Rattle.hub_core.specs.declared.sender.Sender.{Sender}
+use Rattle.hub_core.specs.declared.step.Sender.{Sender}
 use Rattle.hub_core.specs.declared.step.Action.{Action}
 use Rattle.hub_core.specs.declared.step.Action.TheVariants as action
 use Rattle.hub_core.specs.declared.outcome.Outcome.{Outcome}
 use Rattle.hub_core.specs.declared.outcome.Outcome.TheVariants as outcome
-use Rattle.hub_core.specs.declared.listing.Listing.{Listing}
-use Rattle.hub_core.specs.declared.listing.Listing.TheVariants.{Good, HoldsTarget, Bad}
+use Rattle.hub_core.specs.declared.outcome.Listing.{Listing}
+use Rattle.hub_core.specs.declared.outcome.Listing.TheVariants.{Good, HoldsTarget, Bad}
 use Rattle.hub_core.specs.Facts.{Facts}
 use Rattle.hub_core.specs.Made.{is_queue, lines_of, maker_of, peer_of}
 use Rattle.hub_core.specs.Making.{is_client, is_worker}
 use Rattle.hub_core.specs.Memory.{takes_memory}
-use Rattle.hub_core.specs.Moving.{may_close}
+use Rattle.hub_core.specs.Taking.{may_close}
 use Rattle.hub_core.specs.Posting.{may_post, listing}
 use Rattle.hub_steps.specs.declared.shown.Shown.{Shown}
 use Rattle.hub_steps.specs.declared.shown.Shown.TheVariants as shown

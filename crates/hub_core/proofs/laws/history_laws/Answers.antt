@@ -1,8 +1,7 @@
 -- The laws over every legal history.
 use Rattle.hub_core.proofs.Sames.{nothing_same}
 use Rattle.hub_core.proofs.Sounds.{sound_legal}
-use Rattle.hub_core.proofs.Headlines.{headline, keeps_the_line, turned_puts_nothing, same_is_joined, fates, notice_is_last}
-use Rattle.hub_core.proofs.Orders.{one_answer}
+use Rattle.hub_core.proofs.Headlines.{headline, keeps_the_line, turned_puts_nothing, same_is_joined, fates, notice_is_last, one_answer}
 use Rattle.hub_core.proofs.laws.history_laws.Goals as goal
 
 pub returns-clause-headline : goal.returns-clause-headline

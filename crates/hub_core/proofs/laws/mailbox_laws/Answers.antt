@@ -1,6 +1,6 @@
 -- An end of the core as a mailbox, the mailbox of an end after a history, and in order.
 use Rattle.hub_core.proofs.Mailboxes.{mailboxes_show, each_shows, goes_on, holds_kept}
-use Rattle.hub_core.proofs.Orders.{shows_in_order}
+use Rattle.hub_core.proofs.Headlines.{shows_in_order}
 use Rattle.hub_core.proofs.laws.mailbox_laws.Goals as goal
 
 pub returns-clause-shown : goal.returns-clause-shown

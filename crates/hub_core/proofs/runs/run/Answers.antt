@@ -1,7 +1,6 @@
 -- What the core shows at last is legal, and in order.
 use Rattle.std.proofs.lemmas.Result.{IfOk-weaker}
-use Rattle.hub_core.proofs.Headlines.{headline, fates}
-use Rattle.hub_core.proofs.Orders.{shows_in_order}
+use Rattle.hub_core.proofs.Headlines.{headline, fates, shows_in_order}
 use Rattle.hub_core.proofs.runs.run.Goals as goal
 
 pub returns : goal.returns

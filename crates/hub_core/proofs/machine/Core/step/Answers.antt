@@ -4,10 +4,8 @@ use Rattle.std.proofs.Common.{refl, ap, ◌∙◌, subst, sym}
 use Rattle.hub_core.proofs.Words.{FitsSweep, leave_answer, agent_answer, channel_answer, order_answer, back_answer, adopt_answer, start_answer}
 use Rattle.hub_core.specs.declared.step.Action.TheVariants as action
 use Rattle.hub_core.proofs.Took.{ok_both, ok_all, client_core, worker_core, ok, took_where, took_by, same_err, same_err_with, told, member_took, part_took}
-use Rattle.hub_core.proofs.Makes.{makes_client, makes_worker, agent_changes, channel_changes, queue_answered, client_changes, worker_changes}
-use Rattle.hub_core.proofs.Entering.{back_changes, enter_changes, leave_changes, line_changes, line_fits, order_changes, see_changes, see_fits}
-use Rattle.hub_core.proofs.MovedEnds.{adopt_changes, close_changes, hand_changes, hop_changes}
-use Rattle.hub_core.proofs.Sending.{notice_changes, notice_fits, push_changes, push_fits}
+use Rattle.hub_core.proofs.EndSteps.{makes_client, makes_worker, agent_changes, channel_changes, queue_answered, client_changes, worker_changes, adopt_changes, close_changes, hand_changes, hop_changes}
+use Rattle.hub_core.proofs.LineSteps.{back_changes, enter_changes, leave_changes, line_changes, line_fits, order_changes, see_changes, see_fits, notice_changes, notice_fits, push_changes, push_fits}
 use Rattle.hub_core.proofs.Emptying.{look_changes, look_fits, start_changes, sweep_changes, sweep_fits, take_changes, take_fits}
 use Rattle.hub_core.proofs.Seeing.{seen_is, enter_seen, hop_seen, close_seen, hand_seen}
 use Rattle.hub_core.proofs.machine.Core.step.Goals as goal
@@ -55,7 +53,7 @@ pub returns-in-Start : goal.returns-in-Start
 returns-in-Start c = told c.args.step (action.Start c.in-Start.end) _ _ (ok c.start.result) c.in-Start.is (took_by _ _ c.args.self.now _ _ c.start.ensures.new refl (λ f s. c.start.ensures.outcome ∙ ap (λ g. start_answer g c.in-Start.end) (seen_is s)) (λ f. start_changes c.in-Start.end _)) tt
 
 pub returns-in-Look : goal.returns-in-Look
-returns-in-Look c = told c.args.step (action.Look c.in-Look.end) _ _ (ok c.look.result) c.in-Look.is (took_by _ _ c.args.self.now _ _ c.look.ensures.new refl (λ f s. c.look.ensures.outcome ∙ look_fits f c.in-Look.end _ (s.shows.end c.in-Look.end.0) (s.shows.sound.lines c.in-Look.end.0).taker_stand) (λ f s. look_changes c.in-Look.end _ s c.look.ensures.outcome)) tt
+returns-in-Look c = told c.args.step (action.Look c.in-Look.end) _ _ (ok c.look.result) c.in-Look.is (took_by _ _ c.args.self.now _ _ c.look.ensures.new refl (λ f s. c.look.ensures.outcome ∙ look_fits c.in-Look.end s) (λ f. look_changes c.in-Look.end _)) tt
 
 pub returns-in-Order : goal.returns-in-Order
 returns-in-Order c = told c.args.step (action.Order c.in-Order.agent) _ _ (ok c.order.result) c.in-Order.is (took_by _ _ c.args.self.now _ _ c.order.ensures.new refl (λ f s. c.order.ensures.outcome ∙ ap (λ g. order_answer g c.in-Order.agent) (seen_is s)) (λ f. order_changes c.in-Order.agent _)) tt

@@ -1,6 +1,6 @@
 use Rattle.std.proofs.Common.{◌≡◌, ◌++◌, not, map}
 use Rattle.hub_core.proofs.Words.{◌==◌, filter, kept_destinations}
-use Rattle.hub_core.proofs.members.Members.others.Given as goal
+use Rattle.hub_core.proofs.roster.Members.others.Given as goal
 
 -- those that were found, and those that are still to be gone through, are the others
 abbrev pub invariant-loop-other : goal.invariant-loop-other

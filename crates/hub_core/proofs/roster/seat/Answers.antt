@@ -1,7 +1,7 @@
 use Rattle.std.proofs.Common.{◌∙◌, ap, ℕ}
 use Rattle.hub_core.proofs.Words.{nat_cmp, BTreeMap, BTreeSet, insert_key, Group, numbers_in}
 use Rattle.hub_core.proofs.Seats.{seats, seats_first, rests, written, was_there, on_err}
-use Rattle.hub_core.proofs.members.seat.Goals as goal
+use Rattle.hub_core.proofs.roster.seat.Goals as goal
 
 pub returns-in_err-insert-clause-err : goal.returns-in_err-insert-clause-err
 returns-in_err-insert-clause-err c = on_err _ _

@@ -1,5 +1,5 @@
 use Rattle.std.proofs.Common.{◌≡◌, take}
-use Rattle.hub_core.proofs.roster.Destinations.of.Given as goal
+use Rattle.hub_core.proofs.roster.all_left.Given as goal
 
 -- the ends so far are in the list
 abbrev pub invariant-loop-end : goal.invariant-loop-end

@@ -1,0 +1,279 @@
+//! Steps at ends: Start, Take, Look and Sweep of whoever takes; and Adopt, Close and Hand, which
+//! move an end or close it.
+
+ghost use Rattle.std.specs.Prelude.{◌≡◌, ◌<◌, option_and_then, option_map, slice_get, Some};
+ghost use Rattle.std.specs.Prelude.{IfOk, IfSome, OnOk, OnErr};
+ghost use Rattle.hub_envelope.specs.declared.limits.TheConstants.{MAX_MOVES};
+ghost use Rattle.hub_core.specs.Kept.{ServesAt, seen, core_after, change_end, kept_looked};
+ghost use Rattle.hub_core.specs.Kept.{is_anyone_at, sweep_outcome_at, moved_ends, ports_of};
+ghost use Rattle.hub_core.specs.Kept.{adopting, adopted_end};
+ghost use Rattle.hub_core.specs.Shows.{kept_lines};
+ghost use Rattle.hub_core.specs.Taking.{FitsTakeOf, adopt_answer, close_answer, found_at};
+ghost use Rattle.hub_core.specs.Taking.{hand_answer, is_released, look_answer_of, may_close};
+ghost use Rattle.hub_core.specs.Taking.{may_take_over, start_answer};
+ghost use Rattle.hub_core.specs.Posting.{holder};
+ghost use Rattle.hub_core.specs.declared.step.Action.TheVariants as action;
+
+use crate::agent::Agent;
+use crate::end::Place;
+use crate::kind::Kind;
+use crate::line::Phase;
+use crate::machine::Core;
+use crate::outcome::Outcome;
+use crate::step::Sender;
+use hub_envelope::{AgentId, EndId, Envelope, Items, LineId, MAX_MOVES, OutOfMemory};
+
+impl Core {
+    pub(crate) fn start(&mut self, end: EndId) -> Outcome
+        ensures outcome { result ≡ start_answer (seen self.old) end }
+        ensures new { self.new ≡ core_after self.old result (action.Start end) }
+    {
+        let at = end.0 as usize;
+        let Some(found) = self.end_at(end) else {
+            return Outcome::NotNow;
+        };
+        if found.is_closed {
+            return Outcome::Closed;
+        }
+        if self.running_holder(end).is_none() {
+            return Outcome::NotNow;
+        }
+        self.ends[at].is_enabled = true;
+        Outcome::Started
+    }
+
+    pub(crate) fn take(&mut self, end: EndId) -> Outcome
+        ensures outcome { let Serves = ServesAt (slice_get self.old.ends end.0) in
+            FitsTakeOf Serves (seen self.old) end result }
+        ensures new { self.new ≡ core_after self.old result (action.Take end) }
+    {
+        let Some(found) = self.end_at(end) else {
+            return Outcome::NotNow;
+        };
+        if found.is_closed {
+            return Outcome::Closed;
+        }
+        let Some(agent) = self.running_holder(end) else {
+            return Outcome::NotNow;
+        };
+        if !found.is_enabled {
+            return Outcome::Disabled;
+        }
+        self.serve(end, agent)
+    }
+
+    /// Gives its agent the next envelope of an open, enabled end.
+    fn serve(&mut self, end: EndId, agent: AgentId) -> Outcome
+        requires { holder (seen self.old) end.0 ≡ Some agent }
+        ensures outcome { ServesAt (slice_get self.old.ends end.0) result }
+        ensures new { self.new ≡ core_after self.old result (action.Take end) }
+    {
+        let served = &mut self.ends[end.0 as usize];
+        match served.queues.take_first() {
+            Some(envelope) => {
+                self.place_each(envelope.ports.as_slice(), Place::Arrived(agent));
+                Outcome::Got(envelope)
+            }
+            None if served.taker >= served.newest => Outcome::Empty,
+            None if !served.is_settled(served.taker) => Outcome::Busy,
+            None => {
+                served.advance();
+                Outcome::Again
+            }
+        }
+    }
+
+    /// The queue that is looked at becomes clear where nobody is inside or being turned back there.
+    pub(crate) fn look(&mut self, end: EndId) -> Outcome
+        ensures outcome { let found = slice_get self.old.ends end.0 in
+            let epoch = option_and_then kept_looked found in
+            let looked = found_at (λ k. is_anyone_at k (kept_lines found)) epoch in
+            result ≡ look_answer_of looked (seen self.old) end }
+        ensures new { self.new ≡ core_after self.old result (action.Look end) }
+    {
+        let Some(found) = self.ends.get_mut(end.0 as usize) else {
+            return Outcome::NotNow;
+        };
+        if !found.is_closed && found.taker >= found.newest {
+            return Outcome::NotNow;
+        }
+        let Some(epoch) = found.looked() else {
+            return Outcome::Clear(None);
+        };
+        if found.lines.is_anyone_at(epoch) {
+            return Outcome::Busy;
+        }
+        found.looked += 1;
+        Outcome::Clear(Some(epoch))
+    }
+
+    /// Discards what waits at a closed end, where every queue is settled.
+    pub(crate) fn sweep(&mut self, end: EndId) -> Result<Outcome, OutOfMemory>
+        ensures outcome { IfOk result (λ o. o
+            ≡ sweep_outcome_at (slice_get self.old.ends end.0)) }
+        ensures new { IfOk result (λ o. self.new ≡ core_after self.old o (action.Sweep end)) }
+        ensures err { OnErr result (self.new ≡ self.old) }
+    {
+        let Some(found) = self.ends.get_mut(end.0 as usize) else {
+            return Ok(Outcome::NotNow);
+        };
+        if !found.is_closed {
+            return Ok(Outcome::NotNow);
+        }
+        if found.lines.is_anyone_from(found.looked) {
+            return Ok(Outcome::Busy);
+        }
+        let envelopes = found.queues.empty(self.alloc)?;
+        self.place_swept(envelopes.as_slice());
+        Ok(Outcome::Discarded(envelopes))
+    }
+
+    /// Gives each port that the envelopes name its place.
+    fn place_swept(&mut self, envelopes: &[Envelope])
+        ensures { self.new ≡ record self.old {
+          ends = moved_ends (ports_of envelopes.now) Place.Swept self.old.ends;
+        } }
+    {
+        for envelope in envelopes {
+            self.place_each(envelope.ports.as_slice(), Place::Swept);
+        }
+    }
+
+    pub(crate) fn adopt(
+        &mut self,
+        end: EndId,
+        agent: AgentId,
+        memory_refused: bool,
+    ) -> Result<Outcome, OutOfMemory>
+        ensures outcome { IfOk result (λ o. o
+            ≡ adopt_answer (seen self.old) end agent memory_refused) }
+        ensures new { IfOk result (λ o. self.new
+            ≡ core_after self.old o (action.Adopt end agent)) }
+        ensures err { OnErr result (self.new ≡ self.old) }
+    {
+        let is_running = self.is_running(agent);
+        let Some(found) = self.end_at(end) else {
+            return Ok(Outcome::NotNow);
+        };
+        if found.is_closed {
+            return Ok(Outcome::Closed);
+        }
+        if !found.place.has_arrived_at(agent) || !is_running {
+            return Ok(Outcome::NotNow);
+        }
+        if found.newest >= MAX_MOVES {
+            return Ok(Outcome::TooManyMoves);
+        }
+        if memory_refused {
+            return Ok(Outcome::NoMemory);
+        }
+        let newest = found.newest + 1;
+        let adopting = self.adopting(found.kind, agent)?;
+        self.renew(end, agent)?;
+        self.set_agent(agent, adopting);
+        Ok(Outcome::Adopted(newest))
+    }
+
+    /// The agent has the end, with a new, disabled queue.
+    fn renew(&mut self, end: EndId, agent: AgentId) -> Result<(), OutOfMemory>
+        requires { IfSome (slice_get self.old.ends end.0) (λ x. x.newest < MAX_MOVES) }
+        ensures ok { OnOk result (self.new ≡ record self.old {
+          ends = change_end (adopted_end agent) end.0 self.old.ends;
+        }) }
+        ensures err { OnErr result (self.new ≡ self.old) }
+    {
+        match self.ends.get_mut(end.0 as usize) {
+            Some(found) => found.renew(self.alloc, agent),
+            None => Ok(()),
+        }
+    }
+
+    /// The agent, after an end of this kind came to it: of a port with its own poster away that
+    /// poster is the agent's.
+    fn adopting(&self, kind: Kind, agent: AgentId) -> Result<Option<Agent>, OutOfMemory>
+        ensures { let released = is_released (seen self.now) (Some kind) in
+            IfOk result (λ found. found
+            ≡ option_map (adopting released kind) (slice_get self.now.agents agent.0)) }
+    {
+        match self.with_one_more(kind, agent)? {
+            Some(counted) if !self.is_released(kind) => Ok(Some(counted.with_one_away())),
+            counted => Ok(counted),
+        }
+    }
+
+    pub(crate) fn close(&mut self, end: EndId) -> Outcome
+        ensures outcome { result ≡ close_answer (seen self.old) end }
+        ensures new { self.new ≡ core_after self.old result (action.Close end) }
+    {
+        let Some(found) = self.end_at(end) else {
+            return Outcome::NotNow;
+        };
+        if found.is_closed {
+            return Outcome::Closed;
+        }
+        if !self.can_close(end) {
+            return Outcome::NotNow;
+        }
+        let kind = found.kind;
+        let place = found.place;
+        let found = &mut self.ends[end.0 as usize];
+        found.is_closed = true;
+        found.place = Place::Gone;
+        self.went_from(kind, place);
+        Outcome::Done
+    }
+
+    pub(crate) fn can_close(&self, end: EndId) -> bool
+        ensures { result ≡ may_close (seen self.now) end.0 }
+    {
+        let Some(found) = self.end_at(end) else {
+            return false;
+        };
+        found.place.is_here() && self.is_released(found.kind)
+    }
+
+    /// Whether an end of this kind is no port whose own poster is inside or being turned back.
+    fn is_released(&self, kind: Kind) -> bool
+        ensures { result ≡ is_released (seen self.now) (Some kind) }
+    {
+        let Kind::Port(peer) = kind else {
+            return true;
+        };
+        self.line_at(Sender {
+            end: peer,
+            line: LineId(0),
+        })
+        .phase
+            == Phase::Out
+    }
+
+    pub(crate) fn hand(&mut self, end: EndId, agent: AgentId) -> Outcome
+        ensures outcome { result ≡ hand_answer (seen self.old) end agent }
+        ensures new { self.new ≡ core_after self.old result (action.Hand end agent) }
+    {
+        let Some(found) = self.end_at(end) else {
+            return Outcome::NotNow;
+        };
+        if found.is_closed {
+            return Outcome::Closed;
+        }
+        if !found.kind.is_queue() || !self.may_take_over(agent, self.running_holder(end)) {
+            return Outcome::NotNow;
+        }
+        let kind = found.kind;
+        let place = found.place;
+        self.went_from(kind, place);
+        self.place(end, Place::Arrived(agent));
+        Outcome::Handed
+    }
+
+    /// Whether an agent may take over what another one has.
+    fn may_take_over(&self, agent: AgentId, holder: Option<AgentId>) -> bool
+        ensures { result ≡ may_take_over (seen self.now) agent holder }
+    {
+        match holder {
+            Some(holder) => (agent.0 as usize) < self.agents.len() && holder != agent,
+            None => false,
+        }
+    }
+}
