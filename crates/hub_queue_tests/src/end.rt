@@ -8,13 +8,29 @@ use hub_envelope::EndId;
 use hub_queue::{AdoptError, Grave, Onward, Sweep, Swept, Taker, Took};
 use hub_test_parts::{bell, is_message};
 use std::alloc::Global;
+use std::mem::replace;
 use std::sync::Wait;
 
-/// The taker of the end 0, or what is left of it once it was closed.
+/// What a take is to come to.
+#[derive(Clone, Copy)]
+pub(crate) enum Wanted {
+    /// The envelope of this epoch and number.
+    Got(u32, u64),
+    /// A queue was left.
+    Left,
+    /// Somebody is inside the taker's queue.
+    Busy,
+    /// Nothing is there.
+    Empty,
+}
+
+/// The taker of the end 0, or what is left of it once it was closed; and what was taken out of the
+/// yard.
 pub(crate) struct End {
     alloc: Global,
     taker: Option<Taker>,
     grave: Option<Grave>,
+    onward: Option<Onward>,
 }
 
 // By hand, so that whoever drops one makes one call.
@@ -24,25 +40,23 @@ impl Drop for End {
             alloc: _,
             taker,
             grave,
+            onward,
         } = self;
         drop(taker);
         drop(grave);
+        drop(onward);
     }
 }
 
-// Moves the end on, to a loop at whose bell nobody sleeps. The taker is as it was after an error.
-fn adopt_at<R: Wait>(
-    rt: &R,
-    alloc: Global,
-    yard: &Depot<Onward>,
-    taker: Taker,
-) -> (Taker, Result<(), AdoptError>) {
-    let Some(bell) = bell(alloc) else {
-        return (taker, Err(AdoptError::OutOfMemory));
-    };
-    match taker.adopt(rt, yard, bell) {
-        Ok(taker) => (taker, Ok(())),
-        Err((error, taker)) => (taker, Err(error)),
+fn is_wanted(took: &Took, wanted: &Wanted, text: &str) -> bool {
+    match wanted {
+        Wanted::Got(epoch, number) => match took {
+            Took::Got(envelope) => is_message(envelope, *epoch, *number, text),
+            _ => false,
+        },
+        Wanted::Left => matches!(took, Took::Again),
+        Wanted::Busy => matches!(took, Took::Busy),
+        Wanted::Empty => matches!(took, Took::Empty),
     }
 }
 
@@ -61,6 +75,7 @@ impl End {
             alloc,
             taker: None,
             grave: None,
+            onward: None,
         }
     }
 
@@ -84,30 +99,18 @@ impl End {
         }
     }
 
-    /// Whether a take gives the envelope of this epoch and number, with this text.
-    pub(crate) fn gets<R: Wait>(&mut self, rt: &R, epoch: u32, number: u64, text: &str) -> bool {
-        match self.take(rt) {
-            Some(Took::Got(envelope)) => is_message(&envelope, epoch, number, text),
-            _ => false,
-        }
-    }
-
-    /// Whether a take leaves so many queues, one after another.
-    pub(crate) fn leaves<R: Wait>(&mut self, rt: &R, queues: u32) -> bool {
-        for _ in 0..queues {
-            if !matches!(self.take(rt), Some(Took::Again)) {
+    /// Whether takes come to these, one after another, and the envelopes have this text.
+    pub(crate) fn takes<R: Wait>(&mut self, rt: &R, text: &str, all: &[Wanted]) -> bool {
+        for wanted in all {
+            let is_so = match self.take(rt) {
+                Some(took) => is_wanted(&took, wanted, text),
+                None => false,
+            };
+            if !is_so {
                 return false;
             }
         }
         true
-    }
-
-    pub(crate) fn finds_none<R: Wait>(&mut self, rt: &R) -> bool {
-        matches!(self.take(rt), Some(Took::Empty))
-    }
-
-    pub(crate) fn finds_busy<R: Wait>(&mut self, rt: &R) -> bool {
-        matches!(self.take(rt), Some(Took::Busy))
     }
 
     /// Whether so many queues stand from the taker's to the newest, that one not counted.
@@ -118,25 +121,51 @@ impl End {
         }
     }
 
-    /// Moves the end on.
+    /// Moves the end on, to a loop at whose bell nobody sleeps. `None` without a taker.
     pub(crate) fn adopt<R: Wait>(
         &mut self,
         rt: &R,
         yard: &Depot<Onward>,
     ) -> Option<Result<(), AdoptError>> {
-        match self.taker.take() {
-            Some(taker) => {
-                let (taker, adopted) = adopt_at(rt, self.alloc, yard, taker);
+        let taker = self.taker.take()?;
+        let Some(bell) = bell(self.alloc) else {
+            self.put(taker);
+            return Some(Err(AdoptError::OutOfMemory));
+        };
+        match taker.adopt(rt, yard, bell) {
+            Ok(taker) => {
                 self.put(taker);
-                Some(adopted)
+                Some(Ok(()))
             }
-            None => None,
+            Err((error, taker)) => {
+                self.put(taker);
+                Some(Err(error))
+            }
         }
     }
 
-    /// Whether the end was moved on.
-    pub(crate) fn is_adopted<R: Wait>(&mut self, rt: &R, yard: &Depot<Onward>) -> bool {
-        matches!(self.adopt(rt, yard), Some(Ok(())))
+    /// Whether the end was moved on so often.
+    pub(crate) fn moves<R: Wait>(&mut self, rt: &R, yard: &Depot<Onward>, adoptions: u32) -> bool {
+        for _ in 0..adoptions {
+            if !matches!(self.adopt(rt, yard), Some(Ok(()))) {
+                return false;
+            }
+        }
+        true
+    }
+
+    /// Takes what the yard keeps. Whether there was something.
+    pub(crate) fn empties<R: Wait>(&mut self, rt: &R, yard: &Depot<Onward>) -> bool {
+        drop(replace(&mut self.onward, yard.take_any(rt)));
+        self.onward.is_some()
+    }
+
+    /// Whether the yard has again what was taken out of it.
+    pub(crate) fn gives_back<R: Wait>(&mut self, rt: &R, yard: &Depot<Onward>) -> bool {
+        match self.onward.take() {
+            Some(onward) => yard.put(rt, onward).is_ok(),
+            None => false,
+        }
     }
 
     pub(crate) fn close(&mut self) -> bool {
@@ -160,30 +189,17 @@ impl End {
         }
     }
 
-    /// Whether a sweep discards these envelopes of the first queue, by number and text.
-    pub(crate) fn discards<R: Wait>(&mut self, rt: &R, rows: &[(u64, &str)]) -> bool {
+    /// Whether a sweep discards so many envelopes of the first queue, numbered from 0 on, with
+    /// this text.
+    pub(crate) fn discards<R: Wait>(&mut self, rt: &R, text: &str, count: usize) -> bool {
         match self.sweep(rt) {
-            Some(swept) => are_these(&swept, rows),
+            Some(swept) => are_numbered(&swept, text, count),
             None => false,
         }
     }
 }
 
-fn are_these(swept: &Swept, rows: &[(u64, &str)]) -> bool {
-    let envelopes = swept.envelopes();
-    if swept.end() != EndId(0) || envelopes.len() != rows.len() {
-        return false;
-    }
-    for (envelope, (number, text)) in envelopes.iter().zip(rows) {
-        if !is_message(envelope, 0, *number, text) {
-            return false;
-        }
-    }
-    true
-}
-
-/// Whether so many envelopes of the first queue were discarded, numbered from 0 on.
-pub(crate) fn are_numbered(swept: &Swept, text: &str, count: usize) -> bool {
+fn are_numbered(swept: &Swept, text: &str, count: usize) -> bool {
     let mut next: u64 = 0;
     for envelope in swept.envelopes() {
         if !is_message(envelope, 0, next, text) {

@@ -1,19 +1,26 @@
 //! A poster is held up at a point of its post, while something is done with its end.
-use crate::end::End;
-use crate::stage::{Stage, lay};
+use crate::end::{End, Wanted};
+use crate::stage::Stage;
 use hub_depot::Depot;
 use hub_queue::{Onward, Pause, Point, PostError};
 use hub_test_parts::{Posting, post_with};
 use std::alloc::Global;
-use std::mem::replace;
 use std::sync::{Mutex, Wait};
 
-// What is done with an end meanwhile. Whether it came to what it is to come to.
-trait Meanwhile {
-    fn act<R: Wait>(&self, rt: &R, yard: &Depot<Onward>, end: &mut End) -> bool;
+// What is done with an end meanwhile.
+#[derive(Clone, Copy)]
+enum Meanwhile {
+    // It is closed.
+    Closes,
+    // It is closed, and a sweep finds somebody inside.
+    ClosesOnSomebody,
+    // It is adopted so often and started, and its takes come to these.
+    Moves(u32, &'static [Wanted]),
+    // The yard gives what it keeps.
+    EmptiesYard,
 }
 
-// An end, and what became of what was done with it, once it was done.
+// An end, and whether what was done with it came to what it is to come to, once it was done.
 #[derive(Drop)]
 struct Held<'a> {
     end: &'a mut End,
@@ -22,33 +29,44 @@ struct Held<'a> {
 
 // Acts at this point of a post, once.
 #[derive(Drop)]
-struct At<'a, M> {
+struct At<'a> {
     yard: &'a Depot<Onward>,
     point: Point,
-    meanwhile: &'a M,
+    meanwhile: Meanwhile,
     held: Mutex<Held<'a>>,
 }
 
-impl<M: Meanwhile> Pause for At<'_, M> {
+// Does what is to be done. Whether it came to what it is to come to.
+fn act<R: Wait>(rt: &R, yard: &Depot<Onward>, meanwhile: &Meanwhile, end: &mut End) -> bool {
+    match meanwhile {
+        Meanwhile::Closes => end.close(),
+        Meanwhile::ClosesOnSomebody => end.close() && end.sweep(rt).is_none(),
+        Meanwhile::Moves(adoptions, wanted) => {
+            end.moves(rt, yard, *adoptions) && end.start() && end.takes(rt, "5", wanted)
+        }
+        Meanwhile::EmptiesYard => end.empties(rt, yard),
+    }
+}
+
+impl Pause for At<'_> {
     fn at<R: Wait>(&self, rt: &R, point: Point) {
         if point != self.point {
             return;
         }
         let mut held = self.held.lock(rt);
         if held.is_as_told.is_none() {
-            let is_as_told = self.meanwhile.act(rt, self.yard, &mut *held.end);
+            let is_as_told = act(rt, self.yard, &self.meanwhile, &mut *held.end);
             held.is_as_told = Some(is_as_told);
         }
     }
 }
 
 // Posts a text, held up at a point. `None` where what was done meanwhile came to something else.
-fn post_held<M: Meanwhile, R: Wait>(
+fn post_held<R: Wait>(
     rt: &R,
     stage: &mut Stage,
     point: Point,
-    text: &str,
-    meanwhile: &M,
+    meanwhile: Meanwhile,
 ) -> Option<Posting> {
     let alloc = stage.alloc;
     let poster = match &mut stage.poster {
@@ -64,7 +82,7 @@ fn post_held<M: Meanwhile, R: Wait>(
             is_as_told: None,
         }),
     };
-    let posting = post_with(rt, alloc, &stage.yard, poster, text, &pause);
+    let posting = post_with(rt, alloc, &stage.yard, poster, "5", &pause);
     let is_as_told = pause.held.into_inner().is_as_told;
     if is_as_told == Some(true) {
         posting
@@ -73,168 +91,113 @@ fn post_held<M: Meanwhile, R: Wait>(
     }
 }
 
-// It is closed.
-struct Closes;
-
-impl Meanwhile for Closes {
-    fn act<R: Wait>(&self, _rt: &R, _yard: &Depot<Onward>, end: &mut End) -> bool {
-        end.close()
-    }
+// What is seen once the post was made.
+#[derive(Clone, Copy)]
+enum After {
+    // A sweep discards so many envelopes.
+    Discards(usize),
+    // Takes come to these.
+    Takes(&'static [Wanted]),
+    // The yard has again what it gave, and another post is accepted by the second queue.
+    Accepts,
 }
 
-#[test]
-fn a_post_before_a_closed_gate_is_refused(rt: HostRuntime) {
-    let mut stage = Stage::open(rt.alloc());
-    let posting = post_held(&rt, &mut stage, Point::Before, "1", &Closes);
-    drop(stage);
-    assert!(rt; matches!(posting, Some(Err(PostError::Closed))));
-}
-
-#[test]
-fn an_end_is_closed_before_a_hop(rt: HostRuntime) {
-    let mut stage = Stage::open(rt.alloc());
-    let is_adopted = stage.is_adopted(&rt);
-    let posting = post_held(&rt, &mut stage, Point::Hopping, "5", &Closes);
-    drop(stage);
-    assert!(rt; is_adopted && matches!(posting, Some(Err(PostError::Closed))));
-}
-
-// It is closed, and a sweep finds somebody inside.
-struct ClosesOnSomebody;
-
-impl Meanwhile for ClosesOnSomebody {
-    fn act<R: Wait>(&self, rt: &R, _yard: &Depot<Onward>, end: &mut End) -> bool {
-        end.close() && end.sweep(rt).is_none()
-    }
-}
-
-#[test]
-fn a_post_inside_a_closed_gate_is_discarded(rt: HostRuntime) {
-    let mut stage = Stage::open(rt.alloc());
-    let posting = post_held(&rt, &mut stage, Point::Inside, "7", &ClosesOnSomebody);
-    let is_discarded = stage.end.discards(&rt, &[(0, "7")]);
-    drop(stage);
-    assert!(rt; is_discarded && matches!(posting, Some(Ok((0, 0)))));
-}
-
-// Whether it was adopted so often, and started.
-fn is_moved<R: Wait>(rt: &R, yard: &Depot<Onward>, end: &mut End, adoptions: u32) -> bool {
-    for _ in 0..adoptions {
-        if !end.is_adopted(rt, yard) {
-            return false;
-        }
-    }
-    end.start()
-}
-
-// It is adopted.
-struct Moves;
-
-impl Meanwhile for Moves {
-    fn act<R: Wait>(&self, rt: &R, yard: &Depot<Onward>, end: &mut End) -> bool {
-        is_moved(rt, yard, end, 1)
-    }
-}
-
-#[test]
-fn a_post_before_an_adopted_gate_goes_on(rt: HostRuntime) {
-    let mut stage = Stage::open(rt.alloc());
-    let posting = post_held(&rt, &mut stage, Point::Before, "5", &Moves);
-    let is_taken = stage.end.leaves(&rt, 1) && stage.end.gets(&rt, 1, 0, "5");
-    let is_last = stage.end.finds_none(&rt);
-    drop(stage);
-    assert!(rt; is_taken && is_last && matches!(posting, Some(Ok((1, 0)))));
-}
-
-// It is adopted so often, and its taker waits for the poster.
-#[derive(Drop)]
-struct MovesAndWaits {
+// How often an end is adopted before a post, where that is held up, what is done meanwhile, what the
+// post comes to, and what is seen then.
+#[derive(Clone, Copy)]
+struct Row {
     adoptions: u32,
+    point: Point,
+    meanwhile: Meanwhile,
+    posting: Posting,
+    after: After,
 }
 
-impl Meanwhile for MovesAndWaits {
-    fn act<R: Wait>(&self, rt: &R, yard: &Depot<Onward>, end: &mut End) -> bool {
-        is_moved(rt, yard, end, self.adoptions) && end.finds_busy(rt)
-    }
-}
+const ROWS: [Row; 8] = [
+    // A post before a closed gate is refused.
+    Row {
+        adoptions: 0,
+        point: Point::Before,
+        meanwhile: Meanwhile::Closes,
+        posting: Err(PostError::Closed),
+        after: After::Discards(0),
+    },
+    // An end is closed before a hop.
+    Row {
+        adoptions: 1,
+        point: Point::Hopping,
+        meanwhile: Meanwhile::Closes,
+        posting: Err(PostError::Closed),
+        after: After::Discards(0),
+    },
+    // A post inside a closed gate is discarded.
+    Row {
+        adoptions: 0,
+        point: Point::Inside,
+        meanwhile: Meanwhile::ClosesOnSomebody,
+        posting: Ok((0, 0)),
+        after: After::Discards(1),
+    },
+    // A post before an adopted gate goes on.
+    Row {
+        adoptions: 0,
+        point: Point::Before,
+        meanwhile: Meanwhile::Moves(1, &[]),
+        posting: Ok((1, 0)),
+        after: After::Takes(&[Wanted::Left, Wanted::Got(1, 0), Wanted::Empty]),
+    },
+    // A sleeping poster keeps the taker.
+    Row {
+        adoptions: 0,
+        point: Point::Inside,
+        meanwhile: Meanwhile::Moves(1, &[Wanted::Busy]),
+        posting: Ok((0, 0)),
+        after: After::Takes(&[Wanted::Got(0, 0), Wanted::Left, Wanted::Empty]),
+    },
+    // A post inside is taken before two later queues.
+    Row {
+        adoptions: 0,
+        point: Point::Inside,
+        meanwhile: Meanwhile::Moves(2, &[Wanted::Busy]),
+        posting: Ok((0, 0)),
+        after: After::Takes(&[Wanted::Got(0, 0), Wanted::Left, Wanted::Left, Wanted::Empty]),
+    },
+    // A pushed envelope is taken while its poster is inside.
+    Row {
+        adoptions: 0,
+        point: Point::Pushed,
+        meanwhile: Meanwhile::Moves(1, &[Wanted::Got(0, 0), Wanted::Busy]),
+        posting: Ok((0, 0)),
+        after: After::Takes(&[Wanted::Left, Wanted::Empty]),
+    },
+    // A post that finds the yard empty is refused, and another is accepted once the yard has again
+    // what it kept.
+    Row {
+        adoptions: 1,
+        point: Point::Hopping,
+        meanwhile: Meanwhile::EmptiesYard,
+        posting: Err(PostError::Moving),
+        after: After::Accepts,
+    },
+];
 
-// Whether an envelope that is put while the end is adopted so often is taken before any of the
-// later queues.
-fn is_taken_first<R: Wait>(rt: &R, alloc: Global, adoptions: u32) -> bool {
+// Whether a post that is held up comes to what the row says.
+fn is_so<R: Wait>(rt: &R, alloc: Global, row: Row) -> bool {
     let mut stage = Stage::open(alloc);
-    let meanwhile = MovesAndWaits { adoptions };
-    let posting = post_held(rt, &mut stage, Point::Inside, "5", &meanwhile);
-    let is_taken = stage.end.gets(rt, 0, 0, "5") && stage.end.leaves(rt, adoptions);
-    let is_last = stage.end.finds_none(rt);
-    drop(stage);
-    is_taken && is_last && matches!(posting, Some(Ok((0, 0))))
-}
-
-#[test]
-fn a_sleeping_poster_keeps_the_taker(rt: HostRuntime) {
-    assert!(rt; is_taken_first(&rt, rt.alloc(), 1));
-}
-
-#[test]
-fn a_post_inside_is_taken_before_two_later_queues(rt: HostRuntime) {
-    assert!(rt; is_taken_first(&rt, rt.alloc(), 2));
-}
-
-// It is adopted, and its taker takes what was pushed, and waits for the poster then.
-struct MovesAndTakes;
-
-impl Meanwhile for MovesAndTakes {
-    fn act<R: Wait>(&self, rt: &R, yard: &Depot<Onward>, end: &mut End) -> bool {
-        is_moved(rt, yard, end, 1) && end.gets(rt, 0, 0, "5") && end.finds_busy(rt)
-    }
-}
-
-#[test]
-fn a_pushed_envelope_is_taken_while_its_poster_is_inside(rt: HostRuntime) {
-    let mut stage = Stage::open(rt.alloc());
-    let posting = post_held(&rt, &mut stage, Point::Pushed, "5", &MovesAndTakes);
-    let is_left = stage.end.leaves(&rt, 1) && stage.end.finds_none(&rt);
-    drop(stage);
-    assert!(rt; is_left && matches!(posting, Some(Ok((0, 0)))));
-}
-
-// The yard gives what it keeps.
-#[derive(Drop)]
-struct EmptiesYard {
-    kept: Mutex<Option<Onward>>,
-}
-
-impl Meanwhile for EmptiesYard {
-    fn act<R: Wait>(&self, rt: &R, yard: &Depot<Onward>, _end: &mut End) -> bool {
-        let onward = yard.take_any(rt);
-        let is_there = onward.is_some();
-        drop(replace(&mut *self.kept.lock(rt), onward));
-        is_there
-    }
-}
-
-// Whether a post that finds the yard empty is refused, and a second one is accepted once the yard
-// has again what it kept.
-fn waits_for_the_yard<R: Wait>(rt: &R, alloc: Global) -> bool {
-    let mut stage = Stage::open(alloc);
-    let meanwhile = EmptiesYard {
-        kept: Mutex::new(None),
+    let is_moved = stage.end.moves(rt, &stage.yard, row.adoptions);
+    let posted = post_held(rt, &mut stage, row.point, row.meanwhile);
+    let is_seen = match row.after {
+        After::Discards(count) => stage.end.discards(rt, "5", count),
+        After::Takes(wanted) => stage.end.takes(rt, "5", wanted),
+        After::Accepts => { stage.end.gives_back(rt, &stage.yard) && stage.accepts(rt, "7", 1, 0) }
     };
-    let is_adopted = stage.is_adopted(rt);
-    let refused = post_held(rt, &mut stage, Point::Hopping, "5", &meanwhile);
-    let is_laid = match meanwhile.kept.into_inner() {
-        Some(onward) => lay(rt, &stage.yard, onward),
-        None => false,
-    };
-    let posting = stage.post(rt, "7");
     drop(stage);
-    is_adopted
-        && is_laid
-        && matches!(refused, Some(Err(PostError::Moving)))
-        && matches!(posting, Some(Ok((1, 0))))
+    is_moved && is_seen && posted == Some(row.posting)
 }
 
 #[test]
-fn a_yard_is_emptied_before_a_hop(rt: HostRuntime) {
-    assert!(rt; waits_for_the_yard(&rt, rt.alloc()));
+fn a_poster_is_held_up(rt: HostRuntime) {
+    for row in 0..ROWS.len() {
+        assert!(rt; is_so(&rt, rt.alloc(), ROWS[row]), "row {row}");
+    }
 }

@@ -1,10 +1,21 @@
 //! Single ends. Most of what is done with one is played from step files, by `hub_player`.
-use crate::end::are_numbered;
+use crate::end::Wanted;
 use crate::stage::Stage;
 use hub_envelope::{EndId, MAX_MOVES};
-use hub_queue::{AdoptError, Ends};
+use hub_queue::{AdoptError, Ends, Swept};
+use hub_test_parts::is_message;
 use std::alloc::Global;
 use std::sync::Wait;
+
+// Whether the second and the third envelope of the first queue were discarded, in order.
+fn are_the_last_two(swept: &Swept) -> bool {
+    match swept.envelopes() {
+        [second, third] => {
+            swept.end() == EndId(0) && is_message(second, 0, 1, "2") && is_message(third, 0, 2, "3")
+        }
+        _ => false,
+    }
+}
 
 // Whether what was not taken is discarded, in order.
 fn discards_the_rest<R: Wait>(rt: &R, alloc: Global) -> bool {
@@ -12,8 +23,12 @@ fn discards_the_rest<R: Wait>(rt: &R, alloc: Global) -> bool {
     let are_put = stage.accepts(rt, "1", 0, 0)
         && stage.accepts(rt, "2", 0, 1)
         && stage.accepts(rt, "3", 0, 2);
-    let is_taken = stage.end.start() && stage.end.gets(rt, 0, 0, "1");
-    let are_left = stage.end.close() && stage.end.discards(rt, &[(1, "2"), (2, "3")]);
+    let is_taken = stage.end.start() && stage.end.takes(rt, "1", &[Wanted::Got(0, 0)]);
+    let are_left = stage.end.close()
+        && match stage.end.sweep(rt) {
+            Some(swept) => are_the_last_two(&swept),
+            None => false,
+        };
     drop(stage);
     are_put && is_taken && are_left
 }
@@ -23,41 +38,41 @@ fn what_is_left_is_discarded(rt: HostRuntime) {
     assert!(rt; discards_the_rest(&rt, rt.alloc()));
 }
 
-// Whether one queue holds so many envelopes until it is swept.
-fn holds<R: Wait>(rt: &R, alloc: Global, count: u32) -> bool {
+/// Whether one queue holds so many envelopes until it is swept.
+pub(crate) fn holds<R: Wait>(rt: &R, alloc: Global, count: u32, text: &str) -> bool {
     let mut stage = Stage::open(alloc);
-    let is_discarded = stage.posts_each(rt, count, "1")
+    let is_discarded = stage.fills(rt, 1, count as u64, text)
         && stage.end.close()
-        && match stage.end.sweep(rt) {
-            Some(swept) => are_numbered(&swept, "1", count as usize),
-            None => false,
-        };
+        && stage.end.discards(rt, text, count as usize);
     drop(stage);
     is_discarded
 }
 
 #[test]
 fn one_queue_holds_ten_thousand(rt: HostRuntime) {
-    assert!(rt; holds(&rt, rt.alloc(), 10_000));
+    assert!(rt; holds(&rt, rt.alloc(), 10_000, "1"));
 }
 
 #[test]
 fn ends_are_drawn_once(rt: HostRuntime) {
     let mut ends = Ends::new();
     for number in 0..65_536 {
-        assert_eq!(rt; ends.draw(), Some(EndId(number)));
+        assert!(rt; ends.draw() == Some(EndId(number)));
     }
-    assert_eq!(rt; ends.draw(), None);
+    assert!(rt; ends.draw().is_none());
 }
 
 // Whether a taker is behind by three queues after three adoptions, and by none once it has taken
 // what waits there.
 fn takes_from_three_adoptions<R: Wait>(rt: &R, alloc: Global) -> bool {
     let mut stage = Stage::open(alloc);
-    let is_adopted = stage.accepts(rt, "10", 0, 0) && stage.adopts_each(rt, 3, "10");
+    let is_adopted = stage.fills(rt, 4, 1, "10");
     let is_behind = stage.end.is_behind(3) && stage.end.start();
-    let is_taken = stage.takes_each(rt, 3, "10") && stage.end.gets(rt, 3, 0, "10");
-    let is_last = stage.end.finds_none(rt) && stage.end.is_behind(0);
+    let is_taken = stage.takes_each(rt, 3, "10")
+        && stage
+            .end
+            .takes(rt, "10", &[Wanted::Got(3, 0), Wanted::Empty]);
+    let is_last = stage.end.is_behind(0);
     drop(stage);
     is_adopted && is_behind && is_taken && is_last
 }
@@ -72,12 +87,12 @@ fn three_adoptions(rt: HostRuntime) {
 fn refuses_a_kept_name<R: Wait>(rt: &R, alloc: Global) -> bool {
     let mut stage = Stage::open(alloc);
     stage.reopen(2);
-    let is_laid = stage.is_adopted(rt) && stage.gives_onward(rt);
+    let is_laid = stage.end.moves(rt, &stage.yard, 1) && stage.gives_onward(rt);
     stage.reopen(2);
-    let is_refused = matches!(stage.adopt(rt), Some(Err(AdoptError::Taken)));
+    let refused = stage.end.adopt(rt, &stage.yard);
     let is_unmoved = stage.end.is_behind(0) && !stage.gives_onward(rt);
     drop(stage);
-    is_laid && is_refused && is_unmoved
+    is_laid && matches!(refused, Some(Err(AdoptError::Taken))) && is_unmoved
 }
 
 #[test]
@@ -91,8 +106,8 @@ const LEFT: u32 = 40_000;
 // those that were not left are discarded.
 fn moves_as_often_as_it_may<R: Wait>(rt: &R, alloc: Global) -> bool {
     let mut stage = Stage::open(alloc);
-    let is_adopted = stage.accepts(rt, "10", 0, 0) && stage.adopts_each(rt, MAX_MOVES, "10");
-    let is_refused = matches!(stage.adopt(rt), Some(Err(AdoptError::TooManyMoves)));
+    let is_adopted = stage.fills(rt, MAX_MOVES + 1, 1, "10");
+    let refused = stage.end.adopt(rt, &stage.yard);
     let is_behind = stage.end.is_behind(MAX_MOVES);
     let is_left = stage.end.start() && stage.takes_each(rt, LEFT, "10");
     let is_ahead = stage.end.is_behind(MAX_MOVES - LEFT);
@@ -102,6 +117,7 @@ fn moves_as_often_as_it_may<R: Wait>(rt: &R, alloc: Global) -> bool {
             None => false,
         };
     drop(stage);
+    let is_refused = matches!(refused, Some(Err(AdoptError::TooManyMoves)));
     is_adopted && is_refused && is_behind && is_left && is_ahead && is_swept
 }
 

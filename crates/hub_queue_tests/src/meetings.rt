@@ -2,9 +2,9 @@ ghost use Rattle.std.specs.Prelude.{◌≡◌};
 ghost use Rattle.hub_queue.specs.Meetings.{AreTogether};
 
 use hub_depot::Depot;
-use hub_envelope::{AgentId, EndId};
+use hub_envelope::EndId;
 use hub_queue::{Mailbox, Meeting, Onward, Poster, Steps, Taker, Took, meet};
-use hub_test_parts::{bell, draft};
+use hub_test_parts::{bell, post};
 use std::alloc::Global;
 use std::marker::Brand;
 use std::process::Abort;
@@ -41,12 +41,9 @@ fn post_one<R: Abort + Wait>(
     ensures { AreTogether poster.new taker.now }
 {
     let _ = taker;
-    let Some(draft) = draft(alloc, AgentId(0), "7") else {
-        panic!(rt; "no draft");
-    };
-    if let Err((_, back)) = poster.post(rt, yard, draft) {
-        drop(back);
-        panic!(rt; "a post was refused");
+    match post(rt, alloc, yard, poster, "7") {
+        Some(Ok(_)) => {}
+        _ => panic!(rt; "a post was refused"),
     }
 }
 
@@ -94,7 +91,7 @@ fn meets<L: Ledger, R: Abort + Wait>(
     start(taker, poster);
     take_one(rt, taker, poster, &mut steps);
     take_one(rt, taker, poster, &mut steps);
-    assert_eq!(rt; meet(rt, poster, taker), Meeting::Met { put: 3, got: 2 });
+    assert!(rt; meet(rt, poster, taker) == Meeting::Met { put: 3, got: 2 });
 }
 
 #[test]
@@ -108,10 +105,7 @@ fn a_poster_meets_its_taker(rt: HostRuntime) {
 #[test]
 fn nothing_put_is_met(rt: HostRuntime) {
     let (mut taker, mut poster) = opened(&rt, rt.alloc(), EndId(0));
-    assert_eq!(rt;
-        meet(&rt, &mut poster, &mut taker),
-        Meeting::Met { put: 0, got: 0 }
-    );
+    assert!(rt; meet(&rt, &mut poster, &mut taker) == Meeting::Met { put: 0, got: 0 });
     drop(taker);
     drop(poster);
 }
@@ -120,7 +114,7 @@ fn nothing_put_is_met(rt: HostRuntime) {
 fn strangers_do_not_meet(rt: HostRuntime) {
     let (taker, mut poster) = opened(&rt, rt.alloc(), EndId(0));
     let (mut other, stranger) = opened(&rt, rt.alloc(), EndId(1));
-    assert_eq!(rt; meet(&rt, &mut poster, &mut other), Meeting::Strangers);
+    assert!(rt; meet(&rt, &mut poster, &mut other) == Meeting::Strangers);
     drop(taker);
     drop(poster);
     drop(other);
@@ -162,9 +156,9 @@ fn goes_on<R: Abort + Wait>(
 )
     requires { AreTogether poster.old taker.old }
 {
-    assert_eq!(rt; meet(rt, poster, taker), Meeting::Turned);
+    assert!(rt; meet(rt, poster, taker) == Meeting::Turned);
     post_one(rt, alloc, yard, poster, taker);
-    assert_eq!(rt; meet(rt, poster, taker), Meeting::Strangers);
+    assert!(rt; meet(rt, poster, taker) == Meeting::Strangers);
 }
 
 #[test]

@@ -1,38 +1,25 @@
 //! Tests in which each allocation may be refused. Each call is made again where there was no
 //! memory, once it was seen that all is as it was.
-use crate::end::are_numbered;
+use crate::mailboxes::holds;
 use crate::stage::Stage;
 use hub_queue::AdoptError;
 use std::alloc::Global;
 use std::sync::Wait;
 
-// Whether a whole queue is posted and swept.
-fn posts_and_sweeps<R: Wait>(rt: &R, alloc: Global) -> bool {
-    let mut stage = Stage::open(alloc);
-    let is_swept = stage.posts_each(rt, 40, "[1]")
-        && stage.end.close()
-        && match stage.end.sweep(rt) {
-            Some(swept) => are_numbered(&swept, "[1]", 40),
-            None => false,
-        };
-    drop(stage);
-    is_swept
-}
-
 #[test]
 fn posts_and_sweeps_whichever_allocation_is_refused(rt: HostRuntime) {
-    assert!(rt; posts_and_sweeps(&rt, rt.alloc()));
+    assert!(rt; holds(&rt, rt.alloc(), 40, "[1]"));
 }
 
 // Whether an adoption that was refused for want of memory has left the end as it was: the yard has
 // nothing, and a post goes to the old queue. It is made again then.
 fn adopts<R: Wait>(rt: &R, stage: &mut Stage) -> bool {
-    match stage.adopt(rt) {
+    match stage.end.adopt(rt, &stage.yard) {
         Some(Err(AdoptError::OutOfMemory)) => {
             stage.end.is_behind(0)
-                && stage.has_nothing_laid(rt)
+                && !stage.end.empties(rt, &stage.yard)
                 && stage.accepts(rt, "[1]", 0, 0)
-                && stage.is_adopted(rt)
+                && stage.end.moves(rt, &stage.yard, 1)
         }
         adopted => matches!(adopted, Some(Ok(()))),
     }

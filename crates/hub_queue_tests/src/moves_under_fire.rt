@@ -1,10 +1,10 @@
 //! One thread posts while two others hand the taker to and fro, with an adoption at each turn.
 use crate::end::End;
-use crate::parts::open;
+use crate::parts::{are_all_so, open};
 use hub_depot::Depot;
-use hub_envelope::{AgentId, Draft, Envelope};
-use hub_queue::{NoPause, Onward, Pause, Point, PostError, Posted, Poster, Took};
-use hub_test_parts::draft;
+use hub_envelope::Envelope;
+use hub_queue::{NoPause, Onward, Pause, Point, PostError, Poster, Took};
+use hub_test_parts::post_with;
 use std::alloc::Global;
 use std::sync::{Mutex, Wait};
 use std::thread;
@@ -67,29 +67,7 @@ fn name_of(envelope: &Envelope) -> Option<Name> {
 }
 
 impl Fire {
-    // Posts a draft until it is accepted, while posts are left.
-    fn post_until<P: Pause, R: Wait>(
-        &mut self,
-        rt: &R,
-        yard: &Depot<Onward>,
-        draft: Draft,
-        pause: &P,
-    ) -> Option<Posted> {
-        let mut draft = draft;
-        for _ in 0..self.posts {
-            self.posts = self.posts.saturating_sub(1);
-            match self.poster.post_with(rt, yard, draft, pause) {
-                Ok(posted) => return Some(posted),
-                Err((PostError::Moving, back)) => {
-                    draft = back;
-                    thread::yield_now();
-                }
-                Err(_) => return None,
-            }
-        }
-        None
-    }
-
+    // Posts a body until it is accepted, while posts are left.
     fn post<P: Pause, R: Wait>(
         &mut self,
         rt: &R,
@@ -98,9 +76,15 @@ impl Fire {
         pause: &P,
     ) -> Option<()> {
         let text = format!(in self.alloc; "{body}").ok()?;
-        let draft = draft(self.alloc, AgentId(0), text.as_str())?;
-        let posted = self.post_until(rt, yard, draft, pause)?;
-        self.accepted.push((posted.epoch, posted.number, body)).ok()
+        for _ in 0..self.posts {
+            self.posts = self.posts.saturating_sub(1);
+            match post_with(rt, self.alloc, yard, &mut self.poster, text.as_str(), pause)? {
+                Ok((epoch, number)) => return self.accepted.push((epoch, number, body)).ok(),
+                Err(PostError::Moving) => thread::yield_now(),
+                Err(_) => return None,
+            }
+        }
+        None
     }
 
     // Posts the bodies 0, 1, 2 and so on, the first of them held until the end was adopted.
@@ -115,11 +99,6 @@ impl Fire {
             self.post(rt, yard, body, &NoPause)?;
         }
         Some(())
-    }
-
-    // Whether the first draft was accepted by a later queue than the one where its line stood.
-    fn was_turned(&self) -> bool {
-        matches!(self.accepted.first(), Some((1.., 0, 0)))
     }
 }
 
@@ -143,27 +122,25 @@ impl Turn {
         Some(())
     }
 
-    // One turn: the end is adopted and started, and its taker takes.
-    fn once<R: Wait>(&mut self, rt: &R, yard: &Depot<Onward>) -> Option<()> {
-        if !self.end.is_adopted(rt, yard) || !self.end.start() {
-            return None;
-        }
-        self.take_some(rt, TAKES_A_TURN)?;
-        self.moves = self.moves.saturating_add(1);
-        Some(())
-    }
-
-    // Makes a turn where it is due, and none are due any more where one can't be made. Whether the
-    // last one was made, once none is due.
+    // Makes a turn where it is due: the end is adopted and started, and its taker takes. Where that
+    // can't be made, none are due any more. Whether the last one was made, once none is due.
     fn next<R: Wait>(&mut self, rt: &R, yard: &Depot<Onward>, mine: u32) -> Option<bool> {
         if self.moves >= ADOPTIONS {
             return Some(true);
         }
-        if self.moves % 2 == mine && self.once(rt, yard).is_none() {
-            self.moves = ADOPTIONS;
-            return Some(false);
+        if self.moves % 2 != mine {
+            return None;
         }
-        None
+        self.moves = self.moves.saturating_add(1);
+        let is_made = self.end.moves(rt, yard, 1)
+            && self.end.start()
+            && self.take_some(rt, TAKES_A_TURN).is_some();
+        if is_made {
+            None
+        } else {
+            self.moves = ADOPTIONS;
+            Some(false)
+        }
     }
 }
 
@@ -179,27 +156,26 @@ fn take_turns<R: Wait>(rt: &R, yard: &Depot<Onward>, turn: &Mutex<Turn>, mine: u
     false
 }
 
-// One thread fires, and two take turns. Whether each of them came to its end.
+// Two threads take turns, and one fires. Whether each of them came to its end.
 fn race<R: Wait + Threads + Sync>(
     rt: &R,
     alloc: Global,
-    fire: &mut Fire,
+    fire: &Mutex<Fire>,
     turn: &Mutex<Turn>,
 ) -> bool {
     let yard = Depot::new(alloc);
     let first = UntilAdopted { turn };
-    let (is_posted, (is_first_done, is_second_done)) = thread::join(
+    let ended = thread::map_indices(
         rt,
-        || fire.post_all(rt, &yard, &first).is_some(),
-        || {
-            thread::join(
-                rt,
-                || take_turns(rt, &yard, turn, 0),
-                || take_turns(rt, &yard, turn, 1),
-            )
+        alloc,
+        3,
+        &|index| match index {
+            0 => take_turns(rt, &yard, turn, 0),
+            1 => take_turns(rt, &yard, turn, 1),
+            _ => fire.lock(rt).post_all(rt, &yard, &first).is_some(),
         },
     );
-    is_posted && is_first_done && is_second_done
+    are_all_so(ended)
 }
 
 // A taker is handed to and fro while a line posts. At least its first post is turned.
@@ -211,19 +187,21 @@ fn moves_under_fire(rt: HostRuntime) {
     };
     let mut end = End::new(alloc);
     end.put(taker);
-    let mut fire = Fire {
+    let fire = Mutex::new(Fire {
         alloc,
         poster,
         posts: POSTS,
         accepted: Vec::new(alloc),
-    };
+    });
     let turn = Mutex::new(Turn {
         end,
         moves: 0,
         taken: Vec::new(alloc),
     });
-    assert!(rt; race(&rt, alloc, &mut fire, &turn));
-    assert!(rt; fire.was_turned());
+    assert!(rt; race(&rt, alloc, &fire, &turn));
+    let fire = fire.into_inner();
+    // The first draft was accepted by a later queue than the one where its line stood.
+    assert!(rt; matches!(fire.accepted.first(), Some((1.., 0, 0))));
     let mut turn = turn.into_inner();
     assert!(rt; turn.take_some(&rt, TAKES).is_some());
     assert_eq!(rt; turn.moves, ADOPTIONS);

@@ -1,10 +1,11 @@
-//! What the tests make their mailboxes of, and takes.
+//! What the tests make their mailboxes of, posts and takes.
 ghost use Rattle.std.specs.Prelude.{◌≡◌};
 
+use hub_depot::Depot;
 use hub_envelope::{EndId, MAX_LINES};
-use hub_queue::{Mailbox, Poster, Steps, Taker, Took};
-use hub_test_parts::bell;
-use std::alloc::Global;
+use hub_queue::{Mailbox, Onward, PostError, Poster, Steps, Taker, Took};
+use hub_test_parts::{bell, post};
+use std::alloc::{AllocError, Global};
 use std::marker::Brand;
 use std::sync::Wait;
 use std::sync::ledger::{Blank, Ledger};
@@ -36,6 +37,34 @@ pub(crate) fn open(alloc: Global, lines: u8) -> Option<(Taker, Poster)> {
     match try_open(alloc, lines) {
         Some(parts) => Some(parts),
         None => try_open(alloc, lines),
+    }
+}
+
+/// Whether a text that is posted over a line is accepted under this epoch and number. It is posted
+/// once more where there was no memory and its draft came back.
+pub(crate) fn accepts<R: Wait>(
+    rt: &R,
+    alloc: Global,
+    yard: &Depot<Onward>,
+    poster: &mut Poster,
+    text: &str,
+    name: (u32, u64),
+) -> bool {
+    let posting = match post(rt, alloc, yard, poster, text) {
+        Some(Err(PostError::OutOfMemory)) => post(rt, alloc, yard, poster, text),
+        posting => posting,
+    };
+    match posting {
+        Some(Ok((epoch, number))) => epoch == name.0 && number == name.1,
+        _ => false,
+    }
+}
+
+/// Whether each of the threads came to its end as it is to.
+pub(crate) fn are_all_so(ended: Result<Vec<bool>, AllocError>) -> bool {
+    match ended {
+        Ok(ended) => !ended.as_slice().contains(&false),
+        Err(_) => false,
     }
 }
 

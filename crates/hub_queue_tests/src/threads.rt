@@ -1,13 +1,10 @@
-ghost use Rattle.std.specs.Prelude.{◌≡◌};
-
+use crate::parts::{accepts, are_all_so, take};
 use hub_depot::Depot;
-use hub_envelope::{AgentId, EndId, Envelope};
-use hub_queue::{Mailbox, Onward, Poster, Steps, Taker, Took};
-use hub_test_parts::{bell, draft};
-use std::alloc::{AllocError, Global};
-use std::marker::Brand;
-use std::sync::Wait;
-use std::sync::ledger::{Blank, Ledger};
+use hub_envelope::{EndId, Envelope};
+use hub_queue::{Mailbox, Onward, Poster, Taker, Took};
+use hub_test_parts::bell;
+use std::alloc::Global;
+use std::sync::{Mutex, Wait};
 use std::thread;
 use std::thread::Threads;
 
@@ -15,31 +12,11 @@ const EACH: u64 = 1000;
 
 const LINES: u8 = 4;
 
-// Whether a draft was accepted under this number.
-fn post_one<R: Wait>(
-    rt: &R,
-    alloc: Global,
-    yard: &Depot<Onward>,
-    poster: &mut Poster,
-    number: u64,
-) -> bool {
-    let Some(draft) = draft(alloc, AgentId(0), "null") else {
-        return false;
-    };
-    match poster.post(rt, yard, draft) {
-        Ok(posted) => posted.number == number,
-        Err((_, back)) => {
-            drop(back);
-            false
-        }
-    }
-}
-
 // Posts so many drafts. Whether all were accepted, in order.
 fn post_all<R: Wait>(rt: &R, alloc: Global, yard: &Depot<Onward>, mut poster: Poster) -> bool {
     let mut in_order = true;
     for number in 0..EACH {
-        in_order = in_order && post_one(rt, alloc, yard, &mut poster, number);
+        in_order = in_order && accepts(rt, alloc, yard, &mut poster, "null", (0, number));
     }
     drop(poster);
     in_order
@@ -56,14 +33,14 @@ fn is_next(envelope: &Envelope, next: &mut [u64; 4]) -> bool {
 }
 
 // Takes what all lines post. Whether the numbers of each came in order, and nothing came after.
-fn take_all<L: Ledger, R: Wait>(rt: &R, taker: &mut Taker, steps: &mut Steps<L>) -> bool {
+fn take_all<R: Wait>(rt: &R, taker: &mut Taker) -> bool {
     let mut next = [0u64; 4];
     let mut left = EACH * LINES as u64;
     for _ in 0..10_000_000 {
         if left == 0 {
-            return matches!(taker.take(rt, steps), Took::Empty);
+            return matches!(take(rt, taker), Took::Empty);
         }
-        match taker.take(rt, steps) {
+        match take(rt, taker) {
             Took::Got(envelope) => {
                 if !is_next(&envelope, &mut next) {
                     return false;
@@ -77,30 +54,34 @@ fn take_all<L: Ledger, R: Wait>(rt: &R, taker: &mut Taker, steps: &mut Steps<L>)
     false
 }
 
-// A thread for each poster, and one that takes: what each of the posters came to, and whether what
-// was taken came in order.
-fn run<L: Ledger, R: Wait + Threads + Sync>(
+// One thread takes, and each other one posts over a line of its own. Whether all that was posted
+// was accepted and taken, in order.
+fn run<R: Wait + Threads + Sync>(
     rt: &R,
     alloc: Global,
-    taker: &mut Taker,
-    posters: Vec<Poster>,
-    blank: Blank,
-) -> (Result<Vec<bool>, AllocError>, bool)
-    requires { (blank.name ≡ L.name) × (blank.parts ≡ L.parts) × (L.parts ≡ 2) }
-{
+    taker: &Mutex<Taker>,
+    posters: &Mutex<Vec<Poster>>,
+) -> bool {
     let yard = Depot::new(alloc);
-    let mut steps = Steps::<L>::begin(blank);
-    thread::join(
+    let ended = thread::map_indices(
         rt,
-        || thread::map_vec(rt, posters, &|poster| post_all(rt, alloc, &yard, poster)),
-        || take_all(rt, taker, &mut steps),
-    )
+        alloc,
+        5,
+        &|index| {
+            if index == 0 {
+                return take_all(rt, &mut *taker.lock(rt));
+            }
+            let poster = posters.lock(rt).pop();
+            match poster {
+                Some(poster) => post_all(rt, alloc, &yard, poster),
+                None => false,
+            }
+        },
+    );
+    are_all_so(ended)
 }
 
-// Whether all that was posted was accepted and taken, in order.
-fn posts_and_takes<L: Ledger, R: Wait + Threads + Sync>(rt: &R, alloc: Global, blank: Blank) -> bool
-    requires { (blank.name ≡ L.name) × (blank.parts ≡ L.parts) × (L.parts ≡ 2) }
-{
+fn posts_and_takes<R: Wait + Threads + Sync>(rt: &R, alloc: Global) -> bool {
     let Some(bell) = bell(alloc) else {
         return false;
     };
@@ -108,15 +89,14 @@ fn posts_and_takes<L: Ledger, R: Wait + Threads + Sync>(rt: &R, alloc: Global, b
         return false;
     };
     taker.start();
-    let (accepted, in_order) = run::<L, R>(rt, alloc, &mut taker, posters, blank);
+    let (taker, posters) = (Mutex::new(taker), Mutex::new(posters));
+    let are_in_order = run(rt, alloc, &taker, &posters);
     drop(taker);
-    match accepted {
-        Ok(accepted) => in_order && accepted.as_slice() == [true; 4].as_slice(),
-        Err(_) => false,
-    }
+    drop(posters);
+    are_in_order
 }
 
 #[test]
 fn four_posters(rt: HostRuntime) {
-    assert!(rt; posts_and_takes::<Brand, _>(&rt, rt.alloc(), Blank::new(2)));
+    assert!(rt; posts_and_takes(&rt, rt.alloc()));
 }
