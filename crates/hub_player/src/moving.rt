@@ -43,8 +43,11 @@ impl Player {
                 answer(Outcome::Handed)
             }
             Err((stop, queue)) => {
-                hold(&mut self.agents, agent, queue);
-                Err(stop)
+                if hold(&mut self.agents, agent, queue) {
+                    Err(stop)
+                } else {
+                    Err(Stop::Unexpected)
+                }
             }
         }
     }

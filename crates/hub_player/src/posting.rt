@@ -49,20 +49,26 @@ impl Player {
         Ok(ports)
     }
 
-    /// The ports that have come back are in the agent's hands again.
+    /// The ports that have come back are in the agent's hands again. A loop that does not hold one
+    /// of them is what no step line shows.
     fn put_back(
         &mut self,
         agent: AgentId,
         ports: Vec<Port>,
         shown: Result<Shown, Stop>,
     ) -> Result<Shown, Stop> {
+        let mut are_held = true;
         for port in ports {
             if let Some(seat) = self.seat_mut(port.end()) {
                 seat.place = Place::Held;
             }
-            hold(&mut self.agents, agent, Held::Port(port));
+            are_held = hold(&mut self.agents, agent, Held::Port(port)) && are_held;
         }
-        shown
+        if are_held {
+            shown
+        } else {
+            Err(Stop::Unexpected)
+        }
     }
 
     /// The ports of a list, where it is one that a call takes. `None` where there are none such.
