@@ -26,7 +26,8 @@ impl Core {
         name: Text,
         memory_refused: bool,
     ) -> Result<Outcome, OutOfMemory>
-        ensures outcome { IfOk result (λ o. o ≡ member_answer (seen self.old) agent memory_refused) }
+        ensures outcome { IfOk result (λ o. o
+            ≡ member_answer (seen self.old) agent memory_refused) }
         ensures roster { IfOk result (λ o. MemberLeaves agent.0 name self.old.roster o
             self.new.roster) }
         ensures new { IfOk result (λ o. self.new ≡ record self.old {

@@ -102,8 +102,8 @@ enum After {
     Accepts,
 }
 
-// How often an end is adopted before a post, where that is held up, what is done meanwhile, what the
-// post comes to, and what is seen then.
+// How often an end is adopted before a post, where that is held up, what is done meanwhile, what
+// the post comes to, and what is seen then.
 #[derive(Clone, Copy)]
 struct Row {
     adoptions: u32,
