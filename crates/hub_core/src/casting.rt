@@ -39,9 +39,9 @@ impl Core {
         if !self.is_running(agent) || self.roster.cast.is_some() {
             return Ok(Outcome::NotNow);
         }
-        let Some(group) = self.roster.members.group_named(agent, name)? else {
+        if !self.roster.members.has_origin(agent) {
             return Ok(Outcome::NoOrigin);
-        };
+        }
         let number = self.ends.len();
         if number >= MAX_ENDS {
             return Ok(Outcome::TooManyEnds);
@@ -50,6 +50,10 @@ impl Core {
             return Ok(Outcome::NoMemory);
         }
         self.ends.reserve(1)?;
+        // Only a step that makes an end takes memory for its group.
+        let Some(group) = self.roster.members.group_named(agent, name)? else {
+            return Ok(Outcome::NoOrigin);
+        };
         let end = End::new(self.alloc, agent, Kind::Member(agent))?;
         self.roster.members.join(self.alloc, number as u32, group)?;
         self.ends.push(end).unwrap();

@@ -1,7 +1,7 @@
 //! Broadcast channels: what the core keeps of them, which are the members with their origins and
 //! names, and the cast that goes on.
 
-ghost use Rattle.std.specs.Prelude.{◌≡◌, ◌++◌, ◌∷◌, ◌<◌, [], None, slice_get, option_map};
+ghost use Rattle.std.specs.Prelude.{◌≡◌, ◌++◌, ◌∷◌, ◌<◌, [], None, slice_get, option_map, is_some};
 ghost use Rattle.std.specs.Prelude.{IfOk, OnOk, OnErr};
 ghost use Rattle.std.specs.BTreeMap.{get};
 ghost use Rattle.hub_core.specs.KeptRoster.{group_cmp, numbers_of, numbers_in, seated_with};
@@ -94,6 +94,13 @@ impl Members {
         let agents = &mut self.origins;
         agents.origins.push(origin)?;
         Ok(())
+    }
+
+    /// Whether an agent has an origin.
+    pub(crate) fn has_origin(&self, agent: AgentId) -> bool
+        ensures { result ≡ is_some (origin_at (slice_get self.now.origins agent.0)) }
+    {
+        self.origins.of(agent).is_some()
     }
 
     /// The group of the agent's channels of a name; `None` where the agent has no origin.
