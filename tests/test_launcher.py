@@ -52,6 +52,30 @@ Crate = collections.namedtuple("Crate", "name stamp")
 def crates_below(top):
     return [Crate(it.name, lambda it=it: "of-" + it.name) for it in pathlib.Path(top).iterdir()]
 """
+# The same with what builds a library of statements, by the sums that FAKE_RT has.
+FAKE_RTLIB_OF_STATEMENTS = """import os, pathlib, subprocess
+KIT_ID = pathlib.Path(__file__).resolve().parent.parent / "KIT-ID"
+def root_above(folder): return str(pathlib.Path(folder).parent.parent)
+def help_of(verb): return "--statements"
+def guarded(): return []
+def lock(crates): return crates
+class Crate:
+    cuts_libraries = False
+    def __init__(self, folder, root, known):
+        self.folder, self.name = pathlib.Path(folder), pathlib.Path(folder).name
+    def below(self): return []
+    def stamp(self):
+        words = ["sh", "-c", 'cat src/* "$0" | cksum', str(KIT_ID)]
+        return subprocess.run(words, cwd=self.folder, capture_output=True, text=True).stdout
+    def is_built(self): return False
+    def build_rlib(self, flags, anew):
+        assert (self.cuts_libraries, flags[0], anew) == (True, "--jobs", True)
+        (self.folder / "out" / "rlib" / f"{self.name}.rlib").mkdir(parents=True, exist_ok=True)
+        with open(os.environ["RT_WAS_ASKED"], "a") as asked:
+            print(f"{self.name} statements", file=asked)
+        print("logic=proved functions=1", flush=True)
+        return 0
+"""
 USAGE = b"usage: messagehub steps|run|check\n"
 
 
@@ -196,6 +220,24 @@ class Launcher(support.TestCase):
         self.build("--clear")
         self.assertEqual([it.parent.exists() for it in stamps], [False, True, True])
         self.says(4, "calls")
+
+    def test_first_build(self):
+        """Where nothing was built yet the libraries hold statements; from then on `rt lib` makes
+        them, which goes on from what it keeps."""
+        rtlib = self.kit / "bin" / "rtlib.py"
+        rtlib.write_text(FAKE_RTLIB_OF_STATEMENTS, encoding="utf-8")
+        self.launch("steps")
+        calls = self.calls()
+        by_statements = sorted(line.split()[0] for line in calls if line.endswith(" statements"))
+        self.assertEqual(by_statements, ["high", "low", "wide"])
+        proved = [line for line in calls if line.startswith("proved ")]
+        self.assertEqual(proved, ["proved messagehub"])
+        (self.root / "crates" / "low" / "src" / "lib.rt").write_text("// new\n", encoding="utf-8")
+        self.launch("steps")
+        calls = self.calls()
+        self.assertIn("low lib --jobs", " ".join(calls))
+        self.assertFalse([line for line in calls if line.endswith(" statements")])
+        self.says(2, "builds")
 
     def build(self, *words):
         found = outcome_of([self.root / "tools" / "build", *words], env=self.settings)
