@@ -1,8 +1,8 @@
 -- Broadcast channels: what their steps are answered, and the roster, agents and ends that they and the other steps leave.
 use Rattle.std.proofs.Common.{Bool, List, None, Option, Some, [], ap, append-nil, arith, cond, eqb, false, length, length-append, map, ne_eqb, not, refl, rules, subst, sym, true, ℕ, ◌&&◌, ◌++◌, ◌+◌, ◌<◌, ◌∙◌, ◌∷◌, ◌≡◌}
-use Rattle.hub_core.proofs.Words.{Action, AgentId, AllByRecursion, Answers, CastNow, Client, EndId, Facts, Group, IsFirst, IsMemberNow, JoinsGroup, Kind, Member, MemberLeaves, Outcome, PartLeaves, Port, Roster, RosterNow, SameRoster, ShowsRoster, Sound, SoundPlaces, Worker, agent_answer}
-use Rattle.hub_core.proofs.Words.{agents_after, destinations_of, ends, facts, false≢true, filter, get, group_named, group_of, has_end, insert_key, is_casting, is_in, is_of_group, is_same_group, is_seated_in, kind_after, leaves, nat_cmp, nat_tests, numbers, numbers_of, numbers_with, origin_at}
-use Rattle.hub_core.proofs.Words.{others_of, part_answer, parted, roster_after, seated_without, slice_get, ◌==◌, is_some, Agent, End, maker_of, holder, is_empty, cast_answer, destinations, CoreState, Members, seen, kept_destinations, cast_to, cast_answer_of, is_seated, part_answer_of}
+use Rattle.hub_core.proofs.Words.{Action, AgentId, AllByRecursion, Answers, CastNow, Client, EndId, Facts, Group, IsFirst, IsMemberNow, Kind, Member, MemberLeaves, Outcome, PartLeaves, Port, Roster, RosterNow, SameRoster, ShowsRoster, Sound, SoundPlaces, Worker, agent_answer, IsSomeAnd, Joins, unwrap_or, option_map}
+use Rattle.hub_core.proofs.Words.{agents_after, destinations_of, ends, facts, false≢true, filter, get, group_named, group_of, has_end, insert_key, is_casting, is_in, is_of_group, is_same_group, kind_after, leaves, nat_cmp, nat_tests, numbers, numbers_of, numbers_with}
+use Rattle.hub_core.proofs.Words.{others_of, part_answer, parted, roster_after, seated_without, slice_get, ◌==◌, is_some, Agent, End, maker_of, holder, is_empty, cast_answer, destinations, CoreState, Members, seen, kept_destinations, cast_to, is_seated}
 use Rattle.hub_core.specs.declared.step.Action.TheVariants as action
 use Rattle.hub_core.specs.declared.outcome.Outcome.TheVariants as outcome
 use Rattle.hub_core.proofs.SoundPlaces.{kind_next}
@@ -21,7 +21,7 @@ use Rattle.hub_core.proofs.Seeing.{SoundlyShows, with_roster, Sees, seen_is}
 pub roster_first : (r : Roster) → IsFirst r → ShowsRoster r (facts [])
 roster_first r h = record {
   agents = ap length h.origins;
-  origins = λ a. sym (ap (λ xs. origin_at (slice_get xs a)) h.origins);
+  origins = λ a. sym (ap (λ xs. unwrap_or (slice_get xs a) None) h.origins);
   groups = λ x a is. absurd (search (rules, is));
   seated = h.seated;
   each = tt;
@@ -105,7 +105,7 @@ roster_agent r f origin refused n h fits =
       agents = length-append r.members.origins (origin ∷ []) ∙ ap (λ m. m + 1) h.agents;
       origins = λ a.
           ap (λ b. cond b origin (f.roster.origin a)) (ap (eqb a) (number ∙ sym h.agents))
-          ∙ each_pushed (λ x b o. cond b origin (f.roster.origin x) ≡ origin_at o) r.members.origins origin h.origins refl a;
+          ∙ each_pushed (λ x b o. cond b origin (f.roster.origin x) ≡ unwrap_or o None) r.members.origins origin h.origins refl a;
       groups = h.groups;
       seated = h.seated;
       each = members_still f (next f (action.Agent origin) (outcome.Agent n)) (λ x k is. is) (λ x a is. refl) f.roster.members h.each;
@@ -147,7 +147,7 @@ eqb-flips : (a b : ℕ) → eqb a b ≡ eqb b a
 eqb-flips a b = grind (arith, nat_tests)
 
 module _ (r s : Roster) (f : Facts) (a : AgentId) (name : List ℕ) (refused : Bool) (e : EndId) (sound : Sound f) (h : ShowsRoster r f) (fits : Answers f (action.Member a name) refused (outcome.End e)) where
-  member_joins : (q : Option Group) → group_named (f.roster.origin a.0) name ≡ q → JoinsGroup e.0 q r.members s.members → s.cast ≡ r.cast → ShowsRoster s (next f (action.Member a name) (outcome.End e))
+  member_joins : (q : Option Group) → group_named (f.roster.origin a.0) name ≡ q → IsSomeAnd q (λ g. Joins e.0 g r.members s.members) → s.cast ≡ r.cast → ShowsRoster s (next f (action.Member a name) (outcome.End e))
   member_joins None named joins cast = absurd joins
   member_joins (Some k) named joins cast =
       let made = member_made_of f a refused e fits in
@@ -159,7 +159,7 @@ module _ (r s : Roster) (f : Facts) (a : AgentId) (name : List ℕ) (refused : B
       let here : after.roster.group e.0 ≡ Some k = ap (λ b. cond b (group_named (f.roster.origin a.0) name) (f.roster.group e.0)) (eqb_same e.0) ∙ named in
       record {
         agents = ap length joins.origins ∙ h.agents;
-        origins = λ b. h.origins b ∙ ap (λ xs. origin_at (slice_get xs b)) (sym joins.origins);
+        origins = λ b. h.origins b ∙ ap (λ xs. unwrap_or (slice_get xs b) None) (sym joins.origins);
         groups = λ x b is. elim (eqb x e.0) as (λ c. eqb x e.0 ≡ c → cond c (Some (Member a)) (f.end x).kind ≡ Some (Member b) → cond c (group_named (f.roster.origin a.0) name) (f.roster.group x) ≡ group_of s.members x) [
           | true ↦ λ same _. named ∙ sym (joins.groups x ∙ ap (λ c. cond c (Some k) (group_of r.members x)) (eqb-flips e.0 x ∙ same))
           | false ↦ λ other kind. h.groups x b kind ∙ sym (joins.groups x ∙ ap (λ c. cond c (Some k) (group_of r.members x)) (eqb-flips e.0 x ∙ other))
@@ -177,31 +177,35 @@ module _ (r s : Roster) (f : Facts) (a : AgentId) (name : List ℕ) (refused : B
 
 pub roster_member : (r s : Roster) (f : Facts) (a : AgentId) (name : List ℕ) (refused : Bool) (e : EndId) → Sound f → ShowsRoster r f → Answers f (action.Member a name) refused (outcome.End e) → MemberLeaves a.0 name r (outcome.End e) s → ShowsRoster s (next f (action.Member a name) (outcome.End e))
 roster_member r s f a name refused e sound h fits leaves =
-    member_joins r s f a name refused e sound h fits (group_named (origin_at (slice_get r.members.origins a.0)) name) (ap (λ q. group_named q name) (h.origins a.0)) leaves.0 leaves.1
+    member_joins r s f a name refused e sound h fits (group_named (unwrap_or (slice_get r.members.origins a.0) None) name) (ap (λ q. group_named q name) (h.origins a.0)) leaves.0 leaves.1
 
 -- ---- who has a seat
 
+-- whether a member of a group that is found has its seat
+abbrev seated_in : Members → ℕ → Option Group → Bool
+seated_in m n found = unwrap_or (option_map (λ g. is_in n (numbers_of m g)) found) false
+
 -- whether a member has its seat is what the facts say
-pub seated_kept : (r : Roster) (f : Facts) (x : ℕ) → ShowsRoster r f → is_seated_in r.members x (group_of r.members x) ≡ has_end x f.roster.members
-seated_kept r f x h = elim (has_end x f.roster.members) as (λ b. has_end x f.roster.members ≡ b → is_seated_in r.members x (group_of r.members x) ≡ b) [
+pub seated_kept : (r : Roster) (f : Facts) (x : ℕ) → ShowsRoster r f → seated_in r.members x (group_of r.members x) ≡ has_end x f.roster.members
+seated_kept r f x h = elim (has_end x f.roster.members) as (λ b. has_end x f.roster.members ≡ b → seated_in r.members x (group_of r.members x) ≡ b) [
   | true ↦ λ there.
       let at = all_at (IsMemberNow f) x f.roster.members h.each there in
-      ap (is_seated_in r.members x) (sym (h.groups x at.maker at.kind) ∙ at.is) ∙ ap (is_in x) (h.seated at.group) ∙ is_in_with f.roster at.group x f.roster.members
+      ap (seated_in r.members x) (sym (h.groups x at.maker at.kind) ∙ at.is) ∙ ap (is_in x) (h.seated at.group) ∙ is_in_with f.roster at.group x f.roster.members
       ∙ ap (λ c. c && is_of_group at.group (f.roster.group x)) there ∙ ap (is_of_group at.group) at.is ∙ group_same at.group
   | false ↦ λ none. never_seated none (group_of r.members x)
 ] refl
   where
-    never_seated : has_end x f.roster.members ≡ false → (o : Option Group) → is_seated_in r.members x o ≡ false
+    never_seated : has_end x f.roster.members ≡ false → (o : Option Group) → seated_in r.members x o ≡ false
     never_seated none None = refl
     never_seated none (Some g) = ap (is_in x) (h.seated g) ∙ is_in_with f.roster g x f.roster.members ∙ ap (λ c. c && is_of_group g (f.roster.group x)) none
 
-pub destinations_by : (r : Roster) (f : Facts) (x : ℕ) → ShowsRoster r f → (o : Option Group) → map (λ n. let e : EndId = record { 0 = n } in e) (others_of r.members x o) ≡ destinations_of f x o
+pub destinations_by : (r : Roster) (f : Facts) (x : ℕ) → ShowsRoster r f → (o : Option Group) → map (λ n. let e : EndId = record { 0 = n } in e) (unwrap_or (option_map (others_of r.members x) o) []) ≡ unwrap_or (option_map (destinations_of f x) o) []
 destinations_by r f x h None = refl
 destinations_by r f x h (Some g) = ap (λ ns. map (λ n. let e : EndId = record { 0 = n } in e) (filter (λ n. not (n == x)) ns)) (h.seated g) ∙ others_with f.roster g x f.roster.members
 
 -- ---- a member less
 
-pub roster_part : (r s : Roster) (f : Facts) (e : EndId) → ShowsRoster r f → outcome.Done ≡ part_answer f e → PartLeaves e.0 r outcome.Done s → ShowsRoster s (next f (action.Part e) outcome.Done)
+pub roster_part : (r s : Roster) (f : Facts) (e : EndId) → ShowsRoster r f → outcome.Done ≡ part_answer (has_end e.0 f.roster.members) f → PartLeaves e.0 r outcome.Done s → ShowsRoster s (next f (action.Part e) outcome.Done)
 roster_part r s f e h fits leaves =
     let there : has_end e.0 f.roster.members ≡ true = (both_tests (has_end e.0 f.roster.members) (is_casting f) (hit (has_end e.0 f.roster.members && not (is_casting f)) fits (λ is. cc)).0).0 in
     let at = all_at (IsMemberNow f) e.0 f.roster.members h.each there in
@@ -209,7 +213,7 @@ roster_part r s f e h fits leaves =
     let group : group_of r.members e.0 ≡ Some at.group = sym (h.groups e.0 at.maker at.kind) ∙ at.is in
     record {
       agents = ap length leaves.0.origins ∙ h.agents;
-      origins = λ b. h.origins b ∙ ap (λ xs. origin_at (slice_get xs b)) (sym leaves.0.origins);
+      origins = λ b. h.origins b ∙ ap (λ xs. unwrap_or (slice_get xs b) None) (sym leaves.0.origins);
       groups = λ x a is. h.groups x a is ∙ ap (λ m. get nat_cmp m x) (sym leaves.0.groups);
       seated = λ k.
           leaves.0.seated k ∙ ap (λ q. parted e.0 q k (numbers_of r.members k)) group ∙ ap (λ ns. cond (is_same_group at.group k) (seated_without e.0 ns) ns) (h.seated k)
@@ -232,15 +236,15 @@ cast_tests : (made casting seated held none : Bool) (ds es : List EndId) → (ma
 cast_tests true casting seated held none ds es same = ap (cast_by true casting seated held none) (same refl)
 cast_tests false casting seated held none ds es same = refl
 
-pub cast_fits : {c : CoreState} {f : Facts} (e : EndId) (ports : List EndId) → Sees c f → (let m : Members = c.roster.members in cast_answer_of (is_seated m e.0) (kept_destinations m e.0) (seen c) e ports ≡ cast_answer f e ports)
+pub cast_fits : {c : CoreState} {f : Facts} (e : EndId) (ports : List EndId) → Sees c f → (let m : Members = c.roster.members in cast_answer (is_seated m e.0) (kept_destinations m e.0) (seen c) e ports ≡ cast_answer (has_end e.0 f.roster.members) (destinations f e.0) f e ports)
 cast_fits {c} {f} e ports h =
     let m : Members = c.roster.members in
-    ap (λ g. cast_answer_of (is_seated m e.0) (kept_destinations m e.0) g e ports) (seen_is h)
-    ∙ ap (λ b. cast_answer_of b (kept_destinations m e.0) f e ports) (seated_kept c.roster f e.0 h.roster)
+    ap (λ g. cast_answer (is_seated m e.0) (kept_destinations m e.0) g e ports) (seen_is h)
+    ∙ ap (λ b. cast_answer b (kept_destinations m e.0) f e ports) (seated_kept c.roster f e.0 h.roster)
     ∙ cast_tests (is_some (maker_of (f.end e.0).kind)) (is_casting f) (has_end e.0 f.roster.members && not (f.end e.0).closed) (is_some (holder f e.0)) (is_empty ports) (kept_destinations m e.0) (destinations f e.0)
-    (λ made. let by = made_by (f.end e.0).kind made in (destinations_by c.roster f e.0 h.roster (group_of m e.0) ∙ ap (destinations_of f e.0) (sym (h.roster.groups e.0 by.0 by.1))))
+    (λ made. let by = made_by (f.end e.0).kind made in (destinations_by c.roster f e.0 h.roster (group_of m e.0) ∙ ap (λ o. unwrap_or (option_map (destinations_of f e.0) o) []) (sym (h.roster.groups e.0 by.0 by.1))))
 
-pub cast_changes : {c : CoreState} {f : Facts} (e : EndId) (ports : List EndId) (body : List ℕ) (refused : Bool) {o : Outcome} → Sees c f → o ≡ cast_answer f e ports → Change (action.Cast e ports body) o → ShownWith c f (action.Cast e ports body) refused o
+pub cast_changes : {c : CoreState} {f : Facts} (e : EndId) (ports : List EndId) (body : List ℕ) (refused : Bool) {o : Outcome} → Sees c f → o ≡ cast_answer (has_end e.0 f.roster.members) (destinations f e.0) f e ports → Change (action.Cast e ports body) o → ShownWith c f (action.Cast e ports body) refused o
 cast_changes {c} {f} e ports body refused h answer (cast_begun d ps b ends) = (
   record { fits = answer; shows = with_roster (next f (action.Cast e ports body) (outcome.Destinations ends)).roster h.shows.shown },
   recast c.roster (cast_to e body ends) f (next f (action.Cast e ports body) (outcome.Destinations ends)) h.roster refl (λ x k is. is) (λ x a is. is) refl refl,
@@ -248,14 +252,14 @@ cast_changes {c} {f} e ports body refused h answer (cast_begun d ps b ends) = (
 
 -- ---- Part
 
-pub part_answered : {c : CoreState} {f : Facts} (e : EndId) → Sees c f → part_answer_of (is_seated c.roster.members e.0) (seen c) ≡ part_answer f e
-part_answered {c} {f} e h = ap (part_answer_of (is_seated c.roster.members e.0)) (seen_is h) ∙ ap (λ b. part_answer_of b f) (seated_kept c.roster f e.0 h.roster)
+pub part_answered : {c : CoreState} {f : Facts} (e : EndId) → Sees c f → part_answer (is_seated c.roster.members e.0) (seen c) ≡ part_answer (has_end e.0 f.roster.members) f
+part_answered {c} {f} e h = ap (part_answer (is_seated c.roster.members e.0)) (seen_is h) ∙ ap (λ b. part_answer b f) (seated_kept c.roster f e.0 h.roster)
 
-pub part_shown : {agents : List Agent} {ends : List End} {f : Facts} (e : EndId) (refused : Bool) → SoundlyShows agents ends f → outcome.Done ≡ part_answer f e → Stepped agents ends f (action.Part e) refused outcome.Done
+pub part_shown : {agents : List Agent} {ends : List End} {f : Facts} (e : EndId) (refused : Bool) → SoundlyShows agents ends f → outcome.Done ≡ part_answer (has_end e.0 f.roster.members) f → Stepped agents ends f (action.Part e) refused outcome.Done
 part_shown {f} e refused h answer = record { fits = answer; shows = with_roster (next f (action.Part e) outcome.Done).roster h.shown }
 
 -- a cast that passes each test goes to the destinations
-pub cast_goes : (f : Facts) (e : EndId) (ports ds : List EndId) (seated : Bool) → is_some (maker_of (f.end e.0).kind) ≡ true → is_casting f ≡ false → seated ≡ true → (f.end e.0).closed ≡ false → is_some (holder f e.0) ≡ true → is_empty ports ≡ true → outcome.Destinations ds ≡ cast_answer_of seated ds f e ports
+pub cast_goes : (f : Facts) (e : EndId) (ports ds : List EndId) (seated : Bool) → is_some (maker_of (f.end e.0).kind) ≡ true → is_casting f ≡ false → seated ≡ true → (f.end e.0).closed ≡ false → is_some (holder f e.0) ≡ true → is_empty ports ≡ true → outcome.Destinations ds ≡ cast_answer seated ds f e ports
 cast_goes f e ports ds seated made casting seat opened held none = rw (made, casting, seat, opened, held, none) refl
 
 pub none_listed : (ports : List EndId) → eqb (length ports) 0 ≡ true → is_empty ports ≡ true

@@ -1,10 +1,10 @@
 -- What the core answers to Look, Sweep and Take fits, and it shows the facts with the answered step.
 use Rattle.std.proofs.Common.{Bool, List, None, Option, Some, [], ap, append-nil, append_assoc, arith, cond, drop, eqb, false, get_or, leb-false, leb-true, length, length-set, lt-ltb, ltb-false, ltb-true, nat_le, nat_lt, ne_eqb, not, refl, rules, set, subst, suc, sym, true, zero, ℕ, ◌&&◌, ◌++◌, ◌+◌}
 use Rattle.std.proofs.Common.{◌-◌, ◌<◌, ◌||◌, ◌∙◌, ◌∷◌, ◌≡◌, ◌≤◌, ⊎_elim}
-use Rattle.hub_core.proofs.Words.{Agent, AgentId, AllByRecursion, Arrived, CoreState, End, EndId, EndNow, Envelope, Facts, FitsSweep, FitsTake, InFlight, Inside, IsAllWaiting, IsDrained, IsLeft, IsNext, IsOfEnd, KeepsQueues, Line, LineNow, MatchBool, Outcome, Rises, Serves, ShowsEnd, Sound, Swept}
-use Rattle.hub_core.proofs.Words.{TakeServes, With, advanced_end, all_from, all_settled, and_parts, any_below, append_cancel_left, arrived, arrived_ends, by, change_end, changed_ends, eqb-true, false_from_ne_true, false≢true, filter-append, first_failing, front_taken, holder}
-use Rattle.hub_core.proofs.Words.{in_queue, is_anyone_at, is_anyone_from, is_away_at, is_named, is_out, is_settled, is_some, is_with, joined, kept_looked, kept_settled, le-leb, le-ltb, line_now, lines_of, list_any, look_answer, look_answer_of, lookable}
-use Rattle.hub_core.proofs.Words.{looked, moved_ends, names, nat_tests, no_end, option_map, ports_of, running_at, seen, slice_get, slice_get_within, someone_at, start_answer, sweep_outcome_at, with_taker_queue, cases_eq, cases_lt, FitsTakeOf, ServesAt, found_at, kept_lines, option_and_then, get_or-set_other, get_or-set_same, list_any-append, or-true, or_assoc}
+use Rattle.hub_core.proofs.Words.{Agent, AgentId, AllByRecursion, Arrived, CoreState, End, EndId, EndNow, Envelope, Facts, FitsSweep, FitsTake, InFlight, Inside, IsAllWaiting, IsDrained, IsLeft, IsNext, IsOfEnd, KeepsQueues, Line, LineNow, MatchBool, Outcome, Rises, Serves, ShowsEnd, Sound, Swept, with_agent, running, change_at, set_at}
+use Rattle.hub_core.proofs.Words.{TakeServes, With, advanced_end, all_settled, and_parts, any_below, append_cancel_left, arrived, arrived_ends, by, eqb-true, false_from_ne_true, false≢true, filter-append, first_failing, front_taken, holder}
+use Rattle.hub_core.proofs.Words.{in_queue, is_anyone_at, is_anyone_from, is_away_at, is_named, is_out, is_settled, is_some, is_with, joined, kept_looked, kept_settled, le-leb, le-ltb, line_now, lines_of, list_any, look_answer, lookable}
+use Rattle.hub_core.proofs.Words.{looked, moved_ends, names, nat_tests, no_end, option_map, ports_of, seen, slice_get, slice_get_within, someone_at, start_answer, sweep_outcome_at, cases_eq, cases_lt, FitsTake, ServesAt, found_at, kept_lines, option_and_then, get_or-set_other, get_or-set_same, list_any-append, or-true, or_assoc}
 use Rattle.hub_core.specs.declared.outcome.Outcome.TheVariants as outcome
 use Rattle.hub_core.specs.declared.step.Action.TheVariants as action
 use Rattle.hub_core.proofs.Counts.{calm_landed, counted_ports, counts_of, counts_still}
@@ -139,7 +139,7 @@ left_by f e x h shown opened empty false settled is found =
     at_test (Serves f e) settled outcome.Again outcome.Busy (λ is. (left, same ∙ is)) (λ is. (left, same ∙ is))
 
 -- every end, with the taker of one further
-pub went_on_shown : {agents : List Agent} {ends : List End} {f : Facts} (e : EndId) (refused : Bool) (x : End) → SoundlyShows agents ends f → slice_get ends e.0 ≡ Some x → (f.end e.0).closed ≡ false → get_or x.queues 0 [] ≡ [] → (f.end e.0).taker_stand < (f.end e.0).newest → FitsTake f e outcome.Again → Stepped agents (set ends e.0 (advanced_end x)) f (action.Take e) refused outcome.Again
+pub went_on_shown : {agents : List Agent} {ends : List End} {f : Facts} (e : EndId) (refused : Bool) (x : End) → SoundlyShows agents ends f → slice_get ends e.0 ≡ Some x → (f.end e.0).closed ≡ false → get_or x.queues 0 [] ≡ [] → (f.end e.0).taker_stand < (f.end e.0).newest → FitsTake (Serves f e) f e outcome.Again → Stepped agents (set ends e.0 (advanced_end x)) f (action.Take e) refused outcome.Again
 went_on_shown {ends} {f} e refused x h at opened empty retired fits =
     let shown = end_there e.0 h at in
     let low : x.taker < x.newest = subst (λ (y : EndNow). y.taker_stand < y.newest) shown.same retired in
@@ -188,7 +188,7 @@ found_kept f e x h None = refl
 found_kept f e x h (Some k) = ap (λ b. cond b outcome.Busy (outcome.Clear (Some k))) (someone_kept f e k x h)
 
 -- an end that isn't there isn't looked at
-look_none : (f : Facts) (e : EndId) (o : Outcome) → f.end e.0 ≡ no_end → look_answer_of o f e ≡ outcome.NotNow
+look_none : (f : Facts) (e : EndId) (o : Outcome) → f.end e.0 ≡ no_end → look_answer o f e ≡ outcome.NotNow
 look_none f e o none = ap (λ (y : EndNow). cond (y.closed || nat_lt y.taker_stand y.newest) o outcome.NotNow) none
 
 -- ---- a queue that became clear
@@ -207,7 +207,7 @@ cleared_queues {clear = clear} {x = x} h = record {
   each = h.each;
 }
 
-cleared_shown : {agents : List Agent} {ends : List End} {f : Facts} (e : EndId) (refused : Bool) (x : End) → SoundlyShows agents ends f → slice_get ends e.0 ≡ Some x → outcome.Clear (Some x.looked) ≡ look_answer f e → Stepped agents (set ends e.0 (record x { looked = x.looked + 1 })) f (action.Look e) refused (outcome.Clear (Some x.looked))
+cleared_shown : {agents : List Agent} {ends : List End} {f : Facts} (e : EndId) (refused : Bool) (x : End) → SoundlyShows agents ends f → slice_get ends e.0 ≡ Some x → outcome.Clear (Some x.looked) ≡ look_answer (found_at (someone_at f e.0) (looked f e.0)) f e → Stepped agents (set ends e.0 (record x { looked = x.looked + 1 })) f (action.Look e) refused (outcome.Clear (Some x.looked))
 cleared_shown {ends} {f} e refused x h at answer =
     let y : End = record x { looked = x.looked + 1 } in
     let shown = end_there e.0 h at in
@@ -217,24 +217,24 @@ cleared_shown {ends} {f} e refused x h at answer =
 
 -- ---- Look
 
-pub look_fits : {c : CoreState} {f : Facts} (e : EndId) → Sees c f → (let o : Option End = slice_get c.ends e.0 in look_answer_of (found_at (λ k. is_anyone_at k (kept_lines o)) (option_and_then kept_looked o)) (seen c) e ≡ look_answer f e)
-look_fits {c} {f} e h = let o : Option End = slice_get c.ends e.0 in ap (λ g. look_answer_of (found_at (λ k. is_anyone_at k (kept_lines o)) (option_and_then kept_looked o)) g e) (seen_is h) ∙ at o (h.shows.end e.0)
+pub look_fits : {c : CoreState} {f : Facts} (e : EndId) → Sees c f → (let o : Option End = slice_get c.ends e.0 in look_answer (found_at (λ k. is_anyone_at k (kept_lines o)) (option_and_then kept_looked o)) (seen c) e ≡ look_answer (found_at (someone_at f e.0) (looked f e.0)) f e)
+look_fits {c} {f} e h = let o : Option End = slice_get c.ends e.0 in ap (λ g. look_answer (found_at (λ k. is_anyone_at k (kept_lines o)) (option_and_then kept_looked o)) g e) (seen_is h) ∙ at o (h.shows.end e.0)
   where
-    at : (o : Option End) → ShownAt f e.0 o → look_answer_of (found_at (λ k. is_anyone_at k (kept_lines o)) (option_and_then kept_looked o)) f e ≡ look_answer f e
+    at : (o : Option End) → ShownAt f e.0 o → look_answer (found_at (λ k. is_anyone_at k (kept_lines o)) (option_and_then kept_looked o)) f e ≡ look_answer (found_at (someone_at f e.0) (looked f e.0)) f e
     at None shown = look_none f e _ shown.same ∙ sym (look_none f e _ shown.same)
-    at (Some x) shown = ap (λ w. look_answer_of w f e) (found_kept f e.0 x shown (kept_looked x) ∙ ap (found_at (someone_at f e.0)) (sym (looked_kept f e.0 x shown (h.shows.sound.lines e.0).taker_stand)))
+    at (Some x) shown = ap (λ w. look_answer w f e) (found_kept f e.0 x shown (kept_looked x) ∙ ap (found_at (someone_at f e.0)) (sym (looked_kept f e.0 x shown (h.shows.sound.lines e.0).taker_stand)))
 
 look_found : (n k : ℕ) (b : Bool) → cond b (Some n) None ≡ Some k → k ≡ n
 look_found n k true is = cc
 look_found n k false is = cc
 
-pub look_changes : {c : CoreState} {f : Facts} (e : EndId) (refused : Bool) {o : Outcome} → Sees c f → o ≡ look_answer f e → Change (action.Look e) o → ShownAfter c f (action.Look e) refused o
+pub look_changes : {c : CoreState} {f : Facts} (e : EndId) (refused : Bool) {o : Outcome} → Sees c f → o ≡ look_answer (found_at (someone_at f e.0) (looked f e.0)) f e → Change (action.Look e) o → ShownAfter c f (action.Look e) refused o
 look_changes {c} {f} e refused h answer (cleared d k) =
     let found = found_end e.0 h.shows (λ none. let is : outcome.Clear (Some k) ≡ outcome.NotNow = answer ∙ look_none f e _ none in cc) in
     let x : End = found.0 in
     let number : k ≡ x.looked = look_found x.looked k (nat_lt x.looked x.newest || (x.is_closed && eqb x.looked x.newest)) (sym (looked_kept f e.0 x (end_there e.0 h.shows found.1) (h.shows.sound.lines e.0).taker_stand) ∙ (cleared_of f e k answer).is_looked) in (
-      subst (λ n. Stepped c.agents (changed_ends (λ y. record y { looked = y.looked + 1 }) e.0 c.ends (slice_get c.ends e.0)) f (action.Look e) refused (outcome.Clear (Some n))) (sym number)
-          (subst (λ q. Stepped c.agents (changed_ends (λ y. record y { looked = y.looked + 1 }) e.0 c.ends q) f (action.Look e) refused (outcome.Clear (Some x.looked))) (sym found.1)
+      subst (λ n. Stepped c.agents (set_at e.0 c.ends (option_map (λ (y : End). record y { looked = y.looked + 1 }) (slice_get c.ends e.0))) f (action.Look e) refused (outcome.Clear (Some n))) (sym number)
+          (subst (λ q. Stepped c.agents (set_at e.0 c.ends (option_map (λ (y : End). record y { looked = y.looked + 1 }) q)) f (action.Look e) refused (outcome.Clear (Some x.looked))) (sym found.1)
           (cleared_shown e refused x h.shows found.1 (ap (λ n. outcome.Clear (Some n)) (sym number) ∙ answer))),
       refl,
     )
@@ -264,7 +264,7 @@ rises_by l (v ∷ vs) h = at_test Rises (eqb v.line.0 l) (v ∷ by l vs) (by l v
 abbrev away_from : ℕ → LineNow → Bool
 away_from k y = not (is_out y.phase) && nat_le k y.stand
 
-each_all : (test : ℕ → Bool) (k n : ℕ) → ((i : ℕ) → k ≤ i → i < k + n → test i ≡ true) → all_from test k n ≡ true
+each_all : (test : ℕ → Bool) (k n : ℕ) → ((i : ℕ) → k ≤ i → i < k + n → test i ≡ true) → not (is_some (first_failing test k n)) ≡ true
 each_all test k zero h = refl
 each_all test k (suc n) h = rw (h k (omega arith) (omega arith)) (each_all test (k + 1) n (λ i from below. h i (omega (arith, from)) (omega (arith, below))))
 
@@ -431,8 +431,8 @@ sweep_changes {c} {f} e refused h says fits (end_swept d vs) =
     let shown = end_there e.0 h.shows found.1 in
     let last : outcome.Discarded vs ≡ outcome.Discarded (joined x.queues) = (miss (is_anyone_from x.looked x.lines) (pass x.is_closed (says ∙ ap sweep_outcome_at found.1) (λ is. cc)).1 (λ is. cc)).1 in
     let all : vs ≡ joined x.queues = cc in (
-      subst (λ us. Stepped c.agents (moved_ends (ports_of us) Swept (changed_ends (λ y. record y { queues = [] }) e.0 c.ends (slice_get c.ends e.0))) f (action.Sweep e) refused (outcome.Discarded us)) (sym all)
-          (subst (λ q. Stepped c.agents (moved_ends (ports_of (joined x.queues)) Swept (changed_ends (λ y. record y { queues = [] }) e.0 c.ends q)) f (action.Sweep e) refused (outcome.Discarded (joined x.queues))) (sym found.1)
+      subst (λ us. Stepped c.agents (moved_ends (ports_of us) Swept (set_at e.0 c.ends (option_map (λ (y : End). record y { queues = [] }) (slice_get c.ends e.0)))) f (action.Sweep e) refused (outcome.Discarded us)) (sym all)
+          (subst (λ q. Stepped c.agents (moved_ends (ports_of (joined x.queues)) Swept (set_at e.0 c.ends (option_map (λ (y : End). record y { queues = [] }) q))) f (action.Sweep e) refused (outcome.Discarded (joined x.queues))) (sym found.1)
           (swept_shown e refused x h.shows found.1 (sym (ap (λ (z : EndNow). z.closed) shown.same) ∙ swept.is_closed) swept.settled (subst (λ us. FitsSweep f e (outcome.Discarded us)) all fits))),
       refl,
     )
@@ -451,8 +451,8 @@ started_shown {ends} {f} e refused x h at answer =
 
 pub start_changes : {c : CoreState} {f : Facts} (e : EndId) (refused : Bool) {o : Outcome} → Sees c f → o ≡ start_answer f e → Change (action.Start e) o → ShownAfter c f (action.Start e) refused o
 start_changes {c} {f} e refused h answer (started d) =
-    let found = found_end e.0 h.shows (λ none. false≢true (sym (ap (λ (z : EndNow). is_some (running_at (λ a. (f.agent a).runs) z.place)) none) ∙ (started_of f e answer).1)) in
-    (subst (λ q. Stepped c.agents (changed_ends (λ x. record x { is_enabled = true }) e.0 c.ends q) f (action.Start e) refused outcome.Started) (sym found.1) (started_shown e refused found.0 h.shows found.1 answer), refl)
+    let found = found_end e.0 h.shows (λ none. false≢true (sym (ap (λ (z : EndNow). is_some (running f.agent (with_agent z.place))) none) ∙ (started_of f e answer).1)) in
+    (subst (λ q. Stepped c.agents (set_at e.0 c.ends (option_map (λ (x : End). record x { is_enabled = true }) q)) f (action.Start e) refused outcome.Started) (sym found.1) (started_shown e refused found.0 h.shows found.1 answer), refl)
 
 -- ---- Take
 
@@ -496,6 +496,10 @@ each_taken taker vs ts queues v rest epoch front each (suc i) =
     ∙ ap (λ us. us ++ get_or queues (suc i) []) (sym (queue_other (taker + suc i) ts v (λ is. omega arith)))
     ∙ ap (λ q. in_queue (taker + suc i) (ts ++ v ∷ []) ++ q) (sym (get_or-set_other queues 0 (suc i) rest [] (λ is. omega arith)))
 
+-- the end with another content of the taker's queue
+abbrev with_taker_queue : End → List Envelope → End
+with_taker_queue x rest = record x { queues = set x.queues 0 rest }
+
 -- the end whose front was taken
 taken_end : (f : Facts) (e : EndId) (x : End) (v : Envelope) (rest : List Envelope) → Sound f → f.discarded e.0 ≡ [] → ShownAt f e.0 (Some x) → get_or x.queues 0 [] ≡ v ∷ rest → ShowsEnd (f.end e.0) (f.line e.0) (f.clear e.0) (f.accepted e.0) (f.taken e.0 ++ v ∷ []) (Some (with_taker_queue x rest))
 taken_end f e x v rest s none h front =
@@ -511,7 +515,7 @@ taken_end f e x v rest s none h front =
     })
 
 -- every end, with the envelope taken and its ports arrived
-got_shown : {agents : List Agent} {ends new : List End} {f : Facts} (e : EndId) (refused : Bool) (x : End) (a : AgentId) (v : Envelope) (rest : List Envelope) → SoundlyShows agents ends f → slice_get ends e.0 ≡ Some x → (f.end e.0).place ≡ Some (With a) → (f.end e.0).closed ≡ false → FitsTake f e (outcome.Got v) → get_or x.queues 0 [] ≡ v ∷ rest → IsNext f e v → new ≡ moved_ends v.ports (Arrived a) (set ends e.0 (with_taker_queue x rest)) → Stepped agents new f (action.Take e) refused (outcome.Got v)
+got_shown : {agents : List Agent} {ends new : List End} {f : Facts} (e : EndId) (refused : Bool) (x : End) (a : AgentId) (v : Envelope) (rest : List Envelope) → SoundlyShows agents ends f → slice_get ends e.0 ≡ Some x → (f.end e.0).place ≡ Some (With a) → (f.end e.0).closed ≡ false → FitsTake (Serves f e) f e (outcome.Got v) → get_or x.queues 0 [] ≡ v ∷ rest → IsNext f e v → new ≡ moved_ends v.ports (Arrived a) (set ends e.0 (with_taker_queue x rest)) → Stepped agents new f (action.Take e) refused (outcome.Got v)
 got_shown {ends} {new} {f} e refused x a v rest h at has opened fits front n leaves =
     let base : List End = set ends e.0 (with_taker_queue x rest) in
     let moves : Moves v.ports (Arrived a) base new = moves_to v.ports (Arrived a) base new leaves in
@@ -542,7 +546,7 @@ take_served f e x h shown opened o served = subst (Serves f e) (sym served.1) (l
 
 -- nobody has an end that isn't there
 unheld : (f : Facts) (e : EndId) → f.end e.0 ≡ no_end → is_some (holder f e.0) ≡ true → ⊥
-unheld f e none held = false≢true (sym (ap (λ (y : EndNow). is_some (running_at (λ a. (f.agent a).runs) y.place)) none) ∙ held)
+unheld f e none held = false≢true (sym (ap (λ (y : EndNow). is_some (running f.agent (with_agent y.place))) none) ∙ held)
 
 -- what is served where a running agent has the end
 served_at : (f : Facts) (e : EndId) (o : Outcome) → Sound f → (q : Option End) → ShownAt f e.0 q → (f.end e.0).closed ≡ false → is_some (holder f e.0) ≡ true → ServesAt q o → Serves f e o
@@ -556,34 +560,34 @@ match_to false true false o P Q to h = h
 match_to false false enabled o P Q to h = h
 
 -- the same of what the core keeps
-take_seen : {c : CoreState} {f : Facts} (e : EndId) (o : Outcome) → Sees c f → (let P : Outcome → Type 0 = ServesAt (slice_get c.ends e.0) in FitsTakeOf P (seen c) e o → FitsTakeOf P f e o)
-take_seen {c} {f} e o h t = subst (λ g. FitsTakeOf (ServesAt (slice_get c.ends e.0)) g e o) (seen_is h) t
+take_seen : {c : CoreState} {f : Facts} (e : EndId) (o : Outcome) → Sees c f → (let P : Outcome → Type 0 = ServesAt (slice_get c.ends e.0) in FitsTake P (seen c) e o → FitsTake P f e o)
+take_seen {c} {f} e o h t = subst (λ g. FitsTake (ServesAt (slice_get c.ends e.0)) g e o) (seen_is h) t
 
-pub take_fits : {c : CoreState} {f : Facts} (e : EndId) (o : Outcome) → Sees c f → FitsTakeOf (ServesAt (slice_get c.ends e.0)) (seen c) e o → FitsTake f e o
+pub take_fits : {c : CoreState} {f : Facts} (e : EndId) (o : Outcome) → Sees c f → FitsTake (ServesAt (slice_get c.ends e.0)) (seen c) e o → FitsTake (Serves f e) f e o
 take_fits {c} {f} e o h t = match_to (f.end e.0).closed (is_some (holder f e.0)) (f.end e.0).enabled o _ _ (λ opened held. served_at f e o h.shows.sound (slice_get c.ends e.0) (h.shows.end e.0) opened held) (take_seen e o h t)
 
 -- what was served at an end that is there
-serves_there : {c : CoreState} {f : Facts} (e : EndId) (o : Outcome) → (o ≡ outcome.NotNow → ⊥) → (o ≡ outcome.Closed → ⊥) → (o ≡ outcome.Disabled → ⊥) → Sees c f → FitsTakeOf (ServesAt (slice_get c.ends e.0)) (seen c) e o → (x : End) × (slice_get c.ends e.0 ≡ Some x) × TakeServes x o
+serves_there : {c : CoreState} {f : Facts} (e : EndId) (o : Outcome) → (o ≡ outcome.NotNow → ⊥) → (o ≡ outcome.Closed → ⊥) → (o ≡ outcome.Disabled → ⊥) → Sees c f → FitsTake (ServesAt (slice_get c.ends e.0)) (seen c) e o → (x : End) × (slice_get c.ends e.0 ≡ Some x) × TakeServes x o
 serves_there {c} {f} e o n k d h t =
     let r = served_when (f.end e.0).closed (is_some (holder f e.0)) (f.end e.0).enabled o (ServesAt (slice_get c.ends e.0) o) k n d (take_seen e o h t) in
     let found = found_end e.0 h.shows (λ none. unheld f e none r.1) in
     (found.0, found.1, subst (λ q. ServesAt q o) found.1 r.3)
 
-pub take_changes : {c : CoreState} {f : Facts} (e : EndId) (refused : Bool) {o : Outcome} → Sees c f → FitsTakeOf (ServesAt (slice_get c.ends e.0)) (seen c) e o → FitsTake f e o → Change (action.Take e) o → ShownAfter c f (action.Take e) refused o
+pub take_changes : {c : CoreState} {f : Facts} (e : EndId) (refused : Bool) {o : Outcome} → Sees c f → FitsTake (ServesAt (slice_get c.ends e.0)) (seen c) e o → FitsTake (Serves f e) f e o → Change (action.Take e) o → ShownAfter c f (action.Take e) refused o
 take_changes {c} {f} e refused h says fits (got d v) =
     let there = serves_there e (outcome.Got v) (λ is. cc) (λ is. cc) (λ is. cc) h says in
     let x : End = there.0 in
     let served = got_of f e v fits in
     let has = runs_there f (f.end e.0).place served.held in
-    let held : holder f e.0 ≡ Some has.0 = ap (running_at (λ a. (f.agent a).runs)) has.1 ∙ ap (λ b. cond b (Some has.0) None) has.2 in (
-      subst (λ p. Stepped c.agents (arrived_ends p v.ports (change_end front_taken e.0 c.ends)) f (action.Take e) refused (outcome.Got v)) (sym (ap (λ g. holder g e.0) (seen_is h) ∙ held))
-          (got_shown e refused x has.0 v (drop 1 (get_or x.queues 0 [])) h.shows there.1 has.1 served.is_open fits there.2 served.serves (ap (λ q. moved_ends v.ports (Arrived has.0) (changed_ends front_taken e.0 c.ends q)) there.1)),
+    let held : holder f e.0 ≡ Some has.0 = ap (λ p. running f.agent (with_agent p)) has.1 ∙ ap (λ b. cond b (Some has.0) None) has.2 in (
+      subst (λ p. Stepped c.agents (arrived_ends p v.ports (change_at front_taken e.0 c.ends)) f (action.Take e) refused (outcome.Got v)) (sym (ap (λ g. holder g e.0) (seen_is h) ∙ held))
+          (got_shown e refused x has.0 v (drop 1 (get_or x.queues 0 [])) h.shows there.1 has.1 served.is_open fits there.2 served.serves (ap (λ q. moved_ends v.ports (Arrived has.0) (set_at e.0 c.ends (option_map front_taken q))) there.1)),
       refl,
     )
 take_changes {c} {f} e refused h says fits (went_on d) =
     let there = serves_there e outcome.Again (λ is. cc) (λ is. cc) (λ is. cc) h says in
     let served = went_on_of f e fits in (
-      subst (λ q. Stepped c.agents (changed_ends advanced_end e.0 c.ends q) f (action.Take e) refused outcome.Again) (sym there.1)
+      subst (λ q. Stepped c.agents (set_at e.0 c.ends (option_map advanced_end q)) f (action.Take e) refused outcome.Again) (sym there.1)
           (went_on_shown e refused there.0 h.shows there.1 served.is_open there.2.0 served.serves.0.retired fits),
       refl,
     )

@@ -1,10 +1,10 @@
 -- What makes agents and ends, and what moves lines and ends: what the core answers fits, and it shows the facts with the answered step.
-use Rattle.std.proofs.Common.{Bool, List, None, Option, Some, [], ap, append_assoc, arith, cond, eqb, false, get_or, inl, inr, length, length-append, length-set, nat_lt, ne_eqb, refl, replicate, rules, set, subst, suc, sym, true, zero, ℕ, ◌&&◌, ◌++◌, ◌+◌, ◌<◌, ◌||◌, ◌∙◌, ◌∷◌, ◌≡◌, ◌≤◌}
+use Rattle.std.proofs.Common.{Bool, List, None, Option, Some, [], ap, append_assoc, arith, cond, eqb, false, get_or, inl, inr, length, length-append, length-set, nat_lt, ne_eqb, refl, replicate, rules, set, subst, suc, sym, true, zero, ℕ, ◌&&◌, ◌++◌, ◌+◌, ◌<◌, ◌||◌, ◌∙◌, ◌∷◌, ◌≡◌, ◌≤◌, not}
 use Rattle.std.proofs.Common.{◌⊎◌}
-use Rattle.hub_core.proofs.Words.{Action, Agent, AgentId, AgentNow, AllByRecursion, Arrived, Client, CoreState, End, EndId, EndNow, Envelope, Facts, Gone, Inside, IsOfEnd, Kind, Line, LineNow, MAX_ENDS, Member, Outcome, Port, Sender, ShowsEnd, ShowsFacts, ShowsPut, Sound, With, Worker, adopt_answer}
-use Rattle.hub_core.proofs.Words.{adopted_agents, adopted_end, adopting, agent_answer, agent_now, at_queue, change_agent, changed_ends, channel_answer, close_answer, closed_end, come, count_away, count_in_queue, count_of, count_with, end_now, ends, eqb-true, false_from_ne_true, false≢true, filter}
-use Rattle.hub_core.proofs.Words.{first_agent, first_line, gone, hand_answer, hop_answer, in_queue, is_client, is_here, is_out, is_queue, is_released, is_with, is_worker, kept_away, length-replicate}
-use Rattle.hub_core.proofs.Words.{line_now, lines_of, member_answer, nat_tests, new_end, no_end, no_line, one_more, option_map, peer_of, queue_answer, seen, set_agent, slice_get, slice_get_past, taken, went, queue_answer_of, and-false}
+use Rattle.hub_core.proofs.Words.{Agent, AgentId, AgentNow, AllByRecursion, Arrived, Client, CoreState, End, EndId, EndNow, Envelope, Facts, Gone, Inside, IsOfEnd, Kind, Line, LineNow, MAX_ENDS, Member, Outcome, Port, Sender, ShowsEnd, ShowsFacts, ShowsPut, Sound, With, Worker, adopt_answer, change_at, set_at, has_one, counted}
+use Rattle.hub_core.proofs.Words.{adopted_agents, adopted_end, adopting, agent_answer, agent_now, at_queue, channel_answer, close_answer, closed_end, count_away, count_in_queue, count_of, end_now, ends, eqb-true, false_from_ne_true, false≢true, filter}
+use Rattle.hub_core.proofs.Words.{first_agent, is_queue_of, first_line, gone, hand_answer, hop_answer, in_queue, is_here, is_out, is_queue, is_released, is_with, kept_away, length-replicate}
+use Rattle.hub_core.proofs.Words.{line_now, lines_of, member_answer, nat_tests, new_end, no_end, no_line, one_more, option_map, peer_of, queue_answer, seen, slice_get, slice_get_past, taken, went, and-false}
 use Rattle.hub_core.proofs.Counts.{Counted, IsCalmAt, OneEnd, adopted_now, away_more, calm_gone, calm_places, came_away, change_length, come_length, come_now, counted_came, counted_went, counts_at, counts_of, counts_still, end_went, gone_length, gone_now, none_at, none_counted}
 use Rattle.hub_core.proofs.Casts.{roster_agent}
 use Rattle.hub_core.proofs.Frames.{ShownAfter, ShownWith, Stepped, changed, end_changed, end_restated, end_there, found_end, found_line, line_changed, line_set, recounted, same_queues, with_line}
@@ -12,7 +12,7 @@ use Rattle.hub_core.proofs.Fitting.{adopted_of, closed_of, handed_of, hopped_of,
 use Rattle.hub_core.proofs.Items.{at_test, each_pushed, eqb_same, set_again}
 use Rattle.hub_core.proofs.SoundPlaces.{one_made}
 use Rattle.hub_core.proofs.Nexts.{Change, adopted, agent_made, channel_made, client_made, end_closed, handed, hopped, next, worker_made}
-use Rattle.hub_core.proofs.Seeing.{Sees, SoundlyShows, released_kept, seen_is, with_roster}
+use Rattle.hub_core.proofs.Seeing.{Sees, SoundlyShows, seen_is, with_roster}
 use Rattle.hub_core.proofs.Speakers.{nothing_accepted, nothing_removed, placed_made, running_made}
 use Rattle.hub_core.proofs.SoundLines.{gone_line, line_there}
 use Rattle.hub_core.specs.declared.outcome.Outcome.TheVariants as outcome
@@ -152,9 +152,9 @@ module _ (agents : List Agent) (ends : List End) (f : Facts) (a : AgentId) (k : 
   none_away b = away_more b f g refl (calm b) (none_at b g f.ends (λ l. ap (λ (y : LineNow). is_out y.phase) ((nothing f.ends (omega arith)).lines l))) ∙ omega arith
 
   -- an end more is kept, and shown
-  one_shown : ShowsFacts (come k a agents) (ends ++ new_end a k ∷ []) g
+  one_shown : ShowsFacts (change_at (one_more k) a.0 agents) (ends ++ new_end a k ∷ []) g
   one_shown =
-      let counted : Counted (come k a agents) g = counted_came agents true one_more_end few (omega (arith, h.agents)) (λ b. refl) none_away (record { queues = h.queues; away = h.away }) in
+      let counted : Counted (change_at (one_more k) a.0 agents) g = counted_came agents true one_more_end few (omega (arith, h.agents)) (λ b. refl) none_away (record { queues = h.queues; away = h.away }) in
       record {
         agents = h.agents ∙ sym (come_length k a agents);
         agent = λ x. h.agent x ∙ sym (come_now k a agents x);
@@ -164,13 +164,13 @@ module _ (agents : List Agent) (ends : List End) (f : Facts) (a : AgentId) (k : 
         away = counted.away;
       }
 
-made_shown : {agents : List Agent} {ends : List End} {f : Facts} (a : AgentId) (k : Kind) (e : EndId) → SoundlyShows agents ends f → (f.agent a.0).runs ≡ true → e ≡ record { 0 = f.ends } → ShowsFacts (come k a agents) (ends ++ new_end a k ∷ []) (one_made f a k e)
-made_shown {agents} {ends} {f} a k e h runs number = subst (λ i. ShowsFacts (come k a agents) (ends ++ new_end a k ∷ []) (one_made f a k i)) (sym number)
+made_shown : {agents : List Agent} {ends : List End} {f : Facts} (a : AgentId) (k : Kind) (e : EndId) → SoundlyShows agents ends f → (f.agent a.0).runs ≡ true → e ≡ record { 0 = f.ends } → ShowsFacts (change_at (one_more k) a.0 agents) (ends ++ new_end a k ∷ []) (one_made f a k e)
+made_shown {agents} {ends} {f} a k e h runs number = subst (λ i. ShowsFacts (change_at (one_more k) a.0 agents) (ends ++ new_end a k ∷ []) (one_made f a k i)) (sym number)
     (one_shown agents ends f a k h.shown h.sound.places.few (running_made f a h.sound.places runs) (λ d past. nothing_at f d h.sound past) (λ x q less is. inr (h.sound.places.peers x q.0 (ap peer_of is)).0))
 
 -- ports and members count for no agent
-uncounted : (agents : List Agent) (k : Kind) (a : AgentId) → ((x : Agent) → one_more k x ≡ x) → come k a agents ≡ agents
-uncounted agents k a same = elim (slice_get agents a.0) as (λ q. slice_get agents a.0 ≡ q → set_agent a.0 agents (option_map (one_more k) q) ≡ agents) [
+uncounted : (agents : List Agent) (k : Kind) (a : AgentId) → ((x : Agent) → one_more k x ≡ x) → change_at (one_more k) a.0 agents ≡ agents
+uncounted agents k a same = elim (slice_get agents a.0) as (λ q. slice_get agents a.0 ≡ q → set_at a.0 agents (option_map (one_more k) q) ≡ agents) [
   | Some x ↦ λ at. ap (λ y. set agents a.0 y) (same x) ∙ set_again agents a.0 x at
   | None ↦ λ _. refl
 ] refl
@@ -208,7 +208,7 @@ channel_shown agents ends f a h runs few =
     let second = one_shown agents (ends ++ new_end a (Port p) ∷ []) g a (Port e) first few known (λ d past. still_nothing d (omega arith)) still_ports in
     subst (ShowsFacts agents (ends ++ new_end a (Port p) ∷ new_end a (Port e) ∷ [])) (channel_facts f a)
     (subst (λ kept. ShowsFacts kept (ends ++ new_end a (Port p) ∷ new_end a (Port e) ∷ []) (one_made g a (Port e) p)) (uncounted agents (Port e) a (λ x. refl))
-    (subst (λ es. ShowsFacts (come (Port e) a agents) es (one_made g a (Port e) p)) (append_assoc ends (new_end a (Port p) ∷ []) (new_end a (Port e) ∷ [])) second))
+    (subst (λ es. ShowsFacts (change_at (one_more (Port e)) a.0 agents) es (one_made g a (Port e) p)) (append_assoc ends (new_end a (Port p) ∷ []) (new_end a (Port e) ∷ [])) second))
   where
     still_nothing : (d : ℕ) → f.ends < d → Nothing (one_port f a) d
     still_nothing d past =
@@ -234,24 +234,14 @@ channel_changes {c} {f} a refused h answer (channel_made b e p) =
 
 -- ---- Client and Worker
 
--- the two steps that make a queue, and the kind that they make
-pub data Makes : Action → Kind → (Option Kind → Bool) → AgentId → Type 0 where
-  makes_client : (a : AgentId) → Makes (action.Client a) Client is_client a
-  makes_worker : (a : AgentId) → Makes (action.Worker a) Worker is_worker a
+pub queue_answered : {c : CoreState} {f : Facts} (k : Kind) (a : AgentId) (refused : Bool) → Sees c f → queue_answer (eqb (count_of k (slice_get c.agents a.0)) 0) (seen c) a refused ≡ queue_answer (not (has_one k a f)) f a refused
+queue_answered {c} {f} k a refused h = ap (λ g. queue_answer (eqb (count_of k (slice_get c.agents a.0)) 0) g a refused) (seen_is h) ∙ ap (λ b. queue_answer b f a refused) (ap (λ n. eqb n 0) (h.shows.queues k a) ∙ none_counted (λ x. counts_at (is_queue_of k) a (f.end x)) f.ends)
 
--- what an agent keeps of its queues of this kind
-count_kept : {agents : List Agent} {ends : List End} {f : Facts} {b : Action} {k : Kind} {test : Option Kind → Bool} {a : AgentId} → Makes b k test a → SoundlyShows agents ends f → count_of k (slice_get agents a.0) ≡ count_with test a f
-count_kept (makes_client a) h = h.queues Client a
-count_kept (makes_worker a) h = h.queues Worker a
+pub client_changes : {c : CoreState} {f : Facts} (a : AgentId) (refused : Bool) {o : Outcome} → Sees c f → o ≡ queue_answer (not (has_one Client a f)) f a refused → Change (action.Client a) o → ShownAfter c f (action.Client a) refused o
+client_changes {c} {f} a refused h answer (client_made b e) = let made = queue_made_of f Client a refused e answer in (record { fits = answer; shows = made_shown a Client e h.shows made.runs made.number }, refl)
 
-pub queue_answered : {c : CoreState} {f : Facts} {b : Action} {k : Kind} {test : Option Kind → Bool} {a : AgentId} (refused : Bool) → Makes b k test a → Sees c f → queue_answer_of (eqb (count_of k (slice_get c.agents a.0)) 0) (seen c) a refused ≡ queue_answer test f a refused
-queue_answered {c} {f} {k = k} {test = test} {a = a} refused makes h = ap (λ g. queue_answer_of (eqb (count_of k (slice_get c.agents a.0)) 0) g a refused) (seen_is h) ∙ ap (λ b. queue_answer_of b f a refused) (ap (λ n. eqb n 0) (count_kept makes h.shows) ∙ none_counted (λ x. counts_at test a (f.end x)) f.ends)
-
-pub client_changes : {c : CoreState} {f : Facts} (a : AgentId) (refused : Bool) {o : Outcome} → Sees c f → o ≡ queue_answer is_client f a refused → Change (action.Client a) o → ShownAfter c f (action.Client a) refused o
-client_changes {c} {f} a refused h answer (client_made b e) = let made = queue_made_of f is_client a refused e answer in (record { fits = answer; shows = made_shown a Client e h.shows made.runs made.number }, refl)
-
-pub worker_changes : {c : CoreState} {f : Facts} (a : AgentId) (refused : Bool) {o : Outcome} → Sees c f → o ≡ queue_answer is_worker f a refused → Change (action.Worker a) o → ShownAfter c f (action.Worker a) refused o
-worker_changes {c} {f} a refused h answer (worker_made b e) = let made = queue_made_of f is_worker a refused e answer in (record { fits = answer; shows = made_shown a Worker e h.shows made.runs made.number }, refl)
+pub worker_changes : {c : CoreState} {f : Facts} (a : AgentId) (refused : Bool) {o : Outcome} → Sees c f → o ≡ queue_answer (not (has_one Worker a f)) f a refused → Change (action.Worker a) o → ShownAfter c f (action.Worker a) refused o
+worker_changes {c} {f} a refused h answer (worker_made b e) = let made = queue_made_of f Worker a refused e answer in (record { fits = answer; shows = made_shown a Worker e h.shows made.runs made.number }, refl)
 
 -- ---- Member
 
@@ -318,7 +308,7 @@ abbrev moved_to : AgentId → End → End
 moved_to b x = record x { place = Arrived b }
 
 -- a queue has no poster of its own
-queue_released : (f : Facts) (k : Option Kind) → is_queue k ≡ true → is_released f k ≡ true
+queue_released : (f : Facts) (k : Option Kind) → is_queue k ≡ true → is_released f.line k ≡ true
 queue_released f (Some (Port q)) h = absurd (false≢true h)
 queue_released f _ h = refl
 
@@ -337,7 +327,7 @@ moved_shown {agents} {ends} {f} e b refused x h at answer =
 pub hand_changes : {c : CoreState} {f : Facts} (e : EndId) (b : AgentId) (refused : Bool) {o : Outcome} → Sees c f → o ≡ hand_answer f e b → Change (action.Hand e b) o → ShownAfter c f (action.Hand e b) refused o
 hand_changes {c} {f} e b refused h answer (handed d a) =
     let found = found_end e.0 h.shows (λ none. false≢true (sym (ap (λ (z : EndNow). is_queue z.kind) none) ∙ (handed_of f e b answer).queue)) in
-    (subst (λ q. Stepped (went q c.agents) (changed_ends (moved_to b) e.0 c.ends q) f (action.Hand e b) refused outcome.Handed) (sym found.1) (moved_shown e b refused found.0 h.shows found.1 answer), refl)
+    (subst (λ q. Stepped (went q c.agents) (set_at e.0 c.ends (option_map (moved_to b) q)) f (action.Hand e b) refused outcome.Handed) (sym found.1) (moved_shown e b refused found.0 h.shows found.1 answer), refl)
 
 -- ==== Adopt: what the core answers fits, and it shows the facts with the answered step.
 
@@ -361,15 +351,15 @@ adopted_one {line = line} {ts = ts} {x = x} a h =
       each = λ i. h.queues.each i ∙ ap (λ q. in_queue (x.taker + i) ts ++ q) (sym (get_or-one_more x.queues i));
     })
 
-adopted_shown : {agents : List Agent} {ends : List End} {f : Facts} (e : EndId) (a : AgentId) (refused : Bool) (x : End) (k : ℕ) → SoundlyShows agents ends f → slice_get ends e.0 ≡ Some x → outcome.Adopted k ≡ adopt_answer f e a refused → Stepped (change_agent (adopting (is_released f (f.end e.0).kind) x.kind) a.0 agents) (set ends e.0 (adopted_end a x)) f (action.Adopt e a) refused (outcome.Adopted k)
+adopted_shown : {agents : List Agent} {ends : List End} {f : Facts} (e : EndId) (a : AgentId) (refused : Bool) (x : End) (k : ℕ) → SoundlyShows agents ends f → slice_get ends e.0 ≡ Some x → outcome.Adopted k ≡ adopt_answer f e a refused → Stepped (change_at (adopting (is_released f.line (f.end e.0).kind) x.kind) a.0 agents) (set ends e.0 (adopted_end a x)) f (action.Adopt e a) refused (outcome.Adopted k)
 adopted_shown {agents} {ends} {f} e a refused x k h at answer =
     let shown = end_there e.0 h at in
     let known : a.0 < f.agents = running_made f a h.sound.places (adopted_of f e a refused k answer).runs in
     let arrived : (f.end e.0).place ≡ Some (Arrived a) = (adopted_of f e a refused k answer).arrived in
     let nowhere : (c : AgentId) → is_with c (Some x.place) ≡ false = λ c. ap (is_with c) (sym (ap (λ (y : EndNow). y.place) shown.same) ∙ arrived) in
     recounted h answer refl refl
-    (change_length (adopting (is_released f (f.end e.0).kind) x.kind) agents a.0) (adopted_now (is_released f (f.end e.0).kind) x.kind agents a) (h.ends ∙ sym (length-set ends e.0 (adopted_end a x)))
-    (counted_came agents (is_released f (f.end e.0).kind) (end_went e.0 x (Some (With a)) h.sound.places shown.same refl (λ d. refl) (λ d. refl)) h.sound.places.few (omega (arith, h.agents)) nowhere
+    (change_length (adopting (is_released f.line (f.end e.0).kind) x.kind) agents a.0) (adopted_now (is_released f.line (f.end e.0).kind) x.kind agents a) (h.ends ∙ sym (length-set ends e.0 (adopted_end a x)))
+    (counted_came agents (is_released f.line (f.end e.0).kind) (end_went e.0 x (Some (With a)) h.sound.places shown.same refl (λ d. refl) (λ d. refl)) h.sound.places.few (omega (arith, h.agents)) nowhere
     (λ c. came_away c a f (next f (action.Adopt e a) (outcome.Adopted k)) e.0 h.sound.places (placed_made f e.0 x.place h.sound.places (ap (λ (y : EndNow). y.place) shown.same)) refl (λ d. refl) (λ d l. refl) (λ q. refl) (ap (is_with c) arrived) (f.end e.0).kind refl) (counts_of h))
     (end_changed e.0 (λ b w. record w { place = cond b (Some (With a)) w.place; enabled = cond b false w.enabled; newest = cond b (w.newest + 1) w.newest }) x (adopted_end a x) h at (λ w. refl) (adopted_one a shown))
 
@@ -378,8 +368,8 @@ adopted_shown {agents} {ends} {f} e a refused x k h at answer =
 pub adopt_changes : {c : CoreState} {f : Facts} (e : EndId) (a : AgentId) (refused : Bool) {o : Outcome} → Sees c f → o ≡ adopt_answer f e a refused → Change (action.Adopt e a) o → ShownAfter c f (action.Adopt e a) refused o
 adopt_changes {c} {f} e a refused h answer (adopted d b k) =
     let found = found_end e.0 h.shows (λ none. let placed : None ≡ Some (Arrived a) = sym (ap (λ (z : EndNow). z.place) none) ∙ (adopted_of f e a refused k answer).arrived in absurd (search (rules, placed))) in (
-      subst (λ r. Stepped (adopted_agents r a (slice_get c.ends e.0) c.agents) (changed_ends (adopted_end a) e.0 c.ends (slice_get c.ends e.0)) f (action.Adopt e a) refused (outcome.Adopted k)) (sym (ap (λ g. is_released g (g.end e.0).kind) (seen_is h) ∙ released_kept f (f.end e.0).kind))
-          (subst (λ q. Stepped (adopted_agents (is_released f (f.end e.0).kind) a q c.agents) (changed_ends (adopted_end a) e.0 c.ends q) f (action.Adopt e a) refused (outcome.Adopted k)) (sym found.1) (adopted_shown e a refused found.0 k h.shows found.1 answer)),
+      subst (λ r. Stepped (adopted_agents r a (slice_get c.ends e.0) c.agents) (set_at e.0 c.ends (option_map (adopted_end a) (slice_get c.ends e.0))) f (action.Adopt e a) refused (outcome.Adopted k)) (sym (ap (λ g. is_released g.line (g.end e.0).kind) (seen_is h)))
+          (subst (λ q. Stepped (adopted_agents (is_released f.line (f.end e.0).kind) a q c.agents) (set_at e.0 c.ends (option_map (adopted_end a) q)) f (action.Adopt e a) refused (outcome.Adopted k)) (sym found.1) (adopted_shown e a refused found.0 k h.shows found.1 answer)),
       refl,
     )
 
@@ -405,4 +395,4 @@ shut_shown {agents} {ends} {f} e refused x h at answer =
 pub close_changes : {c : CoreState} {f : Facts} (e : EndId) (refused : Bool) {o : Outcome} → Sees c f → o ≡ close_answer f e → Change (action.Close e) o → ShownAfter c f (action.Close e) refused o
 close_changes {c} {f} e refused h answer (end_closed d) =
     let found = found_end e.0 h.shows (λ none. false≢true (sym (ap (λ (z : EndNow). is_here z.place) none) ∙ (closed_of f e answer).here)) in
-    (subst (λ q. Stepped (went q c.agents) (changed_ends closed_end e.0 c.ends q) f (action.Close e) refused outcome.Done) (sym found.1) (shut_shown e refused found.0 h.shows found.1 answer), refl)
+    (subst (λ q. Stepped (went q c.agents) (set_at e.0 c.ends (option_map closed_end q)) f (action.Close e) refused outcome.Done) (sym found.1) (shut_shown e refused found.0 h.shows found.1 answer), refl)

@@ -1,9 +1,9 @@
 -- What an answer that fits says of the facts.
 use Rattle.std.proofs.Common.{◌≡◌, ◌+◌, Bool, true, false, cond, List, length, Option, Some, None, refl, ap, ℕ, zero, suc, ◌<◌, ◌≤◌, eqb, sym, ◌∙◌, arith, rules, inl, inr, ltb-true, leb-false, ltb-false, ◌&&◌, not, nat_lt, ◌||◌, ◌⊎◌, nat_le, ⊎_elim}
-use Rattle.hub_core.proofs.Words.{is_some, MatchBool, list_all, AgentId, EndId, Envelope, MAX_ENDS, MAX_LINES, MAX_MOVES, MAX_PORTS, MAX_AGENTS, Good, HoldsTarget, Bad, Sender, Acceptance, Outcome, Facts, agent_answer, channel_answer, queue_answer, has_one, holder, poster, phase_of_line, is_out}
-use Rattle.hub_core.proofs.Words.{is_inside, is_good, is_distinct, may_leave_agent, listing_of, enter_answer, leave_answer, push_answer_of, push_answer, may_enter, hears_notice, is_here, next_name, notice_answer, is_fitting, is_empty, Serves, FitsTake, start_answer, false≢true, and_parts, or_parts}
-use Rattle.hub_core.proofs.Words.{Place, Arrived, any_below, someone_at, first_failing, lookable, looked, look_answer, all_from, all_settled, IsAllWaiting, FitsSweep, hop_answer, is_arrived, adopt_answer, close_answer, is_released, hand_answer, may_take_over, may_close, is_queue}
-use Rattle.hub_core.proofs.Words.{lines_of, names, LineId, Kind, back_answer, line_found, line_answer, free_line, member_answer, cast_answer, is_casting, destinations, has_end, maker_of, see_answer, has_away, has_poster, is_away_of, cases_eq, found_at, put_there}
+use Rattle.hub_core.proofs.Words.{is_some, MatchBool, list_all, AgentId, EndId, Envelope, MAX_ENDS, MAX_LINES, MAX_MOVES, MAX_PORTS, MAX_AGENTS, Good, HoldsTarget, Bad, Sender, Acceptance, Outcome, Facts, agent_answer, channel_answer, queue_answer, has_one, holder, poster, phase_of_line, is_out, owner, is_holder, name_of, option_map, unwrap_or, is_posting}
+use Rattle.hub_core.proofs.Words.{is_inside, is_good, is_distinct, may_leave_agent, listing_of, enter_answer, leave_answer, push_answer_of, push_answer, may_enter, hears_notice, is_here, notice_answer, is_fitting, is_empty, Serves, FitsTake, start_answer, false≢true, and_parts, or_parts}
+use Rattle.hub_core.proofs.Words.{Place, Arrived, any_below, someone_at, first_failing, lookable, looked, look_answer, all_settled, IsAllWaiting, FitsSweep, hop_answer, is_arrived, adopt_answer, close_answer, is_released, hand_answer, may_take_over, may_close, is_queue}
+use Rattle.hub_core.proofs.Words.{lines_of, names, LineId, Kind, back_answer, line_found, line_answer, free_line, member_answer, cast_answer, is_casting, destinations, has_end, maker_of, see_answer, has_away, is_away_of, cases_eq, found_at, put_there}
 use Rattle.hub_core.specs.declared.outcome.Outcome.TheVariants as outcome
 use Rattle.hub_core.proofs.Items.{below_last, next_up, or_none, at_test}
 
@@ -47,18 +47,18 @@ under_one : (n : ℕ) → n < MAX_ENDS → n + 1 ≤ MAX_ENDS
 under_one n less = omega arith
 
 -- a queue that was made
-pub record MakesQueue (f : Facts) (test : Option Kind → Bool) (a : AgentId) (e : EndId) : Type 0 where
+pub record MakesQueue (f : Facts) (kind : Kind) (a : AgentId) (e : EndId) : Type 0 where
   pub runs : (f.agent a.0).runs ≡ true
-  pub first : has_one test a f ≡ false
+  pub first : has_one kind a f ≡ false
   pub few : f.ends + 1 ≤ MAX_ENDS
   pub number : e ≡ record { 0 = f.ends }
 
-pub queue_made_of : (f : Facts) (test : Option Kind → Bool) (a : AgentId) (refused : Bool) (e : EndId) → outcome.End e ≡ queue_answer test f a refused → MakesQueue f test a e
-queue_made_of f test a refused e h =
-    let may = pass ((f.agent a.0).runs && not (has_one test a f)) h (λ is. cc) in
+pub queue_made_of : (f : Facts) (kind : Kind) (a : AgentId) (refused : Bool) (e : EndId) → outcome.End e ≡ queue_answer (not (has_one kind a f)) f a refused → MakesQueue f kind a e
+queue_made_of f kind a refused e h =
+    let may = pass ((f.agent a.0).runs && not (has_one kind a f)) h (λ is. cc) in
     let room = miss (nat_le MAX_ENDS f.ends) may.1 (λ is. cc) in
     let last : outcome.End e ≡ outcome.End (record { 0 = f.ends }) = (miss refused room.1 (λ is. cc)).1 in
-    let both = both_tests (f.agent a.0).runs (has_one test a f) may.0 in
+    let both = both_tests (f.agent a.0).runs (has_one kind a f) may.0 in
     record { runs = both.0; first = both.1; few = under_one f.ends (leb-false MAX_ENDS f.ends room.0); number = cc }
 
 -- ---- broadcast channels
@@ -83,7 +83,7 @@ pub record Begins (f : Facts) (e : EndId) (ends : List EndId) : Type 0 where
   pub over : is_casting f ≡ false
   pub all : ends ≡ destinations f e.0
 
-pub cast_of : (f : Facts) (e : EndId) (ports ends : List EndId) → outcome.Destinations ends ≡ cast_answer f e ports → Begins f e ends
+pub cast_of : (f : Facts) (e : EndId) (ports ends : List EndId) → outcome.Destinations ends ≡ cast_answer (has_end e.0 f.roster.members) (destinations f e.0) f e ports → Begins f e ends
 cast_of f e ports ends h =
     let may = pass (is_some (maker_of (f.end e.0).kind) && not (is_casting f)) h (λ is. cc) in
     let seated = pass (has_end e.0 f.roster.members && not (f.end e.0).closed) may.1 (λ is. cc) in
@@ -144,23 +144,23 @@ pub record Pushed (f : Facts) (s : Sender) (ports : List EndId) (n : Acceptance)
   pub speaks : poster f s ≡ Some agent
   pub distinct : is_distinct ports ≡ true
   pub leave : list_all (may_leave_agent f agent s) ports ≡ true
-  pub name : n ≡ next_name f s agent
+  pub name : n ≡ name_of (put_there f s) f s agent
 
 -- a list is good where its ports are distinct and may leave the agent
 listed_good : (leave target : Bool) → is_good (cond (not leave) Bad (cond target HoldsTarget Good)) ≡ true → leave ≡ true
 listed_good true target h = refl
 listed_good false target h = absurd (false≢true h)
 
-pushed_by : (f : Facts) (s : Sender) (ports : List EndId) (fitting refused : Bool) (n : Acceptance) (q : Option AgentId) → is_inside (phase_of_line f s) ≡ true → (f.line s.end.0 s.line.0).noticed ≡ false → poster f s ≡ q → outcome.Accepted n ≡ push_answer_of (put_there f s) f s ports fitting refused q → Pushed f s ports n
+pushed_by : (f : Facts) (s : Sender) (ports : List EndId) (fitting refused : Bool) (n : Acceptance) (q : Option AgentId) → is_inside (phase_of_line f s) ≡ true → (f.line s.end.0 s.line.0).noticed ≡ false → poster f s ≡ q → outcome.Accepted n ≡ unwrap_or (option_map (push_answer_of (put_there f s) f s ports fitting refused) q) outcome.NotNow → Pushed f s ports n
 pushed_by f s ports fitting refused n None inside plain is h = cc
 pushed_by f s ports fitting refused n (Some a) inside plain is h =
-    let r = pass (is_good (listing_of f s ports (Some a)) && fitting) (miss (nat_lt MAX_PORTS (length ports)) h (λ many. cc)).1 (λ bad. cc) in
-    let last : outcome.Accepted n ≡ outcome.Accepted (next_name f s a) = (miss refused r.1 (λ no_room. cc)).1 in
-    let free = listed_good (is_distinct ports && list_all (may_leave_agent f a s) ports) (names ports s.end.0) (and_parts (is_good (listing_of f s ports (Some a))) fitting r.0).0 in
+    let r = pass (is_good (listing_of f s ports a) && fitting) (miss (nat_lt MAX_PORTS (length ports)) h (λ many. cc)).1 (λ bad. cc) in
+    let last : outcome.Accepted n ≡ outcome.Accepted (name_of (put_there f s) f s a) = (miss refused r.1 (λ no_room. cc)).1 in
+    let free = listed_good (is_distinct ports && list_all (may_leave_agent f a s) ports) (names ports s.end.0) (and_parts (is_good (listing_of f s ports a)) fitting r.0).0 in
     let each = and_parts (is_distinct ports) (list_all (may_leave_agent f a s) ports) free in
     record { inside = inside; plain = plain; agent = a; speaks = is; distinct = each.0; leave = each.1; name = cc }
 
-pub pushed_of : (f : Facts) (s : Sender) (ports : List EndId) (body : List ℕ) (refused : Bool) (n : Acceptance) → outcome.Accepted n ≡ push_answer f s ports body refused → Pushed f s ports n
+pub pushed_of : (f : Facts) (s : Sender) (ports : List EndId) (body : List ℕ) (refused : Bool) (n : Acceptance) → outcome.Accepted n ≡ push_answer (is_posting f s) (put_there f s) f s ports body refused → Pushed f s ports n
 pushed_of f s ports body refused n h =
     let fitting : Bool = is_fitting f.roster.cast (f.end s.end.0).kind ports body in
     let r = pass (is_inside (phase_of_line f s) && not (f.line s.end.0 s.line.0).noticed) h (λ is. cc) in
@@ -172,12 +172,12 @@ pub record Noticed (f : Facts) (s : Sender) (n : Acceptance) : Type 0 where
   pub inside : is_inside (phase_of_line f s) ≡ true
   pub plain : (f.line s.end.0 s.line.0).noticed ≡ false
   pub hears : hears_notice f s ≡ true
-  pub name : n ≡ next_name f s (record { 0 = 0 })
+  pub name : n ≡ name_of (put_there f s) f s (record { 0 = 0 })
 
-pub noticed_of : (f : Facts) (s : Sender) (refused : Bool) (n : Acceptance) → outcome.Accepted n ≡ notice_answer f s refused → Noticed f s n
+pub noticed_of : (f : Facts) (s : Sender) (refused : Bool) (n : Acceptance) → outcome.Accepted n ≡ notice_answer (is_posting f s) (put_there f s) f s refused → Noticed f s n
 noticed_of f s refused n h =
     let r = pass (is_inside (phase_of_line f s) && not (f.line s.end.0 s.line.0).noticed && hears_notice f s) h (λ is. cc) in
-    let last : outcome.Accepted n ≡ outcome.Accepted (next_name f s (record { 0 = 0 })) = (miss refused r.1 (λ is. cc)).1 in
+    let last : outcome.Accepted n ≡ outcome.Accepted (name_of (put_there f s) f s (record { 0 = 0 })) = (miss refused r.1 (λ is. cc)).1 in
     let both = and_parts (is_inside (phase_of_line f s) && not (f.line s.end.0 s.line.0).noticed) (hears_notice f s) r.0 in
     let posts = both_tests (is_inside (phase_of_line f s)) (f.line s.end.0 s.line.0).noticed both.0 in
     record { inside = posts.0; plain = posts.1; hears = both.1; name = cc }
@@ -203,15 +203,15 @@ served_when false true true o P x y z h = (refl, refl, refl, h)
 served_when false true false o P x y z h = absurd (z h)
 served_when false false enabled o P x y z h = absurd (y h)
 
-pub served_of : (f : Facts) (e : EndId) (o : Outcome) → (o ≡ outcome.Closed → ⊥) → (o ≡ outcome.NotNow → ⊥) → (o ≡ outcome.Disabled → ⊥) → FitsTake f e o → Served f e o
+pub served_of : (f : Facts) (e : EndId) (o : Outcome) → (o ≡ outcome.Closed → ⊥) → (o ≡ outcome.NotNow → ⊥) → (o ≡ outcome.Disabled → ⊥) → FitsTake (Serves f e) f e o → Served f e o
 served_of f e o x y z h =
     let r = served_when (f.end e.0).closed (is_some (holder f e.0)) (f.end e.0).enabled o (Serves f e o) x y z h in
     record { is_open = r.0; held = r.1; is_enabled = r.2; serves = r.3 }
 
-pub got_of : (f : Facts) (e : EndId) (v : Envelope) → FitsTake f e (outcome.Got v) → Served f e (outcome.Got v)
+pub got_of : (f : Facts) (e : EndId) (v : Envelope) → FitsTake (Serves f e) f e (outcome.Got v) → Served f e (outcome.Got v)
 got_of f e v h = served_of f e (outcome.Got v) (λ is. cc) (λ is. cc) (λ is. cc) h
 
-pub went_on_of : (f : Facts) (e : EndId) → FitsTake f e outcome.Again → Served f e outcome.Again
+pub went_on_of : (f : Facts) (e : EndId) → FitsTake (Serves f e) f e outcome.Again → Served f e outcome.Again
 went_on_of f e h = served_of f e outcome.Again (λ is. cc) (λ is. cc) (λ is. cc) h
 
 -- ---- going on, and adopting
@@ -257,12 +257,12 @@ adopted_of f e a refused k h =
 pub record Closes (f : Facts) (e : EndId) : Type 0 where
   pub is_open : (f.end e.0).closed ≡ false
   pub here : is_here (f.end e.0).place ≡ true
-  pub released : is_released f (f.end e.0).kind ≡ true
+  pub released : is_released f.line (f.end e.0).kind ≡ true
 
 pub closed_of : (f : Facts) (e : EndId) → outcome.Done ≡ close_answer f e → Closes f e
 closed_of f e h =
     let open_end = miss (f.end e.0).closed h (λ is. cc) in
-    let both = and_parts (is_here (f.end e.0).place) (is_released f (f.end e.0).kind) (hit (may_close f e.0) open_end.1 (λ is. cc)).0 in
+    let both = and_parts (is_here (f.end e.0).place) (is_released f.line (f.end e.0).kind) (hit (may_close f e.0) open_end.1 (λ is. cc)).0 in
     record { is_open = open_end.0; here = both.0; released = both.1 }
 
 -- an end that was swept
@@ -282,11 +282,11 @@ swept_of f e vs h =
     record { is_closed = r.0; settled = r.1; all = r.2 }
 
 -- each of some queues passes the test
-pub each_of : (test : ℕ → Bool) (k n : ℕ) → all_from test k n ≡ true → (i : ℕ) → k ≤ i → i < k + n → test i ≡ true
+pub each_of : (test : ℕ → Bool) (k n : ℕ) → not (is_some (first_failing test k n)) ≡ true → (i : ℕ) → k ≤ i → i < k + n → test i ≡ true
 each_of test k zero h i from below = absurd (omega arith)
-each_of test k (suc n) h i from below =
-    let both = and_parts (test k) (all_from test (k + 1) n) h in
-    ⊎_elim (λ same. ap test same ∙ both.0) (λ other. each_of test (k + 1) n both.1 i (next_up k i from other) (omega arith)) (cases_eq i k)
+each_of test k (suc n) h i from below = at_test (λ q. not (is_some q) ≡ true → test i ≡ true) (test k) (first_failing test (k + 1) n) (Some k)
+    (λ here rest. ⊎_elim (λ same. ap test same ∙ here) (λ other. each_of test (k + 1) n rest i (next_up k i from other) (omega arith)) (cases_eq i k))
+    (λ _ none. absurd (false≢true none)) h
 
 -- ---- looking
 
@@ -333,7 +333,7 @@ pub record Clears (f : Facts) (x k : ℕ) : Type 0 where
   pub looks : LooksAt f x k
   pub nobody : someone_at f x k ≡ false
 
-pub cleared_of : (f : Facts) (e : EndId) (k : ℕ) → outcome.Clear (Some k) ≡ look_answer f e → Clears f e.0 k
+pub cleared_of : (f : Facts) (e : EndId) (k : ℕ) → outcome.Clear (Some k) ≡ look_answer (found_at (someone_at f e.0) (looked f e.0)) f e → Clears f e.0 k
 cleared_of f e k h =
     let r = hit ((f.end e.0).closed || nat_lt (f.end e.0).taker_stand (f.end e.0).newest) h (λ is. cc) in
     let both = clear_when f e.0 k (looked f e.0) r.1 in
@@ -345,7 +345,7 @@ pub record FindsBusy (f : Facts) (x : ℕ) : Type 0 where
   pub looks : LooksAt f x queue
   pub somebody : someone_at f x queue ≡ true
 
-pub look_busy_of : (f : Facts) (e : EndId) → outcome.Busy ≡ look_answer f e → FindsBusy f e.0
+pub look_busy_of : (f : Facts) (e : EndId) → outcome.Busy ≡ look_answer (found_at (someone_at f e.0) (looked f e.0)) f e → FindsBusy f e.0
 look_busy_of f e h =
     let r = hit ((f.end e.0).closed || nat_lt (f.end e.0).taker_stand (f.end e.0).newest) h (λ is. cc) in
     let both = busy_when f e.0 (looked f e.0) r.1 in
@@ -392,7 +392,7 @@ pub record GetsLine (f : Facts) (e : EndId) (a : AgentId) (l : LineId) : Type 0 
   pub low : l.0 < MAX_LINES
   pub free : (f.line e.0 l.0).held_by ≡ None
 
-pub line_got_of : (f : Facts) (e : EndId) (a : AgentId) (l : LineId) → outcome.Line l ≡ line_answer f e a → GetsLine f e a l
+pub line_got_of : (f : Facts) (e : EndId) (a : AgentId) (l : LineId) → outcome.Line l ≡ line_answer (free_line f e.0) f e a → GetsLine f e a l
 line_got_of f e a l h =
     let r = line_when (f.agent a.0).runs (is_queue (f.end e.0).kind) l (free_line f e.0) h in
     let found = first_failing_of (λ i. is_some (f.line e.0 i).held_by) 0 MAX_LINES l.0 r.2 in
@@ -402,7 +402,7 @@ line_got_of f e a l h =
 pub back_of : (f : Facts) (s : Sender) → outcome.Done ≡ back_answer f s → (is_some (f.line s.end.0 s.line.0).held_by ≡ true) × (is_out (phase_of_line f s) ≡ true)
 back_of f s h = and_parts (is_some (f.line s.end.0 s.line.0).held_by) (is_out (phase_of_line f s)) (hit (is_some (f.line s.end.0 s.line.0).held_by && is_out (phase_of_line f s)) h (λ is. cc)).0
 
-taken_over : (f : Facts) (b : AgentId) (q : Option AgentId) → may_take_over f b q ≡ true → (a : AgentId) × (q ≡ Some a) × (b.0 < f.agents)
+taken_over : (f : Facts) (b : AgentId) (q : Option AgentId) → may_take_over f.agents b q ≡ true → (a : AgentId) × (q ≡ Some a) × (b.0 < f.agents)
 taken_over f b None h = absurd (false≢true h)
 taken_over f b (Some a) h = (a, refl, ltb-true b.0 f.agents (and_parts (nat_lt b.0 f.agents) (not (eqb a.0 b.0)) h).0)
 
@@ -417,19 +417,19 @@ pub record Hands (f : Facts) (e : EndId) (b : AgentId) : Type 0 where
 pub handed_of : (f : Facts) (e : EndId) (b : AgentId) → outcome.Handed ≡ hand_answer f e b → Hands f e b
 handed_of f e b h =
     let open_end = miss (f.end e.0).closed h (λ is. cc) in
-    let may : Bool = may_take_over f b (holder f e.0) in
+    let may : Bool = may_take_over f.agents b (holder f e.0) in
     let both = and_parts (is_queue (f.end e.0).kind) may (hit (is_queue (f.end e.0).kind && may) open_end.1 (λ is. cc)).0 in
     let over = taken_over f b (holder f e.0) both.1 in
     record { is_open = open_end.0; queue = both.0; agent = over.0; holds = over.1; known = over.2 }
 
 -- ---- ending
 
-pub see_of : (f : Facts) (a : AgentId) (es : List EndId) → outcome.Ending es ≡ see_answer f a → has_away f a ≡ false
+pub see_of : (f : Facts) (a : AgentId) (es : List EndId) → outcome.Ending es ≡ see_answer (not (has_away f a)) f a → has_away f a ≡ false
 see_of f a es h = (both_tests (nat_lt a.0 f.agents) (has_away f a) (pass (nat_lt a.0 f.agents && not (has_away f a)) h (λ is. cc)).0).1
 
 -- no poster of the agent is away
-pub none_away : (f : Facts) (a : AgentId) (x l : ℕ) → has_away f a ≡ false → x < f.ends → l < lines_of (f.end x).kind → is_out (f.line x l).phase ≡ false → has_poster f a x l ≡ false
+pub none_away : (f : Facts) (a : AgentId) (x l : ℕ) → has_away f a ≡ false → x < f.ends → l < lines_of (f.end x).kind → is_out (f.line x l).phase ≡ false → is_holder a (owner f x l) ≡ false
 none_away f a x l none made low away =
     let at : any_below (is_away_of f a x) (lines_of (f.end x).kind) ≡ false = none_of_any (λ y. any_below (is_away_of f a y) (lines_of (f.end y).kind)) f.ends x none made in
     let here : is_away_of f a x l ≡ false = none_of_any (is_away_of f a x) (lines_of (f.end x).kind) l at low in
-    sym (ap (λ b. not b && has_poster f a x l) away) ∙ here
+    sym (ap (λ b. not b && is_holder a (owner f x l)) away) ∙ here

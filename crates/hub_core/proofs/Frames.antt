@@ -1,6 +1,6 @@
 -- What a step leaves alone of what is kept, and what it changes.
 use Rattle.std.proofs.Common.{◌≡◌, ℕ, ◌+◌, ◌<◌, Bool, true, false, eqb, List, [], length, set, length-set, Option, Some, refl, sym, ap, subst, ◌∙◌, ◌++◌, ne_eqb, ◌&&◌, None, arith}
-use Rattle.hub_core.proofs.Words.{Envelope, Place, lines_of, slice_get_within, Line, Sender, Inside, slice_get, Agent, End, Action, Outcome, LineNow, Facts, facts, EndNow, Answers, ShowsEnd, ShowsPut, agent_now, line_now, end_now, ShowsFacts, KeepsQueues, CoreState, core_after, changed_ends}
+use Rattle.hub_core.proofs.Words.{Envelope, Place, lines_of, slice_get_within, Line, Sender, Inside, slice_get, Agent, End, Action, Outcome, LineNow, Facts, facts, EndNow, Answers, ShowsEnd, ShowsPut, agent_now, line_now, end_now, ShowsFacts, KeepsQueues, CoreState, core_after, set_at, option_map}
 use Rattle.hub_core.proofs.Words.{change_line, first_line, kept_lines, unwrap_or, ShowsRoster, no_end}
 use Rattle.hub_core.proofs.Items.{eqb_same, each_set, each_changed, is_there}
 use Rattle.hub_core.proofs.Seeing.{SoundlyShows}
@@ -131,7 +131,7 @@ with_line x l y = record x { lines = set x.lines l y }
 
 pub line_set : (ends : List End) (s : Sender) (change : Line → Line) (w : FoundLine ends s) → change_line change s ends ≡ set ends s.end.0 (with_line w.x s.line.0 (change w.y))
 line_set ends s change w =
-    ap (λ q. changed_ends (λ x. with_line x s.line.0 (change (unwrap_or (slice_get (kept_lines q) s.line.0) first_line))) s.end.0 ends q) w.at
+    ap (λ q. set_at s.end.0 ends (option_map (λ x. with_line x s.line.0 (change (unwrap_or (slice_get (kept_lines q) s.line.0) first_line))) q)) w.at
     ∙ ap (λ q. set ends s.end.0 (with_line w.x s.line.0 (change (unwrap_or q first_line)))) w.is
 
 -- ---- a step by what it was answered

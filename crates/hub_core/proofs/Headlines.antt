@@ -3,8 +3,8 @@ use Rattle.std.proofs.Common.{take, Bool, List, None, Option, Some, [], ap, appe
 use Rattle.std.proofs.Common.{◌<◌, ◌∙◌, ◌∷◌, ◌≡◌, ◌≤◌}
 use Rattle.hub_core.proofs.Words.{Action, AllByRecursion, Answers, Core, End, EndId, Envelope, Facts, Fates, Fits, FitsSweep, FitsTake, Headline, History, InOrder, Inside, IsAllWaiting, IsBusyAt, IsDrained, IsDrainedAt, IsLeft, IsNext, IsTurned, KeepsQueues, KeepsTheLine, Legal, LegalAfter, LineNow}
 use Rattle.hub_core.proofs.Words.{MatchBool, NoticeIsLast, OneAnswer, Out, Outcome, Pair, Phase, Prefix, Rises, SameIsJoined, Sender, Serves, Shows, Sound, Step, Sweeps, Turned, TurnedPutsNothing, accepted, accepted_by, all_settled, and_from, and_parts, by, cases_lt, closed_after, discarded}
-use Rattle.hub_core.proofs.Words.{discarded_by, ends, enter_of, eq-eqb, eqb-true, ext_get_or, facts, false_from_ne_true, false≢true, filter, filter-append, flat_map, flat_map-append, flights, get_or-append_seam, get_or_append_left, hears_notice, holder, in_queue, is_away_at, is_inside, is_line}
-use Rattle.hub_core.proofs.Words.{is_out, is_some, leaves, lines_of, list_any, map-append, names, naming, not-false, not-true, numbers, on_line, opened, or_from, or_left, or_parts, or_right, phase_of_line, place, poster, posts, same_name, slice_get, someone_at, sweep_of, take_of, taken, taken_by}
+use Rattle.hub_core.proofs.Words.{discarded_by, ends, answered, eq-eqb, eqb-true, ext_get_or, facts, false_from_ne_true, false≢true, filter, filter-append, flat_map, flat_map-append, flights, get_or-append_seam, get_or_append_left, hears_notice, holder, in_queue, is_away_at, is_inside, is_line}
+use Rattle.hub_core.proofs.Words.{is_out, is_some, leaves, lines_of, list_any, map-append, names, naming, not-false, not-true, numbers, on_line, opened, or_from, or_left, or_parts, or_right, phase_of_line, place, poster, posts, same_name, slice_get, someone_at, taken, taken_by}
 use Rattle.hub_core.proofs.Words.{total, up_to, waiting, drop-append_seam, take-append_seam}
 use Rattle.hub_core.proofs.SoundPlaces.{speaker_next}
 use Rattle.hub_core.proofs.Fitting.{SweptWith, any_of, found_closed_of, found_moved_of, got_of, let_in_of, noticed_of, pushed_of, served_of, swept_of}
@@ -94,11 +94,11 @@ here_turned : (f : Facts) (s : Sender) (o : Outcome) → IsTurned o → phase_of
 here_turned f s o (inl is) = rw is (ap (λ b. cond b Turned (phase_of_line f s)) (same_line s))
 here_turned f s o (inr is) = rw is (ap (λ b. cond b Turned (phase_of_line f s)) (same_line s))
 
-turned_from : (h before middle after : History) (s : Sender) (refused : Bool) (o : Outcome) → Legal h → IsTurned o → h ≡ before ++ enter_of s refused o ∷ (middle ++ after) → AllByRecursion (λ (p : Pair). leaves s p.1 p.0.action ≡ false) middle → AllByRecursion (λ (p : Pair). posts s p.1 p.0.action ≡ false) middle
+turned_from : (h before middle after : History) (s : Sender) (refused : Bool) (o : Outcome) → Legal h → IsTurned o → h ≡ before ++ answered (action.Enter s) refused o ∷ (middle ++ after) → AllByRecursion (λ (p : Pair). leaves s p.1 p.0.action ≡ false) middle → AllByRecursion (λ (p : Pair). posts s p.1 p.0.action ≡ false) middle
 turned_from h before middle after s refused o l turned is stays =
-    let at = legal_at h before (middle ++ after) (enter_of s refused o) l is in
-    turned_on (before ++ enter_of s refused o ∷ []) s middle after at.2
-    (ap (λ (f : Facts). phase_of_line f s) (facts_next before (enter_of s refused o)) ∙ here_turned (facts before) s o turned) stays
+    let at = legal_at h before (middle ++ after) (answered (action.Enter s) refused o) l is in
+    turned_on (before ++ answered (action.Enter s) refused o ∷ []) s middle after at.2
+    (ap (λ (f : Facts). phase_of_line f s) (facts_next before (answered (action.Enter s) refused o)) ∙ here_turned (facts before) s o turned) stays
 
 -- ---- what a take is answered
 
@@ -106,14 +106,14 @@ closed_of : (closed : Bool) (o : Outcome) (P : Type 0) → closed ≡ true → M
 closed_of true o P is h = h
 closed_of false o P is h = absurd (false≢true is)
 
-closed_takes : (h before after : History) (e : EndId) (refused : Bool) (o : Outcome) → Legal h → h ≡ before ++ take_of e refused o ∷ after → ((facts before).end e.0).closed ≡ true → o ≡ outcome.Closed
+closed_takes : (h before after : History) (e : EndId) (refused : Bool) (o : Outcome) → Legal h → h ≡ before ++ answered (action.Take e) refused o ∷ after → ((facts before).end e.0).closed ≡ true → o ≡ outcome.Closed
 closed_takes h before after e refused o l is closed =
-    let at = legal_at h before after (take_of e refused o) l is in
+    let at = legal_at h before after (answered (action.Take e) refused o) l is in
     closed_of ((facts before).end e.0).closed o _ closed at.1
 
-empty_at : (h before after : History) (e : EndId) (refused : Bool) → Legal h → h ≡ before ++ take_of e refused outcome.Empty ∷ after → IsDrainedAt before e.0
+empty_at : (h before after : History) (e : EndId) (refused : Bool) → Legal h → h ≡ before ++ answered (action.Take e) refused outcome.Empty ∷ after → IsDrainedAt before e.0
 empty_at h before after e refused l is =
-    let at = legal_at h before after (take_of e refused outcome.Empty) l is in
+    let at = legal_at h before after (answered (action.Take e) refused outcome.Empty) l is in
     let served = served_of (facts before) e outcome.Empty (λ is. cc) (λ is. cc) (λ is. cc) at.1 in
     record { is_open = served.is_open; is_enabled = served.is_enabled; all = served.serves.all }
 
@@ -130,9 +130,9 @@ waits_of f x k h =
     let both = and_parts (not (is_out (f.line x found.0).phase)) (eqb (f.line x found.0).stand k) found.2 in
     record { line = found.0; low = found.1; away = not-true (is_out (f.line x found.0).phase) both.0; there = eqb-true (f.line x found.0).stand k both.1 }
 
-busy_at : (h before after : History) (e : EndId) (refused : Bool) → Legal h → h ≡ before ++ take_of e refused outcome.Busy ∷ after → IsBusyAt before e.0
+busy_at : (h before after : History) (e : EndId) (refused : Bool) → Legal h → h ≡ before ++ answered (action.Take e) refused outcome.Busy ∷ after → IsBusyAt before e.0
 busy_at h before after e refused l is =
-    let at = legal_at h before after (take_of e refused outcome.Busy) l is in
+    let at = legal_at h before after (answered (action.Take e) refused outcome.Busy) l is in
     let served = served_of (facts before) e outcome.Busy (λ is. cc) (λ is. cc) (λ is. cc) at.1 in
     let stand : ℕ = ((facts before).end e.0).taker_stand in
     let unsettled = or_parts ((facts before).clear e.0 stand) (not (someone_at (facts before) e.0 stand)) served.serves.1 in
@@ -152,8 +152,8 @@ headline h l =
           front_numbered (numbers line epoch (taken h e)) p.0 (subst Numbered p.1 ((s.lines e).numbered line epoch));
       closed = λ before after e refused o is closed. closed_takes h before after e refused o l is closed;
       turned = λ before middle after t refused o turned is stays. turned_from h before middle after t refused o l turned is stays;
-      same = λ before after t refused again o turned nowhere is. turned_same before t refused again o turned nowhere (legal_at h before after (enter_of t refused o) l is).1;
-      same_but_destination = λ before after t refused again o turned there is. turned_leaves before t refused again o turned (legal_at h before after (enter_of t refused o) l is).1;
+      same = λ before after t refused again o turned nowhere is. turned_same before t refused again o turned nowhere (legal_at h before after (answered (action.Enter t) refused o) l is).1;
+      same_but_destination = λ before after t refused again o turned there is. turned_leaves before t refused again o turned (legal_at h before after (answered (action.Enter t) refused o) l is).1;
       empty = λ before after e refused is. empty_at h before after e refused l is;
       busy = λ before after e refused is. busy_at h before after e refused l is;
     }
@@ -442,15 +442,15 @@ quiet_first f e vs sound w = record {
   same = refl;
 }
 
-quiet_after : (h before after : History) (e : EndId) (refused : Bool) (vs : List Envelope) → Legal h → h ≡ before ++ sweep_of e refused vs ∷ after → QuietAt (facts h) e.0 (accepted before e.0)
+quiet_after : (h before after : History) (e : EndId) (refused : Bool) (vs : List Envelope) → Legal h → h ≡ before ++ answered (action.Sweep e) refused (outcome.Discarded vs) ∷ after → QuietAt (facts h) e.0 (accepted before e.0)
 quiet_after h before after e refused vs legal is =
-    let p : Pair = sweep_of e refused vs in
+    let p : Pair = answered (action.Sweep e) refused (outcome.Discarded vs) in
     let whole : List Envelope = accepted before e.0 in
     let at = legal_at h before after p legal is in
     let first : QuietAt (facts (before ++ p ∷ [])) e.0 whole = subst (λ f. QuietAt f e.0 whole) (sym (facts_next before p)) (quiet_first (facts before) e vs (sound_legal before at.0) (swept_of (facts before) e vs at.1)) in
     subst (λ k. QuietAt (facts k) e.0 whole) (append_assoc before (p ∷ []) after ∙ sym is) (by_pairs (λ k. QuietAt (facts k) e.0 whole) (λ k q quiet fits. quiet_more k q e.0 whole quiet fits) (before ++ p ∷ []) after first at.2)
 
-nothing_waits : (h before after : History) (e : EndId) (refused : Bool) (vs : List Envelope) → Legal h → h ≡ before ++ sweep_of e refused vs ∷ after → waiting h e.0 ≡ []
+nothing_waits : (h before after : History) (e : EndId) (refused : Bool) (vs : List Envelope) → Legal h → h ≡ before ++ answered (action.Sweep e) refused (outcome.Discarded vs) ∷ after → waiting h e.0 ≡ []
 nothing_waits h before after e refused vs legal is =
     let quiet = quiet_after h before after e refused vs legal is in
     nothing_there (waiting h e.0) (λ l. nothing_more (by l (taken h e.0 ++ discarded h e.0)) (by l (waiting h e.0)) (sym (line_parts h e.0 l legal) ∙ sym (quiet.all l)))
@@ -478,7 +478,7 @@ stays_closed : (x : ℕ) (closed : Bool) (o : Outcome) (a : Action) → closed �
 stays_closed x closed outcome.Done (action.Close t) is = elim (eqb x t.0) as (λ b. cond b true closed ≡ true) [ true ↦ refl | false ↦ is ]
 stays_closed x closed o a is = is
 
-takes_none : (f : Facts) (e : ℕ) (refused : Bool) (o : Outcome) (a : Action) → (f.end e).closed ≡ true → ((t : EndId) (v : Envelope) → a ≡ action.Take t → o ≡ outcome.Got v → FitsTake f t (outcome.Got v)) → taken_by e o a ≡ []
+takes_none : (f : Facts) (e : ℕ) (refused : Bool) (o : Outcome) (a : Action) → (f.end e).closed ≡ true → ((t : EndId) (v : Envelope) → a ≡ action.Take t → o ≡ outcome.Got v → FitsTake (Serves f t) f t (outcome.Got v)) → taken_by e o a ≡ []
 takes_none f e refused (outcome.Got v) (action.Take t) closed fits = at_test (λ us. us ≡ []) (eqb e t.0) (v ∷ []) []
     (λ is.
     let here : e ≡ t.0 = search (rules, is) in
@@ -490,7 +490,7 @@ pub taken_closed : (past rest : History) (e : ℕ) → LegalAfter past rest → 
 taken_closed past [] e l closed = ap (λ h. taken h e) (append-nil past)
 taken_closed past (p ∷ rest) e l closed =
     let still : ((facts (past ++ p ∷ [])).end e).closed ≡ true = ap (λ (f : Facts). (f.end e).closed) (facts_next past p) ∙ stays_closed e ((facts past).end e).closed p.1 p.0.action closed in
-    let none : taken_by e p.1 p.0.action ≡ [] = takes_none (facts past) e p.0.memory_refused p.1 p.0.action closed (λ t v is got. (subst (FitsTake (facts past) t) got (subst (λ b. Answers (facts past) b p.0.memory_refused p.1) is l.0))) in
+    let none : taken_by e p.1 p.0.action ≡ [] = takes_none (facts past) e p.0.memory_refused p.1 p.0.action closed (λ t v is got. (subst (FitsTake (Serves (facts past) t) (facts past) t) got (subst (λ b. Answers (facts past) b p.0.memory_refused p.1) is l.0))) in
     let one : taken (past ++ p ∷ []) e ≡ taken past e =
     flat_map-append (λ (q : Pair). taken_by e q.1 q.0.action) past (p ∷ []) ∙ ap (λ us. taken past e ++ (us ++ [])) none ∙ append-nil (taken past e) in
     ap (λ h. taken h e) (sym (append_assoc past (p ∷ []) rest)) ∙ taken_closed (past ++ p ∷ []) rest e l.1 still ∙ one

@@ -1,20 +1,20 @@
 -- What the core answers to Enter, Leave, Line, Back, Order, See, Push and Notice fits, and it shows the facts with the answered step.
 use Rattle.std.proofs.Common.{Bool, List, None, Option, Some, [], ap, append_assoc, arith, cond, eqb, false, get_or, inl, inr, leb-true, length, length-append, length-set, lt-ltb, ltb-true, nat_le, nat_lt, ne_eqb, not, refl, rules, set, subst, suc, sym, true, zero, ℕ, ⊎_elim, ◌&&◌, ◌++◌}
 use Rattle.std.proofs.Common.{◌+◌, ◌-◌, ◌<◌, ◌||◌, ◌∙◌, ◌∷◌, ◌≡◌, ◌≤◌}
-use Rattle.hub_core.proofs.Words.{Acceptance, Action, Agent, AgentId, AgentNow, Answers, CoreState, End, EndId, EndNow, Envelope, Facts, InFlight, Inside, Kind, Line, LineNow, MAX_LINES, Member, Out, Outcome, Phase, Place, Port, Sender, ShowsEnd, ShowsFacts, ShowsPut, Sound, Turned, With}
-use Rattle.hub_core.proofs.Words.{accept_ends, agent_now, and_parts, any_below, back_answer, cases_eq, cases_lt, cast_after, change_agent, change_end, change_line, change_owner, changed_ends, count_away, count_in_queue, end_moved, end_now, enter_answer, eqb-true, false≢true, filter}
-use Rattle.hub_core.proofs.Words.{filter-append, first_failing, first_free, free_line, has_away, has_poster, has_poster_of, has_queue, held_by, if◌then◌else◌, in_phase, in_queue, is_away_of, is_holder, is_inside, is_out, is_posting, is_queue}
-use Rattle.hub_core.proofs.Words.{is_some, is_with, kept_away, kept_lines, le-leb, leave_answer, line_answer, line_found, line_now, lines_of}
-use Rattle.hub_core.proofs.Words.{may_enter, moved_ends, named_envelope, named_notice, names, no_line, notice_answer, one_away, one_out, option_map, order_answer, owner, owner_by, peer_of, phase_of_line, position, position_from, position_from-zero}
-use Rattle.hub_core.proofs.Words.{posting_at, posting_line, push_answer, put_end, put_found, see_answer, seen, slice_get, slice_get_within, total, with_agent, first_line, line_answer_of, line_of, may_put, notice_answer_at, option_and_then, push_answer_at, put_there, see_answer_of, unwrap_or, count_of, get_or-set_other, get_or-set_same}
-use Rattle.hub_core.proofs.Counts.{Counted, away_at, calm_held, calm_sent, change_each, change_get, change_length, counted_entered, counted_left, counted_ports, counts_of, counts_still, free_out, none_counted, owner_length, owner_now_away, owner_now_out, owns_it, phase_away, same_count}
+use Rattle.hub_core.proofs.Words.{Acceptance, Action, Agent, AgentId, AgentNow, Answers, CoreState, End, EndId, EndNow, Envelope, Facts, InFlight, Inside, Kind, Line, LineNow, MAX_LINES, Member, Out, Outcome, Phase, Place, Port, Sender, ShowsEnd, ShowsFacts, ShowsPut, Sound, Turned, With, change_at, set_at, counted}
+use Rattle.hub_core.proofs.Words.{accept_ends, agent_now, and_parts, any_below, back_answer, cases_eq, cases_lt, cast_after, change_line, change_owner, count_away, count_in_queue, end_moved, end_now, enter_answer, eqb-true, false≢true, filter}
+use Rattle.hub_core.proofs.Words.{filter-append, first_failing, first_free, free_line, has_away, has_queue, held_by, if◌then◌else◌, in_phase, in_queue, is_away_of, is_holder, is_inside, is_out, is_posting, is_queue}
+use Rattle.hub_core.proofs.Words.{is_some, kept_away, kept_lines, le-leb, leave_answer, line_answer, line_found, line_now, lines_of}
+use Rattle.hub_core.proofs.Words.{may_enter, moved_ends, named_envelope, named_notice, names, no_line, notice_answer, option_map, order_answer, owner, owner_by, peer_of, phase_of_line, position, position_from, position_from-zero}
+use Rattle.hub_core.proofs.Words.{posting_at, posting_line, push_answer, put_end, see_answer, seen, slice_get, slice_get_within, total, with_agent, first_line, line_answer, line_of, may_put, notice_answer, option_and_then, put_there, unwrap_or, count_of, get_or-set_other, get_or-set_same}
+use Rattle.hub_core.proofs.Counts.{Counted, away_at, calm_held, calm_sent, change_each, change_get, change_length, counted_entered, counted_left, counted_ports, counts_of, counts_still, free_out, none_counted, owner_length, owner_now_away, owner_now_out, phase_away, same_count}
 use Rattle.hub_core.proofs.Casts.{recast}
 use Rattle.hub_core.proofs.Frames.{FoundLine, ShownAfter, ShownAt, ShownWith, Stepped, changed, end_restated, end_there, found_line, line_changed, line_set, recounted, same_queues}
 use Rattle.hub_core.proofs.Fitting.{Entered, back_of, first_failing_of, found_closed_of, found_moved_of, hit, left_of, let_in_of, line_got_of, noticed_of, pushed_of, pass}
 use Rattle.hub_core.proofs.Nexts.{Change, agent_ended, agent_ordered, found_closed, found_moved, left, let_in, line_back, line_got, next, notice_put, put}
-use Rattle.hub_core.proofs.Seeing.{Sees, SoundlyShows, owner_seen, seen_is, push_seen}
+use Rattle.hub_core.proofs.Seeing.{Sees, SoundlyShows, seen_is}
 use Rattle.hub_core.proofs.SoundLines.{LinesAt, held_line_as, line_there, phased_line, queue_lines, told_line, inside_of}
-use Rattle.hub_core.proofs.Speakers.{hears_of, made_of, no_member, no_port, placed_made, running_made, travels}
+use Rattle.hub_core.proofs.Speakers.{hears_of, made_of, no_member, no_port, placed_made, running_made, travels, with_found}
 use Rattle.hub_core.proofs.Totals.{bit}
 use Rattle.hub_core.proofs.Items.{each_set, eqb_same, got_there, is_there}
 use Rattle.hub_core.proofs.SoundPlaces.{some_own}
@@ -52,24 +52,6 @@ stand_kept f e l x s h opened =
     let count : x.taker + length x.queues ≡ x.newest + 1 = h.queues.count (sym (ap (λ (z : EndNow). z.closed) h.same) ∙ opened) in
     omega arith
 
--- whose poster the line has
-with_owned : (a : AgentId) (p : Option Place) → is_with a p ≡ owns_it (with_agent p) a
-with_owned a (Some (With b)) = refl
-with_owned a _ = refl
-
-held_owned : (a : AgentId) (q : Option AgentId) → is_holder a q ≡ owns_it q a
-held_owned a None = refl
-held_owned a (Some b) = refl
-
-owner_has : (f : Facts) (s : Sender) (a : AgentId) (k : Option Kind) → has_poster_of f a s.end.0 s.line.0 k ≡ owns_it (owner_by f s k) a
-owner_has f s a (Some (Port q)) = elim (eqb s.line.0 0) as (λ b. (b && is_with a (f.end q.0).place) ≡ owns_it (cond b (with_agent (f.end q.0).place) None) a) [
-  | true ↦ with_owned a (f.end q.0).place
-  | false ↦ refl
-]
-owner_has f s a (Some (Member b)) = refl
-owner_has f s a None = refl
-owner_has f s a _ = held_owned a (f.line s.end.0 s.line.0).held_by
-
 -- an agent that holds a line that may be entered was made
 held_made : {agents : List Agent} {ends : List End} {f : Facts} (s : Sender) → SoundlyShows agents ends f → is_queue (f.end s.end.0).kind ≡ true → may_enter f s ≡ true → (b : AgentId) → (f.line s.end.0 s.line.0).held_by ≡ Some b → b.0 < length agents
 held_made {agents} {f} s h queue may b is = elim (hears_of f s may) [
@@ -83,16 +65,12 @@ held_made {agents} {f} s h queue may b is = elim (hears_of f s may) [
   ]
 ]
 
--- it is one that was made
-with_found : (p : Option Place) (b : AgentId) → with_agent p ≡ Some b → p ≡ Some (With b)
-with_found (Some (With c)) b is = ap (λ q. Some (With q)) (let same : c ≡ b = cc in same)
-with_found _ b is = absurd (search (rules, is))
-
+-- so was the owner
 port_owner : (first : Bool) (p : Option Place) (b : AgentId) → cond first (with_agent p) None ≡ Some b → p ≡ Some (With b)
 port_owner true p b is = with_found p b is
 port_owner false p b is = absurd (search (rules, is))
 
-owner_made : {agents : List Agent} {ends : List End} {f : Facts} (s : Sender) → SoundlyShows agents ends f → (k : Option Kind) → (f.end s.end.0).kind ≡ k → may_enter f s ≡ true → (b : AgentId) → owner_by f s k ≡ Some b → b.0 < length agents
+owner_made : {agents : List Agent} {ends : List End} {f : Facts} (s : Sender) → SoundlyShows agents ends f → (k : Option Kind) → (f.end s.end.0).kind ≡ k → may_enter f s ≡ true → (b : AgentId) → owner_by f.end s.line.0 (f.line s.end.0 s.line.0).held_by k ≡ Some b → b.0 < length agents
 owner_made {agents} {f} s h (Some (Port q)) kind may b is =
     let made : b.0 < f.agents = h.sound.places.with_made q.0 b (port_owner (eqb s.line.0 0) (f.end q.0).place b is) in
     omega (arith, h.agents)
@@ -101,31 +79,36 @@ owner_made s h None kind may b is = absurd (search (rules, is))
 owner_made {agents} {ends} {f} s h _ kind may b is = held_made s h (ap is_queue kind) may b is
 
 -- one poster more is away, of the line's owner
-entered_counts : {agents : List Agent} {ends : List End} {f : Facts} (s : Sender) (x : End) (p : Phase) → SoundlyShows agents ends f → ShownAt f s.end.0 (Some x) → Entered f s → is_out p ≡ false → Counted (change_owner one_away (owner f s) agents) (record f { line = phased_line f s p })
+entered_counts : {agents : List Agent} {ends : List End} {f : Facts} (s : Sender) (x : End) (p : Phase) → SoundlyShows agents ends f → ShownAt f s.end.0 (Some x) → Entered f s → is_out p ≡ false → Counted (change_owner (counted Inside) (owner f s.end.0 s.line.0) agents) (record f { line = phased_line f s p })
 entered_counts {agents} {ends} {f} s x p h shown entered away =
     let g : Facts = record f { line = phased_line f s p } in
     let kind : (f.end s.end.0).kind ≡ Some x.kind = ap (λ (z : EndNow). z.kind) shown.same in
     let low : s.line.0 < lines_of (f.end s.end.0).kind = line_there f s (h.sound.lines s.end.0) entered.may in
     let made : s.end.0 < f.ends = made_of f s.end.0 h.sound.places.ends (λ none. absurd (search (rules, sym (ap (λ (z : EndNow). z.kind) none) ∙ kind))) in
-    counted_entered agents f g (owner f s) h.sound.places.few (owner_made s h (f.end s.end.0).kind refl entered.may) refl (λ d. refl) (λ d. refl) (λ a.
-    let sum : count_away a f + bit (not (is_out p) && has_poster f a s.end.0 s.line.0) ≡ count_away a g + bit (is_away_of f a s.end.0 s.line.0) = phase_away a f g s p made low refl (λ d. refl) (λ d. refl) (λ d l. refl) (λ d l. refl) in
-    let new : bit (not (is_out p) && has_poster f a s.end.0 s.line.0) ≡ bit (owns_it (owner f s) a) = ap (λ b. bit (not b && has_poster f a s.end.0 s.line.0)) away ∙ ap bit (owner_has f s a (f.end s.end.0).kind) in
-    let old : bit (is_away_of f a s.end.0 s.line.0) ≡ 0 = ap (λ b. bit (not b && has_poster f a s.end.0 s.line.0)) entered.out in
+    counted_entered agents f g (owner f s.end.0 s.line.0) h.sound.places.few (owner_made s h (f.end s.end.0).kind refl entered.may) refl (λ d. refl) (λ d. refl) (λ a.
+    let sum : count_away a f + bit (not (is_out p) && is_holder a (owner f s.end.0 s.line.0)) ≡ count_away a g + bit (is_away_of f a s.end.0 s.line.0) = phase_away a f g s p made low refl (λ d. refl) (λ d. refl) (λ d l. refl) (λ d l. refl) in
+    let new : bit (not (is_out p) && is_holder a (owner f s.end.0 s.line.0)) ≡ bit (is_holder a (owner f s.end.0 s.line.0)) = ap (λ b. bit (not b && is_holder a (owner f s.end.0 s.line.0))) away in
+    let old : bit (is_away_of f a s.end.0 s.line.0) ≡ 0 = ap (λ b. bit (not b && is_holder a (owner f s.end.0 s.line.0))) entered.out in
     omega arith) (counts_of h)
+
+counted_away : (p : Phase) → is_out p ≡ false → counted p ≡ counted Inside
+counted_away Out away = absurd (false≢true (sym away))
+counted_away _ away = refl
 
 -- the poster of a line that may be entered is in another phase, and one more is away of its owner
 came_shown : (c : CoreState) (f : Facts) (s : Sender) (refused : Bool) (p : Phase) (o : Outcome) → Sees c f → o ≡ enter_answer f s → Entered f s → is_out p ≡ false → (p ≡ Inside → (f.end s.end.0).closed ≡ false)
-    → next f (action.Enter s) o ≡ (let g : Facts = record f { line = phased_line f s p } in g) → Stepped (change_owner one_away (owner (seen c) s) c.agents) (change_line (in_phase p) s c.ends) f (action.Enter s) refused o
+    → next f (action.Enter s) o ≡ (let g : Facts = record f { line = phased_line f s p } in g) → Stepped (change_owner (counted p) (owner (seen c) s.end.0 s.line.0) c.agents) (change_line (in_phase p) s c.ends) f (action.Enter s) refused o
 came_shown c f s refused p o h answer entered away opened after =
     let w = found_line s h.shows (line_there f s (h.shows.sound.lines s.end.0) entered.may) in
     let shown = end_there s.end.0 h.shows w.at in
     let g : Facts = record f { line = phased_line f s p } in
-    subst (λ q. Stepped (change_owner one_away q c.agents) (change_line (in_phase p) s c.ends) f (action.Enter s) refused o) (sym (owner_seen s h))
-    (subst (λ es. Stepped (change_owner one_away (owner f s) c.agents) es f (action.Enter s) refused o) (sym (line_set c.ends s (in_phase p) w))
-    (recounted h.shows answer (ap (λ (k : Facts). k.agents) after) (ap (λ (k : Facts). k.agent) after) (owner_length one_away (owner f s) c.agents) (owner_now_away (owner f s) c.agents)
+    subst (λ change. Stepped (change_owner change (owner (seen c) s.end.0 s.line.0) c.agents) (change_line (in_phase p) s c.ends) f (action.Enter s) refused o) (sym (counted_away p away))
+    (subst (λ q. Stepped (change_owner (counted Inside) q c.agents) (change_line (in_phase p) s c.ends) f (action.Enter s) refused o) (sym (ap (λ g. owner g s.end.0 s.line.0) (seen_is h)))
+    (subst (λ es. Stepped (change_owner (counted Inside) (owner f s.end.0 s.line.0) c.agents) es f (action.Enter s) refused o) (sym (line_set c.ends s (in_phase p) w))
+    (recounted h.shows answer (ap (λ (k : Facts). k.agents) after) (ap (λ (k : Facts). k.agent) after) (owner_length (counted Inside) (owner f s.end.0 s.line.0) c.agents) (owner_now_away (owner f s.end.0 s.line.0) c.agents)
     (ap (λ (k : Facts). k.ends) after ∙ h.shows.ends ∙ sym (length-set c.ends s.end.0 (with_phase w.x w.y s.line.0 p)))
-    (subst (Counted (change_owner one_away (owner f s) c.agents)) (sym after) (entered_counts s w.x p h.shows shown entered away))
-    (λ d. subst (λ k. ShownAt k d (slice_get (set c.ends s.end.0 (with_phase w.x w.y s.line.0 p)) d)) (sym after) (phased_shown s p w.x w.y h.shows w.at w.is (λ in_side. stand_kept f s.end.0 s.line.0 w.x h.shows.sound shown (opened in_side)) d))))
+    (subst (Counted (change_owner (counted Inside) (owner f s.end.0 s.line.0) c.agents)) (sym after) (entered_counts s w.x p h.shows shown entered away))
+    (λ d. subst (λ k. ShownAt k d (slice_get (set c.ends s.end.0 (with_phase w.x w.y s.line.0 p)) d)) (sym after) (phased_shown s p w.x w.y h.shows w.at w.is (λ in_side. stand_kept f s.end.0 s.line.0 w.x h.shows.sound shown (opened in_side)) d)))))
 
 pub enter_changes : {c : CoreState} {f : Facts} (s : Sender) (refused : Bool) {o : Outcome} → Sees c f → o ≡ enter_answer f s → Change (action.Enter s) o → ShownAfter c f (action.Enter s) refused o
 enter_changes {c} {f} s refused h answer (let_in t) = (came_shown c f s refused Inside outcome.In h answer (let_in_of f s answer).0 refl (λ _. (let_in_of f s answer).2) refl, refl)
@@ -135,24 +118,24 @@ enter_changes {c} {f} s refused h answer (found_closed t) = (came_shown c f s re
 -- ---- Leave
 
 -- one poster less is away, of the line's owner
-left_counts : {agents : List Agent} {ends : List End} {f : Facts} (s : Sender) (x : End) → SoundlyShows agents ends f → ShownAt f s.end.0 (Some x) → is_out (f.line s.end.0 s.line.0).phase ≡ false → Counted (change_owner one_out (owner f s) agents) (next f (action.Leave s) outcome.Left)
+left_counts : {agents : List Agent} {ends : List End} {f : Facts} (s : Sender) (x : End) → SoundlyShows agents ends f → ShownAt f s.end.0 (Some x) → is_out (f.line s.end.0 s.line.0).phase ≡ false → Counted (change_owner (counted Out) (owner f s.end.0 s.line.0) agents) (next f (action.Leave s) outcome.Left)
 left_counts {agents} {f} s x h shown away =
     let g : Facts = next f (action.Leave s) outcome.Left in
     let kind : (f.end s.end.0).kind ≡ Some x.kind = ap (λ (z : EndNow). z.kind) shown.same in
     let low : s.line.0 < lines_of (f.end s.end.0).kind = line_there f s (h.sound.lines s.end.0) (h.sound.places.away s away) in
     let made : s.end.0 < f.ends = made_of f s.end.0 h.sound.places.ends (λ none. absurd (search (rules, sym (ap (λ (z : EndNow). z.kind) none) ∙ kind))) in
-    counted_left agents f g (owner f s) refl (λ d. refl) (λ d. refl) (λ a.
-    let sum : count_away a f + bit (not (is_out Out) && has_poster f a s.end.0 s.line.0) ≡ count_away a g + bit (is_away_of f a s.end.0 s.line.0) = phase_away a f g s Out made low refl (λ d. refl) (λ d. refl) (λ d l. refl) (λ d l. refl) in
-    let old : bit (is_away_of f a s.end.0 s.line.0) ≡ bit (owns_it (owner f s) a) = ap (λ b. bit (not b && has_poster f a s.end.0 s.line.0)) away ∙ ap bit (owner_has f s a (f.end s.end.0).kind) in
+    counted_left agents f g (owner f s.end.0 s.line.0) refl (λ d. refl) (λ d. refl) (λ a.
+    let sum : count_away a f + bit (not (is_out Out) && is_holder a (owner f s.end.0 s.line.0)) ≡ count_away a g + bit (is_away_of f a s.end.0 s.line.0) = phase_away a f g s Out made low refl (λ d. refl) (λ d. refl) (λ d l. refl) (λ d l. refl) in
+    let old : bit (is_away_of f a s.end.0 s.line.0) ≡ bit (is_holder a (owner f s.end.0 s.line.0)) = ap (λ b. bit (not b && is_holder a (owner f s.end.0 s.line.0))) away in
     omega arith) (counts_of h)
 
-left_shown : (c : CoreState) (f : Facts) (s : Sender) (refused : Bool) → Sees c f → outcome.Left ≡ leave_answer f s → Stepped (change_owner one_out (owner (seen c) s) c.agents) (change_line (in_phase Out) s c.ends) f (action.Leave s) refused outcome.Left
+left_shown : (c : CoreState) (f : Facts) (s : Sender) (refused : Bool) → Sees c f → outcome.Left ≡ leave_answer f s → Stepped (change_owner (counted Out) (owner (seen c) s.end.0 s.line.0) c.agents) (change_line (in_phase Out) s c.ends) f (action.Leave s) refused outcome.Left
 left_shown c f s refused h answer =
     let away = left_of f s answer in
     let w = found_line s h.shows (line_there f s (h.shows.sound.lines s.end.0) (h.shows.sound.places.away s away)) in
-    subst (λ q. Stepped (change_owner one_out q c.agents) (change_line (in_phase Out) s c.ends) f (action.Leave s) refused outcome.Left) (sym (owner_seen s h))
-    (subst (λ es. Stepped (change_owner one_out (owner f s) c.agents) es f (action.Leave s) refused outcome.Left) (sym (line_set c.ends s (in_phase Out) w))
-    (recounted h.shows answer refl refl (owner_length one_out (owner f s) c.agents) (owner_now_out (owner f s) c.agents)
+    subst (λ q. Stepped (change_owner (counted Out) q c.agents) (change_line (in_phase Out) s c.ends) f (action.Leave s) refused outcome.Left) (sym (ap (λ g. owner g s.end.0 s.line.0) (seen_is h)))
+    (subst (λ es. Stepped (change_owner (counted Out) (owner f s.end.0 s.line.0) c.agents) es f (action.Leave s) refused outcome.Left) (sym (line_set c.ends s (in_phase Out) w))
+    (recounted h.shows answer refl refl (owner_length (counted Out) (owner f s.end.0 s.line.0) c.agents) (owner_now_out (owner f s.end.0 s.line.0) c.agents)
     (h.shows.ends ∙ sym (length-set c.ends s.end.0 (with_phase w.x w.y s.line.0 Out))) (left_counts s w.x h.shows (end_there s.end.0 h.shows w.at) away) (phased_shown s Out w.x w.y h.shows w.at w.is (λ no. cc))))
 
 pub leave_changes : {c : CoreState} {f : Facts} (s : Sender) (refused : Bool) {o : Outcome} → Sees c f → o ≡ leave_answer f s → Change (action.Leave s) o → ShownWith c f (action.Leave s) refused o
@@ -206,14 +189,14 @@ free_line_kept f e o h queue =
 
 -- ---- Line
 
-line_fits_at : (f : Facts) (e : EndId) (a : AgentId) (o : Option End) → ShownAt f e.0 o → line_answer_of (first_free (kept_lines o)) f e a ≡ line_answer f e a
+line_fits_at : (f : Facts) (e : EndId) (a : AgentId) (o : Option End) → ShownAt f e.0 o → line_answer (first_free (kept_lines o)) f e a ≡ line_answer (free_line f e.0) f e a
 line_fits_at f e a o shown = elim (is_queue (f.end e.0).kind) as (λ b. is_queue (f.end e.0).kind ≡ b → cond (not (f.agent a.0).runs) outcome.NotNow (cond (not b) outcome.NoSuchEnd (line_found (first_free (kept_lines o)))) ≡ cond (not (f.agent a.0).runs) outcome.NotNow (cond (not b) outcome.NoSuchEnd (line_found (free_line f e.0)))) [
   | true ↦ λ queue. ap (λ q. cond (not (f.agent a.0).runs) outcome.NotNow (line_found q)) (free_line_kept f e.0 o shown queue)
   | false ↦ λ _. refl
 ] refl
 
-pub line_fits : {c : CoreState} {f : Facts} (e : EndId) (a : AgentId) → Sees c f → line_answer_of (first_free (kept_lines (slice_get c.ends e.0))) (seen c) e a ≡ line_answer f e a
-line_fits {c} {f} e a h = ap (λ g. line_answer_of (first_free (kept_lines (slice_get c.ends e.0))) g e a) (seen_is h) ∙ line_fits_at f e a (slice_get c.ends e.0) (h.shows.end e.0)
+pub line_fits : {c : CoreState} {f : Facts} (e : EndId) (a : AgentId) → Sees c f → line_answer (first_free (kept_lines (slice_get c.ends e.0))) (seen c) e a ≡ line_answer (free_line f e.0) f e a
+line_fits {c} {f} e a h = ap (λ g. line_answer (first_free (kept_lines (slice_get c.ends e.0))) g e a) (seen_is h) ∙ line_fits_at f e a (slice_get c.ends e.0) (h.shows.end e.0)
 
 -- a line with this holder, or with none
 holder_shown : (c : CoreState) (f : Facts) (s : Sender) (holder : Option AgentId) (a : Action) (refused : Bool) (o : Outcome) → Sees c f → Answers f a refused o → s.line.0 < lines_of (f.end s.end.0).kind → is_out (f.line s.end.0 s.line.0).phase ≡ true
@@ -226,7 +209,7 @@ holder_shown c f s holder a refused o h answer low out after =
     (subst (Counted c.agents) (sym after) (counts_still h.shows refl (λ d. refl) (λ d. refl) (λ b. calm_held b f g s holder out (λ d. refl) (λ d. refl) (λ d i. refl) (λ d i. refl))))
     (λ d. subst (λ k. ShownAt k d (slice_get (set c.ends s.end.0 (with_holder w.x w.y s.line.0 holder)) d)) (sym after) (held_shown s holder w.x w.y h.shows w.at w.is d)))
 
-pub line_changes : {c : CoreState} {f : Facts} (e : EndId) (a : AgentId) (refused : Bool) {o : Outcome} → Sees c f → o ≡ line_answer f e a → Change (action.Line e a) o → ShownAfter c f (action.Line e a) refused o
+pub line_changes : {c : CoreState} {f : Facts} (e : EndId) (a : AgentId) (refused : Bool) {o : Outcome} → Sees c f → o ≡ line_answer (free_line f e.0) f e a → Change (action.Line e a) o → ShownAfter c f (action.Line e a) refused o
 line_changes {c} {f} e a refused h answer (line_got d b l) =
     let s : Sender = record { end = e; line = l } in
     let gets = line_got_of f e a l answer in
@@ -250,7 +233,7 @@ back_changes {c} {f} s refused h answer (line_back t) =
 -- ---- an agent that was ordered, and one that runs no more
 
 -- each agent, one of them changed
-now_each : (agents : List Agent) (f : Facts) (a c : ℕ) (change : Agent → Agent) (new : Bool → AgentNow → AgentNow) → ((b : ℕ) → f.agent b ≡ agent_now (slice_get agents b)) → (x : Agent) → slice_get agents a ≡ Some x → new true (agent_now (Some x)) ≡ agent_now (Some (change x)) → ((w : AgentNow) → new false w ≡ w) → new (eqb c a) (f.agent c) ≡ agent_now (slice_get (change_agent change a agents) c)
+now_each : (agents : List Agent) (f : Facts) (a c : ℕ) (change : Agent → Agent) (new : Bool → AgentNow → AgentNow) → ((b : ℕ) → f.agent b ≡ agent_now (slice_get agents b)) → (x : Agent) → slice_get agents a ≡ Some x → new true (agent_now (Some x)) ≡ agent_now (Some (change x)) → ((w : AgentNow) → new false w ≡ w) → new (eqb c a) (f.agent c) ≡ agent_now (slice_get (change_at change a agents) c)
 now_each agents f a c change new h x at mine other = elim (eqb c a) as (λ b. eqb c a ≡ b → new b (f.agent c) ≡ agent_now (cond b (option_map change (slice_get agents c)) (slice_get agents c))) [
   | true ↦ λ is. let here : slice_get agents c ≡ Some x = ap (slice_get agents) (eqb-true c a is) ∙ at in ap (new true) (h c ∙ ap agent_now here) ∙ mine ∙ sym (ap (λ o. agent_now (option_map change o)) here)
   | false ↦ λ _. other (f.agent c) ∙ h c
@@ -258,7 +241,7 @@ now_each agents f a c change new h x at mine other = elim (eqb c a) as (λ b. eq
 
 -- the facts with one agent changed, of which nothing is counted anew
 agent_set : (c : CoreState) (f : Facts) (a : ℕ) (change : Agent → Agent) (new : Bool → AgentNow → AgentNow) (x : Agent) → Sees c f → slice_get c.agents a ≡ Some x → new true (agent_now (Some x)) ≡ agent_now (Some (change x)) → ((w : AgentNow) → new false w ≡ w)
-    → ((z : Agent) → (change z).clients ≡ z.clients) → ((z : Agent) → (change z).workers ≡ z.workers) → ((z : Agent) → (change z).away ≡ z.away) → ShowsFacts (change_agent change a c.agents) c.ends (record f { agent = λ d. new (eqb d a) (f.agent d) })
+    → ((z : Agent) → (change z).clients ≡ z.clients) → ((z : Agent) → (change z).workers ≡ z.workers) → ((z : Agent) → (change z).away ≡ z.away) → ShowsFacts (change_at change a c.agents) c.ends (record f { agent = λ d. new (eqb d a) (f.agent d) })
 agent_set c f a change new x h at mine other clients workers away = record {
   agents = h.shows.agents ∙ sym (change_length change c.agents a);
   agent = λ d. now_each c.agents f a d change new h.shows.agent x at mine other;
@@ -295,10 +278,10 @@ none_away_below f a (suc n) =
     ∙ ap (λ b. not (any_below (λ x. any_below (is_away_of f a x) (lines_of (f.end x).kind)) n) && b) (none_counted (is_away_of f a n) (lines_of (f.end n).kind))
     ∙ neither (any_below (λ x. any_below (is_away_of f a x) (lines_of (f.end x).kind)) n) (any_below (is_away_of f a n) (lines_of (f.end n).kind))
 
-pub see_fits : {c : CoreState} {f : Facts} (a : AgentId) → Sees c f → see_answer_of (eqb (kept_away (slice_get c.agents a.0)) 0) (seen c) a ≡ see_answer f a
-see_fits {c} {f} a h = ap (λ g. see_answer_of (eqb (kept_away (slice_get c.agents a.0)) 0) g a) (seen_is h) ∙ ap (λ b. see_answer_of b f a) (ap (λ n. eqb n 0) (h.shows.away a) ∙ none_away_below f a f.ends)
+pub see_fits : {c : CoreState} {f : Facts} (a : AgentId) → Sees c f → see_answer (eqb (kept_away (slice_get c.agents a.0)) 0) (seen c) a ≡ see_answer (not (has_away f a)) f a
+see_fits {c} {f} a h = ap (λ g. see_answer (eqb (kept_away (slice_get c.agents a.0)) 0) g a) (seen_is h) ∙ ap (λ b. see_answer b f a) (ap (λ n. eqb n 0) (h.shows.away a) ∙ none_away_below f a f.ends)
 
-pub see_changes : {c : CoreState} {f : Facts} (a : AgentId) (refused : Bool) {o : Outcome} → Sees c f → o ≡ see_answer f a → Change (action.See a) o → ShownAfter c f (action.See a) refused o
+pub see_changes : {c : CoreState} {f : Facts} (a : AgentId) (refused : Bool) {o : Outcome} → Sees c f → o ≡ see_answer (not (has_away f a)) f a → Change (action.See a) o → ShownAfter c f (action.See a) refused o
 see_changes {c} {f} a refused h answer (agent_ended b es) =
     let made = and_parts (nat_lt a.0 f.agents) (not (has_away f a)) (pass (nat_lt a.0 f.agents && not (has_away f a)) answer (λ is. cc)).0 in
     let known : a.0 < f.agents = ltb-true a.0 f.agents made.0 in
@@ -321,7 +304,7 @@ unmoved None = refl
 unmoved (Some x) = refl
 
 -- where one port is moved
-one_moved : (p : Place) (ends : List End) (q : EndId) (o : Option End) → slice_get ends q.0 ≡ o → Moves (q ∷ []) p ends (changed_ends (λ x. record x { place = p }) q.0 ends o)
+one_moved : (p : Place) (ends : List End) (q : EndId) (o : Option End) → slice_get ends q.0 ≡ o → Moves (q ∷ []) p ends (set_at q.0 ends (option_map (λ (x : End). record x { place = p }) o))
 one_moved p ends q None at = record {
   count = refl;
   each = λ e. elim (eqb q.0 e) as (λ b. eqb q.0 e ≡ b → slice_get ends e ≡ option_map (λ (x : End). cond (b || false) (record x { place = p }) x) (slice_get ends e)) [
@@ -458,7 +441,7 @@ queue_kept f s x y h shown line inside =
 -- ==== Push: what the core answers fits, and it shows the facts with the answered step.
 
 -- every end, with the message put and its ports in flight
-pushed_shown : {agents : List Agent} {ends new : List End} {f : Facts} (s : Sender) (ports : List EndId) (body : List ℕ) (refused : Bool) (n : Acceptance) (x : End) (y : Line) → SoundlyShows agents ends f → slice_get ends s.end.0 ≡ Some x → slice_get x.lines s.line.0 ≡ Some y → f.line s.end.0 s.line.0 ≡ line_now (Some y) → n.epoch ≡ y.epoch → has_queue x y.epoch ≡ true → outcome.Accepted n ≡ push_answer f s ports body refused → Moves ports InFlight (set ends s.end.0 (put_end x y (named_envelope s n body ports))) new → Stepped agents new f (action.Push s ports body) refused (outcome.Accepted n)
+pushed_shown : {agents : List Agent} {ends new : List End} {f : Facts} (s : Sender) (ports : List EndId) (body : List ℕ) (refused : Bool) (n : Acceptance) (x : End) (y : Line) → SoundlyShows agents ends f → slice_get ends s.end.0 ≡ Some x → slice_get x.lines s.line.0 ≡ Some y → f.line s.end.0 s.line.0 ≡ line_now (Some y) → n.epoch ≡ y.epoch → has_queue x y.epoch ≡ true → outcome.Accepted n ≡ push_answer (is_posting f s) (put_there f s) f s ports body refused → Moves ports InFlight (set ends s.end.0 (put_end x y (named_envelope s n body ports))) new → Stepped agents new f (action.Push s ports body) refused (outcome.Accepted n)
 pushed_shown {agents} {ends} {new} {f} s ports body refused n x y h at is line epoch queue fits moves =
     let v : Envelope = named_envelope s n body ports in
     let p = pushed_of f s ports body refused n fits in
@@ -497,8 +480,8 @@ put_kept {c} {f} s answer none h = at (slice_get c.ends s.end.0) (h.shows.end s.
     at None shown = none 0 (put_there f s) ∙ ap (λ b. answer b (put_there f s)) (sym (posting_as f s no_line (shown.lines s.line.0)))
     at (Some x) shown = put_line f s x answer none h.shows.sound shown (slice_get x.lines s.line.0) refl
 
-pub push_fits : {c : CoreState} {f : Facts} (s : Sender) (ports : List EndId) (body : List ℕ) (refused : Bool) → Sees c f → push_answer_at (may_put c.ends s) (line_of c.ends s).put (seen c) s ports body refused ≡ push_answer f s ports body refused
-push_fits {c} {f} s ports body refused h = push_seen (may_put c.ends s) (line_of c.ends s).put s ports body refused h ∙ put_kept s (λ b n. push_answer_at b n f s ports body refused) (λ n m. refl) h
+pub push_fits : {c : CoreState} {f : Facts} (s : Sender) (ports : List EndId) (body : List ℕ) (refused : Bool) → Sees c f → push_answer (may_put c.ends s) (line_of c.ends s).put (seen c) s ports body refused ≡ push_answer (is_posting f s) (put_there f s) f s ports body refused
+push_fits {c} {f} s ports body refused h = ap (λ g. push_answer (may_put c.ends s) (line_of c.ends s).put g s ports body refused) (seen_is h) ∙ put_kept s (λ b n. push_answer b n f s ports body refused) (λ n m. refl) h
 
 -- ---- what is put
 
@@ -514,11 +497,11 @@ inside_line {c} {f} s h inside =
 -- the ends with an envelope put on a line that is there, and its ports in flight
 pub accepted_moves : (ends : List End) (s : Sender) (w : FoundLine ends s) (v : Envelope) → v.end ≡ s.end → v.line ≡ s.line → Moves v.ports InFlight (set ends s.end.0 (put_end w.x w.y v)) (accept_ends ends v)
 accepted_moves ends s w v end at_line = moves_to v.ports InFlight (set ends s.end.0 (put_end w.x w.y v)) (accept_ends ends v) (
-    ap (λ (t : Sender). moved_ends v.ports InFlight (change_end (λ z. put_found v z (slice_get z.lines t.line.0)) t.end.0 ends)) (λ i. record { end = end i; line = at_line i })
-    ∙ ap (λ q. moved_ends v.ports InFlight (changed_ends (λ z. put_found v z (slice_get z.lines s.line.0)) s.end.0 ends q)) w.at
-    ∙ ap (λ q. moved_ends v.ports InFlight (set ends s.end.0 (put_found v w.x q))) w.is)
+    ap (λ (t : Sender). moved_ends v.ports InFlight (change_at (λ z. unwrap_or (option_map (λ y. put_end z y v) (slice_get z.lines t.line.0)) z) t.end.0 ends)) (λ i. record { end = end i; line = at_line i })
+    ∙ ap (λ q. moved_ends v.ports InFlight (set_at s.end.0 ends (option_map (λ z. unwrap_or (option_map (λ y. put_end z y v) (slice_get z.lines s.line.0)) z) q))) w.at
+    ∙ ap (λ q. moved_ends v.ports InFlight (set ends s.end.0 (unwrap_or (option_map (λ y. put_end w.x y v) q) w.x))) w.is)
 
-pub push_changes : {c : CoreState} {f : Facts} (s : Sender) (ports : List EndId) (body : List ℕ) (refused : Bool) {o : Outcome} → Sees c f → o ≡ push_answer f s ports body refused → Change (action.Push s ports body) o → ShownAfter c f (action.Push s ports body) refused o
+pub push_changes : {c : CoreState} {f : Facts} (s : Sender) (ports : List EndId) (body : List ℕ) (refused : Bool) {o : Outcome} → Sees c f → o ≡ push_answer (is_posting f s) (put_there f s) f s ports body refused → Change (action.Push s ports body) o → ShownAfter c f (action.Push s ports body) refused o
 push_changes {c} {f} s ports body refused h answer (put t ps b n) =
     let p = pushed_of f s ports body refused n answer in
     let found = inside_line s h p.inside in
@@ -537,16 +520,16 @@ told_mine f s y line = ap (λ b. let z : LineNow = record (f.line s.end.0 s.line
 told_other : (f : Facts) (s : Sender) (l : ℕ) → (l ≡ s.line.0 → ⊥) → told_line f s s.end.0 l ≡ f.line s.end.0 l
 told_other f s l other = ap (λ b. let z : LineNow = record (f.line s.end.0 l) { noticed = cond b true (f.line s.end.0 l).noticed } in z) (ap (λ b. b && eqb l s.line.0) (eqb_same s.end.0) ∙ ne_eqb l s.line.0 other)
 
-noticed_shown : {agents : List Agent} {ends new : List End} {f : Facts} (s : Sender) (refused : Bool) (n : Acceptance) (x : End) (y : Line) → SoundlyShows agents ends f → slice_get ends s.end.0 ≡ Some x → slice_get x.lines s.line.0 ≡ Some y → f.line s.end.0 s.line.0 ≡ line_now (Some y) → n.epoch ≡ y.epoch → has_queue x y.epoch ≡ true → outcome.Accepted n ≡ notice_answer f s refused → Moves [] InFlight (set ends s.end.0 (put_end x y (named_notice s n))) new → Stepped agents new f (action.Notice s) refused (outcome.Accepted n)
+noticed_shown : {agents : List Agent} {ends new : List End} {f : Facts} (s : Sender) (refused : Bool) (n : Acceptance) (x : End) (y : Line) → SoundlyShows agents ends f → slice_get ends s.end.0 ≡ Some x → slice_get x.lines s.line.0 ≡ Some y → f.line s.end.0 s.line.0 ≡ line_now (Some y) → n.epoch ≡ y.epoch → has_queue x y.epoch ≡ true → outcome.Accepted n ≡ notice_answer (is_posting f s) (put_there f s) f s refused → Moves [] InFlight (set ends s.end.0 (put_end x y (named_notice s n))) new → Stepped agents new f (action.Notice s) refused (outcome.Accepted n)
 noticed_shown {agents} {ends} {new} {f} s refused n x y h at is line epoch queue fits moves =
     let v : Envelope = named_notice s n in
     changed h fits refl refl refl (put_count ends new s.end.0 (put_end x y v) [] moves) (counts_still h refl (λ d. refl) (λ d. refl) (λ a d l. refl))
     (each_shown v x y (told_line f s) h at is epoch queue (told_mine f s y line) (told_other f s) (λ l. refl) (λ l. refl) (λ d other. λ i l. record (f.line d l) { noticed = cond (ne_eqb d s.end.0 other i && eqb l s.line.0) true (f.line d l).noticed }) (λ d named. absurd (false≢true named)) moves)
 
-pub notice_fits : {c : CoreState} {f : Facts} (s : Sender) (refused : Bool) → Sees c f → notice_answer_at (may_put c.ends s) (line_of c.ends s).put (seen c) s refused ≡ notice_answer f s refused
-notice_fits {c} {f} s refused h = ap (λ g. notice_answer_at (may_put c.ends s) (line_of c.ends s).put g s refused) (seen_is h) ∙ put_kept s (λ b n. notice_answer_at b n f s refused) (λ n m. refl) h
+pub notice_fits : {c : CoreState} {f : Facts} (s : Sender) (refused : Bool) → Sees c f → notice_answer (may_put c.ends s) (line_of c.ends s).put (seen c) s refused ≡ notice_answer (is_posting f s) (put_there f s) f s refused
+notice_fits {c} {f} s refused h = ap (λ g. notice_answer (may_put c.ends s) (line_of c.ends s).put g s refused) (seen_is h) ∙ put_kept s (λ b n. notice_answer b n f s refused) (λ n m. refl) h
 
-pub notice_changes : {c : CoreState} {f : Facts} (s : Sender) (refused : Bool) {o : Outcome} → Sees c f → o ≡ notice_answer f s refused → Change (action.Notice s) o → ShownAfter c f (action.Notice s) refused o
+pub notice_changes : {c : CoreState} {f : Facts} (s : Sender) (refused : Bool) {o : Outcome} → Sees c f → o ≡ notice_answer (is_posting f s) (put_there f s) f s refused → Change (action.Notice s) o → ShownAfter c f (action.Notice s) refused o
 notice_changes {c} {f} s refused h answer (notice_put t n) =
     let p = noticed_of f s refused n answer in
     let found = inside_line s h p.inside in

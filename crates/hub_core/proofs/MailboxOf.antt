@@ -1,10 +1,10 @@
 -- The mailbox of an end goes on by the events of each pair that fits.
 use Rattle.std.proofs.Common.{Bool, List, None, Option, Some, [], ap, arith, cond, eqb, false, inl, length, not, refl, subst, sym, true, ℕ, ◌&&◌, ◌++◌, ◌+◌, ◌-◌, ◌<◌, ◌∷◌, ◌≡◌, ◌≤◌, set, ◌∙◌, append_assoc, append-nil, length-set, length-append, zero, suc, map, replicate, ⊎_elim, ne_eqb}
-use Rattle.hub_core.proofs.Words.{Action, Answers, Client, EndId, Facts, FitsSweep, FitsTake, HoldsNothing, Inside, IsDrained, IsLeft, IsSettled, Kind, Mailbox, MailboxEvent, Member, OneRight, Out, Outcome, Port, Sound, Turned, Worker, add, advance, at_gate, close, enable, enter, eqb-true}
+use Rattle.hub_core.proofs.Words.{Action, Answers, Client, EndId, Facts, FitsSweep, FitsTake, HoldsNothing, Inside, IsDrained, IsLeft, IsSettled, Kind, Mailbox, MailboxEvent, Member, OneRight, Out, Outcome, Port, Sound, Turned, Worker, add, advance, at_gate, close, enable, enter, eqb-true, Serves, found_at}
 use Rattle.hub_core.proofs.Words.{events_of, finds_busy, finds_busy_at, gives_rights, hop, in_queue, kind_after, leaving, lets_in, lines_of, look, look_answer, looked, named_envelope, named_notice, not-false, opened, or_parts, pop, push, rights_of, says_closed, says_done, says_moved, someone_at}
 use Rattle.hub_core.proofs.Words.{sweeping, unsettled, flat_map, slice_get, get_or_from_slice_get, append_cancel_left, filter-append, Envelope, Prefix, Gate, Steps, finds_moved, Queue, new_queue, pushed, QueueAt, got_from, IsMailbox, put_in, got_in, MailboxStep, gate_steps, pushes, takes, sweeps}
 use Rattle.hub_core.proofs.Words.{finds_none, hops, advances, adds, HoldsFirst, without_first, taken_out, with_gate, with_queue, with_stand, with_new, Happen, gate_after, with_gate_after, with_queue_after, after_event, after_events, false≢true, false_from_ne_true, flat_map-append}
-use Rattle.hub_core.proofs.Words.{length-replicate, Phase, EndNow, LineNow, accepted_by, ends_after, is_client, is_worker, by, no_end, no_line, IsAt, new_mailbox, first_mailbox, made_as, after_pair, eq-eqb, cases_eq}
+use Rattle.hub_core.proofs.Words.{length-replicate, Phase, EndNow, LineNow, accepted_by, ends_after, by, no_end, no_line, IsAt, new_mailbox, first_mailbox, made_as, after_pair, eq-eqb, cases_eq}
 use Rattle.hub_core.specs.declared.step.Action.TheVariants as action
 use Rattle.hub_core.specs.declared.outcome.Outcome.TheVariants as outcome
 use Rattle.hub_core.proofs.Fitting.{FindsBusy, adopted_of, cleared_of, got_of, hopped_of, look_busy_of, noticed_of, pushed_of, swept_of, went_on_of, served_of, new_ends, queue_made_of, member_made_of}
@@ -59,7 +59,7 @@ module _ (f : Facts) (e : ℕ) (m : Mailbox OneRight) (sound : Sound f) (shown :
   pop_first : (x : ℕ) (events : List (MailboxEvent OneRight)) (w : View) → ShownAt f x m → HoldsNothing m m.taker → Leads x (lines x) m events w → Leads x (lines x) m (pop (f.end x).taker_stand None ∷ events) w
   pop_first x events w there nothing done = (done.0, (m, none_there f x m there nothing, done.1), done.2)
 
-  went_on_at : (x : EndId) → FitsTake f x outcome.Again → ShownAt f x.0 m → Leads x.0 (lines x.0) m (pop (f.end x.0).taker_stand None ∷ advance ∷ []) (with_taker_at f x.0 true)
+  went_on_at : (x : EndId) → FitsTake (Serves f x) f x outcome.Again → ShownAt f x.0 m → Leads x.0 (lines x.0) m (pop (f.end x.0).taker_stand None ∷ advance ∷ []) (with_taker_at f x.0 true)
   went_on_at x fits there =
       let served = went_on_of f x fits in
       let empty : IsLeft f x = served.serves.0 in
@@ -69,14 +69,14 @@ module _ (f : Facts) (e : ℕ) (m : Mailbox OneRight) (sound : Sound f) (shown :
       let settled : IsSettled m m.taker = subst (IsSettled m) (sym there.taker_at) (settled_there f x.0 m there (f.end x.0).taker_stand (omega arith) served.serves.1) in
       pop_first x.0 (advance ∷ []) (with_taker_at f x.0 true) there nothing (went_on_there f x.0 m there retired settled nothing)
 
-  empty_at : (x : EndId) → FitsTake f x outcome.Empty → ShownAt f x.0 m → Leads x.0 (lines x.0) m (pop (f.end x.0).taker_stand None ∷ []) (view f x.0)
+  empty_at : (x : EndId) → FitsTake (Serves f x) f x outcome.Empty → ShownAt f x.0 m → Leads x.0 (lines x.0) m (pop (f.end x.0).taker_stand None ∷ []) (view f x.0)
   empty_at x fits there =
       let served = served_of f x outcome.Empty (λ is. cc) (λ is. cc) (λ is. cc) fits in
       let all : IsDrained f x = served.serves in
       let nothing : HoldsNothing m m.taker = taken_all f x.0 m there (none_discarded x.0 served.is_open) (λ l. ap (in_queue (f.end x.0).taker_stand) (all.all l)) in
       pop_first x.0 [] (view f x.0) there nothing (m, refl, there)
 
-  busy_at_taker : (x : EndId) → FitsTake f x outcome.Busy → ShownAt f x.0 m → Leads x.0 (lines x.0) m (finds_busy m (f.end x.0).taker_stand ∷ pop (f.end x.0).taker_stand None ∷ []) (view f x.0)
+  busy_at_taker : (x : EndId) → FitsTake (Serves f x) f x outcome.Busy → ShownAt f x.0 m → Leads x.0 (lines x.0) m (finds_busy m (f.end x.0).taker_stand ∷ pop (f.end x.0).taker_stand None ∷ []) (view f x.0)
   busy_at_taker x fits there =
       let served = served_of f x outcome.Busy (λ is. cc) (λ is. cc) (λ is. cc) fits in
       let empty : IsLeft f x = served.serves.0 in
@@ -87,7 +87,7 @@ module _ (f : Facts) (e : ℕ) (m : Mailbox OneRight) (sound : Sound f) (shown :
       let look_step = busy_there f x.0 m there t (omega arith) (inl retired) neither.0 (not-false (someone_at f x.0 t) neither.1) in
       (m, (m, look_step, (m, none_there f x.0 m there (left_all x there served.is_open empty), refl)), there)
 
-  looked_busy_at : (x : EndId) → outcome.Busy ≡ look_answer f x → ShownAt f x.0 m → Leads x.0 (lines x.0) m (finds_busy_at m (looked f x.0)) (view f x.0)
+  looked_busy_at : (x : EndId) → outcome.Busy ≡ look_answer (found_at (someone_at f x.0) (looked f x.0)) f x → ShownAt f x.0 m → Leads x.0 (lines x.0) m (finds_busy_at m (looked f x.0)) (view f x.0)
   looked_busy_at x fits there =
       let busy : FindsBusy f x.0 = look_busy_of f x fits in
       subst (λ o. Leads x.0 (lines x.0) m (finds_busy_at m o) (view f x.0)) (sym busy.is_looked) (m, (m, look_busy_there f x.0 m there sound busy, refl), there)
@@ -379,8 +379,8 @@ makes_or f e refused (outcome.Ends x y) (action.Channel a) fits =
     (λ not_second. leaves (ap (λ b. cond b (Some (Port y)) (cond (eqb e y.0) (Some (Port x)) None)) other ∙ ap (λ b. cond b (Some (Port x)) None) (ne_eqb e y.0 not_second)) (λ within. omega arith))
     (cases_eq e y.0))
     (cases_eq e x.0)
-makes_or f e refused (outcome.End x) (action.Client a) fits = makes_one f e x Client (action.Client a) (queue_made_of f is_client a refused x fits).number refl refl refl
-makes_or f e refused (outcome.End x) (action.Worker a) fits = makes_one f e x Worker (action.Worker a) (queue_made_of f is_worker a refused x fits).number refl refl refl
+makes_or f e refused (outcome.End x) (action.Client a) fits = makes_one f e x Client (action.Client a) (queue_made_of f Client a refused x fits).number refl refl refl
+makes_or f e refused (outcome.End x) (action.Worker a) fits = makes_one f e x Worker (action.Worker a) (queue_made_of f Worker a refused x fits).number refl refl refl
 makes_or f e refused (outcome.End x) (action.Member a name) fits = makes_one f e x (Member a) (action.Member a name) (member_made_of f a refused x fits).number refl refl refl
 makes_or f e refused o a fits = leaves refl (λ within. within)
 

@@ -1,8 +1,8 @@
 -- The pairs that are events of queues: what is put there and taken out, looks, and sweeps.
-use Rattle.std.proofs.Common.{◌≡◌, ◌≢◌, ℕ, zero, suc, ◌<◌, Bool, true, eqb, List, [], ◌∷◌, ◌++◌, length, refl, sym, ap, subst, ◌∙◌, arith, append-nil, append_assoc, Some, None, ◌⊎◌, ◌+◌, ◌-◌, ◌≤◌, ◌&&◌, false, true≢false, cond, map, inl, inr, ⊎_elim, not, ltb, lt-ltb}
-use Rattle.hub_core.proofs.Words.{slice_get, flat_map, filter, AllByRecursion, append_cancel_left, filter-append, recursion_from_All, Envelope, EndId, Inside, Sender, Acceptance, Facts, named_envelope, named_notice, lines_of, by, in_queue, count_in_queue, phase_of_line, Queue, IsNamed, MayPush}
+use Rattle.std.proofs.Common.{◌≡◌, ◌≢◌, ℕ, zero, suc, ◌<◌, Bool, true, eqb, List, [], ◌∷◌, ◌++◌, length, refl, sym, ap, subst, ◌∙◌, arith, append-nil, append_assoc, Some, None, ◌⊎◌, ◌+◌, ◌-◌, ◌≤◌, ◌&&◌, false, true≢false, cond, map, inl, inr, ⊎_elim, not, ltb, lt-ltb, Option}
+use Rattle.hub_core.proofs.Words.{slice_get, flat_map, filter, AllByRecursion, append_cancel_left, filter-append, recursion_from_All, Envelope, EndId, Inside, Sender, Acceptance, Facts, named_envelope, named_notice, lines_of, by, in_queue, count_in_queue, phase_of_line, Queue, IsNamed, MayPush, is_some}
 use Rattle.hub_core.proofs.Words.{pushed, pop_of, Mailbox, QueueAt, put_by, got_from, IsMailbox, push, pop, MailboxStep, pushes, takes, finds_none, HoldsFirst, taken_out, with_queue, HoldsNothing, OneRight, IsNext, sum_by, MatchBool, false≢true, not-true, not-false, and_parts, or_parts, eqb-true}
-use Rattle.hub_core.proofs.Words.{eq-eqb, cases_eq, cases_lt, or_cases, or_left, or_right, length-map, sum_by-cons, Phase, Out, is_out, is_away_at, someone_at, is_settled, first_failing, all_from, all_settled, FitsSweep, Sound, Gate, weight, busy, is_shut, IsAt, with_none, is_busy, gives, IsGateOf}
+use Rattle.hub_core.proofs.Words.{eq-eqb, cases_eq, cases_lt, or_cases, or_left, or_right, length-map, sum_by-cons, Phase, Out, is_out, is_away_at, someone_at, is_settled, all_settled, FitsSweep, Sound, Gate, weight, busy, is_shut, IsAt, with_none, is_busy, gives, IsGateOf}
 use Rattle.hub_core.proofs.Words.{GateAt, StandsAt, at_gate, gate_steps, with_gate, IsSettled, busy_at, rights_of, finds_busy, unsettled, IsAllWaiting, IsOfEnd, popped, MailboxEvent, sweeps, MaySweep, sweeping}
 use Rattle.hub_core.proofs.Items.{eqb_same, AllByRecursion-weaker, set_again, is_out_of, slice_get-set_same, slice_get-set_other, none_got, some_is, got_there, got_within, got_same}
 use Rattle.hub_core.proofs.Waits.{all_kept, filters, queue_more, all_of_queue, none_of_queue, all_front, first_of, left_same}
@@ -201,18 +201,14 @@ busy_when true true h = absurd h
 busy_when true false h = (refl, refl)
 busy_when false settled h = cc
 
--- where not all queues pass the test, one is the first that fails
-some_failing : (test : ℕ → Bool) (k n : ℕ) → all_from test k n ≡ false → (j : ℕ) × (first_failing test k n ≡ Some j)
-some_failing test k zero h = absurd (true≢false h)
-some_failing test k (suc n) h = elim (test k) as (λ b. (b && all_from test (k + 1) n) ≡ false → (j : ℕ) × (cond b (first_failing test (k + 1) n) (Some k) ≡ Some j)) [
-  | true ↦ λ rest. some_failing test (k + 1) n rest
-  | false ↦ λ _. (k, refl)
-] h
+found_one : (q : Option ℕ) → not (is_some q) ≡ false → (k : ℕ) × (q ≡ Some k)
+found_one None h = absurd (true≢false h)
+found_one (Some k) h = (k, refl)
 
 pub sweep_busy_of : (f : Facts) (e : EndId) → FitsSweep f e outcome.Busy → SweepsBusy f e.0
 sweep_busy_of f e h =
     let r = busy_when (f.end e.0).closed (all_settled f e.0) h in
-    let found = some_failing (is_settled f e.0) (f.end e.0).taker_stand ((f.end e.0).newest - (f.end e.0).taker_stand + 1) r.1 in
+    let found = found_one (unsettled f e.0) r.1 in
     record { is_closed = r.0; queue = found.0; is_unsettled = found.1; looks = first_failing_of (is_settled f e.0) _ _ found.0 found.1 }
 
 -- ---- who is at a gate

@@ -1,6 +1,6 @@
 -- Legal histories, one pair more, and those that can't be told apart.
-use Rattle.std.proofs.Common.{◌≡◌, List, [], ◌∷◌, ◌++◌, length, refl, sym, ap, subst, arith, append_assoc, append-nil, ℕ, Bool, true, false, cond, eqb, ◌∙◌, inl, inr, None, ◌&&◌, ◌⊎◌, Option, Some, drop}
-use Rattle.hub_core.proofs.Words.{zip, Pair, History, Fits, LegalAfter, Legal, Phase, Out, Turned, Sender, Action, Outcome, Facts, facts, Answers, Same, phase_of_line, CastNow, cast_to, cast_after, goes_next, roster, changes_nothing, done_with}
+use Rattle.std.proofs.Common.{◌≡◌, List, [], ◌∷◌, ◌++◌, length, refl, sym, ap, subst, arith, append_assoc, append-nil, ℕ, Bool, true, false, cond, eqb, ◌∙◌, inl, inr, None, rules, ◌&&◌, ◌⊎◌, Option, Some, drop}
+use Rattle.hub_core.proofs.Words.{zip, Pair, History, Fits, LegalAfter, Legal, Phase, Out, Turned, Sender, Action, Outcome, Facts, facts, Answers, Same, phase_of_line, CastNow, cast_to, cast_after, roster, changes_nothing, done_with, source_for, answered, is_first}
 use Rattle.hub_core.specs.declared.step.Action.TheVariants as action
 use Rattle.hub_core.specs.declared.outcome.Outcome.TheVariants as outcome
 use Rattle.hub_core.proofs.Nexts.{next, nothing_changes, facts_next}
@@ -82,9 +82,12 @@ turned_facts f s o (inr is) out = rw is (λ i. record f {
   roster = record f.roster { cast = cast_after s.end.0 f.roster.cast };
 })
 
-cast_stays : (x : ℕ) (c : Option CastNow) → goes_next x c ≡ false → cast_after x c ≡ c
+cast_stays : (x : ℕ) (c : Option CastNow) → source_for c x ≡ None → cast_after x c ≡ c
 cast_stays x None h = refl
-cast_stays x (Some c) h = ap (λ b. cond b (cast_to c.source c.body (drop 1 c.left)) (Some c)) h
+cast_stays x (Some c) h = elim (is_first x c.left) as (λ b. cond b (Some c.source) None ≡ None → cond b (cast_to c.source c.body (drop 1 c.left)) (Some c) ≡ Some c) [
+  | true ↦ λ some. absurd (search (rules, some))
+  | false ↦ λ _. refl
+] h
 
 -- an Enter that was turned back found its line out
 not_refused : (o : Outcome) → (o ≡ outcome.Closed) ⊎ (o ≡ outcome.Moved) → o ≡ outcome.NotNow → ⊥
@@ -93,19 +96,19 @@ not_refused o (inr is) h = cc
 
 -- an Enter that was turned back, and its Leave
 abbrev pub turned_pairs : Sender → Bool → Bool → Outcome → History
-turned_pairs s r q o = (record { action = action.Enter s; memory_refused = r }, o) ∷ (record { action = action.Leave s; memory_refused = q }, outcome.Left) ∷ []
+turned_pairs s r q o = answered (action.Enter s) r o ∷ answered (action.Leave s) q outcome.Left ∷ []
 
 -- a poster that was turned back and has left leaves the facts but for the destination
-pub turned_leaves : (h : History) (s : Sender) (r q : Bool) (o : Outcome) → (o ≡ outcome.Closed) ⊎ (o ≡ outcome.Moved) → Fits h (record { action = action.Enter s; memory_refused = r }, o) → facts (h ++ turned_pairs s r q o) ≡ done_with s.end.0 (facts h)
+pub turned_leaves : (h : History) (s : Sender) (r q : Bool) (o : Outcome) → (o ≡ outcome.Closed) ⊎ (o ≡ outcome.Moved) → Fits h (answered (action.Enter s) r o) → facts (h ++ turned_pairs s r q o) ≡ done_with s.end.0 (facts h)
 turned_leaves h s r q o turned fits =
-    let a : Pair = (record { action = action.Enter s; memory_refused = r }, o) in
-    let b : Pair = (record { action = action.Leave s; memory_refused = q }, outcome.Left) in
+    let a : Pair = answered (action.Enter s) r o in
+    let b : Pair = answered (action.Leave s) q outcome.Left in
     let f : Facts = facts h in
     let out : phase_of_line f s ≡ Out = is_out_of (phase_of_line f s) (entered_of f s fits (not_refused o turned)).0.out in
     ap facts (sym (append_assoc h (a ∷ []) (b ∷ []))) ∙ facts_next (h ++ a ∷ []) b ∙ ap (λ g. next g (action.Leave s) outcome.Left) (facts_next h a) ∙ turned_facts f s o turned out
 
 -- where no cast goes there next it leaves the same
-pub turned_same : (h : History) (s : Sender) (r q : Bool) (o : Outcome) → (o ≡ outcome.Closed) ⊎ (o ≡ outcome.Moved) → goes_next s.end.0 (roster h).cast ≡ false → Fits h (record { action = action.Enter s; memory_refused = r }, o) → Same (h ++ turned_pairs s r q o) h
+pub turned_same : (h : History) (s : Sender) (r q : Bool) (o : Outcome) → (o ≡ outcome.Closed) ⊎ (o ≡ outcome.Moved) → source_for (roster h).cast s.end.0 ≡ None → Fits h (answered (action.Enter s) r o) → Same (h ++ turned_pairs s r q o) h
 turned_same h s r q o turned nowhere fits =
     same_facts (h ++ turned_pairs s r q o) h
     (turned_leaves h s r q o turned fits ∙ ap (λ c. let g : Facts = record (facts h) { roster = record (facts h).roster { cast = c } } in g) (cast_stays s.end.0 (roster h).cast nowhere))

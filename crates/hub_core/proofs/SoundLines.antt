@@ -1,8 +1,8 @@
 -- What a mailbox doesn't show of the lines of an end, and of what waits there, stays so with each pair that fits.
 use Rattle.std.proofs.Common.{Bool, List, None, Option, Some, [], ap, append-nil, append_assoc, arith, cond, eqb, false, inl, inr, length, ne_eqb, not, refl, rules, subst, sym, true, ℕ, ⊎_elim, ◌&&◌, ◌++◌, ◌+◌, ◌-◌, ◌<◌, ◌||◌, ◌∙◌, ◌∷◌, ◌≡◌, ◌≤◌, ◌⊎◌}
-use Rattle.hub_core.proofs.Words.{Acceptance, Action, AgentId, AllByRecursion, Answers, Client, EndId, EndNow, Envelope, Facts, Inside, IsAllWaiting, IsNext, IsOfEnd, Kind, LineNow, MAX_LINES, Member, Out, Outcome, Phase, Port, Prefix, Rises, Sender, SoundLines, SoundWaiting, Turned, Worker}
-use Rattle.hub_core.proofs.Words.{all_settled, and_parts, append_cancel_left, by, cases_eq, cases_lt, count_in_queue, eq-eqb, eqb-false, eqb-true, false≢true, filter-append, hears_notice, holder, in_queue, is_away_at, is_client, is_distinct, is_here, is_inside, is_queue, is_settled, is_some}
-use Rattle.hub_core.proofs.Words.{is_worker, lines_of, may_enter, named_envelope, named_notice, no_end, no_line, not-true, on_line, opened, option_and_then, or_cases, peer_of, phase_of_line, poster, poster_of, running, someone_at, speaker, up_to, next_name}
+use Rattle.hub_core.proofs.Words.{Acceptance, Action, AgentId, AllByRecursion, Answers, Client, EndId, EndNow, Envelope, Facts, Inside, IsAllWaiting, IsNext, IsOfEnd, Kind, LineNow, MAX_LINES, Member, Out, Outcome, Phase, Port, Prefix, Rises, Sender, SoundLines, SoundWaiting, Turned, Worker, owner_by, with_agent, name_of, put_there}
+use Rattle.hub_core.proofs.Words.{all_settled, and_parts, append_cancel_left, by, cases_eq, cases_lt, count_in_queue, eq-eqb, eqb-false, eqb-true, false≢true, filter-append, hears_notice, holder, in_queue, is_away_at, is_distinct, is_here, is_inside, is_queue, is_settled, is_some}
+use Rattle.hub_core.proofs.Words.{lines_of, may_enter, named_envelope, named_notice, no_end, no_line, not-true, on_line, opened, option_and_then, or_cases, peer_of, phase_of_line, poster, poster_of, running, someone_at, speaker, up_to}
 use Rattle.hub_core.proofs.Fitting.{Noticed, Pushed, SweptWith, cleared_of, each_of, found_closed_of, found_moved_of, got_of, hopped_of, let_in_of, line_got_of, looked_where, member_made_of, new_ends, none_of_any, noticed_of, pushed_of, queue_made_of, swept_of, went_on_of}
 use Rattle.hub_core.proofs.Items.{AllByRecursion-append, AllByRecursion-weaker, at_test, eqb_same}
 use Rattle.hub_core.proofs.Nexts.{next}
@@ -98,13 +98,13 @@ phased : (f : Facts) (t : Sender) (p : Phase) (x : ℕ) → MayCome f t (record 
 phased f t p x may s = changed_line f t x (λ b y. record y { phase = cond b p y.phase }) may (λ y. refl) (λ b y. refl) s
 
 -- a line that an agent holds is one of its end
-held_line : (f : Facts) (s : Sender) → LinesAt f s.end.0 → is_some (running f (f.line s.end.0 s.line.0).held_by) ≡ true → s.line.0 < lines_of (f.end s.end.0).kind
-held_line f s h held = ⊎_elim (λ under. under) (λ past. absurd (false≢true (sym (ap (λ (y : LineNow). is_some (running f y.held_by)) (h.none s.line.0 past)) ∙ held))) (cases_lt s.line.0 (lines_of (f.end s.end.0).kind))
+held_line : (f : Facts) (s : Sender) → LinesAt f s.end.0 → is_some (running f.agent (f.line s.end.0 s.line.0).held_by) ≡ true → s.line.0 < lines_of (f.end s.end.0).kind
+held_line f s h held = ⊎_elim (λ under. under) (λ past. absurd (false≢true (sym (ap (λ (y : LineNow). is_some (running f.agent y.held_by)) (h.none s.line.0 past)) ∙ held))) (cases_lt s.line.0 (lines_of (f.end s.end.0).kind))
 
 -- a line with a poster is one of its end
-some_line : (f : Facts) (s : Sender) → LinesAt f s.end.0 → (p : Option Kind) → (f.end s.end.0).kind ≡ p → is_some (poster_of f s p) ≡ true → s.line.0 < lines_of p
+some_line : (f : Facts) (s : Sender) → LinesAt f s.end.0 → (p : Option Kind) → (f.end s.end.0).kind ≡ p → is_some (poster_of (speaker f s.end.0) (running f.agent (owner_by f.end s.line.0 (f.line s.end.0 s.line.0).held_by p)) s.line.0 p) ≡ true → s.line.0 < lines_of p
 some_line f s h None is speaks = absurd (false≢true speaks)
-some_line f s h (Some (Port q)) is speaks = at_test (λ q. is_some q ≡ true → s.line.0 < 1) (eqb s.line.0 0) (holder f q.0) None (λ zeroth _. let first : s.line.0 ≡ 0 = eqb-true s.line.0 0 zeroth in omega arith) (λ _ no. absurd (false≢true no)) speaks
+some_line f s h (Some (Port q)) is speaks = at_test (λ q. is_some (running f.agent q) ≡ true → s.line.0 < 1) (eqb s.line.0 0) (with_agent (f.end q.0).place) None (λ zeroth _. let first : s.line.0 ≡ 0 = eqb-true s.line.0 0 zeroth in omega arith) (λ _ no. absurd (false≢true no)) speaks
 some_line f s h (Some Client) is speaks = subst (λ p. s.line.0 < lines_of p) is (held_line f s h speaks)
 some_line f s h (Some Worker) is speaks = subst (λ p. s.line.0 < lines_of p) is (held_line f s h speaks)
 some_line f s h (Some (Member a)) is speaks = at_test (λ q. is_some q ≡ true → s.line.0 < 1) (eqb s.line.0 0) (speaker f s.end.0) None (λ zeroth _. let first : s.line.0 ≡ 0 = eqb-true s.line.0 0 zeroth in omega arith) (λ _ no. absurd (false≢true no)) speaks
@@ -146,7 +146,7 @@ pub record MayPut (f : Facts) (s : Sender) (v : Envelope) : Type 0 where
   pub inside : is_inside (phase_of_line f s) ≡ true
   pub plain : (f.line s.end.0 s.line.0).noticed ≡ false
 
-may_put_now : (f : Facts) (s : Sender) (n : Acceptance) (a : AgentId) (v : Envelope) → v ≡ record (named_notice s n) { body = v.body; ports = v.ports; notice = v.notice } → n ≡ next_name f s a → is_distinct v.ports ≡ true → s.line.0 < lines_of (f.end s.end.0).kind → is_inside (phase_of_line f s) ≡ true → (f.line s.end.0 s.line.0).noticed ≡ false → MayPut f s v
+may_put_now : (f : Facts) (s : Sender) (n : Acceptance) (a : AgentId) (v : Envelope) → v ≡ record (named_notice s n) { body = v.body; ports = v.ports; notice = v.notice } → n ≡ name_of (put_there f s) f s a → is_distinct v.ports ≡ true → s.line.0 < lines_of (f.end s.end.0).kind → is_inside (phase_of_line f s) ≡ true → (f.line s.end.0 s.line.0).noticed ≡ false → MayPut f s v
 may_put_now f s n a v is name ports there inside plain = record {
   end = ap (λ (u : Envelope). u.end.0) is;
   line = ap (λ (u : Envelope). u.line.0) is;
@@ -263,8 +263,8 @@ pub marks_next : (f : Facts) (refused : Bool) → IsUnmade f → ((x : ℕ) → 
 marks_next f refused none h m (outcome.Ends e e') (action.Channel a) fits x =
     let made = new_ends f a refused e e' fits in
     grown (lines_of (f.end x).kind) _ (f.line x) (f.accepted x) (more_lines (eqb x e.0) (eqb x e'.0) (Port e') (Port e) (f.end x).kind (λ is. ap (λ (d : EndNow). d.kind) (unmade_end f e e' x none made.1 made.2 is))) (m x)
-marks_next f refused none h m (outcome.End e) (action.Client a) fits x = made_marks f e Client x none (queue_made_of f is_client a refused e fits).number (m x)
-marks_next f refused none h m (outcome.End e) (action.Worker a) fits x = made_marks f e Worker x none (queue_made_of f is_worker a refused e fits).number (m x)
+marks_next f refused none h m (outcome.End e) (action.Client a) fits x = made_marks f e Client x none (queue_made_of f Client a refused e fits).number (m x)
+marks_next f refused none h m (outcome.End e) (action.Worker a) fits x = made_marks f e Worker x none (queue_made_of f Worker a refused e fits).number (m x)
 marks_next f refused none h m (outcome.End e) (action.Member a name) fits x = made_marks f e (Member a) x none (member_made_of f a refused e fits).number (m x)
 marks_next f refused none h m (outcome.Line l) (action.Line e a) fits x =
     let gets = line_got_of f e a l fits in

@@ -1,12 +1,12 @@
 -- Places stay sound.
 use Rattle.std.proofs.Common.{Bool, Option, Some, ap, arith, cond, eqb, false, refl, true, ℕ, ◌+◌, ◌<◌, ◌||◌, ◌∙◌, ◌≡◌, None, drop, inl, inr, rules, sym, ◌⊎◌, List, [], ne_eqb, subst, ◌&&◌, ◌++◌, ◌∷◌, ◌≤◌}
-use Rattle.hub_core.proofs.Words.{Action, AgentId, Answers, Arrived, EndId, Facts, Gone, InFlight, Kind, Outcome, Place, Sound, SoundPlaces, Swept, With, arrived, closed_after, eqb-true, is_client, is_here, is_named, is_queue, is_released, is_some, is_worker, names, no_end, own_poster_out, peer_of}
-use Rattle.hub_core.proofs.Words.{place_after, EndNow, Member, Sender, cast_after, cast_to, ends, false≢true, has_poster, held_after, is_out, kind_after, lines_of, may_enter, phase_of_line, poster, roster_after, runs_after, hears_notice, Client, Envelope, Inside, IsNext, MAX_ENDS, Out, Phase, Port}
+use Rattle.hub_core.proofs.Words.{Action, AgentId, Answers, Arrived, EndId, Facts, Gone, InFlight, Kind, Outcome, Place, Sound, SoundPlaces, Swept, With, arrived, closed_after, eqb-true, is_here, is_named, is_queue, is_released, is_some, names, no_end, peer_of, owner, is_holder, is_free}
+use Rattle.hub_core.proofs.Words.{place_after, EndNow, Member, Sender, cast_after, cast_to, ends, false≢true, held_after, is_out, kind_after, lines_of, may_enter, phase_of_line, poster, roster_after, runs_after, hears_notice, Client, Envelope, Inside, IsNext, MAX_ENDS, Out, Phase, Port}
 use Rattle.hub_core.proofs.Words.{Turned, Worker, agents_after, and_parts, ends_after, flights, is_gone, named_envelope, named_notice, naming, opened, total}
 use Rattle.hub_core.specs.declared.step.Action.TheVariants as action
 use Rattle.hub_core.specs.declared.outcome.Outcome.TheVariants as outcome
 use Rattle.hub_core.proofs.Fitting.{adopted_of, closed_of, got_of, handed_of, member_made_of, new_ends, pushed_of, queue_made_of, swept_of, back_of, cast_of, left_of, line_got_of, none_away, see_of, SweptWith, found_closed_of, found_moved_of, let_in_of, new_agent, noticed_of, started_of, went_on_of}
-use Rattle.hub_core.proofs.Speakers.{holder_made, runs_there, swept_flies, taken_flies, travels, Casts, Hears, HoldsLine, Speaks, casts_as, entangled_made, hears_of, holds_as, kind_made, left_other, line_owned, may_as, no_port, not_first, not_here, old_end, old_one, own_out, port_owned, poster_as}
+use Rattle.hub_core.proofs.Speakers.{holder_made, runs_there, swept_flies, taken_flies, travels, Casts, Hears, HoldsLine, Speaks, casts_as, entangled_made, hears_of, holds_as, kind_made, left_other, line_owned, may_as, no_port, not_first, not_here, old_end, old_one, zeroth_out, free_port_out, port_owned, poster_as}
 use Rattle.hub_core.proofs.Speakers.{queue_is_made, released_out, speaks_of, still_held, SomeCasts, closed_made, heard_of, made_of, named_count, nothing_accepted, nothing_removed, placed_made, running_made, same_sender, swept_total, swept_within, unnamed_count}
 use Rattle.hub_core.proofs.Nexts.{next}
 use Rattle.hub_core.proofs.SoundLines.{line_there, unmade_end, unmade_one}
@@ -21,12 +21,12 @@ use Rattle.hub_core.proofs.Totals.{bit, count_between, count_more, total_more, t
 pub data GoesTo (f : Facts) (x : ℕ) (place : Option Place) (closed : Bool) : Type 0 where
   stays : place ≡ (f.end x).place → closed ≡ (f.end x).closed → GoesTo f x place closed
   new : (a : AgentId) → place ≡ Some (With a) → closed ≡ (f.end x).closed → f.end x ≡ no_end → (f.agent a.0).runs ≡ true → GoesTo f x place closed
-  sent : (a : AgentId) → place ≡ Some InFlight → closed ≡ (f.end x).closed → (f.end x).place ≡ Some (With a) → own_poster_out f (peer_of (f.end x).kind) ≡ true → GoesTo f x place closed
+  sent : (a : AgentId) → place ≡ Some InFlight → closed ≡ (f.end x).closed → (f.end x).place ≡ Some (With a) → is_free f.line (peer_of (f.end x).kind) ≡ true → GoesTo f x place closed
   came : (a : AgentId) → place ≡ Some (Arrived a) → closed ≡ (f.end x).closed → (f.end x).place ≡ Some InFlight → a.0 < f.agents → GoesTo f x place closed
   taken_up : (a : AgentId) → place ≡ Some (With a) → closed ≡ (f.end x).closed → (f.end x).place ≡ Some (Arrived a) → (f.agent a.0).runs ≡ true → GoesTo f x place closed
   handed_on : (a b : AgentId) → place ≡ Some (Arrived b) → closed ≡ (f.end x).closed → (f.end x).place ≡ Some (With a) → is_queue (f.end x).kind ≡ true → b.0 < f.agents → GoesTo f x place closed
   dropped : place ≡ Some Swept → closed ≡ (f.end x).closed → (f.end x).place ≡ Some InFlight → GoesTo f x place closed
-  shut : place ≡ Some Gone → closed ≡ true → is_here (f.end x).place ≡ true → is_released f (f.end x).kind ≡ true → GoesTo f x place closed
+  shut : place ≡ Some Gone → closed ≡ true → is_here (f.end x).place ≡ true → is_released f.line (f.end x).kind ≡ true → GoesTo f x place closed
 
 -- an end more, which an agent made
 abbrev pub one_made : Facts → AgentId → Kind → EndId → Facts
@@ -43,7 +43,7 @@ moved f x false p goes = stays refl refl
 made_goes : (f : Facts) (e : EndId) (a : AgentId) (x : ℕ) → SoundPlaces f → (f.agent a.0).runs ≡ true → e ≡ record { 0 = f.ends } → GoesTo f x (cond (eqb x e.0) (Some (With a)) (f.end x).place) (f.end x).closed
 made_goes f e a x h runs number = moved f x (eqb x e.0) (Some (With a)) (λ is. new a refl refl (unmade_one f e x h.ends number is) runs)
 
-closing : (f : Facts) (x : ℕ) (b : Bool) → (b ≡ true → (is_here (f.end x).place ≡ true) × (is_released f (f.end x).kind ≡ true)) → GoesTo f x (cond b (Some Gone) (f.end x).place) (cond b true (f.end x).closed)
+closing : (f : Facts) (x : ℕ) (b : Bool) → (b ≡ true → (is_here (f.end x).place ≡ true) × (is_released f.line (f.end x).kind ≡ true)) → GoesTo f x (cond b (Some Gone) (f.end x).place) (cond b true (f.end x).closed)
 closing f x true may = shut refl refl (may refl).0 (may refl).1
 closing f x false may = stays refl refl
 
@@ -51,8 +51,8 @@ pub goes_to : (f : Facts) (refused : Bool) → Sound f → (o : Outcome) (a : Ac
 goes_to f refused h (outcome.Ends e e') (action.Channel a) fits x =
     let made = new_ends f a refused e e' fits in
     moved f x (eqb x e.0 || eqb x e'.0) (Some (With a)) (λ is. new a refl refl (unmade_end f e e' x h.places.ends made.1 made.2 is) made.0)
-goes_to f refused h (outcome.End e) (action.Client a) fits x = let made = queue_made_of f is_client a refused e fits in made_goes f e a x h.places made.runs made.number
-goes_to f refused h (outcome.End e) (action.Worker a) fits x = let made = queue_made_of f is_worker a refused e fits in made_goes f e a x h.places made.runs made.number
+goes_to f refused h (outcome.End e) (action.Client a) fits x = let made = queue_made_of f Client a refused e fits in made_goes f e a x h.places made.runs made.number
+goes_to f refused h (outcome.End e) (action.Worker a) fits x = let made = queue_made_of f Worker a refused e fits in made_goes f e a x h.places made.runs made.number
 goes_to f refused h (outcome.End e) (action.Member a name) fits x = let made = member_made_of f a refused e fits in made_goes f e a x h.places made.runs made.number
 goes_to f refused h (outcome.Accepted n) (action.Push s ports body) fits x =
     let p = pushed_of f s ports body refused n fits in
@@ -73,7 +73,7 @@ goes_to f refused h (outcome.Discarded vs) (action.Sweep e) fits x =
     moved f x (is_named vs x) (Some Swept) (λ named. dropped refl refl (swept_flies f e vs x h (swept_of f e vs fits) named))
 goes_to f refused h outcome.Done (action.Close e) fits x =
     let closes = closed_of f e fits in
-    closing f x (eqb x e.0) (λ is. (ap (λ y. is_here (f.end y).place) (eqb-true x e.0 is) ∙ closes.here, ap (λ y. is_released f (f.end y).kind) (eqb-true x e.0 is) ∙ closes.released))
+    closing f x (eqb x e.0) (λ is. (ap (λ y. is_here (f.end y).place) (eqb-true x e.0 is) ∙ closes.here, ap (λ y. is_released f.line (f.end y).kind) (eqb-true x e.0 is) ∙ closes.released))
 goes_to f refused h o a fits x = stays refl refl
 
 -- ==== Whoever is away at a line keeps it, and may enter there, after every pair that fits.
@@ -84,14 +84,14 @@ kind_next f refused (outcome.Ends e e') (action.Channel a) fits x less =
     let made = new_ends f a refused e e' fits in
     let old = old_end f e e' x made.1 made.2 less in
     rw (old.0, old.1) refl
-kind_next f refused (outcome.End e) (action.Client a) fits x less = rw (old_one f e x (queue_made_of f is_client a refused e fits).number less) refl
-kind_next f refused (outcome.End e) (action.Worker a) fits x less = rw (old_one f e x (queue_made_of f is_worker a refused e fits).number less) refl
+kind_next f refused (outcome.End e) (action.Client a) fits x less = rw (old_one f e x (queue_made_of f Client a refused e fits).number less) refl
+kind_next f refused (outcome.End e) (action.Worker a) fits x less = rw (old_one f e x (queue_made_of f Worker a refused e fits).number less) refl
 kind_next f refused (outcome.End e) (action.Member a name) fits x less = rw (old_one f e x (member_made_of f a refused e fits).number less) refl
 kind_next f refused o a fits x less = refl
 
 -- an agent whose poster is away runs on
 runs_next : (f : Facts) (refused : Bool) (o : Outcome) (a : Action) → Answers f a refused o → (s : Sender) → s.end.0 < f.ends → s.line.0 < lines_of (f.end s.end.0).kind → is_out (phase_of_line f s) ≡ false
-    → (b : AgentId) → ((c : AgentId) → b.0 ≡ c.0 → has_poster f c s.end.0 s.line.0 ≡ true) → (f.agent b.0).runs ≡ true → runs_after b.0 (f.agent b.0).runs o a ≡ true
+    → (b : AgentId) → ((c : AgentId) → b.0 ≡ c.0 → is_holder c (owner f s.end.0 s.line.0) ≡ true) → (f.agent b.0).runs ≡ true → runs_after b.0 (f.agent b.0).runs o a ≡ true
 runs_next f refused (outcome.Agent n) (action.Agent origin) fits s made low away b owns runs = at_test (λ r. r ≡ true) (eqb b.0 n.0) true (f.agent b.0).runs (λ _. refl) (λ _. runs)
 runs_next f refused (outcome.Ending es) (action.See a) fits s made low away b owns runs =
     at_test (λ r. r ≡ true) (eqb b.0 a.0) false (f.agent b.0).runs (λ same. absurd (false≢true (sym (none_away f a s.end.0 s.line.0 (see_of f a es fits) made low away) ∙ owns a (eqb-true b.0 a.0 same)))) (λ _. runs)
@@ -103,12 +103,12 @@ runs_next f refused o a fits s made low away b owns runs = runs
 port_stays : (f : Facts) (s : Sender) (q : ℕ) (p : Option Place) (c : Bool) → GoesTo f q p c → peer_of (f.end q).kind ≡ Some s.end.0 → s.line.0 ≡ 0 → is_out (phase_of_line f s) ≡ false → is_here (f.end q).place ≡ true → (p ≡ (f.end q).place) ⊎ ((a : AgentId) × ((f.end q).place ≡ Some (Arrived a)) × (p ≡ Some (With a)))
 port_stays f s q p c (stays is _) back line away here = inl is
 port_stays f s q p c (new a is _ none runs) back line away here = absurd (false≢true (sym (ap (λ (d : EndNow). is_here d.place) none) ∙ here))
-port_stays f s q p c (sent a is _ at out) back line away here = absurd (false≢true (sym away ∙ own_out f s q line out back))
+port_stays f s q p c (sent a is _ at out) back line away here = absurd (false≢true (sym away ∙ zeroth_out f s line (free_port_out f (peer_of (f.end q).kind) s.end.0 back out)))
 port_stays f s q p c (came a is _ flew known) back line away here = absurd (not_here (f.end q).place flew here)
 port_stays f s q p c (taken_up a is _ at runs) back line away here = inr (a, at, is)
 port_stays f s q p c (handed_on a b is _ at queue known) back line away here = absurd (no_port (f.end q).kind s.end.0 queue back)
 port_stays f s q p c (dropped is _ flew) back line away here = absurd (not_here (f.end q).place flew here)
-port_stays f s q p c (shut is _ _ free) back line away here = absurd (false≢true (sym away ∙ own_out f s q line (released_out f (f.end q).kind s.end.0 free back) back))
+port_stays f s q p c (shut is _ _ free) back line away here = absurd (false≢true (sym away ∙ zeroth_out f s line (released_out f (f.end q).kind s.end.0 back free)))
 
 module _ (f : Facts) (refused : Bool) (h : Sound f) (o : Outcome) (a : Action) (fits : Answers f a refused o) (s : Sender) (away : is_out (phase_of_line f s) ≡ false) where
   peer_stays : (q : ℕ) → peer_of (f.end s.end.0).kind ≡ Some q → s.line.0 ≡ 0 → is_here (f.end q).place ≡ true → (((next f a o).end q).place ≡ (f.end q).place) ⊎ ((b : AgentId) × ((f.end q).place ≡ Some (Arrived b)) × (((next f a o).end q).place ≡ Some (With b)))
@@ -312,7 +312,7 @@ posted_made f s h (inl k) = entangled_made f s.end.0 k.peer h k.entangled
 posted_made f s h (inr (inl k)) = queue_is_made f s.end.0 h k.queue
 posted_made f s h (inr (inr k)) = made_of f s.end.0 h.ends (λ none. absurd (search (rules, sym (ap (λ (d : EndNow). d.kind) none) ∙ k.1.member)))
 
-pub some_own : (f : Facts) (q : Option ℕ) → own_poster_out f q ≡ true → is_some q ≡ true
+pub some_own : (f : Facts) (q : Option ℕ) → is_free f.line q ≡ true → is_some q ≡ true
 some_own f (Some q) h = refl
 some_own f None h = absurd (false≢true h)
 
@@ -364,8 +364,8 @@ one_peers f b k e h alone first x y false is at =
 
 few_next : (f : Facts) (refused : Bool) (o : Outcome) (a : Action) → Answers f a refused o → f.ends ≤ MAX_ENDS → ends_after f.ends o a ≤ MAX_ENDS
 few_next f refused (outcome.Ends e e') (action.Channel a) fits few = (new_ends f a refused e e' fits).3
-few_next f refused (outcome.End e) (action.Client a) fits few = (queue_made_of f is_client a refused e fits).few
-few_next f refused (outcome.End e) (action.Worker a) fits few = (queue_made_of f is_worker a refused e fits).few
+few_next f refused (outcome.End e) (action.Client a) fits few = (queue_made_of f Client a refused e fits).few
+few_next f refused (outcome.End e) (action.Worker a) fits few = (queue_made_of f Worker a refused e fits).few
 few_next f refused (outcome.End e) (action.Member a name) fits few = (member_made_of f a refused e fits).few
 few_next f refused o a fits few = few
 
@@ -382,15 +382,15 @@ agents_next f refused h o a fits x past = h.agents x past
 
 peers_next : (f : Facts) (refused : Bool) → SoundPlaces f → (o : Outcome) (a : Action) → Answers f a refused o → (x y : ℕ) → peer_of (kind_after x (f.end x).kind o a) ≡ Some y → (y < ends_after f.ends o a) × (peer_of (kind_after y (f.end y).kind o a) ≡ Some x)
 peers_next f refused h (outcome.Ends e e') (action.Channel a) fits x y is = let made = new_ends f a refused e e' fits in peers_channel f e e' h made.1 made.2 x y (eqb x e.0) (eqb x e'.0) refl refl is
-peers_next f refused h (outcome.End e) (action.Client a) fits x y is = one_peers f a Client e h refl (queue_made_of f is_client a refused e fits).number x y (eqb x e.0) refl is
-peers_next f refused h (outcome.End e) (action.Worker a) fits x y is = one_peers f a Worker e h refl (queue_made_of f is_worker a refused e fits).number x y (eqb x e.0) refl is
+peers_next f refused h (outcome.End e) (action.Client a) fits x y is = one_peers f a Client e h refl (queue_made_of f Client a refused e fits).number x y (eqb x e.0) refl is
+peers_next f refused h (outcome.End e) (action.Worker a) fits x y is = one_peers f a Worker e h refl (queue_made_of f Worker a refused e fits).number x y (eqb x e.0) refl is
 peers_next f refused h (outcome.End e) (action.Member a name) fits x y is = one_peers f a (Member a) e h refl (member_made_of f a refused e fits).number x y (eqb x e.0) refl is
 peers_next f refused h o a fits x y is = h.peers x y is
 
 none_next : (f : Facts) (refused : Bool) → Sound f → (o : Outcome) (a : Action) → Answers f a refused o → (x : ℕ) → ends_after f.ends o a ≤ x → (next f a o).end x ≡ no_end
 none_next f refused h (outcome.Ends e e') (action.Channel a) fits x past = let made = new_ends f a refused e e' fits in ends_channel f a e e' x h.places made.1 made.2 past
-none_next f refused h (outcome.End e) (action.Client a) fits x past = one_none f a Client e x h.places (queue_made_of f is_client a refused e fits).number past
-none_next f refused h (outcome.End e) (action.Worker a) fits x past = one_none f a Worker e x h.places (queue_made_of f is_worker a refused e fits).number past
+none_next f refused h (outcome.End e) (action.Client a) fits x past = one_none f a Client e x h.places (queue_made_of f Client a refused e fits).number past
+none_next f refused h (outcome.End e) (action.Worker a) fits x past = one_none f a Worker e x h.places (queue_made_of f Worker a refused e fits).number past
 none_next f refused h (outcome.End e) (action.Member a name) fits x past = one_none f a (Member a) e x h.places (member_made_of f a refused e fits).number past
 none_next f refused h (outcome.Accepted n) (action.Push s ports body) fits x past =
     let p = pushed_of f s ports body refused n fits in
@@ -460,8 +460,8 @@ away_next f refused h o a fits s away = may_next f refused h o a fits s away awa
 
 flights_next : (f : Facts) (refused : Bool) → Sound f → (o : Outcome) (a : Action) → Answers f a refused o → (x : ℕ) → (let g : Facts = next f a o in total (λ d. naming x (g.accepted d)) g.ends ≡ total (λ d. naming x (g.taken d ++ g.discarded d)) g.ends + flights (g.end x).place)
 flights_next f refused h (outcome.Ends e e') (action.Channel a) fits x = let made = new_ends f a refused e e' fits in made_flights f x 2 (eqb x e.0 || eqb x e'.0) a h (unmade_end f e e' x h.places.ends made.1 made.2)
-flights_next f refused h (outcome.End e) (action.Client a) fits x = made_flights f x 1 (eqb x e.0) a h (unmade_one f e x h.places.ends (queue_made_of f is_client a refused e fits).number)
-flights_next f refused h (outcome.End e) (action.Worker a) fits x = made_flights f x 1 (eqb x e.0) a h (unmade_one f e x h.places.ends (queue_made_of f is_worker a refused e fits).number)
+flights_next f refused h (outcome.End e) (action.Client a) fits x = made_flights f x 1 (eqb x e.0) a h (unmade_one f e x h.places.ends (queue_made_of f Client a refused e fits).number)
+flights_next f refused h (outcome.End e) (action.Worker a) fits x = made_flights f x 1 (eqb x e.0) a h (unmade_one f e x h.places.ends (queue_made_of f Worker a refused e fits).number)
 flights_next f refused h (outcome.End e) (action.Member a name) fits x = made_flights f x 1 (eqb x e.0) a h (unmade_one f e x h.places.ends (member_made_of f a refused e fits).number)
 flights_next f refused h (outcome.Accepted n) (action.Push s ports body) fits x =
     let p = pushed_of f s ports body refused n fits in

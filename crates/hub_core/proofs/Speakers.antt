@@ -1,8 +1,8 @@
 -- Who posts on a line, who may enter, and which ports are in flight.
 use Rattle.std.proofs.Common.{Bool, List, None, Option, Some, [], ap, append-nil, append_assoc, arith, cond, eqb, false, inl, inr, length, ne_eqb, not, refl, rules, subst, sym, true, ℕ, ◌&&◌, ◌++◌, ◌+◌, ◌<◌, ◌||◌, ◌∙◌, ◌∷◌, ◌≡◌, ◌≤◌, ◌⊎◌, ⊎_elim}
-use Rattle.hub_core.proofs.Words.{AgentId, AllByRecursion, CastNow, Client, EndId, EndNow, Envelope, Facts, InFlight, IsAllWaiting, IsNext, IsOfEnd, Kind, LineNow, Member, Out, Place, Port, Prefix, Sender, Sound, SoundPlaces, With, Worker, and_parts, by, eqb-true, false≢true, filter, flights}
-use Rattle.hub_core.proofs.Words.{has_poster, has_poster_of, hears_notice, holder, is_at, is_first, is_here, is_holder, is_named, is_out, is_queue, is_released, is_some, is_with, lines_of, list_all, maker_of, may_enter, may_leave_agent, names, naming, no_end, on_line, opened, option_and_then}
-use Rattle.hub_core.proofs.Words.{or_right, own_line_plain, own_poster_out, peer_of, phase_of_line, place, poster, poster_of, running, running_at, speaker_in, total, cases_lt}
+use Rattle.hub_core.proofs.Words.{AgentId, AllByRecursion, CastNow, Client, EndId, EndNow, Envelope, Facts, InFlight, IsAllWaiting, IsNext, IsOfEnd, Kind, LineNow, Member, Out, Place, Port, Prefix, Sender, Sound, SoundPlaces, With, Worker, and_parts, by, eqb-true, false≢true, filter, flights, owner, owner_by, with_agent, is_free, speaker, source_for}
+use Rattle.hub_core.proofs.Words.{hears_notice, holder, is_at, is_first, is_here, is_holder, is_named, is_out, is_queue, is_released, is_some, is_with, lines_of, list_all, maker_of, may_enter, may_leave_agent, names, naming, no_end, on_line, opened, option_and_then}
+use Rattle.hub_core.proofs.Words.{or_right, peer_of, phase_of_line, place, poster, poster_of, running, total, cases_lt}
 use Rattle.hub_core.proofs.Fitting.{SweptWith}
 use Rattle.hub_core.proofs.Items.{eqb_same, at_test}
 use Rattle.hub_core.proofs.SoundLines.{LinesAt, line_there, WaitingAt, all_removed, got_prefix, nothing_more}
@@ -66,15 +66,19 @@ pub record Casts (f : Facts) (s : Sender) (agent : AgentId) : Type 0 where
   pub first : is_first s.end.0 cast.left ≡ true
   pub source : (f.end cast.source.0).kind ≡ Some (Member agent)
 
-pub runs_there : (f : Facts) (p : Option Place) → is_some (running_at (λ a. (f.agent a).runs) p) ≡ true → (a : AgentId) × (p ≡ Some (With a)) × ((f.agent a.0).runs ≡ true)
-runs_there f (Some (With a)) h = (a, refl, elim ((f.agent a.0).runs) as (λ b. is_some (cond b (Some a) None) ≡ true → b ≡ true) [ true ↦ λ _. refl | false ↦ λ no. absurd (false≢true no) ] h)
-runs_there f _ h = absurd (false≢true h)
+-- an agent that has an end of this place
+pub with_found : (p : Option Place) (a : AgentId) → with_agent p ≡ Some a → p ≡ Some (With a)
+with_found (Some (With b)) a is = ap (λ q. Some (With q)) (let same : b ≡ a = cc in same)
+with_found _ a is = absurd (search (rules, is))
 
-runs_held : (f : Facts) (q : Option AgentId) → is_some (running f q) ≡ true → (a : AgentId) × (q ≡ Some a) × ((f.agent a.0).runs ≡ true)
+runs_held : (f : Facts) (q : Option AgentId) → is_some (running f.agent q) ≡ true → (a : AgentId) × (q ≡ Some a) × ((f.agent a.0).runs ≡ true)
 runs_held f None h = absurd (false≢true h)
 runs_held f (Some a) h = (a, refl, elim ((f.agent a.0).runs) as (λ b. is_some (cond b (Some a) None) ≡ true → b ≡ true) [ true ↦ λ _. refl | false ↦ λ no. absurd (false≢true no) ] h)
 
-pub held_by_one : (f : Facts) (s : Sender) → is_queue (f.end s.end.0).kind ≡ true → is_some (running f (f.line s.end.0 s.line.0).held_by) ≡ true → HoldsLine f s
+pub runs_there : (f : Facts) (p : Option Place) → is_some (running f.agent (with_agent p)) ≡ true → (a : AgentId) × (p ≡ Some (With a)) × ((f.agent a.0).runs ≡ true)
+runs_there f p h = let r = runs_held f (with_agent p) h in (r.0, with_found p r.0 r.1, r.2)
+
+pub held_by_one : (f : Facts) (s : Sender) → is_queue (f.end s.end.0).kind ≡ true → is_some (running f.agent (f.line s.end.0 s.line.0).held_by) ≡ true → HoldsLine f s
 held_by_one f s queue h = let r = runs_held f (f.line s.end.0 s.line.0).held_by h in record { queue = queue; agent = r.0; held = r.1; runs = r.2 }
 
 -- a kind with a maker
@@ -85,24 +89,24 @@ made_by _ h = absurd (false≢true h)
 abbrev pub SomeCasts : Facts → Sender → Type 0
 SomeCasts f s = (b : AgentId) × Casts f s b
 
-casts_by : (f : Facts) (s : Sender) (a : AgentId) → (f.end s.end.0).kind ≡ Some (Member a) → s.line.0 ≡ 0 → (o : Option CastNow) → f.roster.cast ≡ o → is_some (speaker_in f s.end.0 o) ≡ true → (b : AgentId) × Casts f s b
+casts_by : (f : Facts) (s : Sender) (a : AgentId) → (f.end s.end.0).kind ≡ Some (Member a) → s.line.0 ≡ 0 → (o : Option CastNow) → f.roster.cast ≡ o → is_some (option_and_then (λ q. maker_of (f.end q.0).kind) (source_for o s.end.0)) ≡ true → (b : AgentId) × Casts f s b
 casts_by f s a kind line None is h = absurd (false≢true h)
-casts_by f s a kind line (Some c) is h = at_test (λ q. is_some q ≡ true → SomeCasts f s) (is_first s.end.0 c.left) (maker_of (f.end c.source.0).kind) None
+casts_by f s a kind line (Some c) is h = at_test (λ q. is_some (option_and_then (λ d. maker_of (f.end d.0).kind) q) ≡ true → SomeCasts f s) (is_first s.end.0 c.left) (Some c.source) None
     (λ first made.
     let by = made_by (f.end c.source.0).kind made in
     (by.0, record { line = line; maker = a; member = kind; cast = c; is_open = is; first = first; source = by.1 }))
     (λ _ none. absurd (false≢true none)) h
 
-speaks_by : (f : Facts) (s : Sender) (p : Option Kind) → (f.end s.end.0).kind ≡ p → is_some (poster_of f s p) ≡ true → Speaks f s ⊎ (HoldsLine f s ⊎ SomeCasts f s)
+speaks_by : (f : Facts) (s : Sender) (p : Option Kind) → (f.end s.end.0).kind ≡ p → is_some (poster_of (speaker f s.end.0) (running f.agent (owner_by f.end s.line.0 (f.line s.end.0 s.line.0).held_by p)) s.line.0 p) ≡ true → Speaks f s ⊎ (HoldsLine f s ⊎ SomeCasts f s)
 speaks_by f s None is h = absurd (false≢true h)
-speaks_by f s (Some (Port q)) is h = at_test (λ p. is_some p ≡ true → Speaks f s ⊎ (HoldsLine f s ⊎ SomeCasts f s)) (eqb s.line.0 0) (holder f q.0) None
+speaks_by f s (Some (Port q)) is h = at_test (λ p. is_some (running f.agent p) ≡ true → Speaks f s ⊎ (HoldsLine f s ⊎ SomeCasts f s)) (eqb s.line.0 0) (with_agent (f.end q.0).place) None
     (λ line held.
     let there = runs_there f (f.end q.0).place held in
     inl (record { line = eqb-true s.line.0 0 line; peer = q.0; entangled = ap peer_of is; agent = there.0; has = there.1; runs = there.2 }))
     (λ line none. absurd (false≢true none)) h
 speaks_by f s (Some Client) is h = inr (inl (held_by_one f s (ap is_queue is) h))
 speaks_by f s (Some Worker) is h = inr (inl (held_by_one f s (ap is_queue is) h))
-speaks_by f s (Some (Member a)) is h = at_test (λ p. is_some p ≡ true → Speaks f s ⊎ (HoldsLine f s ⊎ SomeCasts f s)) (eqb s.line.0 0) (speaker_in f s.end.0 f.roster.cast) None (λ line speaks. inr (inr (casts_by f s a is (eqb-true s.line.0 0 line) f.roster.cast refl speaks))) (λ line none. absurd (false≢true none)) h
+speaks_by f s (Some (Member a)) is h = at_test (λ p. is_some p ≡ true → Speaks f s ⊎ (HoldsLine f s ⊎ SomeCasts f s)) (eqb s.line.0 0) (speaker f s.end.0) None (λ line speaks. inr (inr (casts_by f s a is (eqb-true s.line.0 0 line) f.roster.cast refl speaks))) (λ line none. absurd (false≢true none)) h
 
 pub speaks_of : (f : Facts) (s : Sender) → is_some (poster f s) ≡ true → Speaks f s ⊎ (HoldsLine f s ⊎ SomeCasts f s)
 speaks_of f s h = speaks_by f s (f.end s.end.0).kind refl h
@@ -116,34 +120,33 @@ port_of _ q h = absurd (search (rules, h))
 pub poster_as : (g : Facts) (s : Sender) (q : ℕ) (a : AgentId) → s.line.0 ≡ 0 → peer_of (g.end s.end.0).kind ≡ Some q → (g.end q).place ≡ Some (With a) → (g.agent a.0).runs ≡ true → poster g s ≡ Some a
 poster_as g s q a line peer place runs = let port = port_of (g.end s.end.0).kind q peer in rw (line, port, place, runs) refl
 
-queue_poster : (g : Facts) (s : Sender) (p : Option Kind) → is_queue p ≡ true → poster_of g s p ≡ running g (g.line s.end.0 s.line.0).held_by
+queue_poster : (g : Facts) (s : Sender) (p : Option Kind) → is_queue p ≡ true → poster_of (speaker g s.end.0) (running g.agent (owner_by g.end s.line.0 (g.line s.end.0 s.line.0).held_by p)) s.line.0 p ≡ running g.agent (g.line s.end.0 s.line.0).held_by
 queue_poster g s (Some Client) h = refl
 queue_poster g s (Some Worker) h = refl
 queue_poster g s _ h = absurd (false≢true h)
 
 pub holds_as : (g : Facts) (s : Sender) (k : HoldsLine g s) → poster g s ≡ Some k.agent
-holds_as g s k = queue_poster g s (g.end s.end.0).kind k.queue ∙ ap (running g) k.held ∙ ap (λ b. cond b (Some k.agent) None) k.runs
+holds_as g s k = queue_poster g s (g.end s.end.0).kind k.queue ∙ ap (running g.agent) k.held ∙ ap (λ b. cond b (Some k.agent) None) k.runs
 
 pub casts_as : (g : Facts) (s : Sender) (b : AgentId) → Casts g s b → poster g s ≡ Some b
 casts_as g s b k = rw (k.member, k.line, k.is_open, k.first, k.source) refl
 
 -- ---- ports that travel
 
-with_agent : (a : AgentId) (p : Option Place) → is_with a p ≡ true → p ≡ Some (With a)
-with_agent a (Some (With b)) h = let same : a.0 ≡ b.0 = search (rules, h) in ap (λ n. Some (With (record { 0 = n }))) (sym same)
-with_agent a _ h = absurd (false≢true h)
+has_of : (a : AgentId) (p : Option Place) → is_with a p ≡ true → p ≡ Some (With a)
+has_of a (Some (With b)) h = let same : a.0 ≡ b.0 = search (rules, h) in ap (λ n. Some (With (record { 0 = n }))) (sym same)
+has_of a _ h = absurd (false≢true h)
 
 -- a port of a good list has its own line out and is with the agent
-pub travels : (f : Facts) (a : AgentId) (s : Sender) (x : ℕ) (ports : List EndId) → list_all (may_leave_agent f a s) ports ≡ true → names ports x ≡ true → ((f.end x).place ≡ Some (With a)) × (own_poster_out f (peer_of (f.end x).kind) ≡ true)
+pub travels : (f : Facts) (a : AgentId) (s : Sender) (x : ℕ) (ports : List EndId) → list_all (may_leave_agent f a s) ports ≡ true → names ports x ≡ true → ((f.end x).place ≡ Some (With a)) × (is_free f.line (peer_of (f.end x).kind) ≡ true)
 travels f a s x [] all named = absurd (false≢true named)
-travels f a s x (p ∷ ps) all named = elim (eqb p.0 x) as (λ b. eqb p.0 x ≡ b → (b || names ps x) ≡ true → ((f.end x).place ≡ Some (With a)) × (own_poster_out f (peer_of (f.end x).kind) ≡ true)) [
+travels f a s x (p ∷ ps) all named = elim (eqb p.0 x) as (λ b. eqb p.0 x ≡ b → (b || names ps x) ≡ true → ((f.end x).place ≡ Some (With a)) × (is_free f.line (peer_of (f.end x).kind) ≡ true)) [
   | true ↦ λ t _.
       let same : p.0 ≡ x = search (rules, t) in
       let tests = and_parts (may_leave_agent f a s p) (list_all (may_leave_agent f a s) ps) all in
-      let first = and_parts (is_with a (f.end p.0).place && own_poster_out f (peer_of (f.end p.0).kind) && own_line_plain f (peer_of (f.end p.0).kind)) (not (is_at p.0 (peer_of (f.end s.end.0).kind))) tests.0 in
-      let second = and_parts (is_with a (f.end p.0).place && own_poster_out f (peer_of (f.end p.0).kind)) (own_line_plain f (peer_of (f.end p.0).kind)) first.0 in
-      let third = and_parts (is_with a (f.end p.0).place) (own_poster_out f (peer_of (f.end p.0).kind)) second.0 in
-      subst (λ y. ((f.end y).place ≡ Some (With a)) × (own_poster_out f (peer_of (f.end y).kind) ≡ true)) same (with_agent a (f.end p.0).place third.0, third.1)
+      let first = and_parts (is_with a (f.end p.0).place && is_free f.line (peer_of (f.end p.0).kind)) (not (is_at p.0 (peer_of (f.end s.end.0).kind))) tests.0 in
+      let second = and_parts (is_with a (f.end p.0).place) (is_free f.line (peer_of (f.end p.0).kind)) first.0 in
+      subst (λ y. ((f.end y).place ≡ Some (With a)) × (is_free f.line (peer_of (f.end y).kind) ≡ true)) same (has_of a (f.end p.0).place second.0, second.1)
   | false ↦ λ t later. travels f a s x ps (and_parts (may_leave_agent f a s p) (list_all (may_leave_agent f a s) ps) all).1 later
 ] refl named
 
@@ -221,15 +224,15 @@ swept_flies f e vs x s w named =
 
 -- ---- whoever is away keeps the line
 
--- the own poster of a port that may be closed is out
-pub released_out : (f : Facts) (p : Option Kind) (x : ℕ) → is_released f p ≡ true → peer_of p ≡ Some x → own_poster_out f (peer_of p) ≡ true
-released_out f (Some (Port q)) x h is = h
-released_out f _ x h is = absurd (search (rules, is))
+pub zeroth_out : (f : Facts) (s : Sender) → s.line.0 ≡ 0 → is_out (f.line s.end.0 0).phase ≡ true → is_out (phase_of_line f s) ≡ true
+zeroth_out f s line out = subst (λ l. is_out (f.line s.end.0 l).phase ≡ true) (sym line) out
 
-pub own_out : (f : Facts) (s : Sender) (q : ℕ) → s.line.0 ≡ 0 → own_poster_out f (peer_of (f.end q).kind) ≡ true → peer_of (f.end q).kind ≡ Some s.end.0 → is_out (phase_of_line f s) ≡ true
-own_out f s q line out peer =
-    let first : is_out (f.line s.end.0 0).phase ≡ true = subst (λ p. own_poster_out f p ≡ true) peer out in
-    subst (λ l. is_out (f.line s.end.0 l).phase ≡ true) (sym line) first
+-- the own poster of a port that may be closed is out, and so is that of one that may be sent
+pub released_out : (f : Facts) (p : Option Kind) (x : ℕ) → peer_of p ≡ Some x → is_released f.line p ≡ true → is_out (f.line x 0).phase ≡ true
+released_out f p x is free = subst (λ k. is_released f.line k ≡ true) (port_of p x is) free
+
+pub free_port_out : (f : Facts) (p : Option ℕ) (x : ℕ) → p ≡ Some x → is_free f.line p ≡ true → is_out (f.line x 0).phase ≡ true
+free_port_out f p x is free = (and_parts (is_out (f.line x 0).phase) (not (f.line x 0).noticed) (subst (λ q. is_free f.line q ≡ true) is free)).0
 
 below : (x n : ℕ) → x < n → (eqb x n ≡ false) × (eqb x (n + 1) ≡ false)
 below x n less = (ne_eqb x n (λ is. omega arith), ne_eqb x (n + 1) (λ is. omega arith))
@@ -256,13 +259,13 @@ pub queue_is_made : (f : Facts) (x : ℕ) → SoundPlaces f → is_queue (f.end 
 queue_is_made f x s is = made_of f x s.ends (λ none. false≢true (sym (ap (λ (e : EndNow). is_queue e.kind) none) ∙ is))
 
 -- the poster of a port's line is that of the agent that has the port
-pub port_owned : (f : Facts) (a : AgentId) (s : Sender) (k : Speaks f s) → k.agent.0 ≡ a.0 → has_poster f a s.end.0 s.line.0 ≡ true
+pub port_owned : (f : Facts) (a : AgentId) (s : Sender) (k : Speaks f s) → k.agent.0 ≡ a.0 → is_holder a (owner f s.end.0 s.line.0) ≡ true
 port_owned f a s k same =
     let port = port_of (f.end s.end.0).kind k.peer k.entangled in
     rw (port, k.line, k.has) (ap (eqb a.0) same ∙ eqb_same a.0)
 
 -- the poster of a queue's line is that of the agent that holds it
-pub line_owned : (f : Facts) (a : AgentId) (s : Sender) (p : Option Kind) → is_queue p ≡ true → (b : AgentId) → (f.line s.end.0 s.line.0).held_by ≡ Some b → b.0 ≡ a.0 → has_poster_of f a s.end.0 s.line.0 p ≡ true
+pub line_owned : (f : Facts) (a : AgentId) (s : Sender) (p : Option Kind) → is_queue p ≡ true → (b : AgentId) → (f.line s.end.0 s.line.0).held_by ≡ Some b → b.0 ≡ a.0 → is_holder a (owner_by f.end s.line.0 (f.line s.end.0 s.line.0).held_by p) ≡ true
 line_owned f a s (Some Client) queue b held same = ap (is_holder a) held ∙ ap (eqb a.0) same ∙ eqb_same a.0
 line_owned f a s (Some Worker) queue b held same = ap (is_holder a) held ∙ ap (eqb a.0) same ∙ eqb_same a.0
 line_owned f a s _ queue b held same = absurd (false≢true queue)

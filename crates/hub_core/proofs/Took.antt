@@ -1,6 +1,6 @@
 -- A step of the core from one value to another, and the clauses of `Core::step` that follow.
 use Rattle.std.proofs.Common.{◌<◌, length, sym, ap, subst, ◌∙◌, ◌≡◌, Some, Result, Ok, Err, refl, IfOk, ℕ, Bool, true, List, [], ◌∷◌, ◌++◌, None, inl, inr}
-use Rattle.hub_core.proofs.Words.{slice_get, Core, Member, facts, origin_at, ShowsFacts, StillShows, SameContent, AgentId, Client, Worker, CoreState, core_after, queue_core, Outcome, OnErr, false≢true, EndId, member_made, is_seated, part_answer_of}
+use Rattle.hub_core.proofs.Words.{slice_get, Core, Member, facts, ShowsFacts, StillShows, SameContent, AgentId, Client, Worker, CoreState, core_after, queue_core, Outcome, OnErr, false≢true, EndId, member_made, is_seated, part_answer, unwrap_or, has_end}
 use Rattle.hub_core.proofs.Words.{MemberLeaves, PartLeaves, seen, Step, Action, Facts, Answers, Fits, History, InOrder, takes_memory, Shows, ShowsRoster, FitsAndShows, changes_nothing, member_answer, part_answer}
 use Rattle.hub_core.proofs.Sounds.{sound_legal}
 use Rattle.hub_core.proofs.Speakers.{kind_made}
@@ -22,7 +22,7 @@ same_shown old new same = λ h shows. (
   subst (λ es. ShowsFacts new.agents es (facts h)) (sym same.1) (subst (λ gs. ShowsFacts gs old.ends (facts h)) (sym same.0) shows.0),
   record {
     agents = ap length same.2.members.origins ∙ shows.1.agents;
-    origins = λ a. shows.1.origins a ∙ ap (λ os. origin_at (slice_get os a)) (sym same.2.members.origins);
+    origins = λ a. shows.1.origins a ∙ ap (λ os. unwrap_or (slice_get os a) None) (sym same.2.members.origins);
     groups = λ x a is.
         let made : x < length old.ends = subst (λ n. x < n) shows.0.ends (kind_made (facts h) x (Member a) (sound_legal h shows.2).places is) in
         shows.1.groups x a is ∙ sym (same.2.members.groups x made);
@@ -123,10 +123,10 @@ member_took a name refused old new (outcome.Clear None) says leaves same = staye
 member_took a name refused old new (outcome.Clear (Some k)) says leaves same = stayed (action.Member a name) refused old new (outcome.Clear (Some k)) same leaves (λ f. refl) (λ f h. says ∙ ap (λ g. member_answer g a refused) (seen_is h))
 member_took a name refused old new o says leaves same = stayed (action.Member a name) refused old new o same leaves (λ f. refl) (λ f h. says ∙ ap (λ g. member_answer g a refused) (seen_is h))
 
-pub part_took : (e : EndId) (refused : Bool) (old new : CoreState) (o : Outcome) → o ≡ part_answer_of (is_seated old.roster.members e.0) (seen old) → PartLeaves e.0 old.roster o new.roster → new ≡ record old { roster = new.roster } → Took (action.Part e) refused old new o
+pub part_took : (e : EndId) (refused : Bool) (old new : CoreState) (o : Outcome) → o ≡ part_answer (is_seated old.roster.members e.0) (seen old) → PartLeaves e.0 old.roster o new.roster → new ≡ record old { roster = new.roster } → Took (action.Part e) refused old new o
 part_took e refused old new outcome.Done says leaves same = record {
   shown = λ f s w.
-      let answer : outcome.Done ≡ part_answer f e = says ∙ part_answered e (record { shows = s; roster = w }) in
+      let answer : outcome.Done ≡ part_answer (has_end e.0 f.roster.members) f = says ∙ part_answered e (record { shows = s; roster = w }) in
       (subst (λ (c : CoreState). Stepped c.agents c.ends f (action.Part e) refused outcome.Done) (sym same) (part_shown e refused s answer), roster_part old.roster new.roster f e w answer leaves);
   same = λ nothing. absurd (false≢true nothing);
 }

@@ -1,11 +1,9 @@
 -- What the steps of broadcast channels are answered (WHATWG HTML, "Broadcasting to other browsing contexts", the steps of
 -- `new BroadcastChannel(name)`, `postMessage(message)` and `close()`).
 use Rattle.std.specs.Prelude.{if◌then◌else◌, ◌&&◌, ◌==◌}
-use Rattle.hub_core.specs.Words.{AgentId, Bool, EndId, Group, List, MAX_ENDS, None, Option, Outcome, Some, [], filter, is_some, nat_le, not, ℕ}
+use Rattle.hub_core.specs.Words.{AgentId, Bool, EndId, Group, List, MAX_ENDS, Outcome, [], filter, is_some, nat_le, not, ℕ, option_map, unwrap_or}
 use Rattle.hub_core.specs.declared.outcome.Outcome.TheVariants as outcome
-use Rattle.hub_core.specs.Facts.{Facts}
-use Rattle.hub_core.specs.Made.{maker_of}
-use Rattle.hub_core.specs.Roster.{has_end, is_of_group}
+use Rattle.hub_core.specs.Notions.{Facts, maker_of, is_of_group}
 use Rattle.hub_core.specs.Posting.{holder, is_empty}
 
 -- whether a cast has destinations left
@@ -22,31 +20,23 @@ member_answer f a refused =
     else (if refused then outcome.NoMemory
     else outcome.End (record { 0 = f.ends }))))
 
-abbrev pub destinations_of : Facts → ℕ → Option Group → List EndId
-destinations_of f x None = []
-destinations_of f x (Some g) = filter (λ y. is_of_group g (f.roster.group y.0) && not (y.0 == x)) f.roster.members
+abbrev pub destinations_of : Facts → ℕ → Group → List EndId
+destinations_of f x g = filter (λ y. is_of_group g (f.roster.group y.0) && not (y.0 == x)) f.roster.members
 
 -- the members of the end's origin and name but the end, in the order in which they joined, closed ones among them
 abbrev pub destinations : Facts → ℕ → List EndId
-destinations f x = destinations_of f x (f.roster.group x)
+destinations f x = unwrap_or (option_map (destinations_of f x) (f.roster.group x)) []
 
--- the first two arguments say whether the end is a member, and where its cast goes
-abbrev pub cast_answer_of : Bool → List EndId → Facts → EndId → List EndId → Outcome
-cast_answer_of is_member ends f e ports =
+-- A Cast tests that the end is a broadcast channel and no cast has destinations left; that it hasn't parted, as the first
+-- argument says, and isn't closed; that a running agent has it; and that no ports are listed. It goes to the ends of the second.
+abbrev pub cast_answer : Bool → List EndId → Facts → EndId → List EndId → Outcome
+cast_answer is_member ends f e ports =
     if not (is_some (maker_of (f.end e.0).kind) && not (is_casting f)) then outcome.NotNow
     else (if not (is_member && not (f.end e.0).closed) then outcome.InvalidState
     else (if not (is_some (holder f e.0)) then outcome.NotNow
     else (if not (is_empty ports) then outcome.NotTransferable
     else outcome.Destinations ends)))
 
--- A Cast tests that the end is a broadcast channel and no cast has destinations left; that it hasn't parted and isn't
--- closed; that a running agent has it; and that no ports are listed.
-abbrev pub cast_answer : Facts → EndId → List EndId → Outcome
-cast_answer f e ports = cast_answer_of (has_end e.0 f.roster.members) (destinations f e.0) f e ports
-
--- A Part tests that the end is a member, and that no cast has destinations left.
-abbrev pub part_answer_of : Bool → Facts → Outcome
-part_answer_of is_member f = if is_member && not (is_casting f) then outcome.Done else outcome.NotNow
-
-abbrev pub part_answer : Facts → EndId → Outcome
-part_answer f e = part_answer_of (has_end e.0 f.roster.members) f
+-- A Part tests that the end is a member, as the first argument says, and that no cast has destinations left.
+abbrev pub part_answer : Bool → Facts → Outcome
+part_answer is_member f = if is_member && not (is_casting f) then outcome.Done else outcome.NotNow

@@ -1,7 +1,7 @@
 -- The gate of one queue as a machine (this project's own): what its flags, its lines and the rights of its lines
--- are, what one event makes of them, and the one word that shows flags and count.
-use Rattle.std.specs.Prelude.{◌*◌, ◌+◌, ◌/◌, ◌<◌, ◌==◌, ◌||◌, ◌≡◌}
-use Rattle.hub_core.specs.Words.{Bool, Inside, List, None, Option, Out, Phase, Some, Turned, bit_and, false, map, not, slice_get, slice_set, sum_by, true, ℕ}
+-- are, what one event makes of them, the one word that shows flags and count, and what holds of each state.
+use Rattle.std.specs.Prelude.{◌&&◌, ◌*◌, ◌+◌, ◌/◌, ◌<◌, ◌==◌, ◌||◌, ◌≡◌}
+use Rattle.hub_core.specs.Words.{Bool, Inside, IsTrue, List, None, Option, Out, Phase, Some, Turned, bit_and, false, is_some, length, map, not, slice_get, slice_set, sum_by, true, ℕ}
 
 -- three flags; for each line whether it is out, inside or being turned back; the rights at home, by line; and whether they were collected
 pub record Gate (R : Type 0) : Type 0 where
@@ -124,3 +124,31 @@ pub data Steps {R : Type 0} (owns : ℕ → R → Type 0) (g : Gate R) : Event R
 pub data Reached {R : Type 0} (owns : ℕ → R → Type 0) : Gate R → Type 0 where
   opens : (rights : List R) → ((l : ℕ) (r : R) → slice_get rights l ≡ Some r → owns l r) → Reached owns (opened rights)
   goes_on : (g g' : Gate R) (event : Event R) (answer : Answer R) → Reached owns g → Steps owns g event answer g' → Reached owns g'
+
+-- ---- What holds of each state that the machine reaches.
+
+-- whether a line in this phase leaves its right at the gate
+abbrev pub leaves_right : Phase → Bool
+leaves_right Inside = false
+leaves_right _ = true
+
+-- What holds of a gate of so many lines, whatever happened there.
+pub record IsGateOf {R : Type 0} (lines : ℕ) (g : Gate R) : Type 0 where
+  pub phases : length g.phases ≡ lines
+  -- line by line, a right is at home exactly where its line isn't inside and the rights weren't collected
+  pub homes : map is_some g.homes ≡ map (λ p. leaves_right p && not g.collected) g.phases
+  -- a line is turned, and the rights are collected, only where the gate is moved or closed
+  pub turned : (line : ℕ) → IsAt g line Turned → is_shut g ≡ true
+  pub shut : g.collected ≡ true → is_shut g ≡ true
+  -- where the rights were collected, no line is inside
+  pub nobody : g.collected ≡ true → (line : ℕ) → ¬ IsAt g line Inside
+
+-- The laws of the gate machine, whichever rights are those of a line.
+pub record GateMachineLaws (R : Type 0) : Type 0 where
+  -- as it opens a gate has a line for each right, and each event leaves it a gate of as many lines
+  pub opened : (rights : List R) → IsGateOf (length rights) (opened rights)
+  pub step : (owns : ℕ → R → Bool) (lines : ℕ) (g after : Gate R) (event : Event R) (answer : Answer R) → Steps (λ line right. IsTrue (owns line right)) g event answer after → IsGateOf lines g → IsGateOf lines after
+  -- so each state that is reached from an opening is one
+  pub reached : (owns : ℕ → R → Bool) (g : Gate R) → Reached (λ line right. IsTrue (owns line right)) g → IsGateOf (length g.phases) g
+  -- where nobody is inside or being turned back and the rights weren't collected, all rights are at home
+  pub whole : (lines : ℕ) (g : Gate R) → IsGateOf lines g → g.collected ≡ false → busy g ≡ 0 → (rights : List R) × (length rights ≡ lines) × (g.homes ≡ map Some rights)

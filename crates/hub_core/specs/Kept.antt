@@ -3,14 +3,10 @@ use Rattle.std.specs.Prelude.{if◌then◌else◌, ◌&&◌, ◌++◌, ◌+◌, 
 use Rattle.hub_core.specs.Words.{[], false, length, slice_get, Agent, AgentId, Arrived, Bool, Client, End, EndId, Envelope, Err, Gone, IfSome, InFlight, Inside, Kind, Line, List, MAX_LINES, Member, None, Ok, Option, Out, Outcome, Phase, Place, Port, Result, Sender, Some, Turned}
 use Rattle.hub_core.specs.Words.{With, Worker, drop, flat_map, fold, is_some, list_any, nat_le, nat_lt, not, option_map, position, option_and_then, replicate, slice_index_or, slice_set, true, unwrap_or, ℕ, Action, Swept}
 use Rattle.hub_core.specs.CoreState.{CoreState}
-use Rattle.hub_core.specs.KeptRoster.{origin_at}
-use Rattle.hub_core.specs.Facts.{Facts, facts}
-use Rattle.hub_core.specs.Roster.{no_roster, cast_to, cast_after}
+use Rattle.hub_core.specs.Notions.{Facts, facts, no_roster, cast_to, cast_after, lines_of, named_envelope, named_notice}
 use Rattle.hub_core.specs.Shows.{agent_now, end_now, line_now, kept_lines}
 use Rattle.hub_core.specs.declared.outcome.Outcome.TheVariants as outcome
-use Rattle.hub_core.specs.Made.{lines_of}
-use Rattle.hub_core.specs.Posting.{is_inside, is_out, holder}
-use Rattle.hub_core.specs.Envelopes.{named_envelope, named_notice}
+use Rattle.hub_core.specs.Posting.{holder, is_inside, is_out, owner}
 use Rattle.hub_core.specs.declared.step.Action.TheVariants as action
 use Rattle.hub_core.specs.Taking.{is_released}
 
@@ -25,10 +21,10 @@ seen c = record (facts []) {
   agent = λ a. agent_now (slice_get c.agents a);
   end = λ x. end_now (slice_get c.ends x);
   line = λ x l. line_now (slice_get (kept_lines (slice_get c.ends x)) l);
-  roster = record no_roster { origin = λ a. origin_at (slice_get c.roster.members.origins a); cast = c.roster.cast };
+  roster = record no_roster { origin = λ a. unwrap_or (slice_get c.roster.members.origins a) None; cast = c.roster.cast };
 }
 
--- ==== For private clauses: what the parts of the core do to what it keeps.
+-- ==== What the parts of the core do to what it keeps.
 
 -- whether the poster of some line is inside or being turned back at a queue
 abbrev pub is_anyone_at : ℕ → List Line → Bool
@@ -75,8 +71,7 @@ posting_line x None = None
 posting_line x (Some y) = if is_inside y.phase && not y.has_noticed && has_queue x y.epoch then Some y else None
 
 abbrev pub posting_at : Sender → Option End → Option (Kind × Line)
-posting_at s None = None
-posting_at s (Some x) = option_map (λ y. (x.kind, y)) (posting_line x (slice_get x.lines s.line.0))
+posting_at s found = option_and_then (λ x. option_map (λ y. (x.kind, y)) (posting_line x (slice_get x.lines s.line.0))) found
 
 -- whether the line's poster may put an envelope
 abbrev pub may_put : List End → Sender → Bool
@@ -89,29 +84,20 @@ put_end x y v = record x {
   queues = slice_set x.queues (y.epoch - x.taker) (slice_index_or x.queues (y.epoch - x.taker) [] ++ v ∷ []);
 }
 
--- the same, by the line that is found
-abbrev pub put_found : Envelope → End → Option Line → End
-put_found v x None = x
-put_found v x (Some y) = put_end x y v
-
 -- what the taker's queue holds
 abbrev pub taker_queue : End → List Envelope
 taker_queue x = slice_index_or x.queues 0 []
 
--- the end with another content of the taker's queue
-abbrev pub with_taker_queue : End → List Envelope → End
-with_taker_queue x rest = record x { queues = slice_set x.queues 0 rest }
-
 abbrev pub front_taken : End → End
-front_taken x = with_taker_queue x (drop 1 (taker_queue x))
+front_taken x = record x { queues = slice_set x.queues 0 (drop 1 (taker_queue x)) }
 
--- the ends with one of them changed, where it is there
-abbrev pub changed_ends : (End → End) → ℕ → List End → Option End → List End
-changed_ends change e ends None = ends
-changed_ends change e ends (Some x) = slice_set ends e (change x)
+-- the list with this item at a place, or with the item of that place changed, where there is one
+abbrev pub set_at : {A : Type 0} → ℕ → List A → Option A → List A
+set_at n xs None = xs
+set_at n xs (Some x) = slice_set xs n x
 
-abbrev pub change_end : (End → End) → ℕ → List End → List End
-change_end change e ends = changed_ends change e ends (slice_get ends e)
+abbrev pub change_at : {A : Type 0} → (A → A) → ℕ → List A → List A
+change_at change n xs = set_at n xs (option_map change (slice_get xs n))
 
 -- a line that has put nothing
 abbrev pub first_line : Line
@@ -123,7 +109,7 @@ line_of ends s = unwrap_or (slice_get (kept_lines (slice_get ends s.end.0)) s.li
 
 -- the ends with one line of one of them set or changed, where it is there
 abbrev pub set_line : Sender → Line → List End → List End
-set_line s y ends = change_end (λ x. record x { lines = slice_set x.lines s.line.0 y }) s.end.0 ends
+set_line s y ends = change_at (λ x. record x { lines = slice_set x.lines s.line.0 y }) s.end.0 ends
 
 abbrev pub change_line : (Line → Line) → Sender → List End → List End
 change_line change s ends = set_line s (change (line_of ends s)) ends
@@ -140,7 +126,7 @@ at_queue k y = record y { epoch = k; put = 0 }
 
 -- the ends with one of them, and with those that the list names, at another place
 abbrev pub end_moved : Place → List End → EndId → List End
-end_moved p ends e = change_end (λ x. record x { place = p }) e.0 ends
+end_moved p ends e = change_at (λ x. record x { place = p }) e.0 ends
 
 abbrev pub moved_ends : List EndId → Place → List End → List End
 moved_ends ports p ends = fold (end_moved p) ends ports
@@ -149,11 +135,6 @@ moved_ends ports p ends = fold (end_moved p) ends ports
 abbrev pub arrived_ends : Option AgentId → List EndId → List End → List End
 arrived_ends None ports ends = ends
 arrived_ends (Some a) ports ends = moved_ends ports (Arrived a) ends
-
--- the agent, running or ending, that has an end of this place
-abbrev pub with_agent : Option Place → Option AgentId
-with_agent (Some (With a)) = Some a
-with_agent _ = None
 
 -- the end of the sender has this line, and the queue at which it stands
 abbrev pub HasQueue : List End → Sender → Line → Type 0
@@ -166,7 +147,7 @@ push_outcome (Err o) = o
 
 -- the ends after an envelope was put, its ports where they were
 abbrev pub put_ends : List End → Envelope → List End
-put_ends ends v = change_end (λ x. put_found v x (slice_get x.lines v.line.0)) v.end.0 ends
+put_ends ends v = change_at (λ x. unwrap_or (option_map (λ y. put_end x y v) (slice_get x.lines v.line.0)) x) v.end.0 ends
 
 -- the ends after an envelope was put on a line: an envelope more at its end, and its ports in flight
 abbrev pub accept_ends : List End → Envelope → List End
@@ -220,29 +201,16 @@ new_end a kind = record {
   queues = [] ∷ [];
 }
 
--- ---- posters that are away
-
-abbrev pub set_agent : ℕ → List Agent → Option Agent → List Agent
-set_agent a agents None = agents
-set_agent a agents (Some x) = slice_set agents a x
-
--- the agents, one of them changed
-abbrev pub change_agent : (Agent → Agent) → ℕ → List Agent → List Agent
-change_agent change a agents = set_agent a agents (option_map change (slice_get agents a))
-
-abbrev pub one_away : Agent → Agent
-one_away x = if nat_lt x.away 4294967295 then record x { away = x.away + 1 } else x
-
-abbrev pub one_out : Agent → Agent
-one_out x = record x { away = x.away - 1 }
+-- an agent after a poster of it came to this phase: one more is away, or one less
+abbrev pub counted : Phase → Agent → Agent
+counted Out x = record x { away = x.away - 1 }
+counted _ x = if nat_lt x.away 4294967295 then record x { away = x.away + 1 } else x
 
 abbrev pub change_owner : (Agent → Agent) → Option AgentId → List Agent → List Agent
 change_owner change None agents = agents
-change_owner change (Some a) agents = change_agent change a.0 agents
+change_owner change (Some a) agents = change_at change a.0 agents
 
--- ---- queues of clients and workers
-
--- an agent with another count of its queues of this kind
+-- an agent with a queue more of this kind, or one less
 abbrev pub one_more : Kind → Agent → Agent
 one_more Client x = record x { clients = x.clients + 1 }
 one_more Worker x = record x { workers = x.workers + 1 }
@@ -253,18 +221,14 @@ one_less Client x = record x { clients = x.clients - 1 }
 one_less Worker x = record x { workers = x.workers - 1 }
 one_less _ x = x
 
--- the agents after an end of this kind came to an agent, and after it went from this place
-abbrev pub come : Kind → AgentId → List Agent → List Agent
-come kind a agents = change_agent (one_more kind) a.0 agents
-
+-- the agents after an end of this kind went from this place
 abbrev pub gone : Kind → Place → List Agent → List Agent
-gone kind (With a) agents = change_agent (one_less kind) a.0 agents
+gone kind (With a) agents = change_at (one_less kind) a.0 agents
 gone kind _ agents = agents
 
 -- the agents after this end went from its place
 abbrev pub went : Option End → List Agent → List Agent
-went None agents = agents
-went (Some x) agents = gone x.kind x.place agents
+went found agents = unwrap_or (option_map (λ x. gone x.kind x.place agents) found) agents
 
 -- the first line that no agent holds
 abbrev pub first_free : List Line → Option ℕ
@@ -272,42 +236,28 @@ first_free lines = option_and_then (λ l. if nat_lt l MAX_LINES then Some l else
 
 -- an agent that an end of this kind came to; of a port with its own poster away that poster is the agent's now
 abbrev pub adopting : Bool → Kind → Agent → Agent
-adopting released kind x = if released then one_more kind x else one_away (one_more kind x)
+adopting released kind x = if released then one_more kind x else counted Inside (one_more kind x)
 
 -- the agents after this end came to one of them
 abbrev pub adopted_agents : Bool → AgentId → Option End → List Agent → List Agent
-adopted_agents released a None agents = agents
-adopted_agents released a (Some x) agents = change_agent (adopting released x.kind) a.0 agents
+adopted_agents released a found agents = unwrap_or (option_map (λ x. change_at (adopting released x.kind) a.0 agents) found) agents
 
--- ==== For private clauses: what the steps of broadcast channels do to what is kept of ends.
-
+-- the ends after an agent made a broadcast channel, or no change
 abbrev pub member_made : AgentId → List End → Outcome → List End
 member_made a old (outcome.End e) = old ++ new_end a (Member a) ∷ []
 member_made a old _ = old
-
--- ==== For private clauses: what the core keeps of posters that are away, and of agents that end.
-
-abbrev pub owner_by : Facts → Sender → Option Kind → Option AgentId
-owner_by f s (Some (Port q)) = if s.line.0 == 0 then with_agent (f.end q.0).place else None
-owner_by f s (Some Client) = (f.line s.end.0 s.line.0).held_by
-owner_by f s (Some Worker) = (f.line s.end.0 s.line.0).held_by
-owner_by f s _ = None
-
--- the agent, running or ending, whose poster the line has
-abbrev pub owner : Facts → Sender → Option AgentId
-owner f s = owner_by f s (f.end s.end.0).kind
 
 -- ==== The core after a step, where the step got this answer.
 
 -- the core after an agent made its queue of a kind
 abbrev pub queue_core : AgentId → Kind → CoreState → Outcome → CoreState
-queue_core a kind c (outcome.End e) = record c { agents = come kind a c.agents; ends = c.ends ++ new_end a kind ∷ [] }
+queue_core a kind c (outcome.End e) = record c { agents = change_at (one_more kind) a.0 c.agents; ends = c.ends ++ new_end a kind ∷ [] }
 queue_core a kind c _ = c
 
 -- The core after a poster passed the gate, or was turned back there: it is one of its agent's that are away.
 abbrev pub entered_core : CoreState → Sender → Phase → CoreState
 entered_core c s p = record c {
-  agents = change_owner one_away (owner (seen c) s) c.agents;
+  agents = change_owner (counted p) (owner (seen c) s.end.0 s.line.0) c.agents;
   ends = change_line (in_phase p) s c.ends;
 }
 
@@ -329,26 +279,26 @@ core_after c outcome.Closed (action.Enter s) = entered_core c s Turned
 core_after c (outcome.Accepted n) (action.Push s ports body) = record c { ends = accept_ends c.ends (named_envelope s n body ports) }
 core_after c (outcome.Accepted n) (action.Notice s) = record c { ends = accept_ends c.ends (named_notice s n) }
 core_after c outcome.Left (action.Leave s) = record c {
-  agents = change_owner one_out (owner (seen c) s) c.agents;
+  agents = change_owner (counted Out) (owner (seen c) s.end.0 s.line.0) c.agents;
   ends = change_line (in_phase Out) s c.ends;
   roster = record c.roster { cast = cast_after s.end.0 c.roster.cast };
 }
 core_after c (outcome.Hopped k) (action.Hop s) = record c { ends = change_line (at_queue k) s c.ends }
-core_after c outcome.Started (action.Start e) = record c { ends = change_end (λ x. record x { is_enabled = true }) e.0 c.ends }
-core_after c (outcome.Got v) (action.Take e) = record c { ends = arrived_ends (holder (seen c) e.0) v.ports (change_end front_taken e.0 c.ends) }
-core_after c outcome.Again (action.Take e) = record c { ends = change_end advanced_end e.0 c.ends }
-core_after c (outcome.Clear (Some k)) (action.Look e) = record c { ends = change_end (λ x. record x { looked = x.looked + 1 }) e.0 c.ends }
+core_after c outcome.Started (action.Start e) = record c { ends = change_at (λ x. record x { is_enabled = true }) e.0 c.ends }
+core_after c (outcome.Got v) (action.Take e) = record c { ends = arrived_ends (holder (seen c) e.0) v.ports (change_at front_taken e.0 c.ends) }
+core_after c outcome.Again (action.Take e) = record c { ends = change_at advanced_end e.0 c.ends }
+core_after c (outcome.Clear (Some k)) (action.Look e) = record c { ends = change_at (λ x. record x { looked = x.looked + 1 }) e.0 c.ends }
 core_after c (outcome.Adopted k) (action.Adopt e a) = record c {
-  agents = adopted_agents (is_released (seen c) ((seen c).end e.0).kind) a (slice_get c.ends e.0) c.agents;
-  ends = change_end (adopted_end a) e.0 c.ends;
+  agents = adopted_agents (is_released (seen c).line ((seen c).end e.0).kind) a (slice_get c.ends e.0) c.agents;
+  ends = change_at (adopted_end a) e.0 c.ends;
 }
-core_after c outcome.Done (action.Close e) = record c { agents = went (slice_get c.ends e.0) c.agents; ends = change_end closed_end e.0 c.ends }
-core_after c (outcome.Discarded vs) (action.Sweep e) = record c { ends = moved_ends (ports_of vs) Swept (change_end (λ x. record x { queues = [] }) e.0 c.ends) }
+core_after c outcome.Done (action.Close e) = record c { agents = went (slice_get c.ends e.0) c.agents; ends = change_at closed_end e.0 c.ends }
+core_after c (outcome.Discarded vs) (action.Sweep e) = record c { ends = moved_ends (ports_of vs) Swept (change_at (λ x. record x { queues = [] }) e.0 c.ends) }
 core_after c outcome.Handed (action.Hand e b) = record c {
   agents = went (slice_get c.ends e.0) c.agents;
-  ends = change_end (λ x. record x { place = Arrived b }) e.0 c.ends;
+  ends = change_at (λ x. record x { place = Arrived b }) e.0 c.ends;
 }
-core_after c outcome.Ordered (action.Order a) = record c { agents = change_agent (λ x. record x { is_ordered = true }) a.0 c.agents }
-core_after c (outcome.Ending es) (action.See a) = record c { agents = change_agent (λ x. record x { is_running = false }) a.0 c.agents }
+core_after c outcome.Ordered (action.Order a) = record c { agents = change_at (λ x. record x { is_ordered = true }) a.0 c.agents }
+core_after c (outcome.Ending es) (action.See a) = record c { agents = change_at (λ x. record x { is_running = false }) a.0 c.agents }
 core_after c (outcome.Destinations ends) (action.Cast e ports body) = record c { roster = record c.roster { cast = cast_to e body ends } }
 core_after c _ _ = c

@@ -1,9 +1,9 @@
 -- What the core keeps of the roster.
 use Rattle.std.specs.Prelude.{if◌then◌else◌, ◌<◌, ◌==◌, ◌∷◌, ◌≡◌}
-use Rattle.hub_core.specs.Words.{BTreeSet, Bool, EndId, Group, List, None, Option, Ordering, Outcome, Some, [], bytes_eq, false, filter, get, insert_key, list_any, map, nat_cmp, not, ordering_then, slice_cmp, slice_get, ℕ}
+use Rattle.hub_core.specs.Words.{BTreeSet, Bool, EndId, Group, List, None, Option, Ordering, Outcome, Some, [], false, filter, get, insert_key, list_any, map, nat_cmp, not, ordering_then, slice_cmp, slice_get, ℕ, IsSomeAnd, option_map, unwrap_or}
 use Rattle.hub_core.specs.declared.roster.Members.{Members}
 use Rattle.hub_core.specs.declared.roster.Roster.{Roster}
-use Rattle.hub_core.specs.Roster.{CastNow, RosterNow, is_same_group, is_of_group, is_first, group_named}
+use Rattle.hub_core.specs.Notions.{RosterNow, is_same_group, is_of_group, group_named}
 use Rattle.hub_core.specs.declared.outcome.Outcome.TheVariants as outcome
 
 -- by origin, then by name
@@ -31,13 +31,9 @@ seated_without n (x ∷ xs) = if n == x then xs else x ∷ seated_without n xs
 abbrev pub is_in : ℕ → List ℕ → Bool
 is_in n xs = list_any (λ x. n == x) xs
 
--- whether a member of this group has its seat
-abbrev pub is_seated_in : Members → ℕ → Option Group → Bool
-is_seated_in m n None = false
-is_seated_in m n (Some g) = is_in n (numbers_of m g)
-
+-- whether a member has its seat in its group
 abbrev pub is_seated : Members → ℕ → Bool
-is_seated m n = is_seated_in m n (group_of m n)
+is_seated m n = unwrap_or (option_map (λ g. is_in n (numbers_of m g)) (group_of m n)) false
 
 -- an end has joined a group
 pub record Joins (n : ℕ) (g : Group) (old new : Members) : Type 0 where
@@ -62,27 +58,12 @@ pub record Parts (n : ℕ) (old new : Members) : Type 0 where
   pub seated : (k : Group) → numbers_of new k ≡ parted n (group_of old n) k (numbers_of old k)
 
 -- the other members of the end's group that have their seats
-abbrev pub others_of : Members → ℕ → Option Group → List ℕ
-others_of m n None = []
-others_of m n (Some g) = filter (λ x. not (x == n)) (numbers_of m g)
-
--- the origin that is kept of an agent
-abbrev pub origin_at : Option (Option (List ℕ)) → Option (List ℕ)
-origin_at None = None
-origin_at (Some o) = o
+abbrev pub others_of : Members → ℕ → Group → List ℕ
+others_of m n g = filter (λ x. not (x == n)) (numbers_of m g)
 
 -- the numbers of those of the ends that are of the group
 abbrev pub numbers_with : RosterNow → Group → List EndId → List ℕ
 numbers_with r k ends = map (λ y. y.0) (filter (λ y. is_of_group k (r.group y.0)) ends)
-
--- the source of a cast that goes to the end next
-abbrev pub source_for : Option CastNow → ℕ → Option EndId
-source_for None x = None
-source_for (Some c) x = if is_first x c.left then Some c.source else None
-
-abbrev pub has_body : List ℕ → Option CastNow → Bool
-has_body body None = false
-has_body body (Some c) = bytes_eq body c.body
 
 -- the same roster, among the ends below a number
 pub record SameRoster (n : ℕ) (old new : Roster) : Type 0 where
@@ -91,7 +72,7 @@ pub record SameRoster (n : ℕ) (old new : Roster) : Type 0 where
 
 -- the destinations of a cast of the end
 abbrev pub kept_destinations : Members → ℕ → List EndId
-kept_destinations m x = map (λ n. record { 0 = n }) (others_of m x (group_of m x))
+kept_destinations m x = map (λ n. record { 0 = n }) (unwrap_or (option_map (others_of m x) (group_of m x)) [])
 
 -- a roster with no agent, no member and no cast
 pub record IsFirst (r : Roster) : Type 0 where
@@ -99,14 +80,10 @@ pub record IsFirst (r : Roster) : Type 0 where
   pub seated : (k : Group) → numbers_of r.members k ≡ []
   pub cast : r.cast ≡ None
 
-abbrev pub JoinsGroup : ℕ → Option Group → Members → Members → Type 0
-JoinsGroup n None old new = ⊥
-JoinsGroup n (Some g) old new = Joins n g old new
-
 -- the roster after the agent made a channel of this name, or no change
 abbrev pub MemberLeaves : ℕ → List ℕ → Roster → Outcome → Roster → Type 0
 MemberLeaves a name old (outcome.End e) new =
-    JoinsGroup e.0 (group_named (origin_at (slice_get old.members.origins a)) name) old.members new.members × (new.cast ≡ old.cast)
+    IsSomeAnd (group_named (unwrap_or (slice_get old.members.origins a) None) name) (λ g. Joins e.0 g old.members new.members) × (new.cast ≡ old.cast)
 MemberLeaves a name old _ new = new ≡ old
 
 -- the roster after a member parted, or no change

@@ -1,31 +1,18 @@
 -- What every legal history keeps, in the words of the subject (WHATWG HTML, "Message ports": the tasks of a
 -- port message queue are run in order, each once).
 use Rattle.std.specs.Prelude.{◌&&◌, ◌++◌, ◌<◌, ◌==◌, ◌↔◌, ◌∷◌, ◌≡◌, ◌≤◌, ◌⊎◌}
-use Rattle.hub_core.specs.Words.{Action, AgentId, AllByRecursion, Bool, EndId, Envelope, List, Outcome, Sender, Some, Step, Turned, [], false, filter, length, list_any, not, true, ℕ}
-use Rattle.hub_core.specs.History.{History, Pair}
-use Rattle.hub_core.specs.Envelopes.{accepted, discarded, taken}
-use Rattle.hub_core.specs.Place.{closed, enabled, place}
+use Rattle.hub_core.specs.Words.{Action, AgentId, AllByRecursion, Bool, EndId, Envelope, List, None, Outcome, Sender, Some, Step, Turned, [], false, filter, length, list_any, not, true, ℕ, is_some}
+use Rattle.hub_core.specs.Notions.{History, Pair, accepted, discarded, taken, closed, enabled, place, Prefix, by, in_queue, numbers, up_to, newest, phase, stand, taker_stand, cast_after, roster, source_for, Facts, facts, ends}
 use Rattle.hub_core.specs.Legal.{Fits, Legal, Same}
-use Rattle.hub_core.specs.Sender.{Prefix, by, in_queue, numbers, up_to}
-use Rattle.hub_core.specs.Lines.{newest, phase, stand, taker_stand}
 use Rattle.hub_core.specs.Posting.{is_out, may_enter, phase_of_line, poster}
-use Rattle.hub_core.specs.Roster.{cast_after, goes_next, roster}
-use Rattle.hub_core.specs.Facts.{Facts, facts}
-use Rattle.hub_core.specs.Made.{ends}
 use Rattle.hub_core.specs.Sound.{flights, naming, total}
 use Rattle.hub_core.specs.Unchanged.{changes_nothing}
 use Rattle.hub_core.specs.declared.outcome.Outcome.TheVariants as outcome
 use Rattle.hub_core.specs.declared.step.Action.TheVariants as action
 
--- a Take, and an Enter, with memory refused in it or not
-abbrev pub take_of : EndId → Bool → Outcome → Pair
-take_of e refused o = (record { action = action.Take e; memory_refused = refused }, o)
-
-abbrev pub enter_of : Sender → Bool → Outcome → Pair
-enter_of s refused o = (record { action = action.Enter s; memory_refused = refused }, o)
-
-abbrev pub leave_of : Sender → Bool → Pair
-leave_of s refused = (record { action = action.Leave s; memory_refused = refused }, outcome.Left)
+-- a step with memory refused in it or not, and what it was answered
+abbrev pub answered : Action → Bool → Outcome → Pair
+answered a refused o = (record { action = a; memory_refused = refused }, o)
 
 abbrev pub is_line : Sender → Sender → Bool
 is_line s t = s.end.0 == t.end.0 && s.line.0 == t.line.0
@@ -73,12 +60,12 @@ pub record Headline (h : History) : Type 0 where
   pub prefix : (e line : ℕ) → Prefix (by line (taken h e)) (by line (accepted h e))
   pub accepted_once : (e line epoch : ℕ) → numbers line epoch (accepted h e) ≡ up_to (length (numbers line epoch (accepted h e)))
   pub taken_once : (e line epoch : ℕ) → numbers line epoch (taken h e) ≡ up_to (length (numbers line epoch (taken h e)))
-  pub closed : (before after : History) (e : EndId) (refused : Bool) (o : Outcome) → h ≡ before ++ take_of e refused o ∷ after → closed before e.0 ≡ true → o ≡ outcome.Closed
-  pub turned : (before middle after : History) (s : Sender) (refused : Bool) (o : Outcome) → IsTurned o → h ≡ before ++ enter_of s refused o ∷ (middle ++ after) → AllByRecursion (λ p. leaves s p.1 p.0.action ≡ false) middle → AllByRecursion (λ p. posts s p.1 p.0.action ≡ false) middle
-  pub same : (before after : History) (s : Sender) (refused again : Bool) (o : Outcome) → IsTurned o → goes_next s.end.0 (roster before).cast ≡ false → h ≡ before ++ enter_of s refused o ∷ after → Same (before ++ enter_of s refused o ∷ leave_of s again ∷ []) before
-  pub same_but_destination : (before after : History) (s : Sender) (refused again : Bool) (o : Outcome) → IsTurned o → goes_next s.end.0 (roster before).cast ≡ true → h ≡ before ++ enter_of s refused o ∷ after → facts (before ++ enter_of s refused o ∷ leave_of s again ∷ []) ≡ done_with s.end.0 (facts before)
-  pub empty : (before after : History) (e : EndId) (refused : Bool) → h ≡ before ++ take_of e refused outcome.Empty ∷ after → IsDrainedAt before e.0
-  pub busy : (before after : History) (e : EndId) (refused : Bool) → h ≡ before ++ take_of e refused outcome.Busy ∷ after → IsBusyAt before e.0
+  pub closed : (before after : History) (e : EndId) (refused : Bool) (o : Outcome) → h ≡ before ++ answered (action.Take e) refused o ∷ after → closed before e.0 ≡ true → o ≡ outcome.Closed
+  pub turned : (before middle after : History) (s : Sender) (refused : Bool) (o : Outcome) → IsTurned o → h ≡ before ++ answered (action.Enter s) refused o ∷ (middle ++ after) → AllByRecursion (λ p. leaves s p.1 p.0.action ≡ false) middle → AllByRecursion (λ p. posts s p.1 p.0.action ≡ false) middle
+  pub same : (before after : History) (s : Sender) (refused again : Bool) (o : Outcome) → IsTurned o → source_for (roster before).cast s.end.0 ≡ None → h ≡ before ++ answered (action.Enter s) refused o ∷ after → Same (before ++ answered (action.Enter s) refused o ∷ answered (action.Leave s) again outcome.Left ∷ []) before
+  pub same_but_destination : (before after : History) (s : Sender) (refused again : Bool) (o : Outcome) → IsTurned o → is_some (source_for (roster before).cast s.end.0) ≡ true → h ≡ before ++ answered (action.Enter s) refused o ∷ after → facts (before ++ answered (action.Enter s) refused o ∷ answered (action.Leave s) again outcome.Left ∷ []) ≡ done_with s.end.0 (facts before)
+  pub empty : (before after : History) (e : EndId) (refused : Bool) → h ≡ before ++ answered (action.Take e) refused outcome.Empty ∷ after → IsDrainedAt before e.0
+  pub busy : (before after : History) (e : EndId) (refused : Bool) → h ≡ before ++ answered (action.Take e) refused outcome.Busy ∷ after → IsBusyAt before e.0
 
 -- ==== What becomes of each accepted envelope (this project's own).
 
@@ -90,10 +77,6 @@ same_name v w = v.line.0 == w.line.0 && (v.epoch == w.epoch && v.number == w.num
 abbrev pub waiting : History → ℕ → List Envelope
 waiting h e = filter (λ v. not (list_any (same_name v) (taken h e ++ discarded h e))) (accepted h e)
 
--- a Sweep that was answered Discarded, with memory refused in it or not
-abbrev pub sweep_of : EndId → Bool → List Envelope → Pair
-sweep_of e refused vs = (record { action = action.Sweep e; memory_refused = refused }, outcome.Discarded vs)
-
 -- Each accepted envelope is exactly one of taken, discarded and waiting: of each line what was accepted is what was taken,
 -- then what was discarded, then what waits, and no name comes twice. After a Sweep was answered Discarded nothing waits at
 -- the end, and nothing is accepted there any more. A port is in flight exactly where one waiting envelope names it, and at
@@ -101,8 +84,8 @@ sweep_of e refused vs = (record { action = action.Sweep e; memory_refused = refu
 pub record Fates (h : History) : Type 0 where
   pub parts : (e line : ℕ) → by line (accepted h e) ≡ by line (taken h e) ++ (by line (discarded h e) ++ by line (waiting h e))
   pub once : (e : ℕ) (before middle after : List Envelope) (v w : Envelope) → accepted h e ≡ before ++ v ∷ (middle ++ w ∷ after) → same_name v w ≡ false
-  pub swept : (before after : History) (e : EndId) (refused : Bool) (vs : List Envelope) → h ≡ before ++ sweep_of e refused vs ∷ after → waiting h e.0 ≡ []
-  pub nothing_more : (before after : History) (e : EndId) (refused : Bool) (vs : List Envelope) → h ≡ before ++ sweep_of e refused vs ∷ after → accepted h e.0 ≡ accepted before e.0
+  pub swept : (before after : History) (e : EndId) (refused : Bool) (vs : List Envelope) → h ≡ before ++ answered (action.Sweep e) refused (outcome.Discarded vs) ∷ after → waiting h e.0 ≡ []
+  pub nothing_more : (before after : History) (e : EndId) (refused : Bool) (vs : List Envelope) → h ≡ before ++ answered (action.Sweep e) refused (outcome.Discarded vs) ∷ after → accepted h e.0 ≡ accepted before e.0
   pub in_flight : (x : ℕ) → total (λ e. naming x (waiting h e)) (ends h) ≡ flights (place h x)
   pub at_ends : (e : ℕ) → ends h ≤ e → accepted h e ≡ []
 

@@ -7,13 +7,13 @@ pub mod Place
 pub mod Lines
 pub mod Roster
 pub mod Facts
+pub mod Notions
 pub mod CoreState
 pub mod Kept
 pub mod Making
 pub mod Posting
 pub mod Taking
 pub mod Casting
-pub mod Memory
 pub mod Legal
 pub mod Sound
 pub mod Shows
@@ -22,6 +22,5 @@ pub mod Unchanged
 pub mod Laws
 pub mod QueueMachine
 pub mod GateMachine
-pub mod GateMachineLaws
 pub mod Mailbox
 pub mod MailboxOf

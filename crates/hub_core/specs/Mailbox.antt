@@ -2,10 +2,9 @@
 -- held and taken there, and where the lines and the taker stand. The ends of the core are such mailboxes.
 use Rattle.std.specs.Prelude.{if◌then◌else◌, ◌++◌, ◌+◌, ◌-◌, ◌<◌, ◌==◌, ◌∷◌, ◌≡◌, ◌≢◌, ◌≤◌, ◌⊎◌}
 use Rattle.hub_core.specs.Words.{Bool, Envelope, Inside, IsTrue, List, None, Option, Out, Some, Turned, [], false, flat_map, fold, length, map, option_to_list, slice_get, slice_index_or, slice_set, true, ℕ}
-use Rattle.hub_core.specs.GateMachine.{Gate, IsAt, Steps, busy, opened, with_flags, with_home, with_none, with_phase}
-use Rattle.hub_core.specs.GateMachineLaws.{IsGateOf}
+use Rattle.hub_core.specs.GateMachine.{Gate, IsAt, IsGateOf, Steps, busy, opened, with_flags, with_home, with_none, with_phase}
 use Rattle.hub_core.specs.QueueMachine.{IsQueue, MayPush, Queue, new_queue, popped, pushed}
-use Rattle.hub_core.specs.Sender.{Prefix, by}
+use Rattle.hub_core.specs.Notions.{Prefix, by}
 use Rattle.hub_core.specs.GateMachine as machine
 
 -- the gates and the queues, by epoch; at which epoch each line stands, and at which the taker

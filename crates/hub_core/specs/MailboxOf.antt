@@ -2,20 +2,14 @@
 use Rattle.std.specs.Prelude.{◌++◌, ◌+◌, ◌≡◌, if◌then◌else◌, ◌-◌, ◌<◌, ◌==◌, ◌∷◌, ◌≤◌}
 use Rattle.hub_core.specs.Words.{End, Envelope, List, Some, [], length, slice_get, slice_index_or, ℕ, Action, Bool, EndId, Inside, IsTrue, None, Option, Outcome, Phase, false, map, suc, true, zero, Kind, replicate}
 use Rattle.hub_core.specs.declared.machine.Core.{Core}
-use Rattle.hub_core.specs.History.{History, Pair}
-use Rattle.hub_core.specs.Envelopes.{accepted, taken, discarded, named_envelope, named_notice}
-use Rattle.hub_core.specs.Made.{kind, lines_of, ends, kind_after}
-use Rattle.hub_core.specs.Place.{closed, enabled}
-use Rattle.hub_core.specs.Lines.{phase, newest, stand, taker_stand, clear}
-use Rattle.hub_core.specs.Sender.{by, in_queue}
+use Rattle.hub_core.specs.Notions.{History, Pair, accepted, taken, discarded, named_envelope, named_notice, kind, lines_of, ends, kind_after, closed, enabled, phase, newest, stand, taker_stand, clear, by, in_queue, Facts, facts}
 use Rattle.hub_core.specs.GateMachine.{Gate, IsAt, enter, leave, turn_back, enable, lets_in, says_moved, says_closed, lets_out, says_done, busy, look, says_inside, gives_rights, close}
 use Rattle.hub_core.specs.QueueMachine.{Queue}
 use Rattle.hub_core.specs.Mailbox.{Mailbox, GateAt, QueueAt, StandsAt, IsNewest, put_by, got_from, IsMailbox, new_mailbox, MailboxEvent, at_gate, push, pop, MailboxStep, hop, advance, add, after_event, after_events}
 use Rattle.hub_core.specs.declared.step.Action.TheVariants as action
 use Rattle.hub_core.specs.declared.outcome.Outcome.TheVariants as outcome
-use Rattle.hub_core.specs.Facts.{Facts, facts}
 use Rattle.hub_core.specs.Legal.{Fits, Legal}
-use Rattle.hub_core.specs.Taking.{looked, is_settled, first_failing}
+use Rattle.hub_core.specs.Taking.{looked, unsettled}
 
 -- ==== What it means that a mailbox shows a history at an end, and that the ends of a core are such mailboxes.
 
@@ -82,10 +76,6 @@ finds_busy_at m (Some k) = finds_busy m k ∷ []
 -- the events, where the step is at this end
 abbrev pub at_end : ℕ → EndId → List (MailboxEvent OneRight) → List (MailboxEvent OneRight)
 at_end e x events = if e == x.0 then events else []
-
--- the oldest queue from the taker's on that isn't settled
-abbrev pub unsettled : Facts → ℕ → Option ℕ
-unsettled f x = first_failing (is_settled f x) (f.end x).taker_stand ((f.end x).newest - (f.end x).taker_stand + 1)
 
 -- pops at n queues, from the epoch k on, each until it finds none
 abbrev pub sweeping : List Envelope → ℕ → ℕ → List (MailboxEvent OneRight)

@@ -1,11 +1,10 @@
 -- What the steps of agents are answered: those that make agents and ends (WHATWG HTML, "Message channels": a new channel is
 -- two entangled ports; the limits are this project's own), those that hold lines, and those that end an agent.
 use Rattle.std.specs.Prelude.{if◌then◌else◌, ◌&&◌, ◌++◌, ◌+◌, ◌==◌, ◌||◌, ◌∷◌}
-use Rattle.hub_core.specs.Words.{AgentId, Bool, Client, EndId, Kind, List, MAX_AGENTS, MAX_ENDS, MAX_LINES, None, Option, Outcome, Port, Sender, Some, Worker, [], false, is_some, nat_le, nat_lt, not, suc, true, zero, ℕ}
-use Rattle.hub_core.specs.Facts.{Facts}
-use Rattle.hub_core.specs.Posting.{is_out, is_with, phase_of_line}
+use Rattle.hub_core.specs.Words.{AgentId, Bool, Client, EndId, Kind, List, MAX_AGENTS, MAX_ENDS, MAX_LINES, None, Option, Outcome, Sender, Some, Worker, [], false, is_some, nat_le, nat_lt, not, suc, true, zero, ℕ}
+use Rattle.hub_core.specs.Notions.{Facts, is_queue, lines_of}
+use Rattle.hub_core.specs.Posting.{is_holder, is_out, is_with, owner, phase_of_line}
 use Rattle.hub_core.specs.Taking.{any_below, first_failing, is_arrived}
-use Rattle.hub_core.specs.Made.{is_queue, lines_of}
 use Rattle.hub_core.specs.declared.outcome.Outcome.TheVariants as outcome
 
 -- An Agent tests memory and then the limit. A new agent gets the least number not given.
@@ -15,8 +14,7 @@ agent_answer f refused =
     else (if nat_le MAX_AGENTS f.agents then outcome.TooManyAgents
     else outcome.Agent (record { 0 = f.agents }))
 
--- A Channel tests that its agent runs, then the limit, then memory. The new ends get the two least numbers not
--- given.
+-- A Channel tests that its agent runs, then the limit, then memory. The new ends get the two least numbers not given.
 abbrev pub channel_answer : Facts → AgentId → Bool → Outcome
 channel_answer f a refused =
     if not (f.agent a.0).runs then outcome.NotNow
@@ -24,35 +22,24 @@ channel_answer f a refused =
     else (if refused then outcome.NoMemory
     else outcome.Ends (record { 0 = f.ends }) (record { 0 = f.ends + 1 })))
 
-abbrev pub is_client : Option Kind → Bool
-is_client (Some Client) = true
-is_client _ = false
-
-abbrev pub is_worker : Option Kind → Bool
-is_worker (Some Worker) = true
-is_worker _ = false
-
 -- whether the queue of this kind, a client's or a worker's, is what the end is
 abbrev pub is_queue_of : Kind → Option Kind → Bool
-is_queue_of Client kind = is_client kind
-is_queue_of Worker kind = is_worker kind
-is_queue_of _ kind = false
+is_queue_of Client (Some Client) = true
+is_queue_of Worker (Some Worker) = true
+is_queue_of _ _ = false
 
--- whether the agent has an end whose kind passes the test
-abbrev pub has_one : (Option Kind → Bool) → AgentId → Facts → Bool
-has_one test a f = any_below (λ x. test (f.end x).kind && is_with a (f.end x).place) f.ends
+-- whether the agent has its queue of this kind
+abbrev pub has_one : Kind → AgentId → Facts → Bool
+has_one kind a f = any_below (λ x. is_queue_of kind (f.end x).kind && is_with a (f.end x).place) f.ends
 
--- the first argument says whether the agent has no such queue
-abbrev pub queue_answer_of : Bool → Facts → AgentId → Bool → Outcome
-queue_answer_of has_none f a refused =
+-- A Client and a Worker test that their agent runs and has no such queue, as the first argument says; then the limit, then
+-- memory.
+abbrev pub queue_answer : Bool → Facts → AgentId → Bool → Outcome
+queue_answer has_none f a refused =
     if not ((f.agent a.0).runs && has_none) then outcome.NotNow
     else (if nat_le MAX_ENDS f.ends then outcome.TooManyEnds
     else (if refused then outcome.NoMemory
     else outcome.End (record { 0 = f.ends })))
-
--- A Client and a Worker test that their agent runs and has no such queue, then the limit, then memory.
-abbrev pub queue_answer : (Option Kind → Bool) → Facts → AgentId → Bool → Outcome
-queue_answer test f a refused = queue_answer_of (not (has_one test a f)) f a refused
 
 -- ---- Line and Back (this project's own; in W3C Service Workers such a queue gets the messages of any client or worker)
 
@@ -64,16 +51,13 @@ abbrev pub line_found : Option ℕ → Outcome
 line_found None = outcome.NoLine
 line_found (Some l) = outcome.Line (record { 0 = l })
 
-abbrev pub line_answer_of : Option ℕ → Facts → EndId → AgentId → Outcome
-line_answer_of free f e a =
+-- A Line tests that its agent runs; then that the end is a client's or a worker's queue, closed or not; then it looks for
+-- a line that no agent holds, which is the first argument.
+abbrev pub line_answer : Option ℕ → Facts → EndId → AgentId → Outcome
+line_answer free f e a =
     if not (f.agent a.0).runs then outcome.NotNow
     else (if not (is_queue (f.end e.0).kind) then outcome.NoSuchEnd
     else line_found free)
-
--- A Line tests that its agent runs; then that the end is a client's or a worker's queue, closed or not; then it looks for
--- a line that no agent holds.
-abbrev pub line_answer : Facts → EndId → AgentId → Outcome
-line_answer f e a = line_answer_of (free_line f e.0) f e a
 
 -- A Back tests that an agent, running or not, holds the line, and that its poster is out.
 abbrev pub back_answer : Facts → Sender → Outcome
@@ -82,24 +66,9 @@ back_answer f s =
 
 -- ---- Order and See (W3C Service Workers, "Terminate Service Worker"; WHATWG HTML, "terminate a worker")
 
-abbrev pub is_holder : AgentId → Option AgentId → Bool
-is_holder a None = false
-is_holder a (Some b) = a.0 == b.0
-
-abbrev pub has_poster_of : Facts → AgentId → ℕ → ℕ → Option Kind → Bool
-has_poster_of f a x l (Some (Port q)) = l == 0 && is_with a (f.end q.0).place
-has_poster_of f a x l (Some Client) = is_holder a (f.line x l).held_by
-has_poster_of f a x l (Some Worker) = is_holder a (f.line x l).held_by
-has_poster_of f a x l _ = false
-
--- whether the line's poster is the agent's: the agent, running or ending, holds the line, or has the port that posts there;
--- that of a cast is no agent's
-abbrev pub has_poster : Facts → AgentId → ℕ → ℕ → Bool
-has_poster f a x l = has_poster_of f a x l (f.end x).kind
-
--- whether such a poster is inside or being turned back
+-- whether the line's poster is the agent's, and is inside or being turned back
 abbrev pub is_away_of : Facts → AgentId → ℕ → ℕ → Bool
-is_away_of f a x l = not (is_out (f.line x l).phase) && has_poster f a x l
+is_away_of f a x l = not (is_out (f.line x l).phase) && is_holder a (owner f x l)
 
 -- whether some poster of the agent is inside or being turned back
 abbrev pub has_away : Facts → AgentId → Bool
@@ -118,13 +87,9 @@ ends_at f a = ends_below (λ x. is_with a (f.end x).place || is_arrived a (f.end
 abbrev pub order_answer : Facts → AgentId → Outcome
 order_answer f a = if nat_lt a.0 f.agents then outcome.Ordered else outcome.NotNow
 
--- the first argument says whether none of the agent's posters is away
-abbrev pub see_answer_of : Bool → Facts → AgentId → Outcome
-see_answer_of none_away f a =
+-- A See tests that the agent was made, and that none of its posters is away, as the first argument says; then it looks for
+-- an order. An agent that finds one is ending, with these ends.
+abbrev pub see_answer : Bool → Facts → AgentId → Outcome
+see_answer none_away f a =
     if not (nat_lt a.0 f.agents && none_away) then outcome.NotNow
     else (if (f.agent a.0).ordered then outcome.Ending (ends_at f a) else outcome.GoingOn)
-
--- A See tests that the agent was made, and that none of its posters is away; then it looks for an order. An agent that
--- finds one is ending, with these ends.
-abbrev pub see_answer : Facts → AgentId → Outcome
-see_answer f a = see_answer_of (not (has_away f a)) f a

@@ -1,14 +1,10 @@
 -- What the steps of a poster are answered (WHATWG HTML, "Message ports", the message port post message steps
 -- with their transfer list; entering and leaving a gate are this project's own).
 use Rattle.std.specs.Prelude.{if◌then◌else◌, ◌&&◌, ◌==◌, ◌||◌, ◌∷◌}
-use Rattle.hub_core.specs.Words.{Acceptance, AgentId, Arrived, Bad, Bool, EndId, Good, HoldsTarget, Inside, Kind, List, Listing, MAX_PORTS, Member, None, Option, Out, Outcome, Phase, Place, Port, Sender, Some, Swept, With}
-use Rattle.hub_core.specs.Words.{[], bytes_eq, false, is_some, length, list_all, nat_lt, not, option_and_then, true, ℕ}
+use Rattle.hub_core.specs.Words.{Acceptance, AgentId, Arrived, Bad, Bool, EndId, Good, HoldsTarget, Inside, Kind, List, Listing, MAX_PORTS, Client, Member, None, Option, Out, Outcome, Phase, Place, Port, Sender, Some, Swept, With, Worker}
+use Rattle.hub_core.specs.Words.{[], false, is_some, length, list_all, nat_lt, not, option_and_then, option_map, true, unwrap_or, ℕ}
 use Rattle.hub_core.specs.declared.outcome.Outcome.TheVariants as outcome
-use Rattle.hub_core.specs.Facts.{Facts}
-use Rattle.hub_core.specs.Place.{names}
-use Rattle.hub_core.specs.Made.{peer_of, maker_of}
-use Rattle.hub_core.specs.Roster.{CastNow, is_first}
-use Rattle.hub_core.specs.Sender.{count_in_queue}
+use Rattle.hub_core.specs.Notions.{AgentNow, EndNow, Facts, LineNow, names, peer_of, maker_of, CastNow, has_body, source_for, count_in_queue}
 
 abbrev pub is_out : Phase → Bool
 is_out Out = true
@@ -18,43 +14,47 @@ abbrev pub is_inside : Phase → Bool
 is_inside Inside = true
 is_inside _ = false
 
--- the agent that has an end of this place, where the agent runs
-abbrev pub running_at : (ℕ → Bool) → Option Place → Option AgentId
-running_at runs (Some (With a)) = if runs a.0 then Some a else None
-running_at runs _ = None
+-- the agent that has an end of this place, where the agent runs the agent that has an end of this place
+abbrev pub with_agent : Option Place → Option AgentId
+with_agent (Some (With a)) = Some a
+with_agent _ = None
+
+-- the agent, where it runs
+abbrev pub running : (ℕ → AgentNow) → Option AgentId → Option AgentId
+running agent None = None
+running agent (Some a) = if (agent a.0).runs then Some a else None
 
 -- the running agent that has the end
 abbrev pub holder : Facts → ℕ → Option AgentId
-holder f e = running_at (λ a. (f.agent a).runs) ((f.end e).place)
+holder f e = running f.agent (with_agent (f.end e).place)
 
 -- where the poster of the line is
 abbrev pub phase_of_line : Facts → Sender → Phase
 phase_of_line f s = (f.line s.end.0 s.line.0).phase
 
--- the agent, where it runs
-abbrev pub running : Facts → Option AgentId → Option AgentId
-running f None = None
-running f (Some a) = if (f.agent a.0).runs then Some a else None
-
 -- the agent whose cast goes to the end next: the one that made the source, running or ending
-abbrev pub speaker_in : Facts → ℕ → Option CastNow → Option AgentId
-speaker_in f x None = None
-speaker_in f x (Some c) = if is_first x c.left then maker_of (f.end c.source.0).kind else None
-
 abbrev pub speaker : Facts → ℕ → Option AgentId
-speaker f x = speaker_in f x f.roster.cast
+speaker f x = option_and_then (λ q. maker_of (f.end q.0).kind) (source_for f.roster.cast x)
 
-abbrev pub poster_of : Facts → Sender → Option Kind → Option AgentId
-poster_of f s (Some (Port q)) = if s.line.0 == 0 then holder f q.0 else None
-poster_of f s (Some (Member a)) = if s.line.0 == 0 then speaker f s.end.0 else None
-poster_of f s None = None
-poster_of f s _ = running f (f.line s.end.0 s.line.0).held_by
+abbrev pub owner_by : (ℕ → EndNow) → ℕ → Option AgentId → Option Kind → Option AgentId
+owner_by end l held (Some (Port q)) = if l == 0 then with_agent (end q.0).place else None
+owner_by end l held (Some Client) = held
+owner_by end l held (Some Worker) = held
+owner_by end l held _ = None
 
--- the agent that posts on the line: for line 0 of a port the running one that has the port that it is entangled
--- with, for a line of a queue the running one that holds it, and for line 0 of a broadcast channel the one whose cast goes
--- there next
+-- the agent, running or ending, whose poster the line has: for line 0 of a port the one that has the port that it is
+-- entangled with, and for a line of a queue the one that holds it; that of a cast is no agent's
+abbrev pub owner : Facts → ℕ → ℕ → Option AgentId
+owner f x l = owner_by f.end l (f.line x l).held_by (f.end x).kind
+
+abbrev pub poster_of : Option AgentId → Option AgentId → ℕ → Option Kind → Option AgentId
+poster_of speaker runs l (Some (Member a)) = if l == 0 then speaker else None
+poster_of speaker runs l _ = runs
+
+-- the agent that posts on the line: the owner, where it runs, and for line 0 of a broadcast channel the agent whose cast
+-- goes there next
 abbrev pub poster : Facts → Sender → Option AgentId
-poster f s = poster_of f s (f.end s.end.0).kind
+poster f s = poster_of (speaker f s.end.0) (running f.agent (owner f s.end.0 s.line.0)) s.line.0 (f.end s.end.0).kind
 
 -- whether a port of this place can be closed, and its poster say so: an agent has it, or it has arrived or was swept
 abbrev pub is_here : Option Place → Bool
@@ -87,19 +87,17 @@ abbrev pub is_distinct : List EndId → Bool
 is_distinct [] = true
 is_distinct (p ∷ ps) = not (names ps p.0) && is_distinct ps
 
+abbrev pub is_holder : AgentId → Option AgentId → Bool
+is_holder a None = false
+is_holder a (Some b) = a.0 == b.0
+
 abbrev pub is_with : AgentId → Option Place → Bool
-is_with a (Some (With b)) = a.0 == b.0
-is_with a _ = false
+is_with a place = is_holder a (with_agent place)
 
--- whether there is the line that a port holds, and its poster is out
-abbrev pub own_poster_out : Facts → Option ℕ → Bool
-own_poster_out f None = false
-own_poster_out f (Some q) = is_out ((f.line q 0).phase)
-
--- whether no notice was put on the line that a port holds
-abbrev pub own_line_plain : Facts → Option ℕ → Bool
-own_line_plain f None = false
-own_line_plain f (Some q) = not (f.line q 0).noticed
+-- whether there is the line that a port holds, its poster is out, and no notice was put there
+abbrev pub is_free : (ℕ → ℕ → LineNow) → Option ℕ → Bool
+is_free line None = false
+is_free line (Some q) = is_out (line q 0).phase && not (line q 0).noticed
 
 abbrev pub is_at : ℕ → Option ℕ → Bool
 is_at x None = false
@@ -108,19 +106,18 @@ is_at x (Some y) = x == y
 -- a port that the agent has, its own poster out, with no notice of it, and not the source
 abbrev pub may_leave_agent : Facts → AgentId → Sender → EndId → Bool
 may_leave_agent f a s p =
-    is_with a (f.end p.0).place && own_poster_out f (peer_of (f.end p.0).kind) && own_line_plain f (peer_of (f.end p.0).kind) && not (is_at p.0 (peer_of (f.end s.end.0).kind))
+    is_with a (f.end p.0).place && is_free f.line (peer_of (f.end p.0).kind) && not (is_at p.0 (peer_of (f.end s.end.0).kind))
 
 -- What a list of ports is to a message on a line that the agent posts on. Distinct ports that may leave the agent are a
 -- good list, unless the end to which the message goes is among them.
-abbrev pub listing_of : Facts → Sender → List EndId → Option AgentId → Listing
-listing_of f s ports None = Bad
-listing_of f s ports (Some a) =
+abbrev pub listing_of : Facts → Sender → List EndId → AgentId → Listing
+listing_of f s ports a =
     if not (is_distinct ports && list_all (may_leave_agent f a s) ports) then Bad
     else (if names ports s.end.0 then HoldsTarget else Good)
 
 -- what a list of ports is to a message on the line
 abbrev pub listing : Facts → Sender → List EndId → Listing
-listing f s ports = listing_of f s ports (poster f s)
+listing f s ports = unwrap_or (option_map (listing_of f s ports) (poster f s)) Bad
 
 abbrev pub is_good : Listing → Bool
 is_good Good = true
@@ -134,28 +131,20 @@ put_there f s = count_in_queue s.line.0 (f.line s.end.0 s.line.0).stand (f.accep
 abbrev pub name_of : ℕ → Facts → Sender → AgentId → Acceptance
 name_of n f s a = record { agent = a; epoch = (f.line s.end.0 s.line.0).stand; number = n }
 
-abbrev pub next_name : Facts → Sender → AgentId → Acceptance
-next_name f s a = name_of (put_there f s) f s a
-
 abbrev pub is_empty : List EndId → Bool
 is_empty [] = true
 is_empty (p ∷ ps) = false
 
-abbrev pub is_of_cast : List EndId → List ℕ → Option CastNow → Bool
-is_of_cast ports body None = false
-is_of_cast ports body (Some c) = is_empty ports && bytes_eq body c.body
-
 -- whether a message may go to an end of this kind: to a broadcast channel only the body of the cast, with no ports
 abbrev pub is_fitting : Option CastNow → Option Kind → List EndId → List ℕ → Bool
-is_fitting cast (Some (Member a)) ports body = is_of_cast ports body cast
+is_fitting cast (Some (Member a)) ports body = is_empty ports && has_body body cast
 is_fitting cast _ ports body = true
 
 -- the last but two argument says whether the message may go to the end
-abbrev pub push_answer_of : ℕ → Facts → Sender → List EndId → Bool → Bool → Option AgentId → Outcome
-push_answer_of n f s ports fitting refused None = outcome.NotNow
-push_answer_of n f s ports fitting refused (Some a) =
+abbrev pub push_answer_of : ℕ → Facts → Sender → List EndId → Bool → Bool → AgentId → Outcome
+push_answer_of n f s ports fitting refused a =
     if nat_lt MAX_PORTS (length ports) then outcome.TooManyPorts
-    else (if not (is_good (listing_of f s ports (Some a)) && fitting) then outcome.NotNow
+    else (if not (is_good (listing_of f s ports a) && fitting) then outcome.NotNow
     else (if refused then outcome.NoMemory
     else outcome.Accepted (name_of n f s a)))
 
@@ -163,27 +152,21 @@ push_answer_of n f s ports fitting refused (Some a) =
 abbrev pub is_posting : Facts → Sender → Bool
 is_posting f s = is_inside (phase_of_line f s) && not (f.line s.end.0 s.line.0).noticed
 
--- the first two arguments of each say whether the line's poster may put an envelope, and the number that this gets
-abbrev pub push_answer_at : Bool → ℕ → Facts → Sender → List EndId → List ℕ → Bool → Outcome
-push_answer_at posting n f s ports body refused =
+-- A Push tests that its poster is inside with no notice put, as the first argument says, and that an agent that may post
+-- holds the line; then the number of ports, that the agent may send them and the message may go to the end, and memory. The
+-- second argument is the number that the envelope gets.
+abbrev pub push_answer : Bool → ℕ → Facts → Sender → List EndId → List ℕ → Bool → Outcome
+push_answer posting n f s ports body refused =
     if not posting then outcome.NotNow
-    else push_answer_of n f s ports (is_fitting f.roster.cast (f.end s.end.0).kind ports body) refused (poster f s)
+    else unwrap_or (option_map (push_answer_of n f s ports (is_fitting f.roster.cast (f.end s.end.0).kind ports body) refused) (poster f s)) outcome.NotNow
 
-abbrev pub notice_answer_at : Bool → ℕ → Facts → Sender → Bool → Outcome
-notice_answer_at posting n f s refused =
+-- A Notice tests that its poster is inside with no notice put, as the first argument says, and that the port's place lets it;
+-- then memory. The envelope is of agent 0, whichever agent the port is with.
+abbrev pub notice_answer : Bool → ℕ → Facts → Sender → Bool → Outcome
+notice_answer posting n f s refused =
     if not (posting && hears_notice f s) then outcome.NotNow
     else (if refused then outcome.NoMemory
     else outcome.Accepted (name_of n f s (record { 0 = 0 })))
-
--- A Push tests that its poster is inside with no notice put, and that an agent that may post holds the line; then the number
--- of ports, that the agent may send them and the message may go to the end, and memory.
-abbrev pub push_answer : Facts → Sender → List EndId → List ℕ → Bool → Outcome
-push_answer f s ports body refused = push_answer_at (is_posting f s) (put_there f s) f s ports body refused
-
--- A Notice tests that its poster is inside with no notice put, and that the port's place lets it; then memory. The
--- envelope is of agent 0, whichever agent the port is with.
-abbrev pub notice_answer : Facts → Sender → Bool → Outcome
-notice_answer f s refused = notice_answer_at (is_posting f s) (put_there f s) f s refused
 
 -- whether a message may be posted on the line: an agent that may post holds it, its poster is out, and no notice was put
 abbrev pub may_post : Facts → Sender → Bool

@@ -1,9 +1,8 @@
--- One queue of an end as a machine (WHATWG HTML, "Message ports": a port message queue): what each line put
--- there, what waits and what was taken. The core's queues are such machines, and so are the queues of running
--- threads.
+-- One queue of an end as a machine (WHATWG HTML, "Message ports": a port message queue): what each line put there, what
+-- waits and what was taken. The core's queues are such machines, and so are the queues of running threads.
 use Rattle.std.specs.Prelude.{if◌then◌else◌, ◌++◌, ◌<◌, ◌==◌, ◌∷◌, ◌≡◌, ◌≤◌}
 use Rattle.hub_core.specs.Words.{All, Envelope, List, None, Option, Some, [], length, map, ℕ}
-use Rattle.hub_core.specs.Sender.{by, Prefix, up_to}
+use Rattle.hub_core.specs.Notions.{by, Prefix, up_to}
 
 -- for each line what it put; what is held, and what was taken out, both in order
 pub record Queue : Type 0 where

@@ -49,6 +49,11 @@ abbrev pub cast_to : EndId → List ℕ → List EndId → Option CastNow
 cast_to source body [] = None
 cast_to source body (y ∷ ys) = Some (record { source = source; body = body; left = y ∷ ys })
 
+-- whether the body is that of the cast
+abbrev pub has_body : List ℕ → Option CastNow → Bool
+has_body body None = false
+has_body body (Some c) = bytes_eq body c.body
+
 -- whether the end is the first of these
 abbrev pub is_first : ℕ → List EndId → Bool
 is_first x [] = false
@@ -59,10 +64,10 @@ abbrev pub cast_after : ℕ → Option CastNow → Option CastNow
 cast_after x None = None
 cast_after x (Some c) = if is_first x c.left then cast_to c.source c.body (drop 1 c.left) else Some c
 
--- whether a cast goes to the end next
-abbrev pub goes_next : ℕ → Option CastNow → Bool
-goes_next x None = false
-goes_next x (Some c) = is_first x c.left
+-- the source of a cast that goes to the end next
+abbrev pub source_for : Option CastNow → ℕ → Option EndId
+source_for None x = None
+source_for (Some c) x = if is_first x c.left then Some c.source else None
 
 abbrev pub roster_after : RosterNow → Outcome → Action → RosterNow
 roster_after r (outcome.Agent a) (action.Agent origin) = record r { origin = λ x. if x == a.0 then origin else r.origin x }

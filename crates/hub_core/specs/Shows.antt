@@ -1,17 +1,14 @@
 -- What it means that the core shows a history: what it keeps of each agent, end and line are the facts of the history.
 use Rattle.std.specs.Prelude.{if◌then◌else◌, ◌&&◌, ◌++◌, ◌+◌, ◌<◌, ◌∷◌, ◌≡◌, ◌≤◌}
-use Rattle.hub_core.specs.Words.{Agent, AgentId, AllByRecursion, Bool, Client, End, EndId, Envelope, Group, Inside, Kind, Line, List, Member, None, Option, Outcome, Some, Step, Worker, [], false, length, nat_lt, slice_get, slice_index_or, ℕ}
+use Rattle.hub_core.specs.Words.{Agent, AgentId, AllByRecursion, Bool, Client, End, EndId, Envelope, Group, Inside, Kind, Line, List, Member, None, Option, Outcome, Some, Step, Worker, [], false, length, nat_lt, slice_get, slice_index_or, ℕ, IfSome, option_map, unwrap_or}
 use Rattle.hub_core.specs.declared.machine.Core.{Core}
 use Rattle.hub_core.specs.declared.roster.Roster.{Roster}
-use Rattle.hub_core.specs.KeptRoster.{origin_at, group_of, numbers_of, numbers_with}
-use Rattle.hub_core.specs.History.{History}
-use Rattle.hub_core.specs.Facts.{AgentNow, EndNow, LineNow, Facts, facts}
+use Rattle.hub_core.specs.KeptRoster.{group_of, numbers_of, numbers_with}
+use Rattle.hub_core.specs.Notions.{History, AgentNow, EndNow, LineNow, Facts, facts, in_queue, count_in_queue, lines_of}
 use Rattle.hub_core.specs.Legal.{Fits, Legal}
-use Rattle.hub_core.specs.Sender.{in_queue, count_in_queue}
 use Rattle.hub_core.specs.Sound.{no_end, no_line, total}
 use Rattle.hub_core.specs.Making.{is_away_of, is_queue_of}
 use Rattle.hub_core.specs.Posting.{is_with}
-use Rattle.hub_core.specs.Made.{lines_of}
 
 -- an agent, an end and a line now, as the core keeps them, or as there is none
 abbrev pub agent_now : Option Agent → AgentNow
@@ -39,8 +36,7 @@ kept_lines (Some x) = x.lines
 
 -- what a line keeps of how many envelopes of it were accepted in the queue at which it stands
 abbrev pub ShowsPut : List Envelope → ℕ → Option Line → Type 0
-ShowsPut accepted l None = Unit {0}
-ShowsPut accepted l (Some y) = count_in_queue l y.epoch accepted ≡ y.put
+ShowsPut accepted l found = IfSome found (λ y. count_in_queue l y.epoch accepted ≡ y.put)
 
 -- The queues of an open end from the taker's to the newest are kept: what is kept of a queue is what was accepted there and neither
 -- taken nor discarded, in order of acceptance. Behind the taker everything was taken. A queue from the taker's on is
@@ -53,17 +49,13 @@ pub record KeepsQueues (line : ℕ → LineNow) (clear : ℕ → Bool) (accepted
   pub behind : (k : ℕ) → k < x.taker → in_queue k accepted ≡ in_queue k removed
   pub each : (i : ℕ) → in_queue (x.taker + i) accepted ≡ in_queue (x.taker + i) removed ++ slice_index_or x.queues i []
 
-abbrev pub ShowsQueues : (ℕ → LineNow) → (ℕ → Bool) → List Envelope → List Envelope → Option End → Type 0
-ShowsQueues line clear accepted removed None = Unit {0}
-ShowsQueues line clear accepted removed (Some x) = KeepsQueues line clear accepted removed x
-
 -- what is kept of an end, with its lines and queues; what was removed from the queues was taken or discarded
 pub record ShowsEnd (now : EndNow) (line : ℕ → LineNow) (clear : ℕ → Bool) (accepted removed : List Envelope) (kept : Option End) : Type 0 where
   pub same : now ≡ end_now kept
   pub count : length (kept_lines kept) ≡ lines_of now.kind
   pub lines : (l : ℕ) → line l ≡ line_now (slice_get (kept_lines kept) l)
   pub put : (l : ℕ) → ShowsPut accepted l (slice_get (kept_lines kept) l)
-  pub queues : ShowsQueues line clear accepted removed kept
+  pub queues : IfSome kept (KeepsQueues line clear accepted removed)
 
 -- how many queues of this kind, a client's or a worker's, the agent has
 abbrev pub count_of : Kind → Option Agent → ℕ
@@ -73,8 +65,7 @@ count_of Worker (Some x) = x.workers
 count_of _ (Some x) = 0
 
 abbrev pub kept_away : Option Agent → ℕ
-kept_away None = 0
-kept_away (Some x) = x.away
+kept_away found = unwrap_or (option_map (λ x. x.away) found) 0
 
 -- how many posters of the agent are inside or being turned back
 abbrev pub count_away : AgentId → Facts → ℕ
@@ -105,7 +96,7 @@ pub record IsMemberNow (f : Facts) (y : EndId) : Type 0 where
 -- channel, of each origin and name the members, and the cast that isn't over.
 pub record ShowsRoster (kept : Roster) (f : Facts) : Type 0 where
   pub agents : length kept.members.origins ≡ f.agents
-  pub origins : (a : ℕ) → f.roster.origin a ≡ origin_at (slice_get kept.members.origins a)
+  pub origins : (a : ℕ) → f.roster.origin a ≡ unwrap_or (slice_get kept.members.origins a) None
   pub groups : (x : ℕ) (a : AgentId) → (f.end x).kind ≡ Some (Member a) → f.roster.group x ≡ group_of kept.members x
   pub seated : (k : Group) → numbers_of kept.members k ≡ numbers_with f.roster k f.roster.members
   pub each : AllByRecursion (IsMemberNow f) f.roster.members

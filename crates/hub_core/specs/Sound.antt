@@ -1,11 +1,8 @@
 -- What holds of the facts of every legal history, each part with the notions that it reads (this project's own).
 use Rattle.std.specs.Prelude.{◌++◌, ◌+◌, ◌<◌, ◌∷◌, ◌≡◌, ◌≤◌, ◌⊎◌}
 use Rattle.hub_core.specs.Words.{AgentId, AllByRecursion, Arrived, Bool, Envelope, Gone, InFlight, Inside, List, MAX_ENDS, None, Option, Out, Place, Sender, Some, Turned, With, [], false, filter, is_some, length, suc, true, zero, ℕ}
-use Rattle.hub_core.specs.Facts.{EndNow, LineNow, Facts}
-use Rattle.hub_core.specs.Place.{names}
-use Rattle.hub_core.specs.Sender.{by, in_queue, Prefix, Rises, up_to, numbers}
+use Rattle.hub_core.specs.Notions.{EndNow, LineNow, Facts, names, by, in_queue, Prefix, Rises, up_to, numbers, peer_of, lines_of}
 use Rattle.hub_core.specs.Posting.{is_out, is_distinct, may_enter}
-use Rattle.hub_core.specs.Made.{peer_of, lines_of}
 
 -- a number that no end has, and one that no line of an end has
 abbrev pub no_end : EndNow
@@ -21,11 +18,10 @@ pub record IsOfEnd (x lines : ℕ) (line : ℕ → LineNow) (v : Envelope) : Typ
   pub epoch : v.epoch ≤ (line v.line.0).stand
   pub ports : is_distinct v.ports ≡ true
 
--- The lines of an end. A line stands between the first queue and the newest, and so does the taker; a number that no
--- line has is out, at the first queue. What was accepted of a line goes from queue to queue, numbered in each
--- from 0. A queue is clear only where it is retired or the newest of a closed end. A line is turned back only where its
--- queue is retired or the end closed, and is inside no queue that the taker has left, and none that is clear. A notice is
--- the last of its line.
+-- The lines of an end. A line stands between the first queue and the newest, and so does the taker; a number that no line
+-- has is out, at the first queue. What was accepted of a line goes from queue to queue, numbered in each from 0. A queue is
+-- clear only where it is retired or the newest of a closed end. A line is turned back only where its queue is retired or
+-- the end closed, and is inside no queue that the taker has left, and none that is clear. A notice is the last of its line.
 pub record SoundLines (x lines newest taker : ℕ) (closed : Bool) (line : ℕ → LineNow) (clear : ℕ → Bool) (accepted : List Envelope) : Type 0 where
   pub stand : (l : ℕ) → (line l).stand ≤ newest
   pub taker_stand : taker ≤ newest
@@ -72,11 +68,10 @@ abbrev pub is_gone : Option Place → Bool
 is_gone (Some Gone) = true
 is_gone _ = false
 
--- Where ends are. There are at most as many as there are numbers for. A number that no end or agent has stands for
--- nothing. Ports are entangled both ways. The agents that have ends were made. A line whose poster is inside or being
--- turned back is one that may be entered. An end is closed exactly where it is gone. Ports alone are in flight.
--- A port is in flight exactly where one envelope that waits names it, accepted and neither taken nor discarded, and at
--- most one does.
+-- Where ends are. There are at most as many as there are numbers for. A number that no end or agent has stands for nothing.
+-- Ports are entangled both ways. The agents that have ends were made. A line whose poster is inside or being turned back is
+-- one that may be entered. An end is closed exactly where it is gone. Ports alone are in flight. A port is in flight
+-- exactly where one envelope that waits names it, accepted and neither taken nor discarded, and at most one does.
 pub record SoundPlaces (f : Facts) : Type 0 where
   pub few : f.ends ≤ MAX_ENDS
   pub ends : (x : ℕ) → f.ends ≤ x → f.end x ≡ no_end

@@ -2,10 +2,8 @@
 -- a task source); who is at a queue, and what a Look and a Sweep are answered (this project's own); and what moves lines and ends.
 use Rattle.std.specs.Prelude.{if◌then◌else◌, ◌&&◌, ◌++◌, ◌+◌, ◌-◌, ◌<◌, ◌==◌, ◌||◌, ◌∷◌, ◌≡◌}
 use Rattle.hub_core.specs.Words.{AgentId, Arrived, Bool, EndId, Envelope, Kind, List, MAX_MOVES, MatchBool, None, Option, Outcome, Place, Port, Sender, Some, [], false, is_some, nat_le, nat_lt, not, suc, true, zero, ℕ}
-use Rattle.hub_core.specs.Made.{is_queue, lines_of}
-use Rattle.hub_core.specs.Facts.{Facts, LineNow}
+use Rattle.hub_core.specs.Notions.{is_queue, lines_of, Facts, LineNow, Prefix, Rises, by, in_queue}
 use Rattle.hub_core.specs.Posting.{holder, is_here, is_out, may_enter, phase_of_line}
-use Rattle.hub_core.specs.Sender.{Prefix, Rises, by, in_queue}
 use Rattle.hub_core.specs.declared.outcome.Outcome.TheVariants as outcome
 
 -- ---- Look and Sweep
@@ -45,22 +43,18 @@ abbrev pub found_at : (ℕ → Bool) → Option ℕ → Outcome
 found_at someone None = outcome.Clear None
 found_at someone (Some k) = if someone k then outcome.Busy else outcome.Clear (Some k)
 
-abbrev pub look_answer_of : Outcome → Facts → EndId → Outcome
-look_answer_of found f e =
+-- A Look tests that the end is closed, or its taker at a retired queue; then it answers what it has found.
+abbrev pub look_answer : Outcome → Facts → EndId → Outcome
+look_answer found f e =
     if (f.end e.0).closed || nat_lt (f.end e.0).taker_stand (f.end e.0).newest then found else outcome.NotNow
 
--- A Look tests that the end is closed, or its taker at a retired queue; then it looks for somebody at the queue.
-abbrev pub look_answer : Facts → EndId → Outcome
-look_answer f e = look_answer_of (found_at (someone_at f e.0) (looked f e.0)) f e
-
--- whether n queues, from the queue k on, pass the test
-abbrev pub all_from : (ℕ → Bool) → ℕ → ℕ → Bool
-all_from test k zero = true
-all_from test k (suc n) = test k && all_from test (k + 1) n
+-- the oldest queue from the taker's on that isn't settled
+abbrev pub unsettled : Facts → ℕ → Option ℕ
+unsettled f x = first_failing (is_settled f x) (f.end x).taker_stand ((f.end x).newest - (f.end x).taker_stand + 1)
 
 -- every queue from the taker's to the newest is settled
 abbrev pub all_settled : Facts → ℕ → Bool
-all_settled f x = all_from (is_settled f x) (f.end x).taker_stand ((f.end x).newest - (f.end x).taker_stand + 1)
+all_settled f x = not (is_some (unsettled f x))
 
 -- The envelopes are all that waits at the end, by queue: line by line what was taken, what was discarded before and they
 -- are what was accepted. Between two lines of a queue the order is free.
@@ -112,16 +106,13 @@ Serves f e outcome.Busy = IsLeft f e × (is_settled f e.0 (f.end e.0).taker_stan
 Serves f e outcome.Again = IsLeft f e × (is_settled f e.0 (f.end e.0).taker_stand ≡ true)
 Serves f e _ = ⊥
 
-abbrev pub FitsTakeOf : (Outcome → Type 0) → Facts → EndId → Outcome → Type 0
-FitsTakeOf Serves f e o =
+-- A Take looks for a closed end, then for a running agent that has the end, then for an enabled queue, which serves it.
+abbrev pub FitsTake : (Outcome → Type 0) → Facts → EndId → Outcome → Type 0
+FitsTake Serves f e o =
     MatchBool ((f.end e.0).closed) (o ≡ outcome.Closed)
     (MatchBool (is_some (holder f e.0))
     (MatchBool ((f.end e.0).enabled) (Serves o) (o ≡ outcome.Disabled))
     (o ≡ outcome.NotNow))
-
--- A Take looks for a closed end, then for a running agent that has the end, then for an enabled queue.
-abbrev pub FitsTake : Facts → EndId → Outcome → Type 0
-FitsTake f e o = FitsTakeOf (Serves f e) f e o
 
 -- ---- Hop, Adopt, Close and Hand (WHATWG HTML, "Message ports", the transfer and transfer-receiving steps; going on to a
 -- newer queue is this project's own)
@@ -148,13 +139,13 @@ adopt_answer f e a refused =
     else outcome.Adopted ((f.end e.0).newest + 1))))
 
 -- whether the end is no port with its own poster inside or being turned back
-abbrev pub is_released : Facts → Option Kind → Bool
-is_released f (Some (Port q)) = is_out (f.line q.0 0).phase
-is_released f _ = true
+abbrev pub is_released : (ℕ → ℕ → LineNow) → Option Kind → Bool
+is_released line (Some (Port q)) = is_out (line q.0 0).phase
+is_released line _ = true
 
 -- whether an open end can be closed: it has a place where it can, and of a port its own poster is out
 abbrev pub may_close : Facts → ℕ → Bool
-may_close f e = is_here (f.end e).place && is_released f (f.end e).kind
+may_close f e = is_here (f.end e).place && is_released f.line (f.end e).kind
 
 -- A Close looks for a closed end, and then tests that the end can be closed.
 abbrev pub close_answer : Facts → EndId → Outcome
@@ -163,15 +154,15 @@ close_answer f e =
     else (if may_close f e.0 then outcome.Done
     else outcome.NotNow)
 
--- whether an agent may take over what this agent has: it is another one that was made
-abbrev pub may_take_over : Facts → AgentId → Option AgentId → Bool
-may_take_over f b None = false
-may_take_over f b (Some a) = nat_lt b.0 f.agents && not (a.0 == b.0)
+-- whether an agent may take over what this agent has: it is another one of so many that were made
+abbrev pub may_take_over : ℕ → AgentId → Option AgentId → Bool
+may_take_over agents b None = false
+may_take_over agents b (Some a) = nat_lt b.0 agents && not (a.0 == b.0)
 
 -- A Hand looks for a closed end; then it tests that the end is a client's or a worker's queue that a running agent has,
 -- and that the other agent may take it over.
 abbrev pub hand_answer : Facts → EndId → AgentId → Outcome
 hand_answer f e b =
     if (f.end e.0).closed then outcome.Closed
-    else (if is_queue (f.end e.0).kind && may_take_over f b (holder f e.0) then outcome.Handed
+    else (if is_queue (f.end e.0).kind && may_take_over f.agents b (holder f e.0) then outcome.Handed
     else outcome.NotNow)

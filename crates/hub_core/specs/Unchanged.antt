@@ -1,4 +1,4 @@
--- Which answers leave everything as it was.
+-- Which answers leave everything as it was, and which steps may find that memory is wanting (this project's own).
 use Rattle.std.specs.Prelude.{◌≡◌}
 use Rattle.hub_core.specs.Words.{Action, Bool, None, Outcome, false, length, true}
 use Rattle.hub_core.specs.declared.step.Action.TheVariants as action
@@ -6,9 +6,8 @@ use Rattle.hub_core.specs.declared.outcome.Outcome.TheVariants as outcome
 use Rattle.hub_core.specs.declared.machine.Core.{Core}
 use Rattle.hub_core.specs.KeptRoster.{SameRoster}
 
--- Refusals, Empty, Busy, a Look that found no queue, and Closed of any step but an Enter
--- change nothing. An Enter that was turned back changes where its
--- poster is.
+-- Refusals, Empty, Busy, a Look that found no queue, and Closed of any step but an Enter change nothing. An Enter that was
+-- turned back changes where its poster is.
 abbrev pub changes_nothing : Outcome → Action → Bool
 changes_nothing outcome.NotNow a = true
 changes_nothing outcome.NoMemory a = true
@@ -36,3 +35,19 @@ changes_nothing _ _ = false
 -- the core's agents, ends and roster are as before
 abbrev pub SameContent : Core → Core → Type 0
 SameContent old new = (new.agents ≡ old.agents) × (new.ends ≡ old.ends) × SameRoster (length old.ends) old.roster new.roster
+
+-- the steps after which more is kept than before: a new agent, new ends, an envelope, a new queue; and a
+-- Sweep, a See and a Cast, which answer a list
+abbrev pub takes_memory : Action → Bool
+takes_memory (action.Agent origin) = true
+takes_memory (action.Channel a) = true
+takes_memory (action.Client a) = true
+takes_memory (action.Worker a) = true
+takes_memory (action.Member a name) = true
+takes_memory (action.Push s ports body) = true
+takes_memory (action.Notice s) = true
+takes_memory (action.Adopt e a) = true
+takes_memory (action.Sweep e) = true
+takes_memory (action.See a) = true
+takes_memory (action.Cast e ports body) = true
+takes_memory _ = false

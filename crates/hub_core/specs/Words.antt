@@ -7,7 +7,7 @@ pub use Rattle.std.specs.Coded.{Coded, code_by, coded_list, coded×}
 pub use Rattle.std.specs.List.{AllByRecursion, filter, flat_map, fold, list_all, list_any, position}
 pub use Rattle.std.specs.Option.{option_to_list}
 pub use Rattle.std.specs.Ordering.{nat_cmp, ordering_then}
-pub use Rattle.std.specs.Prelude.{All, Bool, Err, IfSome, IsTrue, List, None, Ok, Option, Result, Some, [], bit_and, bytes_eq, codes, drop, false, is_some, length, map, nat_le, nat_lt, not}
+pub use Rattle.std.specs.Prelude.{All, Bool, Err, IfSome, IsSomeAnd, IsTrue, List, None, Ok, Option, Result, Some, [], bit_and, bytes_eq, codes, drop, false, is_some, length, map, nat_le, nat_lt, not}
 pub use Rattle.std.specs.Prelude.{option_and_then, option_map, refl, replicate, slice_get, slice_index_or, slice_set, suc, sum_by, true, unwrap_or, zero, ℕ}
 pub use Rattle.std.specs.declared.cmp.Ordering.{Ordering}
 pub use Rattle.hub_envelope.specs.declared.envelope.Envelope.{Envelope}

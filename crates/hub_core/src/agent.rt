@@ -1,8 +1,9 @@
 ghost use Rattle.std.specs.Prelude.{◌≡◌, Some, IfOk};
-ghost use Rattle.hub_core.specs.Kept.{one_more, one_less, one_away, one_out};
+ghost use Rattle.hub_core.specs.Kept.{one_more, one_less, counted};
 ghost use Rattle.hub_core.specs.Shows.{count_of};
 
 use crate::kind::Kind;
+use crate::line::Phase;
 use hub_envelope::OutOfMemory;
 
 /// What the core keeps of an agent.
@@ -65,21 +66,15 @@ impl Agent {
         self
     }
 
-    /// The agent with a poster more that is inside or being turned back.
-    pub(crate) fn with_one_away(mut self) -> Agent
-        ensures { result ≡ one_away self }
+    /// The agent after a poster of it came to this phase: one more is away, or one less.
+    pub(crate) fn counted(mut self, phase: Phase) -> Agent
+        ensures { result ≡ counted phase self }
     {
-        if self.away < u32::MAX {
-            self.away += 1;
+        match phase {
+            Phase::Out => self.away = self.away.saturating_sub(1),
+            Phase::Inside | Phase::Turned if self.away < u32::MAX => self.away += 1,
+            Phase::Inside | Phase::Turned => {}
         }
-        self
-    }
-
-    /// The agent with a poster less that is inside or being turned back.
-    pub(crate) fn with_one_out(mut self) -> Agent
-        ensures { result ≡ one_out self }
-    {
-        self.away = self.away.saturating_sub(1);
         self
     }
 }

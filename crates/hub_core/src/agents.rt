@@ -4,11 +4,12 @@
 
 ghost use Rattle.std.specs.Prelude.{◌≡◌, ◌++◌, ◌∷◌, ◌==◌, [], option_map, slice_get};
 ghost use Rattle.std.specs.Prelude.{if◌then◌else◌, IfOk, OnOk, OnErr};
-ghost use Rattle.hub_core.specs.Kept.{core_after, queue_core, one_more, set_agent, gone};
-ghost use Rattle.hub_core.specs.Kept.{first_free, change_owner, one_away, one_out, owner, seen};
+ghost use Rattle.hub_core.specs.Kept.{core_after, queue_core, one_more, set_at, gone};
+ghost use Rattle.hub_core.specs.Kept.{first_free, change_owner, counted, seen};
 ghost use Rattle.hub_core.specs.Making.{agent_answer, back_answer, channel_answer, ends_at};
-ghost use Rattle.hub_core.specs.Making.{line_answer_of, order_answer, queue_answer_of};
-ghost use Rattle.hub_core.specs.Making.{see_answer_of};
+ghost use Rattle.hub_core.specs.Making.{line_answer, order_answer, queue_answer};
+ghost use Rattle.hub_core.specs.Making.{see_answer};
+ghost use Rattle.hub_core.specs.Posting.{owner};
 ghost use Rattle.hub_core.specs.Shows.{count_of, kept_away, kept_lines};
 ghost use Rattle.hub_core.specs.declared.step.Action.TheVariants as action;
 
@@ -84,7 +85,7 @@ impl Core {
     ) -> Result<Outcome, OutOfMemory>
         ensures outcome { let count = count_of kind (slice_get self.old.agents agent.0) in
             IfOk result (λ o. o
-            ≡ queue_answer_of (count == 0) (seen self.old) agent memory_refused) }
+            ≡ queue_answer (count == 0) (seen self.old) agent memory_refused) }
         ensures new { IfOk result (λ o. self.new ≡ queue_core agent kind self.old o) }
         ensures err { OnErr result (self.new ≡ self.old) }
     {
@@ -109,7 +110,7 @@ impl Core {
     /// The agent holds the first line of a client's or worker's queue that no agent holds.
     pub(crate) fn hold(&mut self, end: EndId, agent: AgentId) -> Outcome
         ensures outcome { let free = first_free (kept_lines (slice_get self.old.ends end.0)) in
-            result ≡ line_answer_of free (seen self.old) end agent }
+            result ≡ line_answer free (seen self.old) end agent }
         ensures new { self.new ≡ core_after self.old result (action.Line end agent) }
     {
         if !self.is_running(agent) {
@@ -173,7 +174,7 @@ impl Core {
     /// Changes what is kept of an agent.
     pub(crate) fn set_agent(&mut self, agent: AgentId, value: Option<Agent>)
         ensures { self.new ≡ record self.old {
-          agents = set_agent agent.0 self.old.agents value;
+          agents = set_at agent.0 self.old.agents value;
         } }
     {
         let Some(value) = value else {
@@ -209,7 +210,7 @@ impl Core {
     /// An agent looks whether it was ordered to end.
     pub(crate) fn see(&mut self, agent: AgentId) -> Result<Outcome, OutOfMemory>
         ensures outcome { let away = kept_away (slice_get self.old.agents agent.0) in
-            IfOk result (λ o. o ≡ see_answer_of (away == 0) (seen self.old) agent) }
+            IfOk result (λ o. o ≡ see_answer (away == 0) (seen self.old) agent) }
         ensures new { IfOk result (λ o. self.new ≡ core_after self.old o (action.See agent)) }
         ensures err { OnErr result (self.new ≡ self.old) }
     {
@@ -247,7 +248,7 @@ impl Core {
 
     /// The agent, running or ending, whose poster a line has.
     pub(crate) fn owner_of(&self, sender: Sender) -> Option<AgentId>
-        ensures { result ≡ owner (seen self.now) sender }
+        ensures { result ≡ owner (seen self.now) sender.end.0 sender.line.0 }
     {
         let end = self.end_at(sender.end)?;
         match end.kind {
@@ -260,31 +261,17 @@ impl Core {
         }
     }
 
-    /// A poster of the agent came inside, or is being turned back.
-    pub(crate) fn count_away(&mut self, owner: Option<AgentId>)
+    /// A poster of the agent came to this phase: it is away now, or it left.
+    pub(crate) fn count_phase(&mut self, owner: Option<AgentId>, phase: Phase)
         ensures { self.new ≡ record self.old {
-          agents = change_owner one_away owner self.old.agents;
+          agents = change_owner (counted phase) owner self.old.agents;
         } }
     {
         let Some(agent) = owner else {
             return;
         };
         if let Some(found) = self.agents.get_mut(agent.0 as usize) {
-            *found = found.with_one_away();
-        }
-    }
-
-    /// A poster of the agent left.
-    pub(crate) fn count_out(&mut self, owner: Option<AgentId>)
-        ensures { self.new ≡ record self.old {
-          agents = change_owner one_out owner self.old.agents;
-        } }
-    {
-        let Some(agent) = owner else {
-            return;
-        };
-        if let Some(found) = self.agents.get_mut(agent.0 as usize) {
-            *found = found.with_one_out();
+            *found = found.counted(phase);
         }
     }
 }

@@ -1,7 +1,7 @@
 //! Broadcast channels: Member, Cast and Part.
 
 ghost use Rattle.std.specs.Prelude.{◌≡◌, unwrap_or, List, ℕ, IfOk, IfSome, OnErr};
-ghost use Rattle.hub_core.specs.Casting.{member_answer, cast_answer_of, part_answer_of};
+ghost use Rattle.hub_core.specs.Casting.{member_answer, cast_answer, part_answer};
 ghost use Rattle.hub_core.specs.Kept.{member_made, seen, core_after};
 ghost use Rattle.hub_core.specs.Made.{maker_of};
 ghost use Rattle.hub_core.specs.KeptRoster.{is_seated, kept_destinations};
@@ -69,7 +69,7 @@ impl Core {
     ) -> Result<Outcome, OutOfMemory>
         ensures outcome { let seated = is_seated self.old.roster.members end.0 in
             let others = kept_destinations self.old.roster.members end.0 in
-            IfOk result (λ o. o ≡ cast_answer_of seated others (seen self.old) end ports) }
+            IfOk result (λ o. o ≡ cast_answer seated others (seen self.old) end ports) }
         ensures new { IfOk result (λ o. self.new
             ≡ core_after self.old o (action.Cast end ports body)) }
         ensures err { OnErr result (self.new ≡ self.old) }
@@ -86,7 +86,7 @@ impl Core {
     /// What a cast is answered that doesn't begin.
     fn cast_refusal(&self, end: EndId, ports: &[EndId]) -> Option<Outcome>
         ensures answer { let seated = is_seated self.now.roster.members end.0 in
-            (others : List EndIdValue) → cast_answer_of seated others (seen self.now) end ports.now
+            (others : List EndIdValue) → cast_answer seated others (seen self.now) end ports.now
             ≡ unwrap_or result (outcome.Destinations others) }
         ensures refused { (body : List ℕ) → IfSome result (λ o.
             core_after self.now o (action.Cast end ports.now body) ≡ self.now) }
@@ -125,7 +125,7 @@ impl Core {
     /// A member leaves the roster.
     pub(crate) fn part(&mut self, end: EndId) -> Outcome
         ensures outcome { result
-            ≡ part_answer_of (is_seated self.old.roster.members end.0) (seen self.old) }
+            ≡ part_answer (is_seated self.old.roster.members end.0) (seen self.old) }
         ensures roster { PartLeaves end.0 self.old.roster result self.new.roster }
         ensures rest { self.new ≡ record self.old { roster = self.new.roster } }
     {

@@ -4,12 +4,12 @@
 ghost use Rattle.std.specs.Prelude.{◌≡◌, ◌<◌, option_and_then, option_map, slice_get, Some};
 ghost use Rattle.std.specs.Prelude.{IfOk, IfSome, OnOk, OnErr};
 ghost use Rattle.hub_envelope.specs.declared.limits.TheConstants.{MAX_MOVES};
-ghost use Rattle.hub_core.specs.Kept.{ServesAt, seen, core_after, change_end, kept_looked};
+ghost use Rattle.hub_core.specs.Kept.{ServesAt, seen, core_after, change_at, kept_looked};
 ghost use Rattle.hub_core.specs.Kept.{is_anyone_at, sweep_outcome_at, moved_ends, ports_of};
 ghost use Rattle.hub_core.specs.Kept.{adopting, adopted_end};
 ghost use Rattle.hub_core.specs.Shows.{kept_lines};
-ghost use Rattle.hub_core.specs.Taking.{FitsTakeOf, adopt_answer, close_answer, found_at};
-ghost use Rattle.hub_core.specs.Taking.{hand_answer, is_released, look_answer_of, may_close};
+ghost use Rattle.hub_core.specs.Taking.{FitsTake, adopt_answer, close_answer, found_at};
+ghost use Rattle.hub_core.specs.Taking.{hand_answer, is_released, look_answer, may_close};
 ghost use Rattle.hub_core.specs.Taking.{may_take_over, start_answer};
 ghost use Rattle.hub_core.specs.Posting.{holder};
 ghost use Rattle.hub_core.specs.declared.step.Action.TheVariants as action;
@@ -44,7 +44,7 @@ impl Core {
 
     pub(crate) fn take(&mut self, end: EndId) -> Outcome
         ensures outcome { let Serves = ServesAt (slice_get self.old.ends end.0) in
-            FitsTakeOf Serves (seen self.old) end result }
+            FitsTake Serves (seen self.old) end result }
         ensures new { self.new ≡ core_after self.old result (action.Take end) }
     {
         let Some(found) = self.end_at(end) else {
@@ -88,7 +88,7 @@ impl Core {
         ensures outcome { let found = slice_get self.old.ends end.0 in
             let epoch = option_and_then kept_looked found in
             let looked = found_at (λ k. is_anyone_at k (kept_lines found)) epoch in
-            result ≡ look_answer_of looked (seen self.old) end }
+            result ≡ look_answer looked (seen self.old) end }
         ensures new { self.new ≡ core_after self.old result (action.Look end) }
     {
         let Some(found) = self.ends.get_mut(end.0 as usize) else {
@@ -178,7 +178,7 @@ impl Core {
     fn renew(&mut self, end: EndId, agent: AgentId) -> Result<(), OutOfMemory>
         requires { IfSome (slice_get self.old.ends end.0) (λ x. x.newest < MAX_MOVES) }
         ensures ok { OnOk result (self.new ≡ record self.old {
-          ends = change_end (adopted_end agent) end.0 self.old.ends;
+          ends = change_at (adopted_end agent) end.0 self.old.ends;
         }) }
         ensures err { OnErr result (self.new ≡ self.old) }
     {
@@ -191,12 +191,12 @@ impl Core {
     /// The agent, after an end of this kind came to it: of a port with its own poster away that
     /// poster is the agent's.
     fn adopting(&self, kind: Kind, agent: AgentId) -> Result<Option<Agent>, OutOfMemory>
-        ensures { let released = is_released (seen self.now) (Some kind) in
+        ensures { let released = is_released (seen self.now).line (Some kind) in
             IfOk result (λ found. found
             ≡ option_map (adopting released kind) (slice_get self.now.agents agent.0)) }
     {
         match self.with_one_more(kind, agent)? {
-            Some(counted) if !self.is_released(kind) => Ok(Some(counted.with_one_away())),
+            Some(counted) if !self.is_released(kind) => Ok(Some(counted.counted(Phase::Inside))),
             counted => Ok(counted),
         }
     }
@@ -234,7 +234,7 @@ impl Core {
 
     /// Whether an end of this kind is no port whose own poster is inside or being turned back.
     fn is_released(&self, kind: Kind) -> bool
-        ensures { result ≡ is_released (seen self.now) (Some kind) }
+        ensures { result ≡ is_released (seen self.now).line (Some kind) }
     {
         let Kind::Port(peer) = kind else {
             return true;
@@ -269,7 +269,7 @@ impl Core {
 
     /// Whether an agent may take over what another one has.
     fn may_take_over(&self, agent: AgentId, holder: Option<AgentId>) -> bool
-        ensures { result ≡ may_take_over (seen self.now) agent holder }
+        ensures { result ≡ may_take_over (seen self.now).agents agent holder }
     {
         match holder {
             Some(holder) => (agent.0 as usize) < self.agents.len() && holder != agent,

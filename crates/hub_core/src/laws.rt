@@ -8,7 +8,7 @@ ghost use Rattle.hub_core.specs.Laws.{Headline, Fates};
 ghost use Rattle.hub_core.specs.QueueMachine.{QueueLaws};
 ghost use Rattle.hub_core.specs.declared.machine.Core.{Core};
 ghost use Rattle.hub_core.specs.Shows.{Shows};
-ghost use Rattle.hub_core.specs.GateMachineLaws.{GateMachineLaws};
+ghost use Rattle.hub_core.specs.GateMachine.{GateMachineLaws};
 ghost use Rattle.hub_core.specs.Mailbox.{ChainLaws};
 ghost use Rattle.hub_core.specs.MailboxOf.{EachShows, GoesOn, KeepsMailboxes, MailboxesShow};
 ghost use Rattle.hub_core.specs.MailboxOf.{PairsAreEvents};

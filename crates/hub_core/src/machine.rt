@@ -18,16 +18,15 @@
 
 ghost use Rattle.std.specs.Prelude.{◌≡◌, [], true, option_map, slice_get, Some, IfOk, OnErr};
 ghost use Rattle.hub_core.specs.Posting.{holder, poster, poster_of, is_here, hears_notice};
-ghost use Rattle.hub_core.specs.Posting.{may_enter, may_post, listing};
+ghost use Rattle.hub_core.specs.Posting.{may_enter, may_post, listing, owner_by, running, speaker};
 ghost use Rattle.hub_core.specs.Facts.{facts};
 ghost use Rattle.hub_core.specs.History.{History};
 ghost use Rattle.hub_core.specs.Laws.{InOrder};
 ghost use Rattle.hub_core.specs.Made.{kind, line_of_port};
 ghost use Rattle.hub_core.specs.Taking.{may_close};
-ghost use Rattle.hub_core.specs.Memory.{takes_memory};
 ghost use Rattle.hub_core.specs.Kept.{seen, line_of, set_line};
 ghost use Rattle.hub_core.specs.Shows.{Shows, FitsAndShows, StillShows, line_now};
-ghost use Rattle.hub_core.specs.Unchanged.{changes_nothing, SameContent};
+ghost use Rattle.hub_core.specs.Unchanged.{changes_nothing, takes_memory, SameContent};
 
 use crate::agent::Agent;
 use crate::end::{End, Place};
@@ -192,8 +191,10 @@ impl Core {
         kind: Kind,
         held_by: Option<AgentId>,
     ) -> Option<AgentId>
-        requires { held_by ≡ ((seen self.now).line sender.end.0 sender.line.0).held_by }
-        ensures { result ≡ poster_of (seen self.now) sender (Some kind) }
+        ensures { let f = seen self.now in
+            let owner = owner_by f.end sender.line.0 held_by (Some kind) in
+            let runs = running f.agent owner in
+            result ≡ poster_of (speaker f sender.end.0) runs sender.line.0 (Some kind) }
     {
         match kind {
             Kind::Port(peer) if sender.line.0 == 0 => self.running_holder(peer),

@@ -6,8 +6,7 @@ ghost use Rattle.std.specs.List.{list_all};
 ghost use Rattle.hub_core.specs.Made.{peer_of};
 ghost use Rattle.hub_core.specs.Posting.{enter_answer, is_distinct, is_fitting, is_good};
 ghost use Rattle.hub_core.specs.Posting.{leave_answer, listing_of, is_at, may_leave_agent};
-ghost use Rattle.hub_core.specs.Posting.{notice_answer_at, own_line_plain, own_poster_out};
-ghost use Rattle.hub_core.specs.Posting.{push_answer_at};
+ghost use Rattle.hub_core.specs.Posting.{is_free, notice_answer, push_answer};
 ghost use Rattle.hub_core.specs.Kept.{seen, line_of, may_put, posting_at, push_outcome, HasQueue};
 ghost use Rattle.hub_core.specs.Kept.{put_ends, accept_ends, moved_ends, end_moved, core_after};
 ghost use Rattle.hub_core.specs.Shows.{line_now};
@@ -45,7 +44,7 @@ impl Core {
             (Phase::Inside, Outcome::In)
         };
         let owner = self.owner_of(sender);
-        self.count_away(owner);
+        self.count_phase(owner, phase);
         self.set_line(sender, Line { phase, ..found });
         outcome
     }
@@ -60,7 +59,7 @@ impl Core {
         }
         let phase = Phase::Out;
         let owner = self.owner_of(sender);
-        self.count_out(owner);
+        self.count_phase(owner, phase);
         self.set_line(sender, Line { phase, ..found });
         self.roster.leave(sender.end);
         Outcome::Left
@@ -104,7 +103,7 @@ impl Core {
         ensures outcome { let n = (line_of self.old.ends sender).put in
             let posting = may_put self.old.ends sender in
             let f = seen self.old in
-            IfOk result (λ o. o ≡ push_answer_at posting n f sender ports body memory_refused) }
+            IfOk result (λ o. o ≡ push_answer posting n f sender ports body memory_refused) }
         ensures new { IfOk result (λ o. self.new
             ≡ core_after self.old o (action.Push sender ports body)) }
         ensures err { OnErr result (self.new ≡ self.old) }
@@ -146,7 +145,7 @@ impl Core {
         ensures answer { let n = (line_of self.now.ends sender).put in
             let posting = may_put self.now.ends sender in
             push_outcome result
-            ≡ push_answer_at posting n (seen self.now) sender ports.now body.now memory_refused }
+            ≡ push_answer posting n (seen self.now) sender ports.now body.now memory_refused }
         ensures few { OnOk result (length ports.now ≤ MAX_PORTS) }
         ensures there { IfOk result (λ p. (sender.end.0 < length self.now.ends)
             × HasQueue self.now.ends sender p.0) }
@@ -206,7 +205,7 @@ impl Core {
         ensures outcome { let n = (line_of self.old.ends sender).put in
             let posting = may_put self.old.ends sender in
             IfOk result (λ o. o
-            ≡ notice_answer_at posting n (seen self.old) sender memory_refused) }
+            ≡ notice_answer posting n (seen self.old) sender memory_refused) }
         ensures new { IfOk result (λ o. self.new ≡ core_after self.old o (action.Notice sender)) }
         ensures err { OnErr result (self.new ≡ self.old) }
     {
@@ -279,7 +278,7 @@ impl Core {
     #[inline(always)]
     fn is_good_list(&self, sender: Sender, kind: Kind, agent: AgentId, ports: &[EndId]) -> bool
         requires { ((seen self.now).end sender.end.0).kind ≡ Some kind }
-        ensures { let list = listing_of (seen self.now) sender ports.now (Some agent) in
+        ensures { let list = listing_of (seen self.now) sender ports.now agent in
             result ≡ is_good list }
     {
         ports.is_empty() || matches!(self.listing_to(sender, kind, agent, ports), Listing::Good)
@@ -294,7 +293,7 @@ impl Core {
         ports: &[EndId],
     ) -> Listing
         requires { ((seen self.now).end sender.end.0).kind ≡ Some kind }
-        ensures { result ≡ listing_of (seen self.now) sender ports.now (Some agent) }
+        ensures { result ≡ listing_of (seen self.now) sender ports.now agent }
     {
         if !self.may_all_leave(sender, kind.source(), agent, ports) {
             return Listing::Bad;
@@ -343,7 +342,7 @@ impl Core {
     /// Whether an end of this kind is a port whose own poster is out, with no notice of it.
     fn is_free(&self, kind: Kind) -> bool
         ensures { let peer = peer_of (Some kind) in
-            result ≡ (own_poster_out (seen self.now) peer && own_line_plain (seen self.now) peer) }
+            result ≡ is_free (seen self.now).line peer }
     {
         let Kind::Port(peer) = kind else {
             return false;

@@ -2,13 +2,12 @@
 //! names, and the cast that goes on.
 
 ghost use Rattle.std.specs.Prelude.{◌≡◌, ◌++◌, ◌∷◌, ◌<◌, [], None, slice_get, option_map, is_some};
-ghost use Rattle.std.specs.Prelude.{IfOk, OnOk, OnErr};
+ghost use Rattle.std.specs.Prelude.{IfOk, OnOk, OnErr, unwrap_or};
 ghost use Rattle.std.specs.BTreeMap.{get};
 ghost use Rattle.hub_core.specs.KeptRoster.{group_cmp, numbers_of, numbers_in, seated_with};
-ghost use Rattle.hub_core.specs.KeptRoster.{is_seated, kept_destinations, origin_at};
+ghost use Rattle.hub_core.specs.KeptRoster.{is_seated, kept_destinations};
 ghost use Rattle.hub_core.specs.KeptRoster.{Joins, SameMembers, Parts, IsFirst};
-ghost use Rattle.hub_core.specs.KeptRoster.{has_body, source_for};
-ghost use Rattle.hub_core.specs.Roster.{group_named, is_first, cast_to, cast_after};
+ghost use Rattle.hub_core.specs.Roster.{group_named, has_body, is_first, cast_to, cast_after, source_for};
 ghost use Rattle.hub_core.specs.declared.roster.Group.{Group as GroupValue};
 
 use hub_envelope::{AgentId, Body, EndId, OutOfMemory, Text};
@@ -64,7 +63,7 @@ pub struct Members {
 impl Origins {
     /// The origin of an agent, where it has one.
     fn of(&self, agent: AgentId) -> Option<&Text>
-        ensures { origin_at (slice_get self.now agent.0) ≡ option_map (λ x. x.now) result }
+        ensures { unwrap_or (slice_get self.now agent.0) None ≡ option_map (λ x. x.now) result }
     {
         self.origins.get(agent.0 as usize)?.as_ref()
     }
@@ -98,7 +97,7 @@ impl Members {
 
     /// Whether an agent has an origin.
     pub(crate) fn has_origin(&self, agent: AgentId) -> bool
-        ensures { result ≡ is_some (origin_at (slice_get self.now.origins agent.0)) }
+        ensures { result ≡ is_some (unwrap_or (slice_get self.now.origins agent.0) None) }
     {
         self.origins.of(agent).is_some()
     }
@@ -109,7 +108,7 @@ impl Members {
         agent: AgentId,
         name: Text,
     ) -> Result<Option<Group>, OutOfMemory>
-        ensures { let origin = origin_at (slice_get self.now.origins agent.0) in
+        ensures { let origin = unwrap_or (slice_get self.now.origins agent.0) None in
             IfOk result (λ group. group ≡ group_named origin name) }
     {
         let Some(origin) = self.origins.of(agent) else {

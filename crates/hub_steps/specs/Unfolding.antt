@@ -13,8 +13,9 @@ use Rattle.hub_core.specs.declared.outcome.Listing.{Listing}
 use Rattle.hub_core.specs.declared.outcome.Listing.TheVariants.{Good, HoldsTarget, Bad}
 use Rattle.hub_core.specs.Facts.{Facts}
 use Rattle.hub_core.specs.Made.{is_queue, lines_of, maker_of, peer_of}
-use Rattle.hub_core.specs.Making.{is_client, is_worker}
-use Rattle.hub_core.specs.Memory.{takes_memory}
+use Rattle.hub_core.specs.Making.{is_queue_of}
+use Rattle.hub_core.specs.declared.kind.Kind.TheVariants.{Client, Worker}
+use Rattle.hub_core.specs.Unchanged.{takes_memory}
 use Rattle.hub_core.specs.Taking.{may_close}
 use Rattle.hub_core.specs.Posting.{may_post, listing}
 use Rattle.hub_steps.specs.declared.shown.Shown.{Shown}
@@ -247,7 +248,7 @@ start_where refused e false = pure tt
 -- Start of a worker's queue; no step of any other end
 abbrev pub start_worker : Bool → EndId → Computation (Unit {0})
 start_worker refused e = do
-  of_worker ← ask (λ f. is_worker (f.end e.0).kind)
+  of_worker ← ask (λ f. is_queue_of Worker (f.end e.0).kind)
   start_where refused e of_worker
 
 -- What follows an Adopt. A worker's queue that was adopted is started, which isn't shown.
@@ -276,7 +277,7 @@ load_client refused e false = pure (Answer outcome.NotNow)
 -- Start, of a client's queue alone
 abbrev pub load : Bool → EndId → Computation Shown
 load refused e = do
-  of_client ← ask (λ f. is_client (f.end e.0).kind)
+  of_client ← ask (λ f. is_queue_of Client (f.end e.0).kind)
   load_client refused e of_client
 
 -- ---- casts

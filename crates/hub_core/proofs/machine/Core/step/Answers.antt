@@ -1,13 +1,13 @@
 -- Each arm of a step: what the family did to the core is what the facts say.
 use Rattle.hub_core.proofs.Casts.{cast_fits, cast_changes}
 use Rattle.std.proofs.Common.{refl, ap, ◌∙◌, subst, sym}
-use Rattle.hub_core.proofs.Words.{FitsSweep, leave_answer, agent_answer, channel_answer, order_answer, back_answer, adopt_answer, start_answer}
+use Rattle.hub_core.proofs.Words.{FitsSweep, leave_answer, agent_answer, channel_answer, order_answer, back_answer, adopt_answer, start_answer, Client, Worker, hop_answer, enter_answer, close_answer, hand_answer}
 use Rattle.hub_core.specs.declared.step.Action.TheVariants as action
 use Rattle.hub_core.proofs.Took.{ok_both, ok_all, client_core, worker_core, ok, took_where, took_by, same_err, same_err_with, told, member_took, part_took}
-use Rattle.hub_core.proofs.EndSteps.{makes_client, makes_worker, agent_changes, channel_changes, queue_answered, client_changes, worker_changes, adopt_changes, close_changes, hand_changes, hop_changes}
+use Rattle.hub_core.proofs.EndSteps.{agent_changes, channel_changes, queue_answered, client_changes, worker_changes, adopt_changes, close_changes, hand_changes, hop_changes}
 use Rattle.hub_core.proofs.LineSteps.{back_changes, enter_changes, leave_changes, line_changes, line_fits, order_changes, see_changes, see_fits, notice_changes, notice_fits, push_changes, push_fits}
 use Rattle.hub_core.proofs.Emptying.{look_changes, look_fits, start_changes, sweep_changes, sweep_fits, take_changes, take_fits}
-use Rattle.hub_core.proofs.Seeing.{seen_is, enter_seen, hop_seen, close_seen, hand_seen}
+use Rattle.hub_core.proofs.Seeing.{seen_is}
 use Rattle.hub_core.proofs.machine.Core.step.Goals as goal
 
 pub returns-in-Agent : goal.returns-in-Agent
@@ -33,11 +33,11 @@ returns-in-Channel c = told c.args.step (action.Channel c.in-Channel.agent) _ _ 
     (same_err (action.Channel c.in-Channel.agent) c.make_channel.result _ _ refl c.make_channel.ensures.err)
 
 pub returns-in-Client : goal.returns-in-Client
-returns-in-Client c = told c.args.step (action.Client c.in-Client.agent) _ _ _ c.in-Client.is (ok_both c.make_queue.result _ _ _ c.make_queue.ensures.outcome c.make_queue.ensures.new (λ o is leaves. took_by _ _ c.args.self.now _ _ (leaves ∙ client_core c.in-Client.agent c.args.self.now o) refl (λ f s. is ∙ queue_answered _ (makes_client c.in-Client.agent) s) (λ f. client_changes c.in-Client.agent _)))
+returns-in-Client c = told c.args.step (action.Client c.in-Client.agent) _ _ _ c.in-Client.is (ok_both c.make_queue.result _ _ _ c.make_queue.ensures.outcome c.make_queue.ensures.new (λ o is leaves. took_by _ _ c.args.self.now _ _ (leaves ∙ client_core c.in-Client.agent c.args.self.now o) refl (λ f s. is ∙ queue_answered Client c.in-Client.agent _ s) (λ f. client_changes c.in-Client.agent _)))
     (same_err (action.Client c.in-Client.agent) c.make_queue.result _ _ refl c.make_queue.ensures.err)
 
 pub returns-in-Worker : goal.returns-in-Worker
-returns-in-Worker c = told c.args.step (action.Worker c.in-Worker.agent) _ _ _ c.in-Worker.is (ok_both c.make_queue-in-Worker.result _ _ _ c.make_queue-in-Worker.ensures.outcome c.make_queue-in-Worker.ensures.new (λ o is leaves. took_by _ _ c.args.self.now _ _ (leaves ∙ worker_core c.in-Worker.agent c.args.self.now o) refl (λ f s. is ∙ queue_answered _ (makes_worker c.in-Worker.agent) s) (λ f. worker_changes c.in-Worker.agent _)))
+returns-in-Worker c = told c.args.step (action.Worker c.in-Worker.agent) _ _ _ c.in-Worker.is (ok_both c.make_queue-in-Worker.result _ _ _ c.make_queue-in-Worker.ensures.outcome c.make_queue-in-Worker.ensures.new (λ o is leaves. took_by _ _ c.args.self.now _ _ (leaves ∙ worker_core c.in-Worker.agent c.args.self.now o) refl (λ f s. is ∙ queue_answered Worker c.in-Worker.agent _ s) (λ f. worker_changes c.in-Worker.agent _)))
     (same_err (action.Worker c.in-Worker.agent) c.make_queue-in-Worker.result _ _ refl c.make_queue-in-Worker.ensures.err)
 
 pub returns-in-Line : goal.returns-in-Line
@@ -47,7 +47,7 @@ pub returns-in-Back : goal.returns-in-Back
 returns-in-Back c = told c.args.step (action.Back c.in-Back.sender) _ _ (ok c.give_back.result) c.in-Back.is (took_by _ _ c.args.self.now _ _ c.give_back.ensures.new refl (λ f s. c.give_back.ensures.outcome ∙ ap (λ g. back_answer g c.in-Back.sender) (seen_is s)) (λ f. back_changes c.in-Back.sender _)) tt
 
 pub returns-in-Hop : goal.returns-in-Hop
-returns-in-Hop c = told c.args.step (action.Hop c.in-Hop.sender) _ _ (ok c.hop.result) c.in-Hop.is (took_by _ _ c.args.self.now _ _ c.hop.ensures.new refl (λ f s. c.hop.ensures.outcome ∙ hop_seen c.in-Hop.sender s) (λ f. hop_changes c.in-Hop.sender _)) tt
+returns-in-Hop c = told c.args.step (action.Hop c.in-Hop.sender) _ _ (ok c.hop.result) c.in-Hop.is (took_by _ _ c.args.self.now _ _ c.hop.ensures.new refl (λ f s. c.hop.ensures.outcome ∙ ap (λ g. hop_answer g c.in-Hop.sender) (seen_is s)) (λ f. hop_changes c.in-Hop.sender _)) tt
 
 pub returns-in-Start : goal.returns-in-Start
 returns-in-Start c = told c.args.step (action.Start c.in-Start.end) _ _ (ok c.start.result) c.in-Start.is (took_by _ _ c.args.self.now _ _ c.start.ensures.new refl (λ f s. c.start.ensures.outcome ∙ ap (λ g. start_answer g c.in-Start.end) (seen_is s)) (λ f. start_changes c.in-Start.end _)) tt
@@ -59,13 +59,13 @@ pub returns-in-Order : goal.returns-in-Order
 returns-in-Order c = told c.args.step (action.Order c.in-Order.agent) _ _ (ok c.order.result) c.in-Order.is (took_by _ _ c.args.self.now _ _ c.order.ensures.new refl (λ f s. c.order.ensures.outcome ∙ ap (λ g. order_answer g c.in-Order.agent) (seen_is s)) (λ f. order_changes c.in-Order.agent _)) tt
 
 pub returns-in-Enter : goal.returns-in-Enter
-returns-in-Enter c = told c.args.step (action.Enter c.in-Enter.sender) _ _ (ok c.enter.result) c.in-Enter.is (took_by _ _ c.args.self.now _ _ c.enter.ensures.new refl (λ f s. c.enter.ensures.outcome ∙ enter_seen c.in-Enter.sender s) (λ f. enter_changes c.in-Enter.sender _)) tt
+returns-in-Enter c = told c.args.step (action.Enter c.in-Enter.sender) _ _ (ok c.enter.result) c.in-Enter.is (took_by _ _ c.args.self.now _ _ c.enter.ensures.new refl (λ f s. c.enter.ensures.outcome ∙ ap (λ g. enter_answer g c.in-Enter.sender) (seen_is s)) (λ f. enter_changes c.in-Enter.sender _)) tt
 
 pub returns-in-Close : goal.returns-in-Close
-returns-in-Close c = told c.args.step (action.Close c.in-Close.end) _ _ (ok c.close.result) c.in-Close.is (took_by _ _ c.args.self.now _ _ c.close.ensures.new refl (λ f s. c.close.ensures.outcome ∙ close_seen c.in-Close.end s) (λ f. close_changes c.in-Close.end _)) tt
+returns-in-Close c = told c.args.step (action.Close c.in-Close.end) _ _ (ok c.close.result) c.in-Close.is (took_by _ _ c.args.self.now _ _ c.close.ensures.new refl (λ f s. c.close.ensures.outcome ∙ ap (λ g. close_answer g c.in-Close.end) (seen_is s)) (λ f. close_changes c.in-Close.end _)) tt
 
 pub returns-in-Hand : goal.returns-in-Hand
-returns-in-Hand c = told c.args.step (action.Hand c.in-Hand.end c.in-Hand.agent) _ _ (ok c.hand.result) c.in-Hand.is (took_by _ _ c.args.self.now _ _ c.hand.ensures.new refl (λ f s. c.hand.ensures.outcome ∙ hand_seen c.in-Hand.end c.in-Hand.agent s) (λ f. hand_changes c.in-Hand.end c.in-Hand.agent _)) tt
+returns-in-Hand c = told c.args.step (action.Hand c.in-Hand.end c.in-Hand.agent) _ _ (ok c.hand.result) c.in-Hand.is (took_by _ _ c.args.self.now _ _ c.hand.ensures.new refl (λ f s. c.hand.ensures.outcome ∙ ap (λ g. hand_answer g c.in-Hand.end c.in-Hand.agent) (seen_is s)) (λ f. hand_changes c.in-Hand.end c.in-Hand.agent _)) tt
 
 pub returns-in-Adopt : goal.returns-in-Adopt
 returns-in-Adopt c = told c.args.step (action.Adopt c.in-Adopt.end c.in-Adopt.agent) _ _ _ c.in-Adopt.is (ok_both c.adopt.result _ _ _ c.adopt.ensures.outcome c.adopt.ensures.new (λ o is leaves. took_by _ _ c.args.self.now _ _ leaves refl (λ f s. is ∙ ap (λ g. adopt_answer g c.in-Adopt.end c.in-Adopt.agent c.args.step.memory_refused) (seen_is s)) (λ f. adopt_changes c.in-Adopt.end c.in-Adopt.agent _)))
