@@ -514,22 +514,19 @@ pub came_away : (a b : AgentId) (f g : Facts) (e : ℕ) → SoundPlaces f → e 
 came_away a b f g e h made ends kinds lines places nowhere (Some (Port p)) is =
     let back = h.peers e p.0 (ap peer_of is) in
     let port : (f.end p.0).kind ≡ Some (Port (record { 0 = e })) = port_of (f.end p.0).kind e back.1 in
-    let sum : count_away a f + bit (is_away_of g a p.0 0) ≡ count_away a g + bit (is_away_of f a p.0 0) = away_change a f g p.0 0 back.0 (subst (λ n. 0 < n) (ap lines_of (sym port)) (omega arith)) ends kinds (λ d l other. calm d l other) in
+    let sum : count_away a f + bit (is_away_of g a p.0 0) ≡ count_away a g + bit (is_away_of f a p.0 0) = away_change a f g p.0 0 back.0 (subst (λ n. 0 < n) (ap lines_of (sym port)) (omega arith)) ends kinds (λ d l other. calm d l (eqb l 0) refl other) in
     let old : is_away_of f a p.0 0 ≡ false = ap (λ k. not (is_out (f.line p.0 0).phase) && is_holder a (owner_by f.end 0 (f.line p.0 0).held_by k)) port ∙ ap (λ c. not (is_out (f.line p.0 0).phase) && c) nowhere ∙ and-false (not (is_out (f.line p.0 0).phase)) in
     let new : is_away_of g a p.0 0 ≡ (not (is_out (f.line p.0 0).phase) && eqb a.0 b.0) = ap (λ k. not (is_out (g.line p.0 0).phase) && is_holder a (owner_by g.end 0 (g.line p.0 0).held_by k)) (kinds p.0 ∙ port) ∙ ap (λ (y : LineNow). not (is_out y.phase) && is_with a (g.end e).place) (lines p.0 0) ∙ ap (λ q. not (is_out (f.line p.0 0).phase) && is_with a q) (places e ∙ ap (λ c. cond c (Some (With b)) (f.end e).place) (eqb_same e)) in
     let before : bit (is_away_of f a p.0 0) ≡ 0 = ap bit old in
     let after : bit (is_away_of g a p.0 0) ≡ bit (not (is_out (f.line p.0 0).phase) && eqb a.0 b.0) = ap bit new in
     omega arith
   where
-    calm : (d l : ℕ) → (d ≡ p.0 → l ≡ 0 → ⊥) → is_away_of g a d l ≡ is_away_of f a d l
-    calm d l other = (calm_there d l (eqb l 0) refl other)
-      where
-        calm_there : (d l : ℕ) → (first : Bool) → eqb l 0 ≡ first → (d ≡ p.0 → l ≡ 0 → ⊥) → is_away_of g a d l ≡ is_away_of f a d l
-        calm_there d l true zeroth other = (calm_places a f g d (kinds d) (lines d) (λ q at. inr (ap (is_with a) (places q.0 ∙ ap (λ c. cond c (Some (With b)) (f.end q.0).place) (ne_eqb q.0 e (λ same.
-            let mine : peer_of (f.end e).kind ≡ Some d = ap (λ y. peer_of (f.end y).kind) (sym same) ∙ own_line f d q h at in
-            let one : p.0 ≡ d = search (rules, sym mine ∙ ap peer_of is) in
-            other (sym one) (eqb-true l 0 zeroth))))))).1 l
-        calm_there d l false zeroth other = far_line a f g d l (kinds d) (lines d l) zeroth
+    calm : (d l : ℕ) → (first : Bool) → eqb l 0 ≡ first → (d ≡ p.0 → l ≡ 0 → ⊥) → is_away_of g a d l ≡ is_away_of f a d l
+    calm d l true zeroth other = (calm_places a f g d (kinds d) (lines d) (λ q at. inr (ap (is_with a) (places q.0 ∙ ap (λ c. cond c (Some (With b)) (f.end q.0).place) (ne_eqb q.0 e (λ same.
+        let mine : peer_of (f.end e).kind ≡ Some d = ap (λ y. peer_of (f.end y).kind) (sym same) ∙ own_line f d q h at in
+        let one : p.0 ≡ d = search (rules, sym mine ∙ ap peer_of is) in
+        other (sym one) (eqb-true l 0 zeroth))))))).1 l
+    calm d l false zeroth other = far_line a f g d l (kinds d) (lines d l) zeroth
 came_away a b f g e h made ends kinds lines places nowhere _ is =
     away_same a f g ends (λ x less. calm_gone a f g e (Some (With b)) x h (kinds x) (lines x) places (ap (is_released f.line) is)) ∙ omega arith
 

@@ -196,8 +196,8 @@ impl Core {
             ≡ option_map (adopting released kind) (slice_get self.now.agents agent.0)) }
     {
         match self.with_one_more(kind, agent)? {
-            Some(counted) if !self.is_released(kind) => Ok(Some(counted.counted(Phase::Inside))),
-            counted => Ok(counted),
+            Some(found) if !self.is_released(kind) => Ok(Some(found.counted(Phase::Inside))),
+            found => Ok(found),
         }
     }
 
