@@ -94,8 +94,8 @@ posts_none body (posted ∷ all) =
       λ e. let h = lost_cons e (Put (message_at posted [] body)) (map (λ p. Put (message_at p [] body)) all) in let r = rest.1 e in omega (arith, h, r),
     )
 
-cast_none : (body : List ℕ) (entries : List LogEntry) → IsCastLogged body entries → GainsNone entries × LosesNone entries
-cast_none body entries (all, is) =
+cast_none : (member : EndId) (body : List ℕ) (entries : List LogEntry) → IsCastLogged member body entries → GainsNone entries × LosesNone entries
+cast_none member body entries (all, is, rise, others) =
     let both = posts_none body all in
     (λ e. ap (gained e) is ∙ both.0 e, λ e. ap (lost e) is ∙ both.1 e)
 
@@ -145,7 +145,7 @@ fetch_loses queue entries (turns, last, is, all, inr (epoch, adopted)) = λ e.
 one_kind : (action : ActionKind) (entries : List LogEntry) → IsLoggedFor action entries → GainsNone entries ⊎ LosesNone entries
 one_kind (Post port body transfer) entries logged = inl (post_gains transfer body entries logged)
 one_kind (Send queue body transfer) entries logged = inl (post_gains transfer body entries logged)
-one_kind (Cast member body) entries logged = inl (cast_none body entries logged).0
+one_kind (Cast member body) entries logged = inl (cast_none member body entries logged).0
 one_kind (Close end) entries logged = inl (close_gains end entries logged)
 one_kind (Wait messages) entries logged = inr (turns_lose entries logged)
 one_kind (Receive port) entries logged = inr (turns_lose entries logged)
@@ -396,13 +396,13 @@ closed_accounts (Ok x) before now old end closed entries closing same (h, is, mo
     omega (arith, a, b, g, l))
 closed_accounts (Err x) before now old end closed entries closing same closes written kept = tt
 
-pub cast_accounts : {X E : Type 0} (result : Result X E) (before now : AgentState) (body : List ℕ) → OnOk result ((entries : List LogEntry) × IsCastLogged body entries × Writes entries before.notes now.notes)
+pub cast_accounts : {X E : Type 0} (result : Result X E) (before now : AgentState) (member : EndId) (body : List ℕ) → OnOk result ((entries : List LogEntry) × IsCastLogged member body entries × Writes entries before.notes now.notes)
     → now.ends ≡ before.ends → now.kept ≡ before.kept → OnOk result (Accounts before now)
-cast_accounts (Ok x) before now body (entries, logged, written) ends kept =
-    let (gains, loses) = cast_none body entries logged in
+cast_accounts (Ok x) before now member body (entries, logged, written) ends kept =
+    let (gains, loses) = cast_none member body entries logged in
     accounts_by before now entries written (λ none. kept ∙ none) (λ e.
     let a = ap (λ s. held_in s e) ends in
     let g = gains e in
     let l = loses e in
     omega (arith, a, g, l))
-cast_accounts (Err x) before now body written ends kept = tt
+cast_accounts (Err x) before now member body written ends kept = tt

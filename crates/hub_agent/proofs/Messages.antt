@@ -79,7 +79,7 @@ fetch_silent queue entries (turns, last, is, all, inr (epoch, adopted)) =
 logged_put : (action : ActionKind) (entries : List LogEntry) → IsLoggedFor action entries → IsPutFor action (messages_put entries)
 logged_put (Post port body transfer) entries logged = post_put transfer body entries logged
 logged_put (Send queue body transfer) entries logged = post_put transfer body entries logged
-logged_put (Cast member body) entries (all, is) = (length all, ap messages_put is ∙ cast_put body all)
+logged_put (Cast member body) entries (all, is, rise, others) = (length all, ap messages_put is ∙ cast_put body all)
 logged_put (Close end) entries logged = close_silent end entries logged
 logged_put (Wait messages) entries logged = turns_silent entries logged
 logged_put (Receive port) entries logged = turns_silent entries logged

@@ -1,5 +1,7 @@
 -- What is written of a list of actions, as the actions are done one by one.
-use Rattle.std.proofs.Common.{◌≡◌, ℕ, length, take, List, [], ◌∷◌, ◌++◌, Bool, true, false, Result, Ok, IfOk, sym, refl, inl, subst}
+use Rattle.std.proofs.Common.{◌≡◌, ◌≢◌, ℕ, length, take, List, [], ◌∷◌, ◌++◌, Bool, true, false, Result, Ok, IfOk, sym, refl, inl, subst, arith}
+use Rattle.std.proofs.lemmas.List.Elements.{All-nil}
+use Rattle.hub_envelope.specs.declared.posted.Posted.{Posted}
 use Rattle.hub_acting.specs.Doing.{DidAll, HasActed, IsStopped}
 use Rattle.hub_acting.specs.declared.acted.Acted.{Acted}
 use Rattle.hub_script.specs.declared.action.ActionKind.{ActionKind}
@@ -17,7 +19,7 @@ use Rattle.hub_agent.proofs.Writing.{writes_both, writes_same}
 nothing : (action : ActionKind) → IsLoggedFor action []
 nothing (Post port body transfer) = inl refl
 nothing (Send queue body transfer) = inl refl
-nothing (Cast member body) = ([], refl)
+nothing (Cast member body) = ([], refl, omega arith, All-nil (λ (posted : Posted). posted.end.0 ≢ member.0))
 nothing (Close end) = inl refl
 nothing (Wait messages) = ([], refl, tt)
 nothing (Receive port) = ([], refl, tt)

@@ -1,12 +1,18 @@
 -- What is written while a list is walked.
-use Rattle.std.proofs.Common.{◌≡◌, ◌∙◌, ℕ, List, [], ◌∷◌, ◌++◌, Option, Some, None, Result, Ok, Err, OnOk, ap, sym, refl, inl, inr, subst}
+use Rattle.std.proofs.Common.{◌≡◌, ◌≢◌, ◌∙◌, ◌+◌, ◌≤◌, ℕ, All, List, [], ◌∷◌, ◌++◌, map, Option, Some, None, Result, Ok, Err, OnOk, ap, sym, refl, inl, inr, subst, arith}
 use Rattle.std.proofs.lemmas.Grind.{flat_map-append}
 use Rattle.std.proofs.lemmas.List.{append-nil}
+use Rattle.std.proofs.lemmas.List.Elements.{All-cons, All-head, All-nil, All-tail}
+use Rattle.hub_broadcast.specs.Casting.{AreDestinations}
+use Rattle.hub_broadcast.specs.Members.{MemberSeat}
+use Rattle.hub_broadcast.specs.Rising.{RiseBetween}
+use Rattle.hub_broadcast.proofs.Ranking.{IsToldApart, lower}
 use Rattle.hub_broadcast.specs.declared.cast_outcome.CastOutcome.{CastOutcome}
 use Rattle.hub_broadcast.specs.declared.cast_outcome.CastOutcome.TheVariants.{Accepted, Closed, Moving, OutOfMemory}
 use Rattle.hub_envelope.specs.declared.ids.EndId.{EndId}
 use Rattle.hub_logging.specs.Notes.{Notes}
 use Rattle.hub_envelope.specs.declared.ids.AgentId.{AgentId}
+use Rattle.hub_envelope.specs.declared.limits.TheConstants.{MAX_ENDS}
 use Rattle.hub_envelope.specs.declared.posted.Posted.{Posted}
 use Rattle.hub_loop.specs.declared.closed_port.ClosedPort.{ClosedPort}
 use Rattle.hub_ports.specs.Closing.{AreDoomed}
@@ -56,18 +62,32 @@ cast_more body outcomes all o before now after is written more =
     ∙ ap (cast_entries body) (sym is))
 
 -- the posts of a cast that were accepted
-cast_logged : (body : List ℕ) (outcomes : List (EndId × CastOutcome)) → IsCastLogged body (cast_entries body outcomes)
-cast_logged body [] = ([], refl)
-cast_logged body ((end, Accepted posted) ∷ outcomes) =
-    let (all, is) = cast_logged body outcomes in
-    (posted ∷ all, ap (λ (es : List LogEntry). Put (message_at posted [] body) ∷ es) is)
-cast_logged body ((end, Closed) ∷ outcomes) = cast_logged body outcomes
-cast_logged body ((end, Moving) ∷ outcomes) = cast_logged body outcomes
-cast_logged body ((end, OutOfMemory) ∷ outcomes) = cast_logged body outcomes
+cast_logged : (body : List ℕ) (member low high : ℕ) (outcomes : List (EndId × CastOutcome)) → RiseBetween low high (map (λ o. o.0.0) outcomes) → All (IsToldApart member) outcomes
+    → (all : List Posted) × (cast_entries body outcomes ≡ map (λ posted. Put (message_at posted [] body)) all) × RiseBetween low high (map (λ posted. posted.end.0) all) × All (λ posted. posted.end.0 ≢ member) all
+cast_logged body member low high [] rise told = ([], refl, rise, All-nil (λ (posted : Posted). posted.end.0 ≢ member))
+cast_logged body member low high ((end, Accepted posted) ∷ outcomes) (least, behind) told =
+    let (all, is, rise, others) = cast_logged body member (end.0 + 1) high outcomes behind (All-tail (IsToldApart member) (end, Accepted posted) outcomes told) in
+    let here : IsToldApart member (end, Accepted posted) = All-head (IsToldApart member) (end, Accepted posted) outcomes told in (
+      posted ∷ all,
+      ap (λ (es : List LogEntry). Put (message_at posted [] body) ∷ es) is,
+      subst (λ (e : EndId). (low ≤ e.0) × RiseBetween (e.0 + 1) high (map (λ (p : Posted). p.end.0) all)) (sym here.1) (least, rise),
+      All-cons (λ (p : Posted). p.end.0 ≢ member) posted all (subst (λ (e : EndId). e.0 ≢ member) (sym here.1) here.0) others,
+    )
+cast_logged body member low high ((end, Closed) ∷ outcomes) (least, behind) told =
+    cast_logged body member low high outcomes (lower low (end.0 + 1) high (map (λ o. o.0.0) outcomes) (omega arith) behind) (All-tail (IsToldApart member) (end, Closed) outcomes told)
+cast_logged body member low high ((end, Moving) ∷ outcomes) (least, behind) told =
+    cast_logged body member low high outcomes (lower low (end.0 + 1) high (map (λ o. o.0.0) outcomes) (omega arith) behind) (All-tail (IsToldApart member) (end, Moving) outcomes told)
+cast_logged body member low high ((end, OutOfMemory) ∷ outcomes) (least, behind) told =
+    cast_logged body member low high outcomes (lower low (end.0 + 1) high (map (λ o. o.0.0) outcomes) (omega arith) behind) (All-tail (IsToldApart member) (end, OutOfMemory) outcomes told)
 
-pub cast_of : {X E : Type 0} (result : Result X E) (body : List ℕ) (outcomes : List (EndId × CastOutcome)) (old now new : Notes) → old ≡ now → OnOk result (Writes (cast_entries body outcomes) old new) → OnOk result ((entries : List LogEntry) × IsCastLogged body entries × Writes entries now new)
-cast_of (Ok x) body outcomes old now new same written = (cast_entries body outcomes, cast_logged body outcomes, written ∙ ap (λ (n : Notes). log_and n.log (cast_entries body outcomes)) same)
-cast_of (Err e) body outcomes old now new same written = tt
+pub cast_of : {X E : Type 0} (result : Result X E) (source : MemberSeat) (member : EndId) (body : List ℕ) (told outcomes : List (EndId × CastOutcome)) (old now new : Notes) → source.taker.end ≡ member.0 → AreDestinations source told → outcomes ≡ told
+    → old ≡ now → OnOk result (Writes (cast_entries body outcomes) old new) → OnOk result ((entries : List LogEntry) × IsCastLogged member body entries × Writes entries now new)
+cast_of (Ok x) source member body told outcomes old now new at is listed same written =
+    let others : All (λ (o : EndId × CastOutcome). o.0.0 ≢ member.0) told = subst (λ (n : ℕ). All (λ (o : EndId × CastOutcome). o.0.0 ≢ n) told) at is.others in
+    let apart : All (IsToldApart member.0) told = λ k d low. (others k d low, is.named k d low) in
+    let logged : IsCastLogged member body (cast_entries body told) = cast_logged body member.0 0 MAX_ENDS told is.rise apart in
+    (cast_entries body outcomes, subst (λ (os : List (EndId × CastOutcome)). IsCastLogged member body (cast_entries body os)) (sym listed) logged, written ∙ ap (λ (n : Notes). log_and n.log (cast_entries body outcomes)) same)
+cast_of (Err e) source member body told outcomes old now new at is listed same written = tt
 
 -- one closing more
 pub doomed_more : (closings all : List Closing) (c : Closing) (before now after : Notes) → all ≡ closings ++ c ∷ [] → Writes (doomed_entries closings) before now → Writes (closing_entries c.end c.noticed) now after → Writes (doomed_entries all) before after

@@ -1,8 +1,9 @@
 -- What the log of an agent says of an action, of a turn, and of the end of its loop.
-use Rattle.std.specs.Prelude.{◌≡◌, ◌⊎◌, ℕ, Bool, true, false, List, [], ◌∷◌, ◌++◌, map, Option, Some, None, Result, Ok, Err}
+use Rattle.std.specs.Prelude.{◌≡◌, ◌≢◌, ◌⊎◌, ℕ, All, Bool, true, false, List, [], ◌∷◌, ◌++◌, map, Option, Some, None, Result, Ok, Err}
 use Rattle.std.specs.List.{flat_map}
 use Rattle.hub_broadcast.specs.declared.cast_outcome.CastOutcome.{CastOutcome}
 use Rattle.hub_broadcast.specs.declared.cast_outcome.CastOutcome.TheVariants.{Accepted}
+use Rattle.hub_broadcast.specs.Rising.{Rise}
 use Rattle.hub_envelope.specs.declared.envelope.Envelope.{Envelope}
 use Rattle.hub_envelope.specs.declared.ids.EndId.{EndId}
 use Rattle.hub_envelope.specs.declared.posted.Posted.{Posted}
@@ -87,9 +88,12 @@ abbrev pub closed_entries : EndId → Option ClosedPort → List LogEntry
 closed_entries end None = Closed end ∷ []
 closed_entries end (Some port) = closing_entries end port.noticed
 
--- a cast: one entry with its body and no ports for each of its posts that was accepted
-abbrev pub IsCastLogged : List ℕ → List LogEntry → Type 0
-IsCastLogged body entries = (all : List Posted) × (entries ≡ map (λ posted. Put (message_at posted [] body)) all)
+-- A cast of a member: one entry with its body and no ports for each of its posts that was accepted. The ends where they were put rise,
+-- so there is at most one at each end, and none at the member's own.
+abbrev pub IsCastLogged : EndId → List ℕ → List LogEntry → Type 0
+IsCastLogged member body entries =
+    (all : List Posted) × (entries ≡ map (λ posted. Put (message_at posted [] body)) all)
+    × Rise (map (λ posted. posted.end.0) all) × All (λ posted. posted.end.0 ≢ member.0) all
 
 -- a closing, or nothing where the end wasn't held
 abbrev pub IsCloseLogged : EndId → List LogEntry → Type 0
@@ -135,7 +139,7 @@ IsFetchLogged queue entries =
 abbrev pub IsLoggedFor : ActionKind → List LogEntry → Type 0
 IsLoggedFor (Post port body transfer) entries = IsPostLogged transfer body entries
 IsLoggedFor (Send queue body transfer) entries = IsPostLogged transfer body entries
-IsLoggedFor (Cast member body) entries = IsCastLogged body entries
+IsLoggedFor (Cast member body) entries = IsCastLogged member body entries
 IsLoggedFor (Close end) entries = IsCloseLogged end entries
 IsLoggedFor (Wait messages) entries = AreTurnsLogged entries
 IsLoggedFor (Receive port) entries = AreTurnsLogged entries

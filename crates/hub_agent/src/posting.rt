@@ -252,7 +252,8 @@ impl<'s, C: Checkpoint> Agent<'s, C> {
         member: EndId,
         body: &Body,
     ) -> Result<(), OutOfMemory>
-        ensures written { OnOk result ((entries : List LogEntry) × IsCastLogged body.now entries
+        ensures written { OnOk result ((entries : List LogEntry)
+            × IsCastLogged member body.now entries
             × Writes entries self.old.notes self.new.notes) }
         ensures held { OnOk result (IsUnwritten self.old self.new
             ⊎ HoldsMember self.old member) }

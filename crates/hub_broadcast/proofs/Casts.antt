@@ -1,7 +1,7 @@
 -- A cast, one member of the roster after the other.
-use Rattle.std.proofs.Common.{◌≡◌, ℕ, ◌+◌, ◌<◌, Bool, true, false, cond, Option, Some, List, [], ◌∷◌, ◌++◌, All, length, map, take, drop, set, get_or, refl, sym, ap, subst, ◌∙◌, append_assoc, arith, length-set}
+use Rattle.std.proofs.Common.{◌≡◌, ℕ, ◌+◌, ◌<◌, ◌≤◌, Bool, true, false, cond, Option, Some, List, [], ◌∷◌, ◌++◌, All, length, map, take, drop, set, get_or, refl, sym, ap, subst, ◌∙◌, append_assoc, arith, length-set}
 use Rattle.std.specs.Prelude.{filter, count_by, IfSome, MatchBool}
-use Rattle.std.proofs.lemmas.List.{take_more, take_more_set, drop_more, drop-set-lt, append-nil, map-append, set-get_or}
+use Rattle.std.proofs.lemmas.List.{take-append-le, take_all, take_more, take_more_set, drop_more, drop-set-lt, append-nil, map-append, set-get_or}
 use Rattle.std.proofs.lemmas.List.Elements.{All-pop}
 use Rattle.std.proofs.lemmas.List.Sums.{sum_by-drop_more}
 use Rattle.std.specs.Option.{option_to_list}
@@ -105,3 +105,9 @@ module _ (source : MemberSeat) (draft : Draft) (old now next : List Subscription
       let count : count_by (is_destination source) (drop i now) ≡ 0 + count_by (is_destination source) (drop (i + 1) now) = left_at source now i s low read ∙ ap (λ b. cond b 1 0 + count_by (is_destination source) (drop (i + 1) now)) goes in
       let same : count_by (is_destination source) (drop (i + 1) next) ≡ count_by (is_destination source) (drop (i + 1) now) = ap (λ l. count_by (is_destination source) (drop (i + 1) l)) next_is in
       omega arith
+
+-- what a slice of a whole list has become is the list
+pub written_back : (len : ℕ) (new rest : List SubscriptionSeat) → length new ≡ len → take len (new ++ rest) ≡ new
+written_back len new rest is =
+    let low : len ≤ length new = omega arith in
+    rw take-append-le (take_all len new (omega arith))

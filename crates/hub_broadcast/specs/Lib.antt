@@ -4,3 +4,4 @@ pub mod Joining
 pub mod Lending
 pub mod Members
 pub mod Ranks
+pub mod Rising

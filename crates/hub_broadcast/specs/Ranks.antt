@@ -1,5 +1,5 @@
 -- The order of a roster by the numbers of its ends, which rise where all members were made with one count of ends.
-use Rattle.std.specs.Prelude.{◌≤◌, ℕ, ◌+◌, [], ◌∷◌, filter, List, map, not}
+use Rattle.std.specs.Prelude.{ℕ, ◌+◌, filter, List, map, not}
 use Rattle.hub_envelope.specs.declared.envelope.Draft.{Draft}
 use Rattle.hub_envelope.specs.declared.ids.AgentId.{AgentId}
 use Rattle.hub_envelope.specs.declared.ids.EndId.{EndId}
@@ -8,15 +8,7 @@ use Rattle.hub_broadcast.specs.Casting.{IsBroadcast}
 use Rattle.hub_broadcast.specs.Destinations.{destinations_in, is_of_end}
 use Rattle.hub_broadcast.specs.Joining.{IsJoined}
 use Rattle.hub_broadcast.specs.Members.{MemberSeat, SubscriptionSeat}
-
--- each number is greater than the one before it, the first is at least low, and all are below high
-abbrev pub RiseBetween : ℕ → ℕ → List ℕ → Type 0
-RiseBetween low high [] = low ≤ high
-RiseBetween low high (n ∷ ns) = (low ≤ n) × RiseBetween (n + 1) high ns
-
--- the ends of the roster rise, and each was drawn
-abbrev pub IsRising : ℕ → List SubscriptionSeat → Type 0
-IsRising drawn roster = RiseBetween 0 drawn (map (λ s. s.poster.name.end.0) roster)
+use Rattle.hub_broadcast.specs.Rising.{IsRising, RiseBetween}
 
 -- A roster whose ends rise stays so. The order in which the members joined is then that of their numbers, and no end is a destination twice.
 pub record KeepsOrder : Type 0 where

@@ -1,13 +1,18 @@
 use hub_envelope::OutOfMemory;
 use thiserror::Error;
 
-/// Why no member was made. `TooManyEnds` is tested first. After either the roster is as it was, and
-/// no number of an end is used.
+/// Why no member was made. `TooManyEnds` is tested first, then `OtherEnds`, and both before any
+/// memory is asked for. After each of them the roster is as it was, and no number of an end is
+/// used.
 #[derive(Clone, Copy, Debug, PartialEq, Eq, Drop, Error)]
 pub enum JoinError {
     /// All numbers of ends were drawn.
     #[error("too many ends")]
     TooManyEnds,
+    /// The number of the next end isn't above those of all members, so it is of another count of
+    /// ends than theirs.
+    #[error("an end of another count")]
+    OtherEnds,
     /// An allocation failed.
     #[error("out of memory")]
     OutOfMemory,

@@ -4,7 +4,7 @@ ghost use Rattle.std.specs.Prelude.{◌≡◌, ◌+◌, ◌<◌, ◌≤◌, ◌�
 ghost use Rattle.std.specs.Prelude.{map, not, string_bytes, IfOk, IfSome, OnOk, OnErr, IsErrOf};
 ghost use Rattle.std.specs.Option.{option_map};
 ghost use Rattle.hub_envelope.specs.declared.limits.TheConstants.{MAX_ENDS};
-ghost use Rattle.hub_broadcast.specs.Casting.{IsBroadcast, cast_draft};
+ghost use Rattle.hub_broadcast.specs.Casting.{AreDestinations, IsBroadcast, cast_draft};
 ghost use Rattle.hub_broadcast.specs.Destinations.{destinations_in, is_of_end};
 ghost use Rattle.hub_broadcast.specs.Joining.{IsJoined, IsNewMember};
 ghost use Rattle.hub_broadcast.specs.Lending.{IsDoneIn};
@@ -35,6 +35,8 @@ pub(crate) fn join_in<L: Lends, R: Wait>(
     ensures member { IfOk result (IsNewMember ends.old.drawn agent origin (string_bytes name)) }
     ensures drawn { OnOk result (ends.new.drawn ≡ ends.old.drawn + 1) }
     ensures too_many { IsErrOf result JoinError.TooManyEnds ↔ (MAX_ENDS ≤ ends.old.drawn) }
+    ensures other_ends { IfSome (L.shown lender.old) (λ was. IsErrOf result JoinError.OtherEnds
+        ↔ ((ends.old.drawn < MAX_ENDS) × Any (λ s. ends.old.drawn ≤ s.poster.name.end.0) was)) }
     ensures err { OnErr result ((L.shown lender.new ≡ L.shown lender.old)
         × (ends.new ≡ ends.old)) }
 {
@@ -69,6 +71,7 @@ pub(crate) fn cast_in<L: Lends, R: Wait>(
         (λ was now. IsBroadcast source.now (cast_draft source.now body) was now outcomes.items)) }
     ensures to { IfOk result (λ outcomes. IfSome (L.shown lender.old) (λ was.
         map (λ o. o.0) outcomes.items ≡ destinations_in source.now was)) }
+    ensures destinations { IfOk result (λ outcomes. AreDestinations source.now outcomes.items) }
     ensures invalid { IfSome (L.shown lender.old) (λ was. IsErrOf result CastError.InvalidState
         ↔ All (λ s. s.poster.name.end.0 ≢ source.now.taker.end) was) }
     ensures list { IfSome (L.shown lender.old) (λ was. IsErrOf result CastError.NotTransferable

@@ -1,6 +1,7 @@
 ghost use Rattle.std.specs.Prelude.{◌≡◌, ◌+◌, ◌<◌, ◌≤◌, ◌↔◌, [], length, string_bytes, IfOk, OnOk};
 ghost use Rattle.std.specs.Prelude.{OnErr, IsErrOf};
 ghost use Rattle.hub_envelope.specs.declared.limits.TheConstants.{MAX_ENDS};
+ghost use Rattle.hub_broadcast.specs.Casting.{AreDestinations};
 ghost use Rattle.hub_broadcast.specs.Joining.{IsNewMember};
 
 use crate::cast_error::CastError;
@@ -20,8 +21,9 @@ use std::sync::{Mutex, Wait};
 ///
 /// Each call is the call of that name on the `Roster` behind the lock, under one taking of the
 /// lock. Who is a member at that moment no contract of these calls can say, since another thread
-/// may act between any two of them. A cast keeps the lock during all its posts, of which each hop
-/// takes the yard's; whoever holds the yard's lock must not take this one.
+/// may act between any two of them; but their ends rise at each moment, so no cast goes to one
+/// twice. A cast keeps the lock during all its posts, of which each hop takes the yard's; whoever
+/// holds the yard's lock must not take this one.
 ///
 /// ```rust
 /// let roster = SharedRoster::new(alloc);
@@ -75,6 +77,7 @@ impl SharedRoster {
         body: Body,
         list: &[EndId],
     ) -> Result<Vec<(EndId, CastOutcome)>, CastError>
+        ensures destinations { IfOk result (λ outcomes. AreDestinations source.now outcomes.items) }
         ensures list { IsErrOf result CastError.NotTransferable → 0 < length list.now }
         ensures no_list { OnOk result (list.now ≡ []) }
     {

@@ -12,6 +12,9 @@ use std::marker::Model;
 use std::sync::Wait;
 
 /// What the roster keeps of a member: its origin and name, and the poster of its one line.
+///
+/// What the line has put is known by the name of the line, so an envelope that it puts bears the
+/// end of the member.
 #[derive(Drop)]
 pub(crate) struct Subscription {
     pub(crate) origin: Origin,
@@ -30,6 +33,11 @@ impl Model for Subscription {
       name = string_bytes s.name;
       poster = s.poster;
     } };
+
+    ghost use Rattle.hub_queue.specs.Seats.{IsNameOf};
+    ghost use Rattle.hub_queue.specs.Standing.{put_of};
+
+    ghost invariant = { λ s. IsNameOf (put_of s.poster) s.poster.name };
 }
 
 impl Subscription {

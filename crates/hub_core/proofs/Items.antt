@@ -1,5 +1,5 @@
 -- Lists of ends, agents, lines and envelopes: what a write leaves at each number, or behind a further item.
-use Rattle.std.proofs.Common.{ne_eqb, ◌≡◌, ℕ, ◌<◌, ◌+◌, true, false, eqb, List, [], ◌∷◌, ◌++◌, length, length-set, set, Option, Some, zero, suc, ◌≤◌, None, refl, sym, ap, subst, ◌∙◌, inl, inr, arith, rules, Bool, length-append, ◌||◌, ⊎_elim, cond, ◌≢◌, ◌⊎◌, map, get_or}
+use Rattle.std.proofs.Common.{ne_eqb, ◌≡◌, ℕ, ◌<◌, ◌+◌, true, false, eqb, List, [], ◌∷◌, ◌++◌, length, length-set, set, Option, Some, zero, suc, ◌≤◌, None, refl, sym, ap, subst, ◌∙◌, inl, inr, arith, rules, Bool, length-append, ◌||◌, ⊎_elim, cond, ◌≢◌, ◌⊎◌, map}
 use Rattle.hub_core.proofs.Words.{nat_tests, slice_get, AllByRecursion, slice_get_cases, Phase, Out, is_out, false≢true, cases_eq, slice_get_past, cases_lt, get_or-set_same, slice_get-get_or, get_or_from_slice_get, set-get_or, option_map, slice_get-map, slice_get_within}
 
 -- ==== Lists of ends, agents, lines and envelopes: what a write leaves at each number.

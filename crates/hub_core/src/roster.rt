@@ -7,7 +7,8 @@ ghost use Rattle.std.specs.BTreeMap.{get};
 ghost use Rattle.hub_core.specs.KeptRoster.{group_cmp, numbers_of, numbers_in, seated_with};
 ghost use Rattle.hub_core.specs.KeptRoster.{is_seated, kept_destinations};
 ghost use Rattle.hub_core.specs.KeptRoster.{Joins, SameMembers, Parts, IsFirst};
-ghost use Rattle.hub_core.specs.Roster.{group_named, has_body, is_first, cast_to, cast_after, source_for};
+ghost use Rattle.hub_core.specs.Roster.{group_named, has_body, is_first, cast_to, cast_after};
+ghost use Rattle.hub_core.specs.Roster.{source_for};
 ghost use Rattle.hub_core.specs.declared.roster.Group.{Group as GroupValue};
 
 use hub_envelope::{AgentId, Body, EndId, OutOfMemory, Text};

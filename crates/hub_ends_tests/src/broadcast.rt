@@ -1,2 +1,3 @@
 mod memory;
+mod numbers;
 mod parts;

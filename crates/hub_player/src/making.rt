@@ -175,6 +175,7 @@ impl Player {
         match self.roster.join(rt, ends, agent, origin, name, bell) {
             Ok(member) => self.added(Kind::Member, agent, Held::Member(member)),
             Err(JoinError::TooManyEnds) => answer(Outcome::TooManyEnds),
+            Err(JoinError::OtherEnds) => Err(Stop::Unexpected),
             Err(JoinError::OutOfMemory) => Err(Stop::OutOfMemory),
         }
     }

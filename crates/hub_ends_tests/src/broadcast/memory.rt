@@ -1,22 +1,13 @@
 //! Joins and casts of which each allocation is refused in turn.
-use crate::broadcast::parts::{NO_PORTS, is_first, key, take};
+use crate::broadcast::parts::{NO_PORTS, is_first, take, try_join};
 use hub_broadcast::{CastError, CastOutcome, JoinError, Member, Roster};
 use hub_depot::Depot;
-use hub_envelope::{AgentId, EndId};
+use hub_envelope::EndId;
 use hub_queue::{Ends, Onward, Took};
-use hub_test_parts::{bell, body};
+use hub_test_parts::body;
 use std::alloc::Global;
 use std::sync::Wait;
 use std::test::Fail;
-
-fn try_join(
-    alloc: Global,
-    roster: &mut Roster,
-    ends: &mut Ends,
-) -> Option<Result<Member, JoinError>> {
-    let (origin, name) = key(alloc)?;
-    Some(roster.join(ends, AgentId(7), origin, name, bell(alloc)?))
-}
 
 // One more member, by a second call where the first was refused and used no number.
 fn join(alloc: Global, roster: &mut Roster, ends: &mut Ends) -> Option<Member> {

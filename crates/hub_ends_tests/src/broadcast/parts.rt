@@ -1,9 +1,10 @@
 //! What the tests make their members of, and the calls that they make.
 ghost use Rattle.std.specs.Prelude.{◌≡◌};
 
-use hub_broadcast::{Member, Origin, origin_of};
-use hub_envelope::EndId;
-use hub_queue::{Steps, Took};
+use hub_broadcast::{JoinError, Member, Origin, Roster, origin_of};
+use hub_envelope::{AgentId, EndId};
+use hub_queue::{Ends, Steps, Took};
+use hub_test_parts::bell;
 use std::alloc::Global;
 use std::marker::Brand;
 use std::sync::Wait;
@@ -18,12 +19,22 @@ fn try_key(alloc: Global) -> Option<(Origin, String)> {
     Some((origin, name))
 }
 
-/// The origin and the name of all members. They are made again where an allocation was refused.
-pub(crate) fn key(alloc: Global) -> Option<(Origin, String)> {
+// The origin and the name of all members. They are made again where an allocation was refused.
+fn key(alloc: Global) -> Option<(Origin, String)> {
     match try_key(alloc) {
         Some(key) => Some(key),
         None => try_key(alloc),
     }
+}
+
+/// One more member of agent 7, by one call. `None` where an allocation was refused before it.
+pub(crate) fn try_join(
+    alloc: Global,
+    roster: &mut Roster,
+    ends: &mut Ends,
+) -> Option<Result<Member, JoinError>> {
+    let (origin, name) = key(alloc)?;
+    Some(roster.join(ends, AgentId(7), origin, name, bell(alloc)?))
 }
 
 fn take_counted<L: Ledger, R: Wait>(rt: &R, member: &mut Member, blank: Blank) -> Took
