@@ -1,7 +1,6 @@
 -- Broadcast channels: what their steps are answered, and the roster, agents and ends that they and the other steps leave.
 use Rattle.std.proofs.Common.{Bool, List, None, Option, Some, [], ap, append-nil, arith, cond, eqb, false, length, length-append, map, ne_eqb, not, refl, rules, subst, sym, true, ℕ, ◌&&◌, ◌++◌, ◌+◌, ◌<◌, ◌∙◌, ◌∷◌, ◌≡◌}
-use Rattle.hub_core.proofs.Words.{Action, AgentId, AllByRecursion, Answers, CastNow, Client, EndId, Facts, Group, IsFirst, IsMemberNow, Kind, Member, MemberLeaves, Outcome, PartLeaves, Port, Roster, RosterNow, SameRoster, ShowsRoster, Sound, SoundPlaces, Worker, agent_answer, IsSomeAnd, Joins, unwrap_or, option_map}
-use Rattle.hub_core.proofs.Words.{agents_after, destinations_of, ends, facts, false≢true, filter, get, group_named, group_of, has_end, insert_key, is_casting, is_in, is_of_group, is_same_group, kind_after, leaves, nat_cmp, nat_tests, numbers, numbers_of, numbers_with}
+use Rattle.hub_core.proofs.Words.{Action, AgentId, AllByRecursion, Answers, CastNow, Client, EndId, Facts, Group, IsFirst, IsMemberNow, Kind, Member, MemberLeaves, Outcome, PartLeaves, Port, Roster, RosterNow, SameRoster, ShowsRoster, Sound, SoundPlaces, Worker, agent_answer, IsSomeAnd, Joins, unwrap_or, option_map, agents_after, destinations_of, ends, facts, false≢true, filter, get, group_named, group_of, has_end, insert_key, is_casting, is_in, is_of_group, is_same_group, kind_after, leaves, nat_cmp, nat_tests, numbers, numbers_of, numbers_with}
 use Rattle.hub_core.proofs.Words.{others_of, part_answer, parted, roster_after, seated_without, slice_get, ◌==◌, is_some, Agent, End, maker_of, holder, is_empty, cast_answer, destinations, CoreState, Members, seen, kept_destinations, cast_to, is_seated}
 use Rattle.hub_core.specs.declared.step.Action.TheVariants as action
 use Rattle.hub_core.specs.declared.outcome.Outcome.TheVariants as outcome

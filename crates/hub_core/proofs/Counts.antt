@@ -1,8 +1,6 @@
 -- How many queues and how many posters that are away an agent has: what the core counts is what the facts say.
 use Rattle.std.proofs.Common.{Bool, List, None, Option, Some, ap, arith, cond, eqb, false, length, length-set, lt-ltb, nat_lt, ne_eqb, not, refl, subst, suc, sym, true, zero, ℕ, ◌&&◌, ◌*◌, ◌+◌, ◌-◌, ◌<◌, ◌||◌, ◌∙◌, ◌≡◌, ◌≤◌, ⊎_elim, inl, inr, rules, ◌⊎◌}
-use Rattle.hub_core.proofs.Words.{Agent, AgentId, Client, End, EndNow, Facts, Kind, MAX_ENDS, Place, Port, SoundPlaces, With, Worker, adopting, agent_now, any_below, change_owner, count_away, count_with, end_now, eqb-false, eqb-true, false≢true, gone, is_away_of, owner_by, with_agent, is_free, change_at, set_at, counted, Inside, Out}
-use Rattle.hub_core.proofs.Words.{is_out, is_some, is_with, kept_away, lines_of, no_end, one_less, one_more, option_map, owner, peer_of, place, slice_get, cases_eq, slice_get_within, total, EndId, Member, InFlight}
-use Rattle.hub_core.proofs.Words.{Sender, LineNow, is_queue, on_line, is_released, is_holder, Phase, count_of, is_queue_of, and-false, or-true}
+use Rattle.hub_core.proofs.Words.{Agent, AgentId, Client, End, EndNow, Facts, Kind, MAX_ENDS, Place, Port, SoundPlaces, With, Worker, adopting, agent_now, any_below, change_owner, count_away, count_with, end_now, eqb-false, eqb-true, false≢true, gone, is_away_of, owner_by, with_agent, is_free, change_at, set_at, counted, Inside, Out, is_out, is_some, is_with, kept_away, lines_of, no_end, one_less, one_more, option_map, owner, peer_of, place, slice_get, cases_eq, slice_get_within, total, EndId, Member, InFlight, Sender, LineNow, is_queue, on_line, is_released, is_holder, Phase, count_of, is_queue_of, and-false, or-true}
 use Rattle.hub_core.proofs.Items.{eqb_same, is_there, slice_get-set_other, slice_get-set_same, or_none, at_test}
 use Rattle.hub_core.proofs.Seeing.{SoundlyShows}
 use Rattle.hub_core.proofs.Speakers.{placed_made, no_port, port_of, hears_of, no_member, released_out, free_port_out}

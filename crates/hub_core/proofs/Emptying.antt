@@ -1,10 +1,7 @@
 -- What the core answers to Look, Sweep and Take fits, and it shows the facts with the answered step.
-use Rattle.std.proofs.Common.{Bool, List, None, Option, Some, [], ap, append-nil, append_assoc, arith, cond, drop, eqb, false, get_or, leb-false, leb-true, length, length-set, lt-ltb, ltb-false, ltb-true, nat_le, nat_lt, ne_eqb, not, refl, rules, set, subst, suc, sym, true, zero, ℕ, ◌&&◌, ◌++◌, ◌+◌}
-use Rattle.std.proofs.Common.{◌-◌, ◌<◌, ◌||◌, ◌∙◌, ◌∷◌, ◌≡◌, ◌≤◌, ⊎_elim}
-use Rattle.hub_core.proofs.Words.{Agent, AgentId, AllByRecursion, Arrived, CoreState, End, EndId, EndNow, Envelope, Facts, FitsSweep, FitsTake, InFlight, Inside, IsAllWaiting, IsDrained, IsLeft, IsNext, IsOfEnd, KeepsQueues, Line, LineNow, MatchBool, Outcome, Rises, Serves, ShowsEnd, Sound, Swept, with_agent, running, change_at, set_at}
-use Rattle.hub_core.proofs.Words.{TakeServes, With, advanced_end, all_settled, and_parts, any_below, append_cancel_left, arrived, arrived_ends, by, eqb-true, false_from_ne_true, false≢true, filter-append, first_failing, front_taken, holder}
-use Rattle.hub_core.proofs.Words.{in_queue, is_anyone_at, is_anyone_from, is_away_at, is_named, is_out, is_settled, is_some, is_with, joined, kept_looked, kept_settled, le-leb, le-ltb, line_now, lines_of, list_any, look_answer, lookable}
-use Rattle.hub_core.proofs.Words.{looked, moved_ends, names, nat_tests, no_end, option_map, ports_of, seen, slice_get, slice_get_within, someone_at, start_answer, sweep_outcome_at, cases_eq, cases_lt, FitsTake, ServesAt, found_at, kept_lines, option_and_then, get_or-set_other, get_or-set_same, list_any-append, or-true, or_assoc}
+use Rattle.std.proofs.Common.{Bool, List, None, Option, Some, [], ap, append-nil, append_assoc, arith, cond, drop, eqb, false, get_or, leb-false, leb-true, length, length-set, lt-ltb, ltb-false, ltb-true, nat_le, nat_lt, ne_eqb, not, refl, rules, set, subst, suc, sym, true, zero, ℕ, ◌&&◌, ◌++◌, ◌+◌, ◌-◌, ◌<◌, ◌||◌, ◌∙◌, ◌∷◌, ◌≡◌, ◌≤◌, ⊎_elim}
+use Rattle.hub_core.proofs.Words.{Agent, AgentId, AllByRecursion, Arrived, CoreState, End, EndId, EndNow, Envelope, Facts, FitsSweep, FitsTake, InFlight, Inside, IsAllWaiting, IsDrained, IsLeft, IsNext, IsOfEnd, KeepsQueues, Line, LineNow, MatchBool, Outcome, Rises, Serves, ShowsEnd, Sound, Swept, with_agent, running, change_at, set_at, TakeServes, With, advanced_end, all_settled, and_parts, any_below, append_cancel_left, arrived, arrived_ends, by, eqb-true, false_from_ne_true, false≢true, filter-append, first_failing, front_taken, holder}
+use Rattle.hub_core.proofs.Words.{in_queue, is_anyone_at, is_anyone_from, is_away_at, is_named, is_out, is_settled, is_some, is_with, joined, kept_looked, kept_settled, le-leb, le-ltb, line_now, lines_of, list_any, look_answer, lookable, looked, moved_ends, names, nat_tests, no_end, option_map, ports_of, seen, slice_get, slice_get_within, someone_at, start_answer, sweep_outcome_at, cases_eq, cases_lt, FitsTake, ServesAt, found_at, kept_lines, option_and_then, get_or-set_other, get_or-set_same, list_any-append, or-true, or_assoc}
 use Rattle.hub_core.specs.declared.outcome.Outcome.TheVariants as outcome
 use Rattle.hub_core.specs.declared.step.Action.TheVariants as action
 use Rattle.hub_core.proofs.Counts.{calm_landed, counted_ports, counts_of, counts_still}

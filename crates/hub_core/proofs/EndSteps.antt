@@ -1,10 +1,7 @@
 -- What makes agents and ends, and what moves lines and ends: what the core answers fits, and it shows the facts with the answered step.
-use Rattle.std.proofs.Common.{Bool, List, None, Option, Some, [], ap, append_assoc, arith, cond, eqb, false, get_or, inl, inr, length, length-append, length-set, nat_lt, ne_eqb, refl, replicate, rules, set, subst, suc, sym, true, zero, ℕ, ◌&&◌, ◌++◌, ◌+◌, ◌<◌, ◌||◌, ◌∙◌, ◌∷◌, ◌≡◌, ◌≤◌, not}
-use Rattle.std.proofs.Common.{◌⊎◌}
-use Rattle.hub_core.proofs.Words.{Agent, AgentId, AgentNow, AllByRecursion, Arrived, Client, CoreState, End, EndId, EndNow, Envelope, Facts, Gone, Inside, IsOfEnd, Kind, Line, LineNow, MAX_ENDS, Member, Outcome, Port, Sender, ShowsEnd, ShowsFacts, ShowsPut, Sound, With, Worker, adopt_answer, change_at, set_at, has_one, counted}
-use Rattle.hub_core.proofs.Words.{adopted_agents, adopted_end, adopting, agent_answer, agent_now, at_queue, channel_answer, close_answer, closed_end, count_away, count_in_queue, count_of, end_now, ends, eqb-true, false_from_ne_true, false≢true, filter}
-use Rattle.hub_core.proofs.Words.{first_agent, is_queue_of, first_line, gone, hand_answer, hop_answer, in_queue, is_here, is_out, is_queue, is_released, is_with, kept_away, length-replicate}
-use Rattle.hub_core.proofs.Words.{line_now, lines_of, member_answer, nat_tests, new_end, no_end, no_line, one_more, option_map, peer_of, queue_answer, seen, slice_get, slice_get_past, taken, went, and-false}
+use Rattle.std.proofs.Common.{Bool, List, None, Option, Some, [], ap, append_assoc, arith, cond, eqb, false, get_or, inl, inr, length, length-append, length-set, nat_lt, ne_eqb, refl, replicate, rules, set, subst, suc, sym, true, zero, ℕ, ◌&&◌, ◌++◌, ◌+◌, ◌<◌, ◌||◌, ◌∙◌, ◌∷◌, ◌≡◌, ◌≤◌, not, ◌⊎◌}
+use Rattle.hub_core.proofs.Words.{Agent, AgentId, AgentNow, AllByRecursion, Arrived, Client, CoreState, End, EndId, EndNow, Envelope, Facts, Gone, Inside, IsOfEnd, Kind, Line, LineNow, MAX_ENDS, Member, Outcome, Port, Sender, ShowsEnd, ShowsFacts, ShowsPut, Sound, With, Worker, adopt_answer, change_at, set_at, has_one, adopted_agents, adopted_end, adopting, agent_answer, agent_now, at_queue, channel_answer, close_answer, closed_end, count_away, count_in_queue, count_of, end_now, ends, eqb-true, false_from_ne_true, false≢true, filter}
+use Rattle.hub_core.proofs.Words.{first_agent, is_queue_of, first_line, gone, hand_answer, hop_answer, in_queue, is_here, is_out, is_queue, is_released, is_with, kept_away, length-replicate, line_now, lines_of, member_answer, nat_tests, new_end, no_end, no_line, one_more, option_map, peer_of, queue_answer, seen, slice_get, slice_get_past, taken, went, and-false}
 use Rattle.hub_core.proofs.Counts.{Counted, IsCalmAt, OneEnd, adopted_now, away_more, calm_gone, calm_places, came_away, change_length, come_length, come_now, counted_came, counted_went, counts_at, counts_of, counts_still, end_went, gone_length, gone_now, none_at, none_counted}
 use Rattle.hub_core.proofs.Casts.{roster_agent}
 use Rattle.hub_core.proofs.Frames.{ShownAfter, ShownWith, Stepped, changed, end_changed, end_restated, end_there, found_end, found_line, line_changed, line_set, recounted, same_queues, with_line}

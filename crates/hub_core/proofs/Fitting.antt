@@ -1,9 +1,7 @@
 -- What an answer that fits says of the facts.
 use Rattle.std.proofs.Common.{◌≡◌, ◌+◌, Bool, true, false, cond, List, length, Option, Some, None, refl, ap, ℕ, zero, suc, ◌<◌, ◌≤◌, eqb, sym, ◌∙◌, arith, rules, inl, inr, ltb-true, leb-false, ltb-false, ◌&&◌, not, nat_lt, ◌||◌, ◌⊎◌, nat_le, ⊎_elim}
-use Rattle.hub_core.proofs.Words.{is_some, MatchBool, list_all, AgentId, EndId, Envelope, MAX_ENDS, MAX_LINES, MAX_MOVES, MAX_PORTS, MAX_AGENTS, Good, HoldsTarget, Bad, Sender, Acceptance, Outcome, Facts, agent_answer, channel_answer, queue_answer, has_one, holder, poster, phase_of_line, is_out, owner, is_holder, name_of, option_map, unwrap_or, is_posting}
-use Rattle.hub_core.proofs.Words.{is_inside, is_good, is_distinct, may_leave_agent, listing_of, enter_answer, leave_answer, push_answer_of, push_answer, may_enter, hears_notice, is_here, notice_answer, is_fitting, is_empty, Serves, FitsTake, start_answer, false≢true, and_parts, or_parts}
-use Rattle.hub_core.proofs.Words.{Place, Arrived, any_below, someone_at, first_failing, lookable, looked, look_answer, all_settled, IsAllWaiting, FitsSweep, hop_answer, is_arrived, adopt_answer, close_answer, is_released, hand_answer, may_take_over, may_close, is_queue}
-use Rattle.hub_core.proofs.Words.{lines_of, names, LineId, Kind, back_answer, line_found, line_answer, free_line, member_answer, cast_answer, is_casting, destinations, has_end, maker_of, see_answer, has_away, is_away_of, cases_eq, found_at, put_there}
+use Rattle.hub_core.proofs.Words.{is_some, MatchBool, list_all, AgentId, EndId, Envelope, MAX_ENDS, MAX_LINES, MAX_MOVES, MAX_PORTS, MAX_AGENTS, Good, HoldsTarget, Bad, Sender, Acceptance, Outcome, Facts, agent_answer, channel_answer, queue_answer, has_one, holder, poster, phase_of_line, is_out, owner, is_holder, name_of, option_map, unwrap_or, is_posting, is_inside, is_good, is_distinct, may_leave_agent, listing_of, enter_answer, leave_answer, push_answer_of, push_answer, may_enter, hears_notice, is_here, notice_answer, is_fitting, is_empty, Serves, FitsTake, start_answer, false≢true, and_parts, or_parts}
+use Rattle.hub_core.proofs.Words.{Place, Arrived, any_below, someone_at, first_failing, lookable, looked, look_answer, all_settled, IsAllWaiting, FitsSweep, hop_answer, is_arrived, adopt_answer, close_answer, is_released, hand_answer, may_take_over, may_close, is_queue, lines_of, names, LineId, Kind, back_answer, line_found, line_answer, free_line, member_answer, cast_answer, is_casting, destinations, has_end, maker_of, see_answer, has_away, is_away_of, cases_eq, found_at, put_there}
 use Rattle.hub_core.specs.declared.outcome.Outcome.TheVariants as outcome
 use Rattle.hub_core.proofs.Items.{below_last, next_up, or_none, at_test}
 

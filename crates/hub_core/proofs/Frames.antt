@@ -1,7 +1,6 @@
 -- What a step leaves alone of what is kept, and what it changes.
 use Rattle.std.proofs.Common.{◌≡◌, ℕ, ◌+◌, ◌<◌, Bool, true, false, eqb, List, [], length, set, length-set, Option, Some, refl, sym, ap, subst, ◌∙◌, ◌++◌, ne_eqb, ◌&&◌, None, arith}
-use Rattle.hub_core.proofs.Words.{Envelope, Place, lines_of, slice_get_within, Line, Sender, Inside, slice_get, Agent, End, Action, Outcome, LineNow, Facts, facts, EndNow, Answers, ShowsEnd, ShowsPut, agent_now, line_now, end_now, ShowsFacts, KeepsQueues, CoreState, core_after, set_at, option_map}
-use Rattle.hub_core.proofs.Words.{change_line, first_line, kept_lines, unwrap_or, ShowsRoster, no_end}
+use Rattle.hub_core.proofs.Words.{Envelope, Place, lines_of, slice_get_within, Line, Sender, Inside, slice_get, Agent, End, Action, Outcome, LineNow, Facts, facts, EndNow, Answers, ShowsEnd, ShowsPut, agent_now, line_now, end_now, ShowsFacts, KeepsQueues, CoreState, core_after, set_at, option_map, change_line, first_line, kept_lines, unwrap_or, ShowsRoster, no_end}
 use Rattle.hub_core.proofs.Items.{eqb_same, each_set, each_changed, is_there}
 use Rattle.hub_core.proofs.Seeing.{SoundlyShows}
 use Rattle.hub_core.proofs.Nexts.{next}

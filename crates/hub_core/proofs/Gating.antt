@@ -1,7 +1,6 @@
 -- The laws of the gate machine.
 use Rattle.std.proofs.Common.{◌≡◌, ◌⊎◌, ℕ, zero, suc, ◌≤◌, ◌||◌, ◌&&◌, Bool, true, false, true≢false, List, [], ◌∷◌, length, map, set, refl, sym, ap, ◌∙◌, subst, ⊎_elim, arith, length-set, Option, Some, None, not}
-use Rattle.hub_core.proofs.Words.{slice_get, sum_by, is_some, length-map, map-set, sum_by-cons, false_from_ne_true, Phase, Out, Inside, Turned, Gate, IsAt, opened, weight, busy, Steps, finds_moved, finds_closed, goes_in, goes_out, turns_back, enables, retires, closes, gave, is_open, is_busy, gives}
-use Rattle.hub_core.proofs.Words.{Reached, opens, goes_on, leaves_right, IsGateOf, GateMachineLaws, or-true}
+use Rattle.hub_core.proofs.Words.{slice_get, sum_by, is_some, length-map, map-set, sum_by-cons, false_from_ne_true, Phase, Out, Inside, Turned, Gate, IsAt, opened, weight, busy, Steps, finds_moved, finds_closed, goes_in, goes_out, turns_back, enables, retires, closes, gave, is_open, is_busy, gives, Reached, opens, goes_on, leaves_right, IsGateOf, GateMachineLaws, or-true}
 use Rattle.hub_core.proofs.Items.{some_is, none_got, got_set, got_of-map}
 
 -- whether the right of a line in this phase is at home

@@ -1,6 +1,6 @@
 -- Lists of ends, agents, lines and envelopes: what a write leaves at each number, or behind a further item.
-use Rattle.std.proofs.Common.{ne_eqb, ◌≡◌, ℕ, ◌<◌, ◌+◌, true, false, eqb, List, [], ◌∷◌, ◌++◌, length, length-set, set, Option, Some, zero, suc, ◌≤◌, None, refl, sym, ap, subst, ◌∙◌, inl, inr, arith, rules, Bool, length-append, ◌||◌, ⊎_elim, cond, ◌≢◌, ◌⊎◌, map}
-use Rattle.hub_core.proofs.Words.{nat_tests, slice_get, AllByRecursion, slice_get_cases, Phase, Out, is_out, false≢true, cases_eq, slice_get_past, cases_lt, get_or-set_same, slice_get-get_or, get_or_from_slice_get, set-get_or, option_map, slice_get-map, slice_get_within}
+use Rattle.std.proofs.Common.{get_or, ne_eqb, ◌≡◌, ℕ, ◌<◌, ◌+◌, true, false, eqb, List, [], ◌∷◌, ◌++◌, length, length-set, set, Option, Some, zero, suc, ◌≤◌, None, refl, sym, ap, subst, ◌∙◌, inl, inr, arith, rules, Bool, length-append, ◌||◌, ⊎_elim, cond, ◌≢◌, ◌⊎◌, map}
+use Rattle.hub_core.proofs.Words.{CoreState, End, change_at, set_at, nat_tests, slice_get, AllByRecursion, slice_get_cases, Phase, Out, is_out, false≢true, cases_eq, slice_get_past, cases_lt, get_or-set_same, slice_get-get_or, get_or_from_slice_get, set-get_or, option_map, slice_get-map, slice_get_within}
 
 -- ==== Lists of ends, agents, lines and envelopes: what a write leaves at each number.
 
@@ -15,6 +15,13 @@ slice_get-set_other _ _ _ x h = refl
 -- what is there, written again, changes nothing
 pub set_again : {A : Type 0} (xs : List A) (i : ℕ) (x : A) → slice_get xs i ≡ Some x → set xs i x ≡ xs
 set_again xs i x h = ap (set xs i) (sym (get_or_from_slice_get xs i x x h)) ∙ set-get_or xs i x
+
+-- a core in which what was read of an end was changed in its place, or written again
+pub end_set : (change : End → End) (s now : CoreState) (e : ℕ) (x : End) → s ≡ now → e < length now.ends → x ≡ get_or s.ends e x → (let c : CoreState = record s { ends = set s.ends e (change x) } in c ≡ record now { ends = change_at change e now.ends })
+end_set change s now e x is low at = subst (λ (n : CoreState). e < length n.ends → (let c : CoreState = record s { ends = set s.ends e (change x) } in c ≡ record n { ends = change_at change e n.ends })) is (λ less i. record s { ends = set_at e s.ends (option_map change (sym (slice_get-get_or s.ends e x less ∙ ap Some (sym at)) i)) }) low
+
+pub end_again : (s now : CoreState) (e : ℕ) (x : End) → s ≡ now → e < length now.ends → x ≡ get_or s.ends e x → (let c : CoreState = record s { ends = set s.ends e x } in c ≡ now)
+end_again s now e x is low at = (λ i. record s { ends = set_again s.ends e x (slice_get-get_or s.ends e x (subst (λ (n : CoreState). e < length n.ends) (sym is) low) ∙ ap Some (sym at)) i }) ∙ is
 
 pub AllByRecursion-append : {A : Type 0} (P : A → Type 0) (xs ys : List A) → AllByRecursion P xs → AllByRecursion P ys → AllByRecursion P (xs ++ ys)
 AllByRecursion-append P [] ys p q = q

@@ -1,11 +1,7 @@
 -- What the core answers to Enter, Leave, Line, Back, Order, See, Push and Notice fits, and it shows the facts with the answered step.
-use Rattle.std.proofs.Common.{Bool, List, None, Option, Some, [], ap, append_assoc, arith, cond, eqb, false, get_or, inl, inr, leb-true, length, length-append, length-set, lt-ltb, ltb-true, nat_le, nat_lt, ne_eqb, not, refl, rules, set, subst, suc, sym, true, zero, ℕ, ⊎_elim, ◌&&◌, ◌++◌}
-use Rattle.std.proofs.Common.{◌+◌, ◌-◌, ◌<◌, ◌||◌, ◌∙◌, ◌∷◌, ◌≡◌, ◌≤◌}
-use Rattle.hub_core.proofs.Words.{Acceptance, Action, Agent, AgentId, AgentNow, Answers, CoreState, End, EndId, EndNow, Envelope, Facts, InFlight, Inside, Kind, Line, LineNow, MAX_LINES, Member, Out, Outcome, Phase, Place, Port, Sender, ShowsEnd, ShowsFacts, ShowsPut, Sound, Turned, With, change_at, set_at, counted}
-use Rattle.hub_core.proofs.Words.{accept_ends, agent_now, and_parts, any_below, back_answer, cases_eq, cases_lt, cast_after, change_line, change_owner, count_away, count_in_queue, end_moved, end_now, enter_answer, eqb-true, false≢true, filter}
-use Rattle.hub_core.proofs.Words.{filter-append, first_failing, first_free, free_line, has_away, has_queue, held_by, if◌then◌else◌, in_phase, in_queue, is_away_of, is_holder, is_inside, is_out, is_posting, is_queue}
-use Rattle.hub_core.proofs.Words.{is_some, kept_away, kept_lines, le-leb, leave_answer, line_answer, line_found, line_now, lines_of}
-use Rattle.hub_core.proofs.Words.{may_enter, moved_ends, named_envelope, named_notice, names, no_line, notice_answer, option_map, order_answer, owner, owner_by, peer_of, phase_of_line, position, position_from, position_from-zero}
+use Rattle.std.proofs.Common.{Bool, List, None, Option, Some, [], ap, append_assoc, arith, cond, eqb, false, get_or, inl, inr, leb-true, length, length-append, length-set, lt-ltb, ltb-true, nat_le, nat_lt, ne_eqb, not, refl, rules, set, subst, suc, sym, true, zero, ℕ, ⊎_elim, ◌&&◌, ◌++◌, ◌+◌, ◌-◌, ◌<◌, ◌||◌, ◌∙◌, ◌∷◌, ◌≡◌, ◌≤◌}
+use Rattle.hub_core.proofs.Words.{Acceptance, Action, Agent, AgentId, AgentNow, Answers, CoreState, End, EndId, EndNow, Envelope, Facts, InFlight, Inside, Kind, Line, LineNow, MAX_LINES, Member, Out, Outcome, Phase, Place, Port, Sender, ShowsEnd, ShowsFacts, ShowsPut, Sound, Turned, With, change_at, set_at, counted, accept_ends, agent_now, and_parts, any_below, back_answer, cases_eq, cases_lt, cast_after, change_line, change_owner, count_away, count_in_queue, end_moved, end_now, enter_answer, eqb-true, false≢true, filter}
+use Rattle.hub_core.proofs.Words.{filter-append, first_failing, first_free, free_line, has_away, has_queue, held_by, if◌then◌else◌, in_phase, in_queue, is_away_of, is_holder, is_inside, is_out, is_posting, is_queue, is_some, kept_away, kept_lines, le-leb, leave_answer, line_answer, line_found, line_now, lines_of, may_enter, moved_ends, named_envelope, named_notice, names, no_line, notice_answer, option_map, order_answer, owner, owner_by, peer_of, phase_of_line, position, position_from, position_from-zero}
 use Rattle.hub_core.proofs.Words.{posting_at, posting_line, push_answer, put_end, see_answer, seen, slice_get, slice_get_within, total, with_agent, first_line, line_answer, line_of, may_put, notice_answer, option_and_then, put_there, unwrap_or, count_of, get_or-set_other, get_or-set_same}
 use Rattle.hub_core.proofs.Counts.{Counted, away_at, calm_held, calm_sent, change_each, change_get, change_length, counted_entered, counted_left, counted_ports, counts_of, counts_still, free_out, none_counted, owner_length, owner_now_away, owner_now_out, phase_away, same_count}
 use Rattle.hub_core.proofs.Casts.{recast}

@@ -1,9 +1,7 @@
 -- The mailbox of an end goes on by the events of each pair that fits.
 use Rattle.std.proofs.Common.{Bool, List, None, Option, Some, [], ap, arith, cond, eqb, false, inl, length, not, refl, subst, sym, true, ℕ, ◌&&◌, ◌++◌, ◌+◌, ◌-◌, ◌<◌, ◌∷◌, ◌≡◌, ◌≤◌, set, ◌∙◌, append_assoc, append-nil, length-set, length-append, zero, suc, map, replicate, ⊎_elim, ne_eqb}
-use Rattle.hub_core.proofs.Words.{Action, Answers, Client, EndId, Facts, FitsSweep, FitsTake, HoldsNothing, Inside, IsDrained, IsLeft, IsSettled, Kind, Mailbox, MailboxEvent, Member, OneRight, Out, Outcome, Port, Sound, Turned, Worker, add, advance, at_gate, close, enable, enter, eqb-true, Serves, found_at}
-use Rattle.hub_core.proofs.Words.{events_of, finds_busy, finds_busy_at, gives_rights, hop, in_queue, kind_after, leaving, lets_in, lines_of, look, look_answer, looked, named_envelope, named_notice, not-false, opened, or_parts, pop, push, rights_of, says_closed, says_done, says_moved, someone_at}
-use Rattle.hub_core.proofs.Words.{sweeping, unsettled, flat_map, slice_get, get_or_from_slice_get, append_cancel_left, filter-append, Envelope, Prefix, Gate, Steps, finds_moved, Queue, new_queue, pushed, QueueAt, got_from, IsMailbox, put_in, got_in, MailboxStep, gate_steps, pushes, takes, sweeps}
-use Rattle.hub_core.proofs.Words.{finds_none, hops, advances, adds, HoldsFirst, without_first, taken_out, with_gate, with_queue, with_stand, with_new, Happen, gate_after, with_gate_after, with_queue_after, after_event, after_events, false≢true, false_from_ne_true, flat_map-append}
+use Rattle.hub_core.proofs.Words.{Action, Answers, Client, EndId, Facts, FitsSweep, FitsTake, HoldsNothing, Inside, IsDrained, IsLeft, IsSettled, Kind, Mailbox, MailboxEvent, Member, OneRight, Out, Outcome, Port, Sound, Turned, Worker, add, advance, at_gate, close, enable, enter, eqb-true, Serves, found_at, events_of, finds_busy, finds_busy_at, gives_rights, hop, in_queue, kind_after, leaving, lets_in, lines_of, look, look_answer, looked, named_envelope, named_notice, not-false, opened, or_parts, pop, push, rights_of, says_closed, says_done, says_moved, someone_at}
+use Rattle.hub_core.proofs.Words.{sweeping, unsettled, flat_map, slice_get, get_or_from_slice_get, append_cancel_left, filter-append, Envelope, Prefix, Gate, Steps, finds_moved, Queue, new_queue, pushed, QueueAt, got_from, IsMailbox, put_in, got_in, MailboxStep, gate_steps, pushes, takes, sweeps, finds_none, hops, advances, adds, HoldsFirst, without_first, taken_out, with_gate, with_queue, with_stand, with_new, Happen, gate_after, with_gate_after, with_queue_after, after_event, after_events, false≢true, false_from_ne_true, flat_map-append}
 use Rattle.hub_core.proofs.Words.{length-replicate, Phase, EndNow, LineNow, accepted_by, ends_after, by, no_end, no_line, IsAt, new_mailbox, first_mailbox, made_as, after_pair, eq-eqb, cases_eq}
 use Rattle.hub_core.specs.declared.step.Action.TheVariants as action
 use Rattle.hub_core.specs.declared.outcome.Outcome.TheVariants as outcome

@@ -1,7 +1,6 @@
 -- A mailbox that shows what is known of an end, and what it shows after an event.
 use Rattle.std.proofs.Common.{◌≡◌, ◌≢◌, ℕ, ◌+◌, ◌<◌, Bool, true, false, cond, eqb, List, [], ◌∷◌, ◌++◌, length, set, refl, sym, ap, subst, ◌∙◌, arith, append-nil, length-set, Option, Some, ne_eqb}
-use Rattle.hub_core.proofs.Words.{IsTrue, slice_get, eqb-true, eqb-false, eq-eqb, filter-append, Envelope, Phase, History, Facts, facts, lines_of, by, Gate, IsAt, IsGateOf, Queue, Mailbox, GateAt, StandsAt, IsNewest, put_by, got_from, IsMailbox, MailboxEvent, MailboxStep, put_in, got_in, with_gate}
-use Rattle.hub_core.proofs.Words.{with_queue, ShowsMailbox, Grows, OneRight, has_right, Kind}
+use Rattle.hub_core.proofs.Words.{IsTrue, slice_get, eqb-true, eqb-false, eq-eqb, filter-append, Envelope, Phase, History, Facts, facts, lines_of, by, Gate, IsAt, IsGateOf, Queue, Mailbox, GateAt, StandsAt, IsNewest, put_by, got_from, IsMailbox, MailboxEvent, MailboxStep, put_in, got_in, with_gate, with_queue, ShowsMailbox, Grows, OneRight, has_right, Kind}
 use Rattle.hub_core.proofs.Items.{slice_get-set_same, slice_get-set_other, got_within, got_there, got_same_at, at_written, at_test}
 use Rattle.hub_core.proofs.MailboxStepping.{chain_laws}
 

@@ -1,7 +1,6 @@
 -- Each event keeps what a mailbox promises.
 use Rattle.std.proofs.Common.{◌≡◌, ◌≢◌, ◌⊎◌, ℕ, zero, ◌+◌, ◌<◌, ◌≤◌, true, false, List, [], ◌∷◌, ◌++◌, length, set, refl, sym, ap, subst, ◌∙◌, inl, inr, ⊎_elim, arith, length-set, length-append, Some, None, append-nil, append_assoc, cond, eqb, ne_eqb, suc, true≢false}
-use Rattle.hub_core.proofs.Words.{slice_get, cases_lt, cases_eq, length-map, Out, Inside, Gate, IsAt, opened, Steps, retires, IsGateOf, Queue, new_queue, IsQueue, Mailbox, new_mailbox, GateAt, StandsAt, IsNewest, IsMailbox, with_gate, with_stand, with_taker, with_new, IsSettled, HoldsNothing}
-use Rattle.hub_core.proofs.Words.{ChainLaws, Envelope, Grows, HappensAt, HoldsFirst, MailboxEvent, MailboxStep, MayPush, MaySweep, Phase, Prefix, QueueAt, Turned, adds, advances, by, closes, eqb-true, filter-append, finds_closed, finds_moved, finds_none, flat_map, gate_steps, goes_in, goes_out}
+use Rattle.hub_core.proofs.Words.{slice_get, cases_lt, cases_eq, length-map, Out, Inside, Gate, IsAt, opened, Steps, retires, IsGateOf, Queue, new_queue, IsQueue, Mailbox, new_mailbox, GateAt, StandsAt, IsNewest, IsMailbox, with_gate, with_stand, with_taker, with_new, IsSettled, HoldsNothing, ChainLaws, Envelope, Grows, HappensAt, HoldsFirst, MailboxEvent, MailboxStep, MayPush, MaySweep, Phase, Prefix, QueueAt, Turned, adds, advances, by, closes, eqb-true, filter-append, finds_closed, finds_moved, finds_none, flat_map, gate_steps, goes_in, goes_out}
 use Rattle.hub_core.proofs.Words.{got_from, got_in, hops, popped, pushed, pushes, put_by, put_in, sweeps, taken_out, takes, turns_back, with_queue}
 use Rattle.hub_core.specs.GateMachine as machine
 use Rattle.hub_core.proofs.Items.{got_within, got_there, got_same_at, got-map, got_of-map, at_written, at_pushed, got_same, got_set, none_got, pairs_written, some_is, slice_get-set_other, at_test}

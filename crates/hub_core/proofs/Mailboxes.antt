@@ -1,7 +1,6 @@
 -- The mailbox of an end after a legal history shows the history there, and holds what a core keeps.
 use Rattle.std.proofs.Common.{◌≡◌, ℕ, ◌+◌, ◌<◌, List, [], ◌∷◌, ◌++◌, replicate, Option, Some, refl, sym, ap, subst, ◌∙◌}
-use Rattle.hub_core.proofs.Words.{slice_get, slice_index_or, length-replicate, append_cancel_left, End, Core, Kind, Pair, History, Facts, facts, lines_of, in_queue, Prefix, Sound, Fits, Legal, InOrder, ShowsEnd, Shows, new_queue, Mailbox, new_mailbox, IsMailbox, MailboxEvent, OneRight, events_of}
-use Rattle.hub_core.proofs.Words.{PairsAreEvents, ShowsMailbox, HoldsKept, MailboxesShow, first_mailbox, mailbox, GoesOn, EachShows}
+use Rattle.hub_core.proofs.Words.{slice_get, slice_index_or, length-replicate, append_cancel_left, End, Core, Kind, Pair, History, Facts, facts, lines_of, in_queue, Prefix, Sound, Fits, Legal, InOrder, ShowsEnd, Shows, new_queue, Mailbox, new_mailbox, IsMailbox, MailboxEvent, OneRight, events_of, PairsAreEvents, ShowsMailbox, HoldsKept, MailboxesShow, first_mailbox, mailbox, GoesOn, EachShows}
 use Rattle.hub_core.proofs.Nexts.{facts_next}
 use Rattle.hub_core.proofs.Sounds.{sound_legal, mailbox_one, box_legal}
 use Rattle.hub_core.proofs.Headlines.{shows_in_order}

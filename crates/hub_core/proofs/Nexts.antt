@@ -1,8 +1,6 @@
 -- One more pair, for all notions at once: the facts of the longer history.
 use Rattle.std.proofs.Common.{◌≡◌, ℕ, Bool, true, false, cond, eqb, List, [], ◌∷◌, ◌++◌, refl, sym, ap, ◌∙◌, inl, inr, append-nil, Option, None, ◌⊎◌, Some}
-use Rattle.hub_core.proofs.Words.{◌==◌, if◌then◌else◌, Place, fold, flat_map, fold-append, flat_map-append, Envelope, AgentId, EndId, LineId, Out, Sender, Acceptance, Action, Outcome, Pair, History, Facts, facts, named_envelope, accepted_by, named_notice, taken_by, agents_after, runs_after}
-use Rattle.hub_core.proofs.Words.{ordered_after, ends_after, kind_after, place_after, closed_after, enabled_after, phase_after, adoptions_after, hops_after, passed_after, noticed_after, held_after, clear_after, discarded_by, roster_after, no_roster, CoreState, core_after, changes_nothing}
-use Rattle.hub_core.proofs.Words.{false≢true}
+use Rattle.hub_core.proofs.Words.{◌==◌, if◌then◌else◌, Place, fold, flat_map, fold-append, flat_map-append, Envelope, AgentId, EndId, LineId, Out, Sender, Acceptance, Action, Outcome, Pair, History, Facts, facts, named_envelope, accepted_by, named_notice, taken_by, agents_after, runs_after, ordered_after, ends_after, kind_after, place_after, closed_after, enabled_after, phase_after, adoptions_after, hops_after, passed_after, noticed_after, held_after, clear_after, discarded_by, roster_after, no_roster, CoreState, core_after, changes_nothing, false≢true}
 use Rattle.hub_core.specs.declared.step.Action.TheVariants as action
 use Rattle.hub_core.specs.declared.outcome.Outcome.TheVariants as outcome
 

@@ -1,9 +1,7 @@
 -- The pairs that are events of queues: what is put there and taken out, looks, and sweeps.
 use Rattle.std.proofs.Common.{◌≡◌, ◌≢◌, ℕ, zero, suc, ◌<◌, Bool, true, eqb, List, [], ◌∷◌, ◌++◌, length, refl, sym, ap, subst, ◌∙◌, arith, append-nil, append_assoc, Some, None, ◌⊎◌, ◌+◌, ◌-◌, ◌≤◌, ◌&&◌, false, true≢false, cond, map, inl, inr, ⊎_elim, not, ltb, lt-ltb, Option}
-use Rattle.hub_core.proofs.Words.{slice_get, flat_map, filter, AllByRecursion, append_cancel_left, filter-append, recursion_from_All, Envelope, EndId, Inside, Sender, Acceptance, Facts, named_envelope, named_notice, lines_of, by, in_queue, count_in_queue, phase_of_line, Queue, IsNamed, MayPush, is_some}
-use Rattle.hub_core.proofs.Words.{pushed, pop_of, Mailbox, QueueAt, put_by, got_from, IsMailbox, push, pop, MailboxStep, pushes, takes, finds_none, HoldsFirst, taken_out, with_queue, HoldsNothing, OneRight, IsNext, sum_by, MatchBool, false≢true, not-true, not-false, and_parts, or_parts, eqb-true}
-use Rattle.hub_core.proofs.Words.{eq-eqb, cases_eq, cases_lt, or_cases, or_left, or_right, length-map, sum_by-cons, Phase, Out, is_out, is_away_at, someone_at, is_settled, all_settled, FitsSweep, Sound, Gate, weight, busy, is_shut, IsAt, with_none, is_busy, gives, IsGateOf}
-use Rattle.hub_core.proofs.Words.{GateAt, StandsAt, at_gate, gate_steps, with_gate, IsSettled, busy_at, rights_of, finds_busy, unsettled, IsAllWaiting, IsOfEnd, popped, MailboxEvent, sweeps, MaySweep, sweeping}
+use Rattle.hub_core.proofs.Words.{slice_get, flat_map, filter, AllByRecursion, append_cancel_left, filter-append, recursion_from_All, Envelope, EndId, Inside, Sender, Acceptance, Facts, named_envelope, named_notice, lines_of, by, in_queue, count_in_queue, phase_of_line, Queue, IsNamed, MayPush, is_some, pushed, pop_of, Mailbox, QueueAt, put_by, got_from, IsMailbox, push, pop, MailboxStep, pushes, takes, finds_none, HoldsFirst, taken_out, with_queue, HoldsNothing, OneRight, IsNext, sum_by, MatchBool, false≢true, not-true, not-false, and_parts, or_parts, eqb-true}
+use Rattle.hub_core.proofs.Words.{eq-eqb, cases_eq, cases_lt, or_cases, or_left, or_right, length-map, sum_by-cons, Phase, Out, is_out, is_away_at, someone_at, is_settled, all_settled, FitsSweep, Sound, Gate, weight, busy, is_shut, IsAt, with_none, is_busy, gives, IsGateOf, GateAt, StandsAt, at_gate, gate_steps, with_gate, IsSettled, busy_at, rights_of, finds_busy, unsettled, IsAllWaiting, IsOfEnd, popped, MailboxEvent, sweeps, MaySweep, sweeping}
 use Rattle.hub_core.proofs.Items.{eqb_same, AllByRecursion-weaker, set_again, is_out_of, slice_get-set_same, slice_get-set_other, none_got, some_is, got_there, got_within, got_same}
 use Rattle.hub_core.proofs.Waits.{all_kept, filters, queue_more, all_of_queue, none_of_queue, all_front, first_of, left_same}
 use Rattle.hub_core.proofs.Fitting.{Pushed, Noticed, any_of, none_of_any, FirstFailing, first_failing_of, LooksAt, Clears, FindsBusy, looked_where, SweptWith, each_of}

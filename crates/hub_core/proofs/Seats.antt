@@ -1,7 +1,6 @@
 -- The members of the roster: their seats, group by group, and the lists of their numbers.
 use Rattle.std.proofs.Common.{◌≡◌, ℕ, List, [], ◌∷◌, true, false, cond, eqb, ◌&&◌, Some, refl, sym, ap, ◌∙◌, arith, rules, subst, Result, Ok, Err, ◌<◌, Bool, ◌++◌, map, ◌||◌, not}
-use Rattle.hub_core.proofs.Words.{bytes_eq, ◌==◌, IsSome, nat_tests, BTreeMap, get, WritesThrough, remove_key, lookup, OnErr, BTreeSet, insert_key, slice_cmp, is_eq, nat_cmp, ordering_then, Ordering, Less, is_eq-slice_cmp, and_parts, bytes_eq-Decides, Group, is_same_group, group_cmp, numbers_in}
-use Rattle.hub_core.proofs.Words.{seated_with, seated_without, parted, Parts, group_of, numbers_of, Members, AllByRecursion, filter, Greater, nat_cmp_is, false≢true, eqb-true, EndId, RosterNow, is_of_group, has_end, without, numbers_with, is_in, and-false}
+use Rattle.hub_core.proofs.Words.{bytes_eq, ◌==◌, IsSome, nat_tests, BTreeMap, get, WritesThrough, remove_key, lookup, OnErr, BTreeSet, insert_key, slice_cmp, is_eq, nat_cmp, ordering_then, Ordering, Less, is_eq-slice_cmp, and_parts, bytes_eq-Decides, Group, is_same_group, group_cmp, numbers_in, seated_with, seated_without, parted, Parts, group_of, numbers_of, Members, AllByRecursion, filter, Greater, nat_cmp_is, false≢true, eqb-true, EndId, RosterNow, is_of_group, has_end, without, numbers_with, is_in, and-false}
 use Rattle.std.specs.BTreeMap as tree
 use Rattle.hub_core.proofs.Items.{AllByRecursion-append, at_test}
 

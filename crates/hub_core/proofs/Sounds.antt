@@ -1,7 +1,6 @@
 -- After each pair that fits, the mailbox of each end shows what is known there; so the facts of every legal history are sound.
 use Rattle.std.proofs.Common.{◌≡◌, ◌⊎◌, ℕ, suc, ◌+◌, ◌<◌, ◌≤◌, true, false, eqb, List, [], ◌∷◌, ◌++◌, length, map, refl, sym, ap, subst, ◌∙◌, inl, inr, ⊎_elim, arith, append-nil, Some, Bool, None, append_assoc, rules}
-use Rattle.hub_core.proofs.Words.{slice_get, flat_map, AllByRecursion, false≢true, false_from_ne_true, or_cases, cases_lt, length-map, filter-append, recursion_from_All, Envelope, Out, Inside, Turned, LineNow, Facts, lines_of, up_to, numbers, is_distinct, by, in_queue, Rises, IsOfEnd, Gate, is_shut}
-use Rattle.hub_core.proofs.Words.{Queue, IsNamed, Mailbox, GateAt, QueueAt, IsMailbox, OneRight, Action, Answers, Fits, History, Legal, Outcome, Pair, Sound, SoundPlaces, after_pair, facts, first_mailbox, mailbox, mailbox_from}
+use Rattle.hub_core.proofs.Words.{slice_get, flat_map, AllByRecursion, false≢true, false_from_ne_true, or_cases, cases_lt, length-map, filter-append, recursion_from_All, Envelope, Out, Inside, Turned, LineNow, Facts, lines_of, up_to, numbers, is_distinct, by, in_queue, Rises, IsOfEnd, Gate, is_shut, Queue, IsNamed, Mailbox, GateAt, QueueAt, IsMailbox, OneRight, Action, Answers, Fits, History, Legal, Outcome, Pair, Sound, SoundPlaces, after_pair, facts, first_mailbox, mailbox, mailbox_from}
 use Rattle.hub_core.proofs.Items.{got_there, AllByRecursion-append, AllByRecursion-weaker}
 use Rattle.hub_core.proofs.Totals.{filter_both, of_line}
 use Rattle.hub_core.proofs.MailboxShown.{view, ShownAt, Standing, standing}

@@ -1,7 +1,6 @@
 -- Who posts on a line, who may enter, and which ports are in flight.
 use Rattle.std.proofs.Common.{Bool, List, None, Option, Some, [], ap, append-nil, append_assoc, arith, cond, eqb, false, inl, inr, length, ne_eqb, not, refl, rules, subst, sym, true, ℕ, ◌&&◌, ◌++◌, ◌+◌, ◌<◌, ◌||◌, ◌∙◌, ◌∷◌, ◌≡◌, ◌≤◌, ◌⊎◌, ⊎_elim}
-use Rattle.hub_core.proofs.Words.{AgentId, AllByRecursion, CastNow, Client, EndId, EndNow, Envelope, Facts, InFlight, IsAllWaiting, IsNext, IsOfEnd, Kind, LineNow, Member, Out, Place, Port, Prefix, Sender, Sound, SoundPlaces, With, Worker, and_parts, by, eqb-true, false≢true, filter, flights, owner, owner_by, with_agent, is_free, speaker, source_for}
-use Rattle.hub_core.proofs.Words.{hears_notice, holder, is_at, is_first, is_here, is_holder, is_named, is_out, is_queue, is_released, is_some, is_with, lines_of, list_all, maker_of, may_enter, may_leave_agent, names, naming, no_end, on_line, opened, option_and_then}
+use Rattle.hub_core.proofs.Words.{AgentId, AllByRecursion, CastNow, Client, EndId, EndNow, Envelope, Facts, InFlight, IsAllWaiting, IsNext, IsOfEnd, Kind, LineNow, Member, Out, Place, Port, Prefix, Sender, Sound, SoundPlaces, With, Worker, and_parts, by, eqb-true, false≢true, filter, flights, owner, owner_by, with_agent, is_free, speaker, source_for, hears_notice, holder, is_at, is_first, is_here, is_holder, is_named, is_out, is_queue, is_released, is_some, is_with, lines_of, list_all, maker_of, may_enter, may_leave_agent, names, naming, no_end, on_line, opened, option_and_then}
 use Rattle.hub_core.proofs.Words.{or_right, peer_of, phase_of_line, place, poster, poster_of, running, total, cases_lt}
 use Rattle.hub_core.proofs.Fitting.{SweptWith}
 use Rattle.hub_core.proofs.Items.{eqb_same, at_test}

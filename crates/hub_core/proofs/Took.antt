@@ -1,7 +1,6 @@
 -- A step of the core from one value to another, and the clauses of `Core::step` that follow.
-use Rattle.std.proofs.Common.{◌<◌, length, sym, ap, subst, ◌∙◌, ◌≡◌, Some, Result, Ok, Err, refl, IfOk, ℕ, Bool, true, List, [], ◌∷◌, ◌++◌, None, inl, inr}
-use Rattle.hub_core.proofs.Words.{slice_get, Core, Member, facts, ShowsFacts, StillShows, SameContent, AgentId, Client, Worker, CoreState, core_after, queue_core, Outcome, OnErr, false≢true, EndId, member_made, is_seated, part_answer, unwrap_or, has_end}
-use Rattle.hub_core.proofs.Words.{MemberLeaves, PartLeaves, seen, Step, Action, Facts, Answers, Fits, History, InOrder, takes_memory, Shows, ShowsRoster, FitsAndShows, changes_nothing, member_answer, part_answer}
+use Rattle.std.proofs.Common.{◌<◌, length, sym, ap, subst, ◌∙◌, ◌≡◌, Some, Result, Ok, Err, refl, IfOk, MatchResult, ℕ, Bool, true, List, [], ◌∷◌, ◌++◌, None, inl, inr}
+use Rattle.hub_core.proofs.Words.{slice_get, Core, Member, facts, ShowsFacts, StillShows, SameContent, AgentId, Client, Worker, CoreState, core_after, queue_core, Outcome, OnErr, false≢true, EndId, member_made, is_seated, part_answer, unwrap_or, has_end, MemberLeaves, PartLeaves, seen, Step, Action, Facts, Answers, Fits, History, InOrder, takes_memory, Shows, ShowsRoster, FitsAndShows, changes_nothing, member_answer}
 use Rattle.hub_core.proofs.Sounds.{sound_legal}
 use Rattle.hub_core.proofs.Speakers.{kind_made}
 use Rattle.hub_core.specs.declared.step.Action.TheVariants as action
@@ -35,15 +34,6 @@ same_shown old new same = λ h shows. (
 
 -- ==== From what the parts of the core did to the clauses of a step.
 
--- two facts of what was answered Ok give a third
-pub ok_both : {E : Type 0} (r : Result Outcome E) (P Q R : Outcome → Type 0) → IfOk r P → IfOk r Q → ((o : Outcome) → P o → Q o → R o) → IfOk r R
-ok_both (Ok o) P Q R p q f = f o p q
-ok_both (Err e) P Q R p q f = tt
-
-pub ok_all : {E : Type 0} (r : Result Outcome E) (P Q : Outcome → Type 0) → IfOk r P → IfOk r Q → IfOk r (λ o. P o × Q o)
-ok_all (Ok o) P Q p q = (p, q)
-ok_all (Err e) P Q p q = tt
-
 -- ---- the queue of a client and of a worker
 
 pub client_core : (a : AgentId) (c : CoreState) (o : Outcome) → queue_core a Client c o ≡ core_after c o (action.Client a)
@@ -68,15 +58,6 @@ same_content old new same = (
   ap (λ (c : CoreState). c.ends) same,
   same_members (length old.ends) old.roster new.roster (ap (λ (c : CoreState). c.roster) same),
 )
-
--- after an error
-pub same_err : {E : Type 0} (a : Action) (r : Result Outcome E) (old new : CoreState) → takes_memory a ≡ true → OnErr r (new ≡ old) → OnErr r ((takes_memory a ≡ true) × SameContent old new)
-same_err a (Ok o) old new takes same = tt
-same_err a (Err e) old new takes same = (takes, same_content old new same)
-
-pub same_err_with : {E : Type 0} (a : Action) (r : Result Outcome E) (old new : CoreState) → takes_memory a ≡ true → OnErr r (SameContent old new) → OnErr r ((takes_memory a ≡ true) × SameContent old new)
-same_err_with a (Ok o) old new takes same = tt
-same_err_with a (Err e) old new takes same = (takes, same)
 
 -- a step by what it was answered, and what it changed
 pub took_where : (a : Action) (refused : Bool) (old new : CoreState) (o : Outcome) → new ≡ core_after old o a → ((f : Facts) → Sees old f → Answers f a refused o) → ((f : Facts) → Sees old f → Answers f a refused o → Change a o → ShownWith old f a refused o) → Took a refused old new o
@@ -137,7 +118,7 @@ part_took e refused old new o says leaves same = stayed (action.Part e) refused 
 -- ---- the clauses
 
 -- what a step that can't fail was answered
-abbrev pub ok : Outcome → Result Outcome (Unit {0})
+abbrev ok : Outcome → Result Outcome (Unit {0})
 ok o = Ok o
 
 fits_of : (step : Step) (a : Action) (old new : CoreState) (o : Outcome) → step.action ≡ a → Took a step.memory_refused old new o → FitsAndShows old new step o
@@ -150,7 +131,9 @@ fits_of step a old new o is t = λ h s.
 same_of : (step : Step) (a : Action) (old new : CoreState) (o : Outcome) → step.action ≡ a → Took a step.memory_refused old new o → changes_nothing o step.action ≡ true → SameContent old new
 same_of step a old new o is t nothing = t.same (subst (λ b. changes_nothing o b ≡ true) is nothing)
 
-pub told : {E : Type 0} (step : Step) (a : Action) (old new : CoreState) (r : Result Outcome E) → step.action ≡ a → IfOk r (Took a step.memory_refused old new) → OnErr r ((takes_memory a ≡ true) × SameContent old new) → record {
+-- what each clause says of a step that was answered so
+abbrev pub Told : {E : Type 0} → Step → CoreState → CoreState → Result Outcome E → Type 0
+Told step old new r = record {
   fits : IfOk r (FitsAndShows old new step);
   unchanged : IfOk r (λ o. changes_nothing o step.action ≡ true → SameContent old new);
   err : OnErr r (SameContent old new);
@@ -159,7 +142,9 @@ pub told : {E : Type 0} (step : Step) (a : Action) (old new : CoreState) (r : Re
   memory : OnErr r (takes_memory step.action ≡ true);
   in_order : (h : History) → Shows new h → InOrder h;
 }
-told step a old new (Ok o) is t err = record {
+
+pub told : (step : Step) (a : Action) (old new : CoreState) (o : Outcome) → step.action ≡ a → Took a step.memory_refused old new o → Told step old new (ok o)
+told step a old new o is t = record {
   fits = fits_of step a old new o is t;
   unchanged = same_of step a old new o is t;
   err = tt;
@@ -168,12 +153,16 @@ told step a old new (Ok o) is t err = record {
   memory = tt;
   in_order = shows_in_order new;
 }
-told step a old new (Err e) is t err = record {
+
+-- the same of a step that can fail for want of memory
+pub told_or : {E Q : Type 0} {P : Outcome → Type 0} (step : Step) (a : Action) (old new : CoreState) (r : Result Outcome E) → step.action ≡ a → takes_memory a ≡ true → MatchResult r P (λ _. Q) → (Q → SameContent old new) → ((o : Outcome) → P o → Took a step.memory_refused old new o) → Told step old new r
+told_or step a old new (Ok o) is takes both same took = told step a old new o is (took o both)
+told_or step a old new (Err e) is takes both same took = record {
   fits = tt;
   unchanged = tt;
-  err = err.1;
+  err = same both;
   still = tt;
-  err_still = same_shown old new err.1;
-  memory = ap takes_memory is ∙ err.0;
+  err_still = same_shown old new (same both);
+  memory = ap takes_memory is ∙ takes;
   in_order = shows_in_order new;
 }

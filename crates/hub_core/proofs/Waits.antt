@@ -1,7 +1,6 @@
 -- What waits at an end, queue by queue and line by line, and what is left where an envelope was taken out.
 use Rattle.std.proofs.Common.{◌≡◌, ℕ, ◌<◌, ◌≤◌, Bool, true, false, cond, eqb, List, [], ◌∷◌, ◌++◌, refl, sym, ap, subst, ◌∙◌, arith, rules, append-nil, append_assoc, ne_eqb, ⊎_elim, Some}
-use Rattle.hub_core.proofs.Words.{filter, AllByRecursion, eqb-true, eqb-false, nat_tests, append_cancel_left, filter-append, Envelope, by, in_queue, Prefix, Rises, cases_lt, false≢true, recursion_from_All, All-from_recursion, Queue, pop_of, popped, IsNamed, IsQueue, HoldsFirst, without_first}
-use Rattle.hub_core.proofs.Words.{taken_out}
+use Rattle.hub_core.proofs.Words.{filter, AllByRecursion, eqb-true, eqb-false, nat_tests, append_cancel_left, filter-append, Envelope, by, in_queue, Prefix, Rises, cases_lt, false≢true, recursion_from_All, All-from_recursion, Queue, pop_of, popped, IsNamed, IsQueue, HoldsFirst, without_first, taken_out}
 use Rattle.hub_core.proofs.Items.{eqb_same, AllByRecursion-append, at_test}
 
 -- ==== What waits at an end, queue by queue and line by line.

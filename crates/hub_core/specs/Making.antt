@@ -1,6 +1,6 @@
 -- What the steps of agents are answered: those that make agents and ends (WHATWG HTML, "Message channels": a new channel is
 -- two entangled ports; the limits are this project's own), those that hold lines, and those that end an agent.
-use Rattle.std.specs.Prelude.{if◌then◌else◌, ◌&&◌, ◌++◌, ◌+◌, ◌==◌, ◌||◌, ◌∷◌}
+use Rattle.std.specs.Prelude.{if◌then◌else◌, ◌&&◌, ◌++◌, ◌+◌, ◌||◌, ◌∷◌}
 use Rattle.hub_core.specs.Words.{AgentId, Bool, Client, EndId, Kind, List, MAX_AGENTS, MAX_ENDS, MAX_LINES, None, Option, Outcome, Sender, Some, Worker, [], false, is_some, nat_le, nat_lt, not, suc, true, zero, ℕ}
 use Rattle.hub_core.specs.Notions.{Facts, is_queue, lines_of}
 use Rattle.hub_core.specs.Posting.{is_holder, is_out, is_with, owner, phase_of_line}

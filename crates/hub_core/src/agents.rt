@@ -3,7 +3,7 @@
 //! an agent: its queues, and its posters that are away.
 
 ghost use Rattle.std.specs.Prelude.{◌≡◌, ◌++◌, ◌∷◌, ◌==◌, [], option_map, slice_get};
-ghost use Rattle.std.specs.Prelude.{if◌then◌else◌, IfOk, OnOk, OnErr};
+ghost use Rattle.std.specs.Prelude.{if◌then◌else◌, IfOk, MatchResult, OnOk};
 ghost use Rattle.hub_core.specs.Kept.{core_after, queue_core, one_more, set_at, gone};
 ghost use Rattle.hub_core.specs.Kept.{first_free, change_owner, counted, seen};
 ghost use Rattle.hub_core.specs.Making.{agent_answer, back_answer, channel_answer, ends_at};
@@ -28,9 +28,9 @@ impl Core {
         origin: Option<Text>,
         memory_refused: bool,
     ) -> Result<Outcome, OutOfMemory>
-        ensures outcome { IfOk result (λ o. o ≡ agent_answer (seen self.old) memory_refused) }
-        ensures new { IfOk result (λ o. self.new ≡ core_after self.old o (action.Agent origin)) }
-        ensures err { OnErr result (self.new ≡ self.old) }
+        ensures { MatchResult result (λ o. (o ≡ agent_answer (seen self.old) memory_refused)
+            × (self.new ≡ core_after self.old o (action.Agent origin)))
+            (λ _. self.new ≡ self.old) }
     {
         if memory_refused {
             return Ok(Outcome::NoMemory);
@@ -50,10 +50,10 @@ impl Core {
         agent: AgentId,
         memory_refused: bool,
     ) -> Result<Outcome, OutOfMemory>
-        ensures outcome { IfOk result (λ o. o
-            ≡ channel_answer (seen self.old) agent memory_refused) }
-        ensures new { IfOk result (λ o. self.new ≡ core_after self.old o (action.Channel agent)) }
-        ensures err { OnErr result (self.new ≡ self.old) }
+        ensures { MatchResult result (λ o. (o
+            ≡ channel_answer (seen self.old) agent memory_refused)
+            × (self.new ≡ core_after self.old o (action.Channel agent)))
+            (λ _. self.new ≡ self.old) }
     {
         if !self.is_running(agent) {
             return Ok(Outcome::NotNow);
@@ -83,11 +83,11 @@ impl Core {
         agent: AgentId,
         memory_refused: bool,
     ) -> Result<Outcome, OutOfMemory>
-        ensures outcome { let count = count_of kind (slice_get self.old.agents agent.0) in
-            IfOk result (λ o. o
-            ≡ queue_answer (count == 0) (seen self.old) agent memory_refused) }
-        ensures new { IfOk result (λ o. self.new ≡ queue_core agent kind self.old o) }
-        ensures err { OnErr result (self.new ≡ self.old) }
+        ensures { let count = count_of kind (slice_get self.old.agents agent.0) in
+            MatchResult result (λ o. (o
+            ≡ queue_answer (count == 0) (seen self.old) agent memory_refused)
+            × (self.new ≡ queue_core agent kind self.old o))
+            (λ _. self.new ≡ self.old) }
     {
         if !self.is_running(agent) || self.count_of(kind, agent) != 0 {
             return Ok(Outcome::NotNow);
@@ -109,9 +109,9 @@ impl Core {
 
     /// The agent holds the first line of a client's or worker's queue that no agent holds.
     pub(crate) fn hold(&mut self, end: EndId, agent: AgentId) -> Outcome
-        ensures outcome { let free = first_free (kept_lines (slice_get self.old.ends end.0)) in
-            result ≡ line_answer free (seen self.old) end agent }
-        ensures new { self.new ≡ core_after self.old result (action.Line end agent) }
+        ensures { let free = first_free (kept_lines (slice_get self.old.ends end.0)) in
+            (result ≡ line_answer free (seen self.old) end agent)
+            × (self.new ≡ core_after self.old result (action.Line end agent)) }
     {
         if !self.is_running(agent) {
             return Outcome::NotNow;
@@ -134,8 +134,8 @@ impl Core {
 
     /// A line that an agent holds and whose poster is out is held by none.
     pub(crate) fn give_back(&mut self, sender: Sender) -> Outcome
-        ensures outcome { result ≡ back_answer (seen self.old) sender }
-        ensures new { self.new ≡ core_after self.old result (action.Back sender) }
+        ensures { (result ≡ back_answer (seen self.old) sender)
+            × (self.new ≡ core_after self.old result (action.Back sender)) }
     {
         let found = self.line_at(sender);
         if found.held_by.is_none() || found.phase != Phase::Out {
@@ -197,8 +197,8 @@ impl Core {
     }
 
     pub(crate) fn order(&mut self, agent: AgentId) -> Outcome
-        ensures outcome { result ≡ order_answer (seen self.old) agent }
-        ensures new { self.new ≡ core_after self.old result (action.Order agent) }
+        ensures { (result ≡ order_answer (seen self.old) agent)
+            × (self.new ≡ core_after self.old result (action.Order agent)) }
     {
         let Some(found) = self.agents.get_mut(agent.0 as usize) else {
             return Outcome::NotNow;
@@ -209,10 +209,10 @@ impl Core {
 
     /// An agent looks whether it was ordered to end.
     pub(crate) fn see(&mut self, agent: AgentId) -> Result<Outcome, OutOfMemory>
-        ensures outcome { let away = kept_away (slice_get self.old.agents agent.0) in
-            IfOk result (λ o. o ≡ see_answer (away == 0) (seen self.old) agent) }
-        ensures new { IfOk result (λ o. self.new ≡ core_after self.old o (action.See agent)) }
-        ensures err { OnErr result (self.new ≡ self.old) }
+        ensures { let away = kept_away (slice_get self.old.agents agent.0) in
+            MatchResult result (λ o. (o ≡ see_answer (away == 0) (seen self.old) agent)
+            × (self.new ≡ core_after self.old o (action.See agent)))
+            (λ _. self.new ≡ self.old) }
     {
         let Some(found) = self.agent_at(agent).copied() else {
             return Ok(Outcome::NotNow);

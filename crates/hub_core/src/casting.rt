@@ -1,6 +1,6 @@
 //! Broadcast channels: Member, Cast and Part.
 
-ghost use Rattle.std.specs.Prelude.{◌≡◌, unwrap_or, List, ℕ, IfOk, IfSome, OnErr};
+ghost use Rattle.std.specs.Prelude.{◌≡◌, unwrap_or, List, ℕ, IfSome, MatchResult};
 ghost use Rattle.hub_core.specs.Casting.{member_answer, cast_answer, part_answer};
 ghost use Rattle.hub_core.specs.Kept.{member_made, seen, core_after};
 ghost use Rattle.hub_core.specs.Made.{maker_of};
@@ -26,15 +26,12 @@ impl Core {
         name: Text,
         memory_refused: bool,
     ) -> Result<Outcome, OutOfMemory>
-        ensures outcome { IfOk result (λ o. o
-            ≡ member_answer (seen self.old) agent memory_refused) }
-        ensures roster { IfOk result (λ o. MemberLeaves agent.0 name self.old.roster o
-            self.new.roster) }
-        ensures new { IfOk result (λ o. self.new ≡ record self.old {
-          ends = member_made agent self.old.ends o;
-          roster = self.new.roster;
-        }) }
-        ensures err { OnErr result (SameContent self.old self.new) }
+        ensures { MatchResult result (λ o. (o ≡ member_answer (seen self.old) agent memory_refused)
+            × MemberLeaves agent.0 name self.old.roster o self.new.roster
+            × (self.new ≡ record self.old {
+              ends = member_made agent self.old.ends o;
+              roster = self.new.roster;
+            })) (λ _. SameContent self.old self.new) }
     {
         if !self.is_running(agent) || self.roster.cast.is_some() {
             return Ok(Outcome::NotNow);
@@ -67,12 +64,11 @@ impl Core {
         ports: Items<EndId>,
         body: Body,
     ) -> Result<Outcome, OutOfMemory>
-        ensures outcome { let seated = is_seated self.old.roster.members end.0 in
+        ensures { let seated = is_seated self.old.roster.members end.0 in
             let others = kept_destinations self.old.roster.members end.0 in
-            IfOk result (λ o. o ≡ cast_answer seated others (seen self.old) end ports) }
-        ensures new { IfOk result (λ o. self.new
-            ≡ core_after self.old o (action.Cast end ports body)) }
-        ensures err { OnErr result (self.new ≡ self.old) }
+            MatchResult result (λ o. (o ≡ cast_answer seated others (seen self.old) end ports)
+            × (self.new ≡ core_after self.old o (action.Cast end ports body)))
+            (λ _. self.new ≡ self.old) }
     {
         if let Some(refusal) = self.cast_refusal(end, ports.as_slice()) {
             return Ok(refusal);
@@ -124,10 +120,10 @@ impl Core {
 
     /// A member leaves the roster.
     pub(crate) fn part(&mut self, end: EndId) -> Outcome
-        ensures outcome { result
-            ≡ part_answer (is_seated self.old.roster.members end.0) (seen self.old) }
-        ensures roster { PartLeaves end.0 self.old.roster result self.new.roster }
-        ensures rest { self.new ≡ record self.old { roster = self.new.roster } }
+        ensures { (result
+            ≡ part_answer (is_seated self.old.roster.members end.0) (seen self.old))
+            × PartLeaves end.0 self.old.roster result self.new.roster
+            × (self.new ≡ record self.old { roster = self.new.roster }) }
     {
         if self.roster.cast.is_some() || !self.roster.members.has(end.0) {
             return Outcome::NotNow;

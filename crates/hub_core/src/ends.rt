@@ -1,8 +1,8 @@
 //! Steps at ends: Start, Take, Look and Sweep of whoever takes; and Adopt, Close and Hand, which
 //! move an end or close it.
 
-ghost use Rattle.std.specs.Prelude.{◌≡◌, ◌<◌, option_and_then, option_map, slice_get, Some};
-ghost use Rattle.std.specs.Prelude.{IfOk, IfSome, OnOk, OnErr};
+ghost use Rattle.std.specs.Prelude.{◌≡◌, ◌<◌, length, option_and_then, option_map, slice_get, Some};
+ghost use Rattle.std.specs.Prelude.{IfOk, IfSome, MatchResult, OnOk, OnErr};
 ghost use Rattle.hub_envelope.specs.declared.limits.TheConstants.{MAX_MOVES};
 ghost use Rattle.hub_core.specs.Kept.{ServesAt, seen, core_after, change_at, kept_looked};
 ghost use Rattle.hub_core.specs.Kept.{is_anyone_at, sweep_outcome_at, moved_ends, ports_of};
@@ -25,8 +25,8 @@ use hub_envelope::{AgentId, EndId, Envelope, Items, LineId, MAX_MOVES, OutOfMemo
 
 impl Core {
     pub(crate) fn start(&mut self, end: EndId) -> Outcome
-        ensures outcome { result ≡ start_answer (seen self.old) end }
-        ensures new { self.new ≡ core_after self.old result (action.Start end) }
+        ensures { (result ≡ start_answer (seen self.old) end)
+            × (self.new ≡ core_after self.old result (action.Start end)) }
     {
         let at = end.0 as usize;
         let Some(found) = self.end_at(end) else {
@@ -43,9 +43,9 @@ impl Core {
     }
 
     pub(crate) fn take(&mut self, end: EndId) -> Outcome
-        ensures outcome { let Serves = ServesAt (slice_get self.old.ends end.0) in
-            FitsTake Serves (seen self.old) end result }
-        ensures new { self.new ≡ core_after self.old result (action.Take end) }
+        ensures { let Serves = ServesAt (slice_get self.old.ends end.0) in
+            FitsTake Serves (seen self.old) end result
+            × (self.new ≡ core_after self.old result (action.Take end)) }
     {
         let Some(found) = self.end_at(end) else {
             return Outcome::NotNow;
@@ -64,7 +64,8 @@ impl Core {
 
     /// Gives its agent the next envelope of an open, enabled end.
     fn serve(&mut self, end: EndId, agent: AgentId) -> Outcome
-        requires { holder (seen self.old) end.0 ≡ Some agent }
+        requires there { end.0 < length self.old.ends }
+        requires holder { holder (seen self.old) end.0 ≡ Some agent }
         ensures outcome { ServesAt (slice_get self.old.ends end.0) result }
         ensures new { self.new ≡ core_after self.old result (action.Take end) }
     {
@@ -85,13 +86,13 @@ impl Core {
 
     /// The queue that is looked at becomes clear where nobody is inside or being turned back there.
     pub(crate) fn look(&mut self, end: EndId) -> Outcome
-        ensures outcome { let found = slice_get self.old.ends end.0 in
+        ensures { let found = slice_get self.old.ends end.0 in
             let epoch = option_and_then kept_looked found in
             let looked = found_at (λ k. is_anyone_at k (kept_lines found)) epoch in
-            result ≡ look_answer looked (seen self.old) end }
-        ensures new { self.new ≡ core_after self.old result (action.Look end) }
+            (result ≡ look_answer looked (seen self.old) end)
+            × (self.new ≡ core_after self.old result (action.Look end)) }
     {
-        let Some(found) = self.ends.get_mut(end.0 as usize) else {
+        let Some(found) = self.end_at(end) else {
             return Outcome::NotNow;
         };
         if !found.is_closed && found.taker >= found.newest {
@@ -103,18 +104,18 @@ impl Core {
         if found.lines.is_anyone_at(epoch) {
             return Outcome::Busy;
         }
-        found.looked += 1;
+        self.ends[end.0 as usize].looked += 1;
         Outcome::Clear(Some(epoch))
     }
 
     /// Discards what waits at a closed end, where every queue is settled.
     pub(crate) fn sweep(&mut self, end: EndId) -> Result<Outcome, OutOfMemory>
-        ensures outcome { IfOk result (λ o. o
-            ≡ sweep_outcome_at (slice_get self.old.ends end.0)) }
-        ensures new { IfOk result (λ o. self.new ≡ core_after self.old o (action.Sweep end)) }
-        ensures err { OnErr result (self.new ≡ self.old) }
+        ensures { MatchResult result (λ o. (o
+            ≡ sweep_outcome_at (slice_get self.old.ends end.0))
+            × (self.new ≡ core_after self.old o (action.Sweep end)))
+            (λ _. self.new ≡ self.old) }
     {
-        let Some(found) = self.ends.get_mut(end.0 as usize) else {
+        let Some(found) = self.end_at(end) else {
             return Ok(Outcome::NotNow);
         };
         if !found.is_closed {
@@ -123,7 +124,8 @@ impl Core {
         if found.lines.is_anyone_from(found.looked) {
             return Ok(Outcome::Busy);
         }
-        let envelopes = found.queues.empty(self.alloc)?;
+        let swept = &mut self.ends[end.0 as usize];
+        let envelopes = swept.queues.empty(self.alloc)?;
         self.place_swept(envelopes.as_slice());
         Ok(Outcome::Discarded(envelopes))
     }
@@ -145,11 +147,10 @@ impl Core {
         agent: AgentId,
         memory_refused: bool,
     ) -> Result<Outcome, OutOfMemory>
-        ensures outcome { IfOk result (λ o. o
-            ≡ adopt_answer (seen self.old) end agent memory_refused) }
-        ensures new { IfOk result (λ o. self.new
-            ≡ core_after self.old o (action.Adopt end agent)) }
-        ensures err { OnErr result (self.new ≡ self.old) }
+        ensures { MatchResult result (λ o. (o
+            ≡ adopt_answer (seen self.old) end agent memory_refused)
+            × (self.new ≡ core_after self.old o (action.Adopt end agent)))
+            (λ _. self.new ≡ self.old) }
     {
         let is_running = self.is_running(agent);
         let Some(found) = self.end_at(end) else {
@@ -202,8 +203,8 @@ impl Core {
     }
 
     pub(crate) fn close(&mut self, end: EndId) -> Outcome
-        ensures outcome { result ≡ close_answer (seen self.old) end }
-        ensures new { self.new ≡ core_after self.old result (action.Close end) }
+        ensures { (result ≡ close_answer (seen self.old) end)
+            × (self.new ≡ core_after self.old result (action.Close end)) }
     {
         let Some(found) = self.end_at(end) else {
             return Outcome::NotNow;
@@ -248,8 +249,8 @@ impl Core {
     }
 
     pub(crate) fn hand(&mut self, end: EndId, agent: AgentId) -> Outcome
-        ensures outcome { result ≡ hand_answer (seen self.old) end agent }
-        ensures new { self.new ≡ core_after self.old result (action.Hand end agent) }
+        ensures { (result ≡ hand_answer (seen self.old) end agent)
+            × (self.new ≡ core_after self.old result (action.Hand end agent)) }
     {
         let Some(found) = self.end_at(end) else {
             return Outcome::NotNow;

@@ -2,15 +2,16 @@
 //! core may be asked.
 //!
 //! A post is the steps Enter, Push and Leave of one line. `Core::enter` (`posting.rt`) asks
-//! `Core::may_enter`; then `Core::pass_gate` answers `In`, or `Moved` at a retired queue and
-//! `Closed` at a closed end, where the poster isn't inside but has to leave as well. `Core::push`
-//! makes its tests in `Core::posting`. `Core::accept` puts the envelope in its queue (`End::put`)
-//! and its ports in flight, which is answered `Accepted`; `TooManyPorts` and `NoMemory` change
-//! nothing. `Core::leave` answers `Left`. Each of the three is answered `NotNow`, with nothing
-//! changed, where it can't be taken.
+//! `Core::may_enter`, and answers `In`, or `Moved` at a retired queue and `Closed` at a closed end,
+//! where the poster isn't inside but has to leave as well. `Core::push` makes its tests in
+//! `Core::posting`. `Core::accept` puts the envelope in its queue (`End::put`) and its ports in
+//! flight, which is answered `Accepted`; `TooManyPorts` and `NoMemory` change nothing.
+//! `Core::leave` answers `Left`. Each of the three is answered `NotNow`, with nothing changed,
+//! where it can't be taken.
 //!
 //! What a function answers is said by the definitions that a history is held to, over what the
-//! core keeps seen as facts (`seen`); what it changes is one table (`core_after`).
+//! core keeps seen as facts (`seen`); what it changes is one table (`core_after`). The two stand in
+//! one clause, since the prover takes up each clause anew at each place where a function returns.
 //!
 //! It is three steps and not one because agents on threads of their own act between them: an end
 //! may be adopted or closed while the poster is inside, whose Push may still be accepted. So a

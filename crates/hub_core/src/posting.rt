@@ -1,7 +1,7 @@
 //! A post, in three steps and what goes with them: Enter, Push, Leave, Notice and Hop.
 
 ghost use Rattle.std.specs.Prelude.{◌≡◌, ◌<◌, ◌≤◌, ◌&&◌, length, option_map, slice_get, Some};
-ghost use Rattle.std.specs.Prelude.{IfSome, IfOk, IfErr, OnOk, OnErr};
+ghost use Rattle.std.specs.Prelude.{IfSome, MatchResult, OnOk, OnErr};
 ghost use Rattle.std.specs.List.{list_all};
 ghost use Rattle.hub_core.specs.Made.{peer_of};
 ghost use Rattle.hub_core.specs.Posting.{enter_answer, is_distinct, is_fitting, is_good};
@@ -23,8 +23,8 @@ use hub_envelope::{AgentId, Body, EndId, Envelope, Items, LineId, MAX_PORTS, Out
 
 impl Core {
     pub(crate) fn enter(&mut self, sender: Sender) -> Outcome
-        ensures outcome { result ≡ enter_answer (seen self.old) sender }
-        ensures new { self.new ≡ core_after self.old result (action.Enter sender) }
+        ensures { (result ≡ enter_answer (seen self.old) sender)
+            × (self.new ≡ core_after self.old result (action.Enter sender)) }
     {
         if !self.may_enter(sender) {
             return Outcome::NotNow;
@@ -50,8 +50,8 @@ impl Core {
     }
 
     pub(crate) fn leave(&mut self, sender: Sender) -> Outcome
-        ensures outcome { result ≡ leave_answer (seen self.old) sender }
-        ensures new { self.new ≡ core_after self.old result (action.Leave sender) }
+        ensures { (result ≡ leave_answer (seen self.old) sender)
+            × (self.new ≡ core_after self.old result (action.Leave sender)) }
     {
         let found = self.line_at(sender);
         if found.phase == Phase::Out {
@@ -67,8 +67,8 @@ impl Core {
 
     /// A line that is out goes on from a retired queue to the next one.
     pub(crate) fn hop(&mut self, sender: Sender) -> Outcome
-        ensures outcome { result ≡ hop_answer (seen self.old) sender }
-        ensures new { self.new ≡ core_after self.old result (action.Hop sender) }
+        ensures { (result ≡ hop_answer (seen self.old) sender)
+            × (self.new ≡ core_after self.old result (action.Hop sender)) }
     {
         if !self.may_enter(sender) {
             return Outcome::NotNow;
@@ -100,13 +100,13 @@ impl Core {
         body: Body,
         memory_refused: bool,
     ) -> Result<Outcome, OutOfMemory>
-        ensures outcome { let n = (line_of self.old.ends sender).put in
+        ensures { let n = (line_of self.old.ends sender).put in
             let posting = may_put self.old.ends sender in
             let f = seen self.old in
-            IfOk result (λ o. o ≡ push_answer posting n f sender ports body memory_refused) }
-        ensures new { IfOk result (λ o. self.new
-            ≡ core_after self.old o (action.Push sender ports body)) }
-        ensures err { OnErr result (self.new ≡ self.old) }
+            MatchResult result
+            (λ o. (o ≡ push_answer posting n f sender ports body memory_refused)
+            × (self.new ≡ core_after self.old o (action.Push sender ports body)))
+            (λ _. self.new ≡ self.old) }
     {
         match self.posting(sender, ports.as_slice(), &body, memory_refused) {
             Ok((line, agent)) => {
@@ -146,11 +146,11 @@ impl Core {
             let posting = may_put self.now.ends sender in
             push_outcome result
             ≡ push_answer posting n (seen self.now) sender ports.now body.now memory_refused }
-        ensures few { OnOk result (length ports.now ≤ MAX_PORTS) }
-        ensures there { IfOk result (λ p. (sender.end.0 < length self.now.ends)
-            × HasQueue self.now.ends sender p.0) }
-        ensures refused { let pushing = action.Push sender ports.now body.now in
-            IfErr result (λ o. core_after self.now o pushing ≡ self.now) }
+        ensures rest { let pushing = action.Push sender ports.now body.now in
+            MatchResult result
+            (λ p. (length ports.now ≤ MAX_PORTS) × (sender.end.0 < length self.now.ends)
+            × HasQueue self.now.ends sender p.0)
+            (λ o. core_after self.now o pushing ≡ self.now) }
     {
         let Some((kind, line)) = self.posting_line(sender) else {
             return Err(Outcome::NotNow);
@@ -174,11 +174,10 @@ impl Core {
     fn posting_line(&self, sender: Sender) -> Option<(Kind, Line)>
         ensures answer { result ≡ posting_at sender (slice_get self.now.ends sender.end.0) }
         ensures there { IfSome result (λ p. (sender.end.0 < length self.now.ends)
-            × HasQueue self.now.ends sender p.1) }
-        ensures kind { IfSome result (λ p. ((seen self.now).end sender.end.0).kind ≡ Some p.0) }
-        ensures line { IfSome result (λ p. p.1 ≡ line_of self.now.ends sender) }
-        ensures seen { IfSome result (λ p. (seen self.now).line sender.end.0 sender.line.0
-            ≡ line_now (Some p.1)) }
+            × HasQueue self.now.ends sender p.1
+            × (((seen self.now).end sender.end.0).kind ≡ Some p.0)
+            × (p.1 ≡ line_of self.now.ends sender)
+            × ((seen self.now).line sender.end.0 sender.line.0 ≡ line_now (Some p.1))) }
     {
         let end = self.end_at(sender.end)?;
         let line = end.posting_line(sender.line)?;
@@ -202,12 +201,12 @@ impl Core {
         sender: Sender,
         memory_refused: bool,
     ) -> Result<Outcome, OutOfMemory>
-        ensures outcome { let n = (line_of self.old.ends sender).put in
+        ensures { let n = (line_of self.old.ends sender).put in
             let posting = may_put self.old.ends sender in
-            IfOk result (λ o. o
-            ≡ notice_answer posting n (seen self.old) sender memory_refused) }
-        ensures new { IfOk result (λ o. self.new ≡ core_after self.old o (action.Notice sender)) }
-        ensures err { OnErr result (self.new ≡ self.old) }
+            MatchResult result
+            (λ o. (o ≡ notice_answer posting n (seen self.old) sender memory_refused)
+            × (self.new ≡ core_after self.old o (action.Notice sender)))
+            (λ _. self.new ≡ self.old) }
     {
         let Some((_, line)) = self.posting_line(sender) else {
             return Ok(Outcome::NotNow);
@@ -242,10 +241,9 @@ impl Core {
         requires there { envelope.end.0 < length self.old.ends }
         requires queue { HasQueue self.old.ends
             (record { end = envelope.end; line = envelope.line }) line }
-        ensures ok { OnOk result (self.new ≡ record self.old {
+        ensures { MatchResult result (λ _. self.new ≡ record self.old {
           ends = accept_ends self.old.ends envelope;
-        }) }
-        ensures err { OnErr result (self.new ≡ self.old) }
+        }) (λ _. self.new ≡ self.old) }
     {
         if envelope.ports.as_slice().is_empty() {
             return self.put(line, envelope);

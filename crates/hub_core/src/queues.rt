@@ -1,5 +1,5 @@
 ghost use Rattle.std.specs.Prelude.{◌≡◌, ◌<◌, [], ◌∷◌, ◌++◌, length, slice_set, slice_index_or};
-ghost use Rattle.std.specs.Prelude.{drop, IfOk, OnOk, OnErr, MatchOption};
+ghost use Rattle.std.specs.Prelude.{drop, IfOk, OnOk, OnErr, MatchOption, MatchResult};
 ghost use Rattle.hub_core.specs.Kept.{joined};
 
 use hub_envelope::{Envelope, Items};
@@ -87,8 +87,8 @@ impl Queues {
 
     /// Adds an empty queue at the back.
     pub(crate) fn add(&mut self, alloc: Global) -> Result<(), AllocError>
-        ensures ok { OnOk result (self.new ≡ self.old ++ [] ∷ []) }
-        ensures err { OnErr result (self.new ≡ self.old) }
+        ensures { MatchResult result (λ _. self.new ≡ self.old ++ [] ∷ [])
+            (λ _. self.new ≡ self.old) }
     {
         self.queues.push_back(Waiting::none(alloc))?;
         Ok(())
@@ -133,9 +133,8 @@ impl Queues {
 
     /// Takes all envelopes, queue after queue, and leaves no queue.
     pub(crate) fn empty(&mut self, alloc: Global) -> Result<Items<Envelope>, AllocError>
-        ensures ok { IfOk result (λ envelopes. envelopes ≡ joined self.old) }
-        ensures none { OnOk result (self.new ≡ []) }
-        ensures err { OnErr result (self.new ≡ self.old) }
+        ensures { MatchResult result (λ envelopes. (envelopes ≡ joined self.old) × (self.new ≡ []))
+            (λ _. self.new ≡ self.old) }
     {
         let waiting = self.waiting()?;
         // There is room for all before the first one moves.

@@ -2,7 +2,7 @@
 //! names, and the cast that goes on.
 
 ghost use Rattle.std.specs.Prelude.{◌≡◌, ◌++◌, ◌∷◌, ◌<◌, [], None, slice_get, option_map, is_some};
-ghost use Rattle.std.specs.Prelude.{IfOk, OnOk, OnErr, unwrap_or};
+ghost use Rattle.std.specs.Prelude.{IfOk, MatchResult, OnOk, OnErr, unwrap_or};
 ghost use Rattle.std.specs.BTreeMap.{get};
 ghost use Rattle.hub_core.specs.KeptRoster.{group_cmp, numbers_of, numbers_in, seated_with};
 ghost use Rattle.hub_core.specs.KeptRoster.{is_seated, kept_destinations};
@@ -86,10 +86,9 @@ impl Members {
 
     /// One more agent, of this origin or of none.
     pub(crate) fn enrol(&mut self, origin: Option<Text>) -> Result<(), OutOfMemory>
-        ensures ok { OnOk result (self.new ≡ record self.old {
+        ensures { MatchResult result (λ _. self.new ≡ record self.old {
           origins = self.old.origins ++ origin ∷ [];
-        }) }
-        ensures err { OnErr result (self.new ≡ self.old) }
+        }) (λ _. self.new ≡ self.old) }
     {
         let agents = &mut self.origins;
         agents.origins.push(origin)?;
@@ -126,15 +125,17 @@ impl Members {
         number: u32,
         group: Group,
     ) -> Result<(), OutOfMemory>
-        ensures ok { OnOk result (Joins number group self.old self.new) }
-        ensures err { OnErr result (SameMembers number self.old self.new) }
+        ensures { MatchResult result (λ _. Joins number group self.old self.new)
+            (λ _. SameMembers number self.old self.new) }
     {
         self.groups.insert(number, group.clone()?)?;
-        let seated = seat(alloc, &mut self.seated, number, group);
-        if seated.is_err() {
-            self.groups.remove(&number);
+        match seat(alloc, &mut self.seated, number, group) {
+            Ok(()) => Ok(()),
+            Err(error) => {
+                self.groups.remove(&number);
+                Err(error)
+            }
         }
-        seated
     }
 
     /// The member parts, where it hasn't.
