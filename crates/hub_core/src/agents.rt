@@ -28,7 +28,8 @@ impl Core {
         origin: Option<Text>,
         memory_refused: bool,
     ) -> Result<Outcome, OutOfMemory>
-        ensures { MatchResult result (λ o. (o ≡ agent_answer (seen self.old) memory_refused)
+        ensures { MatchResult result
+            (λ o. (o ≡ agent_answer (seen self.old) memory_refused)
             × (self.new ≡ core_after self.old o (action.Agent origin)))
             (λ _. self.new ≡ self.old) }
     {
@@ -50,8 +51,8 @@ impl Core {
         agent: AgentId,
         memory_refused: bool,
     ) -> Result<Outcome, OutOfMemory>
-        ensures { MatchResult result (λ o. (o
-            ≡ channel_answer (seen self.old) agent memory_refused)
+        ensures { MatchResult result
+            (λ o. (o ≡ channel_answer (seen self.old) agent memory_refused)
             × (self.new ≡ core_after self.old o (action.Channel agent)))
             (λ _. self.new ≡ self.old) }
     {
@@ -84,8 +85,8 @@ impl Core {
         memory_refused: bool,
     ) -> Result<Outcome, OutOfMemory>
         ensures { let count = count_of kind (slice_get self.old.agents agent.0) in
-            MatchResult result (λ o. (o
-            ≡ queue_answer (count == 0) (seen self.old) agent memory_refused)
+            MatchResult result
+            (λ o. (o ≡ queue_answer (count == 0) (seen self.old) agent memory_refused)
             × (self.new ≡ queue_core agent kind self.old o))
             (λ _. self.new ≡ self.old) }
     {
@@ -210,7 +211,8 @@ impl Core {
     /// An agent looks whether it was ordered to end.
     pub(crate) fn see(&mut self, agent: AgentId) -> Result<Outcome, OutOfMemory>
         ensures { let away = kept_away (slice_get self.old.agents agent.0) in
-            MatchResult result (λ o. (o ≡ see_answer (away == 0) (seen self.old) agent)
+            MatchResult result
+            (λ o. (o ≡ see_answer (away == 0) (seen self.old) agent)
             × (self.new ≡ core_after self.old o (action.See agent)))
             (λ _. self.new ≡ self.old) }
     {

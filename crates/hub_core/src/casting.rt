@@ -26,12 +26,14 @@ impl Core {
         name: Text,
         memory_refused: bool,
     ) -> Result<Outcome, OutOfMemory>
-        ensures { MatchResult result (λ o. (o ≡ member_answer (seen self.old) agent memory_refused)
+        ensures { MatchResult result
+            (λ o. (o ≡ member_answer (seen self.old) agent memory_refused)
             × MemberLeaves agent.0 name self.old.roster o self.new.roster
             × (self.new ≡ record self.old {
               ends = member_made agent self.old.ends o;
               roster = self.new.roster;
-            })) (λ _. SameContent self.old self.new) }
+            }))
+            (λ _. SameContent self.old self.new) }
     {
         if !self.is_running(agent) || self.roster.cast.is_some() {
             return Ok(Outcome::NotNow);
@@ -66,7 +68,8 @@ impl Core {
     ) -> Result<Outcome, OutOfMemory>
         ensures { let seated = is_seated self.old.roster.members end.0 in
             let others = kept_destinations self.old.roster.members end.0 in
-            MatchResult result (λ o. (o ≡ cast_answer seated others (seen self.old) end ports)
+            MatchResult result
+            (λ o. (o ≡ cast_answer seated others (seen self.old) end ports)
             × (self.new ≡ core_after self.old o (action.Cast end ports body)))
             (λ _. self.new ≡ self.old) }
     {
@@ -120,8 +123,8 @@ impl Core {
 
     /// A member leaves the roster.
     pub(crate) fn part(&mut self, end: EndId) -> Outcome
-        ensures { (result
-            ≡ part_answer (is_seated self.old.roster.members end.0) (seen self.old))
+        ensures { let seated = is_seated self.old.roster.members end.0 in
+            (result ≡ part_answer seated (seen self.old))
             × PartLeaves end.0 self.old.roster result self.new.roster
             × (self.new ≡ record self.old { roster = self.new.roster }) }
     {

@@ -110,8 +110,8 @@ impl Core {
 
     /// Discards what waits at a closed end, where every queue is settled.
     pub(crate) fn sweep(&mut self, end: EndId) -> Result<Outcome, OutOfMemory>
-        ensures { MatchResult result (λ o. (o
-            ≡ sweep_outcome_at (slice_get self.old.ends end.0))
+        ensures { MatchResult result
+            (λ o. (o ≡ sweep_outcome_at (slice_get self.old.ends end.0))
             × (self.new ≡ core_after self.old o (action.Sweep end)))
             (λ _. self.new ≡ self.old) }
     {
@@ -147,8 +147,8 @@ impl Core {
         agent: AgentId,
         memory_refused: bool,
     ) -> Result<Outcome, OutOfMemory>
-        ensures { MatchResult result (λ o. (o
-            ≡ adopt_answer (seen self.old) end agent memory_refused)
+        ensures { MatchResult result
+            (λ o. (o ≡ adopt_answer (seen self.old) end agent memory_refused)
             × (self.new ≡ core_after self.old o (action.Adopt end agent)))
             (λ _. self.new ≡ self.old) }
     {
