@@ -1,7 +1,7 @@
 //! Steps at ends: Start, Take, Look and Sweep of whoever takes; and Adopt, Close and Hand, which
 //! move an end or close it.
 
-ghost use Rattle.std.specs.Prelude.{◌≡◌, ◌<◌, length, option_and_then, option_map, slice_get, Some};
+ghost use Rattle.std.specs.Prelude.{◌≡◌, ◌<◌, option_and_then, option_map, slice_get, Some};
 ghost use Rattle.std.specs.Prelude.{IfOk, IfSome, MatchResult, OnOk, OnErr};
 ghost use Rattle.hub_envelope.specs.declared.limits.TheConstants.{MAX_MOVES};
 ghost use Rattle.hub_core.specs.Kept.{ServesAt, seen, core_after, change_at, kept_looked};
@@ -64,8 +64,7 @@ impl Core {
 
     /// Gives its agent the next envelope of an open, enabled end.
     fn serve(&mut self, end: EndId, agent: AgentId) -> Outcome
-        requires there { end.0 < length self.old.ends }
-        requires holder { holder (seen self.old) end.0 ≡ Some agent }
+        requires { holder (seen self.old) end.0 ≡ Some agent }
         ensures outcome { ServesAt (slice_get self.old.ends end.0) result }
         ensures new { self.new ≡ core_after self.old result (action.Take end) }
     {
