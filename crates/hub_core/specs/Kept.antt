@@ -6,6 +6,7 @@ use Rattle.hub_core.specs.CoreState.{CoreState}
 use Rattle.hub_core.specs.Notions.{Facts, facts, no_roster, cast_to, cast_after, lines_of, named_envelope, named_notice}
 use Rattle.hub_core.specs.Shows.{agent_now, end_now, line_now, kept_lines}
 use Rattle.hub_core.specs.declared.outcome.Outcome.TheVariants as outcome
+use Rattle.hub_core.specs.declared.posting.Posting.{Posting}
 use Rattle.hub_core.specs.Posting.{holder, is_inside, is_out, owner}
 use Rattle.hub_core.specs.declared.step.Action.TheVariants as action
 use Rattle.hub_core.specs.Taking.{is_released}
@@ -141,8 +142,8 @@ abbrev pub HasQueue : List End → Sender → Line → Type 0
 HasQueue ends s y = IfSome (slice_get ends s.end.0) (λ x. (has_queue x y.epoch ≡ true) × (slice_get x.lines s.line.0 ≡ Some y))
 
 -- what a Push is answered, by the line on which it is put and the agent that posts
-abbrev pub push_outcome : Result (Line × AgentId) Outcome → Outcome
-push_outcome (Ok p) = outcome.Accepted (record { agent = p.1; epoch = p.0.epoch; number = p.0.put })
+abbrev pub push_outcome : Result Posting Outcome → Outcome
+push_outcome (Ok p) = outcome.Accepted (record { agent = p.agent; epoch = p.line.epoch; number = p.line.put })
 push_outcome (Err o) = o
 
 -- the ends after an envelope was put, its ports where they were

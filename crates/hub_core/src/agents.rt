@@ -201,10 +201,17 @@ impl Core {
         ensures { (result ≡ order_answer (seen self.old) agent)
             × (self.new ≡ core_after self.old result (action.Order agent)) }
     {
-        let Some(found) = self.agents.get_mut(agent.0 as usize) else {
+        let Some(found) = self.agent_at(agent).copied() else {
             return Outcome::NotNow;
         };
-        found.is_ordered = true;
+        let is_ordered = true;
+        self.set_agent(
+            agent,
+            Some(Agent {
+                is_ordered,
+                ..found
+            }),
+        );
         Outcome::Ordered
     }
 

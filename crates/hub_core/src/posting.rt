@@ -21,6 +21,13 @@ use crate::outcome::{Acceptance, Listing, Outcome};
 use crate::step::Sender;
 use hub_envelope::{AgentId, Body, EndId, Envelope, Items, LineId, MAX_PORTS, OutOfMemory, Ports};
 
+/// The line on which a message may be pushed, and the agent that posts it.
+#[derive(Clone, Copy)]
+struct Posting {
+    line: Line,
+    agent: AgentId,
+}
+
 impl Core {
     pub(crate) fn enter(&mut self, sender: Sender) -> Outcome
         ensures { (result ≡ enter_answer (seen self.old) sender)
@@ -109,7 +116,7 @@ impl Core {
             (λ _. self.new ≡ self.old) }
     {
         match self.posting(sender, ports.as_slice(), &body, memory_refused) {
-            Ok((line, agent)) => {
+            Ok(Posting { line, agent }) => {
                 let ports = Ports::of_list(ports.into_list()).unwrap();
                 let accepted = Acceptance {
                     agent,
@@ -141,7 +148,7 @@ impl Core {
         ports: &[EndId],
         body: &Body,
         memory_refused: bool,
-    ) -> Result<(Line, AgentId), Outcome>
+    ) -> Result<Posting, Outcome>
         ensures answer { let n = (line_of self.now.ends sender).put in
             let posting = may_put self.now.ends sender in
             push_outcome result
@@ -149,7 +156,7 @@ impl Core {
         ensures rest { let pushing = action.Push sender ports.now body.now in
             MatchResult result
             (λ p. (length ports.now ≤ MAX_PORTS) × (sender.end.0 < length self.now.ends)
-            × HasQueue self.now.ends sender p.0)
+            × HasQueue self.now.ends sender p.line)
             (λ o. core_after self.now o pushing ≡ self.now) }
     {
         let Some((kind, line)) = self.posting_line(sender) else {
@@ -167,7 +174,7 @@ impl Core {
         if memory_refused {
             return Err(Outcome::NoMemory);
         }
-        Ok((line, agent))
+        Ok(Posting { line, agent })
     }
 
     /// The line, where its poster is inside and no notice was put, and what its end is.
