@@ -89,6 +89,13 @@ cast_of (Ok x) source member body told outcomes old now new at is listed same wr
     (cast_entries body outcomes, subst (λ (os : List (EndId × CastOutcome)). IsCastLogged member body (cast_entries body os)) (sym listed) logged, written ∙ ap (λ (n : Notes). log_and n.log (cast_entries body outcomes)) same)
 cast_of (Err e) source member body told outcomes old now new at is listed same written = tt
 
+-- the same at the end that a member has, and of notes as they were
+pub cast_at : {X E : Type 0} (result : Result X E) (end : ℕ) (member : EndId) (body : List ℕ) (old now new : Notes) → end ≡ member.0 → old ≡ now
+    → OnOk result ((entries : List LogEntry) × IsCastLogged (record { 0 = end }) body entries × Writes entries old new) → OnOk result ((entries : List LogEntry) × IsCastLogged member body entries × Writes entries now new)
+cast_at (Ok x) end member body old now new at same (entries, logged, written) =
+    (entries, subst (λ (e : ℕ). IsCastLogged (record { 0 = e }) body entries) at logged, written ∙ ap (λ (n : Notes). log_and n.log entries) same)
+cast_at (Err e) end member body old now new at same written = tt
+
 -- one closing more
 pub doomed_more : (closings all : List Closing) (c : Closing) (before now after : Notes) → all ≡ closings ++ c ∷ [] → Writes (doomed_entries closings) before now → Writes (closing_entries c.end c.noticed) now after → Writes (doomed_entries all) before after
 doomed_more closings all c before now after is written more =

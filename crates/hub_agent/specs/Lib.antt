@@ -1,5 +1,6 @@
 pub mod Acting
 pub mod Agents
+pub mod Casting
 pub mod Entries
 pub mod Given
 pub mod Owning

@@ -9,6 +9,7 @@
 mod acting;
 mod agent;
 mod awaited;
+mod casting;
 mod ending;
 mod logging;
 mod opening;

@@ -21,9 +21,9 @@ ghost use Rattle.hub_agent.specs.Posting.{
 ghost use Rattle.hub_trace.specs.declared.log_entry.LogEntry.{LogEntry};
 
 use crate::agent::{Agent, AgentLoop};
-use crate::logging::{log_answer, log_cast};
+use crate::casting::cast_and_log;
+use crate::logging::log_answer;
 use crate::shared::Shared;
-use hub_broadcast::CastError;
 use hub_clients::DirectoryError;
 use hub_envelope::{AgentId, Body, EndId, OutOfMemory, Ports};
 use hub_loop::{Checkpoint, Held, LoopError};
@@ -260,15 +260,11 @@ impl<'s, C: Checkpoint> Agent<'s, C> {
         ensures own { OnOk result (Accounts self.old self.new) }
         ensures rest { KeepsElse self.old self.new }
     {
-        let copy = body.clone()?;
         let Some(Held::Member(source)) = self.event_loop.held(member) else {
             return Ok(());
         };
-        let yard = &self.shared.hub.yard;
-        match self.shared.roster.cast(rt, yard, source, copy, &[]) {
-            Ok(outcomes) => log_cast(&mut self.scribe, &outcomes, body),
-            Err(CastError::OutOfMemory) => Err(OutOfMemory),
-            Err(CastError::InvalidState | CastError::NotTransferable) => Ok(()),
-        }
+        let Shared { hub, roster, .. } = self.shared;
+        let mut caster = roster;
+        cast_and_log(rt, &mut caster, &hub.yard, source, body, &mut self.scribe)
     }
 }
