@@ -7,8 +7,6 @@ use Rattle.hub_core.proofs.Speakers.{placed_made, no_port, port_of, hears_of, no
 use Rattle.hub_core.proofs.Totals.{bit, total_nothing, total_past, total_same, total_change}
 use Rattle.hub_core.proofs.SoundLines.{on_place}
 
--- ==== How many queues of clients and workers an agent has: what the core counts is what the facts say.
-
 -- what the core keeps of these counts
 pub record Counted (agents : List Agent) (f : Facts) : Type 0 where
   pub queues : (j : Kind) (a : AgentId) → count_of j (slice_get agents a.0) ≡ count_with (is_queue_of j) a f

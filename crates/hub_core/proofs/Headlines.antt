@@ -16,8 +16,6 @@ use Rattle.hub_core.proofs.Frames.{ShownAt}
 use Rattle.hub_core.specs.declared.outcome.Outcome.TheVariants as outcome
 use Rattle.hub_core.specs.declared.step.Action.TheVariants as action
 
--- ==== What every legal history keeps: the headline, and the laws beside it.
-
 -- ---- a prefix of numbered envelopes is numbered
 
 get_or-up_to : (n i d : ℕ) → i < n → get_or (up_to n) i d ≡ i
@@ -184,8 +182,6 @@ same_is_joined h k l m = (
     (λ after. (legal_apart [] h g ((joined g).1 (legal_joined [] k g m after))).1),
   )),
 )
-
--- ==== What becomes of each accepted envelope of a legal history.
 
 -- ==== The names of envelopes: those of a line that is numbered are distinct, and so they tell what is left of it.
 

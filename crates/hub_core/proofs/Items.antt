@@ -2,8 +2,6 @@
 use Rattle.std.proofs.Common.{get_or, ne_eqb, ◌≡◌, ℕ, ◌<◌, ◌+◌, true, false, eqb, List, [], ◌∷◌, ◌++◌, length, length-set, set, Option, Some, zero, suc, ◌≤◌, None, refl, sym, ap, subst, ◌∙◌, inl, inr, arith, rules, Bool, length-append, ◌||◌, ⊎_elim, cond, ◌≢◌, ◌⊎◌, map}
 use Rattle.hub_core.proofs.Words.{CoreState, End, change_at, set_at, nat_tests, slice_get, AllByRecursion, slice_get_cases, Phase, Out, is_out, false≢true, cases_eq, slice_get_past, cases_lt, get_or-set_same, slice_get-get_or, get_or_from_slice_get, set-get_or, option_map, slice_get-map, slice_get_within}
 
--- ==== Lists of ends, agents, lines and envelopes: what a write leaves at each number.
-
 pub slice_get-set_same : {A : Type 0} (xs : List A) (i : ℕ) (x : A) → i < length xs → slice_get (set xs i x) i ≡ Some x
 slice_get-set_same xs i x h = slice_get-get_or (set xs i x) i x (subst (λ n. i < n) (sym (length-set xs i x)) h) ∙ ap Some (get_or-set_same xs i x x h)
 

@@ -150,8 +150,6 @@ module _ (f : Facts) (e : ℕ) (m : Mailbox OneRight) (sound : Sound f) (shown :
       at_step x.0 (λ y. finds_busy_at m (unsettled f y)) (λ y _. view f y) shown (λ there. swept_busy_at x fits there)
   goes refused o a fits made = (m, refl, shown)
 
--- ==== The mailbox of an end goes on by the events of each pair that fits.
-
 -- ==== Events of a mailbox, one after another: what they lead to is one, and they keep its queues in order.
 
 -- ---- what an event leads to is one

@@ -168,8 +168,6 @@ new_kept {R = R} end rights = record {
   nothing_got_while_open = λ k last g q newest there shut found later. only new_queue (λ _ u. u.got ≡ []) refl k q found;
 }
 
--- ==== Each event keeps what a mailbox promises.
-
 -- ==== What was taken out of the queues of a mailbox is a prefix of what was put there.
 
 -- what was taken and what was put, joined over the queues

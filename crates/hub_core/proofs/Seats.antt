@@ -4,8 +4,6 @@ use Rattle.hub_core.proofs.Words.{bytes_eq, ◌==◌, IsSome, nat_tests, BTreeMa
 use Rattle.std.specs.BTreeMap as tree
 use Rattle.hub_core.proofs.Items.{AllByRecursion-append, at_test}
 
--- ==== The seats of the members of each group.
-
 is_eq-nat_cmp : (a b : ℕ) → is_eq (nat_cmp a b) ≡ (a == b)
 is_eq-nat_cmp a b = grind (arith, nat_tests)
 

@@ -32,10 +32,6 @@ same_shown old new same = λ h shows. (
   shows.2,
 )
 
--- ==== From what the parts of the core did to the clauses of a step.
-
--- ---- the queue of a client and of a worker
-
 pub client_core : (a : AgentId) (c : CoreState) (o : Outcome) → queue_core a Client c o ≡ core_after c o (action.Client a)
 client_core a c (outcome.Clear (Some k)) = refl
 client_core a c _ = refl
@@ -43,8 +39,6 @@ client_core a c _ = refl
 pub worker_core : (a : AgentId) (c : CoreState) (o : Outcome) → queue_core a Worker c o ≡ core_after c o (action.Worker a)
 worker_core a c (outcome.Clear (Some k)) = refl
 worker_core a c _ = refl
-
--- ==== A step of the core from one value to another, and the clauses of `Core::step` that follow.
 
 -- After all that the old core shows the step got an answer that fits, and the new core shows what is so then; where
 -- the answer says that nothing changed all is as before.
@@ -77,8 +71,6 @@ pub took_by : (a : Action) (refused : Bool) (old new : CoreState) (o : Outcome) 
 took_by a refused old new o leaves kept fits changes = took_where a refused old new o leaves fits (λ f h fit change.
     let after = changes f h fit change in
     (after.0, subst (λ r. ShowsRoster r (next f a o)) (sym after.1) (shows_still old.roster f (next f a o) h.roster (stays f a refused o h.shows.sound fit kept))))
-
--- ---- steps that change the roster
 
 -- a step that changed nothing
 stayed : (a : Action) (refused : Bool) (old new : CoreState) (o : Outcome) → new ≡ record old { roster = new.roster } → new.roster ≡ old.roster → ((f : Facts) → next f a o ≡ f) → ((f : Facts) → Sees old f → Answers f a refused o) → Took a refused old new o
@@ -115,8 +107,6 @@ part_took e refused old new (outcome.Clear None) says leaves same = stayed (acti
 part_took e refused old new (outcome.Clear (Some k)) says leaves same = stayed (action.Part e) refused old new (outcome.Clear (Some k)) same leaves (λ f. refl) (λ f h. says ∙ part_answered e h)
 part_took e refused old new o says leaves same = stayed (action.Part e) refused old new o same leaves (λ f. refl) (λ f h. says ∙ part_answered e h)
 
--- ---- the clauses
-
 -- what a step that can't fail was answered
 abbrev ok : Outcome → Result Outcome (Unit {0})
 ok o = Ok o
@@ -131,9 +121,20 @@ fits_of step a old new o is t = λ h s.
 same_of : (step : Step) (a : Action) (old new : CoreState) (o : Outcome) → step.action ≡ a → Took a step.memory_refused old new o → changes_nothing o step.action ≡ true → SameContent old new
 same_of step a old new o is t nothing = t.same (subst (λ b. changes_nothing o b ≡ true) is nothing)
 
--- what each clause says of a step that was answered so
-abbrev pub Told : {E : Type 0} → Step → CoreState → CoreState → Result Outcome E → Type 0
-Told step old new r = record {
+-- an action did what a step has to do
+abbrev pub Acted : {E : Type 0} → Step → CoreState → CoreState → Result Outcome E → Type 0
+Acted step old new r = MatchResult r (λ o. FitsAndShows old new step o × (changes_nothing o step.action ≡ true → SameContent old new)) (λ _. SameContent old new × (takes_memory step.action ≡ true))
+
+pub told : (step : Step) (a : Action) (old new : CoreState) (o : Outcome) → step.action ≡ a → Took a step.memory_refused old new o → Acted step old new (ok o)
+told step a old new o is t = (fits_of step a old new o is t, same_of step a old new o is t)
+
+-- the same of one that can fail for want of memory
+pub told_or : {E Q : Type 0} {P : Outcome → Type 0} (step : Step) (a : Action) (old new : CoreState) (r : Result Outcome E) → step.action ≡ a → takes_memory a ≡ true → MatchResult r P (λ _. Q) → (Q → SameContent old new) → ((o : Outcome) → P o → Took a step.memory_refused old new o) → Acted step old new r
+told_or step a old new (Ok o) is takes both same took = told step a old new o is (took o both)
+told_or step a old new (Err e) is takes both same took = (same both, ap takes_memory is ∙ takes)
+
+-- what each clause of a step then says
+pub step_told : {E : Type 0} (step : Step) (old new : CoreState) (r : Result Outcome E) → Acted step old new r → record {
   fits : IfOk r (FitsAndShows old new step);
   unchanged : IfOk r (λ o. changes_nothing o step.action ≡ true → SameContent old new);
   err : OnErr r (SameContent old new);
@@ -142,27 +143,21 @@ Told step old new r = record {
   memory : OnErr r (takes_memory step.action ≡ true);
   in_order : (h : History) → Shows new h → InOrder h;
 }
-
-pub told : (step : Step) (a : Action) (old new : CoreState) (o : Outcome) → step.action ≡ a → Took a step.memory_refused old new o → Told step old new (ok o)
-told step a old new o is t = record {
-  fits = fits_of step a old new o is t;
-  unchanged = same_of step a old new o is t;
+step_told step old new (Ok o) (fits, same) = record {
+  fits = fits;
+  unchanged = same;
   err = tt;
-  still = λ nothing. same_shown old new (same_of step a old new o is t nothing);
+  still = λ nothing. same_shown old new (same nothing);
   err_still = tt;
   memory = tt;
   in_order = shows_in_order new;
 }
-
--- the same of a step that can fail for want of memory
-pub told_or : {E Q : Type 0} {P : Outcome → Type 0} (step : Step) (a : Action) (old new : CoreState) (r : Result Outcome E) → step.action ≡ a → takes_memory a ≡ true → MatchResult r P (λ _. Q) → (Q → SameContent old new) → ((o : Outcome) → P o → Took a step.memory_refused old new o) → Told step old new r
-told_or step a old new (Ok o) is takes both same took = told step a old new o is (took o both)
-told_or step a old new (Err e) is takes both same took = record {
+step_told step old new (Err e) (same, takes) = record {
   fits = tt;
   unchanged = tt;
-  err = same both;
+  err = same;
   still = tt;
-  err_still = same_shown old new (same both);
-  memory = ap takes_memory is ∙ takes;
+  err_still = same_shown old new same;
+  memory = takes;
   in_order = shows_in_order new;
 }

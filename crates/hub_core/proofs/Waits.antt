@@ -3,8 +3,6 @@ use Rattle.std.proofs.Common.{◌≡◌, ℕ, ◌<◌, ◌≤◌, Bool, true, fa
 use Rattle.hub_core.proofs.Words.{filter, AllByRecursion, eqb-true, eqb-false, nat_tests, append_cancel_left, filter-append, Envelope, by, in_queue, Prefix, Rises, cases_lt, false≢true, recursion_from_All, All-from_recursion, Queue, pop_of, popped, IsNamed, IsQueue, HoldsFirst, without_first, taken_out}
 use Rattle.hub_core.proofs.Items.{eqb_same, AllByRecursion-append, at_test}
 
--- ==== What waits at an end, queue by queue and line by line.
-
 -- ---- filters
 
 pub all_kept : {A : Type 0} (P : A → Type 0) (q : A → Bool) (xs : List A) → AllByRecursion P xs → AllByRecursion P (filter q xs)

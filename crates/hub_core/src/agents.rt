@@ -279,8 +279,8 @@ impl Core {
         let Some(agent) = owner else {
             return;
         };
-        if let Some(found) = self.agents.get_mut(agent.0 as usize) {
-            *found = found.counted(phase);
+        if let Some(found) = self.agent_at(agent).copied() {
+            self.set_agent(agent, Some(found.counted(phase)));
         }
     }
 }

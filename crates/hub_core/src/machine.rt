@@ -17,7 +17,7 @@
 //! may be adopted or closed while the poster is inside, whose Push may still be accepted. So a
 //! Look, a Sweep, and a Take at a retired queue with nothing left are `Busy` while it is there.
 
-ghost use Rattle.std.specs.Prelude.{◌≡◌, [], true, option_map, slice_get, Some, IfOk, OnErr};
+ghost use Rattle.std.specs.Prelude.{◌≡◌, [], true, option_map, slice_get, Some, IfOk, OnErr, MatchResult};
 ghost use Rattle.hub_core.specs.Posting.{holder, poster, poster_of, is_here, hears_notice};
 ghost use Rattle.hub_core.specs.Posting.{may_enter, may_post, listing, owner_by, running, speaker};
 ghost use Rattle.hub_core.specs.Facts.{facts};
@@ -106,6 +106,16 @@ impl Core {
         ensures memory { OnErr result (takes_memory step.action ≡ true) }
         // What was taken is in order of acceptance, queue by queue, also between lines.
         ensures in_order { (h : History) → Shows self.new h → InOrder h }
+    {
+        self.act(step)
+    }
+
+    // What each action of a step does.
+    #[inline(always)]
+    fn act(&mut self, step: Step) -> Result<Outcome, OutOfMemory>
+        ensures { MatchResult result (λ o. FitsAndShows self.old self.new step o
+            × (changes_nothing o step.action ≡ true → SameContent self.old self.new))
+            (λ _. SameContent self.old self.new × (takes_memory step.action ≡ true)) }
     {
         let Step {
             action,
