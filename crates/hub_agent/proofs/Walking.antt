@@ -15,6 +15,8 @@ use Rattle.hub_envelope.specs.declared.ids.AgentId.{AgentId}
 use Rattle.hub_envelope.specs.declared.limits.TheConstants.{MAX_ENDS}
 use Rattle.hub_envelope.specs.declared.posted.Posted.{Posted}
 use Rattle.hub_loop.specs.declared.closed_port.ClosedPort.{ClosedPort}
+use Rattle.hub_loop.specs.Looking.{Holds}
+use Rattle.hub_loop.specs.declared.held.Held.TheVariants.{Member}
 use Rattle.hub_ports.specs.Closing.{AreDoomed}
 use Rattle.hub_ports.specs.Seats.{PortSeat, ends_of}
 use Rattle.hub_ports.specs.Sending.{IsSent}
@@ -27,6 +29,8 @@ use Rattle.hub_queue.specs.Standing.{StandSeat}
 use Rattle.hub_trace.specs.Accepted.{message_at}
 use Rattle.hub_trace.specs.declared.log_entry.LogEntry.{LogEntry}
 use Rattle.hub_trace.specs.declared.log_entry.LogEntry.TheVariants.{Put, Adopted}
+use Rattle.hub_agent.specs.Agents.{AgentState, CastsFrom}
+use Rattle.hub_agent.specs.Casting.{HasCast}
 use Rattle.hub_agent.specs.Entries.{AreAdoptions, AreClosings, IsCastLogged, IsCloseLogged, IsClosing, IsPostLogged, Writes, answer_entries, cast_entries, closed_entries, closing_entries, doomed_entries, log_and, outcome_entries}
 use Rattle.hub_agent.proofs.Writing.{writes_both, writes_same}
 
@@ -95,6 +99,13 @@ pub cast_at : {X E : Type 0} (result : Result X E) (end : ℕ) (member : EndId) 
 cast_at (Ok x) end member body old now new at same (entries, logged, written) =
     (entries, subst (λ (e : ℕ). IsCastLogged (record { 0 = e }) body entries) at logged, written ∙ ap (λ (n : Notes). log_and n.log entries) same)
 cast_at (Err e) end member body old now new at same written = tt
+
+-- the cast of a member that is held
+pub cast_from : {X E : Type 0} (result : Result X E) (end : EndId) (body : List ℕ) (inside before now : AgentState) (member : MemberSeat) → inside ≡ before → Holds inside.ends (Member member) → member.taker.end ≡ end.0
+    → OnOk result (HasCast inside.roster now.roster member body inside.notes now.notes) → OnOk result (CastsFrom end body before now)
+cast_from (Ok x) end body inside before now member same held at cast =
+    inr (member, subst (λ (a : AgentState). Holds a.ends (Member member)) same held, at, subst (λ (a : AgentState). HasCast a.roster now.roster member body a.notes now.notes) same cast)
+cast_from (Err e) end body inside before now member same held at cast = tt
 
 -- one closing more
 pub doomed_more : (closings all : List Closing) (c : Closing) (before now after : Notes) → all ≡ closings ++ c ∷ [] → Writes (doomed_entries closings) before now → Writes (closing_entries c.end c.noticed) now after → Writes (doomed_entries all) before after

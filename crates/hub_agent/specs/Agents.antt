@@ -1,7 +1,7 @@
 -- An agent of a run, as its own calls see it, and what an action changes of it beside its log.
 use Rattle.std.specs.Prelude.{◌≡◌, ◌⊎◌, ◌+◌, ℕ, Bool, true, List, Option, Some, None, option_map, slice_get, slice_set}
 use Rattle.slab.specs.Slab.{Slab}
-use Rattle.hub_broadcast.specs.Members.{MemberSeat}
+use Rattle.hub_broadcast.specs.Members.{MemberSeat, SubscriptionSeat}
 use Rattle.hub_envelope.specs.declared.ids.EndId.{EndId}
 use Rattle.hub_life.specs.Course.{after}
 use Rattle.hub_life.specs.Lifecycle.{Progress}
@@ -11,10 +11,11 @@ use Rattle.hub_loop.specs.declared.held.Held.{Held}
 use Rattle.hub_loop.specs.declared.held.Held.TheVariants.{Port, Member}
 use Rattle.hub_loop.specs.Adopting.{HoldsMore}
 use Rattle.hub_loop.specs.Holding.{end_held}
-use Rattle.hub_loop.specs.Looking.{Holds, HoldsNoEnd, HoldsNoPort}
+use Rattle.hub_loop.specs.Looking.{Holds, HoldsNoEnd, HoldsNoMember, HoldsNoPort}
 use Rattle.hub_loop.specs.Starting.{StartsClient, StartsPort}
 use Rattle.hub_loop.specs.States.{DeliveryState}
 use Rattle.hub_ports.specs.Seats.{PortSeat, end_of}
+use Rattle.hub_agent.specs.Casting.{HasCast}
 use Rattle.hub_agent.specs.declared.peer.Peer.{Peer}
 use Rattle.hub_agent.specs.declared.posting.Way.TheVariants as way
 use Rattle.hub_agent.specs.Posting.{PostsOver, SendsTo}
@@ -22,7 +23,7 @@ use Rattle.hub_script.specs.declared.action.ActionKind.{ActionKind}
 use Rattle.hub_script.specs.declared.action.ActionKind.TheVariants.{Post, Send, Cast, Start, Loaded, Close, Order, Event, Hand}
 
 -- its notes, the ends and lines that its loop holds, the delivery that it kept for want of memory, its seat at the word of its order,
--- what it has of all agents by number, and the life of a worker
+-- what it has of all agents by number, the life of a worker, and the roster over which it casts, where that is shown
 pub record AgentState : Type 0 where
   pub notes : Notes
   pub ends : Slab Held
@@ -30,6 +31,7 @@ pub record AgentState : Type 0 where
   pub order : OrderSeat
   pub peers : List Peer
   pub life : Option Progress
+  pub roster : Option (List SubscriptionSeat)
 
 -- the agent is woken
 abbrev pub woken : Peer → Peer
@@ -59,6 +61,10 @@ KeepsButTurns before now = now ≡ record before { notes = now.notes; ends = now
 abbrev pub KeepsButNotes : AgentState → AgentState → Type 0
 KeepsButNotes before now = now ≡ record before { notes = now.notes }
 
+-- Nothing has changed but its notes and the roster over which it casts.
+abbrev pub KeepsButCasts : AgentState → AgentState → Type 0
+KeepsButCasts before now = now ≡ record before { notes = now.notes; roster = now.roster }
+
 -- Nothing but what its loop holds has changed.
 abbrev pub KeepsButEnds : AgentState → AgentState → Type 0
 KeepsButEnds before now = now ≡ record before { ends = now.ends }
@@ -67,13 +73,12 @@ KeepsButEnds before now = now ≡ record before { ends = now.ends }
 abbrev pub HoldsPort : AgentState → EndId → Type 0
 HoldsPort a end = (port : PortSeat) × Holds a.ends (Port port) × (end_of port ≡ end)
 
--- its loop holds the member of this number
-abbrev pub HoldsMember : AgentState → EndId → Type 0
-HoldsMember a end = (member : MemberSeat) × Holds a.ends (Member member) × (member.taker.end ≡ end.0)
-
--- nothing was written
-abbrev pub IsUnwritten : AgentState → AgentState → Type 0
-IsUnwritten before now = now.notes ≡ before.notes
+-- Its member of this number has cast the body, which is written; where it holds no such member nothing has changed.
+abbrev pub CastsFrom : EndId → List ℕ → AgentState → AgentState → Type 0
+CastsFrom end body before now =
+    (HoldsNoMember before.ends end × (now ≡ before))
+    ⊎ ((member : MemberSeat) × Holds before.ends (Member member) × (member.taker.end ≡ end.0)
+    × HasCast before.roster now.roster member body before.notes now.notes)
 
 -- The port of this number was started, or else the client's queue of this number; where neither is held nothing has changed.
 abbrev pub StartsEnd : EndId → AgentState → AgentState → Type 0
@@ -98,15 +103,15 @@ LooksFor before seen now =
     (seen ≡ knows now.order) × (now ≡ record before { order = record before.order { looks = before.order.looks + 1; found = seen } })
 
 -- What an action changes of the agent beside its log, and what it does at the ends that the loop holds. A post or a send posts over the
--- port or the line that it names, and its answer is written; a cast writes nothing unless its member is held. A start or a loaded
--- enables what it names, a close takes out the end that it names. An order goes to the agent that it names, an event to the agent's own
--- life, and a hand wakes the agent that it names where the queue was handed.
+-- port or the line that it names, and its answer is written; a cast is one over the roster, from the member that it names. A start or a
+-- loaded enables what it names, a close takes out the end that it names. An order goes to the agent that it names, an event to the
+-- agent's own life, and a hand wakes the agent that it names where the queue was handed.
 abbrev pub Changes : ActionKind → AgentState → AgentState → Type 0
 Changes (Post port body transfer) before now =
     KeepsElse before now × PostsOver (way.Port port) transfer body before.ends now.ends before.notes now.notes
 Changes (Send queue body transfer) before now =
     KeepsElse before now × SendsTo queue transfer body before.ends now.ends before.notes now.notes
-Changes (Cast member body) before now = KeepsElse before now × (IsUnwritten before now ⊎ HoldsMember before member)
+Changes (Cast member body) before now = KeepsButCasts before now × CastsFrom member body before now
 Changes (Start end) before now = StartsEnd end before now
 Changes (Loaded queue) before now = StartsQueue queue before now
 Changes (Close end) before now = KeepsElse before now × ClosesHeld end before now

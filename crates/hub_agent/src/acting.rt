@@ -22,6 +22,7 @@ ghost use Rattle.hub_trace.specs.declared.log_entry.LogEntry.{LogEntry};
 
 use crate::agent::Agent;
 use crate::awaited::Awaited;
+use crate::casting::Casts;
 use crate::logging::log_closed_end;
 use crate::peer::{Peer, order_all};
 use crate::posting::Way;
@@ -91,7 +92,7 @@ fn wake(peers: &mut Vec<Peer>, agent: AgentId)
     }
 }
 
-impl<'s, C: Checkpoint> Agent<'s, C> {
+impl<'s, C: Checkpoint, K: Casts + Drop> Agent<'s, C, K> {
     /// Does its actions. Where memory runs out all agents are ordered to end, so that none waits
     /// for this one.
     pub(crate) fn act_or_order<R: Wait>(
@@ -163,7 +164,7 @@ impl<'s, C: Checkpoint> Agent<'s, C> {
 }
 
 // It looks for the order at a seat of its own.
-impl<'s, C: Checkpoint> Actor for Agent<'s, C> {
+impl<'s, C: Checkpoint, K: Casts + Drop> Actor for Agent<'s, C, K> {
     ghost use Rattle.hub_agent.specs.Acting.{Acts};
     ghost use Rattle.hub_agent.specs.Agents.{LooksFor};
 

@@ -17,6 +17,7 @@ ghost use Rattle.hub_trace.specs.declared.limits.TheConstants.{MAX_AGENT};
 ghost use Rattle.hub_trace.specs.declared.log_entry.LogEntry.{LogEntry};
 
 use crate::awaited::Awaited;
+use crate::casting::Casts;
 use crate::ending::finish_loop;
 use crate::logging::{epoch_of, log_adopted};
 use crate::peer::{Peer, order_all};
@@ -46,10 +47,12 @@ pub struct AgentRun {
 /// The loop of an agent of a run.
 pub(crate) type AgentLoop<'s, C> = EventLoop<Scribe, &'s C>;
 
-/// An agent of a run.
-pub struct Agent<'s, C: Checkpoint> {
+/// An agent of a run, over whoever casts for it.
+pub struct Agent<'s, C: Checkpoint, K: Casts + Drop> {
     pub(crate) alloc: Global,
     pub(crate) shared: &'s Shared,
+    /// The roster over which it casts.
+    pub(crate) caster: K,
     pub(crate) event_loop: AgentLoop<'s, C>,
     /// Keeps its log. The loop has it in a turn alone, as its handler.
     pub(crate) scribe: Scribe,
@@ -64,11 +67,12 @@ pub struct Agent<'s, C: Checkpoint> {
 }
 
 // By hand, so that whoever drops one makes one call, and its proof has no cases of its fields.
-impl<'s, C: Checkpoint> Drop for Agent<'s, C> {
+impl<'s, C: Checkpoint, K: Casts + Drop> Drop for Agent<'s, C, K> {
     fn drop(self) {
         let Agent {
             alloc: _,
             shared: _,
+            caster,
             event_loop,
             scribe,
             order,
@@ -76,6 +80,7 @@ impl<'s, C: Checkpoint> Drop for Agent<'s, C> {
             life: _,
             graves,
         } = self;
+        drop(caster);
         drop(event_loop);
         drop(scribe);
         drop(order);
@@ -84,7 +89,7 @@ impl<'s, C: Checkpoint> Drop for Agent<'s, C> {
     }
 }
 
-impl<'s, C: Checkpoint> Model for Agent<'s, C> {
+impl<'s, C: Checkpoint, K: Casts + Drop> Model for Agent<'s, C, K> {
     ghost use Rattle.hub_agent.specs.Agents.{AgentState};
 
     ghost Value = { AgentState };
@@ -96,6 +101,7 @@ impl<'s, C: Checkpoint> Model for Agent<'s, C> {
       order = a.order;
       peers = a.peers.items;
       life = a.life;
+      roster = K.shown a.caster;
     } };
 }
 
@@ -114,7 +120,7 @@ fn log_all_adopted<C: Checkpoint>(
     Ok(())
 }
 
-impl<'s, C: Checkpoint> Agent<'s, C> {
+impl<'s, C: Checkpoint, K: Casts + Drop> Agent<'s, C, K> {
     /// Does the actions of the agent of that number, ends the loop, and answers the log and how
     /// far it came. Where memory runs out all agents are ordered to end, so that none waits for
     /// this one.
@@ -147,6 +153,7 @@ impl<'s, C: Checkpoint> Agent<'s, C> {
         let Agent {
             alloc,
             shared,
+            caster: _,
             event_loop,
             scribe,
             order: _,

@@ -6,7 +6,6 @@ ghost use Rattle.hub_broadcast.specs.Lending.{IsDoneIn};
 ghost use Rattle.hub_broadcast.specs.Members.{SubscriptionSeat};
 ghost use Rattle.hub_agent.specs.Casting.{HasCast};
 ghost use Rattle.hub_agent.specs.Entries.{IsCastLogged, Writes};
-ghost use Rattle.hub_envelope.specs.declared.ids.EndId.{EndId as EndIdValue};
 ghost use Rattle.hub_trace.specs.declared.log_entry.LogEntry.{LogEntry};
 
 use crate::logging::log_cast;
@@ -21,7 +20,7 @@ use std::sync::Wait;
 ///
 /// What an agent does with a cast is proved once for a roster of one's own, where the contract is
 /// exact, and for the one that threads share.
-pub(crate) trait Casts {
+pub trait Casts {
     /// The members, or `None` where other threads may change them at any moment.
     ghost shown: { Self → Option (List SubscriptionSeat) };
 

@@ -5,6 +5,7 @@ ghost use Rattle.hub_agent.specs.Agents.{KeepsButEnds};
 ghost use Rattle.hub_loop.specs.Adopting.{HoldsMore};
 
 use crate::agent::Agent;
+use crate::casting::Casts;
 use crate::peer::Peer;
 use crate::shared::Shared;
 use hub_envelope::{AgentId, OutOfMemory};
@@ -39,19 +40,21 @@ fn life_of(kind: AgentKind) -> Option<Life> {
     }
 }
 
-impl<'s, C: Checkpoint> Agent<'s, C> {
-    /// An agent that holds nothing yet.
+impl<'s, C: Checkpoint, K: Casts + Drop> Agent<'s, C, K> {
+    /// An agent that holds nothing yet, and casts over this roster.
     pub fn open(
         alloc: Global,
         kind: AgentKind,
         shared: &'s Shared,
+        caster: K,
         checkpoint: &'s C,
         seat: Seat,
-    ) -> Result<Agent<'s, C>, OutOfMemory>
+    ) -> Result<Agent<'s, C, K>, OutOfMemory>
         ensures nothing { IfOk result (λ opened. opened.ends.slots ≡ []) }
         ensures kept { IfOk result (λ opened. opened.kept ≡ None) }
         ensures order { IfOk result (λ opened. opened.order ≡ seat.for_agent) }
         ensures peers { IfOk result (λ opened. opened.peers ≡ seat.peers.items) }
+        ensures roster { IfOk result (λ opened. opened.roster ≡ K.shown caster) }
     {
         let Seat {
             number,
@@ -65,6 +68,7 @@ impl<'s, C: Checkpoint> Agent<'s, C> {
         Ok(Agent {
             alloc,
             shared,
+            caster,
             event_loop: EventLoop::open(alloc, number, for_loop, handler, checkpoint, listener)?,
             scribe,
             order: for_agent,

@@ -5,7 +5,7 @@ ghost use Rattle.hub_loop.specs.Adopting.{HoldsMore};
 ghost use Rattle.hub_loop.specs.Looking.{HoldsNoLine};
 ghost use Rattle.hub_loop.specs.declared.held.Held.TheVariants.{Port as PortHeld};
 ghost use Rattle.hub_ports.specs.Seats.{PortSeat, ends_of};
-ghost use Rattle.hub_agent.specs.Agents.{HoldsMember, IsUnwritten, KeepsButEnds, KeepsElse};
+ghost use Rattle.hub_agent.specs.Agents.{CastsFrom, KeepsButCasts, KeepsButEnds, KeepsElse};
 ghost use Rattle.hub_agent.specs.Entries.{IsCastLogged, Writes};
 ghost use Rattle.hub_agent.specs.Owning.{Accounts};
 ghost use Rattle.hub_agent.specs.Posting.{
@@ -21,7 +21,7 @@ ghost use Rattle.hub_agent.specs.Posting.{
 ghost use Rattle.hub_trace.specs.declared.log_entry.LogEntry.{LogEntry};
 
 use crate::agent::{Agent, AgentLoop};
-use crate::casting::cast_and_log;
+use crate::casting::{Casts, cast_and_log};
 use crate::logging::log_answer;
 use crate::shared::Shared;
 use hub_clients::DirectoryError;
@@ -121,7 +121,7 @@ fn bury<R: Wait>(rt: &R, shared: &Shared, graves: &mut Vec<Grave>, held: Held) {
     }
 }
 
-impl<'s, C: Checkpoint> Agent<'s, C> {
+impl<'s, C: Checkpoint, K: Casts + Drop> Agent<'s, C, K> {
     /// Holds an end or a line. Where there is no memory an end is closed, so that nobody waits for
     /// what is posted there.
     pub(crate) fn hold<R: Wait>(&mut self, rt: &R, held: Held) -> Result<(), OutOfMemory>
@@ -255,16 +255,14 @@ impl<'s, C: Checkpoint> Agent<'s, C> {
         ensures written { OnOk result ((entries : List LogEntry)
             × IsCastLogged member body.now entries
             × Writes entries self.old.notes self.new.notes) }
-        ensures held { OnOk result (IsUnwritten self.old self.new
-            ⊎ HoldsMember self.old member) }
+        ensures cast { OnOk result (CastsFrom member body.now self.old self.new) }
         ensures own { OnOk result (Accounts self.old self.new) }
-        ensures rest { KeepsElse self.old self.new }
+        ensures rest { KeepsButCasts self.old self.new }
     {
-        let Some(Held::Member(source)) = self.event_loop.held(member) else {
+        let Some(source) = self.event_loop.member(member) else {
             return Ok(());
         };
-        let Shared { hub, roster, .. } = self.shared;
-        let mut caster = roster;
-        cast_and_log(rt, &mut caster, &hub.yard, source, body, &mut self.scribe)
+        let yard = &self.shared.hub.yard;
+        cast_and_log(rt, &mut self.caster, yard, source, body, &mut self.scribe)
     }
 }

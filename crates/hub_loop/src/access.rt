@@ -155,6 +155,19 @@ impl<H: Handler + Drop, C: Checkpoint + Drop> EventLoop<H, C> {
         replace(&mut self.handler, handler)
     }
 
+    /// Shows the member of this number. `None` where the loop doesn't hold it.
+    pub fn member(&self, end: EndId) -> Option<&Member>
+        ensures some { IfSome result (λ member. Holds self.now.holding.held (MemberHeld member.now)
+            × (member.now.taker.end ≡ end.0)) }
+        ensures none { IfNone result (HoldsNoMember self.now.holding.held end) }
+    {
+        let key = self.holding.ends.find_end(Kind::Member, end)?;
+        match self.holding.ends.held.get(key)? {
+            Held::Member(member) => Some(member),
+            _ => None,
+        }
+    }
+
     /// Shows the port, queue or member of this number. `None` where the loop doesn't hold it.
     pub fn held(&self, end: EndId) -> Option<&Held>
         ensures some { IfSome result (λ held. Holds self.now.holding.held held.now

@@ -47,9 +47,12 @@ struct Seats {
     bells: Vec<Bell>,
 }
 
+/// An agent of a run, which casts over the roster that all of them share.
+pub(crate) type RunAgent<'s, C> = Agent<'s, C, &'s SharedRoster>;
+
 /// The agents of a run before it begins.
 pub(crate) struct Made<'s, C: Checkpoint> {
-    pub(crate) agents: Vec<Agent<'s, C>>,
+    pub(crate) agents: Vec<RunAgent<'s, C>>,
     bells: Vec<Bell>,
     ends: Ends,
 }
@@ -214,7 +217,7 @@ fn make_member<R: Wait>(
 
 impl<'s, C: Checkpoint> Made<'s, C> {
     /// The agents.
-    pub(crate) fn into_agents(self) -> Vec<Agent<'s, C>>
+    pub(crate) fn into_agents(self) -> Vec<RunAgent<'s, C>>
         ensures { result ≡ self.entry.agents }
     {
         let Made {
@@ -255,7 +258,7 @@ impl<'s, C: Checkpoint> Made<'s, C> {
         let mut agents = Vec::new(alloc);
         for seat in seats {
             let kind = declared[agents.len()].kind;
-            let agent = Agent::open(alloc, kind, shared, checkpoint, seat)?;
+            let agent = Agent::open(alloc, kind, shared, &shared.roster, checkpoint, seat)?;
             push(&mut agents, agent)?;
         }
         Ok(Made {

@@ -11,8 +11,8 @@ ghost use Rattle.hub_script.specs.Contents.{agents};
 ghost use Rattle.hub_trace.specs.declared.limits.TheConstants.{MAX_AGENT};
 
 use crate::growing::push;
-use crate::making::Made;
-use hub_agent::{Acted, Agent, AgentRun, Shared};
+use crate::making::{Made, RunAgent};
+use hub_agent::{Acted, AgentRun, Shared};
 use hub_envelope::{AgentId, OutOfMemory};
 use hub_loop::Checkpoint;
 use hub_script::Script;
@@ -62,7 +62,7 @@ fn start_all<'s, E, C: Checkpoint + Sync, R: Threads + Wait + Sync>(
     rt: &'s R,
     begun: &'s OnceLock<bool>,
     script: &'s Script,
-    agents: Vec<Agent<'s, C>>,
+    agents: Vec<RunAgent<'s, C>>,
 ) -> Result<Vec<Handle<'s>>, OutOfMemory>
     requires few { vec_len agents ≤ MAX_AGENTS }
     requires given { AreGiven script.now agents.items }
