@@ -1,6 +1,6 @@
 //! The actions that post: at a port, at a queue, from a broadcast member.
 
-ghost use Rattle.std.specs.Prelude.{◌≡◌, ◌≢◌, ◌⊎◌, List, false, IfErr, IfOk, IfSome, IfNone, OnOk};
+ghost use Rattle.std.specs.Prelude.{◌≡◌, ◌≢◌, List, false, IfErr, IfOk, IfSome, IfNone, OnOk};
 ghost use Rattle.hub_loop.specs.Adopting.{HoldsMore};
 ghost use Rattle.hub_loop.specs.Looking.{HoldsNoLine};
 ghost use Rattle.hub_loop.specs.declared.held.Held.TheVariants.{Port as PortHeld};

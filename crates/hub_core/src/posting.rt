@@ -51,8 +51,9 @@ impl Core {
             (Phase::Inside, Outcome::In)
         };
         let owner = self.owner_of(sender);
-        self.count_phase(owner, phase);
+        // The line is written right after it was read, so that it is looked for once.
         self.set_line(sender, Line { phase, ..found });
+        self.count_phase(owner, phase);
         outcome
     }
 
@@ -66,8 +67,8 @@ impl Core {
         }
         let phase = Phase::Out;
         let owner = self.owner_of(sender);
-        self.count_phase(owner, phase);
         self.set_line(sender, Line { phase, ..found });
+        self.count_phase(owner, phase);
         self.roster.leave(sender.end);
         Outcome::Left
     }
