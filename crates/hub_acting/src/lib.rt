@@ -8,10 +8,8 @@
 mod acted;
 mod acting;
 mod actor;
-mod tally;
 
 pub use acted::Acted;
 pub use acting::act_all;
 pub use actor::Actor;
 pub use hub_envelope::OutOfMemory;
-pub use tally::{Tally, count_actions};

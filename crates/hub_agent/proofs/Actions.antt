@@ -195,9 +195,6 @@ accounts_same before now notes kept fewer none = (
       omega (arith, h, l, g),
 )
 
-pub accounts_none : (a : AgentState) → Accounts a a
-accounts_none a none = (none, λ e. omega arith)
-
 pub accounts_both : (a b c : AgentState) → Accounts a b → Accounts b c → Accounts a c
 accounts_both a b c first then none =
     let (kept, one) = first none in
@@ -205,10 +202,6 @@ accounts_both a b c first then none =
       keeps,
       λ e. let x = one e in let y = two e in omega (arith, x, y),
     )
-
-pub accounts_then : {X E : Type 0} (result : Result X E) (a b c : AgentState) → Accounts a b → OnOk result (Accounts b c) → OnOk result (Accounts a c)
-accounts_then (Ok x) a b c first then = accounts_both a b c first then
-accounts_then (Err x) a b c first then = tt
 
 -- the same log and the same ends afterwards
 pub accounts_kept : (before mid now : AgentState) → now.notes ≡ mid.notes → now.kept ≡ mid.kept → now.ends ≡ mid.ends → Accounts before mid → Accounts before now

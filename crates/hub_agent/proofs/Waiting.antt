@@ -60,9 +60,6 @@ turn_told before told after (e, missing, is) (entries, all, written) = (
 abbrev pub TurnsAll : Notes → Notes → Type 0
 TurnsAll before after = (entries : List LogEntry) × AreTurnsLogged entries × Writes entries before after
 
-pub turns_none : (before : Notes) → TurnsAll before before
-turns_none before = ([], ([], refl, tt), writes_same before before refl)
-
 turns_and : (turns : List (List LogEntry)) (turn : List LogEntry) → AreTurns turns → IsTurnLogged turn → AreTurns (turns ++ turn ∷ [])
 turns_and [] turn all one = (one, tt)
 turns_and (t ∷ turns) turn all one = (all.0, turns_and turns turn all.1 one)

@@ -53,9 +53,6 @@ pub adopts_since : {X E : Type 0} (result : Result X E) (listed ends : List EndI
 adopts_since (Ok x) listed ends before mid now is same (entries, all, written) = (entries, subst (λ (es : List EndId). AreAdoptions es entries) is all, written ∙ ap (λ log. log_and log entries) same)
 adopts_since (Err x) listed ends before mid now is same adopts = tt
 
-pub adopts_none : (before : Notes) → Adopts [] before before
-adopts_none before = ([], refl, writes_same before before refl)
-
 -- one post more of a cast
 pub cast_more : (body : List ℕ) (outcomes all : List (EndId × CastOutcome)) (o : EndId × CastOutcome) (before now after : Notes) → all ≡ outcomes ++ o ∷ [] → Writes (cast_entries body outcomes) before now → Writes (outcome_entries body o.1) now after → Writes (cast_entries body all) before after
 cast_more body outcomes all o before now after is written more =
@@ -149,7 +146,3 @@ answer_logged old new agent body posted_body ports ends (Err (error.OutOfMemory 
 answer_logged old new agent body posted_body ports ends (Err (error.TooManyPorts b back)) is sent = inl refl
 answer_logged old new agent body posted_body ports ends (Err (error.Strayed missing b back)) is sent = inl refl
 answer_logged old new agent body posted_body ports ends (Err (error.Taken b back)) is sent = inl refl
-
-pub post_of : {X E : Type 0} (result : Result X E) (ends : List EndId) (body : List ℕ) (answer : Result Posted PortError) (old now new : Notes) → old ≡ now → IsPostLogged ends body (answer_entries ends body answer) → OnOk result (Writes (answer_entries ends body answer) old new) → OnOk result ((entries : List LogEntry) × IsPostLogged ends body entries × Writes entries now new)
-post_of (Ok x) ends body answer old now new same logged written = (answer_entries ends body answer, logged, written ∙ ap (λ (n : Notes). log_and n.log (answer_entries ends body answer)) same)
-post_of (Err e) ends body answer old now new same logged written = tt

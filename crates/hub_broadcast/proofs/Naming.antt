@@ -39,14 +39,6 @@ posted_named old new draft (Ok posted) (before, entered, stood, put) named =
 posted_named old new draft (Err refused) (before, entered, stood, nothing, back, seen) named =
     nothing_named before (put_of new) new.name refused.0 nothing (stood_named old new before entered stood named)
 
--- an accepted post bears the end of its line
-pub accepted_end : (old new : StandSeat) (draft : Draft) (posted : Posted) → IsPosted old new draft (Ok posted) → IsNameOf (put_of old) old.name → posted.end ≡ old.name.end
-accepted_end old new draft posted (before, entered, stood, put) named =
-    let was = stood_named old new before entered stood named in
-    let number : posted.end.0 ≡ new.name.end.0 = ap (λ (p : Posted). p.end.0) put.0 ∙ sym was.end in
-    let same : posted.end ≡ new.name.end = (λ i. record { 0 = number i }) in
-    same ∙ stood_end old new before entered stood
-
 -- the poster at the end of the list of a new mailbox with one line is named by its name, at the end of the mailbox
 pub only_named : (end : EndId) (opened : TakerSeat) (posters rest : List StandSeat) (poster : StandSeat) → IsOpenMailbox end 1 opened posters → posters ≡ rest ++ poster ∷ [] → IsNameOf (put_of poster) poster.name × (poster.name.end ≡ end)
 only_named end opened posters rest poster made split =

@@ -15,4 +15,3 @@ mod status;
 mod texts;
 
 pub use laws::call_laws;
-pub use sending::sent_session;

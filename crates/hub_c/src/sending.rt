@@ -4,8 +4,9 @@ ghost use Rattle.std.specs.Prelude.{◌≡◌};
 
 use hub_steps::Session;
 
-/// A session in its box, where that may be sent to another thread.
-pub fn sent_session(session: Box<Session>) -> Box<Session>
+/// A session in its box, which may be sent to another thread. Nothing calls it: that it is accepted
+/// shows that a session is `Send`.
+fn sent_session(session: Box<Session>) -> Box<Session>
     ensures { result ≡ session }
 {
     sent(session)

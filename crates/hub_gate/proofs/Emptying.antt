@@ -69,10 +69,6 @@ module _ {T V : Type 0} where
 
 -- a keeper that has its list yet has not got the rights
 module _ {L : Type 0} (A B : L → Type 0) (E : Type 0) (collected : Bool) where
-  pub not_collected : (list : Option L) → is_none list ≡ false → MatchOption list (collected ≡ true) (λ l. (collected ≡ false) × A l × B l × E) → collected ≡ false
-  not_collected None e m = absurd (true≢false e)
-  not_collected (Some l) e m = m.0
-
   pub none_out : (list : Option L) → MatchOption list (collected ≡ true) (λ l. (collected ≡ false) × A l × B l × E) → collected ≡ false → E
   none_out None m e = absurd (true≢false (sym m ∙ e))
   none_out (Some l) m e = m.3

@@ -228,14 +228,8 @@ turns_back_at {T = T} tag slots id me v is = subst (λ (m : Me (Option T) (View 
 
 -- what an entry that found no flag, or one, is told
 module _ {T : Type 0} (tag : T → List ℕ) (v : LineView T) (word : ℕ) (after : Me (Option T) (View T)) (told : MatchBool (machine.moved_in word) (IsTurned tag v Moved machine.says_moved word after) (MatchBool (machine.closed_in word) (IsTurned tag v Closed machine.says_closed word after) (IsIn tag v word after))) where
-  pub told_moved : machine.moved_in word ≡ true → IsTurned tag v Moved machine.says_moved word after
-  told_moved m = case_true (machine.moved_in word) _ _ m told
-
   told_open : machine.moved_in word ≡ false → MatchBool (machine.closed_in word) (IsTurned tag v Closed machine.says_closed word after) (IsIn tag v word after)
   told_open m = case_false (machine.moved_in word) _ _ m told
-
-  pub told_closed : machine.moved_in word ≡ false → machine.closed_in word ≡ true → IsTurned tag v Closed machine.says_closed word after
-  told_closed m c = case_true (machine.closed_in word) _ _ c (told_open m)
 
   pub told_in : machine.moved_in word ≡ false → machine.closed_in word ≡ false → IsIn tag v word after
   told_in m c = case_false (machine.closed_in word) _ _ c (told_open m)

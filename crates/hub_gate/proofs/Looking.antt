@@ -166,9 +166,6 @@ looks_at tag slots id me is free = at_keeper (IsGate tag) slots id (λ n. n) (Lo
 
 -- what a keeper's look is told, by its cases
 module _ {T : Type 0} (tag : T → List ℕ) (k : KeeperView T) (c : List (ℕ × Option T)) (word : ℕ) (after : Me (Option T) (View T)) (told : MatchBool k.collected (IsSeen tag k c machine.says_given word after) (LooksAt tag k c word after)) where
-  pub told_given : k.collected ≡ true → IsSeen tag k c machine.says_given word after
-  told_given e = case_true k.collected _ _ e told
-
   pub told_more : k.collected ≡ false → LooksAt tag k c word after
   told_more e = case_false k.collected _ _ e told
 
@@ -177,9 +174,6 @@ module _ {T : Type 0} (tag : T → List ℕ) (k : KeeperView T) (c : List (ℕ �
 
   told_shut : k.collected ≡ false → (machine.moved_in word || machine.closed_in word) ≡ true → SeesShut tag k c word after
   told_shut e f = case_true (machine.moved_in word || machine.closed_in word) _ _ f (told_more e)
-
-  pub told_busy : k.collected ≡ false → (machine.moved_in word || machine.closed_in word) ≡ true → 0 < machine.count_in word → (has_shut k ≡ true) × SeesBusy tag k c word after
-  told_busy e f h = let shut = told_shut e f in (shut.0, case_false (eqb (machine.count_in word) 0) _ _ (is_positive (machine.count_in word) h) shut.1)
 
   pub told_rights : k.collected ≡ false → (machine.moved_in word || machine.closed_in word) ≡ true → machine.count_in word ≡ 0 → (has_shut k ≡ true) × IsGiven tag k word after
   told_rights e f h = let shut = told_shut e f in (shut.0, case_true (eqb (machine.count_in word) 0) _ _ (ap (λ (n : ℕ). eqb n 0) h) shut.1)

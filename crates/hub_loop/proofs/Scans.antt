@@ -269,11 +269,3 @@ inside-marked old new before after (Nothing busy) came = (tt, tt)
 pub inside-all : (old new : EndsSeat) (before after : Count) (served : Served) → AreAllServed old new before after served → IsServedMarked new.ready.marks served × IsServedInside new.held.capacity served
 inside-all old new before after (Given key v) came = (came.1.marked, (let same = came.1.capacity in omega (arith, same, came.1.inside), came.1.fits))
 inside-all old new before after (Nothing busy) came = (tt, tt)
-
-pub next-marked : (old new : EndsSeat) (before after : Count) (served : Served) → AreMarkedServed old new before after served → new.next ≡ old.next
-next-marked old new before after (Given key v) came = came.1.next
-next-marked old new before after (Nothing busy) came = came.1.same.next
-
-pub next-all : (old new : EndsSeat) (before after : Count) (served : Served) → AreAllServed old new before after served → new.next ≡ old.next
-next-all old new before after (Given key v) came = came.1.next
-next-all old new before after (Nothing busy) came = came.1.same.next

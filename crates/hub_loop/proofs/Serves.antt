@@ -49,14 +49,6 @@ given-at old new key before after served came other =
       | inr gave ↦ (gave.0, came.2 ∙ gave.1)
     ]
 
--- and is marked
-pub marked-at : (old new : Slab Held) (key : ℕ) (marks : List ℕ) (before after : Count) (served : Served) → IsAskedAt old new key before after served → mark_of marks key ≡ 1 → IsServedMarked marks served
-marked-at old new key marks before after served came set =
-    elim (served-cases key came.0) [
-      | inl none ↦ subst (IsServedMarked marks) (sym (came.2 ∙ none.1)) tt
-      | inr gave ↦ subst (IsServedMarked marks) (sym (came.2 ∙ gave.1)) set
-    ]
-
 -- keys that are among others
 pub in-left : (key : ℕ) (front back : List ℕ) → IsIn key front → IsIn key (front ++ back)
 in-left key [] back is = absurd is

@@ -40,11 +40,6 @@ pub record GoneOn (turned here : StandSeat) (hops : ℕ) (first found : Refusal)
   pub none : hops ≡ 0 → (here ≡ turned) × (found ≡ first)
   pub some : 0 < hops → IsNameOf (put_of here) here.name × HasNotPushed (put_of here) × HasSeen here 0 found
 
-pub gone_none : (turned : StandSeat) (first : Refusal) → GoneOn turned turned 0 first first
-gone_none turned first =
-    let sum : turned.name.epoch ≡ turned.name.epoch + 0 = omega arith in
-    record { name = ap (λ (n : ℕ). record { end = turned.name.end; epoch = n; line = turned.name.line }) sum; left = tt; none = λ _. (refl, refl); some = λ some. absurd (omega arith) }
-
 -- the line goes on once more
 module _ (turned here next : StandSeat) (hops : ℕ) (first found : Refusal) (gone : GoneOn turned here hops first found) (few : hops < MAX_HOPS) (is_next : IsNext here.name next) where
   abbrev there : StandSeat
@@ -68,9 +63,6 @@ module _ (turned here next : StandSeat) (hops : ℕ) (first found : Refusal) (go
       behind (suc n) low same =
           let been = gone.some (omega arith) in
           ((here.entry, refl, subst (IsNameOf (put_of here)) (gone.name ∙ ap (name_after turned.name) (sym same)) been.0, been.1), rest (suc n) same low)
-
-  pub goes_there : (hops + 1 ≤ MAX_HOPS) → GoesTo turned there
-  goes_there enough = record { hops = hops + 1; some = omega arith; few = enough; name = name_there; left = left_there }
 
   -- and is turned there too
   pub gone_more : (now : StandSeat) (draft back : Draft) (again : Refusal) → IsTried there now draft (Turned again back) → GoneOn turned now (hops + 1) first again
@@ -109,24 +101,6 @@ module _ (turned here next : StandSeat) (hops : ℕ) (first found : Refusal) (go
       subst (IsSeen now 0) (sym tried.1.2) tt,
     ),
   )
-
--- the line goes on no further
-pub goes_no_further : (turned here : StandSeat) (hops : ℕ) (first found : Refusal) (why : PostError) (draft kept : Draft) → GoneOn turned here hops first found → hops ≤ MAX_HOPS → why ≡ error_of found → kept ≡ draft → IsPostedOnward turned here first draft (Err (why, kept))
-goes_no_further turned here zero first found why draft kept gone few is same = (same, inl ((gone.none refl).0, is ∙ ap error_of (gone.none refl).1))
-goes_no_further turned here (suc hops) first found why draft kept gone few is same =
-    let been = gone.some (omega arith) in (
-      same,
-      inr (
-        put_of here,
-        record { goes = record { hops = suc hops; some = omega arith; few = few; name = gone.name; left = gone.left }; named = been.0; unused = been.1 },
-        subst (PutsNothing (put_of here) (put_of here)) (sym is) (nothing_put found (put_of here) (put_of here) refl),
-        subst (IsSeen here 0) (sym is) (seen_there found been.2),
-      ),
-    )
-  where
-    seen_there : (f : Refusal) → HasSeen here 0 f → IsSeen here 0 (error_of f)
-    seen_there refusal.Moved s = s
-    seen_there refusal.Closed s = s
 
 -- a line that has gone on stands at a later epoch
 pub goes_later : (old new : StandSeat) → GoesTo old new → old.name.epoch < new.name.epoch

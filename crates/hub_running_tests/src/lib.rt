@@ -4,6 +4,8 @@
 #![tactic(auto)]
 
 #[cfg(test)]
+mod acting;
+#[cfg(test)]
 mod assertions;
 #[cfg(test)]
 mod bells;
@@ -17,5 +19,3 @@ mod lives;
 mod machine;
 #[cfg(test)]
 mod orders;
-#[cfg(test)]
-mod steps;

@@ -221,9 +221,6 @@ told_nothing old new refused s o other a = chained old new new (enter 4 refused 
 abbrev pub ClosedFirst : Core → Core → ℕ → Bool → List EndId → Type 0
 ClosedFirst old now i refused ends = (later : Core) → ComputesAt now later (close_each refused (drop i ends)) tt → ComputesAt old later (close_each refused ends) tt
 
-pub closed_none : (core : Core) (refused : Bool) (ends : List EndId) → ClosedFirst core core 0 refused ends
-closed_none core refused ends = λ later did. did
-
 pub closed_more : (i : ℕ) (old now new : Core) (refused : Bool) (ends : List EndId) (e : EndId) (shown : Shown) → drop i ends ≡ e ∷ drop (suc i) ends → ClosedFirst old now i refused ends → ComputesAt now new (close refused e) shown → ClosedFirst old new (i + 1) refused ends
 closed_more i old now new refused ends e shown cut first did = λ later rest.
     first later (subst (λ es. ComputesAt now later (close_each refused es) tt) (sym cut) (chained now new later (close refused e) (λ c. close_each refused (drop (suc i) ends)) shown tt did (subst (λ k. ComputesAt new later (close_each refused (drop k ends)) tt) (add-one i) rest)))

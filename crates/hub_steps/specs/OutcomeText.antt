@@ -44,12 +44,7 @@ abbrev pub ending_line : List EndId → List ℕ
 ending_line [] = codes "ending nothing\n"
 ending_line (e ∷ es) = codes "ending" ++ numbers_text (e ∷ es) ++ codes "\n"
 
--- the ends to which a cast goes, or that it goes to none
-abbrev pub destinations_line : List EndId → List ℕ
-destinations_line [] = codes "cast nobody\n"
-destinations_line (e ∷ es) = codes "cast" ++ numbers_text (e ∷ es) ++ codes "\n"
-
--- the line of an outcome, with its LF
+-- the line of an outcome, with its LF; a cast is shown by what its destinations answer, and never by these alone
 unfoldable pub outcome_line : Outcome → List ℕ
 outcome_line outcome.NotNow = codes "not-now\n"
 outcome_line outcome.NoMemory = codes "no-memory\n"
@@ -85,5 +80,5 @@ outcome_line outcome.Handed = codes "handed\n"
 outcome_line outcome.Ordered = codes "ordered\n"
 outcome_line outcome.GoingOn = codes "going-on\n"
 outcome_line (outcome.Ending es) = ending_line es
-outcome_line (outcome.Destinations es) = destinations_line es
+outcome_line (outcome.Destinations es) = codes "cast\n"
 outcome_line (outcome.Discarded vs) = discarded_line vs

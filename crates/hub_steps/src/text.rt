@@ -1,7 +1,7 @@
 //! The text of what a step line shows.
 
 ghost use Rattle.std.specs.Prelude.{◌≡◌, ◌++◌, OnOk, string_bytes};
-ghost use Rattle.hub_steps.specs.OutcomeText.{destinations_line, discarded_line, ending_line};
+ghost use Rattle.hub_steps.specs.OutcomeText.{discarded_line, ending_line};
 ghost use Rattle.hub_steps.specs.OutcomeText.{got_line, listed_name, names_text, numbers_text};
 ghost use Rattle.hub_steps.specs.OutcomeText.{outcome_line, ports_text};
 ghost use Rattle.hub_steps.specs.ShownText.{cast_line, post_text, posts_text, refused_line};
@@ -148,7 +148,8 @@ fn write_outcome(text: &mut String, outcome: &Outcome) -> Result<(), AllocError>
         Outcome::Ordered => text.push_str("ordered\n"),
         Outcome::GoingOn => text.push_str("going-on\n"),
         Outcome::Ending(ends) => write_ending(text, ends.as_slice()),
-        Outcome::Destinations(ends) => write_destinations(text, ends.as_slice()),
+        // A cast is shown by what its destinations answer, and never by these alone.
+        Outcome::Destinations(_) => text.push_str("cast\n"),
         Outcome::Discarded(envelopes) => write_discarded(text, envelopes.as_slice()),
     }
 }
@@ -162,19 +163,6 @@ fn write_ending(text: &mut String, ends: &[EndId]) -> Result<(), AllocError>
         return text.push_str("ending nothing\n");
     }
     text.push_str("ending")?;
-    write_numbers(text, ends)?;
-    text.push_str("\n")
-}
-
-/// Writes the line of the destinations of a cast.
-fn write_destinations(text: &mut String, ends: &[EndId]) -> Result<(), AllocError>
-    ensures { OnOk result (string_bytes text.new
-        ≡ string_bytes text.old ++ destinations_line ends.now) }
-{
-    if ends.is_empty() {
-        return text.push_str("cast nobody\n");
-    }
-    text.push_str("cast")?;
     write_numbers(text, ends)?;
     text.push_str("\n")
 }

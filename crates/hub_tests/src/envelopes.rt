@@ -1,4 +1,4 @@
-// Port lists, drafts and envelopes: each call, clones and comparisons once.
+// Port lists, drafts and envelopes: each call and clones once.
 use hub_envelope::{AgentId, Body, Draft, EndId, Envelope, LineId, Ports};
 use std::alloc::{AllocError, Global};
 use std::process::Abort;
@@ -71,31 +71,6 @@ fn clones_are_equal(rt: HostRuntime) {
     assert!(rt; draft.ports.clone().expect(&rt, "memory") == draft.ports);
     let envelope = envelope_of(draft);
     assert!(rt; envelope.clone().expect(&rt, "memory") == envelope);
-}
-
-#[test]
-fn another_body_makes_another_draft(rt: HostRuntime) {
-    let draft = draft_of(&rt, "{\"a\":[1,2]}");
-    let other = draft_of(&rt, "{\"a\":[1,3]}");
-    assert!(rt; other != draft);
-    assert!(rt; other.body != draft.body);
-    assert!(rt; other.ports == draft.ports);
-}
-
-#[test]
-fn fewer_ports_are_other_ports(rt: HostRuntime) {
-    assert!(rt; ports(&rt, 1) != ports(&rt, 2));
-}
-
-#[test]
-fn a_later_envelope_and_a_notice_are_others(rt: HostRuntime) {
-    let envelope = envelope_of(draft_of(&rt, "{\"a\":[1,2]}"));
-    let mut later = envelope.clone().expect(&rt, "memory");
-    later.number = 8;
-    assert!(rt; later != envelope);
-    later.number = 7;
-    later.notice = true;
-    assert!(rt; later != envelope);
 }
 
 #[test]

@@ -1,7 +1,7 @@
 //! Tests of the crates of values and texts through their public calls.
 //!
 //! A crate with tests is proved twice, once with them and once without. So what a test can see from
-//! outside its crate stands in a crate that has nothing but tests, as this one; there are eight
+//! outside its crate stands in a crate that has nothing but tests, as this one; there are six
 //! because the gate proves them side by side.
 #![tactic(auto)]
 
@@ -10,9 +10,11 @@ mod bodies;
 #[cfg(test)]
 mod envelopes;
 #[cfg(test)]
+mod logs;
+#[cfg(test)]
 mod origins;
 #[cfg(test)]
-mod refused_scripts;
+mod refused_logs;
 #[cfg(test)]
 mod scripts;
 #[cfg(test)]
