@@ -21,7 +21,7 @@ WRONG = {
                   ["--jobs", "0"], ["scripts", "--built", "/nowhere/at/all"]],
     "bench/build": [[], ["/nowhere/at/all", "name"], ["/tmp/x", "name", "/nowhere", "crate"]],
     "embed/build": [["--to"], ["--to", "/tmp"], ["--to", "/dev/null"]],
-    "examples/chat.py": [[], ["/nowhere/at/all"], ["/tmp"]],
+    "examples/relay.py": [[], ["--bug", "fly", "/tmp/x"], ["/nowhere/at/all"], ["/tmp"]],
     "record/merge": [[], ["/nowhere/at/all"]],
     "tests/all": [["no-such-test"], ["--program", "/nowhere/at/all"], ["--jobs", "0"],
                   ["--program", "/"], ["--program", "/bin/true", "--folder", "/nowhere/at/all"]],
@@ -31,11 +31,11 @@ WRONG = {
                    ["--seconds", "nan", "/bin/true"], ["--keep", "/nowhere", "/bin/true"]],
     "tests/soak.d/faults": [["--runs", "x"], ["--runs", "0", "--seeds", "0"], ["--jobs", "0"]],
     "tools/account": [["/nowhere/at/all"], ["a", "b"]],
-    "tools/explain": [["/nowhere/at/all"], ["a", "b"]],
     "tools/judge": [["/nowhere/at/all"], ["/"], ["a", "b"]],
+    "tools/report": [["/nowhere/at/all"], ["--most", "0"], ["--script", "/nowhere/at/all"]],
     "tools/steps-of": [["/nowhere/at/all"], ["--states", "x"]],
     "tools/view": [["/nowhere/at/all"], ["a", "b"]],
-    "tools/draw": [["/nowhere/at/all"], ["/"], ["--most", "-1"]],
+    "tools/draw": [["/nowhere/at/all"], ["--most", "-1"]],
     "tools/build": [["--jobs", "0"]],
     "tools/clauses": [["no_such_crate"]],
     "tools/costs": [[], ["/dev/null"], ["/dev/null", "/nowhere/at/all"]],
@@ -43,17 +43,17 @@ WRONG = {
 }
 # The scripts that read logs, or a script, each with the words before its input.
 READERS = {
-    **{f"tools/{name}": [] for name in ("account", "draw", "explain", "judge", "steps-of", "view")},
+    **{f"tools/{name}": [] for name in ("account", "draw", "judge", "report", "steps-of", "view")},
     "tests/simulate": ["check"],
 }
-# What fails besides where a stream does: `explain` has the statuses of the program.
-STATUS_OF_STREAMS = {"tools/explain": 4}
+# Those that refuse logs without an entry.
+NEED_ENTRIES = {"tools/account", "tools/report"}
 # Scripts whose output is long before they end, and quick to come.
 TALKATIVE = [
     ["tools/clauses"], ["tests/all", "--list"], ["bench/all", "--list"],
     ["tools/view", "tests/runs/two_windows.out"], ["tools/draw", "tests/runs/two_windows.out"],
     ["tools/judge", "examples/run.log"], ["tools/account", "examples/run.log"],
-    ["tools/explain", "examples/run.log"], ["tools/steps-of", "examples/run.log"],
+    ["tools/report", "examples/run.log"], ["tools/steps-of", "examples/run.log"],
 ]
 # Two tests: one says its process and never ends, the other waits for that and ends.
 ENDLESS = """import os, pathlib, time, unittest
@@ -149,7 +149,7 @@ class Streams(support.TestCase):
                         # They print as they go, and print to nobody.
                         self.assertEqual((found.errors, found.status), (b"", 0))
                         continue
-                    self.assertEqual(found.status, STATUS_OF_STREAMS.get(name, 2), found)
+                    self.assertEqual(found.status, 2, found)
                     self.assertIn(said, self.told(found.errors))
                     self.assertTrue(self.told(found.errors).startswith(f"{name}: "), found)
         self.says(2 * len(TALKATIVE), "calls", 18)
@@ -195,7 +195,8 @@ class Streams(support.TestCase):
         self.says(len(READERS), "calls", 7)
 
     def test_inputs(self):
-        """Empty logs are clean. Of what is no logs the first bad line is told, in one line."""
+        """Empty logs are clean, but nothing recorded is no verdict. Of what is no logs the first
+        bad line is told, in one line."""
         rows = [
             (b"", 0), (b"hublog 3\n", 0), (b"hublog 3", 0), (b"\n", 2), (b"hublog 3\n\n", 2),
             (b"\xff\xfe\x00\n" * 3, 2), (b"hublog 3\nagent 0\nput 1 0 0:0 - " + b"[" * 9_000, 2),
@@ -205,8 +206,10 @@ class Streams(support.TestCase):
             for text, status in rows:
                 with self.subTest(script=name, text=text[:40]):
                     found = outcome_of([ROOT / name, *words], text)
-                    self.assertEqual(found.status, status, found)
-                    self.told(found.errors)
+                    is_refused = status == 0 and name in NEED_ENTRIES
+                    self.assertEqual(found.status, 2 if is_refused else status, found)
+                    said = self.told(found.errors)
+                    self.assertEqual("nothing is recorded" in said, is_refused)
                     if status:
                         lines = [it for it in (found.output + found.errors).decode().splitlines()
                                  if ": Bad" in it]

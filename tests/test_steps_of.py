@@ -183,6 +183,13 @@ class Found(Case):
                 count += 1
         self.says(count, "runs", 12)
 
+    def test_maker_without_a_log(self):
+        """A queue that comes from an agent that logs nothing is handed on by it."""
+        found = steps_of(b"hublog 3\nagent 0\nadopted 0 1\n")
+        self.assertEqual(found.output.splitlines()[-3:], [b"client 1", b"hand 0 0", b"adopt 0 0"])
+        self.assertEqual(outcomes(found.output)[-2:], ["handed", "adopted 1"])
+        self.says(1, "log")
+
     def test_no_script(self):
         count = 0
         for logs in self.runs():

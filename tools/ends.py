@@ -216,11 +216,30 @@ def ways_of(evidence, end, fits):
         ways.append(True)
     if evidence.may_stand_alone(end) and fits[end + 1]:
         ways.append(False)
-    is_linked_here = frozenset([end, end + 1]) in evidence.linked
-    is_linked_behind = end + 1 in evidence.ports and evidence.may_pair(end + 1)
-    if is_linked_behind and not is_linked_here and end not in evidence.ports:
+    if is_next_likelier(evidence, end):
         ways.reverse()
     return ways
+
+
+def is_next_likelier(evidence, end):
+    """Whether the next end is rather the first one of two ports than this one is."""
+    if frozenset([end, end + 1]) in evidence.linked or end in evidence.ports:
+        return False
+    # A port whose other neighbour shows nowhere most likely belongs to this end.
+    if end in evidence.mentioned and end + 2 not in evidence.mentioned:
+        return False
+    return end + 1 in evidence.ports and evidence.may_pair(end + 1)
+
+
+def likely_peers(goal):
+    """By port, the other port of its channel, as logs make it likely, end by end."""
+    evidence, peers = Evidence(goal, True), {}
+    for end in sorted(evidence.mentioned):
+        is_port = end in evidence.ports or end + 1 in evidence.ports
+        is_pair = end not in peers and is_port and evidence.may_pair(end)
+        if is_pair and not is_next_likelier(evidence, end):
+            peers.update({end: end + 1, end + 1: end})
+    return peers
 
 
 def forced_pairs(evidence):

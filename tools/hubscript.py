@@ -73,6 +73,8 @@ class Declarations:
     def __init__(self):
         self.agents, self.channels, self.members = [], [], []
         self.names, self.has_acted = {"queue"}, False
+        # The agents that hand their queue on.
+        self.handed = set()
 
     def end_count(self):
         return len(self.agents) + 2 * len(self.channels) + len(self.members)
@@ -88,6 +90,8 @@ class Declarations:
         word = next((it for it in DECLARATIONS if it in fields), None)
         if word is None:
             self.has_acted = True
+            if "hand" in fields:
+                self.handed.add(number_of(fields.get("at")))
             return
         need(fields.keys() == DECLARATIONS[word])
         getattr(self, f"read_{word}")(fields)
