@@ -11,10 +11,10 @@ sys.path.insert(0, str(TESTS / "soak.d"))
 import changes
 import generator
 import hublog
-import script
-import simulation
+import hubscript
 import verdict
 import wrong
+from simulator import simulation
 
 MOST_SEEDS, FEW_SEEDS = 80, 15
 # The faults of a simulated hub of which the logs show something, with one kind that is found.
@@ -42,7 +42,7 @@ def kinds_of_simulated(fault):
     for seed in range(MOST_SEEDS if fault in SHOWN else FEW_SEEDS):
         source = generator.make(seed)
         try:
-            output, _ = simulation.simulate(script.Script(source), seed)
+            output, _ = simulation.simulate(hubscript.read(source), seed)
         except simulation.Stuck:
             continue
         found = kinds_of(output.encode(), source)

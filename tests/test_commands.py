@@ -25,6 +25,7 @@ WRONG = {
     "record/merge": [[], ["/nowhere/at/all"]],
     "tests/all": [["no-such-test"], ["--program", "/nowhere/at/all"], ["--jobs", "0"],
                   ["--program", "/"], ["--program", "/bin/true", "--folder", "/nowhere/at/all"]],
+    "tests/changed_scripts": [[], ["/nowhere/at/all"], ["--count", "0", "/bin/true"]],
     "tests/node": [["/nowhere/at/all"], ["/"], ["--files", "0"], ["--lines", "abc"]],
     "tests/simulate": [[], ["fly"], ["--wrong", "fly", "run"]],
     "tests/soak": [[], ["/nowhere/at/all"], ["--processors", "0", "/bin/true"], ["/tmp"],
@@ -32,8 +33,13 @@ WRONG = {
     "tests/soak.d/faults": [["--runs", "x"], ["--runs", "0", "--seeds", "0"], ["--jobs", "0"]],
     "tools/account": [["/nowhere/at/all"], ["a", "b"]],
     "tools/judge": [["/nowhere/at/all"], ["/"], ["a", "b"]],
+    "tools/play": [[], ["/nowhere/at/all"], ["/"], ["--timeout", "0", "x"], ["--repeat", "0", "x"],
+                   ["--program", "/nowhere/at/all", "x"],
+                   ["--expect", "/nowhere/at/all", "examples/two_windows.script"]],
     "tools/report": [["/nowhere/at/all"], ["--most", "0"], ["--script", "/nowhere/at/all"]],
+    "tools/release": [["--to"], ["--to", "/dev/null"]],
     "tools/steps-of": [["/nowhere/at/all"], ["--states", "x"]],
+    "tools/why": [["/nowhere/at/all"], ["/"], ["a", "b"]],
     "tools/view": [["/nowhere/at/all"], ["a", "b"]],
     "tools/draw": [["/nowhere/at/all"], ["--most", "-1"]],
     "tools/build": [["--jobs", "0"]],
@@ -54,7 +60,10 @@ TALKATIVE = [
     ["tools/view", "tests/runs/two_windows.out"], ["tools/draw", "tests/runs/two_windows.out"],
     ["tools/judge", "examples/run.log"], ["tools/account", "examples/run.log"],
     ["tools/report", "examples/run.log"], ["tools/steps-of", "examples/run.log"],
+    ["tools/why", "examples/worker_ends.steps"],
+    ["tools/play", "--program=tests/simulate", "examples/two_windows.script"],
 ]
+VERSION = "1.0.0"
 # Two tests: one says its process and never ends, the other waits for that and ends.
 ENDLESS = """import os, pathlib, time, unittest
 class Endless(unittest.TestCase):
@@ -98,6 +107,16 @@ class Commands(support.TestCase):
             with self.subTest(script=name):
                 self.check_help([ROOT / name])
         self.says(len(scripts()), "scripts", 8)
+
+    def test_version(self):
+        """One version, whatever stands behind."""
+        for name in scripts():
+            with self.subTest(script=name):
+                # (The examples stand alone.)
+                if not name.startswith("examples/"):
+                    found = outcome_of([ROOT / name, "--version"])
+                    self.assertEqual(found, (f"{name} {VERSION}\n".encode(), b"", 0))
+        self.says(len(scripts()), "scripts", 20)
 
     def test_wrong_words(self):
         count = 0
@@ -217,11 +236,11 @@ class Streams(support.TestCase):
         self.says(len(rows) * len(READERS), "inputs", 63)
 
     def test_scripts(self):
-        """What is no script is told, and nothing is printed."""
+        """What is no script is told as the program tells it."""
         scripts = [b"[" * 5_000, b"{", b"\xff", b'{"agent":"boss"}', b'{"at":7,"wait":1}']
         for text in scripts:
             with self.subTest(script=text[:40]):
                 found = outcome_of([TESTS / "simulate", "run"], text)
-                self.assertEqual((found.output, found.status), (b"", 2), found)
-                self.assertIn("no script", self.told(found.errors))
+                kind = b"UnknownName" if b"7" in text else b"Syntax"
+                self.assertEqual(found, (b"line 1: " + kind + b"\n", b"", 2))
         self.says(len(scripts), "scripts", 5)

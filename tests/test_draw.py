@@ -389,7 +389,7 @@ class Refusals(support.TestCase):
     def test_scripts(self):
         good = '{"agent":"window","origin":"https://a.example"}\n'
         bad = [
-            "[]", "", "{", '{"agent":"boss"}', '{"channel":["a"]}', '{"channel":"ab"}',
+            "[]", "# x", "{", '{"agent":"boss"}', '{"channel":["a"]}', '{"channel":"ab"}',
             '{"channel":["a",1]}', '{"member":7}', "[" * 5_000,
         ]
         with tempfile.TemporaryDirectory(prefix="a folder ") as folder:

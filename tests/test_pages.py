@@ -214,4 +214,6 @@ class Counts(support.TestCase):
         version = re.search(r"^## ([0-9.]+)", text_of(ROOT / "CHANGELOG.md"), re.MULTILINE)[1]
         told = outcome_of([ROOT / "messagehub", "--version"], None).output.decode().split()
         self.assertEqual(told[:2], ["messagehub", version])
-        self.says(1, "version")
+        cargo = text_of(ROOT / "embed" / "rust" / "Cargo.toml")
+        self.assertIn(f'\nversion = "{version}"\n', cargo)
+        self.says(2, "versions")

@@ -89,7 +89,7 @@ class Drawn(support.TestCase):
 class Steps:
     """Draws step lines for which there are calls, beside a machine that does them.
 
-    The machine knows no agent that ends, so it isn't told what such an agent is refused."""
+    The machine isn't told which agents end, nor what such an agent is refused."""
 
     # How often it takes at most for a port that was sent.
     MOST_TAKES = 12

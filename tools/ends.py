@@ -12,20 +12,15 @@ import collections
 import dataclasses
 import functools
 import json
-import re
 
 import hubscript
+import weburl
 from machine import MOST_ENDS
 
 # Origins show only where a broadcast channel is made.
 ORIGIN = "https://hub.example"
 # By the kind of an agent, the step line that makes its queue.
 STEPS = {"window": "client", "worker": "worker"}
-# What the URL Standard leaves out of account at both ends of a URL, and anywhere.
-CONTROLS = "".join(map(chr, range(0x21)))
-IGNORED = re.compile("[\t\n\r]")
-# Schemes, each with the slashes behind it, and what stands before the path.
-AUTHORITY = re.compile(r"(?:[^/\\?#:]*:[/\\]*)*[^/\\?#]*")
 
 
 @dataclasses.dataclass
@@ -67,17 +62,12 @@ class Ends:
 
 def of_script(data):
     """The ends that a script declares. hubscript.BadScript tells the first bad line."""
-    found = hubscript.declarations(data)
+    found = hubscript.read(data)
     makings = [f"{STEPS[it.kind]} {agent}" for agent, it in enumerate(found.agents)]
     makings += [f"channel {it.agent}" for it in found.channels]
     makings += [f"member {it.agent} {json.dumps(it.on)}" for it in found.members]
-    origins = [origin_of(it.origin) for it in found.agents]
+    origins = [weburl.origin_of(it.origin) for it in found.agents]
     return Ends(origins, makings, found.end_count(), False)
-
-
-def origin_of(url):
-    """As much of a URL as its origin needs. No more fits into a step line, where it has a space."""
-    return AUTHORITY.match(IGNORED.sub("", url.strip(CONTROLS)))[0]
 
 
 # Of logs

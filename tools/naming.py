@@ -39,7 +39,7 @@ def names_of(data, agents=None):
 
     hubscript.BadScript tells the first bad line.
     """
-    found = hubscript.declarations(data)
+    found = hubscript.read(data)
     queues = [f"queue of agent {number}" for number in range(len(found.agents))]
     ends = [short(name, NAME_COLUMNS) for name in found.end_names()]
     kinds = {agent: it.kind for agent, it in enumerate(found.agents)}

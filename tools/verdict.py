@@ -104,7 +104,7 @@ def known_of(script):
     for end, making in found.numbered():
         word, agent = making.split(" ")[:2]
         makers.update((it, int(agent)) for it in range(end, end + 1 + (word == "channel")))
-    return Known(makers, found.peers(), frozenset(hubscript.declarations(script).handed))
+    return Known(makers, found.peers(), frozenset(hubscript.read(script).handed))
 
 
 def name_of(entry):

@@ -6,8 +6,8 @@ import random
 import changes
 import fates
 import hublog
+import hubscript
 import verdict
-from script import Script
 
 # A program's answer: its standard output, and its status, which is None where its time was over.
 Answer = collections.namedtuple("Answer", "output status")
@@ -17,7 +17,7 @@ class Examination:
     """One script, the answer of `run`, and what was found, as pairs of a check and a complaint."""
 
     def __init__(self, data, run, check):
-        self.data, self.script = data, Script(data)
+        self.data, self.script = data, hubscript.read(data)
         self.answer, self.check = run(data), check
         self.found = []
         # The logs, once they were read.

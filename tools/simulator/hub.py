@@ -9,6 +9,8 @@ import collections
 
 # After so many hops a post is refused.
 MOST_HOPS = 4
+# The kind of the queue of each kind of agent.
+QUEUES = {"window": "client", "worker": "worker"}
 LINES = {"client": 32, "worker": 32, "port": 1, "member": 1}
 
 Posted = collections.namedtuple("Posted", "end line epoch number")
@@ -70,7 +72,7 @@ class Hub:
 
     def __init__(self, script):
         self.changes = 0
-        self.ends = [End(at, kind_of(kind)) for at, (kind, _) in enumerate(script.agents)]
+        self.ends = [End(at, QUEUES[agent.kind]) for at, agent in enumerate(script.agents)]
         for declared in script.declared:
             self.ends.append(End(declared.end, declared.kind))
             self.ends[-1].key = declared.key
@@ -204,7 +206,3 @@ class Hub:
                     accepted.append(answer)
         self.unlock_roster()
         return accepted
-
-
-def kind_of(agent):
-    return "client" if agent == "window" else "worker"

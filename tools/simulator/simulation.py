@@ -3,12 +3,17 @@
 import random
 
 import hublog
-from agent import Agent
-from hub import INSIDE, Hub
+from simulator.agent import Agent
+from simulator.hub import INSIDE, Hub
 
 
 class Stuck(Exception):
-    """All agents that haven't ended wait for one another."""
+    """All agents that haven't ended, `going`, wait for one another."""
+
+    def __init__(self, going):
+        where = (f"agent {it.number} at {it.action and it.action.word}" for it in going)
+        super().__init__(", ".join(where))
+        self.going = going
 
 
 class Schedule:
@@ -61,8 +66,7 @@ def run_agents(agents, hub, seed):
     while going:
         ready = [at for at in going if waits[at] != hub.changes]
         if not ready:
-            tell = (f"agent {at} at {agents[at].action and agents[at].action.word}" for at in going)
-            raise Stuck(", ".join(tell))
+            raise Stuck([agents[at] for at in going])
         at = schedule.next_of(ready)
         try:
             seen = next(threads[at])
@@ -88,10 +92,15 @@ def verdict_of(logs):
     return hublog.judge(logs)
 
 
+def hub_of(script):
+    """A hub, and the agents of a script on it."""
+    hub = Hub(script)
+    return hub, [Agent(number, script, hub) for number in range(len(script.agents))]
+
+
 def simulate(script, seed):
     """What a run of the script prints, and its status."""
-    hub = Hub(script)
-    agents = [Agent(number, script, hub) for number in range(len(script.agents))]
+    hub, agents = hub_of(script)
     run_agents(agents, hub, seed)
     text = logs_text(agents)
     logs = hublog.read_logs(text.encode())

@@ -1,6 +1,6 @@
 """One agent of the simulator: its event loop, its actions and its log."""
 
-from hub import BUSY, End, Envelope, Posted
+from simulator.hub import BUSY, End, Envelope, Posted
 
 ENDING = "ending"
 DELIVERED = "delivered"
@@ -40,7 +40,8 @@ class Agent:
             if declared.agent == number:
                 self.held.add(hub.ends[declared.end])
         self.next = 0
-        self.messages = 0
+        # How many messages it got, and how many of them before its action began.
+        self.messages = self.had = 0
         self.lines = {}
         self.log = []
         self.action = None
@@ -53,7 +54,7 @@ class Agent:
             yield
             if self.is_ordered():
                 break
-            self.action = action
+            self.action, self.had = action, self.messages
             yield from getattr(self, "do_" + action.word)(action)
         self.action = None
         yield from self.finish()
